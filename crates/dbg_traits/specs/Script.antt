@@ -1,5 +1,5 @@
 -- The input of a world in memory, as a script of cues.
-use Rattle.std.specs.Prelude.{ℕ, Bool, true, false, nat_le, List, [], ◌++◌, take, length, slice_index_or, Some}
+use Rattle.std.specs.Prelude.{ℕ, Bool, false, nat_le, List, [], ◌++◌, take, length, slice_index_or, Some}
 use Rattle.std.specs.List.{flat_map}
 use Rattle.dbg_traits.specs.Told.{Ask}
 use Rattle.dbg_traits.specs.declared.script.Cue.{Cue}

@@ -5,6 +5,8 @@ mod memory;
 mod names;
 mod script;
 mod settings;
+#[cfg(test)]
+mod tests;
 mod text;
 mod view;
 mod world;

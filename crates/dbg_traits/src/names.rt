@@ -1,5 +1,5 @@
 // Names of files among the words.
-ghost use Rattle.std.specs.Prelude.{◌≡◌, ◌<◌, length};
+ghost use Rattle.std.specs.Prelude.{◌≡◌, ◌++◌, ℕ, List, drop, MatchOption};
 ghost use Rattle.dbg_traits.specs.Names.{IsNamed, name_at};
 
 use crate::ArgText;
@@ -16,15 +16,21 @@ pub fn place_of(words: &[ArgText], name: &ArgText) -> NamePlace
     requires { IsNamed words.now name.now }
     ensures { name_at words.now result.word result.from ≡ name.now }
 {
-    let name = name.as_str().as_bytes();
     for (i, word) in words.iter().enumerate() {
-        let bytes = word.as_str().as_bytes();
-        if bytes.len() >= name.len() {
-            let from = bytes.len() - name.len();
-            if &bytes[from..] == name {
-                return NamePlace { word: i, from };
-            }
+        if let Some(from) = end_place(word.as_str().as_bytes(), name.as_str().as_bytes()) {
+            return NamePlace { word: i, from };
         }
     }
     unreachable!()
+}
+
+// Where the end of a word begins that is the name, if there is one.
+#[tactic(auto, using(crate::proofs::Ends::no_end))]
+pub(crate) fn end_place(word: &[u8], name: &[u8]) -> Option<usize>
+    ensures { MatchOption result ((front : List ℕ) → word.now ≡ front ++ name.now → ⊥) (λ from. drop from word.now ≡ name.now) }
+{
+    match word.strip_suffix(name) {
+        Some(front) => Some(front.len()),
+        None => None,
+    }
 }
