@@ -6,6 +6,7 @@ ghost use Rattle.dbg_traits.specs.Settings.{AreSettings};
 use super::*;
 use crate::names::end_place;
 use std::alloc::Global;
+use std::convert::AsStr;
 use std::process::Abort;
 use std::test::Fail;
 
@@ -205,12 +206,17 @@ fn a_script_is_polled_cue_by_cue(rt: HostRuntime) -> Result<(), Fail> {
     Ok(())
 }
 
+// A word, as a reader of words sees it.
+fn text_of<T: AsStr>(word: &T) -> &str {
+    word.as_str()
+}
+
 #[test]
 fn puts_append_and_the_named_one_fails(rt: HostRuntime) -> Result<(), Fail> {
     let alloc = rt.alloc();
     let (mut world, name) = world_of(&rt, alloc, "f", Vec::new(alloc), limits(alloc, &[], &[3])?)?;
     assert_eq!(rt; world.words().len(), 1);
-    assert_eq!(rt; world.words()[0].as_str(), name.as_str());
+    assert_eq!(rt; text_of(&world.words()[0]), name.as_str());
     for (piece, put) in [
         ("abcd", Put::Took(3)),
         ("d", Put::Took(1)),
