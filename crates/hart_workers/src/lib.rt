@@ -1,0 +1,11 @@
+//! Worker threads over a crew that stands under one lock.
+#![tactic(auto)]
+
+mod crew;
+mod run;
+
+pub use crew::{Crew, Duty};
+pub use run::run_crew;
+
+#[cfg(test)]
+mod tests;

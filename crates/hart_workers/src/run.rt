@@ -1,0 +1,47 @@
+ghost use Rattle.std.specs.Prelude.{◌≤◌};
+
+use crate::{Crew, Duty};
+use dbg_traits::Gate;
+use std::sync::{Mutex, Wait};
+use std::thread;
+use std::thread::Threads;
+
+// One worker, until it gets Over. Each lock is left at its statement's end, so a job is worked outside of it.
+fn serve<R: Wait, C: Crew, G: Gate>(rt: &R, crew: &Mutex<C>, worker: u32, gate: &G) {
+    for _ in rt.forever() {
+        let duty = crew.lock(rt).duty(worker);
+        match duty {
+            Duty::Job(job) => {
+                let hart = C::hart_of(&job);
+                let done = C::work(job);
+                gate.slice_ready(worker, hart);
+                crew.lock(rt).take(done);
+            }
+            Duty::Again => gate.idle(worker),
+            Duty::Over => break,
+        }
+    }
+}
+
+/// Runs 1 to 16 workers over a crew, and returns when each got `Over`.
+///
+/// Each worker has a thread of its own; where the system gives none, its work is done on another worker's
+/// thread. Worker numbers begin at 0. The crew's type keeps its facts for every number of workers.
+pub fn run_crew<R: Threads + Wait + Sync, C: Crew + Send, G: Gate + Sync>(
+    rt: &R,
+    crew: &Mutex<C>,
+    workers: u32,
+    gate: &G,
+)
+    requires some { 1 ≤ workers }
+    requires most { workers ≤ 16 }
+{
+    let mut table: [u32; 16] = [0, 1, 2, 3, 4, 5, 6, 7, 8, 9, 10, 11, 12, 13, 14, 15];
+    let count = workers as usize;
+    thread::for_each_mut(
+        rt,
+        &mut table[..count],
+        count,
+        &|_, worker| { serve(rt, crew, *worker, gate) },
+    );
+}
