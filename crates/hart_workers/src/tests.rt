@@ -6,64 +6,6 @@ use std::sync::Mutex;
 use std::sync::atomic::{AtomicU64, Ordering};
 use std::test::*;
 
-// Counts up to 1,000, one for each job.
-#[derive(Drop)]
-struct Counter {
-    handed: u32,
-    count: u32,
-    ghost within: { count ≤ handed × handed ≤ 1000 },
-}
-
-impl Crew for Counter {
-    type Job = u32;
-
-    type Done = u32;
-
-    ghost is_over = { λ c. c.count == 1000 };
-
-    fn duty(&mut self, _worker: u32) -> Duty<u32> {
-        if self.count == 1000 {
-            return Duty::Over;
-        }
-        if self.handed == 1000 {
-            return Duty::Again;
-        }
-        let job = self.handed;
-        self.handed += 1;
-        Duty::Job(job)
-    }
-
-    fn hart_of(_job: &u32) -> u32 {
-        0
-    }
-
-    fn work(_job: u32) -> u32 {
-        1
-    }
-
-    fn take(&mut self, _done: u32) {
-        if self.count < self.handed {
-            self.count += 1;
-        }
-    }
-
-    fn over(&self) -> bool {
-        self.count == 1000
-    }
-}
-
-#[test]
-fn four_workers_count_to_a_thousand(rt: HostRuntime) {
-    let crew = Mutex::new(Counter {
-        handed: 0,
-        count: 0,
-    });
-    run_crew(&rt, &crew, 4, &OpenGate);
-    let counter = crew.into_inner();
-    prove!(counter.count <= 1000);
-    assert_eq!(rt; counter.count, 1000);
-}
-
 const TURNS: u64 = 50_000_000;
 
 // A job that knows how many jobs have begun.
@@ -78,26 +20,28 @@ struct Met {
     saw: bool,
 }
 
+// Counts its jobs up to a goal. The work of the job that begins first lasts until another begins, or TURNS turns.
 #[derive(Drop)]
-struct Meetings<'a> {
+struct Counter<'a, const GOAL: u32> {
     begun: &'a AtomicU64,
     handed: u32,
-    taken: u32,
+    count: u32,
     met: bool,
+    ghost within: { count ≤ handed × handed ≤ GOAL },
 }
 
-impl<'a> Crew for Meetings<'a> {
+impl<'a, const GOAL: u32> Crew for Counter<'a, GOAL> {
     type Job = Meeting<'a>;
 
     type Done = Met;
 
-    ghost is_over = { λ m. nat_le 2 m.taken };
+    ghost is_over = { λ c. c.count == GOAL };
 
     fn duty(&mut self, _worker: u32) -> Duty<Meeting<'a>> {
-        if self.taken >= 2 {
+        if self.count == GOAL {
             return Duty::Over;
         }
-        if self.handed >= 2 {
+        if self.handed == GOAL {
             return Duty::Again;
         }
         self.handed += 1;
@@ -109,18 +53,18 @@ impl<'a> Crew for Meetings<'a> {
     }
 
     fn work(job: Meeting<'a>) -> Met {
-        let first = job.begun.fetch_add(1, Ordering::SeqCst) == 0;
+        let Meeting { begun } = job;
+        let first = begun.fetch_add(1, Ordering::SeqCst) == 0;
         let mut saw = false;
         if first {
             for _ in 0..TURNS {
-                if job.begun.load(Ordering::SeqCst) >= 2 {
+                if begun.load(Ordering::SeqCst) >= 2 {
                     saw = true;
                     break;
                 }
                 std::hint::spin_loop();
             }
         }
-        let Meeting { begun: _ } = job;
         Met { first, saw }
     }
 
@@ -128,27 +72,45 @@ impl<'a> Crew for Meetings<'a> {
         if done.first {
             self.met = done.saw;
         }
-        self.taken = self.taken.saturating_add(1);
+        if self.count < self.handed {
+            self.count += 1;
+        }
     }
 
     fn over(&self) -> bool {
-        self.taken >= 2
+        self.count == GOAL
     }
+}
+
+#[test]
+fn four_workers_count_to_a_thousand(rt: HostRuntime) {
+    let begun = AtomicU64::new(0);
+    let crew = Mutex::new(Counter::<1000> {
+        begun: &begun,
+        handed: 0,
+        count: 0,
+        met: false,
+    });
+    run_crew(&rt, &crew, 4, &OpenGate);
+    let counter = crew.into_inner();
+    prove!(counter.count <= 1000);
+    assert_eq!(rt; counter.count, 1000);
+    assert!(rt; counter.met);
 }
 
 #[test]
 fn two_jobs_are_worked_side_by_side(rt: HostRuntime) {
     let begun = AtomicU64::new(0);
-    let crew = Mutex::new(Meetings {
+    let crew = Mutex::new(Counter::<2> {
         begun: &begun,
         handed: 0,
-        taken: 0,
+        count: 0,
         met: false,
     });
     run_crew(&rt, &crew, 2, &OpenGate);
-    let meetings = crew.into_inner();
-    assert_eq!(rt; meetings.taken, 2);
-    assert!(rt; meetings.met);
+    let counter = crew.into_inner();
+    assert_eq!(rt; counter.count, 2);
+    assert!(rt; counter.met);
 }
 
 // Holds the first hart's call until another hart's call, 10,000 idle turns or TURNS turns.
