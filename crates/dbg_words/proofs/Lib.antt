@@ -1,0 +1,13 @@
+pub mod Building
+pub mod Running
+pub mod Rules
+pub mod Kinding
+pub mod Walking
+pub mod Simulating
+pub mod Whole
+pub mod Numbers
+pub mod Known
+pub mod Naming
+pub mod Giving
+pub mod Asking
+pub mod Texts
