@@ -1,12 +1,15 @@
 -- What the words ask for, by what was given.
-use Rattle.std.proofs.Common.{◌≡◌, Bool, true, false, List, [], ◌∷◌, codes, Option, Some, None, refl, sym, ap, ◌∙◌, subst, inl, ℕ}
+use Rattle.std.proofs.Common.{◌≡◌, Bool, true, false, List, [], ◌∷◌, codes, Option, Some, None, refl, sym, ap, ◌∙◌, subst, ℕ}
 use Rattle.std.specs.Prelude.{cond, find, option_map, option_and_then, if◌then◌else◌, IfSome, is_some, ◌||◌}
 use Rattle.std.specs.Str.{bytes_eq}
+use Rattle.dbg_traits.specs.Names.{IsNamed}
 use Rattle.dbg_traits.specs.declared.settings.Settings.{Settings}
 use Rattle.dbg_words.specs.Uses.{Text, Use, file, option_names, uses_of}
 use Rattle.dbg_words.specs.Number.{number_in, setting_in}
-use Rattle.dbg_words.specs.Words.{Asked, Texts, Words, IsPartOf, asked_of, checked, generated, generated_of, name_of, one_of, session, session_of, checked_of, settings_of, texts_of, value_in}
+use Rattle.dbg_words.specs.Words.{Asked, Texts, Words, asked_of, checked, generated, generated_of, name_of, one_of, session, session_of, checked_of, settings_of, texts_of, value_in}
 use Rattle.dbg_words.specs.Given.{IsGiven, given_texts}
+use Rattle.dbg_words.specs.Request.{asked}
+use Rattle.dbg_words.specs.declared.request.Request.{Request}
 use Rattle.dbg_words.specs.declared.given.Given.{Given}
 use Rattle.dbg_words.proofs.Known.{AllKnown, Each, Known}
 use Rattle.dbg_words.proofs.Naming.{uses-known}
@@ -21,20 +24,20 @@ refused_words words is = sym (ap (λ (o : Option (List Use)). option_and_then (�
 
 -- ---- names
 
-file-stands : (ws : List Text) (us : List Use) → Each (Known ws) us → IfSome (value_in file us) (IsPartOf ws)
+file-stands : (ws : List Text) (us : List Use) → Each (Known ws) us → IfSome (value_in file us) (IsNamed ws)
 file-stands ws [] known = tt
 file-stands ws (u ∷ us) known = go (bytes_eq u.0 file) refl (file-stands ws us known.1)
   where
-    go : (b : Bool) → bytes_eq u.0 file ≡ b → IfSome (value_in file us) (IsPartOf ws) → IfSome (option_map (λ (x : Use). x.1) (cond b (Some u) (find (λ (x : Use). bytes_eq x.0 file) us))) (IsPartOf ws)
-    go true e rest = inl (known.0.is_word e)
+    go : (b : Bool) → bytes_eq u.0 file ≡ b → IfSome (value_in file us) (IsNamed ws) → IfSome (option_map (λ (x : Use). x.1) (cond b (Some u) (find (λ (x : Use). bytes_eq x.0 file) us))) (IsNamed ws)
+    go true e rest = ([], known.0.is_word e)
     go false e rest = rest
 
-check-stands : (ws : List Text) (us : List Use) → Each (Known ws) us → IfSome (value_in (codes "check") us) (IsPartOf ws)
+check-stands : (ws : List Text) (us : List Use) → Each (Known ws) us → IfSome (value_in (codes "check") us) (IsNamed ws)
 check-stands ws [] known = tt
 check-stands ws (u ∷ us) known = go (bytes_eq u.0 (codes "check")) refl (check-stands ws us known.1)
   where
-    go : (b : Bool) → bytes_eq u.0 (codes "check") ≡ b → IfSome (value_in (codes "check") us) (IsPartOf ws)
-        → IfSome (option_map (λ (x : Use). x.1) (cond b (Some u) (find (λ (x : Use). bytes_eq x.0 (codes "check")) us))) (IsPartOf ws)
+    go : (b : Bool) → bytes_eq u.0 (codes "check") ≡ b → IfSome (value_in (codes "check") us) (IsNamed ws)
+        → IfSome (option_map (λ (x : Use). x.1) (cond b (Some u) (find (λ (x : Use). bytes_eq x.0 (codes "check")) us))) (IsNamed ws)
     go true e rest = known.0.is_part e
     go false e rest = rest
 
@@ -88,13 +91,15 @@ one-named t P (Some f) None (Some name) p q = tt
 one-named t P (Some f) (Some number) None p q = tt
 one-named t P (Some f) (Some number) (Some name) p q = tt
 
-uses-named : (ws : List Text) (o : Option (List Use)) → AllKnown ws o → Named (IsPartOf ws) (option_and_then (λ us. asked_of (texts_of us)) o)
+uses-named : (ws : List Text) (o : Option (List Use)) → AllKnown ws o → Named (IsNamed ws) (option_and_then (λ us. asked_of (texts_of us)) o)
 uses-named ws None known = tt
-uses-named ws (Some us) known = one-named (texts_of us) (IsPartOf ws) _ _ _ (file-stands ws us known) (check-stands ws us known)
+uses-named ws (Some us) known = one-named (texts_of us) (IsNamed ws) _ _ _ (file-stands ws us known) (check-stands ws us known)
 
-words-named : (ws : List Text) → Named (IsPartOf ws) (Words ws)
+words-named : (ws : List Text) → Named (IsNamed ws) (Words ws)
 unfolding Words
 words-named ws = uses-named ws (uses_of option_names ws) (uses-known ws)
 
-pub asked_named : (ws : List Text) (a : Asked) → Some a ≡ Words ws → IfSome (name_of a) (IsPartOf ws)
-asked_named ws a is = let Q : Option Asked → Type 0 = λ o. Named (IsPartOf ws) o in subst Q (sym is) (words-named ws)
+-- what is asked has its name among the words
+pub asked_named : (ws : List Text) (r : Option Request) → option_map asked r ≡ Words ws → IfSome r (λ request. IfSome (name_of (asked request)) (IsNamed ws))
+asked_named ws None is = tt
+asked_named ws (Some request) is = let Q : Option Asked → Type 0 = λ o. Named (IsNamed ws) o in subst Q (sym is) (words-named ws)

@@ -1,5 +1,5 @@
 -- The command as clap's contracts see it.
-use Rattle.std.proofs.Common.{◌≡◌, [], true, refl, ap, ◌∙◌, subst}
+use Rattle.std.proofs.Common.{◌≡◌, ℕ, List, [], ◌∷◌, map, true, refl, ap, ◌∙◌, subst}
 use Rattle.clap.specs.Words.{Kinds, IsAmong, app_of, is_simple_and_free, is_simple}
 use Rattle.clap.specs.declared.builder.Command.{Command}
 use Rattle.clap.specs.declared.builder.command.Command.TheViews.{out-Command}
@@ -22,3 +22,7 @@ rvdbg-free = refl
 
 pub is_refused : (k : ErrorKind) (a b : Kinds) → a ≡ b → IsAmong k a → b ≡ [] → ⊥
 is_refused k a b same among none = let P : Kinds → Type 0 = λ ks. IsAmong k ks in subst P (same ∙ none) among
+
+pub map-same : (words : List (List ℕ)) → map (λ (w : List ℕ). w) words ≡ words
+map-same [] = refl
+map-same (w ∷ ws) = ap (λ r. w ∷ r) (map-same ws)

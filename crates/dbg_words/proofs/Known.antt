@@ -3,12 +3,12 @@ use Rattle.std.proofs.Common.{◌≡◌, true, List, [], ◌∷◌, codes, Optio
 use Rattle.std.specs.Str.{bytes_eq}
 use Rattle.std.specs.List.{Contains}
 use Rattle.dbg_words.specs.Uses.{Text, Use, file, log, set}
-use Rattle.dbg_words.specs.Words.{IsPartOf}
+use Rattle.dbg_traits.specs.Names.{IsNamed}
 
 pub record Known (ws : List Text) (u : Use) : Type 0 where
   pub is_set : bytes_eq u.0 log ≡ true → u.1 ≡ set
   pub is_word : bytes_eq u.0 file ≡ true → Contains ws u.1
-  pub is_part : bytes_eq u.0 (codes "check") ≡ true → IsPartOf ws u.1
+  pub is_part : bytes_eq u.0 (codes "check") ≡ true → IsNamed ws u.1
 
 abbrev pub Each : (Use → Type 0) → List Use → Type 0
 Each P [] = Unit {0}

@@ -1,12 +1,12 @@
 -- Where the uses' values stand in the words.
-use Rattle.std.proofs.Common.{◌≡◌, ℕ, ◌<◌, Bool, true, false, true≢false, not, get_or, ◌+◌, ap₂, ◌||◌, List, [], ◌∷◌, ◌++◌, map, length, codes, Option, Some, None, refl, sym, ap, ◌∙◌, subst, inl, inr, arith}
+use Rattle.std.proofs.Common.{◌≡◌, ℕ, ◌<◌, Bool, true, false, true≢false, not, get_or, ◌+◌, ap₂, ◌||◌, List, [], ◌∷◌, ◌++◌, map, length, codes, Option, Some, None, refl, sym, ap, ◌∙◌, subst, arith}
 use Rattle.std.specs.Prelude.{◌==◌, if◌then◌else◌, option_and_then, suc, cond}
 use Rattle.std.specs.List.{Contains, list_any, before_first, after_first, prefix_len}
 use Rattle.std.specs.Str.{bytes_eq}
 use Rattle.std.proofs.lemmas.Bool.{eqb-true}
 use Rattle.std.proofs.lemmas.List.Sums.{prefix_len_stops, split_at_first}
 use Rattle.dbg_words.specs.Uses.{Text, Use, Word, ends, takes, flag, has, unknown, plain, file, log, set, is_name, named, after_hyphens, after_hyphen, word_of, after, with_word, with_value, read, are_new, option_names, uses_of}
-use Rattle.dbg_words.specs.Words.{IsPartOf}
+use Rattle.dbg_traits.specs.Names.{IsNamed}
 use Rattle.dbg_words.proofs.Known.{AllKnown, Each, Known}
 use Rattle.dbg_words.proofs.Rules.{text_same}
 
@@ -16,11 +16,8 @@ contains_here w ws = (0, omega arith, refl)
 contains_there : (w : Text) (ws : List Text) (v : Text) → Contains ws v → Contains (w ∷ ws) v
 contains_there w ws v c = (suc c.0, let l = c.1 in omega arith, c.2)
 
-part_there : (w : Text) (ws : List Text) (v : Text) → IsPartOf ws v → IsPartOf (w ∷ ws) v
-part_there w ws v p = elim p [
-  | inl c ↦ inl (contains_there w ws v c)
-  | inr c ↦ inr (contains_there w ws (codes "--check=" ++ v) c)
-]
+part_there : (w : Text) (ws : List Text) (v : Text) → IsNamed ws v → IsNamed (w ∷ ws) v
+part_there w ws v p = (p.0, contains_there w ws (p.0 ++ v) p.1)
 
 known_there : (w : Text) (ws : List Text) (u : Use) → Known ws u → Known (w ∷ ws) u
 known_there w ws u k = record {
@@ -65,7 +62,7 @@ pub record Apart (names : List Text) : Type 0 where
   pub flags : is_name names log ≡ false
   pub files : is_name names file ≡ false
 
-known_option : (names : List Text) (ws : List Text) (name v : Text) → Apart names → is_name names name ≡ true → (bytes_eq name (codes "check") ≡ true → IsPartOf ws v) → Known ws (name, v)
+known_option : (names : List Text) (ws : List Text) (name v : Text) → Apart names → is_name names name ≡ true → (bytes_eq name (codes "check") ≡ true → IsNamed ws v) → Known ws (name, v)
 known_option names ws name v apart known part = record {
   is_set = λ e. absurd (not_name names name log apart.flags known e);
   is_word = λ e. absurd (not_name names name file apart.files known e);
@@ -149,11 +146,11 @@ fits names (a ∷ rest) = head-fits names a rest (a == 45) refl
 -- ---- the words
 
 -- `--check=` and a value
-check-part : (names : List Text) (w : Text) (ws : List Text) (name value : Text) → w ≡ spelled name value → bytes_eq name (codes "check") ≡ true → IsPartOf (w ∷ ws) value
+check-part : (names : List Text) (w : Text) (ws : List Text) (name value : Text) → w ≡ spelled name value → bytes_eq name (codes "check") ≡ true → IsNamed (w ∷ ws) value
 check-part names w ws name value is same =
     let whole : w ≡ codes "--check=" ++ value = is ∙ ap (λ n. spelled n value) (text_same name (codes "check") same) in
     let P : Text → Type 0 = λ t. Contains (w ∷ ws) t in
-    inr (subst P whole (contains_here w ws))
+    (codes "--check=", subst P whole (contains_here w ws))
 
 word-known : (names : List Text) → Apart names → (x : Word) (w : Text) (ws : List Text) (next : Option (List Use)) (wait : Text → Option (List Use)) → Fits names w x → AllKnown ws next → ((name : Text) → is_name names name ≡ true → AllKnown ws (wait name))
     → AllKnown (w ∷ ws) (with_word x w ws next wait)
@@ -172,7 +169,7 @@ value-known names apart flag name w ws next known k = tt
 value-known names apart (has n v) name w ws next known k = tt
 value-known names apart unknown name w ws next known k = tt
 value-known names apart plain name w ws next known k =
-    all_after (w ∷ ws) (name, w) next (known_option names (w ∷ ws) name w apart known (λ e. inl (contains_here w ws))) (all_there w ws next k)
+    all_after (w ∷ ws) (name, w) next (known_option names (w ∷ ws) name w apart known (λ e. ([], contains_here w ws))) (all_there w ws next k)
 
 pub record Reading (names : List Text) (ws : List Text) : Type 0 where
   pub idle : AllKnown ws (read names None ws)

@@ -4,7 +4,7 @@ use Rattle.std.specs.Prelude.{if◌then◌else◌, cond}
 use Rattle.std.specs.Str.{bytes_eq}
 use Rattle.std.proofs.lemmas.Slice.Eq.{bytes_eq-Decides}
 use Rattle.clap.specs.Walk.{Row, Rule, arg_by_id, arg_by_index, arg_by_long, arg_by_short, at_row, has_row, more_values, used, without}
-use Rattle.clap.specs.Simple.{Shape, built, new_rule, new_shape}
+use Rattle.clap.specs.Simple.{Shape, new_rule, new_shape}
 use Rattle.clap.specs.Faults.{use_fault}
 use Rattle.clap.specs.Kinds.{or_else}
 use Rattle.clap.specs.declared.builder.ArgAction.TheVariants.{Set, SetTrue}
@@ -12,9 +12,8 @@ use Rattle.clap.specs.declared.builder.value_parser.ValueParser.TheVariants as v
 use Rattle.clap.specs.declared.builder.value_parser.Reading.TheVariants as reading
 use Rattle.clap.specs.declared.parser.matches.ValueSource.TheVariants.{CommandLine}
 use Rattle.clap.specs.declared.error.kind.ErrorKind.TheVariants as kind
-use Rattle.clap.proofs.OnLiterals.{clap_on_literals}
 use Rattle.dbg_words.specs.Command.{rvdbg}
-use Rattle.dbg_words.specs.Uses.{Text, Use, file, log, set, is_given, is_name, option_names}
+use Rattle.dbg_words.specs.Uses.{Text, Use, file, log, set, is_given, is_name}
 
 -- an argument that takes one value
 abbrev pub one : Text → Option Text → Option ℕ → Rule
@@ -53,10 +52,6 @@ shape names = record (new_shape (codes "rvdbg")) {
   disable_help_subcommand = true;
   is_built = true;
 }
-
-pub built-top : (built rvdbg).top ≡ shape option_names
-unfolding rvdbg option_names clap_on_literals
-built-top = refl
 
 pub text_same : (s t : Text) → bytes_eq s t ≡ true → s ≡ t
 text_same s t = (bytes_eq-Decides s t).0

@@ -1,7 +1,7 @@
 -- What the words of the command line ask for.
-use Rattle.std.specs.Prelude.{◌≤◌, ℕ, Bool, ◌++◌, List, Option, Some, None, codes, option_map, option_and_then, is_some, if◌then◌else◌, find, ◌||◌, ◌⊎◌}
+use Rattle.std.specs.Prelude.{◌≤◌, ℕ, Bool, List, Option, Some, None, codes, option_map, option_and_then, is_some, if◌then◌else◌, find, ◌||◌}
 use Rattle.std.specs.Str.{bytes_eq}
-use Rattle.std.specs.List.{Contains}
+use Rattle.dbg_traits.specs.Settings.{AreSettings}
 use Rattle.dbg_traits.specs.declared.settings.Settings.{Settings}
 use Rattle.dbg_words.specs.Uses.{Text, Use, file, log, is_given, option_names, uses_of}
 use Rattle.dbg_words.specs.Number.{number_in, setting_in}
@@ -82,23 +82,13 @@ Words words = option_and_then (λ us. asked_of (texts_of us)) (uses_of option_na
 
 -- ---- what holds of all that words ask for
 
-pub record IsInRange (s : Settings) : Type 0 where
-  pub harts : (1 ≤ s.harts) × (s.harts ≤ 16)
-  pub workers : s.workers ≤ 16
-  pub slots : s.slots ≤ 512
-  pub budget : (1 ≤ s.budget) × (s.budget ≤ 1000000000000)
-  pub slice : s.slice ≤ 1024
-
+-- each number is in its range
 abbrev pub HasRanges : Asked → Type 0
-HasRanges (session name s has_log) = IsInRange s
-HasRanges (generated n s) = (1 ≤ n) × (n ≤ 1000000) × IsInRange s
+HasRanges (session name s has_log) = AreSettings s
+HasRanges (generated n s) = (1 ≤ n) × (n ≤ 1000000) × AreSettings s
 HasRanges (checked name) = Unit {0}
 
 abbrev pub name_of : Asked → Option Text
 name_of (session name s has_log) = Some name
 name_of (generated n s) = None
 name_of (checked name) = Some name
-
--- the name is one of the words, or what follows `--check=` in one
-abbrev pub IsPartOf : List Text → Text → Type 0
-IsPartOf words name = Contains words name ⊎ Contains words (codes "--check=" ++ name)

@@ -1,11 +1,11 @@
 // The command, and what clap makes of the words.
-ghost use Rattle.std.specs.Prelude.{◌≡◌, ◌≢◌, IfOk, IfSome, IfNone, [], false, map};
+ghost use Rattle.std.specs.Prelude.{◌≡◌, ◌≢◌, IfOk, IfSome, IfNone, [], false};
 ghost use Rattle.clap.specs.Words.{app_of, rule_of, rows_of, found_of};
 ghost use Rattle.dbg_words.specs.Command.{rvdbg, option_rule, flag_rule, file_rule, clap_faults, clap_rows};
 
 use clap::error::ErrorKind;
 use clap::{Arg, ArgAction, ArgMatches, Command};
-use dbg_traits::NoMemory;
+use dbg_traits::{ArgText, NoMemory};
 use std::alloc::{AllocError, Global};
 
 fn option<'a>(alloc: Global, name: &'a str) -> Arg<'a>
@@ -47,11 +47,11 @@ fn command<'a>(alloc: Global) -> Result<Command<'a>, AllocError>
 }
 
 /// What clap finds, or none where it refuses the words.
-pub fn parsed<'a>(alloc: Global, words: &'a [&'a str]) -> Result<Option<ArgMatches<'a>>, NoMemory>
+pub fn parsed<'a>(alloc: Global, words: &'a [ArgText]) -> Result<Option<ArgMatches<'a>>, NoMemory>
     ensures accepted { IfOk result (λ r. IfSome r (λ m.
-        (clap_faults (map (λ w. w.now) words.now) ≡ [])
-        × (rows_of (found_of m) ≡ clap_rows (map (λ w. w.now) words.now)))) }
-    ensures refused { IfOk result (λ r. IfNone r (clap_faults (map (λ w. w.now) words.now) ≢ [])) }
+        (clap_faults words.now ≡ [])
+        × (rows_of (found_of m) ≡ clap_rows words.now))) }
+    ensures refused { IfOk result (λ r. IfNone r (clap_faults words.now ≢ [])) }
 {
     let command = command(alloc)?;
     match command.try_get_matches_from(words) {

@@ -1,8 +1,9 @@
 // What the words ask for.
 ghost use Rattle.std.specs.Prelude.{◌≡◌, ◌≤◌, IfSome, option_map};
+ghost use Rattle.dbg_traits.specs.Settings.{AreSettings};
 ghost use Rattle.dbg_words.specs.Given.{given_texts};
 ghost use Rattle.dbg_words.specs.Request.{asked};
-ghost use Rattle.dbg_words.specs.Words.{asked_of, session_of, generated_of, checked_of, settings_of, HasRanges, IsInRange};
+ghost use Rattle.dbg_words.specs.Words.{asked_of, session_of, generated_of, checked_of, settings_of, HasRanges};
 
 use crate::given::{Given, number, setting};
 use dbg_traits::Settings;
@@ -31,7 +32,7 @@ fn settings(given: &Given, harts: u32, workers: u32) -> Option<Settings>
     requires harts { (1 ≤ harts) × (harts ≤ 16) }
     requires workers { workers ≤ 16 }
     ensures value { result ≡ settings_of (given_texts given.now) harts workers }
-    ensures ranges { IfSome result IsInRange }
+    ensures ranges { IfSome result AreSettings }
 {
     let slots = setting(given.slots, 0, 512, 16)?;
     let budget = setting(given.budget, 1, 1_000_000_000_000, 100_000_000)?;

@@ -1,7 +1,0 @@
-use Rattle.std.proofs.Common.{◌≡◌, ℕ, ◌<◌, List, map, take, slice_index_or}
-use Rattle.std.specs.Str.{IsUtf8}
-use Rattle.dbg_words.proofs.read.texts_of.Given as goal
-
-abbrev pub invariant-loop-word : goal.invariant-loop-word
-invariant-loop-word l = (map (λ w. w.now) l.texts.items ≡ take l.word-index l.words)
-    × ((k : ℕ) (d : List ℕ) → k < l.word-index → IsUtf8 (slice_index_or l.words k d))
