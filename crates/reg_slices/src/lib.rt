@@ -1,0 +1,8 @@
+//! Runs of instructions that touch a hart's registers alone, which can be executed apart from the machine.
+#![tactic(auto)]
+
+mod slice;
+#[cfg(test)]
+mod tests;
+
+pub use slice::{Job, Slice, registers_alone, run_slice};

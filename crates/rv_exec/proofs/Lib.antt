@@ -1,0 +1,3 @@
+pub mod Empty
+pub mod Causes
+pub mod Words

@@ -1,0 +1,5 @@
+pub mod Causes
+pub mod Registers
+pub mod Arithmetic
+pub mod Memory
+pub mod Step

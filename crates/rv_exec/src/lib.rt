@@ -1,0 +1,18 @@
+//! What an instruction does to the registers of a hart and to memory.
+#![tactic(auto)]
+
+mod alu;
+mod effect;
+mod executing;
+mod no_bytes;
+mod port;
+mod regs;
+#[cfg(test)]
+mod tests;
+
+pub use effect::{Cause, Effect, Stepped};
+pub use executing::execute;
+pub use no_bytes::NoBytes;
+pub use port::DataPort;
+pub use regs::Regs;
+pub use rv_decode::AmoOp;
