@@ -1,0 +1,4 @@
+pub mod Options
+pub mod LineSplits
+pub mod Words
+pub mod Commands

@@ -1,0 +1,16 @@
+//! Input lines of the machine interface: where a line ends, and the parts of one.
+//!
+//! The form of a line is that of GDB's manual, chapter "GDB/MI Input Syntax".
+#![tactic(auto)]
+
+mod line_parts;
+mod lines;
+mod parts;
+mod word;
+
+pub use line_parts::split;
+pub use lines::next_line;
+pub use parts::{InputFault, Parts, Word};
+
+#[cfg(test)]
+mod tests;

@@ -1,0 +1,101 @@
+use Rattle.std.proofs.Common.{ℕ, List, ◌++◌, ap, ◌∙◌, sym, arith}
+use Rattle.std.proofs.lemmas.Result.{on_ok_weaker}
+use Rattle.mi_values.specs.CString.{c_string}
+use Rattle.mi_values.specs.Tree.{value_view}
+use Rattle.mi_values.specs.Spelling.{value_bytes}
+use Rattle.mi_values.specs.declared.value.Value.{Value}
+use Rattle.mi_values.proofs.Kept.{keeps_more, keeps_on, keeps_pushed, keeps_still}
+use Rattle.mi_values.proofs.Written.{item_written, field_written, items_closed, fields_closed, opened, Text-bytes, Items-bytes, Tuple-bytes, Named-bytes}
+use Rattle.mi_values.proofs.write.+write.Goals as goal
+
+pub write_fields-loop-field-preserved : goal.write_fields-loop-field-preserved
+write_fields-loop-field-preserved t c =
+    let e = c.in_ok-extend_from_slice.ensures.items in
+    let separated = keeps_on _ _ _ c.loop-field.invariant.1 c.in_ok-separate.ensures.kept in
+    let signed = keeps_pushed _ _ _ _ (keeps_pushed _ _ _ _ separated e) c.in_ok-push.ensures.items in (
+      field_written c.args.close c.loop-field.started c.deref-field-items.result.now c.loop-field.field-index c.field-item.result _ _ _ _ _ _ (omega arith) c.field-item.is c.in_ok-separate.ensures.written (rw (← c.as_bytes.ensures.value) e)
+          c.in_ok-push.ensures.items c.in_ok-write_value.ensures.written c.loop-field.invariant.0,
+      keeps_on _ _ _ signed c.in_ok-write_value.ensures.kept,
+    )
+
+pub write_fields-returns : goal.write_fields-returns
+write_fields-returns t c = record {
+  written = fields_closed c.args.close c.args.started c.loop-field.started c.deref-field-items.result.now _ c.loop-field.field-index _ _ _ (omega arith) c.in_ok-push-2.ensures.items c.loop-field.invariant.0 c.deref-field-items.ensures.value;
+  kept = keeps_pushed _ _ _ _ c.loop-field.invariant.1 c.in_ok-push-2.ensures.items;
+}
+
+pub write_items-loop-value-preserved : goal.write_items-loop-value-preserved
+write_items-loop-value-preserved t c = (
+  item_written c.loop-value.started c.deref-value-items.result.now c.loop-value.value-index c.value-item.result _ _ _ _ (omega arith) c.value-item.is c.in_ok-separate.ensures.written c.in_ok-write_value.ensures.written c.loop-value.invariant.0,
+  keeps_on _ _ _ (keeps_on _ _ _ c.loop-value.invariant.1 c.in_ok-separate.ensures.kept) c.in_ok-write_value.ensures.kept,
+)
+
+pub write_items-returns : goal.write_items-returns
+write_items-returns t c = record {
+  written = items_closed c.loop-value.started c.deref-value-items.result.now _ c.loop-value.value-index _ _ _ (omega arith) c.in_ok-push.ensures.items c.loop-value.invariant.0 c.deref-value-items.ensures.value;
+  kept = keeps_pushed _ _ _ _ c.loop-value.invariant.1 c.in_ok-push.ensures.items;
+}
+
+pub write_fields-returns-in_err-separate-clause-kept : goal.write_fields-returns-in_err-separate-clause-kept
+write_fields-returns-in_err-separate-clause-kept t c = keeps_on _ _ _ c.loop-field.invariant.1 c.in_err-separate.ensures.kept
+
+pub write_fields-returns-in_err-extend_from_slice-clause-kept : goal.write_fields-returns-in_err-extend_from_slice-clause-kept
+write_fields-returns-in_err-extend_from_slice-clause-kept t c =
+    keeps_still _ _ _ (keeps_on _ _ _ c.loop-field.invariant.1 c.in_ok-separate.ensures.kept) c.in_err-extend_from_slice.ensures.items
+
+pub write_fields-returns-in_err-push-clause-kept : goal.write_fields-returns-in_err-push-clause-kept
+write_fields-returns-in_err-push-clause-kept t c =
+    let separated = keeps_on _ _ _ c.loop-field.invariant.1 c.in_ok-separate.ensures.kept in
+    keeps_still _ _ _ (keeps_pushed _ _ _ _ separated c.in_ok-extend_from_slice.ensures.items) c.in_err-push.ensures.items
+
+pub write_fields-returns-in_err-write_value-clause-kept : goal.write_fields-returns-in_err-write_value-clause-kept
+write_fields-returns-in_err-write_value-clause-kept t c =
+    let separated = keeps_on _ _ _ c.loop-field.invariant.1 c.in_ok-separate.ensures.kept in
+    let signed = keeps_pushed _ _ _ _ (keeps_pushed _ _ _ _ separated c.in_ok-extend_from_slice.ensures.items) c.in_ok-push.ensures.items in
+    keeps_on _ _ _ signed c.in_err-write_value.ensures.kept
+
+pub write_fields-returns-in_err-push-2-clause-kept : goal.write_fields-returns-in_err-push-2-clause-kept
+write_fields-returns-in_err-push-2-clause-kept t c = keeps_still _ _ _ c.loop-field.invariant.1 c.in_err-push-2.ensures.items
+
+pub write_items-returns-in_err-separate-clause-kept : goal.write_items-returns-in_err-separate-clause-kept
+write_items-returns-in_err-separate-clause-kept t c = keeps_on _ _ _ c.loop-value.invariant.1 c.in_err-separate.ensures.kept
+
+pub write_items-returns-in_err-write_value-clause-kept : goal.write_items-returns-in_err-write_value-clause-kept
+write_items-returns-in_err-write_value-clause-kept t c =
+    keeps_on _ _ _ (keeps_on _ _ _ c.loop-value.invariant.1 c.in_ok-separate.ensures.kept) c.in_err-write_value.ensures.kept
+
+pub write_items-returns-in_err-push-clause-kept : goal.write_items-returns-in_err-push-clause-kept
+write_items-returns-in_err-push-clause-kept t c = keeps_still _ _ _ c.loop-value.invariant.1 c.in_err-push.ensures.items
+
+pub write_value-returns-in-Text-clause-written : goal.write_value-returns-in-Text-clause-written
+write_value-returns-in-Text-clause-written t c =
+    let total = ap (λ (v : Value). value_bytes (value_view v)) c.in-Text.is ∙ Text-bytes c.in-Text.text in
+    let same = ap c_string c.deref.ensures.value ∙ sym total in
+    on_ok_weaker c.write_c_string.result (λ e. e ∙ ap (λ (l : List ℕ). c.args.into.now.items ++ l) same) c.write_c_string.ensures.written
+
+pub write_value-returns-in_ok-push-in-Tuple : goal.write_value-returns-in_ok-push-in-Tuple
+write_value-returns-in_ok-push-in-Tuple t c =
+    let total = ap (λ (v : Value). value_bytes (value_view v)) c.in-Tuple.is ∙ Tuple-bytes c.in-Tuple.fields in
+    let pushed = c.in_ok-push-in-Tuple.ensures.items in
+    record {
+      written = on_ok_weaker c.write_fields.result (opened 123 _ _ _ _ _ pushed total) c.write_fields.ensures.written;
+      kept = keeps_on _ _ _ (keeps_more _ _ _ pushed) c.write_fields.ensures.kept;
+    }
+
+pub write_value-returns-in_ok-push-in-Items : goal.write_value-returns-in_ok-push-in-Items
+write_value-returns-in_ok-push-in-Items t c =
+    let total = ap (λ (v : Value). value_bytes (value_view v)) c.in-Items.is ∙ Items-bytes c.in-Items.values in
+    let pushed = c.in_ok-push-in-Items.ensures.items in
+    record {
+      written = on_ok_weaker c.write_items.result (opened 91 _ _ _ _ _ pushed total) c.write_items.ensures.written;
+      kept = keeps_on _ _ _ (keeps_more _ _ _ pushed) c.write_items.ensures.kept;
+    }
+
+pub write_value-returns-in_ok-push-in-Named : goal.write_value-returns-in_ok-push-in-Named
+write_value-returns-in_ok-push-in-Named t c =
+    let total = ap (λ (v : Value). value_bytes (value_view v)) c.in-Named.is ∙ Named-bytes c.in-Named.fields in
+    let pushed = c.in_ok-push-in-Named.ensures.items in
+    record {
+      written = on_ok_weaker c.write_fields-in-Named.result (opened 91 _ _ _ _ _ pushed total) c.write_fields-in-Named.ensures.written;
+      kept = keeps_on _ _ _ (keeps_more _ _ _ pushed) c.write_fields-in-Named.ensures.kept;
+    }

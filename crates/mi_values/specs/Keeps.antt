@@ -1,0 +1,7 @@
+-- What writing keeps.
+use Rattle.std.specs.Prelude.{◌≡◌, ℕ, List, ◌++◌}
+
+-- the new list begins with the old one
+pub record Keeps (old new : List ℕ) : Type 0 where
+  pub more : List ℕ
+  pub is : new ≡ old ++ more

@@ -1,0 +1,13 @@
+pub mod CString
+pub mod Reading
+pub mod Body
+pub mod Name
+pub mod Token
+pub mod Tree
+pub mod Spelling
+pub mod Proper
+pub mod Reads
+pub mod Keeps
+pub mod Record
+pub mod Line
+pub mod LineParts
