@@ -6,6 +6,7 @@ use Rattle.elf32_read.specs.Headers.{file_header, loaded, text_headers, section_
 use Rattle.elf32_read.specs.declared.fault.ElfKind.{ElfKind}
 use Rattle.elf32_read.specs.declared.fault.ElfKind.TheVariants as kind
 use Rattle.elf32_read.specs.declared.fault.ElfFault.{ElfFault}
+use Rattle.elf32_read.specs.declared.header.FileHeader.{FileHeader}
 use Rattle.elf32_read.specs.declared.header.ProgramHeader.{ProgramHeader}
 use Rattle.elf32_read.specs.declared.header.SectionHeader.{SectionHeader}
 
@@ -113,11 +114,10 @@ abbrev pub in_section : ℕ → SectionHeader → Bool
 in_section addr h = spans h.address h.size addr
 
 -- there is text, and the entry is a multiple of 4 in it
-abbrev pub entry_checks : List ℕ → List Check
-entry_checks bytes =
-    let h = file_header bytes in
-    check (nat_lt 0 (length (text_headers bytes))) kind.Text h.section_headers
-    ∷ check ((h.entry % 4 == 0) && list_any (in_section h.entry) (text_headers bytes)) kind.Entry 24
+abbrev pub entry_checks : FileHeader → List SectionHeader → List Check
+entry_checks h texts =
+    check (nat_lt 0 (length texts)) kind.Text h.section_headers
+    ∷ check ((h.entry % 4 == 0) && list_any (in_section h.entry) texts) kind.Entry 24
     ∷ []
 
 -- the checks of the tables: the segments, the sum of their sizes, the sections, their names, the text
@@ -130,7 +130,7 @@ table_checks bytes =
     ∷ map (section_check (length bytes)) (section_headers bytes)
     ++ (name_checks bytes
     ++ (text_checks (loaded bytes) [] (text_headers bytes)
-    ++ entry_checks bytes))))
+    ++ entry_checks h (text_headers bytes)))))
 
 -- all checks of a file, in their order
 abbrev pub checks : List ℕ → List Check

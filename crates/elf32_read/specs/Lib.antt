@@ -4,4 +4,6 @@ pub mod Headers
 pub mod Checks
 pub mod Reading
 pub mod Views
+pub mod Stages
+pub mod Ranges
 pub mod Inside

@@ -1,3 +1,9 @@
+ghost use Rattle.std.specs.Prelude.{◌≡◌};
+ghost use Rattle.elf32_read.specs.declared.fault.ElfReadError.TheVariants.{Fault, Memory};
+
+use std::alloc::{AllocError, AllocFailed};
+use thiserror::Error;
+
 /// Which check a file fails.
 #[derive(Clone, Copy, Debug, PartialEq, Eq)]
 pub enum ElfKind {
@@ -28,7 +34,8 @@ pub enum ElfKind {
 }
 
 /// The first check that a file fails, and the place in the file that it is told at.
-#[derive(Clone, Copy, Debug, PartialEq, Eq)]
+#[derive(Clone, Copy, Debug, PartialEq, Eq, Error)]
+#[error("not an accepted ELF file: {kind:?} at {place}")]
 pub struct ElfFault {
     pub kind: ElfKind,
     /// Bytes from the start of the file.
@@ -36,8 +43,34 @@ pub struct ElfFault {
 }
 
 /// Why a file wasn't read.
-#[derive(Clone, Copy, Debug, PartialEq, Eq)]
+#[derive(Clone, Copy, Debug, PartialEq, Eq, Error)]
 pub enum ElfReadError {
+    #[error(transparent)]
     Fault(ElfFault),
+    #[error("out of memory")]
     Memory,
+}
+
+impl From<ElfFault> for ElfReadError {
+    ghost from_gives = { λ fault e. e ≡ Fault fault };
+
+    fn from(fault: ElfFault) -> Self {
+        ElfReadError::Fault(fault)
+    }
+}
+
+impl From<AllocError> for ElfReadError {
+    ghost from_gives = { λ _ e. e ≡ Memory };
+
+    fn from(_: AllocError) -> Self {
+        ElfReadError::Memory
+    }
+}
+
+impl<T: Drop> From<AllocFailed<T>> for ElfReadError {
+    ghost from_gives = { λ _ e. e ≡ Memory };
+
+    fn from(_: AllocFailed<T>) -> Self {
+        ElfReadError::Memory
+    }
 }
