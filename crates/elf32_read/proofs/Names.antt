@@ -1,0 +1,87 @@
+-- Names in a string table.
+use Rattle.std.proofs.Common.{◌≡◌, ℕ, zero, suc, ◌+◌, ◌-◌, ◌<◌, ◌≤◌, Bool, true, false, cond, eqb, ltb, List, [], ◌∷◌, ◌++◌, length, take, drop, get_or, Option, None, Some, refl, arith, ◌∙◌, ap, map, subst}
+use Rattle.std.specs.Prelude.{is_some, nat_lt, ◌==◌, if◌then◌else◌}
+use Rattle.std.specs.Option.{option_map, option_map_or}
+use Rattle.std.specs.Str.{bytes_eq}
+use Rattle.std.proofs.lemmas.Grind.{common_steps}
+use Rattle.std.proofs.lemmas.Bool.Decides.{nat_tests}
+use Rattle.std.proofs.lemmas.List.{take_more, length-take}
+use Rattle.elf32_read.specs.Checks.{Check, check, name_check}
+use Rattle.elf32_read.specs.declared.fault.ElfKind.TheVariants as kind
+use Rattle.elf32_read.specs.declared.header.SectionHeader.{SectionHeader}
+use Rattle.elf32_read.specs.Fields.{name_from, name_at, zero_end}
+
+-- whether the bytes begin with a name
+abbrev pub named : List ℕ → List ℕ → Bool
+named name bytes = option_map_or (bytes_eq name) (name_from bytes) false
+
+some_map : (b : ℕ) (o : Option (List ℕ)) → is_some (option_map (λ m. b ∷ m) o) ≡ is_some o
+some_map b None = refl
+some_map b (Some m) = refl
+
+zero_step : (z : ℕ) (b : Bool) → (if b then true else nat_lt 0 z) ≡ nat_lt 0 (if nat_lt 0 z then z + 1 else (if b then 1 else 0))
+zero_step zero true = refl
+zero_step zero false = refl
+zero_step (suc z) true = grind (arith, nat_tests)
+zero_step (suc z) false = grind (arith, nat_tests)
+
+suc_step : (at z : ℕ) (b : Bool) → nat_lt at z ≡ nat_lt (suc at) (if nat_lt 0 z then z + 1 else (if b then 1 else 0))
+suc_step at zero true = grind (arith, nat_tests)
+suc_step at zero false = grind (arith, nat_tests)
+suc_step at (suc z) b = grind (arith, nat_tests)
+
+some_if : (b : Bool) (x : ℕ) (o : Option (List ℕ)) → is_some (if b then Some [] else option_map (λ m. x ∷ m) o) ≡ (if b then true else is_some o)
+some_if true x o = refl
+some_if false x o = some_map x o
+
+ends_from : (bytes : List ℕ) (at : ℕ) → is_some (name_from (drop at bytes)) ≡ nat_lt at (zero_end bytes)
+ends_from [] zero = refl
+ends_from [] (suc at) = grind (arith, nat_tests)
+ends_from (b ∷ bs) zero =
+    some_if (b == 0) b (name_from bs) ∙ ap (λ (t : Bool). if b == 0 then true else t) (ends_from bs zero) ∙ zero_step (zero_end bs) (b == 0)
+ends_from (b ∷ bs) (suc at) = ends_from bs at ∙ suc_step at (zero_end bs) (b == 0)
+
+-- a name ends in its table exactly where it begins before the last zero byte
+pub name_ends : (table : List ℕ) (at : ℕ) → is_some (name_at table at) ≡ nat_lt at (zero_end table)
+unfolding name_at
+name_ends table at = ends_from table at
+
+-- a check that a name begins before the last zero byte
+abbrev pub end_check : ℕ → SectionHeader → Check
+end_check end h = check (nat_lt h.name end) kind.Section h.place
+
+pub ends-map : (table : List ℕ) (hs : List SectionHeader) → map (name_check table) hs ≡ map (end_check (zero_end table)) hs
+ends-map table [] = refl
+ends-map table (h ∷ hs) =
+    let head : name_check table h ≡ end_check (zero_end table) h = ap (λ (t : Bool). check t kind.Section h.place) (name_ends table h.name) in
+    ap (λ (c : Check). c ∷ map (name_check table) hs) head ∙ ap (λ (cs : List Check). end_check (zero_end table) h ∷ cs) (ends-map table hs)
+
+push_step : (last first : Bool) (z z' len : ℕ) → z' ≡ (if last then len + 1 else z)
+    → (if nat_lt 0 z' then z' + 1 else (if first then 1 else 0)) ≡ (if last then suc len + 1 else (if nat_lt 0 z then z + 1 else (if first then 1 else 0)))
+push_step true first z z' len e = grind (arith, nat_tests)
+push_step false first z z' len e = rw e refl
+
+-- one more byte at the end
+pub zero_end-push : (bytes : List ℕ) (b : ℕ) → zero_end (bytes ++ b ∷ []) ≡ (if b == 0 then length bytes + 1 else zero_end bytes)
+zero_end-push [] b = refl
+zero_end-push (x ∷ xs) b = push_step (b == 0) (x == 0) (zero_end xs) (zero_end (xs ++ b ∷ [])) (length xs) (zero_end-push xs b)
+
+-- the last byte of the first n + 1
+zero_end-take_suc : (bytes : List ℕ) (n : ℕ) → n < length bytes
+    → zero_end (take (n + 1) bytes) ≡ (if get_or bytes n 0 == 0 then n + 1 else zero_end (take n bytes))
+zero_end-take_suc bytes n within =
+    let len : length (take n bytes) ≡ n = grind (arith, common_steps) in
+    ap zero_end (take_more bytes n 0 within) ∙ zero_end-push (take n bytes) (get_or bytes n 0)
+    ∙ ap (λ (k : ℕ). if get_or bytes n 0 == 0 then k + 1 else zero_end (take n bytes)) len
+
+-- the last byte of the first n
+pub zero_end-take : (bytes : List ℕ) (n : ℕ) → 0 < n → n ≤ length bytes
+    → zero_end (take n bytes) ≡ (if get_or bytes (n - 1) 0 == 0 then n else zero_end (take (n - 1) bytes))
+zero_end-take bytes n some within =
+    let back : n - 1 + 1 ≡ n = omega arith in
+    let lt : n - 1 < length bytes = omega arith in
+    let P : ℕ → Type 0 = λ k. zero_end (take k bytes) ≡ (if get_or bytes (n - 1) 0 == 0 then k else zero_end (take (n - 1) bytes)) in
+    subst P back (zero_end-take_suc bytes (n - 1) lt)
+
+-- a scan from the end
+pub ruleset last_zero = (zero_end-take, length-take)

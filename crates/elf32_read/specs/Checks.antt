@@ -1,0 +1,141 @@
+-- The checks of a file, in their order.
+use Rattle.std.specs.Prelude.{ℕ, ◌+◌, ◌*◌, ◌%◌, ◌==◌, nat_le, nat_lt, ◌&&◌, ◌||◌, not, Bool, List, [], ◌∷◌, ◌++◌, length, bit_and, map, Option, Some, None, is_some, if◌then◌else◌, slice_index}
+use Rattle.std.specs.List.{list_any}
+use Rattle.elf32_read.specs.Fields.{name_at, spans, overlap}
+use Rattle.elf32_read.specs.Headers.{file_header, loaded, text_headers, section_headers, names_header, names, holds_text}
+use Rattle.elf32_read.specs.declared.fault.ElfKind.{ElfKind}
+use Rattle.elf32_read.specs.declared.fault.ElfKind.TheVariants as kind
+use Rattle.elf32_read.specs.declared.fault.ElfFault.{ElfFault}
+use Rattle.elf32_read.specs.declared.header.FileHeader.{FileHeader}
+use Rattle.elf32_read.specs.declared.header.ProgramHeader.{ProgramHeader}
+use Rattle.elf32_read.specs.declared.header.SectionHeader.{SectionHeader}
+
+-- a test of the file, and the fault where it fails
+pub record Check : Type 0 where
+  pub holds : Bool
+  pub fault : ElfFault
+
+abbrev pub check : Bool → ElfKind → ℕ → Check
+check holds kind place = record { holds = holds; fault = record { kind = kind; place = place } }
+
+-- the fault of the first check that fails
+abbrev pub first_fault : List Check → Option ElfFault
+first_fault [] = None
+first_fault (c ∷ cs) = if c.holds then first_fault cs else Some c.fault
+
+-- whether the bytes begin with 7F 45 4C 46
+abbrev pub is_magic : List ℕ → Bool
+is_magic bytes =
+    (slice_index bytes 0 == 0x7F) && ((slice_index bytes 1 == 0x45) && ((slice_index bytes 2 == 0x4C) && (slice_index bytes 3 == 0x46)))
+
+-- the file's size (gABI, ELF Identification)
+abbrev pub size_checks : List ℕ → List Check
+size_checks bytes =
+    check (nat_le (length bytes) 33554432) kind.Large 33554432
+    ∷ check (nat_le 52 (length bytes)) kind.Short (length bytes)
+    ∷ []
+
+-- magic, ELFCLASS32, ELFDATA2LSB, ET_EXEC, EM_RISCV, neither EF_RISCV_RVC nor EF_RISCV_RVE, and the headers' sizes
+abbrev pub header_checks : List ℕ → List Check
+header_checks bytes =
+    let h = file_header bytes in
+    check (is_magic bytes) kind.Magic 0
+    ∷ check (slice_index bytes 4 == 1) kind.Class 4
+    ∷ check (slice_index bytes 5 == 1) kind.Order 5
+    ∷ check (h.kind == 2) kind.Kind 16
+    ∷ check (h.machine == 243) kind.Machine 18
+    ∷ check (bit_and h.flags 9 == 0) kind.Flags 36
+    ∷ check ((h.program_header_count == 0) || (h.program_header_size == 32)) kind.Segment 42
+    ∷ check ((h.section_header_count == 0) || (h.section_header_size == 40)) kind.Section 46
+    ∷ check (nat_le (h.program_headers + 32 * h.program_header_count) (length bytes)) kind.Short h.program_headers
+    ∷ check (nat_le (h.section_headers + 40 * h.section_header_count) (length bytes)) kind.Short h.section_headers
+    ∷ []
+
+-- the file part is in the file and no larger than the segment, which ends by 0xE0000000
+abbrev pub segment_fits : ℕ → ProgramHeader → Bool
+segment_fits size h =
+    nat_le h.file_size h.memory_size
+    && (nat_le (h.offset + h.file_size) size && nat_le (h.address + h.memory_size) 0xE0000000)
+
+abbrev pub segments_overlap : ProgramHeader → ProgramHeader → Bool
+segments_overlap h other = overlap h.address h.memory_size other.address other.memory_size
+
+-- each segment fits, and has no byte in common with an earlier one
+abbrev pub segment_checks : ℕ → List ProgramHeader → List ProgramHeader → List Check
+segment_checks size earlier [] = []
+segment_checks size earlier (h ∷ hs) =
+    check (segment_fits size h && not (list_any (segments_overlap h) earlier)) kind.Segment h.place
+    ∷ segment_checks size (earlier ++ h ∷ []) hs
+
+-- the sizes in memory of the segments up to each one, after those before, are at most 16,777,216
+abbrev pub memory_checks : ℕ → List ProgramHeader → List Check
+memory_checks sum [] = []
+memory_checks sum (h ∷ hs) =
+    check (nat_le (sum + h.memory_size) 16777216) kind.Large h.place ∷ memory_checks (sum + h.memory_size) hs
+
+-- SHT_NULL (0) and SHT_NOBITS (8) have no part of the file
+abbrev pub has_file_part : SectionHeader → Bool
+has_file_part h = not ((h.kind == 0) || (h.kind == 8))
+
+-- a section's part is in the file, and isn't compressed (SHF_COMPRESSED, 0x800)
+abbrev pub section_fits : ℕ → SectionHeader → Bool
+section_fits size h = not (has_file_part h) || (nat_le (h.offset + h.size) size && (bit_and h.flags 0x800 == 0))
+
+abbrev pub section_check : ℕ → SectionHeader → Check
+section_check size h = check (section_fits size h) kind.Section h.place
+
+abbrev pub name_check : List ℕ → SectionHeader → Check
+name_check table h = check (is_some (name_at table h.name)) kind.Section h.place
+
+-- the section of names stands in the file, and each section's name ends in it
+abbrev pub name_checks : List ℕ → List Check
+name_checks bytes =
+    if (file_header bytes).section_names == 0
+    then []
+    else (check (not ((names_header bytes).kind == 8)) kind.Section (names_header bytes).place
+    ∷ map (name_check (names bytes)) (section_headers bytes))
+
+-- whole words in the file part of one executable segment
+abbrev pub text_fits : List ProgramHeader → SectionHeader → Bool
+text_fits segments h =
+    ((h.address % 4 == 0) && (h.size % 4 == 0)) && (not (h.kind == 8) && list_any (holds_text h) segments)
+
+abbrev pub sections_overlap : SectionHeader → SectionHeader → Bool
+sections_overlap h other = overlap h.address h.size other.address other.size
+
+-- each text section fits, and has no byte in common with an earlier one
+abbrev pub text_checks : List ProgramHeader → List SectionHeader → List SectionHeader → List Check
+text_checks segments earlier [] = []
+text_checks segments earlier (h ∷ hs) =
+    check (text_fits segments h && not (list_any (sections_overlap h) earlier)) kind.Text h.place
+    ∷ text_checks segments (earlier ++ h ∷ []) hs
+
+abbrev pub in_section : ℕ → SectionHeader → Bool
+in_section addr h = spans h.address h.size addr
+
+-- there is text, and the entry is a multiple of 4 in it
+abbrev pub entry_checks : FileHeader → List SectionHeader → List Check
+entry_checks h texts =
+    check (nat_lt 0 (length texts)) kind.Text h.section_headers
+    ∷ check ((h.entry % 4 == 0) && list_any (in_section h.entry) texts) kind.Entry 24
+    ∷ []
+
+-- the checks of the tables: the segments, the sum of their sizes, the sections, their names, the text
+abbrev pub table_checks : List ℕ → List Check
+table_checks bytes =
+    let h = file_header bytes in
+    segment_checks (length bytes) [] (loaded bytes)
+    ++ (memory_checks 0 (loaded bytes)
+    ++ (check ((h.section_names == 0) || nat_lt h.section_names h.section_header_count) kind.Section 50
+    ∷ map (section_check (length bytes)) (section_headers bytes)
+    ++ (name_checks bytes
+    ++ (text_checks (loaded bytes) [] (text_headers bytes)
+    ++ entry_checks h (text_headers bytes)))))
+
+-- all checks of a file, in their order
+abbrev pub checks : List ℕ → List Check
+checks bytes = size_checks bytes ++ (header_checks bytes ++ table_checks bytes)
+
+-- the first fault of a file
+unfoldable pub fault_of : List ℕ → Option ElfFault
+fault_of bytes = first_fault (checks bytes)

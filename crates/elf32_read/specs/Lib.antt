@@ -1,0 +1,9 @@
+pub mod Fields
+pub mod Program
+pub mod Headers
+pub mod Checks
+pub mod Reading
+pub mod Views
+pub mod Stages
+pub mod Ranges
+pub mod Inside

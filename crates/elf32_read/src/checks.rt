@@ -1,0 +1,269 @@
+ghost use Rattle.std.specs.Prelude.{◌≡◌, ◌+◌, ◌*◌, ◌%◌, ◌==◌, ◌&&◌, ◌≤◌, ◌<◌, ◌⊎◌, ◌∷◌, [], ℕ, length, IfOk, All, map, filter, slice_index};
+ghost use Rattle.std.specs.List.{list_any};
+ghost use Rattle.std.specs.Result.{result_err};
+ghost use Rattle.elf32_read.specs.Fields.{overlap};
+ghost use Rattle.elf32_read.specs.Headers.{file_header, loaded, text_headers, section_headers, holds_text, names, names_header};
+ghost use Rattle.elf32_read.specs.Checks.{check, first_fault, is_magic, size_checks, header_checks, segment_fits, segments_overlap, segment_checks, memory_checks, section_fits, section_check, name_check, name_checks, entry_checks, text_fits, sections_overlap, text_checks, in_section};
+ghost use Rattle.elf32_read.specs.Stages.{table_fault};
+
+use crate::fault::{ElfFault, ElfKind};
+use crate::fields::zero_end;
+use crate::header::{
+    FILE_HEADER_SIZE, FILE_LIMIT, FileHeader, ProgramHeader, SectionHeader, section_bytes,
+};
+
+/// The greatest sum of the segments' sizes in memory.
+const MEMORY_LIMIT: u64 = 16_777_216;
+
+/// Above all that is loaded: the stacks lie higher.
+const LOAD_END: u64 = 0xE000_0000;
+
+pub fn check(holds: bool, kind: ElfKind, place: u32) -> Result<(), ElfFault>
+    ensures { result_err result ≡ first_fault (check holds kind place ∷ []) }
+{
+    if holds {
+        Ok(())
+    } else {
+        Err(ElfFault { kind, place })
+    }
+}
+
+/// Whether two ranges of addresses, each by its start and size, have one in common.
+fn overlap(start: u32, size: u32, other: u32, other_size: u32) -> bool
+    ensures { result ≡ overlap start size other other_size }
+{
+    (start as u64) < other as u64 + other_size as u64 && (other as u64) < start as u64 + size as u64
+}
+
+pub fn check_size(bytes: &[u8]) -> Result<(), ElfFault>
+    ensures checks { result_err result ≡ first_fault (size_checks bytes.now) }
+    ensures least { IfOk result (λ _. FILE_HEADER_SIZE ≤ length bytes.now) }
+    ensures most { IfOk result (λ _. length bytes.now ≤ FILE_LIMIT) }
+{
+    check(bytes.len() <= FILE_LIMIT, ElfKind::Large, FILE_LIMIT as u32)?;
+    check(
+        bytes.len() >= FILE_HEADER_SIZE,
+        ElfKind::Short,
+        bytes.len() as u32,
+    )
+}
+
+fn is_magic(bytes: &[u8]) -> bool
+    requires { FILE_HEADER_SIZE ≤ length bytes.now }
+    ensures { result ≡ is_magic bytes.now }
+{
+    bytes[0] == 0x7F && (bytes[1] == 0x45 && (bytes[2] == 0x4C && bytes[3] == 0x46))
+}
+
+pub fn check_header(bytes: &[u8], header: &FileHeader) -> Result<(), ElfFault>
+    requires header { header.now ≡ file_header bytes.now }
+    requires least { FILE_HEADER_SIZE ≤ length bytes.now }
+    ensures checks { result_err result ≡ first_fault (header_checks bytes.now) }
+    ensures programs { IfOk result (λ _. header.now.program_headers + 32 * header.now.program_header_count ≤ length bytes.now) }
+    ensures sections { IfOk result (λ _. header.now.section_headers + 40 * header.now.section_header_count ≤ length bytes.now) }
+{
+    let programs_end = header.program_headers as usize + 32 * header.program_header_count as usize;
+    let sections_end = header.section_headers as usize + 40 * header.section_header_count as usize;
+    check(is_magic(bytes), ElfKind::Magic, 0)?;
+    check(bytes[4] == 1, ElfKind::Class, 4)?;
+    check(bytes[5] == 1, ElfKind::Order, 5)?;
+    check(header.kind == 2, ElfKind::Kind, 16)?;
+    check(header.machine == 243, ElfKind::Machine, 18)?;
+    check(header.flags & 9 == 0, ElfKind::Flags, 36)?;
+    check(
+        header.program_header_count == 0 || header.program_header_size == 32,
+        ElfKind::Segment,
+        42,
+    )?;
+    check(
+        header.section_header_count == 0 || header.section_header_size == 40,
+        ElfKind::Section,
+        46,
+    )?;
+    check(
+        programs_end <= bytes.len(),
+        ElfKind::Short,
+        header.program_headers,
+    )?;
+    check(
+        sections_end <= bytes.len(),
+        ElfKind::Short,
+        header.section_headers,
+    )
+}
+
+fn segment_fits(size: usize, h: &ProgramHeader) -> bool
+    ensures { result ≡ segment_fits size h.now }
+{
+    h.file_size <= h.memory_size
+        && (h.offset as u64 + h.file_size as u64 <= size as u64
+            && h.address as u64 + h.memory_size as u64 <= LOAD_END)
+}
+
+fn meets_segment(h: &ProgramHeader, others: &[ProgramHeader]) -> bool
+    ensures { result ≡ list_any (segments_overlap h.now) others.now }
+{
+    others.iter().any(|other| overlap(h.address, h.memory_size, other.address, other.memory_size))
+}
+
+pub fn check_segments(size: usize, segments: &[ProgramHeader]) -> Result<(), ElfFault>
+    ensures { result_err result ≡ first_fault (segment_checks size [] segments.now) }
+{
+    for (k, h) in segments.iter().enumerate() {
+        let apart = !meets_segment(h, &segments[..k]);
+        check(segment_fits(size, h) && apart, ElfKind::Segment, h.place)?;
+    }
+    Ok(())
+}
+
+pub fn check_memory(segments: &[ProgramHeader]) -> Result<(), ElfFault>
+    ensures { result_err result ≡ first_fault (memory_checks 0 segments.now) }
+{
+    let mut sum: u64 = 0;
+    for h in segments {
+        sum += h.memory_size as u64;
+        check(sum <= MEMORY_LIMIT, ElfKind::Large, h.place)?;
+    }
+    Ok(())
+}
+
+fn section_fits(size: usize, h: &SectionHeader) -> bool
+    ensures { result ≡ section_fits size h.now }
+{
+    let has_file_part = !(h.kind == 0 || h.kind == 8);
+    !has_file_part || (h.offset as u64 + h.size as u64 <= size as u64 && h.flags & 0x800 == 0)
+}
+
+pub fn check_sections(size: usize, sections: &[SectionHeader]) -> Result<(), ElfFault>
+    ensures { result_err result ≡ first_fault (map (section_check size) sections.now) }
+{
+    for h in sections {
+        check(section_fits(size, h), ElfKind::Section, h.place)?;
+    }
+    Ok(())
+}
+
+fn check_name_ends(table: &[u8], sections: &[SectionHeader]) -> Result<(), ElfFault>
+    ensures { result_err result ≡ first_fault (map (name_check table.now) sections.now) }
+{
+    let end = zero_end(table);
+    for h in sections {
+        check((h.name as usize) < end, ElfKind::Section, h.place)?;
+    }
+    Ok(())
+}
+
+pub fn check_names(
+    bytes: &[u8],
+    header: &FileHeader,
+    sections: &[SectionHeader],
+) -> Result<(), ElfFault>
+    requires header { header.now ≡ file_header bytes.now }
+    requires sections { sections.now ≡ section_headers bytes.now }
+    requires within { header.now.section_headers + 40 * header.now.section_header_count ≤ length bytes.now }
+    requires named { header.now.section_names ≡ 0 ⊎ header.now.section_names < header.now.section_header_count }
+    requires limit { length bytes.now ≤ FILE_LIMIT }
+    ensures { result_err result ≡ first_fault (name_checks bytes.now) }
+{
+    if header.section_names == 0 {
+        return Ok(());
+    }
+    let at = header.section_headers + 40 * header.section_names as u32;
+    let names = SectionHeader::read(bytes, at);
+    check(names.kind != 8, ElfKind::Section, at)?;
+    check_name_ends(section_bytes(bytes, &names), sections)
+}
+
+/// Whether a section begins at a multiple of 4 and has whole words.
+fn is_whole(h: &SectionHeader) -> bool
+    ensures { result ≡ ((h.now.address % 4 == 0) && (h.now.size % 4 == 0)) }
+{
+    h.address % 4 == 0 && h.size % 4 == 0
+}
+
+fn is_executable(segments: &[ProgramHeader], h: &SectionHeader) -> bool
+    ensures { result ≡ list_any (holds_text h.now) segments.now }
+{
+    segments.iter().any(|s| holds_text(h, s))
+}
+
+fn text_fits(segments: &[ProgramHeader], h: &SectionHeader) -> bool
+    ensures { result ≡ text_fits segments.now h.now }
+{
+    is_whole(h) && (h.kind != 8 && is_executable(segments, h))
+}
+
+/// Whether a section lies wholly in the file part of an executable segment.
+pub fn holds_text(h: &SectionHeader, s: &ProgramHeader) -> bool
+    ensures { result ≡ holds_text h.now s.now }
+{
+    s.flags & 1 == 1
+        && (s.address <= h.address
+            && h.address as u64 + h.size as u64 <= s.address as u64 + s.file_size as u64)
+}
+
+fn meets_section(h: &SectionHeader, others: &[SectionHeader]) -> bool
+    ensures { result ≡ list_any (sections_overlap h.now) others.now }
+{
+    others.iter().any(|other| overlap(h.address, h.size, other.address, other.size))
+}
+
+pub fn check_text(segments: &[ProgramHeader], texts: &[SectionHeader]) -> Result<(), ElfFault>
+    ensures { result_err result ≡ first_fault (text_checks segments.now [] texts.now) }
+{
+    for (k, h) in texts.iter().enumerate() {
+        let apart = !meets_section(h, &texts[..k]);
+        check(text_fits(segments, h) && apart, ElfKind::Text, h.place)?;
+    }
+    Ok(())
+}
+
+fn in_section(addr: u32, h: &SectionHeader) -> bool
+    ensures { result ≡ in_section addr h.now }
+{
+    h.address <= addr && (addr as u64) < h.address as u64 + h.size as u64
+}
+
+fn enters(entry: u32, texts: &[SectionHeader]) -> bool
+    ensures { result ≡ list_any (in_section entry) texts.now }
+{
+    texts.iter().any(|h| in_section(entry, h))
+}
+
+pub fn check_entry(header: &FileHeader, texts: &[SectionHeader]) -> Result<(), ElfFault>
+    ensures { result_err result ≡ first_fault (entry_checks header.now texts.now) }
+{
+    let entered = header.entry % 4 == 0 && enters(header.entry, texts);
+    check(!texts.is_empty(), ElfKind::Text, header.section_headers)?;
+    check(entered, ElfKind::Entry, 24)
+}
+
+/// The checks of the tables, in their order.
+pub fn check_tables(
+    bytes: &[u8],
+    header: &FileHeader,
+    segments: &[ProgramHeader],
+    sections: &[SectionHeader],
+    texts: &[SectionHeader],
+) -> Result<(), ElfFault>
+    requires header { header.now ≡ file_header bytes.now }
+    requires segments { segments.now ≡ loaded bytes.now }
+    requires sections { sections.now ≡ section_headers bytes.now }
+    requires texts { texts.now ≡ text_headers bytes.now }
+    requires within { header.now.section_headers + 40 * header.now.section_header_count ≤ length bytes.now }
+    requires limit { length bytes.now ≤ FILE_LIMIT }
+    ensures { result_err result ≡ table_fault bytes.now }
+{
+    check_segments(bytes.len(), segments)?;
+    check_memory(segments)?;
+    let names = header.section_names;
+    check(
+        names == 0 || names < header.section_header_count,
+        ElfKind::Section,
+        50,
+    )?;
+    check_sections(bytes.len(), sections)?;
+    check_names(bytes, header, sections)?;
+    check_text(segments, texts)?;
+    check_entry(header, texts)
+}

@@ -1,0 +1,52 @@
+//! Numbers and names in the bytes of an ELF file.
+
+ghost use Rattle.std.specs.Prelude.{◌≡◌, ◌+◌, ◌≤◌, length, false};
+ghost use Rattle.std.specs.Option.{option_map_or};
+ghost use Rattle.std.specs.Str.{bytes_eq};
+ghost use Rattle.elf32_read.specs.Fields.{u16_at, u32_at, name_from, zero_end};
+
+use byteorder::{ByteOrder, LittleEndian};
+
+/// The number in two bytes, the lowest first.
+#[tactic(auto, unfolding(crate::specs::Fields::u16_at))]
+pub fn u16_at(bytes: &[u8], at: usize) -> u16
+    requires { at + 2 ≤ length bytes.now }
+    ensures { result ≡ u16_at bytes.now at }
+{
+    LittleEndian::read_u16(&bytes[at..])
+}
+
+/// The number in four bytes, the lowest first.
+#[tactic(auto, unfolding(crate::specs::Fields::u32_at))]
+pub fn u32_at(bytes: &[u8], at: usize) -> u32
+    requires { at + 4 ≤ length bytes.now }
+    ensures { result ≡ u32_at bytes.now at }
+{
+    LittleEndian::read_u32(&bytes[at..])
+}
+
+/// The place after the last zero byte, or 0 where there is none.
+#[tactic(auto, using(crate::proofs::Names::last_zero))]
+pub fn zero_end(table: &[u8]) -> usize
+    ensures { result ≡ zero_end table.now }
+{
+    let mut end = table.len();
+    while end > 0 && table[end - 1] != 0 {
+        end -= 1;
+    }
+    end
+}
+
+/// Whether the bytes up to the first zero byte, which must be there, are this name.
+pub fn begins_with_name(bytes: &[u8], name: &[u8]) -> bool
+    ensures { result ≡ option_map_or (bytes_eq name.now) (name_from bytes.now) false }
+{
+    let mut rest = bytes;
+    for byte in name {
+        match rest {
+            [first, after @ ..] if *first != 0 && first == byte => rest = after,
+            _ => return false,
+        }
+    }
+    matches!(rest, [0, ..])
+}

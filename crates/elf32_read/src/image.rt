@@ -1,0 +1,169 @@
+ghost use Rattle.std.specs.Prelude.{◌≡◌, ◌<◌, None, Some, length, map, slice_get};
+ghost use Rattle.std.specs.Option.{option_copied, option_map};
+ghost use Rattle.elf32_read.specs.Program.{in_text, mapped, section, text_word, writable};
+ghost use Rattle.elf32_read.specs.Checks.{fault_of};
+ghost use Rattle.elf32_read.specs.Headers.{file_header, loaded, program_of, section_headers, text_headers};
+ghost use Rattle.elf32_read.specs.Views.{section_shown, segment_shown, text_shown, unnamed};
+ghost use Rattle.elf32_read.specs.Ranges.{text_range};
+
+use crate::fault::ElfReadError;
+use crate::header::{FileHeader, ProgramHeader, SectionHeader, names_of};
+use crate::lookup::{
+    in_ranges, loaded_byte, may_write, section_called, section_in, segment_in, text_in, word_in,
+};
+use crate::views::{SectionView, SegmentView, TextView};
+use std::alloc::Global;
+use std::marker::Model;
+
+/// Where the words of a text section stand in the file.
+#[derive(Clone, Copy, Debug)]
+pub struct TextRange {
+    pub address: u32,
+    /// In bytes.
+    pub size: u32,
+    pub offset: usize,
+}
+
+/// A linked program that was read. Contracts see it as a `Program`: its entry, segments, text and sections.
+///
+/// The stacks of the harts aren't part of it, since it doesn't know how many harts there are.
+#[derive(Drop)]
+pub struct Image {
+    file: Vec<u8>,
+    header: FileHeader,
+    segments: Vec<ProgramHeader>,
+    text: Vec<TextRange>,
+    sections: Vec<SectionHeader>,
+}
+
+impl Model for Image {
+    ghost use Rattle.elf32_read.specs.Program.{Program};
+
+    ghost Value = { Program };
+
+    ghost use Rattle.elf32_read.specs.Inside.{seen, IsKept};
+
+    ghost view = { seen };
+
+    ghost invariant = { IsKept };
+}
+
+impl Image {
+    pub(crate) fn of(
+        file: Vec<u8>,
+        header: FileHeader,
+        segments: Vec<ProgramHeader>,
+        text: Vec<TextRange>,
+        sections: Vec<SectionHeader>,
+    ) -> Image
+        requires accepted { fault_of file.items ≡ None }
+        requires header { header ≡ file_header file.items }
+        requires segments { segments.items ≡ loaded file.items }
+        requires text { text.items ≡ map (text_range file.items) (text_headers file.items) }
+        requires sections { sections.items ≡ section_headers file.items }
+        ensures { result ≡ program_of file.items }
+    {
+        Image {
+            file,
+            header,
+            segments,
+            text,
+            sections,
+        }
+    }
+
+    /// The address of the first instruction.
+    pub fn entry(&self) -> u32
+        ensures { result ≡ self.now.entry }
+    {
+        self.header.entry
+    }
+
+    /// Whether an address is a byte of text: of an allocated, executable section.
+    pub fn in_text(&self, addr: u32) -> bool
+        ensures { result ≡ in_text self.now addr }
+    {
+        in_ranges(&self.text, addr)
+    }
+
+    /// The word of text at an address; none where the address isn't a multiple of 4 in text.
+    pub fn text_word(&self, addr: u32) -> Option<u32>
+        ensures { result ≡ text_word self.now addr }
+    {
+        if addr % 4 != 0 {
+            return None;
+        }
+        word_in(&self.file, &self.text, addr)
+    }
+
+    /// The byte that is loaded at an address, in text or data; none where no segment has it.
+    pub fn mapped(&self, addr: u32) -> Option<u8>
+        ensures { result ≡ mapped self.now addr }
+    {
+        loaded_byte(&self.file, &self.segments, addr)
+    }
+
+    /// Whether the program may write at an address: its segment is writable, and it isn't text.
+    pub fn writable(&self, addr: u32) -> bool
+        ensures { result ≡ writable self.now addr }
+    {
+        may_write(&self.segments, &self.text, addr)
+    }
+
+    /// What stands in the file of the first section of a name.
+    pub fn section(&self, name: &[u8]) -> Option<&[u8]>
+        ensures { option_copied result ≡ section self.now name.now }
+    {
+        if self.header.section_names == 0 {
+            return None;
+        }
+        section_called(
+            &self.file,
+            names_of(&self.file, &self.header),
+            &self.sections,
+            name,
+        )
+    }
+
+    pub fn segment_count(&self) -> usize
+        ensures { result ≡ length self.now.segments }
+    {
+        self.segments.as_slice().len()
+    }
+
+    /// A segment by its number, in the file's order.
+    pub fn segment(&self, k: usize) -> SegmentView<'_>
+        requires { k < length self.now.segments }
+        ensures { slice_get self.now.segments k ≡ Some (segment_shown result) }
+    {
+        segment_in(&self.file, &self.segments, k)
+    }
+
+    pub fn text_count(&self) -> usize
+        ensures { result ≡ length self.now.text }
+    {
+        self.text.as_slice().len()
+    }
+
+    /// A text section by its number, in the file's order.
+    pub fn text(&self, k: usize) -> TextView<'_>
+        requires { k < length self.now.text }
+        ensures { slice_get self.now.text k ≡ Some (text_shown result) }
+    {
+        text_in(&self.file, &self.text, k)
+    }
+
+    pub fn section_count(&self) -> usize
+        ensures { result ≡ length self.now.sections }
+    {
+        self.sections.as_slice().len()
+    }
+
+    /// A section by its number.
+    pub fn section_at(&self, k: usize) -> SectionView<'_>
+        requires { k < length self.now.sections }
+        ensures { option_map unnamed (slice_get self.now.sections k) ≡ Some (section_shown result) }
+    {
+        section_in(&self.file, &self.sections, k)
+    }
+}

@@ -1,0 +1,19 @@
+//! Reads an ELF32 executable for RISC-V: the image of its bytes, or the first check that they fail.
+#![tactic(auto)]
+
+mod checks;
+mod fault;
+pub mod fields;
+mod header;
+mod image;
+mod lookup;
+mod read;
+mod views;
+
+pub use fault::{ElfFault, ElfKind, ElfReadError};
+pub use image::Image;
+pub use read::read_image;
+pub use views::{SectionView, SegmentView, TextView};
+
+#[cfg(test)]
+mod tests;

@@ -1,0 +1,177 @@
+ghost use Rattle.std.specs.Prelude.{◌≡◌, ◌+◌, ◌-◌, ◌%◌, ◌≤◌, ◌<◌, ◌==◌, ◌&&◌, not, All, length, true, false, find, map, slice_get, Some, None, if◌then◌else◌};
+ghost use Rattle.std.specs.List.{list_any};
+ghost use Rattle.std.specs.Option.{option_copied, option_map, option_map_or};
+ghost use Rattle.elf32_read.specs.Fields.{u32_at};
+ghost use Rattle.elf32_read.specs.Program.{byte_of};
+ghost use Rattle.elf32_read.specs.Headers.{section_bytes, section_of, segment_of};
+ghost use Rattle.elf32_read.specs.Views.{range_shown, section_shown, segment_shown, text_shown, unnamed};
+ghost use Rattle.elf32_read.specs.Ranges.{IsRange, IsWithin, in_loaded, in_range, is_called, is_writable_header};
+
+use crate::fields::{begins_with_name, u32_at};
+use crate::header::{ProgramHeader, SectionHeader, section_bytes};
+use crate::image::TextRange;
+use crate::views::{SectionView, SegmentView, TextView};
+
+fn in_loaded(addr: u32, h: &ProgramHeader) -> bool
+    ensures { result ≡ in_loaded addr h.now }
+{
+    h.address <= addr && (addr as u64) < h.address as u64 + h.memory_size as u64
+}
+
+fn in_range(addr: u32, t: &TextRange) -> bool
+    ensures { result ≡ in_range addr t.now }
+{
+    t.address <= addr && (addr as u64) < t.address as u64 + t.size as u64
+}
+
+/// The byte of a segment at an address, which is zero past the file part.
+fn byte_in(file: &[u8], h: &ProgramHeader, addr: u32) -> u8
+    requires within { IsWithin file.now h.now }
+    requires inside { in_loaded addr h.now ≡ true }
+    ensures { result ≡ byte_of addr (segment_of file.now h.now) }
+{
+    let distance = addr - h.address;
+    if distance < h.file_size {
+        file[h.offset as usize + distance as usize]
+    } else {
+        0
+    }
+}
+
+/// The byte that is loaded at an address.
+pub fn loaded_byte(file: &[u8], segments: &[ProgramHeader], addr: u32) -> Option<u8>
+    requires { All (IsWithin file.now) segments.now }
+    ensures { result ≡ option_map (λ h. byte_of addr (segment_of file.now h)) (find (in_loaded addr) segments.now) }
+{
+    for h in segments {
+        if in_loaded(addr, h) {
+            return Some(byte_in(file, h, addr));
+        }
+    }
+    None
+}
+
+/// Whether the segment at an address may be written.
+fn in_writable(segments: &[ProgramHeader], addr: u32) -> bool
+    ensures { result ≡ option_map_or is_writable_header (find (in_loaded addr) segments.now) false }
+{
+    for h in segments {
+        if in_loaded(addr, h) {
+            return h.flags & 2 == 2;
+        }
+    }
+    false
+}
+
+pub fn in_ranges(text: &[TextRange], addr: u32) -> bool
+    ensures { result ≡ list_any (in_range addr) text.now }
+{
+    text.iter().any(|t| in_range(addr, t))
+}
+
+/// Whether an address is writable and not text.
+pub fn may_write(segments: &[ProgramHeader], text: &[TextRange], addr: u32) -> bool
+    ensures { result ≡ (option_map_or is_writable_header (find (in_loaded addr) segments.now) false && not (list_any (in_range addr) text.now)) }
+{
+    in_writable(segments, addr) && !in_ranges(text, addr)
+}
+
+/// The word of text at an address that is a multiple of 4.
+pub fn word_in(file: &[u8], text: &[TextRange], addr: u32) -> Option<u32>
+    requires ranges { All (IsRange file.now) text.now }
+    requires aligned { addr % 4 ≡ 0 }
+    ensures { result ≡ option_map (λ t. u32_at file.now (t.offset + (addr - t.address))) (find (in_range addr) text.now) }
+{
+    for t in text {
+        if in_range(addr, t) {
+            return Some(u32_at(file, t.offset + (addr - t.address) as usize));
+        }
+    }
+    None
+}
+
+#[tactic(auto, unfolding(crate::specs::Fields::name_at))]
+fn is_called(names: &[u8], name: &[u8], h: &SectionHeader) -> bool
+    ensures { result ≡ is_called names.now name.now h.now }
+{
+    let start = h.name as usize;
+    start <= names.len() && begins_with_name(&names[start..], name)
+}
+
+/// What stands in the file of the first section of a name.
+pub fn section_called<'a>(
+    file: &'a [u8],
+    names: &[u8],
+    sections: &[SectionHeader],
+    name: &[u8],
+) -> Option<&'a [u8]>
+    ensures { option_copied result ≡ option_map (section_bytes file.now) (find (is_called names.now name.now) sections.now) }
+{
+    for h in sections {
+        if is_called(names, name, h) {
+            return Some(section_bytes(file, h));
+        }
+    }
+    None
+}
+
+/// The segment of a number.
+pub fn segment_in<'a>(file: &'a [u8], segments: &[ProgramHeader], k: usize) -> SegmentView<'a>
+    requires number { k < length segments.now }
+    requires within { All (IsWithin file.now) segments.now }
+    ensures { slice_get (map (segment_of file.now) segments.now) k ≡ Some (segment_shown result) }
+{
+    segment_view(file, &segments[k])
+}
+
+fn segment_view<'a>(file: &'a [u8], h: &ProgramHeader) -> SegmentView<'a>
+    requires { IsWithin file.now h.now }
+    ensures { segment_shown result ≡ segment_of file.now h.now }
+{
+    let start = h.offset as usize;
+    SegmentView {
+        address: h.address,
+        size: h.memory_size,
+        flags: h.flags,
+        bytes: &file[start..start + h.file_size as usize],
+    }
+}
+
+/// The text section of a number, by where its words stand in the file.
+pub fn text_in<'a>(file: &'a [u8], text: &[TextRange], k: usize) -> TextView<'a>
+    requires number { k < length text.now }
+    requires within { All (IsRange file.now) text.now }
+    ensures { slice_get (map (range_shown file.now) text.now) k ≡ Some (text_shown result) }
+{
+    text_view(file, &text[k])
+}
+
+fn text_view<'a>(file: &'a [u8], t: &TextRange) -> TextView<'a>
+    requires { IsRange file.now t.now }
+    ensures { text_shown result ≡ range_shown file.now t.now }
+{
+    TextView {
+        address: t.address,
+        bytes: &file[t.offset..t.offset + t.size as usize],
+    }
+}
+
+/// The section of a number.
+pub fn section_in<'a>(file: &'a [u8], sections: &[SectionHeader], k: usize) -> SectionView<'a>
+    requires { k < length sections.now }
+    ensures { slice_get (map (λ h. unnamed (section_of file.now h)) sections.now) k ≡ Some (section_shown result) }
+{
+    section_view(file, &sections[k])
+}
+
+fn section_view<'a>(file: &'a [u8], h: &SectionHeader) -> SectionView<'a>
+    ensures { section_shown result ≡ unnamed (section_of file.now h.now) }
+{
+    SectionView {
+        kind: h.kind,
+        flags: h.flags,
+        address: h.address,
+        link: h.link,
+        bytes: section_bytes(file, h),
+    }
+}

@@ -1,0 +1,34 @@
+use byteorder::{ByteOrder, LittleEndian};
+
+/// A loadable segment of an image (gABI, Program Header, `PT_LOAD`).
+#[derive(Clone, Copy, Debug)]
+pub struct SegmentView<'a> {
+    pub address: u32,
+    /// Bytes in memory.
+    pub size: u32,
+    /// 1 executable, 2 writable, 4 readable.
+    pub flags: u32,
+    /// The part that stands in the file, from the address on; the rest is zero.
+    pub bytes: &'a [u8],
+}
+
+/// A text section of an image.
+#[derive(Clone, Copy, Debug)]
+pub struct TextView<'a> {
+    /// A multiple of 4.
+    pub address: u32,
+    /// Whole words, the lowest byte first.
+    pub bytes: &'a [u8],
+}
+
+/// A section of an image (gABI, Sections).
+#[derive(Clone, Copy, Debug)]
+pub struct SectionView<'a> {
+    pub kind: u32,
+    pub flags: u32,
+    pub address: u32,
+    /// The number of the section that this one is linked to.
+    pub link: u32,
+    /// What stands in the file.
+    pub bytes: &'a [u8],
+}

@@ -1,0 +1,217 @@
+ghost use Rattle.std.specs.Prelude.{◌≡◌, ◌+◌, ◌&&◌, IfOk, None, Some, [], false, filter, length, map, nat_le, nat_lt, option_and_then, slice_get, unwrap_or};
+ghost use Rattle.std.specs.Option.{option_map, option_map_or};
+ghost use Rattle.elf32_read.specs.Fields.{name_at, name_from};
+ghost use Rattle.elf_symbols.specs.Entries.{begins_by, entry_named, entry_nearer, entry_preferred, names_by, symbol_of};
+ghost use Rattle.elf_symbols.specs.Names.{address_of, best, bytes_before, covering, function_at};
+ghost use Rattle.elf_symbols.specs.Views.{symbol_shown};
+
+use crate::entry::SymbolEntry;
+use elf32_read::fields::begins_with_name;
+use std::marker::Model;
+
+/// A symbol that was found.
+#[derive(Clone, Copy, Debug)]
+pub struct Named<'a> {
+    pub name: &'a [u8],
+    pub address: u32,
+    /// In bytes; 0 says nothing.
+    pub size: u32,
+    pub is_function: bool,
+}
+
+/// The symbols of an image. Contracts see them as `Names`.
+#[derive(Drop)]
+pub struct Symbols {
+    strings: Vec<u8>,
+    symbols: Vec<SymbolEntry>,
+    functions: Vec<SymbolEntry>,
+}
+
+impl Model for Symbols {
+    ghost use Rattle.elf_symbols.specs.Names.{Names};
+
+    ghost Value = { Names };
+
+    ghost use Rattle.elf_symbols.specs.Inside.{seen};
+
+    ghost view = { seen };
+}
+
+/// The bytes up to the first zero byte, or none where there is no zero byte.
+fn first_name(bytes: &[u8]) -> &[u8]
+    ensures { result.now ≡ unwrap_or (name_from bytes.now) [] }
+{
+    let mut end = 0;
+    while end < bytes.len() && bytes[end] != 0 {
+        end += 1;
+    }
+    if end < bytes.len() {
+        &bytes[..end]
+    } else {
+        &[]
+    }
+}
+
+#[tactic(auto, unfolding(elf32_read::specs::Fields::name_at))]
+fn symbol_name<'a>(strings: &'a [u8], entry: &SymbolEntry) -> &'a [u8]
+    ensures { result.now ≡ unwrap_or (name_at strings.now entry.now.name) [] }
+{
+    let start = entry.name as usize;
+    if start < strings.len() {
+        first_name(&strings[start..])
+    } else {
+        &[]
+    }
+}
+
+#[tactic(auto, unfolding(elf32_read::specs::Fields::name_at))]
+fn is_named(strings: &[u8], name: &[u8], entry: &SymbolEntry) -> bool
+    ensures { result ≡ entry_named strings.now name.now entry.now }
+{
+    let start = entry.name as usize;
+    start <= strings.len() && begins_with_name(&strings[start..], name)
+}
+
+/// Whether a name comes before another in the order of their bytes.
+#[tactic(auto, using(crate::proofs::Best::ends))]
+fn bytes_before(left: &[u8], right: &[u8]) -> bool
+    ensures { result ≡ bytes_before left.now right.now }
+{
+    let mut left = left;
+    let mut right = right;
+    'bytes: loop {
+        let [b, right_rest @ ..] = right else {
+            return false;
+        };
+        let [a, left_rest @ ..] = left else {
+            return true;
+        };
+        if a != b {
+            return a < b;
+        }
+        left = left_rest;
+        right = right_rest;
+    }
+}
+
+fn is_preferred(a: &SymbolEntry, b: &SymbolEntry) -> bool
+    ensures { result ≡ entry_preferred a.now b.now }
+{
+    a.address < b.address || (a.address == b.address && (a.kind == 2 && !(b.kind == 2)))
+}
+
+fn is_nearer(strings: &[u8], a: &SymbolEntry, b: &SymbolEntry) -> bool
+    ensures { result ≡ entry_nearer strings.now a.now b.now }
+{
+    b.address < a.address
+        || (a.address == b.address
+            && bytes_before(symbol_name(strings, a), symbol_name(strings, b)))
+}
+
+/// The entry of a name: of the least address, and of equal ones a function.
+fn entry_of(strings: &[u8], symbols: &[SymbolEntry], name: &[u8]) -> Option<SymbolEntry>
+    ensures { result ≡ best entry_preferred (filter (entry_named strings.now name.now) symbols.now) }
+{
+    let mut found: Option<SymbolEntry> = None;
+    for entry in symbols {
+        if is_named(strings, name, entry) {
+            found = match found {
+                Some(other) if !is_preferred(entry, &other) => Some(other),
+                _ => Some(*entry),
+            };
+        }
+    }
+    found
+}
+
+/// The function that begins at an address or before it, nearest.
+fn nearest(strings: &[u8], functions: &[SymbolEntry], addr: u32) -> Option<SymbolEntry>
+    ensures { result ≡ best (entry_nearer strings.now) (filter (begins_by addr) functions.now) }
+{
+    let mut found: Option<SymbolEntry> = None;
+    for entry in functions {
+        if entry.address <= addr {
+            found = match found {
+                Some(other) if !is_nearer(strings, entry, &other) => Some(other),
+                _ => Some(*entry),
+            };
+        }
+    }
+    found
+}
+
+fn shown<'a>(strings: &'a [u8], entry: &SymbolEntry) -> Named<'a>
+    ensures { symbol_shown result ≡ symbol_of strings.now entry.now }
+{
+    Named {
+        name: symbol_name(strings, entry),
+        address: entry.address,
+        size: entry.size,
+        is_function: entry.kind == 2,
+    }
+}
+
+fn look_up<'a>(strings: &'a [u8], symbols: &[SymbolEntry], name: &[u8]) -> Option<Named<'a>>
+    ensures { option_map symbol_shown result ≡ option_map (symbol_of strings.now) (best entry_preferred (filter (entry_named strings.now name.now) symbols.now)) }
+{
+    match entry_of(strings, symbols, name) {
+        Some(entry) => Some(shown(strings, &entry)),
+        None => None,
+    }
+}
+
+/// Whether an entry has a size and the address lies past it.
+fn is_past(entry: &SymbolEntry, addr: u32) -> bool
+    ensures { result ≡ (nat_lt 0 entry.now.size && nat_le (entry.now.address + entry.now.size) addr) }
+{
+    entry.size > 0 && entry.address as u64 + entry.size as u64 <= addr as u64
+}
+
+fn function<'a>(strings: &'a [u8], functions: &[SymbolEntry], addr: u32) -> Option<Named<'a>>
+    ensures { option_map symbol_shown result ≡ option_and_then (covering addr) (option_map (symbol_of strings.now) (best (entry_nearer strings.now) (filter (begins_by addr) functions.now))) }
+{
+    match nearest(strings, functions, addr) {
+        Some(entry) => {
+            if is_past(&entry, addr) {
+                None
+            } else {
+                Some(shown(strings, &entry))
+            }
+        }
+        None => None,
+    }
+}
+
+impl Symbols {
+    pub(crate) fn of(
+        strings: Vec<u8>,
+        symbols: Vec<SymbolEntry>,
+        functions: Vec<SymbolEntry>,
+    ) -> Symbols
+        ensures { result ≡ names_by strings.items symbols.items functions.items }
+    {
+        Symbols {
+            strings,
+            symbols,
+            functions,
+        }
+    }
+
+    /// The function that an address lies in: the nearest one that begins in text at the address or before it,
+    /// unless it has a size and the address lies past it.
+    pub fn function_at(&self, addr: u32) -> Option<Named<'_>>
+        ensures { option_map symbol_shown result ≡ function_at self.now addr }
+    {
+        function(&self.strings, &self.functions, addr)
+    }
+
+    /// The symbol of a name: of the least address, and of equal ones a function.
+    pub fn address_of(&self, name: &[u8]) -> Option<Named<'_>>
+        ensures { option_map symbol_shown result ≡ address_of self.now name.now }
+    {
+        if name.is_empty() {
+            return None;
+        }
+        look_up(&self.strings, &self.symbols, name)
+    }
+}

@@ -1,0 +1,89 @@
+ghost use Rattle.std.specs.Prelude.{◌≡◌, IfOk, [], filter, slice_get};
+ghost use Rattle.std.specs.Option.{option_map, option_map_or};
+ghost use Rattle.elf32_read.specs.Views.{section_shown, unnamed};
+ghost use Rattle.elf_symbols.specs.Entries.{is_code, names_of, strings_of, symbol_bytes, symbol_names, symbol_table};
+
+use crate::entry::{SymbolEntry, counted_entries};
+use crate::names::Symbols;
+use dbg_traits::NoMemory;
+use elf32_read::fields::zero_end;
+use elf32_read::{Image, SectionView};
+use std::alloc::{AllocError, Global};
+
+/// The first symbol table of an image.
+fn table_of(image: &Image) -> Option<SectionView<'_>>
+    ensures { option_map section_shown result ≡ option_map unnamed (symbol_table image.now) }
+{
+    for k in 0..image.section_count() {
+        let section = image.section_at(k);
+        if section.kind == 2 {
+            return Some(section);
+        }
+    }
+    None
+}
+
+/// The bytes of a string table by its number, and nothing in place of another section.
+fn strings_at(image: &Image, number: u32) -> &[u8]
+    ensures { result.now ≡ option_map_or strings_of (slice_get image.now.sections number) [] }
+{
+    let k = number as usize;
+    if k >= image.section_count() {
+        return &[];
+    }
+    let section = image.section_at(k);
+    if section.kind == 3 {
+        section.bytes
+    } else {
+        &[]
+    }
+}
+
+fn symbol_bytes(image: &Image) -> &[u8]
+    ensures { result.now ≡ symbol_bytes image.now }
+{
+    match table_of(image) {
+        Some(table) => table.bytes,
+        None => &[],
+    }
+}
+
+fn symbol_strings(image: &Image) -> &[u8]
+    ensures { result.now ≡ symbol_names image.now }
+{
+    match table_of(image) {
+        Some(table) => strings_at(image, table.link),
+        None => &[],
+    }
+}
+
+/// The functions whose address is in text.
+fn code_entries(
+    alloc: Global,
+    image: &Image,
+    counted: &[SymbolEntry],
+) -> Result<Vec<SymbolEntry>, AllocError>
+    ensures { IfOk result (λ v. v.items ≡ filter (is_code image.now) counted.now) }
+{
+    counted
+        .iter()
+        .filter(|e| is_code(image, e))
+        .copied()
+        .collect(alloc)
+}
+
+fn is_code(image: &Image, entry: &SymbolEntry) -> bool
+    ensures { result ≡ is_code image.now entry.now }
+{
+    entry.kind == 2 && image.in_text(entry.address)
+}
+
+/// The symbols of an image: those of its first symbol table that have a section and a name.
+pub fn symbols(alloc: Global, image: &Image) -> Result<Symbols, NoMemory>
+    ensures { IfOk result (λ s. s ≡ names_of image.now) }
+{
+    let strings = symbol_strings(image);
+    let symbols = counted_entries(alloc, symbol_bytes(image), strings, zero_end(strings))?;
+    let functions = code_entries(alloc, image, &symbols)?;
+    Ok(Symbols::of(Vec::from_slice(alloc, strings)?, symbols, functions))
+}
