@@ -1,0 +1,4 @@
+pub mod Maps
+pub mod Paged
+pub mod Start
+pub mod Ranges

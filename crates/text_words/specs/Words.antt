@@ -1,0 +1,52 @@
+-- Text as it is stored, with breakpoints planted in it.
+use Rattle.std.specs.Prelude.{ℕ, ◌^◌, Bool, true, false, Option, Some, None, refl, if◌then◌else◌}
+use Rattle.std.specs.Coded.{Coded, code_by, coded×, coded_ℕ}
+use Rattle.std.specs.Option.{option_map}
+use Rattle.std.specs.FinMap as map
+use Rattle.std.specs.FinSet as set
+use Rattle.rv_decode.specs.declared.instr.Instr.{Instr}
+use Rattle.rv_decode.specs.Decode.{decode}
+use Rattle.elf32_read.specs.Program.{Program, text_word}
+use Rattle.text_words.specs.Tables.{WordMap, AddressSet, words_below}
+use Rattle.text_words.specs.declared.fetch.Fetch.{Fetch}
+use Rattle.text_words.specs.declared.fetch.Fetch.TheVariants.{Absent, Planted, Illegal, Instruction}
+
+-- the words of the program by their addresses, and the addresses at which a breakpoint is planted
+pub record Words : Type 0 where
+  pub words : WordMap
+  pub planted : AddressSet
+
+abbrev pub words_code : Coded Words
+words_code = code_by (WordMap × AddressSet) (coded× (map.code coded_ℕ coded_ℕ) (set.code coded_ℕ)) (λ t. (t.words, t.planted)) (λ p. record { words = p.0; planted = p.1 }) (λ _. refl)
+
+-- EBREAK (RISC-V unprivileged ISA, RV32I instruction listing)
+abbrev pub ebreak : ℕ
+ebreak = 0x00100073
+
+abbrev pub is_planted : Words → ℕ → Bool
+is_planted t addr = set.contains t.planted addr
+
+-- the program's word
+abbrev pub shown : Words → ℕ → Option ℕ
+shown t addr = map.get t.words addr
+
+-- the word that is executed: EBREAK where a breakpoint is planted
+abbrev pub stored : Words → ℕ → Option ℕ
+stored t addr = option_map (λ w. if is_planted t addr then ebreak else w) (shown t addr)
+
+abbrev pub decoded_as : Option Instr → Fetch
+decoded_as None = Illegal
+decoded_as (Some i) = Instruction i
+
+abbrev pub fetched_as : Option ℕ → Bool → Fetch
+fetched_as None planted = Absent
+fetched_as (Some w) true = Planted
+fetched_as (Some w) false = decoded_as (decode w)
+
+-- what stands at an address for a hart that executes it
+abbrev pub fetched : Words → ℕ → Fetch
+fetched t addr = fetched_as (shown t addr) (is_planted t addr)
+
+-- the text of a program, with no breakpoint
+abbrev pub unpatched : Program → Words
+unpatched p = record { words = words_below (text_word p) (2 ^ 32); planted = set.empty }

@@ -1,0 +1,11 @@
+//! The words of a program's text, with breakpoints planted in them.
+#![tactic(auto)]
+
+mod fetch;
+mod layout;
+#[cfg(test)]
+mod tests;
+mod text;
+
+pub use fetch::Fetch;
+pub use text::TextWords;

@@ -1,0 +1,122 @@
+ghost use Rattle.std.specs.Prelude.{◌≡◌, true, false, IfOk, IsSome};
+ghost use Rattle.std.specs.FinSet as set;
+ghost use Rattle.text_words.specs.Words.{unpatched, shown, stored, is_planted, fetched};
+
+use crate::fetch::Fetch;
+use crate::layout::{Section, collect, decode_all, fetch_in, mark, planted_in, shown_in};
+use elf32_read::Image;
+use rv_decode::Instr;
+use std::alloc::{AllocError, Global};
+use std::marker::Model;
+
+/// EBREAK.
+const EBREAK: u32 = 0x0010_0073;
+
+/// The words of a program's text, with breakpoints planted in them. Contracts see it as `Words`: the program's
+/// words by their addresses, and the set of the addresses at which a breakpoint is planted.
+#[derive(Drop)]
+pub struct TextWords {
+    sections: Vec<Section>,
+    words: Vec<u32>,
+    instructions: Vec<Option<Instr>>,
+    planted: Vec<bool>,
+}
+
+impl Model for TextWords {
+    ghost use Rattle.text_words.specs.Words.{Words, words_code};
+
+    ghost Value = { Words };
+
+    ghost coded = { words_code };
+
+    ghost use Rattle.text_words.specs.Layout.{seen, IsLaid};
+
+    ghost view = { seen };
+
+    ghost invariant = { IsLaid };
+}
+
+impl TextWords {
+    /// The text of an image, with no breakpoint. It has room for one at each word.
+    ///
+    /// Fails where memory runs out.
+    pub fn load(alloc: Global, image: &Image) -> Result<TextWords, AllocError>
+        ensures { IfOk result (λ t. t ≡ unpatched image.now) }
+    {
+        let mut sections = Vec::new(alloc);
+        let mut words = Vec::new(alloc);
+        collect(image, &mut sections, &mut words)?;
+        let instructions = decode_all(alloc, words.as_slice())?;
+        let planted = Vec::from_elem(alloc, false, words.len())?;
+        Ok(TextWords {
+            sections,
+            words,
+            instructions,
+            planted,
+        })
+    }
+
+    /// The stored word at an address, EBREAK where a breakpoint is planted; none where no word of text is.
+    pub fn word(&self, addr: u32) -> Option<u32>
+        ensures { result ≡ stored self.now addr }
+    {
+        match self.shown(addr) {
+            Some(word) => Some(if self.planted(addr) { EBREAK } else { word }),
+            None => None,
+        }
+    }
+
+    /// The program's word at an address; none where no word of text is.
+    pub fn shown(&self, addr: u32) -> Option<u32>
+        ensures { result ≡ shown self.now addr }
+    {
+        shown_in(self.sections.as_slice(), self.words.as_slice(), addr)
+    }
+
+    /// Whether a breakpoint is planted at an address.
+    pub fn planted(&self, addr: u32) -> bool
+        ensures { result ≡ is_planted self.now addr }
+    {
+        planted_in(self.sections.as_slice(), self.planted.as_slice(), addr)
+    }
+
+    /// What stands at an address for a hart that executes it. The words were decoded when they were loaded.
+    pub fn fetch(&self, addr: u32) -> Fetch
+        ensures { result ≡ fetched self.now addr }
+    {
+        fetch_in(
+            self.sections.as_slice(),
+            self.words.as_slice(),
+            self.instructions.as_slice(),
+            self.planted.as_slice(),
+            addr,
+        )
+    }
+
+    /// Plants a breakpoint at a word of text that has none.
+    pub fn plant(&mut self, addr: u32)
+        requires text { IsSome (shown self.old addr) }
+        requires free { is_planted self.old addr ≡ false }
+        ensures { self.new ≡ record self.old { planted = set.insert self.old.planted addr } }
+    {
+        mark(
+            self.sections.as_slice(),
+            self.planted.as_mut_slice(),
+            addr,
+            true,
+        );
+    }
+
+    /// Lifts the breakpoint at an address that has one.
+    pub fn lift(&mut self, addr: u32)
+        requires { is_planted self.old addr ≡ true }
+        ensures { self.new ≡ record self.old { planted = set.remove self.old.planted addr } }
+    {
+        mark(
+            self.sections.as_slice(),
+            self.planted.as_mut_slice(),
+            addr,
+            false,
+        );
+    }
+}
