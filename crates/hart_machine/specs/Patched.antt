@@ -1,0 +1,10 @@
+-- The machine as one value.
+use Rattle.std.specs.Prelude.{List}
+use Rattle.rv_exec.specs.Memory.{Memory}
+use Rattle.text_words.specs.Words.{Words}
+use Rattle.hart_machine.specs.declared.hart.Core.{Core}
+
+pub record Patched : Type 0 where
+  pub text : Words
+  pub cores : List Core
+  pub memory : Memory

@@ -1,0 +1,120 @@
+ghost use Rattle.std.specs.Prelude.{◌≡◌, ◌<◌, ◌≤◌, ◌-◌, ◌^◌, ℕ, [], length, IfOk, MatchResult, Some, None, slice_get};
+ghost use Rattle.data_memory.specs.Start.{start_memory};
+ghost use Rattle.data_memory.specs.Ranges.{bytes_at};
+ghost use Rattle.dbg_traits.specs.Settings.{AreSettings, AreHarts};
+ghost use Rattle.plain_machine.specs.Plain.{first_registers};
+ghost use Rattle.hart_machine.specs.Stepping.{Steps, IsByteCode, first_cores, loaded};
+ghost use Rattle.hart_machine.specs.declared.hart.Core.{Core};
+
+use crate::Core;
+use crate::hart::step_core;
+use data_memory::DataMemory;
+use dbg_traits::{NoMemory, Settings};
+use elf32_read::Image;
+use rv_exec::{Regs, Stepped};
+use std::alloc::{AllocError, Global};
+use std::marker::Model;
+use text_words::TextWords;
+
+/// Several harts over one text and one memory.
+#[derive(Drop)]
+pub struct Machine {
+    text: TextWords,
+    cores: Vec<Core>,
+    memory: DataMemory,
+}
+
+impl Model for Machine {
+    ghost use Rattle.hart_machine.specs.Patched.{Patched};
+    ghost use Rattle.std.specs.Coded.{codes};
+    ghost use Rattle.data_memory.specs.Maps.{memory_code};
+    ghost use Rattle.text_words.specs.Words.{words_code};
+
+    ghost Value = { Patched };
+
+    ghost coded = { Prim.hlevel (codes, memory_code, words_code) };
+
+    ghost view = { λ m. record { text = m.text; cores = m.cores.items; memory = m.memory } };
+}
+
+// The registers with which a hart starts.
+fn first_registers(entry: u32, harts: u32, hart: u32) -> Regs
+    requires { hart < 16 }
+    ensures { result ≡ first_registers entry harts hart }
+{
+    let mut regs = Regs::new(entry);
+    regs.set(10, hart);
+    regs.set(11, harts);
+    regs.set(2, 0xF000_0000 - hart * 0x2_0000);
+    regs
+}
+
+fn first_cores(alloc: Global, entry: u32, harts: u32) -> Result<Vec<Core>, AllocError>
+    requires { harts ≤ 16 }
+    ensures { IfOk result (λ v. v.items ≡ first_cores entry harts harts) }
+{
+    let mut cores = Vec::new(alloc);
+    for hart in 0..harts {
+        cores.push(Core {
+            regs: first_registers(entry, harts, hart),
+            retired: 0,
+        })?;
+    }
+    Ok(cores)
+}
+
+impl Machine {
+    /// A machine before its first step.
+    pub fn load(alloc: Global, image: &Image, settings: Settings) -> Result<Machine, NoMemory>
+        requires { AreSettings settings }
+        ensures { IfOk result (λ m. m ≡ loaded image.now settings.harts) }
+    {
+        Ok(Machine {
+            text: TextWords::load(alloc, image)?,
+            cores: first_cores(alloc, image.entry(), settings.harts)?,
+            memory: DataMemory::load(alloc, image, settings.harts)?,
+        })
+    }
+
+    /// How many harts there are.
+    pub fn harts(&self) -> usize
+        ensures { result ≡ length self.now.cores }
+    {
+        self.cores.len()
+    }
+
+    /// Where a hart is.
+    pub fn pc(&self, h: usize) -> u32
+        requires { h < length self.now.cores }
+        ensures { (c : Core) → slice_get self.now.cores h ≡ Some c → result ≡ c.regs.pc }
+    {
+        self.cores[h].regs.pc()
+    }
+
+    /// How many instructions a hart has executed.
+    pub fn retired(&self, h: usize) -> u64
+        requires { h < length self.now.cores }
+        ensures { (c : Core) → slice_get self.now.cores h ≡ Some c → result ≡ c.retired }
+    {
+        self.cores[h].retired
+    }
+
+    /// The bytes from an address on; the first address that can't be read where there is one, and then nothing changed.
+    pub fn read_range(&self, addr: u32, into: &mut [u8]) -> Result<(), u32>
+        ensures { MatchResult result (λ _. bytes_at self.now.memory addr (length into.old) ≡ Some into.new) (λ a. (bytes_at self.now.memory addr (length into.old) ≡ None) × (into.new ≡ into.old)) }
+    {
+        self.memory.read_range(addr, into)
+    }
+
+    /// One instruction of a hart: the stored word at its pc.
+    pub fn step(&mut self, h: usize) -> Stepped
+        requires hart { h < length self.old.cores }
+        requires count { (c : Core) → slice_get self.old.cores h ≡ Some c → c.retired < 2 ^ 64 - 1 }
+        ensures code { IsByteCode result }
+        ensures step { Steps result self.old h self.new }
+    {
+        let core = &mut self.cores[h];
+        let fetched = self.text.fetch(core.regs.pc());
+        step_core(fetched, core, &mut self.memory)
+    }
+}
