@@ -1,0 +1,187 @@
+-- The numbers of a state are those of its journal.
+use Rattle.std.proofs.Common.{◌≡◌, ℕ, zero, suc, ◌+◌, ◌≤◌, Bool, true, false, cond, List, [], ◌∷◌, ◌++◌, length, replicate, refl, sym, ap, ◌∙◌, arith, append_assoc}
+use Rattle.std.specs.Prelude.{Option, Some, None, ◌==◌, ◌&&◌, nat_lt, slice_get, slice_set}
+use Rattle.std.specs.Option.{option_map}
+use Rattle.std.proofs.lemmas.Bool.Decides.{nat_tests}
+use Rattle.plain_machine.specs.Environment.{Answer, Traps, Goes}
+use Rattle.plain_machine.specs.Plain.{plain}
+use Rattle.plain_machine.specs.PlainRun.{Item, Step}
+use Rattle.rv_exec.specs.declared.effect.Cause.{Cause}
+use Rattle.rv_exec.specs.Causes.{cause_number}
+use Rattle.dbg_model.specs.declared.entry.Why.{Why}
+use Rattle.dbg_model.specs.declared.entry.Why.TheVariants.{Fault}
+use Rattle.dbg_model.specs.declared.entry.Entry.{Entry}
+use Rattle.dbg_model.specs.declared.entry.Entry.TheVariants.{Ran, Stopped, Left, Did}
+use Rattle.dbg_model.specs.declared.opening.Opening.{Opening}
+use Rattle.dbg_model.specs.State.{Hart, State}
+use Rattle.dbg_model.specs.Reply.{done_by, harts_after, reply_of}
+use Rattle.dbg_model.specs.Lawful.{enter, one, one_by, ran, may_run, may_go, stepped_by, stepped, with_leavers, with_stop, faulted_by, stopped_by, left_by, leaver_from, exited_at}
+use Rattle.dbg_model.specs.Journals.{Place, come, follows, ran_hart, replay_from, replay, first_place, Leaves, lengthened, one_more_by, count_of, last_count, noted, noted_one}
+use Rattle.dbg_model.specs.Erase.{erase, erase_one, steps_of}
+use Rattle.dbg_model.proofs.Options.{map_some, bind_some, guard_some, same_some}
+
+-- what an entry adds to the numbers
+pub record Adds (s t : State) (retired_more noted_more : ℕ) : Type 0 where
+  pub retired : t.retired ≡ s.retired + retired_more
+  pub noted : t.noted ≡ s.noted + noted_more
+
+is_more : (s t u : State) (a b : ℕ) → u ≡ t → Adds s u a b → Adds s t a b
+is_more s t u a b is h = record { retired = ap (λ (v : State). v.retired) (sym is) ∙ h.retired; noted = ap (λ (v : State). v.noted) (sym is) ∙ h.noted }
+
+step_adds : (a : Answer) (s t : State) (h : ℕ) (x : Hart) → stepped_by a s h x ≡ Some t → Adds s t 1 0
+step_adds (Traps cause) s t h x is = cc
+step_adds (Goes r m out leave) s t h x is =
+    let u : State = record s { harts = with_leavers leave (slice_set s.harts h (stepped x r)) h; memory = m; out = s.out ++ out; retired = s.retired + 1 } in
+    is_more s t u 1 0 (same_some u t is) (record { retired = refl; noted = omega arith })
+
+one_by_adds : (o : Opening) (s t : State) (h : ℕ) (r : Option Hart) → one_by o s h r ≡ Some t → Adds s t 1 0
+one_by_adds o s t h None is = cc
+one_by_adds o s t h (Some x) is = step_adds (plain o.image x.regs s.memory) s t h x (guard_some (may_run o s x) (stepped_by (plain o.image x.regs s.memory) s h x) t is).1
+
+pub one_adds : (o : Opening) (h : ℕ) (s t : State) → one o h s ≡ Some t → Adds s t 1 0
+unfolding one
+one_adds o h s t is = one_by_adds o s t h (slice_get s.harts h) is
+
+ran_adds : (o : Opening) (h : ℕ) (s : State) (n : ℕ) (t : State) → ran o h s n ≡ Some t → Adds s t n 0
+ran_adds o h s zero t is = is_more s t s 0 0 (same_some s t is) (record { retired = omega arith; noted = omega arith })
+ran_adds o h s (suc n) t is =
+    let b = bind_some (one o h) (ran o h s n) t is in
+    let first = ran_adds o h s n b.0 b.1 in
+    let last = one_adds o h b.0 t b.2 in
+    record { retired = omega (arith, first.retired, last.retired); noted = omega (arith, first.noted, last.noted) }
+
+fault_adds : (a : Answer) (cause : Cause) (s t : State) (h : ℕ) (x : Hart) → faulted_by a cause s h x ≡ Some t → Adds s t 0 1
+fault_adds (Traps met) cause s t h x is =
+    is_more s t (with_stop s h x) 0 1 (same_some (with_stop s h x) t (guard_some (cause_number met == cause_number cause) (Some (with_stop s h x)) t is).1) (record { retired = omega arith; noted = refl })
+fault_adds (Goes r m out leave) cause s t h x is = cc
+
+stop_adds : (o : Opening) (s t : State) (h : ℕ) (why : Why) (r : Option Hart) → stopped_by o s h why r ≡ Some t → Adds s t 0 1
+stop_adds o s t h (Fault cause) None is = cc
+stop_adds o s t h (Fault cause) (Some x) is =
+    fault_adds (plain o.image x.regs s.memory) cause s t h x (guard_some (may_run o s x) (faulted_by (plain o.image x.regs s.memory) cause s h x) t is).1
+
+left_adds : (s t : State) (h code : ℕ) (r : Option (ℕ × ℕ)) → left_by s h code r ≡ Some t → Adds s t 0 1
+left_adds s t h code None is = cc
+left_adds s t h code (Some leaver) is =
+    let u : State = record s { harts = exited_at s.harts h (slice_get s.harts h); noted = s.noted + 1 } in
+    is_more s t u 0 1 (same_some u t (guard_some ((leaver.0 == h) && (leaver.1 == code)) (Some u) t is).1) (record { retired = omega arith; noted = refl })
+
+pub length-replicated : {A : Type 0} (n : ℕ) (x : A) → length (replicate n x) ≡ n
+length-replicated zero x = refl
+length-replicated (suc n) x = ap suc (length-replicated n x)
+
+pub enter_adds : (o : Opening) (s : State) (e : Entry) (t : State) → enter o s e ≡ Some t → Adds s t (length (erase_one e)) (noted_one e)
+unfolding enter done_by
+enter_adds o s (Ran h n) t is =
+    let a = ran_adds o h s n t (guard_some (nat_lt 0 n) (ran o h s n) t is).1 in
+    let l = length-replicated n (Step h) in
+    record { retired = rw l a.retired; noted = a.noted }
+enter_adds o s (Stopped h why) t is = stop_adds o s t h why (slice_get s.harts h) is
+enter_adds o s (Left h code) t is = left_adds s t h code (leaver_from 0 s.harts) is
+enter_adds o s (Did line) t is =
+    let u : State = record s { harts = harts_after s.harts (reply_of s line); noted = s.noted + 1 } in
+    is_more s t u 0 1 (same_some u t (guard_some (may_go o s) (Some u) t is).1) (record { retired = omega arith; noted = refl })
+
+pub length-both : {A : Type 0} (xs ys : List A) → length (xs ++ ys) ≡ length xs + length ys
+length-both [] ys = omega arith
+length-both (x ∷ xs) ys = let ih = length-both xs ys in omega arith
+
+replay_adds : (o : Opening) (p q : Place) (j : List Entry) → replay_from o p j ≡ Some q → Adds p.state q.state (length (erase j)) (noted j)
+replay_adds o p q [] is = is_more p.state q.state p.state 0 0 (ap (λ (r : Place). r.state) (same_some p q is)) (record { retired = omega arith; noted = omega arith })
+replay_adds o p q (e ∷ es) is =
+    let b = bind_some (λ r. replay_from o r es) (come o p e) q is in
+    let g = guard_some (follows p.prev e) (option_map (λ (t : State). let r : Place = record { prev = ran_hart e; state = t } in r) (enter o p.state e)) b.0 b.1 in
+    let m = map_some (λ (t : State). let r : Place = record { prev = ran_hart e; state = t } in r) (enter o p.state e) b.0 g.1 in
+    let at : m.0 ≡ b.0.state = ap (λ (r : Place). r.state) m.2 in
+    let first = is_more p.state b.0.state m.0 (length (erase_one e)) (noted_one e) at (enter_adds o p.state e m.0 m.1) in
+    let rest = replay_adds o b.0 q es b.2 in
+    let l = length-both (erase_one e) (erase es) in
+    record { retired = omega (arith, first.retired, rest.retired, l); noted = omega (arith, first.noted, rest.noted) }
+
+-- the numbers of the state that a journal leaves
+pub record Counted (j : List Entry) (s : State) : Type 0 where
+  pub retired : s.retired ≡ length (erase j)
+  pub noted : s.noted ≡ noted j
+
+pub counted : (o : Opening) (j : List Entry) (s : State) → Leaves o j s → Counted j s
+unfolding replay
+counted o j s l =
+    let a = replay_adds o (first_place o) (record { prev = l.prev; state = s }) j l.replays in
+    record { retired = omega (arith, a.retired); noted = omega (arith, a.noted) }
+
+count-le : (e : Entry) → count_of e ≤ length (erase_one e)
+count-le (Ran h n) = let l = length-replicated n (Step h) in omega arith
+count-le (Stopped h why) = omega arith
+count-le (Left h code) = omega arith
+count-le (Did line) = omega arith
+
+pub last_count-le : (j : List Entry) → last_count j ≤ length (erase j)
+last_count-le [] = omega arith
+last_count-le (e ∷ []) = let l = length-both (erase_one e) [] in let c = count-le e in omega arith
+last_count-le (e ∷ f ∷ es) = let l = length-both (erase_one e) (erase (f ∷ es)) in let ih = last_count-le (f ∷ es) in omega arith
+
+-- how often a hart stands in the erased journal
+pub steps_of-append : (k : ℕ) (xs ys : List Item) → steps_of k (xs ++ ys) ≡ steps_of k xs + steps_of k ys
+steps_of-append k [] ys = omega arith
+steps_of-append k (x ∷ xs) ys = let ih = steps_of-append k xs ys in omega arith
+
+steps_replicated : (b : Bool) (k h n : ℕ) → (h == k) ≡ b → steps_of k (replicate n (Step h)) ≡ cond b n 0
+steps_replicated true k h zero is = refl
+steps_replicated true k h (suc n) is = rw is (let ih = steps_replicated true k h n is in omega arith)
+steps_replicated false k h zero is = refl
+steps_replicated false k h (suc n) is = rw is (let ih = steps_replicated false k h n is in omega arith)
+
+-- 1 where the hart is this one
+abbrev pub here : ℕ → ℕ → ℕ
+here h k = cond (h == k) 1 0
+
+pub erase-append : (xs ys : List Entry) → erase (xs ++ ys) ≡ erase xs ++ erase ys
+erase-append [] ys = refl
+erase-append (x ∷ xs) ys = ap (λ t. erase_one x ++ t) (erase-append xs ys) ∙ sym (append_assoc (erase_one x) (erase xs) (erase ys))
+
+quiet_erased : (e : Entry) → ran_hart e ≡ None → erase_one e ≡ []
+quiet_erased (Ran h n) q = cc
+quiet_erased (Stopped h why) q = refl
+quiet_erased (Left h code) q = refl
+quiet_erased (Did line) q = refl
+
+-- an entry of the debugger's adds no step
+pub steps_noted : (k : ℕ) (j : List Entry) (e : Entry) → ran_hart e ≡ None → steps_of k (erase (j ++ e ∷ [])) ≡ steps_of k (erase j)
+steps_noted k j e q =
+    let none : steps_of k (erase (e ∷ [])) ≡ 0 = ap (λ t. steps_of k (t ++ [])) (quiet_erased e q) in
+    ap (steps_of k) (erase-append j (e ∷ [])) ∙ (steps_of-append k (erase j) (erase (e ∷ [])) ∙ omega arith)
+
+one_longer : (b : Bool) (n : ℕ) → cond b (n + 1) 0 ≡ cond b n 0 + cond b 1 0
+one_longer true n = omega arith
+one_longer false n = refl
+
+ran_longer : (b : Bool) (a n h k : ℕ) → (a == h) ≡ b → steps_of k (erase (one_more_by (cond b (Some n) None) (Ran a n) h)) ≡ steps_of k (erase (Ran a n ∷ [])) + here h k
+ran_longer true a n h k is =
+    let same : a ≡ h = grind (arith, nat_tests) in
+    let new = steps_of-append k (replicate (n + 1) (Step h)) [] in
+    let old = steps_of-append k (replicate n (Step a)) [] in
+    let l = steps_replicated (h == k) k h (n + 1) refl in
+    let m = steps_replicated (a == k) k a n refl in
+    let at : cond (a == k) n 0 ≡ cond (h == k) n 0 = ap (λ (i : ℕ). cond (i == k) n 0) same in
+    let c = one_longer (h == k) n in
+    omega arith
+ran_longer false a n h k is =
+    let app = steps_of-append k (replicate n (Step a)) (erase (Ran h 1 ∷ [])) in
+    let old = steps_of-append k (replicate n (Step a)) [] in
+    omega arith
+
+step_more : (k : ℕ) (e : Entry) (h : ℕ) → erase_one e ≡ [] → steps_of k (erase (e ∷ Ran h 1 ∷ [])) ≡ steps_of k (erase (e ∷ [])) + here h k
+step_more k e h q = rw q (omega arith)
+
+-- one more instruction adds a step of its hart
+pub steps_lengthened : (k : ℕ) (j : List Entry) (h : ℕ) → steps_of k (erase (lengthened j h)) ≡ steps_of k (erase j) + here h k
+steps_lengthened k [] h = omega arith
+steps_lengthened k (Ran a n ∷ []) h = ran_longer (a == h) a n h k refl
+steps_lengthened k (Stopped a why ∷ []) h = step_more k (Stopped a why) h refl
+steps_lengthened k (Left a code ∷ []) h = step_more k (Left a code) h refl
+steps_lengthened k (Did line ∷ []) h = step_more k (Did line) h refl
+steps_lengthened k (e ∷ f ∷ es) h =
+    let ih = steps_lengthened k (f ∷ es) h in
+    let new = steps_of-append k (erase_one e) (erase (lengthened (f ∷ es) h)) in
+    let old = steps_of-append k (erase_one e) (erase (f ∷ es)) in
+    omega arith

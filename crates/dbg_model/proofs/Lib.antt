@@ -1,0 +1,6 @@
+pub mod Options
+pub mod Adding
+pub mod Counting
+pub mod Leaving
+pub mod Plainly
+pub mod Bounding

@@ -1,0 +1,24 @@
+-- A journal without the debugger's entries.
+use Rattle.std.specs.Prelude.{ℕ, ◌+◌, List, [], ◌∷◌, ◌++◌, replicate, if◌then◌else◌, ◌==◌}
+use Rattle.plain_machine.specs.PlainRun.{Item, Step}
+use Rattle.dbg_model.specs.declared.entry.Entry.{Entry}
+use Rattle.dbg_model.specs.declared.entry.Entry.TheVariants.{Ran, Stopped, Left, Did}
+
+abbrev pub erase_one : Entry → List Item
+erase_one (Ran h n) = replicate n (Step h)
+erase_one (Stopped h why) = []
+erase_one (Left h code) = []
+erase_one (Did line) = []
+
+-- the program's own steps, in order
+abbrev pub erase : List Entry → List Item
+erase [] = []
+erase (e ∷ es) = erase_one e ++ erase es
+
+abbrev pub is_step : ℕ → Item → ℕ
+is_step k (Step h) = if h == k then 1 else 0
+
+-- how many steps of a hart there are
+abbrev pub steps_of : ℕ → List Item → ℕ
+steps_of k [] = 0
+steps_of k (i ∷ is) = is_step k i + steps_of k is

@@ -1,0 +1,118 @@
+-- Which entries may come in a state, and the state that each leaves.
+use Rattle.std.specs.Prelude.{ℕ, suc, zero, ◌+◌, Bool, true, false, List, [], ◌∷◌, ◌++◌, map, Option, Some, None, option_and_then, if◌then◌else◌, ◌==◌, ◌&&◌, not, nat_lt, slice_get, slice_set}
+use Rattle.rv_exec.specs.declared.effect.Cause.{Cause}
+use Rattle.rv_exec.specs.Causes.{cause_number}
+use Rattle.rv_exec.specs.Registers.{Registers}
+use Rattle.plain_machine.specs.Environment.{Answer, Traps, Goes, Leave, Stays, LeavesAlone, LeavesAll}
+use Rattle.plain_machine.specs.Plain.{plain}
+use Rattle.dbg_model.specs.declared.entry.Mode.{Mode}
+use Rattle.dbg_model.specs.declared.entry.Mode.TheVariants as mode
+use Rattle.dbg_model.specs.declared.entry.Why.{Why}
+use Rattle.dbg_model.specs.declared.entry.Why.TheVariants.{Fault}
+use Rattle.dbg_model.specs.declared.entry.Entry.{Entry}
+use Rattle.dbg_model.specs.declared.entry.Entry.TheVariants.{Ran, Stopped, Left, Did}
+use Rattle.dbg_model.specs.declared.limits.TheConstants.{HISTORY}
+use Rattle.dbg_model.specs.declared.opening.Opening.{Opening}
+use Rattle.dbg_model.specs.State.{Hart, State, is_running, has_exited, any_leaves}
+use Rattle.dbg_model.specs.Reply.{done_by}
+
+-- no exit is still to be reported, and neither the budget nor the history is used up
+abbrev pub may_go : Opening → State → Bool
+may_go o s = not (any_leaves s.harts) && (nat_lt s.retired o.settings.budget && nat_lt s.noted HISTORY)
+
+-- a hart may execute
+abbrev pub may_run : Opening → State → Hart → Bool
+may_run o s x = may_go o s && is_running x.mode
+
+abbrev pub stepped : Hart → Registers → Hart
+stepped x r = record { regs = r; mode = x.mode; fresh = true }
+
+-- a live hart leaves
+abbrev pub leaving : ℕ → Hart → Hart
+leaving code x = if has_exited x.mode then x else record { regs = x.regs; mode = mode.Leaving code; fresh = x.fresh }
+
+abbrev pub leaving_at : ℕ → List Hart → ℕ → Option Hart → List Hart
+leaving_at code xs h None = xs
+leaving_at code xs h (Some x) = slice_set xs h (leaving code x)
+
+-- the harts after an instruction of hart h
+abbrev pub with_leavers : Leave → List Hart → ℕ → List Hart
+with_leavers Stays xs h = xs
+with_leavers (LeavesAlone code) xs h = leaving_at code xs h (slice_get xs h)
+with_leavers (LeavesAll code) xs h = map (leaving code) xs
+
+abbrev pub stepped_by : Answer → State → ℕ → Hart → Option State
+stepped_by (Traps cause) s h x = None
+stepped_by (Goes r m out leave) s h x =
+    Some (record s { harts = with_leavers leave (slice_set s.harts h (stepped x r)) h; memory = m; out = s.out ++ out; retired = s.retired + 1 })
+
+abbrev pub one_by : Opening → State → ℕ → Option Hart → Option State
+one_by o s h None = None
+one_by o s h (Some x) = if may_run o s x then stepped_by (plain o.image x.regs s.memory) s h x else None
+
+-- one instruction of a hart
+unfoldable pub one : Opening → ℕ → State → Option State
+one o h s = one_by o s h (slice_get s.harts h)
+
+-- n instructions of a hart
+abbrev pub ran : Opening → ℕ → State → ℕ → Option State
+ran o h s zero = Some s
+ran o h s (suc n) = option_and_then (one o h) (ran o h s n)
+
+abbrev pub stopped : Hart → Hart
+stopped x = record { regs = x.regs; mode = mode.Stopped; fresh = false }
+
+abbrev pub with_stop : State → ℕ → Hart → State
+with_stop s h x = record s { harts = slice_set s.harts h (stopped x); noted = s.noted + 1 }
+
+-- the instruction traps with this cause
+abbrev pub faulted_by : Answer → Cause → State → ℕ → Hart → Option State
+faulted_by (Traps met) cause s h x = if cause_number met == cause_number cause then Some (with_stop s h x) else None
+faulted_by (Goes r m out leave) cause s h x = None
+
+abbrev pub stopped_by : Opening → State → ℕ → Why → Option Hart → Option State
+stopped_by o s h why None = None
+stopped_by o s h (Fault cause) (Some x) = if may_run o s x then faulted_by (plain o.image x.regs s.memory) cause s h x else None
+
+abbrev pub leaver_or : ℕ → Mode → Option (ℕ × ℕ) → Option (ℕ × ℕ)
+leaver_or k mode.Stopped rest = rest
+leaver_or k mode.Running rest = rest
+leaver_or k (mode.Leaving code) rest = Some (k, code)
+leaver_or k mode.Exited rest = rest
+
+-- the least hart that leaves, counted from k, with its code
+abbrev pub leaver_from : ℕ → List Hart → Option (ℕ × ℕ)
+leaver_from k [] = None
+leaver_from k (x ∷ xs) = leaver_or k x.mode (leaver_from (k + 1) xs)
+
+abbrev pub exited : Hart → Hart
+exited x = record { regs = x.regs; mode = mode.Exited; fresh = x.fresh }
+
+abbrev pub exited_at : List Hart → ℕ → Option Hart → List Hart
+exited_at xs h None = xs
+exited_at xs h (Some x) = slice_set xs h (exited x)
+
+abbrev pub left_by : State → ℕ → ℕ → Option (ℕ × ℕ) → Option State
+left_by s h code None = None
+left_by s h code (Some leaver) =
+    if (leaver.0 == h) && (leaver.1 == code) then Some (record s { harts = exited_at s.harts h (slice_get s.harts h); noted = s.noted + 1 }) else None
+
+-- the state after an entry, where it may come
+unfoldable pub enter : Opening → State → Entry → Option State
+enter o s (Ran h n) = if nat_lt 0 n then ran o h s n else None
+enter o s (Stopped h why) = stopped_by o s h why (slice_get s.harts h)
+enter o s (Left h code) = left_by s h code (leaver_from 0 s.harts)
+enter o s (Did line) = if may_go o s then Some (done_by s line) else None
+
+-- the bytes that an instruction writes
+abbrev pub answer_out : Answer → List ℕ
+answer_out (Traps cause) = []
+answer_out (Goes r m out leave) = out
+
+abbrev pub hart_out : Opening → State → Option Hart → List ℕ
+hart_out o s None = []
+hart_out o s (Some x) = answer_out (plain o.image x.regs s.memory)
+
+-- the bytes that the next instruction of a hart writes
+unfoldable pub one_out : Opening → ℕ → State → List ℕ
+one_out o h s = hart_out o s (slice_get s.harts h)

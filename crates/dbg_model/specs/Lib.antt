@@ -1,0 +1,6 @@
+pub mod State
+pub mod Reply
+pub mod Lawful
+pub mod Journals
+pub mod Erase
+pub mod Leaving

@@ -1,0 +1,93 @@
+-- The state of a session, as its journal makes it.
+use Rattle.std.specs.Prelude.{ℕ, zero, suc, Bool, true, false, List, [], ◌∷◌, ◌++◌, slice_set}
+use Rattle.std.specs.List.{list_any, list_all}
+use Rattle.rv_exec.specs.Registers.{Registers}
+use Rattle.rv_exec.specs.Memory.{Memory}
+use Rattle.elf32_read.specs.Program.{Program}
+use Rattle.data_memory.specs.Start.{start_memory}
+use Rattle.plain_machine.specs.Plain.{first_registers}
+use Rattle.dbg_model.specs.declared.entry.Mode.{Mode}
+use Rattle.dbg_model.specs.declared.entry.Mode.TheVariants as mode
+use Rattle.dbg_model.specs.declared.opening.Opening.{Opening}
+
+pub record Hart : Type 0 where
+  pub regs : Registers
+  pub mode : Mode
+  -- an instruction of its own has just ended
+  pub fresh : Bool
+
+pub record State : Type 0 where
+  pub harts : List Hart
+  pub memory : Memory
+  -- the bytes that the program wrote
+  pub out : List ℕ
+  -- the selected thread, counted from 1
+  pub selected : ℕ
+  -- how many instructions were executed
+  pub retired : ℕ
+  -- how many entries other than `Ran` there are
+  pub noted : ℕ
+
+abbrev pub is_stopped : Mode → Bool
+is_stopped mode.Stopped = true
+is_stopped mode.Running = false
+is_stopped (mode.Leaving code) = false
+is_stopped mode.Exited = false
+
+abbrev pub is_running : Mode → Bool
+is_running mode.Stopped = false
+is_running mode.Running = true
+is_running (mode.Leaving code) = false
+is_running mode.Exited = false
+
+abbrev pub is_leaving : Mode → Bool
+is_leaving mode.Stopped = false
+is_leaving mode.Running = false
+is_leaving (mode.Leaving code) = true
+is_leaving mode.Exited = false
+
+abbrev pub has_exited : Mode → Bool
+has_exited mode.Stopped = false
+has_exited mode.Running = false
+has_exited (mode.Leaving code) = false
+has_exited mode.Exited = true
+
+abbrev pub hart_runs : Hart → Bool
+hart_runs x = is_running x.mode
+
+abbrev pub hart_leaves : Hart → Bool
+hart_leaves x = is_leaving x.mode
+
+-- a hart runs
+abbrev pub any_runs : List Hart → Bool
+any_runs xs = list_any hart_runs xs
+
+-- an exit is still to be reported
+abbrev pub any_leaves : List Hart → Bool
+any_leaves xs = list_any hart_leaves xs
+
+abbrev pub hart_gone : Hart → Bool
+hart_gone x = has_exited x.mode
+
+-- no hart is live
+abbrev pub all_gone : List Hart → Bool
+all_gone xs = list_all hart_gone xs
+
+abbrev pub with_hart : State → ℕ → Hart → State
+with_hart s h x = record s { harts = slice_set s.harts h x }
+
+-- the first n of so many harts, as a session begins with them
+abbrev pub first_harts : Program → ℕ → ℕ → List Hart
+first_harts p harts zero = []
+first_harts p harts (suc n) = first_harts p harts n ++ record { regs = first_registers p.entry harts n; mode = mode.Stopped; fresh = false } ∷ []
+
+-- where a session begins
+abbrev pub first_state : Opening → State
+first_state o = record {
+  harts = first_harts o.image o.settings.harts o.settings.harts;
+  memory = start_memory o.image o.settings.harts;
+  out = [];
+  selected = 1;
+  retired = 0;
+  noted = 0;
+}

@@ -1,0 +1,66 @@
+ghost use Rattle.std.specs.Prelude.{◌≡◌};
+
+use crate::ByteList;
+use rv_exec::Cause;
+use std::marker::Model;
+
+/// What a hart is at. A hart that isn't `Exited` is live.
+#[derive(Clone, Copy, Debug, PartialEq, Eq)]
+pub enum Mode {
+    Stopped,
+    Running,
+    /// It executed an exit with this code, which is still to be reported.
+    Leaving(u32),
+    Exited,
+}
+
+/// Why a hart stopped.
+#[derive(Clone, Copy, Debug, PartialEq, Eq)]
+pub enum Why {
+    /// Its instruction trapped.
+    Fault(Cause),
+}
+
+/// One entry of a journal. Harts are counted from 0.
+#[derive(Drop)]
+pub enum Entry {
+    /// A hart executed so many instructions.
+    Ran { hart: u32, count: u64 },
+    /// A hart stopped.
+    Stopped { hart: u32, why: Why },
+    /// A hart exited with this code.
+    Left { hart: u32, code: u32 },
+    /// A line of the input was done.
+    Did { line: ByteList },
+}
+
+/// A journal, which contracts see as the list of its entries.
+#[derive(Drop)]
+pub struct Journal {
+    entries: Vec<Entry>,
+}
+
+impl Model for Journal {
+    ghost use Rattle.std.specs.Prelude.{List};
+    ghost use Rattle.dbg_model.specs.declared.entry.Entry.{Entry};
+
+    ghost Value = { List Entry };
+
+    ghost view = { λ j. j.entries.items };
+}
+
+impl Journal {
+    /// The entries of a vector, which keeps its memory.
+    pub fn of(entries: Vec<Entry>) -> Journal
+        ensures { result ≡ entries.items }
+    {
+        Journal { entries }
+    }
+
+    /// The entries in order.
+    pub fn entries(&self) -> &[Entry]
+        ensures { result.now ≡ self.now }
+    {
+        self.entries.as_slice()
+    }
+}
