@@ -1,0 +1,10 @@
+use Rattle.std.proofs.Common.{◌<◌, length, get_or, arith}
+use Rattle.std.proofs.lemmas.Option.{slice_get-get_or}
+use Rattle.dbg_engine.specs.Minds.{gone_mind, first_mind}
+use Rattle.dbg_engine.proofs.Marking.{marks}
+use Rattle.dbg_engine.proofs.moving.mark_gone.Goals as goal
+
+pub loop-k-preserved : goal.loop-k-preserved
+loop-k-preserved c =
+    let low : c.loop-k.k < length c.loop-k.minds = omega arith in
+    marks gone_mind c.args.minds.now c.loop-k.minds c.loop-k.k (get_or c.loop-k.minds c.loop-k.k first_mind) c.loop-k.invariant (slice_get-get_or c.loop-k.minds c.loop-k.k first_mind low)

@@ -1,0 +1,19 @@
+-- An engine's fields.
+use Rattle.std.specs.Prelude.{◌-◌, vec_len, vec_capacity}
+use Rattle.dbg_engine.specs.declared.engine.Engine.TheInside.{Inside}
+use Rattle.dbg_engine.specs.Seen.{Run}
+use Rattle.dbg_engine.specs.Facts.{Facts}
+
+abbrev pub run_of : Inside → Run
+run_of e = record {
+  opening = e.opening;
+  journal = e.entries.items;
+  spare = vec_capacity e.entries - vec_len e.entries;
+  machine = e.machine;
+  minds = e.minds.items;
+  retired = e.retired;
+  noted = e.noted;
+}
+
+pub record Keeps (e : Inside) : Type 0 where
+  pub facts : Facts (run_of e)

@@ -1,0 +1,5 @@
+pub mod Minds
+pub mod Seen
+pub mod Facts
+pub mod Calls
+pub mod EngineInside

@@ -1,0 +1,74 @@
+// The journal's last place.
+ghost use Rattle.std.specs.Prelude.{◌≡◌, ◌≤◌, ◌<◌, ◌+◌, ◌-◌, ◌^◌, ◌++◌, [], ◌∷◌, vec_len, vec_capacity, length};
+ghost use Rattle.dbg_model.specs.Journals.{lengthened, last_count, ran_count};
+ghost use Rattle.dbg_engine.specs.Minds.{lefts_live};
+
+use crate::{Activity, Mind};
+use dbg_model::Entry;
+
+/// Adds an entry, for which there is room.
+pub fn note(entries: &mut Vec<Entry>, entry: Entry)
+    requires { vec_len entries.old < vec_capacity entries.old }
+    ensures entries { entries.new.items ≡ entries.old.items ++ entry ∷ [] }
+    ensures room { vec_len entries.new ≡ vec_len entries.old + 1 }
+    ensures capacity { vec_capacity entries.old ≤ vec_capacity entries.new }
+{
+    let _ = entries.push(entry);
+}
+
+// How many instructions of the hart an entry has.
+fn ran_count(entry: &Entry, hart: u32) -> Option<u64>
+    ensures { result ≡ ran_count entry.now hart }
+{
+    match entry {
+        Entry::Ran { hart: of, count } => { if *of == hart { Some(*count) } else { None } }
+        _ => None,
+    }
+}
+
+/// Notes one more instruction of a hart, for which there is room.
+pub fn note_ran(entries: &mut Vec<Entry>, hart: u32)
+    requires room { vec_len entries.old < vec_capacity entries.old }
+    requires count { last_count entries.old.items < 2 ^ 64 - 1 }
+    ensures entries { entries.new.items ≡ lengthened entries.old.items hart }
+    ensures room { vec_len entries.new ≤ vec_len entries.old + 1 }
+    ensures capacity { vec_capacity entries.old ≤ vec_capacity entries.new }
+{
+    let Some(entry) = entries.pop() else {
+        note(entries, Entry::Ran { hart, count: 1 });
+        return;
+    };
+    match ran_count(&entry, hart) {
+        Some(count) => note(
+            entries,
+            Entry::Ran {
+                hart,
+                count: count + 1,
+            },
+        ),
+        None => {
+            note(entries, entry);
+            note(entries, Entry::Ran { hart, count: 1 });
+        }
+    }
+}
+
+/// Notes that each live hart of the list has exited, where there is room; the first of the list has the number `hart`.
+pub fn note_lefts(entries: &mut Vec<Entry>, minds: &[Mind], hart: u32, code: u32)
+    requires room { vec_len entries.old + length minds.now ≤ vec_capacity entries.old }
+    requires few { hart + length minds.now < 2 ^ 32 }
+    ensures entries { entries.new.items ≡ entries.old.items ++ lefts_live code hart minds.now }
+    ensures least { vec_len entries.old ≤ vec_len entries.new }
+    ensures most { vec_len entries.new ≤ vec_len entries.old + length minds.now }
+    ensures capacity { vec_capacity entries.old ≤ vec_capacity entries.new }
+{
+    match minds {
+        [] => {}
+        [first, rest @ ..] => {
+            if first.activity != Activity::Exited {
+                note(entries, Entry::Left { hart, code });
+            }
+            note_lefts(entries, rest, hart + 1, code);
+        }
+    }
+}

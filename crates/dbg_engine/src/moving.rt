@@ -1,0 +1,134 @@
+// What a step of the machine does to the journal and to what is kept of the harts.
+ghost use Rattle.std.specs.Prelude.{◌≡◌, ◌≢◌, ◌≤◌, ◌<◌, ◌+◌, ◌-◌, ◌^◌, map, length, slice_set, vec_len, vec_capacity};
+ghost use Rattle.dbg_model.specs.Journals.{lengthened, last_count};
+ghost use Rattle.hart_machine.specs.Stepping.{IsByteCode};
+ghost use Rattle.dbg_engine.specs.Minds.{gone_mind, applied, turned_of, IsTurned};
+
+use crate::journal::{note, note_lefts, note_ran};
+use crate::{Activity, Mind};
+use dbg_model::{Entry, Why};
+use rv_exec::{Cause, Stepped};
+
+/// What a turn of a hart did.
+#[derive(Clone, Copy, Debug, PartialEq, Eq)]
+pub enum Turned {
+    /// The session is over.
+    Over,
+    /// The hart doesn't run.
+    NotRunning,
+    /// One instruction was executed, and nothing was written.
+    Ran,
+    /// One instruction was executed, and it wrote the `len` bytes at `addr`.
+    Wrote { addr: u32, len: u32 },
+    /// One instruction was executed, and the hart has exited.
+    Left { code: u32 },
+    /// One instruction was executed, and all live harts have exited, so many.
+    AllLeft { code: u32, count: usize },
+    /// The instruction trapped, and the hart stopped.
+    Stopped { cause: Cause },
+}
+
+const RAN: Mind = Mind {
+    activity: Activity::Running,
+    fresh: true,
+};
+
+// One more instruction of a hart, of which this is kept afterwards.
+fn note_instruction(
+    h: u32,
+    mind: Mind,
+    entries: &mut Vec<Entry>,
+    minds: &mut [Mind],
+    retired: &mut u64,
+)
+    requires hart { h < length minds.old }
+    requires room { vec_len entries.old < vec_capacity entries.old }
+    requires count { last_count entries.old.items < 2 ^ 64 - 1 }
+    requires retired { retired.old < 2 ^ 64 - 1 }
+    ensures entries { entries.new.items ≡ lengthened entries.old.items h }
+    ensures minds { minds.new ≡ slice_set minds.old h mind }
+    ensures retired { retired.new ≡ retired.old + 1 }
+    ensures room { vec_len entries.new ≤ vec_len entries.old + 1 }
+    ensures capacity { vec_capacity entries.old ≤ vec_capacity entries.new }
+{
+    note_ran(entries, h);
+    minds[h as usize] = mind;
+    *retired += 1;
+}
+
+// Each hart has exited.
+fn mark_gone(minds: &mut [Mind])
+    ensures { minds.new ≡ map gone_mind minds.old }
+{
+    for k in 0..minds.len() {
+        minds[k].activity = Activity::Exited;
+    }
+}
+
+/// What a step of hart h does beside the machine, and what the turn is called.
+pub fn apply(
+    stepped: Stepped,
+    h: u32,
+    entries: &mut Vec<Entry>,
+    minds: &mut [Mind],
+    retired: &mut u64,
+    noted: &mut u64,
+) -> Turned
+    requires hit { stepped ≢ Stepped.Hit }
+    requires code { IsByteCode stepped }
+    requires hart { h < length minds.old }
+    requires few { length minds.old ≤ 16 }
+    requires room { vec_len entries.old + 32 ≤ vec_capacity entries.old }
+    requires count { last_count entries.old.items < 2 ^ 64 - 1 }
+    requires retired { retired.old < 2 ^ 64 - 1 }
+    requires noted { noted.old + 32 < 2 ^ 64 }
+    ensures parts { record { journal = entries.new.items; minds = minds.new; retired = retired.new; noted = noted.new } ≡ applied stepped h (record { journal = entries.old.items; minds = minds.old; retired = retired.old; noted = noted.old }) }
+    ensures turned { result ≡ turned_of stepped h minds.old }
+    ensures code { IsTurned result }
+{
+    match stepped {
+        Stepped::Ran => {
+            note_instruction(h, RAN, entries, minds, retired);
+            Turned::Ran
+        }
+        Stepped::Wrote { addr, len } => {
+            note_instruction(h, RAN, entries, minds, retired);
+            Turned::Wrote { addr, len }
+        }
+        Stepped::HartExit(code) => {
+            let gone = Mind {
+                activity: Activity::Exited,
+                fresh: true,
+            };
+            note_instruction(h, gone, entries, minds, retired);
+            note(entries, Entry::Left { hart: h, code });
+            *noted += 1;
+            Turned::Left { code }
+        }
+        Stepped::AllExit(code) => {
+            note_instruction(h, RAN, entries, minds, retired);
+            let before = entries.len();
+            note_lefts(entries, minds, 0, code);
+            mark_gone(minds);
+            let count = entries.len() - before;
+            *noted += count as u64;
+            Turned::AllLeft { code, count }
+        }
+        Stepped::Hit => unreachable!(),
+        Stepped::Trap(cause) => {
+            note(
+                entries,
+                Entry::Stopped {
+                    hart: h,
+                    why: Why::Fault(cause),
+                },
+            );
+            minds[h as usize] = Mind {
+                activity: Activity::Stopped,
+                fresh: false,
+            };
+            *noted += 1;
+            Turned::Stopped { cause }
+        }
+    }
+}
