@@ -1,0 +1,4 @@
+pub mod Bytes
+pub mod Text
+pub mod Said
+pub mod Refusals

@@ -1,0 +1,46 @@
+// The fixed parts of the lines.
+pub const CREATED_HEAD: &str = "=thread-created,id=\"";
+
+pub const EXITED_HEAD: &str = "=thread-exited,id=\"";
+
+pub const GROUP_TAIL: &str = "\",group-id=\"i1\"\n";
+
+pub const PROMPT: &str = "(gdb)\n";
+
+pub const RUNNING_HEAD: &str = "^running\n*running,thread-id=\"";
+
+pub const RUNNING_TAIL: &str = "\"\n(gdb)\n";
+
+pub const NOT_BUILT: &str = "^error,msg=\"Not built yet\"\n(gdb)\n";
+
+pub const THREAD_HEAD: &str = "^error,msg=\"Thread ";
+
+pub const HAS_EXITED_TAIL: &str = " has exited\"\n(gdb)\n";
+
+pub const IS_RUNNING_TAIL: &str = " is running\"\n(gdb)\n";
+
+pub const SIGNAL_HEAD: &str = "*stopped,reason=\"signal-received\",signal-name=\"";
+
+pub const SEGMENTATION_FAULT: &str = "SIGSEGV\",signal-meaning=\"Segmentation fault";
+
+pub const BUS_ERROR: &str = "SIGBUS\",signal-meaning=\"Bus error";
+
+pub const ILLEGAL_INSTRUCTION: &str = "SIGILL\",signal-meaning=\"Illegal instruction";
+
+pub const TRAP: &str = "SIGTRAP\",signal-meaning=\"Trace/breakpoint trap";
+
+pub const FRAME_HEAD: &str = "\",frame={addr=\"0x";
+
+pub const FRAME_TAIL: &str = "\",args=[]},thread-id=\"";
+
+pub const STOPPED_HEAD: &str = "\",stopped-threads=[\"";
+
+pub const STOPPED_TAIL: &str = "\"]\n";
+
+pub const EXITED_NORMALLY: &str = "*stopped,reason=\"exited-normally\"\n";
+
+pub const EXIT_CODE_HEAD: &str = "*stopped,reason=\"exited\",exit-code=\"0";
+
+pub const LINE_TAIL: &str = "\"\n";
+
+pub const STREAM_HEAD: &str = "@\"";
