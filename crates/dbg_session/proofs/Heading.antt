@@ -1,0 +1,107 @@
+-- The headline, from what the type of a session keeps.
+use Rattle.std.proofs.Common.{◌≡◌, ◌<◌, ◌≤◌, ℕ, Bool, true, false, List, [], ◌∷◌, ◌++◌, length, refl, sym, ap, ◌∙◌, arith, subst}
+use Rattle.std.specs.Prelude.{Option, Some, None, IfSome, IsSomeAnd, ◌⊎◌}
+use mathlib.Core.Logic.{inl, inr}
+use mathlib.Core.List.{append-nil}
+use Rattle.std.specs.Prelude.{map}
+use Rattle.dbg_traits.specs.Told.{Told}
+use Rattle.plain_machine.specs.PlainRun.{PlainState, plain_run}
+use Rattle.mi_input.specs.Lines.{lines}
+use Rattle.mi_reports.specs.Said.{said}
+use Rattle.dbg_model.specs.declared.limits.TheConstants.{HISTORY, MOST_INPUT}
+use Rattle.dbg_model.specs.State.{Hart, State}
+use Rattle.dbg_model.specs.Journals.{Leaves, did, noted}
+use Rattle.dbg_model.specs.Erase.{erase}
+use Rattle.dbg_model.proofs.Plainly.{lawful_plain, plain_of, plain_hart}
+use Rattle.dbg_model.proofs.Counting.{counted}
+use Rattle.dbg_model.proofs.Bounding.{within_budget}
+use Rattle.dbg_engine.specs.declared.engine.Closed.{Closed}
+use Rattle.dbg_session.specs.Stage.{Stage}
+use Rattle.dbg_session.specs.Taking.{Gives}
+use Rattle.dbg_session.specs.Left.{IsLeft, core_registers, hart_registers, plain_registers}
+use Rattle.dbg_session.specs.Ties.{IsTied, Taken, Cause, Clean, Opened, Written}
+use Rattle.dbg_session.specs.Headline.{Headline, Why, IsDone, Ends}
+use Rattle.dbg_session.specs.declared.status.Status.{Status}
+use Rattle.dbg_session.specs.declared.status.Status.TheVariants as status
+use Rattle.dbg_session.proofs.Tying.{told_same}
+
+front_lines : (ended : Bool) (bytes : List ℕ) (done : List (List ℕ)) (rest : List ℕ) → Gives ended bytes done rest → (more : List (List ℕ)) × (done ++ more ≡ lines bytes ended)
+front_lines true bytes done rest h = (lines rest true, sym h)
+front_lines false bytes done rest h = (lines (rest ++ []) false, sym (h [] false) ∙ ap (λ t. lines t false) (append-nil bytes))
+
+all_lines : (bytes : List ℕ) (done : List (List ℕ)) (rest : List ℕ) → Gives true bytes done rest → lines rest true ≡ [] → lines bytes true ≡ done
+all_lines bytes done rest h none = h ∙ (ap (λ t. done ++ t) none ∙ append-nil done)
+
+most_bytes : (o : Option (List ℕ)) (n : ℕ) → IfSome o (λ b. length b ≡ n) → MOST_INPUT ≤ n → IfSome o (λ b. MOST_INPUT ≤ length b)
+most_bytes None n h le = tt
+most_bytes (Some b) n h le = omega (arith, h)
+
+few_bytes : (o : Option (List ℕ)) (n : ℕ) → IfSome o (λ b. length b ≡ n) → n < MOST_INPUT → IfSome o (λ b. length b < MOST_INPUT)
+few_bytes None n h lt = tt
+few_bytes (Some b) n h lt = omega (arith, h)
+
+-- the numbers of the journal
+record Numbers (c : Closed) (r : Stage) : Type 0 where
+  steps : length (erase c.journal) ≡ r.state.retired
+  notes : noted c.journal ≡ r.state.noted
+  most : r.state.retired ≤ c.opening.settings.budget
+  budget : c.opening.settings.budget ≡ r.opening.settings.budget
+
+numbers : (c : Closed) (r : Stage) → IsLeft r c → Numbers c r
+numbers c r e =
+    let n = counted c.opening c.journal r.state e.leaves in
+    record { steps = sym n.retired; notes = sym n.noted; most = within_budget c.opening c.journal r.state e.leaves; budget = ap (λ o. o.settings.budget) e.opening }
+
+whys : (s : Status) (t : Told) (r : Stage) (i : Taken) (c : Closed) → IsLeft r c → IsTied (Some s) t r i → Why s t c r.state
+whys status.Done t r i c e h =
+    let d = h.cause.1 in
+    let ended = d.ended in
+    let n = numbers c r e in
+    let b = d.below in (
+      h.cause.0,
+      record {
+        ended = h.ended ∙ ended;
+        all = told_same t.polled (λ b. Gives i.ended b (did r.journal) i.rest) (λ b. lines b true ≡ did c.journal) (λ b g. all_lines b (did r.journal) i.rest (rw ended at g) d.none ∙ ap did (sym e.journal)) h.input;
+        still = d.still;
+      },
+      omega (arith, b.0, n.steps, n.budget),
+      omega (arith, b.1, n.notes),
+      few_bytes t.polled i.count h.count b.2,
+    )
+whys status.Budget t r i c e h = let n = numbers c r e in let b = h.cause.1 in (h.cause.0, omega (arith, n.steps, n.most, n.budget))
+whys status.History t r i c e h =
+    let n = numbers c r e in
+    let b = h.cause.1 in (
+      h.cause.0,
+      omega (arith, n.steps, n.budget),
+      elim h.cause.2 [ inl noted ↦ inl (omega (arith, n.notes)) | inr count ↦ inr (most_bytes t.polled i.count h.count count) ],
+    )
+whys status.ReadFault t r i c e h = h.cause
+whys status.WriteFault t r i c e h = h.cause
+whys status.NoMemory t r i c e h = tt
+whys status.Words t r i c e h = absurd h.cause
+whys (status.File f) t r i c e h = absurd h.cause
+
+regs_plain : (xs : List Hart) → plain_registers (map plain_hart xs) ≡ hart_registers xs
+regs_plain [] = refl
+regs_plain (x ∷ xs) = ap (λ t. x.regs ∷ t) (regs_plain xs)
+
+pub heading : (s : Status) (t : Told) (r : Stage) (i : Taken) (c : Closed) → IsLeft r c → IsTied (Some s) t r i → Headline s t c
+heading s t r i c e h = record {
+  opened = rw e.opening h.file;
+  lines = told_same t.polled (λ b. Gives i.ended b (did r.journal) i.rest) (λ b. (rest : List (List ℕ)) × (did c.journal ++ rest ≡ lines b t.poll_ended)) (λ b g. rw (e.journal, h.ended) (front_lines i.ended b (did r.journal) i.rest g)) h.input;
+  state = r.state;
+  lawful = e.leaves;
+  plain = plain_of r.state;
+  erased = lawful_plain c.opening c.journal r.state e.leaves;
+  registers = regs_plain r.state.harts ∙ sym e.registers;
+  memory = sym e.memory;
+  output = refl;
+  retired = e.retired;
+  said = rw (e.opening, e.journal) h.written;
+  why = whys s t r i c e h;
+}
+
+pub ends : (s : Status) (t : Told) (r : Stage) (i : Taken) (o : Option Closed) → IsSomeAnd o (IsLeft r) → IsTied (Some s) t r i → Ends s t o
+ends s t r i None e h = absurd e
+ends s t r i (Some c) e h = heading s t r i c e h

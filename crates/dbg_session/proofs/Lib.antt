@@ -1,0 +1,9 @@
+pub mod Putting
+pub mod Working
+pub mod Saying
+pub mod Doing
+pub mod Picking
+pub mod Tying
+pub mod Opening
+pub mod Getting
+pub mod Heading

@@ -1,0 +1,135 @@
+-- How much the harts can still do.
+use Rattle.std.proofs.Common.{◌≡◌, ◌<◌, ◌≤◌, ℕ, zero, suc, ◌+◌, ◌-◌, ◌*◌, Bool, true, false, cond, List, [], ◌∷◌, ◌++◌, length, refl, sym, ap, ◌∙◌, arith, subst, not, nat_lt}
+use Rattle.std.specs.Prelude.{Option, Some, None, ◌&&◌, ◌||◌, ◌==◌, map, slice_get, slice_set}
+use Rattle.std.proofs.lemmas.Bool.Decides.{nat_tests}
+use Rattle.plain_machine.specs.Environment.{Answer, Traps, Goes, Leave, Stays, LeavesAlone, LeavesAll}
+use Rattle.plain_machine.specs.Plain.{plain}
+use Rattle.rv_exec.specs.declared.effect.Cause.{Cause}
+use Rattle.rv_exec.specs.Causes.{cause_number}
+use Rattle.dbg_model.specs.declared.command.Reply.{Reply}
+use Rattle.dbg_model.specs.declared.command.Reply.TheVariants as reply
+use Rattle.dbg_model.specs.declared.entry.Mode.{Mode}
+use Rattle.dbg_model.specs.declared.entry.Mode.TheVariants as mode
+use Rattle.dbg_model.specs.declared.entry.Why.TheVariants.{Fault}
+use Rattle.dbg_model.specs.declared.entry.Entry.TheVariants.{Stopped}
+use Rattle.dbg_model.specs.declared.limits.TheConstants.{HISTORY}
+use Rattle.dbg_model.specs.declared.opening.Opening.{Opening}
+use Rattle.dbg_model.specs.State.{Hart, State, hart_runs, any_runs, any_leaves, is_running}
+use Rattle.dbg_model.specs.Reply.{done_by, reply_of, harts_after, resumed_at, resumed}
+use Rattle.dbg_model.specs.Lawful.{one, one_by, enter, may_go, may_run, stepped_by, stepped, stopped, with_stop, faulted_by, stopped_by, with_leavers, leaving, leaving_at}
+use Rattle.dbg_model.specs.Leaving.{gone, gone_by}
+use Rattle.dbg_model.proofs.Options.{guard_some, same_some, both_true}
+use Rattle.dbg_session.specs.Stage.{Stage, running, work_of, runs_at, runs_as}
+
+abbrev one_if : Bool → ℕ
+one_if b = cond b 1 0
+
+running_set : (xs : List Hart) (h : ℕ) (x y : Hart) → slice_get xs h ≡ Some x → running (slice_set xs h y) + one_if (hart_runs x) ≡ running xs + one_if (hart_runs y)
+running_set [] h x y at = cc
+running_set (z ∷ zs) zero x y at = let same = ap (λ (w : Hart). one_if (hart_runs w)) (same_some z x at) in omega arith
+running_set (z ∷ zs) (suc h) x y at = let ih = running_set zs h x y at in omega arith
+
+gone_runs : (m : Mode) (x : Hart) → x.mode ≡ m → one_if (hart_runs (gone_by m x)) ≡ one_if (hart_runs x)
+gone_runs mode.Stopped x is = refl
+gone_runs mode.Running x is = refl
+gone_runs (mode.Leaving code) x is = ap (λ m. one_if (is_running m)) (sym is)
+gone_runs mode.Exited x is = refl
+
+pub running_gone : (xs : List Hart) → running (map gone xs) ≡ running xs
+running_gone [] = refl
+running_gone (x ∷ xs) = let g = gone_runs x.mode x refl in let ih = running_gone xs in omega arith
+
+leaving_runs : (code : ℕ) (m : Mode) (x : Hart) → x.mode ≡ m → one_if (hart_runs (leaving code x)) ≡ 0
+leaving_runs code mode.Stopped x is = rw is refl
+leaving_runs code mode.Running x is = rw is refl
+leaving_runs code (mode.Leaving c) x is = rw is refl
+leaving_runs code mode.Exited x is = rw is refl
+
+running_leaving : (code : ℕ) (xs : List Hart) → running (map (leaving code) xs) ≡ 0
+running_leaving code [] = refl
+running_leaving code (x ∷ xs) = let g = leaving_runs code x.mode x refl in let ih = running_leaving code xs in omega arith
+
+alone_running : (code : ℕ) (xs : List Hart) (h : ℕ) (r : Option Hart) → slice_get xs h ≡ r → running (leaving_at code xs h r) ≤ running xs
+alone_running code xs h None at = omega arith
+alone_running code xs h (Some x) at =
+    let s = running_set xs h x (leaving code x) at in
+    let g = leaving_runs code x.mode x refl in
+    omega arith
+
+leavers_running : (leave : Leave) (xs : List Hart) (h : ℕ) → running (with_leavers leave xs h) ≤ running xs
+leavers_running Stays xs h = omega arith
+leavers_running (LeavesAlone code) xs h = alone_running code xs h (slice_get xs h) refl
+leavers_running (LeavesAll code) xs h = let g = running_leaving code xs in omega arith
+
+-- what a step of a hart asks and leaves
+pub record Worked (o : Opening) (s t : State) : Type 0 where
+  pub below : s.retired < o.settings.budget
+  pub retired : t.retired ≡ s.retired + 1
+  pub running : running t.harts ≤ running s.harts
+
+answer_works : (o : Opening) (a : Answer) (s t : State) (h : ℕ) (x : Hart) → slice_get s.harts h ≡ Some x → s.retired < o.settings.budget → stepped_by a s h x ≡ Some t → Worked o s t
+answer_works o (Traps cause) s t h x at below is = cc
+answer_works o (Goes r m out leave) s t h x at below is =
+    let u : State = record s { harts = with_leavers leave (slice_set s.harts h (stepped x r)) h; memory = m; out = s.out ++ out; retired = s.retired + 1 } in
+    let set = running_set s.harts h x (stepped x r) at in
+    let l = leavers_running leave (slice_set s.harts h (stepped x r)) h in
+    subst (λ (v : State). Worked o s v) (same_some u t is) (record { below = below; retired = refl; running = omega arith })
+
+go_below : (o : Opening) (s : State) → may_go o s ≡ true → s.retired < o.settings.budget
+go_below o s may =
+    let b = both_true (not (any_leaves s.harts)) (nat_lt s.retired o.settings.budget && nat_lt s.noted HISTORY) may in
+    let n = both_true (nat_lt s.retired o.settings.budget) (nat_lt s.noted HISTORY) b.1 in
+    let first = n.0 in
+    grind (arith, nat_tests)
+
+one_by_works : (o : Opening) (s t : State) (h : ℕ) (r : Option Hart) → slice_get s.harts h ≡ r → one_by o s h r ≡ Some t → Worked o s t
+one_by_works o s t h None at is = cc
+one_by_works o s t h (Some x) at is =
+    let g = guard_some (may_run o s x) (stepped_by (plain o.image x.regs s.memory) s h x) t is in
+    answer_works o (plain o.image x.regs s.memory) s t h x at (go_below o s (both_true (may_go o s) (is_running x.mode) g.0).0) g.1
+
+pub one_works : (o : Opening) (h : ℕ) (s t : State) → one o h s ≡ Some t → Worked o s t
+unfolding one
+one_works o h s t is = one_by_works o s t h (slice_get s.harts h) refl is
+
+-- a stop leaves one hart less that runs
+pub record Halted (s t : State) : Type 0 where
+  pub retired : t.retired ≡ s.retired
+  pub running : running t.harts + 1 ≡ running s.harts
+
+fault_halts : (a : Answer) (cause : Cause) (s t : State) (h : ℕ) (x : Hart) → slice_get s.harts h ≡ Some x → hart_runs x ≡ true → faulted_by a cause s h x ≡ Some t → Halted s t
+fault_halts (Traps met) cause s t h x at runs is =
+    let g = guard_some (cause_number met == cause_number cause) (Some (with_stop s h x)) t is in
+    let set = running_set s.harts h x (stopped x) at in
+    let one : one_if (hart_runs x) ≡ 1 = ap one_if runs in
+    subst (λ (v : State). Halted s v) (same_some (with_stop s h x) t g.1) (record { retired = refl; running = omega arith })
+fault_halts (Goes r m out leave) cause s t h x at runs is = cc
+
+stop_halts : (o : Opening) (cause : Cause) (s t : State) (h : ℕ) (r : Option Hart) → slice_get s.harts h ≡ r → stopped_by o s h (Fault cause) r ≡ Some t → Halted s t
+stop_halts o cause s t h None at is = cc
+stop_halts o cause s t h (Some x) at is =
+    let g = guard_some (may_run o s x) (faulted_by (plain o.image x.regs s.memory) cause s h x) t is in
+    fault_halts (plain o.image x.regs s.memory) cause s t h x at (both_true (may_go o s) (is_running x.mode) g.0).1 g.1
+
+pub halts : (o : Opening) (cause : Cause) (h : ℕ) (s t : State) → enter o s (Stopped h (Fault cause)) ≡ Some t → Halted s t
+unfolding enter
+halts o cause h s t is = stop_halts o cause s t h (slice_get s.harts h) refl is
+
+-- a line resumes at most one hart
+resumes_one : (xs : List Hart) (h : ℕ) (r : Option Hart) → slice_get xs h ≡ r → running (resumed_at xs h r) ≤ running xs + 1
+resumes_one xs h None at = omega arith
+resumes_one xs h (Some x) at = let set = running_set xs h x (resumed x) at in omega arith
+
+after_running : (xs : List Hart) (a : Reply) → running (harts_after xs a) ≤ running xs + 1
+after_running xs (reply.Resumed thread) = resumes_one xs (thread - 1) (slice_get xs (thread - 1)) refl
+after_running xs reply.NotBuilt = omega arith
+after_running xs (reply.HasExited thread) = omega arith
+after_running xs (reply.IsRunning thread) = omega arith
+
+pub done_running : (s : State) (line : List ℕ) → (running (done_by s line).harts ≤ running s.harts + 1) × ((done_by s line).retired ≡ s.retired)
+unfolding done_by
+done_running s line = (after_running s.harts (reply_of s line), refl)
+
+-- a hart that runs is among the harts
+pub some_runs : (xs : List Hart) (h : ℕ) (x : Hart) → slice_get xs h ≡ Some x → runs_at xs h ≡ hart_runs x
+some_runs xs h x at = ap runs_as at

@@ -1,0 +1,11 @@
+use Rattle.std.proofs.Common.{◌≡◌, subst}
+use Rattle.dbg_session.specs.Left.{IsLeft}
+use Rattle.dbg_session.specs.Seen.{Seen}
+use Rattle.dbg_session.proofs.Picking.{left}
+use Rattle.dbg_session.proofs.session.Session.close.Goals as goal
+
+pub returns-clause-closed : goal.returns-clause-closed
+returns-clause-closed g c =
+    let P : Seen g.row.W.Denot → Type 0 = λ s. IsLeft s.run c.close.result in
+    let e = c.close.ensures in
+    subst P c.self.view_is (left c.self.inside.engine c.close.result e.opening e.journal e.machine e.facts)

@@ -1,0 +1,120 @@
+-- The headline of a run, over the world that is handed back and what is left of the session.
+use Rattle.std.specs.Prelude.{◌≡◌, ◌⊎◌, ◌<◌, ◌≤◌, ℕ, Bool, true, false, List, [], ◌∷◌, ◌++◌, length, Option, Some, None, IfSome, IsSome}
+use Rattle.elf32_read.specs.declared.fault.ElfFault.{ElfFault}
+use Rattle.elf32_read.specs.Program.{Program}
+use Rattle.elf32_read.specs.Reading.{IsImage}
+use Rattle.elf32_read.specs.Reading as reading
+use Rattle.plain_machine.specs.PlainRun.{PlainState, plain_run}
+use Rattle.dbg_traits.specs.Told.{Told}
+use Rattle.mi_input.specs.Lines.{lines}
+use Rattle.mi_reports.specs.Said.{said}
+use Rattle.mi_reports.specs.Refusals.{bad_file}
+use Rattle.mi_reports.specs.declared.refusals.TheConstants.{USAGE}
+use Rattle.dbg_model.specs.State.{State, any_runs}
+use Rattle.dbg_model.specs.Journals.{Leaves, did, noted}
+use Rattle.dbg_model.specs.Erase.{erase}
+use Rattle.dbg_model.specs.declared.limits.TheConstants.{HISTORY, MOST_INPUT}
+use Rattle.dbg_engine.specs.declared.engine.Closed.{Closed}
+use Rattle.dbg_engine.specs.Facts.{Retired}
+use Rattle.dbg_session.specs.Words.{served_words, IsWhole}
+use Rattle.dbg_session.specs.Left.{core_registers, plain_registers}
+use Rattle.dbg_session.specs.Ties.{Opened, Written, IsCut, Clean}
+use Rattle.dbg_session.specs.declared.status.Status.{Status}
+use Rattle.dbg_session.specs.declared.status.Status.TheVariants as status
+
+-- the input ended, each line of it was done, and no hart runs
+pub record IsDone (t : Told) (c : Closed) (s : State) : Type 0 where
+  pub ended : t.poll_ended ≡ true
+  pub all : IfSome t.polled (λ bytes. lines bytes true ≡ did c.journal)
+  pub still : any_runs s.harts ≡ false
+
+-- why a session that was begun has its status
+abbrev pub Why : Status → Told → Closed → State → Type 0
+Why status.Done t c s = Clean t × IsDone t c s × (length (erase c.journal) < c.opening.settings.budget) × (noted c.journal < HISTORY) × IfSome t.polled (λ bytes. length bytes < MOST_INPUT)
+Why status.Budget t c s = Clean t × (length (erase c.journal) ≡ c.opening.settings.budget)
+Why status.History t c s = Clean t × (length (erase c.journal) < c.opening.settings.budget) × ((HISTORY ≤ noted c.journal) ⊎ IfSome t.polled (λ bytes. MOST_INPUT ≤ length bytes))
+Why status.ReadFault t c s = 0 < t.poll_faults
+Why status.WriteFault t c s = 0 < t.put_faults
+Why status.NoMemory t c s = Unit {0}
+Why status.Words t c s = ⊥
+Why (status.File f) t c s = ⊥
+
+pub record Headline (status : Status) (t : Told) (c : Closed) : Type 0 where
+  -- the file
+  pub opened : Opened t c.opening
+  -- the lines that were done are a front of the input's lines
+  pub lines : IfSome t.polled (λ bytes. (rest : List (List ℕ)) × (did c.journal ++ rest ≡ lines bytes t.poll_ended))
+  -- the journal is lawful
+  pub state : State
+  pub lawful : Leaves c.opening c.journal state
+  -- without the debugger's entries it is a run of the program
+  pub plain : PlainState
+  pub erased : plain_run c.opening.image c.opening.settings.harts (erase c.journal) ≡ Some plain
+  -- which ends in the machine's registers and data, and with the output of the journal's state
+  pub registers : plain_registers plain.harts ≡ core_registers c.machine.cores
+  pub memory : plain.memory ≡ c.machine.memory
+  pub output : plain.out ≡ state.out
+  -- the machine executed each hart's instructions
+  pub retired : Retired c.machine.cores c.journal
+  -- what was written is what was said
+  pub said : IfSome t.written (λ written. Written (Some status) written (said c.opening c.journal))
+  -- why it has its status
+  pub why : Why status t c state
+
+-- the line was written; where a put failed, a front of it
+pub record Line (line : List ℕ) (t : Told) : Type 0 where
+  pub front : IfSome t.written (λ written. IsCut written line)
+  pub whole : t.put_faults ≡ 0 → IfSome t.written (λ written. written ≡ line)
+
+-- nothing was written
+abbrev pub Silent : Told → Type 0
+Silent t = IfSome t.written (λ written. written ≡ [])
+
+-- why a run ended before a session was begun, and what it wrote
+abbrev pub Early : Status → Told → Type 0
+Early status.Words t = (served_words t.words ≡ None) × Line USAGE.now t
+Early (status.File f) t = IsSome (served_words t.words) × IsWhole t × (t.file_faults ≡ 0) × IfSome t.file_taken (λ bytes. reading.Refused bytes f) × Line (bad_file f) t
+Early status.ReadFault t = IsSome (served_words t.words) × (0 < t.file_faults) × Silent t
+Early status.NoMemory t = Silent t
+Early s t = ⊥
+
+abbrev pub Ends : Status → Told → Option Closed → Type 0
+Ends s t None = Early s t
+Ends s t (Some c) = Headline s t c
+
+-- accepted words, an accepted file, and nothing has failed
+pub record Good (t : Told) : Type 0 where
+  pub clean : Clean t
+  pub words : IsSome (served_words t.words)
+  pub bytes : List ℕ
+  pub taken : t.file_taken ≡ Some bytes
+  pub program : Program
+  pub image : IsImage bytes program
+
+abbrev pub IsFine : Status → Type 0
+IsFine status.Done = Unit {0}
+IsFine status.Budget = Unit {0}
+IsFine status.History = Unit {0}
+IsFine status.NoMemory = Unit {0}
+IsFine s = ⊥
+
+-- the words are refused, unless memory ran out
+abbrev pub IsWords : Status → Type 0
+IsWords status.Words = Unit {0}
+IsWords status.NoMemory = Unit {0}
+IsWords s = ⊥
+
+-- the file is refused with this fault, unless memory ran out
+abbrev pub IsFile : ElfFault → Status → Type 0
+IsFile f (status.File g) = g ≡ f
+IsFile f status.NoMemory = Unit {0}
+IsFile f s = ⊥
+
+-- accepted words, and a file that was read whole and has this fault
+pub record Refused (t : Told) (f : ElfFault) : Type 0 where
+  pub words : IsSome (served_words t.words)
+  pub whole : IsWhole t
+  pub clean : t.file_faults ≡ 0
+  pub bytes : List ℕ
+  pub taken : t.file_taken ≡ Some bytes
+  pub fault : reading.Refused bytes f

@@ -1,0 +1,29 @@
+-- What is left of a session.
+use Rattle.std.specs.Prelude.{◌≡◌, List, map}
+use Rattle.rv_exec.specs.Registers.{Registers}
+use Rattle.plain_machine.specs.PlainRun.{PlainHart}
+use Rattle.hart_machine.specs.declared.hart.Core.{Core}
+use Rattle.dbg_model.specs.State.{Hart}
+use Rattle.dbg_model.specs.Journals.{Leaves}
+use Rattle.dbg_engine.specs.declared.engine.Closed.{Closed}
+use Rattle.dbg_engine.specs.Facts.{Retired}
+use Rattle.dbg_session.specs.Stage.{Stage}
+
+-- the registers of harts, as the machine, the journal's state and the plain run have them
+abbrev pub core_registers : List Core → List Registers
+core_registers cs = map (λ c. c.regs) cs
+
+abbrev pub hart_registers : List Hart → List Registers
+hart_registers xs = map (λ x. x.regs) xs
+
+abbrev pub plain_registers : List PlainHart → List Registers
+plain_registers xs = map (λ x. x.regs) xs
+
+-- what a session's engine left
+pub record IsLeft (r : Stage) (c : Closed) : Type 0 where
+  pub opening : c.opening ≡ r.opening
+  pub journal : c.journal ≡ r.journal
+  pub leaves : Leaves c.opening c.journal r.state
+  pub registers : core_registers c.machine.cores ≡ hart_registers r.state.harts
+  pub memory : c.machine.memory ≡ r.state.memory
+  pub retired : Retired c.machine.cores c.journal

@@ -1,0 +1,11 @@
+pub mod Stage
+pub mod Words
+pub mod Taking
+pub mod Turned
+pub mod Puts
+pub mod Steps
+pub mod Ties
+pub mod Seen
+pub mod SessionInside
+pub mod Left
+pub mod Headline

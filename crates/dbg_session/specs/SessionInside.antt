@@ -1,0 +1,12 @@
+-- A session's fields.
+use Rattle.std.specs.Prelude.{◌≤◌, length, drop}
+use Rattle.dbg_session.specs.declared.session.Session.TheInside.{Inside}
+use Rattle.dbg_session.specs.Ties.{Taken}
+use Rattle.dbg_session.specs.Seen.{Seen}
+use Rattle.dbg_session.specs.Stage.{stage_of}
+
+abbrev pub taken_of : {W : Type 0} → Inside W → Taken
+taken_of s = record { rest = drop s.start s.buffer.items; count = s.count; ended = s.ended }
+
+abbrev pub seen_of : {W : Type 0} → Inside W → Seen W
+seen_of s = record { world = s.world; run = stage_of s.engine; input = taken_of s; status = s.status }

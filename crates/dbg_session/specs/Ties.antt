@@ -1,0 +1,111 @@
+-- What ties a session to its world.
+use Rattle.std.specs.Prelude.{◌≡◌, ◌⊎◌, ◌<◌, ◌≤◌, ℕ, ◌+◌, ◌-◌, ◌*◌, Bool, true, false, cond, List, [], ◌∷◌, ◌++◌, length, take, drop, Option, Some, None, IfSome, Ok, IsSome}
+use Rattle.dbg_traits.specs.Told.{Told}
+use Rattle.elf32_read.specs.Reading.{IsImage}
+use Rattle.mi_input.specs.Lines.{lines}
+use Rattle.dbg_model.specs.declared.opening.Opening.{Opening}
+use Rattle.dbg_model.specs.State.{any_runs}
+use Rattle.dbg_model.specs.Journals.{did}
+use Rattle.dbg_session.specs.Stage.{Stage, work_of}
+use Rattle.dbg_session.specs.Words.{served_words, IsWhole}
+use Rattle.dbg_session.specs.Taking.{Gives}
+use Rattle.dbg_session.specs.Steps.{said_by}
+use Rattle.dbg_session.specs.declared.status.Status.{Status}
+use Rattle.dbg_session.specs.declared.status.Status.TheVariants as status
+use Rattle.dbg_model.specs.declared.limits.TheConstants.{HISTORY, MOST_INPUT}
+
+-- a session without its world
+abbrev pub IsCut : List ℕ → List ℕ → Type 0
+IsCut written text = (rest : List ℕ) × (written ++ rest ≡ text)
+
+-- What is written is what was said. After a failed put or want of memory it is a front of it.
+abbrev pub Written : Option Status → List ℕ → List ℕ → Type 0
+Written (Some status.WriteFault) written text = IsCut written text
+Written (Some status.NoMemory) written text = IsCut written text
+Written s written text = written ≡ text
+
+-- nothing has failed
+pub record Clean (t : Told) : Type 0 where
+  pub file : t.file_faults ≡ 0
+  pub poll : t.poll_faults ≡ 0
+  pub put : t.put_faults ≡ 0
+
+-- how much of the input was polled, and whether it has ended
+pub record Taken : Type 0 where
+  pub rest : List ℕ
+  pub count : ℕ
+  pub ended : Bool
+
+-- the input ended, each line of it was done, and no hart runs
+pub record AllDone (r : Stage) (i : Taken) : Type 0 where
+  pub ended : i.ended ≡ true
+  pub none : lines i.rest true ≡ []
+  pub below : (r.state.retired < r.opening.settings.budget) × (r.state.noted < HISTORY) × (i.count < MOST_INPUT)
+  pub still : any_runs r.state.harts ≡ false
+
+-- why a session has its status
+abbrev pub Cause : Option Status → Told → Stage → Taken → Type 0
+Cause None t r i = Clean t
+Cause (Some status.Done) t r i = Clean t × AllDone r i
+Cause (Some status.Budget) t r i = Clean t × (r.opening.settings.budget ≤ r.state.retired)
+Cause (Some status.History) t r i = Clean t × (r.state.retired < r.opening.settings.budget) × ((HISTORY ≤ r.state.noted) ⊎ (MOST_INPUT ≤ i.count))
+Cause (Some status.ReadFault) t r i = 0 < t.poll_faults
+Cause (Some status.WriteFault) t r i = 0 < t.put_faults
+Cause (Some status.NoMemory) t r i = Unit {0}
+Cause (Some status.Words) t r i = ⊥
+Cause (Some (status.File f)) t r i = ⊥
+
+-- The words name the file that was read, whole and without a fault, and the opening is its image with the settings of the words.
+pub record Opened (t : Told) (o : Opening) : Type 0 where
+  pub name : List ℕ
+  pub asked : served_words t.words ≡ Some (record { name = name; settings = o.settings })
+  pub named : t.file_name ≡ Some name
+  pub whole : IsWhole t
+  pub faults : t.file_faults ≡ 0
+  pub image : IfSome t.file_taken (λ bytes. IsImage bytes o.image)
+
+-- what the type of a session keeps
+pub record IsTied (s : Option Status) (t : Told) (r : Stage) (i : Taken) : Type 0 where
+  pub file : Opened t r.opening
+  pub input : IfSome t.polled (λ bytes. Gives i.ended bytes (did r.journal) i.rest)
+  pub count : IfSome t.polled (λ bytes. length bytes ≡ i.count)
+  pub written : IfSome t.written (λ written. Written s written (said_by r))
+  pub ended : t.poll_ended ≡ i.ended
+  pub cause : Cause s t r i
+
+-- how much a session can still do
+abbrev pub session_work : Option Status → Stage → Taken → ℕ
+session_work (Some s) r i = 0
+session_work None r i = 1 + work_of r + 2 * length i.rest + 3 * (MOST_INPUT - i.count) + cond i.ended 0 1
+
+-- why a session is over
+abbrev pub OverBy : Option Status → Stage → ℕ → Type 0
+OverBy None r count = (r.state.retired < r.opening.settings.budget) × (r.state.noted < HISTORY) × (count < MOST_INPUT)
+OverBy (Some status.Budget) r count = r.opening.settings.budget ≤ r.state.retired
+OverBy (Some status.History) r count = (r.state.retired < r.opening.settings.budget) × ((HISTORY ≤ r.state.noted) ⊎ (MOST_INPUT ≤ count))
+OverBy (Some s) r count = ⊥
+
+-- A poll takes at most 4096 bytes, and none after the most.
+abbrev pub IsCounted : Option Status → ℕ → Type 0
+IsCounted None count = count < MOST_INPUT
+IsCounted (Some s) count = count < MOST_INPUT + 4097
+
+-- a list that is told is empty
+abbrev pub IsEmpty : Option (List ℕ) → Type 0
+IsEmpty None = Unit {0}
+IsEmpty (Some bytes) = bytes ≡ []
+
+-- a session may begin
+pub record IsReady (t : Told) (r : Stage) : Type 0 where
+  pub opened : Opened t r.opening
+  pub clean : Clean t
+  pub polled : IsEmpty t.polled
+  pub written : IsEmpty t.written
+  pub running : t.poll_ended ≡ false
+  pub journal : r.journal ≡ []
+
+-- what a step left as it was
+pub record Stays (r s : Stage) (i j : Taken) (a b : Option Status) : Type 0 where
+  pub run : s ≡ r
+  pub input : j ≡ i
+  pub status : b ≡ a

@@ -1,0 +1,16 @@
+//! The session: it runs one program by lines of commands.
+#![tactic(auto)]
+
+mod file;
+mod puts;
+mod run;
+mod session;
+mod status;
+mod steps;
+#[cfg(test)]
+mod tests;
+
+pub use dbg_engine::Closed;
+pub use run::debug_run;
+pub use session::{Ended, Session};
+pub use status::Status;

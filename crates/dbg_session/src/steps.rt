@@ -1,0 +1,177 @@
+// The steps of a session, over its parts.
+ghost use Rattle.std.specs.Prelude.{◌≡◌, ◌<◌, ◌≤◌, length, IfOk, true, false};
+ghost use Rattle.dbg_model.specs.Journals.{did};
+ghost use Rattle.dbg_engine.specs.Minds.{IsTurned};
+ghost use Rattle.dbg_session.specs.Stage.{stage_of};
+ghost use Rattle.dbg_session.specs.Turned.{turned_text, wrote_text, last_lefts, has_moved};
+ghost use Rattle.dbg_session.specs.Steps.{Turns, Does, Inputs};
+
+use crate::puts::put_all;
+use dbg_engine::{Engine, SPARE, Turned};
+use dbg_traits::{Polled, World};
+use mi_input::next_line;
+use mi_reports::{lefts_text, reply_text, stop_text, stream_text};
+use std::alloc::{AllocError, Global};
+
+/// What one turn did.
+#[derive(Clone, Copy, Debug, PartialEq, Eq)]
+pub enum Turn {
+    /// The hart didn't move.
+    Stood,
+    /// It moved, and its lines are put.
+    Moved,
+    /// It moved, and a put of its lines failed.
+    Unput,
+    NoMemory,
+}
+
+/// What one line did. Each number is the place behind the line.
+#[derive(Clone, Copy, Debug, PartialEq, Eq)]
+pub enum Done {
+    Nothing,
+    Done(usize),
+    /// It was done, and a put of its reply failed.
+    Unput(usize),
+    /// It was done, and there was no memory for its reply.
+    Unsaid(usize),
+    NoMemory,
+}
+
+/// What one poll did.
+#[derive(Clone, Copy, Debug, PartialEq, Eq)]
+pub enum Input {
+    Took(usize),
+    Nothing,
+    End,
+    Failed,
+    NoMemory,
+}
+
+// The line of the bytes of a range.
+fn wrote_text(alloc: Global, engine: &Engine, addr: u32, len: u32) -> Result<Vec<u8>, AllocError>
+    ensures { IfOk result (λ v. v.items ≡ wrote_text engine.now addr len) }
+{
+    let mut bytes = vec![in alloc; 0u8; len as usize]?;
+    match engine.read_range(addr, bytes.as_mut_slice()) {
+        Ok(()) => stream_text(alloc, bytes.as_slice()),
+        Err(_) => Ok(Vec::new(alloc)),
+    }
+}
+
+// The lines of the last exits of the journal.
+fn last_lefts(
+    alloc: Global,
+    engine: &Engine,
+    count: usize,
+    code: u32,
+) -> Result<Vec<u8>, AllocError>
+    requires { code < 256 }
+    ensures { IfOk result (λ v. v.items ≡ last_lefts engine.now count code) }
+{
+    let entries = engine.entries();
+    let last = &entries[entries.len().saturating_sub(count)..];
+    lefts_text(alloc, last, engine.all_gone(), code)
+}
+
+// The lines of a turn of a hart, which was at pc before.
+fn turned_text(
+    alloc: Global,
+    engine: &Engine,
+    turned: Turned,
+    hart: u32,
+    pc: u32,
+) -> Result<Vec<u8>, AllocError>
+    requires { IsTurned turned }
+    ensures { IfOk result (λ v. v.items ≡ turned_text engine.now turned hart pc) }
+{
+    match turned {
+        Turned::Over | Turned::NotRunning | Turned::Ran => Ok(Vec::new(alloc)),
+        Turned::Wrote { addr, len } => wrote_text(alloc, engine, addr, len),
+        Turned::Left { code } => last_lefts(alloc, engine, 1, code),
+        Turned::AllLeft { code, count } => last_lefts(alloc, engine, count, code),
+        Turned::Stopped { cause } => stop_text(alloc, cause, hart, pc),
+    }
+}
+
+fn has_moved(turned: Turned) -> bool
+    ensures { result ≡ has_moved turned }
+{
+    !matches!(turned, Turned::Over | Turned::NotRunning)
+}
+
+/// One turn of a hart, with its lines.
+pub fn turn_once<W: World>(alloc: Global, world: &mut W, engine: &mut Engine, hart: u32) -> Turn
+    requires { hart < length engine.old.minds }
+    ensures opening { engine.new.opening ≡ engine.old.opening }
+    ensures did { did engine.new.journal ≡ did engine.old.journal }
+    ensures turns { Turns result hart (W.told world.old) (W.told world.new) (stage_of engine.old) (stage_of engine.new) }
+{
+    engine.keep();
+    if engine.reserve_journal(SPARE).is_err() {
+        return Turn::NoMemory;
+    }
+    let pc = engine.pc(hart);
+    let turned = engine.turn(hart);
+    if !has_moved(turned) {
+        return Turn::Stood;
+    }
+    let Ok(text) = turned_text(alloc, engine, turned, hart, pc) else {
+        return Turn::NoMemory;
+    };
+    if put_all(world, text.as_slice()) {
+        Turn::Moved
+    } else {
+        Turn::Unput
+    }
+}
+
+/// The next line of the rest of the input, with its reply.
+pub fn line_once<W: World>(
+    alloc: Global,
+    world: &mut W,
+    engine: &mut Engine,
+    rest: &[u8],
+    ended: bool,
+) -> Done
+    ensures opening { engine.new.opening ≡ engine.old.opening }
+    ensures does { Does result ended rest.now (W.told world.old) (W.told world.new) (stage_of engine.old) (stage_of engine.new) }
+{
+    engine.keep();
+    if !engine.may_go() {
+        return Done::Nothing;
+    }
+    let Some((text, next)) = next_line(rest, ended) else {
+        return Done::Nothing;
+    };
+    let Ok(reply) = engine.command(&rest[..text]) else {
+        return Done::NoMemory;
+    };
+    let Ok(lines) = reply_text(alloc, reply) else {
+        return Done::Unsaid(next);
+    };
+    if put_all(world, lines.as_slice()) {
+        Done::Done(next)
+    } else {
+        Done::Unput(next)
+    }
+}
+
+/// One poll, into the buffer.
+pub fn input_once<W: World>(world: &mut W, buffer: &mut Vec<u8>, wait: bool) -> Input
+    requires { (W.told world.old).poll_ended ≡ false }
+    ensures { Inputs result wait (W.told world.old) (W.told world.new) buffer.old.items buffer.new.items }
+{
+    let mut piece = [0u8; 4096];
+    if buffer.reserve(4096).is_err() {
+        return Input::NoMemory;
+    }
+    match world.poll(wait, &mut piece) {
+        Polled::Took(n) => {
+            let _ = buffer.extend_from_slice(&piece[..n]);
+            Input::Took(n)
+        }
+        Polled::NotYet => Input::Nothing,
+        Polled::End => Input::End,
+        Polled::Failed => Input::Failed,
+    }
+}
