@@ -2,7 +2,7 @@ ghost use Rattle.std.specs.Prelude.{IfOk};
 ghost use Rattle.dbg_traits.specs.Told.{IsFresh};
 ghost use Rattle.dbg_traits.specs.MemWorld.{told_of};
 
-use crate::{Ended, Status, debug_run};
+use crate::{Closed, Ended, Status, debug_run};
 use dbg_traits::{ArgText, Cue, Limits, MemWorld, OpenGate};
 use std::alloc::Global;
 use std::test::Fail;
@@ -29,6 +29,8 @@ const LOAD_RESERVED: &str = "2f250610";
 // amoadd.w a0,a1,(a2), where a2 is 0 and nothing is mapped.
 const AMO: &str = "2f25b600";
 
+const OPENING: &str = "=thread-created,id=\"1\",group-id=\"i1\"\n(gdb)\n";
+
 const EXITED: &str = "\
     =thread-created,id=\"1\",group-id=\"i1\"\n(gdb)\n\
     ^running\n*running,thread-id=\"1\"\n(gdb)\n\
@@ -45,6 +47,11 @@ const UNMAPPED: &str = "\
     ^running\n*running,thread-id=\"1\"\n(gdb)\n\
     *stopped,reason=\"signal-received\",signal-name=\"SIGSEGV\",signal-meaning=\"Segmentation fault\",\
     frame={addr=\"0x00010074\",args=[]},thread-id=\"1\",stopped-threads=[\"1\"]\n";
+
+const FOUR_BLANKS: &str = "\
+    =thread-created,id=\"1\",group-id=\"i1\"\n(gdb)\n\
+    ^error,msg=\"Not built yet\"\n(gdb)\n^error,msg=\"Not built yet\"\n(gdb)\n\
+    ^error,msg=\"Not built yet\"\n(gdb)\n^error,msg=\"Not built yet\"\n(gdb)\n";
 
 const USAGE: &str = "^error,msg=\"usage: rvdbg [--harts N] [--workers N] [--slots N] [--budget N] [--slice N] FILE\"\n";
 
@@ -98,19 +105,33 @@ fn continue_cue(alloc: Global) -> Result<Cue, Fail> {
     Ok(Cue::Piece(b"-exec-continue\n".to_vec(alloc)?))
 }
 
+// How many instructions thread 1 has executed.
+fn retired(closed: &Option<Closed>) -> Option<u64> {
+    match closed {
+        Some(closed) if closed.machine.harts() > 0 => Some(closed.machine.retired(0)),
+        _ => None,
+    }
+}
+
 #[test]
 fn a_program_runs_to_its_end(rt: HostRuntime) -> Result<(), Fail> {
     let alloc = rt.alloc();
-    for (first, output) in [(EXIT, EXITED), (LOAD_RESERVED, ILLEGAL), (AMO, UNMAPPED)] {
+    let cases = [
+        (EXIT, EXITED, 3),
+        (LOAD_RESERVED, ILLEGAL, 0),
+        (AMO, UNMAPPED, 0),
+    ];
+    for (first, output, executed) in cases {
         let cue = continue_cue(alloc)?;
         let world = world_of(alloc, "0", first, cue, limits_of(alloc, 0, 0)?)?;
         let Ended {
             status,
             world,
-            closed: _,
+            closed,
         } = debug_run(&rt, alloc, world, &OpenGate);
         assert_eq!(rt; status, Status::Done);
         assert_eq!(rt; world.output(), output.as_bytes());
+        assert_eq!(rt; retired(&closed), Some(executed));
     }
     Ok(())
 }
@@ -133,6 +154,32 @@ fn a_failure_ends_a_run_with_its_status(rt: HostRuntime) -> Result<(), Fail> {
         } = debug_run(&rt, alloc, world, &OpenGate);
         assert_eq!(rt; status, expected);
         assert_eq!(rt; world.output(), output.as_bytes());
+    }
+    Ok(())
+}
+
+#[test]
+fn the_end_of_the_input_ends_a_run(rt: HostRuntime) -> Result<(), Fail> {
+    let alloc = rt.alloc();
+    let cases = [
+        (Some(""), Status::Done, OPENING),
+        (Some("\n\n\n\n"), Status::Done, FOUR_BLANKS),
+        (None, Status::ReadFault, OPENING),
+    ];
+    for (input, expected, output) in cases {
+        let cue = match input {
+            Some(input) => Cue::Piece(input.as_bytes().to_vec(alloc)?),
+            None => Cue::Fault,
+        };
+        let world = world_of(alloc, "0", EXIT, cue, limits_of(alloc, 0, 0)?)?;
+        let Ended {
+            status,
+            world,
+            closed,
+        } = debug_run(&rt, alloc, world, &OpenGate);
+        assert_eq!(rt; status, expected);
+        assert_eq!(rt; world.output(), output.as_bytes());
+        assert_eq!(rt; retired(&closed), Some(0));
     }
     Ok(())
 }
