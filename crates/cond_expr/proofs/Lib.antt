@@ -1,0 +1,9 @@
+pub mod Climb
+pub mod Scan
+pub mod Steps
+pub mod Unique
+pub mod NoFault
+pub mod Only
+pub mod Total
+pub mod Turns
+pub mod Words

@@ -1,0 +1,10 @@
+pub mod Registers
+pub mod Token
+pub mod Term
+pub mod Grammar
+pub mod Fault
+pub mod Stops
+pub mod Gives
+pub mod Lex
+pub mod Value
+pub mod Condition

@@ -1,0 +1,74 @@
+//! A condition: its text, and the tree that it spells.
+
+ghost use Rattle.std.specs.Prelude.{◌≡◌, ◌<◌, ◌≤◌, length, IfOk};
+ghost use Rattle.cond_expr.specs.Term.{Term, term_of};
+ghost use Rattle.cond_expr.specs.Fault.{first_fault, MeetsFault};
+ghost use Rattle.cond_expr.specs.Lex.{tokens_of};
+ghost use Rattle.cond_expr.specs.Condition.{Tree, GivesTerm, text_of, tree_of};
+ghost use Rattle.cond_expr.specs.Value.{value_of};
+
+use crate::climbing::parse_tokens;
+use crate::evaluating::{Value, node_value};
+use crate::fault::{ExprFault, FaultKind, ParseError};
+use crate::lex::tokens;
+use crate::tree::Node;
+use dbg_traits::View;
+use elf_symbols::Symbols;
+use std::alloc::Global;
+
+/// The greatest length of a condition's text, in bytes.
+const MAX_LENGTH: usize = 256;
+
+/// A condition that was parsed. Contracts see its text as `text_of`, its tree as `tree_of`.
+#[derive(Debug, Drop)]
+pub struct Expr {
+    text: Vec<u8>,
+    root: Node,
+}
+
+impl Expr {
+    /// The text that was parsed.
+    pub fn text(&self) -> &[u8]
+        ensures { result.now ≡ text_of self.now }
+    {
+        self.text.as_slice()
+    }
+
+    /// The tree that the text spells.
+    pub fn root(&self) -> &Node
+        ensures { term_of result.now ≡ tree_of self.now }
+    {
+        &self.root
+    }
+}
+
+/// The condition that a text spells, with the names of these symbols; of its faults the one at the least place,
+/// and at one place the least kind. A text of more than 256 bytes is `Long`, at 256.
+pub fn parse(alloc: Global, text: &[u8], symbols: &Symbols) -> Result<Expr, ParseError>
+    ensures long { 256 < length text.now → result ≡ Err (ParseError.Fault (record { kind = FaultKind.Long; at = 256 })) }
+    // What is read is the text, with a tree that it spells.
+    ensures found { IfOk result (λ e. Tree text.now symbols.now (tree_of e)) }
+    ensures text { IfOk result (λ e. text_of e ≡ text.now) }
+    // What the text spells is read, unless memory runs out.
+    ensures only { (x : Term) → Tree text.now symbols.now x → GivesTerm result x }
+    // Which fault it is.
+    ensures fault { length text.now ≤ 256 → MeetsFault result (first_fault (length text.now) (tokens_of symbols.now text.now)) }
+{
+    if text.len() > MAX_LENGTH {
+        return Err(ParseError::Fault(ExprFault {
+            kind: FaultKind::Long,
+            at: 256,
+        }));
+    }
+    let tokens = tokens(alloc, symbols, text)?;
+    let root = parse_tokens(alloc, &tokens, text.len() as u32)?;
+    let text = Vec::from_slice(alloc, text)?;
+    Ok(Expr { text, root })
+}
+
+/// The value of a condition over the registers and the bytes of a view.
+pub fn value<V: View>(e: &Expr, view: &V) -> Value
+    ensures { result ≡ value_of (V.registers view.now) (V.bytes view.now) (tree_of e.now) }
+{
+    node_value(&e.root, view)
+}

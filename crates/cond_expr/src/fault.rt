@@ -1,0 +1,51 @@
+//! Why a text is no condition.
+
+ghost use Rattle.std.specs.Prelude.{◌≡◌};
+ghost use Rattle.cond_expr.specs.declared.fault.ParseError.TheVariants.{NoMemory};
+
+use std::alloc::{AllocError, AllocFailed};
+
+/// What is wrong with a text. Of several faults at one place the first of these is told.
+#[derive(Clone, Copy, Debug, PartialEq, Eq)]
+pub enum FaultKind {
+    /// The text is longer than 256 bytes.
+    Long,
+    /// Something stands where it can't stand, or the text ends there.
+    Text,
+    /// A number from 2^32 on.
+    Number,
+    /// More than 32 prefixes and parentheses are open at once.
+    Deep,
+    /// A bare name, or a symbol or register that isn't known.
+    Name,
+}
+
+/// A fault and its place.
+#[derive(Clone, Copy, Debug, PartialEq, Eq)]
+pub struct ExprFault {
+    pub kind: FaultKind,
+    /// The bytes of the text before it.
+    pub at: u32,
+}
+
+#[derive(Clone, Copy, Debug, PartialEq, Eq)]
+pub enum ParseError {
+    NoMemory,
+    Fault(ExprFault),
+}
+
+impl From<AllocError> for ParseError {
+    ghost from_gives = { λ _ e. e ≡ NoMemory };
+
+    fn from(_e: AllocError) -> ParseError {
+        ParseError::NoMemory
+    }
+}
+
+impl<T: Drop> From<AllocFailed<T>> for ParseError {
+    ghost from_gives = { λ _ e. e ≡ NoMemory };
+
+    fn from(_e: AllocFailed<T>) -> ParseError {
+        ParseError::NoMemory
+    }
+}

@@ -1,0 +1,23 @@
+//! Conditions of breakpoints: the tree that a text spells, and its value over one hart's registers and memory.
+#![tactic(auto)]
+
+mod climbing;
+mod evaluating;
+mod expr;
+mod fault;
+mod lex;
+mod register;
+mod token;
+mod tree;
+mod word;
+
+pub use climbing::accepted_is_tree;
+pub use evaluating::{Value, node_value};
+pub use expr::{Expr, parse, value};
+pub use fault::{ExprFault, FaultKind, ParseError};
+pub use register::Register;
+pub use token::{Binary, Leaf, Prefix, ReadType};
+pub use tree::Node;
+
+#[cfg(test)]
+mod tests;

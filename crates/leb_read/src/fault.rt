@@ -1,0 +1,12 @@
+use thiserror::Error;
+
+/// Why no value stands at a place.
+#[derive(Clone, Copy, Debug, PartialEq, Eq, Error)]
+pub enum Leb {
+    /// The bytes end before the value does.
+    #[error("the bytes end before the value does")]
+    Short,
+    /// The number has more than 64 bits.
+    #[error("the number has more than 64 bits")]
+    Wide,
+}
