@@ -138,7 +138,7 @@ exits_say t r s h pc count code f m text =
     let first : said r.opening j ≡ said r.opening r.journal = said_lengthened r.opening r.journal h (seen r) f.leaves ∙ (ap (λ u. said r.opening r.journal ++ u) (ap stream_text m.wrote ∙ nothing_written) ∙ append-nil (said r.opening r.journal)) in
     let exits = said_exits r.opening j m.between code l m.codes m.some in
     let last : lefts_text lefts (all_gone (map gone m.between.harts)) code ≡ last_lefts s count code =
-        ap (λ es. lefts_text es (all_gone (map gone m.between.harts)) code) (sym (last_are s.journal j lefts count m.journal m.counted)) ∙ ap (λ xs. lefts_text (drop (length s.journal - count) s.journal) (all_gone xs) code) (sym m.harts) in
+    ap (λ es. lefts_text es (all_gone (map gone m.between.harts)) code) (sym (last_are s.journal j lefts count m.journal m.counted)) ∙ ap (λ xs. lefts_text (drop (length s.journal - count) s.journal) (all_gone xs) code) (sym m.harts) in
     record {
       opening = m.opening;
       said = said_is r s (j ++ lefts) (turned_text s t h pc) m.opening m.journal (exits ∙ (ap (λ u. u ++ lefts_text lefts (all_gone (map gone m.between.harts)) code) first ∙ ap (λ u. said r.opening r.journal ++ u) (last ∙ text)));

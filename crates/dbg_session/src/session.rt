@@ -65,7 +65,11 @@ fn over(engine: &Engine, count: u64) -> Option<Status>
     match engine.over() {
         Some(End::Budget) => Some(Status::Budget),
         Some(End::History) => Some(Status::History),
-        None => if count >= MOST_INPUT { Some(Status::History) } else { None },
+        None => if count >= MOST_INPUT {
+            Some(Status::History)
+        } else {
+            None
+        },
     }
 }
 

@@ -53,7 +53,8 @@ const FOUR_BLANKS: &str = "\
     ^error,msg=\"Not built yet\"\n(gdb)\n^error,msg=\"Not built yet\"\n(gdb)\n\
     ^error,msg=\"Not built yet\"\n(gdb)\n^error,msg=\"Not built yet\"\n(gdb)\n";
 
-const USAGE: &str = "^error,msg=\"usage: rvdbg [--harts N] [--workers N] [--slots N] [--budget N] [--slice N] FILE\"\n";
+const USAGE: &str =
+    "^error,msg=\"usage: rvdbg [--harts N] [--workers N] [--slots N] [--budget N] [--slice N] FILE\"\n";
 
 fn words_of(alloc: Global, workers: &str) -> Result<Vec<ArgText>, Fail> {
     let mut words = Vec::new(alloc);
@@ -181,5 +182,21 @@ fn the_end_of_the_input_ends_a_run(rt: HostRuntime) -> Result<(), Fail> {
         assert_eq!(rt; world.output(), output.as_bytes());
         assert_eq!(rt; retired(&closed), Some(0));
     }
+    Ok(())
+}
+
+#[test]
+fn many_line_feeds_are_answered_each(rt: HostRuntime) -> Result<(), Fail> {
+    let alloc = rt.alloc();
+    let cue = Cue::Piece(vec![in alloc; b'\n'; 1000]?);
+    let world = world_of(alloc, "0", EXIT, cue, limits_of(alloc, 0, 0)?)?;
+    let Ended {
+        status,
+        world,
+        closed: _,
+    } = debug_run(&rt, alloc, world, &OpenGate);
+    assert_eq!(rt; status, Status::Done);
+    // The opening has 43 bytes, and each answer 33.
+    assert_eq!(rt; world.output().len(), 33043);
     Ok(())
 }

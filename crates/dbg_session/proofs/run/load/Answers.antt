@@ -29,9 +29,8 @@ returns-in-Err-Fault g c =
     let P : ElfReadError → Type 0 = λ x. Reads c.in-Ok.bytes.items (Err x) in
     let Q : List ℕ → Type 0 = λ b. Reads b (Err c.in-Err-Fault.field-0) in
     let reads = subst Q c.as_slice.ensures.value c.in-Err-Fault.ensures in
-    let refused = subst P c.in-Err-Fault.field-0-is reads in
-    (
+    let refused = subst P c.in-Err-Fault.field-0-is reads in (
       e.closed,
       rw (e.status, e.world) (early_file c.put_all-in-Err-Fault.result (told c.args.world) (told c.read_all.new.world) (told c.put_all-in-Err-Fault.new.world) c.words.result.now c.in-Ok-Some.served c.in-Ok.bytes.items c.in-Err-Fault.fault c.as_slice-in-Err-Fault.result.now
-        c.requires c.words.ensures is c.in-Ok.ensures refused (c.as_slice-in-Err-Fault.ensures.value ∙ c.in-Ok-bad_file.ensures) c.put_all-in-Err-Fault.ensures),
+          c.requires c.words.ensures is c.in-Ok.ensures refused (c.as_slice-in-Err-Fault.ensures.value ∙ c.in-Ok-bad_file.ensures) c.put_all-in-Err-Fault.ensures),
     )

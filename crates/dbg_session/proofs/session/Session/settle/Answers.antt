@@ -42,5 +42,5 @@ returns-then-is_some g c =
     subst P c.self.view_is (
       record { run = refl; input = refl; status = refl },
       open_line (may_go e.opening (seen e)) c.self.inside.ended (any_runs (seen e).harts) (has_line true (drop start items)) (may_go_by e (o.0, o.1))
-      (stands_if true (drop start items) (take (length xs - start) (drop start xs)) c.next_line.result (slice_from items xs start c.deref.ensures.value) c.next_line.ensures.next c.if-is_some.ensures),
+          (stands_if true (drop start items) (take (length xs - start) (drop start xs)) c.next_line.result (slice_from items xs start c.deref.ensures.value) c.next_line.ensures.next c.if-is_some.ensures),
     )
