@@ -1,11 +1,9 @@
 -- A duty gets on.
-use Rattle.std.proofs.Common.{◌≡◌, ◌<◌, ◌≤◌, ℕ, Bool, true, false, refl, sym, ap, ◌∙◌, arith, not}
-use Rattle.std.specs.Prelude.{◌||◌, ◌&&◌, nat_lt}
-use Rattle.dbg_model.specs.declared.limits.TheConstants.{HISTORY}
-use Rattle.dbg_model.specs.State.{any_runs, any_leaves}
+use Rattle.std.proofs.Common.{◌≡◌, ◌<◌, ◌≤◌, Bool, true, false, refl, sym, ap, arith, not}
+use Rattle.std.specs.Prelude.{◌||◌, ◌&&◌}
+use Rattle.dbg_model.specs.State.{any_runs}
 use Rattle.dbg_model.specs.Lawful.{may_go}
 use Rattle.dbg_session.specs.Taking.{has_line}
-use Rattle.dbg_session.specs.Ties.{session_work}
 use Rattle.dbg_session.specs.Seen.{Seen, Same, GotOn, work, no_input, no_line, no_move, is_open}
 
 same_work : {W : Type 0} (s t : Seen W) → Same s t → work t ≡ work s

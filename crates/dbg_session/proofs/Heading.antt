@@ -1,16 +1,14 @@
 -- The headline, from what the type of a session keeps.
-use Rattle.std.proofs.Common.{◌≡◌, ◌<◌, ◌≤◌, ℕ, Bool, true, false, List, [], ◌∷◌, ◌++◌, length, refl, sym, ap, ◌∙◌, arith, subst}
-use Rattle.std.specs.Prelude.{Option, Some, None, IfSome, IsSomeAnd, ◌⊎◌}
+use Rattle.std.proofs.Common.{◌≡◌, ◌<◌, ◌≤◌, ℕ, Bool, true, false, List, [], ◌∷◌, ◌++◌, length, refl, sym, ap, ◌∙◌, arith}
+use Rattle.std.specs.Prelude.{Option, Some, None, IfSome, IsSomeAnd}
 use mathlib.Core.Logic.{inl, inr}
 use mathlib.Core.List.{append-nil}
 use Rattle.std.specs.Prelude.{map}
 use Rattle.dbg_traits.specs.Told.{Told}
-use Rattle.plain_machine.specs.PlainRun.{PlainState, plain_run}
 use Rattle.mi_input.specs.Lines.{lines}
-use Rattle.mi_reports.specs.Said.{said}
-use Rattle.dbg_model.specs.declared.limits.TheConstants.{HISTORY, MOST_INPUT}
-use Rattle.dbg_model.specs.State.{Hart, State}
-use Rattle.dbg_model.specs.Journals.{Leaves, did, noted}
+use Rattle.dbg_model.specs.declared.limits.TheConstants.{MOST_INPUT}
+use Rattle.dbg_model.specs.State.{Hart}
+use Rattle.dbg_model.specs.Journals.{did, noted}
 use Rattle.dbg_model.specs.Erase.{erase}
 use Rattle.dbg_model.proofs.Plainly.{lawful_plain, plain_of, plain_hart}
 use Rattle.dbg_model.proofs.Counting.{counted}
@@ -18,9 +16,9 @@ use Rattle.dbg_model.proofs.Bounding.{within_budget}
 use Rattle.dbg_engine.specs.declared.engine.Closed.{Closed}
 use Rattle.dbg_session.specs.Stage.{Stage}
 use Rattle.dbg_session.specs.Taking.{Gives}
-use Rattle.dbg_session.specs.Left.{IsLeft, core_registers, hart_registers, plain_registers}
-use Rattle.dbg_session.specs.Ties.{IsTied, Taken, Cause, Clean, Opened, Written}
-use Rattle.dbg_session.specs.Headline.{Headline, Why, IsDone, Ends}
+use Rattle.dbg_session.specs.Left.{IsLeft, hart_registers, plain_registers}
+use Rattle.dbg_session.specs.Ties.{IsTied, Taken}
+use Rattle.dbg_session.specs.Headline.{Headline, Why, Ends}
 use Rattle.dbg_session.specs.declared.status.Status.{Status}
 use Rattle.dbg_session.specs.declared.status.Status.TheVariants as status
 use Rattle.dbg_session.proofs.Tying.{told_same}

@@ -1,11 +1,11 @@
 -- Which harts of an engine run, and what an engine leaves.
-use Rattle.std.proofs.Common.{◌≡◌, ◌<◌, ◌≤◌, ℕ, zero, suc, Bool, true, false, List, [], ◌∷◌, length, refl, sym, ap, ◌∙◌, arith, subst, not}
+use Rattle.std.proofs.Common.{◌≡◌, ◌≤◌, ℕ, zero, suc, Bool, true, false, List, [], ◌∷◌, length, refl, sym, ap, ◌∙◌, arith, not}
 use Rattle.std.specs.Prelude.{Option, Some, None, IfSome, is_some, ◌&&◌, ◌||◌, slice_get, take}
 use mathlib.Core.List.{append-nil}
 use Rattle.hart_machine.specs.declared.hart.Core.{Core}
 use Rattle.hart_machine.proofs.Places.{same_some}
 use Rattle.mi_input.specs.Lines.{IsNext, lines}
-use Rattle.dbg_model.specs.State.{is_running, any_runs}
+use Rattle.dbg_model.specs.State.{is_running}
 use Rattle.dbg_model.specs.Lawful.{may_go}
 use Rattle.dbg_engine.specs.declared.mind.Activity.{Activity}
 use Rattle.dbg_engine.specs.declared.mind.Activity.TheVariants as activity
@@ -15,7 +15,7 @@ use Rattle.dbg_engine.specs.Minds.{mode_of, is_active, runs, next_running}
 use Rattle.dbg_engine.specs.Seen.{Run, seen, seen_harts}
 use Rattle.dbg_engine.specs.Facts.{Facts}
 use Rattle.dbg_engine.proofs.Seeing.{any_seen, none_runs, next_runs}
-use Rattle.dbg_session.specs.Stage.{Stage, stage_of, runs_at}
+use Rattle.dbg_session.specs.Stage.{stage_of, runs_at}
 use Rattle.dbg_session.specs.Taking.{has_line, is_some_line}
 use Rattle.dbg_session.specs.Seen.{Picks}
 use Rattle.dbg_session.specs.Left.{IsLeft, core_registers, hart_registers}

@@ -1,8 +1,7 @@
 -- What a turn and a line say.
-use Rattle.std.proofs.Common.{◌≡◌, ◌<◌, ◌≤◌, ℕ, zero, suc, ◌+◌, ◌-◌, ◌*◌, Bool, true, false, cond, List, [], ◌∷◌, ◌++◌, length, drop, refl, sym, ap, ◌∙◌, arith, subst, append_assoc}
-use Rattle.std.specs.Prelude.{Option, Some, None, ◌&&◌, ◌==◌, map, slice_get}
+use Rattle.std.proofs.Common.{◌≡◌, ◌<◌, ◌≤◌, ℕ, ◌+◌, ◌-◌, ◌*◌, Bool, true, false, List, [], ◌∷◌, ◌++◌, length, drop, refl, sym, ap, ◌∙◌, arith, subst, append_assoc}
+use Rattle.std.specs.Prelude.{Option, Some, None, ◌&&◌, map, slice_get}
 use mathlib.Core.List.{append-nil}
-use Rattle.data_memory.specs.Ranges.{bytes_at}
 use Rattle.rv_exec.specs.declared.effect.Cause.{Cause}
 use Rattle.hart_machine.specs.declared.hart.Core.{Core}
 use Rattle.dbg_model.specs.declared.command.Reply.{Reply}
@@ -13,31 +12,29 @@ use Rattle.dbg_model.specs.declared.entry.Mode.{Mode}
 use Rattle.dbg_model.specs.declared.entry.Mode.TheVariants as mode
 use Rattle.dbg_model.specs.declared.opening.Opening.{Opening}
 use Rattle.dbg_model.specs.State.{Hart, State, all_gone}
-use Rattle.dbg_model.specs.Reply.{reply_of, done_by}
-use Rattle.dbg_model.specs.Lawful.{one, one_out, enter}
+use Rattle.dbg_model.specs.Lawful.{one}
 use Rattle.dbg_model.specs.Leaving.{lefts_from, left_one, gone}
-use Rattle.dbg_model.specs.Journals.{Leaves, lengthened, one_more_by, ran_count, did, did_one}
+use Rattle.dbg_model.specs.Journals.{lengthened, one_more_by, ran_count, did, did_one}
 use Rattle.dbg_model.proofs.Adding.{lengthens}
 use Rattle.mi_reports.specs.Text.{stream_text, stop_text, lefts_text, reply_text}
-use Rattle.mi_reports.specs.Said.{said, entry_text, hart_pc}
+use Rattle.mi_reports.specs.Said.{said, hart_pc}
 use Rattle.mi_reports.proofs.Saying.{said_added, said_lengthened}
 use Rattle.mi_reports.proofs.Leaving.{said_exits}
 use Rattle.dbg_engine.specs.declared.moving.Turned.{Turned}
 use Rattle.dbg_engine.specs.declared.moving.Turned.TheVariants as turned
-use Rattle.dbg_engine.specs.declared.mind.Mind.{Mind}
-use Rattle.dbg_engine.specs.Seen.{Run, seen, seen_hart}
+use Rattle.dbg_engine.specs.Seen.{Run, seen}
 use Rattle.dbg_engine.specs.Facts.{Facts}
 use Rattle.dbg_engine.specs.Calls.{Turns, Runs, Exits, Faults, Does}
 use Rattle.dbg_engine.proofs.Seeing.{seen_at}
 use Rattle.dbg_engine.proofs.Turning.{get_within}
-use Rattle.dbg_session.specs.Stage.{Stage, stage_of, work_of, running, runs_at, runs_as}
+use Rattle.dbg_session.specs.Stage.{stage_of, work_of, running, runs_at, runs_as}
 use Rattle.dbg_model.specs.State.{is_running}
 use Rattle.dbg_model.specs.Lawful.{may_go}
 use Rattle.dbg_engine.specs.declared.mind.Activity.{Activity}
 use Rattle.dbg_engine.specs.declared.mind.Activity.TheVariants as activity
 use Rattle.dbg_engine.specs.Minds.{mode_of, is_active}
 use Rattle.dbg_session.specs.Steps.{said_by}
-use Rattle.dbg_session.specs.Turned.{turned_text, last_lefts, wrote_text, stream_of, has_moved}
+use Rattle.dbg_session.specs.Turned.{turned_text, last_lefts, stream_of, has_moved}
 use Rattle.dbg_session.proofs.Working.{one_works, halts, done_running, running_gone}
 
 -- the lines of a journal that grows

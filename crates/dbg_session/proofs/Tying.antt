@@ -1,10 +1,9 @@
 -- The steps of a session keep what ties it to its world.
-use Rattle.std.proofs.Common.{◌≡◌, ◌<◌, ◌≤◌, ℕ, ◌+◌, ◌-◌, ◌*◌, Bool, true, false, cond, List, [], ◌∷◌, ◌++◌, length, take, drop, refl, sym, ap, ◌∙◌, append_assoc, arith, subst, length-append, length-drop}
+use Rattle.std.proofs.Common.{◌≡◌, ◌<◌, ℕ, ◌+◌, ◌-◌, Bool, true, false, cond, List, [], ◌∷◌, ◌++◌, length, take, drop, refl, sym, ap, ◌∙◌, append_assoc, arith, subst, length-append, length-drop}
 use Rattle.std.specs.Prelude.{Option, Some, None, IfSome}
 use mathlib.Core.List.{append-nil}
-use Rattle.std.proofs.lemmas.List.{take-append-drop, take_all, drop-drop}
+use Rattle.std.proofs.lemmas.List.{take-append-drop, take_all}
 use Rattle.dbg_traits.specs.Told.{Told, more, with_ask}
-use Rattle.dbg_traits.specs.Causes.{Rose}
 use Rattle.mi_input.specs.Lines.{IsNext, lines}
 use Rattle.dbg_model.specs.Journals.{did}
 use Rattle.mi_reports.specs.Text.{opening_text}
@@ -15,7 +14,7 @@ use Rattle.dbg_session.specs.Taking.{Gives}
 use Rattle.dbg_session.specs.Steps.{said_by, Says, Keeps, DoesLine}
 use Rattle.dbg_model.specs.declared.opening.Opening.{Opening}
 use Rattle.dbg_session.specs.Words.{served_words}
-use Rattle.dbg_session.specs.Ties.{IsTied, Taken, Opened, Cause, Clean, Written, IsCut, OverBy, AllDone, IsReady, IsEmpty, IsCounted}
+use Rattle.dbg_session.specs.Ties.{IsTied, Taken, Opened, IsCut, OverBy, IsReady, IsEmpty, IsCounted}
 use Rattle.dbg_session.specs.Puts.{PutsAll}
 use Rattle.dbg_session.specs.declared.status.Status.{Status}
 use Rattle.dbg_session.specs.declared.status.Status.TheVariants as status

@@ -1,6 +1,6 @@
 -- How much the harts can still do.
-use Rattle.std.proofs.Common.{◌≡◌, ◌<◌, ◌≤◌, ℕ, zero, suc, ◌+◌, ◌-◌, ◌*◌, Bool, true, false, cond, List, [], ◌∷◌, ◌++◌, length, refl, sym, ap, ◌∙◌, arith, subst, not, nat_lt}
-use Rattle.std.specs.Prelude.{Option, Some, None, ◌&&◌, ◌||◌, ◌==◌, map, slice_get, slice_set}
+use Rattle.std.proofs.Common.{◌≡◌, ◌<◌, ◌≤◌, ℕ, zero, suc, ◌+◌, ◌-◌, Bool, true, cond, List, [], ◌∷◌, ◌++◌, refl, sym, ap, arith, subst, not, nat_lt}
+use Rattle.std.specs.Prelude.{Option, Some, None, ◌&&◌, ◌==◌, map, slice_get, slice_set}
 use Rattle.std.proofs.lemmas.Bool.Decides.{nat_tests}
 use Rattle.plain_machine.specs.Environment.{Answer, Traps, Goes, Leave, Stays, LeavesAlone, LeavesAll}
 use Rattle.plain_machine.specs.Plain.{plain}
@@ -14,12 +14,12 @@ use Rattle.dbg_model.specs.declared.entry.Why.TheVariants.{Fault}
 use Rattle.dbg_model.specs.declared.entry.Entry.TheVariants.{Stopped}
 use Rattle.dbg_model.specs.declared.limits.TheConstants.{HISTORY}
 use Rattle.dbg_model.specs.declared.opening.Opening.{Opening}
-use Rattle.dbg_model.specs.State.{Hart, State, hart_runs, any_runs, any_leaves, is_running}
+use Rattle.dbg_model.specs.State.{Hart, State, hart_runs, any_leaves, is_running}
 use Rattle.dbg_model.specs.Reply.{done_by, reply_of, harts_after, resumed_at, resumed}
 use Rattle.dbg_model.specs.Lawful.{one, one_by, enter, may_go, may_run, stepped_by, stepped, stopped, with_stop, faulted_by, stopped_by, with_leavers, leaving, leaving_at}
 use Rattle.dbg_model.specs.Leaving.{gone, gone_by}
 use Rattle.dbg_model.proofs.Options.{guard_some, same_some, both_true}
-use Rattle.dbg_session.specs.Stage.{Stage, running, work_of, runs_at, runs_as}
+use Rattle.dbg_session.specs.Stage.{running, runs_at, runs_as}
 
 abbrev one_if : Bool → ℕ
 one_if b = cond b 1 0

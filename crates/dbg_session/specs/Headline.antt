@@ -1,5 +1,5 @@
 -- The headline of a run, over the world that is handed back and what is left of the session.
-use Rattle.std.specs.Prelude.{◌≡◌, ◌⊎◌, ◌<◌, ◌≤◌, ℕ, Bool, true, false, List, [], ◌∷◌, ◌++◌, length, Option, Some, None, IfSome, IsSome}
+use Rattle.std.specs.Prelude.{◌≡◌, ◌⊎◌, ◌<◌, ◌≤◌, ℕ, true, false, List, [], ◌++◌, length, Option, Some, None, IfSome, IsSome}
 use Rattle.elf32_read.specs.declared.fault.ElfFault.{ElfFault}
 use Rattle.elf32_read.specs.Program.{Program}
 use Rattle.elf32_read.specs.Reading.{IsImage}

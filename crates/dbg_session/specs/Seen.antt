@@ -1,5 +1,5 @@
 -- What a session is seen as.
-use Rattle.std.specs.Prelude.{◌≡◌, ◌<◌, ◌||◌, ◌&&◌, not, ℕ, Bool, true, false, length, Option, None, Some}
+use Rattle.std.specs.Prelude.{◌≡◌, ◌<◌, ◌||◌, ◌&&◌, not, ℕ, Bool, true, false, Option, None, Some}
 use Rattle.dbg_session.specs.Stage.{Stage, runs_at}
 use Rattle.dbg_session.specs.Ties.{Taken, session_work}
 use Rattle.dbg_session.specs.Taking.{has_line}

@@ -1,5 +1,5 @@
 -- A session's fields.
-use Rattle.std.specs.Prelude.{◌≤◌, length, drop}
+use Rattle.std.specs.Prelude.{drop}
 use Rattle.dbg_session.specs.declared.session.Session.TheInside.{Inside}
 use Rattle.dbg_session.specs.Ties.{Taken}
 use Rattle.dbg_session.specs.Seen.{Seen}

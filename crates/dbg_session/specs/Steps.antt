@@ -1,8 +1,8 @@
 -- What the steps of a session do to the world and to what is said.
-use Rattle.std.specs.Prelude.{◌≡◌, ◌<◌, ◌≤◌, ℕ, ◌+◌, ◌&&◌, Bool, true, false, List, [], ◌∷◌, ◌++◌, length, take, drop, Option}
+use Rattle.std.specs.Prelude.{◌≡◌, ◌<◌, ◌≤◌, ℕ, ◌+◌, ◌&&◌, Bool, true, false, List, [], ◌∷◌, ◌++◌, length}
 use Rattle.dbg_traits.specs.Told.{Told, more, with_ask}
 use Rattle.dbg_traits.specs.Causes.{Rose}
-use Rattle.dbg_session.specs.Puts.{with_text, PutsAll}
+use Rattle.dbg_session.specs.Puts.{PutsAll}
 use Rattle.mi_reports.specs.Said.{said}
 use Rattle.mi_input.specs.Lines.{IsNext}
 use Rattle.dbg_model.specs.Lawful.{may_go}

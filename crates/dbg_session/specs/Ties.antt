@@ -1,5 +1,5 @@
 -- What ties a session to its world.
-use Rattle.std.specs.Prelude.{◌≡◌, ◌⊎◌, ◌<◌, ◌≤◌, ℕ, ◌+◌, ◌-◌, ◌*◌, Bool, true, false, cond, List, [], ◌∷◌, ◌++◌, length, take, drop, Option, Some, None, IfSome, Ok, IsSome}
+use Rattle.std.specs.Prelude.{◌≡◌, ◌⊎◌, ◌<◌, ◌≤◌, ℕ, ◌+◌, ◌-◌, ◌*◌, Bool, true, false, cond, List, [], ◌++◌, length, Option, Some, None, IfSome}
 use Rattle.dbg_traits.specs.Told.{Told}
 use Rattle.elf32_read.specs.Reading.{IsImage}
 use Rattle.mi_input.specs.Lines.{lines}

@@ -1,5 +1,5 @@
 -- The words of the command line that this session serves, and the reading of the file.
-use Rattle.std.specs.Prelude.{◌≡◌, ◌⊎◌, ◌≤◌, ℕ, Bool, true, false, List, [], ◌∷◌, ◌++◌, length, Option, Some, None, IfSome, if◌then◌else◌, ◌&&◌, not, ◌==◌}
+use Rattle.std.specs.Prelude.{◌≡◌, ◌⊎◌, ◌≤◌, ℕ, Bool, true, List, [], ◌∷◌, length, Option, Some, None, IfSome, if◌then◌else◌, ◌&&◌, not, ◌==◌}
 use Rattle.dbg_traits.specs.declared.settings.Settings.{Settings}
 use Rattle.dbg_traits.specs.Told.{Told, more}
 use Rattle.dbg_traits.specs.Causes.{Rose}

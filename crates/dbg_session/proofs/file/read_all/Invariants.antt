@@ -1,5 +1,4 @@
-use Rattle.std.proofs.Common.{◌≡◌, ◌-◌, false, length}
-use Rattle.std.specs.Prelude.{Some, None}
+use Rattle.std.proofs.Common.{◌≡◌, ◌-◌, length}
 use Rattle.dbg_traits.specs.Told.{more}
 use Rattle.dbg_session.specs.Words.{named_of}
 use Rattle.dbg_session.specs.declared.file.TheConstants.{MOST_FILE}

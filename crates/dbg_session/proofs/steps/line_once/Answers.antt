@@ -1,4 +1,4 @@
-use Rattle.std.proofs.Common.{◌≡◌, ◌∙◌, take}
+use Rattle.std.proofs.Common.{◌∙◌, take}
 use Rattle.std.specs.Prelude.{true, false}
 use Rattle.dbg_session.specs.Stage.{stage_of}
 use Rattle.mi_reports.specs.Text.{reply_text}

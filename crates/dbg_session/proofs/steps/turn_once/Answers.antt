@@ -1,4 +1,4 @@
-use Rattle.std.proofs.Common.{◌≡◌, ◌∙◌, refl}
+use Rattle.std.proofs.Common.{◌∙◌, refl}
 use Rattle.std.specs.Prelude.{true, false}
 use Rattle.dbg_session.specs.Stage.{stage_of}
 use Rattle.dbg_session.specs.Turned.{turned_text}

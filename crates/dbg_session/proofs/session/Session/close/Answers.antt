@@ -1,4 +1,4 @@
-use Rattle.std.proofs.Common.{◌≡◌, subst}
+use Rattle.std.proofs.Common.{subst}
 use Rattle.dbg_session.specs.Left.{IsLeft}
 use Rattle.dbg_session.specs.Seen.{Seen}
 use Rattle.dbg_session.proofs.Picking.{left}

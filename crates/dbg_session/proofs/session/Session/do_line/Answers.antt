@@ -1,9 +1,8 @@
-use Rattle.std.proofs.Common.{◌≡◌, ◌+◌, ◌-◌, ◌≤◌, take, drop, length-drop, length, None, refl, sym, ap, ◌∙◌, arith, rules}
-use Rattle.dbg_session.specs.Ties.{IsTied, IsCounted}
-use Rattle.dbg_session.specs.Steps.{DoesLine}
+use Rattle.std.proofs.Common.{◌≡◌, ◌+◌, ◌-◌, take, drop, length-drop, length, None, ap, ◌∙◌, arith}
+use Rattle.dbg_session.specs.Ties.{IsTied}
 use Rattle.dbg_session.specs.Seen.{Seen}
 use Rattle.dbg_session.specs.Stage.{stage_of}
-use Rattle.dbg_session.specs.SessionInside.{taken_of, seen_of}
+use Rattle.dbg_session.specs.SessionInside.{taken_of}
 use Rattle.std.proofs.lemmas.List.{drop-drop}
 use Rattle.dbg_session.proofs.Tying.{line_unput, line_unsaid, slice_from}
 use Rattle.dbg_session.proofs.session.Session.do_line.Goals as goal

@@ -1,8 +1,8 @@
-use Rattle.std.proofs.Common.{◌≡◌, ◌+◌, ◌<◌, ◌≤◌, true, length, subst, None, refl, sym, ap, ◌∙◌, arith, rules}
-use Rattle.dbg_session.specs.Ties.{IsTied, IsCounted}
+use Rattle.std.proofs.Common.{◌≡◌, ◌≤◌, true, length, subst, None, refl, ap, ◌∙◌, arith}
+use Rattle.dbg_session.specs.Ties.{IsTied}
 use Rattle.dbg_session.specs.Seen.{Seen, Same, no_turn}
 use Rattle.dbg_session.specs.Stage.{stage_of}
-use Rattle.dbg_session.specs.SessionInside.{taken_of, seen_of}
+use Rattle.dbg_session.specs.SessionInside.{taken_of}
 use Rattle.dbg_session.proofs.Picking.{out_of_range}
 use Rattle.dbg_session.proofs.Tying.{turn_unput, turn_unsaid}
 use Rattle.dbg_session.proofs.session.Session.move_hart.Goals as goal

@@ -1,5 +1,4 @@
-use Rattle.std.proofs.Common.{◌≡◌, List, ℕ, arith, subst}
-use Rattle.mi_reports.specs.Text.{opening_text}
+use Rattle.std.proofs.Common.{List, ℕ, arith, subst}
 use Rattle.dbg_session.specs.Puts.{PutsAll}
 use Rattle.dbg_session.specs.Stage.{stage_of}
 use Rattle.dbg_session.proofs.Tying.{tied_open, counted_open}

@@ -1,11 +1,10 @@
-use Rattle.std.proofs.Common.{◌≡◌, ◌-◌, Bool, true, false, drop, take, length, refl, sym, subst}
+use Rattle.std.proofs.Common.{◌≡◌, ◌-◌, true, drop, take, length, refl, sym, subst}
 use Rattle.dbg_model.specs.State.{any_runs}
 use Rattle.dbg_model.specs.Lawful.{may_go}
 use Rattle.dbg_engine.specs.Seen.{seen}
 use Rattle.dbg_engine.proofs.Seeing.{may_go_by}
 use Rattle.dbg_session.specs.Taking.{has_line}
 use Rattle.dbg_session.specs.Seen.{Seen, Same, is_open}
-use Rattle.dbg_session.specs.SessionInside.{seen_of}
 use Rattle.dbg_session.proofs.Picking.{open_polled, open_running, open_line, stands_if}
 use Rattle.dbg_session.proofs.Tying.{slice_from}
 use Rattle.dbg_session.proofs.session.Session.settle.Goals as goal

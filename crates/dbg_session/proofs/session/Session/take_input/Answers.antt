@@ -1,12 +1,10 @@
-use Rattle.std.proofs.Common.{◌≡◌, ◌++◌, ◌-◌, subst, take, Bool, true, false, not, length, drop, None, refl, sym, ap, ◌∙◌, arith, rules}
-use Rattle.std.specs.Prelude.{Option}
-use Rattle.dbg_session.specs.declared.status.Status.{Status}
-use Rattle.dbg_session.specs.Ties.{IsTied, IsCounted}
+use Rattle.std.proofs.Common.{◌≡◌, ◌-◌, subst, take, true, false, not, length, drop, None, refl, ap, ◌∙◌, rules}
+use Rattle.dbg_session.specs.Ties.{IsTied}
 use Rattle.dbg_model.specs.State.{any_runs}
 use Rattle.dbg_engine.specs.Seen.{seen}
 use Rattle.dbg_session.specs.Seen.{Seen, Same, no_input}
 use Rattle.dbg_session.specs.Stage.{stage_of}
-use Rattle.dbg_session.specs.SessionInside.{taken_of, seen_of}
+use Rattle.dbg_session.specs.SessionInside.{taken_of}
 use Rattle.dbg_session.proofs.Picking.{or_true, stands_if}
 use Rattle.dbg_session.proofs.Tying.{slice_from, tied_end}
 use Rattle.dbg_session.proofs.session.Session.take_input.Goals as goal
