@@ -11,9 +11,7 @@ use std::{env, io};
 use world::RealWorld;
 
 // The words of the command line, without the program's name. Where one isn't UTF-8 there are none, which is refused.
-fn words(
-    rt: &(impl env::Env + Alloc<A = std::alloc::Global>),
-) -> Result<Vec<ArgText>, NoMemory> {
+fn words(rt: &(impl env::Env + Alloc<A = std::alloc::Global>)) -> Result<Vec<ArgText>, NoMemory> {
     let mut words = Vec::new(rt.alloc());
     let mut args = match env::args(rt) {
         Ok(args) => args,
