@@ -1,6 +1,6 @@
-ghost use Rattle.std.specs.Prelude.{◌≡◌, ◌<◌, ◌≤◌, ◌-◌, ◌+◌, ◌^◌, [], length, slice_get, Some, None, replicate, IfOk, OnOk, OnErr, MatchResult, true};
+ghost use Rattle.std.specs.Prelude.{◌≡◌, ◌<◌, ◌≤◌, ◌-◌, ◌+◌, ◌^◌, [], length, slice_get, Some, None, replicate, IfOk, IfErr, OnOk, OnErr, MatchResult, Err, true};
 ghost use Rattle.dbg_traits.specs.Settings.{AreSettings};
-ghost use Rattle.data_memory.specs.Ranges.{bytes_at};
+ghost use Rattle.data_memory.specs.Ranges.{bytes_at, range_at};
 ghost use Rattle.dbg_model.specs.State.{first_state, any_runs, all_gone};
 ghost use Rattle.dbg_model.specs.Lawful.{may_go};
 ghost use Rattle.dbg_engine.specs.Minds.{first_mind, runs, has_gone, running_from, next_running, IsTurned, reply_by, resumed_by};
@@ -258,7 +258,8 @@ impl Engine {
 
     /// The bytes from an address on; the first address that can't be read where there is one, and then nothing changed.
     pub fn read_range(&self, addr: u32, into: &mut [u8]) -> Result<(), u32>
-        ensures { MatchResult result (λ _. bytes_at self.now.machine.memory addr (length into.old) ≡ Some into.new) (λ a. (bytes_at self.now.machine.memory addr (length into.old) ≡ None) × (into.new ≡ into.old)) }
+        ensures bytes { MatchResult result (λ _. bytes_at self.now.machine.memory addr (length into.old) ≡ Some into.new) (λ a. (bytes_at self.now.machine.memory addr (length into.old) ≡ None) × (into.new ≡ into.old)) }
+        ensures first { IfErr result (λ at. range_at self.now.machine.memory addr (length into.old) ≡ Err at) }
     {
         self.machine.read_range(addr, into)
     }

@@ -1,5 +1,5 @@
 -- The state of a session, as its journal makes it.
-use Rattle.std.specs.Prelude.{ℕ, zero, suc, Bool, true, false, List, [], ◌∷◌, ◌++◌, slice_set}
+use Rattle.std.specs.Prelude.{ℕ, zero, suc, Bool, true, false, List, [], ◌∷◌, ◌++◌}
 use Rattle.std.specs.List.{list_any, list_all}
 use Rattle.rv_exec.specs.Registers.{Registers}
 use Rattle.rv_exec.specs.Memory.{Memory}
@@ -72,9 +72,6 @@ hart_gone x = has_exited x.mode
 -- no hart is live
 abbrev pub all_gone : List Hart → Bool
 all_gone xs = list_all hart_gone xs
-
-abbrev pub with_hart : State → ℕ → Hart → State
-with_hart s h x = record s { harts = slice_set s.harts h x }
 
 -- the first n of so many harts, as a session begins with them
 abbrev pub first_harts : Program → ℕ → ℕ → List Hart

@@ -103,9 +103,3 @@ pub record IsReady (t : Told) (r : Stage) : Type 0 where
   pub written : IsEmpty t.written
   pub running : t.poll_ended ≡ false
   pub journal : r.journal ≡ []
-
--- what a step left as it was
-pub record Stays (r s : Stage) (i j : Taken) (a b : Option Status) : Type 0 where
-  pub run : s ≡ r
-  pub input : j ≡ i
-  pub status : b ≡ a

@@ -1,6 +1,6 @@
-ghost use Rattle.std.specs.Prelude.{◌≡◌, ◌<◌, ◌≤◌, ◌-◌, ◌^◌, ℕ, [], length, IfOk, MatchResult, Some, None, slice_get};
+ghost use Rattle.std.specs.Prelude.{◌≡◌, ◌<◌, ◌≤◌, ◌-◌, ◌^◌, ℕ, [], length, IfOk, IfErr, MatchResult, Err, Some, None, slice_get};
 ghost use Rattle.data_memory.specs.Start.{start_memory};
-ghost use Rattle.data_memory.specs.Ranges.{bytes_at};
+ghost use Rattle.data_memory.specs.Ranges.{bytes_at, range_at};
 ghost use Rattle.dbg_traits.specs.Settings.{AreSettings, AreHarts};
 ghost use Rattle.plain_machine.specs.Plain.{first_registers};
 ghost use Rattle.hart_machine.specs.Stepping.{Steps, IsByteCode, first_cores, loaded};
@@ -101,7 +101,8 @@ impl Machine {
 
     /// The bytes from an address on; the first address that can't be read where there is one, and then nothing changed.
     pub fn read_range(&self, addr: u32, into: &mut [u8]) -> Result<(), u32>
-        ensures { MatchResult result (λ _. bytes_at self.now.memory addr (length into.old) ≡ Some into.new) (λ a. (bytes_at self.now.memory addr (length into.old) ≡ None) × (into.new ≡ into.old)) }
+        ensures bytes { MatchResult result (λ _. bytes_at self.now.memory addr (length into.old) ≡ Some into.new) (λ a. (bytes_at self.now.memory addr (length into.old) ≡ None) × (into.new ≡ into.old)) }
+        ensures first { IfErr result (λ at. range_at self.now.memory addr (length into.old) ≡ Err at) }
     {
         self.memory.read_range(addr, into)
     }
