@@ -35,11 +35,11 @@ blank_cases b h = elim (cases_eq b 32) [ inl e ↦ inl e | inr n ↦ inr (eqb-tr
 no_operation_byte : (b : ℕ) → is_blank b ≡ true → is_operation_byte b ≡ false
 no_operation_byte b h = elim (blank_cases b h) [ inl e ↦ rw e refl | inr e ↦ rw e refl ]
 
-parted_ends : (rest : List ℕ) → is_parted rest ≡ true → Stops is_operation_byte rest
+pub parted_ends : (rest : List ℕ) → is_parted rest ≡ true → Stops is_operation_byte rest
 unfolding Stops
 parted_ends rest h = λ b x e. no_operation_byte b (sym (ap is_parted e) ∙ h)
 
-operation_bytes : (op : List ℕ) → is_operation op ≡ true → list_all is_operation_byte op ≡ true
+pub operation_bytes : (op : List ℕ) → is_operation op ≡ true → list_all is_operation_byte op ≡ true
 operation_bytes [] h = absurd cc
 operation_bytes (b ∷ bs) h = h
 
@@ -186,7 +186,7 @@ cli_false (b ∷ bs) x e h =
     let p = both (not (eqb b 34)) (not (begins 45 (behind_token (b ∷ bs)))) h in
     let q : not (begins 45 (behind_token (b ∷ bs))) ≡ false = ap (λ (l : List ℕ). not (begins 45 l)) e in absurd cc
 
-cli_no_parts : (o : Option (List ℕ)) (bytes t : List ℕ) (ws : List WordView) → is_cli (after_blanks bytes) ≡ true → HasOperation bytes t o ws → ⊥
+pub cli_no_parts : (o : Option (List ℕ)) (bytes t : List ℕ) (ws : List WordView) → is_cli (after_blanks bytes) ≡ true → HasOperation bytes t o ws → ⊥
 cli_no_parts None bytes t ws h g = let f : is_cli (after_blanks bytes) ≡ false = ap is_cli g.blank in absurd cc
 cli_no_parts (Some o) bytes t ws h g = cli_false (after_blanks bytes) (o ++ g.rest) g.behind h
 

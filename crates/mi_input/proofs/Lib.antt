@@ -2,3 +2,4 @@ pub mod Options
 pub mod LineSplits
 pub mod Words
 pub mod Commands
+pub mod Reading

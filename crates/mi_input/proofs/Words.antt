@@ -59,7 +59,7 @@ symbol_shorter (c ∷ cs) more b e =
     if_shorter (eqb c 34) None _ (length (c ∷ cs)) b more e (none_shorter b (length (c ∷ cs)) more)
     (λ e. if_shorter (eqb c 92) (escape_at cs) (symbol c cs) (length (c ∷ cs)) b more e (escape_shorter b (length (c ∷ cs)) cs more (omega arith)) (at_front c b (length (c ∷ cs)) cs more (omega arith)))
 
-quote_spells_none : (rest : List ℕ) → symbol_at (34 ∷ rest) ≡ None
+pub quote_spells_none : (rest : List ℕ) → symbol_at (34 ∷ rest) ≡ None
 unfolding symbol_at
 quote_spells_none rest = refl
 

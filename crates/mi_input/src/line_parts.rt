@@ -4,6 +4,7 @@ ghost use Rattle.std.specs.Prelude.{◌≡◌, ◌≤◌, length, take_while, tr
 ghost use Rattle.mi_values.specs.Token.{is_digit, is_token};
 ghost use Rattle.mi_input.specs.Parts.{PartsView, HasParts, is_operation_byte, token_of, behind_token};
 ghost use Rattle.mi_input.specs.Split.{Splits, GivesParts, ReadsCommand};
+ghost use Rattle.mi_input.specs.Reading.{Reads};
 
 use crate::parts::{InputFault, Parts, Word};
 use crate::word::{after, after_blanks, is_parted, words};
@@ -100,6 +101,9 @@ pub fn split(alloc: Global, line: &[u8]) -> Result<Parts, InputFault>
 
     // A line has one list of parts.
     ensures only { (p : PartsView) → length line.now ≤ 4096 → HasParts line.now p → GivesParts p result }
+
+    // The parts as a function of the line.
+    ensures read { Reads line.now result }
 {
     split_line(alloc, line)
 }
