@@ -3,3 +3,4 @@ pub mod Seen
 pub mod Facts
 pub mod Calls
 pub mod EngineInside
+pub mod Answering

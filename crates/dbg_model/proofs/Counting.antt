@@ -14,8 +14,8 @@ use Rattle.dbg_model.specs.declared.entry.Entry.{Entry}
 use Rattle.dbg_model.specs.declared.entry.Entry.TheVariants.{Ran, Stopped, Left, Did}
 use Rattle.dbg_model.specs.declared.opening.Opening.{Opening}
 use Rattle.dbg_model.specs.State.{Hart, State}
-use Rattle.dbg_model.specs.Reply.{done_by, harts_after, reply_of}
-use Rattle.dbg_model.specs.Lawful.{enter, one, one_by, ran, may_run, may_go, stepped_by, stepped, with_leavers, with_stop, faulted_by, stopped_by, left_by, leaver_from, exited_at}
+use Rattle.dbg_model.specs.Reply.{done_by, resumed_threads, going_on, selected_after, reply_of}
+use Rattle.dbg_model.specs.Lawful.{enter, one, one_by, ran, may_run, may_do, stepped_by, stepped, with_leavers, with_stop, faulted_by, stopped_by, left_by, leaver_from, exited_at}
 use Rattle.dbg_model.specs.Journals.{Place, come, follows, ran_hart, replay_from, replay, first_place, Leaves, lengthened, one_more_by, count_of, last_count, noted, noted_one}
 use Rattle.dbg_model.specs.Erase.{erase, erase_one, steps_of}
 use Rattle.dbg_model.proofs.Options.{map_some, bind_some, guard_some, same_some}
@@ -79,8 +79,9 @@ enter_adds o s (Ran h n) t is =
 enter_adds o s (Stopped h why) t is = stop_adds o s t h why (slice_get s.harts h) is
 enter_adds o s (Left h code) t is = left_adds s t h code (leaver_from 0 s.harts) is
 enter_adds o s (Did line) t is =
-    let u : State = record s { harts = harts_after s.harts (reply_of s line); noted = s.noted + 1 } in
-    is_more s t u 0 1 (same_some u t (guard_some (may_go o s) (Some u) t is).1) (record { retired = omega arith; noted = refl })
+    let c = (reply_of o s line).content in
+    let u : State = record s { harts = resumed_threads s.harts (going_on c); selected = selected_after s.selected c; noted = s.noted + 1 } in
+    is_more s t u 0 1 (same_some u t (guard_some (may_do o s line) (Some u) t is).1) (record { retired = omega arith; noted = refl })
 
 pub length-both : {A : Type 0} (xs ys : List A) → length (xs ++ ys) ≡ length xs + length ys
 length-both [] ys = omega arith

@@ -17,12 +17,10 @@ use Rattle.dbg_model.specs.declared.entry.Why.{Why}
 use Rattle.dbg_model.specs.declared.entry.Why.TheVariants.{Fault}
 use Rattle.dbg_model.specs.declared.entry.Entry.{Entry}
 use Rattle.dbg_model.specs.declared.entry.Entry.TheVariants.{Ran, Stopped, Left, Did}
-use Rattle.dbg_model.specs.declared.command.Command.{Command}
-use Rattle.dbg_model.specs.declared.command.Command.TheVariants as command
 use Rattle.dbg_model.specs.declared.opening.Opening.{Opening}
 use Rattle.dbg_model.specs.State.{Hart, State, first_state, first_harts, is_running}
-use Rattle.dbg_model.specs.Reply.{done_by, harts_after, reply_of, reply_to, resume_at, resume_by, resumed, command_of}
-use Rattle.dbg_model.specs.Lawful.{enter, one, one_by, ran, may_run, may_go, stepped_by, stepped, leaving, leaving_at, with_leavers, with_stop, stopped, faulted_by, stopped_by, left_by, leaver_from, leaver_or, exited, exited_at}
+use Rattle.dbg_model.specs.Reply.{done_by, reply_of, resumed, resumed_by, resumed_at, resumed_thread, resumed_threads, going_on, selected_after}
+use Rattle.dbg_model.specs.Lawful.{enter, one, one_by, ran, may_run, may_do, stepped_by, stepped, leaving, leaving_at, with_leavers, with_stop, stopped, faulted_by, stopped_by, left_by, leaver_from, leaver_or, exited, exited_at}
 use Rattle.dbg_model.specs.Journals.{Place, come, follows, ran_hart, replay_from, replay, first_place, Leaves}
 use Rattle.dbg_model.specs.Erase.{erase, erase_one}
 use Rattle.dbg_model.proofs.Options.{map_some, bind_some, guard_some, bind_bind, bind_return, same_some, both_true}
@@ -190,32 +188,39 @@ left_plain s t h code (Some p) from is =
     let harts : exited_at s.harts h (slice_get s.harts h) ≡ slice_set s.harts h (exited l.hart) = ap (exited_at s.harts h) at in
     same_harts s (exited_at s.harts h (slice_get s.harts h)) (s.noted + 1) t (ap (map plain_hart) harts ∙ same_plain s.harts h l.hart (exited l.hart) at same) (same_some u t g.1)
 
-resume_plain : (xs : List Hart) (thread : ℕ) (x : Hart) (m : Mode) → slice_get xs (thread - 1) ≡ Some x → x.mode ≡ m → map plain_hart (harts_after xs (resume_by thread m)) ≡ map plain_hart xs
-resume_plain xs thread x mode.Stopped at is =
-    let same : plain_hart (resumed x) ≡ plain_hart x = ap (λ c. let y : PlainHart = record { regs = x.regs; has_exited = c } in y) (sym (ap is_gone is)) in
-    rw at (same_plain xs (thread - 1) x (resumed x) at same)
-resume_plain xs thread x mode.Running at is = refl
-resume_plain xs thread x (mode.Leaving code) at is = refl
-resume_plain xs thread x mode.Exited at is = refl
+resumed_plain : (x : Hart) (m : Mode) → x.mode ≡ m → plain_hart (resumed_by x m) ≡ plain_hart x
+resumed_plain x mode.Stopped is = ap (λ c. let y : PlainHart = record { regs = x.regs; has_exited = c } in y) (sym (ap is_gone is))
+resumed_plain x mode.Running is = refl
+resumed_plain x (mode.Leaving code) is = refl
+resumed_plain x mode.Exited is = refl
 
-resume_at_plain : (xs : List Hart) (thread : ℕ) (r : Option Hart) → slice_get xs (thread - 1) ≡ r → map plain_hart (harts_after xs (resume_at thread r)) ≡ map plain_hart xs
-resume_at_plain xs thread None at = refl
-resume_at_plain xs thread (Some x) at = resume_plain xs thread x x.mode at refl
+resumed_at_plain : (xs : List Hart) (h : ℕ) (r : Option Hart) → slice_get xs h ≡ r → map plain_hart (resumed_at xs h r) ≡ map plain_hart xs
+resumed_at_plain xs h None at = refl
+resumed_at_plain xs h (Some x) at = same_plain xs h x (resumed x) at (resumed_plain x x.mode refl)
 
-does_plain : (s : State) (c : Command) → map plain_hart (harts_after s.harts (reply_to s c)) ≡ map plain_hart s.harts
-does_plain s command.Continue = resume_at_plain s.harts s.selected (slice_get s.harts (s.selected - 1)) refl
-does_plain s command.NotBuilt = refl
+resumed_thread_plain : (xs : List Hart) (t : ℕ) → map plain_hart (resumed_thread xs t) ≡ map plain_hart xs
+resumed_thread_plain xs zero = refl
+resumed_thread_plain xs (suc h) = resumed_at_plain xs h (slice_get xs h) refl
 
-done_plain : (s : State) (line : List ℕ) (t : State) → done_by s line ≡ t → plain_of s ≡ plain_of t
-unfolding done_by reply_of
-done_plain s line t is = same_harts s (harts_after s.harts (reply_to s (command_of line))) (s.noted + 1) t (does_plain s (command_of line)) is
+-- threads that go on change nothing of the program
+resumed_threads_plain : (xs : List Hart) (ts : List ℕ) → map plain_hart (resumed_threads xs ts) ≡ map plain_hart xs
+resumed_threads_plain xs [] = refl
+resumed_threads_plain xs (t ∷ ts) = resumed_threads_plain (resumed_thread xs t) ts ∙ resumed_thread_plain xs t
+
+done_plain : (o : Opening) (s : State) (line : List ℕ) (t : State) → done_by o s line ≡ t → plain_of s ≡ plain_of t
+unfolding done_by
+done_plain o s line t is =
+    let c = (reply_of o s line).content in
+    let u : State = record s { harts = resumed_threads s.harts (going_on c); selected = selected_after s.selected c; noted = s.noted + 1 } in
+    let same : plain_of s ≡ plain_of u = ap (λ ys. let p : PlainState = record { harts = ys; memory = s.memory; out = s.out } in p) (sym (resumed_threads_plain s.harts (going_on c))) in
+    same ∙ ap plain_of is
 
 pub enter_plain : (o : Opening) (s : State) (e : Entry) (t : State) → enter o s e ≡ Some t → run_from o.image (plain_of s) (erase_one e) ≡ Some (plain_of t)
 unfolding enter
 enter_plain o s (Ran h n) t is = ran_plain o h s n t (guard_some (nat_lt 0 n) (ran o h s n) t is).1
 enter_plain o s (Stopped h why) t is = ap Some (stop_plain o s t h why (slice_get s.harts h) refl is)
 enter_plain o s (Left h code) t is = ap Some (left_plain s t h code (leaver_from 0 s.harts) refl is)
-enter_plain o s (Did line) t is = ap Some (done_plain s line t (same_some (done_by s line) t (guard_some (may_go o s) (Some (done_by s line)) t is).1))
+enter_plain o s (Did line) t is = ap Some (done_plain o s line t (same_some (done_by o s line) t (guard_some (may_do o s line) (Some (done_by o s line)) t is).1))
 
 -- the harts of a journal that goes from one place to another take the program along
 replay_plain : (o : Opening) (p q : Place) (j : List Entry) → replay_from o p j ≡ Some q → run_from o.image (plain_of p.state) (erase j) ≡ Some (plain_of q.state)

@@ -13,12 +13,16 @@ use Rattle.dbg_model.specs.declared.entry.Entry.{Entry}
 use Rattle.dbg_model.specs.declared.entry.Entry.TheVariants.{Ran, Stopped, Left, Did}
 use Rattle.dbg_model.specs.declared.limits.TheConstants.{HISTORY}
 use Rattle.dbg_model.specs.declared.opening.Opening.{Opening}
-use Rattle.dbg_model.specs.State.{Hart, State, is_running, has_exited, any_leaves}
-use Rattle.dbg_model.specs.Reply.{done_by}
+use Rattle.dbg_model.specs.State.{Hart, State, is_running, has_exited, any_runs, any_leaves}
+use Rattle.dbg_model.specs.Reply.{done_by, is_wait}
 
 -- no exit is still to be reported, and neither the budget nor the history is used up
 abbrev pub may_go : Opening → State → Bool
 may_go o s = not (any_leaves s.harts) && (nat_lt s.retired o.settings.budget && nat_lt s.noted HISTORY)
+
+-- a line may be done; one that waits only where no hart runs
+abbrev pub may_do : Opening → State → List ℕ → Bool
+may_do o s line = may_go o s && not (is_wait line && any_runs s.harts)
 
 -- a hart may execute
 abbrev pub may_run : Opening → State → Hart → Bool
@@ -102,7 +106,7 @@ unfoldable pub enter : Opening → State → Entry → Option State
 enter o s (Ran h n) = if nat_lt 0 n then ran o h s n else None
 enter o s (Stopped h why) = stopped_by o s h why (slice_get s.harts h)
 enter o s (Left h code) = left_by s h code (leaver_from 0 s.harts)
-enter o s (Did line) = if may_go o s then Some (done_by s line) else None
+enter o s (Did line) = if may_do o s line then Some (done_by o s line) else None
 
 -- the bytes that an instruction writes
 abbrev pub answer_out : Answer → List ℕ

@@ -1,6 +1,6 @@
 ghost use Rattle.std.specs.Prelude.{◌≡◌};
 
-use crate::ByteList;
+use mi_commands::ByteList;
 use rv_exec::Cause;
 use std::marker::Model;
 

@@ -1,4 +1,5 @@
 pub mod Bytes
 pub mod Text
+pub mod Replies
 pub mod Said
 pub mod Refusals

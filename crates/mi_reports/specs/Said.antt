@@ -9,7 +9,8 @@ use Rattle.dbg_model.specs.State.{Hart, State, all_gone}
 use Rattle.dbg_model.specs.Reply.{reply_of}
 use Rattle.dbg_model.specs.Lawful.{ran, one_out, exited_at}
 use Rattle.dbg_model.specs.Journals.{Place, come, first_place}
-use Rattle.mi_reports.specs.Text.{opening_text, stop_text, gone_text, exit_text, stream_text, reply_text}
+use Rattle.mi_reports.specs.Text.{opening_text, stop_text, gone_text, exit_text, stream_text}
+use Rattle.mi_reports.specs.Replies.{reply_text}
 
 abbrev pub wrote_text : Opening → ℕ → Option State → List ℕ
 wrote_text o h None = []
@@ -29,7 +30,7 @@ abbrev pub entry_text : Opening → State → Entry → List ℕ
 entry_text o s (Ran h n) = ran_text o h s n
 entry_text o s (Stopped h (Fault cause)) = stop_text cause h (hart_pc (slice_get s.harts h))
 entry_text o s (Left h code) = gone_text h ++ (if all_gone (exited_at s.harts h (slice_get s.harts h)) then exit_text code else [])
-entry_text o s (Did line) = reply_text (reply_of s line)
+entry_text o s (Did line) = reply_text (reply_of o s line)
 
 -- the lines of entries that come at a place
 abbrev pub said_from : Opening → Place → List Entry → List ℕ

@@ -2,12 +2,10 @@
 use Rattle.std.specs.Prelude.{ℕ, zero, suc, ◌+◌, ◌==◌, Bool, List, [], ◌∷◌, ◌++◌, if◌then◌else◌, decimal}
 use Rattle.rv_exec.specs.declared.effect.Cause.{Cause}
 use Rattle.rv_exec.specs.declared.effect.Cause.TheVariants.{FetchAlign, LoadFault, StoreFault, LoadAlign, StoreAlign, Break, Illegal, FetchFault}
-use Rattle.dbg_model.specs.declared.command.Reply.{Reply}
-use Rattle.dbg_model.specs.declared.command.Reply.TheVariants as reply
 use Rattle.dbg_model.specs.declared.entry.Entry.{Entry}
 use Rattle.dbg_model.specs.declared.entry.Entry.TheVariants.{Ran, Stopped, Left, Did}
 use Rattle.mi_reports.specs.Bytes.{hex8, octal, c_string}
-use Rattle.mi_reports.specs.declared.texts.TheConstants.{CREATED_HEAD, EXITED_HEAD, GROUP_TAIL, PROMPT, RUNNING_HEAD, RUNNING_TAIL, NOT_BUILT, THREAD_HEAD, HAS_EXITED_TAIL, IS_RUNNING_TAIL, SIGNAL_HEAD, SEGMENTATION_FAULT, BUS_ERROR, ILLEGAL_INSTRUCTION, TRAP, FRAME_HEAD, FRAME_TAIL, STOPPED_HEAD, STOPPED_TAIL, EXITED_NORMALLY, EXIT_CODE_HEAD, LINE_TAIL, STREAM_HEAD}
+use Rattle.mi_reports.specs.declared.texts.TheConstants.{CREATED_HEAD, EXITED_HEAD, GROUP_TAIL, PROMPT, SIGNAL_HEAD, SEGMENTATION_FAULT, BUS_ERROR, ILLEGAL_INSTRUCTION, TRAP, FRAME_HEAD, FRAME_TAIL, STOPPED_HEAD, STOPPED_TAIL, EXITED_NORMALLY, EXIT_CODE_HEAD, LINE_TAIL, STREAM_HEAD}
 
 -- a line for each of the first n threads
 abbrev pub created : ℕ → List ℕ
@@ -46,13 +44,6 @@ exit_text code = if code == 0 then EXITED_NORMALLY.now else EXIT_CODE_HEAD.now +
 unfoldable pub stream_text : List ℕ → List ℕ
 stream_text [] = []
 stream_text (b ∷ bs) = STREAM_HEAD.now ++ c_string (b ∷ bs) ++ LINE_TAIL.now
-
--- the lines of a reply
-unfoldable pub reply_text : Reply → List ℕ
-reply_text (reply.Resumed thread) = RUNNING_HEAD.now ++ decimal thread ++ RUNNING_TAIL.now
-reply_text reply.NotBuilt = NOT_BUILT.now
-reply_text (reply.HasExited thread) = THREAD_HEAD.now ++ decimal thread ++ HAS_EXITED_TAIL.now
-reply_text (reply.IsRunning thread) = THREAD_HEAD.now ++ decimal thread ++ IS_RUNNING_TAIL.now
 
 -- the lines of exits, without that of the program
 abbrev pub gone_texts : List Entry → List ℕ

@@ -3,8 +3,11 @@
 
 mod numbers;
 mod refusals;
+mod replies;
+mod reply_texts;
 mod report;
 mod texts;
 
 pub use refusals::{USAGE, bad_file};
-pub use report::{lefts_text, opening_text, reply_text, stop_text, stream_text};
+pub use replies::reply_text;
+pub use report::{lefts_text, opening_text, stop_text, stream_text};

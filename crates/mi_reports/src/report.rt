@@ -1,14 +1,15 @@
 // The lines of what entries show.
 ghost use Rattle.std.specs.Prelude.{◌≡◌, ◌+◌, ◌++◌, ◌<◌, decimal, IfOk, OnOk};
-ghost use Rattle.mi_reports.specs.Text.{created, opening_text, signal, stop_text, gone_text, gone_texts, exit_text, lefts_text, stream_text, reply_text};
+ghost use Rattle.mi_reports.specs.Text.{created, opening_text, signal, stop_text, gone_text, gone_texts, exit_text, lefts_text, stream_text};
 
 use crate::numbers::{hex8, push_c_string, push_decimal, push_octal};
 use crate::texts;
-use dbg_model::{Entry, Reply};
+use dbg_model::Entry;
 use rv_exec::Cause;
 use std::alloc::{AllocError, Global};
 
-fn push(into: &mut Vec<u8>, text: &str) -> Result<(), AllocError>
+/// Appends a text.
+pub fn push(into: &mut Vec<u8>, text: &str) -> Result<(), AllocError>
     ensures { OnOk result (into.new.items ≡ into.old.items ++ text.now) }
 {
     into.extend_from_slice(text.as_bytes())
@@ -137,32 +138,5 @@ pub fn stream_text(alloc: Global, bytes: &[u8]) -> Result<Vec<u8>, AllocError>
     push(&mut text, texts::STREAM_HEAD)?;
     push_c_string(&mut text, bytes)?;
     push(&mut text, texts::LINE_TAIL)?;
-    Ok(text)
-}
-
-/// The lines of a reply.
-#[tactic(auto, unfolding(crate::specs::Text::reply_text))]
-pub fn reply_text(alloc: Global, reply: Reply) -> Result<Vec<u8>, AllocError>
-    ensures { IfOk result (λ v. v.items ≡ reply_text reply) }
-{
-    let mut text = Vec::new(alloc);
-    match reply {
-        Reply::Resumed { thread } => {
-            push(&mut text, texts::RUNNING_HEAD)?;
-            push_decimal(&mut text, u64::from(thread))?;
-            push(&mut text, texts::RUNNING_TAIL)?;
-        }
-        Reply::NotBuilt => push(&mut text, texts::NOT_BUILT)?,
-        Reply::HasExited { thread } => {
-            push(&mut text, texts::THREAD_HEAD)?;
-            push_decimal(&mut text, u64::from(thread))?;
-            push(&mut text, texts::HAS_EXITED_TAIL)?;
-        }
-        Reply::IsRunning { thread } => {
-            push(&mut text, texts::THREAD_HEAD)?;
-            push_decimal(&mut text, u64::from(thread))?;
-            push(&mut text, texts::IS_RUNNING_TAIL)?;
-        }
-    }
     Ok(text)
 }

@@ -7,18 +7,6 @@ pub const GROUP_TAIL: &str = "\",group-id=\"i1\"\n";
 
 pub const PROMPT: &str = "(gdb)\n";
 
-pub const RUNNING_HEAD: &str = "^running\n*running,thread-id=\"";
-
-pub const RUNNING_TAIL: &str = "\"\n(gdb)\n";
-
-pub const NOT_BUILT: &str = "^error,msg=\"Not built yet\"\n(gdb)\n";
-
-pub const THREAD_HEAD: &str = "^error,msg=\"Thread ";
-
-pub const HAS_EXITED_TAIL: &str = " has exited\"\n(gdb)\n";
-
-pub const IS_RUNNING_TAIL: &str = " is running\"\n(gdb)\n";
-
 pub const SIGNAL_HEAD: &str = "*stopped,reason=\"signal-received\",signal-name=\"";
 
 pub const SEGMENTATION_FAULT: &str = "SIGSEGV\",signal-meaning=\"Segmentation fault";

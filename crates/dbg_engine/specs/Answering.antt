@@ -1,0 +1,42 @@
+-- What the parts of an answer give.
+use Rattle.std.specs.Prelude.{◌≡◌, ℕ, List, [], ◌∷◌, Option, Some, None, Result, Ok, Err}
+use Rattle.std.specs.Option.{option_map}
+use Rattle.std.specs.Borrow.{Bor}
+use Rattle.std.specs.Global.{Vec}
+use Rattle.hart_machine.specs.declared.hart.Core.{Core}
+use Rattle.dbg_model.specs.declared.reply.Content.{Content}
+use Rattle.dbg_model.specs.declared.reply.Obstacle.{Obstacle}
+use Rattle.dbg_model.specs.State.{Hart}
+use Rattle.dbg_model.specs.Reply.{of_stopped, of_live, hindered}
+use Rattle.dbg_engine.specs.declared.answering.ReadError.{ReadError}
+use Rattle.dbg_engine.specs.declared.answering.ReadError.TheVariants.{NoMemory, Unreadable}
+use Rattle.dbg_engine.specs.declared.mind.Mind.{Mind}
+use Rattle.dbg_engine.specs.Seen.{seen_hart}
+
+-- a hart and what is kept of it
+abbrev pub Pair : Type 0
+Pair = Bor Core × Mind
+
+abbrev pub hart_of : Pair → Hart
+hart_of p = seen_hart p.0.now p.1
+
+abbrev pub found_hart : Option Pair → Option Hart
+found_hart found = option_map hart_of found
+
+abbrev pub option_list : {A : Type 0} → Option A → List A
+option_list None = []
+option_list (Some x) = x ∷ []
+
+-- the thread is stopped, or this stands against it
+abbrev pub IsStopped : Result Pair Obstacle → ℕ → Option Hart → Type 0
+IsStopped (Ok p) thread found = (answer : Hart → Content) → of_stopped thread answer found ≡ answer (hart_of p)
+IsStopped (Err o) thread found = (answer : Hart → Content) → of_stopped thread answer found ≡ hindered o
+
+abbrev pub IsLive : Result Pair Obstacle → ℕ → Option Hart → Type 0
+IsLive (Ok p) thread found = (answer : Hart → Content) → of_live thread answer found ≡ answer (hart_of p)
+IsLive (Err o) thread found = (answer : Hart → Content) → of_live thread answer found ≡ hindered o
+
+abbrev pub Reads : Result (Vec ℕ) ReadError → Result (List ℕ) ℕ → Type 0
+Reads (Ok v) r = r ≡ Ok v.items
+Reads (Err (NoMemory e)) r = Unit {0}
+Reads (Err (Unreadable at)) r = r ≡ Err at

@@ -1,0 +1,148 @@
+// What is answered to a line.
+ghost use Rattle.std.specs.Prelude.{◌≡◌};
+
+use mi_commands::{ByteList, Fault, Format, NumberList};
+use mi_values::Token;
+use std::marker::Model;
+
+/// What a command finds that stands against it. Threads are counted from 1.
+#[derive(Clone, Copy, Debug, PartialEq, Eq)]
+pub enum Obstacle {
+    /// There is no such thread.
+    UnknownThread(u32),
+    /// The thread has exited.
+    HasExited(u32),
+    /// The thread runs, and has to be stopped.
+    IsRunning(u32),
+    /// The byte at this address can't be read.
+    Unreadable(u32),
+}
+
+/// Why a line is refused. A refused line changes nothing.
+#[derive(Debug, Drop)]
+pub enum Refused {
+    /// The line is longer than 4,096 bytes.
+    Long,
+    /// The line is malformed.
+    Syntax,
+    /// The line is no command of the machine interface.
+    Cli,
+    /// The command has this fault.
+    Faulty(Fault),
+    /// The state stands against the command.
+    Hindered(Obstacle),
+    /// The command isn't built yet.
+    NotBuilt,
+}
+
+/// A register and its value; 32 is pc.
+#[derive(Clone, Copy, Debug, PartialEq, Eq)]
+pub struct Register {
+    pub number: u32,
+    pub value: u32,
+}
+
+/// Registers that contracts see as a list.
+#[derive(Debug, Drop)]
+pub struct RegisterList {
+    registers: Vec<Register>,
+}
+
+impl Model for RegisterList {
+    ghost use Rattle.std.specs.Prelude.{List};
+    ghost use Rattle.dbg_model.specs.declared.reply.Register.{Register};
+
+    ghost Value = { List Register };
+
+    ghost view = { λ l. l.registers.items };
+}
+
+impl RegisterList {
+    /// The registers of a vector, which keeps its memory.
+    pub fn of(registers: Vec<Register>) -> RegisterList
+        ensures { result ≡ registers.items }
+    {
+        RegisterList { registers }
+    }
+
+    /// The registers in order.
+    pub fn as_slice(&self) -> &[Register]
+        ensures { result.now ≡ self.now }
+    {
+        self.registers.as_slice()
+    }
+}
+
+/// A live thread, and where it is stopped; none where it runs.
+#[derive(Clone, Copy, Debug, PartialEq, Eq)]
+pub struct Thread {
+    pub number: u32,
+    pub stopped_at: Option<u32>,
+}
+
+/// Threads that contracts see as a list.
+#[derive(Debug, Drop)]
+pub struct ThreadList {
+    threads: Vec<Thread>,
+}
+
+impl Model for ThreadList {
+    ghost use Rattle.std.specs.Prelude.{List};
+    ghost use Rattle.dbg_model.specs.declared.reply.Thread.{Thread};
+
+    ghost Value = { List Thread };
+
+    ghost view = { λ l. l.threads.items };
+}
+
+impl ThreadList {
+    /// The threads of a vector, which keeps its memory.
+    pub fn of(threads: Vec<Thread>) -> ThreadList
+        ensures { result ≡ threads.items }
+    {
+        ThreadList { threads }
+    }
+
+    /// The threads in order.
+    pub fn as_slice(&self) -> &[Thread]
+        ensures { result.now ≡ self.now }
+    {
+        self.threads.as_slice()
+    }
+}
+
+/// What is answered to a line, beside its token.
+#[derive(Debug, Drop)]
+pub enum Content {
+    /// A line of blanks.
+    Blank,
+    /// Done, with nothing to show.
+    Done,
+    /// These threads go on.
+    Running(NumberList),
+    /// This thread is selected.
+    Selected(u32),
+    /// The threads that were asked for, and the one that is selected.
+    Threads { threads: ThreadList, selected: u32 },
+    /// The live threads, and the one that is selected.
+    ThreadNumbers { numbers: NumberList, selected: u32 },
+    /// The names of all registers.
+    RegisterNames,
+    /// The registers that were asked for.
+    Registers {
+        format: Format,
+        registers: RegisterList,
+    },
+    /// The bytes from an address on.
+    Memory { address: u32, bytes: ByteList },
+    /// The line is refused.
+    Refused(Refused),
+}
+
+/// What is answered to a line.
+#[derive(Debug, Drop)]
+pub struct Reply {
+    /// The line's token; a line without parts has none, but for one that is no command of the machine interface.
+    pub token: Token,
+    pub content: Content,
+}

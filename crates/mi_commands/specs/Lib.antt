@@ -1,0 +1,9 @@
+pub mod Operations
+pub mod Words
+pub mod Steps
+pub mod Numbers
+pub mod Locations
+pub mod Settings
+pub mod Faults
+pub mod Commands
+pub mod Gives

@@ -1,0 +1,118 @@
+-- Numbers: decimal, or hexadecimal behind `0x`, below 2^32.
+use Rattle.std.specs.Prelude.{ℕ, ◌+◌, ◌-◌, ◌*◌, ◌^◌, List, [], ◌∷◌, Bool, true, false, ◌==◌, ◌&&◌, nat_le, nat_lt, Option, Some, None, is_none, unwrap_or, if◌then◌else◌}
+use Rattle.std.specs.Option.{option_and_then}
+use Rattle.mi_input.specs.Parts.{WordView}
+use Rattle.mi_commands.specs.declared.operation.Operation.{Operation}
+use Rattle.mi_commands.specs.declared.operation.Operation.TheVariants as op
+use Rattle.mi_commands.specs.declared.counts.OptionName.TheVariants as option
+use Rattle.mi_commands.specs.declared.number.Range.{Range}
+use Rattle.mi_commands.specs.declared.number.Range.TheVariants as range
+use Rattle.mi_commands.specs.Operations.{or_else, is_named}
+use Rattle.mi_commands.specs.Words.{Given, options, parameters}
+
+abbrev pub between : ℕ → ℕ → ℕ → Bool
+between low high n = nat_le low n && nat_le n high
+
+-- what a hexadecimal digit of either case counts, and 16 for other bytes
+abbrev pub digit_value : ℕ → ℕ
+digit_value b = if between 48 57 b then b - 48 else (if between 97 102 b then b - 87 else (if between 65 70 b then b - 55 else 16))
+
+-- the number `n` with these digits behind it, if they are digits and it stays below 2^32
+unfoldable pub value_from : ℕ → ℕ → List ℕ → Option ℕ
+value_from base n [] = Some n
+value_from base n (d ∷ digits) =
+    if nat_lt (digit_value d) base && nat_lt (base * n + digit_value d) (2 ^ 32)
+    then value_from base (base * n + digit_value d) digits else None
+
+-- one or more digits
+abbrev pub digits_number : ℕ → List ℕ → Option ℕ
+digits_number base [] = None
+digits_number base (d ∷ digits) = value_from base 0 (d ∷ digits)
+
+abbrev pub number_of : List ℕ → Option ℕ
+number_of [] = None
+number_of (a ∷ []) = digits_number 10 (a ∷ [])
+number_of (a ∷ x ∷ digits) = if (a == 48) && (x == 120) then digits_number 16 digits else digits_number 10 (a ∷ x ∷ digits)
+
+-- the least and the greatest number of a range
+abbrev pub least : Range → ℕ
+least range.Any = 0
+least range.Count = 0
+least range.Register = 0
+least range.Length = 1
+
+abbrev pub greatest : Range → ℕ
+greatest range.Any = 2 ^ 32 - 1
+greatest range.Count = 2 ^ 31 - 1
+greatest range.Register = 32
+greatest range.Length = 4096
+
+abbrev pub in_range : Range → ℕ → Bool
+in_range r n = between (least r) (greatest r) n
+
+-- no number of this range, where one is wanted
+abbrev pub is_bad : Option Range → List ℕ → Bool
+is_bad None word = false
+is_bad (Some r) word = is_none (option_and_then (λ n. if in_range r n then Some n else None) (number_of word))
+
+-- which options have a number as their value
+abbrev pub value_range : List ℕ → Option Range
+value_range word =
+    if is_named option.Ignore word then Some range.Count
+    else (if is_named option.InThread word then Some range.Any
+    else (if is_named option.Thread word then Some range.Any
+    else None))
+
+-- the range of the first parameter, or that of the others
+abbrev pub first_and_others : Option Range → Option Range → ℕ → Option Range
+first_and_others first others k = if k == 0 then first else others
+
+-- which parameters are numbers, by their places from 0
+abbrev pub range_at : Operation → ℕ → Option Range
+range_at op.BreakInsert k = None
+range_at op.BreakDelete k = Some range.Any
+range_at op.BreakEnable k = Some range.Any
+range_at op.BreakDisable k = Some range.Any
+range_at op.BreakCondition k = first_and_others (Some range.Any) None k
+range_at op.BreakAfter k = first_and_others (Some range.Any) (Some range.Count) k
+range_at op.BreakList k = None
+range_at op.Continue k = None
+range_at op.Interrupt k = None
+range_at op.Step k = None
+range_at op.Next k = None
+range_at op.StepInstruction k = None
+range_at op.NextInstruction k = None
+range_at op.Finish k = None
+range_at op.Wait k = None
+range_at op.ThreadInfo k = Some range.Any
+range_at op.ThreadSelect k = Some range.Any
+range_at op.ThreadList k = None
+range_at op.FrameList k = None
+range_at op.FrameDepth k = None
+range_at op.FrameInfo k = None
+range_at op.RegisterNames k = None
+range_at op.RegisterValues k = first_and_others None (Some range.Register) k
+range_at op.ReadMemory k = first_and_others (Some range.Any) (Some range.Length) k
+range_at op.Evaluate k = None
+range_at op.Set k = None
+range_at op.Show k = None
+range_at op.Exit k = None
+
+-- the first value of an option that should be a number and is none
+abbrev pub bad_value : List Given → Option (List ℕ)
+bad_value [] = None
+bad_value ((word, None) ∷ given) = bad_value given
+bad_value ((word, Some value) ∷ given) = if is_bad (value_range word) value then Some value else bad_value given
+
+-- the same of the parameters, the first of which has this place
+unfoldable pub bad_parameter : Operation → ℕ → List WordView → Option (List ℕ)
+bad_parameter o k [] = None
+bad_parameter o k (w ∷ ws) = if is_bad (range_at o k) w.0 then Some w.0 else bad_parameter o (k + 1) ws
+
+-- the leftmost word that should be a number and is none: the options stand before the parameters
+abbrev pub bad_number : Operation → List WordView → Option (List ℕ)
+bad_number o ws = or_else (bad_value (options ws)) (bad_parameter o 0 (parameters ws))
+
+-- the number of a word that is one
+abbrev pub number : List ℕ → ℕ
+number word = unwrap_or (number_of word) 0

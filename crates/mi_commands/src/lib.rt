@@ -1,0 +1,22 @@
+//! Commands of the machine interface: one line of input as a typed command, or why it is none.
+//!
+//! The commands are those of GDB's manual, chapter "The GDB/MI Interface"; `-exec-wait` is this project's own.
+#![tactic(auto)]
+
+mod answering;
+mod command;
+mod counts;
+mod lists;
+mod location;
+mod number;
+mod operation;
+mod options;
+mod refusal;
+
+
+pub use answering::command_of;
+pub use command::{Command, CommandLine, Displaced, Format, Insertion, Location, Setting, Target};
+pub use lists::{ByteList, NumberList};
+pub use refusal::{Fault, Refusal};
+
+

@@ -1,0 +1,33 @@
+//! x
+/// What a line asks for, by the operation's name.
+#[derive(Clone, Copy, Debug, PartialEq, Eq)]
+pub enum Operation {
+    BreakInsert,
+    BreakDelete,
+    BreakEnable,
+    BreakDisable,
+    BreakCondition,
+    BreakAfter,
+    BreakList,
+    Continue,
+    Interrupt,
+    Step,
+    Next,
+    StepInstruction,
+    NextInstruction,
+    Finish,
+    Wait,
+    ThreadInfo,
+    ThreadSelect,
+    ThreadList,
+    FrameList,
+    FrameDepth,
+    FrameInfo,
+    RegisterNames,
+    RegisterValues,
+    ReadMemory,
+    Evaluate,
+    Set,
+    Show,
+    Exit,
+}

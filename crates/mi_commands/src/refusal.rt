@@ -1,0 +1,75 @@
+//! Why a line is no command.
+
+ghost use Rattle.std.specs.Prelude.{◌≡◌};
+ghost use Rattle.mi_commands.specs.declared.refusal.Failure.TheVariants as failures;
+
+use crate::lists::ByteList;
+use mi_values::Token;
+use std::alloc::{AllocError, AllocFailed};
+use thiserror::Error;
+
+/// What is wrong with a line that has parts.
+#[derive(Debug, Drop, Error)]
+pub enum Fault {
+    /// There is no operation of this name.
+    #[error("undefined command")]
+    Undefined(ByteList),
+    /// An unknown option, one that stands twice, one without its value, `--all` beside `--thread`, or a wrong number
+    /// of words; with the operation's name.
+    #[error("wrong parameters")]
+    Parameters(ByteList),
+    /// The leftmost word that is no number, or one out of its range.
+    #[error("bad number")]
+    Number(ByteList),
+    /// Another setting or value, or another register format.
+    #[error("unsupported setting")]
+    Setting,
+    /// A word of no location form, and the thread of `-p`.
+    #[error("bad location")]
+    Location {
+        word: ByteList,
+        thread: Option<u32>,
+    },
+}
+
+/// Why a line is no command.
+#[derive(Debug, Drop, Error)]
+pub enum Refusal {
+    #[error("out of memory")]
+    NoMemory,
+    #[error("the line is longer than 4096 bytes")]
+    Long,
+    #[error("the line is malformed")]
+    Syntax,
+    /// A line that is no command of the machine interface, with its token.
+    #[error("the line is no command of the machine interface")]
+    Cli(Token),
+    /// A line that has parts, with its token: the least of its faults in the order of `Fault`.
+    #[error("the command is refused")]
+    Faulty { token: Token, fault: Fault },
+}
+
+// Why parts are no command.
+#[derive(Debug, Drop, Error)]
+pub enum Failure {
+    #[error("out of memory")]
+    NoMemory,
+    #[error("the command is refused")]
+    Faulty(Fault),
+}
+
+impl From<AllocError> for Failure {
+    ghost from_gives = { λ _ e. e ≡ failures.NoMemory };
+
+    fn from(_: AllocError) -> Failure {
+        Failure::NoMemory
+    }
+}
+
+impl<T: Drop> From<AllocFailed<T>> for Failure {
+    ghost from_gives = { λ _ e. e ≡ failures.NoMemory };
+
+    fn from(_: AllocFailed<T>) -> Failure {
+        Failure::NoMemory
+    }
+}

@@ -1,0 +1,114 @@
+-- The lines of a reply (GDB manual, "GDB/MI Result Records", "GDB/MI Thread Commands", "GDB/MI Data Manipulation").
+use Rattle.std.specs.Prelude.{ℕ, ◌+◌, ◌-◌, ◌%◌, ◌^◌, List, [], ◌∷◌, ◌++◌, length, Option, Some, None, if◌then◌else◌, nat_lt, decimal}
+use Rattle.mi_commands.specs.declared.command.Format.{Format}
+use Rattle.mi_commands.specs.declared.command.Format.TheVariants.{Hexadecimal, Decimal}
+use Rattle.mi_commands.specs.declared.refusal.Fault.{Fault}
+use Rattle.mi_commands.specs.declared.refusal.Fault.TheVariants as fault
+use Rattle.dbg_model.specs.declared.reply.Obstacle.{Obstacle}
+use Rattle.dbg_model.specs.declared.reply.Obstacle.TheVariants.{UnknownThread, HasExited, IsRunning, Unreadable}
+use Rattle.dbg_model.specs.declared.reply.Refused.{Refused}
+use Rattle.dbg_model.specs.declared.reply.Refused.TheVariants as refused
+use Rattle.dbg_model.specs.declared.reply.Register.{Register}
+use Rattle.dbg_model.specs.declared.reply.Thread.{Thread}
+use Rattle.dbg_model.specs.declared.reply.Content.{Content}
+use Rattle.dbg_model.specs.declared.reply.Content.TheVariants as content
+use Rattle.dbg_model.specs.declared.reply.Reply.{Reply}
+use Rattle.hex.specs.Hex.{encode_lower}
+use Rattle.mi_reports.specs.Bytes.{hex8, c_string}
+use Rattle.mi_reports.specs.declared.reply_texts.TheConstants as text
+use Rattle.mi_reports.specs.declared.texts.TheConstants.{PROMPT}
+
+-- each behind a comma
+abbrev pub behind_commas : {A : Type 0} → (A → List ℕ) → List A → List ℕ
+behind_commas f [] = []
+behind_commas f (x ∷ xs) = 44 ∷ (f x ++ behind_commas f xs)
+
+-- with commas between
+abbrev pub joined : {A : Type 0} → (A → List ℕ) → List A → List ℕ
+joined f [] = []
+joined f (x ∷ xs) = f x ++ behind_commas f xs
+
+-- ---- threads
+
+abbrev pub running_lines : List ℕ → List ℕ
+running_lines [] = []
+running_lines (t ∷ ts) = text.RUNNING_HEAD.now ++ decimal t ++ text.LINE_END.now ++ running_lines ts
+
+abbrev pub place_text : Option ℕ → List ℕ
+place_text None = text.RUNNING_TAIL.now
+place_text (Some pc) = text.STOPPED_AT.now ++ hex8 pc ++ text.STOPPED_TAIL.now
+
+-- a thread, whose hart is counted from 0
+abbrev pub thread_text : Thread → List ℕ
+thread_text t = text.ID_HEAD.now ++ decimal t.number ++ text.TARGET_HEAD.now ++ decimal (t.number - 1) ++ place_text t.stopped_at
+
+abbrev pub number_text : ℕ → List ℕ
+number_text n = text.NUMBER_HEAD.now ++ decimal n ++ 34 ∷ []
+
+-- ---- registers and memory
+
+-- a word as a number by its sign
+abbrev pub signed_text : ℕ → List ℕ
+signed_text v = if nat_lt v (2 ^ 31) then decimal v else text.MINUS.now ++ decimal (2 ^ 32 - v)
+
+abbrev pub value_text : Format → ℕ → List ℕ
+value_text Hexadecimal v = text.HEXADECIMAL.now ++ hex8 v
+value_text Decimal v = signed_text v
+
+abbrev pub register_text : Format → Register → List ℕ
+register_text f r = text.REGISTER_HEAD.now ++ decimal r.number ++ text.VALUE_HEAD.now ++ value_text f r.value ++ text.FIELD_TAIL.now
+
+-- the bytes are two lower-case hexadecimal digits each
+abbrev pub memory_text : ℕ → List ℕ → List ℕ
+memory_text addr bytes =
+    text.MEMORY_HEAD.now ++ hex8 addr ++ text.MEMORY_END.now ++ hex8 ((addr + length bytes) % 2 ^ 32) ++ text.CONTENTS_HEAD.now ++ encode_lower bytes ++ text.MEMORY_TAIL.now
+
+-- ---- errors
+
+abbrev pub fault_message : Fault → List ℕ
+fault_message (fault.Undefined name) = text.UNDEFINED.now ++ name
+fault_message (fault.Parameters name) = text.PARAMETERS.now ++ name
+fault_message (fault.Number word) = text.NUMBER.now ++ word
+fault_message fault.Setting = text.SETTING.now
+fault_message (fault.Location word thread) = text.LOCATION.now ++ word
+
+abbrev pub obstacle_message : Obstacle → List ℕ
+obstacle_message (UnknownThread t) = text.UNKNOWN_THREAD.now ++ decimal t
+obstacle_message (HasExited t) = text.THREAD.now ++ decimal t ++ text.HAS_EXITED.now
+obstacle_message (IsRunning t) = text.THREAD.now ++ decimal t ++ text.IS_RUNNING.now
+obstacle_message (Unreadable addr) = text.UNREADABLE.now ++ hex8 addr
+
+-- the text of an error, before its bytes are written as a C string
+abbrev pub message : Refused → List ℕ
+message refused.Long = text.LONG.now
+message refused.Syntax = text.SYNTAX.now
+message refused.Cli = text.CLI.now
+message (refused.Faulty f) = fault_message f
+message (refused.Hindered o) = obstacle_message o
+message refused.NotBuilt = text.NOT_BUILT.now
+
+-- what stands behind the text of an error
+abbrev pub error_tail : Refused → List ℕ
+error_tail (refused.Faulty (fault.Undefined name)) = text.UNDEFINED_TAIL.now
+error_tail r = text.QUOTED_END.now
+
+-- ---- the reply
+
+-- behind the token
+abbrev pub content_text : Content → List ℕ
+content_text content.Blank = PROMPT.now
+content_text content.Done = text.DONE.now ++ text.END.now
+content_text (content.Running threads) = text.DONE_RUNNING.now ++ running_lines threads ++ PROMPT.now
+content_text (content.Selected thread) = text.SELECTED_HEAD.now ++ decimal thread ++ text.QUOTED_END.now
+content_text (content.Threads threads selected) =
+    text.THREADS_HEAD.now ++ joined thread_text threads ++ text.THREADS_TAIL.now ++ decimal selected ++ text.QUOTED_END.now
+content_text (content.ThreadNumbers numbers selected) =
+    text.NUMBERS_HEAD.now ++ joined number_text numbers ++ text.NUMBERS_TAIL.now ++ decimal selected ++ text.COUNT_HEAD.now ++ decimal (length numbers) ++ text.QUOTED_END.now
+content_text content.RegisterNames = text.NAMES.now ++ text.END.now
+content_text (content.Registers format registers) = text.REGISTERS_HEAD.now ++ joined (register_text format) registers ++ text.LIST_END.now
+content_text (content.Memory addr bytes) = memory_text addr bytes
+content_text (content.Refused r) = text.ERROR_HEAD.now ++ c_string (message r) ++ error_tail r
+
+-- the lines of a reply
+unfoldable pub reply_text : Reply → List ℕ
+reply_text r = r.token ++ content_text r.content

@@ -1,0 +1,374 @@
+// The lines of replies.
+ghost use Rattle.std.specs.Prelude.{◌≡◌, ◌++◌, IfOk, OnOk, decimal};
+ghost use Rattle.mi_reports.specs.Replies.{behind_commas, joined, running_lines, place_text, thread_text, number_text, signed_text, value_text, register_text, memory_text, fault_message, obstacle_message, message, error_tail, content_text, reply_text};
+
+use crate::numbers::{hex8, push_c_string, push_decimal};
+use crate::reply_texts as text;
+use crate::report::push;
+use crate::texts::PROMPT;
+use dbg_model::{Content, Obstacle, Refused, Register, Reply, Thread};
+use mi_commands::{Fault, Format};
+use std::alloc::{AllocError, Global};
+
+fn push_word(into: &mut Vec<u8>, n: u32) -> Result<(), AllocError>
+    ensures { OnOk result (into.new.items ≡ into.old.items ++ decimal n) }
+{
+    push_decimal(into, u64::from(n))
+}
+
+fn push_hex8(into: &mut Vec<u8>, n: u32) -> Result<(), AllocError>
+    ensures { OnOk result (into.new.items ≡ into.old.items ++ hex8 n) }
+{
+    into.extend_from_slice(&hex8(n))
+}
+
+fn push_running(into: &mut Vec<u8>, threads: &[u32]) -> Result<(), AllocError>
+    ensures { OnOk result (into.new.items ≡ into.old.items ++ running_lines threads.now) }
+{
+    let [thread, rest @ ..] = threads else {
+        return Ok(());
+    };
+    push(into, text::RUNNING_HEAD)?;
+    push_word(into, *thread)?;
+    push(into, text::LINE_END)?;
+    push_running(into, rest)
+}
+
+fn push_place(into: &mut Vec<u8>, stopped_at: Option<u32>) -> Result<(), AllocError>
+    ensures { OnOk result (into.new.items ≡ into.old.items ++ place_text stopped_at) }
+{
+    match stopped_at {
+        None => push(into, text::RUNNING_TAIL),
+        Some(pc) => {
+            push(into, text::STOPPED_AT)?;
+            push_hex8(into, pc)?;
+            push(into, text::STOPPED_TAIL)
+        }
+    }
+}
+
+fn push_thread(into: &mut Vec<u8>, thread: Thread) -> Result<(), AllocError>
+    ensures { OnOk result (into.new.items ≡ into.old.items ++ thread_text thread) }
+{
+    push(into, text::ID_HEAD)?;
+    push_word(into, thread.number)?;
+    push(into, text::TARGET_HEAD)?;
+    push_word(into, thread.number.saturating_sub(1))?;
+    push_place(into, thread.stopped_at)
+}
+
+fn push_more_threads(into: &mut Vec<u8>, threads: &[Thread]) -> Result<(), AllocError>
+    ensures { OnOk result (into.new.items ≡ into.old.items ++ behind_commas thread_text threads.now) }
+{
+    let [thread, rest @ ..] = threads else {
+        return Ok(());
+    };
+    into.push(b',')?;
+    push_thread(into, *thread)?;
+    push_more_threads(into, rest)
+}
+
+fn push_threads(into: &mut Vec<u8>, threads: &[Thread]) -> Result<(), AllocError>
+    ensures { OnOk result (into.new.items ≡ into.old.items ++ joined thread_text threads.now) }
+{
+    let [thread, rest @ ..] = threads else {
+        return Ok(());
+    };
+    push_thread(into, *thread)?;
+    push_more_threads(into, rest)
+}
+
+fn push_number(into: &mut Vec<u8>, number: u32) -> Result<(), AllocError>
+    ensures { OnOk result (into.new.items ≡ into.old.items ++ number_text number) }
+{
+    push(into, text::NUMBER_HEAD)?;
+    push_word(into, number)?;
+    into.push(b'"')
+}
+
+fn push_more_numbers(into: &mut Vec<u8>, numbers: &[u32]) -> Result<(), AllocError>
+    ensures { OnOk result (into.new.items ≡ into.old.items ++ behind_commas number_text numbers.now) }
+{
+    let [number, rest @ ..] = numbers else {
+        return Ok(());
+    };
+    into.push(b',')?;
+    push_number(into, *number)?;
+    push_more_numbers(into, rest)
+}
+
+fn push_numbers(into: &mut Vec<u8>, numbers: &[u32]) -> Result<(), AllocError>
+    ensures { OnOk result (into.new.items ≡ into.old.items ++ joined number_text numbers.now) }
+{
+    let [number, rest @ ..] = numbers else {
+        return Ok(());
+    };
+    push_number(into, *number)?;
+    push_more_numbers(into, rest)
+}
+
+// A word as a number by its sign.
+fn push_signed(into: &mut Vec<u8>, value: u32) -> Result<(), AllocError>
+    ensures { OnOk result (into.new.items ≡ into.old.items ++ signed_text value) }
+{
+    if value < 0x8000_0000 {
+        return push_word(into, value);
+    }
+    push(into, text::MINUS)?;
+    push_decimal(into, 0x1_0000_0000 - u64::from(value))
+}
+
+fn push_value(into: &mut Vec<u8>, format: Format, value: u32) -> Result<(), AllocError>
+    ensures { OnOk result (into.new.items ≡ into.old.items ++ value_text format value) }
+{
+    match format {
+        Format::Hexadecimal => {
+            push(into, text::HEXADECIMAL)?;
+            push_hex8(into, value)
+        }
+        Format::Decimal => push_signed(into, value),
+    }
+}
+
+fn push_register(
+    into: &mut Vec<u8>,
+    format: Format,
+    register: Register,
+) -> Result<(), AllocError>
+    ensures { OnOk result (into.new.items ≡ into.old.items ++ register_text format register) }
+{
+    push(into, text::REGISTER_HEAD)?;
+    push_word(into, register.number)?;
+    push(into, text::VALUE_HEAD)?;
+    push_value(into, format, register.value)?;
+    push(into, text::FIELD_TAIL)
+}
+
+fn push_more_registers(
+    into: &mut Vec<u8>,
+    format: Format,
+    registers: &[Register],
+) -> Result<(), AllocError>
+    ensures { OnOk result (into.new.items ≡ into.old.items ++ behind_commas (register_text format) registers.now) }
+{
+    let [register, rest @ ..] = registers else {
+        return Ok(());
+    };
+    into.push(b',')?;
+    push_register(into, format, *register)?;
+    push_more_registers(into, format, rest)
+}
+
+fn push_registers(
+    into: &mut Vec<u8>,
+    format: Format,
+    registers: &[Register],
+) -> Result<(), AllocError>
+    ensures { OnOk result (into.new.items ≡ into.old.items ++ joined (register_text format) registers.now) }
+{
+    let [register, rest @ ..] = registers else {
+        return Ok(());
+    };
+    push_register(into, format, *register)?;
+    push_more_registers(into, format, rest)
+}
+
+fn push_memory(
+    alloc: Global,
+    into: &mut Vec<u8>,
+    address: u32,
+    bytes: &[u8],
+) -> Result<(), AllocError>
+    ensures { OnOk result (into.new.items ≡ into.old.items ++ memory_text address bytes.now) }
+{
+    push(into, text::MEMORY_HEAD)?;
+    push_hex8(into, address)?;
+    push(into, text::MEMORY_END)?;
+    push_hex8(into, address.wrapping_add(bytes.len() as u32))?;
+    push(into, text::CONTENTS_HEAD)?;
+    into.extend_from_slice(hex::encode(alloc, bytes)?.as_bytes())?;
+    push(into, text::MEMORY_TAIL)
+}
+
+fn push_fault(into: &mut Vec<u8>, fault: &Fault) -> Result<(), AllocError>
+    ensures { OnOk result (into.new.items ≡ into.old.items ++ fault_message fault.now) }
+{
+    match fault {
+        Fault::Undefined(name) => {
+            push(into, text::UNDEFINED)?;
+            into.extend_from_slice(name.as_slice())
+        }
+        Fault::Parameters(name) => {
+            push(into, text::PARAMETERS)?;
+            into.extend_from_slice(name.as_slice())
+        }
+        Fault::Number(word) => {
+            push(into, text::NUMBER)?;
+            into.extend_from_slice(word.as_slice())
+        }
+        Fault::Setting => push(into, text::SETTING),
+        Fault::Location { word, .. } => {
+            push(into, text::LOCATION)?;
+            into.extend_from_slice(word.as_slice())
+        }
+    }
+}
+
+fn push_obstacle(into: &mut Vec<u8>, obstacle: Obstacle) -> Result<(), AllocError>
+    ensures { OnOk result (into.new.items ≡ into.old.items ++ obstacle_message obstacle) }
+{
+    match obstacle {
+        Obstacle::UnknownThread(thread) => {
+            push(into, text::UNKNOWN_THREAD)?;
+            push_word(into, thread)
+        }
+        Obstacle::HasExited(thread) => {
+            push(into, text::THREAD)?;
+            push_word(into, thread)?;
+            push(into, text::HAS_EXITED)
+        }
+        Obstacle::IsRunning(thread) => {
+            push(into, text::THREAD)?;
+            push_word(into, thread)?;
+            push(into, text::IS_RUNNING)
+        }
+        Obstacle::Unreadable(address) => {
+            push(into, text::UNREADABLE)?;
+            push_hex8(into, address)
+        }
+    }
+}
+
+// The text of an error, before its bytes are written as a C string.
+fn push_message(into: &mut Vec<u8>, refused: &Refused) -> Result<(), AllocError>
+    ensures { OnOk result (into.new.items ≡ into.old.items ++ message refused.now) }
+{
+    match refused {
+        Refused::Long => push(into, text::LONG),
+        Refused::Syntax => push(into, text::SYNTAX),
+        Refused::Cli => push(into, text::CLI),
+        Refused::Faulty(fault) => push_fault(into, fault),
+        Refused::Hindered(obstacle) => push_obstacle(into, *obstacle),
+        Refused::NotBuilt => push(into, text::NOT_BUILT),
+    }
+}
+
+fn error_tail(refused: &Refused) -> &'static str
+    ensures { result.now ≡ error_tail refused.now }
+{
+    match refused {
+        Refused::Faulty(Fault::Undefined(_)) => text::UNDEFINED_TAIL,
+        _ => text::QUOTED_END,
+    }
+}
+
+fn push_error(
+    alloc: Global,
+    into: &mut Vec<u8>,
+    refused: &Refused,
+) -> Result<(), AllocError>
+    ensures { OnOk result (into.new.items ≡ into.old.items ++ content_text (Content.Refused refused.now)) }
+{
+    let mut message = Vec::new(alloc);
+    push_message(&mut message, refused)?;
+    push(into, text::ERROR_HEAD)?;
+    push_c_string(into, message.as_slice())?;
+    push(into, error_tail(refused))
+}
+
+fn push_thread_info(
+    into: &mut Vec<u8>,
+    threads: &[Thread],
+    selected: u32,
+) -> Result<(), AllocError>
+    ensures { OnOk result (into.new.items ≡ into.old.items ++ content_text (Content.Threads threads.now selected)) }
+{
+    push(into, text::THREADS_HEAD)?;
+    push_threads(into, threads)?;
+    push(into, text::THREADS_TAIL)?;
+    push_word(into, selected)?;
+    push(into, text::QUOTED_END)
+}
+
+fn push_thread_numbers(
+    into: &mut Vec<u8>,
+    numbers: &[u32],
+    selected: u32,
+) -> Result<(), AllocError>
+    ensures { OnOk result (into.new.items ≡ into.old.items ++ content_text (Content.ThreadNumbers numbers.now selected)) }
+{
+    push(into, text::NUMBERS_HEAD)?;
+    push_numbers(into, numbers)?;
+    push(into, text::NUMBERS_TAIL)?;
+    push_word(into, selected)?;
+    push(into, text::COUNT_HEAD)?;
+    push_decimal(into, numbers.len() as u64)?;
+    push(into, text::QUOTED_END)
+}
+
+fn push_going_on(into: &mut Vec<u8>, threads: &[u32]) -> Result<(), AllocError>
+    ensures { OnOk result (into.new.items ≡ into.old.items ++ content_text (Content.Running threads.now)) }
+{
+    push(into, text::DONE_RUNNING)?;
+    push_running(into, threads)?;
+    push(into, PROMPT)
+}
+
+fn push_selected(into: &mut Vec<u8>, thread: u32) -> Result<(), AllocError>
+    ensures { OnOk result (into.new.items ≡ into.old.items ++ content_text (Content.Selected thread)) }
+{
+    push(into, text::SELECTED_HEAD)?;
+    push_word(into, thread)?;
+    push(into, text::QUOTED_END)
+}
+
+fn push_register_values(
+    into: &mut Vec<u8>,
+    format: Format,
+    registers: &[Register],
+) -> Result<(), AllocError>
+    ensures { OnOk result (into.new.items ≡ into.old.items ++ content_text (Content.Registers format registers.now)) }
+{
+    push(into, text::REGISTERS_HEAD)?;
+    push_registers(into, format, registers)?;
+    push(into, text::LIST_END)
+}
+
+// What stands behind the token.
+fn push_content(
+    alloc: Global,
+    into: &mut Vec<u8>,
+    content: &Content,
+) -> Result<(), AllocError>
+    ensures { OnOk result (into.new.items ≡ into.old.items ++ content_text content.now) }
+{
+    match content {
+        Content::Blank => push(into, PROMPT),
+        Content::Done => {
+            push(into, text::DONE)?;
+            push(into, text::END)
+        }
+        Content::Running(threads) => push_going_on(into, threads.as_slice()),
+        Content::Selected(thread) => push_selected(into, *thread),
+        Content::Threads { threads, selected } => push_thread_info(into, threads.as_slice(), *selected),
+        Content::ThreadNumbers { numbers, selected } => push_thread_numbers(into, numbers.as_slice(), *selected),
+        Content::RegisterNames => {
+            push(into, text::NAMES)?;
+            push(into, text::END)
+        }
+        Content::Registers { format, registers } => push_register_values(into, *format, registers.as_slice()),
+        Content::Memory { address, bytes } => push_memory(alloc, into, *address, bytes.as_slice()),
+        Content::Refused(refused) => push_error(alloc, into, refused),
+    }
+}
+
+/// The lines of a reply.
+#[tactic(auto, unfolding(crate::specs::Replies::reply_text))]
+pub fn reply_text(alloc: Global, reply: &Reply) -> Result<Vec<u8>, AllocError>
+    ensures { IfOk result (λ v. v.items ≡ reply_text reply.now) }
+{
+    let mut lines = Vec::new(alloc);
+    lines.extend_from_slice(reply.token.as_bytes())?;
+    push_content(alloc, &mut lines, &reply.content)?;
+    Ok(lines)
+}

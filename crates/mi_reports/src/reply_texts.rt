@@ -1,0 +1,94 @@
+// The fixed parts of replies.
+pub const DONE: &str = "^done";
+
+pub const DONE_RUNNING: &str = "^running\n";
+
+pub const RUNNING_HEAD: &str = "*running,thread-id=\"";
+
+pub const LINE_END: &str = "\"\n";
+
+pub const END: &str = "\n(gdb)\n";
+
+pub const QUOTED_END: &str = "\"\n(gdb)\n";
+
+pub const SELECTED_HEAD: &str = "^done,new-thread-id=\"";
+
+pub const THREADS_HEAD: &str = "^done,threads=[";
+
+pub const THREADS_TAIL: &str = "],current-thread-id=\"";
+
+pub const ID_HEAD: &str = "{id=\"";
+
+pub const TARGET_HEAD: &str = "\",target-id=\"Hart ";
+
+pub const STOPPED_AT: &str = "\",frame={level=\"0\",addr=\"0x";
+
+pub const STOPPED_TAIL: &str = "\",args=[]},state=\"stopped\"}";
+
+pub const RUNNING_TAIL: &str = "\",state=\"running\"}";
+
+pub const NUMBERS_HEAD: &str = "^done,thread-ids={";
+
+pub const NUMBER_HEAD: &str = "thread-id=\"";
+
+pub const NUMBERS_TAIL: &str = "},current-thread-id=\"";
+
+pub const COUNT_HEAD: &str = "\",number-of-threads=\"";
+
+pub const NAMES: &str = "^done,register-names=[\"zero\",\"ra\",\"sp\",\"gp\",\"tp\",\"t0\",\"t1\",\"t2\",\"fp\",\"s1\",\"a0\",\"a1\",\"a2\",\"a3\",\"a4\",\"a5\",\"a6\",\"a7\",\"s2\",\"s3\",\"s4\",\"s5\",\"s6\",\"s7\",\"s8\",\"s9\",\"s10\",\"s11\",\"t3\",\"t4\",\"t5\",\"t6\",\"pc\"]";
+
+pub const REGISTERS_HEAD: &str = "^done,register-values=[";
+
+pub const REGISTER_HEAD: &str = "{number=\"";
+
+pub const VALUE_HEAD: &str = "\",value=\"";
+
+pub const FIELD_TAIL: &str = "\"}";
+
+pub const LIST_END: &str = "]\n(gdb)\n";
+
+pub const MEMORY_HEAD: &str = "^done,memory=[{begin=\"0x";
+
+pub const MEMORY_END: &str = "\",offset=\"0x00000000\",end=\"0x";
+
+pub const CONTENTS_HEAD: &str = "\",contents=\"";
+
+pub const MEMORY_TAIL: &str = "\"}]\n(gdb)\n";
+
+pub const ERROR_HEAD: &str = "^error,msg=\"";
+
+pub const UNDEFINED_TAIL: &str = "\",code=\"undefined-command\"\n(gdb)\n";
+
+pub const LONG: &str = "Line is longer than 4096 bytes";
+
+pub const SYNTAX: &str = "Malformed MI line";
+
+pub const CLI: &str = "Only MI commands are accepted";
+
+pub const UNDEFINED: &str = "Undefined MI command: ";
+
+pub const PARAMETERS: &str = "Wrong parameters for ";
+
+pub const NUMBER: &str = "Bad number: ";
+
+pub const SETTING: &str = "Unsupported setting";
+
+pub const LOCATION: &str = "Bad location: ";
+
+pub const UNKNOWN_THREAD: &str = "Unknown thread ";
+
+pub const THREAD: &str = "Thread ";
+
+pub const HAS_EXITED: &str = " has exited";
+
+pub const IS_RUNNING: &str = " is running";
+
+pub const UNREADABLE: &str = "Cannot access memory at address 0x";
+
+pub const NOT_BUILT: &str = "Not built yet";
+
+pub const COMMA: &str = ",";
+
+pub const HEXADECIMAL: &str = "0x";
+
+pub const MINUS: &str = "-";
