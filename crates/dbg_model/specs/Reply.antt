@@ -1,8 +1,8 @@
 -- What a line of input is answered, and what it changes (GDB manual, "GDB/MI Program Execution", "GDB/MI Thread Commands", "GDB/MI Data Manipulation").
-use Rattle.std.specs.Prelude.{ℕ, zero, suc, ◌+◌, ◌-◌, ◌%◌, ◌^◌, Bool, true, false, List, [], ◌∷◌, ◌++◌, length, map, Option, Some, None, Result, Ok, Err, if◌then◌else◌, nat_lt, slice_get, slice_set}
+use Rattle.std.specs.Prelude.{ℕ, zero, suc, ◌+◌, ◌-◌, ◌%◌, ◌^◌, Bool, true, false, not, List, [], ◌∷◌, ◌++◌, length, map, Option, Some, None, Result, Ok, Err, if◌then◌else◌, is_some, nat_lt, slice_get, slice_set}
 use Rattle.rv_exec.specs.Registers.{Registers, get}
 use Rattle.rv_exec.specs.Memory.{Memory}
-use Rattle.elf32_read.specs.Program.{Program, in_text, mapped}
+use Rattle.elf32_read.specs.Program.{Program, in_text, mapped, text_word}
 use Rattle.data_memory.specs.Ranges.{value_at}
 use Rattle.mi_input.specs.Parts.{PartsView, is_cli, after_blanks, token_of}
 use Rattle.mi_input.specs.Reading.{parts_read}
@@ -10,11 +10,17 @@ use Rattle.mi_commands.specs.Commands.{answer}
 use Rattle.mi_commands.specs.declared.command.Command.{Command}
 use Rattle.mi_commands.specs.declared.command.Command.TheVariants as command
 use Rattle.mi_commands.specs.declared.command.Format.{Format}
+use Rattle.mi_commands.specs.declared.command.Insertion.{Insertion}
+use Rattle.mi_commands.specs.declared.command.Location.{Location}
+use Rattle.mi_commands.specs.declared.command.Location.TheVariants as location
 use Rattle.mi_commands.specs.declared.command.Target.{Target}
 use Rattle.mi_commands.specs.declared.command.Target.TheVariants as target
 use Rattle.mi_commands.specs.declared.refusal.Fault.{Fault}
+use Rattle.mi_commands.specs.declared.refusal.Fault.TheVariants as fault
+use Rattle.dbg_model.specs.declared.breakpoint.Breakpoint.{Breakpoint}
+use Rattle.dbg_model.specs.declared.limits.TheConstants.{MOST_BREAKPOINTS}
 use Rattle.dbg_model.specs.declared.reply.Obstacle.{Obstacle}
-use Rattle.dbg_model.specs.declared.reply.Obstacle.TheVariants.{UnknownThread, HasExited, IsRunning, Unreadable}
+use Rattle.dbg_model.specs.declared.reply.Obstacle.TheVariants.{UnknownThread, HasExited, IsRunning, NoInstruction, TooManyBreakpoints, Unreadable}
 use Rattle.dbg_model.specs.declared.reply.Refused.TheVariants as refused
 use Rattle.dbg_model.specs.declared.reply.Register.{Register}
 use Rattle.dbg_model.specs.declared.reply.Thread.{Thread}
@@ -159,22 +165,59 @@ registers_at xs thread format numbers = of_stopped thread (registers_of format n
 abbrev pub not_built : Content
 not_built = content.Refused refused.NotBuilt
 
--- what is answered to a command over a program, its harts, their memory and the selected thread
-unfoldable pub content_of : Program → List Hart → Memory → ℕ → Command → Content
-content_of p xs m selected command.Blank = content.Blank
-content_of p xs m selected command.Wait = content.Done
-content_of p xs m selected (command.Continue t) = continued xs selected t
-content_of p xs m selected (command.ThreadInfo thread) = threads_of xs selected thread
-content_of p xs m selected (command.ThreadSelect thread) = of_live thread (selecting thread) (thread_hart xs thread)
-content_of p xs m selected command.ThreadList = content.ThreadNumbers (map thread_number (live_threads 1 xs)) selected
-content_of p xs m selected command.RegisterNames = content.RegisterNames
-content_of p xs m selected (command.RegisterValues thread format numbers) = registers_at xs (thread_or selected thread) format numbers
-content_of p xs m selected (command.ReadMemory addr count) = memory_of addr (shown_range p m addr count)
-content_of p xs m selected c = not_built
+-- ---- breakpoints
+
+-- whether a thread that is named is none
+abbrev pub unknown_thread : List Hart → Option ℕ → Option ℕ
+unknown_thread xs None = None
+unknown_thread xs (Some thread) = if is_some (thread_hart xs thread) then None else Some thread
+
+-- the breakpoint that is asked for at an address
+abbrev pub breakpoint_at : ℕ → ℕ → Insertion → Breakpoint
+breakpoint_at number addr i =
+    record { number = number; address = addr; location = i.text; temporary = i.temporary; enabled = not i.disabled; ignore = 0; thread = i.thread; times = 0 }
+
+-- a word of text has to be there, and room
+abbrev pub placed : Program → List Breakpoint → ℕ → ℕ → Insertion → Content
+placed p bs next addr i =
+    if is_some (text_word p addr)
+    then (if nat_lt (length bs) MOST_BREAKPOINTS then content.Inserted (breakpoint_at next addr i) else hindered TooManyBreakpoints)
+    else hindered (NoInstruction addr)
+
+abbrev pub for_thread : Option ℕ → Content → Content
+for_thread None c = c
+for_thread (Some thread) c = hindered (UnknownThread thread)
+
+-- conditions, counts of arrivals to pass over, and other locations than addresses aren't built yet
+abbrev pub inserted_at : Program → List Hart → List Breakpoint → ℕ → Insertion → Location → Option (List ℕ) → ℕ → Content
+inserted_at p xs bs next i (location.Address addr) None zero = for_thread (unknown_thread xs i.thread) (placed p bs next addr i)
+inserted_at p xs bs next i l condition ignore = not_built
+
+abbrev pub inserted_by : Program → List Hart → List Breakpoint → ℕ → Insertion → Content
+inserted_by p xs bs next i = inserted_at p xs bs next i i.location i.condition i.ignore
+
+-- what is answered to a command over a program, its harts, their memory, the breakpoints with the next number, and the selected thread
+unfoldable pub content_of : Program → List Hart → Memory → List Breakpoint → ℕ → ℕ → Command → Content
+content_of p xs m bs next selected command.Blank = content.Blank
+content_of p xs m bs next selected command.Wait = content.Done
+content_of p xs m bs next selected (command.BreakInsert i) = inserted_by p xs bs next i
+content_of p xs m bs next selected (command.Continue t) = continued xs selected t
+content_of p xs m bs next selected (command.ThreadInfo thread) = threads_of xs selected thread
+content_of p xs m bs next selected (command.ThreadSelect thread) = of_live thread (selecting thread) (thread_hart xs thread)
+content_of p xs m bs next selected command.ThreadList = content.ThreadNumbers (map thread_number (live_threads 1 xs)) selected
+content_of p xs m bs next selected command.RegisterNames = content.RegisterNames
+content_of p xs m bs next selected (command.RegisterValues thread format numbers) = registers_at xs (thread_or selected thread) format numbers
+content_of p xs m bs next selected (command.ReadMemory addr count) = memory_of addr (shown_range p m addr count)
+content_of p xs m bs next selected c = not_built
+
+-- an unknown thread comes before a bad location
+abbrev pub fault_content : List Hart → Fault → Content
+fault_content xs (fault.Location word thread) = for_thread (unknown_thread xs thread) (content.Refused (refused.Faulty (fault.Location word thread)))
+fault_content xs f = content.Refused (refused.Faulty f)
 
 abbrev pub asked_content : Opening → State → Result Command Fault → Content
-asked_content o s (Ok c) = content_of o.image s.harts s.memory s.selected c
-asked_content o s (Err f) = content.Refused (refused.Faulty f)
+asked_content o s (Ok c) = content_of o.image s.harts s.memory s.breaks s.next s.selected c
+asked_content o s (Err f) = fault_content s.harts f
 
 -- a line without parts
 abbrev pub no_parts : List ℕ → Reply
@@ -235,7 +278,22 @@ abbrev pub selected_after : ℕ → Content → ℕ
 selected_after thread (content.Selected t) = t
 selected_after thread c = thread
 
+-- the breakpoints after an answer, and the next number
+abbrev pub breaks_after : List Breakpoint → Content → List Breakpoint
+breaks_after bs (content.Inserted b) = bs ++ b ∷ []
+breaks_after bs c = bs
+
+abbrev pub next_after : ℕ → Content → ℕ
+next_after next (content.Inserted b) = next + 1
+next_after next c = next
+
 -- the state after a line
 unfoldable pub done_by : Opening → State → List ℕ → State
 done_by o s line = let c = (reply_of o s line).content in
-    record s { harts = resumed_threads s.harts (going_on c); selected = selected_after s.selected c; noted = s.noted + 1 }
+    record s {
+      harts = resumed_threads s.harts (going_on c);
+      breaks = breaks_after s.breaks c;
+      next = next_after s.next c;
+      selected = selected_after s.selected c;
+      noted = s.noted + 1;
+    }

@@ -1,12 +1,14 @@
 //! What a session is in the abstract: its journal, the state that the journal leaves, and what a line of input asks of it.
 #![tactic(auto)]
 
+mod breakpoint;
 mod entry;
 mod limits;
 mod opening;
 mod reply;
 
+pub use breakpoint::Breakpoint;
 pub use entry::{Entry, Journal, Mode, Why};
-pub use limits::{HISTORY, MOST_INPUT};
+pub use limits::{HISTORY, MOST_BREAKPOINTS, MOST_INPUT};
 pub use opening::Opening;
 pub use reply::{Content, Obstacle, Refused, Register, RegisterList, Reply, Thread, ThreadList};

@@ -1,6 +1,7 @@
 // What is answered to a line.
 ghost use Rattle.std.specs.Prelude.{◌≡◌};
 
+use crate::Breakpoint;
 use mi_commands::{ByteList, Fault, Format, NumberList};
 use mi_values::Token;
 use std::marker::Model;
@@ -14,6 +15,10 @@ pub enum Obstacle {
     HasExited(u32),
     /// The thread runs, and has to be stopped.
     IsRunning(u32),
+    /// No word of text is at this address.
+    NoInstruction(u32),
+    /// The most breakpoints stand already.
+    TooManyBreakpoints,
     /// The byte at this address can't be read.
     Unreadable(u32),
 }
@@ -118,6 +123,8 @@ pub enum Content {
     Blank,
     /// Done, with nothing to show.
     Done,
+    /// This breakpoint is set.
+    Inserted(Breakpoint),
     /// These threads go on.
     Running(NumberList),
     /// This thread is selected.
