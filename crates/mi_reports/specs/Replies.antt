@@ -1,11 +1,12 @@
 -- The lines of a reply (GDB manual, "GDB/MI Result Records", "GDB/MI Thread Commands", "GDB/MI Data Manipulation").
-use Rattle.std.specs.Prelude.{ℕ, ◌+◌, ◌-◌, ◌%◌, ◌^◌, List, [], ◌∷◌, ◌++◌, length, Option, Some, None, if◌then◌else◌, nat_lt, decimal}
+use Rattle.std.specs.Prelude.{ℕ, ◌+◌, ◌-◌, ◌%◌, ◌^◌, ◌==◌, Bool, true, false, List, [], ◌∷◌, ◌++◌, length, Option, Some, None, if◌then◌else◌, nat_lt, decimal}
 use Rattle.mi_commands.specs.declared.command.Format.{Format}
 use Rattle.mi_commands.specs.declared.command.Format.TheVariants.{Hexadecimal, Decimal}
 use Rattle.mi_commands.specs.declared.refusal.Fault.{Fault}
 use Rattle.mi_commands.specs.declared.refusal.Fault.TheVariants as fault
+use Rattle.dbg_model.specs.declared.breakpoint.Breakpoint.{Breakpoint}
 use Rattle.dbg_model.specs.declared.reply.Obstacle.{Obstacle}
-use Rattle.dbg_model.specs.declared.reply.Obstacle.TheVariants.{UnknownThread, HasExited, IsRunning, Unreadable}
+use Rattle.dbg_model.specs.declared.reply.Obstacle.TheVariants.{UnknownThread, HasExited, IsRunning, NoInstruction, TooManyBreakpoints, Unreadable}
 use Rattle.dbg_model.specs.declared.reply.Refused.{Refused}
 use Rattle.dbg_model.specs.declared.reply.Refused.TheVariants as refused
 use Rattle.dbg_model.specs.declared.reply.Register.{Register}
@@ -63,6 +64,29 @@ abbrev pub memory_text : ℕ → List ℕ → List ℕ
 memory_text addr bytes =
     text.MEMORY_HEAD.now ++ hex8 addr ++ text.MEMORY_END.now ++ hex8 ((addr + length bytes) % 2 ^ 32) ++ text.CONTENTS_HEAD.now ++ encode_lower bytes ++ text.MEMORY_TAIL.now
 
+-- ---- breakpoints
+
+abbrev pub disposition : Bool → List ℕ
+disposition true = text.DELETE.now
+disposition false = text.KEEP.now
+
+abbrev pub enabled_text : Bool → List ℕ
+enabled_text true = text.YES.now
+enabled_text false = text.NO.now
+
+abbrev pub for_thread : Option ℕ → List ℕ
+for_thread None = []
+for_thread (Some thread) = text.THREAD_HEAD.now ++ decimal thread
+
+abbrev pub ignored : ℕ → List ℕ
+ignored n = if n == 0 then [] else text.IGNORE_HEAD.now ++ decimal n
+
+abbrev pub breakpoint_text : Breakpoint → List ℕ
+breakpoint_text b =
+    text.BREAKPOINT_HEAD.now ++ decimal b.number ++ text.DISPOSITION_HEAD.now ++ disposition b.temporary ++ text.ENABLED_HEAD.now ++ enabled_text b.enabled
+    ++ text.ADDRESS_HEAD.now ++ hex8 b.address ++ for_thread b.thread ++ text.TIMES_HEAD.now ++ decimal b.times ++ ignored b.ignore
+    ++ text.LOCATION_HEAD.now ++ c_string b.location ++ text.BREAKPOINT_TAIL.now
+
 -- ---- errors
 
 abbrev pub fault_message : Fault → List ℕ
@@ -76,6 +100,8 @@ abbrev pub obstacle_message : Obstacle → List ℕ
 obstacle_message (UnknownThread t) = text.UNKNOWN_THREAD.now ++ decimal t
 obstacle_message (HasExited t) = text.THREAD.now ++ decimal t ++ text.HAS_EXITED.now
 obstacle_message (IsRunning t) = text.THREAD.now ++ decimal t ++ text.IS_RUNNING.now
+obstacle_message (NoInstruction addr) = text.NO_INSTRUCTION.now ++ hex8 addr
+obstacle_message TooManyBreakpoints = text.TOO_MANY_BREAKPOINTS.now
 obstacle_message (Unreadable addr) = text.UNREADABLE.now ++ hex8 addr
 
 -- the text of an error, before its bytes are written as a C string
@@ -98,6 +124,7 @@ error_tail r = text.QUOTED_END.now
 abbrev pub content_text : Content → List ℕ
 content_text content.Blank = PROMPT.now
 content_text content.Done = text.DONE.now ++ text.END.now
+content_text (content.Inserted b) = breakpoint_text b
 content_text (content.Running threads) = text.DONE_RUNNING.now ++ running_lines threads ++ PROMPT.now
 content_text (content.Selected thread) = text.SELECTED_HEAD.now ++ decimal thread ++ text.QUOTED_END.now
 content_text (content.Threads threads selected) =

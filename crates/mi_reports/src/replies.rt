@@ -1,12 +1,13 @@
 // The lines of replies.
 ghost use Rattle.std.specs.Prelude.{◌≡◌, ◌++◌, IfOk, OnOk, decimal};
-ghost use Rattle.mi_reports.specs.Replies.{behind_commas, joined, running_lines, place_text, thread_text, number_text, signed_text, value_text, register_text, memory_text, fault_message, obstacle_message, message, error_tail, content_text, reply_text};
+ghost use Rattle.mi_reports.specs.Bytes.{hex8};
+ghost use Rattle.mi_reports.specs.Replies.{behind_commas, joined, running_lines, place_text, thread_text, number_text, signed_text, value_text, register_text, memory_text, disposition, enabled_text, for_thread, ignored, breakpoint_text, fault_message, obstacle_message, message, error_tail, content_text, reply_text};
 
 use crate::numbers::{hex8, push_c_string, push_decimal};
 use crate::reply_texts as text;
 use crate::report::push;
 use crate::texts::PROMPT;
-use dbg_model::{Content, Obstacle, Refused, Register, Reply, Thread};
+use dbg_model::{Breakpoint, Content, Obstacle, Refused, Register, Reply, Thread};
 use mi_commands::{Fault, Format};
 use std::alloc::{AllocError, Global};
 
@@ -190,6 +191,58 @@ fn push_memory(
     push(into, text::MEMORY_TAIL)
 }
 
+fn disposition(temporary: bool) -> &'static str
+    ensures { result.now ≡ disposition temporary }
+{
+    if temporary { text::DELETE } else { text::KEEP }
+}
+
+fn enabled_text(enabled: bool) -> &'static str
+    ensures { result.now ≡ enabled_text enabled }
+{
+    if enabled { text::YES } else { text::NO }
+}
+
+fn push_for_thread(into: &mut Vec<u8>, thread: Option<u32>) -> Result<(), AllocError>
+    ensures { OnOk result (into.new.items ≡ into.old.items ++ for_thread thread) }
+{
+    let Some(thread) = thread else {
+        return Ok(());
+    };
+    push(into, text::THREAD_HEAD)?;
+    push_word(into, thread)
+}
+
+fn push_ignored(into: &mut Vec<u8>, ignore: u32) -> Result<(), AllocError>
+    ensures { OnOk result (into.new.items ≡ into.old.items ++ ignored ignore) }
+{
+    if ignore == 0 {
+        return Ok(());
+    }
+    push(into, text::IGNORE_HEAD)?;
+    push_word(into, ignore)
+}
+
+fn push_breakpoint(into: &mut Vec<u8>, breakpoint: &Breakpoint) -> Result<(), AllocError>
+    ensures { OnOk result (into.new.items ≡ into.old.items ++ breakpoint_text breakpoint.now) }
+{
+    push(into, text::BREAKPOINT_HEAD)?;
+    push_word(into, breakpoint.number)?;
+    push(into, text::DISPOSITION_HEAD)?;
+    push(into, disposition(breakpoint.temporary))?;
+    push(into, text::ENABLED_HEAD)?;
+    push(into, enabled_text(breakpoint.enabled))?;
+    push(into, text::ADDRESS_HEAD)?;
+    push_hex8(into, breakpoint.address)?;
+    push_for_thread(into, breakpoint.thread)?;
+    push(into, text::TIMES_HEAD)?;
+    push_decimal(into, breakpoint.times)?;
+    push_ignored(into, breakpoint.ignore)?;
+    push(into, text::LOCATION_HEAD)?;
+    push_c_string(into, breakpoint.location.as_slice())?;
+    push(into, text::BREAKPOINT_TAIL)
+}
+
 fn push_fault(into: &mut Vec<u8>, fault: &Fault) -> Result<(), AllocError>
     ensures { OnOk result (into.new.items ≡ into.old.items ++ fault_message fault.now) }
 {
@@ -232,6 +285,11 @@ fn push_obstacle(into: &mut Vec<u8>, obstacle: Obstacle) -> Result<(), AllocErro
             push_word(into, thread)?;
             push(into, text::IS_RUNNING)
         }
+        Obstacle::NoInstruction(address) => {
+            push(into, text::NO_INSTRUCTION)?;
+            push_hex8(into, address)
+        }
+        Obstacle::TooManyBreakpoints => push(into, text::TOO_MANY_BREAKPOINTS),
         Obstacle::Unreadable(address) => {
             push(into, text::UNREADABLE)?;
             push_hex8(into, address)
@@ -348,6 +406,7 @@ fn push_content(
             push(into, text::DONE)?;
             push(into, text::END)
         }
+        Content::Inserted(breakpoint) => push_breakpoint(into, breakpoint),
         Content::Running(threads) => push_going_on(into, threads.as_slice()),
         Content::Selected(thread) => push_selected(into, *thread),
         Content::Threads { threads, selected } => push_thread_info(into, threads.as_slice(), *selected),

@@ -11,6 +11,32 @@ pub const END: &str = "\n(gdb)\n";
 
 pub const QUOTED_END: &str = "\"\n(gdb)\n";
 
+pub const BREAKPOINT_HEAD: &str = "^done,bkpt={number=\"";
+
+pub const DISPOSITION_HEAD: &str = "\",type=\"breakpoint\",disp=\"";
+
+pub const KEEP: &str = "keep";
+
+pub const DELETE: &str = "del";
+
+pub const ENABLED_HEAD: &str = "\",enabled=\"";
+
+pub const YES: &str = "y";
+
+pub const NO: &str = "n";
+
+pub const ADDRESS_HEAD: &str = "\",addr=\"0x";
+
+pub const THREAD_HEAD: &str = "\",thread=\"";
+
+pub const TIMES_HEAD: &str = "\",times=\"";
+
+pub const IGNORE_HEAD: &str = "\",ignore=\"";
+
+pub const LOCATION_HEAD: &str = "\",original-location=\"";
+
+pub const BREAKPOINT_TAIL: &str = "\"}\n(gdb)\n";
+
 pub const SELECTED_HEAD: &str = "^done,new-thread-id=\"";
 
 pub const THREADS_HEAD: &str = "^done,threads=[";
@@ -82,6 +108,10 @@ pub const THREAD: &str = "Thread ";
 pub const HAS_EXITED: &str = " has exited";
 
 pub const IS_RUNNING: &str = " is running";
+
+pub const NO_INSTRUCTION: &str = "No instruction at address 0x";
+
+pub const TOO_MANY_BREAKPOINTS: &str = "Too many breakpoints";
 
 pub const UNREADABLE: &str = "Cannot access memory at address 0x";
 
