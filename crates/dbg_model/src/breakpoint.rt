@@ -1,7 +1,7 @@
 use mi_commands::ByteList;
 
 /// A breakpoint that the user set. Contracts cite `specs/Breaks.antt`, which says when it stops a hart.
-#[derive(Debug, Drop)]
+#[derive(Drop)]
 pub struct Breakpoint {
     /// Its number. Numbers rise from 1 along the list, and none is used again.
     pub number: u32,

@@ -24,7 +24,7 @@ pub enum Obstacle {
 }
 
 /// Why a line is refused. A refused line changes nothing.
-#[derive(Debug, Drop)]
+#[derive(Drop)]
 pub enum Refused {
     /// The line is longer than 4,096 bytes.
     Long,
@@ -48,7 +48,7 @@ pub struct Register {
 }
 
 /// Registers that contracts see as a list.
-#[derive(Debug, Drop)]
+#[derive(Drop)]
 pub struct RegisterList {
     registers: Vec<Register>,
 }
@@ -86,7 +86,7 @@ pub struct Thread {
 }
 
 /// Threads that contracts see as a list.
-#[derive(Debug, Drop)]
+#[derive(Drop)]
 pub struct ThreadList {
     threads: Vec<Thread>,
 }
@@ -117,7 +117,7 @@ impl ThreadList {
 }
 
 /// What is answered to a line, beside its token.
-#[derive(Debug, Drop)]
+#[derive(Drop)]
 pub enum Content {
     /// A line of blanks.
     Blank,
@@ -147,7 +147,7 @@ pub enum Content {
 }
 
 /// What is answered to a line.
-#[derive(Debug, Drop)]
+#[derive(Drop)]
 pub struct Reply {
     /// The line's token; a line without parts has none, but for one that is no command of the machine interface.
     pub token: Token,

@@ -16,6 +16,7 @@ use Rattle.dbg_model.specs.declared.reply.Content.TheVariants as content
 use Rattle.dbg_model.specs.declared.reply.Reply.{Reply}
 use Rattle.hex.specs.Hex.{encode_lower}
 use Rattle.mi_reports.specs.Bytes.{hex8, c_string}
+use Rattle.mi_reports.specs.Text.{disposition}
 use Rattle.mi_reports.specs.declared.reply_texts.TheConstants as text
 use Rattle.mi_reports.specs.declared.texts.TheConstants.{PROMPT}
 
@@ -65,10 +66,6 @@ memory_text addr bytes =
     text.MEMORY_HEAD.now ++ hex8 addr ++ text.MEMORY_END.now ++ hex8 ((addr + length bytes) % 2 ^ 32) ++ text.CONTENTS_HEAD.now ++ encode_lower bytes ++ text.MEMORY_TAIL.now
 
 -- ---- breakpoints
-
-abbrev pub disposition : Bool → List ℕ
-disposition true = text.DELETE.now
-disposition false = text.KEEP.now
 
 abbrev pub enabled_text : Bool → List ℕ
 enabled_text true = text.YES.now

@@ -10,4 +10,4 @@ mod texts;
 
 pub use refusals::{USAGE, bad_file};
 pub use replies::reply_text;
-pub use report::{lefts_text, opening_text, stop_text, stream_text};
+pub use report::{break_text, lefts_text, opening_text, stop_text, stream_text};

@@ -1,11 +1,11 @@
 // The lines of replies.
 ghost use Rattle.std.specs.Prelude.{◌≡◌, ◌++◌, IfOk, OnOk, decimal};
 ghost use Rattle.mi_reports.specs.Bytes.{hex8};
-ghost use Rattle.mi_reports.specs.Replies.{behind_commas, joined, running_lines, place_text, thread_text, number_text, signed_text, value_text, register_text, memory_text, disposition, enabled_text, for_thread, ignored, breakpoint_text, fault_message, obstacle_message, message, error_tail, content_text, reply_text};
+ghost use Rattle.mi_reports.specs.Replies.{behind_commas, joined, running_lines, place_text, thread_text, number_text, signed_text, value_text, register_text, memory_text, enabled_text, for_thread, ignored, breakpoint_text, fault_message, obstacle_message, message, error_tail, content_text, reply_text};
 
 use crate::numbers::{hex8, push_c_string, push_decimal};
 use crate::reply_texts as text;
-use crate::report::push;
+use crate::report::{disposition, push};
 use crate::texts::PROMPT;
 use dbg_model::{Breakpoint, Content, Obstacle, Refused, Register, Reply, Thread};
 use mi_commands::{Fault, Format};
@@ -189,12 +189,6 @@ fn push_memory(
     push(into, text::CONTENTS_HEAD)?;
     into.extend_from_slice(hex::encode(alloc, bytes)?.as_bytes())?;
     push(into, text::MEMORY_TAIL)
-}
-
-fn disposition(temporary: bool) -> &'static str
-    ensures { result.now ≡ disposition temporary }
-{
-    if temporary { text::DELETE } else { text::KEEP }
 }
 
 fn enabled_text(enabled: bool) -> &'static str

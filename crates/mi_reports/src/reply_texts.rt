@@ -15,10 +15,6 @@ pub const BREAKPOINT_HEAD: &str = "^done,bkpt={number=\"";
 
 pub const DISPOSITION_HEAD: &str = "\",type=\"breakpoint\",disp=\"";
 
-pub const KEEP: &str = "keep";
-
-pub const DELETE: &str = "del";
-
 pub const ENABLED_HEAD: &str = "\",enabled=\"";
 
 pub const YES: &str = "y";
