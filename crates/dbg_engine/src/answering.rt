@@ -119,10 +119,10 @@ fn push_thread(
 ) -> Result<(), AllocError>
     ensures { OnOk result (into.new.items ≡ into.old.items ++ shown_thread thread (seen_hart core.now mind)) }
 {
-    match show(thread, core, mind) {
-        None => Ok(()),
-        Some(shown) => into.push(shown),
+    if let Some(shown) = show(thread, core, mind) {
+        into.push(shown)?;
     }
+    Ok(())
 }
 
 // The live threads, of which the first has this number.

@@ -4,3 +4,5 @@ pub mod Counting
 pub mod Leaving
 pub mod Plainly
 pub mod Bounding
+pub mod Numbering
+pub mod Replying

@@ -23,7 +23,7 @@ may_go o s = not (any_leaves s.harts) && (nat_lt s.retired o.settings.budget && 
 
 -- a line may be done; one that waits only where no hart runs
 abbrev pub may_do : Opening → State → List ℕ → Bool
-may_do o s line = may_go o s && not (is_wait line && any_runs s.harts)
+may_do o s line = may_go o s && not (any_runs s.harts && is_wait line)
 
 -- a hart may move
 abbrev pub may_move : Opening → State → Hart → Bool

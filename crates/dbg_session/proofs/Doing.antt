@@ -2,8 +2,8 @@
 use Rattle.std.proofs.Common.{◌≡◌, ◌<◌, ◌≤◌, ℕ, Bool, List, ◌++◌, length, refl, subst}
 use Rattle.dbg_traits.specs.Told.{Told}
 use Rattle.mi_input.specs.Lines.{IsNext}
-use Rattle.dbg_model.specs.declared.command.Reply.{Reply}
-use Rattle.dbg_engine.specs.Seen.{Run}
+use Rattle.dbg_model.specs.declared.reply.Reply.{Reply}
+use Rattle.engine_facts.specs.Seen.{Run}
 use Rattle.dbg_session.specs.Stage.{Stage, stage_of}
 use Rattle.dbg_session.specs.Puts.{PutsAll}
 use Rattle.dbg_session.specs.Steps.{said_by, Says, Keeps, DoesLine}

@@ -1,21 +1,22 @@
 -- Which harts of an engine run, and what an engine leaves.
 use Rattle.std.proofs.Common.{◌≡◌, ◌≤◌, ℕ, zero, suc, Bool, true, false, List, [], ◌∷◌, length, refl, sym, ap, ◌∙◌, arith, not}
-use Rattle.std.specs.Prelude.{Option, Some, None, IfSome, is_some, ◌&&◌, ◌||◌, slice_get, take}
+use Rattle.std.specs.Prelude.{Option, Some, None, IfSome, is_some, is_none, ◌&&◌, ◌||◌, slice_get, take}
 use mathlib.Core.List.{append-nil}
 use Rattle.hart_machine.specs.declared.hart.Core.{Core}
 use Rattle.hart_machine.proofs.Places.{same_some}
 use Rattle.mi_input.specs.Lines.{IsNext, lines}
 use Rattle.dbg_model.specs.State.{is_running}
 use Rattle.dbg_model.specs.Lawful.{may_go}
-use Rattle.dbg_engine.specs.declared.mind.Activity.{Activity}
-use Rattle.dbg_engine.specs.declared.mind.Activity.TheVariants as activity
-use Rattle.dbg_engine.specs.declared.mind.Mind.{Mind}
+use Rattle.engine_facts.specs.declared.mind.Activity.{Activity}
+use Rattle.engine_facts.specs.declared.mind.Activity.TheVariants as activity
+use Rattle.engine_facts.specs.declared.mind.Mind.{Mind}
 use Rattle.dbg_engine.specs.declared.engine.Closed.{Closed}
-use Rattle.dbg_engine.specs.Minds.{mode_of, is_active, runs, next_running}
-use Rattle.dbg_engine.specs.Seen.{Run, seen, seen_harts}
-use Rattle.dbg_engine.specs.Facts.{Facts}
-use Rattle.dbg_engine.proofs.Seeing.{any_seen, none_runs, next_runs}
-use Rattle.dbg_session.specs.Stage.{stage_of, runs_at}
+use Rattle.engine_facts.specs.Minds.{mode_of, is_active, runs}
+use Rattle.engine_facts.specs.Seen.{Run, seen, seen_harts}
+use Rattle.engine_facts.specs.Facts.{Facts}
+use Rattle.engine_facts.proofs.Seeing.{any_seen}
+use Rattle.dbg_engine.specs.Calls.{Closes, Moves}
+use Rattle.dbg_session.specs.Stage.{stage_of, runs_at, is_free, moves_at}
 use Rattle.dbg_session.specs.Taking.{has_line, is_some_line}
 use Rattle.dbg_session.specs.Seen.{Picks}
 use Rattle.dbg_session.specs.Left.{IsLeft, core_registers, hart_registers}
@@ -38,7 +39,7 @@ runs_out (c ∷ cs) [] h le = refl
 runs_out (c ∷ cs) (y ∷ ys) zero le = absurd (omega arith)
 runs_out (c ∷ cs) (y ∷ ys) (suc h) le = let l : length ys ≤ h = omega arith in runs_out cs ys h l
 
-and_false : (b : Bool) → (b && false) ≡ false
+pub and_false : (b : Bool) → (b && false) ≡ false
 and_false true = refl
 and_false false = refl
 
@@ -47,17 +48,20 @@ or_true true = refl
 or_true false = refl
 
 -- a hart that isn't there doesn't run
-pub out_of_range : (e : Run) (h : ℕ) → length e.minds ≤ h → not (may_go e.opening (seen e) && runs_at (seen e).harts h) ≡ true
-out_of_range e h le = ap (λ b. not (may_go e.opening (seen e) && b)) (runs_out e.machine.cores e.minds h le) ∙ ap not (and_false (may_go e.opening (seen e)))
+pub out_of_range : (e : Run) (h : ℕ) → length e.minds ≤ h → not (may_go e.opening (seen e) && moves_at (stage_of e) h) ≡ true
+out_of_range e h le = ap (λ b. not (may_go e.opening (seen e) && (b && is_free e.hold h))) (runs_out e.machine.cores e.minds h le) ∙ ap not (and_false (may_go e.opening (seen e)))
 
-pub picks_none : (e : Run) (from : ℕ) → Facts e → next_running e.minds from ≡ None → Picks None (stage_of e)
-picks_none e from f none = sym (any_seen e.machine.cores e.minds f.cores) ∙ none_runs e.minds from none
+pub picks_none : (e : Run) → Facts e → Moves None e → Picks None (stage_of e)
+picks_none e f none = sym (any_seen e.machine.cores e.minds f.harts.len) ∙ none
 
-pub picks_some : (e : Run) (from h : ℕ) → Facts e → next_running e.minds from ≡ Some h → Picks (Some h) (stage_of e)
-picks_some e from h f some =
-    let d = next_runs e.minds from h some in
-    let place : h ≡ d.place = omega (arith, d.number) in
-    ap (runs_at (seen e).harts) place ∙ (runs_mind e.machine.cores e.minds d.place d.mind f.cores d.at ∙ d.runs)
+pub picks_some : (e : Run) (h : ℕ) → Facts e → Moves (Some h) e → Picks (Some h) (stage_of e)
+picks_some e h f m = ap (λ b. b && is_free e.hold h) (runs_mind e.machine.cores e.minds h m.mind f.harts.len m.at ∙ m.runs) ∙ ap is_none m.free
+
+pub harts_length : (cs : List Core) (xs : List Mind) → length cs ≡ length xs → length (seen_harts cs xs) ≡ length xs
+harts_length [] [] len = refl
+harts_length [] (x ∷ xs) len = absurd (omega arith)
+harts_length (c ∷ cs) [] len = refl
+harts_length (c ∷ cs) (x ∷ xs) len = let l : length cs ≡ length xs = omega arith in ap suc (harts_length cs xs l)
 
 -- a whole line stands in a rest whose next line is found
 pub next_stands : (ended : Bool) (rest line : List ℕ) (next : ℕ) → IsNext ended rest line next → has_line ended rest ≡ true
@@ -87,12 +91,13 @@ regs_seen (c ∷ cs) [] len = absurd (omega arith)
 regs_seen (c ∷ cs) (x ∷ xs) len = let l : length cs ≡ length xs = omega arith in ap (λ t. c.regs ∷ t) (regs_seen cs xs l)
 
 -- what is left of an engine
-pub left : (e : Run) (c : Closed) → c.opening ≡ e.opening → c.journal ≡ e.journal → c.machine ≡ e.machine → Facts e → IsLeft (stage_of e) c
+pub left : (e : Run) (c : Closed) → c.opening ≡ e.opening → c.journal ≡ e.journal → Closes e c.machine → Facts e → IsLeft (stage_of e) c
 left e c o j m f = record {
   opening = o;
   journal = j;
   leaves = rw (o, j) f.leaves;
-  registers = rw m (regs_seen e.machine.cores e.minds f.cores);
-  memory = rw m refl;
-  retired = rw (m, j) f.retired;
+  registers = ap core_registers m.cores ∙ regs_seen e.machine.cores e.minds f.harts.len;
+  memory = m.memory;
+  planted = rw o m.text;
+  retired = rw j m.retired;
 }

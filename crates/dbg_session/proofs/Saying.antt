@@ -1,41 +1,48 @@
 -- What a turn and a line say.
-use Rattle.std.proofs.Common.{◌≡◌, ◌<◌, ◌≤◌, ℕ, ◌+◌, ◌-◌, ◌*◌, Bool, true, false, List, [], ◌∷◌, ◌++◌, length, drop, refl, sym, ap, ◌∙◌, arith, subst, append_assoc}
-use Rattle.std.specs.Prelude.{Option, Some, None, ◌&&◌, map, slice_get}
+use Rattle.std.proofs.Common.{◌≡◌, ◌<◌, ◌≤◌, ℕ, zero, suc, ◌+◌, ◌-◌, ◌*◌, Bool, true, false, List, [], ◌∷◌, ◌++◌, length, drop, refl, sym, ap, ◌∙◌, arith, subst, append_assoc}
+use Rattle.std.specs.Prelude.{Option, Some, None, is_none, ◌&&◌, map, slice_get}
 use mathlib.Core.List.{append-nil}
 use Rattle.rv_exec.specs.declared.effect.Cause.{Cause}
 use Rattle.hart_machine.specs.declared.hart.Core.{Core}
-use Rattle.dbg_model.specs.declared.command.Reply.{Reply}
+use Rattle.dbg_model.specs.declared.reply.Reply.{Reply}
 use Rattle.dbg_model.specs.declared.entry.Entry.{Entry}
 use Rattle.dbg_model.specs.declared.entry.Entry.TheVariants.{Ran, Stopped, Left, Did}
-use Rattle.dbg_model.specs.declared.entry.Why.TheVariants.{Fault}
+use Rattle.dbg_model.specs.declared.entry.Why.{Why}
+use Rattle.dbg_model.specs.declared.entry.Why.TheVariants.{Break, Fault}
 use Rattle.dbg_model.specs.declared.entry.Mode.{Mode}
 use Rattle.dbg_model.specs.declared.entry.Mode.TheVariants as mode
 use Rattle.dbg_model.specs.declared.opening.Opening.{Opening}
+use Rattle.dbg_model.specs.Breaks.{is_temporary}
 use Rattle.dbg_model.specs.State.{Hart, State, all_gone}
 use Rattle.dbg_model.specs.Lawful.{one}
 use Rattle.dbg_model.specs.Leaving.{lefts_from, left_one, gone}
 use Rattle.dbg_model.specs.Journals.{lengthened, one_more_by, ran_count, did, did_one}
 use Rattle.dbg_model.proofs.Adding.{lengthens}
-use Rattle.mi_reports.specs.Text.{stream_text, stop_text, lefts_text, reply_text}
+use Rattle.mi_reports.specs.Text.{stream_text, stop_text, break_text, lefts_text}
+use Rattle.mi_reports.specs.Replies.{reply_text}
 use Rattle.mi_reports.specs.Said.{said, hart_pc}
 use Rattle.mi_reports.proofs.Saying.{said_added, said_lengthened}
 use Rattle.mi_reports.proofs.Leaving.{said_exits}
 use Rattle.dbg_engine.specs.declared.moving.Turned.{Turned}
 use Rattle.dbg_engine.specs.declared.moving.Turned.TheVariants as turned
-use Rattle.dbg_engine.specs.Seen.{Run, seen}
-use Rattle.dbg_engine.specs.Facts.{Facts}
-use Rattle.dbg_engine.specs.Calls.{Turns, Runs, Exits, Faults, Does}
-use Rattle.dbg_engine.proofs.Seeing.{seen_at}
-use Rattle.dbg_engine.proofs.Turning.{get_within}
-use Rattle.dbg_session.specs.Stage.{stage_of, work_of, running, runs_at, runs_as}
+use Rattle.engine_facts.specs.declared.mind.Mind.{Mind}
+use Rattle.engine_facts.specs.declared.mind.Hold.{Hold}
+use Rattle.engine_facts.specs.declared.mind.Phase.{Phase}
+use Rattle.engine_facts.specs.declared.mind.Phase.TheVariants as phase
+use Rattle.engine_facts.specs.Seen.{Run, seen, seen_harts}
+use Rattle.engine_facts.specs.Facts.{Facts, other_holder}
+use Rattle.engine_facts.specs.Minds.{mode_of, is_active, with_phase}
+use Rattle.engine_facts.proofs.Seeing.{seen_at}
+use Rattle.dbg_engine.specs.Calls.{Turns, Runs, Exits, Halts, Rephases, Lifts, Plants, Does}
+use Rattle.dbg_session.specs.Stage.{stage_of, work_of, running, moves, moves_of, runs_at, runs_as, is_free, moves_at}
 use Rattle.dbg_model.specs.State.{is_running}
 use Rattle.dbg_model.specs.Lawful.{may_go}
-use Rattle.dbg_engine.specs.declared.mind.Activity.{Activity}
-use Rattle.dbg_engine.specs.declared.mind.Activity.TheVariants as activity
-use Rattle.dbg_engine.specs.Minds.{mode_of, is_active}
+use Rattle.engine_facts.specs.declared.mind.Activity.{Activity}
+use Rattle.engine_facts.specs.declared.mind.Activity.TheVariants as activity
 use Rattle.dbg_session.specs.Steps.{said_by}
 use Rattle.dbg_session.specs.Turned.{turned_text, last_lefts, stream_of, has_moved}
-use Rattle.dbg_session.proofs.Working.{one_works, halts, done_running, running_gone}
+use Rattle.dbg_session.proofs.Working.{one_works, halts, done_retired, running_gone, running_most, moves_most, moves_set}
+use Rattle.dbg_session.proofs.Picking.{harts_length}
 
 -- the lines of a journal that grows
 did-append : (j k : List Entry) → did (j ++ k) ≡ did j ++ did k
@@ -87,29 +94,36 @@ nothing_written : stream_text [] ≡ []
 unfolding stream_text
 nothing_written = refl
 
-less_work : (b r s m n : ℕ) → r < b → s ≡ r + 1 → m ≤ n → 2 * (b - s) + m < 2 * (b - r) + n
-less_work b r s m n low is le = omega arith
+-- few harts, and few moves of theirs
+pub few_moves : (r : Run) → Facts r → moves r.minds ≤ 32
+few_moves r f = omega (arith, moves_most r.minds, f.count, f.settings.harts.1)
 
-ran_less : (r s : Run) (h : ℕ) (t : State) → one r.opening h (seen r) ≡ Some t → (seen s).retired ≡ t.retired → running (seen s).harts ≤ running t.harts → s.opening ≡ r.opening → work_of (stage_of s) < work_of (stage_of r)
-ran_less r s h t is retired run opening =
+pub few_run : (r : Run) → Facts r → running (seen r).harts ≤ 16
+few_run r f = omega (arith, running_most (seen r).harts, harts_length r.machine.cores r.minds f.harts.len, f.count, f.settings.harts.1)
+
+less_work : (b r s m n p q : ℕ) → r < b → s ≡ r + 1 → m ≤ n → p ≤ 32 → 33 * (b - s) + (33 * m + p) < 33 * (b - r) + (33 * n + q)
+less_work b r s m n p q low is le few = omega arith
+
+ran_less : (r s : Run) (h : ℕ) (t : State) → one r.opening h (seen r) ≡ Some t → (seen s).retired ≡ t.retired → running (seen s).harts ≤ running t.harts → s.opening ≡ r.opening → Facts s → work_of (stage_of s) < work_of (stage_of r)
+ran_less r s h t is retired run opening g =
     let w = one_works r.opening h (seen r) t is in
     let more : s.retired ≡ r.retired + 1 = retired ∙ w.retired in
     let le : running (seen s).harts ≤ running (seen r).harts = let a = w.running in omega arith in
-    let P : Opening → Type 0 = λ o. 2 * (o.settings.budget - s.retired) + running (seen s).harts < work_of (stage_of r) in
-    subst P (sym opening) (less_work r.opening.settings.budget r.retired s.retired (running (seen s).harts) (running (seen r).harts) w.below more le)
+    let P : Opening → Type 0 = λ o. 33 * (o.settings.budget - s.retired) + (33 * running (seen s).harts + moves s.minds) < work_of (stage_of r) in
+    subst P (sym opening) (less_work r.opening.settings.budget r.retired s.retired (running (seen s).harts) (running (seen r).harts) (moves s.minds) (moves r.minds) w.below more le (few_moves s g))
 
 -- said over equal openings and journals
 said_is : (r s : Run) (j : List Entry) (text : List ℕ) → s.opening ≡ r.opening → s.journal ≡ j → said r.opening j ≡ said r.opening r.journal ++ text → said_by (stage_of s) ≡ said_by (stage_of r) ++ text
 said_is r s j text o is e = ap (λ p. said p s.journal) o ∙ (ap (said r.opening) is ∙ e)
 
-runs_say : (t : Turned) (r s : Run) (h pc : ℕ) (out : List ℕ) → Facts r → Runs r s h out → stream_text out ≡ turned_text s t h pc → Said t r s h pc
-runs_say t r s h pc out f m text =
+runs_say : (t : Turned) (r s : Run) (h pc : ℕ) (out : List ℕ) → Facts r → Facts s → Runs r s h out → stream_text out ≡ turned_text s t h pc → Said t r s h pc
+runs_say t r s h pc out f g m text =
     let l = said_lengthened r.opening r.journal h (seen r) f.leaves in
     record {
       opening = m.opening;
       said = said_is r s (lengthened r.journal h) (turned_text s t h pc) m.opening m.journal (l ∙ ap (λ u. said r.opening r.journal ++ u) (ap stream_text m.wrote ∙ text));
       did = ap did m.journal ∙ did-lengthened r.journal h;
-      work = ran_less r s h (seen s) m.one refl (let z : running (seen s).harts ≤ running (seen s).harts = omega arith in z) m.opening;
+      work = ran_less r s h (seen s) m.one refl (let z : running (seen s).harts ≤ running (seen s).harts = omega arith in z) m.opening g;
     }
 
 drop_behind : {A : Type 0} (xs ys : List A) → drop (length xs) (xs ++ ys) ≡ ys
@@ -127,8 +141,8 @@ last_are j xs ys n is len =
     let front : length j - n ≡ length xs = let m = ap length is in omega arith in
     ap (λ k. drop k j) front ∙ (ap (drop (length xs)) is ∙ drop_behind xs ys)
 
-exits_say : (t : Turned) (r s : Run) (h pc count code : ℕ) → Facts r → Exits r s h count code → last_lefts s count code ≡ turned_text s t h pc → Said t r s h pc
-exits_say t r s h pc count code f m text =
+exits_say : (t : Turned) (r s : Run) (h pc count code : ℕ) → Facts r → Facts s → Exits r s h count code → last_lefts s count code ≡ turned_text s t h pc → Said t r s h pc
+exits_say t r s h pc count code f g m text =
     let j = lengthened r.journal h in
     let lefts = lefts_from 0 m.between.harts in
     let l = lengthens r.opening r.journal h (seen r) m.between f.leaves m.one in
@@ -140,54 +154,102 @@ exits_say t r s h pc count code f m text =
       opening = m.opening;
       said = said_is r s (j ++ lefts) (turned_text s t h pc) m.opening m.journal (exits ∙ (ap (λ u. u ++ lefts_text lefts (all_gone (map gone m.between.harts)) code) first ∙ ap (λ u. said r.opening r.journal ++ u) (last ∙ text)));
       did = ap did m.journal ∙ (did_quiet j lefts (did_lefts 0 m.between.harts) ∙ did-lengthened r.journal h);
-      work = ran_less r s h m.between m.one (m.retired ∙ sym (one_works r.opening h (seen r) m.between m.one).retired) (let e = ap running m.harts ∙ running_gone m.between.harts in let z : running (seen s).harts ≤ running m.between.harts = omega arith in z) m.opening;
+      work = ran_less r s h m.between m.one (m.retired ∙ sym (one_works r.opening h (seen r) m.between m.one).retired) (let e = ap running m.harts ∙ running_gone m.between.harts in let z : running (seen s).harts ≤ running m.between.harts = omega arith in z) m.opening g;
     }
 
-faults_say : (r s : Run) (h pc : ℕ) (cause : Cause) → Facts r → h < length r.minds → IsPc r h pc → Faults r s h cause → Said (turned.Stopped cause) r s h pc
-faults_say r s h pc cause f low is_pc m =
-    let low_core : h < length r.machine.cores = omega (arith, f.cores) in
+get_within : {A : Type 0} (xs : List A) (h : ℕ) → h < length xs → (x : A) × (slice_get xs h ≡ Some x)
+get_within [] h low = absurd (omega arith)
+get_within (x ∷ xs) zero low = (x, refl)
+get_within (x ∷ xs) (suc h) low = get_within xs h (omega arith)
+
+-- where a hart is seen
+pc_seen : (r : Run) (h pc : ℕ) → Facts r → h < length r.minds → IsPc r h pc → hart_pc (slice_get (seen r).harts h) ≡ pc
+pc_seen r h pc f low is_pc =
+    let low_core : h < length r.machine.cores = omega (arith, f.harts.len) in
     let c = get_within r.machine.cores h low_core in
     let x = get_within r.minds h low in
-    let at = seen_at r.machine.cores r.minds h c.0 x.0 c.1 x.1 in
-    let pc_is : hart_pc (slice_get (seen r).harts h) ≡ pc = ap hart_pc at ∙ sym (is_pc c.0 c.1) in
-    let e : Entry = Stopped h (Fault cause) in
-    let halt = halts r.opening cause h (seen r) (seen s) m.enters in
+    ap hart_pc (seen_at r.machine.cores r.minds h c.0 x.0 c.1 x.1) ∙ sym (is_pc c.0 c.1)
+
+halts_say : (t : Turned) (r s : Run) (h pc : ℕ) (why : Why) → Facts r → Facts s → Halts r s h why → said_by (stage_of s) ≡ said_by (stage_of r) ++ turned_text s t h pc → Said t r s h pc
+halts_say t r s h pc why f g m text =
+    let e : Entry = Stopped h why in
+    let halt = halts r.opening why h (seen r) (seen s) m.enters in
     let same : s.retired ≡ r.retired = halt.retired in
     let less = halt.running in
-    let P : Opening → Type 0 = λ o. 2 * (o.settings.budget - s.retired) + running (seen s).harts < work_of (stage_of r) in
+    let few = few_moves s g in
+    let P : Opening → Type 0 = λ o. 33 * (o.settings.budget - s.retired) + (33 * running (seen s).harts + moves s.minds) < work_of (stage_of r) in
     record {
       opening = m.opening;
-      said = said_is r s (r.journal ++ e ∷ []) (stop_text cause h pc) m.opening m.journal (said_added r.opening r.journal (seen r) e f.leaves ∙ ap (λ p. said r.opening r.journal ++ stop_text cause h p) pc_is);
+      said = text;
       did = ap did m.journal ∙ did_quiet r.journal (e ∷ []) refl;
       work = subst P (sym m.opening) (omega arith);
+    }
+
+faults_say : (r s : Run) (h pc : ℕ) (cause : Cause) → Facts r → Facts s → h < length r.minds → IsPc r h pc → Halts r s h (Fault cause) → Said (turned.Stopped cause) r s h pc
+faults_say r s h pc cause f g low is_pc m =
+    let e : Entry = Stopped h (Fault cause) in
+    halts_say (turned.Stopped cause) r s h pc (Fault cause) f g m
+    (said_is r s (r.journal ++ e ∷ []) (stop_text cause h pc) m.opening m.journal (said_added r.opening r.journal (seen r) e f.leaves ∙ ap (λ p. said r.opening r.journal ++ stop_text cause h p) (pc_seen r h pc f low is_pc)))
+
+arrivals_say : (r s : Run) (h pc number : ℕ) (temporary : Bool) → Facts r → Facts s → h < length r.minds → IsPc r h pc → Halts r s h (Break number) → temporary ≡ is_temporary r.breaks number → Said (turned.Arrived number temporary) r s h pc
+arrivals_say r s h pc number temporary f g low is_pc m kind =
+    let e : Entry = Stopped h (Break number) in
+    halts_say (turned.Arrived number temporary) r s h pc (Break number) f g m
+    (said_is r s (r.journal ++ e ∷ []) (break_text temporary number h pc) m.opening m.journal
+    (said_added r.opening r.journal (seen r) e f.leaves ∙ (ap (λ p. said r.opening r.journal ++ break_text (is_temporary r.breaks number) number h p) (pc_seen r h pc f low is_pc)
+    ∙ ap (λ b. said r.opening r.journal ++ break_text b number h pc) (sym kind))))
+
+-- a move that nothing shows
+quiets_say : (t : Turned) (r s : Run) (h pc : ℕ) (x : Mind) (p : Phase) (hold : Option Hold) → Rephases r s h x p hold → slice_get r.minds h ≡ Some x → moves_of p < moves_of x.phase → [] ≡ turned_text s t h pc → Said t r s h pc
+quiets_say t r s h pc x p hold m at less text =
+    let set = moves_set r.minds h x (with_phase x p) at in
+    let fewer : moves s.minds < moves r.minds = omega (arith, ap moves m.minds) in
+    let shown : work_of (stage_of s) ≡ 33 * (r.opening.settings.budget - (seen r).retired) + (33 * running (seen r).harts + moves s.minds) =
+        ap (λ o. 33 * (o.settings.budget - (seen s).retired) + (33 * running (seen s).harts + moves s.minds)) m.opening
+        ∙ ap (λ (u : State). 33 * (r.opening.settings.budget - u.retired) + (33 * running u.harts + moves s.minds)) m.seen in
+    record {
+      opening = m.opening;
+      said = said_is r s r.journal (turned_text s t h pc) m.opening m.journal (sym (append-nil (said r.opening r.journal)) ∙ ap (λ u. said r.opening r.journal ++ u) text);
+      did = ap did m.journal;
+      work = omega (arith, shown);
     }
 
 abbrev pub HasMoved : Turned → Type 0
 HasMoved turned.Over = ⊥
 HasMoved turned.NotRunning = ⊥
+HasMoved (turned.Held by) = ⊥
+HasMoved turned.Planted = Unit {0}
+HasMoved turned.Lifted = Unit {0}
 HasMoved turned.Ran = Unit {0}
 HasMoved (turned.Wrote addr len) = Unit {0}
 HasMoved (turned.Left code) = Unit {0}
 HasMoved (turned.AllLeft code count) = Unit {0}
 HasMoved (turned.Stopped cause) = Unit {0}
+HasMoved (turned.Arrived number temporary) = Unit {0}
 
-says : (t : Turned) (r s : Run) (h pc : ℕ) → Facts r → h < length r.minds → IsPc r h pc → HasMoved t → Turns t r s h → Said t r s h pc
-says turned.Over r s h pc f low is moved m = absurd moved
-says turned.NotRunning r s h pc f low is moved m = absurd moved
-says turned.Ran r s h pc f low is moved m = runs_say turned.Ran r s h pc [] f m nothing_written
-says (turned.Wrote addr len) r s h pc f low is moved m = runs_say (turned.Wrote addr len) r s h pc m.0 f m.3 (ap stream_of (sym m.2))
-says (turned.Left code) r s h pc f low is moved m = exits_say (turned.Left code) r s h pc 1 code f m refl
-says (turned.AllLeft code count) r s h pc f low is moved m = exits_say (turned.AllLeft code count) r s h pc count code f m refl
-says (turned.Stopped cause) r s h pc f low is moved m = faults_say r s h pc cause f low is m
+says : (t : Turned) (r s : Run) (h pc : ℕ) → Facts r → Facts s → h < length r.minds → IsPc r h pc → HasMoved t → Turns t r s h → Said t r s h pc
+says turned.Over r s h pc f g low is moved m = absurd moved
+says turned.NotRunning r s h pc f g low is moved m = absurd moved
+says (turned.Held by) r s h pc f g low is moved m = absurd moved
+says turned.Planted r s h pc f g low is moved m =
+    quiets_say turned.Planted r s h pc m.mind phase.Idle None m.rephases m.at (let e = ap moves_of m.ran in omega arith) refl
+says turned.Lifted r s h pc f g low is moved m =
+    quiets_say turned.Lifted r s h pc m.mind (phase.Lifted m.home) (Some (record { hart = h; home = m.home })) m.rephases m.at (let e = ap moves_of m.idle in omega arith) refl
+says turned.Ran r s h pc f g low is moved m = runs_say turned.Ran r s h pc [] f g m nothing_written
+says (turned.Wrote addr len) r s h pc f g low is moved m = runs_say (turned.Wrote addr len) r s h pc m.0 f g m.3 (ap stream_of (sym m.2))
+says (turned.Left code) r s h pc f g low is moved m = exits_say (turned.Left code) r s h pc 1 code f g m refl
+says (turned.AllLeft code count) r s h pc f g low is moved m = exits_say (turned.AllLeft code count) r s h pc count code f g m refl
+says (turned.Stopped cause) r s h pc f g low is moved m = faults_say r s h pc cause f g low is m
+says (turned.Arrived number temporary) r s h pc f g low is moved m = arrivals_say r s h pc number temporary f g low is m.0 m.1
 
 spared : {t : Turned} {e s : Run} {n h pc : ℕ} → Said t (record e { spare = n }) s h pc → Said t e s h pc
 spared d = record { opening = d.opening; said = d.said; did = d.did; work = d.work }
 
 -- the same of an engine before its room was made
-pub turn_says : (t : Turned) (e r s : Run) (h pc : ℕ) → r ≡ record e { spare = r.spare } → Facts r → h < length e.minds → IsPc r h pc → HasMoved t → Turns t r s h → Said t e s h pc
-turn_says t e r s h pc is f low is_pc moved m =
+pub turn_says : (t : Turned) (e r s : Run) (h pc : ℕ) → r ≡ record e { spare = r.spare } → Facts r → Facts s → h < length e.minds → IsPc r h pc → HasMoved t → Turns t r s h → Said t e s h pc
+turn_says t e r s h pc is f g low is_pc moved m =
     let P : Run → Type 0 = λ q. Facts q → IsPc q h pc → Turns t q s h → Said t e s h pc in
-    let same : (g : Facts (record e { spare = r.spare })) → IsPc (record e { spare = r.spare }) h pc → Turns t (record e { spare = r.spare }) s h → Said t e s h pc = λ g p n. spared (says t (record e { spare = r.spare }) s h pc g low p moved n) in
+    let same : (f : Facts (record e { spare = r.spare })) → IsPc (record e { spare = r.spare }) h pc → Turns t (record e { spare = r.spare }) s h → Said t e s h pc = λ f p n. spared (says t (record e { spare = r.spare }) s h pc f g low p moved n) in
     subst P (sym is) same f is_pc m
 
 -- a line that was done
@@ -195,14 +257,14 @@ pub record DoneSaid (r s : Run) (line : List ℕ) (answer : Reply) : Type 0 wher
   pub opening : s.opening ≡ r.opening
   pub said : said_by (stage_of s) ≡ said_by (stage_of r) ++ reply_text answer
   pub did : did s.journal ≡ did r.journal ++ line ∷ []
-  pub work : work_of (stage_of s) ≤ work_of (stage_of r) + 1
+  pub work : work_of (stage_of s) ≤ work_of (stage_of r) + 560
 
-pub does_say : (r s : Run) (line : List ℕ) (answer : Reply) → Facts r → Does r s line answer → DoneSaid r s line answer
-does_say r s line answer f m =
-    let d = done_running (seen r) line in
-    let retired : s.retired ≡ r.retired = ap (λ (q : State). q.retired) m.seen ∙ d.1 in
-    let run : running (seen s).harts ≤ running (seen r).harts + 1 = let e = ap (λ (q : State). running q.harts) m.seen in let le = d.0 in omega arith in
-    let P : Opening → Type 0 = λ o. 2 * (o.settings.budget - s.retired) + running (seen s).harts ≤ work_of (stage_of r) + 1 in
+pub does_say : (r s : Run) (line : List ℕ) (answer : Reply) → Facts r → Facts s → Does r s line answer → DoneSaid r s line answer
+does_say r s line answer f g m =
+    let retired : s.retired ≡ r.retired = ap (λ (q : State). q.retired) m.seen ∙ done_retired r.opening (seen r) line in
+    let run = few_run s g in
+    let few = few_moves s g in
+    let P : Opening → Type 0 = λ o. 33 * (o.settings.budget - s.retired) + (33 * running (seen s).harts + moves s.minds) ≤ work_of (stage_of r) + 560 in
     record {
       opening = m.opening;
       said = said_is r s (r.journal ++ Did line ∷ []) (reply_text answer) m.opening m.journal (said_added r.opening r.journal (seen r) (Did line) f.leaves ∙ ap (λ a. said r.opening r.journal ++ reply_text a) (sym m.answers));
@@ -213,21 +275,25 @@ does_say r s line answer f m =
 has_moved_so : (t : Turned) → has_moved t ≡ true → HasMoved t
 has_moved_so turned.Over is = cc
 has_moved_so turned.NotRunning is = cc
+has_moved_so (turned.Held by) is = cc
+has_moved_so turned.Planted is = tt
+has_moved_so turned.Lifted is = tt
 has_moved_so turned.Ran is = tt
 has_moved_so (turned.Wrote addr len) is = tt
 has_moved_so (turned.Left code) is = tt
 has_moved_so (turned.AllLeft code count) is = tt
 has_moved_so (turned.Stopped cause) is = tt
+has_moved_so (turned.Arrived number temporary) is = tt
 
 spare_facts : (e : Run) (n : ℕ) → Facts e → Facts (record e { spare = n })
-spare_facts e n f = record { leaves = f.leaves; settings = f.settings; harts = f.harts; cores = f.cores; text = f.text; retired = f.retired }
+spare_facts e n f = record { leaves = f.leaves; settings = f.settings; count = f.count; harts = f.harts; planted = f.planted; texts = f.texts; retired = f.retired }
 
 pub made_room : (e r : Run) → r ≡ record e { spare = r.spare } → Facts e → Facts r
 made_room e r is f = subst Facts (sym is) (spare_facts e r.spare f)
 
 -- a turn that moved
-pub moved : (t : Turned) (e r s : Run) (h pc : ℕ) → r ≡ record e { spare = r.spare } → Facts e → h < length e.minds → IsPc r h pc → true ≡ has_moved t → Turns t r s h → Said t e s h pc
-moved t e r s h pc is f low is_pc does m = turn_says t e r s h pc is (made_room e r is f) low is_pc (has_moved_so t (sym does)) m
+pub moved : (t : Turned) (e r s : Run) (h pc : ℕ) → r ≡ record e { spare = r.spare } → Facts e → Facts s → h < length e.minds → IsPc r h pc → true ≡ has_moved t → Turns t r s h → Said t e s h pc
+moved t e r s h pc is f g low is_pc does m = turn_says t e r s h pc is (made_room e r is f) g low is_pc (has_moved_so t (sym does)) m
 
 and_false : (b : Bool) → (b && false) ≡ false
 and_false true = refl
@@ -236,7 +302,7 @@ and_false false = refl
 -- a turn that didn't move
 pub record Stands (e s : Run) (h : ℕ) : Type 0 where
   pub stage : stage_of s ≡ stage_of e
-  pub why : (may_go e.opening (seen e) && runs_at (seen e).harts h) ≡ false
+  pub why : (may_go e.opening (seen e) && moves_at (stage_of e) h) ≡ false
 
 idle : (a : Activity) → is_active a ≡ false → is_running (mode_of a) ≡ false
 idle activity.Stopped is = refl
@@ -244,18 +310,26 @@ idle activity.Running is = cc
 idle activity.Exited is = refl
 
 stands : (t : Turned) (r s : Run) (h : ℕ) → Facts r → h < length r.minds → has_moved t ≡ false → Turns t r s h → Stands r s h
-stands turned.Over r s h f low no_move m = record { stage = ap stage_of m.0; why = ap (λ b. b && runs_at (seen r).harts h) m.1 }
+stands turned.Over r s h f low no_move m = record { stage = ap stage_of m.0; why = ap (λ b. b && moves_at (stage_of r) h) m.1 }
 stands turned.NotRunning r s h f low no_move m =
-    let low_core : h < length r.machine.cores = omega (arith, f.cores) in
+    let low_core : h < length r.machine.cores = omega (arith, f.harts.len) in
     let c = get_within r.machine.cores h low_core in
     let x = get_within r.minds h low in
     let at = seen_at r.machine.cores r.minds h c.0 x.0 c.1 x.1 in
-    record { stage = ap stage_of m.0; why = ap (λ b. may_go r.opening (seen r) && b) (ap runs_as at ∙ idle x.0.activity (m.1 x.0 x.1)) ∙ and_false (may_go r.opening (seen r)) }
+    record { stage = ap stage_of m.0; why = ap (λ b. may_go r.opening (seen r) && (b && is_free r.hold h)) (ap runs_as at ∙ idle x.0.activity (m.1 x.0 x.1)) ∙ and_false (may_go r.opening (seen r)) }
+stands (turned.Held by) r s h f low no_move m =
+    record {
+      stage = ap stage_of m.0;
+      why = ap (λ d. may_go r.opening (seen r) && (runs_at (seen r).harts h && is_none d)) m.1 ∙ (ap (λ b. may_go r.opening (seen r) && b) (and_false (runs_at (seen r).harts h)) ∙ and_false (may_go r.opening (seen r)));
+    }
+stands turned.Planted r s h f low no_move m = cc
+stands turned.Lifted r s h f low no_move m = cc
 stands turned.Ran r s h f low no_move m = cc
 stands (turned.Wrote addr len) r s h f low no_move m = cc
 stands (turned.Left code) r s h f low no_move m = cc
 stands (turned.AllLeft code count) r s h f low no_move m = cc
 stands (turned.Stopped cause) r s h f low no_move m = cc
+stands (turned.Arrived number temporary) r s h f low no_move m = cc
 
 stands_spared : (e s : Run) (h n : ℕ) → Stands (record e { spare = n }) s h → Stands e s h
 stands_spared e s h n d = record { stage = d.stage; why = d.why }

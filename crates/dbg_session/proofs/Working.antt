@@ -1,25 +1,28 @@
 -- How much the harts can still do.
-use Rattle.std.proofs.Common.{◌≡◌, ◌<◌, ◌≤◌, ℕ, zero, suc, ◌+◌, ◌-◌, Bool, true, cond, List, [], ◌∷◌, ◌++◌, refl, sym, ap, arith, subst, not, nat_lt}
+use Rattle.std.proofs.Common.{◌≡◌, ◌<◌, ◌≤◌, ℕ, zero, suc, ◌+◌, ◌-◌, ◌*◌, Bool, true, false, cond, List, [], ◌∷◌, ◌++◌, length, refl, sym, ap, arith, subst, not, nat_lt}
 use Rattle.std.specs.Prelude.{Option, Some, None, ◌&&◌, ◌==◌, map, slice_get, slice_set}
 use Rattle.std.proofs.lemmas.Bool.Decides.{nat_tests}
 use Rattle.plain_machine.specs.Environment.{Answer, Traps, Goes, Leave, Stays, LeavesAlone, LeavesAll}
 use Rattle.plain_machine.specs.Plain.{plain}
 use Rattle.rv_exec.specs.declared.effect.Cause.{Cause}
 use Rattle.rv_exec.specs.Causes.{cause_number}
-use Rattle.dbg_model.specs.declared.command.Reply.{Reply}
-use Rattle.dbg_model.specs.declared.command.Reply.TheVariants as reply
 use Rattle.dbg_model.specs.declared.entry.Mode.{Mode}
 use Rattle.dbg_model.specs.declared.entry.Mode.TheVariants as mode
-use Rattle.dbg_model.specs.declared.entry.Why.TheVariants.{Fault}
+use Rattle.dbg_model.specs.declared.entry.Why.{Why}
+use Rattle.dbg_model.specs.declared.entry.Why.TheVariants.{Break, Fault}
+use Rattle.dbg_model.specs.Breaks.{settled}
 use Rattle.dbg_model.specs.declared.entry.Entry.TheVariants.{Stopped}
 use Rattle.dbg_model.specs.declared.limits.TheConstants.{HISTORY}
 use Rattle.dbg_model.specs.declared.opening.Opening.{Opening}
-use Rattle.dbg_model.specs.State.{Hart, State, hart_runs, any_leaves, is_running}
-use Rattle.dbg_model.specs.Reply.{done_by, reply_of, harts_after, resumed_at, resumed}
-use Rattle.dbg_model.specs.Lawful.{one, one_by, enter, may_go, may_run, stepped_by, stepped, stopped, with_stop, faulted_by, stopped_by, with_leavers, leaving, leaving_at}
+use Rattle.dbg_model.specs.State.{Hart, State, hart_runs, any_leaves, is_running, due, is_due}
+use Rattle.dbg_model.specs.Reply.{done_by}
+use Rattle.dbg_model.specs.Lawful.{one, one_by, enter, may_go, may_move, may_run, is_number, stepped_by, stepped, stopped, with_stop, faulted_by, stopped_by, with_leavers, leaving, leaving_at}
 use Rattle.dbg_model.specs.Leaving.{gone, gone_by}
 use Rattle.dbg_model.proofs.Options.{guard_some, same_some, both_true}
-use Rattle.dbg_session.specs.Stage.{running, runs_at, runs_as}
+use Rattle.engine_facts.specs.declared.mind.Mind.{Mind}
+use Rattle.engine_facts.specs.declared.mind.Phase.{Phase}
+use Rattle.engine_facts.specs.declared.mind.Phase.TheVariants as phase
+use Rattle.dbg_session.specs.Stage.{running, moves, moves_of, runs_at, runs_as}
 
 abbrev one_if : Bool → ℕ
 one_if b = cond b 1 0
@@ -85,8 +88,8 @@ go_below o s may =
 one_by_works : (o : Opening) (s t : State) (h : ℕ) (r : Option Hart) → slice_get s.harts h ≡ r → one_by o s h r ≡ Some t → Worked o s t
 one_by_works o s t h None at is = cc
 one_by_works o s t h (Some x) at is =
-    let g = guard_some (may_run o s x) (stepped_by (plain o.image x.regs s.memory) s h x) t is in
-    answer_works o (plain o.image x.regs s.memory) s t h x at (go_below o s (both_true (may_go o s) (is_running x.mode) g.0).0) g.1
+    let g = guard_some (may_run o s h x) (stepped_by (plain o.image x.regs s.memory) s h x) t is in
+    answer_works o (plain o.image x.regs s.memory) s t h x at (go_below o s (both_true (may_go o s) (is_running x.mode) (both_true (may_move o s x) (not (is_due s.breaks h x)) g.0).0).0) g.1
 
 pub one_works : (o : Opening) (h : ℕ) (s t : State) → one o h s ≡ Some t → Worked o s t
 unfolding one
@@ -105,30 +108,51 @@ fault_halts (Traps met) cause s t h x at runs is =
     subst (λ (v : State). Halted s v) (same_some (with_stop s h x) t g.1) (record { retired = refl; running = omega arith })
 fault_halts (Goes r m out leave) cause s t h x at runs is = cc
 
-stop_halts : (o : Opening) (cause : Cause) (s t : State) (h : ℕ) (r : Option Hart) → slice_get s.harts h ≡ r → stopped_by o s h (Fault cause) r ≡ Some t → Halted s t
-stop_halts o cause s t h None at is = cc
-stop_halts o cause s t h (Some x) at is =
-    let g = guard_some (may_run o s x) (faulted_by (plain o.image x.regs s.memory) cause s h x) t is in
-    fault_halts (plain o.image x.regs s.memory) cause s t h x at (both_true (may_go o s) (is_running x.mode) g.0).1 g.1
+stop_halts : (o : Opening) (why : Why) (s t : State) (h : ℕ) (r : Option Hart) → slice_get s.harts h ≡ r → stopped_by o s h why r ≡ Some t → Halted s t
+stop_halts o (Break number) s t h None at is = cc
+stop_halts o (Fault cause) s t h None at is = cc
+stop_halts o (Break number) s t h (Some x) at is =
+    let u : State = record (with_stop s h x) { breaks = settled s.breaks h x.regs.pc } in
+    let g = guard_some (may_move o s x && is_number (due s.breaks h x) number) (Some u) t is in
+    let runs = (both_true (may_go o s) (is_running x.mode) (both_true (may_move o s x) (is_number (due s.breaks h x) number) g.0).0).1 in
+    let set = running_set s.harts h x (stopped x) at in
+    let one : one_if (hart_runs x) ≡ 1 = ap one_if runs in
+    subst (λ (v : State). Halted s v) (same_some u t g.1) (record { retired = refl; running = omega arith })
+stop_halts o (Fault cause) s t h (Some x) at is =
+    let g = guard_some (may_run o s h x) (faulted_by (plain o.image x.regs s.memory) cause s h x) t is in
+    fault_halts (plain o.image x.regs s.memory) cause s t h x at (both_true (may_go o s) (is_running x.mode) (both_true (may_move o s x) (not (is_due s.breaks h x)) g.0).0).1 g.1
 
-pub halts : (o : Opening) (cause : Cause) (h : ℕ) (s t : State) → enter o s (Stopped h (Fault cause)) ≡ Some t → Halted s t
+pub halts : (o : Opening) (why : Why) (h : ℕ) (s t : State) → enter o s (Stopped h why) ≡ Some t → Halted s t
 unfolding enter
-halts o cause h s t is = stop_halts o cause s t h (slice_get s.harts h) refl is
+halts o why h s t is = stop_halts o why s t h (slice_get s.harts h) refl is
 
--- a line resumes at most one hart
-resumes_one : (xs : List Hart) (h : ℕ) (r : Option Hart) → slice_get xs h ≡ r → running (resumed_at xs h r) ≤ running xs + 1
-resumes_one xs h None at = omega arith
-resumes_one xs h (Some x) at = let set = running_set xs h x (resumed x) at in omega arith
-
-after_running : (xs : List Hart) (a : Reply) → running (harts_after xs a) ≤ running xs + 1
-after_running xs (reply.Resumed thread) = resumes_one xs (thread - 1) (slice_get xs (thread - 1)) refl
-after_running xs reply.NotBuilt = omega arith
-after_running xs (reply.HasExited thread) = omega arith
-after_running xs (reply.IsRunning thread) = omega arith
-
-pub done_running : (s : State) (line : List ℕ) → (running (done_by s line).harts ≤ running s.harts + 1) × ((done_by s line).retired ≡ s.retired)
+pub done_retired : (o : Opening) (s : State) (line : List ℕ) → (done_by o s line).retired ≡ s.retired
 unfolding done_by
-done_running s line = (after_running s.harts (reply_of s line), refl)
+done_retired o s line = refl
+
+-- ---- how much there is at most
+
+running_one : (b : Bool) → cond b 1 0 ≤ 1
+running_one true = omega arith
+running_one false = omega arith
+
+pub running_most : (xs : List Hart) → running xs ≤ length xs
+running_most [] = omega arith
+running_most (x ∷ xs) = let one = running_one (hart_runs x) in let ih = running_most xs in omega arith
+
+moves_one : (p : Phase) → moves_of p ≤ 2
+moves_one phase.Idle = omega arith
+moves_one (phase.Lifted home) = omega arith
+moves_one (phase.Ran home) = omega arith
+
+pub moves_most : (xs : List Mind) → moves xs ≤ 2 * length xs
+moves_most [] = omega arith
+moves_most (x ∷ xs) = let one = moves_one x.phase in let ih = moves_most xs in omega arith
+
+pub moves_set : (xs : List Mind) (h : ℕ) (x y : Mind) → slice_get xs h ≡ Some x → moves (slice_set xs h y) + moves_of x.phase ≡ moves xs + moves_of y.phase
+moves_set [] h x y at = cc
+moves_set (z ∷ zs) zero x y at = let same = ap (λ (w : Mind). moves_of w.phase) (same_some z x at) in omega arith
+moves_set (z ∷ zs) (suc h) x y at = let ih = moves_set zs h x y at in omega arith
 
 -- a hart that runs is among the harts
 pub some_runs : (xs : List Hart) (h : ℕ) (x : Hart) → slice_get xs h ≡ Some x → runs_at xs h ≡ hart_runs x

@@ -15,7 +15,7 @@ use Rattle.dbg_model.specs.Journals.{Leaves, did, noted}
 use Rattle.dbg_model.specs.Erase.{erase}
 use Rattle.dbg_model.specs.declared.limits.TheConstants.{HISTORY, MOST_INPUT}
 use Rattle.dbg_engine.specs.declared.engine.Closed.{Closed}
-use Rattle.dbg_engine.specs.Facts.{Retired}
+use Rattle.engine_facts.specs.Facts.{Planted, Retired}
 use Rattle.dbg_session.specs.Words.{served_words, IsWhole}
 use Rattle.dbg_session.specs.Left.{core_registers, plain_registers}
 use Rattle.dbg_session.specs.Ties.{Opened, Written, IsCut, Clean}
@@ -54,6 +54,8 @@ pub record Headline (status : Status) (t : Told) (c : Closed) : Type 0 where
   pub registers : plain_registers plain.harts ≡ core_registers c.machine.cores
   pub memory : plain.memory ≡ c.machine.memory
   pub output : plain.out ≡ state.out
+  -- its text is the program's, with EBREAK planted exactly where an enabled breakpoint of that state stands
+  pub planted : Planted c.opening.image c.machine.text state.breaks None
   -- the machine executed each hart's instructions
   pub retired : Retired c.machine.cores c.journal
   -- what was written is what was said

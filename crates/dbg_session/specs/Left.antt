@@ -1,12 +1,12 @@
 -- What is left of a session.
-use Rattle.std.specs.Prelude.{◌≡◌, List, map}
+use Rattle.std.specs.Prelude.{◌≡◌, List, None, map}
 use Rattle.rv_exec.specs.Registers.{Registers}
 use Rattle.plain_machine.specs.PlainRun.{PlainHart}
 use Rattle.hart_machine.specs.declared.hart.Core.{Core}
 use Rattle.dbg_model.specs.State.{Hart}
 use Rattle.dbg_model.specs.Journals.{Leaves}
 use Rattle.dbg_engine.specs.declared.engine.Closed.{Closed}
-use Rattle.dbg_engine.specs.Facts.{Retired}
+use Rattle.engine_facts.specs.Facts.{Planted, Retired}
 use Rattle.dbg_session.specs.Stage.{Stage}
 
 -- the registers of harts, as the machine, the journal's state and the plain run have them
@@ -26,4 +26,6 @@ pub record IsLeft (r : Stage) (c : Closed) : Type 0 where
   pub leaves : Leaves c.opening c.journal r.state
   pub registers : core_registers c.machine.cores ≡ hart_registers r.state.harts
   pub memory : c.machine.memory ≡ r.state.memory
+  -- a patch is planted exactly where an enabled breakpoint stands
+  pub planted : Planted c.opening.image c.machine.text r.state.breaks None
   pub retired : Retired c.machine.cores c.journal

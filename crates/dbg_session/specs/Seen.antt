@@ -1,6 +1,7 @@
 -- What a session is seen as.
 use Rattle.std.specs.Prelude.{◌≡◌, ◌<◌, ◌||◌, ◌&&◌, not, ℕ, Bool, true, false, Option, None, Some}
-use Rattle.dbg_session.specs.Stage.{Stage, runs_at}
+use Rattle.dbg_session.specs.Stage.{Stage, moves_at}
+use Rattle.dbg_session.specs.Steps.{can_do}
 use Rattle.dbg_session.specs.Ties.{Taken, session_work}
 use Rattle.dbg_session.specs.Taking.{has_line}
 use Rattle.dbg_model.specs.State.{any_runs}
@@ -32,19 +33,19 @@ abbrev pub no_input : {W : Type 0} → Seen W → Bool
 no_input s = (s.input.ended || any_runs s.run.state.harts) || has_line s.input.ended s.input.rest
 
 abbrev pub no_line : {W : Type 0} → Seen W → Bool
-no_line s = not (may_go s.run.opening s.run.state && has_line s.input.ended s.input.rest)
+no_line s = not (can_do s.run s.input.ended s.input.rest)
 
 abbrev pub no_move : {W : Type 0} → Seen W → Bool
 no_move s = not (may_go s.run.opening s.run.state && any_runs s.run.state.harts)
 
 abbrev pub no_turn : {W : Type 0} → ℕ → Seen W → Bool
-no_turn h s = not (may_go s.run.opening s.run.state && runs_at s.run.state.harts h)
+no_turn h s = not (may_go s.run.opening s.run.state && moves_at s.run h)
 
 -- the session isn't over, and not all is done
 abbrev pub is_open : {W : Type 0} → Seen W → Bool
 is_open s = (may_go s.run.opening s.run.state) && not ((s.input.ended && not (any_runs s.run.state.harts)) && not (has_line true s.input.rest))
 
--- the hart that was picked runs; none was, where none runs
+-- the hart that was picked can be moved; none was, where none runs
 abbrev pub Picks : Option ℕ → Stage → Type 0
 Picks None r = any_runs r.state.harts ≡ false
-Picks (Some h) r = runs_at r.state.harts h ≡ true
+Picks (Some h) r = moves_at r h ≡ true

@@ -1,27 +1,44 @@
 -- What a session's engine is seen as.
-use Rattle.std.specs.Prelude.{ℕ, ◌+◌, ◌-◌, ◌*◌, Bool, false, cond, List, [], ◌∷◌, Option, Some, None, slice_get}
+use Rattle.std.specs.Prelude.{ℕ, ◌+◌, ◌-◌, ◌*◌, ◌&&◌, Bool, false, cond, List, [], ◌∷◌, Option, Some, None, is_none, slice_get}
 use Rattle.dbg_model.specs.declared.entry.Entry.{Entry}
 use Rattle.dbg_model.specs.declared.opening.Opening.{Opening}
 use Rattle.dbg_model.specs.State.{Hart, State, hart_runs}
-use Rattle.dbg_engine.specs.Seen.{Run, seen}
+use Rattle.engine_facts.specs.declared.mind.Hold.{Hold}
+use Rattle.engine_facts.specs.declared.mind.Mind.{Mind}
+use Rattle.engine_facts.specs.declared.mind.Phase.{Phase}
+use Rattle.engine_facts.specs.declared.mind.Phase.TheVariants as phase
+use Rattle.engine_facts.specs.Facts.{other_holder}
+use Rattle.engine_facts.specs.Seen.{Run, seen}
 
--- how the session began, its journal, and the state that the journal leaves
+-- how the session began, its journal, the state that the journal leaves, and where its harts are in steps over breakpoints
 pub record Stage : Type 0 where
   pub opening : Opening
   pub journal : List Entry
   pub state : State
+  pub minds : List Mind
+  pub hold : Option Hold
 
 abbrev pub stage_of : Run → Stage
-stage_of r = record { opening = r.opening; journal = r.journal; state = seen r }
+stage_of r = record { opening = r.opening; journal = r.journal; state = seen r; minds = r.minds; hold = r.hold }
 
 -- how many harts run
 abbrev pub running : List Hart → ℕ
 running [] = 0
 running (x ∷ xs) = cond (hart_runs x) 1 0 + running xs
 
--- how much the harts can still do
+-- the moves without an instruction that may still come: lifting a patch, and planting it again
+abbrev pub moves_of : Phase → ℕ
+moves_of phase.Idle = 1
+moves_of (phase.Lifted home) = 0
+moves_of (phase.Ran home) = 2
+
+abbrev pub moves : List Mind → ℕ
+moves [] = 0
+moves (x ∷ xs) = moves_of x.phase + moves xs
+
+-- how much the harts can still do; 16 harts have 32 such moves at most
 abbrev pub work_of : Stage → ℕ
-work_of r = 2 * (r.opening.settings.budget - r.state.retired) + running r.state.harts
+work_of r = 33 * (r.opening.settings.budget - r.state.retired) + (33 * running r.state.harts + moves r.minds)
 
 abbrev pub runs_as : Option Hart → Bool
 runs_as None = false
@@ -30,3 +47,11 @@ runs_as (Some x) = hart_runs x
 -- whether a hart runs
 abbrev pub runs_at : List Hart → ℕ → Bool
 runs_at xs h = runs_as (slice_get xs h)
+
+-- whether no other hart is stepping over a breakpoint
+abbrev pub is_free : Option Hold → ℕ → Bool
+is_free hold h = is_none (other_holder hold h)
+
+-- whether a hart can be moved
+abbrev pub moves_at : Stage → ℕ → Bool
+moves_at r h = runs_at r.state.harts h && is_free r.hold h

@@ -4,11 +4,11 @@ use Rattle.dbg_traits.specs.Told.{Told, more, with_ask}
 use Rattle.dbg_traits.specs.Causes.{Rose}
 use Rattle.dbg_session.specs.Puts.{PutsAll}
 use Rattle.mi_reports.specs.Said.{said}
-use Rattle.mi_input.specs.Lines.{IsNext}
-use Rattle.dbg_model.specs.Lawful.{may_go}
+use Rattle.mi_input.specs.Lines.{lines, IsNext}
+use Rattle.dbg_model.specs.Lawful.{may_go, may_do}
 use Rattle.dbg_model.specs.Journals.{did}
-use Rattle.dbg_session.specs.Stage.{Stage, work_of, runs_at}
-use Rattle.dbg_session.specs.Taking.{has_line}
+use Rattle.dbg_session.specs.Taking.{first_waits}
+use Rattle.dbg_session.specs.Stage.{Stage, work_of, moves_at}
 use Rattle.dbg_session.specs.declared.steps.Turn.{Turn}
 use Rattle.dbg_session.specs.declared.steps.Turn.TheVariants as turn
 use Rattle.dbg_session.specs.declared.steps.Done.{Done}
@@ -32,10 +32,19 @@ pub record Keeps (t u : Told) (r s : Stage) : Type 0 where
   pub told : u ≡ t
 
 abbrev pub Turns : Turn → ℕ → Told → Told → Stage → Stage → Type 0
-Turns turn.Stood h t u r s = (u ≡ t) × (s ≡ r) × ((may_go r.opening r.state && runs_at r.state.harts h) ≡ false)
+Turns turn.Stood h t u r s = (u ≡ t) × (s ≡ r) × ((may_go r.opening r.state && moves_at r h) ≡ false)
 Turns turn.Moved h t u r s = Says t u r s true × (work_of s < work_of r)
 Turns turn.Unput h t u r s = Says t u r s false
 Turns turn.NoMemory h t u r s = Keeps t u r s
+
+-- whether the first of the lines may be done
+abbrev pub first_may : Stage → List (List ℕ) → Bool
+first_may r [] = false
+first_may r (line ∷ more) = may_do r.opening r.state line
+
+-- whether a whole line stands in the rest, and may be done
+abbrev pub can_do : Stage → Bool → List ℕ → Bool
+can_do r ended rest = first_may r (lines rest ended)
 
 -- a line of the rest was done
 pub record DoesLine (ended : Bool) (rest : List ℕ) (next : ℕ) (r s : Stage) : Type 0 where
@@ -46,8 +55,9 @@ pub record DoesLine (ended : Bool) (rest : List ℕ) (next : ℕ) (r s : Stage) 
   pub did : did s.journal ≡ did r.journal ++ line ∷ []
 
 abbrev pub Does : Done → Bool → List ℕ → Told → Told → Stage → Stage → Type 0
-Does done.Nothing ended rest t u r s = (u ≡ t) × (s ≡ r) × ((may_go r.opening r.state && has_line ended rest) ≡ false)
-Does (done.Done next) ended rest t u r s = Says t u r s true × DoesLine ended rest next r s × (work_of s ≤ work_of r + 1)
+Does done.Nothing ended rest t u r s = (u ≡ t) × (s ≡ r) × (can_do r ended rest ≡ false)
+Does done.Waits ended rest t u r s = (u ≡ t) × (s ≡ r) × (first_waits (lines rest ended) ≡ true) × (can_do r ended rest ≡ false)
+Does (done.Done next) ended rest t u r s = Says t u r s true × DoesLine ended rest next r s × (work_of s ≤ work_of r + 560)
 Does (done.Unput next) ended rest t u r s = Says t u r s false × DoesLine ended rest next r s
 Does done.NoMemory ended rest t u r s = (u ≡ t) × (s ≡ r)
 Does (done.Unsaid next) ended rest t u r s = Keeps t u r s × DoesLine ended rest next r s

@@ -25,15 +25,18 @@ pub struct Session<W: World> {
     start: usize,
     count: u64,
     ended: bool,
+    // Whether the next line is known to wait until no hart runs.
+    waits: bool,
     // The hart after the one that was picked last.
     next: usize,
     status: Option<Status>,
 }
 
 impl<W: World> Model for Session<W> {
-    ghost use Rattle.std.specs.Prelude.{◌≤◌, ◌<◌, ◌^◌, length, vec_len};
+    ghost use Rattle.std.specs.Prelude.{◌≤◌, ◌<◌, ◌^◌, length, drop, vec_len};
     ghost use Rattle.dbg_session.specs.Seen.{Seen};
     ghost use Rattle.dbg_session.specs.Ties.{IsTied, IsCounted};
+    ghost use Rattle.dbg_session.specs.Taking.{WaitsFor};
     ghost use Rattle.dbg_session.specs.Stage.{stage_of};
     ghost use Rattle.std.specs.Coded.{codes};
 
@@ -48,7 +51,7 @@ impl<W: World> Model for Session<W> {
 
     ghost view = { seen_of };
 
-    ghost invariant = { λ s. IsTied s.status (W.told s.world) (stage_of s.engine) (taken_of s) × (s.start ≤ vec_len s.buffer) × IsCounted s.status s.count };
+    ghost invariant = { λ s. IsTied s.status (W.told s.world) (stage_of s.engine) (taken_of s) × (s.start ≤ vec_len s.buffer) × IsCounted s.status s.count × WaitsFor s.waits s.ended (drop s.start s.buffer.items) };
 }
 
 // The status after a put.
@@ -93,6 +96,7 @@ impl<W: World> Session<W> {
             start: 0,
             count: 0,
             ended: false,
+            waits: false,
             next: 0,
             status,
         }
@@ -109,6 +113,7 @@ impl<W: World> Session<W> {
         if next_line(&self.buffer[self.start..], false).is_some() {
             return false;
         }
+        self.waits = false;
         let wait = !self.engine.any_running();
         match input_once(&mut self.world, &mut self.buffer, wait) {
             Input::Took(n) => {
@@ -137,6 +142,10 @@ impl<W: World> Session<W> {
         requires { self.old.status ≡ None }
         ensures { GotOn result self.old self.new (no_line self.old) }
     {
+        if self.waits && self.engine.any_running() {
+            return false;
+        }
+        self.waits = false;
         match line_once(
             self.alloc,
             &mut self.world,
@@ -145,6 +154,10 @@ impl<W: World> Session<W> {
             self.ended,
         ) {
             Done::Nothing => false,
+            Done::Waits => {
+                self.waits = true;
+                false
+            }
             Done::Done(next) => {
                 self.start += next;
                 true
@@ -189,13 +202,13 @@ impl<W: World> Session<W> {
         }
     }
 
-    // The next hart that runs.
+    // The next hart that can be moved: the one that is stepping over a breakpoint, else the next that runs.
     fn pick(&mut self) -> Option<u32>
         ensures same { self.new ≡ self.old }
         ensures picks { Picks result self.old.run }
     {
         self.engine.keep();
-        match self.engine.next_running(self.next) {
+        match self.engine.next_mover(self.next) {
             None => None,
             Some(hart) => {
                 self.next = hart as usize + 1;
@@ -204,7 +217,7 @@ impl<W: World> Session<W> {
         }
     }
 
-    /// Picks the next hart that runs, and turns it while it moves, at most 64 times. True where it got on.
+    /// Picks the next hart that can be moved, and turns it while it moves, at most 64 times. True where it got on.
     fn move_on(&mut self) -> bool
         requires { self.old.status ≡ None }
         ensures { GotOn result self.old self.new (no_move self.old) }
@@ -293,6 +306,7 @@ impl<W: World> Session<W> {
             start: _,
             count: _,
             ended: _,
+            waits: _,
             next: _,
             status,
         } = self;

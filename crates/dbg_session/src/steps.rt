@@ -1,16 +1,19 @@
 // The steps of a session, over its parts.
-ghost use Rattle.std.specs.Prelude.{◌≡◌, ◌<◌, ◌≤◌, length, IfOk, true, false};
+ghost use Rattle.std.specs.Prelude.{◌≡◌, ◌<◌, ◌≤◌, ◌&&◌, length, IfOk, true, false};
+ghost use Rattle.dbg_model.specs.State.{any_runs};
+ghost use Rattle.dbg_model.specs.Reply.{is_wait};
+ghost use Rattle.engine_facts.specs.Seen.{seen};
 ghost use Rattle.dbg_model.specs.Journals.{did};
-ghost use Rattle.dbg_engine.specs.Minds.{IsTurned};
+ghost use Rattle.dbg_engine.specs.Steps.{IsTurned};
 ghost use Rattle.dbg_session.specs.Stage.{stage_of};
 ghost use Rattle.dbg_session.specs.Turned.{turned_text, wrote_text, last_lefts, has_moved};
 ghost use Rattle.dbg_session.specs.Steps.{Turns, Does, Inputs};
 
 use crate::puts::put_all;
-use dbg_engine::{Engine, SPARE, Turned};
-use dbg_traits::{Polled, World};
+use dbg_engine::{Engine, SPARE, Turned, is_wait};
+use dbg_traits::{NoMemory, Polled, World};
 use mi_input::next_line;
-use mi_reports::{lefts_text, reply_text, stop_text, stream_text};
+use mi_reports::{break_text, lefts_text, reply_text, stop_text, stream_text};
 use std::alloc::{AllocError, Global};
 
 /// What one turn did.
@@ -29,6 +32,8 @@ pub enum Turn {
 #[derive(Clone, Copy, Debug, PartialEq, Eq)]
 pub enum Done {
     Nothing,
+    /// It waits until no hart runs.
+    Waits,
     Done(usize),
     /// It was done, and a put of its reply failed.
     Unput(usize),
@@ -85,18 +90,27 @@ fn turned_text(
     ensures { IfOk result (λ v. v.items ≡ turned_text engine.now turned hart pc) }
 {
     match turned {
-        Turned::Over | Turned::NotRunning | Turned::Ran => Ok(Vec::new(alloc)),
+        Turned::Over
+        | Turned::NotRunning
+        | Turned::Held { .. }
+        | Turned::Planted
+        | Turned::Lifted
+        | Turned::Ran => Ok(Vec::new(alloc)),
         Turned::Wrote { addr, len } => wrote_text(alloc, engine, addr, len),
         Turned::Left { code } => last_lefts(alloc, engine, 1, code),
         Turned::AllLeft { code, count } => last_lefts(alloc, engine, count, code),
         Turned::Stopped { cause } => stop_text(alloc, cause, hart, pc),
+        Turned::Arrived { number, temporary } => break_text(alloc, temporary, number, hart, pc),
     }
 }
 
 fn has_moved(turned: Turned) -> bool
     ensures { result ≡ has_moved turned }
 {
-    !matches!(turned, Turned::Over | Turned::NotRunning)
+    !matches!(
+        turned,
+        Turned::Over | Turned::NotRunning | Turned::Held { .. }
+    )
 }
 
 /// One turn of a hart, with its lines.
@@ -118,11 +132,19 @@ pub fn turn_once<W: World>(alloc: Global, world: &mut W, engine: &mut Engine, ha
     let Ok(text) = turned_text(alloc, engine, turned, hart, pc) else {
         return Turn::NoMemory;
     };
+    engine.keep();
     if put_all(world, text.as_slice()) {
         Turn::Moved
     } else {
         Turn::Unput
     }
+}
+
+// Whether a line can't be done yet: it waits, and a hart runs.
+fn must_wait(alloc: Global, engine: &Engine, line: &[u8]) -> Result<bool, NoMemory>
+    ensures { IfOk result (λ b. b ≡ (any_runs (seen engine.now).harts && is_wait line.now)) }
+{
+    Ok(engine.any_running() && is_wait(alloc, line)?)
 }
 
 /// The next line of the rest of the input, with its reply.
@@ -143,10 +165,17 @@ pub fn line_once<W: World>(
     let Some((text, next)) = next_line(rest, ended) else {
         return Done::Nothing;
     };
-    let Ok(reply) = engine.command(&rest[..text]) else {
+    let line = &rest[..text];
+    match must_wait(alloc, engine, line) {
+        Ok(false) => {}
+        Ok(true) => return Done::Waits,
+        Err(_) => return Done::NoMemory,
+    }
+    let Ok(reply) = engine.command(line) else {
         return Done::NoMemory;
     };
-    let Ok(lines) = reply_text(alloc, reply) else {
+    engine.keep();
+    let Ok(lines) = reply_text(alloc, &reply) else {
         return Done::Unsaid(next);
     };
     if put_all(world, lines.as_slice()) {

@@ -11,7 +11,9 @@ mod location;
 mod number;
 mod operation;
 mod options;
+mod reading;
 mod refusal;
+mod setting;
 
 
 pub use answering::command_of;
@@ -19,4 +21,5 @@ pub use command::{Command, CommandLine, Displaced, Format, Insertion, Location, 
 pub use lists::{ByteList, NumberList};
 pub use refusal::{Fault, Refusal};
 
-
+#[cfg(test)]
+mod tests;

@@ -251,12 +251,13 @@ none_or : (r : Option PartsView) → ((p : PartsView) → r ≡ Some p → ⊥) 
 none_or None h = refl
 none_or (Some p) h = absurd (h p refl)
 
-cli_none : (line : List ℕ) → is_cli (after_blanks line) ≡ true → (p : PartsView) → HasParts line p → ⊥
-cli_none line h p is = cli_no_parts p.operation line p.token p.words h is
+-- a line that is no command has no parts
+pub no_cli : (line : List ℕ) (p : PartsView) → is_cli (after_blanks line) ≡ true → HasParts line p → ⊥
+no_cli line p h is = cli_no_parts p.operation line p.token p.words h is
 
 pub reads : (line : List ℕ) (r : Result Parts InputFault) → Splits line r → Reads line r
 reads line (Ok p) h = parts_complete line (parts_view p) h.1
 reads line (Err faults.NoMemory) h = tt
 reads line (Err faults.Long) h = tt
 reads line (Err faults.Syntax) h = none_or (parts_read line) (λ p e. h.1 p (parts_sound line p e))
-reads line (Err (faults.Cli t)) h = none_or (parts_read line) (λ p e. cli_none line h.1 p (parts_sound line p e))
+reads line (Err (faults.Cli t)) h = none_or (parts_read line) (λ p e. no_cli line p h.1 (parts_sound line p e))

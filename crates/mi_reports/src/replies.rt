@@ -84,7 +84,8 @@ fn push_number(into: &mut Vec<u8>, number: u32) -> Result<(), AllocError>
 {
     push(into, text::NUMBER_HEAD)?;
     push_word(into, number)?;
-    into.push(b'"')
+    into.push(b'"')?;
+    Ok(())
 }
 
 fn push_more_numbers(into: &mut Vec<u8>, numbers: &[u32]) -> Result<(), AllocError>

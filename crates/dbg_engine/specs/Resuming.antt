@@ -1,0 +1,28 @@
+-- Threads that go on, as they are kept.
+use Rattle.std.specs.Prelude.{ℕ, zero, suc, List, [], ◌∷◌, Option, Some, None, slice_get, slice_set}
+use Rattle.engine_facts.specs.declared.mind.Activity.{Activity}
+use Rattle.engine_facts.specs.declared.mind.Activity.TheVariants as activity
+use Rattle.engine_facts.specs.declared.mind.Mind.{Mind}
+use Rattle.engine_facts.specs.Minds.{resumed_mind}
+
+abbrev pub gone_on_by : Mind → Activity → Mind
+gone_on_by x activity.Stopped = resumed_mind
+gone_on_by x activity.Running = x
+gone_on_by x activity.Exited = x
+
+-- a stopped hart goes on
+abbrev pub gone_on : Mind → Mind
+gone_on x = gone_on_by x x.activity
+
+abbrev pub resume_at : List Mind → ℕ → Option Mind → List Mind
+resume_at xs h None = xs
+resume_at xs h (Some x) = slice_set xs h (gone_on x)
+
+-- threads are counted from 1
+abbrev pub resume_thread : List Mind → ℕ → List Mind
+resume_thread xs zero = xs
+resume_thread xs (suc h) = resume_at xs h (slice_get xs h)
+
+abbrev pub resume_threads : List Mind → List ℕ → List Mind
+resume_threads xs [] = xs
+resume_threads xs (t ∷ ts) = resume_threads (resume_thread xs t) ts
