@@ -4,6 +4,7 @@ ghost use Rattle.dbg_traits.specs.MemWorld.{told_of};
 
 use crate::{Closed, Ended, Status, debug_run};
 use dbg_traits::{ArgText, Cue, Limits, MemWorld, OpenGate};
+use elf_gen::plain;
 use std::alloc::Global;
 use std::test::Fail;
 
@@ -50,8 +51,7 @@ const UNMAPPED: &str = "\
 
 const FOUR_BLANKS: &str = "\
     =thread-created,id=\"1\",group-id=\"i1\"\n(gdb)\n\
-    ^error,msg=\"Not built yet\"\n(gdb)\n^error,msg=\"Not built yet\"\n(gdb)\n\
-    ^error,msg=\"Not built yet\"\n(gdb)\n^error,msg=\"Not built yet\"\n(gdb)\n";
+    (gdb)\n(gdb)\n(gdb)\n(gdb)\n";
 
 const USAGE: &str =
     "^error,msg=\"usage: rvdbg [--harts N] [--workers N] [--slots N] [--budget N] [--slice N] FILE\"\n";
@@ -196,7 +196,213 @@ fn many_line_feeds_are_answered_each(rt: HostRuntime) -> Result<(), Fail> {
         closed: _,
     } = debug_run(&rt, alloc, world, &OpenGate);
     assert_eq!(rt; status, Status::Done);
-    // The opening has 43 bytes, and each answer 33.
-    assert_eq!(rt; world.output().len(), 33043);
+    // The opening has 43 bytes, and each answer 6.
+    assert_eq!(rt; world.output().len(), 6043);
+    Ok(())
+}
+
+// Words of small programs. Text begins at 0x10074, data at 0x20000.
+const RETURNS_TWO: [u32; 4] = [0x0010_0513, 0x0015_0513, 0x05D0_0893, 0x0000_0073];
+
+const COUNTS: [u32; 2] = [0x0015_0513, 0xFE00_0EE3];
+
+const SPINS: [u32; 1] = [0x0000_006F];
+
+const JUMPS_AWAY: [u32; 2] = [0xFFFF_F7B7, 0x0007_8067];
+
+const READS_TEXT: [u32; 3] = [0x0001_0537, 0x0005_2583, 0x0745_2583];
+
+const EXITS_ALL: [u32; 3] = [0x05E0_0893, 0x0070_0513, 0x0000_0073];
+
+const ADDS_ONE: [u32; 6] = [
+    0x0002_0637,
+    0x0010_0593,
+    0x00B6_252F,
+    0x05D0_0893,
+    0x0000_0513,
+    0x0000_0073,
+];
+
+const GREETS: [u32; 8] = [
+    0x0400_0893,
+    0x0010_0513,
+    0x0002_05B7,
+    0x0030_0613,
+    0x0000_0073,
+    0x05D0_0893,
+    0x0000_0513,
+    0x0000_0073,
+];
+
+const BREAKS: &str = "\
+    -break-insert *0x10078\n-exec-continue\n-exec-wait\n12-data-list-register-values x 10\n-exec-continue\n";
+
+const BROKE: &str = "\
+    ^done,bkpt={number=\"1\",type=\"breakpoint\",disp=\"keep\",enabled=\"y\",addr=\"0x00010078\",times=\"0\",\
+    original-location=\"*0x10078\"}\n(gdb)\n\
+    ^running\n*running,thread-id=\"1\"\n(gdb)\n\
+    *stopped,reason=\"breakpoint-hit\",disp=\"keep\",bkptno=\"1\",frame={addr=\"0x00010078\",args=[]},\
+    thread-id=\"1\",stopped-threads=[\"1\"]\n\
+    ^done\n(gdb)\n\
+    12^done,register-values=[{number=\"10\",value=\"0x00000001\"}]\n(gdb)\n\
+    ^running\n*running,thread-id=\"1\"\n(gdb)\n\
+    =thread-exited,id=\"1\",group-id=\"i1\"\n*stopped,reason=\"exited\",exit-code=\"02\"\n";
+
+const BREAKS_TWICE: &str = "\
+    -break-insert -t *0x10074\n-break-insert *0x10078\n-exec-continue\n-exec-wait\n-exec-continue\n-exec-wait\n\
+    -data-list-register-values d 10 32\n";
+
+const BROKE_TWICE: &str = "\
+    ^done,bkpt={number=\"1\",type=\"breakpoint\",disp=\"del\",enabled=\"y\",addr=\"0x00010074\",times=\"0\",\
+    original-location=\"*0x10074\"}\n(gdb)\n\
+    ^done,bkpt={number=\"2\",type=\"breakpoint\",disp=\"keep\",enabled=\"y\",addr=\"0x00010078\",times=\"0\",\
+    original-location=\"*0x10078\"}\n(gdb)\n\
+    ^running\n*running,thread-id=\"1\"\n(gdb)\n\
+    *stopped,reason=\"breakpoint-hit\",disp=\"keep\",bkptno=\"2\",frame={addr=\"0x00010078\",args=[]},\
+    thread-id=\"1\",stopped-threads=[\"1\"]\n\
+    ^done\n(gdb)\n\
+    ^running\n*running,thread-id=\"1\"\n(gdb)\n\
+    *stopped,reason=\"breakpoint-hit\",disp=\"del\",bkptno=\"1\",frame={addr=\"0x00010074\",args=[]},\
+    thread-id=\"1\",stopped-threads=[\"1\"]\n\
+    ^done\n(gdb)\n\
+    ^done,register-values=[{number=\"10\",value=\"1\"},{number=\"32\",value=\"65652\"}]\n(gdb)\n";
+
+const CONTINUE: &str = "-exec-continue\n";
+
+const READS_MEMORY: &str =
+    "-exec-continue\n-exec-wait\n-data-read-memory-bytes 0x10074 4\n-data-read-memory-bytes 0 1\n";
+
+const READS_REGISTER: &str = "-exec-continue\n-exec-wait\n-data-list-register-values x 11\n";
+
+const ASKS_THREADS: &str = "-thread-info\n-thread-select 2\n-thread-list-ids\n";
+
+const ALL_ADD: &str = "-exec-continue --all\n-exec-wait\n-data-read-memory-bytes 0x20000 4\n";
+
+const SIXTEEN: &str =
+    "^done,memory=[{begin=\"0x00020000\",offset=\"0x00000000\",end=\"0x00020004\",contents=\"10000000\"}]\n(gdb)\n";
+
+const RUNNING: &str = "^running\n*running,thread-id=\"1\"\n(gdb)\n";
+
+const AWAY: &str = "\
+    ^running\n*running,thread-id=\"1\"\n(gdb)\n\
+    *stopped,reason=\"signal-received\",signal-name=\"SIGSEGV\",signal-meaning=\"Segmentation fault\",\
+    frame={addr=\"0xfffff000\",args=[]},thread-id=\"1\",stopped-threads=[\"1\"]\n\
+    ^done\n(gdb)\n\
+    ^done,memory=[{begin=\"0x00010074\",offset=\"0x00000000\",end=\"0x00010078\",contents=\"b7f7ffff\"}]\n(gdb)\n\
+    ^error,msg=\"Cannot access memory at address 0x00000000\"\n(gdb)\n";
+
+const TEXT_UNREADABLE: &str = "\
+    ^running\n*running,thread-id=\"1\"\n(gdb)\n\
+    *stopped,reason=\"signal-received\",signal-name=\"SIGSEGV\",signal-meaning=\"Segmentation fault\",\
+    frame={addr=\"0x0001007c\",args=[]},thread-id=\"1\",stopped-threads=[\"1\"]\n\
+    ^done\n(gdb)\n\
+    ^done,register-values=[{number=\"11\",value=\"0x464c457f\"}]\n(gdb)\n";
+
+const GREETED: &str = "\
+    ^running\n*running,thread-id=\"1\"\n(gdb)\n@\"hi\\n\"\n\
+    =thread-exited,id=\"1\",group-id=\"i1\"\n*stopped,reason=\"exited-normally\"\n";
+
+const ERRORS: &str = "\
+    -foo\n\"a\n7x\n-thread-select 3\n-thread-info 2\n-data-list-register-values x 33\n-data-list-register-values o\n\
+    -break-insert *0x10076\n-break-insert a:b\n-exec-continue --thread 1 --all\n-exec-interrupt\n";
+
+const REFUSED: &str = "\
+    ^error,msg=\"Undefined MI command: foo\",code=\"undefined-command\"\n(gdb)\n\
+    ^error,msg=\"Malformed MI line\"\n(gdb)\n\
+    7^error,msg=\"Only MI commands are accepted\"\n(gdb)\n\
+    ^error,msg=\"Unknown thread 3\"\n(gdb)\n\
+    ^error,msg=\"Unknown thread 2\"\n(gdb)\n\
+    ^error,msg=\"Bad number: 33\"\n(gdb)\n\
+    ^error,msg=\"Unsupported setting\"\n(gdb)\n\
+    ^error,msg=\"No instruction at address 0x00010076\"\n(gdb)\n\
+    ^error,msg=\"Bad location: a:b\"\n(gdb)\n\
+    ^error,msg=\"Wrong parameters for exec-continue\"\n(gdb)\n\
+    ^error,msg=\"Not built yet\"\n(gdb)\n";
+
+const THREADS: &str = "\
+    ^done,threads=[{id=\"1\",target-id=\"Hart 0\",frame={level=\"0\",addr=\"0x00010074\",args=[]},state=\"stopped\"},\
+    {id=\"2\",target-id=\"Hart 1\",frame={level=\"0\",addr=\"0x00010074\",args=[]},state=\"stopped\"}],\
+    current-thread-id=\"1\"\n(gdb)\n\
+    ^done,new-thread-id=\"2\"\n(gdb)\n\
+    ^done,thread-ids={thread-id=\"1\",thread-id=\"2\"},current-thread-id=\"2\",number-of-threads=\"2\"\n(gdb)\n";
+
+const ALL_EXITED: &str = "\
+    ^running\n*running,thread-id=\"1\"\n(gdb)\n\
+    =thread-exited,id=\"1\",group-id=\"i1\"\n=thread-exited,id=\"2\",group-id=\"i1\"\n\
+    *stopped,reason=\"exited\",exit-code=\"07\"\n";
+
+// Thread 1 stops before its amoadd, thread 2 passes its own breakpoint-free way to the exit, and then thread 1 goes on.
+const ONE_STOPS: &str = "\
+    -break-insert -p 1 *0x1007c\n-exec-continue --all\n-exec-wait\n-exec-continue --thread 1\n-exec-wait\n\
+    -data-read-memory-bytes 0x20000 4\n";
+
+const ONE_STOPPED: &str = "\
+    ^done,bkpt={number=\"1\",type=\"breakpoint\",disp=\"keep\",enabled=\"y\",addr=\"0x0001007c\",thread=\"1\",\
+    times=\"0\",original-location=\"*0x1007c\"}\n(gdb)\n\
+    ^running\n*running,thread-id=\"1\"\n*running,thread-id=\"2\"\n(gdb)\n\
+    *stopped,reason=\"breakpoint-hit\",disp=\"keep\",bkptno=\"1\",frame={addr=\"0x0001007c\",args=[]},\
+    thread-id=\"1\",stopped-threads=[\"1\"]\n\
+    =thread-exited,id=\"2\",group-id=\"i1\"\n\
+    ^done\n(gdb)\n\
+    ^running\n*running,thread-id=\"1\"\n(gdb)\n\
+    =thread-exited,id=\"1\",group-id=\"i1\"\n*stopped,reason=\"exited-normally\"\n\
+    ^done\n(gdb)\n\
+    ^done,memory=[{begin=\"0x00020000\",offset=\"0x00000000\",end=\"0x00020004\",contents=\"02000000\"}]\n(gdb)\n";
+
+// A world with a program of these words, and a budget of 1,000 instructions.
+fn program_world(
+    alloc: Global,
+    harts: &str,
+    file: Vec<u8>,
+    input: &str,
+) -> Result<MemWorld, Fail>
+    ensures { IfOk result (λ w. IsFresh (told_of w)) }
+{
+    let mut words = words_of(alloc, "0")?;
+    for word in ["--budget", "1000", "--harts", harts] {
+        words.push(ArgText::of(String::from_str(alloc, word)?))?;
+    }
+    let mut files = Vec::new(alloc);
+    files.push((ArgText::of(String::from_str(alloc, "f")?), file))?;
+    let mut script = Vec::new(alloc);
+    script.push(Cue::Piece(input.as_bytes().to_vec(alloc)?))?;
+    Ok(MemWorld::new(
+        alloc,
+        words,
+        files,
+        script,
+        limits_of(alloc, 0, 0)?,
+    ))
+}
+
+#[test]
+fn lines_are_answered(rt: HostRuntime) -> Result<(), Fail> {
+    let alloc = rt.alloc();
+    let hi = b"hi\n\0";
+    let cases = [
+        (&RETURNS_TWO[..], "1", BREAKS, Status::Done, BROKE),
+        (&COUNTS[..], "1", BREAKS_TWICE, Status::Done, BROKE_TWICE),
+        (&SPINS[..], "1", CONTINUE, Status::Budget, RUNNING),
+        (&JUMPS_AWAY[..], "1", READS_MEMORY, Status::Done, AWAY),
+        (&READS_TEXT[..], "1", READS_REGISTER, Status::Done, TEXT_UNREADABLE),
+        (&GREETS[..], "1", CONTINUE, Status::Done, GREETED),
+        (&SPINS[..], "1", ERRORS, Status::Done, REFUSED),
+        (&SPINS[..], "2", ASKS_THREADS, Status::Done, THREADS),
+        (&EXITS_ALL[..], "2", CONTINUE, Status::Done, ALL_EXITED),
+        (&ADDS_ONE[..], "2", ONE_STOPS, Status::Done, ONE_STOPPED),
+        (&ADDS_ONE[..], "16", ALL_ADD, Status::Done, SIXTEEN),
+    ];
+    for (words, harts, input, expected, output) in cases {
+        assert!(rt; !words.is_empty() && words.len() < 16);
+        let file = plain(alloc, words, if words.len() == 8 { hi } else { &[0; 4] })?;
+        let world = program_world(alloc, harts, file, input)?;
+        let Ended {
+            status,
+            world,
+            closed: _,
+        } = debug_run(&rt, alloc, world, &OpenGate);
+        assert_eq!(rt; status, expected, "{input}");
+        assert!(rt; world.output().ends_with(output.as_bytes()), "{input}");
+    }
     Ok(())
 }
