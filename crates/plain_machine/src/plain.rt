@@ -83,11 +83,7 @@ impl<'a> Plain<'a> {
     /// A machine before its first step: each hart at the entry, over the image's data and an empty stack for each.
     ///
     /// Fails where memory runs out.
-    pub fn load(
-        alloc: Global,
-        image: &'a Image,
-        settings: Settings,
-    ) -> Result<Plain<'a>, NoMemory>
+    pub fn load(alloc: Global, image: &'a Image, settings: Settings) -> Result<Plain<'a>, NoMemory>
         requires { AreSettings settings }
         ensures { IfOk result (λ m. m ≡ started image.now settings.harts) }
     {
