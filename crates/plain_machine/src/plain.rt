@@ -4,7 +4,7 @@ ghost use Rattle.dbg_traits.specs.Settings.{AreSettings};
 ghost use Rattle.plain_machine.specs.Answers.{StepGives, IsByteCode};
 ghost use Rattle.plain_machine.specs.Plain.{first_registers, on_word};
 ghost use Rattle.plain_machine.specs.PlainRun.{first_harts};
-ghost use Rattle.plain_machine.specs.Unpatched.{PlainSteps, started, registers_of};
+ghost use Rattle.plain_machine.specs.Unpatched.{GoesOn, PlainSteps, registers_of, started};
 
 use crate::environment::call;
 use data_memory::DataMemory;
@@ -125,6 +125,7 @@ impl<'a> Plain<'a> {
         requires { h < length self.old.harts }
         ensures code { IsByteCode result }
         ensures step { PlainSteps result self.old h self.new }
+        ensures run { GoesOn result self.old h self.new }
     {
         let regs = &mut self.harts[h];
         let word = self.image.text_word(regs.pc());
