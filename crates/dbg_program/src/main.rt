@@ -1,6 +1,8 @@
 //! The debugger: it runs one program by lines from standard input, and writes records to standard output.
 #![tactic(auto)]
 
+#[cfg(test)]
+mod tests;
 mod world;
 
 use dbg_session::{Ended, Status, debug_run};

@@ -1,5 +1,5 @@
 -- What a step of a hart does.
-use Rattle.std.specs.Prelude.{◌≡◌, ◌<◌, ℕ, zero, suc, ◌+◌, ◌^◌, Bool, true, false, List, [], ◌∷◌, ◌++◌, Some, None, slice_get, slice_set}
+use Rattle.std.specs.Prelude.{◌≡◌, ◌<◌, ℕ, zero, suc, ◌+◌, ◌^◌, List, [], ◌∷◌, ◌++◌, Some, slice_get, slice_set}
 use Rattle.rv_decode.specs.declared.instr.Instr.{Instr}
 use Rattle.rv_exec.specs.declared.effect.Cause.TheVariants.{FetchFault, Illegal}
 use Rattle.rv_exec.specs.declared.effect.Stepped.{Stepped}
@@ -8,37 +8,14 @@ use Rattle.rv_exec.specs.Registers.{Registers}
 use Rattle.rv_exec.specs.Memory.{Memory}
 use Rattle.elf32_read.specs.Program.{Program}
 use Rattle.data_memory.specs.Start.{start_memory}
-use Rattle.data_memory.specs.Ranges.{bytes_at}
 use Rattle.text_words.specs.declared.fetch.Fetch.{Fetch}
 use Rattle.text_words.specs.declared.fetch.Fetch.TheVariants as fetch
 use Rattle.text_words.specs.Words.{fetched, unpatched}
-use Rattle.plain_machine.specs.Environment.{Answer, Traps, Goes, Stays, LeavesAlone, LeavesAll}
+use Rattle.plain_machine.specs.Environment.{Traps}
+pub use Rattle.plain_machine.specs.Answers.{StepGives, IsByteCode}
 use Rattle.plain_machine.specs.Plain.{on_instruction, first_registers}
 use Rattle.hart_machine.specs.declared.hart.Core.{Core}
 use Rattle.hart_machine.specs.Patched.{Patched}
-
--- all of a range can be read
-abbrev pub IsReadable : Bool → Memory → ℕ → ℕ → Type 0
-IsReadable true m addr len = (bytes : List ℕ) × (bytes_at m addr len ≡ Some bytes)
-IsReadable false m addr len = bytes_at m addr len ≡ None
-
--- the answer of a step says what the instruction did
-abbrev pub StepGives : Stepped → Answer → Registers → Registers → Memory → Memory → Type 0
-StepGives stepped.Ran a r r' m m' = a ≡ Goes r' m' [] Stays
-StepGives (stepped.Wrote addr len) a r r' m m' = (out : List ℕ) × (0 < len) × (bytes_at m' addr len ≡ Some out) × (a ≡ Goes r' m' out Stays)
-StepGives (stepped.HartExit code) a r r' m m' = a ≡ Goes r' m' [] (LeavesAlone code)
-StepGives (stepped.AllExit code) a r r' m m' = a ≡ Goes r' m' [] (LeavesAll code)
-StepGives stepped.Hit a r r' m m' = ⊥
-StepGives (stepped.Trap cause) a r r' m m' = (a ≡ Traps cause) × (r' ≡ r) × (m' ≡ m)
-
--- the code of an exit is a byte
-abbrev pub IsByteCode : Stepped → Type 0
-IsByteCode stepped.Ran = Unit {0}
-IsByteCode (stepped.Wrote addr len) = Unit {0}
-IsByteCode (stepped.HartExit code) = code < 256
-IsByteCode (stepped.AllExit code) = code < 256
-IsByteCode stepped.Hit = Unit {0}
-IsByteCode (stepped.Trap cause) = Unit {0}
 
 abbrev pub InstructionGives : Stepped → Instr → Registers → Registers → Memory → Memory → Type 0
 InstructionGives s i r r' m m' = StepGives s (on_instruction r m (Some i)) r r' m m'

@@ -3,8 +3,8 @@ ghost use Rattle.std.specs.Prelude.{◌<◌, ◌-◌, ◌^◌};
 ghost use Rattle.hart_machine.specs.Stepping.{CoreSteps, FetchGives, InstructionGives, IsByteCode};
 ghost use Rattle.plain_machine.specs.Plain.{on_instruction};
 
-use crate::environment::call;
 use data_memory::DataMemory;
+use plain_machine::call;
 use rv_decode::Instr;
 use rv_exec::{Cause, Effect, Regs, Stepped, execute};
 use text_words::Fetch;

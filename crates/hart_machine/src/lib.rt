@@ -1,11 +1,12 @@
-//! The machine that executes the stored words: its harts, their memory, and the environment that ECALL reaches.
+//! The machine that executes the stored words: its harts and their memory.
 #![tactic(auto)]
 
-mod environment;
 mod hart;
 mod machine;
 #[cfg(test)]
 mod tests;
+mod view;
 
 pub use hart::Core;
 pub use machine::Machine;
+pub use view::HartView;

@@ -2,16 +2,17 @@ ghost use Rattle.std.specs.Prelude.{◌≡◌, ◌<◌, ◌≤◌, ◌-◌, ◌^
 ghost use Rattle.data_memory.specs.Start.{start_memory};
 ghost use Rattle.data_memory.specs.Ranges.{bytes_at, range_at};
 ghost use Rattle.dbg_traits.specs.Settings.{AreSettings, AreHarts};
-ghost use Rattle.plain_machine.specs.Plain.{first_registers};
 ghost use Rattle.hart_machine.specs.Stepping.{Steps, IsByteCode, first_cores, loaded};
 ghost use Rattle.hart_machine.specs.declared.hart.Core.{Core};
 
 use crate::Core;
 use crate::hart::step_core;
+use crate::view::HartView;
 use data_memory::DataMemory;
 use dbg_traits::{NoMemory, Settings};
 use elf32_read::Image;
-use rv_exec::{Regs, Stepped};
+use plain_machine::first_registers;
+use rv_exec::Stepped;
 use std::alloc::{AllocError, Global};
 use std::marker::Model;
 use text_words::TextWords;
@@ -35,18 +36,6 @@ impl Model for Machine {
     ghost coded = { Prim.hlevel (codes, memory_code, words_code) };
 
     ghost view = { λ m. record { text = m.text; cores = m.cores.items; memory = m.memory } };
-}
-
-// The registers with which a hart starts.
-fn first_registers(entry: u32, harts: u32, hart: u32) -> Regs
-    requires { hart < 16 }
-    ensures { result ≡ first_registers entry harts hart }
-{
-    let mut regs = Regs::new(entry);
-    regs.set(10, hart);
-    regs.set(11, harts);
-    regs.set(2, 0xF000_0000 - hart * 0x2_0000);
-    regs
 }
 
 fn first_cores(alloc: Global, entry: u32, harts: u32) -> Result<Vec<Core>, AllocError>
@@ -97,6 +86,20 @@ impl Machine {
         ensures { (c : Core) → slice_get self.now.cores h ≡ Some c → result ≡ c.retired }
     {
         self.cores[h].retired
+    }
+
+    /// What a reader sees of a hart: its registers, and the bytes of data and of the program's text.
+    pub fn view(&self, h: usize) -> HartView<'_>
+        requires { h < length self.now.cores }
+        ensures registers { (c : Core) → slice_get self.now.cores h ≡ Some c → result.regs.now ≡ c.regs }
+        ensures memory { result.memory.now ≡ self.now.memory }
+        ensures text { result.text.now ≡ self.now.text }
+    {
+        HartView {
+            regs: &self.cores[h].regs,
+            memory: &self.memory,
+            text: &self.text,
+        }
     }
 
     /// The bytes from an address on; the first address that can't be read where there is one, and then nothing changed.

@@ -1,8 +1,19 @@
 use crate::Machine;
-use dbg_traits::Settings;
-use elf32_read::read_image;
+use dbg_traits::{Settings, View};
+use elf32_read::{Image, read_image};
+use plain_machine::Plain;
 use rv_exec::{Cause, Stepped};
+use std::alloc::Global;
+use std::process::Abort;
 use std::test::Fail;
+
+const SETTINGS: Settings = Settings {
+    harts: 2,
+    workers: 0,
+    slots: 0,
+    budget: 100,
+    slice: 0,
+};
 
 /// ADDI a7, x0, 93, then ADDI a0, x0, 322, then ECALL, at 0x10094.
 const IMAGE: &str = "\
@@ -18,14 +29,7 @@ const IMAGE: &str = "\
 fn harts_step_to_their_own_exits(rt: HostRuntime) -> Result<(), Fail> {
     let file = hex::decode(rt.alloc(), IMAGE)?;
     let image = read_image(rt.alloc(), &file)?;
-    let settings = Settings {
-        harts: 2,
-        workers: 0,
-        slots: 0,
-        budget: 100,
-        slice: 0,
-    };
-    let Ok(mut machine) = Machine::load(rt.alloc(), &image, settings) else {
+    let Ok(mut machine) = Machine::load(rt.alloc(), &image, SETTINGS) else {
         return Err(Fail::new("out of memory"));
     };
     let cases = [
@@ -51,5 +55,285 @@ fn harts_step_to_their_own_exits(rt: HostRuntime) -> Result<(), Fail> {
         machine.read_range(0xEFFF_FFFF, &mut bytes),
         Err(0xF000_0000)
     );
+    Ok(())
+}
+
+#[test]
+fn a_view_shows_registers_data_and_text(rt: HostRuntime) -> Result<(), Fail> {
+    let file = hex::decode(rt.alloc(), IMAGE)?;
+    let image = read_image(rt.alloc(), &file)?;
+    let Ok(machine) = Machine::load(rt.alloc(), &image, SETTINGS) else {
+        return Err(Fail::new("out of memory"));
+    };
+    assert!(rt; 1 < machine.harts());
+    let view = machine.view(1);
+    assert_eq!(rt;
+        (view.reg(32), view.reg(2), view.reg(10)),
+        (0x0001_0094, 0xEFFE_0000, 1)
+    );
+    let cases = [
+        (0x0001_0000, Some(0x7F)),
+        (0x0001_0094, Some(0x93)),
+        (0x0001_0097, Some(0x05)),
+        (0x0001_009C, Some(0x73)),
+        (0x0001_00A0, None),
+        (0x0002_0003, Some(4)),
+        (0xEFFD_0000, Some(0)),
+    ];
+    for (addr, byte) in cases {
+        assert_eq!(rt; view.byte(addr), byte, "at {addr}");
+    }
+    Ok(())
+}
+
+/// What stands before and behind eight words of text at 0x10074. The first segment has the headers and the text,
+/// the second the bytes 1 to 7 and 0x88 at 0x20000, which may be stored.
+const HEAD: &str = "\
+    7f454c460101010000000000000000000200f300010000007400010034000000a4000000000000003400200002002800\
+    030002000100000000000000000001000000010094000000940000000500000004000000010000009400000000000200\
+    0000020008000000080000000600000004000000";
+
+const TAIL: &str = "\
+    0102030405060788002e7465787400000000000000000000000000000000000000000000000000000000000000000000\
+    000000000000000001000000010000000600000074000100740000002000000000000000000000000400000000000000\
+    000000000300000000000000000000009c0000000800000000000000000000000100000000000000";
+
+/// The words of a program, as GNU as assembles them; the number of steps of hart 1 of 2, and the answer of the
+/// last one; then how many instructions it has executed, its pc, and a0 to a3. At the start a0 is 1 and a1 is 2.
+const RUNS: [([u32; 8], u64, Stepped, u64, u32, [u32; 4]); 16] = [
+    // a quotient that overflows, its remainder, and both of a division by zero
+    (
+        [
+            0x8000_0537,
+            0xFFF0_0593,
+            0x02B5_4633,
+            0x02B5_66B3,
+            0x0205_4533,
+            0x0205_F5B3,
+            0,
+            0,
+        ],
+        7,
+        Stepped::Trap(Cause::Illegal),
+        6,
+        0x0001_008C,
+        [0xFFFF_FFFF, 0xFFFF_FFFF, 0x8000_0000, 0],
+    ),
+    // lr.w, which isn't there
+    (
+        [0x1006_252F, 0, 0, 0, 0, 0, 0, 0],
+        1,
+        Stepped::Trap(Cause::Illegal),
+        0,
+        0x0001_0074,
+        [1, 2, 0, 0],
+    ),
+    // a jump to a place without text
+    (
+        [0xFFFF_F7B7, 0x0007_8067, 0, 0, 0, 0, 0, 0],
+        3,
+        Stepped::Trap(Cause::FetchFault),
+        2,
+        0xFFFF_F000,
+        [1, 2, 0, 0],
+    ),
+    // the header can be read, and the text behind it can't
+    (
+        [0x0001_0537, 0x0005_2583, 0x0745_2583, 0, 0, 0, 0, 0],
+        3,
+        Stepped::Trap(Cause::LoadFault),
+        2,
+        0x0001_007C,
+        [0x0001_0000, 0x464C_457F, 0, 0],
+    ),
+    // a misaligned load, store and AMO
+    (
+        [0x0002_0537, 0x0015_1583, 0, 0, 0, 0, 0, 0],
+        2,
+        Stepped::Trap(Cause::LoadAlign),
+        1,
+        0x0001_0078,
+        [0x0002_0000, 2, 0, 0],
+    ),
+    (
+        [0x0002_0537, 0x00B5_2123, 0, 0, 0, 0, 0, 0],
+        2,
+        Stepped::Trap(Cause::StoreAlign),
+        1,
+        0x0001_0078,
+        [0x0002_0000, 2, 0, 0],
+    ),
+    (
+        [0x0002_0537, 0x0025_0513, 0x08B5_25AF, 0, 0, 0, 0, 0],
+        3,
+        Stepped::Trap(Cause::StoreAlign),
+        2,
+        0x0001_007C,
+        [0x0002_0002, 2, 0, 0],
+    ),
+    // two AMOs, and the highest byte that they leave
+    (
+        [
+            0x0002_0537,
+            0xFFB0_0593,
+            0xE0B5_262F,
+            0x00B5_26AF,
+            0x0035_4503,
+            0,
+            0,
+            0,
+        ],
+        6,
+        Stepped::Trap(Cause::Illegal),
+        5,
+        0x0001_0088,
+        [255, 0xFFFF_FFFB, 0x0403_0201, 0xFFFF_FFFB],
+    ),
+    // half a word is stored, and the word loaded
+    (
+        [0x0002_0537, 0x00B5_1323, 0x0045_2583, 0, 0, 0, 0, 0],
+        4,
+        Stepped::Trap(Cause::Illegal),
+        3,
+        0x0001_0080,
+        [0x0002_0000, 0x0002_0605, 0, 0],
+    ),
+    // write: more than 4,096 bytes, another file, a range with text in it, no byte
+    (
+        [
+            0xEFFD_05B7,
+            0x0000_2637,
+            0x0400_0893,
+            0x0000_0073,
+            0,
+            0,
+            0,
+            0,
+        ],
+        4,
+        Stepped::Wrote {
+            addr: 0xEFFD_0000,
+            len: 4096,
+        },
+        4,
+        0x0001_0084,
+        [4096, 0xEFFD_0000, 8192, 0],
+    ),
+    (
+        [0x0030_0513, 0x0400_0893, 0x0000_0073, 0, 0, 0, 0, 0],
+        3,
+        Stepped::Ran,
+        3,
+        0x0001_0080,
+        [0xFFFF_FFF7, 2, 0, 0],
+    ),
+    (
+        [
+            0x0001_05B7,
+            0x0705_8593,
+            0x0080_0613,
+            0x0400_0893,
+            0x0000_0073,
+            0,
+            0,
+            0,
+        ],
+        5,
+        Stepped::Ran,
+        5,
+        0x0001_0088,
+        [0xFFFF_FFF2, 0x0001_0070, 8, 0],
+    ),
+    (
+        [0x0020_0513, 0x0400_0893, 0x0000_0073, 0, 0, 0, 0, 0],
+        3,
+        Stepped::Ran,
+        3,
+        0x0001_0080,
+        [0, 2, 0, 0],
+    ),
+    // a call that isn't there
+    (
+        [0x03F0_0893, 0x0000_0073, 0, 0, 0, 0, 0, 0],
+        2,
+        Stepped::Ran,
+        2,
+        0x0001_007C,
+        [0xFFFF_FFDA, 2, 0, 0],
+    ),
+    // 511 is 255 modulo 256
+    (
+        [0x1FF0_0513, 0x05D0_0893, 0x0000_0073, 0, 0, 0, 0, 0],
+        3,
+        Stepped::HartExit(255),
+        3,
+        0x0001_0080,
+        [511, 2, 0, 0],
+    ),
+    (
+        [0x1FF0_0513, 0x05E0_0893, 0x0000_0073, 0, 0, 0, 0, 0],
+        3,
+        Stepped::AllExit(255),
+        3,
+        0x0001_0080,
+        [511, 2, 0, 0],
+    ),
+];
+
+fn image_of(alloc: Global, words: &[u32; 8]) -> Result<Image, Fail> {
+    let mut file = hex::decode(alloc, HEAD)?;
+    for word in words {
+        file.extend_from_slice(&word.to_le_bytes())?;
+    }
+    file.extend_from_slice(&hex::decode(alloc, TAIL)?)?;
+    Ok(read_image(alloc, &file)?)
+}
+
+// The registers of both harts and the data are the same.
+fn assert_same(rt: &impl Abort, machine: &Machine, plain: &Plain<'_>) {
+    for h in 0..2 {
+        assert!(rt; h < machine.harts());
+        assert!(rt; h < plain.harts());
+        assert_eq!(rt; plain.registers(h), *machine.view(h).regs);
+    }
+    let mut bytes = [0u8; 8];
+    let mut others = [1u8; 8];
+    assert_eq!(rt; machine.read_range(0x0002_0000, &mut bytes), Ok(()));
+    assert_eq!(rt; plain.read_range(0x0002_0000, &mut others), Ok(()));
+    assert_eq!(rt; bytes, others);
+}
+
+// One step of hart 1 on both machines.
+fn step_both(rt: &impl Abort, machine: &mut Machine, plain: &mut Plain<'_>) -> Stepped {
+    assert!(rt; 1 < machine.harts());
+    assert!(rt; machine.retired(1) < 100);
+    assert!(rt; 1 < plain.harts());
+    let answer = machine.step(1);
+    assert_eq!(rt; plain.step(1), answer);
+    assert_same(rt, machine, plain);
+    answer
+}
+
+#[test]
+fn both_machines_do_the_same(rt: HostRuntime) -> Result<(), Fail> {
+    for (words, steps, last, retired, pc, values) in &RUNS {
+        let image = image_of(rt.alloc(), words)?;
+        let Ok(mut machine) = Machine::load(rt.alloc(), &image, SETTINGS) else {
+            return Err(Fail::new("out of memory"));
+        };
+        let Ok(mut plain) = Plain::load(rt.alloc(), &image, SETTINGS) else {
+            return Err(Fail::new("out of memory"));
+        };
+        let mut answer = Stepped::Hit;
+        for _ in 0..*steps {
+            answer = step_both(&rt, &mut machine, &mut plain);
+        }
+        assert_eq!(rt; answer, *last, "{words:?}");
+        assert!(rt; 1 < machine.harts());
+        assert_eq!(rt; machine.retired(1), *retired, "{words:?}");
+        let view = machine.view(1);
+        let seen = [view.reg(10), view.reg(11), view.reg(12), view.reg(13)];
+        assert_eq!(rt; (view.reg(32), seen), (*pc, *values), "{words:?}");
+    }
     Ok(())
 }

@@ -1,3 +1,5 @@
 pub mod Environment
 pub mod Plain
 pub mod PlainRun
+pub mod Answers
+pub mod Unpatched

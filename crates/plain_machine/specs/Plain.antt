@@ -1,5 +1,5 @@
 -- One instruction of the unpatched text, and where the harts start.
-use Rattle.std.specs.Prelude.{ℕ, ◌-◌, ◌*◌, List, [], replicate, Option, Some, None}
+use Rattle.std.specs.Prelude.{ℕ, ◌-◌, ◌*◌, [], replicate, Option, Some, None}
 use Rattle.rv_decode.specs.declared.instr.Instr.{Instr}
 use Rattle.rv_decode.specs.Decode.{decode}
 use Rattle.rv_exec.specs.declared.effect.Cause.TheVariants.{FetchFault, Illegal}

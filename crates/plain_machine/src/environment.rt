@@ -3,7 +3,7 @@ ghost use Rattle.std.specs.Prelude.{◌≡◌, ◌≤◌, Some, None};
 ghost use Rattle.data_memory.specs.Ranges.{bytes_at};
 ghost use Rattle.plain_machine.specs.Environment.{call, write, wrote, answered, is_output};
 ghost use Rattle.rv_exec.specs.Registers.{next};
-ghost use Rattle.hart_machine.specs.Stepping.{StepGives, IsReadable, IsByteCode};
+ghost use Rattle.plain_machine.specs.Answers.{StepGives, IsReadable, IsByteCode};
 
 use data_memory::DataMemory;
 use rv_exec::{Regs, Stepped};
@@ -87,7 +87,7 @@ fn write(regs: &mut Regs, memory: &DataMemory) -> Stepped
 }
 
 /// An ECALL.
-#[tactic(auto, unfolding(plain_machine::specs::Environment::call))]
+#[tactic(auto, unfolding(crate::specs::Environment::call))]
 pub fn call(regs: &mut Regs, memory: &DataMemory) -> Stepped
     ensures code { IsByteCode result }
     ensures step { StepGives result (call regs.old memory.now) regs.old regs.new memory.now memory.now }

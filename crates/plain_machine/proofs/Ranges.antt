@@ -6,7 +6,9 @@ use Rattle.rv_exec.specs.Registers.{Registers}
 use Rattle.rv_exec.specs.Memory.{Memory}
 use Rattle.data_memory.specs.Ranges.{value_at, then_range, range_at, bytes_at}
 use Rattle.plain_machine.specs.Environment.{wrote, answered, Goes, Stays}
-use Rattle.hart_machine.proofs.Places.{same_some}
+
+same_some : {A : Type 0} (x y : A) → Some x ≡ Some y → x ≡ y
+same_some x y h = cc
 
 then_length : (a n : ℕ) (o : Option ℕ) (rest : Result (List ℕ) ℕ) (bytes : List ℕ) → ((bs : List ℕ) → result_ok rest ≡ Some bs → length bs ≡ n)
     → result_ok (then_range a o rest) ≡ Some bytes → length bytes ≡ suc n

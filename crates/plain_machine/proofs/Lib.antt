@@ -1,0 +1,3 @@
+pub mod Ranges
+pub mod Stepping
+pub mod Running
