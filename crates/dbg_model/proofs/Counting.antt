@@ -9,13 +9,14 @@ use Rattle.plain_machine.specs.PlainRun.{Item, Step}
 use Rattle.rv_exec.specs.declared.effect.Cause.{Cause}
 use Rattle.rv_exec.specs.Causes.{cause_number}
 use Rattle.dbg_model.specs.declared.entry.Why.{Why}
-use Rattle.dbg_model.specs.declared.entry.Why.TheVariants.{Fault}
+use Rattle.dbg_model.specs.declared.entry.Why.TheVariants.{Break, Fault}
 use Rattle.dbg_model.specs.declared.entry.Entry.{Entry}
 use Rattle.dbg_model.specs.declared.entry.Entry.TheVariants.{Ran, Stopped, Left, Did}
 use Rattle.dbg_model.specs.declared.opening.Opening.{Opening}
-use Rattle.dbg_model.specs.State.{Hart, State}
+use Rattle.dbg_model.specs.Breaks.{settled}
+use Rattle.dbg_model.specs.State.{Hart, State, due}
 use Rattle.dbg_model.specs.Reply.{done_by, harts_after, reply_of}
-use Rattle.dbg_model.specs.Lawful.{enter, one, one_by, ran, may_run, may_go, stepped_by, stepped, with_leavers, with_stop, faulted_by, stopped_by, left_by, leaver_from, exited_at}
+use Rattle.dbg_model.specs.Lawful.{enter, one, one_by, ran, may_run, may_move, may_go, is_number, stepped_by, stepped, with_leavers, with_stop, faulted_by, stopped_by, left_by, leaver_from, exited_at}
 use Rattle.dbg_model.specs.Journals.{Place, come, follows, ran_hart, replay_from, replay, first_place, Leaves, lengthened, one_more_by, count_of, last_count, noted, noted_one}
 use Rattle.dbg_model.specs.Erase.{erase, erase_one, steps_of}
 use Rattle.dbg_model.proofs.Options.{map_some, bind_some, guard_some, same_some}
@@ -36,7 +37,7 @@ step_adds (Goes r m out leave) s t h x is =
 
 one_by_adds : (o : Opening) (s t : State) (h : ℕ) (r : Option Hart) → one_by o s h r ≡ Some t → Adds s t 1 0
 one_by_adds o s t h None is = cc
-one_by_adds o s t h (Some x) is = step_adds (plain o.image x.regs s.memory) s t h x (guard_some (may_run o s x) (stepped_by (plain o.image x.regs s.memory) s h x) t is).1
+one_by_adds o s t h (Some x) is = step_adds (plain o.image x.regs s.memory) s t h x (guard_some (may_run o s h x) (stepped_by (plain o.image x.regs s.memory) s h x) t is).1
 
 pub one_adds : (o : Opening) (h : ℕ) (s t : State) → one o h s ≡ Some t → Adds s t 1 0
 unfolding one
@@ -57,8 +58,12 @@ fault_adds (Goes r m out leave) cause s t h x is = cc
 
 stop_adds : (o : Opening) (s t : State) (h : ℕ) (why : Why) (r : Option Hart) → stopped_by o s h why r ≡ Some t → Adds s t 0 1
 stop_adds o s t h (Fault cause) None is = cc
+stop_adds o s t h (Break number) None is = cc
+stop_adds o s t h (Break number) (Some x) is =
+    let u : State = record (with_stop s h x) { breaks = settled s.breaks h x.regs.pc } in
+    is_more s t u 0 1 (same_some u t (guard_some (may_move o s x && is_number (due s.breaks h x) number) (Some u) t is).1) (record { retired = omega arith; noted = refl })
 stop_adds o s t h (Fault cause) (Some x) is =
-    fault_adds (plain o.image x.regs s.memory) cause s t h x (guard_some (may_run o s x) (faulted_by (plain o.image x.regs s.memory) cause s h x) t is).1
+    fault_adds (plain o.image x.regs s.memory) cause s t h x (guard_some (may_run o s h x) (faulted_by (plain o.image x.regs s.memory) cause s h x) t is).1
 
 left_adds : (s t : State) (h code : ℕ) (r : Option (ℕ × ℕ)) → left_by s h code r ≡ Some t → Adds s t 0 1
 left_adds s t h code None is = cc

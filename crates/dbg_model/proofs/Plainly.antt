@@ -1,5 +1,5 @@
 -- A lawful journal without the debugger's entries is a run of the program.
-use Rattle.std.proofs.Common.{◌≡◌, ℕ, zero, suc, ◌+◌, ◌-◌, Bool, true, false, cond, List, [], ◌∷◌, ◌++◌, replicate, refl, sym, ap, ◌∙◌, arith, nat_lt}
+use Rattle.std.proofs.Common.{◌≡◌, ℕ, zero, suc, ◌+◌, ◌-◌, Bool, true, false, cond, List, [], ◌∷◌, ◌++◌, replicate, refl, sym, ap, ◌∙◌, arith, nat_lt, not}
 use Rattle.std.specs.Prelude.{Option, Some, None, option_and_then, ◌==◌, ◌&&◌, map, slice_get, slice_set}
 use Rattle.std.specs.Option.{option_map}
 use Rattle.std.proofs.lemmas.Bool.Decides.{nat_tests}
@@ -14,15 +14,16 @@ use Rattle.plain_machine.specs.PlainRun as machine
 use Rattle.dbg_model.specs.declared.entry.Mode.{Mode}
 use Rattle.dbg_model.specs.declared.entry.Mode.TheVariants as mode
 use Rattle.dbg_model.specs.declared.entry.Why.{Why}
-use Rattle.dbg_model.specs.declared.entry.Why.TheVariants.{Fault}
+use Rattle.dbg_model.specs.declared.entry.Why.TheVariants.{Break, Fault}
 use Rattle.dbg_model.specs.declared.entry.Entry.{Entry}
 use Rattle.dbg_model.specs.declared.entry.Entry.TheVariants.{Ran, Stopped, Left, Did}
 use Rattle.dbg_model.specs.declared.command.Command.{Command}
 use Rattle.dbg_model.specs.declared.command.Command.TheVariants as command
 use Rattle.dbg_model.specs.declared.opening.Opening.{Opening}
-use Rattle.dbg_model.specs.State.{Hart, State, first_state, first_harts, is_running}
+use Rattle.dbg_model.specs.Breaks.{settled}
+use Rattle.dbg_model.specs.State.{Hart, State, first_state, first_harts, is_running, due, is_due}
 use Rattle.dbg_model.specs.Reply.{done_by, harts_after, reply_of, reply_to, resume_at, resume_by, resumed, command_of}
-use Rattle.dbg_model.specs.Lawful.{enter, one, one_by, ran, may_run, may_go, stepped_by, stepped, leaving, leaving_at, with_leavers, with_stop, stopped, faulted_by, stopped_by, left_by, leaver_from, leaver_or, exited, exited_at}
+use Rattle.dbg_model.specs.Lawful.{enter, one, one_by, ran, may_run, may_move, may_go, is_number, stepped_by, stepped, leaving, leaving_at, with_leavers, with_stop, stopped, faulted_by, stopped_by, left_by, leaver_from, leaver_or, exited, exited_at}
 use Rattle.dbg_model.specs.Journals.{Place, come, follows, ran_hart, replay_from, replay, first_place, Leaves}
 use Rattle.dbg_model.specs.Erase.{erase, erase_one}
 use Rattle.dbg_model.proofs.Options.{map_some, bind_some, guard_some, bind_bind, bind_return, same_some, both_true}
@@ -91,6 +92,13 @@ runs_on mode.Running h = refl
 runs_on (mode.Leaving code) h = cc
 runs_on mode.Exited h = cc
 
+-- a hart that may move is known to the program
+runs_moves : (o : Opening) (s : State) (x : Hart) → may_move o s x ≡ true → is_gone x.mode ≡ false
+runs_moves o s x may = runs_on x.mode (both_true (may_go o s) (is_running x.mode) may).1
+
+runs_runs : (o : Opening) (s : State) (h : ℕ) (x : Hart) → may_run o s h x ≡ true → is_gone x.mode ≡ false
+runs_runs o s h x may = runs_moves o s x (both_true (may_move o s x) (not (is_due s.breaks h x)) may).0
+
 -- the harts after an instruction, as the program has them
 stepped_plain : (xs : List Hart) (h : ℕ) (x : Hart) (r : Registers) (leave : Leave) → is_gone x.mode ≡ false
     → map plain_hart (with_leavers leave (slice_set xs h (stepped x r)) h) ≡ without_leavers (slice_set (map plain_hart xs) h (record { regs = r; has_exited = false })) h leave
@@ -109,8 +117,8 @@ answers_plain (Goes r m out leave) s t h x runs is =
 one_by_plain : (o : Opening) (s t : State) (h : ℕ) (r : Option Hart) → one_by o s h r ≡ Some t → plain_step o.image (plain_of s) h (option_map plain_hart r) ≡ Some (plain_of t)
 one_by_plain o s t h None is = cc
 one_by_plain o s t h (Some x) is =
-    let g = guard_some (may_run o s x) (stepped_by (plain o.image x.regs s.memory) s h x) t is in
-    let runs = runs_on x.mode (both_true (may_go o s) (is_running x.mode) g.0).1 in
+    let g = guard_some (may_run o s h x) (stepped_by (plain o.image x.regs s.memory) s h x) t is in
+    let runs = runs_runs o s h x g.0 in
     ap (λ b. cond b None (plain_after (plain_of s) h (plain o.image x.regs s.memory))) runs ∙ answers_plain (plain o.image x.regs s.memory) s t h x runs g.1
 
 -- one instruction under the debugger is one of the program
@@ -151,10 +159,17 @@ fault_plain (Traps met) cause s t h x at runs is =
 fault_plain (Goes r m out leave) cause s t h x at runs is = cc
 
 stop_plain : (o : Opening) (s t : State) (h : ℕ) (why : Why) (r : Option Hart) → slice_get s.harts h ≡ r → stopped_by o s h why r ≡ Some t → plain_of s ≡ plain_of t
+stop_plain o s t h (Break number) None at is = cc
+stop_plain o s t h (Break number) (Some x) at is =
+    let u : State = record (with_stop s h x) { breaks = settled s.breaks h x.regs.pc } in
+    let g = guard_some (may_move o s x && is_number (due s.breaks h x) number) (Some u) t is in
+    let runs = runs_moves o s x (both_true (may_move o s x) (is_number (due s.breaks h x) number) g.0).0 in
+    let same : plain_hart (stopped x) ≡ plain_hart x = ap (λ b. let y : PlainHart = record { regs = x.regs; has_exited = b } in y) (sym runs) in
+    ap (λ ys. let p : PlainState = record { harts = ys; memory = s.memory; out = s.out } in p) (sym (same_plain s.harts h x (stopped x) at same)) ∙ ap plain_of (same_some u t g.1)
 stop_plain o s t h (Fault cause) None at is = cc
 stop_plain o s t h (Fault cause) (Some x) at is =
-    let g = guard_some (may_run o s x) (faulted_by (plain o.image x.regs s.memory) cause s h x) t is in
-    fault_plain (plain o.image x.regs s.memory) cause s t h x at (runs_on x.mode (both_true (may_go o s) (is_running x.mode) g.0).1) g.1
+    let g = guard_some (may_run o s h x) (faulted_by (plain o.image x.regs s.memory) cause s h x) t is in
+    fault_plain (plain o.image x.regs s.memory) cause s t h x at (runs_runs o s h x g.0) g.1
 
 -- the hart that leaves
 record Leaver (xs : List Hart) (k : ℕ) (p : ℕ × ℕ) : Type 0 where

@@ -8,21 +8,26 @@ use Rattle.plain_machine.specs.Plain.{plain}
 use Rattle.dbg_model.specs.declared.entry.Mode.{Mode}
 use Rattle.dbg_model.specs.declared.entry.Mode.TheVariants as mode
 use Rattle.dbg_model.specs.declared.entry.Why.{Why}
-use Rattle.dbg_model.specs.declared.entry.Why.TheVariants.{Fault}
+use Rattle.dbg_model.specs.declared.entry.Why.TheVariants.{Break, Fault}
 use Rattle.dbg_model.specs.declared.entry.Entry.{Entry}
 use Rattle.dbg_model.specs.declared.entry.Entry.TheVariants.{Ran, Stopped, Left, Did}
 use Rattle.dbg_model.specs.declared.limits.TheConstants.{HISTORY}
 use Rattle.dbg_model.specs.declared.opening.Opening.{Opening}
-use Rattle.dbg_model.specs.State.{Hart, State, is_running, has_exited, any_leaves}
+use Rattle.dbg_model.specs.Breaks.{settled}
+use Rattle.dbg_model.specs.State.{Hart, State, is_running, has_exited, any_leaves, due, is_due}
 use Rattle.dbg_model.specs.Reply.{done_by}
 
 -- no exit is still to be reported, and neither the budget nor the history is used up
 abbrev pub may_go : Opening → State → Bool
 may_go o s = not (any_leaves s.harts) && (nat_lt s.retired o.settings.budget && nat_lt s.noted HISTORY)
 
--- a hart may execute
-abbrev pub may_run : Opening → State → Hart → Bool
-may_run o s x = may_go o s && is_running x.mode
+-- a hart may move
+abbrev pub may_move : Opening → State → Hart → Bool
+may_move o s x = may_go o s && is_running x.mode
+
+-- a hart may execute: no breakpoint stops it first
+abbrev pub may_run : Opening → State → ℕ → Hart → Bool
+may_run o s h x = may_move o s x && not (is_due s.breaks h x)
 
 abbrev pub stepped : Hart → Registers → Hart
 stepped x r = record { regs = r; mode = x.mode; fresh = true }
@@ -48,7 +53,7 @@ stepped_by (Goes r m out leave) s h x =
 
 abbrev pub one_by : Opening → State → ℕ → Option Hart → Option State
 one_by o s h None = None
-one_by o s h (Some x) = if may_run o s x then stepped_by (plain o.image x.regs s.memory) s h x else None
+one_by o s h (Some x) = if may_run o s h x then stepped_by (plain o.image x.regs s.memory) s h x else None
 
 -- one instruction of a hart
 unfoldable pub one : Opening → ℕ → State → Option State
@@ -70,9 +75,15 @@ abbrev pub faulted_by : Answer → Cause → State → ℕ → Hart → Option S
 faulted_by (Traps met) cause s h x = if cause_number met == cause_number cause then Some (with_stop s h x) else None
 faulted_by (Goes r m out leave) cause s h x = None
 
+abbrev pub is_number : Option ℕ → ℕ → Bool
+is_number None n = false
+is_number (Some m) n = m == n
+
+-- a hart stops: at a breakpoint that it has just come to, or by a trap
 abbrev pub stopped_by : Opening → State → ℕ → Why → Option Hart → Option State
 stopped_by o s h why None = None
-stopped_by o s h (Fault cause) (Some x) = if may_run o s x then faulted_by (plain o.image x.regs s.memory) cause s h x else None
+stopped_by o s h (Break number) (Some x) = if may_move o s x && is_number (due s.breaks h x) number then Some (record (with_stop s h x) { breaks = settled s.breaks h x.regs.pc }) else None
+stopped_by o s h (Fault cause) (Some x) = if may_run o s h x then faulted_by (plain o.image x.regs s.memory) cause s h x else None
 
 abbrev pub leaver_or : ℕ → Mode → Option (ℕ × ℕ) → Option (ℕ × ℕ)
 leaver_or k mode.Stopped rest = rest

@@ -1,3 +1,4 @@
+pub mod Breaks
 pub mod State
 pub mod Reply
 pub mod Lawful

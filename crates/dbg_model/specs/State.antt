@@ -1,14 +1,16 @@
 -- The state of a session, as its journal makes it.
-use Rattle.std.specs.Prelude.{ℕ, zero, suc, Bool, true, false, List, [], ◌∷◌, ◌++◌}
+use Rattle.std.specs.Prelude.{ℕ, ◌+◌, zero, suc, Bool, true, false, List, [], ◌∷◌, ◌++◌, Option, Some, None, is_some, if◌then◌else◌}
 use Rattle.std.specs.List.{list_any, list_all}
 use Rattle.rv_exec.specs.Registers.{Registers}
 use Rattle.rv_exec.specs.Memory.{Memory}
 use Rattle.elf32_read.specs.Program.{Program}
 use Rattle.data_memory.specs.Start.{start_memory}
 use Rattle.plain_machine.specs.Plain.{first_registers}
+use Rattle.dbg_model.specs.declared.breakpoint.Breakpoint.{Breakpoint}
 use Rattle.dbg_model.specs.declared.entry.Mode.{Mode}
 use Rattle.dbg_model.specs.declared.entry.Mode.TheVariants as mode
 use Rattle.dbg_model.specs.declared.opening.Opening.{Opening}
+use Rattle.dbg_model.specs.Breaks.{stop_at}
 
 pub record Hart : Type 0 where
   pub regs : Registers
@@ -21,6 +23,9 @@ pub record State : Type 0 where
   pub memory : Memory
   -- the bytes that the program wrote
   pub out : List ℕ
+  -- the breakpoints that the user set, in rising order of their numbers, and the next number
+  pub breaks : List Breakpoint
+  pub next : ℕ
   -- the selected thread, counted from 1
   pub selected : ℕ
   -- how many instructions were executed
@@ -73,6 +78,17 @@ hart_gone x = has_exited x.mode
 abbrev pub all_gone : List Hart → Bool
 all_gone xs = list_all hart_gone xs
 
+-- the number of the breakpoint at which a hart has just arrived, and which stops it
+abbrev pub due : List Breakpoint → ℕ → Hart → Option ℕ
+due bs h x = if x.fresh then stop_at bs h x.regs.pc else None
+
+abbrev pub is_due : List Breakpoint → ℕ → Hart → Bool
+is_due bs h x = is_some (due bs h x)
+
+-- a breakpoint is added
+abbrev pub inserted : State → Breakpoint → State
+inserted s b = record s { breaks = s.breaks ++ b ∷ []; next = s.next + 1 }
+
 -- the first n of so many harts, as a session begins with them
 abbrev pub first_harts : Program → ℕ → ℕ → List Hart
 first_harts p harts zero = []
@@ -84,6 +100,8 @@ first_state o = record {
   harts = first_harts o.image o.settings.harts o.settings.harts;
   memory = start_memory o.image o.settings.harts;
   out = [];
+  breaks = [];
+  next = 1;
   selected = 1;
   retired = 0;
   noted = 0;

@@ -17,6 +17,8 @@ pub enum Mode {
 /// Why a hart stopped.
 #[derive(Clone, Copy, Debug, PartialEq, Eq)]
 pub enum Why {
+    /// It came to the breakpoint of this number.
+    Break { number: u32 },
     /// Its instruction trapped.
     Fault(Cause),
 }

@@ -14,9 +14,9 @@ use Rattle.dbg_model.specs.declared.entry.Why.TheVariants.{Fault}
 use Rattle.dbg_model.specs.declared.entry.Entry.TheVariants.{Stopped}
 use Rattle.dbg_model.specs.declared.limits.TheConstants.{HISTORY}
 use Rattle.dbg_model.specs.declared.opening.Opening.{Opening}
-use Rattle.dbg_model.specs.State.{Hart, State, hart_runs, any_leaves, is_running}
+use Rattle.dbg_model.specs.State.{Hart, State, hart_runs, any_leaves, is_running, is_due}
 use Rattle.dbg_model.specs.Reply.{done_by, reply_of, harts_after, resumed_at, resumed}
-use Rattle.dbg_model.specs.Lawful.{one, one_by, enter, may_go, may_run, stepped_by, stepped, stopped, with_stop, faulted_by, stopped_by, with_leavers, leaving, leaving_at}
+use Rattle.dbg_model.specs.Lawful.{one, one_by, enter, may_go, may_move, may_run, stepped_by, stepped, stopped, with_stop, faulted_by, stopped_by, with_leavers, leaving, leaving_at}
 use Rattle.dbg_model.specs.Leaving.{gone, gone_by}
 use Rattle.dbg_model.proofs.Options.{guard_some, same_some, both_true}
 use Rattle.dbg_session.specs.Stage.{running, runs_at, runs_as}
@@ -85,8 +85,8 @@ go_below o s may =
 one_by_works : (o : Opening) (s t : State) (h : ℕ) (r : Option Hart) → slice_get s.harts h ≡ r → one_by o s h r ≡ Some t → Worked o s t
 one_by_works o s t h None at is = cc
 one_by_works o s t h (Some x) at is =
-    let g = guard_some (may_run o s x) (stepped_by (plain o.image x.regs s.memory) s h x) t is in
-    answer_works o (plain o.image x.regs s.memory) s t h x at (go_below o s (both_true (may_go o s) (is_running x.mode) g.0).0) g.1
+    let g = guard_some (may_run o s h x) (stepped_by (plain o.image x.regs s.memory) s h x) t is in
+    answer_works o (plain o.image x.regs s.memory) s t h x at (go_below o s (both_true (may_go o s) (is_running x.mode) (both_true (may_move o s x) (not (is_due s.breaks h x)) g.0).0).0) g.1
 
 pub one_works : (o : Opening) (h : ℕ) (s t : State) → one o h s ≡ Some t → Worked o s t
 unfolding one
@@ -108,8 +108,8 @@ fault_halts (Goes r m out leave) cause s t h x at runs is = cc
 stop_halts : (o : Opening) (cause : Cause) (s t : State) (h : ℕ) (r : Option Hart) → slice_get s.harts h ≡ r → stopped_by o s h (Fault cause) r ≡ Some t → Halted s t
 stop_halts o cause s t h None at is = cc
 stop_halts o cause s t h (Some x) at is =
-    let g = guard_some (may_run o s x) (faulted_by (plain o.image x.regs s.memory) cause s h x) t is in
-    fault_halts (plain o.image x.regs s.memory) cause s t h x at (both_true (may_go o s) (is_running x.mode) g.0).1 g.1
+    let g = guard_some (may_run o s h x) (faulted_by (plain o.image x.regs s.memory) cause s h x) t is in
+    fault_halts (plain o.image x.regs s.memory) cause s t h x at (both_true (may_go o s) (is_running x.mode) (both_true (may_move o s x) (not (is_due s.breaks h x)) g.0).0).1 g.1
 
 pub halts : (o : Opening) (cause : Cause) (h : ℕ) (s t : State) → enter o s (Stopped h (Fault cause)) ≡ Some t → Halted s t
 unfolding enter

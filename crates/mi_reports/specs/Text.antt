@@ -7,7 +7,7 @@ use Rattle.dbg_model.specs.declared.command.Reply.TheVariants as reply
 use Rattle.dbg_model.specs.declared.entry.Entry.{Entry}
 use Rattle.dbg_model.specs.declared.entry.Entry.TheVariants.{Ran, Stopped, Left, Did}
 use Rattle.mi_reports.specs.Bytes.{hex8, octal, c_string}
-use Rattle.mi_reports.specs.declared.texts.TheConstants.{CREATED_HEAD, EXITED_HEAD, GROUP_TAIL, PROMPT, RUNNING_HEAD, RUNNING_TAIL, NOT_BUILT, THREAD_HEAD, HAS_EXITED_TAIL, IS_RUNNING_TAIL, SIGNAL_HEAD, SEGMENTATION_FAULT, BUS_ERROR, ILLEGAL_INSTRUCTION, TRAP, FRAME_HEAD, FRAME_TAIL, STOPPED_HEAD, STOPPED_TAIL, EXITED_NORMALLY, EXIT_CODE_HEAD, LINE_TAIL, STREAM_HEAD}
+use Rattle.mi_reports.specs.declared.texts.TheConstants.{CREATED_HEAD, EXITED_HEAD, GROUP_TAIL, PROMPT, RUNNING_HEAD, RUNNING_TAIL, NOT_BUILT, THREAD_HEAD, HAS_EXITED_TAIL, IS_RUNNING_TAIL, SIGNAL_HEAD, BREAK_HEAD, KEPT, DELETED, BREAK_NUMBER_HEAD, SEGMENTATION_FAULT, BUS_ERROR, ILLEGAL_INSTRUCTION, TRAP, FRAME_HEAD, FRAME_TAIL, STOPPED_HEAD, STOPPED_TAIL, EXITED_NORMALLY, EXIT_CODE_HEAD, LINE_TAIL, STREAM_HEAD}
 
 -- a line for each of the first n threads
 abbrev pub created : ℕ → List ℕ
@@ -33,6 +33,15 @@ signal FetchFault = SEGMENTATION_FAULT.now
 unfoldable pub stop_text : Cause → ℕ → ℕ → List ℕ
 stop_text cause h pc =
     SIGNAL_HEAD.now ++ signal cause ++ FRAME_HEAD.now ++ hex8 pc ++ FRAME_TAIL.now ++ decimal (h + 1) ++ STOPPED_HEAD.now ++ decimal (h + 1) ++ STOPPED_TAIL.now
+
+-- what becomes of a breakpoint that is hit
+abbrev pub disposition : Bool → List ℕ
+disposition temporary = if temporary then DELETED.now else KEPT.now
+
+-- hart h stopped at pc by the breakpoint of that number
+unfoldable pub break_text : Bool → ℕ → ℕ → ℕ → List ℕ
+break_text temporary number h pc =
+    BREAK_HEAD.now ++ disposition temporary ++ BREAK_NUMBER_HEAD.now ++ decimal number ++ FRAME_HEAD.now ++ hex8 pc ++ FRAME_TAIL.now ++ decimal (h + 1) ++ STOPPED_HEAD.now ++ decimal (h + 1) ++ STOPPED_TAIL.now
 
 -- hart h has exited
 unfoldable pub gone_text : ℕ → List ℕ

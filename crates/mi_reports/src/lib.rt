@@ -7,4 +7,4 @@ mod report;
 mod texts;
 
 pub use refusals::{USAGE, bad_file};
-pub use report::{lefts_text, opening_text, reply_text, stop_text, stream_text};
+pub use report::{break_text, lefts_text, opening_text, reply_text, stop_text, stream_text};

@@ -1,6 +1,6 @@
 // The lines of what entries show.
 ghost use Rattle.std.specs.Prelude.{◌≡◌, ◌+◌, ◌++◌, ◌<◌, decimal, IfOk, OnOk};
-ghost use Rattle.mi_reports.specs.Text.{created, opening_text, signal, stop_text, gone_text, gone_texts, exit_text, lefts_text, stream_text, reply_text};
+ghost use Rattle.mi_reports.specs.Text.{created, opening_text, signal, stop_text, disposition, break_text, gone_text, gone_texts, exit_text, lefts_text, stream_text, reply_text};
 
 use crate::numbers::{hex8, push_c_string, push_decimal, push_octal};
 use crate::texts;
@@ -61,6 +61,42 @@ pub fn stop_text(alloc: Global, cause: Cause, hart: u32, pc: u32) -> Result<Vec<
     let mut text = Vec::new(alloc);
     push(&mut text, texts::SIGNAL_HEAD)?;
     push(&mut text, signal(cause))?;
+    push(&mut text, texts::FRAME_HEAD)?;
+    text.extend_from_slice(&hex8(pc))?;
+    push(&mut text, texts::FRAME_TAIL)?;
+    push_thread(&mut text, hart)?;
+    push(&mut text, texts::STOPPED_HEAD)?;
+    push_thread(&mut text, hart)?;
+    push(&mut text, texts::STOPPED_TAIL)?;
+    Ok(text)
+}
+
+fn disposition(temporary: bool) -> &'static str
+    ensures { result.now ≡ disposition temporary }
+{
+    if temporary {
+        texts::DELETED
+    } else {
+        texts::KEPT
+    }
+}
+
+/// The line of a stop of a hart by the breakpoint of that number, at pc.
+#[tactic(auto, unfolding(crate::specs::Text::break_text))]
+pub fn break_text(
+    alloc: Global,
+    temporary: bool,
+    number: u32,
+    hart: u32,
+    pc: u32,
+) -> Result<Vec<u8>, AllocError>
+    ensures { IfOk result (λ v. v.items ≡ break_text temporary number hart pc) }
+{
+    let mut text = Vec::new(alloc);
+    push(&mut text, texts::BREAK_HEAD)?;
+    push(&mut text, disposition(temporary))?;
+    push(&mut text, texts::BREAK_NUMBER_HEAD)?;
+    push_decimal(&mut text, u64::from(number))?;
     push(&mut text, texts::FRAME_HEAD)?;
     text.extend_from_slice(&hex8(pc))?;
     push(&mut text, texts::FRAME_TAIL)?;

@@ -21,6 +21,14 @@ pub const IS_RUNNING_TAIL: &str = " is running\"\n(gdb)\n";
 
 pub const SIGNAL_HEAD: &str = "*stopped,reason=\"signal-received\",signal-name=\"";
 
+pub const BREAK_HEAD: &str = "*stopped,reason=\"breakpoint-hit\",disp=\"";
+
+pub const KEPT: &str = "keep";
+
+pub const DELETED: &str = "del";
+
+pub const BREAK_NUMBER_HEAD: &str = "\",bkptno=\"";
+
 pub const SEGMENTATION_FAULT: &str = "SIGSEGV\",signal-meaning=\"Segmentation fault";
 
 pub const BUS_ERROR: &str = "SIGBUS\",signal-meaning=\"Bus error";
