@@ -1,6 +1,6 @@
 -- A step of a running hart keeps what the type of an engine keeps.
 use Rattle.std.proofs.Common.{◌≡◌, ℕ, zero, suc, ◌+◌, ◌<◌, ◌≤◌, Bool, true, false, cond, List, [], ◌∷◌, ◌++◌, length, refl, sym, ap, ◌∙◌, arith, not, subst, nat_lt, inl, inr, length-set}
-use Rattle.std.specs.Prelude.{Some, ◌==◌, ◌&&◌, ◌⊎◌, map, slice_get, slice_set}
+use Rattle.std.specs.Prelude.{Some, None, is_some, ◌==◌, ◌&&◌, ◌⊎◌, map, slice_get, slice_set}
 use Rattle.std.proofs.lemmas.Bool.Decides.{nat_tests}
 use Rattle.std.proofs.lemmas.List.{length-map}
 use Rattle.rv_exec.specs.declared.effect.Cause.{Cause}
@@ -21,8 +21,9 @@ use Rattle.dbg_model.specs.declared.entry.Why.TheVariants.{Fault}
 use Rattle.dbg_model.specs.declared.entry.Mode.TheVariants as mode
 use Rattle.dbg_model.specs.declared.limits.TheConstants.{HISTORY}
 use Rattle.dbg_model.specs.declared.opening.Opening.{Opening}
-use Rattle.dbg_model.specs.State.{Hart, State, any_leaves, is_running}
-use Rattle.dbg_model.specs.Lawful.{one, one_by, one_out, enter, may_go, may_run, stepped, stopped, with_stop, with_leavers, leaving}
+use Rattle.dbg_model.specs.Breaks.{stop_at}
+use Rattle.dbg_model.specs.State.{Hart, State, any_leaves, is_running, is_due}
+use Rattle.dbg_model.specs.Lawful.{one, one_by, one_out, enter, may_go, may_move, may_run, stepped, stopped, with_stop, with_leavers, leaving}
 use Rattle.dbg_model.specs.Lawful as lawful
 use Rattle.dbg_model.specs.Leaving.{lefts_from, gone, LeaveWith}
 use Rattle.dbg_model.specs.Journals.{Leaves, lengthened, last_count}
@@ -69,8 +70,16 @@ mover_hart c x = seen_hart c x
 hart_at : (r : Run) (h : ℕ) (c : Core) → (m : Mover r h c) → slice_get (seen r).harts h ≡ Some (seen_hart c m.mind)
 hart_at r h c m = seen_at r.machine.cores r.minds h c m.mind m.core m.at
 
-hart_may : (r : Run) (h : ℕ) (c : Core) → (m : Mover r h c) → may_run r.opening (seen r) (seen_hart c m.mind) ≡ true
-hart_may r h c m = ap (λ b. b && is_running (mode_of m.mind.activity)) m.may ∙ ap (λ a. is_running (mode_of a)) m.runs
+-- where no breakpoint is, none stops a hart
+none_due_by : (h pc : ℕ) (b : Bool) → is_some (cond b (stop_at [] h pc) None) ≡ false
+none_due_by h pc true = refl
+none_due_by h pc false = refl
+
+hart_moves : (r : Run) (h : ℕ) (c : Core) → (m : Mover r h c) → may_move r.opening (seen r) (seen_hart c m.mind) ≡ true
+hart_moves r h c m = ap (λ b. b && is_running (mode_of m.mind.activity)) m.may ∙ ap (λ a. is_running (mode_of a)) m.runs
+
+hart_may : (r : Run) (h : ℕ) (c : Core) → (m : Mover r h c) → may_run r.opening (seen r) h (seen_hart c m.mind) ≡ true
+hart_may r h c m = ap (λ b. b && not (is_due [] h (seen_hart c m.mind))) (hart_moves r h c m) ∙ ap not (none_due_by h c.regs.pc m.mind.fresh)
 
 -- what the machine's answer says of the unpatched text
 plain_gives : (s : Stepped) (r : Run) (h : ℕ) (c : Core) (new : Patched) → Facts r → (t : StepsTo s r.machine h c new) → StepGives s (plain r.opening.image c.regs r.machine.memory) c.regs t.core.regs r.machine.memory t.memory
@@ -80,7 +89,7 @@ plain_gives s r h c new f t = fetch_plain s r.opening.image r.machine.text c.reg
 abbrev next_state : State → ℕ → Leave → Hart → Memory → List ℕ → State
 next_state s h leave y m out = record s { harts = with_leavers leave (slice_set s.harts h y) h; memory = m; out = s.out ++ out; retired = s.retired + 1 }
 
-one_goes : (o : Opening) (s : State) (h : ℕ) (y : Hart) (r : Registers) (m : Memory) (out : List ℕ) (leave : Leave) → slice_get s.harts h ≡ Some y → may_run o s y ≡ true → plain o.image y.regs s.memory ≡ Goes r m out leave
+one_goes : (o : Opening) (s : State) (h : ℕ) (y : Hart) (r : Registers) (m : Memory) (out : List ℕ) (leave : Leave) → slice_get s.harts h ≡ Some y → may_run o s h y ≡ true → plain o.image y.regs s.memory ≡ Goes r m out leave
     → one o h s ≡ Some (next_state s h leave (lawful.stepped y r) m out)
 unfolding one
 one_goes o s h y r m out leave at may is = rw (at, may, is) refl
@@ -274,7 +283,7 @@ turned_all r h spare code c c' mem f v is more =
 equals : (n : ℕ) → (n == n) ≡ true
 equals n = grind (arith, nat_tests)
 
-enter_fault : (o : Opening) (s : State) (h : ℕ) (y : Hart) (cause : Cause) → slice_get s.harts h ≡ Some y → may_run o s y ≡ true → plain o.image y.regs s.memory ≡ Traps cause → enter o s (Stopped h (Fault cause)) ≡ Some (with_stop s h y)
+enter_fault : (o : Opening) (s : State) (h : ℕ) (y : Hart) (cause : Cause) → slice_get s.harts h ≡ Some y → may_run o s h y ≡ true → plain o.image y.regs s.memory ≡ Traps cause → enter o s (Stopped h (Fault cause)) ≡ Some (with_stop s h y)
 unfolding enter
 enter_fault o s h y cause at may is = rw (at, may, is, equals (cause_number cause)) refl
 

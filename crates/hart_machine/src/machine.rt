@@ -1,4 +1,6 @@
-ghost use Rattle.std.specs.Prelude.{◌≡◌, ◌<◌, ◌≤◌, ◌-◌, ◌^◌, ℕ, [], length, IfOk, IfErr, MatchResult, Err, Some, None, slice_get};
+ghost use Rattle.std.specs.Prelude.{◌≡◌, ◌<◌, ◌≤◌, ◌-◌, ◌^◌, ℕ, [], length, IfOk, IfErr, MatchResult, Err, Some, None, IsSome, true, false, slice_get};
+ghost use Rattle.std.specs.FinSet as set;
+ghost use Rattle.text_words.specs.Words as text;
 ghost use Rattle.data_memory.specs.Start.{start_memory};
 ghost use Rattle.data_memory.specs.Ranges.{bytes_at, range_at};
 ghost use Rattle.dbg_traits.specs.Settings.{AreSettings, AreHarts};
@@ -108,6 +110,44 @@ impl Machine {
         ensures first { IfErr result (λ at. range_at self.now.memory addr (length into.old) ≡ Err at) }
     {
         self.memory.read_range(addr, into)
+    }
+
+    /// The stored word at an address, EBREAK where a breakpoint is planted; none where no word of text is.
+    pub fn word(&self, addr: u32) -> Option<u32>
+        ensures { result ≡ text.stored self.now.text addr }
+    {
+        self.text.word(addr)
+    }
+
+    /// The program's word at an address; none where no word of text is.
+    pub fn shown(&self, addr: u32) -> Option<u32>
+        ensures { result ≡ text.shown self.now.text addr }
+    {
+        self.text.shown(addr)
+    }
+
+    /// Whether a breakpoint is planted at an address.
+    pub fn planted(&self, addr: u32) -> bool
+        ensures { result ≡ text.is_planted self.now.text addr }
+    {
+        self.text.planted(addr)
+    }
+
+    /// Plants a breakpoint at a word of text that has none.
+    pub fn plant(&mut self, addr: u32)
+        requires text { IsSome (text.shown self.old.text addr) }
+        requires free { text.is_planted self.old.text addr ≡ false }
+        ensures { self.new ≡ record self.old { text = record self.old.text { planted = set.insert self.old.text.planted addr } } }
+    {
+        self.text.plant(addr);
+    }
+
+    /// Lifts the breakpoint at an address that has one.
+    pub fn lift(&mut self, addr: u32)
+        requires { text.is_planted self.old.text addr ≡ true }
+        ensures { self.new ≡ record self.old { text = record self.old.text { planted = set.remove self.old.text.planted addr } } }
+    {
+        self.text.lift(addr);
     }
 
     /// One instruction of a hart: the stored word at its pc.

@@ -337,3 +337,34 @@ fn both_machines_do_the_same(rt: HostRuntime) -> Result<(), Fail> {
     }
     Ok(())
 }
+
+/// 0x00100073 is EBREAK.
+#[test]
+fn a_planted_word_stops_a_hart_until_it_is_lifted(rt: HostRuntime) -> Result<(), Fail> {
+    let file = hex::decode(rt.alloc(), IMAGE)?;
+    let image = read_image(rt.alloc(), &file)?;
+    let settings = Settings {
+        harts: 1,
+        workers: 0,
+        slots: 0,
+        budget: 100,
+        slice: 0,
+    };
+    let Ok(mut machine) = Machine::load(rt.alloc(), &image, settings) else {
+        return Err(Fail::new("out of memory"));
+    };
+    assert!(rt; 0 < machine.harts());
+    assert!(rt; machine.retired(0) == 0);
+    assert!(rt; machine.shown(0x0001_0094).is_some());
+    assert!(rt; !machine.planted(0x0001_0094));
+    machine.plant(0x0001_0094);
+    assert_eq!(rt; machine.word(0x0001_0094), Some(0x0010_0073));
+    assert_eq!(rt; machine.shown(0x0001_0094), Some(0x05D0_0893));
+    assert_eq!(rt; machine.step(0), Stepped::Hit);
+    assert!(rt; machine.planted(0x0001_0094));
+    machine.lift(0x0001_0094);
+    assert!(rt; 0 < machine.harts());
+    assert!(rt; machine.retired(0) == 0);
+    assert_eq!(rt; machine.step(0), Stepped::Ran);
+    Ok(())
+}

@@ -1,0 +1,87 @@
+-- An engine before its first move.
+use Rattle.std.proofs.Common.{◌≡◌, ℕ, zero, suc, List, [], ◌∷◌, ◌++◌, replicate, refl, sym, ap, ◌∙◌, subst, arith, inl, inr}
+use Rattle.std.specs.Prelude.{Some, None, ◌⊎◌, slice_get}
+use Rattle.std.proofs.lemmas.List.{length-replicate}
+use Rattle.dbg_traits.specs.Settings.{AreSettings}
+use Rattle.plain_machine.specs.Plain.{first_registers}
+use Rattle.hart_machine.specs.declared.hart.Core.{Core}
+use Rattle.hart_machine.specs.Stepping.{first_cores, loaded}
+use Rattle.hart_machine.proofs.Places.{same_some}
+use Rattle.hart_machine.specs.Patched.{Patched}
+use Rattle.std.specs.Ordering.{nat_cmp}
+use Rattle.std.specs.FinSet.{contains-empty}
+use Rattle.dbg_model.specs.declared.breakpoint.Breakpoint.{Breakpoint}
+use Rattle.dbg_model.specs.declared.entry.Entry.{Entry}
+use Rattle.dbg_model.specs.declared.opening.Opening.{Opening}
+use Rattle.dbg_model.specs.State.{State, first_state}
+use Rattle.dbg_model.specs.Journals.{Leaves}
+use Rattle.dbg_model.proofs.Adding.{starts}
+use Rattle.engine_facts.specs.declared.mind.Mind.{Mind}
+use Rattle.engine_facts.specs.Minds.{first_mind}
+use Rattle.engine_facts.specs.Seen.{Run, seen, out_after}
+use Rattle.engine_facts.specs.Facts.{Facts, HartFact}
+use Rattle.engine_facts.proofs.Updating.{none_some}
+use Rattle.engine_facts.proofs.Seeing.{first_seen, length_first, out_is}
+
+abbrev pub first_run : Opening → ℕ → Run
+first_run o spare = record { opening = o; journal = []; spare = spare; machine = loaded o.image o.settings.harts; minds = replicate o.settings.harts first_mind; hold = None; breaks = []; next = 1; selected = 1; retired = 0; noted = 0 }
+
+last_or : {A : Type 0} (xs : List A) (x y : A) (h : ℕ) → slice_get (xs ++ x ∷ []) h ≡ Some y → (slice_get xs h ≡ Some y) ⊎ (x ≡ y)
+last_or [] x y zero is = inr (same_some x y is)
+last_or [] x y (suc h) is = cc
+last_or (z ∷ zs) x y zero is = inl is
+last_or (z ∷ zs) x y (suc h) is = last_or zs x y h is
+
+none_yet : (entry harts n h : ℕ) (c : Core) → slice_get (first_cores entry harts n) h ≡ Some c → c.retired ≡ 0
+none_yet entry harts zero h c is = cc
+none_yet entry harts (suc n) h c is =
+    elim (last_or (first_cores entry harts n) (record { regs = first_registers entry harts n; retired = 0 }) c h is) [
+      | inl e ↦ none_yet entry harts n h c e
+      | inr e ↦ ap (λ (d : Core). d.retired) (sym e)
+    ]
+
+pub seen_begin : (o : Opening) (spare : ℕ) → seen (first_run o spare) ≡ first_state o
+seen_begin o spare =
+    ap (λ ys. let s : State = record (first_state o) { harts = ys; out = out_after o [] } in s) (first_seen o.image o.settings.harts o.settings.harts)
+    ∙ ap (λ bs. let s : State = record (first_state o) { out = bs } in s) (out_is o [] (first_state o) (starts o))
+
+replicated : (n k : ℕ) (x : Mind) → slice_get (replicate n first_mind) k ≡ Some x → x ≡ first_mind
+replicated zero k x at = cc
+replicated (suc n) zero x at = sym (same_some first_mind x at)
+replicated (suc n) (suc k) x at = replicated n k x at
+
+no_break : {A : Type 0} (k : ℕ) (b : Breakpoint) → slice_get [] k ≡ Some b → A
+no_break zero b at = cc
+no_break (suc k) b at = cc
+
+first_fact : (o : Opening) (k : ℕ) (c : Core) (x : Mind) → x ≡ first_mind → HartFact o.image None k c x
+first_fact o k c x is = subst (λ (y : Mind). HartFact o.image None k c y) (sym is) (record { placed = tt; held = refl; idle = λ e. refl })
+
+begins : (o : Opening) (spare : ℕ) → AreSettings o.settings → Facts (first_run o spare)
+begins o spare s =
+    let harts = length-replicate {A = Mind} o.settings.harts first_mind in
+    record {
+      leaves = subst (λ (t : State). Leaves o [] t) (sym (seen_begin o spare)) (starts o);
+      settings = s;
+      count = harts;
+      selected = (omega arith, s.harts.0);
+      harts = record {
+        len = length_first o.image.entry o.settings.harts o.settings.harts ∙ sym harts;
+        each = λ k c x dk xk. first_fact o k c x (replicated o.settings.harts k x xk);
+        holder = λ d e. none_some d e;
+      };
+      planted = record { words = refl; patches = λ a. contains-empty nat_cmp a };
+      texts = λ k b at. no_break k b at;
+      retired = λ h c at. none_yet o.image.entry o.settings.harts o.settings.harts h c at;
+    }
+
+pub record Begins (o : Opening) (r : Run) : Type 0 where
+  pub facts : Facts r
+  pub state : seen r ≡ first_state o
+
+pub begins_at : (o : Opening) (spare : ℕ) (j : List Entry) (m : Patched) (xs : List Mind) → AreSettings o.settings → j ≡ [] → m ≡ loaded o.image o.settings.harts → xs ≡ replicate o.settings.harts first_mind
+    → Begins o (record { opening = o; journal = j; spare = spare; machine = m; minds = xs; hold = None; breaks = []; next = 1; selected = 1; retired = 0; noted = 0 })
+begins_at o spare j m xs s none is are =
+    let P : List Entry → Patched → List Mind → Type 0 = λ j m xs. Begins o (record { opening = o; journal = j; spare = spare; machine = m; minds = xs; hold = None; breaks = []; next = 1; selected = 1; retired = 0; noted = 0 }) in
+    let first : P [] (loaded o.image o.settings.harts) (replicate o.settings.harts first_mind) = record { facts = begins o spare s; state = seen_begin o spare } in
+    subst (λ (k : List Entry). P k m xs) (sym none) (subst (λ (n : Patched). P [] n xs) (sym is) (subst (λ (ys : List Mind). P [] (loaded o.image o.settings.harts) ys) (sym are) first))

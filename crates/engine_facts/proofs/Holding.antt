@@ -1,0 +1,119 @@
+-- The hart for which a patch is lifted, and the end of that.
+use Rattle.std.proofs.Common.{◌≡◌, ℕ, zero, suc, ◌<◌, Bool, true, false, cond, List, [], ◌∷◌, length, refl, sym, ap, ◌∙◌, subst, not, arith}
+use Rattle.std.specs.Prelude.{Option, Some, None, IsSome, slice_get, ◌&&◌, ◌||◌, ◌==◌}
+use Rattle.std.proofs.lemmas.Bool.Decides.{nat_tests}
+use Rattle.std.proofs.lemmas.Option.{slice_get_within}
+use Rattle.text_words.specs.Words.{Words, shown, is_planted}
+use Rattle.elf32_read.specs.Program.{Program}
+use Rattle.hart_machine.specs.declared.hart.Core.{Core}
+use Rattle.hart_machine.proofs.Places.{same_some}
+use Rattle.dbg_model.specs.declared.breakpoint.Breakpoint.{Breakpoint}
+use Rattle.dbg_model.specs.Breaks.{stands, stands_at}
+use Rattle.dbg_model.proofs.Options.{both_true}
+use Rattle.engine_facts.specs.declared.mind.Hold.{Hold}
+use Rattle.engine_facts.specs.declared.mind.Mind.{Mind}
+use Rattle.engine_facts.specs.declared.mind.Phase.{Phase}
+use Rattle.engine_facts.specs.declared.mind.Phase.TheVariants as phase
+use Rattle.engine_facts.specs.Minds.{lifted_of, with_phase}
+use Rattle.engine_facts.specs.Seen.{Run}
+use Rattle.engine_facts.specs.Facts.{Facts, Planted, InText, AreInText, held_by, is_home, wanted, other_holder}
+use Rattle.engine_facts.specs.Moves.{Repatched, HeldInText, Released, rephased}
+use Rattle.engine_facts.proofs.Updating.{differs, equals, none_some}
+use Rattle.engine_facts.proofs.Planting.{replanted, text_shown}
+use Rattle.engine_facts.proofs.Keeping.{Mover, StaysSeen, silent}
+use Rattle.engine_facts.proofs.Stepping.{fact_of, home_text}
+
+-- what stands in a list
+pub get_within : {A : Type 0} (xs : List A) (h : ℕ) → h < length xs → (x : A) × (slice_get xs h ≡ Some x)
+get_within [] h low = absurd (omega arith)
+get_within (x ∷ xs) zero low = (x, refl)
+get_within (x ∷ xs) (suc h) low = let l : h < length xs = omega arith in get_within xs h l
+
+-- a hart with a mind has a core
+pub core_at : (r : Run) (h : ℕ) (x : Mind) → Facts r → slice_get r.minds h ≡ Some x → (c : Core) × Mover r h c x
+core_at r h x f e =
+    let low : h < length r.machine.cores = omega (arith, slice_get_within r.minds h x e, f.harts.len) in
+    let at = get_within r.machine.cores h low in
+    (at.0, record { core = at.1; mind = e })
+
+held_own : (d : Hold) → held_by (Some d) d.hart ≡ Some d.home
+held_own d = rw (equals d.hart) refl
+
+held_text_by : (r : Run) (hold : Option Hold) → r.hold ≡ hold → Facts r → HeldInText r.machine.text hold
+held_text_by r None is f = tt
+held_text_by r (Some d) is f =
+    let low : d.hart < length r.minds = f.harts.holder d is in
+    let m = get_within r.minds d.hart low in
+    let at = core_at r d.hart m.0 f m.1 in
+    let lifted : lifted_of m.0.phase ≡ Some d.home = (fact_of r d.hart at.0 m.0 f at.1).held ∙ (ap (λ (o : Option Hold). held_by o d.hart) is ∙ held_own d) in
+    text_shown r.opening.image r.machine.text r.breaks r.hold d.home f.planted (home_text r d.hart at.0 m.0 d.home f at.1 lifted)
+
+-- the address of a lifted patch is in text
+pub held_text : (r : Run) → Facts r → HeldInText r.machine.text r.hold
+held_text r f = held_text_by r r.hold refl f
+
+and_true : (b : Bool) → (b && true) ≡ b
+and_true true = refl
+and_true false = refl
+
+pub wanted_none : (bs : List Breakpoint) (a : ℕ) → wanted bs None a ≡ stands bs a
+wanted_none bs a = and_true (stands bs a)
+
+wanted_elsewhere : (bs : List Breakpoint) (d : Hold) (b : ℕ) → (d.home ≡ b → ⊥) → wanted bs (Some d) b ≡ wanted bs None b
+wanted_elsewhere bs d b n = rw (differs d.home b n) refl
+
+-- the text where no patch stays lifted
+pub released : (p : Program) (t t' : Words) (bs : List Breakpoint) (hold : Option Hold) → Planted p t bs hold → Released t t' bs hold → Planted p t' bs None
+released p t t' bs None f w = subst (λ (u : Words). Planted p u bs None) (sym w) f
+released p t t' bs (Some d) f w =
+    let w' : Repatched t t' d.home (wanted bs None d.home) = record { words = w.words; here = w.here ∙ sym (wanted_none bs d.home); others = w.others } in
+    replanted p bs bs (Some d) None t t' d.home f w' (λ b n. wanted_elsewhere bs d b n)
+
+unholds_by : (d : Hold) (h k : ℕ) (b : Bool) → (d.hart == h) ≡ b → cond b None (Some d.hart) ≡ None → (h ≡ k → ⊥) → held_by (Some d) k ≡ None
+unholds_by d h k true is free n =
+    let hart : d.hart ≡ h = grind (arith, nat_tests) in
+    rw (differs d.hart k (λ e. n (sym hart ∙ e))) refl
+unholds_by d h k false is free n = cc
+
+-- no other hart holds
+pub unholds : (hold : Option Hold) (h : ℕ) → other_holder hold h ≡ None → (k : ℕ) → (h ≡ k → ⊥) → held_by hold k ≡ held_by None k
+unholds None h free k n = refl
+unholds (Some d) h free k n = unholds_by d h k (d.hart == h) refl free n
+
+no_hold_as : (d : Hold) (h : ℕ) (b : Bool) → (d.hart == h) ≡ b → cond b None (Some d.hart) ≡ None → cond b (Some d.home) None ≡ None → Some d ≡ None
+no_hold_as d h true is free held = cc
+no_hold_as d h false is free held = cc
+
+pub no_hold : (hold : Option Hold) (h : ℕ) → other_holder hold h ≡ None → held_by hold h ≡ None → hold ≡ None
+no_hold None h free held = refl
+no_hold (Some d) h free held = no_hold_as d h (d.hart == h) refl free held
+
+-- a hart steps over nothing any more
+pub unwinds : (r : Run) (h : ℕ) (c : Core) (x : Mind) (t : Words) → Facts r → Mover r h c x → other_holder r.hold h ≡ None → Released r.machine.text t r.breaks r.hold → StaysSeen r (rephased r h (with_phase x phase.Idle) t None)
+unwinds r h c x t f m free w =
+    silent r h c x (with_phase x phase.Idle) t None f m refl
+    (record {
+      holds = unholds r.hold h free;
+      fact = record { placed = tt; held = refl; idle = λ e. refl };
+      holder = λ e is. none_some e is;
+    })
+    (released r.opening.image r.machine.text t r.breaks r.hold f.planted w)
+
+stands_in : (p : Program) (b : Breakpoint) (bs : List Breakpoint) (a : ℕ) (t : Bool) → stands_at b a ≡ t → (t || stands bs a) ≡ true → AreInText p (b ∷ bs) → (AreInText p bs → stands bs a ≡ true → InText p a) → InText p a
+stands_in p b bs a true is e each ih =
+    let at : (b.address == a) ≡ true = (both_true b.enabled (b.address == a) is).1 in
+    let there : b.address ≡ a = grind (arith, nat_tests) in
+    subst (InText p) there (each 0 b refl)
+stands_in p b bs a false is e each ih = ih (λ k d at. each (suc k) d at) e
+
+-- where a breakpoint stands is text
+pub stands_text : (p : Program) (bs : List Breakpoint) (a : ℕ) → AreInText p bs → stands bs a ≡ true → InText p a
+stands_text p [] a each e = cc
+stands_text p (b ∷ bs) a each e = stands_in p b bs a (stands_at b a) refl e each (stands_text p bs a)
+
+-- where a patch is planted is text
+pub planted_text : (r : Run) (a : ℕ) → Facts r → is_planted r.machine.text a ≡ true → InText r.opening.image a
+planted_text r a f is = stands_text r.opening.image r.breaks a f.texts (both_true (stands r.breaks a) (not (is_home r.hold a)) (sym (f.planted.patches a) ∙ is)).0
+
+one_lifted_as : (d e : Hold) (h k : ℕ) → Some d ≡ Some e → d.hart ≡ h → e.hart ≡ k → h ≡ k
+one_lifted_as d e h k is hd ek = sym hd ∙ (ap (λ (o : Hold). o.hart) (same_some d e is) ∙ ek)

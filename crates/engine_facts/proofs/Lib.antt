@@ -1,0 +1,12 @@
+pub mod Seeing
+pub mod Counting
+pub mod Updating
+pub mod Planting
+pub mod Keeping
+pub mod Stepping
+pub mod Holding
+pub mod Bounding
+pub mod Exiting
+pub mod Stopping
+pub mod Breaking
+pub mod Beginning

@@ -1,0 +1,88 @@
+-- What the type of an engine keeps.
+use Rattle.std.specs.Prelude.{◌≡◌, ◌<◌, ◌≤◌, ℕ, Bool, false, ◌&&◌, ◌==◌, not, List, length, Option, Some, None, IsSome, slice_get, if◌then◌else◌}
+use Rattle.dbg_traits.specs.Settings.{AreSettings}
+use Rattle.elf32_read.specs.Program.{Program}
+use Rattle.text_words.specs.Words.{Words, shown, is_planted, unpatched}
+use Rattle.hart_machine.specs.declared.hart.Core.{Core}
+use Rattle.dbg_model.specs.declared.breakpoint.Breakpoint.{Breakpoint}
+use Rattle.dbg_model.specs.declared.entry.Entry.{Entry}
+use Rattle.dbg_model.specs.declared.opening.Opening.{Opening}
+use Rattle.dbg_model.specs.Breaks.{stands}
+use Rattle.dbg_model.specs.Journals.{Leaves}
+use Rattle.dbg_model.specs.Erase.{erase, steps_of}
+use Rattle.engine_facts.specs.declared.mind.Hold.{Hold}
+use Rattle.engine_facts.specs.declared.mind.Mind.{Mind}
+use Rattle.engine_facts.specs.declared.mind.Phase.{Phase}
+use Rattle.engine_facts.specs.declared.mind.Phase.TheVariants as phase
+use Rattle.engine_facts.specs.Minds.{runs, lifted_of}
+use Rattle.engine_facts.specs.Seen.{Run, seen}
+
+-- a word of text is at the address
+abbrev pub InText : Program → ℕ → Type 0
+InText p a = IsSome (shown (unpatched p) a)
+
+-- the address whose patch is lifted for hart h
+abbrev pub held_by : Option Hold → ℕ → Option ℕ
+held_by None h = None
+held_by (Some d) h = if d.hart == h then Some d.home else None
+
+-- the hart for which a patch is lifted, where that is another one than h
+abbrev pub other_holder : Option Hold → ℕ → Option ℕ
+other_holder None h = None
+other_holder (Some d) h = if d.hart == h then None else Some d.hart
+
+abbrev pub is_home : Option Hold → ℕ → Bool
+is_home None a = false
+is_home (Some d) a = d.home == a
+
+-- a patch is wanted where an enabled breakpoint stands and the patch isn't lifted
+abbrev pub wanted : List Breakpoint → Option Hold → ℕ → Bool
+wanted bs hold a = stands bs a && not (is_home hold a)
+
+-- the program's words are the image's, and a patch is planted exactly where one is wanted: so each stored word is
+-- EBREAK there, and elsewhere the image's
+pub record Planted (p : Program) (t : Words) (bs : List Breakpoint) (hold : Option Hold) : Type 0 where
+  pub words : t.words ≡ (unpatched p).words
+  pub patches : (a : ℕ) → is_planted t a ≡ wanted bs hold a
+
+-- where a hart is in each phase
+abbrev pub Placed : Program → Core → Phase → Type 0
+Placed p c phase.Idle = Unit {0}
+Placed p c (phase.Lifted home) = InText p home × (c.regs.pc ≡ home)
+Placed p c (phase.Ran home) = InText p home
+
+pub record HartFact (p : Program) (hold : Option Hold) (h : ℕ) (c : Core) (x : Mind) : Type 0 where
+  pub placed : Placed p c x.phase
+  -- so the patch is lifted for one hart at most
+  pub held : lifted_of x.phase ≡ held_by hold h
+  -- a hart that isn't running steps over nothing
+  pub idle : runs x ≡ false → x.phase ≡ phase.Idle
+
+pub record Harts (p : Program) (cores : List Core) (minds : List Mind) (hold : Option Hold) : Type 0 where
+  pub len : length cores ≡ length minds
+  pub each : (h : ℕ) (c : Core) (x : Mind) → slice_get cores h ≡ Some c → slice_get minds h ≡ Some x → HartFact p hold h c x
+  pub holder : (d : Hold) → hold ≡ Some d → d.hart < length minds
+
+-- each breakpoint stands at a word of text
+abbrev pub AreInText : Program → List Breakpoint → Type 0
+AreInText p bs = (k : ℕ) (b : Breakpoint) → slice_get bs k ≡ Some b → InText p b.address
+
+-- the machine counts the instructions of each hart as the journal has them
+abbrev pub Retired : List Core → List Entry → Type 0
+Retired cores j = (h : ℕ) (c : Core) → slice_get cores h ≡ Some c → c.retired ≡ steps_of h (erase j)
+
+-- threads are counted from 1
+abbrev pub IsThread : Opening → ℕ → Type 0
+IsThread o thread = (0 < thread) × (thread ≤ o.settings.harts)
+
+pub record Facts (r : Run) : Type 0 where
+  -- the journal is lawful, and leaves what is seen
+  pub leaves : Leaves r.opening r.journal (seen r)
+  pub settings : AreSettings r.opening.settings
+  pub count : length r.minds ≡ r.opening.settings.harts
+  -- the selected thread is one of the harts
+  pub selected : IsThread r.opening r.selected
+  pub harts : Harts r.opening.image r.machine.cores r.minds r.hold
+  pub planted : Planted r.opening.image r.machine.text r.breaks r.hold
+  pub texts : AreInText r.opening.image r.breaks
+  pub retired : Retired r.machine.cores r.journal

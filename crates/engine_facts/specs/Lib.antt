@@ -1,0 +1,4 @@
+pub mod Minds
+pub mod Seen
+pub mod Facts
+pub mod Moves

@@ -1,0 +1,86 @@
+-- What the moves of an engine do to it.
+use Rattle.std.specs.Prelude.{◌≡◌, ℕ, ◌+◌, Bool, List, [], ◌∷◌, ◌++◌, Option, Some, None, IsSome, slice_set}
+use Rattle.rv_exec.specs.Memory.{Memory}
+use Rattle.text_words.specs.Words.{Words, shown, is_planted}
+use Rattle.hart_machine.specs.declared.hart.Core.{Core}
+use Rattle.dbg_model.specs.declared.breakpoint.Breakpoint.{Breakpoint}
+use Rattle.dbg_model.specs.declared.entry.Entry.{Entry}
+use Rattle.dbg_model.specs.Breaks.{stands}
+use Rattle.dbg_model.specs.Journals.{lengthened}
+use Rattle.engine_facts.specs.declared.mind.Hold.{Hold}
+use Rattle.engine_facts.specs.declared.mind.Mind.{Mind}
+use Rattle.engine_facts.specs.Minds.{first_mind}
+use Rattle.engine_facts.specs.Seen.{Run}
+
+-- one word is patched, or is so no more, and all others are as before
+pub record Repatched (old new : Words) (a : ℕ) (is : Bool) : Type 0 where
+  pub words : new.words ≡ old.words
+  pub here : is_planted new a ≡ is
+  pub others : (b : ℕ) → (a ≡ b → ⊥) → is_planted new b ≡ is_planted old b
+
+-- the address of a lifted patch is in text
+abbrev pub HeldInText : Words → Option Hold → Type 0
+HeldInText t None = Unit {0}
+HeldInText t (Some d) = IsSome (shown t d.home)
+
+-- a lifted patch is planted again where a breakpoint stands
+abbrev pub Released : Words → Words → List Breakpoint → Option Hold → Type 0
+Released old new bs None = new ≡ old
+Released old new bs (Some d) = Repatched old new d.home (stands bs d.home)
+
+-- a hart has another phase, with other patches and another hold
+abbrev pub rephased : Run → ℕ → Mind → Words → Option Hold → Run
+rephased r h x t hold = record r { machine = record r.machine { text = t }; minds = slice_set r.minds h x; hold = hold }
+
+-- one instruction of a hart, by which none exits
+abbrev pub executed : Run → ℕ → Core → Mind → Memory → ℕ → Run
+executed r h c x memory spare =
+    record r {
+      journal = lengthened r.journal h;
+      spare = spare;
+      machine = record r.machine { cores = slice_set r.machine.cores h c; memory = memory };
+      minds = slice_set r.minds h x;
+      retired = r.retired + 1;
+    }
+
+-- one instruction of a hart, by which harts exited with these entries
+abbrev pub departed : Run → ℕ → Core → List Mind → Memory → Words → List Entry → ℕ → ℕ → Run
+departed r h c xs memory t lefts count spare =
+    record r {
+      journal = lengthened r.journal h ++ lefts;
+      spare = spare;
+      machine = record { text = t; cores = slice_set r.machine.cores h c; memory = memory };
+      minds = xs;
+      hold = None;
+      retired = r.retired + 1;
+      noted = r.noted + count;
+    }
+
+-- a hart that is idle stopped, with this entry, these patches and these breakpoints
+abbrev pub halted : Run → Entry → ℕ → Words → List Breakpoint → ℕ → Run
+halted r e h t bs spare =
+    record r {
+      journal = r.journal ++ e ∷ [];
+      spare = spare;
+      machine = record r.machine { text = t };
+      minds = slice_set r.minds h first_mind;
+      breaks = bs;
+      noted = r.noted + 1;
+    }
+
+-- a line was done, after which these are the harts and the selected thread
+abbrev pub lined : Run → Entry → List Mind → ℕ → ℕ → Run
+lined r e xs selected spare =
+    record r { journal = r.journal ++ e ∷ []; spare = spare; minds = xs; selected = selected; noted = r.noted + 1 }
+
+-- a line was done that added a breakpoint, with these patches
+abbrev pub broken : Run → Entry → Breakpoint → Words → ℕ → Run
+broken r e b t spare =
+    record r {
+      journal = r.journal ++ e ∷ [];
+      spare = spare;
+      machine = record r.machine { text = t };
+      breaks = r.breaks ++ b ∷ [];
+      next = r.next + 1;
+      noted = r.noted + 1;
+    }
