@@ -1,2 +1,4 @@
 pub mod Joined
 pub mod Accepted
+pub mod Laid
+pub mod Checked
