@@ -1,6 +1,6 @@
 -- A file of text and data alone fails no check.
-use Rattle.std.proofs.Common.{◌≡◌, ℕ, ◌+◌, ◌*◌, ◌%◌, ◌^◌, ◌<◌, ◌≤◌, Bool, true, false, List, [], ◌∷◌, ◌++◌, length, take, drop, map, None, Option, refl, sym, ap, ◌∙◌, subst, arith, lt-ltb, le-leb, eq-eqb}
-use Rattle.std.specs.Prelude.{◌==◌, nat_lt, nat_le, ◌&&◌, not, if◌then◌else◌}
+use Rattle.std.proofs.Common.{◌≡◌, ℕ, ◌+◌, ◌*◌, ◌%◌, ◌^◌, ◌<◌, ◌≤◌, Bool, true, false, List, [], ◌∷◌, ◌++◌, length, take, drop, map, None, Option, refl, sym, ap, ◌∙◌, subst, arith, lt-ltb, le-leb, eq-eqb, length-append, append_assoc}
+use Rattle.std.specs.Prelude.{◌==◌, nat_lt, nat_le, ◌&&◌, ◌||◌, not, if◌then◌else◌}
 use Rattle.std.proofs.lemmas.Bool.{le-ltb}
 use Rattle.std.proofs.Math.Seq.{drop-append_seam, take-append_seam}
 use Rattle.elf32_read.specs.Fields.{u16_at, u32_at, name_at}
@@ -104,3 +104,106 @@ sections_pass t b text bytes s =
     (passes (section_check size (text_section at t)) (section_check size (data_section at t b) ∷ section_check size (names_section at t b) ∷ []) one
     (passes (section_check size (data_section at t b)) (section_check size (names_section at t b) ∷ []) two
     (passes (section_check size (names_section at t b)) [] three refl)))
+
+-- what stands between other bytes
+pub middle : (p x q : List ℕ) (n m : ℕ) → length p ≡ n → length x ≡ m → take m (drop n (p ++ (x ++ q))) ≡ x
+middle p x q n m e f =
+    let d : drop n (p ++ (x ++ q)) ≡ x ++ q = rw (← e) (drop-append_seam p (x ++ q)) in
+    let k : take m (x ++ q) ≡ x = rw (← f) (take-append_seam x q) in
+    ap (take m) d ∙ k
+
+regrouped_names : (a w d n s : List ℕ) → a ++ (w ++ (d ++ (n ++ s))) ≡ (a ++ (w ++ d)) ++ (n ++ s)
+regrouped_names a w d n s = simp append_assoc
+
+names_bytes : (t b : ℕ) (text bytes : List ℕ) → Sizes t b text bytes → take 23 (drop (116 + t + b) (laid t b text bytes)) ≡ plain_names
+names_bytes t b text bytes s =
+    let a = elf_header (139 + t + b) 4 ++ segment_headers t b in
+    let front : length a ≡ 116 = refl in
+    let long = length-append a (text ++ bytes) in
+    let inner = length-append text bytes in
+    ap (λ (file : List ℕ). take 23 (drop (116 + t + b) file)) (regrouped_names a text bytes plain_names (plain_sections t b))
+    ∙ middle (a ++ (text ++ bytes)) plain_names (plain_sections t b) (116 + t + b) 23 (omega (arith, front, long, inner, s.text_size, s.bytes_size)) refl
+
+names_at : (t b : ℕ) (text bytes : List ℕ) (at : ℕ) → Sizes t b text bytes
+    → section_bytes (laid t b text bytes) (record (names_section 0 t b) { place = at }) ≡ plain_names
+names_at t b text bytes at s =
+    let within : nat_lt (length (laid t b text bytes)) (116 + t + b + 23) ≡ false =
+        le-ltb _ _ (omega (arith, length-laid t b text bytes s)) in
+    rw within (names_bytes t b text bytes s)
+
+-- where the names' header stands
+abbrev names_place : ℕ → ℕ → List ℕ → List ℕ → ℕ
+names_place t b text bytes = u32_at (laid t b text bytes) 32 + 120
+
+pub names_header_read : (t b : ℕ) (text bytes : List ℕ) → Sizes t b text bytes
+    → names_header (laid t b text bytes) ≡ record (names_section 0 t b) { place = names_place t b text bytes }
+unfolding u16_at
+names_header_read t b text bytes s =
+    names_header_is t b text bytes (names_place t b text bytes) s (omega (arith, place_read t b text bytes s))
+
+pub names_are : (t b : ℕ) (text bytes : List ℕ) → Sizes t b text bytes → names (laid t b text bytes) ≡ plain_names
+names_are t b text bytes s =
+    ap (section_bytes (laid t b text bytes)) (names_header_read t b text bytes s) ∙ names_at t b text bytes (names_place t b text bytes) s
+
+-- the names' checks, by the header, the bytes and the sections
+abbrev names_by : SectionHeader → List ℕ → List SectionHeader → Option ElfFault
+names_by h table hs = first_fault (check (not (h.kind == 8)) kind.Section h.place ∷ map (name_check table) hs)
+
+names_computed : (t b at : ℕ) → names_by (record (names_section 0 t b) { place = at }) plain_names (section_rows t b) ≡ None
+unfolding name_at
+names_computed t b at = refl
+
+names_pass : (t b : ℕ) (text bytes : List ℕ) → Sizes t b text bytes → first_fault (name_checks (laid t b text bytes)) ≡ None
+unfolding u16_at
+names_pass t b text bytes s =
+    let file = laid t b text bytes in
+    ap (λ (h : SectionHeader). names_by h (names file) (section_headers file)) (names_header_read t b text bytes s)
+    ∙ ap (λ (table : List ℕ). names_by (record (names_section 0 t b) { place = names_place t b text bytes }) table (section_headers file)) (names_are t b text bytes s)
+    ∙ ap (λ (hs : List SectionHeader). names_by (record (names_section 0 t b) { place = names_place t b text bytes }) plain_names hs) (section_headers_are t b text bytes s)
+    ∙ names_computed t b (names_place t b text bytes)
+
+pub text_headers_are : (t b : ℕ) (text bytes : List ℕ) → Sizes t b text bytes
+    → text_headers (laid t b text bytes) ≡ text_section (139 + t + b) t ∷ []
+text_headers_are t b text bytes s =
+    let some : nat_lt 0 t ≡ true = lt-ltb 0 t s.some in rw (section_headers_are t b text bytes s, some) refl
+
+text_by : (t at : ℕ) (others : List ProgramHeader) → t % 4 ≡ 0
+    → first_fault (text_checks (text_segment t ∷ others) [] (text_section at t ∷ [])) ≡ None
+text_by t at others whole =
+    let four : (t % 4 == 0) ≡ true = eq-eqb _ _ whole in
+    let held : nat_le (0x10074 + t) (0x10000 + (116 + t)) ≡ true = le-leb _ _ (omega arith) in
+    rw (four, held) refl
+
+text_passes : (t b : ℕ) (text bytes : List ℕ) → Sizes t b text bytes
+    → first_fault (text_checks (loaded (laid t b text bytes)) [] (text_headers (laid t b text bytes))) ≡ None
+text_passes t b text bytes s =
+    rw (loaded_are t b text bytes s, text_headers_are t b text bytes s) (text_by t (139 + t + b) (data_loaded t b) s.whole)
+
+entry_by : (t at place : ℕ) → 0 < t
+    → first_fault (check true kind.Text place ∷ check (nat_lt 0x10074 (0x10074 + t) || false) kind.Entry 24 ∷ []) ≡ None
+entry_by t at place some =
+    let within : nat_lt 0x10074 (0x10074 + t) ≡ true = lt-ltb _ _ (omega arith) in rw within refl
+
+entry_passes : (t b : ℕ) (text bytes : List ℕ) → Sizes t b text bytes
+    → first_fault (entry_checks (file_header (laid t b text bytes)) (text_headers (laid t b text bytes))) ≡ None
+entry_passes t b text bytes s =
+    rw (text_headers_are t b text bytes s)
+    (ap (λ (h : FileHeader). first_fault (entry_checks h (text_section (139 + t + b) t ∷ []))) (file_header_is t b text bytes s)
+    ∙ entry_by t 0 (139 + t + b) s.some)
+
+named_passes : (t b : ℕ) (text bytes : List ℕ)
+    → first_fault (check (((file_header (laid t b text bytes)).section_names == 0) || nat_lt (file_header (laid t b text bytes)).section_names (file_header (laid t b text bytes)).section_header_count) kind.Section 50 ∷ []) ≡ None
+unfolding u16_at
+named_passes t b text bytes = refl
+
+pub laid_accepted : (t b : ℕ) (text bytes : List ℕ) → Sizes t b text bytes → fault_of (laid t b text bytes) ≡ None
+laid_accepted t b text bytes s =
+    fault_of-stages (laid t b text bytes)
+    ∙ none_both _ _ (size_passes t b text bytes s)
+    (none_both _ _ (header_passes t b text bytes s)
+    (none_both _ _ (segments_pass t b text bytes s)
+    (none_both _ _ (memory_passes t b text bytes s)
+    (none_both _ _ (named_passes t b text bytes)
+    (none_both _ _ (sections_pass t b text bytes s)
+    (none_both _ _ (names_pass t b text bytes s)
+    (none_both _ _ (text_passes t b text bytes s) (entry_passes t b text bytes s))))))))

@@ -1,5 +1,5 @@
 -- What stands where in a file of text and data alone.
-use Rattle.std.proofs.Common.{◌≡◌, ℕ, ◌+◌, ◌*◌, ◌^◌, ◌<◌, ◌≤◌, Bool, true, false, List, [], ◌∷◌, ◌++◌, length, take, drop, refl, sym, ap, ◌∙◌, subst, arith, length-append, append_assoc, lt-ltb, add-zero}
+use Rattle.std.proofs.Common.{◌≡◌, ℕ, ◌+◌, ◌*◌, ◌%◌, ◌^◌, ◌<◌, ◌≤◌, Bool, true, false, List, [], ◌∷◌, ◌++◌, length, take, drop, refl, sym, ap, ◌∙◌, subst, arith, length-append, append_assoc, lt-ltb, add-zero}
 use Rattle.std.specs.Prelude.{nat_lt, if◌then◌else◌}
 use Rattle.std.proofs.Math.Seq.{drop-append-add, drop-append_seam, take-append_seam}
 use Rattle.byteorder.specs.Endian.{little_from, little_number, little_bytes}
@@ -27,6 +27,7 @@ pub record Sizes (t b : ℕ) (text bytes : List ℕ) : Type 0 where
   pub text_size : length text ≡ t
   pub bytes_size : length bytes ≡ b
   pub some : 0 < t
+  pub whole : t % 4 ≡ 0
   pub below : 116 + t ≤ 65536
   pub memory : 116 + t + b ≤ 16777216
 

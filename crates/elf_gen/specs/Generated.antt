@@ -1,6 +1,8 @@
 -- A file whose harts add to one counter, with its symbols and what a debugger reads of its function `work`.
-use Rattle.std.specs.Prelude.{ℕ, List, [], ◌∷◌, ◌++◌, codes}
+use Rattle.std.specs.Prelude.{ℕ, List, [], ◌∷◌, ◌++◌, codes, Some}
+use Rattle.elf32_read.specs.Program.{Program}
 use Rattle.elf_gen.specs.Layout.{words_of, string_table, elf_header, segment_headers}
+use Rattle.elf_gen.specs.Plain.{section}
 
 -- `_start`: a1 = [0x20004], call `work`, exit by 93 with 0. `work`: a loop of amoadd.w on [0x20000], a1 times
 abbrev pub counting_words : List ℕ
@@ -67,3 +69,30 @@ debug_bytes = symbols ++ (symbol_strings ++ (line_bytes ++ (frame_bytes ++ (sect
 abbrev pub generated_file : ℕ → List ℕ
 generated_file number =
     elf_header 461 8 ++ (segment_headers 64 8 ++ (words_of counting_words ++ (words_of (0 ∷ number ∷ []) ++ debug_bytes)))
+
+-- the program that it is: two words of data, the counter and `number`
+abbrev pub generated_program : ℕ → Program
+generated_program number =
+    record {
+      entry = 0x00010074;
+      segments =
+        record {
+          address = 0x00010000;
+          size = 180;
+          flags = 5;
+          bytes = elf_header 461 8 ++ (segment_headers 64 8 ++ words_of counting_words)
+        }
+        ∷ record { address = 0x00020000; size = 8; flags = 6; bytes = words_of (0 ∷ number ∷ []) }
+        ∷ [];
+      text = record { address = 0x00010074; words = counting_words } ∷ [];
+      sections =
+        section [] 0 0 0 []
+        ∷ section (codes ".text") 1 6 0x00010074 (words_of counting_words)
+        ∷ section (codes ".data") 1 3 0x00020000 (words_of (0 ∷ number ∷ []))
+        ∷ record { name = Some (codes ".symtab"); kind = 2; flags = 0; address = 0; link = 4; bytes = symbols }
+        ∷ section (codes ".strtab") 3 0 0 symbol_strings
+        ∷ section (codes ".debug_line") 1 0 0 line_bytes
+        ∷ section (codes ".debug_frame") 1 0 0 frame_bytes
+        ∷ section (codes ".shstrtab") 3 0 0 section_names
+        ∷ [];
+    }

@@ -1,6 +1,6 @@
-ghost use Rattle.std.specs.Prelude.{◌≡◌, ◌++◌, IfOk, OnOk, None};
-ghost use Rattle.elf32_read.specs.Checks.{fault_of};
-ghost use Rattle.elf_gen.specs.Generated.{debug_bytes, generated_file, generated_sections, symbol, symbols};
+ghost use Rattle.std.specs.Prelude.{◌≡◌, ◌++◌, IfOk, OnOk};
+ghost use Rattle.elf32_read.specs.Reading.{IsImage};
+ghost use Rattle.elf_gen.specs.Generated.{debug_bytes, generated_file, generated_program, generated_sections, symbol, symbols};
 
 use crate::layout::{DATA, ENTRY, put_header, put_segments};
 use crate::numbers::put_words;
@@ -92,10 +92,10 @@ fn put_debug(file: &mut Vec<u8>) -> Result<(), AllocError>
 /// The file of a program whose harts each add 1 to one counter, `number` times, in the function `work` of count.c.
 ///
 /// It has symbols, the rows of `work` and its call frame information. For `number` 0 the loop goes on for 2^32 turns.
-#[tactic(auto, using(crate::proofs::Accepted::generated_accepted, crate::proofs::Checked::sections_pass))]
+#[tactic(auto, using(crate::proofs::Checked::laid_accepted))]
 pub fn generate(alloc: Global, number: u32) -> Result<Vec<u8>, NoMemory>
     ensures bytes { IfOk result (λ file. file.items ≡ generated_file number) }
-    ensures accepted { IfOk result (λ file. fault_of file.items ≡ None) }
+    ensures image { IfOk result (λ file. IsImage file.items (generated_program number)) }
 {
     let mut file = Vec::with_capacity(alloc, 781)?;
     put_header(&mut file, 461, 8)?;
