@@ -124,7 +124,7 @@ names_bytes t b text bytes s =
     ap (λ (file : List ℕ). take 23 (drop (116 + t + b) file)) (regrouped_names a text bytes plain_names (plain_sections t b))
     ∙ middle (a ++ (text ++ bytes)) plain_names (plain_sections t b) (116 + t + b) 23 (omega (arith, front, long, inner, s.text_size, s.bytes_size)) refl
 
-names_at : (t b : ℕ) (text bytes : List ℕ) (at : ℕ) → Sizes t b text bytes
+pub names_at : (t b : ℕ) (text bytes : List ℕ) (at : ℕ) → Sizes t b text bytes
     → section_bytes (laid t b text bytes) (record (names_section 0 t b) { place = at }) ≡ plain_names
 names_at t b text bytes at s =
     let within : nat_lt (length (laid t b text bytes)) (116 + t + b + 23) ≡ false =

@@ -1,5 +1,6 @@
 ghost use Rattle.std.specs.Prelude.{◌≡◌, ◌+◌, ◌*◌, ◌++◌, ◌<◌, ◌≤◌, ◌^◌, IfOk, OnOk, length};
-ghost use Rattle.elf_gen.specs.Plain.{plain_file, plain_names, plain_sections};
+ghost use Rattle.elf32_read.specs.Reading.{IsImage};
+ghost use Rattle.elf_gen.specs.Plain.{plain_file, plain_names, plain_program, plain_sections};
 
 use crate::layout::{DATA, ENTRY, FRONT, put_header, put_segments};
 use crate::numbers::put_words;
@@ -24,11 +25,8 @@ fn put_sections(file: &mut Vec<u8>, text: u32, bytes: u32) -> Result<(), AllocEr
     put_words(file, &[13, 3, 0, 0, data + bytes, 23, 0, 0, 1, 0])
 }
 
-/// The file of a program: its words of text at 0x10074, where it begins, and its bytes of data at 0x20000.
-///
-/// The text ends before the data, and the two fit the memory of a program.
-pub fn plain(alloc: Global, words: &[u32], bytes: &[u8]) -> Result<Vec<u8>, NoMemory>
-    requires some { 0 < length words.now }
+/// The file, piece by piece.
+fn laid_out(alloc: Global, words: &[u32], bytes: &[u8]) -> Result<Vec<u8>, AllocError>
     requires below { 116 + 4 * length words.now ≤ 0x10000 }
     requires memory { 116 + 4 * length words.now + length bytes.now ≤ 16777216 }
     ensures { IfOk result (λ file. file.items ≡ plain_file words.now bytes.now) }
@@ -43,4 +41,17 @@ pub fn plain(alloc: Global, words: &[u32], bytes: &[u8]) -> Result<Vec<u8>, NoMe
     file.extend_from_slice(NAMES)?;
     put_sections(&mut file, text as u32, bytes.len() as u32)?;
     Ok(file)
+}
+
+/// The file of a program: its words of text at 0x10074, where it begins, and its bytes of data at 0x20000.
+///
+/// The text ends before the data begins, and the two fit the memory of a program. Reading the file accepts it.
+pub fn plain(alloc: Global, words: &[u32], bytes: &[u8]) -> Result<Vec<u8>, NoMemory>
+    requires some { 0 < length words.now }
+    requires below { 116 + 4 * length words.now ≤ 0x10000 }
+    requires memory { 116 + 4 * length words.now + length bytes.now ≤ 16777216 }
+    ensures bytes { IfOk result (λ file. file.items ≡ plain_file words.now bytes.now) }
+    ensures image { IfOk result (λ file. IsImage file.items (plain_program words.now bytes.now)) }
+{
+    Ok(laid_out(alloc, words, bytes)?)
 }
