@@ -1,0 +1,5 @@
+pub mod Joined
+pub mod Accepted
+pub mod Laid
+pub mod Checked
+pub mod Shown

@@ -1,0 +1,4 @@
+pub mod Layout
+pub mod Plain
+pub mod Generated
+pub mod Script

@@ -1,0 +1,57 @@
+ghost use Rattle.std.specs.Prelude.{◌≡◌, ◌+◌, ◌*◌, ◌++◌, ◌<◌, ◌≤◌, ◌^◌, IfOk, OnOk, length};
+ghost use Rattle.elf32_read.specs.Reading.{IsImage};
+ghost use Rattle.elf_gen.specs.Plain.{plain_file, plain_names, plain_program, plain_sections};
+
+use crate::layout::{DATA, ENTRY, FRONT, put_header, put_segments};
+use crate::numbers::put_words;
+use dbg_traits::NoMemory;
+use std::alloc::{AllocError, Global};
+
+const NAMES: &[u8] = b"\0.text\0.data\0.shstrtab\0";
+
+/// The size of a section header.
+const SECTION: usize = 40;
+
+/// The section headers, by the sizes of text and data in bytes.
+fn put_sections(file: &mut Vec<u8>, text: u32, bytes: u32) -> Result<(), AllocError>
+    requires { 116 + text + bytes < 2 ^ 32 }
+    ensures { OnOk result (file.new.items ≡ file.old.items ++ plain_sections text bytes) }
+{
+    let front = FRONT as u32;
+    let data = front + text;
+    put_words(file, &[0, 0, 0, 0, 0, 0, 0, 0, 0, 0])?;
+    put_words(file, &[1, 1, 6, ENTRY, front, text, 0, 0, 4, 0])?;
+    put_words(file, &[7, 1, 3, DATA, data, bytes, 0, 0, 1, 0])?;
+    put_words(file, &[13, 3, 0, 0, data + bytes, 23, 0, 0, 1, 0])
+}
+
+/// The file, piece by piece.
+fn laid_out(alloc: Global, words: &[u32], bytes: &[u8]) -> Result<Vec<u8>, AllocError>
+    requires below { 116 + 4 * length words.now ≤ 0x10000 }
+    requires memory { 116 + 4 * length words.now + length bytes.now ≤ 16777216 }
+    ensures { IfOk result (λ file. file.items ≡ plain_file words.now bytes.now) }
+{
+    let text = 4 * words.len();
+    let sections = FRONT + text + bytes.len() + NAMES.len();
+    let mut file = Vec::with_capacity(alloc, sections + 4 * SECTION)?;
+    put_header(&mut file, sections as u32, 4)?;
+    put_segments(&mut file, text as u32, bytes.len() as u32)?;
+    put_words(&mut file, words)?;
+    file.extend_from_slice(bytes)?;
+    file.extend_from_slice(NAMES)?;
+    put_sections(&mut file, text as u32, bytes.len() as u32)?;
+    Ok(file)
+}
+
+/// The file of a program: its words of text at 0x10074, where it begins, and its bytes of data at 0x20000.
+///
+/// The text ends before the data begins, and the two fit the memory of a program. Reading the file accepts it.
+pub fn plain(alloc: Global, words: &[u32], bytes: &[u8]) -> Result<Vec<u8>, NoMemory>
+    requires some { 0 < length words.now }
+    requires below { 116 + 4 * length words.now ≤ 0x10000 }
+    requires memory { 116 + 4 * length words.now + length bytes.now ≤ 16777216 }
+    ensures bytes { IfOk result (λ file. file.items ≡ plain_file words.now bytes.now) }
+    ensures image { IfOk result (λ file. IsImage file.items (plain_program words.now bytes.now)) }
+{
+    Ok(laid_out(alloc, words, bytes)?)
+}
