@@ -1,6 +1,6 @@
 pub mod Seeing
-pub mod Fetching
-pub mod Turning
+pub mod Executing
+pub mod Moving
 pub mod Commanding
-pub mod Beginning
 pub mod Marking
+pub mod Resuming

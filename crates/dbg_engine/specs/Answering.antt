@@ -4,14 +4,16 @@ use Rattle.std.specs.Option.{option_map}
 use Rattle.std.specs.Borrow.{Bor}
 use Rattle.std.specs.Global.{Vec}
 use Rattle.hart_machine.specs.declared.hart.Core.{Core}
+use Rattle.dbg_model.specs.declared.breakpoint.Breakpoint.{Breakpoint}
 use Rattle.dbg_model.specs.declared.reply.Content.{Content}
+use Rattle.dbg_model.specs.declared.reply.Content.TheVariants as content
 use Rattle.dbg_model.specs.declared.reply.Obstacle.{Obstacle}
 use Rattle.dbg_model.specs.State.{Hart}
-use Rattle.dbg_model.specs.Reply.{of_stopped, of_live, hindered}
+use Rattle.dbg_model.specs.Reply.{of_stopped, of_live, hindered, reply_of}
 use Rattle.dbg_engine.specs.declared.answering.ReadError.{ReadError}
 use Rattle.dbg_engine.specs.declared.answering.ReadError.TheVariants.{NoMemory, Unreadable}
-use Rattle.dbg_engine.specs.declared.mind.Mind.{Mind}
-use Rattle.dbg_engine.specs.Seen.{seen_hart}
+use Rattle.engine_facts.specs.declared.mind.Mind.{Mind}
+use Rattle.engine_facts.specs.Seen.{Run, seen, seen_hart}
 
 -- a hart and what is kept of it
 abbrev pub Pair : Type 0
@@ -40,3 +42,15 @@ abbrev pub Reads : Result (Vec ℕ) ReadError → Result (List ℕ) ℕ → Type
 Reads (Ok v) r = r ≡ Ok v.items
 Reads (Err (NoMemory e)) r = Unit {0}
 Reads (Err (Unreadable at)) r = r ≡ Err at
+
+-- the line sets this breakpoint
+abbrev pub IsInserted : Run → List ℕ → Breakpoint → Type 0
+IsInserted r line b = (reply_of r.opening (seen r) line).content ≡ content.Inserted b
+
+abbrev pub SetsNone : Content → Type 0
+SetsNone (content.Inserted b) = ⊥
+SetsNone c = Unit {0}
+
+-- this is answered to the line, and sets no breakpoint
+abbrev pub IsNoted : Run → List ℕ → Content → Type 0
+IsNoted r line c = ((reply_of r.opening (seen r) line).content ≡ c) × SetsNone c

@@ -1,8 +1,8 @@
 -- An engine's fields.
 use Rattle.std.specs.Prelude.{◌-◌, vec_len, vec_capacity}
 use Rattle.dbg_engine.specs.declared.engine.Engine.TheInside.{Inside}
-use Rattle.dbg_engine.specs.Seen.{Run}
-use Rattle.dbg_engine.specs.Facts.{Facts}
+use Rattle.engine_facts.specs.Seen.{Run}
+use Rattle.engine_facts.specs.Facts.{Facts}
 
 abbrev pub run_of : Inside → Run
 run_of e = record {
@@ -11,6 +11,10 @@ run_of e = record {
   spare = vec_capacity e.entries - vec_len e.entries;
   machine = e.machine;
   minds = e.minds.items;
+  hold = e.hold;
+  breaks = e.breaks.items;
+  next = e.next;
+  selected = e.selected;
   retired = e.retired;
   noted = e.noted;
 }

@@ -1,6 +1,5 @@
-pub mod Minds
-pub mod Seen
-pub mod Facts
+pub mod Steps
 pub mod Calls
 pub mod EngineInside
 pub mod Answering
+pub mod Resuming

@@ -1,14 +1,21 @@
 // What is answered to a command, over the parts of an engine.
-ghost use Rattle.std.specs.Prelude.{◌≡◌, ◌+◌, ◌++◌, ◌<◌, ◌^◌, length, map, IfOk, OnOk, Ok, Err};
-ghost use Rattle.dbg_model.specs.Reply.{content_of, continued, threads_of, thread_hart, of_stopped, of_live, running, selecting, one_shown, registers_of, thread_number, register, valued, numbers_below, shown_thread, live_threads, stopped_threads, shown_byte, shown_range, memory_of, hindered};
-ghost use Rattle.dbg_engine.specs.Seen.{seen_harts, seen_hart};
+ghost use Rattle.std.specs.Prelude.{◌≡◌, ◌+◌, ◌++◌, ◌<◌, ◌≤◌, ◌^◌, [], length, map, IfOk, OnOk};
+ghost use Rattle.dbg_model.specs.Reply.{content_of, continued, threads_of, thread_hart, of_stopped, of_live, running, selecting, one_shown, registers_of, thread_number, register, valued, numbers_below, shown_thread, live_threads, stopped_threads, shown_byte, shown_range, memory_of, hindered, unknown_thread, placed, inserted_by, fault_content, is_wait, going_on, selected_after};
+ghost use Rattle.engine_facts.specs.Seen.{seen_harts, seen_hart};
 ghost use Rattle.dbg_engine.specs.Answering.{found_hart, IsStopped, IsLive, Reads, option_list};
 
-use crate::{Activity, Mind};
-use dbg_model::{Content, Obstacle, Refused, Register, RegisterList, Thread, ThreadList};
+use dbg_model::{
+    Breakpoint, Content, MOST_BREAKPOINTS, Obstacle, Refused, Register, RegisterList, Reply, Thread,
+    ThreadList,
+};
+use dbg_traits::NoMemory;
 use elf32_read::Image;
+use engine_facts::{Activity, Mind};
 use hart_machine::{Core, Machine};
-use mi_commands::{ByteList, Command, Format, NumberList, Target};
+use mi_commands::{
+    ByteList, Command, Fault, Format, Insertion, Location, NumberList, Refusal, Target, command_of,
+};
+use mi_values::Token;
 use std::alloc::{AllocError, Global};
 
 /// How many registers there are: x0 to x31, and pc.
@@ -392,6 +399,122 @@ fn select(thread: u32, found: Option<(&Core, Mind)>) -> Content
     }
 }
 
+// The thread that is named and isn't there.
+fn unknown_thread(cores: &[Core], minds: &[Mind], thread: Option<u32>) -> Option<u32>
+    ensures { result ≡ unknown_thread (seen_harts cores.now minds.now) thread }
+{
+    let thread = thread?;
+    match find(cores, minds, thread) {
+        Some(_) => None,
+        None => Some(thread),
+    }
+}
+
+// A breakpoint at an address, where a word of text and room are.
+fn place(
+    alloc: Global,
+    image: &Image,
+    breaks: &[Breakpoint],
+    next: u32,
+    address: u32,
+    insertion: &Insertion,
+) -> Result<Content, AllocError>
+    ensures { IfOk result (λ c. c ≡ placed image.now breaks.now next address insertion.now) }
+{
+    if image.text_word(address).is_none() {
+        return Ok(hindered(Obstacle::NoInstruction(address)));
+    }
+    if breaks.len() >= MOST_BREAKPOINTS {
+        return Ok(hindered(Obstacle::TooManyBreakpoints));
+    }
+    let location = Vec::from_slice(alloc, insertion.text.as_slice())?;
+    Ok(Content::Inserted(Breakpoint {
+        number: next,
+        address,
+        location: ByteList::of(location),
+        temporary: insertion.temporary,
+        enabled: !insertion.disabled,
+        ignore: 0,
+        thread: insertion.thread,
+        times: 0,
+    }))
+}
+
+fn insert(
+    alloc: Global,
+    image: &Image,
+    harts: (&[Core], &[Mind]),
+    breaks: &[Breakpoint],
+    next: u32,
+    insertion: &Insertion,
+) -> Result<Content, AllocError>
+    ensures { IfOk result (λ c. c ≡ inserted_by image.now (seen_harts harts.0.now harts.1.now) breaks.now next insertion.now) }
+{
+    match (&insertion.location, &insertion.condition, insertion.ignore) {
+        (Location::Address(address), None, 0) => {
+            match unknown_thread(harts.0, harts.1, insertion.thread) {
+                Some(thread) => Ok(hindered(Obstacle::UnknownThread(thread))),
+                None => place(alloc, image, breaks, next, *address, insertion),
+            }
+        }
+        _ => Ok(Content::Refused(Refused::NotBuilt)),
+    }
+}
+
+/// Why a line with this fault is refused: an unknown thread comes before a bad location.
+pub fn refuse(cores: &[Core], minds: &[Mind], fault: Fault) -> Content
+    ensures { result ≡ fault_content (seen_harts cores.now minds.now) fault }
+{
+    if let Fault::Location { thread, .. } = &fault {
+        if let Some(thread) = unknown_thread(cores, minds, *thread) {
+            return hindered(Obstacle::UnknownThread(thread));
+        }
+    }
+    Content::Refused(Refused::Faulty(fault))
+}
+
+/// A line without parts is refused.
+pub fn refusal(alloc: Global, refused: Refused) -> Reply
+    ensures token { result.token ≡ [] }
+    ensures content { result.content ≡ Content.Refused refused }
+{
+    Reply {
+        token: Token::none(alloc),
+        content: Content::Refused(refused),
+    }
+}
+
+/// Whether a line is the command that waits until no hart runs.
+pub fn is_wait(alloc: Global, line: &[u8]) -> Result<bool, NoMemory>
+    ensures { IfOk result (λ b. b ≡ is_wait line.now) }
+{
+    match command_of(alloc, line) {
+        Ok(line) => Ok(matches!(line.command, Command::Wait)),
+        Err(Refusal::NoMemory) => Err(NoMemory),
+        Err(_) => Ok(false),
+    }
+}
+
+/// Which threads an answer lets go on.
+pub fn going_on(content: &Content) -> &[u32]
+    ensures { result.now ≡ going_on content.now }
+{
+    match content {
+        Content::Running(threads) => threads.as_slice(),
+        _ => &[],
+    }
+}
+
+/// Which thread is selected after an answer.
+pub fn selected_after(selected: u32, content: &Content) -> u32
+    ensures { result ≡ selected_after selected content.now }
+{
+    match content {
+        Content::Selected(thread) => *thread,
+        _ => selected,
+    }
+}
+
 /// What is answered to a command.
 #[tactic(auto, unfolding(dbg_model::specs::Reply::content_of))]
 pub fn answer(
@@ -399,16 +522,19 @@ pub fn answer(
     image: &Image,
     machine: &Machine,
     minds: &[Mind],
+    breaks: &[Breakpoint],
+    next: u32,
     selected: u32,
     command: &Command,
 ) -> Result<Content, AllocError>
     requires { length minds.now ≤ 16 }
-    ensures { IfOk result (λ c. c ≡ content_of image.now (seen_harts machine.now.cores minds.now) machine.now.memory selected command.now) }
+    ensures { IfOk result (λ c. c ≡ content_of image.now (seen_harts machine.now.cores minds.now) machine.now.memory breaks.now next selected command.now) }
 {
     let cores = machine.cores();
     match command {
         Command::Blank => Ok(Content::Blank),
         Command::Wait => Ok(Content::Done),
+        Command::BreakInsert(insertion) => insert(alloc, image, (cores, minds), breaks, next, insertion),
         Command::Continue(target) => continued(alloc, cores, minds, selected, *target),
         Command::ThreadInfo { thread } => threads(alloc, cores, minds, selected, *thread),
         Command::ThreadSelect { thread } => Ok(select(*thread, find(cores, minds, *thread))),

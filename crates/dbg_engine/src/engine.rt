@@ -1,19 +1,35 @@
-ghost use Rattle.std.specs.Prelude.{◌≡◌, ◌<◌, ◌≤◌, ◌-◌, ◌+◌, ◌^◌, [], length, slice_get, Some, None, replicate, IfOk, IfErr, OnOk, OnErr, MatchResult, Err, true};
+ghost use Rattle.std.specs.Prelude.{◌≡◌, ◌<◌, ◌≤◌, ◌-◌, ◌+◌, ◌^◌, [], length, slice_get, Some, None, replicate, IfOk, IfErr, OnOk, OnErr, MatchResult, Err, IsTrue, IsSome, ◌↔◌, true, false};
 ghost use Rattle.dbg_traits.specs.Settings.{AreSettings};
 ghost use Rattle.data_memory.specs.Ranges.{bytes_at, range_at};
-ghost use Rattle.dbg_model.specs.State.{first_state, any_runs, all_gone};
-ghost use Rattle.dbg_model.specs.Lawful.{may_go};
-ghost use Rattle.dbg_engine.specs.Minds.{first_mind, runs, has_gone, running_from, next_running, IsTurned, reply_by, resumed_by};
-ghost use Rattle.dbg_engine.specs.Seen.{seen};
+ghost use Rattle.text_words.specs.Words.{shown, is_planted};
+ghost use Rattle.dbg_model.specs.Breaks.{is_temporary};
+ghost use Rattle.dbg_model.specs.State.{first_state, any_runs, all_gone, due};
+ghost use Rattle.dbg_model.specs.Lawful.{may_go, may_do};
+ghost use Rattle.dbg_model.specs.Reply.{done_by, reply_of, breaks_after};
+ghost use Rattle.engine_facts.specs.Minds.{first_mind, runs, has_gone, is_before, with_phase};
+ghost use Rattle.engine_facts.specs.Facts.{other_holder, InText};
+ghost use Rattle.engine_facts.specs.Seen.{seen};
+ghost use Rattle.dbg_engine.specs.Steps.{running_from, next_running, IsTurned};
+ghost use Rattle.dbg_engine.specs.Answering.{IsInserted, IsNoted};
 ghost use Rattle.hart_machine.specs.declared.hart.Core.{Core};
 ghost use Rattle.std.specs.List.{list_any, list_all};
 
+use crate::Turned;
+use crate::answering::{answer, going_on, refusal, refuse, selected_after};
 use crate::journal::note;
 use crate::moving::apply;
-use crate::{Activity, Mind, Turned};
-use dbg_model::{ByteList, Command, Entry, HISTORY, Journal, Opening, Reply, command_of};
+use crate::patching::{
+    add, copy_breakpoint, is_temporary, release, release_at_exit, repatch, settle, stands, stop_at, wants,
+};
+use crate::resuming::resume_threads;
+use dbg_model::{
+    Breakpoint, Content, Entry, HISTORY, Journal, Opening, Refused, Reply, Why,
+};
 use dbg_traits::NoMemory;
+use engine_facts::{Activity, Hold, Mind, Phase};
 use hart_machine::Machine;
+use mi_commands::{ByteList, CommandLine, Refusal, command_of};
+use rv_exec::{Cause, Stepped};
 use std::alloc::{AllocError, Global};
 use std::marker::Model;
 
@@ -37,12 +53,16 @@ pub struct Engine {
     entries: Vec<Entry>,
     machine: Machine,
     minds: Vec<Mind>,
+    hold: Option<Hold>,
+    breaks: Vec<Breakpoint>,
+    next: u32,
+    selected: u32,
     retired: u64,
     noted: u64,
 }
 
 impl Model for Engine {
-    ghost use Rattle.dbg_engine.specs.Seen.{Run};
+    ghost use Rattle.engine_facts.specs.Seen.{Run};
     ghost use Rattle.std.specs.Coded.{codes};
     ghost use Rattle.data_memory.specs.Maps.{memory_code};
     ghost use Rattle.text_words.specs.Words.{words_code};
@@ -77,6 +97,7 @@ fn first_minds(alloc: Global, count: u32) -> Result<Vec<Mind>, AllocError>
         minds.push(Mind {
             activity: Activity::Stopped,
             fresh: false,
+            phase: Phase::Idle,
         })?;
     }
     Ok(minds)
@@ -121,34 +142,41 @@ fn find_running(minds: &[Mind], hart: u32) -> Option<u32>
     }
 }
 
-// What is answered to a command, where the selected hart has this activity.
-fn reply_to(command: Command, activity: Activity) -> Reply
-    ensures { result ≡ reply_by command activity }
+const STOPPED: Mind = Mind {
+    activity: Activity::Stopped,
+    fresh: false,
+    phase: Phase::Idle,
+};
+
+// The hart for which a patch is lifted, where that is another one than h.
+fn other_holder(hold: Option<Hold>, h: u32) -> Option<u32>
+    ensures { result ≡ other_holder hold h }
 {
-    match (command, activity) {
-        (Command::NotBuilt, _) => Reply::NotBuilt,
-        (Command::Continue, Activity::Stopped) => Reply::Resumed { thread: 1 },
-        (Command::Continue, Activity::Running) => Reply::IsRunning { thread: 1 },
-        (Command::Continue, Activity::Exited) => Reply::HasExited { thread: 1 },
+    match hold {
+        None => None,
+        Some(hold) => {
+            if hold.hart == h {
+                None
+            } else {
+                Some(hold.hart)
+            }
+        }
     }
 }
 
-// What an answered command changes.
-fn resume(minds: &mut [Mind], reply: Reply)
-    requires { 0 < length minds.old }
-    ensures { minds.new ≡ resumed_by minds.old reply }
+fn with_phase(mind: Mind, phase: Phase) -> Mind
+    ensures { result ≡ with_phase mind phase }
 {
-    if let Reply::Resumed { .. } = reply {
-        minds[0] = Mind {
-            activity: Activity::Running,
-            fresh: false,
-        };
+    Mind {
+        activity: mind.activity,
+        fresh: mind.fresh,
+        phase,
     }
 }
 
 impl Engine {
-    ghost use Rattle.dbg_engine.specs.Facts.{Facts};
-    ghost use Rattle.dbg_engine.specs.Calls.{Turns, Does, OverBy};
+    ghost use Rattle.engine_facts.specs.Facts.{Facts};
+    ghost use Rattle.dbg_engine.specs.Calls.{Of, Rephases, Lifts, Halts, Turns, TrapsAt, Executes, Does, Lines, NextMoves, OverBy, Closes};
 
     /// An engine before its first move: each hart is stopped at the entry.
     pub fn load(alloc: Global, opening: Opening) -> Result<Engine, NoMemory>
@@ -165,6 +193,10 @@ impl Engine {
             entries: Vec::new(alloc),
             machine,
             minds,
+            hold: None,
+            breaks: Vec::new(alloc),
+            next: 1,
+            selected: 1,
             retired: 0,
             noted: 0,
         })
@@ -234,6 +266,17 @@ impl Engine {
         }
     }
 
+    /// The hart to move next: one that is stepping over a breakpoint, since all others stand held; else the next that
+    /// runs, in rising order round the harts from this one on.
+    pub fn next_mover(&self, from: usize) -> Option<u32>
+        ensures { NextMoves result self.now }
+    {
+        match self.hold {
+            Some(hold) => Some(hold.hart),
+            None => self.next_running(from),
+        }
+    }
+
     /// Whether no hart is live.
     pub fn all_gone(&self) -> bool
         ensures { result ≡ all_gone (seen self.now).harts }
@@ -274,7 +317,189 @@ impl Engine {
         }
     }
 
-    /// One move of a hart.
+    // What is kept of a hart.
+    fn mind(&self, h: u32) -> Mind
+        requires { h < length self.now.minds }
+        ensures { slice_get self.now.minds h ≡ Some result }
+    {
+        self.minds[h as usize]
+    }
+
+    // A hart steps over nothing any more: a lifted patch is planted again where a breakpoint stands.
+    fn unwind(&mut self, h: u32, mind: Mind)
+        requires mind { slice_get self.old.minds h ≡ Some mind }
+        requires free { other_holder self.old.hold h ≡ None }
+        ensures { Rephases self.old self.new h mind (Phase.Idle) None }
+    {
+        release(&mut self.machine, self.hold, self.breaks.as_slice());
+        self.hold = None;
+        self.minds[h as usize] = with_phase(mind, Phase::Idle);
+    }
+
+    // The patch at the hart's pc is lifted.
+    fn lift(&mut self, h: u32, mind: Mind, pc: u32)
+        requires mind { slice_get self.old.minds h ≡ Some mind }
+        requires idle { mind.phase ≡ Phase.Idle }
+        requires runs { mind.activity ≡ Activity.Running }
+        requires free { other_holder self.old.hold h ≡ None }
+        requires pc { Of self.old h (λ y. y.regs.pc ≡ pc) }
+        requires planted { is_planted self.old.machine.text pc ≡ true }
+        ensures { Lifts self.old self.new h }
+    {
+        repatch(&mut self.machine, pc, false);
+        self.hold = Some(Hold { hart: h, home: pc });
+        self.minds[h as usize] = with_phase(mind, Phase::Lifted { home: pc });
+    }
+
+    // One instruction of a hart, where it can be executed.
+    fn execute(&mut self, h: u32, mind: Mind, pc: u32) -> Turned
+        requires mind { slice_get self.old.minds h ≡ Some mind }
+        requires before { is_before mind.phase ≡ true }
+        requires runs { mind.activity ≡ Activity.Running }
+        requires free { other_holder self.old.hold h ≡ None }
+        requires pc { Of self.old h (λ y. y.regs.pc ≡ pc) }
+        requires due { Of self.old h (λ y. due (seen self.old).breaks h y ≡ None) }
+        requires unpatched { mind.phase ≡ Phase.Idle → is_planted self.old.machine.text pc ≡ false }
+        requires spare { 32 ≤ self.old.spare }
+        requires may { may_go self.old.opening (seen self.old) ≡ true }
+        ensures executes { Executes result self.old self.new h }
+        ensures code { IsTurned result }
+    {
+        let stepped = self.machine.step(h as usize);
+        if let Stepped::Trap(cause) = stepped {
+            return Turned::Stopped { cause };
+        }
+        release_at_exit(
+            stepped,
+            &mut self.machine,
+            &mut self.hold,
+            self.breaks.as_slice(),
+        );
+        apply(
+            stepped,
+            h,
+            mind,
+            &mut self.entries,
+            &mut self.minds,
+            &mut self.retired,
+            &mut self.noted,
+        )
+    }
+
+    // A hart that steps over nothing stops by a fault.
+    fn note_fault(&mut self, h: u32, mind: Mind, cause: Cause)
+        requires mind { slice_get self.old.minds h ≡ Some mind }
+        requires idle { mind.phase ≡ Phase.Idle }
+        requires runs { mind.activity ≡ Activity.Running }
+        requires due { Of self.old h (λ y. due (seen self.old).breaks h y ≡ None) }
+        requires traps { TrapsAt self.old h cause }
+        requires spare { 32 ≤ self.old.spare }
+        requires may { may_go self.old.opening (seen self.old) ≡ true }
+        ensures { Halts self.old self.new h (Why.Fault cause) }
+    {
+        note(
+            &mut self.entries,
+            Entry::Stopped {
+                hart: h,
+                why: Why::Fault(cause),
+            },
+        );
+        self.minds[h as usize] = STOPPED;
+        self.noted += 1;
+    }
+
+    // A hart that steps over nothing stops at a breakpoint.
+    fn note_arrival(&mut self, h: u32, mind: Mind, number: u32, pc: u32)
+        requires mind { slice_get self.old.minds h ≡ Some mind }
+        requires idle { mind.phase ≡ Phase.Idle }
+        requires runs { mind.activity ≡ Activity.Running }
+        requires pc { Of self.old h (λ y. y.regs.pc ≡ pc) }
+        requires due { Of self.old h (λ y. due (seen self.old).breaks h y ≡ Some number) }
+        requires spare { 32 ≤ self.old.spare }
+        requires may { may_go self.old.opening (seen self.old) ≡ true }
+        requires hold { self.old.hold ≡ None }
+        ensures { Halts self.old self.new h (Why.Break number) }
+    {
+        note(
+            &mut self.entries,
+            Entry::Stopped {
+                hart: h,
+                why: Why::Break { number },
+            },
+        );
+        settle(&mut self.breaks, h, pc);
+        let wants = stands(self.breaks.as_slice(), pc);
+        repatch(&mut self.machine, pc, wants);
+        self.minds[h as usize] = STOPPED;
+        self.noted += 1;
+    }
+
+    // Where a hart shows its pc.
+    fn shown_pc(&self, h: u32, mind: Mind) -> u32
+        requires { slice_get self.now.minds h ≡ Some mind }
+        ensures { Of self.now h (λ y. y.regs.pc ≡ result) }
+    {
+        self.machine.pc(h as usize)
+    }
+
+    // The breakpoint at which a hart has just arrived, and which stops it.
+    fn due(&self, h: u32, mind: Mind, pc: u32) -> Option<u32>
+        requires mind { slice_get self.now.minds h ≡ Some mind }
+        requires pc { Of self.now h (λ y. y.regs.pc ≡ pc) }
+        ensures { Of self.now h (λ y. due (seen self.now).breaks h y ≡ result) }
+    {
+        if mind.fresh {
+            stop_at(self.breaks.as_slice(), h, pc)
+        } else {
+            None
+        }
+    }
+
+    // Whether the breakpoint of that number is temporary.
+    fn is_temporary(&self, number: u32) -> bool
+        ensures { result ≡ is_temporary self.now.breaks number }
+    {
+        is_temporary(self.breaks.as_slice(), number)
+    }
+
+    // Whether a patch is planted at an address.
+    fn is_planted(&self, addr: u32) -> bool
+        ensures { result ≡ is_planted self.now.machine.text addr }
+    {
+        self.machine.planted(addr)
+    }
+
+    // A running hart that isn't behind its step goes on.
+    fn go_on(&mut self, h: u32, mind: Mind) -> Turned
+        requires mind { slice_get self.old.minds h ≡ Some mind }
+        requires before { is_before mind.phase ≡ true }
+        requires runs { mind.activity ≡ Activity.Running }
+        requires free { other_holder self.old.hold h ≡ None }
+        requires spare { 32 ≤ self.old.spare }
+        requires may { may_go self.old.opening (seen self.old) ≡ true }
+        ensures turns { Turns result self.old self.new h }
+        ensures code { IsTurned result }
+    {
+        let pc = self.shown_pc(h, mind);
+        if let Some(number) = self.due(h, mind, pc) {
+            let temporary = self.is_temporary(number);
+            self.unwind(h, mind);
+            self.note_arrival(h, with_phase(mind, Phase::Idle), number, pc);
+            return Turned::Arrived { number, temporary };
+        }
+        if mind.phase == Phase::Idle && self.is_planted(pc) {
+            self.lift(h, mind, pc);
+            return Turned::Lifted;
+        }
+        let turned = self.execute(h, mind, pc);
+        if let Turned::Stopped { cause } = turned {
+            self.unwind(h, mind);
+            self.note_fault(h, with_phase(mind, Phase::Idle), cause);
+        }
+        turned
+    }
+
+    /// One move of a hart: the first that fits.
     pub fn turn(&mut self, h: u32) -> Turned
         requires hart { h < length self.old.minds }
         requires spare { 32 ≤ self.old.spare }
@@ -284,56 +509,136 @@ impl Engine {
         if !self.may_go() {
             return Turned::Over;
         }
-        if !self.running(h) {
+        let mind = self.mind(h);
+        if mind.activity != Activity::Running {
             return Turned::NotRunning;
         }
-        self.execute(h)
+        if let Some(by) = other_holder(self.hold, h) {
+            return Turned::Held { by };
+        }
+        if let Phase::Ran { .. } = mind.phase {
+            self.unwind(h, mind);
+            return Turned::Planted;
+        }
+        self.go_on(h, mind)
     }
 
-    // One instruction of a running hart.
-    fn execute(&mut self, h: u32) -> Turned
-        requires hart { h < length self.old.minds }
-        requires spare { 32 ≤ self.old.spare }
-        requires may { may_go self.old.opening (seen self.old) ≡ true }
-        requires runs { (x : _) → slice_get self.old.minds h ≡ Some x → runs x ≡ true }
-        ensures turns { Turns result self.old self.new h }
-        ensures code { IsTurned result }
+    /// Whether there is a word of text at an address.
+    pub fn is_text(&self, addr: u32) -> bool
+        ensures { IsTrue result ↔ InText self.now.opening.image addr }
     {
-        let stepped = self.machine.step(h as usize);
-        apply(
-            stepped,
-            h,
-            &mut self.entries,
-            &mut self.minds,
-            &mut self.retired,
-            &mut self.noted,
-        )
+        self.machine.shown(addr).is_some()
     }
 
-    /// Does one line, and answers it.
-    pub fn command(&mut self, line: &[u8]) -> Result<Reply, NoMemory>
-        requires { may_go self.old.opening (seen self.old) ≡ true }
-        ensures { MatchResult result (Does self.old self.new line.now) (λ _. self.new ≡ self.old) }
+    /// The breakpoints that the user set, in rising order of their numbers.
+    pub fn breakpoints(&self) -> &[Breakpoint]
+        ensures { result.now ≡ self.now.breaks }
+    {
+        self.breaks.as_slice()
+    }
+
+    /// Where a hart is in a step over a breakpoint.
+    pub fn phase(&self, h: u32) -> Phase
+        requires { h < length self.now.minds }
+        ensures { (x : Mind) → slice_get self.now.minds h ≡ Some x → result ≡ x.phase }
+    {
+        self.minds[h as usize].phase
+    }
+
+    // What is answered to a line.
+    fn reply(&self, line: &[u8]) -> Result<Reply, NoMemory>
+        ensures { IfOk result (λ r. r ≡ reply_of self.now.opening (seen self.now) line.now) }
+    {
+        match command_of(self.alloc, line) {
+            Ok(CommandLine { token, command }) => Ok(Reply {
+                token,
+                content: answer(
+                    self.alloc,
+                    &self.opening.image,
+                    &self.machine,
+                    self.minds.as_slice(),
+                    self.breaks.as_slice(),
+                    self.next,
+                    self.selected,
+                    &command,
+                )?,
+            }),
+            Err(Refusal::NoMemory) => Err(NoMemory),
+            Err(Refusal::Long) => Ok(refusal(self.alloc, Refused::Long)),
+            Err(Refusal::Syntax) => Ok(refusal(self.alloc, Refused::Syntax)),
+            Err(Refusal::Cli(token)) => Ok(Reply {
+                token,
+                content: Content::Refused(Refused::Cli),
+            }),
+            Err(Refusal::Faulty { token, fault }) => Ok(Reply {
+                token,
+                content: refuse(self.machine.cores(), self.minds.as_slice(), fault),
+            }),
+        }
+    }
+
+    // Does a line that sets a breakpoint.
+    fn insert(&mut self, line: &[u8], breakpoint: &Breakpoint) -> Result<(), NoMemory>
+        requires may { may_do self.old.opening (seen self.old) line.now ≡ true }
+        requires answer { IsInserted self.old line.now breakpoint.now }
+        ensures { MatchResult result (λ _. Lines self.old self.new line.now) (λ _. self.new ≡ self.old) }
     {
         let copy = line.to_vec(self.alloc)?;
+        let added = copy_breakpoint(self.alloc, breakpoint)?;
+        self.breaks.reserve(1)?;
         self.entries.reserve(1)?;
-        let reply = reply_to(command_of(line), self.minds[0].activity);
         note(
             &mut self.entries,
             Entry::Did {
                 line: ByteList::of(copy),
             },
         );
-        resume(&mut self.minds, reply);
+        add(&mut self.breaks, added);
+        let wants = wants(self.breaks.as_slice(), self.hold, breakpoint.address);
+        repatch(&mut self.machine, breakpoint.address, wants);
+        self.next += 1;
         self.noted += 1;
+        Ok(())
+    }
+
+    // Does a line that sets no breakpoint.
+    fn note_line(&mut self, line: &[u8], content: &Content) -> Result<(), NoMemory>
+        requires may { may_do self.old.opening (seen self.old) line.now ≡ true }
+        requires answer { IsNoted self.old line.now content.now }
+        ensures { MatchResult result (λ _. Lines self.old self.new line.now) (λ _. self.new ≡ self.old) }
+    {
+        let copy = line.to_vec(self.alloc)?;
+        self.entries.reserve(1)?;
+        note(
+            &mut self.entries,
+            Entry::Did {
+                line: ByteList::of(copy),
+            },
+        );
+        resume_threads(&mut self.minds, going_on(content));
+        self.selected = selected_after(self.selected, content);
+        self.noted += 1;
+        Ok(())
+    }
+
+    /// Does one line, and answers it. A line that waits is done only where no hart runs.
+    pub fn command(&mut self, line: &[u8]) -> Result<Reply, NoMemory>
+        requires { may_do self.old.opening (seen self.old) line.now ≡ true }
+        ensures { MatchResult result (Does self.old self.new line.now) (λ _. self.new ≡ self.old) }
+    {
+        let reply = self.reply(line)?;
+        match &reply.content {
+            Content::Inserted(breakpoint) => self.insert(line, breakpoint)?,
+            content => self.note_line(line, content)?,
+        }
         Ok(reply)
     }
 
-    /// Ends it.
+    /// Ends it: a lifted patch is planted again where a breakpoint stands.
     pub fn close(self) -> Closed
         ensures opening { result.opening ≡ self.opening }
         ensures journal { result.journal ≡ self.journal }
-        ensures machine { result.machine ≡ self.machine }
+        ensures machine { Closes self result.machine }
         ensures facts { Facts self }
     {
         let Engine {
@@ -342,9 +647,15 @@ impl Engine {
             entries,
             machine,
             minds: _,
+            hold,
+            breaks,
+            next: _,
+            selected: _,
             retired: _,
             noted: _,
         } = self;
+        let mut machine = machine;
+        release(&mut machine, hold, breaks.as_slice());
         Closed {
             opening,
             journal: Journal::of(entries),

@@ -1,10 +1,10 @@
 // The journal's last place.
 ghost use Rattle.std.specs.Prelude.{◌≡◌, ◌≤◌, ◌<◌, ◌+◌, ◌-◌, ◌^◌, ◌++◌, [], ◌∷◌, vec_len, vec_capacity, length};
 ghost use Rattle.dbg_model.specs.Journals.{lengthened, last_count, ran_count};
-ghost use Rattle.dbg_engine.specs.Minds.{lefts_live};
+ghost use Rattle.engine_facts.specs.Minds.{lefts_live};
 
-use crate::{Activity, Mind};
 use dbg_model::Entry;
+use engine_facts::{Activity, Mind};
 
 /// Adds an entry, for which there is room.
 pub fn note(entries: &mut Vec<Entry>, entry: Entry)

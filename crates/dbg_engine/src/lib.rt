@@ -1,13 +1,16 @@
 //! The engine: several harts of a machine, and the journal of what was done with them.
 #![tactic(auto)]
 
+mod answering;
 mod engine;
 mod journal;
-mod mind;
 mod moving;
+mod patching;
+mod resuming;
 #[cfg(test)]
 mod tests;
 
+pub use answering::is_wait;
 pub use engine::{Closed, End, Engine, SPARE};
-pub use mind::{Activity, Mind};
+pub use engine_facts::{Activity, Hold, Mind, Phase};
 pub use moving::Turned;

@@ -1,12 +1,13 @@
 // What a step of the machine does to the journal and to what is kept of the harts.
-ghost use Rattle.std.specs.Prelude.{◌≡◌, ◌≢◌, ◌≤◌, ◌<◌, ◌+◌, ◌-◌, ◌^◌, map, length, slice_set, vec_len, vec_capacity};
+ghost use Rattle.std.specs.Prelude.{◌≡◌, ◌≤◌, ◌<◌, ◌+◌, ◌-◌, ◌^◌, true, map, length, slice_set, vec_len, vec_capacity};
 ghost use Rattle.dbg_model.specs.Journals.{lengthened, last_count};
 ghost use Rattle.hart_machine.specs.Stepping.{IsByteCode};
-ghost use Rattle.dbg_engine.specs.Minds.{gone_mind, applied, turned_of, IsTurned};
+ghost use Rattle.engine_facts.specs.Minds.{gone_mind, ran_mind, after_step};
+ghost use Rattle.dbg_engine.specs.Steps.{is_done, applied, turned_of, IsTurned};
 
 use crate::journal::{note, note_lefts, note_ran};
-use crate::{Activity, Mind};
-use dbg_model::{Entry, Why};
+use dbg_model::Entry;
+use engine_facts::{Activity, Mind, Phase};
 use rv_exec::{Cause, Stepped};
 
 /// What a turn of a hart did.
@@ -16,6 +17,12 @@ pub enum Turned {
     Over,
     /// The hart doesn't run.
     NotRunning,
+    /// The hart `by` is stepping over a breakpoint, and this one is held meanwhile.
+    Held { by: u32 },
+    /// The step over a breakpoint ended: the word is planted again where a breakpoint stands.
+    Planted,
+    /// The step over a breakpoint began: the patch at the hart's pc was lifted.
+    Lifted,
     /// One instruction was executed, and nothing was written.
     Ran,
     /// One instruction was executed, and it wrote the `len` bytes at `addr`.
@@ -26,12 +33,28 @@ pub enum Turned {
     AllLeft { code: u32, count: usize },
     /// The instruction trapped, and the hart stopped.
     Stopped { cause: Cause },
+    /// The hart stopped at the breakpoint of this number.
+    Arrived { number: u32, temporary: bool },
 }
 
-const RAN: Mind = Mind {
-    activity: Activity::Running,
-    fresh: true,
-};
+fn after_step(phase: Phase) -> Phase
+    ensures { result ≡ after_step phase }
+{
+    match phase {
+        Phase::Idle => Phase::Idle,
+        Phase::Lifted { home } | Phase::Ran { home } => Phase::Ran { home },
+    }
+}
+
+fn ran_mind(mind: Mind) -> Mind
+    ensures { result ≡ ran_mind mind }
+{
+    Mind {
+        activity: Activity::Running,
+        fresh: true,
+        phase: after_step(mind.phase),
+    }
+}
 
 // One more instruction of a hart, of which this is kept afterwards.
 fn note_instruction(
@@ -62,19 +85,21 @@ fn mark_gone(minds: &mut [Mind])
 {
     for k in 0..minds.len() {
         minds[k].activity = Activity::Exited;
+        minds[k].phase = Phase::Idle;
     }
 }
 
-/// What a step of hart h does beside the machine, and what the turn is called.
+/// What an instruction of hart h does beside the machine, and what the turn is called.
 pub fn apply(
     stepped: Stepped,
     h: u32,
+    mind: Mind,
     entries: &mut Vec<Entry>,
     minds: &mut [Mind],
     retired: &mut u64,
     noted: &mut u64,
 ) -> Turned
-    requires hit { stepped ≢ Stepped.Hit }
+    requires done { is_done stepped ≡ true }
     requires code { IsByteCode stepped }
     requires hart { h < length minds.old }
     requires few { length minds.old ≤ 16 }
@@ -82,23 +107,24 @@ pub fn apply(
     requires count { last_count entries.old.items < 2 ^ 64 - 1 }
     requires retired { retired.old < 2 ^ 64 - 1 }
     requires noted { noted.old + 32 < 2 ^ 64 }
-    ensures parts { record { journal = entries.new.items; minds = minds.new; retired = retired.new; noted = noted.new } ≡ applied stepped h (record { journal = entries.old.items; minds = minds.old; retired = retired.old; noted = noted.old }) }
-    ensures turned { result ≡ turned_of stepped h minds.old }
+    ensures parts { record { journal = entries.new.items; minds = minds.new; retired = retired.new; noted = noted.new } ≡ applied stepped h mind (record { journal = entries.old.items; minds = minds.old; retired = retired.old; noted = noted.old }) }
+    ensures turned { result ≡ turned_of stepped h mind minds.old }
     ensures code { IsTurned result }
 {
     match stepped {
         Stepped::Ran => {
-            note_instruction(h, RAN, entries, minds, retired);
+            note_instruction(h, ran_mind(mind), entries, minds, retired);
             Turned::Ran
         }
         Stepped::Wrote { addr, len } => {
-            note_instruction(h, RAN, entries, minds, retired);
+            note_instruction(h, ran_mind(mind), entries, minds, retired);
             Turned::Wrote { addr, len }
         }
         Stepped::HartExit(code) => {
             let gone = Mind {
                 activity: Activity::Exited,
                 fresh: true,
+                phase: Phase::Idle,
             };
             note_instruction(h, gone, entries, minds, retired);
             note(entries, Entry::Left { hart: h, code });
@@ -106,7 +132,7 @@ pub fn apply(
             Turned::Left { code }
         }
         Stepped::AllExit(code) => {
-            note_instruction(h, RAN, entries, minds, retired);
+            note_instruction(h, ran_mind(mind), entries, minds, retired);
             let before = entries.len();
             note_lefts(entries, minds, 0, code);
             mark_gone(minds);
@@ -114,21 +140,6 @@ pub fn apply(
             *noted += count as u64;
             Turned::AllLeft { code, count }
         }
-        Stepped::Hit => unreachable!(),
-        Stepped::Trap(cause) => {
-            note(
-                entries,
-                Entry::Stopped {
-                    hart: h,
-                    why: Why::Fault(cause),
-                },
-            );
-            minds[h as usize] = Mind {
-                activity: Activity::Stopped,
-                fresh: false,
-            };
-            *noted += 1;
-            Turned::Stopped { cause }
-        }
+        Stepped::Hit | Stepped::Trap(_) => unreachable!(),
     }
 }

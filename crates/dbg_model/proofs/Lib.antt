@@ -6,3 +6,4 @@ pub mod Plainly
 pub mod Bounding
 pub mod Numbering
 pub mod Replying
+pub mod Founding

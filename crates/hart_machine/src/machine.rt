@@ -2,7 +2,7 @@ ghost use Rattle.std.specs.Prelude.{◌≡◌, ◌<◌, ◌≤◌, ◌-◌, ◌^
 ghost use Rattle.std.specs.FinSet as set;
 ghost use Rattle.text_words.specs.Words as text;
 ghost use Rattle.data_memory.specs.Start.{start_memory};
-ghost use Rattle.data_memory.specs.Ranges.{bytes_at, range_at};
+ghost use Rattle.data_memory.specs.Ranges.{bytes_at, range_at, value_at};
 ghost use Rattle.dbg_traits.specs.Settings.{AreSettings, AreHarts};
 ghost use Rattle.hart_machine.specs.Stepping.{Steps, IsByteCode, first_cores, loaded};
 ghost use Rattle.hart_machine.specs.declared.hart.Core.{Core};
@@ -72,6 +72,20 @@ impl Machine {
         ensures { result ≡ length self.now.cores }
     {
         self.cores.len()
+    }
+
+    /// The harts, in the order of their numbers.
+    pub fn cores(&self) -> &[Core]
+        ensures { result.now ≡ self.now.cores }
+    {
+        self.cores.as_slice()
+    }
+
+    /// The byte of data at an address, where one is mapped.
+    pub fn byte(&self, addr: u32) -> Option<u8>
+        ensures { result ≡ value_at self.now.memory addr }
+    {
+        self.memory.byte(addr)
     }
 
     /// Where a hart is.

@@ -78,11 +78,18 @@ for_thread (Some thread) = text.THREAD_HEAD.now ++ decimal thread
 abbrev pub ignored : ℕ → List ℕ
 ignored n = if n == 0 then [] else text.IGNORE_HEAD.now ++ decimal n
 
+-- what a breakpoint is called, and whether it stays and is enabled
+abbrev pub breakpoint_front : Breakpoint → List ℕ
+breakpoint_front b =
+    text.BREAKPOINT_HEAD.now ++ decimal b.number ++ text.DISPOSITION_HEAD.now ++ disposition b.temporary ++ text.ENABLED_HEAD.now ++ enabled_text b.enabled
+
+-- whom it stops, and its counts
+abbrev pub breakpoint_counts : Breakpoint → List ℕ
+breakpoint_counts b = for_thread b.thread ++ text.TIMES_HEAD.now ++ decimal b.times ++ ignored b.ignore
+
 abbrev pub breakpoint_text : Breakpoint → List ℕ
 breakpoint_text b =
-    text.BREAKPOINT_HEAD.now ++ decimal b.number ++ text.DISPOSITION_HEAD.now ++ disposition b.temporary ++ text.ENABLED_HEAD.now ++ enabled_text b.enabled
-    ++ text.ADDRESS_HEAD.now ++ hex8 b.address ++ for_thread b.thread ++ text.TIMES_HEAD.now ++ decimal b.times ++ ignored b.ignore
-    ++ text.LOCATION_HEAD.now ++ c_string b.location ++ text.BREAKPOINT_TAIL.now
+    breakpoint_front b ++ text.ADDRESS_HEAD.now ++ hex8 b.address ++ breakpoint_counts b ++ text.LOCATION_HEAD.now ++ c_string b.location ++ text.BREAKPOINT_TAIL.now
 
 -- ---- errors
 

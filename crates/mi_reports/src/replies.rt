@@ -1,7 +1,6 @@
 // The lines of replies.
 ghost use Rattle.std.specs.Prelude.{◌≡◌, ◌++◌, IfOk, OnOk, decimal};
-ghost use Rattle.mi_reports.specs.Bytes.{hex8};
-ghost use Rattle.mi_reports.specs.Replies.{behind_commas, joined, running_lines, place_text, thread_text, number_text, signed_text, value_text, register_text, memory_text, enabled_text, for_thread, ignored, breakpoint_text, fault_message, obstacle_message, message, error_tail, content_text, reply_text};
+ghost use Rattle.mi_reports.specs.Replies.{behind_commas, joined, running_lines, place_text, thread_text, number_text, signed_text, value_text, register_text, memory_text, enabled_text, for_thread, ignored, breakpoint_front, breakpoint_counts, breakpoint_text, fault_message, obstacle_message, message, error_tail, content_text, reply_text};
 
 use crate::numbers::{hex8, push_c_string, push_decimal};
 use crate::reply_texts as text;
@@ -15,12 +14,6 @@ fn push_word(into: &mut Vec<u8>, n: u32) -> Result<(), AllocError>
     ensures { OnOk result (into.new.items ≡ into.old.items ++ decimal n) }
 {
     push_decimal(into, u64::from(n))
-}
-
-fn push_hex8(into: &mut Vec<u8>, n: u32) -> Result<(), AllocError>
-    ensures { OnOk result (into.new.items ≡ into.old.items ++ hex8 n) }
-{
-    into.extend_from_slice(&hex8(n))
 }
 
 fn push_running(into: &mut Vec<u8>, threads: &[u32]) -> Result<(), AllocError>
@@ -42,7 +35,7 @@ fn push_place(into: &mut Vec<u8>, stopped_at: Option<u32>) -> Result<(), AllocEr
         None => push(into, text::RUNNING_TAIL),
         Some(pc) => {
             push(into, text::STOPPED_AT)?;
-            push_hex8(into, pc)?;
+            into.extend_from_slice(&hex8(pc))?;
             push(into, text::STOPPED_TAIL)
         }
     }
@@ -126,7 +119,7 @@ fn push_value(into: &mut Vec<u8>, format: Format, value: u32) -> Result<(), Allo
     match format {
         Format::Hexadecimal => {
             push(into, text::HEXADECIMAL)?;
-            push_hex8(into, value)
+            into.extend_from_slice(&hex8(value))
         }
         Format::Decimal => push_signed(into, value),
     }
@@ -183,10 +176,11 @@ fn push_memory(
 ) -> Result<(), AllocError>
     ensures { OnOk result (into.new.items ≡ into.old.items ++ memory_text address bytes.now) }
 {
+    let end = ((u64::from(address) + bytes.len() as u64) % 0x1_0000_0000) as u32;
     push(into, text::MEMORY_HEAD)?;
-    push_hex8(into, address)?;
+    into.extend_from_slice(&hex8(address))?;
     push(into, text::MEMORY_END)?;
-    push_hex8(into, address.wrapping_add(bytes.len() as u32))?;
+    into.extend_from_slice(&hex8(end))?;
     push(into, text::CONTENTS_HEAD)?;
     into.extend_from_slice(hex::encode(alloc, bytes)?.as_bytes())?;
     push(into, text::MEMORY_TAIL)
@@ -218,21 +212,39 @@ fn push_ignored(into: &mut Vec<u8>, ignore: u32) -> Result<(), AllocError>
     push_word(into, ignore)
 }
 
-fn push_breakpoint(into: &mut Vec<u8>, breakpoint: &Breakpoint) -> Result<(), AllocError>
-    ensures { OnOk result (into.new.items ≡ into.old.items ++ breakpoint_text breakpoint.now) }
+fn push_breakpoint_front(
+    into: &mut Vec<u8>,
+    breakpoint: &Breakpoint,
+) -> Result<(), AllocError>
+    ensures { OnOk result (into.new.items ≡ into.old.items ++ breakpoint_front breakpoint.now) }
 {
     push(into, text::BREAKPOINT_HEAD)?;
     push_word(into, breakpoint.number)?;
     push(into, text::DISPOSITION_HEAD)?;
     push(into, disposition(breakpoint.temporary))?;
     push(into, text::ENABLED_HEAD)?;
-    push(into, enabled_text(breakpoint.enabled))?;
-    push(into, text::ADDRESS_HEAD)?;
-    push_hex8(into, breakpoint.address)?;
+    push(into, enabled_text(breakpoint.enabled))
+}
+
+fn push_breakpoint_counts(
+    into: &mut Vec<u8>,
+    breakpoint: &Breakpoint,
+) -> Result<(), AllocError>
+    ensures { OnOk result (into.new.items ≡ into.old.items ++ breakpoint_counts breakpoint.now) }
+{
     push_for_thread(into, breakpoint.thread)?;
     push(into, text::TIMES_HEAD)?;
     push_decimal(into, breakpoint.times)?;
-    push_ignored(into, breakpoint.ignore)?;
+    push_ignored(into, breakpoint.ignore)
+}
+
+fn push_breakpoint(into: &mut Vec<u8>, breakpoint: &Breakpoint) -> Result<(), AllocError>
+    ensures { OnOk result (into.new.items ≡ into.old.items ++ breakpoint_text breakpoint.now) }
+{
+    push_breakpoint_front(into, breakpoint)?;
+    push(into, text::ADDRESS_HEAD)?;
+    into.extend_from_slice(&hex8(breakpoint.address))?;
+    push_breakpoint_counts(into, breakpoint)?;
     push(into, text::LOCATION_HEAD)?;
     push_c_string(into, breakpoint.location.as_slice())?;
     push(into, text::BREAKPOINT_TAIL)
@@ -282,12 +294,12 @@ fn push_obstacle(into: &mut Vec<u8>, obstacle: Obstacle) -> Result<(), AllocErro
         }
         Obstacle::NoInstruction(address) => {
             push(into, text::NO_INSTRUCTION)?;
-            push_hex8(into, address)
+            into.extend_from_slice(&hex8(address))
         }
         Obstacle::TooManyBreakpoints => push(into, text::TOO_MANY_BREAKPOINTS),
         Obstacle::Unreadable(address) => {
             push(into, text::UNREADABLE)?;
-            push_hex8(into, address)
+            into.extend_from_slice(&hex8(address))
         }
     }
 }

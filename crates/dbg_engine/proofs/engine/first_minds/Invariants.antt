@@ -1,5 +1,5 @@
 use Rattle.std.proofs.Common.{◌≡◌, replicate}
-use Rattle.dbg_engine.specs.Minds.{first_mind}
+use Rattle.engine_facts.specs.Minds.{first_mind}
 use Rattle.dbg_engine.proofs.engine.first_minds.Given as goal
 
 abbrev pub invariant-loop-hart : goal.invariant-loop-hart

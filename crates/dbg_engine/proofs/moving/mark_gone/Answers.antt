@@ -1,6 +1,6 @@
 use Rattle.std.proofs.Common.{◌<◌, length, get_or, arith}
 use Rattle.std.proofs.lemmas.Option.{slice_get-get_or}
-use Rattle.dbg_engine.specs.Minds.{gone_mind, first_mind}
+use Rattle.engine_facts.specs.Minds.{gone_mind, first_mind}
 use Rattle.dbg_engine.proofs.Marking.{marks}
 use Rattle.dbg_engine.proofs.moving.mark_gone.Goals as goal
 

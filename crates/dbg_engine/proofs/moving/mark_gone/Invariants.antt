@@ -1,5 +1,5 @@
 use Rattle.std.proofs.Common.{◌≡◌, ◌++◌, map, take, drop}
-use Rattle.dbg_engine.specs.Minds.{gone_mind}
+use Rattle.engine_facts.specs.Minds.{gone_mind}
 use Rattle.dbg_engine.proofs.moving.mark_gone.Given as goal
 
 abbrev pub invariant-loop-k : goal.invariant-loop-k

@@ -1,14 +1,14 @@
 use Rattle.std.proofs.Common.{ap, ◌∙◌}
 use Rattle.std.specs.List.{list_any}
 use Rattle.dbg_model.specs.State.{any_runs}
-use Rattle.dbg_engine.specs.Minds.{runs}
-use Rattle.dbg_engine.specs.Seen.{Run, seen}
-use Rattle.dbg_engine.proofs.Seeing.{any_seen}
+use Rattle.engine_facts.specs.Minds.{runs}
+use Rattle.engine_facts.specs.Seen.{Run, seen}
+use Rattle.engine_facts.proofs.Seeing.{any_seen}
 use Rattle.dbg_engine.proofs.engine.Engine.any_running.Goals as goal
 
 pub returns : goal.returns
 returns c =
     c.any_running.ensures
     ∙ (ap (list_any runs) c.as_slice.ensures.value
-    ∙ (any_seen c.self.inside.machine.cores c.self.inside.minds.items c.self.invariant.facts.cores
+    ∙ (any_seen c.self.inside.machine.cores c.self.inside.minds.items c.self.invariant.facts.harts.len
     ∙ ap (λ (r : Run). any_runs (seen r).harts) c.self.view_is))

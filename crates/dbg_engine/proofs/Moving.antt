@@ -1,0 +1,136 @@
+-- The other moves of a hart, as the code makes them, and the end of an engine.
+use Rattle.std.proofs.Common.{◌≡◌, ℕ, ◌+◌, ◌++◌, Bool, true, false, List, [], ◌∷◌, refl, sym, ap, ◌∙◌, subst}
+use Rattle.std.specs.Prelude.{Option, Some, None, IsSome, slice_get, slice_set}
+use Rattle.rv_exec.specs.declared.effect.Cause.{Cause}
+use Rattle.rv_exec.specs.Memory.{Memory}
+use Rattle.text_words.specs.Words.{Words, is_planted}
+use Rattle.plain_machine.specs.Environment.{Traps}
+use Rattle.plain_machine.specs.Plain.{plain}
+use Rattle.hart_machine.specs.declared.hart.Core.{Core}
+use Rattle.hart_machine.specs.Patched.{Patched}
+use Rattle.dbg_model.specs.declared.breakpoint.Breakpoint.{Breakpoint}
+use Rattle.dbg_model.specs.declared.entry.Entry.{Entry}
+use Rattle.dbg_model.specs.declared.entry.Entry.TheVariants.{Stopped, Did}
+use Rattle.dbg_model.specs.declared.entry.Why.{Why}
+use Rattle.dbg_model.specs.declared.entry.Why.TheVariants.{Break, Fault}
+use Rattle.dbg_model.specs.Breaks.{stands, settled}
+use Rattle.dbg_model.specs.State.{Hart, State, due}
+use Rattle.dbg_model.specs.Lawful.{enter, may_go}
+use Rattle.dbg_model.specs.Reply.{done_by}
+use Rattle.engine_facts.specs.declared.mind.Activity.TheVariants as activity
+use Rattle.engine_facts.specs.declared.mind.Hold.{Hold}
+use Rattle.engine_facts.specs.declared.mind.Mind.{Mind}
+use Rattle.engine_facts.specs.declared.mind.Phase.TheVariants as phase
+use Rattle.engine_facts.specs.Minds.{with_phase, first_mind, lifted_of}
+use Rattle.engine_facts.specs.Seen.{Run, seen}
+use Rattle.engine_facts.specs.Facts.{Facts, InText, Retired, wanted, other_holder}
+use Rattle.engine_facts.specs.Moves.{Repatched, Released, halted, broken}
+use Rattle.engine_facts.proofs.Holding.{core_at, no_hold, released, unwinds, planted_text, wanted_none}
+use Rattle.engine_facts.proofs.Keeping.{Enters}
+use Rattle.engine_facts.proofs.Stepping.{fact_of, lifts}
+use Rattle.engine_facts.proofs.Stopping.{halts_fault, halts_break, fault_comes, break_comes, may_by}
+use Rattle.engine_facts.proofs.Breaking.{breaks_in, broken_state}
+use Rattle.dbg_engine.specs.Calls.{Of, TrapsAt, Rephases, Lifts, Halts, Closes, Inserts}
+use Rattle.dbg_engine.proofs.Executing.{of_hart, moves_by}
+
+-- the facts hold after a move that did this
+pub record Moved (new : Run) (Did : Type 0) : Type 0 where
+  pub facts : Facts new
+  pub does : Did
+
+-- a machine whose text alone changed
+abbrev pub Retexted : Run → Patched → Type 0
+Retexted r m = m ≡ record r.machine { text = m.text }
+
+-- a hart steps over nothing any more
+pub unwound : (r : Run) (h : ℕ) (x : Mind) (m : Patched) → Facts r → slice_get r.minds h ≡ Some x → other_holder r.hold h ≡ None → Released r.machine.text m.text r.breaks r.hold → Retexted r m
+    → (let new : Run = record r { machine = m; minds = slice_set r.minds h (with_phase x phase.Idle); hold = None } in Moved new (Rephases r new h x phase.Idle None))
+unwound r h x m f at free w same =
+    let k = core_at r h x f at in
+    let N : Patched → Run = λ n. record r { machine = n; minds = slice_set r.minds h (with_phase x phase.Idle); hold = None } in
+    let P : Patched → Type 0 = λ n. Moved (N n) (Rephases r (N n) h x phase.Idle None) in
+    let s = unwinds r h k.0 x m.text f k.1 free w in
+    subst P (sym same) (record { facts = s.facts; does = record { journal = refl; seen = s.seen; opening = refl; spare = refl; minds = refl; hold = refl } })
+
+-- a patch was lifted for a hart
+pub lifted : (r : Run) (h pc : ℕ) (x : Mind) (m : Patched) → Facts r → slice_get r.minds h ≡ Some x → x.phase ≡ phase.Idle → x.activity ≡ activity.Running → other_holder r.hold h ≡ None → Of r h (λ y. y.regs.pc ≡ pc)
+    → is_planted r.machine.text pc ≡ true → Repatched r.machine.text m.text pc false → Retexted r m
+    → (let new : Run = record r { machine = m; minds = slice_set r.minds h (with_phase x (phase.Lifted pc)); hold = Some (record { hart = h; home = pc }) } in Moved new (Lifts r new h))
+lifted r h pc x m f at idle runs free is planted w same =
+    let k = core_at r h x f at in
+    let none : r.hold ≡ None = no_hold r.hold h free (sym (fact_of r h k.0 x f k.1).held ∙ ap lifted_of idle) in
+    let here = of_hart r h k.0 x (λ y. y.regs.pc ≡ pc) k.1 is in
+    let N : Patched → Run = λ n. record r { machine = n; minds = slice_set r.minds h (with_phase x (phase.Lifted pc)); hold = Some (record { hart = h; home = pc }) } in
+    let P : Patched → Type 0 = λ n. Moved (N n) (Lifts r (N n) h) in
+    let s = lifts r h k.0 x pc m.text f k.1 runs none here (planted_text r pc f planted) w in
+    subst P (sym same) (record {
+      facts = s.facts;
+      does = record { mind = x; home = pc; at = at; idle = idle; rephases = record { journal = refl; seen = s.seen; opening = refl; spare = refl; minds = refl; hold = refl } };
+    })
+
+-- a hart stopped by a fault
+pub faulted : (r : Run) (h spare : ℕ) (x : Mind) (cause : Cause) (j : List Entry) → Facts r → slice_get r.minds h ≡ Some x → x.phase ≡ phase.Idle → x.activity ≡ activity.Running → Of r h (λ y. due (seen r).breaks h y ≡ None) → TrapsAt r h cause
+    → may_go r.opening (seen r) ≡ true → j ≡ r.journal ++ Stopped h (Fault cause) ∷ []
+    → (let new : Run = record r { journal = j; spare = spare; minds = slice_set r.minds h first_mind; noted = r.noted + 1 } in Moved new (Halts r new h (Fault cause)))
+faulted r h spare x cause j f at idle runs none traps may same =
+    let k = core_at r h x f at in
+    let c = k.0 in
+    let may' = may_by r.opening (seen r) h _ (moves_by r c x may runs) (of_hart r h c x (λ y. due (seen r).breaks h y ≡ None) k.1 none) in
+    let trap = of_hart r h c x (λ y. plain r.opening.image y.regs (seen r).memory ≡ Traps cause) k.1 traps in
+    let e = halts_fault r h spare c x cause f k.1 idle may' trap in
+    let N : List Entry → Run = λ es. record r { journal = es; spare = spare; minds = slice_set r.minds h first_mind; noted = r.noted + 1 } in
+    let P : List Entry → Type 0 = λ es. Moved (N es) (Halts r (N es) h (Fault cause)) in
+    subst P (sym same) (record { facts = e.facts; does = record { journal = refl; enters = fault_comes r h c x cause k.1 may' trap ∙ ap Some e.seen; opening = refl } })
+
+-- a hart stopped at a breakpoint
+pub arrived : (r : Run) (h number pc spare : ℕ) (x : Mind) (j : List Entry) (m : Patched) (bs : List Breakpoint) → Facts r → slice_get r.minds h ≡ Some x → x.phase ≡ phase.Idle → x.activity ≡ activity.Running → Of r h (λ y. y.regs.pc ≡ pc)
+    → Of r h (λ y. due (seen r).breaks h y ≡ Some number) → may_go r.opening (seen r) ≡ true → r.hold ≡ None → j ≡ r.journal ++ Stopped h (Break number) ∷ [] → bs ≡ settled r.breaks h pc → Repatched r.machine.text m.text pc (stands bs pc) → Retexted r m
+    → (let new : Run = record r { journal = j; spare = spare; machine = m; minds = slice_set r.minds h first_mind; breaks = bs; noted = r.noted + 1 } in Moved new (Halts r new h (Break number)))
+arrived r h number pc spare x j m bs f at idle runs is due_is may none same settles w texts =
+    let k = core_at r h x f at in
+    let c = k.0 in
+    let here = of_hart r h c x (λ y. y.regs.pc ≡ pc) k.1 is in
+    let due' = of_hart r h c x (λ y. due (seen r).breaks h y ≡ Some number) k.1 due_is in
+    let may' = moves_by r c x may runs in
+    let want : stands bs pc ≡ wanted bs r.hold pc = sym (ap (λ (o : Option Hold). wanted bs o pc) none ∙ wanted_none bs pc) in
+    let w' : Repatched r.machine.text m.text pc (wanted bs r.hold pc) = record { words = w.words; here = w.here ∙ want; others = w.others } in
+    let bs_is : bs ≡ settled r.breaks h c.regs.pc = settles ∙ ap (settled r.breaks h) (sym here) in
+    let W : List Breakpoint → Type 0 = λ cs. Repatched r.machine.text m.text pc (wanted cs r.hold pc) in
+    let V : ℕ → Type 0 = λ a. Repatched r.machine.text m.text a (wanted (settled r.breaks h c.regs.pc) r.hold a) in
+    let w'' = subst V (sym here) (subst W bs_is w') in
+    let e = halts_break r h number spare c x m.text f k.1 idle may' due' w'' in
+    let N : List Entry → Patched → List Breakpoint → Run = λ es n cs. record r { journal = es; spare = spare; machine = n; minds = slice_set r.minds h first_mind; breaks = cs; noted = r.noted + 1 } in
+    let P : List Entry → Patched → List Breakpoint → Type 0 = λ es n cs. Moved (N es n cs) (Halts r (N es n cs) h (Break number)) in
+    let m' : Patched = record r.machine { text = m.text } in
+    let es = r.journal ++ Stopped h (Break number) ∷ [] in
+    let base : P es m' (settled r.breaks h c.regs.pc) = record { facts = e.facts; does = record { journal = refl; enters = break_comes r h number c x k.1 may' due' ∙ ap Some e.seen; opening = refl } } in
+    subst (λ (ls : List Entry). P ls m bs) (sym same) (subst (λ (n : Patched). P es n bs) (sym texts) (subst (λ (cs : List Breakpoint). P es m' cs) (sym bs_is) base))
+
+enter_did : (r : Run) (line : List ℕ) → may_go r.opening (seen r) ≡ true → enter r.opening (seen r) (Did line) ≡ Some (done_by (seen r) line)
+unfolding enter
+enter_did r line may = rw may refl
+
+-- a line added a breakpoint
+pub inserted : (r : Run) (spare : ℕ) (line : List ℕ) (b : Breakpoint) (j : List Entry) (m : Patched) (bs : List Breakpoint) → Facts r → InText r.opening.image b.address → may_go r.opening (seen r) ≡ true → done_by (seen r) line ≡ broken_state (seen r) b
+    → j ≡ r.journal ++ Did line ∷ [] → bs ≡ r.breaks ++ b ∷ [] → Repatched r.machine.text m.text b.address (wanted bs r.hold b.address) → Retexted r m
+    → (let new : Run = record r { journal = j; spare = spare; machine = m; breaks = bs; next = r.next + 1; noted = r.noted + 1 } in Moved new (Inserts r new line b))
+inserted r spare line b j m bs f text may does same are w texts =
+    let W : List Breakpoint → Type 0 = λ cs. Repatched r.machine.text m.text b.address (wanted cs r.hold b.address) in
+    let e = breaks_in r (Did line) b m.text spare f refl (enter_did r line may ∙ ap Some does) text (subst W are w) in
+    let N : List Entry → Patched → List Breakpoint → Run = λ es n cs. record r { journal = es; spare = spare; machine = n; breaks = cs; next = r.next + 1; noted = r.noted + 1 } in
+    let P : List Entry → Patched → List Breakpoint → Type 0 = λ es n cs. Moved (N es n cs) (Inserts r (N es n cs) line b) in
+    let m' : Patched = record r.machine { text = m.text } in
+    let es = r.journal ++ Did line ∷ [] in
+    let cs = r.breaks ++ b ∷ [] in
+    let base : P es m' cs = record { facts = e.facts; does = record { journal = refl; seen = sym (does ∙ e.seen); breaks = refl; opening = refl } } in
+    subst (λ (ls : List Entry). P ls m bs) (sym same) (subst (λ (n : Patched). P es n bs) (sym texts) (subst (λ (ds : List Breakpoint). P es m' ds) (sym are) base))
+
+-- the end of an engine
+pub closed : (r : Run) (m : Patched) → Facts r → Released r.machine.text m.text r.breaks r.hold → Retexted r m → Closes r m
+closed r m f w same =
+    record {
+      cores = ap (λ (n : Patched). n.cores) same;
+      memory = ap (λ (n : Patched). n.memory) same;
+      text = released r.opening.image r.machine.text m.text r.breaks r.hold f.planted w;
+      retired = subst (λ (cs : List Core). Retired cs r.journal) (sym (ap (λ (n : Patched). n.cores) same)) f.retired;
+    }

@@ -1,0 +1,94 @@
+-- What a step of the machine does to the journal and to what is kept of the harts, and which hart is next.
+use Rattle.std.specs.Prelude.{◌≡◌, ℕ, ◌+◌, ◌-◌, ◌<◌, ◌≤◌, Bool, true, false, List, [], ◌∷◌, ◌++◌, length, drop, min, map, slice_set, Option, Some, None, if◌then◌else◌}
+use Rattle.rv_exec.specs.declared.effect.Stepped.{Stepped}
+use Rattle.rv_exec.specs.declared.effect.Stepped.TheVariants as stepped
+use Rattle.hart_machine.specs.Patched.{Patched}
+use Rattle.dbg_model.specs.declared.breakpoint.Breakpoint.{Breakpoint}
+use Rattle.dbg_model.specs.declared.entry.Entry.{Entry}
+use Rattle.dbg_model.specs.declared.entry.Entry.TheVariants.{Left}
+use Rattle.dbg_model.specs.Journals.{lengthened}
+use Rattle.engine_facts.specs.declared.mind.Activity.{Activity}
+use Rattle.engine_facts.specs.declared.mind.Activity.TheVariants as activity
+use Rattle.engine_facts.specs.declared.mind.Hold.{Hold}
+use Rattle.engine_facts.specs.declared.mind.Mind.{Mind}
+use Rattle.engine_facts.specs.Minds.{runs, ran_mind, exited_mind, gone_mind, resumed_mind, lefts_live}
+use Rattle.engine_facts.specs.Moves.{Released}
+use Rattle.dbg_engine.specs.declared.moving.Turned.{Turned}
+use Rattle.dbg_engine.specs.declared.moving.Turned.TheVariants as turned
+
+abbrev pub is_exit : Stepped → Bool
+is_exit stepped.Ran = false
+is_exit (stepped.Wrote addr len) = false
+is_exit (stepped.HartExit code) = true
+is_exit (stepped.AllExit code) = true
+is_exit stepped.Hit = false
+is_exit (stepped.Trap cause) = false
+
+-- an instruction was executed
+abbrev pub is_done : Stepped → Bool
+is_done stepped.Ran = true
+is_done (stepped.Wrote addr len) = true
+is_done (stepped.HartExit code) = true
+is_done (stepped.AllExit code) = true
+is_done stepped.Hit = false
+is_done (stepped.Trap cause) = false
+
+-- after an exit no patch stays lifted, and else nothing changed
+abbrev pub ReleasedBy : Bool → Patched → Patched → Option Hold → Option Hold → List Breakpoint → Type 0
+ReleasedBy true m n hold hold' bs = (hold' ≡ None) × Released m.text n.text bs hold × (n ≡ record m { text = n.text })
+ReleasedBy false m n hold hold' bs = (hold' ≡ hold) × (n ≡ m)
+
+-- what changes at a step beside the machine
+pub record Parts : Type 0 where
+  pub journal : List Entry
+  pub minds : List Mind
+  pub retired : ℕ
+  pub noted : ℕ
+
+-- the parts after an instruction of hart h, of which x was kept
+abbrev pub applied : Stepped → ℕ → Mind → Parts → Parts
+applied stepped.Ran h x p = record { journal = lengthened p.journal h; minds = slice_set p.minds h (ran_mind x); retired = p.retired + 1; noted = p.noted }
+applied (stepped.Wrote addr len) h x p = record { journal = lengthened p.journal h; minds = slice_set p.minds h (ran_mind x); retired = p.retired + 1; noted = p.noted }
+applied (stepped.HartExit code) h x p =
+    record { journal = lengthened p.journal h ++ Left h code ∷ []; minds = slice_set p.minds h exited_mind; retired = p.retired + 1; noted = p.noted + 1 }
+applied (stepped.AllExit code) h x p =
+    let lefts = lefts_live code 0 (slice_set p.minds h (ran_mind x)) in
+    record { journal = lengthened p.journal h ++ lefts; minds = map gone_mind (slice_set p.minds h (ran_mind x)); retired = p.retired + 1; noted = p.noted + length lefts }
+applied stepped.Hit h x p = p
+applied (stepped.Trap cause) h x p = p
+
+-- what a turn is called that executes
+abbrev pub turned_of : Stepped → ℕ → Mind → List Mind → Turned
+turned_of stepped.Ran h x xs = turned.Ran
+turned_of (stepped.Wrote addr len) h x xs = turned.Wrote addr len
+turned_of (stepped.HartExit code) h x xs = turned.Left code
+turned_of (stepped.AllExit code) h x xs = turned.AllLeft code (length (lefts_live code 0 (slice_set xs h (ran_mind x))))
+turned_of stepped.Hit h x xs = turned.NotRunning
+turned_of (stepped.Trap cause) h x xs = turned.Stopped cause
+
+-- the first hart of the list that runs, where the first of the list has the number k
+abbrev pub running_from : ℕ → List Mind → Option ℕ
+running_from k [] = None
+running_from k (x ∷ xs) = if runs x then Some k else running_from (k + 1) xs
+
+abbrev pub some_or : Option ℕ → Option ℕ → Option ℕ
+some_or None other = other
+some_or (Some k) other = Some k
+
+-- the next hart that runs, in rising order round the harts
+abbrev pub next_running : List Mind → ℕ → Option ℕ
+next_running xs from = some_or (running_from (min from (length xs)) (drop (min from (length xs)) xs)) (running_from 0 xs)
+
+-- the code of an exit is a byte
+abbrev pub IsTurned : Turned → Type 0
+IsTurned (turned.Left code) = code < 256
+IsTurned (turned.AllLeft code count) = code < 256
+IsTurned turned.Over = Unit {0}
+IsTurned turned.NotRunning = Unit {0}
+IsTurned (turned.Held by) = Unit {0}
+IsTurned turned.Planted = Unit {0}
+IsTurned turned.Lifted = Unit {0}
+IsTurned turned.Ran = Unit {0}
+IsTurned (turned.Wrote addr len) = Unit {0}
+IsTurned (turned.Stopped cause) = Unit {0}
+IsTurned (turned.Arrived number temporary) = Unit {0}
