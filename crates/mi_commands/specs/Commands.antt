@@ -1,7 +1,5 @@
 -- What a line's parts ask for.
-use Rattle.std.specs.Prelude.{ℕ, List, [], ◌∷◌, ◌++◌, map, Bool, Option, Some, None, Result, Ok, Err, unwrap_or, if◌then◌else◌}
-use Rattle.std.specs.List.{flat_map}
-use Rattle.std.specs.Option.{option_map}
+use Rattle.std.specs.Prelude.{ℕ, List, [], ◌∷◌, ◌++◌, map, Option, Some, None, Result, Ok, Err, unwrap_or, if◌then◌else◌}
 use Rattle.mi_input.specs.Parts.{WordView, PartsView}
 use Rattle.mi_commands.specs.declared.operation.Operation.{Operation}
 use Rattle.mi_commands.specs.declared.operation.Operation.TheVariants as op
@@ -100,7 +98,7 @@ command_for op.FrameInfo ws = command.FrameInfo (number_in option.Thread ws)
 command_for op.RegisterNames ws = command.RegisterNames
 command_for op.RegisterValues ws =
     command.RegisterValues (number_in option.Thread ws) (unwrap_or (format_of (first_word (parameters ws))) format.Hexadecimal)
-      (numbers (rest_of (parameters ws)))
+    (numbers (rest_of (parameters ws)))
 command_for op.ReadMemory ws = command.ReadMemory (first_number (parameters ws)) (second_number (parameters ws))
 command_for op.Evaluate ws = command.Evaluate (number_in option.Thread ws) (joined (parameters ws))
 command_for op.Set ws = unwrap_or (set_command (first_word (parameters ws)) (second_word (parameters ws))) command.SetNonStop

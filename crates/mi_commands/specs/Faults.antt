@@ -14,6 +14,14 @@ use Rattle.mi_commands.specs.Numbers.{number, bad_number}
 use Rattle.mi_commands.specs.Locations.{location_of}
 use Rattle.mi_commands.specs.Settings.{format_of, setting_of, set_command}
 
+-- the number of a fault's error message
+abbrev pub fault_number : Fault → ℕ
+fault_number (fault.Undefined name) = 4
+fault_number (fault.Parameters name) = 5
+fault_number (fault.Number word) = 6
+fault_number fault.Setting = 7
+fault_number (fault.Location word thread) = 13
+
 abbrev pub first_word : List WordView → List ℕ
 first_word [] = []
 first_word (w ∷ ws) = w.0

@@ -1,7 +1,6 @@
 -- Where a breakpoint is wanted: `*N`, `FILE:LINE` or a name.
 use Rattle.std.specs.Prelude.{ℕ, ◌+◌, ◌-◌, ◌^◌, List, [], ◌∷◌, take, drop, ◌==◌, Option, Some, None, if◌then◌else◌}
 use Rattle.std.specs.Option.{option_map}
-use Rattle.std.specs.Borrow.{Bor}
 use Rattle.mi_commands.specs.declared.command.Location.{Location}
 use Rattle.mi_commands.specs.declared.command.Location.TheVariants as location
 use Rattle.mi_commands.specs.declared.location.Place.{Place}

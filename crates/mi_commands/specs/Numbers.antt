@@ -1,5 +1,5 @@
 -- Numbers: decimal, or hexadecimal behind `0x`, below 2^32.
-use Rattle.std.specs.Prelude.{ℕ, ◌+◌, ◌-◌, ◌*◌, ◌^◌, List, [], ◌∷◌, Bool, true, false, ◌==◌, ◌&&◌, nat_le, nat_lt, Option, Some, None, is_none, unwrap_or, if◌then◌else◌}
+use Rattle.std.specs.Prelude.{ℕ, ◌+◌, ◌-◌, ◌*◌, ◌^◌, List, [], ◌∷◌, Bool, false, ◌==◌, ◌&&◌, nat_le, nat_lt, Option, Some, None, is_none, unwrap_or, if◌then◌else◌}
 use Rattle.std.specs.Option.{option_and_then}
 use Rattle.mi_input.specs.Parts.{WordView}
 use Rattle.mi_commands.specs.declared.operation.Operation.{Operation}

@@ -1,6 +1,6 @@
 -- The table of the commands: the operations' names, the options that each takes, and how many parameters.
 -- (GDB's manual, chapter "The GDB/MI Interface"; `exec-wait` is this project's own.)
-use Rattle.std.specs.Prelude.{ℕ, List, Bool, true, false, ◌==◌, ◌||◌, nat_le, Option, Some, None, codes, if◌then◌else◌}
+use Rattle.std.specs.Prelude.{ℕ, List, Bool, false, ◌==◌, ◌||◌, nat_le, Option, Some, None, codes, if◌then◌else◌}
 use Rattle.std.specs.Str.{bytes_eq}
 use Rattle.mi_commands.specs.declared.operation.Operation.{Operation}
 use Rattle.mi_commands.specs.declared.operation.Operation.TheVariants as op

@@ -42,7 +42,12 @@ fn copy_if_any(alloc: Global, bytes: Option<&[u8]>) -> Result<Option<ByteList>, 
 }
 
 // The least fault of the words of an operation.
-fn first_fault(alloc: Global, operation: Operation, name: &[u8], words: &[Word]) -> Result<Option<Fault>, AllocError>
+fn first_fault(
+    alloc: Global,
+    operation: Operation,
+    name: &[u8],
+    words: &[Word],
+) -> Result<Option<Fault>, AllocError>
     ensures { IfOk result (λ fault. fault ≡ first_fault operation name.now (words_view words.now)) }
 {
     let parameters = parameters(words);
@@ -131,8 +136,9 @@ fn command(alloc: Global, operation: Operation, words: &[Word]) -> Result<Comman
             thread,
             expression: joined(alloc, parameters)?,
         },
-        Operation::Set => set_command(first_word(parameters), second_word(parameters))
-            .unwrap_or(Command::SetNonStop),
+        Operation::Set => set_command(first_word(parameters), second_word(parameters)).unwrap_or(
+            Command::SetNonStop,
+        ),
         Operation::Show => {
             Command::Show(setting_of(first_word(parameters)).unwrap_or(Setting::NonStop))
         }

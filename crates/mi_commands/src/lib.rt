@@ -15,7 +15,6 @@ mod reading;
 mod refusal;
 mod setting;
 
-
 pub use answering::command_of;
 pub use command::{Command, CommandLine, Displaced, Format, Insertion, Location, Setting, Target};
 pub use lists::{ByteList, NumberList};

@@ -163,14 +163,34 @@ impl Operation {
     {
         match self {
             Operation::BreakInsert => (Allowed::OfInsertion, Count::One),
-            Operation::BreakDelete | Operation::BreakEnable | Operation::BreakDisable | Operation::BreakCondition => (Allowed::Nothing, Count::AtLeastOne),
-            Operation::BreakAfter | Operation::ReadMemory | Operation::Set => (Allowed::Nothing, Count::Two),
-            Operation::BreakList | Operation::Wait | Operation::ThreadList | Operation::RegisterNames | Operation::Exit => (Allowed::Nothing, Count::Zero),
+            Operation::BreakDelete
+            | Operation::BreakEnable
+            | Operation::BreakDisable
+            | Operation::BreakCondition => (Allowed::Nothing, Count::AtLeastOne),
+            Operation::BreakAfter | Operation::ReadMemory | Operation::Set => (
+                Allowed::Nothing,
+                Count::Two,
+            ),
+            Operation::BreakList
+            | Operation::Wait
+            | Operation::ThreadList
+            | Operation::RegisterNames
+            | Operation::Exit => (Allowed::Nothing, Count::Zero),
             Operation::Continue | Operation::Interrupt => (Allowed::OfThreads, Count::Zero),
-            Operation::Step | Operation::Next | Operation::StepInstruction | Operation::NextInstruction | Operation::Finish | Operation::FrameList | Operation::FrameDepth | Operation::FrameInfo => (Allowed::OfThread, Count::Zero),
+            Operation::Step
+            | Operation::Next
+            | Operation::StepInstruction
+            | Operation::NextInstruction
+            | Operation::Finish
+            | Operation::FrameList
+            | Operation::FrameDepth
+            | Operation::FrameInfo => (Allowed::OfThread, Count::Zero),
             Operation::ThreadInfo => (Allowed::Nothing, Count::AtMostOne),
             Operation::ThreadSelect | Operation::Show => (Allowed::Nothing, Count::One),
-            Operation::RegisterValues | Operation::Evaluate => (Allowed::OfThread, Count::AtLeastOne),
+            Operation::RegisterValues | Operation::Evaluate => (
+                Allowed::OfThread,
+                Count::AtLeastOne,
+            ),
         }
     }
 

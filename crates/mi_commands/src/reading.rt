@@ -185,7 +185,11 @@ fn bad_parameter(operation: Operation, place: usize, words: &[Word]) -> Option<&
 }
 
 /// The leftmost word that should be a number of some range and is none.
-pub fn bad_number<'a>(operation: Operation, words: &'a [Word], parameters: &'a [Word]) -> Option<&'a [u8]>
+pub fn bad_number<'a>(
+    operation: Operation,
+    words: &'a [Word],
+    parameters: &'a [Word],
+) -> Option<&'a [u8]>
     ensures { text result ≡ or_else (bad_value (options (words_view words.now))) (bad_parameter operation 0 (words_view parameters.now)) }
 {
     match bad_value(words) {
@@ -199,9 +203,7 @@ pub fn settings_fit(operation: Operation, parameters: &[Word]) -> bool
     ensures { result ≡ settings_fit operation (words_view parameters.now) }
 {
     match operation {
-        Operation::Set => {
-            set_command(first_word(parameters), second_word(parameters)).is_some()
-        }
+        Operation::Set => { set_command(first_word(parameters), second_word(parameters)).is_some() }
         Operation::Show => setting_of(first_word(parameters)).is_some(),
         Operation::RegisterValues => format_of(first_word(parameters)).is_some(),
         _ => true,

@@ -1,6 +1,7 @@
 //! Why a line is no command.
 
 ghost use Rattle.std.specs.Prelude.{◌≡◌};
+ghost use Rattle.mi_commands.specs.Faults.{fault_number};
 ghost use Rattle.mi_commands.specs.declared.refusal.Failure.TheVariants as failures;
 
 use crate::lists::ByteList;
@@ -26,10 +27,22 @@ pub enum Fault {
     Setting,
     /// A word of no location form, and the thread of `-p`.
     #[error("bad location")]
-    Location {
-        word: ByteList,
-        thread: Option<u32>,
-    },
+    Location { word: ByteList, thread: Option<u32> },
+}
+
+impl Fault {
+    /// The number of the fault's error message: 4, 5, 6, 7 or 13.
+    pub fn number(&self) -> u32
+        ensures { result ≡ fault_number self.now }
+    {
+        match self {
+            Fault::Undefined(_) => 4,
+            Fault::Parameters(_) => 5,
+            Fault::Number(_) => 6,
+            Fault::Setting => 7,
+            Fault::Location { word: _, thread: _ } => 13,
+        }
+    }
 }
 
 /// Why a line is no command.

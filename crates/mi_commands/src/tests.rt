@@ -1,4 +1,6 @@
-use crate::{ByteList, Command, Fault, Insertion, Location, NumberList, Refusal, Target, command_of};
+use crate::{
+    ByteList, Command, Fault, Insertion, Location, NumberList, Refusal, Target, command_of,
+};
 use std::alloc::Global;
 use std::test::Fail;
 
@@ -160,7 +162,10 @@ fn shown(alloc: Global, line: &[u8]) -> Result<Vec<u8>, Fail> {
 fn commands_are_read(rt: HostRuntime) -> Result<(), Fail> {
     let lines = [
         ("", "blank"),
-        ("7-break-insert main", "7insert (false, false) 0 None if  name main main"),
+        (
+            "7-break-insert main",
+            "7insert (false, false) 0 None if  name main main",
+        ),
         (
             "-break-insert -t -c \"a == 1\" -i 0x10 *0x10078",
             "insert (true, false) 16 None if a == 1 at 65656 *0x10078",
@@ -169,7 +174,10 @@ fn commands_are_read(rt: HostRuntime) -> Result<(), Fail> {
             "-break-insert -p 2 -d a:b.c:017",
             "insert (false, true) 0 Some(2) if  file a:b.c 17 a:b.c:017",
         ),
-        ("-break-insert -- -x", "insert (false, false) 0 None if  name -x -x"),
+        (
+            "-break-insert -- -x",
+            "insert (false, false) 0 None if  name -x -x",
+        ),
         ("-break-delete 1 0x1F 1", "delete 1 31 1"),
         ("-break-enable 4294967295", "enable 4294967295"),
         ("-break-disable \"2\"", "disable 2"),
@@ -194,10 +202,22 @@ fn commands_are_read(rt: HostRuntime) -> Result<(), Fail> {
         ("-stack-info-depth --thread 4", "depth 4"),
         ("-stack-info-frame", "frame"),
         ("-data-list-register-names", "names"),
-        ("-data-list-register-values --thread 1 x", "values Some(1) Hexadecimal"),
-        ("-data-list-register-values d 0 32 0", "values None Decimal 0 32 0"),
-        ("-data-read-memory-bytes 0xffffffff 4096", "read 4294967295 4096"),
-        ("-data-evaluate-expression \"1 + \" 2", "evaluate None 1 +  2"),
+        (
+            "-data-list-register-values --thread 1 x",
+            "values Some(1) Hexadecimal",
+        ),
+        (
+            "-data-list-register-values d 0 32 0",
+            "values None Decimal 0 32 0",
+        ),
+        (
+            "-data-read-memory-bytes 0xffffffff 4096",
+            "read 4294967295 4096",
+        ),
+        (
+            "-data-evaluate-expression \"1 + \" 2",
+            "evaluate None 1 +  2",
+        ),
         ("-data-evaluate-expression -- -1", "evaluate None -1"),
         ("-gdb-set non-stop on", "non-stop"),
         ("-gdb-set mi-async on", "mi-async"),

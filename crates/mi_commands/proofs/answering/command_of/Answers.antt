@@ -13,17 +13,23 @@ answer_to_parts : (p : Parts) (ws : List Word) (a : Result Command Fault) → ws
 answer_to_parts p ws a same is = sym is ∙ ap (λ words. answer_of (option_map (λ v. v.items) p.operation) (words_view words)) same
 
 pub returns-in-Ok-answer-clause-commands : goal.returns-in-Ok-answer-clause-commands
-returns-in-Ok-answer-clause-commands c = (c.in-Ok.ensures.splits.0, record {
-  parts = parts_view c.in-Ok.parts;
-  are_parts = c.in-Ok.ensures.splits.1;
-  token_is = refl;
-  answer_is = answer_to_parts c.in-Ok.parts _ _ c.deref.ensures.value c.in-Ok-answer.ensures;
-})
+returns-in-Ok-answer-clause-commands c = (
+  c.in-Ok.ensures.splits.0,
+  record {
+    parts = parts_view c.in-Ok.parts;
+    are_parts = c.in-Ok.ensures.splits.1;
+    token_is = refl;
+    answer_is = answer_to_parts c.in-Ok.parts _ _ c.deref.ensures.value c.in-Ok-answer.ensures;
+  },
+)
 
 pub returns-clause-commands : goal.returns-clause-commands
-returns-clause-commands c = (c.in-Ok.ensures.splits.0, record {
-  parts = parts_view c.in-Ok.parts;
-  are_parts = c.in-Ok.ensures.splits.1;
-  token_is = refl;
-  answer_is = answer_to_parts c.in-Ok.parts _ _ c.deref.ensures.value (rw c.in-Err-Faulty.field-0-is at c.in-Err-Faulty.ensures);
-})
+returns-clause-commands c = (
+  c.in-Ok.ensures.splits.0,
+  record {
+    parts = parts_view c.in-Ok.parts;
+    are_parts = c.in-Ok.ensures.splits.1;
+    token_is = refl;
+    answer_is = answer_to_parts c.in-Ok.parts _ _ c.deref.ensures.value (rw c.in-Err-Faulty.field-0-is at c.in-Err-Faulty.ensures);
+  },
+)
