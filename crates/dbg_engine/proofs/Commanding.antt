@@ -1,118 +1,152 @@
 -- A line keeps what the type of an engine keeps.
-use Rattle.std.proofs.Common.{◌≡◌, ℕ, ◌+◌, ◌-◌, ◌<◌, ◌≤◌, Bool, true, List, [], ◌∷◌, ◌++◌, length, refl, sym, ap, ◌∙◌, subst, length-set}
-use Rattle.std.specs.Prelude.{Option, Some, slice_get, slice_set}
+use Rattle.std.proofs.Common.{◌≡◌, ℕ, zero, suc, ◌+◌, ◌^◌, ◌-◌, ◌<◌, ◌≤◌, Bool, true, false, List, [], ◌∷◌, ◌++◌, length, refl, sym, ap, ◌∙◌, subst, arith}
+use Rattle.std.specs.Prelude.{Option, Some, None, is_some, slice_get, ◌&&◌, not}
+use Rattle.std.proofs.lemmas.Option.{slice_get_within}
+use Rattle.elf32_read.specs.Program.{Program, text_word}
+use Rattle.text_words.specs.Words.{Words, unpatched}
+use Rattle.text_words.proofs.Below.{word_below}
 use Rattle.hart_machine.specs.declared.hart.Core.{Core}
-use Rattle.dbg_model.specs.declared.command.Command.{Command}
-use Rattle.dbg_model.specs.declared.command.Command.TheVariants as command
-use Rattle.dbg_model.specs.declared.command.Reply.{Reply}
+use Rattle.dbg_model.specs.declared.breakpoint.Breakpoint.{Breakpoint}
 use Rattle.dbg_model.specs.declared.entry.Entry.{Entry}
 use Rattle.dbg_model.specs.declared.entry.Entry.TheVariants.{Did}
+use Rattle.dbg_model.specs.declared.limits.TheConstants.{HISTORY}
 use Rattle.dbg_model.specs.declared.opening.Opening.{Opening}
-use Rattle.dbg_model.specs.State.{State}
-use Rattle.dbg_model.specs.Reply.{reply_of, reply_to, done_by, command_of, harts_after}
-use Rattle.dbg_model.specs.Lawful.{enter, may_go}
-use Rattle.dbg_model.specs.Journals.{Leaves}
-use Rattle.dbg_model.proofs.Adding.{added}
-use Rattle.dbg_model.proofs.Counting.{steps_noted}
-use Rattle.engine_facts.specs.declared.mind.Activity.{Activity}
-use Rattle.engine_facts.specs.declared.mind.Activity.TheVariants as activity
+use Rattle.dbg_model.specs.declared.reply.Content.{Content}
+use Rattle.dbg_model.specs.declared.reply.Content.TheVariants as content
+use Rattle.dbg_model.specs.State.{Hart, State, any_runs}
+use Rattle.dbg_model.specs.Reply.{reply_of, done_by, thread_hart, is_wait, going_on, selected_after, breaks_after, next_after, resumed_threads}
+use Rattle.dbg_model.specs.Lawful.{enter, may_go, may_do}
+use Rattle.dbg_model.proofs.Founding.{IsFounded, reply_founded}
+use Rattle.dbg_model.proofs.Numbering.{next_within}
+use Rattle.dbg_model.proofs.Options.{both_true}
 use Rattle.engine_facts.specs.declared.mind.Mind.{Mind}
-use Rattle.engine_facts.specs.Minds.{resumed_mind, is_active}
-use Rattle.dbg_engine.specs.Steps.{reply_by, resumed_by, IsReplyOf}
-use Rattle.engine_facts.specs.Seen.{Run, seen, seen_with, seen_hart, seen_harts}
-use Rattle.engine_facts.specs.Facts.{Facts, Harts}
-use Rattle.engine_facts.specs.Moves.{lined}
-use Rattle.dbg_engine.specs.Calls.{Does}
-use Rattle.elf32_read.specs.Program.{Program}
-use Rattle.engine_facts.specs.declared.mind.Hold.{Hold}
-use Rattle.engine_facts.proofs.Seeing.{seen-set_mind, seen_at}
-use Rattle.engine_facts.proofs.Stopping.{lines, resumed_harts}
+use Rattle.engine_facts.specs.Seen.{Run, seen, seen_with, seen_harts}
+use Rattle.engine_facts.specs.Facts.{Facts, IsThread, InText, wanted}
+use Rattle.engine_facts.specs.Moves.{Repatched, lined, broken}
+use Rattle.engine_facts.proofs.Stopping.{lines}
+use Rattle.engine_facts.proofs.Breaking.{breaks_in, broken_state}
 use Rattle.engine_facts.proofs.Keeping.{Enters}
-use Rattle.hart_machine.proofs.Places.{same_some}
+use Rattle.dbg_engine.specs.Answering.{IsInserted, IsNoted, SetsNone}
+use Rattle.dbg_engine.specs.Calls.{Lines}
+use Rattle.dbg_engine.specs.Resuming.{resume_threads}
+use Rattle.dbg_engine.proofs.Resuming.{length_threads, seen_threads, harts_threads}
 
--- the answer to a command
-reply_by_is : (s : State) (cmd : Command) (c : Core) (x : Mind) (a : Activity) → x.activity ≡ a → slice_get s.harts (s.selected - 1) ≡ Some (seen_hart c x) → reply_by cmd s.selected a ≡ reply_to s cmd
-reply_by_is s command.NotBuilt c x a is at = refl
-reply_by_is s command.Continue c x activity.Stopped is at = sym (rw (at, is) refl)
-reply_by_is s command.Continue c x activity.Running is at = sym (rw (at, is) refl)
-reply_by_is s command.Continue c x activity.Exited is at = sym (rw (at, is) refl)
-
--- the harts after an answered command
-resumed_is : (cs : List Core) (xs : List Mind) (c : Core) (x : Mind) (cmd : Command) (thread : ℕ) (a : Activity) → slice_get cs (thread - 1) ≡ Some c → slice_get xs (thread - 1) ≡ Some x
-    → seen_harts cs (resumed_by xs (reply_by cmd thread a)) ≡ harts_after (seen_harts cs xs) (reply_by cmd thread a)
-resumed_is cs xs c x command.NotBuilt thread a core at = refl
-resumed_is cs xs c x command.Continue thread activity.Running core at = refl
-resumed_is cs xs c x command.Continue thread activity.Exited core at = refl
-resumed_is cs xs c x command.Continue thread activity.Stopped core at =
-    let there = seen_at cs xs (thread - 1) c x core at in
-    rw there (seen-set_mind cs xs (thread - 1) c resumed_mind core)
-
-minds_len : (cmd : Command) (thread : ℕ) (a : Activity) (xs : List Mind) → length (resumed_by xs (reply_by cmd thread a)) ≡ length xs
-minds_len command.NotBuilt thread a xs = refl
-minds_len command.Continue thread activity.Stopped xs = length-set xs (thread - 1) resumed_mind
-minds_len command.Continue thread activity.Running xs = refl
-minds_len command.Continue thread activity.Exited xs = refl
-
--- an answer resumes a thread that is there
-pub answers_thread : (cmd : Command) (thread count : ℕ) (a : Activity) → 0 < thread → thread ≤ count → IsReplyOf count (reply_by cmd thread a)
-answers_thread command.NotBuilt thread count a some most = tt
-answers_thread command.Continue thread count activity.Stopped some most = (some, most)
-answers_thread command.Continue thread count activity.Running some most = tt
-answers_thread command.Continue thread count activity.Exited some most = tt
-
--- the facts of the harts after an answered command
-resumed_facts : (p : Program) (cs : List Core) (xs : List Mind) (hold : Option Hold) (c : Core) (x : Mind) (cmd : Command) (thread : ℕ) (a : Activity) → Harts p cs xs hold → x.activity ≡ a → slice_get cs (thread - 1) ≡ Some c → slice_get xs (thread - 1) ≡ Some x
-    → Harts p cs (resumed_by xs (reply_by cmd thread a)) hold
-resumed_facts p cs xs hold c x command.NotBuilt thread a hs is core at = hs
-resumed_facts p cs xs hold c x command.Continue thread activity.Stopped hs is core at = resumed_harts p cs xs hold (thread - 1) c x hs core at (ap is_active is)
-resumed_facts p cs xs hold c x command.Continue thread activity.Running hs is core at = hs
-resumed_facts p cs xs hold c x command.Continue thread activity.Exited hs is core at = hs
-
-enter_did : (o : Opening) (s : State) (line : List ℕ) → may_go o s ≡ true → enter o s (Did line) ≡ Some (done_by s line)
+enter_did : (o : Opening) (s : State) (line : List ℕ) → may_do o s line ≡ true → enter o s (Did line) ≡ Some (done_by o s line)
 unfolding enter
 enter_did o s line may = rw may refl
 
-reply_seen : (r : Run) (line : List ℕ) (c : Core) (x : Mind) → slice_get r.machine.cores (r.selected - 1) ≡ Some c → slice_get r.minds (r.selected - 1) ≡ Some x → reply_by (command_of line) r.selected x.activity ≡ reply_of (seen r) line
-unfolding reply_of
-reply_seen r line c x core at = reply_by_is (seen r) (command_of line) c x x.activity refl (seen_at r.machine.cores r.minds (r.selected - 1) c x core at)
+no_breaks : (bs : List Breakpoint) (c : Content) → SetsNone c → breaks_after bs c ≡ bs
+no_breaks bs content.Blank n = refl
+no_breaks bs content.Done n = refl
+no_breaks bs (content.Inserted b) n = absurd n
+no_breaks bs (content.Running ts) n = refl
+no_breaks bs (content.Selected t) n = refl
+no_breaks bs (content.Threads ts t) n = refl
+no_breaks bs (content.ThreadNumbers ns t) n = refl
+no_breaks bs content.RegisterNames n = refl
+no_breaks bs (content.Registers f rs) n = refl
+no_breaks bs (content.Memory a ms) n = refl
+no_breaks bs (content.Refused r) n = refl
 
-done_seen : (r : Run) (line : List ℕ) (c : Core) (x : Mind) → slice_get r.machine.cores (r.selected - 1) ≡ Some c → slice_get r.minds (r.selected - 1) ≡ Some x
-    → done_by (seen r) line ≡ record (seen r) { harts = seen_harts r.machine.cores (resumed_by r.minds (reply_by (command_of line) r.selected x.activity)); noted = r.noted + 1 }
+no_next : (k : ℕ) (c : Content) → SetsNone c → next_after k c ≡ k
+no_next k content.Blank n = refl
+no_next k content.Done n = refl
+no_next k (content.Inserted b) n = absurd n
+no_next k (content.Running ts) n = refl
+no_next k (content.Selected t) n = refl
+no_next k (content.Threads ts t) n = refl
+no_next k (content.ThreadNumbers ns t) n = refl
+no_next k content.RegisterNames n = refl
+no_next k (content.Registers f rs) n = refl
+no_next k (content.Memory a ms) n = refl
+no_next k (content.Refused r) n = refl
+
+pub harts_length : (cs : List Core) (xs : List Mind) → length cs ≡ length xs → length (seen_harts cs xs) ≡ length xs
+harts_length [] [] len = refl
+harts_length [] (x ∷ xs) len = absurd (omega arith)
+harts_length (c ∷ cs) [] len = refl
+harts_length (c ∷ cs) (x ∷ xs) len = let l : length cs ≡ length xs = omega arith in ap suc (harts_length cs xs l)
+
+there : (r : Option Hart) → is_some r ≡ true → (x : Hart) × (r ≡ Some x)
+there None e = cc
+there (Some x) e = (x, refl)
+
+-- a thread that is there has a number of one of the harts
+thread_within : (o : Opening) (xs : List Hart) (t : ℕ) → length xs ≡ o.settings.harts → is_some (thread_hart xs t) ≡ true → IsThread o t
+thread_within o xs zero len e = absurd cc
+thread_within o xs (suc h) len e =
+    let x = there (slice_get xs h) e in
+    let low = slice_get_within xs h x.0 x.1 in
+    (omega arith, omega (arith, len))
+
+selected_within : (o : Opening) (p : Program) (xs : List Hart) (bs : List Breakpoint) (selected : ℕ) (c : Content) → IsThread o selected → length xs ≡ o.settings.harts → IsFounded p xs bs c → IsThread o (selected_after selected c)
+selected_within o p xs bs selected content.Blank is len f = is
+selected_within o p xs bs selected content.Done is len f = is
+selected_within o p xs bs selected (content.Inserted b) is len f = is
+selected_within o p xs bs selected (content.Running ts) is len f = is
+selected_within o p xs bs selected (content.Selected t) is len f = thread_within o xs t len f
+selected_within o p xs bs selected (content.Threads ts t) is len f = is
+selected_within o p xs bs selected (content.ThreadNumbers ns t) is len f = is
+selected_within o p xs bs selected content.RegisterNames is len f = is
+selected_within o p xs bs selected (content.Registers f' rs) is len f = is
+selected_within o p xs bs selected (content.Memory a ms) is len f = is
+selected_within o p xs bs selected (content.Refused e) is len f = is
+
+-- the state after a line that sets no breakpoint
+abbrev noted_state : State → Content → State
+noted_state s c = record s { harts = resumed_threads s.harts (going_on c); selected = selected_after s.selected c; noted = s.noted + 1 }
+
+done_noted : (o : Opening) (s : State) (line : List ℕ) (c : Content) → (reply_of o s line).content ≡ c → SetsNone c → done_by o s line ≡ noted_state s c
 unfolding done_by
-done_seen r line c x core at =
-    let cmd = command_of line in
-    let harts : harts_after (seen r).harts (reply_of (seen r) line) ≡ seen_harts r.machine.cores (resumed_by r.minds (reply_by cmd r.selected x.activity)) =
-    ap (harts_after (seen r).harts) (sym (reply_seen r line c x core at)) ∙ sym (resumed_is r.machine.cores r.minds c x cmd r.selected x.activity core at) in
-    ap (λ ys. let s : State = record (seen r) { harts = ys; noted = r.noted + 1 } in s) harts
+done_noted o s line c is none =
+    ap (λ (d : Content). let t : State = record s { harts = resumed_threads s.harts (going_on d); breaks = breaks_after s.breaks d; next = next_after s.next d; selected = selected_after s.selected d; noted = s.noted + 1 } in t) is
+    ∙ (ap (λ bs. let t : State = record s { harts = resumed_threads s.harts (going_on c); breaks = bs; next = next_after s.next c; selected = selected_after s.selected c; noted = s.noted + 1 } in t) (no_breaks s.breaks c none)
+    ∙ ap (λ n. let t : State = record s { harts = resumed_threads s.harts (going_on c); next = n; selected = selected_after s.selected c; noted = s.noted + 1 } in t) (no_next s.next c none))
 
--- an engine after a line
-abbrev pub run_did : Run → List Entry → ℕ → List Mind → Run
-run_did r j spare xs = record r { journal = j; spare = spare; minds = xs; noted = r.noted + 1 }
-
-pub record DoneTo (r new : Run) (line : List ℕ) (answer : Reply) : Type 0 where
+pub record LinedTo (r new : Run) (line : List ℕ) : Type 0 where
   pub facts : Facts new
-  pub does : Does r new line answer
+  pub lines : Lines r new line
 
-done_at : (r : Run) (line : List ℕ) (spare : ℕ) (c : Core) (x : Mind) → Facts r → may_go r.opening (seen r) ≡ true → slice_get r.machine.cores (r.selected - 1) ≡ Some c → slice_get r.minds (r.selected - 1) ≡ Some x
-    → DoneTo r (run_did r (r.journal ++ Did line ∷ []) spare (resumed_by r.minds (reply_by (command_of line) r.selected x.activity))) line (reply_by (command_of line) r.selected x.activity)
-done_at r line spare c x f may core at =
-    let cmd = command_of line in
-    let xs = resumed_by r.minds (reply_by cmd r.selected x.activity) in
-    let t : State = record (seen r) { harts = seen_harts r.machine.cores xs; noted = r.noted + 1 } in
-    let done = done_seen r line c x core at in
-    let e = lines r (Did line) xs r.selected spare t f refl (enter_did r.opening (seen r) line may ∙ ap Some done) refl (minds_len cmd r.selected x.activity r.minds) f.selected
-    (resumed_facts r.opening.image r.machine.cores r.minds r.hold c x cmd r.selected x.activity f.harts refl core at) in
-    record {
-      facts = e.facts;
-      does = record { answers = reply_seen r line c x core at; journal = refl; seen = sym (done ∙ e.seen); opening = refl };
-    }
+-- a line that sets no breakpoint
+pub noted_to : (r : Run) (line : List ℕ) (c : Content) (spare : ℕ) → Facts r → may_do r.opening (seen r) line ≡ true → IsNoted r line c
+    → LinedTo r (lined r (Did line) (resume_threads r.minds (going_on c)) (selected_after r.selected c) spare) line
+noted_to r line c spare f may is =
+    let ts = going_on c in
+    let xs = resume_threads r.minds ts in
+    let n = lined r (Did line) xs (selected_after r.selected c) spare in
+    let s = noted_state (seen r) c in
+    let done = done_noted r.opening (seen r) line c is.0 is.1 in
+    let harts = seen_threads r.machine.cores r.minds ts f.harts.len in
+    let same : s ≡ seen_with n s.out = ap (λ ys. let t : State = record s { harts = ys } in t) (sym harts) in
+    let founded = subst (IsFounded r.opening.image (seen r).harts r.breaks) is.0 (reply_founded r.opening (seen r) line) in
+    let len : length (seen r).harts ≡ r.opening.settings.harts = harts_length r.machine.cores r.minds f.harts.len ∙ f.count in
+    let e : Enters n s = lines r (Did line) xs (selected_after r.selected c) spare s f refl (enter_did r.opening (seen r) line may ∙ ap Some done) same (length_threads r.minds ts)
+        (selected_within r.opening r.opening.image (seen r).harts r.breaks r.selected c f.selected len founded)
+        (harts_threads r.opening.image r.machine.cores r.minds r.hold ts f.harts) in
+    record { facts = e.facts; lines = record { journal = refl; seen = sym (done ∙ e.seen); opening = refl } }
 
-pub done_to : (r : Run) (line : List ℕ) (spare : ℕ) (c : Core) (x : Mind) (j : List Entry) (xs : List Mind) (answer : Reply) → Facts r → may_go r.opening (seen r) ≡ true → slice_get r.machine.cores (r.selected - 1) ≡ Some c → slice_get r.minds (r.selected - 1) ≡ Some x
-    → j ≡ r.journal ++ Did line ∷ [] → answer ≡ reply_by (command_of line) r.selected x.activity → xs ≡ resumed_by r.minds answer → DoneTo r (run_did r j spare xs) line answer
-done_to r line spare c x j xs answer f may core at is answers are =
-    let P : List Entry → List Mind → Reply → Type 0 = λ j xs a. DoneTo r (run_did r j spare xs) line a in
-    let g = done_at r line spare c x f may core at in
-    let a = reply_by (command_of line) r.selected x.activity in
-    let are' : resumed_by r.minds a ≡ xs = ap (resumed_by r.minds) (sym answers) ∙ sym are in
-    let es = r.journal ++ Did line ∷ [] in
-    subst (λ (k : List Entry). P k xs answer) (sym is) (subst (λ (ys : List Mind). P es ys answer) are' (subst (λ (b : Reply). P es (resumed_by r.minds a) b) (sym answers) g))
+done_broken : (o : Opening) (s : State) (line : List ℕ) (b : Breakpoint) → (reply_of o s line).content ≡ content.Inserted b → done_by o s line ≡ broken_state s b
+unfolding done_by
+done_broken o s line b is =
+    ap (λ (d : Content). let t : State = record s { harts = resumed_threads s.harts (going_on d); breaks = breaks_after s.breaks d; next = next_after s.next d; selected = selected_after s.selected d; noted = s.noted + 1 } in t) is
+
+-- a word of the file's text is one of the machine's
+text_in : (p : Program) (a : ℕ) → a < 2 ^ 32 → is_some (text_word p a) ≡ true → InText p a
+text_in p a low is = ap is_some (word_below (text_word p) (2 ^ 32) a low) ∙ is
+
+pub inserted_in : (r : Run) (line : List ℕ) (b : Breakpoint) → b.address < 2 ^ 32 → IsInserted r line b → InText r.opening.image b.address
+inserted_in r line b low is =
+    text_in r.opening.image b.address low (subst (IsFounded r.opening.image (seen r).harts r.breaks) is (reply_founded r.opening (seen r) line)).0
+
+-- a line that sets a breakpoint
+pub broken_to : (r : Run) (line : List ℕ) (b : Breakpoint) (t : Words) (spare : ℕ) → Facts r → may_do r.opening (seen r) line ≡ true → b.address < 2 ^ 32 → IsInserted r line b
+    → Repatched r.machine.text t b.address (wanted (r.breaks ++ b ∷ []) r.hold b.address) → LinedTo r (broken r (Did line) b t spare) line
+broken_to r line b t spare f may low is w =
+    let done = done_broken r.opening (seen r) line b is in
+    let e : Enters (broken r (Did line) b t spare) (broken_state (seen r) b) =
+        breaks_in r (Did line) b t spare f refl (enter_did r.opening (seen r) line may ∙ ap Some done) (inserted_in r line b low is) w in
+    record { facts = e.facts; lines = record { journal = refl; seen = sym (done ∙ e.seen); opening = refl } }
+
+-- the numbers have room
+pub numbers_room : (r : Run) (line : List ℕ) → Facts r → r.noted < HISTORY → r.next < 2 ^ 32 - 1
+numbers_room r line f low = omega (arith, next_within r.opening r.journal (seen r) f.leaves)
