@@ -95,6 +95,7 @@ heading s t r i c e h = record {
   registers = regs_plain r.state.harts ∙ sym e.registers;
   memory = sym e.memory;
   output = refl;
+  planted = e.planted;
   retired = e.retired;
   said = rw (e.opening, e.journal) h.written;
   why = whys s t r i c e h;

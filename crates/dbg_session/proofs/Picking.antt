@@ -15,7 +15,8 @@ use Rattle.engine_facts.specs.Minds.{mode_of, is_active, runs}
 use Rattle.engine_facts.specs.Seen.{Run, seen, seen_harts}
 use Rattle.engine_facts.specs.Facts.{Facts}
 use Rattle.engine_facts.proofs.Seeing.{any_seen}
-use Rattle.dbg_engine.specs.Calls.{Closes, Moves}
+use Rattle.dbg_engine.specs.Calls.{Closes, Moves, NextMoves}
+use Rattle.dbg_engine.proofs.Commanding.{harts_length}
 use Rattle.dbg_session.specs.Stage.{stage_of, runs_at, is_free, moves_at}
 use Rattle.dbg_session.specs.Taking.{has_line, is_some_line}
 use Rattle.dbg_session.specs.Seen.{Picks}
@@ -51,17 +52,11 @@ or_true false = refl
 pub out_of_range : (e : Run) (h : ℕ) → length e.minds ≤ h → not (may_go e.opening (seen e) && moves_at (stage_of e) h) ≡ true
 out_of_range e h le = ap (λ b. not (may_go e.opening (seen e) && (b && is_free e.hold h))) (runs_out e.machine.cores e.minds h le) ∙ ap not (and_false (may_go e.opening (seen e)))
 
-pub picks_none : (e : Run) → Facts e → Moves None e → Picks None (stage_of e)
+pub picks_none : (e : Run) → Facts e → NextMoves None e → Picks None (stage_of e)
 picks_none e f none = sym (any_seen e.machine.cores e.minds f.harts.len) ∙ none
 
-pub picks_some : (e : Run) (h : ℕ) → Facts e → Moves (Some h) e → Picks (Some h) (stage_of e)
+pub picks_some : (e : Run) (h : ℕ) → Facts e → NextMoves (Some h) e → Picks (Some h) (stage_of e)
 picks_some e h f m = ap (λ b. b && is_free e.hold h) (runs_mind e.machine.cores e.minds h m.mind f.harts.len m.at ∙ m.runs) ∙ ap is_none m.free
-
-pub harts_length : (cs : List Core) (xs : List Mind) → length cs ≡ length xs → length (seen_harts cs xs) ≡ length xs
-harts_length [] [] len = refl
-harts_length [] (x ∷ xs) len = absurd (omega arith)
-harts_length (c ∷ cs) [] len = refl
-harts_length (c ∷ cs) (x ∷ xs) len = let l : length cs ≡ length xs = omega arith in ap suc (harts_length cs xs l)
 
 -- a whole line stands in a rest whose next line is found
 pub next_stands : (ended : Bool) (rest line : List ℕ) (next : ℕ) → IsNext ended rest line next → has_line ended rest ≡ true

@@ -42,7 +42,7 @@ use Rattle.engine_facts.specs.declared.mind.Activity.TheVariants as activity
 use Rattle.dbg_session.specs.Steps.{said_by}
 use Rattle.dbg_session.specs.Turned.{turned_text, last_lefts, stream_of, has_moved}
 use Rattle.dbg_session.proofs.Working.{one_works, halts, done_retired, running_gone, running_most, moves_most, moves_set}
-use Rattle.dbg_session.proofs.Picking.{harts_length}
+use Rattle.dbg_engine.proofs.Commanding.{harts_length}
 
 -- the lines of a journal that grows
 did-append : (j k : List Entry) → did (j ++ k) ≡ did j ++ did k

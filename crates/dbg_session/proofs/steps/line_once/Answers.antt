@@ -1,7 +1,7 @@
 use Rattle.std.proofs.Common.{◌∙◌, take}
 use Rattle.std.specs.Prelude.{true, false}
 use Rattle.dbg_session.specs.Stage.{stage_of}
-use Rattle.mi_reports.specs.Text.{reply_text}
+use Rattle.mi_reports.specs.Replies.{reply_text}
 use Rattle.dbg_session.proofs.Saying.{does_say}
 use Rattle.dbg_session.proofs.Doing.{does_line, keeps, says_as}
 use Rattle.dbg_session.proofs.steps.line_once.Goals as goal
@@ -11,7 +11,7 @@ returns-in_default-reply_text-clause-does g c =
     let e = c.args.engine.now in
     let s = c.command.new.self in
     let line = take c.in-Some.text c.args.rest.now in
-    let d = does_say e s line c.in-Ok.reply c.keep.ensures c.in-Ok.ensures in
+    let d = does_say e s line c.in-Ok.reply c.keep.ensures c.keep-2.ensures c.in-Ok.ensures in
     let n = c.in-Some.ensures in (
       keeps (g.W.World.told c.args.world.now) (stage_of e) (stage_of s) (reply_text c.in-Ok.reply) d.said,
       does_line c.args.ended c.args.rest.now line c.in-Some.next e s c.in-Ok.reply n.next n.takes n.within d,
@@ -23,7 +23,7 @@ returns-then-put_all-clause-does g c =
     let e = c.args.engine.now in
     let s = c.command.new.self in
     let line = take c.in-Some.text c.args.rest.now in
-    let d = does_say e s line c.in-Ok.reply c.keep.ensures c.in-Ok.ensures in
+    let d = does_say e s line c.in-Ok.reply c.keep.ensures c.keep-2.ensures c.in-Ok.ensures in
     let n = c.in-Some.ensures in (
       says_as true (told c.args.world.now) (told c.put_all.new.world) (stage_of e) (stage_of s) (reply_text c.in-Ok.reply) c.as_slice.result.now (c.as_slice.ensures.value ∙ c.in-Ok-reply_text.ensures) d.said c.if-put_all.ensures,
       does_line c.args.ended c.args.rest.now line c.in-Some.next e s c.in-Ok.reply n.next n.takes n.within d,
@@ -36,7 +36,7 @@ returns-clause-does g c =
     let e = c.args.engine.now in
     let s = c.command.new.self in
     let line = take c.in-Some.text c.args.rest.now in
-    let d = does_say e s line c.in-Ok.reply c.keep.ensures c.in-Ok.ensures in
+    let d = does_say e s line c.in-Ok.reply c.keep.ensures c.keep-2.ensures c.in-Ok.ensures in
     let n = c.in-Some.ensures in (
       says_as false (told c.args.world.now) (told c.put_all.new.world) (stage_of e) (stage_of s) (reply_text c.in-Ok.reply) c.as_slice.result.now (c.as_slice.ensures.value ∙ c.in-Ok-reply_text.ensures) d.said c.if-put_all.ensures,
       does_line c.args.ended c.args.rest.now line c.in-Some.next e s c.in-Ok.reply n.next n.takes n.within d,

@@ -23,6 +23,7 @@ invariant_of-self-in-Unput g c =
       rw (← same) tied,
       let w = does.1.within in let l = length-drop start items in omega (arith, c.self.invariant.1, c.self.inside.buffer.ok.0, w),
       omega (arith, few),
+      tt,
     )
 
 pub invariant_of-self-in-Unsaid : goal.invariant_of-self-in-Unsaid
@@ -41,4 +42,5 @@ invariant_of-self-in-Unsaid g c =
       rw (← same) tied,
       let w = does.1.within in let l = length-drop start items in omega (arith, c.self.invariant.1, c.self.inside.buffer.ok.0, w),
       omega (arith, few),
+      tt,
     )

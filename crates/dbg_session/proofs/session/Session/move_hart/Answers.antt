@@ -16,6 +16,7 @@ invariant_of-self-in-Unput g c =
       turn_unput (told c.self.inside.world) (told c.turn_once.new.world) (stage_of c.self.inside.engine) (stage_of c.turn_once.new.engine) (taken_of c.self.inside) h c.in-Unput.ensures.opening c.in-Unput.ensures.turns c.in-Unput.ensures.did,
       c.self.invariant.1,
       omega (arith, few),
+      c.self.invariant.3,
     )
 
 pub invariant_of-self-in-NoMemory : goal.invariant_of-self-in-NoMemory
@@ -27,6 +28,7 @@ invariant_of-self-in-NoMemory g c =
       turn_unsaid (told c.self.inside.world) (told c.turn_once.new.world) (stage_of c.self.inside.engine) (stage_of c.turn_once.new.engine) (taken_of c.self.inside) h c.in-NoMemory.ensures.opening c.in-NoMemory.ensures.turns c.in-NoMemory.ensures.did,
       c.self.invariant.1,
       omega (arith, few),
+      c.self.invariant.3,
     )
 
 pub returns-then-hart-harts : goal.returns-then-hart-harts

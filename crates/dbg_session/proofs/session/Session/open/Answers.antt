@@ -13,4 +13,5 @@ invariant_of-result g c =
       tied_open c.put_all.result (told c.args.world) (told c.put_all.new.world) (stage_of c.args.engine) c.requires.ready puts,
       omega arith,
       counted_open c.put_all.result,
+      tt,
     )

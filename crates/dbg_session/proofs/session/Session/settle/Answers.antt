@@ -1,7 +1,7 @@
 use Rattle.std.proofs.Common.{◌≡◌, ◌-◌, true, drop, take, length, refl, sym, subst}
 use Rattle.dbg_model.specs.State.{any_runs}
 use Rattle.dbg_model.specs.Lawful.{may_go}
-use Rattle.dbg_engine.specs.Seen.{seen}
+use Rattle.engine_facts.specs.Seen.{seen}
 use Rattle.dbg_engine.proofs.Seeing.{may_go_by}
 use Rattle.dbg_session.specs.Taking.{has_line}
 use Rattle.dbg_session.specs.Seen.{Seen, Same, is_open}

@@ -1,7 +1,7 @@
 use Rattle.std.proofs.Common.{◌≡◌, ◌-◌, subst, take, true, false, not, length, drop, None, refl, ap, ◌∙◌, rules}
 use Rattle.dbg_session.specs.Ties.{IsTied}
 use Rattle.dbg_model.specs.State.{any_runs}
-use Rattle.dbg_engine.specs.Seen.{seen}
+use Rattle.engine_facts.specs.Seen.{seen}
 use Rattle.dbg_session.specs.Seen.{Seen, Same, no_input}
 use Rattle.dbg_session.specs.Stage.{stage_of}
 use Rattle.dbg_session.specs.SessionInside.{taken_of}
@@ -19,6 +19,7 @@ invariant_of-self-in-End g c =
       tied_end (told c.self.inside.world) (told c.input_once.new.world) (stage_of c.self.inside.engine) (taken_of c.self.inside) (record (taken_of c.self.inside) { ended = true }) (not c.any_running-wait.result) h c.in-End.ensures.0 refl,
       search rules,
       rw none at c.self.invariant.2,
+      tt,
     )
 
 pub returns-then-is_some : goal.returns-then-is_some
