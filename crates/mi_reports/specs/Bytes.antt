@@ -10,6 +10,10 @@ hex8 n =
     hex_digit (n / 268435456 % 16) ∷ hex_digit (n / 16777216 % 16) ∷ hex_digit (n / 1048576 % 16) ∷ hex_digit (n / 65536 % 16) ∷
     hex_digit (n / 4096 % 16) ∷ hex_digit (n / 256 % 16) ∷ hex_digit (n / 16 % 16) ∷ hex_digit (n % 16) ∷ []
 
+-- the same, kept whole in longer texts
+unfoldable pub word_text : ℕ → List ℕ
+word_text n = hex8 n
+
 -- octal digits without leading zeros, for a number below 512
 abbrev pub octal : ℕ → List ℕ
 octal n =

@@ -15,7 +15,7 @@ use Rattle.dbg_model.specs.declared.reply.Content.{Content}
 use Rattle.dbg_model.specs.declared.reply.Content.TheVariants as content
 use Rattle.dbg_model.specs.declared.reply.Reply.{Reply}
 use Rattle.hex.specs.Hex.{encode_lower}
-use Rattle.mi_reports.specs.Bytes.{hex8, c_string}
+use Rattle.mi_reports.specs.Bytes.{word_text, c_string}
 use Rattle.mi_reports.specs.Text.{disposition}
 use Rattle.mi_reports.specs.declared.reply_texts.TheConstants as text
 use Rattle.mi_reports.specs.declared.texts.TheConstants.{PROMPT}
@@ -38,7 +38,7 @@ running_lines (t ∷ ts) = text.RUNNING_HEAD.now ++ decimal t ++ text.LINE_END.n
 
 abbrev pub place_text : Option ℕ → List ℕ
 place_text None = text.RUNNING_TAIL.now
-place_text (Some pc) = text.STOPPED_AT.now ++ hex8 pc ++ text.STOPPED_TAIL.now
+place_text (Some pc) = text.STOPPED_AT.now ++ word_text pc ++ text.STOPPED_TAIL.now
 
 -- a thread, whose hart is counted from 0
 abbrev pub thread_text : Thread → List ℕ
@@ -54,7 +54,7 @@ abbrev pub signed_text : ℕ → List ℕ
 signed_text v = if nat_lt v (2 ^ 31) then decimal v else text.MINUS.now ++ decimal (2 ^ 32 - v)
 
 abbrev pub value_text : Format → ℕ → List ℕ
-value_text Hexadecimal v = text.HEXADECIMAL.now ++ hex8 v
+value_text Hexadecimal v = text.HEXADECIMAL.now ++ word_text v
 value_text Decimal v = signed_text v
 
 abbrev pub register_text : Format → Register → List ℕ
@@ -63,7 +63,7 @@ register_text f r = text.REGISTER_HEAD.now ++ decimal r.number ++ text.VALUE_HEA
 -- the bytes are two lower-case hexadecimal digits each
 abbrev pub memory_text : ℕ → List ℕ → List ℕ
 memory_text addr bytes =
-    text.MEMORY_HEAD.now ++ hex8 addr ++ text.MEMORY_END.now ++ hex8 ((addr + length bytes) % 2 ^ 32) ++ text.CONTENTS_HEAD.now ++ encode_lower bytes ++ text.MEMORY_TAIL.now
+    text.MEMORY_HEAD.now ++ word_text addr ++ text.MEMORY_END.now ++ word_text ((addr + length bytes) % 2 ^ 32) ++ text.CONTENTS_HEAD.now ++ encode_lower bytes ++ text.MEMORY_TAIL.now
 
 -- ---- breakpoints
 
@@ -89,7 +89,7 @@ breakpoint_counts b = for_thread b.thread ++ text.TIMES_HEAD.now ++ decimal b.ti
 
 abbrev pub breakpoint_text : Breakpoint → List ℕ
 breakpoint_text b =
-    breakpoint_front b ++ text.ADDRESS_HEAD.now ++ hex8 b.address ++ breakpoint_counts b ++ text.LOCATION_HEAD.now ++ c_string b.location ++ text.BREAKPOINT_TAIL.now
+    breakpoint_front b ++ text.ADDRESS_HEAD.now ++ word_text b.address ++ breakpoint_counts b ++ text.LOCATION_HEAD.now ++ c_string b.location ++ text.BREAKPOINT_TAIL.now
 
 -- ---- errors
 
@@ -104,9 +104,9 @@ abbrev pub obstacle_message : Obstacle → List ℕ
 obstacle_message (UnknownThread t) = text.UNKNOWN_THREAD.now ++ decimal t
 obstacle_message (HasExited t) = text.THREAD.now ++ decimal t ++ text.HAS_EXITED.now
 obstacle_message (IsRunning t) = text.THREAD.now ++ decimal t ++ text.IS_RUNNING.now
-obstacle_message (NoInstruction addr) = text.NO_INSTRUCTION.now ++ hex8 addr
+obstacle_message (NoInstruction addr) = text.NO_INSTRUCTION.now ++ word_text addr
 obstacle_message TooManyBreakpoints = text.TOO_MANY_BREAKPOINTS.now
-obstacle_message (Unreadable addr) = text.UNREADABLE.now ++ hex8 addr
+obstacle_message (Unreadable addr) = text.UNREADABLE.now ++ word_text addr
 
 -- the text of an error, before its bytes are written as a C string
 abbrev pub message : Refused → List ℕ

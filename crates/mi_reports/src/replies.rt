@@ -1,5 +1,6 @@
 // The lines of replies.
 ghost use Rattle.std.specs.Prelude.{◌≡◌, ◌++◌, IfOk, OnOk, decimal};
+ghost use Rattle.mi_reports.specs.Bytes.{word_text};
 ghost use Rattle.mi_reports.specs.Replies.{behind_commas, joined, running_lines, place_text, thread_text, number_text, signed_text, value_text, register_text, memory_text, enabled_text, for_thread, ignored, breakpoint_front, breakpoint_counts, breakpoint_text, fault_message, obstacle_message, message, error_tail, content_text, reply_text};
 
 use crate::numbers::{hex8, push_c_string, push_decimal};
@@ -14,6 +15,13 @@ fn push_word(into: &mut Vec<u8>, n: u32) -> Result<(), AllocError>
     ensures { OnOk result (into.new.items ≡ into.old.items ++ decimal n) }
 {
     push_decimal(into, u64::from(n))
+}
+
+#[tactic(auto, unfolding(crate::specs::Bytes::word_text))]
+fn push_address(into: &mut Vec<u8>, n: u32) -> Result<(), AllocError>
+    ensures { OnOk result (into.new.items ≡ into.old.items ++ word_text n) }
+{
+    into.extend_from_slice(&hex8(n))
 }
 
 fn push_running(into: &mut Vec<u8>, threads: &[u32]) -> Result<(), AllocError>
@@ -35,7 +43,7 @@ fn push_place(into: &mut Vec<u8>, stopped_at: Option<u32>) -> Result<(), AllocEr
         None => push(into, text::RUNNING_TAIL),
         Some(pc) => {
             push(into, text::STOPPED_AT)?;
-            into.extend_from_slice(&hex8(pc))?;
+            push_address(into, pc)?;
             push(into, text::STOPPED_TAIL)
         }
     }
@@ -119,7 +127,7 @@ fn push_value(into: &mut Vec<u8>, format: Format, value: u32) -> Result<(), Allo
     match format {
         Format::Hexadecimal => {
             push(into, text::HEXADECIMAL)?;
-            into.extend_from_slice(&hex8(value))
+            push_address(into, value)
         }
         Format::Decimal => push_signed(into, value),
     }
@@ -178,9 +186,9 @@ fn push_memory(
 {
     let end = ((u64::from(address) + bytes.len() as u64) % 0x1_0000_0000) as u32;
     push(into, text::MEMORY_HEAD)?;
-    into.extend_from_slice(&hex8(address))?;
+    push_address(into, address)?;
     push(into, text::MEMORY_END)?;
-    into.extend_from_slice(&hex8(end))?;
+    push_address(into, end)?;
     push(into, text::CONTENTS_HEAD)?;
     into.extend_from_slice(hex::encode(alloc, bytes)?.as_bytes())?;
     push(into, text::MEMORY_TAIL)
@@ -243,7 +251,7 @@ fn push_breakpoint(into: &mut Vec<u8>, breakpoint: &Breakpoint) -> Result<(), Al
 {
     push_breakpoint_front(into, breakpoint)?;
     push(into, text::ADDRESS_HEAD)?;
-    into.extend_from_slice(&hex8(breakpoint.address))?;
+    push_address(into, breakpoint.address)?;
     push_breakpoint_counts(into, breakpoint)?;
     push(into, text::LOCATION_HEAD)?;
     push_c_string(into, breakpoint.location.as_slice())?;
@@ -294,12 +302,12 @@ fn push_obstacle(into: &mut Vec<u8>, obstacle: Obstacle) -> Result<(), AllocErro
         }
         Obstacle::NoInstruction(address) => {
             push(into, text::NO_INSTRUCTION)?;
-            into.extend_from_slice(&hex8(address))
+            push_address(into, address)
         }
         Obstacle::TooManyBreakpoints => push(into, text::TOO_MANY_BREAKPOINTS),
         Obstacle::Unreadable(address) => {
             push(into, text::UNREADABLE)?;
-            into.extend_from_slice(&hex8(address))
+            push_address(into, address)
         }
     }
 }
