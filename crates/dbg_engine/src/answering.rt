@@ -1,5 +1,5 @@
 // What is answered to a command, over the parts of an engine.
-ghost use Rattle.std.specs.Prelude.{◌≡◌, ◌+◌, ◌++◌, ◌<◌, ◌≤◌, ◌^◌, [], length, map, IfOk, OnOk};
+ghost use Rattle.std.specs.Prelude.{◌≡◌, ◌+◌, ◌++◌, ◌<◌, ◌≤◌, ◌^◌, [], ◌∷◌, length, map, IfOk, OnOk};
 ghost use Rattle.dbg_model.specs.Reply.{content_of, continued, threads_of, thread_hart, of_stopped, of_live, running, selecting, one_shown, registers_of, thread_number, register, valued, numbers_below, shown_thread, live_threads, stopped_threads, shown_byte, shown_range, memory_of, hindered, unknown_thread, placed, inserted_by, fault_content, is_wait, going_on, selected_after};
 ghost use Rattle.engine_facts.specs.Seen.{seen_harts, seen_hart};
 ghost use Rattle.dbg_engine.specs.Answering.{found_hart, IsStopped, IsLive, Reads, option_list};
@@ -227,6 +227,13 @@ fn shown_byte(image: &Image, machine: &Machine, addr: u32) -> Option<u8>
     }
 }
 
+fn push_byte(into: &mut Vec<u8>, byte: u8) -> Result<(), AllocError>
+    ensures { OnOk result (into.new.items ≡ into.old.items ++ byte ∷ []) }
+{
+    into.push(byte)?;
+    Ok(())
+}
+
 // So many bytes from an address on.
 fn read_shown(
     alloc: Global,
@@ -243,7 +250,7 @@ fn read_shown(
         let Some(byte) = shown_byte(image, machine, at) else {
             return Err(ReadError::Unreadable(at));
         };
-        bytes.push(byte)?;
+        push_byte(&mut bytes, byte)?;
     }
     Ok(bytes)
 }

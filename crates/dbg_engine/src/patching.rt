@@ -1,15 +1,17 @@
 // The planted words of the machine, and the list of breakpoints.
-ghost use Rattle.std.specs.Prelude.{◌≡◌, ◌<◌, ◌≤◌, ◌+◌, ◌^◌, IsSome, ◌++◌, ◌∷◌, [], map, length, vec_len, vec_capacity};
+ghost use Rattle.std.specs.Prelude.{◌≡◌, ◌<◌, ◌≤◌, ◌+◌, ◌^◌, IsSome, IfOk, ◌++◌, ◌∷◌, [], map, length, vec_len, vec_capacity};
 ghost use Rattle.text_words.specs.Words.{shown};
-ghost use Rattle.dbg_model.specs.Breaks.{stands_at, stands, is_for, fits, stops, stop_at, raised, arrived, settled, is_temporary, plain_breakpoint};
+ghost use Rattle.dbg_model.specs.Breaks.{stands_at, stands, is_for, fits, stops, stop_at, raised, arrived, settled, is_temporary};
 ghost use Rattle.engine_facts.specs.Facts.{wanted};
 ghost use Rattle.engine_facts.specs.Moves.{Repatched, HeldInText, Released};
 ghost use Rattle.dbg_engine.specs.Steps.{ReleasedBy, is_exit};
 
-use dbg_model::{Breakpoint, ByteList};
+use dbg_model::Breakpoint;
 use engine_facts::Hold;
 use hart_machine::Machine;
+use mi_commands::ByteList;
 use rv_exec::Stepped;
+use std::alloc::{AllocError, Global};
 
 fn stands_at(breakpoint: &Breakpoint, addr: u32) -> bool
     ensures { result ≡ stands_at breakpoint.now addr }
