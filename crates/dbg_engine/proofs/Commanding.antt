@@ -29,7 +29,7 @@ use Rattle.engine_facts.proofs.Keeping.{Enters}
 use Rattle.dbg_engine.specs.Answering.{IsInserted, IsNoted, SetsNone}
 use Rattle.dbg_engine.specs.Calls.{Lines}
 use Rattle.dbg_engine.specs.Resuming.{resume_threads}
-use Rattle.dbg_engine.proofs.Resuming.{length_threads, seen_threads, harts_threads}
+use Rattle.dbg_engine.proofs.GoingOn.{length_threads, seen_threads, harts_threads}
 
 enter_did : (o : Opening) (s : State) (line : List ℕ) → may_do o s line ≡ true → enter o s (Did line) ≡ Some (done_by o s line)
 unfolding enter

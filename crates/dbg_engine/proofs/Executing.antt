@@ -29,6 +29,7 @@ use Rattle.engine_facts.specs.Facts.{Facts, Planted, wanted, other_holder}
 use Rattle.engine_facts.specs.Moves.{Released, executed, departed}
 use Rattle.engine_facts.proofs.Keeping.{Mover, Enters, hart_at}
 use Rattle.engine_facts.proofs.Holding.{core_at, released, unholds}
+use Rattle.engine_facts.proofs.Bounding.{Small, small_at}
 use Rattle.engine_facts.proofs.Planting.{fetch_plain, no_hit}
 use Rattle.engine_facts.proofs.Stepping.{executes, one_seen, unwanted}
 use Rattle.engine_facts.proofs.Exiting.{Departs, departs_alone, departs_all}
@@ -79,6 +80,19 @@ ready r h x pc f at before runs free is none clear may =
         unwanted = unwanted r h c x f k.1 before (λ idle. ap (wanted r.breaks r.hold) here ∙ (sym (f.planted.patches pc) ∙ clear idle));
       },
     )
+
+-- what is known before an instruction
+pub record Readied (r : Run) (h : ℕ) (x : Mind) : Type 0 where
+  pub core : Core
+  pub ready : Ready r h core x
+  pub small : Small r
+
+pub readied : (r s : Run) (h pc : ℕ) (x : Mind) → r ≡ s → Facts r → slice_get s.minds h ≡ Some x → is_before x.phase ≡ true → x.activity ≡ activity.Running → other_holder s.hold h ≡ None → Of s h (λ y. y.regs.pc ≡ pc)
+    → Of s h (λ y. due (seen s).breaks h y ≡ None) → (x.phase ≡ phase.Idle → is_planted s.machine.text pc ≡ false) → may_go s.opening (seen s) ≡ true → Readied r h x
+readied r s h pc x same f at before runs free is none clear may =
+    let g : Facts s = subst Facts same f in
+    let k = ready s h x pc g at before runs free is none clear may in
+    subst (λ (q : Run). Readied q h x) (sym same) (record { core = k.0; ready = k.1; small = small_at s g may })
 
 -- what the machine's answer says of the unpatched text
 plain_gives : (s : Stepped) (r : Run) (h : ℕ) (c : Core) (x : Mind) (new : Patched) → Ready r h c x → (t : StepsTo s r.machine h c new) → StepGives s (plain r.opening.image c.regs r.machine.memory) c.regs t.core.regs r.machine.memory t.memory

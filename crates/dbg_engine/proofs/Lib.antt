@@ -1,6 +1,7 @@
 pub mod Seeing
 pub mod Executing
-pub mod Moving
+pub mod Holds
 pub mod Commanding
 pub mod Marking
-pub mod Resuming
+pub mod Words
+pub mod GoingOn

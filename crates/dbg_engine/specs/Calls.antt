@@ -35,13 +35,13 @@ abbrev pub Of : Run → ℕ → (Hart → Type 0) → Type 0
 Of r h P = (y : Hart) → slice_get (seen r).harts h ≡ Some y → P y
 
 -- one hart has another phase, and nothing changed that is seen
-pub record Rephases (old new : Run) (h : ℕ) (x : Mind) (p : Phase) (hold : Option Hold) : Type 0 where
+pub record Rephases (old new : Run) (h : ℕ) (x : Mind) (p : Phase) (held : Option Hold) : Type 0 where
   pub journal : new.journal ≡ old.journal
   pub seen : seen new ≡ seen old
   pub opening : new.opening ≡ old.opening
   pub spare : new.spare ≡ old.spare
   pub minds : new.minds ≡ slice_set old.minds h (with_phase x p)
-  pub hold : new.hold ≡ hold
+  pub hold : new.hold ≡ held
 
 -- the patch at the hart's pc was lifted
 pub record Lifts (old new : Run) (h : ℕ) : Type 0 where

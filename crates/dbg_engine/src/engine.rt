@@ -19,7 +19,7 @@ use crate::answering::{answer, going_on, refusal, refuse, selected_after};
 use crate::journal::note;
 use crate::moving::apply;
 use crate::patching::{
-    add, copy_breakpoint, is_temporary, release, release_at_exit, repatch, settle, stands, stop_at, wants,
+    copy_breakpoint, is_temporary, put_back, release, release_at_exit, repatch, settle, stands, stop_at, wants,
 };
 use crate::resuming::resume_threads;
 use dbg_model::{
@@ -593,7 +593,7 @@ impl Engine {
                 line: ByteList::of(copy),
             },
         );
-        add(&mut self.breaks, added);
+        put_back(&mut self.breaks, added);
         let wants = wants(self.breaks.as_slice(), self.hold, breakpoint.address);
         repatch(&mut self.machine, breakpoint.address, wants);
         self.next += 1;

@@ -79,13 +79,22 @@ fn note_instruction(
     *retired += 1;
 }
 
+fn gone_mind(mind: Mind) -> Mind
+    ensures { result ≡ gone_mind mind }
+{
+    Mind {
+        activity: Activity::Exited,
+        fresh: mind.fresh,
+        phase: Phase::Idle,
+    }
+}
+
 // Each hart has exited.
 fn mark_gone(minds: &mut [Mind])
     ensures { minds.new ≡ map gone_mind minds.old }
 {
     for k in 0..minds.len() {
-        minds[k].activity = Activity::Exited;
-        minds[k].phase = Phase::Idle;
+        minds[k] = gone_mind(minds[k]);
     }
 }
 

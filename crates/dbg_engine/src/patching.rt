@@ -1,5 +1,5 @@
 // The planted words of the machine, and the list of breakpoints.
-ghost use Rattle.std.specs.Prelude.{◌≡◌, ◌<◌, ◌≤◌, ◌+◌, ◌^◌, IsSome, IfOk, ◌++◌, ◌∷◌, [], map, length, vec_len, vec_capacity};
+ghost use Rattle.std.specs.Prelude.{◌≡◌, ◌<◌, ◌≤◌, ◌+◌, ◌^◌, ◌&&◌, IsSome, IfOk, ◌++◌, ◌∷◌, [], map, length, vec_len, vec_capacity};
 ghost use Rattle.text_words.specs.Words.{shown};
 ghost use Rattle.dbg_model.specs.Breaks.{stands_at, stands, is_for, fits, stops, stop_at, raised, arrived, settled, is_temporary};
 ghost use Rattle.engine_facts.specs.Facts.{wanted};
@@ -79,33 +79,51 @@ pub fn is_temporary(breaks: &[Breakpoint], number: u32) -> bool
     }
 }
 
-// An arrival of a hart at this pc.
-fn arrive(breakpoint: &mut Breakpoint, hart: u32, pc: u32)
+// A breakpoint after an arrival of a hart at this pc.
+fn arrive(breakpoint: Breakpoint, hart: u32, pc: u32) -> Breakpoint
     requires { hart < 16 }
-    ensures { breakpoint.new ≡ arrived hart pc breakpoint.old }
+    ensures { result ≡ arrived hart pc breakpoint }
 {
-    if stands_at(breakpoint, pc) && is_for(breakpoint.thread, hart) {
+    let mut breakpoint = breakpoint;
+    if stands_at(&breakpoint, pc) && is_for(breakpoint.thread, hart) {
         breakpoint.ignore = breakpoint.ignore.saturating_sub(1);
         breakpoint.times = breakpoint.times.saturating_add(1);
     }
+    breakpoint
 }
 
-fn arrive_at_all(breaks: &mut [Breakpoint], hart: u32, pc: u32)
+// Whether a stop of a hart at this pc deletes the breakpoint.
+fn is_deleted(breakpoint: &Breakpoint, hart: u32, pc: u32) -> bool
     requires { hart < 16 }
-    ensures { breaks.new ≡ map (arrived hart pc) breaks.old }
+    ensures { result ≡ (breakpoint.now.temporary && stops breakpoint.now hart pc) }
 {
-    for k in 0..breaks.len() {
-        arrive(&mut breaks[k], hart, pc);
-    }
+    breakpoint.temporary && stops(breakpoint, hart, pc)
+}
+
+/// Adds a breakpoint, for which there is room.
+pub fn put_back(breaks: &mut Vec<Breakpoint>, breakpoint: Breakpoint)
+    requires { vec_len breaks.old < vec_capacity breaks.old }
+    ensures items { breaks.new.items ≡ breaks.old.items ++ breakpoint ∷ [] }
+    ensures room { vec_len breaks.new ≡ vec_len breaks.old + 1 }
+    ensures capacity { vec_capacity breaks.old ≤ vec_capacity breaks.new }
+{
+    let _ = breaks.push(breakpoint);
 }
 
 /// What a stop of a hart at this pc changes in the list.
 pub fn settle(breaks: &mut Vec<Breakpoint>, hart: u32, pc: u32)
     requires { hart < 16 }
-    ensures { breaks.new.items ≡ settled breaks.old.items hart pc }
+    ensures items { breaks.new.items ≡ settled breaks.old.items hart pc }
+    ensures len { vec_len breaks.new ≤ vec_len breaks.old }
+    ensures capacity { vec_capacity breaks.old ≤ vec_capacity breaks.new }
 {
-    breaks.retain(|b| !(b.temporary && stops(b, hart, pc)));
-    arrive_at_all(breaks, hart, pc);
+    let Some(last) = breaks.pop() else {
+        return;
+    };
+    settle(breaks, hart, pc);
+    if !is_deleted(&last, hart, pc) {
+        put_back(breaks, arrive(last, hart, pc));
+    }
 }
 
 /// The word is patched, or is so no more.
@@ -158,14 +176,6 @@ pub fn copy_breakpoint(alloc: Global, breakpoint: &Breakpoint) -> Result<Breakpo
         thread: breakpoint.thread,
         times: breakpoint.times,
     })
-}
-
-/// Adds a breakpoint, for which there is room.
-pub fn add(breaks: &mut Vec<Breakpoint>, breakpoint: Breakpoint)
-    requires { vec_len breaks.old < vec_capacity breaks.old }
-    ensures { breaks.new.items ≡ breaks.old.items ++ breakpoint ∷ [] }
-{
-    let _ = breaks.push(breakpoint);
 }
 
 fn is_exit(stepped: Stepped) -> bool

@@ -61,9 +61,12 @@ abbrev pub register_text : Format → Register → List ℕ
 register_text f r = text.REGISTER_HEAD.now ++ decimal r.number ++ text.VALUE_HEAD.now ++ value_text f r.value ++ text.FIELD_TAIL.now
 
 -- the bytes are two lower-case hexadecimal digits each
+-- where the bytes begin and end
+abbrev pub range_text : ℕ → ℕ → List ℕ
+range_text addr end = text.MEMORY_HEAD.now ++ word_text addr ++ text.MEMORY_END.now ++ word_text end ++ text.CONTENTS_HEAD.now
+
 abbrev pub memory_text : ℕ → List ℕ → List ℕ
-memory_text addr bytes =
-    text.MEMORY_HEAD.now ++ word_text addr ++ text.MEMORY_END.now ++ word_text ((addr + length bytes) % 2 ^ 32) ++ text.CONTENTS_HEAD.now ++ encode_lower bytes ++ text.MEMORY_TAIL.now
+memory_text addr bytes = range_text addr ((addr + length bytes) % 2 ^ 32) ++ encode_lower bytes ++ text.MEMORY_TAIL.now
 
 -- ---- breakpoints
 
@@ -78,18 +81,22 @@ for_thread (Some thread) = text.THREAD_HEAD.now ++ decimal thread
 abbrev pub ignored : ℕ → List ℕ
 ignored n = if n == 0 then [] else text.IGNORE_HEAD.now ++ decimal n
 
--- what a breakpoint is called, and whether it stays and is enabled
+-- what a breakpoint is called, whether it stays and is enabled, and where it stands
 abbrev pub breakpoint_front : Breakpoint → List ℕ
 breakpoint_front b =
     text.BREAKPOINT_HEAD.now ++ decimal b.number ++ text.DISPOSITION_HEAD.now ++ disposition b.temporary ++ text.ENABLED_HEAD.now ++ enabled_text b.enabled
+    ++ text.ADDRESS_HEAD.now ++ word_text b.address
 
 -- whom it stops, and its counts
 abbrev pub breakpoint_counts : Breakpoint → List ℕ
 breakpoint_counts b = for_thread b.thread ++ text.TIMES_HEAD.now ++ decimal b.times ++ ignored b.ignore
 
+-- where it was asked for
+abbrev pub breakpoint_location : Breakpoint → List ℕ
+breakpoint_location b = text.LOCATION_HEAD.now ++ c_string b.location ++ text.BREAKPOINT_TAIL.now
+
 abbrev pub breakpoint_text : Breakpoint → List ℕ
-breakpoint_text b =
-    breakpoint_front b ++ text.ADDRESS_HEAD.now ++ word_text b.address ++ breakpoint_counts b ++ text.LOCATION_HEAD.now ++ c_string b.location ++ text.BREAKPOINT_TAIL.now
+breakpoint_text b = breakpoint_front b ++ breakpoint_counts b ++ breakpoint_location b
 
 -- ---- errors
 

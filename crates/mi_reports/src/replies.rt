@@ -1,7 +1,8 @@
 // The lines of replies.
 ghost use Rattle.std.specs.Prelude.{◌≡◌, ◌++◌, IfOk, OnOk, decimal};
+ghost use Rattle.hex.specs.Hex.{encode_lower};
 ghost use Rattle.mi_reports.specs.Bytes.{word_text};
-ghost use Rattle.mi_reports.specs.Replies.{behind_commas, joined, running_lines, place_text, thread_text, number_text, signed_text, value_text, register_text, memory_text, enabled_text, for_thread, ignored, breakpoint_front, breakpoint_counts, breakpoint_text, fault_message, obstacle_message, message, error_tail, content_text, reply_text};
+ghost use Rattle.mi_reports.specs.Replies.{behind_commas, joined, running_lines, place_text, thread_text, number_text, signed_text, value_text, register_text, range_text, memory_text, enabled_text, for_thread, ignored, breakpoint_front, breakpoint_counts, breakpoint_location, breakpoint_text, fault_message, obstacle_message, message, error_tail, content_text, reply_text};
 
 use crate::numbers::{hex8, push_c_string, push_decimal};
 use crate::reply_texts as text;
@@ -176,6 +177,24 @@ fn push_registers(
     push_more_registers(into, format, rest)
 }
 
+// Where the bytes begin and end.
+fn push_range(into: &mut Vec<u8>, address: u32, end: u32) -> Result<(), AllocError>
+    ensures { OnOk result (into.new.items ≡ into.old.items ++ range_text address end) }
+{
+    push(into, text::MEMORY_HEAD)?;
+    push_address(into, address)?;
+    push(into, text::MEMORY_END)?;
+    push_address(into, end)?;
+    push(into, text::CONTENTS_HEAD)
+}
+
+fn push_hex(alloc: Global, into: &mut Vec<u8>, bytes: &[u8]) -> Result<(), AllocError>
+    ensures { OnOk result (into.new.items ≡ into.old.items ++ encode_lower bytes.now) }
+{
+    let digits = hex::encode(alloc, bytes)?;
+    into.extend_from_slice(digits.as_bytes())
+}
+
 fn push_memory(
     alloc: Global,
     into: &mut Vec<u8>,
@@ -185,12 +204,8 @@ fn push_memory(
     ensures { OnOk result (into.new.items ≡ into.old.items ++ memory_text address bytes.now) }
 {
     let end = ((u64::from(address) + bytes.len() as u64) % 0x1_0000_0000) as u32;
-    push(into, text::MEMORY_HEAD)?;
-    push_address(into, address)?;
-    push(into, text::MEMORY_END)?;
-    push_address(into, end)?;
-    push(into, text::CONTENTS_HEAD)?;
-    into.extend_from_slice(hex::encode(alloc, bytes)?.as_bytes())?;
+    push_range(into, address, end)?;
+    push_hex(alloc, into, bytes)?;
     push(into, text::MEMORY_TAIL)
 }
 
@@ -231,7 +246,10 @@ fn push_breakpoint_front(
     push(into, text::DISPOSITION_HEAD)?;
     push(into, disposition(breakpoint.temporary))?;
     push(into, text::ENABLED_HEAD)?;
-    push(into, enabled_text(breakpoint.enabled))
+    push(into, enabled_text(breakpoint.enabled))?;
+    push(into, text::ADDRESS_HEAD)?;
+    push_address(into, breakpoint.address)?;
+    Ok(())
 }
 
 fn push_breakpoint_counts(
@@ -246,16 +264,23 @@ fn push_breakpoint_counts(
     push_ignored(into, breakpoint.ignore)
 }
 
+fn push_breakpoint_location(
+    into: &mut Vec<u8>,
+    breakpoint: &Breakpoint,
+) -> Result<(), AllocError>
+    ensures { OnOk result (into.new.items ≡ into.old.items ++ breakpoint_location breakpoint.now) }
+{
+    push(into, text::LOCATION_HEAD)?;
+    push_c_string(into, breakpoint.location.as_slice())?;
+    push(into, text::BREAKPOINT_TAIL)
+}
+
 fn push_breakpoint(into: &mut Vec<u8>, breakpoint: &Breakpoint) -> Result<(), AllocError>
     ensures { OnOk result (into.new.items ≡ into.old.items ++ breakpoint_text breakpoint.now) }
 {
     push_breakpoint_front(into, breakpoint)?;
-    push(into, text::ADDRESS_HEAD)?;
-    push_address(into, breakpoint.address)?;
     push_breakpoint_counts(into, breakpoint)?;
-    push(into, text::LOCATION_HEAD)?;
-    push_c_string(into, breakpoint.location.as_slice())?;
-    push(into, text::BREAKPOINT_TAIL)
+    push_breakpoint_location(into, breakpoint)
 }
 
 fn push_fault(into: &mut Vec<u8>, fault: &Fault) -> Result<(), AllocError>
@@ -302,12 +327,14 @@ fn push_obstacle(into: &mut Vec<u8>, obstacle: Obstacle) -> Result<(), AllocErro
         }
         Obstacle::NoInstruction(address) => {
             push(into, text::NO_INSTRUCTION)?;
-            push_address(into, address)
+            push_address(into, address)?;
+            Ok(())
         }
         Obstacle::TooManyBreakpoints => push(into, text::TOO_MANY_BREAKPOINTS),
         Obstacle::Unreadable(address) => {
             push(into, text::UNREADABLE)?;
-            push_address(into, address)
+            push_address(into, address)?;
+            Ok(())
         }
     }
 }

@@ -1,9 +1,9 @@
 -- The other moves of a hart, as the code makes them, and the end of an engine.
-use Rattle.std.proofs.Common.{◌≡◌, ℕ, ◌+◌, ◌++◌, Bool, true, false, List, [], ◌∷◌, refl, sym, ap, ◌∙◌, subst}
-use Rattle.std.specs.Prelude.{Option, Some, None, IsSome, slice_get, slice_set}
+use Rattle.std.proofs.Common.{◌≡◌, ℕ, ◌+◌, ◌++◌, Bool, true, false, cond, List, [], ◌∷◌, refl, sym, ap, ◌∙◌, subst}
+use Rattle.std.specs.Prelude.{Option, Some, None, IsSome, slice_get, slice_set, ◌||◌, ◌==◌}
 use Rattle.rv_exec.specs.declared.effect.Cause.{Cause}
 use Rattle.rv_exec.specs.Memory.{Memory}
-use Rattle.text_words.specs.Words.{Words, is_planted}
+use Rattle.text_words.specs.Words.{Words, shown, is_planted}
 use Rattle.plain_machine.specs.Environment.{Traps}
 use Rattle.plain_machine.specs.Plain.{plain}
 use Rattle.hart_machine.specs.declared.hart.Core.{Core}
@@ -13,7 +13,8 @@ use Rattle.dbg_model.specs.declared.entry.Entry.{Entry}
 use Rattle.dbg_model.specs.declared.entry.Entry.TheVariants.{Stopped, Did}
 use Rattle.dbg_model.specs.declared.entry.Why.{Why}
 use Rattle.dbg_model.specs.declared.entry.Why.TheVariants.{Break, Fault}
-use Rattle.dbg_model.specs.Breaks.{stands, settled}
+use Rattle.dbg_model.specs.Breaks.{stands, stands_at, settled, stop_at, stops, fits, is_for}
+use Rattle.dbg_model.proofs.Options.{both_true, guard_some}
 use Rattle.dbg_model.specs.State.{Hart, State, due}
 use Rattle.dbg_model.specs.Lawful.{enter, may_go}
 use Rattle.dbg_model.specs.Reply.{done_by}
@@ -22,16 +23,17 @@ use Rattle.engine_facts.specs.declared.mind.Hold.{Hold}
 use Rattle.engine_facts.specs.declared.mind.Mind.{Mind}
 use Rattle.engine_facts.specs.declared.mind.Phase.TheVariants as phase
 use Rattle.engine_facts.specs.Minds.{with_phase, first_mind, lifted_of}
-use Rattle.engine_facts.specs.Seen.{Run, seen}
+use Rattle.engine_facts.specs.Seen.{Run, seen, seen_hart}
 use Rattle.engine_facts.specs.Facts.{Facts, InText, Retired, wanted, other_holder}
 use Rattle.engine_facts.specs.Moves.{Repatched, Released, halted, broken}
-use Rattle.engine_facts.proofs.Holding.{core_at, no_hold, released, unwinds, planted_text, wanted_none}
+use Rattle.engine_facts.proofs.Holding.{core_at, no_hold, released, unwinds, planted_text, stands_text, wanted_none}
+use Rattle.engine_facts.proofs.Planting.{text_shown}
 use Rattle.engine_facts.proofs.Keeping.{Enters}
 use Rattle.engine_facts.proofs.Stepping.{fact_of, lifts}
 use Rattle.engine_facts.proofs.Stopping.{halts_fault, halts_break, fault_comes, break_comes, may_by}
 use Rattle.engine_facts.proofs.Breaking.{breaks_in, broken_state}
 use Rattle.dbg_engine.specs.Calls.{Of, TrapsAt, Rephases, Lifts, Halts, Closes, Inserts}
-use Rattle.dbg_engine.proofs.Executing.{of_hart, moves_by}
+use Rattle.dbg_engine.proofs.Executing.{of_hart, moves_by, same_hart}
 
 -- the facts hold after a move that did this
 pub record Moved (new : Run) (Did : Type 0) : Type 0 where
@@ -42,21 +44,27 @@ pub record Moved (new : Run) (Did : Type 0) : Type 0 where
 abbrev pub Retexted : Run → Patched → Type 0
 Retexted r m = m ≡ record r.machine { text = m.text }
 
--- a hart steps over nothing any more
-pub unwound : (r : Run) (h : ℕ) (x : Mind) (m : Patched) → Facts r → slice_get r.minds h ≡ Some x → other_holder r.hold h ≡ None → Released r.machine.text m.text r.breaks r.hold → Retexted r m
+unwound_by : (r : Run) (h : ℕ) (x : Mind) (m : Patched) → Facts r → slice_get r.minds h ≡ Some x → other_holder r.hold h ≡ None → Released r.machine.text m.text r.breaks r.hold → Retexted r m
     → (let new : Run = record r { machine = m; minds = slice_set r.minds h (with_phase x phase.Idle); hold = None } in Moved new (Rephases r new h x phase.Idle None))
-unwound r h x m f at free w same =
+unwound_by r h x m f at free w same =
     let k = core_at r h x f at in
     let N : Patched → Run = λ n. record r { machine = n; minds = slice_set r.minds h (with_phase x phase.Idle); hold = None } in
     let P : Patched → Type 0 = λ n. Moved (N n) (Rephases r (N n) h x phase.Idle None) in
     let s = unwinds r h k.0 x m.text f k.1 free w in
     subst P (sym same) (record { facts = s.facts; does = record { journal = refl; seen = s.seen; opening = refl; spare = refl; minds = refl; hold = refl } })
 
--- a patch was lifted for a hart
-pub lifted : (r : Run) (h pc : ℕ) (x : Mind) (m : Patched) → Facts r → slice_get r.minds h ≡ Some x → x.phase ≡ phase.Idle → x.activity ≡ activity.Running → other_holder r.hold h ≡ None → Of r h (λ y. y.regs.pc ≡ pc)
+-- a hart steps over nothing any more
+pub unwound : (r : Run) (h : ℕ) (x y : Mind) (m : Patched) (bs : List Breakpoint) → Facts r → slice_get r.minds h ≡ Some x → other_holder r.hold h ≡ None → Released r.machine.text m.text bs r.hold → bs ≡ r.breaks → Retexted r m → y ≡ with_phase x phase.Idle
+    → (let new : Run = record r { machine = m; minds = slice_set r.minds h y; hold = None } in Moved new (Rephases r new h x phase.Idle None))
+unwound r h x y m bs f at free w' are same is =
+    let w = subst (λ (cs : List Breakpoint). Released r.machine.text m.text cs r.hold) are w' in
+    let Q : Mind → Type 0 = λ z. (let new : Run = record r { machine = m; minds = slice_set r.minds h z; hold = None } in Moved new (Rephases r new h x phase.Idle None)) in
+    subst Q (sym is) (unwound_by r h x m f at free w same)
+
+lifted_by : (r : Run) (h pc : ℕ) (x : Mind) (m : Patched) → Facts r → slice_get r.minds h ≡ Some x → x.phase ≡ phase.Idle → x.activity ≡ activity.Running → other_holder r.hold h ≡ None → Of r h (λ y. y.regs.pc ≡ pc)
     → is_planted r.machine.text pc ≡ true → Repatched r.machine.text m.text pc false → Retexted r m
     → (let new : Run = record r { machine = m; minds = slice_set r.minds h (with_phase x (phase.Lifted pc)); hold = Some (record { hart = h; home = pc }) } in Moved new (Lifts r new h))
-lifted r h pc x m f at idle runs free is planted w same =
+lifted_by r h pc x m f at idle runs free is planted w same =
     let k = core_at r h x f at in
     let none : r.hold ≡ None = no_hold r.hold h free (sym (fact_of r h k.0 x f k.1).held ∙ ap lifted_of idle) in
     let here = of_hart r h k.0 x (λ y. y.regs.pc ≡ pc) k.1 is in
@@ -68,6 +76,14 @@ lifted r h pc x m f at idle runs free is planted w same =
       does = record { mind = x; home = pc; at = at; idle = idle; rephases = record { journal = refl; seen = s.seen; opening = refl; spare = refl; minds = refl; hold = refl } };
     })
 
+-- a patch was lifted for a hart
+pub lifted : (r : Run) (h pc : ℕ) (x y : Mind) (m : Patched) → Facts r → slice_get r.minds h ≡ Some x → x.phase ≡ phase.Idle → x.activity ≡ activity.Running → other_holder r.hold h ≡ None → Of r h (λ y. y.regs.pc ≡ pc)
+    → is_planted r.machine.text pc ≡ true → Repatched r.machine.text m.text pc false → Retexted r m → y ≡ with_phase x (phase.Lifted pc)
+    → (let new : Run = record r { machine = m; minds = slice_set r.minds h y; hold = Some (record { hart = h; home = pc }) } in Moved new (Lifts r new h))
+lifted r h pc x y m f at idle runs free is planted w same e =
+    let Q : Mind → Type 0 = λ z. (let new : Run = record r { machine = m; minds = slice_set r.minds h z; hold = Some (record { hart = h; home = pc }) } in Moved new (Lifts r new h)) in
+    subst Q (sym e) (lifted_by r h pc x m f at idle runs free is planted w same)
+
 -- a hart stopped by a fault
 pub faulted : (r : Run) (h spare : ℕ) (x : Mind) (cause : Cause) (j : List Entry) → Facts r → slice_get r.minds h ≡ Some x → x.phase ≡ phase.Idle → x.activity ≡ activity.Running → Of r h (λ y. due (seen r).breaks h y ≡ None) → TrapsAt r h cause
     → may_go r.opening (seen r) ≡ true → j ≡ r.journal ++ Stopped h (Fault cause) ∷ []
@@ -75,7 +91,7 @@ pub faulted : (r : Run) (h spare : ℕ) (x : Mind) (cause : Cause) (j : List Ent
 faulted r h spare x cause j f at idle runs none traps may same =
     let k = core_at r h x f at in
     let c = k.0 in
-    let may' = may_by r.opening (seen r) h _ (moves_by r c x may runs) (of_hart r h c x (λ y. due (seen r).breaks h y ≡ None) k.1 none) in
+    let may' = may_by r.opening (seen r) h (seen_hart c x) (moves_by r c x may runs) (of_hart r h c x (λ y. due (seen r).breaks h y ≡ None) k.1 none) in
     let trap = of_hart r h c x (λ y. plain r.opening.image y.regs (seen r).memory ≡ Traps cause) k.1 traps in
     let e = halts_fault r h spare c x cause f k.1 idle may' trap in
     let N : List Entry → Run = λ es. record r { journal = es; spare = spare; minds = slice_set r.minds h first_mind; noted = r.noted + 1 } in
@@ -134,3 +150,56 @@ closed r m f w same =
       text = released r.opening.image r.machine.text m.text r.breaks r.hold f.planted w;
       retired = subst (λ (cs : List Core). Retired cs r.journal) (sym (ap (λ (n : Patched). n.cores) same)) f.retired;
     }
+
+-- what a shown hart has, where the core and what is kept are known
+pub shown_at : (r s : Run) (h : ℕ) (x : Mind) (P : Hart → Type 0) → r ≡ s → Facts r → slice_get s.minds h ≡ Some x → ((c : Core) → slice_get r.machine.cores h ≡ Some c → P (seen_hart c x)) → Of s h P
+shown_at r s h x P same f at each =
+    let R : Run → Type 0 = λ q. slice_get q.minds h ≡ Some x → Of q h P in
+    subst R same (λ at' y there. let k = core_at r h x f at' in subst P (same_hart r h k.0 x y k.1 there) (each k.0 k.1.core)) at
+
+-- a hart that hasn't just executed isn't due
+pub stale : (bs : List Breakpoint) (h : ℕ) (c : Core) (x : Mind) → x.fresh ≡ false → due bs h (seen_hart c x) ≡ None
+stale bs h c x is = rw is refl
+
+-- a hart that has is due where a breakpoint stops it
+pub new_at : (bs : List Breakpoint) (h : ℕ) (c : Core) (x : Mind) → x.fresh ≡ true → due bs h (seen_hart c x) ≡ stop_at bs h c.regs.pc
+new_at bs h c x is = rw is refl
+
+or_true : (b : Bool) → (b || true) ≡ true
+or_true true = refl
+or_true false = refl
+
+stop_by : (b : Breakpoint) (bs : List Breakpoint) (h pc n : ℕ) (t : Bool) → stops b h pc ≡ t → cond t (Some b.number) (stop_at bs h pc) ≡ Some n → (stop_at bs h pc ≡ Some n → stands bs pc ≡ true) → (stands_at b pc || stands bs pc) ≡ true
+stop_by b bs h pc n true is e ih =
+    let at : stands_at b pc ≡ true = (both_true (stands_at b pc) (is_for b.thread h) (both_true (fits b h pc) (b.ignore == 0) is).0).0 in
+    ap (λ u. u || stands bs pc) at
+stop_by b bs h pc n false is e ih = ap (λ u. stands_at b pc || u) (ih e) ∙ or_true (stands_at b pc)
+
+-- what stops a hart stands at its pc
+pub stop_stands : (bs : List Breakpoint) (h pc n : ℕ) → stop_at bs h pc ≡ Some n → stands bs pc ≡ true
+stop_stands [] h pc n e = cc
+stop_stands (b ∷ bs) h pc n e = stop_by b bs h pc n (stops b h pc) refl e (stop_stands bs h pc n)
+
+-- where a hart is due is text
+pub due_text : (r : Run) (h number pc : ℕ) (x : Mind) → Facts r → slice_get r.minds h ≡ Some x → Of r h (λ y. y.regs.pc ≡ pc) → Of r h (λ y. due (seen r).breaks h y ≡ Some number) → IsSome (shown r.machine.text pc)
+due_text r h number pc x f at is due_is =
+    let k = core_at r h x f at in
+    let here = of_hart r h k.0 x (λ y. y.regs.pc ≡ pc) k.1 is in
+    let e = of_hart r h k.0 x (λ y. due (seen r).breaks h y ≡ Some number) k.1 due_is in
+    let g = guard_some x.fresh (stop_at r.breaks h k.0.regs.pc) number e in
+    let there : stands r.breaks pc ≡ true = sym (ap (stands r.breaks) here) ∙ stop_stands r.breaks h k.0.regs.pc number g.1 in
+    text_shown r.opening.image r.machine.text r.breaks r.hold pc f.planted (stands_text r.opening.image r.breaks pc f.texts there)
+
+pub due_new : (r s : Run) (h pc : ℕ) (x : Mind) (o : Option ℕ) (bs : List Breakpoint) → r ≡ s → Facts r → slice_get s.minds h ≡ Some x → x.fresh ≡ true → Of s h (λ y. y.regs.pc ≡ pc) → bs ≡ r.breaks → o ≡ stop_at bs h pc → Of s h (λ y. due s.breaks h y ≡ o)
+due_new r s h pc x o bs same f at fresh is are stops_is = λ y there.
+    let g : Facts s = subst Facts same f in
+    let k = core_at s h x g at in
+    let here = of_hart s h k.0 x (λ y. y.regs.pc ≡ pc) k.1 is in
+    let d = new_at s.breaks h k.0 x fresh ∙ (ap (stop_at s.breaks h) here ∙ sym (stops_is ∙ ap (λ cs. stop_at cs h pc) (are ∙ ap (λ (q : Run). q.breaks) same))) in
+    subst (λ (z : Hart). due s.breaks h z ≡ o) (same_hart s h k.0 x y k.1 there) d
+
+pub due_stale : (r s : Run) (h : ℕ) (x : Mind) → r ≡ s → Facts r → slice_get s.minds h ≡ Some x → x.fresh ≡ false → Of s h (λ y. due s.breaks h y ≡ None)
+due_stale r s h x same f at fresh = λ y there.
+    let g : Facts s = subst Facts same f in
+    let k = core_at s h x g at in
+    subst (λ (z : Hart). due s.breaks h z ≡ None) (same_hart s h k.0 x y k.1 there) (stale s.breaks h k.0 x fresh)

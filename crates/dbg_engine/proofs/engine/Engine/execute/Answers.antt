@@ -1,0 +1,103 @@
+use Rattle.std.proofs.Common.{◌≡◌, ◌<◌, ℕ, true, false, length, List, sym, ap, ◌∙◌, arith, subst}
+use Rattle.std.specs.Prelude.{Option, Some, None, slice_get, vec_len, vec_capacity, ◌-◌}
+use Rattle.std.specs.Vec.{with_items}
+use Rattle.std.proofs.lemmas.List.{with_items_is}
+use Rattle.rv_exec.specs.declared.effect.Stepped.{Stepped}
+use Rattle.text_words.specs.Words.{Words}
+use Rattle.hart_machine.specs.Patched.{Patched}
+use Rattle.dbg_model.specs.declared.breakpoint.Breakpoint.{Breakpoint}
+use Rattle.engine_facts.specs.declared.mind.Mind.{Mind}
+use Rattle.engine_facts.specs.Seen.{Run, seen}
+use Rattle.engine_facts.specs.Facts.{Facts}
+use Rattle.engine_facts.specs.Moves.{HeldInText}
+use Rattle.engine_facts.proofs.Holding.{held_text}
+use Rattle.dbg_engine.specs.declared.moving.Turned.{Turned}
+use Rattle.dbg_engine.specs.Steps.{Parts, applied, turned_of, is_exit, ReleasedBy}
+use Rattle.dbg_engine.specs.Calls.{Executes, TrapsAt}
+use Rattle.dbg_engine.specs.EngineInside.{run_of}
+use Rattle.dbg_engine.proofs.Executing.{Readied, readied, trapped, done, Executed, executed_to, parts_of, run_with}
+use Rattle.dbg_engine.proofs.engine.Engine.execute.Goals as goal
+use Rattle.dbg_engine.proofs.engine.Engine.execute.Goals.{After-self-1}
+
+pub step-stepped-requires-clause-count : goal.step-stepped-requires-clause-count
+step-stepped-requires-clause-count c =
+    let k = readied (run_of c.self.inside) c.args.self.now c.args.h c.args.pc c.args.mind c.self.view_is c.self.invariant.facts c.requires.mind c.requires.before c.requires.runs c.requires.free c.requires.pc c.requires.due c.requires.unpatched c.requires.may in
+    λ d at. let e = k.small.each c.args.h d at in omega arith
+
+pub invariant_of-self : goal.invariant_of-self
+invariant_of-self c =
+    let r = run_of c.self.inside in
+    let k = readied r c.args.self.now c.args.h c.args.pc c.args.mind c.self.view_is c.self.invariant.facts c.requires.mind c.requires.before c.requires.runs c.requires.free c.requires.pc c.requires.due c.requires.unpatched c.requires.may in
+    let t = trapped c.in-Trap.cause r c.args.h k.core c.args.mind c.step-stepped.new.self k.ready (c.in-Trap.ensures.step k.core k.ready.mover.core) in
+    let P : Patched → Type 0 = λ m. Facts (record r { machine = m }) in
+    record { facts = subst P (sym t.0) c.self.invariant.facts }
+
+pub returns-in-Trap-clause-executes : goal.returns-in-Trap-clause-executes
+returns-in-Trap-clause-executes c =
+    let r = run_of c.self.inside in
+    let k = readied r c.args.self.now c.args.h c.args.pc c.args.mind c.self.view_is c.self.invariant.facts c.requires.mind c.requires.before c.requires.runs c.requires.free c.requires.pc c.requires.due c.requires.unpatched c.requires.may in
+    let t = trapped c.in-Trap.cause r c.args.h k.core c.args.mind c.step-stepped.new.self k.ready (c.in-Trap.ensures.step k.core k.ready.mover.core) in
+    let Q : Run → Type 0 = λ q. TrapsAt q c.args.h c.in-Trap.cause in
+    (ap (λ (m : Patched). let q : Run = record r { machine = m } in q) t.0 ∙ c.self.view_is, subst Q c.self.view_is t.1)
+
+pub release_at_exit-requires : goal.release_at_exit-requires
+release_at_exit-requires c =
+    let r = run_of c.self.inside in
+    let k = readied r c.args.self.now c.args.h c.args.pc c.args.mind c.self.view_is c.self.invariant.facts c.requires.mind c.requires.before c.requires.runs c.requires.free c.requires.pc c.requires.due c.requires.unpatched c.requires.may in
+    let st = c.step-stepped.ensures.step k.core k.ready.mover.core in
+    let P : Words → Type 0 = λ t. HeldInText t r.hold in
+    subst P (sym (ap (λ (m : Patched). m.text) st.machine)) (held_text r c.self.invariant.facts)
+
+pub apply-requires-clause-done : goal.apply-requires-clause-done
+apply-requires-clause-done c =
+    let r = run_of c.self.inside in
+    let k = readied r c.args.self.now c.args.h c.args.pc c.args.mind c.self.view_is c.self.invariant.facts c.requires.mind c.requires.before c.requires.runs c.requires.free c.requires.pc c.requires.due c.requires.unpatched c.requires.may in
+    done c.step-stepped.result r c.args.h k.core c.args.mind c.step-stepped.new.self k.ready (c.step-stepped.ensures.step k.core k.ready.mover.core) c.in_default.not-Trap
+
+pub apply-requires-clause-count : goal.apply-requires-clause-count
+apply-requires-clause-count c =
+    let k = readied (run_of c.self.inside) c.args.self.now c.args.h c.args.pc c.args.mind c.self.view_is c.self.invariant.facts c.requires.mind c.requires.before c.requires.runs c.requires.free c.requires.pc c.requires.due c.requires.unpatched c.requires.may in
+    let e = k.small.last in omega arith
+
+parts_is : (s : Stepped) (h : ℕ) (x : Mind) (r : Run) (p : Parts) (xs : List Mind) → xs ≡ r.minds → p ≡ applied s h x (record { journal = r.journal; minds = xs; retired = r.retired; noted = r.noted }) → p ≡ applied s h x (parts_of r)
+parts_is s h x r p xs same is = is ∙ ap (λ ys. applied s h x (record { journal = r.journal; minds = ys; retired = r.retired; noted = r.noted })) same
+
+goes : (c : After-self-1) → Executed c.step-stepped.result (run_of c.self.inside) (run_with (run_of c.self.inside) c.release_at_exit.new.machine (record { journal = c.apply.new.entries.items; minds = c.apply.new.minds; retired = c.apply.new.retired; noted = c.apply.new.noted }) c.release_at_exit.new.hold (vec_capacity c.apply.new.entries - vec_len c.apply.new.entries)) c.args.h c.args.mind
+goes c =
+    let r = run_of c.self.inside in
+    let k = readied r c.args.self.now c.args.h c.args.pc c.args.mind c.self.view_is c.self.invariant.facts c.requires.mind c.requires.before c.requires.runs c.requires.free c.requires.pc c.requires.due c.requires.unpatched c.requires.may in
+    let st = c.step-stepped.ensures.step k.core k.ready.mover.core in
+    let d = done c.step-stepped.result r c.args.h k.core c.args.mind c.step-stepped.new.self k.ready st c.in_default.not-Trap in
+    let p : Parts = record { journal = c.apply.new.entries.items; minds = c.apply.new.minds; retired = c.apply.new.retired; noted = c.apply.new.noted } in
+    let R : List Breakpoint → Type 0 = λ bs. ReleasedBy (is_exit c.step-stepped.result) c.step-stepped.new.self c.release_at_exit.new.machine r.hold c.release_at_exit.new.hold bs in
+    executed_to c.step-stepped.result r c.args.h (vec_capacity c.apply.new.entries - vec_len c.apply.new.entries) k.core c.args.mind c.step-stepped.new.self c.release_at_exit.new.machine c.release_at_exit.new.hold p d k.ready st
+    (subst R c.as_slice.ensures.value c.release_at_exit.ensures) (parts_is c.step-stepped.result c.args.h c.args.mind r p c.deref_mut.result.now c.deref_mut.ensures.value c.apply.ensures.parts)
+
+-- the minds, written back
+minds_are : (c : After-self-1) → c.apply.new.minds ≡ (with_items c.self.inside.minds c.apply.new.minds).items
+minds_are c =
+    let a = c.apply.auto.minds in
+    let b = c.deref_mut.ensures in
+    sym (with_items_is c.self.inside.minds c.apply.new.minds (a ∙ b.len))
+
+abbrev new_run : After-self-1 → List Mind → Run
+new_run c xs = run_with (run_of c.self.inside) c.release_at_exit.new.machine (record { journal = c.apply.new.entries.items; minds = xs; retired = c.apply.new.retired; noted = c.apply.new.noted }) c.release_at_exit.new.hold (vec_capacity c.apply.new.entries - vec_len c.apply.new.entries)
+
+pub invariant_of-self-2 : goal.invariant_of-self-2
+invariant_of-self-2 c =
+    let P : List Mind → Type 0 = λ xs. Facts (new_run c xs) in
+    record { facts = subst P (minds_are c) (goes c).facts }
+
+does_is : (r s new : Run) (h : ℕ) (t u : Turned) → r ≡ s → t ≡ u → Executes u r new h → Executes t s new h
+does_is r s new h t u same is g =
+    let P : Run → Type 0 = λ q. Executes u q new h in
+    let Q : Turned → Type 0 = λ v. Executes v s new h in
+    subst Q (sym is) (subst P same g)
+
+pub returns-clause-executes : goal.returns-clause-executes
+returns-clause-executes c =
+    let r = run_of c.self.inside in
+    let called = c.apply.ensures.turned ∙ ap (turned_of c.step-stepped.result c.args.h c.args.mind) c.deref_mut.ensures.value in
+    let P : List Mind → Type 0 = λ xs. Executes c.apply.result c.args.self.now (new_run c xs) c.args.h in
+    subst P (minds_are c)
+    (does_is r c.args.self.now (new_run c c.apply.new.minds) c.args.h c.apply.result (turned_of c.step-stepped.result c.args.h c.args.mind r.minds) c.self.view_is called (goes c).does)

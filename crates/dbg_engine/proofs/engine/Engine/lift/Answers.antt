@@ -1,0 +1,33 @@
+use Rattle.std.proofs.Common.{◌≡◌, ◌∷◌, ◌++◌, [], ◌-◌, ◌+◌, ◌<◌, ◌≤◌, ℕ, List, length, refl, sym, ap, ◌∙◌, subst, arith, true, false}
+use Rattle.std.specs.Prelude.{Option, Some, None, slice_get, slice_set, vec_len, vec_capacity}
+use Rattle.text_words.specs.Words.{is_planted}
+use Rattle.engine_facts.specs.declared.mind.Phase.TheVariants as phase
+use Rattle.engine_facts.specs.Seen.{Run}
+use Rattle.engine_facts.specs.Facts.{other_holder}
+use Rattle.engine_facts.proofs.Planting.{text_shown}
+use Rattle.engine_facts.proofs.Holding.{planted_text}
+use Rattle.dbg_engine.specs.Calls.{Lifts, Of}
+use Rattle.dbg_engine.specs.EngineInside.{run_of}
+use Rattle.dbg_engine.proofs.Holds.{Moved, lifted}
+use Rattle.dbg_engine.proofs.engine.Engine.lift.Goals as goal
+
+pub repatch-requires : goal.repatch-requires
+repatch-requires c =
+    let r = run_of c.self.inside in
+    let planted : is_planted r.machine.text c.args.pc ≡ true = ap (λ (q : Run). is_planted q.machine.text c.args.pc) c.self.view_is ∙ c.requires.planted in
+    text_shown r.opening.image r.machine.text r.breaks r.hold c.args.pc c.self.invariant.facts.planted (planted_text r c.args.pc c.self.invariant.facts planted)
+
+move : (c : goal.After-self-2-1) → (let r = run_of c.self.inside in let new : Run = record r { machine = c.repatch.new.machine; minds = slice_set r.minds c.args.h c.with_phase.result; hold = Some (record { hart = c.args.h; home = c.args.pc }) } in Moved new (Lifts r new c.args.h))
+move c =
+    let r = run_of c.self.inside in
+    let mind : slice_get r.minds c.args.h ≡ Some c.args.mind = ap (λ (q : Run). slice_get q.minds c.args.h) c.self.view_is ∙ c.requires.mind in
+    let planted : is_planted r.machine.text c.args.pc ≡ true = ap (λ (q : Run). is_planted q.machine.text c.args.pc) c.self.view_is ∙ c.requires.planted in
+    let P : Run → Type 0 = λ q. Of q c.args.h (λ y. y.regs.pc ≡ c.args.pc) in
+    lifted r c.args.h c.args.pc c.args.mind c.with_phase.result c.repatch.new.machine c.self.invariant.facts mind c.requires.idle c.requires.runs (ap (λ (q : Run). other_holder q.hold c.args.h) c.self.view_is ∙ c.requires.free)
+    (subst P (sym c.self.view_is) c.requires.pc) planted c.repatch.ensures.text c.repatch.ensures.rest c.with_phase.ensures
+
+pub invariant_of-self : goal.invariant_of-self
+invariant_of-self c = record { facts = (move c).facts }
+
+pub returns : goal.returns
+returns c = rw (← c.self.view_is) (move c).does
