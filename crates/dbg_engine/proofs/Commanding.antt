@@ -6,6 +6,7 @@ use Rattle.elf32_read.specs.Program.{Program, text_word}
 use Rattle.text_words.specs.Words.{Words, unpatched}
 use Rattle.text_words.proofs.Below.{word_below}
 use Rattle.hart_machine.specs.declared.hart.Core.{Core}
+use Rattle.hart_machine.specs.Patched.{Patched}
 use Rattle.dbg_model.specs.declared.breakpoint.Breakpoint.{Breakpoint}
 use Rattle.dbg_model.specs.declared.entry.Entry.{Entry}
 use Rattle.dbg_model.specs.declared.entry.Entry.TheVariants.{Did}
@@ -22,13 +23,14 @@ use Rattle.dbg_model.proofs.Options.{both_true}
 use Rattle.engine_facts.specs.declared.mind.Mind.{Mind}
 use Rattle.engine_facts.specs.Seen.{Run, seen, seen_with, seen_harts}
 use Rattle.engine_facts.specs.Facts.{Facts, IsThread, InText, wanted}
-use Rattle.engine_facts.specs.Moves.{Repatched, lined, broken}
+use Rattle.engine_facts.specs.Moves.{Repatched, lined, broken, broken_state}
 use Rattle.engine_facts.proofs.Stopping.{lines}
-use Rattle.engine_facts.proofs.Breaking.{breaks_in, broken_state}
+use Rattle.engine_facts.proofs.Breaking.{breaks_in}
 use Rattle.engine_facts.proofs.Keeping.{Enters}
 use Rattle.dbg_engine.specs.Answering.{IsInserted, IsNoted, SetsNone}
 use Rattle.dbg_engine.specs.Calls.{Lines}
 use Rattle.dbg_engine.specs.Resuming.{resume_threads}
+use Rattle.dbg_engine.proofs.Holds.{Retexted}
 use Rattle.dbg_engine.proofs.GoingOn.{length_threads, seen_threads, harts_threads}
 
 enter_did : (o : Opening) (s : State) (line : List ℕ) → may_do o s line ≡ true → enter o s (Did line) ≡ Some (done_by o s line)
@@ -150,3 +152,29 @@ broken_to r line b t spare f may low is w =
 -- the numbers have room
 pub numbers_room : (r : Run) (line : List ℕ) → Facts r → r.noted < HISTORY → r.next < 2 ^ 32 - 1
 numbers_room r line f low = omega (arith, next_within r.opening r.journal (seen r) f.leaves)
+
+-- the same, as the code makes it
+pub inserted : (r : Run) (spare : ℕ) (line : List ℕ) (b : Breakpoint) (j : List Entry) (m : Patched) (bs : List Breakpoint) → Facts r → may_do r.opening (seen r) line ≡ true → b.address < 2 ^ 32 → IsInserted r line b
+    → j ≡ r.journal ++ Did line ∷ [] → bs ≡ r.breaks ++ b ∷ [] → Repatched r.machine.text m.text b.address (wanted bs r.hold b.address) → Retexted r m
+    → (let new : Run = record r { journal = j; spare = spare; machine = m; breaks = bs; next = r.next + 1; noted = r.noted + 1 } in LinedTo r new line)
+inserted r spare line b j m bs f may low is same are w texts =
+    let W : List Breakpoint → Type 0 = λ cs. Repatched r.machine.text m.text b.address (wanted cs r.hold b.address) in
+    let N : List Entry → Patched → List Breakpoint → Run = λ es n cs. record r { journal = es; spare = spare; machine = n; breaks = cs; next = r.next + 1; noted = r.noted + 1 } in
+    let P : List Entry → Patched → List Breakpoint → Type 0 = λ es n cs. LinedTo r (N es n cs) line in
+    let m' : Patched = record r.machine { text = m.text } in
+    let es = r.journal ++ Did line ∷ [] in
+    let cs = r.breaks ++ b ∷ [] in
+    let base : P es m' cs = broken_to r line b m.text spare f may low is (subst W are w) in
+    subst (λ (ls : List Entry). P ls m bs) (sym same) (subst (λ (n : Patched). P es n bs) (sym texts) (subst (λ (ds : List Breakpoint). P es m' ds) (sym are) base))
+
+-- the same of a line that sets none
+pub noted : (r : Run) (spare : ℕ) (line : List ℕ) (c : Content) (j : List Entry) (xs : List Mind) (selected : ℕ) → Facts r → may_do r.opening (seen r) line ≡ true → IsNoted r line c
+    → j ≡ r.journal ++ Did line ∷ [] → xs ≡ resume_threads r.minds (going_on c) → selected ≡ selected_after r.selected c
+    → (let new : Run = record r { journal = j; spare = spare; minds = xs; selected = selected; noted = r.noted + 1 } in LinedTo r new line)
+noted r spare line c j xs selected f may is same minds chosen =
+    let N : List Entry → List Mind → ℕ → Run = λ es ys t. record r { journal = es; spare = spare; minds = ys; selected = t; noted = r.noted + 1 } in
+    let P : List Entry → List Mind → ℕ → Type 0 = λ es ys t. LinedTo r (N es ys t) line in
+    let es = r.journal ++ Did line ∷ [] in
+    let ys = resume_threads r.minds (going_on c) in
+    let base : P es ys (selected_after r.selected c) = noted_to r line c spare f may is in
+    subst (λ (ls : List Entry). P ls xs selected) (sym same) (subst (λ (zs : List Mind). P es zs selected) (sym minds) (subst (λ t. P es ys t) (sym chosen) base))

@@ -17,7 +17,6 @@ use Rattle.dbg_model.specs.Breaks.{stands, stands_at, settled, stop_at, stops, f
 use Rattle.dbg_model.proofs.Options.{both_true, guard_some}
 use Rattle.dbg_model.specs.State.{Hart, State, due}
 use Rattle.dbg_model.specs.Lawful.{enter, may_go}
-use Rattle.dbg_model.specs.Reply.{done_by}
 use Rattle.engine_facts.specs.declared.mind.Activity.TheVariants as activity
 use Rattle.engine_facts.specs.declared.mind.Hold.{Hold}
 use Rattle.engine_facts.specs.declared.mind.Mind.{Mind}
@@ -25,14 +24,13 @@ use Rattle.engine_facts.specs.declared.mind.Phase.TheVariants as phase
 use Rattle.engine_facts.specs.Minds.{with_phase, first_mind, lifted_of}
 use Rattle.engine_facts.specs.Seen.{Run, seen, seen_hart}
 use Rattle.engine_facts.specs.Facts.{Facts, InText, Retired, wanted, other_holder}
-use Rattle.engine_facts.specs.Moves.{Repatched, Released, halted, broken}
+use Rattle.engine_facts.specs.Moves.{Repatched, Released}
 use Rattle.engine_facts.proofs.Holding.{core_at, no_hold, released, unwinds, planted_text, stands_text, wanted_none}
 use Rattle.engine_facts.proofs.Planting.{text_shown}
 use Rattle.engine_facts.proofs.Keeping.{Enters}
 use Rattle.engine_facts.proofs.Stepping.{fact_of, lifts}
 use Rattle.engine_facts.proofs.Stopping.{halts_fault, halts_break, fault_comes, break_comes, may_by}
-use Rattle.engine_facts.proofs.Breaking.{breaks_in, broken_state}
-use Rattle.dbg_engine.specs.Calls.{Of, TrapsAt, Rephases, Lifts, Halts, Closes, Inserts}
+use Rattle.dbg_engine.specs.Calls.{Of, TrapsAt, Rephases, Lifts, Halts, Closes}
 use Rattle.dbg_engine.proofs.Executing.{of_hart, moves_by, same_hart}
 
 -- the facts hold after a move that did this
@@ -73,7 +71,7 @@ lifted_by r h pc x m f at idle runs free is planted w same =
     let s = lifts r h k.0 x pc m.text f k.1 runs none here (planted_text r pc f planted) w in
     subst P (sym same) (record {
       facts = s.facts;
-      does = record { mind = x; home = pc; at = at; idle = idle; rephases = record { journal = refl; seen = s.seen; opening = refl; spare = refl; minds = refl; hold = refl } };
+      does = record { mind = x; home = pc; at = at; idle = idle; free = none; rephases = record { journal = refl; seen = s.seen; opening = refl; spare = refl; minds = refl; hold = refl } };
     })
 
 -- a patch was lifted for a hart
@@ -121,25 +119,6 @@ arrived r h number pc spare x j m bs f at idle runs is due_is may none same sett
     let es = r.journal ++ Stopped h (Break number) ∷ [] in
     let base : P es m' (settled r.breaks h c.regs.pc) = record { facts = e.facts; does = record { journal = refl; enters = break_comes r h number c x k.1 may' due' ∙ ap Some e.seen; opening = refl } } in
     subst (λ (ls : List Entry). P ls m bs) (sym same) (subst (λ (n : Patched). P es n bs) (sym texts) (subst (λ (cs : List Breakpoint). P es m' cs) (sym bs_is) base))
-
-enter_did : (r : Run) (line : List ℕ) → may_go r.opening (seen r) ≡ true → enter r.opening (seen r) (Did line) ≡ Some (done_by (seen r) line)
-unfolding enter
-enter_did r line may = rw may refl
-
--- a line added a breakpoint
-pub inserted : (r : Run) (spare : ℕ) (line : List ℕ) (b : Breakpoint) (j : List Entry) (m : Patched) (bs : List Breakpoint) → Facts r → InText r.opening.image b.address → may_go r.opening (seen r) ≡ true → done_by (seen r) line ≡ broken_state (seen r) b
-    → j ≡ r.journal ++ Did line ∷ [] → bs ≡ r.breaks ++ b ∷ [] → Repatched r.machine.text m.text b.address (wanted bs r.hold b.address) → Retexted r m
-    → (let new : Run = record r { journal = j; spare = spare; machine = m; breaks = bs; next = r.next + 1; noted = r.noted + 1 } in Moved new (Inserts r new line b))
-inserted r spare line b j m bs f text may does same are w texts =
-    let W : List Breakpoint → Type 0 = λ cs. Repatched r.machine.text m.text b.address (wanted cs r.hold b.address) in
-    let e = breaks_in r (Did line) b m.text spare f refl (enter_did r line may ∙ ap Some does) text (subst W are w) in
-    let N : List Entry → Patched → List Breakpoint → Run = λ es n cs. record r { journal = es; spare = spare; machine = n; breaks = cs; next = r.next + 1; noted = r.noted + 1 } in
-    let P : List Entry → Patched → List Breakpoint → Type 0 = λ es n cs. Moved (N es n cs) (Inserts r (N es n cs) line b) in
-    let m' : Patched = record r.machine { text = m.text } in
-    let es = r.journal ++ Did line ∷ [] in
-    let cs = r.breaks ++ b ∷ [] in
-    let base : P es m' cs = record { facts = e.facts; does = record { journal = refl; seen = sym (does ∙ e.seen); breaks = refl; opening = refl } } in
-    subst (λ (ls : List Entry). P ls m bs) (sym same) (subst (λ (n : Patched). P es n bs) (sym texts) (subst (λ (ds : List Breakpoint). P es m' ds) (sym are) base))
 
 -- the end of an engine
 pub closed : (r : Run) (m : Patched) → Facts r → Released r.machine.text m.text r.breaks r.hold → Retexted r m → Closes r m

@@ -49,6 +49,7 @@ pub record Lifts (old new : Run) (h : ℕ) : Type 0 where
   pub home : ℕ
   pub at : slice_get old.minds h ≡ Some mind
   pub idle : mind.phase ≡ phase.Idle
+  pub free : old.hold ≡ None
   pub rephases : Rephases old new h mind (phase.Lifted home) (Some (record { hart = h; home = home }))
 
 -- the patch of a hart that has executed was planted again where a breakpoint stands

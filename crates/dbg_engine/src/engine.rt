@@ -5,9 +5,9 @@ ghost use Rattle.text_words.specs.Words.{shown, is_planted};
 ghost use Rattle.dbg_model.specs.Breaks.{is_temporary};
 ghost use Rattle.dbg_model.specs.State.{first_state, any_runs, all_gone, due};
 ghost use Rattle.dbg_model.specs.Lawful.{may_go, may_do};
-ghost use Rattle.dbg_model.specs.Reply.{done_by, reply_of, breaks_after};
+ghost use Rattle.dbg_model.specs.Reply.{reply_of};
 ghost use Rattle.engine_facts.specs.Minds.{first_mind, runs, has_gone, is_before, with_phase};
-ghost use Rattle.engine_facts.specs.Facts.{other_holder, InText};
+ghost use Rattle.engine_facts.specs.Facts.{other_holder, OneLifted};
 ghost use Rattle.engine_facts.specs.Seen.{seen};
 ghost use Rattle.dbg_engine.specs.Steps.{running_from, next_running, IsTurned};
 ghost use Rattle.dbg_engine.specs.Answering.{IsInserted, IsNoted};
@@ -543,6 +543,14 @@ impl Engine {
         ensures { (x : Mind) → slice_get self.now.minds h ≡ Some x → result ≡ x.phase }
     {
         self.minds[h as usize].phase
+    }
+
+    /// The hart that steps over a breakpoint with its patch lifted, and where; there is one at most.
+    pub fn hold(&self) -> Option<Hold>
+        ensures value { result ≡ self.now.hold }
+        ensures one { OneLifted self.now }
+    {
+        self.hold
     }
 
     // What is answered to a line.

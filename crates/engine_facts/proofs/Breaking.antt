@@ -1,5 +1,5 @@
 -- A breakpoint is added.
-use Rattle.std.proofs.Common.{◌≡◌, ℕ, zero, suc, ◌+◌, false, List, [], ◌∷◌, ◌++◌, refl, sym, ap, subst, not}
+use Rattle.std.proofs.Common.{◌≡◌, ℕ, zero, suc, false, List, [], ◌∷◌, ◌++◌, refl, sym, ap, subst, not}
 use Rattle.std.specs.Prelude.{Some, None, ◌&&◌, ◌||◌}
 use Rattle.text_words.specs.Words.{Words}
 use Rattle.elf32_read.specs.Program.{Program}
@@ -7,13 +7,12 @@ use Rattle.hart_machine.proofs.Places.{same_some}
 use Rattle.dbg_model.specs.declared.breakpoint.Breakpoint.{Breakpoint}
 use Rattle.dbg_model.specs.declared.entry.Entry.{Entry}
 use Rattle.dbg_model.specs.Breaks.{stands, stands_at}
-use Rattle.dbg_model.specs.State.{State, inserted}
 use Rattle.dbg_model.specs.Lawful.{enter}
 use Rattle.dbg_model.specs.Journals.{ran_hart}
 use Rattle.dbg_model.proofs.Adding.{added}
 use Rattle.engine_facts.specs.Seen.{Run, seen}
 use Rattle.engine_facts.specs.Facts.{Facts, InText, AreInText, wanted, is_home}
-use Rattle.engine_facts.specs.Moves.{Repatched, broken}
+use Rattle.engine_facts.specs.Moves.{Repatched, broken, broken_state}
 use Rattle.engine_facts.proofs.Counting.{retired_noted}
 use Rattle.engine_facts.proofs.Planting.{replanted}
 use Rattle.engine_facts.proofs.Keeping.{Enters, entered}
@@ -28,10 +27,6 @@ text-added p [] b each here zero d at = subst (InText p) (ap (λ (z : Breakpoint
 text-added p [] b each here (suc k) d at = cc
 text-added p (x ∷ xs) b each here zero d at = each zero d at
 text-added p (x ∷ xs) b each here (suc k) d at = text-added p xs b (λ j e. each (suc j) e) here k d at
-
--- the state after a line that added a breakpoint
-abbrev pub broken_state : State → Breakpoint → State
-broken_state s b = record (inserted s b) { noted = s.noted + 1 }
 
 -- a line is done that adds a breakpoint, whose word is patched where it is wanted now
 pub breaks_in : (r : Run) (e : Entry) (b : Breakpoint) (t : Words) (spare : ℕ) → Facts r → ran_hart e ≡ None → enter r.opening (seen r) e ≡ Some (broken_state (seen r) b) → InText r.opening.image b.address

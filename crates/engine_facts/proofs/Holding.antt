@@ -1,9 +1,9 @@
 -- The hart for which a patch is lifted, and the end of that.
 use Rattle.std.proofs.Common.{◌≡◌, ℕ, zero, suc, ◌<◌, Bool, true, false, cond, List, [], ◌∷◌, length, refl, sym, ap, ◌∙◌, subst, not, arith}
-use Rattle.std.specs.Prelude.{Option, Some, None, IsSome, slice_get, ◌&&◌, ◌||◌, ◌==◌}
+use Rattle.std.specs.Prelude.{Option, Some, None, slice_get, ◌&&◌, ◌||◌, ◌==◌}
 use Rattle.std.proofs.lemmas.Bool.Decides.{nat_tests}
 use Rattle.std.proofs.lemmas.Option.{slice_get_within}
-use Rattle.text_words.specs.Words.{Words, shown, is_planted}
+use Rattle.text_words.specs.Words.{Words, is_planted}
 use Rattle.elf32_read.specs.Program.{Program}
 use Rattle.hart_machine.specs.declared.hart.Core.{Core}
 use Rattle.hart_machine.proofs.Places.{same_some}
@@ -12,16 +12,15 @@ use Rattle.dbg_model.specs.Breaks.{stands, stands_at}
 use Rattle.dbg_model.proofs.Options.{both_true}
 use Rattle.engine_facts.specs.declared.mind.Hold.{Hold}
 use Rattle.engine_facts.specs.declared.mind.Mind.{Mind}
-use Rattle.engine_facts.specs.declared.mind.Phase.{Phase}
 use Rattle.engine_facts.specs.declared.mind.Phase.TheVariants as phase
 use Rattle.engine_facts.specs.Minds.{lifted_of, with_phase}
 use Rattle.engine_facts.specs.Seen.{Run}
-use Rattle.engine_facts.specs.Facts.{Facts, Planted, InText, AreInText, held_by, is_home, wanted, other_holder}
+use Rattle.engine_facts.specs.Facts.{Facts, Planted, InText, AreInText, held_by, is_home, wanted, other_holder, OneLifted}
 use Rattle.engine_facts.specs.Moves.{Repatched, HeldInText, Released, rephased}
 use Rattle.engine_facts.proofs.Updating.{differs, equals, none_some}
 use Rattle.engine_facts.proofs.Planting.{replanted, text_shown}
 use Rattle.engine_facts.proofs.Keeping.{Mover, StaysSeen, silent}
-use Rattle.engine_facts.proofs.Stepping.{fact_of, home_text}
+use Rattle.engine_facts.proofs.Stepping.{fact_of, home_text, holds_is}
 
 -- what stands in a list
 pub get_within : {A : Type 0} (xs : List A) (h : ℕ) → h < length xs → (x : A) × (slice_get xs h ≡ Some x)
@@ -115,5 +114,13 @@ stands_text p (b ∷ bs) a each e = stands_in p b bs a (stands_at b a) refl e ea
 pub planted_text : (r : Run) (a : ℕ) → Facts r → is_planted r.machine.text a ≡ true → InText r.opening.image a
 planted_text r a f is = stands_text r.opening.image r.breaks a f.texts (both_true (stands r.breaks a) (not (is_home r.hold a)) (sym (f.planted.patches a) ∙ is)).0
 
-one_lifted_as : (d e : Hold) (h k : ℕ) → Some d ≡ Some e → d.hart ≡ h → e.hart ≡ k → h ≡ k
-one_lifted_as d e h k is hd ek = sym hd ∙ (ap (λ (o : Hold). o.hart) (same_some d e is) ∙ ek)
+-- the patch is lifted for one hart at most
+pub one_lifted : (r : Run) → Facts r → OneLifted r
+one_lifted r f h k x y a b eh ek la lb =
+    let ch = core_at r h x f eh in
+    let ck = core_at r k y f ek in
+    let first = holds_is r h ch.0 x a f ch.1 la in
+    let second = holds_is r k ck.0 y b f ck.1 lb in
+    let u : Hold = record { hart = h; home = a } in
+    let v : Hold = record { hart = k; home = b } in
+    ap (λ (d : Hold). d.hart) (same_some u v (sym first ∙ second))

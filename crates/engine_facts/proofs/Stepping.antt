@@ -27,7 +27,7 @@ use Rattle.engine_facts.specs.Facts.{Facts, HartFact, InText, Placed, held_by, w
 use Rattle.engine_facts.specs.Moves.{Repatched, rephased, executed}
 use Rattle.engine_facts.proofs.Seeing.{seen-set}
 use Rattle.engine_facts.proofs.Counting.{retired_ran}
-use Rattle.engine_facts.proofs.Updating.{updated, holds_by, holds_own, equals, differs, none_some}
+use Rattle.engine_facts.proofs.Updating.{updated, holds_by, holds_own, equals, differs}
 use Rattle.engine_facts.proofs.Planting.{replanted}
 use Rattle.engine_facts.proofs.Keeping.{Mover, StaysSeen, Enters, entered, silent, hart_at}
 use Rattle.hart_machine.proofs.Places.{same_some}
@@ -78,31 +78,6 @@ placed_text p c (phase.Ran b) home is a = subst (InText p) (same_some b home is)
 
 pub home_text : (r : Run) (h : ℕ) (c : Core) (x : Mind) (home : ℕ) → Facts r → Mover r h c x → lifted_of x.phase ≡ Some home → InText r.opening.image home
 home_text r h c x home f m lifted = placed_text r.opening.image c x.phase home lifted (fact_of r h c x f m).placed
-
--- the text where a lifted patch is planted again where one is wanted
-pub planted_again : (r : Run) (h : ℕ) (c : Core) (x : Mind) (home : ℕ) (t : Words) → Facts r → Mover r h c x → lifted_of x.phase ≡ Some home → Repatched r.machine.text t home (wanted r.breaks None home) → Planted r.opening.image t r.breaks None
-planted_again r h c x home t f m lifted w =
-    let d : Hold = record { hart = h; home = home } in
-    let P : Option Hold → Type 0 = λ hold. Planted r.opening.image r.machine.text r.breaks hold in
-    replanted r.opening.image r.breaks r.breaks (Some d) None r.machine.text t home (subst P (holds_is r h c x home f m lifted) f.planted) w (λ b n. sym (wanted_lifted r.breaks h home b n))
-
--- no other hart is touched by the end of a hold
-pub unholds : (r : Run) (h : ℕ) (c : Core) (x : Mind) (home : ℕ) → Facts r → Mover r h c x → lifted_of x.phase ≡ Some home → (k : ℕ) → (h ≡ k → ⊥) → held_by r.hold k ≡ held_by None k
-unholds r h c x home f m lifted =
-    let Q : Option Hold → Type 0 = λ hold. (k : ℕ) → (h ≡ k → ⊥) → held_by hold k ≡ held_by None k in
-    subst Q (sym (holds_is r h c x home f m lifted)) (λ k n. sym (holds_own h home k n))
-
--- the patch is planted again where one is wanted
-pub plants : (r : Run) (h : ℕ) (c : Core) (x : Mind) (home : ℕ) (t : Words) → Facts r → Mover r h c x → lifted_of x.phase ≡ Some home → Repatched r.machine.text t home (wanted r.breaks None home)
-    → StaysSeen r (rephased r h (with_phase x phase.Idle) t None)
-plants r h c x home t f m lifted w =
-    silent r h c x (with_phase x phase.Idle) t None f m refl
-    (record {
-      holds = unholds r h c x home f m lifted;
-      fact = record { placed = tt; held = refl; idle = λ e. refl };
-      holder = λ e is. none_some e is;
-    })
-    (planted_again r h c x home t f m lifted w)
 
 -- no patch is wanted where a hart may execute
 unwanted_by : (r : Run) (h : ℕ) (c : Core) (x : Mind) (q : Phase) → x.phase ≡ q → Facts r → Mover r h c x → is_before q ≡ true → (q ≡ phase.Idle → wanted r.breaks r.hold c.regs.pc ≡ false) → wanted r.breaks r.hold c.regs.pc ≡ false

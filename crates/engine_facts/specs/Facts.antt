@@ -71,6 +71,10 @@ AreInText p bs = (k : ℕ) (b : Breakpoint) → slice_get bs k ≡ Some b → In
 abbrev pub Retired : List Core → List Entry → Type 0
 Retired cores j = (h : ℕ) (c : Core) → slice_get cores h ≡ Some c → c.retired ≡ steps_of h (erase j)
 
+-- the patch is lifted for one hart at most
+abbrev pub OneLifted : Run → Type 0
+OneLifted r = (h k : ℕ) (x y : Mind) (a b : ℕ) → slice_get r.minds h ≡ Some x → slice_get r.minds k ≡ Some y → lifted_of x.phase ≡ Some a → lifted_of y.phase ≡ Some b → h ≡ k
+
 -- threads are counted from 1
 abbrev pub IsThread : Opening → ℕ → Type 0
 IsThread o thread = (0 < thread) × (thread ≤ o.settings.harts)

@@ -6,6 +6,7 @@ use Rattle.hart_machine.specs.declared.hart.Core.{Core}
 use Rattle.dbg_model.specs.declared.breakpoint.Breakpoint.{Breakpoint}
 use Rattle.dbg_model.specs.declared.entry.Entry.{Entry}
 use Rattle.dbg_model.specs.Breaks.{stands}
+use Rattle.dbg_model.specs.State.{State, inserted}
 use Rattle.dbg_model.specs.Journals.{lengthened}
 use Rattle.engine_facts.specs.declared.mind.Hold.{Hold}
 use Rattle.engine_facts.specs.declared.mind.Mind.{Mind}
@@ -72,6 +73,10 @@ halted r e h t bs spare =
 abbrev pub lined : Run → Entry → List Mind → ℕ → ℕ → Run
 lined r e xs selected spare =
     record r { journal = r.journal ++ e ∷ []; spare = spare; minds = xs; selected = selected; noted = r.noted + 1 }
+
+-- the state after a line that added a breakpoint
+abbrev pub broken_state : State → Breakpoint → State
+broken_state s b = record (inserted s b) { noted = s.noted + 1 }
 
 -- a line was done that added a breakpoint, with these patches
 abbrev pub broken : Run → Entry → Breakpoint → Words → ℕ → Run

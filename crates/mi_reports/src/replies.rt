@@ -25,6 +25,14 @@ fn push_address(into: &mut Vec<u8>, n: u32) -> Result<(), AllocError>
     into.extend_from_slice(&hex8(n))
 }
 
+// An address behind a text.
+fn push_at(into: &mut Vec<u8>, head: &str, address: u32) -> Result<(), AllocError>
+    ensures { OnOk result (into.new.items ≡ into.old.items ++ (head.now ++ word_text address)) }
+{
+    push(into, head)?;
+    push_address(into, address)
+}
+
 fn push_running(into: &mut Vec<u8>, threads: &[u32]) -> Result<(), AllocError>
     ensures { OnOk result (into.new.items ≡ into.old.items ++ running_lines threads.now) }
 {
@@ -247,9 +255,7 @@ fn push_breakpoint_front(
     push(into, disposition(breakpoint.temporary))?;
     push(into, text::ENABLED_HEAD)?;
     push(into, enabled_text(breakpoint.enabled))?;
-    push(into, text::ADDRESS_HEAD)?;
-    push_address(into, breakpoint.address)?;
-    Ok(())
+    push_at(into, text::ADDRESS_HEAD, breakpoint.address)
 }
 
 fn push_breakpoint_counts(
@@ -325,17 +331,9 @@ fn push_obstacle(into: &mut Vec<u8>, obstacle: Obstacle) -> Result<(), AllocErro
             push_word(into, thread)?;
             push(into, text::IS_RUNNING)
         }
-        Obstacle::NoInstruction(address) => {
-            push(into, text::NO_INSTRUCTION)?;
-            push_address(into, address)?;
-            Ok(())
-        }
+        Obstacle::NoInstruction(address) => push_at(into, text::NO_INSTRUCTION, address),
         Obstacle::TooManyBreakpoints => push(into, text::TOO_MANY_BREAKPOINTS),
-        Obstacle::Unreadable(address) => {
-            push(into, text::UNREADABLE)?;
-            push_address(into, address)?;
-            Ok(())
-        }
+        Obstacle::Unreadable(address) => push_at(into, text::UNREADABLE, address),
     }
 }
 
