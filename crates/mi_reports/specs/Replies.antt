@@ -81,11 +81,14 @@ for_thread (Some thread) = text.THREAD_HEAD.now ++ decimal thread
 abbrev pub ignored : ℕ → List ℕ
 ignored n = if n == 0 then [] else text.IGNORE_HEAD.now ++ decimal n
 
--- what a breakpoint is called, whether it stays and is enabled, and where it stands
+-- what a breakpoint is called, and whether it stays and is enabled
 abbrev pub breakpoint_front : Breakpoint → List ℕ
 breakpoint_front b =
     text.BREAKPOINT_HEAD.now ++ decimal b.number ++ text.DISPOSITION_HEAD.now ++ disposition b.temporary ++ text.ENABLED_HEAD.now ++ enabled_text b.enabled
-    ++ text.ADDRESS_HEAD.now ++ word_text b.address
+
+-- where it stands
+abbrev pub breakpoint_place : Breakpoint → List ℕ
+breakpoint_place b = text.ADDRESS_HEAD.now ++ word_text b.address
 
 -- whom it stops, and its counts
 abbrev pub breakpoint_counts : Breakpoint → List ℕ
@@ -96,7 +99,7 @@ abbrev pub breakpoint_location : Breakpoint → List ℕ
 breakpoint_location b = text.LOCATION_HEAD.now ++ c_string b.location ++ text.BREAKPOINT_TAIL.now
 
 abbrev pub breakpoint_text : Breakpoint → List ℕ
-breakpoint_text b = breakpoint_front b ++ breakpoint_counts b ++ breakpoint_location b
+breakpoint_text b = breakpoint_front b ++ breakpoint_place b ++ breakpoint_counts b ++ breakpoint_location b
 
 -- ---- errors
 

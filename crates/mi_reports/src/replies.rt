@@ -2,7 +2,7 @@
 ghost use Rattle.std.specs.Prelude.{◌≡◌, ◌++◌, IfOk, OnOk, decimal};
 ghost use Rattle.hex.specs.Hex.{encode_lower};
 ghost use Rattle.mi_reports.specs.Bytes.{word_text};
-ghost use Rattle.mi_reports.specs.Replies.{behind_commas, joined, running_lines, place_text, thread_text, number_text, signed_text, value_text, register_text, range_text, memory_text, enabled_text, for_thread, ignored, breakpoint_front, breakpoint_counts, breakpoint_location, breakpoint_text, fault_message, obstacle_message, message, error_tail, content_text, reply_text};
+ghost use Rattle.mi_reports.specs.Replies.{behind_commas, joined, running_lines, place_text, thread_text, number_text, signed_text, value_text, register_text, range_text, memory_text, enabled_text, for_thread, ignored, breakpoint_front, breakpoint_place, breakpoint_counts, breakpoint_location, breakpoint_text, fault_message, obstacle_message, message, error_tail, content_text, reply_text};
 
 use crate::numbers::{hex8, push_c_string, push_decimal};
 use crate::reply_texts as text;
@@ -254,7 +254,15 @@ fn push_breakpoint_front(
     push(into, text::DISPOSITION_HEAD)?;
     push(into, disposition(breakpoint.temporary))?;
     push(into, text::ENABLED_HEAD)?;
-    push(into, enabled_text(breakpoint.enabled))?;
+    push(into, enabled_text(breakpoint.enabled))
+}
+
+fn push_breakpoint_place(
+    into: &mut Vec<u8>,
+    breakpoint: &Breakpoint,
+) -> Result<(), AllocError>
+    ensures { OnOk result (into.new.items ≡ into.old.items ++ breakpoint_place breakpoint.now) }
+{
     push_at(into, text::ADDRESS_HEAD, breakpoint.address)
 }
 
@@ -285,6 +293,7 @@ fn push_breakpoint(into: &mut Vec<u8>, breakpoint: &Breakpoint) -> Result<(), Al
     ensures { OnOk result (into.new.items ≡ into.old.items ++ breakpoint_text breakpoint.now) }
 {
     push_breakpoint_front(into, breakpoint)?;
+    push_breakpoint_place(into, breakpoint)?;
     push_breakpoint_counts(into, breakpoint)?;
     push_breakpoint_location(into, breakpoint)
 }
