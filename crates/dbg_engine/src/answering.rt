@@ -2,6 +2,7 @@
 ghost use Rattle.std.specs.Prelude.{◌≡◌, ◌+◌, ◌++◌, ◌<◌, ◌≤◌, ◌^◌, [], ◌∷◌, length, map, IfOk, OnOk};
 ghost use Rattle.dbg_model.specs.Reply.{content_of, continued, threads_of, thread_hart, of_stopped, of_live, running, selecting, one_shown, registers_of, thread_number, register, valued, numbers_below, shown_thread, live_threads, stopped_threads, shown_byte, shown_range, memory_of, hindered, unknown_thread, placed, inserted_by, fault_content, is_wait, going_on, selected_after};
 ghost use Rattle.engine_facts.specs.Seen.{seen_harts, seen_hart};
+ghost use Rattle.dbg_engine.specs.declared.answering.ReadError.TheVariants.{NoMemory};
 ghost use Rattle.dbg_engine.specs.Answering.{found_hart, IsStopped, IsLive, Reads, option_list};
 
 use dbg_model::{
@@ -29,7 +30,7 @@ enum ReadError {
 }
 
 impl From<AllocError> for ReadError {
-    ghost from_gives = { λ e r. r ≡ ReadError.NoMemory e };
+    ghost from_gives = { λ e r. r ≡ NoMemory e };
 
     fn from(e: AllocError) -> ReadError {
         ReadError::NoMemory(e)
@@ -44,7 +45,7 @@ fn hindered(obstacle: Obstacle) -> Content
 
 /// The hart of a thread, which is counted from 1.
 fn find<'a>(cores: &'a [Core], minds: &[Mind], thread: u32) -> Option<(&'a Core, Mind)>
-    ensures { found_hart result ≡ thread_hart (seen_harts cores.now minds.now) thread }
+    ensures { found_hart result.entry ≡ thread_hart (seen_harts cores.now minds.now) thread }
 {
     let h = thread.checked_sub(1)? as usize;
     let core = cores.get(h)?;
@@ -54,7 +55,7 @@ fn find<'a>(cores: &'a [Core], minds: &[Mind], thread: u32) -> Option<(&'a Core,
 
 // The hart of a thread that has to be stopped.
 fn stopped<'a>(thread: u32, found: Option<(&'a Core, Mind)>) -> Result<(&'a Core, Mind), Obstacle>
-    ensures { IsStopped result thread (found_hart found) }
+    ensures { IsStopped result.entry thread (found_hart found.entry) }
 {
     let Some((core, mind)) = found else {
         return Err(Obstacle::UnknownThread(thread));
@@ -68,7 +69,7 @@ fn stopped<'a>(thread: u32, found: Option<(&'a Core, Mind)>) -> Result<(&'a Core
 
 // The hart of a thread that has to be live.
 fn live<'a>(thread: u32, found: Option<(&'a Core, Mind)>) -> Result<(&'a Core, Mind), Obstacle>
-    ensures { IsLive result thread (found_hart found) }
+    ensures { IsLive result.entry thread (found_hart found.entry) }
 {
     let Some((core, mind)) = found else {
         return Err(Obstacle::UnknownThread(thread));
@@ -199,7 +200,7 @@ fn registers(
     format: Format,
     numbers: &[u32],
 ) -> Result<Content, AllocError>
-    ensures { IfOk result (λ c. c ≡ of_stopped thread (registers_of format numbers.now) (found_hart found)) }
+    ensures { IfOk result (λ c. c ≡ of_stopped thread (registers_of format numbers.now) (found_hart found.entry)) }
 {
     let (core, _) = match stopped(thread, found) {
         Ok(hart) => hart,
@@ -279,7 +280,7 @@ fn continue_one(
     thread: u32,
     found: Option<(&Core, Mind)>,
 ) -> Result<Content, AllocError>
-    ensures { IfOk result (λ c. c ≡ of_stopped thread (running thread) (found_hart found)) }
+    ensures { IfOk result (λ c. c ≡ of_stopped thread (running thread) (found_hart found.entry)) }
 {
     match stopped(thread, found) {
         Err(obstacle) => Ok(hindered(obstacle)),
@@ -336,7 +337,7 @@ fn one_thread(
     thread: u32,
     found: Option<(&Core, Mind)>,
 ) -> Result<Content, AllocError>
-    ensures { IfOk result (λ c. c ≡ of_live thread (one_shown selected thread) (found_hart found)) }
+    ensures { IfOk result (λ c. c ≡ of_live thread (one_shown selected thread) (found_hart found.entry)) }
 {
     let (core, mind) = match live(thread, found) {
         Ok(hart) => hart,
@@ -398,7 +399,7 @@ fn thread_numbers(
 }
 
 fn select(thread: u32, found: Option<(&Core, Mind)>) -> Content
-    ensures { result ≡ of_live thread (selecting thread) (found_hart found) }
+    ensures { result ≡ of_live thread (selecting thread) (found_hart found.entry) }
 {
     match live(thread, found) {
         Ok(_) => Content::Selected(thread),
@@ -450,16 +451,17 @@ fn place(
 fn insert(
     alloc: Global,
     image: &Image,
-    harts: (&[Core], &[Mind]),
+    cores: &[Core],
+    minds: &[Mind],
     breaks: &[Breakpoint],
     next: u32,
     insertion: &Insertion,
 ) -> Result<Content, AllocError>
-    ensures { IfOk result (λ c. c ≡ inserted_by image.now (seen_harts harts.0.now harts.1.now) breaks.now next insertion.now) }
+    ensures { IfOk result (λ c. c ≡ inserted_by image.now (seen_harts cores.now minds.now) breaks.now next insertion.now) }
 {
     match (&insertion.location, &insertion.condition, insertion.ignore) {
         (Location::Address(address), None, 0) => {
-            match unknown_thread(harts.0, harts.1, insertion.thread) {
+            match unknown_thread(cores, minds, insertion.thread) {
                 Some(thread) => Ok(hindered(Obstacle::UnknownThread(thread))),
                 None => place(alloc, image, breaks, next, *address, insertion),
             }
@@ -541,7 +543,7 @@ pub fn answer(
     match command {
         Command::Blank => Ok(Content::Blank),
         Command::Wait => Ok(Content::Done),
-        Command::BreakInsert(insertion) => insert(alloc, image, (cores, minds), breaks, next, insertion),
+        Command::BreakInsert(insertion) => insert(alloc, image, cores, minds, breaks, next, insertion),
         Command::Continue(target) => continued(alloc, cores, minds, selected, *target),
         Command::ThreadInfo { thread } => threads(alloc, cores, minds, selected, *thread),
         Command::ThreadSelect { thread } => Ok(select(*thread, find(cores, minds, *thread))),

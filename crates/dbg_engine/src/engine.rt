@@ -7,7 +7,7 @@ ghost use Rattle.dbg_model.specs.State.{first_state, any_runs, all_gone, due};
 ghost use Rattle.dbg_model.specs.Lawful.{may_go, may_do};
 ghost use Rattle.dbg_model.specs.Reply.{reply_of};
 ghost use Rattle.engine_facts.specs.Minds.{first_mind, runs, has_gone, is_before, with_phase};
-ghost use Rattle.engine_facts.specs.Facts.{other_holder, OneLifted};
+ghost use Rattle.engine_facts.specs.Facts.{other_holder, InText, OneLifted};
 ghost use Rattle.engine_facts.specs.Seen.{seen};
 ghost use Rattle.dbg_engine.specs.Steps.{running_from, next_running, IsTurned};
 ghost use Rattle.dbg_engine.specs.Answering.{IsInserted, IsNoted};
