@@ -24,14 +24,16 @@ pub struct Named<'a> {
 #[derive(Drop)]
 pub struct Symbols {
     strings: Vec<u8>,
+    /// In the symbol table's order.
     symbols: Vec<SymbolEntry>,
     functions: Vec<SymbolEntry>,
+    /// The preferred entry of each name.
     by_name: BTreeMap<Vec<u8>, SymbolEntry>,
+    /// The function of the least name at each address.
     by_address: BTreeMap<u32, SymbolEntry>,
 }
 
 impl Model for Symbols {
-    ghost use Rattle.elf_symbols.specs.Lookups.{FindsBefore, IsAddressTable, IsNameTable};
     ghost use Rattle.elf_symbols.specs.Names.{Names};
 
     ghost Value = { Names };
