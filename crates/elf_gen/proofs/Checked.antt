@@ -1,12 +1,12 @@
 -- A file of text and data alone fails no check.
-use Rattle.std.proofs.Common.{◌≡◌, ℕ, ◌+◌, ◌*◌, ◌%◌, ◌^◌, ◌<◌, ◌≤◌, Bool, true, false, List, [], ◌∷◌, ◌++◌, length, take, drop, map, None, Option, refl, sym, ap, ◌∙◌, subst, arith, lt-ltb, le-leb, eq-eqb, length-append, append_assoc}
-use Rattle.std.specs.Prelude.{◌==◌, nat_lt, nat_le, ◌&&◌, ◌||◌, not, if◌then◌else◌}
+use Rattle.std.proofs.Common.{◌≡◌, ℕ, ◌+◌, ◌*◌, ◌%◌, ◌<◌, ◌≤◌, Bool, true, false, List, [], ◌∷◌, ◌++◌, length, take, drop, map, None, Option, refl, sym, ap, ◌∙◌, subst, arith, lt-ltb, le-leb, eq-eqb, length-append, append_assoc}
+use Rattle.std.specs.Prelude.{◌==◌, nat_lt, nat_le, ◌||◌, not, if◌then◌else◌}
 use Rattle.std.proofs.lemmas.Bool.{le-ltb}
 use Rattle.std.proofs.Math.Seq.{drop-append_seam, take-append_seam}
 use Rattle.elf32_read.specs.Fields.{u16_at, u32_at, name_at}
-use Rattle.elf32_read.specs.Headers.{file_header, section_header, section_headers, loaded, text_headers, names, names_header, section_bytes, is_text}
+use Rattle.elf32_read.specs.Headers.{file_header, section_headers, loaded, text_headers, names, names_header, section_bytes}
 use Rattle.elf32_read.specs.Checks.{Check, check, first_fault, fault_of, size_checks, header_checks, segment_checks, memory_checks, section_check, name_check, name_checks, text_checks, entry_checks, section_fits}
-use Rattle.elf32_read.specs.Stages.{or_else, table_fault}
+use Rattle.elf32_read.specs.Stages.{or_else}
 use Rattle.elf32_read.proofs.Stages.{fault_of-stages}
 use Rattle.elf32_read.specs.declared.fault.ElfKind.TheVariants as kind
 use Rattle.elf32_read.specs.declared.fault.ElfFault.{ElfFault}
@@ -15,7 +15,7 @@ use Rattle.elf32_read.specs.declared.header.ProgramHeader.{ProgramHeader}
 use Rattle.elf32_read.specs.declared.header.SectionHeader.{SectionHeader}
 use Rattle.elf_gen.specs.Layout.{elf_header, segment_headers}
 use Rattle.elf_gen.specs.Plain.{plain_names, plain_sections}
-use Rattle.elf_gen.proofs.Laid.{laid, Sizes, length-laid, place_read, text_segment, data_segment, data_loaded, loaded_are, file_header_is, no_section, text_section, data_section, names_section, section_rows, section_headers_are, names_header_is}
+use Rattle.elf_gen.proofs.Laid.{laid, Sizes, length-laid, place_read, text_segment, data_segment, data_loaded, loaded_are, file_header_is, text_section, data_section, names_section, section_rows, section_headers_are, names_header_is}
 
 none_both : (a b : Option ElfFault) → a ≡ None → b ≡ None → or_else a b ≡ None
 none_both a b e f = rw e f
@@ -128,7 +128,7 @@ pub names_at : (t b : ℕ) (text bytes : List ℕ) (at : ℕ) → Sizes t b text
     → section_bytes (laid t b text bytes) (record (names_section 0 t b) { place = at }) ≡ plain_names
 names_at t b text bytes at s =
     let within : nat_lt (length (laid t b text bytes)) (116 + t + b + 23) ≡ false =
-        le-ltb _ _ (omega (arith, length-laid t b text bytes s)) in
+    le-ltb _ _ (omega (arith, length-laid t b text bytes s)) in
     rw within (names_bytes t b text bytes s)
 
 -- where the names' header stands

@@ -1,8 +1,8 @@
 -- What stands where in a file of text and data alone.
-use Rattle.std.proofs.Common.{◌≡◌, ℕ, ◌+◌, ◌*◌, ◌%◌, ◌^◌, ◌<◌, ◌≤◌, Bool, true, false, List, [], ◌∷◌, ◌++◌, length, take, drop, refl, sym, ap, ◌∙◌, subst, arith, length-append, append_assoc, lt-ltb, add-zero}
+use Rattle.std.proofs.Common.{◌≡◌, ℕ, ◌+◌, ◌*◌, ◌%◌, ◌^◌, ◌<◌, ◌≤◌, true, List, [], ◌∷◌, ◌++◌, length, drop, refl, sym, ap, ◌∙◌, subst, arith, length-append, append_assoc, lt-ltb, add-zero}
 use Rattle.std.specs.Prelude.{nat_lt, if◌then◌else◌}
-use Rattle.std.proofs.Math.Seq.{drop-append-add, drop-append_seam, take-append_seam}
-use Rattle.byteorder.specs.Endian.{little_from, little_number, little_bytes}
+use Rattle.std.proofs.Math.Seq.{drop-append-add}
+use Rattle.byteorder.specs.Endian.{little_number, little_bytes}
 use Rattle.byteorder.specs.Numbers.{little_number-reads_back}
 use Rattle.elf32_read.specs.Fields.{u16_at, u32_at, entries}
 use Rattle.elf32_read.specs.Headers.{file_header, program_header, section_header, program_headers, section_headers, loaded}
@@ -82,7 +82,7 @@ text_segment_read t b text bytes s =
     let file : u32_at (laid t b text bytes) 68 ≡ 116 + t = reads (116 + t) (omega (arith, s.memory)) in
     let memory : u32_at (laid t b text bytes) 72 ≡ 116 + t = reads (116 + t) (omega (arith, s.memory)) in
     let row : ℕ → ℕ → ProgramHeader =
-        λ f m. record { place = 52; kind = 1; offset = 0; address = 0x10000; file_size = f; memory_size = m; flags = 5 } in
+    λ f m. record { place = 52; kind = 1; offset = 0; address = 0x10000; file_size = f; memory_size = m; flags = 5 } in
     ap (λ f. row f (u32_at (laid t b text bytes) 72)) file ∙ ap (row (116 + t)) memory
 
 data_segment_read : (t b : ℕ) (text bytes : List ℕ) → Sizes t b text bytes → program_header (laid t b text bytes) 84 ≡ data_segment t b
@@ -92,7 +92,7 @@ data_segment_read t b text bytes s =
     let file : u32_at (laid t b text bytes) 100 ≡ b = reads b (omega (arith, s.memory)) in
     let memory : u32_at (laid t b text bytes) 104 ≡ b = reads b (omega (arith, s.memory)) in
     let row : ℕ → ℕ → ℕ → ProgramHeader =
-        λ o f m. record { place = 84; kind = 1; offset = o; address = 0x20000; file_size = f; memory_size = m; flags = 6 } in
+    λ o f m. record { place = 84; kind = 1; offset = o; address = 0x20000; file_size = f; memory_size = m; flags = 6 } in
     ap (λ o. row o (u32_at (laid t b text bytes) 100) (u32_at (laid t b text bytes) 104)) offset
     ∙ ap (λ f. row (116 + t) f (u32_at (laid t b text bytes) 104)) file
     ∙ ap (row (116 + t) b) memory
@@ -120,7 +120,7 @@ pub file_header_is : (t b : ℕ) (text bytes : List ℕ) → Sizes t b text byte
 unfolding u16_at u32_at
 file_header_is t b text bytes s =
     let row : ℕ → FileHeader =
-        λ n. record { kind = 2; machine = 243; entry = 0x10074; program_headers = 52; section_headers = n; flags = 0; program_header_size = 32; program_header_count = 2; section_header_size = 40; section_header_count = 4; section_names = 3 } in
+    λ n. record { kind = 2; machine = 243; entry = 0x10074; program_headers = 52; section_headers = n; flags = 0; program_header_size = 32; program_header_count = 2; section_header_size = 40; section_header_count = 4; section_names = 3 } in
     ap row (place_read t b text bytes s)
 
 pub u32_at-past : (p s : List ℕ) (n at : ℕ) → at ≡ length p + n → u32_at (p ++ s) at ≡ u32_at s n
@@ -172,7 +172,7 @@ data_row t b h i =
     let offset : u32_at (plain_sections t b) 96 ≡ 116 + t = reads (116 + t) h in
     let size : u32_at (plain_sections t b) 100 ≡ b = reads b i in
     let row : ℕ → ℕ → SectionHeader =
-        λ o n. record { place = 80; name = 7; kind = 1; flags = 3; address = 0x20000; offset = o; size = n; link = 0 } in
+    λ o n. record { place = 80; name = 7; kind = 1; flags = 3; address = 0x20000; offset = o; size = n; link = 0 } in
     ap (λ o. row o (u32_at (plain_sections t b) 100)) offset ∙ ap (row (116 + t)) size
 
 names_row : (t b : ℕ) → 116 + t + b < 256 ^ 4 → section_header (plain_sections t b) 120 ≡ names_section 0 t b
@@ -180,7 +180,7 @@ unfolding u32_at
 names_row t b h =
     let offset : u32_at (plain_sections t b) 136 ≡ 116 + t + b = reads (116 + t + b) h in
     let row : ℕ → SectionHeader =
-        λ o. record { place = 120; name = 13; kind = 3; flags = 0; address = 0; offset = o; size = 23; link = 0 } in
+    λ o. record { place = 120; name = 13; kind = 3; flags = 0; address = 0; offset = o; size = 23; link = 0 } in
     ap row offset
 
 moved : (h g : SectionHeader) (at : ℕ) → h ≡ g → record h { place = at } ≡ record g { place = at }

@@ -1,22 +1,22 @@
 -- The program of a file of text and data alone.
-use Rattle.std.proofs.Common.{◌≡◌, ℕ, zero, suc, ◌+◌, ◌-◌, ◌*◌, ◌/◌, ◌%◌, ◌^◌, ◌<◌, ◌≤◌, Bool, true, false, List, [], ◌∷◌, ◌++◌, length, take, drop, get_or, map, find, Option, Some, refl, sym, ap, ◌∙◌, subst, arith, le-leb, add-one, length-append, append_assoc}
+use Rattle.std.proofs.Common.{◌≡◌, ℕ, zero, suc, ◌+◌, ◌*◌, ◌/◌, ◌^◌, ◌<◌, ◌≤◌, Bool, true, false, List, [], ◌∷◌, ◌++◌, length, take, drop, get_or, map, find, Option, Some, refl, sym, ap, ◌∙◌, arith, le-leb, add-one, length-append, append_assoc}
 use Rattle.std.specs.Prelude.{nat_lt, nat_le, codes, if◌then◌else◌}
 use Rattle.std.specs.Option.{option_map_or}
 use Rattle.std.proofs.lemmas.Bool.{le-ltb}
 use Rattle.std.proofs.lemmas.List.{take_more}
 use Rattle.std.proofs.Math.Nat.{mul-mod_right, mul-div_right, zero-add}
 use Rattle.std.proofs.Math.Seq.{take-length}
-use Rattle.byteorder.specs.Endian.{little_bytes, little_number}
+use Rattle.byteorder.specs.Endian.{little_bytes}
 use Rattle.byteorder.specs.Numbers.{little_number-reads_back}
 use Rattle.elf32_read.specs.Fields.{u16_at, u32_at, name_at, entries}
 use Rattle.elf32_read.specs.Program.{Program, Segment, Section, Text}
-use Rattle.elf32_read.specs.Headers.{file_header, section_headers, loaded, text_headers, names, section_bytes, segment_of, text_of, section_of, program_of, bytes_from, holds_text}
+use Rattle.elf32_read.specs.Headers.{section_headers, loaded, text_headers, section_bytes, segment_of, text_of, section_of, program_of, bytes_from, holds_text}
 use Rattle.elf32_read.specs.Reading.{IsImage}
 use Rattle.elf32_read.specs.declared.header.ProgramHeader.{ProgramHeader}
 use Rattle.elf32_read.specs.declared.header.SectionHeader.{SectionHeader}
 use Rattle.elf_gen.specs.Layout.{words_of, elf_header, segment_headers}
 use Rattle.elf_gen.specs.Plain.{plain_names, plain_sections, plain_file, plain_program, section}
-use Rattle.elf_gen.proofs.Laid.{laid, Sizes, length-laid, text_segment, data_segment, data_loaded, loaded_are, no_section, text_section, data_section, names_section, section_rows, section_headers_are, u32_at-past}
+use Rattle.elf_gen.proofs.Laid.{laid, Sizes, length-laid, text_segment, data_segment, data_loaded, loaded_are, no_section, text_section, data_section, names_section, section_headers_are, u32_at-past}
 use Rattle.elf_gen.proofs.Checked.{middle, names_are, names_at, text_headers_are, laid_accepted}
 
 -- a number that fits in four bytes
@@ -39,7 +39,7 @@ first_words ws zero h fit = refl
 first_words ws (suc n) h fit =
     let before : entries (u32_at (words_of ws)) 0 4 n ≡ take n ws = first_words ws n (omega arith) fit in
     let one : u32_at (words_of ws) (0 + 4 * n) ≡ get_or ws n 0 =
-        ap (u32_at (words_of ws)) (zero-add (4 * n)) ∙ word_read ws n (omega arith) fit in
+    ap (u32_at (words_of ws)) (zero-add (4 * n)) ∙ word_read ws n (omega arith) fit in
     let more : take (suc n) ws ≡ take n ws ++ get_or ws n 0 ∷ [] = rw (← add-one n) (take_more ws n 0 (omega arith)) in
     let here : n < length ws = omega arith in
     ap (λ (xs : List ℕ). xs ++ u32_at (words_of ws) (0 + 4 * n) ∷ []) before
@@ -99,7 +99,7 @@ segments_are : (t b : ℕ) (text bytes : List ℕ) → Sizes t b text bytes
 segments_are t b text bytes s =
     let file = laid t b text bytes in
     let first : segment_of file (text_segment t) ≡ first_segment t b text =
-        ap (λ (xs : List ℕ). record { address = 0x10000; size = 116 + t; flags = 5; bytes = xs }) (text_part t b text bytes s) in
+    ap (λ (xs : List ℕ). record { address = 0x10000; size = 116 + t; flags = 5; bytes = xs }) (text_part t b text bytes s) in
     let second : segment_of file (data_segment t b) ≡ second_segment b bytes = ap (second_segment b) (data_at t b text bytes s) in
     ap (map (segment_of file)) (loaded_are t b text bytes s)
     ∙ segments_by file t b (nat_lt 0 b) (first_segment t b text) (second_segment b bytes) first second

@@ -76,23 +76,23 @@ generated_program number =
     record {
       entry = 0x00010074;
       segments =
-        record {
-          address = 0x00010000;
-          size = 180;
-          flags = 5;
-          bytes = elf_header 461 8 ++ (segment_headers 64 8 ++ words_of counting_words)
-        }
-        ∷ record { address = 0x00020000; size = 8; flags = 6; bytes = words_of (0 ∷ number ∷ []) }
-        ∷ [];
+          record {
+            address = 0x00010000;
+            size = 180;
+            flags = 5;
+            bytes = elf_header 461 8 ++ (segment_headers 64 8 ++ words_of counting_words);
+          }
+          ∷ record { address = 0x00020000; size = 8; flags = 6; bytes = words_of (0 ∷ number ∷ []) }
+          ∷ [];
       text = record { address = 0x00010074; words = counting_words } ∷ [];
       sections =
-        section [] 0 0 0 []
-        ∷ section (codes ".text") 1 6 0x00010074 (words_of counting_words)
-        ∷ section (codes ".data") 1 3 0x00020000 (words_of (0 ∷ number ∷ []))
-        ∷ record { name = Some (codes ".symtab"); kind = 2; flags = 0; address = 0; link = 4; bytes = symbols }
-        ∷ section (codes ".strtab") 3 0 0 symbol_strings
-        ∷ section (codes ".debug_line") 1 0 0 line_bytes
-        ∷ section (codes ".debug_frame") 1 0 0 frame_bytes
-        ∷ section (codes ".shstrtab") 3 0 0 section_names
-        ∷ [];
+          section [] 0 0 0 []
+          ∷ section (codes ".text") 1 6 0x00010074 (words_of counting_words)
+          ∷ section (codes ".data") 1 3 0x00020000 (words_of (0 ∷ number ∷ []))
+          ∷ record { name = Some (codes ".symtab"); kind = 2; flags = 0; address = 0; link = 4; bytes = symbols }
+          ∷ section (codes ".strtab") 3 0 0 symbol_strings
+          ∷ section (codes ".debug_line") 1 0 0 line_bytes
+          ∷ section (codes ".debug_frame") 1 0 0 frame_bytes
+          ∷ section (codes ".shstrtab") 3 0 0 section_names
+          ∷ [];
     }

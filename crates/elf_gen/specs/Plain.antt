@@ -39,20 +39,20 @@ plain_program words bytes =
     record {
       entry = 0x00010074;
       segments =
-        record {
-          address = 0x00010000;
-          size = 116 + text;
-          flags = 5;
-          bytes = (elf_header (139 + text + length bytes) 4 ++ segment_headers text (length bytes)) ++ words_of words
-        }
-        ∷ (if nat_lt 0 (length bytes)
+          record {
+            address = 0x00010000;
+            size = 116 + text;
+            flags = 5;
+            bytes = (elf_header (139 + text + length bytes) 4 ++ segment_headers text (length bytes)) ++ words_of words;
+          }
+          ∷ (if nat_lt 0 (length bytes)
           then (record { address = 0x00020000; size = length bytes; flags = 6; bytes = bytes } ∷ [])
           else []);
       text = record { address = 0x00010074; words = words } ∷ [];
       sections =
-        section [] 0 0 0 []
-        ∷ section (codes ".text") 1 6 0x00010074 (words_of words)
-        ∷ section (codes ".data") 1 3 0x00020000 bytes
-        ∷ section (codes ".shstrtab") 3 0 0 plain_names
-        ∷ [];
+          section [] 0 0 0 []
+          ∷ section (codes ".text") 1 6 0x00010074 (words_of words)
+          ∷ section (codes ".data") 1 3 0x00020000 bytes
+          ∷ section (codes ".shstrtab") 3 0 0 plain_names
+          ∷ [];
     }

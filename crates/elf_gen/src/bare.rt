@@ -7,12 +7,14 @@ use crate::numbers::put_words;
 use dbg_traits::NoMemory;
 use std::alloc::{AllocError, Global};
 
+/// The sections' names, at 1, 7 and 13.
 const NAMES: &[u8] = b"\0.text\0.data\0.shstrtab\0";
 
 /// The size of a section header.
 const SECTION: usize = 40;
 
-/// The section headers, by the sizes of text and data in bytes.
+/// The section headers, by the sizes of text and data in bytes: each is name, type, flags, address, offset, size,
+/// link, info, alignment and entry size (gABI, Section Header).
 fn put_sections(file: &mut Vec<u8>, text: u32, bytes: u32) -> Result<(), AllocError>
     requires { 116 + text + bytes < 2 ^ 32 }
     ensures { OnOk result (file.new.items ≡ file.old.items ++ plain_sections text bytes) }

@@ -9,10 +9,26 @@ use std::alloc::{AllocError, Global};
 
 /// `_start` and then `work`, which adds to the counter.
 const WORDS: [u32; 16] = [
-    0x0002_0737, 0x0047_2583, 0x0100_00ef, 0x05d0_0893, 0x0000_0513, 0x0000_0073, 0xff01_0113,
-    0x0011_2623, 0x0002_0637, 0x0010_0693, 0x00d6_252f, 0xfff5_8593, 0xfe05_9ce3, 0x00c1_2083,
-    0x0101_0113, 0x0000_8067,
+    0x0002_0737,
+    0x0047_2583,
+    0x0100_00ef,
+    0x05d0_0893,
+    0x0000_0513,
+    0x0000_0073,
+    0xff01_0113,
+    0x0011_2623,
+    0x0002_0637,
+    0x0010_0693,
+    0x00d6_252f,
+    0xfff5_8593,
+    0xfe05_9ce3,
+    0x00c1_2083,
+    0x0101_0113,
+    0x0000_8067,
 ];
+
+/// Where the section headers begin.
+const SECTIONS: u32 = 461;
 
 /// A global function.
 const FUNCTION: u8 = 0x12;
@@ -20,6 +36,7 @@ const FUNCTION: u8 = 0x12;
 /// A global object.
 const OBJECT: u8 = 0x11;
 
+/// The symbols' names, at 1, 8, 13 and 19.
 const STRINGS: &[u8] = b"\0_start\0work\0count\0limit\0";
 
 /// The rows of `work`.
@@ -37,6 +54,7 @@ const FRAMES: [u8; 44] = [
     0x44, 0x0e, 0x10, 0x44, 0x81, 0x01, 0x58, 0xc1, 0x44, 0x0e, 0x00, 0x00,
 ];
 
+/// The sections' names, in their order.
 const NAMES: &[u8] = b"\0.text\0.data\0.symtab\0.strtab\0.debug_line\0.debug_frame\0.shstrtab\0";
 
 /// An entry of the symbol table: its name's place, its value and size, its binding with its type, and its section.
@@ -54,6 +72,7 @@ fn put_symbol(
     file.extend_from_slice(&[info, 0, section, 0])
 }
 
+/// An empty entry, two functions of the first section and two objects of the second.
 fn put_symbols(file: &mut Vec<u8>) -> Result<(), AllocError>
     ensures { OnOk result (file.new.items ≡ file.old.items ++ symbols) }
 {
@@ -64,6 +83,7 @@ fn put_symbols(file: &mut Vec<u8>) -> Result<(), AllocError>
     put_symbol(file, 19, DATA + 4, 4, OBJECT, 2)
 }
 
+/// The section headers: each is name, type, flags, address, offset, size, link, info, alignment and entry size.
 fn put_sections(file: &mut Vec<u8>) -> Result<(), AllocError>
     ensures { OnOk result (file.new.items ≡ file.old.items ++ generated_sections) }
 {
@@ -96,8 +116,8 @@ pub fn generate(alloc: Global, number: u32) -> Result<Vec<u8>, NoMemory>
     ensures bytes { IfOk result (λ file. file.items ≡ generated_file number) }
     ensures image { IfOk result (λ file. IsImage file.items (generated_program number)) }
 {
-    let mut file = Vec::with_capacity(alloc, 781)?;
-    put_header(&mut file, 461, 8)?;
+    let mut file = Vec::with_capacity(alloc, SECTIONS as usize + 8 * 40)?;
+    put_header(&mut file, SECTIONS, 8)?;
     put_segments(&mut file, 64, 8)?;
     put_words(&mut file, &WORDS)?;
     put_words(&mut file, &[0, number])?;

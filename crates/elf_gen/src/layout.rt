@@ -23,6 +23,7 @@ pub fn put_header(file: &mut Vec<u8>, sections: u32, count: u16) -> Result<(), A
     ensures { OnOk result (file.new.items ≡ file.old.items ++ elf_header sections count) }
 {
     file.extend_from_slice(&IDENT)?;
+    // An executable for RISC-V.
     put_halves(file, &[2, 243])?;
     put_words(file, &[1, ENTRY, 52, sections, 0])?;
     put_halves(file, &[52, 32, 2, 40, count, count - 1])
@@ -33,6 +34,7 @@ pub fn put_segments(file: &mut Vec<u8>, text: u32, bytes: u32) -> Result<(), All
     requires { 116 + text < 2 ^ 32 }
     ensures { OnOk result (file.new.items ≡ file.old.items ++ segment_headers text bytes) }
 {
+    // Each is type, offset, address, physical address, file size, memory size, flags and alignment.
     let end = FRONT as u32 + text;
     put_words(file, &[1, 0, 0x0001_0000, 0x0001_0000, end, end, 5, 4])?;
     put_words(file, &[1, end, DATA, DATA, bytes, bytes, 6, 1])

@@ -1,13 +1,15 @@
 //! Makes small ELF executables for RISC-V, and a session's script over one of them.
 #![tactic(auto)]
 
+mod bare;
 mod generated;
 mod layout;
 mod numbers;
-mod bare;
 mod session;
 
-pub use generated::generate;
 pub use bare::plain;
+pub use generated::generate;
 pub use session::script;
 
+#[cfg(test)]
+mod tests;

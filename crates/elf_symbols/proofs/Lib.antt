@@ -1,3 +1,5 @@
 pub mod Proper
 pub mod Best
 pub mod Tables
+pub mod Puts
+pub mod Nearest

@@ -1,4 +1,5 @@
 pub mod Entries
 pub mod Names
 pub mod Views
+pub mod Lookups
 pub mod Inside

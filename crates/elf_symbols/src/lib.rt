@@ -2,6 +2,7 @@
 #![tactic(auto)]
 
 mod entry;
+mod lookups;
 mod names;
 mod table;
 

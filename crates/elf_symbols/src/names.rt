@@ -2,11 +2,12 @@ ghost use Rattle.std.specs.Prelude.{◌≡◌, ◌+◌, ◌&&◌, IfOk, None, So
 ghost use Rattle.std.specs.Option.{option_map, option_map_or};
 ghost use Rattle.elf32_read.specs.Fields.{name_at, name_from};
 ghost use Rattle.elf_symbols.specs.Entries.{begins_by, entry_named, entry_nearer, entry_preferred, names_by, symbol_of};
+ghost use Rattle.elf_symbols.specs.Lookups.{FindsBefore, IsAddressTable, IsNameTable};
 ghost use Rattle.elf_symbols.specs.Names.{address_of, best, bytes_before, covering, function_at};
 ghost use Rattle.elf_symbols.specs.Views.{symbol_shown};
 
 use crate::entry::SymbolEntry;
-use elf32_read::fields::begins_with_name;
+use std::collections::BTreeMap;
 use std::marker::Model;
 
 /// A symbol that was found.
@@ -23,8 +24,13 @@ pub struct Named<'a> {
 #[derive(Drop)]
 pub struct Symbols {
     strings: Vec<u8>,
+    /// In the symbol table's order.
     symbols: Vec<SymbolEntry>,
     functions: Vec<SymbolEntry>,
+    /// The preferred entry of each name.
+    by_name: BTreeMap<Vec<u8>, SymbolEntry>,
+    /// The function of the least name at each address.
+    by_address: BTreeMap<u32, SymbolEntry>,
 }
 
 impl Model for Symbols {
@@ -32,9 +38,11 @@ impl Model for Symbols {
 
     ghost Value = { Names };
 
-    ghost use Rattle.elf_symbols.specs.Inside.{seen};
+    ghost use Rattle.elf_symbols.specs.Inside.{seen, IsKept};
 
     ghost view = { seen };
+
+    ghost invariant = { IsKept };
 }
 
 /// The bytes up to the first zero byte, or none where there is no zero byte.
@@ -53,7 +61,7 @@ fn first_name(bytes: &[u8]) -> &[u8]
 }
 
 #[tactic(auto, unfolding(elf32_read::specs::Fields::name_at))]
-fn symbol_name<'a>(strings: &'a [u8], entry: &SymbolEntry) -> &'a [u8]
+pub fn symbol_name<'a>(strings: &'a [u8], entry: &SymbolEntry) -> &'a [u8]
     ensures { result.now ≡ unwrap_or (name_at strings.now entry.now.name) [] }
 {
     let start = entry.name as usize;
@@ -62,14 +70,6 @@ fn symbol_name<'a>(strings: &'a [u8], entry: &SymbolEntry) -> &'a [u8]
     } else {
         &[]
     }
-}
-
-#[tactic(auto, unfolding(elf32_read::specs::Fields::name_at))]
-fn is_named(strings: &[u8], name: &[u8], entry: &SymbolEntry) -> bool
-    ensures { result ≡ entry_named strings.now name.now entry.now }
-{
-    let start = entry.name as usize;
-    start <= strings.len() && begins_with_name(&strings[start..], name)
 }
 
 /// Whether a name comes before another in the order of their bytes.
@@ -94,13 +94,13 @@ fn bytes_before(left: &[u8], right: &[u8]) -> bool
     }
 }
 
-fn is_preferred(a: &SymbolEntry, b: &SymbolEntry) -> bool
+pub fn is_preferred(a: &SymbolEntry, b: &SymbolEntry) -> bool
     ensures { result ≡ entry_preferred a.now b.now }
 {
     a.address < b.address || (a.address == b.address && (a.kind == 2 && !(b.kind == 2)))
 }
 
-fn is_nearer(strings: &[u8], a: &SymbolEntry, b: &SymbolEntry) -> bool
+pub fn is_nearer(strings: &[u8], a: &SymbolEntry, b: &SymbolEntry) -> bool
     ensures { result ≡ entry_nearer strings.now a.now b.now }
 {
     b.address < a.address
@@ -108,36 +108,14 @@ fn is_nearer(strings: &[u8], a: &SymbolEntry, b: &SymbolEntry) -> bool
             && bytes_before(symbol_name(strings, a), symbol_name(strings, b)))
 }
 
-/// The entry of a name: of the least address, and of equal ones a function.
-fn entry_of(strings: &[u8], symbols: &[SymbolEntry], name: &[u8]) -> Option<SymbolEntry>
-    ensures { result ≡ best entry_preferred (filter (entry_named strings.now name.now) symbols.now) }
-{
-    let mut found: Option<SymbolEntry> = None;
-    for entry in symbols {
-        if is_named(strings, name, entry) {
-            found = match found {
-                Some(other) if !is_preferred(entry, &other) => Some(other),
-                _ => Some(*entry),
-            };
-        }
-    }
-    found
-}
-
 /// The function that begins at an address or before it, nearest.
-fn nearest(strings: &[u8], functions: &[SymbolEntry], addr: u32) -> Option<SymbolEntry>
-    ensures { result ≡ best (entry_nearer strings.now) (filter (begins_by addr) functions.now) }
+fn nearest(table: &BTreeMap<u32, SymbolEntry>, addr: u32) -> Option<SymbolEntry>
+    ensures { FindsBefore table.now addr result }
 {
-    let mut found: Option<SymbolEntry> = None;
-    for entry in functions {
-        if entry.address <= addr {
-            found = match found {
-                Some(other) if !is_nearer(strings, entry, &other) => Some(other),
-                _ => Some(*entry),
-            };
-        }
+    match table.range(..=addr).next_back() {
+        Some((_, entry)) => Some(*entry),
+        None => None,
     }
-    found
 }
 
 fn shown<'a>(strings: &'a [u8], entry: &SymbolEntry) -> Named<'a>
@@ -151,15 +129,6 @@ fn shown<'a>(strings: &'a [u8], entry: &SymbolEntry) -> Named<'a>
     }
 }
 
-fn look_up<'a>(strings: &'a [u8], symbols: &[SymbolEntry], name: &[u8]) -> Option<Named<'a>>
-    ensures { option_map symbol_shown result ≡ option_map (symbol_of strings.now) (best entry_preferred (filter (entry_named strings.now name.now) symbols.now)) }
-{
-    match entry_of(strings, symbols, name) {
-        Some(entry) => Some(shown(strings, &entry)),
-        None => None,
-    }
-}
-
 /// Whether an entry has a size and the address lies past it.
 fn is_past(entry: &SymbolEntry, addr: u32) -> bool
     ensures { result ≡ (nat_lt 0 entry.now.size && nat_le (entry.now.address + entry.now.size) addr) }
@@ -167,18 +136,12 @@ fn is_past(entry: &SymbolEntry, addr: u32) -> bool
     entry.size > 0 && entry.address as u64 + entry.size as u64 <= addr as u64
 }
 
-fn function<'a>(strings: &'a [u8], functions: &[SymbolEntry], addr: u32) -> Option<Named<'a>>
-    ensures { option_map symbol_shown result ≡ option_and_then (covering addr) (option_map (symbol_of strings.now) (best (entry_nearer strings.now) (filter (begins_by addr) functions.now))) }
+fn covering<'a>(strings: &'a [u8], found: Option<SymbolEntry>, addr: u32) -> Option<Named<'a>>
+    ensures { option_map symbol_shown result ≡ option_and_then (covering addr) (option_map (symbol_of strings.now) found) }
 {
-    match nearest(strings, functions, addr) {
-        Some(entry) => {
-            if is_past(&entry, addr) {
-                None
-            } else {
-                Some(shown(strings, &entry))
-            }
-        }
-        None => None,
+    match found {
+        Some(entry) if !is_past(&entry, addr) => Some(shown(strings, &entry)),
+        _ => None,
     }
 }
 
@@ -187,13 +150,19 @@ impl Symbols {
         strings: Vec<u8>,
         symbols: Vec<SymbolEntry>,
         functions: Vec<SymbolEntry>,
+        by_name: BTreeMap<Vec<u8>, SymbolEntry>,
+        by_address: BTreeMap<u32, SymbolEntry>,
     ) -> Symbols
+        requires by_name { IsNameTable strings.items symbols.items by_name }
+        requires by_address { IsAddressTable strings.items functions.items by_address }
         ensures { result ≡ names_by strings.items symbols.items functions.items }
     {
         Symbols {
             strings,
             symbols,
             functions,
+            by_name,
+            by_address,
         }
     }
 
@@ -202,7 +171,7 @@ impl Symbols {
     pub fn function_at(&self, addr: u32) -> Option<Named<'_>>
         ensures { option_map symbol_shown result ≡ function_at self.now addr }
     {
-        function(&self.strings, &self.functions, addr)
+        covering(&self.strings, nearest(&self.by_address, addr), addr)
     }
 
     /// The symbol of a name: of the least address, and of equal ones a function.
@@ -212,6 +181,9 @@ impl Symbols {
         if name.is_empty() {
             return None;
         }
-        look_up(&self.strings, &self.symbols, name)
+        match self.by_name.get(name) {
+            Some(entry) => Some(shown(&self.strings, entry)),
+            None => None,
+        }
     }
 }

@@ -4,6 +4,7 @@ ghost use Rattle.elf32_read.specs.Views.{section_shown, unnamed};
 ghost use Rattle.elf_symbols.specs.Entries.{is_code, names_of, strings_of, symbol_bytes, symbol_names, symbol_table};
 
 use crate::entry::{SymbolEntry, counted_entries};
+use crate::lookups::{address_table, name_table};
 use crate::names::Symbols;
 use dbg_traits::NoMemory;
 use elf32_read::fields::zero_end;
@@ -85,5 +86,8 @@ pub fn symbols(alloc: Global, image: &Image) -> Result<Symbols, NoMemory>
     let strings = symbol_strings(image);
     let symbols = counted_entries(alloc, symbol_bytes(image), strings, zero_end(strings))?;
     let functions = code_entries(alloc, image, &symbols)?;
-    Ok(Symbols::of(Vec::from_slice(alloc, strings)?, symbols, functions))
+    let by_name = name_table(alloc, strings, &symbols)?;
+    let by_address = address_table(alloc, strings, &functions)?;
+    let strings = Vec::from_slice(alloc, strings)?;
+    Ok(Symbols::of(strings, symbols, functions, by_name, by_address))
 }

@@ -1,10 +1,20 @@
-use Rattle.std.proofs.Common.{◌∙◌, ap, sym}
-use Rattle.elf_symbols.specs.Names.{Names}
-use Rattle.elf_symbols.proofs.Best.{entry_address}
+-- What the table has at the name.
+use Rattle.std.proofs.Common.{ℕ, List, Some, ◌∙◌, ap, sym}
+use Rattle.std.specs.Option.{option_map}
+use Rattle.elf_symbols.specs.Names.{Names, Symbol}
+use Rattle.elf_symbols.specs.Entries.{symbol_of}
+use Rattle.elf_symbols.proofs.Best.{found_address}
 use Rattle.elf_symbols.proofs.names.Symbols.address_of.Goals as goal
 
-pub returns : goal.returns
-returns c =
-    c.look_up.ensures
-    ∙ rw (c.deref.ensures.value, c.deref-2.ensures.value)
-    (entry_address c.self.inside.strings.items c.args.name.now c.self.inside.symbols.items c.args.self.now (sym c.is_empty.ensures ∙ c.if-is_empty.false) (ap (λ (n : Names). n.symbols) c.self.view_is))
+pub returns-in-Some : goal.returns-in-Some
+returns-in-Some c =
+    let i = c.self.inside in
+    ap (λ (s : Symbol). Some s) (c.shown.ensures ∙ ap (λ (strings : List ℕ). symbol_of strings c.in-Some.entry.now) c.deref.ensures.value)
+    ∙ ap (option_map (symbol_of i.strings.items)) c.in-Some.ensures.value
+    ∙ found_address i.strings.items c.args.name.now i.symbols.items c.args.self.now i.by_name c.self.invariant.by_name (sym c.is_empty.ensures ∙ c.if-is_empty.false) (ap (λ (n : Names). n.symbols) c.self.view_is)
+
+pub returns-in-None : goal.returns-in-None
+returns-in-None c =
+    let i = c.self.inside in
+    ap (option_map (symbol_of i.strings.items)) c.in-None.ensures.value
+    ∙ found_address i.strings.items c.args.name.now i.symbols.items c.args.self.now i.by_name c.self.invariant.by_name (sym c.is_empty.ensures ∙ c.if-is_empty.false) (ap (λ (n : Names). n.symbols) c.self.view_is)

@@ -1,0 +1,74 @@
+// The tables of the look-ups.
+ghost use Rattle.std.specs.Prelude.{OnOk, IfOk};
+ghost use Rattle.elf_symbols.specs.Lookups.{AddsAddress, AddsName, IsAddressTable, IsNameTable};
+
+use crate::entry::SymbolEntry;
+use crate::names::{is_nearer, is_preferred, symbol_name};
+use std::alloc::{AllocError, Global};
+use std::collections::BTreeMap;
+
+/// Puts an entry at its name, unless the one that is there is preferred or equal.
+fn put_name(
+    alloc: Global,
+    table: &mut BTreeMap<Vec<u8>, SymbolEntry>,
+    strings: &[u8],
+    entry: &SymbolEntry,
+) -> Result<(), AllocError>
+    ensures { OnOk result (AddsName strings.now entry.now table.old table.new) }
+{
+    let name = symbol_name(strings, entry);
+    match table.get(name) {
+        Some(other) if !is_preferred(entry, other) => Ok(()),
+        _ => {
+            table.insert(Vec::from_slice(alloc, name)?, *entry)?;
+            Ok(())
+        }
+    }
+}
+
+/// Puts a function at its address, unless the one that is there has the lesser name or the same.
+fn put_address(
+    table: &mut BTreeMap<u32, SymbolEntry>,
+    strings: &[u8],
+    entry: &SymbolEntry,
+) -> Result<(), AllocError>
+    ensures { OnOk result (AddsAddress strings.now entry.now table.old table.new) }
+{
+    match table.get(&entry.address) {
+        Some(other) if !is_nearer(strings, entry, other) => Ok(()),
+        _ => {
+            table.insert(entry.address, *entry)?;
+            Ok(())
+        }
+    }
+}
+
+/// The preferred entry of each name.
+pub fn name_table(
+    alloc: Global,
+    strings: &[u8],
+    symbols: &[SymbolEntry],
+) -> Result<BTreeMap<Vec<u8>, SymbolEntry>, AllocError>
+    ensures { IfOk result (λ table. IsNameTable strings.now symbols.now table) }
+{
+    let mut table = BTreeMap::new(alloc);
+    for entry in symbols {
+        put_name(alloc, &mut table, strings, entry)?;
+    }
+    Ok(table)
+}
+
+/// The function of the least name at each address.
+pub fn address_table(
+    alloc: Global,
+    strings: &[u8],
+    functions: &[SymbolEntry],
+) -> Result<BTreeMap<u32, SymbolEntry>, AllocError>
+    ensures { IfOk result (λ table. IsAddressTable strings.now functions.now table) }
+{
+    let mut table = BTreeMap::new(alloc);
+    for entry in functions {
+        put_address(&mut table, strings, entry)?;
+    }
+    Ok(table)
+}
