@@ -1,0 +1,44 @@
+//! What a breakpoint is.
+
+use crate::location::Location;
+use cond_expr::Expr;
+
+/// What is asked of a new breakpoint.
+#[derive(Debug, Drop)]
+pub struct Spec {
+    /// The instruction that it stands at.
+    pub address: u32,
+    /// The text by which the address was given.
+    pub location: Location,
+    /// Whether it is deleted where it stops a hart.
+    pub temporary: bool,
+    pub enabled: bool,
+    /// How many arrivals are only counted before one stops.
+    pub ignore: u32,
+    /// An arrival stops only where the value of this isn't 0, or can't be had.
+    pub condition: Option<Expr>,
+    /// The one thread that it is for, counted from 1; none is for each.
+    pub thread: Option<u32>,
+}
+
+/// A breakpoint.
+#[derive(Debug, Drop)]
+pub struct BreakEntry {
+    /// From 1 on, and never used again.
+    pub number: u32,
+    /// The instruction that it stands at.
+    pub address: u32,
+    /// The text by which the address was given.
+    pub location: Location,
+    /// Whether it is deleted where it stops a hart.
+    pub temporary: bool,
+    pub enabled: bool,
+    /// How many arrivals are only counted before one stops.
+    pub ignore: u32,
+    /// An arrival stops only where the value of this isn't 0, or can't be had.
+    pub condition: Option<Expr>,
+    /// The one thread that it is for, counted from 1; none is for each.
+    pub thread: Option<u32>,
+    /// How many arrivals it counted or stopped.
+    pub times: u64,
+}
