@@ -1,15 +1,17 @@
 -- How the logic stores a condition's tree: as the list of its parts, each operation behind its operands.
-use Rattle.std.specs.Prelude.{◌≡◌, ℕ, Bool, List, [], ◌∷◌, Option, Some, None, ◌⊎◌, refl}
-use Rattle.std.specs.Coded.{Coded, code_by, coded×, coded⊎, coded_list, coded_option, coded_ℕ}
-use Rattle.std.proofs.Common.{◌∙◌, ap}
+use Rattle.std.specs.Prelude.{◌≡◌, List, [], ◌∷◌, ◌⊎◌, refl}
+use Rattle.std.specs.Coded.{Coded, code_by, coded⊎, coded_list}
+use Rattle.std.proofs.Common.{◌∙◌, ap, inl, inr}
 use Rattle.cond_expr.specs.declared.token.Binary.{Binary}
 use Rattle.cond_expr.specs.declared.token.Prefix.{Prefix}
 use Rattle.cond_expr.specs.declared.token.Leaf.{Leaf}
 use Rattle.cond_expr.specs.declared.token.Leaf.TheVariants.{Number}
+use Rattle.cond_expr.specs.contracts.token.Leaf as leaves
+use Rattle.cond_expr.specs.contracts.token.Prefix as prefixes
+use Rattle.cond_expr.specs.contracts.token.Binary as binaries
 use Rattle.cond_expr.specs.Term.{Term, leaf, prefix, binary}
-use Rattle.break_table.specs.Entry.{Condition}
 
-data Part : Type 0 where
+pub data Part : Type 0 where
   operand : Leaf → Part
   before : Prefix → Part
   between : Binary → Part
@@ -42,7 +44,7 @@ built-parts_of (leaf a) rest stack = refl
 built-parts_of (prefix op x) rest stack = built-parts_of x (before op ∷ rest) stack
 built-parts_of (binary op x y) rest stack = built-parts_of x (parts_of y (between op ∷ rest)) stack ∙ built-parts_of y (between op ∷ rest) (x ∷ stack)
 
-first-built : (x : Term) → first (built (parts_of x []) []) ≡ x
+pub first-built : (x : Term) → first (built (parts_of x []) []) ≡ x
 first-built x = ap first (built-parts_of x [] [])
 
 abbrev part_cases : Part → Leaf ⊎ (Prefix ⊎ Binary)
@@ -55,12 +57,13 @@ part_of (inl a) = operand a
 part_of (inr (inl op)) = before op
 part_of (inr (inr op)) = between op
 
-part_of-part_cases : (p : Part) → part_of (part_cases p) ≡ p
+pub part_of-part_cases : (p : Part) → part_of (part_cases p) ≡ p
 part_of-part_cases (operand a) = refl
 part_of-part_cases (before op) = refl
 part_of-part_cases (between op) = refl
 
-abbrev pub term_code : Coded Leaf → Coded Prefix → Coded Binary → Coded Term
-term_code l p b =
-    code_by (List Part) (coded_list (code_by (Leaf ⊎ (Prefix ⊎ Binary)) (coded⊎ l (coded⊎ p b)) part_cases part_of part_of-part_cases))
-    (λ x. parts_of x []) (λ parts. first (built parts [])) first-built
+abbrev pub parts_code : Coded (List Part)
+parts_code = coded_list (code_by (Leaf ⊎ (Prefix ⊎ Binary)) (coded⊎ leaves.the_row.coded (coded⊎ prefixes.the_row.coded binaries.the_row.coded)) part_cases part_of part_of-part_cases)
+
+abbrev pub term_code : Coded Term
+term_code = code_by (List Part) parts_code (λ x. parts_of x []) (λ parts. first (built parts [])) first-built

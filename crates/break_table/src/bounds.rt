@@ -1,6 +1,7 @@
 //! Where text stands.
 
 ghost use Rattle.std.specs.Prelude.{◌≡◌, IfOk};
+ghost use Rattle.std.specs.List.{list_any};
 ghost use Rattle.break_table.specs.Text.{bounds_of, in_bounds, is_place, text_bounds};
 ghost use Rattle.elf32_read.specs.Views.{text_shown};
 
@@ -40,9 +41,15 @@ fn in_bounds(addr: u32, bounds: &TextBounds) -> bool
     bounds.address <= addr && ((addr - bounds.address) as usize) < bounds.size
 }
 
+fn in_text(text: &[TextBounds], addr: u32) -> bool
+    ensures { result ≡ list_any (in_bounds addr) text.now }
+{
+    text.iter().any(|bounds| in_bounds(addr, bounds))
+}
+
 /// Whether an address is a multiple of 4 in text.
 pub fn is_place(text: &[TextBounds], addr: u32) -> bool
     ensures { result ≡ is_place text.now addr }
 {
-    addr % 4 == 0 && text.iter().any(|bounds| in_bounds(addr, bounds))
+    addr % 4 == 0 && in_text(text, addr)
 }

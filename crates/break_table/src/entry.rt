@@ -42,3 +42,34 @@ pub struct BreakEntry {
     /// How many arrivals it counted or stopped.
     pub times: u64,
 }
+
+impl BreakEntry {
+    ghost use Rattle.std.specs.Prelude.{◌≡◌};
+    ghost use Rattle.break_table.specs.Entry.{asked_of, entry_of, new_entry};
+
+    /// The entry that is asked for, with a number.
+    pub(crate) fn new(number: u32, spec: Spec) -> BreakEntry
+        ensures { entry_of result ≡ new_entry number (asked_of spec) }
+    {
+        let Spec {
+            address,
+            location,
+            temporary,
+            enabled,
+            ignore,
+            condition,
+            thread,
+        } = spec;
+        BreakEntry {
+            number,
+            address,
+            location,
+            temporary,
+            enabled,
+            ignore,
+            condition,
+            thread,
+            times: 0,
+        }
+    }
+}

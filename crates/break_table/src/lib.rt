@@ -5,6 +5,7 @@ mod bounds;
 mod due;
 mod entry;
 mod fault;
+mod finding;
 mod location;
 mod marks;
 mod settle;
