@@ -1,3 +1,5 @@
 pub mod Sections
 pub mod Lists
 pub mod Marking
+pub mod Rising
+pub mod Nowhere

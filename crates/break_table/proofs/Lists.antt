@@ -31,7 +31,7 @@ All-map P g xs all k d within = let inside : k < length (map g xs) = simp length
 
 -- a fact of each image stays where elements leave by what is seen of them
 pub All-map-filter : {A B : Type 0} (P : B → Type 0) (g : A → B) (p : B → Bool) (xs : List A) → All P (map g xs) → All P (map g (filter (λ x. p (g x)) xs))
-All-map-filter P g p xs all = rw (filter-map g p xs) (All-filter P p (map g xs) all)
+All-map-filter P g p xs all = rw (filter-map g p xs) (All-filter p P (map g xs) all)
 
 -- what is done of a list below an index, where the rest of it is as it was
 pub record DoneBelow {A B : Type 0} (f : B → B) (g : A → B) (old now : List A) (i : ℕ) : Type 0 where

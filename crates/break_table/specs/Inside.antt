@@ -1,5 +1,5 @@
 -- What a table of breakpoints keeps of its fields, and what is seen of them.
-use Rattle.std.specs.Prelude.{◌≡◌, ◌≤◌, map, length, vec_capacity, vec_len}
+use Rattle.std.specs.Prelude.{◌≡◌, ◌≤◌, map, vec_capacity, vec_len}
 use Rattle.break_table.specs.Entry.{Entry, entry_of}
 use Rattle.break_table.specs.Table.{Table, IsRising}
 use Rattle.break_table.specs.Marks.{AreMarked}
@@ -13,4 +13,4 @@ pub record IsKept (t : Inside) : Type 0 where
   pub few : vec_len t.entries ≤ 128
   pub room : 128 ≤ vec_capacity t.entries
   pub long : vec_len t.marks ≡ 1024
-  pub marked : AreMarked t.marks.items t.entries.items
+  pub marked : AreMarked t.marks.items (map entry_of t.entries.items)

@@ -5,3 +5,4 @@ pub mod Text
 pub mod Table
 pub mod Marks
 pub mod Inside
+pub mod Changes

@@ -45,8 +45,8 @@ abbrev pub has_number : ℕ → List Entry → Bool
 has_number number entries = list_any (λ e. e.number == number) entries
 
 -- why the entry of a number can't be changed
-abbrev pub number_fault : ℕ → Table → Option BreakFault
-number_fault number t = if has_number number t.entries then None else Some NoNumber
+abbrev pub missing : ℕ → List Entry → Option BreakFault
+missing number entries = if has_number number entries then None else Some NoNumber
 
 -- a call answers its fault exactly where there is one
 abbrev pub Answers : {A : Type 0} → Result A BreakFault → Option BreakFault → Type 0

@@ -1,10 +1,10 @@
 //! What stands in the lists of a table.
 
-ghost use Rattle.std.specs.Prelude.{◌≡◌, ◌<◌, false, length, map, slice_index_or, MatchResult};
+ghost use Rattle.std.specs.Prelude.{◌≡◌, false, map, slice_get, Some, MatchResult};
 ghost use Rattle.std.specs.List.{list_any};
 ghost use Rattle.break_table.specs.Entry.{entry_of};
-ghost use Rattle.break_table.specs.Table.{has_number, is_thread, is_wait, stands, stands_at};
-ghost use Rattle.break_table.specs.declared.entry.BreakEntry.{BreakEntry};
+ghost use Rattle.break_table.specs.Table.{has_number, is_thread, is_wait, stands_at};
+ghost use Rattle.std.specs.Option.{option_map};
 ghost use Rattle.break_table.specs.declared.fault.BreakFault.TheVariants.{NoNumber};
 
 use crate::entry::BreakEntry;
@@ -12,12 +12,14 @@ use crate::fault::BreakFault;
 
 /// The place of the entry of a number.
 pub fn place_of(entries: &[BreakEntry], number: u32) -> Result<usize, BreakFault>
-    ensures { MatchResult result (λ k. (k < length entries.now) × ((d : BreakEntry) → (slice_index_or entries.now k d).number ≡ number)) (λ e. (e ≡ NoNumber) × (has_number number (map entry_of entries.now) ≡ false)) }
+    ensures { MatchResult result (λ k. option_map (λ e. e.number) (slice_get entries.now k) ≡ Some number) (λ e. (e ≡ NoNumber) × (has_number number (map entry_of entries.now) ≡ false)) }
 {
-    entries
-        .iter()
-        .position(|entry| entry.number == number)
-        .ok_or(BreakFault::NoNumber)
+    for (place, entry) in entries.iter().enumerate() {
+        if entry.number == number {
+            return Ok(place);
+        }
+    }
+    Err(BreakFault::NoNumber)
 }
 
 /// Whether a thread is one of so many, counted from 1.
@@ -38,12 +40,9 @@ fn stands_at(entry: &BreakEntry, addr: u32) -> bool
 
 /// Whether an enabled entry stands at an address.
 pub fn stands_among(entries: &[BreakEntry], addr: u32) -> bool
-    ensures { result ≡ stands addr (map entry_of entries.now) }
+    ensures { result ≡ list_any (λ e. stands_at addr (entry_of e)) entries.now }
 {
-    match entries {
-        [] => false,
-        [first, rest @ ..] => stands_at(first, addr) || stands_among(rest, addr),
-    }
+    entries.iter().any(|entry| stands_at(entry, addr))
 }
 
 /// Whether a hart waits at an address.

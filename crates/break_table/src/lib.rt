@@ -2,6 +2,7 @@
 #![tactic(auto)]
 
 mod bounds;
+mod change;
 mod due;
 mod entry;
 mod fault;

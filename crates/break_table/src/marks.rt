@@ -1,6 +1,7 @@
 //! A small table that tells at once where no breakpoint stands.
 
-ghost use Rattle.std.specs.Prelude.{◌≡◌, length, slice_get, slice_set, Some, true};
+ghost use Rattle.std.specs.Prelude.{◌≡◌, length, map, slice_get, slice_set, Some, true};
+ghost use Rattle.break_table.specs.Entry.{entry_of};
 ghost use Rattle.break_table.specs.Marks.{place_of, AreMarked};
 
 use crate::entry::BreakEntry;
@@ -32,7 +33,7 @@ pub fn mark(marks: &mut [bool], addr: u32)
 /// Marks the addresses of these breakpoints, and no other.
 pub fn mark_all(marks: &mut [bool], entries: &[BreakEntry])
     requires { length marks.old ≡ 1024 }
-    ensures { AreMarked marks.new entries.now }
+    ensures { AreMarked marks.new (map entry_of entries.now) }
 {
     marks.fill(false);
     for entry in entries {

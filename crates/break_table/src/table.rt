@@ -5,13 +5,14 @@ ghost use Rattle.std.specs.Option.{option_map};
 ghost use Rattle.break_table.specs.Entry.{asked_of, condition_of, entry_of};
 ghost use Rattle.break_table.specs.Arrival.{due_of, settled, CanRise};
 ghost use Rattle.break_table.specs.Text.{is_place};
-ghost use Rattle.break_table.specs.Table.{changed, deleted, drawn, first_table, insert_fault, inserted, number_fault, stands, waits, with_condition, with_enabled, with_ignore, with_wait, Answers, IsRising};
+ghost use Rattle.break_table.specs.Table.{changed, deleted, drawn, first_table, insert_fault, inserted, missing, stands, waits, with_condition, with_enabled, with_ignore, with_wait, Answers, IsRising};
 
 use crate::bounds::{TextBounds, is_place, text_bounds};
+use crate::change::{Change, change_entry, remove};
 use crate::due::{Due, NOTHING, due_among};
 use crate::entry::{BreakEntry, Spec};
 use crate::fault::BreakFault;
-use crate::finding::{has_thread, place_of, stands_among, waits_among};
+use crate::finding::{has_thread, stands_among, waits_among};
 use crate::marks::{PLACES, is_marked, mark, mark_all};
 use crate::settle::settle;
 use cond_expr::Expr;
@@ -92,56 +93,47 @@ impl BreakTable {
 
     /// The entry of a number goes.
     pub fn delete(&mut self, number: u32) -> Result<(), BreakFault>
-        ensures answer { Answers result (number_fault number self.old) }
+        ensures answer { Answers result (missing number self.old.entries) }
         ensures done { OnOk result (self.new ≡ deleted number self.old) }
         ensures refused { OnErr result (self.new ≡ self.old) }
     {
-        place_of(&self.entries, number)?;
-        self.entries.retain(|entry| entry.number != number);
+        remove(&mut self.entries, number)?;
         mark_all(&mut self.marks, &self.entries);
         Ok(())
     }
 
     pub fn enable(&mut self, number: u32) -> Result<(), BreakFault>
-        ensures answer { Answers result (number_fault number self.old) }
+        ensures answer { Answers result (missing number self.old.entries) }
         ensures done { OnOk result (self.new ≡ changed (with_enabled true) number self.old) }
         ensures refused { OnErr result (self.new ≡ self.old) }
     {
-        let place = place_of(&self.entries, number)?;
-        self.entries[place].enabled = true;
-        Ok(())
+        change_entry(&mut self.entries, number, Change::Enabled(true))
     }
 
     pub fn disable(&mut self, number: u32) -> Result<(), BreakFault>
-        ensures answer { Answers result (number_fault number self.old) }
+        ensures answer { Answers result (missing number self.old.entries) }
         ensures done { OnOk result (self.new ≡ changed (with_enabled false) number self.old) }
         ensures refused { OnErr result (self.new ≡ self.old) }
     {
-        let place = place_of(&self.entries, number)?;
-        self.entries[place].enabled = false;
-        Ok(())
+        change_entry(&mut self.entries, number, Change::Enabled(false))
     }
 
     /// The entry of a number gets another condition, or none.
     pub fn condition(&mut self, number: u32, e: Option<Expr>) -> Result<(), BreakFault>
-        ensures answer { Answers result (number_fault number self.old) }
+        ensures answer { Answers result (missing number self.old.entries) }
         ensures done { OnOk result (self.new ≡ changed (with_condition (option_map condition_of e)) number self.old) }
         ensures refused { OnErr result (self.new ≡ self.old) }
     {
-        let place = place_of(&self.entries, number)?;
-        self.entries[place].condition = e;
-        Ok(())
+        change_entry(&mut self.entries, number, Change::Condition(e))
     }
 
     /// So many arrivals at the entry of a number are only counted.
     pub fn after(&mut self, number: u32, count: u32) -> Result<(), BreakFault>
-        ensures answer { Answers result (number_fault number self.old) }
+        ensures answer { Answers result (missing number self.old.entries) }
         ensures done { OnOk result (self.new ≡ changed (with_ignore count) number self.old) }
         ensures refused { OnErr result (self.new ≡ self.old) }
     {
-        let place = place_of(&self.entries, number)?;
-        self.entries[place].ignore = count;
-        Ok(())
+        change_entry(&mut self.entries, number, Change::Ignore(count))
     }
 
     /// The user entries in rising order of number.
