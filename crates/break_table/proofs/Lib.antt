@@ -3,3 +3,4 @@ pub mod Lists
 pub mod Marking
 pub mod Rising
 pub mod Nowhere
+pub mod Keeping

@@ -1,6 +1,6 @@
 -- Lists in rising order of number.
 use Rattle.std.proofs.Common.{◌≡◌, ◌≢◌, ℕ, zero, suc, ◌+◌, ◌<◌, ◌≤◌, ap, sym, refl, arith, subst, cond, Bool, true, false, List, [], ◌∷◌, ◌++◌, length, map, filter, set, get_or, slice_get, Some, ◌∙◌, ◌==◌, ◌||◌, option_map, if◌then◌else◌}
-use Rattle.std.proofs.lemmas.Bool.{ne_eqb, eq_eqb}
+use Rattle.std.proofs.lemmas.Bool.{ne_eqb, eq-eqb}
 use Rattle.break_table.specs.declared.entry.BreakEntry.{BreakEntry}
 use Rattle.break_table.specs.Entry.{Entry, entry_of}
 use Rattle.break_table.specs.Table.{IsRising, changed_entry, has_number}
@@ -8,6 +8,14 @@ use Rattle.break_table.specs.Table.{IsRising, changed_entry, has_number}
 or-true : (a : Bool) → (a || true) ≡ true
 or-true true = refl
 or-true false = refl
+
+or-left : (a b : Bool) → (a || b) ≡ false → a ≡ false
+or-left true b h = cc
+or-left false b h = refl
+
+or-right : (a b : Bool) → (a || b) ≡ false → b ≡ false
+or-right true b h = cc
+or-right false b h = h
 
 pub IsRising-push : (low high : ℕ) (entries : List Entry) (e : Entry) → IsRising low entries high → high < e.number → IsRising low (entries ++ e ∷ []) e.number
 IsRising-push low high [] e h above = (omega arith, omega arith)
@@ -51,7 +59,7 @@ pub changed-at : (low high number k : ℕ) (f : Entry → Entry) (entries : List
 changed-at low high number k f [] after h at is = refl
 changed-at low high number zero f (x ∷ rest) after h at is =
     let same : x.number ≡ number = cc in
-    let here : (x.number == number) ≡ true = eq_eqb x.number number same in
+    let here : (x.number == number) ≡ true = eq-eqb x.number number same in
     let later : map (changed_entry f number) (map entry_of rest) ≡ map entry_of rest = changed-above x.number high number f (map entry_of rest) h.1 (omega arith) in
     rw (here, later) (ap (λ e. e ∷ map entry_of rest) is)
 changed-at low high number (suc k) f (x ∷ rest) after h at is =
@@ -62,5 +70,12 @@ changed-at low high number (suc k) f (x ∷ rest) after h at is =
 -- an entry of that number stands there
 pub has_number-at : (number k : ℕ) (entries : List BreakEntry) → option_map (λ e. e.number) (slice_get entries k) ≡ Some number → has_number number (map entry_of entries) ≡ true
 has_number-at number k [] at = cc
-has_number-at number zero (x ∷ rest) at = let same : x.number ≡ number = cc in rw (eq_eqb x.number number same) refl
+has_number-at number zero (x ∷ rest) at = let same : x.number ≡ number = cc in rw (eq-eqb x.number number same) refl
 has_number-at number (suc k) (x ∷ rest) at = rw (has_number-at number k rest at, or-true (x.number == number)) refl
+
+-- no entry has the number, so none is changed
+pub changed-missing : (number : ℕ) (f : Entry → Entry) (entries : List Entry) → has_number number entries ≡ false → map (changed_entry f number) entries ≡ entries
+changed-missing number f [] h = refl
+changed-missing number f (x ∷ rest) h =
+    let other : (x.number == number) ≡ false = or-left (x.number == number) (has_number number rest) h in
+    rw other (ap (λ es. x ∷ es) (changed-missing number f rest (or-right (x.number == number) (has_number number rest) h)))

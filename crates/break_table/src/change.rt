@@ -32,7 +32,7 @@ fn make(entry: &mut BreakEntry, change: Change)
 pub fn change_entry(entries: &mut [BreakEntry], number: u32, change: Change) -> Result<(), BreakFault>
     requires { (high : ℕ) × IsRising 0 (map entry_of entries.old) high }
     ensures answer { Answers result (missing number (map entry_of entries.old)) }
-    ensures done { OnOk result (map entry_of entries.new ≡ map (changed_entry (made change) number) (map entry_of entries.old)) }
+    ensures entries { map entry_of entries.new ≡ map (changed_entry (made change) number) (map entry_of entries.old) }
     ensures refused { OnErr result (entries.new ≡ entries.old) }
 {
     let place = place_of(entries, number)?;

@@ -1,6 +1,6 @@
 //! What stands in the lists of a table.
 
-ghost use Rattle.std.specs.Prelude.{◌≡◌, false, map, slice_get, Some, MatchResult};
+ghost use Rattle.std.specs.Prelude.{◌≡◌, ◌<◌, false, length, map, slice_get, Some, MatchResult};
 ghost use Rattle.std.specs.List.{list_any};
 ghost use Rattle.break_table.specs.Entry.{entry_of};
 ghost use Rattle.break_table.specs.Table.{has_number, is_thread, is_wait, stands_at};
@@ -12,7 +12,7 @@ use crate::fault::BreakFault;
 
 /// The place of the entry of a number.
 pub fn place_of(entries: &[BreakEntry], number: u32) -> Result<usize, BreakFault>
-    ensures { MatchResult result (λ k. option_map (λ e. e.number) (slice_get entries.now k) ≡ Some number) (λ e. (e ≡ NoNumber) × (has_number number (map entry_of entries.now) ≡ false)) }
+    ensures { MatchResult result (λ k. (k < length entries.now) × (option_map (λ e. e.number) (slice_get entries.now k) ≡ Some number)) (λ e. (e ≡ NoNumber) × (has_number number (map entry_of entries.now) ≡ false)) }
 {
     for (place, entry) in entries.iter().enumerate() {
         if entry.number == number {

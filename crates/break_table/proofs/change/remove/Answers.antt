@@ -7,7 +7,7 @@ use Rattle.break_table.proofs.Rising.{has_number-at}
 use Rattle.break_table.proofs.change.remove.Goals as goal
 
 pub returns-clause-answer : goal.returns-clause-answer
-returns-clause-answer c = ?
+returns-clause-answer c = rw (← c.deref.ensures.value, has_number-at c.args.number c.in_ok-place_of.field-0 c.deref.result.now c.in_ok-place_of.ensures.1) refl
 
 pub returns-clause-done : goal.returns-clause-done
 returns-clause-done c =
