@@ -1,5 +1,6 @@
 -- Lists of which a function or a test sees each element.
-use Rattle.std.proofs.Common.{◌≡◌, ℕ, zero, suc, ◌+◌, ◌<◌, ap, sym, refl, arith, add-one, cond, Bool, true, false, List, [], ◌∷◌, ◌++◌, length, map, get_or, set, All, subst, ◌≤◌, ◌≢◌, get_or-set_same, get_or-set_other, below_more, filter, take, slice_get, Some, None}
+use Rattle.std.proofs.Common.{◌≡◌, ℕ, zero, suc, ◌+◌, ◌<◌, ap, sym, refl, arith, add-one, cond, Bool, true, false, List, [], ◌∷◌, ◌++◌, length, map, get_or, set, All, subst, ◌≤◌, ◌≢◌, get_or-set_same, get_or-set_other, below_more, filter, take, slice_get, Some, None, Result, Ok, Err, IsOk, is_ok, if◌then◌else◌, ◌||◌}
+use Rattle.std.specs.List.{list_any}
 use Rattle.std.proofs.lemmas.List.{get_or-map, get_or_default, length-map}
 use Rattle.std.proofs.lemmas.List.Elements.{All-filter}
 
@@ -46,3 +47,17 @@ DoneBelow-more {A = A} f g old now i e after below within long made = record {
       rw (get_or-set_same now i after x within, get_or_default old i x e inside, ← below.rest i e (omega arith)) made) k h d;
   rest = λ k d h. let ne : k ≢ i = omega arith in rw (get_or-set_other now i k after d ne) (below.rest k d (omega arith));
 }
+
+-- what a call that went well leaves
+pub if-ok : {T E A : Type 0} (r : Result T E) (x a b : A) → IsOk r → x ≡ (if is_ok r then a else b) → x ≡ a
+if-ok (Ok v) x a b h is = is
+if-ok (Err e) x a b h is = cc
+
+pub list_any-map : {A B : Type 0} (p : B → Bool) (g : A → B) (xs : List A) → list_any p (map g xs) ≡ list_any (λ x. p (g x)) xs
+list_any-map p g [] = refl
+list_any-map p g (x ∷ xs) = ap (λ b. p (g x) || b) (list_any-map p g xs)
+
+pub All-to_map : {A B : Type 0} (P : B → Type 0) (g : A → B) (xs : List A) → All (λ x. P (g x)) xs → All P (map g xs)
+All-to_map P g [] all k d within = all k d within
+All-to_map P g (x ∷ xs) all zero d within = all 0 x (omega arith)
+All-to_map P g (x ∷ xs) all (suc k) d within = All-to_map P g xs (λ j e inside. all (suc j) e (omega arith)) k d (omega arith)

@@ -1,5 +1,5 @@
 -- What an arrival does where no entry stands.
-use Rattle.std.proofs.Common.{◌≡◌, ℕ, ap, sym, refl, Bool, true, false, ◌&&◌, not, cond, List, [], ◌∷◌, map, filter, Option, Some, None, ◌∙◌, ◌==◌, nat_lt, if◌then◌else◌}
+use Rattle.std.proofs.Common.{◌≡◌, ℕ, ◌+◌, ◌-◌, ap, sym, refl, Bool, true, false, ◌&&◌, not, cond, List, [], ◌∷◌, map, filter, Option, Some, None, ◌∙◌, ◌==◌, nat_lt, if◌then◌else◌}
 use Rattle.std.specs.List.{list_any}
 use Rattle.break_table.specs.Entry.{Entry}
 use Rattle.break_table.specs.Arrival.{fits, counts, stops, stays, settled_entry, settled, told, due_of, is_for, is_met}
@@ -38,3 +38,10 @@ module _ (hart : ℕ) (registers : ℕ → ℕ) (bytes : ℕ → Option ℕ) whe
   pub settled-nowhere : (entries : List Entry) → NoneAt (registers 32) entries → settled hart registers bytes entries ≡ entries
   settled-nowhere [] h = refl
   settled-nowhere (e ∷ rest) h = rw (stops-elsewhere e h.0, and-false e.temporary, counts-elsewhere e h.0, stops-elsewhere e h.0) (ap (λ es. e ∷ es) (settled-nowhere rest h.1))
+
+  -- an arrival changes no number
+  pub settled_entry-number : (e : Entry) → (settled_entry hart registers bytes e).number ≡ e.number
+  settled_entry-number e =
+      elim (counts hart (registers 32) e) as
+      (λ c. (cond c (record e { times = e.times + 1; ignore = e.ignore - 1 }) (cond (stops hart registers bytes e) (record e { times = e.times + 1 }) e)).number ≡ e.number)
+      [ true ↦ refl | false ↦ elim (stops hart registers bytes e) as (λ s. (cond s (record e { times = e.times + 1 }) e).number ≡ e.number) [ true ↦ refl | false ↦ refl ] ]

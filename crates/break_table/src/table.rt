@@ -1,10 +1,10 @@
 //! The table of breakpoints.
 
-ghost use Rattle.std.specs.Prelude.{◌≡◌, ◌+◌, ◌-◌, ◌^◌, ◌<◌, ℕ, true, false, map, length, slice_get, IsTrue, IfOk, OnOk, OnErr, Some, None, All};
+ghost use Rattle.std.specs.Prelude.{◌≡◌, ◌+◌, ◌-◌, ◌^◌, ◌<◌, ℕ, true, false, map, replicate, slice_get, IfOk, OnOk, OnErr, Some, None, All};
 ghost use Rattle.std.specs.Option.{option_map};
 ghost use Rattle.break_table.specs.Entry.{asked_of, condition_of, entry_of};
 ghost use Rattle.break_table.specs.Arrival.{due_of, settled, CanRise};
-ghost use Rattle.break_table.specs.Text.{is_place};
+ghost use Rattle.break_table.specs.Text.{is_instruction, is_place};
 ghost use Rattle.break_table.specs.Table.{changed, deleted, drawn, first_table, insert_fault, inserted, missing, stands, waits, with_condition, with_enabled, with_ignore, with_wait, Answers, IsRising};
 
 use crate::bounds::{TextBounds, is_place, text_bounds};
@@ -18,7 +18,7 @@ use crate::settle::settle;
 use cond_expr::Expr;
 use dbg_traits::{NoMemory, View};
 use elf32_read::Image;
-use std::alloc::Global;
+use std::alloc::{AllocError, Global};
 use std::marker::Model;
 
 /// The most user entries that stand at once.
@@ -53,18 +53,35 @@ impl Model for BreakTable {
     ghost invariant = { IsKept };
 }
 
+/// Harts of which none waits.
+fn no_waits(alloc: Global, harts: usize) -> Result<Vec<Option<u32>>, AllocError>
+    ensures { IfOk result (λ v. v.items ≡ replicate harts None) }
+{
+    let mut waits = Vec::new(alloc);
+    waits.resize(harts, None)?;
+    Ok(waits)
+}
+
 impl BreakTable {
     /// A table without breakpoints, for the text of a program and so many harts.
     pub fn new(alloc: Global, image: &Image, harts: u32) -> Result<BreakTable, NoMemory>
-        ensures { IfOk result (λ t. t ≡ first_table image.now harts) }
+        ensures table { IfOk result (λ t. t ≡ first_table image.now harts) }
+        ensures places { IfOk result (λ t. (addr : ℕ) → is_place t.text addr ≡ is_instruction image.now addr) }
     {
         Ok(BreakTable {
             entries: Vec::with_capacity(alloc, MOST)?,
             marks: vec![in alloc; false; PLACES]?,
             given: 0,
             text: text_bounds(alloc, image)?,
-            waits: vec![in alloc; None; harts as usize]?,
+            waits: no_waits(alloc, harts as usize)?,
         })
+    }
+
+    /// How many numbers were given, from 1 on.
+    pub fn given(&self) -> u32
+        ensures { result ≡ self.now.given }
+    {
+        self.given
     }
 
     /// A new entry, with the next number.
