@@ -2,7 +2,7 @@
 use Rattle.std.proofs.Common.{◌≡◌, ℕ, zero, suc, ◌+◌, ◌<◌, ap, sym, refl, arith, add-one, cond, Bool, true, false, List, [], ◌∷◌, ◌++◌, length, map, get_or, set, All, subst, ◌≤◌, ◌≢◌, get_or-set_same, get_or-set_other, below_more, filter, take, slice_get, Some, None, Result, Ok, Err, IsOk, is_ok, if◌then◌else◌, ◌||◌}
 use Rattle.std.specs.List.{list_any}
 use Rattle.std.proofs.lemmas.List.{get_or-map, get_or_default, length-map}
-use Rattle.std.proofs.lemmas.List.Elements.{All-filter}
+use Rattle.std.proofs.lemmas.List.Elements.{All-filter, All-nil, All-cons}
 
 pub map-take-more : {A B : Type 0} (f : A → B) (xs : List A) (k : ℕ) (x : A) → slice_get xs k ≡ Some x → map f (take (k + 1) xs) ≡ map f (take k xs) ++ f x ∷ []
 map-take-more f [] k x h = cc
@@ -42,8 +42,8 @@ pub record DoneBelow {A B : Type 0} (f : B → B) (g : A → B) (old now : List 
 pub DoneBelow-more : {A B : Type 0} (f : B → B) (g : A → B) (old now : List A) (i : ℕ) (e after : A) → DoneBelow f g old now i → i < length now → length now ≡ length old → g after ≡ f (g (get_or now i e)) → DoneBelow f g old (set now i after) (i + 1)
 DoneBelow-more {A = A} f g old now i e after below within long made = record {
   done = λ k d h. below_more (λ n. (x : A) → g (get_or (set now i after) n x) ≡ f (g (get_or old n x))) i
-    (λ n less x. let ne : n ≢ i = omega arith in rw (get_or-set_other now i n after x ne) (below.done n x less))
-    (λ x. let inside : i < length old = omega arith in
+      (λ n less x. let ne : n ≢ i = omega arith in rw (get_or-set_other now i n after x ne) (below.done n x less))
+      (λ x. let inside : i < length old = omega arith in
       rw (get_or-set_same now i after x within, get_or_default old i x e inside, ← below.rest i e (omega arith)) made) k h d;
   rest = λ k d h. let ne : k ≢ i = omega arith in rw (get_or-set_other now i k after d ne) (below.rest k d (omega arith));
 }
@@ -58,6 +58,5 @@ list_any-map p g [] = refl
 list_any-map p g (x ∷ xs) = ap (λ b. p (g x) || b) (list_any-map p g xs)
 
 pub All-to_map : {A B : Type 0} (P : B → Type 0) (g : A → B) (xs : List A) → All (λ x. P (g x)) xs → All P (map g xs)
-All-to_map P g [] all k d within = all k d within
-All-to_map P g (x ∷ xs) all zero d within = all 0 x (omega arith)
-All-to_map P g (x ∷ xs) all (suc k) d within = All-to_map P g xs (λ j e inside. all (suc j) e (omega arith)) k d (omega arith)
+All-to_map P g [] all = All-nil P
+All-to_map P g (x ∷ xs) all = All-cons P (g x) (map g xs) (all 0 x (omega arith)) (All-to_map P g xs (λ j e inside. all (suc j) e (omega arith)))

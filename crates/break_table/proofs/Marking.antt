@@ -44,6 +44,7 @@ NoneAt addr (e ∷ rest) = ((e.address == addr) ≡ false) × NoneAt addr rest
 
 pub NoneAt-unmarked : (marks : List Bool) (addr : ℕ) (entries : List Entry) → slice_get marks (place_of addr) ≡ Some false → AreMarked marks entries → NoneAt addr entries
 NoneAt-unmarked marks addr [] free h = tt
-NoneAt-unmarked marks addr (e ∷ rest) free h =
-    (ne_eqb e.address addr (λ q. let same : slice_get marks (place_of e.address) ≡ Some false = rw q free in let differ : Some true ≡ Some false = sym h.0 ∙ same in cc),
-      NoneAt-unmarked marks addr rest free h.1)
+NoneAt-unmarked marks addr (e ∷ rest) free h = (
+  ne_eqb e.address addr (λ q. let same : slice_get marks (place_of e.address) ≡ Some false = rw q free in let differ : Some true ≡ Some false = sym h.0 ∙ same in cc),
+  NoneAt-unmarked marks addr rest free h.1,
+)

@@ -29,7 +29,11 @@ fn make(entry: &mut BreakEntry, change: Change)
 }
 
 /// Changes the entry of a number; no two entries have the same number.
-pub fn change_entry(entries: &mut [BreakEntry], number: u32, change: Change) -> Result<(), BreakFault>
+pub fn change_entry(
+    entries: &mut [BreakEntry],
+    number: u32,
+    change: Change,
+) -> Result<(), BreakFault>
     requires { (high : ℕ) × IsRising 0 (map entry_of entries.old) high }
     ensures answer { Answers result (missing number (map entry_of entries.old)) }
     ensures entries { map entry_of entries.new ≡ map (changed_entry (made change) number) (map entry_of entries.old) }

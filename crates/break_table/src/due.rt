@@ -101,7 +101,10 @@ pub fn due_among<V: View>(entries: &[BreakEntry], hart: u32, view: &V) -> Due
     };
     let due = due_among(rest, hart, view);
     if counts(first, hart, view.reg(32)) {
-        return Due { counts: true, ..due };
+        return Due {
+            counts: true,
+            ..due
+        };
     }
     if !stops(first, hart, view) || due.stop.is_some_and(|least| least < first.number) {
         return due;

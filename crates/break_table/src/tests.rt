@@ -1,4 +1,5 @@
 ghost use Rattle.std.specs.Prelude.{◌<◌, ◌-◌, ◌^◌, ◌==◌, All, IsTrue, None, if◌then◌else◌};
+ghost use Rattle.break_table.specs.Arrival.{CanRise};
 
 use crate::{BreakEntry, BreakFault, BreakTable, CondError, Due, Location, Spec};
 use cond_expr::{Expr, parse};
@@ -67,7 +68,14 @@ fn condition(alloc: Global, names: &Symbols, text: &str) -> Result<Option<Expr>,
 }
 
 /// An entry that is asked for: its kind is `t` for a temporary one, `d` for a disabled one.
-fn asked(address: u32, kind: char, ignore: u32, condition: Option<Expr>, thread: Option<u32>, location: Vec<u8>) -> Spec {
+fn asked(
+    address: u32,
+    kind: char,
+    ignore: u32,
+    condition: Option<Expr>,
+    thread: Option<u32>,
+    location: Vec<u8>,
+) -> Spec {
     Spec {
         address,
         location: Location::of(location),
@@ -83,11 +91,19 @@ fn asked(address: u32, kind: char, ignore: u32, condition: Option<Expr>, thread:
 fn can_rise(entries: &[BreakEntry]) -> bool
     ensures { IsTrue result → All (λ e. e.times < 2 ^ 64 - 1) entries.now }
 {
-    entries.iter().all(|entry| entry.times < 0xFFFF_FFFF_FFFF_FFFF)
+    entries
+        .iter()
+        .all(|entry| entry.times < 0xFFFF_FFFF_FFFF_FFFF)
+}
+
+fn can_settle(table: &BreakTable) -> bool
+    ensures { IsTrue result → All CanRise table.now.entries }
+{
+    can_rise(table.entries())
 }
 
 fn settle(rt: &impl Abort, table: &mut BreakTable, hart: u32, pc: u32) {
-    assert!(rt; can_rise(table.entries()));
+    assert!(rt; can_settle(table));
     table.settle_arrival(hart, &At(pc));
 }
 
@@ -145,11 +161,26 @@ fn arrivals_are_decided_and_settled_by_the_entries(rt: HostRuntime) -> Result<()
     let names = symbols(alloc, &image)?;
     let mut table = BreakTable::new(alloc, &image, 2)?;
     for (address, kind, ignore, text, thread) in ASKED {
-        let spec = asked(address, kind, ignore, condition(alloc, &names, text)?, thread, b"*0".to_vec(alloc)?);
+        let spec = asked(
+            address,
+            kind,
+            ignore,
+            condition(alloc, &names, text)?,
+            thread,
+            b"*0".to_vec(alloc)?,
+        );
         assert!(rt; insert(&rt, &mut table, spec).is_ok());
     }
     for (hart, pc, stop, error, counts) in ARRIVALS {
-        assert_eq!(rt; table.due(hart, &At(pc)), Due { stop, error, counts }, "at {pc}");
+        assert_eq!(rt;
+            table.due(hart, &At(pc)),
+            Due {
+                stop,
+                error,
+                counts
+            },
+            "at {pc}"
+        );
         assert_eq!(rt; table.stands(pc), pc != 0x100AC && pc != 0x100B8, "at {pc}");
         settle(&rt, &mut table, hart, pc);
     }
@@ -157,7 +188,10 @@ fn arrivals_are_decided_and_settled_by_the_entries(rt: HostRuntime) -> Result<()
     assert_eq!(rt; table.due(0, &At(0x10098)).stop, Some(2));
     assert_eq!(rt; table.entries().len(), SETTLED.len());
     for (entry, (number, times, ignore)) in table.entries().iter().zip(SETTLED) {
-        assert_eq!(rt; (entry.number, entry.times, entry.ignore), (number, times, ignore));
+        assert_eq!(rt;
+            (entry.number, entry.times, entry.ignore),
+            (number, times, ignore)
+        );
     }
     assert_eq!(rt; table.delete(9), Err(BreakFault::NoNumber));
     assert_eq!(rt; table.enable(8), Ok(()));

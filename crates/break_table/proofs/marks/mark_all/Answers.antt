@@ -9,6 +9,6 @@ pub loop-entry-preserved : goal.loop-entry-preserved
 loop-entry-preserved c = record {
   long = ap length c.mark.ensures ∙ length-set _ _ _ ∙ c.loop-entry.invariant.long;
   marked =
-    rw (c.mark.ensures, map_more entry_of c.args.entries.now c.loop-entry.entry-index c.entry-item.result c.loop-entry-test.true, ← c.entry-item.is)
-    (AreMarked-more _ _ (entry_of c.entry-item.result) c.loop-entry.invariant.long c.loop-entry.invariant.marked);
+      rw (c.mark.ensures, map_more entry_of c.args.entries.now c.loop-entry.entry-index c.entry-item.result c.loop-entry-test.true, ← c.entry-item.is)
+      (AreMarked-more _ _ (entry_of c.entry-item.result) c.loop-entry.invariant.long c.loop-entry.invariant.marked);
 }

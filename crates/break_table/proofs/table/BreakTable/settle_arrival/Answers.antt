@@ -19,8 +19,8 @@ pub invariant_of-self : goal.invariant_of-self
 invariant_of-self g c =
     let long : length c.mark_all.new.marks ≡ c.self.inside.marks.len = c.mark_all.auto.marks ∙ c.deref_mut.ensures.len in record {
       rising =
-        rw c.settle.ensures.entries
-        (IsRising-map 0 c.self.inside.given _ (settled_entry-number c.args.hart (g.V.View.registers c.args.view.now) (g.V.View.bytes c.args.view.now)) _
+          rw c.settle.ensures.entries
+          (IsRising-map 0 c.self.inside.given _ (settled_entry-number c.args.hart (g.V.View.registers c.args.view.now) (g.V.View.bytes c.args.view.now)) _
           (IsRising-filter 0 c.self.inside.given (stays c.args.hart (g.V.View.registers c.args.view.now) (g.V.View.bytes c.args.view.now)) (map entry_of c.self.inside.entries.items) c.self.invariant.rising));
       few = omega (arith, c.settle.ensures.fewer, c.self.invariant.few);
       room = omega (arith, c.settle.ensures.capacity, c.self.invariant.room);
