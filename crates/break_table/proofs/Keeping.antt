@@ -1,12 +1,12 @@
 -- What a table keeps where its fields change.
-use Rattle.std.proofs.Common.{◌≡◌, ℕ, ◌+◌, ◌<◌, ◌≤◌, ◌∙◌, ap, sym, refl, arith, subst, true, false, cond, Bool, List, [], ◌∷◌, ◌++◌, length, map, slice_set, vec_len, vec_capacity, Vec, ◌==◌}
+use Rattle.std.proofs.Common.{◌≡◌, ℕ, ◌+◌, ◌<◌, ◌≤◌, ◌∙◌, refl, arith, true, false, cond, Bool, [], ◌∷◌, ◌++◌, length, map, slice_set, vec_len, vec_capacity, Vec, ◌==◌}
 use Rattle.std.specs.Global.{Global}
 use Rattle.std.proofs.lemmas.List.{map-append}
 use Rattle.break_table.specs.declared.entry.BreakEntry.{BreakEntry}
 use Rattle.break_table.specs.declared.table.BreakTable.TheInside.{Inside}
 use Rattle.break_table.specs.Entry.{Entry, entry_of}
-use Rattle.break_table.specs.Table.{IsRising, changed_entry}
-use Rattle.break_table.specs.Marks.{place_of, AreMarked}
+use Rattle.break_table.specs.Table.{changed_entry}
+use Rattle.break_table.specs.Marks.{place_of}
 use Rattle.break_table.specs.Inside.{IsKept}
 use Rattle.break_table.proofs.Rising.{IsRising-push, IsRising-map}
 use Rattle.break_table.proofs.Marking.{AreMarked-more, AreMarked-map}

@@ -1,5 +1,5 @@
 -- Lists of which a function or a test sees each element.
-use Rattle.std.proofs.Common.{◌≡◌, ℕ, zero, suc, ◌+◌, ◌<◌, ap, sym, refl, arith, add-one, cond, Bool, true, false, List, [], ◌∷◌, ◌++◌, length, map, get_or, set, All, subst, ◌≤◌, ◌≢◌, get_or-set_same, get_or-set_other, below_more, filter, take, slice_get, Some, None, Result, Ok, Err, IsOk, is_ok, if◌then◌else◌, ◌||◌}
+use Rattle.std.proofs.Common.{◌≡◌, ℕ, zero, suc, ◌+◌, ◌<◌, ap, refl, arith, add-one, cond, Bool, true, false, List, [], ◌∷◌, ◌++◌, length, map, get_or, set, All, subst, ◌≤◌, ◌≢◌, get_or-set_same, get_or-set_other, below_more, filter, take, slice_get, Some, Result, Ok, Err, IsOk, is_ok, if◌then◌else◌, ◌||◌}
 use Rattle.std.specs.List.{list_any}
 use Rattle.std.proofs.lemmas.List.{get_or-map, get_or_default, length-map}
 use Rattle.std.proofs.lemmas.List.Elements.{All-filter, All-nil, All-cons}

@@ -1,10 +1,8 @@
 -- Marks that are set, and what an unmarked address says.
-use Rattle.std.proofs.Common.{◌≡◌, ◌≢◌, ℕ, zero, suc, ◌+◌, ◌<◌, ◌%◌, ◌/◌, ap, sym, refl, arith, Bool, true, false, List, [], ◌∷◌, ◌++◌, length, map, take, slice_get, slice_set, get_or, Some, None, ◌∙◌, get_or-set_same, length-set, ◌==◌}
-use Rattle.std.proofs.lemmas.List.{map_more}
+use Rattle.std.proofs.Common.{◌≡◌, ℕ, zero, suc, ◌<◌, ap, sym, refl, arith, Bool, true, false, List, [], ◌∷◌, ◌++◌, length, map, slice_get, slice_set, Some, ◌∙◌, get_or-set_same, length-set, ◌==◌}
 use Rattle.std.proofs.lemmas.Option.{slice_get-get_or}
 use Rattle.std.proofs.lemmas.Bool.{ne_eqb}
-use Rattle.break_table.specs.declared.entry.BreakEntry.{BreakEntry}
-use Rattle.break_table.specs.Entry.{Entry, entry_of}
+use Rattle.break_table.specs.Entry.{Entry}
 use Rattle.break_table.specs.Marks.{place_of, IsMarked, AreMarked}
 
 get-set : (xs : List Bool) (i j : ℕ) → slice_get xs j ≡ Some true → slice_get (slice_set xs i true) j ≡ Some true

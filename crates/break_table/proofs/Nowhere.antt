@@ -1,9 +1,9 @@
 -- What an arrival does where no entry stands.
-use Rattle.std.proofs.Common.{◌≡◌, ℕ, ◌+◌, ◌-◌, ap, sym, refl, Bool, true, false, ◌&&◌, not, cond, List, [], ◌∷◌, map, filter, Option, Some, None, ◌∙◌, ◌==◌, nat_lt, if◌then◌else◌}
+use Rattle.std.proofs.Common.{◌≡◌, ℕ, ◌+◌, ◌-◌, ap, refl, Bool, true, false, ◌&&◌, cond, List, [], ◌∷◌, filter, Option, None, ◌==◌}
 use Rattle.std.specs.List.{list_any}
 use Rattle.break_table.specs.Entry.{Entry}
-use Rattle.break_table.specs.Arrival.{fits, counts, stops, stays, settled_entry, settled, told, due_of, is_for, is_met}
-use Rattle.break_table.specs.Table.{stands, stands_at}
+use Rattle.break_table.specs.Arrival.{fits, counts, stops, settled_entry, settled, told, due_of}
+use Rattle.break_table.specs.Table.{stands}
 use Rattle.break_table.proofs.Marking.{NoneAt}
 
 and-false : (a : Bool) → (a && false) ≡ false

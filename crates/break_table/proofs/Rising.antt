@@ -1,5 +1,5 @@
 -- Lists in rising order of number.
-use Rattle.std.proofs.Common.{◌≡◌, ◌≢◌, ℕ, zero, suc, ◌+◌, ◌<◌, ◌≤◌, ap, sym, refl, arith, subst, cond, Bool, true, false, List, [], ◌∷◌, ◌++◌, length, map, filter, set, get_or, slice_get, Some, ◌∙◌, ◌==◌, ◌||◌, option_map, if◌then◌else◌}
+use Rattle.std.proofs.Common.{◌≡◌, ℕ, zero, suc, ◌<◌, ◌≤◌, ap, refl, arith, cond, Bool, true, false, List, [], ◌∷◌, ◌++◌, map, filter, set, get_or, slice_get, Some, ◌==◌, ◌||◌, option_map}
 use Rattle.std.proofs.lemmas.Bool.{ne_eqb, eq-eqb}
 use Rattle.break_table.specs.declared.entry.BreakEntry.{BreakEntry}
 use Rattle.break_table.specs.Entry.{Entry, entry_of}

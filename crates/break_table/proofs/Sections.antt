@@ -1,5 +1,5 @@
 -- Text sections and where they stand.
-use Rattle.std.proofs.Common.{◌≡◌, ℕ, zero, suc, ◌+◌, ◌*◌, ◌∙◌, ap, sym, refl, arith, List, [], ◌∷◌, ◌++◌, length, length-append}
+use Rattle.std.proofs.Common.{◌≡◌, ℕ, zero, suc, ◌+◌, ◌*◌, refl, arith, [], ◌∷◌, length, length-append}
 use Rattle.elf32_read.specs.Fields.{entries}
 use Rattle.elf32_read.specs.Program.{Program}
 use Rattle.break_table.specs.Text.{bounds_of, in_bounds, is_instruction, is_place, text_bounds}

@@ -1,6 +1,6 @@
 -- What a table of breakpoints keeps of its fields, and what is seen of them.
 use Rattle.std.specs.Prelude.{◌≡◌, ◌≤◌, map, vec_capacity, vec_len}
-use Rattle.break_table.specs.Entry.{Entry, entry_of}
+use Rattle.break_table.specs.Entry.{entry_of}
 use Rattle.break_table.specs.Table.{Table, IsRising}
 use Rattle.break_table.specs.Marks.{AreMarked}
 use Rattle.break_table.specs.declared.table.BreakTable.TheInside.{Inside}

@@ -1,4 +1,4 @@
-use Rattle.std.proofs.Common.{rules, refl, arith, subst, ◌≡◌, get_or, ◌∙◌, sym, ap, map, filter, not, ◌==◌}
+use Rattle.std.proofs.Common.{rules, refl, ◌≡◌, ◌∙◌, ap, map, filter}
 use Rattle.std.proofs.lemmas.Fn.{filter_same}
 use Rattle.break_table.specs.Entry.{entry_of}
 use Rattle.break_table.specs.Table.{is_other}

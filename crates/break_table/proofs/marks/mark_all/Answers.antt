@@ -1,7 +1,6 @@
-use Rattle.std.proofs.Common.{◌≡◌, ◌∙◌, ap, length, arith, length-set}
+use Rattle.std.proofs.Common.{◌∙◌, ap, length, length-set}
 use Rattle.std.proofs.lemmas.List.{map_more}
 use Rattle.break_table.specs.Entry.{entry_of}
-use Rattle.break_table.specs.Marks.{place_of}
 use Rattle.break_table.proofs.Marking.{AreMarked-more}
 use Rattle.break_table.proofs.marks.mark_all.Goals as goal
 

@@ -1,4 +1,4 @@
-use Rattle.std.proofs.Common.{sym, rules, ◌≡◌, ◌∙◌, ap, subst, List, map, filter, length, take, drop, All, arith, refl}
+use Rattle.std.proofs.Common.{sym, rules, ◌≡◌, ◌∙◌, ap, subst, List, map, filter, length, drop, All}
 use Rattle.std.proofs.lemmas.Fn.{filter_same}
 use Rattle.std.proofs.Math.Seq.{take-append_seam}
 use Rattle.break_table.specs.declared.entry.BreakEntry.{BreakEntry}

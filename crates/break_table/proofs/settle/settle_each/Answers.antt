@@ -1,7 +1,7 @@
 use Rattle.std.proofs.Common.{arith, ◌<◌, length}
 use Rattle.break_table.specs.Entry.{entry_of}
-use Rattle.break_table.specs.Arrival.{settled_entry, CanRise}
-use Rattle.break_table.proofs.Lists.{DoneBelow, DoneBelow-more, All-map, map-by_index}
+use Rattle.break_table.specs.Arrival.{CanRise}
+use Rattle.break_table.proofs.Lists.{DoneBelow-more, All-map, map-by_index}
 use Rattle.break_table.proofs.settle.settle_each.Goals as goal
 
 pub settle_entry-requires : goal.settle_entry-requires

@@ -5,4 +5,4 @@ use Rattle.break_table.proofs.Lists.{All-to_map}
 use Rattle.break_table.proofs.tests.can_settle.Goals as goal
 
 pub returns : goal.returns
-returns c yes = subst (λ (es : List Entry). All CanRise es) c.entries.ensures.entries (All-to_map CanRise entry_of c.entries.result.now (c.can_rise.ensures yes))
+returns c held = subst (λ (es : List Entry). All CanRise es) c.entries.ensures.entries (All-to_map CanRise entry_of c.entries.result.now (c.can_rise.ensures held))

@@ -1,4 +1,4 @@
-use Rattle.std.proofs.Common.{◌≡◌, ◌∙◌, ap, sym, refl, length, map, true, false}
+use Rattle.std.proofs.Common.{◌≡◌, ◌∙◌, ap, refl, length, map}
 use Rattle.std.proofs.lemmas.List.{with_items_is}
 use Rattle.break_table.specs.declared.change.Change.TheVariants.{Ignore}
 use Rattle.break_table.specs.Entry.{Entry, entry_of}

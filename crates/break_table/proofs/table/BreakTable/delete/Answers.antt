@@ -1,4 +1,4 @@
-use Rattle.std.proofs.Common.{◌≡◌, ◌∙◌, ap, sym, subst, arith, length, map, List}
+use Rattle.std.proofs.Common.{◌≡◌, ◌∙◌, subst, arith, length, map, List}
 use Rattle.std.proofs.lemmas.List.{with_items_is}
 use Rattle.break_table.specs.Entry.{entry_of}
 use Rattle.break_table.specs.Marks.{AreMarked}

@@ -1,6 +1,5 @@
-use Rattle.std.proofs.Common.{◌≡◌, ◌∙◌, ap, sym, subst, refl, Some, false, slice_get, map}
+use Rattle.std.proofs.Common.{◌≡◌, sym, Some, false, slice_get, map}
 use Rattle.break_table.specs.Entry.{entry_of}
-use Rattle.break_table.specs.Table.{Table}
 use Rattle.break_table.specs.Marks.{place_of}
 use Rattle.break_table.proofs.Marking.{NoneAt, NoneAt-unmarked}
 use Rattle.break_table.proofs.Nowhere.{due-nowhere}

@@ -1,8 +1,8 @@
-use Rattle.std.proofs.Common.{◌≡◌, ◌∙◌, ap, sym, subst, refl, arith, Some, false, slice_get, length, map, List}
+use Rattle.std.proofs.Common.{◌≡◌, ◌∙◌, subst, refl, arith, Some, false, slice_get, length, map, List}
 use Rattle.std.proofs.lemmas.List.{with_items_is}
 use Rattle.break_table.specs.declared.entry.BreakEntry.{BreakEntry}
-use Rattle.break_table.specs.Entry.{Entry, entry_of}
-use Rattle.break_table.specs.Arrival.{settled, stays}
+use Rattle.break_table.specs.Entry.{entry_of}
+use Rattle.break_table.specs.Arrival.{stays}
 use Rattle.break_table.specs.Marks.{place_of, AreMarked}
 use Rattle.break_table.proofs.Marking.{NoneAt, NoneAt-unmarked}
 use Rattle.break_table.proofs.Nowhere.{settled-nowhere, settled_entry-number}
