@@ -1,0 +1,117 @@
+//! Which breakpoints count and stop at an arrival.
+
+ghost use Rattle.std.specs.Prelude.{◌≡◌, map};
+ghost use Rattle.cond_expr.specs.Condition.{tree_of};
+ghost use Rattle.cond_expr.specs.Value.{value_of};
+ghost use Rattle.break_table.specs.Entry.{condition_of, entry_of};
+ghost use Rattle.break_table.specs.Arrival.{counts, due_of, error_of, fits, is_for, is_met, stops, value_error};
+
+use crate::entry::BreakEntry;
+use cond_expr::{Expr, Value, value};
+use dbg_traits::View;
+
+/// Why the value of a condition can't be had.
+#[derive(Clone, Copy, Debug, PartialEq, Eq)]
+pub enum CondError {
+    /// A divisor was 0.
+    DivZero,
+    /// No byte is mapped at this address.
+    Unread(u32),
+}
+
+/// What the breakpoints do at an arrival.
+#[derive(Clone, Copy, Debug, PartialEq, Eq)]
+pub struct Due {
+    /// The least number of an entry that stops.
+    pub stop: Option<u32>,
+    /// Why the value of that entry's condition can't be had.
+    pub error: Option<CondError>,
+    /// Whether some entry counts.
+    pub counts: bool,
+}
+
+/// No entry stops, and none counts.
+pub const NOTHING: Due = Due {
+    stop: None,
+    error: None,
+    counts: false,
+};
+
+fn is_for(hart: u32, thread: Option<u32>) -> bool
+    ensures { result ≡ is_for hart thread }
+{
+    match thread {
+        None => true,
+        Some(thread) => u64::from(thread) == u64::from(hart) + 1,
+    }
+}
+
+fn fits(entry: &BreakEntry, hart: u32, pc: u32) -> bool
+    ensures { result ≡ fits hart pc (entry_of entry.now) }
+{
+    entry.address == pc && entry.enabled && is_for(hart, entry.thread)
+}
+
+pub fn counts(entry: &BreakEntry, hart: u32, pc: u32) -> bool
+    ensures { result ≡ counts hart pc (entry_of entry.now) }
+{
+    fits(entry, hart, pc) && entry.ignore > 0
+}
+
+fn value_error(value: Value) -> Option<CondError>
+    ensures { result ≡ value_error value }
+{
+    match value {
+        Value::Word(_, _) => None,
+        Value::DivZero => Some(CondError::DivZero),
+        Value::Unread(addr) => Some(CondError::Unread(addr)),
+    }
+}
+
+fn error_of<V: View>(entry: &BreakEntry, view: &V) -> Option<CondError>
+    ensures { result ≡ error_of (V.registers view.now) (V.bytes view.now) (entry_of entry.now).condition }
+{
+    match &entry.condition {
+        None => None,
+        Some(condition) => value_error(value(condition, view)),
+    }
+}
+
+fn is_met<V: View>(entry: &BreakEntry, view: &V) -> bool
+    ensures { result ≡ is_met (V.registers view.now) (V.bytes view.now) (entry_of entry.now).condition }
+{
+    match &entry.condition {
+        None => true,
+        Some(condition) => !matches!(value(condition, view), Value::Word(0, _)),
+    }
+}
+
+pub fn stops<V: View>(entry: &BreakEntry, hart: u32, view: &V) -> bool
+    ensures { result ≡ stops hart (V.registers view.now) (V.bytes view.now) (entry_of entry.now) }
+{
+    fits(entry, hart, view.reg(32)) && entry.ignore == 0 && is_met(entry, view)
+}
+
+/// What entries do at an arrival.
+pub fn due_among<V: View>(entries: &[BreakEntry], hart: u32, view: &V) -> Due
+    ensures { result ≡ due_of hart (V.registers view.now) (V.bytes view.now) (map entry_of entries.now) }
+{
+    let [first, rest @ ..] = entries else {
+        return NOTHING;
+    };
+    let due = due_among(rest, hart, view);
+    if counts(first, hart, view.reg(32)) {
+        return Due {
+            counts: true,
+            ..due
+        };
+    }
+    if !stops(first, hart, view) || due.stop.is_some_and(|least| least < first.number) {
+        return due;
+    }
+    Due {
+        stop: Some(first.number),
+        error: error_of(first, view),
+        ..due
+    }
+}
