@@ -45,7 +45,7 @@ fn hindered(obstacle: Obstacle) -> Content
 
 /// The hart of a thread, which is counted from 1.
 fn find<'a>(cores: &'a [Core], minds: &[Mind], thread: u32) -> Option<(&'a Core, Mind)>
-    ensures { found_hart result.entry ≡ thread_hart (seen_harts cores.now minds.now) thread }
+    ensures { found_hart result ≡ thread_hart (seen_harts cores.now minds.now) thread }
 {
     let h = thread.checked_sub(1)? as usize;
     let core = cores.get(h)?;
@@ -55,7 +55,7 @@ fn find<'a>(cores: &'a [Core], minds: &[Mind], thread: u32) -> Option<(&'a Core,
 
 // The hart of a thread that has to be stopped.
 fn stopped<'a>(thread: u32, found: Option<(&'a Core, Mind)>) -> Result<(&'a Core, Mind), Obstacle>
-    ensures { IsStopped result.entry thread (found_hart found.entry) }
+    ensures { IsStopped result thread (found_hart found.entry) }
 {
     let Some((core, mind)) = found else {
         return Err(Obstacle::UnknownThread(thread));
@@ -69,7 +69,7 @@ fn stopped<'a>(thread: u32, found: Option<(&'a Core, Mind)>) -> Result<(&'a Core
 
 // The hart of a thread that has to be live.
 fn live<'a>(thread: u32, found: Option<(&'a Core, Mind)>) -> Result<(&'a Core, Mind), Obstacle>
-    ensures { IsLive result.entry thread (found_hart found.entry) }
+    ensures { IsLive result thread (found_hart found.entry) }
 {
     let Some((core, mind)) = found else {
         return Err(Obstacle::UnknownThread(thread));

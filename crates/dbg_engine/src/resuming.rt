@@ -1,6 +1,6 @@
 // Threads that go on.
-ghost use Rattle.std.specs.Prelude.{◌≡◌};
-ghost use Rattle.dbg_engine.specs.Resuming.{gone_on, resume_thread, resume_threads};
+ghost use Rattle.std.specs.Prelude.{◌≡◌, slice_get};
+ghost use Rattle.dbg_engine.specs.Resuming.{gone_on, resume_at, resume_thread, resume_threads};
 
 use engine_facts::{Activity, Mind, Phase};
 
@@ -18,15 +18,21 @@ fn gone_on(mind: Mind) -> Mind
     }
 }
 
+// The hart of a thread goes on where it is stopped.
+fn resume_at(minds: &mut [Mind], h: usize)
+    ensures { minds.new ≡ resume_at minds.old h (slice_get minds.old h) }
+{
+    if h < minds.len() {
+        minds[h] = gone_on(minds[h]);
+    }
+}
+
 // A thread goes on where it is stopped. Threads are counted from 1.
 fn resume_thread(minds: &mut [Mind], thread: u32)
     ensures { minds.new ≡ resume_thread minds.old thread }
 {
-    let Some(h) = thread.checked_sub(1) else {
-        return;
-    };
-    if let Some(mind) = minds.get_mut(h as usize) {
-        *mind = gone_on(*mind);
+    if thread > 0 {
+        resume_at(minds, thread as usize - 1);
     }
 }
 

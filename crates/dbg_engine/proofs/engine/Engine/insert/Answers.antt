@@ -31,3 +31,12 @@ invariant_of-self-2 c = record { facts = (move c).facts }
 
 pub returns : goal.returns
 returns c = rw (← c.self.view_is) (move c).lines
+
+
+-- src/engine.rt:606:9
+pub repatch-requires : goal.repatch-requires
+repatch-requires c = ?
+
+-- src/engine.rt:607:9
+pub overflow_add-self : goal.overflow_add-self
+overflow_add-self c = ?
