@@ -5,3 +5,4 @@ pub mod Commanding
 pub mod Marking
 pub mod Words
 pub mod GoingOn
+pub mod Replies

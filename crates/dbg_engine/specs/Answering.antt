@@ -1,8 +1,10 @@
 -- What the parts of an answer give.
-use Rattle.std.specs.Prelude.{◌≡◌, ℕ, List, [], ◌∷◌, Option, Some, None, Result, Ok, Err}
+use Rattle.std.specs.Prelude.{◌≡◌, ℕ, Bool, true, false, List, [], ◌∷◌, Option, Some, None, Result, Ok, Err}
 use Rattle.std.specs.Option.{option_map}
 use Rattle.std.specs.Borrow.{Bor}
 use Rattle.std.specs.Global.{Vec}
+use Rattle.mi_commands.specs.declared.refusal.Refusal.{Refusal}
+use Rattle.mi_commands.specs.declared.refusal.Refusal.TheVariants as refusal
 use Rattle.hart_machine.specs.declared.hart.Core.{Core}
 use Rattle.dbg_model.specs.declared.breakpoint.Breakpoint.{Breakpoint}
 use Rattle.dbg_model.specs.declared.reply.Content.{Content}
@@ -54,3 +56,11 @@ SetsNone c = Unit {0}
 -- this is answered to the line, and sets no breakpoint
 abbrev pub IsNoted : Run → List ℕ → Content → Type 0
 IsNoted r line c = ((reply_of r.opening (seen r) line).content ≡ c) × SetsNone c
+
+-- memory was wanting when the line was read
+abbrev pub is_memory : Refusal → Bool
+is_memory refusal.NoMemory = true
+is_memory refusal.Long = false
+is_memory refusal.Syntax = false
+is_memory (refusal.Cli token) = false
+is_memory (refusal.Faulty token f) = false

@@ -1,9 +1,9 @@
 // What is answered to a command, over the parts of an engine.
-ghost use Rattle.std.specs.Prelude.{◌≡◌, ◌+◌, ◌++◌, ◌<◌, ◌≤◌, ◌^◌, [], ◌∷◌, length, map, IfOk, OnOk};
-ghost use Rattle.dbg_model.specs.Reply.{content_of, continued, threads_of, thread_hart, of_stopped, of_live, running, selecting, one_shown, registers_of, thread_number, register, valued, numbers_below, shown_thread, live_threads, stopped_threads, shown_byte, shown_range, memory_of, hindered, unknown_thread, placed, inserted_by, fault_content, is_wait, going_on, selected_after};
+ghost use Rattle.std.specs.Prelude.{◌≡◌, ◌+◌, ◌++◌, ◌<◌, ◌≤◌, ◌^◌, [], ◌∷◌, length, map, IfOk, OnOk, Ok};
+ghost use Rattle.dbg_model.specs.Reply.{content_of, continued, threads_of, thread_hart, of_stopped, of_live, running, selecting, one_shown, registers_of, thread_number, register, valued, numbers_below, shown_thread, live_threads, stopped_threads, shown_byte, shown_range, memory_of, hindered, unknown_thread, placed, inserted_by, fault_content, is_wait, waits, going_on, selected_after};
 ghost use Rattle.engine_facts.specs.Seen.{seen_harts, seen_hart};
 ghost use Rattle.dbg_engine.specs.declared.answering.ReadError.TheVariants.{NoMemory};
-ghost use Rattle.dbg_engine.specs.Answering.{found_hart, IsStopped, IsLive, Reads, option_list};
+ghost use Rattle.dbg_engine.specs.Answering.{found_hart, IsStopped, IsLive, Reads, option_list, is_memory};
 
 use dbg_model::{
     Breakpoint, Content, MOST_BREAKPOINTS, Obstacle, Refused, Register, RegisterList, Reply, Thread,
@@ -47,10 +47,17 @@ fn hindered(obstacle: Obstacle) -> Content
 fn find<'a>(cores: &'a [Core], minds: &[Mind], thread: u32) -> Option<(&'a Core, Mind)>
     ensures { found_hart result ≡ thread_hart (seen_harts cores.now minds.now) thread }
 {
-    let h = thread.checked_sub(1)? as usize;
-    let core = cores.get(h)?;
-    let mind = minds.get(h)?;
-    Some((core, *mind))
+    if thread == 0 {
+        return None;
+    }
+    let h = thread as usize - 1;
+    if h >= cores.len() {
+        return None;
+    }
+    if h >= minds.len() {
+        return None;
+    }
+    Some((&cores[h], minds[h]))
 }
 
 // The hart of a thread that has to be stopped.
@@ -493,14 +500,31 @@ pub fn refusal(alloc: Global, refused: Refused) -> Reply
     }
 }
 
+// Whether memory was wanting when a line was read.
+fn is_memory(refusal: &Refusal) -> bool
+    ensures { result ≡ is_memory refusal.now }
+{
+    matches!(refusal, Refusal::NoMemory)
+}
+
+fn waits(command: &Command) -> bool
+    ensures { result ≡ waits (Ok command.now) }
+{
+    matches!(command, Command::Wait)
+}
+
 /// Whether a line is the command that waits until no hart runs.
 pub fn is_wait(alloc: Global, line: &[u8]) -> Result<bool, NoMemory>
     ensures { IfOk result (λ b. b ≡ is_wait line.now) }
 {
     match command_of(alloc, line) {
-        Ok(line) => Ok(matches!(line.command, Command::Wait)),
-        Err(Refusal::NoMemory) => Err(NoMemory),
-        Err(_) => Ok(false),
+        Ok(read) => Ok(waits(&read.command)),
+        Err(refusal) => {
+            if is_memory(&refusal) {
+                return Err(NoMemory);
+            }
+            Ok(false)
+        }
     }
 }
 

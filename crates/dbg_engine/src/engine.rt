@@ -28,7 +28,7 @@ use dbg_model::{
 use dbg_traits::NoMemory;
 use engine_facts::{Activity, Hold, Mind, Phase};
 use hart_machine::Machine;
-use mi_commands::{ByteList, CommandLine, Refusal, command_of};
+use mi_commands::{ByteList, Refusal, command_of};
 use rv_exec::{Cause, Stepped};
 use std::alloc::{AllocError, Global};
 use std::marker::Model;
@@ -558,9 +558,8 @@ impl Engine {
         ensures { IfOk result (λ r. r ≡ reply_of self.now.opening (seen self.now) line.now) }
     {
         match command_of(self.alloc, line) {
-            Ok(CommandLine { token, command }) => Ok(Reply {
-                token,
-                content: answer(
+            Ok(read) => {
+                let content = answer(
                     self.alloc,
                     &self.opening.image,
                     &self.machine,
@@ -568,9 +567,13 @@ impl Engine {
                     self.breaks.as_slice(),
                     self.next,
                     self.selected,
-                    &command,
-                )?,
-            }),
+                    &read.command,
+                )?;
+                Ok(Reply {
+                    token: read.token,
+                    content,
+                })
+            }
             Err(Refusal::NoMemory) => Err(NoMemory),
             Err(Refusal::Long) => Ok(refusal(self.alloc, Refused::Long)),
             Err(Refusal::Syntax) => Ok(refusal(self.alloc, Refused::Syntax)),
@@ -586,7 +589,13 @@ impl Engine {
     }
 
     // Does a line that sets a breakpoint.
-    fn insert(&mut self, line: &[u8], breakpoint: &Breakpoint) -> Result<(), NoMemory>
+    fn insert(
+        &mut self,
+        line: &[u8],
+        breakpoint: &Breakpoint,
+        address: u32,
+    ) -> Result<(), NoMemory>
+        requires place { address ≡ breakpoint.now.address }
         requires may { may_do self.old.opening (seen self.old) line.now ≡ true }
         requires answer { IsInserted self.old line.now breakpoint.now }
         ensures { MatchResult result (λ _. Lines self.old self.new line.now) (λ _. self.new ≡ self.old) }
@@ -602,8 +611,8 @@ impl Engine {
             },
         );
         put_back(&mut self.breaks, added);
-        let wants = wants(self.breaks.as_slice(), self.hold, breakpoint.address);
-        repatch(&mut self.machine, breakpoint.address, wants);
+        let wants = wants(self.breaks.as_slice(), self.hold, address);
+        repatch(&mut self.machine, address, wants);
         self.next += 1;
         self.noted += 1;
         Ok(())
@@ -636,7 +645,7 @@ impl Engine {
     {
         let reply = self.reply(line)?;
         match &reply.content {
-            Content::Inserted(breakpoint) => self.insert(line, breakpoint)?,
+            Content::Inserted(breakpoint) => self.insert(line, breakpoint, breakpoint.address)?,
             content => self.note_line(line, content)?,
         }
         Ok(reply)

@@ -1,0 +1,165 @@
+-- The parts of an answer.
+use Rattle.std.proofs.Common.{◌≡◌, ℕ, zero, suc, ◌+◌, ◌-◌, ◌%◌, ◌^◌, ◌<◌, ◌≤◌, Bool, true, false, List, [], ◌∷◌, ◌++◌, length, map, refl, sym, ap, ◌∙◌, subst, arith, append_assoc}
+use Rattle.std.specs.Prelude.{Option, Some, None, Result, Ok, Err, slice_get, ◌==◌}
+use Rattle.std.specs.List.{list_any}
+use Rattle.rv_exec.specs.Registers.{Registers}
+use Rattle.rv_exec.specs.Memory.{Memory}
+use Rattle.elf32_read.specs.Program.{Program}
+use Rattle.mi_commands.specs.Gives.{Commands, HasAnswer}
+use Rattle.mi_commands.specs.declared.command.Command.{Command}
+use Rattle.mi_commands.specs.declared.refusal.Fault.{Fault}
+use Rattle.mi_commands.specs.declared.refusal.Refusal.{Refusal}
+use Rattle.mi_commands.specs.declared.refusal.Refusal.TheVariants.{NoMemory, Long, Syntax, Cli, Faulty}
+use Rattle.hart_machine.specs.declared.hart.Core.{Core}
+use Rattle.hart_machine.proofs.Places.{same_some}
+use Rattle.dbg_model.specs.declared.reply.Content.{Content}
+use Rattle.dbg_model.specs.declared.reply.Content.TheVariants as content
+use Rattle.dbg_model.specs.declared.reply.Refused.{Refused}
+use Rattle.dbg_model.specs.declared.reply.Refused.TheVariants as refused
+use Rattle.dbg_model.specs.declared.reply.Register.{Register}
+use Rattle.dbg_model.specs.declared.reply.Reply.{Reply}
+use Rattle.dbg_model.specs.State.{Hart}
+use Rattle.dbg_model.specs.Reply.{valued, numbers_below, shown_byte, shown_range, and_byte, thread_hart, reply_of, content_of, fault_content, is_wait, waits}
+use Rattle.dbg_model.proofs.Replying.{reply_long, reply_malformed, reply_cli, reply_answers, wait_answers, wait_long, wait_none, wait_cli}
+use Rattle.engine_facts.specs.declared.mind.Hold.{Hold}
+use Rattle.engine_facts.specs.declared.mind.Mind.{Mind}
+use Rattle.engine_facts.specs.declared.mind.Phase.TheVariants as phase
+use Rattle.engine_facts.specs.Minds.{runs, lifted_of}
+use Rattle.engine_facts.specs.Seen.{Run, seen, seen_harts, seen_hart}
+use Rattle.engine_facts.specs.Facts.{Facts, held_by, other_holder}
+use Rattle.engine_facts.proofs.Seeing.{seen_at}
+use Rattle.engine_facts.proofs.Updating.{equals}
+use Rattle.dbg_engine.specs.Answering.{is_memory}
+use Rattle.dbg_engine.specs.Steps.{next_running}
+use Rattle.dbg_engine.specs.Calls.{Moves, NextMoves}
+use Rattle.dbg_engine.proofs.Seeing.{next_runs, none_runs}
+
+-- ---- threads
+
+pub thread_at : (xs : List Hart) (t : ℕ) → 0 < t → thread_hart xs t ≡ slice_get xs (t - 1)
+thread_at xs zero some = absurd (omega arith)
+thread_at xs (suc h) some = ap (slice_get xs) (omega arith)
+
+pub out_core : (cs : List Core) (xs : List Mind) (h : ℕ) → length cs ≤ h → slice_get (seen_harts cs xs) h ≡ None
+out_core [] xs h le = refl
+out_core (c ∷ cs) [] h le = refl
+out_core (c ∷ cs) (x ∷ xs) zero le = absurd (omega arith)
+out_core (c ∷ cs) (x ∷ xs) (suc h) le = out_core cs xs h (omega arith)
+
+pub out_mind : (cs : List Core) (xs : List Mind) (h : ℕ) → length xs ≤ h → slice_get (seen_harts cs xs) h ≡ None
+out_mind [] xs h le = refl
+out_mind (c ∷ cs) [] h le = refl
+out_mind (c ∷ cs) (x ∷ xs) zero le = absurd (omega arith)
+out_mind (c ∷ cs) (x ∷ xs) (suc h) le = out_mind cs xs h (omega arith)
+
+pub no_thread : (cs : List Core) (xs : List Mind) → thread_hart (seen_harts cs xs) 0 ≡ None
+no_thread cs xs = refl
+
+-- ---- registers and memory
+
+map-both : (r : Registers) (ns : List ℕ) (n : ℕ) → map (valued r) (ns ++ n ∷ []) ≡ map (valued r) ns ++ valued r n ∷ []
+map-both r [] n = refl
+map-both r (m ∷ ns) n = ap (λ t. valued r m ∷ t) (map-both r ns n)
+
+below_more : (n : ℕ) → numbers_below (n + 1) ≡ numbers_below n ++ n ∷ []
+below_more n = let at : n + 1 ≡ suc n = omega arith in ap numbers_below at
+
+pub more_registers : (r : Registers) (n : ℕ) (front items next : List Register) → items ≡ front ++ map (valued r) (numbers_below n) → next ≡ items ++ valued r n ∷ [] → next ≡ front ++ map (valued r) (numbers_below (n + 1))
+more_registers r n front items next so more =
+    more ∙ (ap (λ t. t ++ valued r n ∷ []) so ∙ (append_assoc front (map (valued r) (numbers_below n)) (valued r n ∷ [])
+    ∙ ap (λ t. front ++ t) (sym (map-both r (numbers_below n) n) ∙ ap (map (valued r)) (sym (below_more n)))))
+
+range_more : (p : Program) (m : Memory) (addr n : ℕ) → shown_range p m addr (n + 1) ≡ and_byte (shown_range p m addr n) ((addr + n) % 2 ^ 32) (shown_byte p m ((addr + n) % 2 ^ 32))
+range_more p m addr n = let at : n + 1 ≡ suc n = omega arith in ap (shown_range p m addr) at
+
+stays_failed : (p : Program) (m : Memory) (addr n j at : ℕ) → shown_range p m addr n ≡ Err at → shown_range p m addr (n + j) ≡ Err at
+stays_failed p m addr n zero at h = let e : n + 0 ≡ n = omega arith in ap (shown_range p m addr) e ∙ h
+stays_failed p m addr n (suc j) at h =
+    let e : n + suc j ≡ (n + j) + 1 = omega arith in
+    let ih = stays_failed p m addr n j at h in
+    ap (shown_range p m addr) e ∙ (range_more p m addr (n + j) ∙ ap (λ r. and_byte r ((addr + (n + j)) % 2 ^ 32) (shown_byte p m ((addr + (n + j)) % 2 ^ 32))) ih)
+
+-- the first byte that isn't there
+pub range_fails : (p : Program) (m : Memory) (addr k count : ℕ) (bytes : List ℕ) → k < count → shown_range p m addr k ≡ Ok bytes → None ≡ shown_byte p m ((addr + k) % 2 ^ 32) → shown_range p m addr count ≡ Err ((addr + k) % 2 ^ 32)
+range_fails p m addr k count bytes low so none =
+    let at = (addr + k) % 2 ^ 32 in
+    let here : shown_range p m addr (k + 1) ≡ Err at = range_more p m addr k ∙ (ap (λ r. and_byte r at (shown_byte p m at)) so ∙ ap (and_byte (Ok bytes) at) (sym none)) in
+    let e : count ≡ (k + 1) + (count - (k + 1)) = omega arith in
+    ap (shown_range p m addr) e ∙ stays_failed p m addr (k + 1) (count - (k + 1)) at here
+
+pub range_goes : (p : Program) (m : Memory) (addr k : ℕ) (bytes : List ℕ) (b : ℕ) → shown_range p m addr k ≡ Ok bytes → Some b ≡ shown_byte p m ((addr + k) % 2 ^ 32) → shown_range p m addr (k + 1) ≡ Ok (bytes ++ b ∷ [])
+range_goes p m addr k bytes b so some =
+    let at = (addr + k) % 2 ^ 32 in
+    range_more p m addr k ∙ (ap (λ r. and_byte r at (shown_byte p m at)) so ∙ ap (and_byte (Ok bytes) at) (sym some))
+
+-- ---- replies
+
+abbrev reply : List ℕ → Content → Reply
+reply t c = record { token = t; content = c }
+
+both_are : (r : Reply) (t : List ℕ) (c : Content) → r.token ≡ t → r.content ≡ c → r ≡ reply t c
+both_are r t c e f = ap (λ u. reply u r.content) e ∙ ap (reply t) f
+
+pub reply_made : (r : Run) (line token : List ℕ) (cmd : Command) (c : Content) → (length line ≤ 4096) × HasAnswer line token (Ok cmd)
+    → c ≡ content_of r.opening.image (seen_harts r.machine.cores r.minds) r.machine.memory r.breaks r.next r.selected cmd → record { token = token; content = c } ≡ reply_of r.opening (seen r) line
+reply_made r line token cmd c h e = ap (reply token) e ∙ sym (reply_answers r.opening (seen r) line token (Ok cmd) h.0 h.1)
+
+pub reply_faulty : (r : Run) (line token : List ℕ) (f : Fault) (c : Content) → (length line ≤ 4096) × HasAnswer line token (Err f) → c ≡ fault_content (seen_harts r.machine.cores r.minds) f
+    → record { token = token; content = c } ≡ reply_of r.opening (seen r) line
+reply_faulty r line token f c h e = ap (reply token) e ∙ sym (reply_answers r.opening (seen r) line token (Err f) h.0 h.1)
+
+pub reply_too_long : (r : Run) (line : List ℕ) (a : Reply) (f : Refusal) → f ≡ Long → Commands line (Err f) → a.token ≡ [] → a.content ≡ content.Refused refused.Long → a ≡ reply_of r.opening (seen r) line
+reply_too_long r line a f is h t c =
+    let g : Commands line (Err Long) = subst (λ (x : Refusal). Commands line (Err x)) is h in
+    both_are a [] (content.Refused refused.Long) t c ∙ sym (reply_long r.opening (seen r) line g)
+
+pub reply_syntax : (r : Run) (line : List ℕ) (a : Reply) (f : Refusal) → f ≡ Syntax → Commands line (Err f) → a.token ≡ [] → a.content ≡ content.Refused refused.Syntax → a ≡ reply_of r.opening (seen r) line
+reply_syntax r line a f is h t c =
+    let g : Commands line (Err Syntax) = subst (λ (x : Refusal). Commands line (Err x)) is h in
+    both_are a [] (content.Refused refused.Syntax) t c ∙ sym (reply_malformed r.opening (seen r) line g.0 g.1 g.2)
+
+pub reply_no_command : (r : Run) (line token : List ℕ) (f : Refusal) → f ≡ Cli token → Commands line (Err f) → record { token = token; content = content.Refused refused.Cli } ≡ reply_of r.opening (seen r) line
+reply_no_command r line token f is h =
+    let g : Commands line (Err (Cli token)) = subst (λ (x : Refusal). Commands line (Err x)) is h in
+    sym (reply_cli r.opening (seen r) line token g.0 g.1 g.2)
+
+-- ---- waiting
+
+pub wait_refused : (line : List ℕ) (f : Refusal) → Commands line (Err f) → is_memory f ≡ false → false ≡ is_wait line
+wait_refused line NoMemory h e = absurd cc
+wait_refused line Long h e = sym (wait_long line h)
+wait_refused line Syntax h e = sym (wait_none line h.0 h.1)
+wait_refused line (Cli token) h e = sym (wait_cli line h.0 h.1)
+wait_refused line (Faulty token f) h e = sym (wait_answers line token (Err f) h.0 h.1)
+
+pub wait_read : (line token : List ℕ) (cmd : Command) (b : Bool) → (length line ≤ 4096) × HasAnswer line token (Ok cmd) → b ≡ waits (Ok cmd) → b ≡ is_wait line
+wait_read line token cmd b h e = e ∙ sym (wait_answers line token (Ok cmd) h.0 h.1)
+
+-- ---- the hart to move next
+
+get_within : {A : Type 0} (xs : List A) (h : ℕ) → h < length xs → (x : A) × (slice_get xs h ≡ Some x)
+get_within [] h low = absurd (omega arith)
+get_within (x ∷ xs) zero low = (x, refl)
+get_within (x ∷ xs) (suc h) low = get_within xs h (omega arith)
+
+lifted_runs : (x : Mind) (home : ℕ) (b : Bool) → runs x ≡ b → (runs x ≡ false → x.phase ≡ phase.Idle) → lifted_of x.phase ≡ Some home → runs x ≡ true
+lifted_runs x home true is idle held = is
+lifted_runs x home false is idle held = let none : lifted_of x.phase ≡ None = ap lifted_of (idle is) in absurd cc
+
+pub holder_moves : (r : Run) (d : Hold) → Facts r → r.hold ≡ Some d → Moves r d.hart
+holder_moves r d f is =
+    let low = f.harts.holder d is in
+    let x = get_within r.minds d.hart low in
+    let c = get_within r.machine.cores d.hart (omega (arith, f.harts.len)) in
+    let fact = f.harts.each d.hart c.0 x.0 c.1 x.1 in
+    let own : held_by (Some d) d.hart ≡ Some d.home = rw (equals d.hart) refl in
+    let held : lifted_of x.0.phase ≡ Some d.home = fact.held ∙ (ap (λ h. held_by h d.hart) is ∙ own) in
+    let free : other_holder (Some d) d.hart ≡ None = rw (equals d.hart) refl in
+    record { mind = x.0; at = x.1; runs = lifted_runs x.0 d.home (runs x.0) refl fact.idle held; free = ap (λ h. other_holder h d.hart) is ∙ free }
+
+pub next_moves : (r : Run) (from : ℕ) (found : Option ℕ) → r.hold ≡ None → found ≡ next_running r.minds from → NextMoves found r
+next_moves r from None free is = none_runs r.minds from (sym is)
+next_moves r from (Some h) free is =
+    let d = next_runs r.minds from h (sym is) in
+    let place : h ≡ d.place = omega (arith, d.number) in
+    record { mind = d.mind; at = ap (slice_get r.minds) place ∙ d.at; runs = d.runs; free = ap (λ t. other_holder t h) free }
