@@ -25,6 +25,7 @@ use Rattle.engine_facts.specs.Seen.{Run, seen, seen_with, seen_harts}
 use Rattle.engine_facts.specs.Facts.{Facts, IsThread, InText, wanted}
 use Rattle.engine_facts.specs.Moves.{Repatched, lined, broken, broken_state}
 use Rattle.engine_facts.proofs.Stopping.{lines}
+use Rattle.engine_facts.proofs.Bounding.{below}
 use Rattle.engine_facts.proofs.Breaking.{breaks_in}
 use Rattle.engine_facts.proofs.Keeping.{Enters}
 use Rattle.dbg_engine.specs.Answering.{IsInserted, IsNoted, SetsNone}
@@ -178,3 +179,9 @@ noted r spare line c j xs selected f may is same minds chosen =
     let ys = resume_threads r.minds (going_on c) in
     let base : P es ys (selected_after r.selected c) = noted_to r line c spare f may is in
     subst (λ (ls : List Entry). P ls xs selected) (sym same) (subst (λ (zs : List Mind). P es zs selected) (sym minds) (subst (λ t. P es ys t) (sym chosen) base))
+
+-- a line that may be done is not beyond the last
+pub noted_low : (r : Run) (line : List ℕ) → may_do r.opening (seen r) line ≡ true → r.noted < HISTORY
+noted_low r line may =
+    let s = seen r in
+    (below r (both_true (may_go r.opening s) (not (any_runs s.harts && is_wait line)) may).0).1

@@ -1,11 +1,11 @@
-ghost use Rattle.std.specs.Prelude.{◌≡◌, ◌<◌, ◌≤◌, ◌-◌, ◌+◌, ◌^◌, [], length, slice_get, Some, None, replicate, IfOk, IfErr, OnOk, OnErr, MatchResult, Err, IsTrue, IsSome, ◌↔◌, true, false};
+ghost use Rattle.std.specs.Prelude.{◌≡◌, ◌&&◌, ◌<◌, ◌≤◌, ◌-◌, ◌+◌, ◌^◌, [], length, slice_get, Some, None, replicate, IfOk, IfErr, OnOk, OnErr, MatchResult, Err, IsTrue, IsSome, ◌↔◌, true, false};
 ghost use Rattle.dbg_traits.specs.Settings.{AreSettings};
 ghost use Rattle.data_memory.specs.Ranges.{bytes_at, range_at};
 ghost use Rattle.text_words.specs.Words.{shown, is_planted};
 ghost use Rattle.dbg_model.specs.Breaks.{is_temporary};
 ghost use Rattle.dbg_model.specs.State.{first_state, any_runs, all_gone, due};
 ghost use Rattle.dbg_model.specs.Lawful.{may_go, may_do};
-ghost use Rattle.dbg_model.specs.Reply.{reply_of};
+ghost use Rattle.dbg_model.specs.Reply.{reply_of, is_wait};
 ghost use Rattle.engine_facts.specs.Minds.{first_mind, runs, has_gone, is_before, with_phase};
 ghost use Rattle.engine_facts.specs.Facts.{other_holder, InText, OneLifted};
 ghost use Rattle.engine_facts.specs.Seen.{seen};
@@ -15,7 +15,7 @@ ghost use Rattle.hart_machine.specs.declared.hart.Core.{Core};
 ghost use Rattle.std.specs.List.{list_any, list_all};
 
 use crate::Turned;
-use crate::answering::{answer, going_on, refusal, refuse, selected_after};
+use crate::answering::{answer, going_on, is_wait, refusal, refuse, selected_after};
 use crate::journal::note;
 use crate::moving::apply;
 use crate::patching::{
@@ -636,6 +636,16 @@ impl Engine {
         self.selected = selected_after(self.selected, content);
         self.noted += 1;
         Ok(())
+    }
+
+    /// Whether a line can't be done yet: it waits until no hart runs, and one does.
+    pub fn must_wait(&self, line: &[u8]) -> Result<bool, NoMemory>
+        ensures { IfOk result (λ b. b ≡ (any_runs (seen self.now).harts && is_wait line.now)) }
+    {
+        if !self.any_running() {
+            return Ok(false);
+        }
+        is_wait(self.alloc, line)
     }
 
     /// Does one line, and answers it. A line that waits is done only where no hart runs.

@@ -10,7 +10,6 @@ mod resuming;
 #[cfg(test)]
 mod tests;
 
-pub use answering::is_wait;
 pub use engine::{Closed, End, Engine, SPARE};
 pub use engine_facts::{Activity, Hold, Mind, Phase};
 pub use moving::Turned;

@@ -1,5 +1,5 @@
 use crate::{End, Engine, Turned};
-use dbg_model::{Opening, Reply};
+use dbg_model::{Content, Opening};
 use dbg_traits::Settings;
 use elf32_read::read_image;
 use std::test::Fail;
@@ -32,10 +32,16 @@ fn a_hart_is_resumed_and_exits(rt: HostRuntime) -> Result<(), Fail> {
         return Err(Fail::new("out of memory"));
     };
     assert!(rt; engine.may_go());
-    assert_eq!(rt;
-        engine.command(b"-exec-continue"),
-        Ok(Reply::Resumed { thread: 1 })
-    );
+    let Ok(false) = engine.must_wait(b"-exec-continue") else {
+        return Err(Fail::new("it may go on"));
+    };
+    let Ok(reply) = engine.command(b"-exec-continue") else {
+        return Err(Fail::new("out of memory"));
+    };
+    let Content::Running(threads) = &reply.content else {
+        return Err(Fail::new("no thread goes on"));
+    };
+    assert_eq!(rt; threads.as_slice(), &[1]);
     let cases = [
         (1, Turned::NotRunning),
         (0, Turned::Ran),

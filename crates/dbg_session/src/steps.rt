@@ -140,13 +140,6 @@ pub fn turn_once<W: World>(alloc: Global, world: &mut W, engine: &mut Engine, ha
     }
 }
 
-// Whether a line can't be done yet: it waits, and a hart runs.
-fn must_wait(alloc: Global, engine: &Engine, line: &[u8]) -> Result<bool, NoMemory>
-    ensures { IfOk result (λ b. b ≡ (any_runs (seen engine.now).harts && is_wait line.now)) }
-{
-    Ok(engine.any_running() && is_wait(alloc, line)?)
-}
-
 /// The next line of the rest of the input, with its reply.
 pub fn line_once<W: World>(
     alloc: Global,
@@ -166,7 +159,7 @@ pub fn line_once<W: World>(
         return Done::Nothing;
     };
     let line = &rest[..text];
-    match must_wait(alloc, engine, line) {
+    match engine.must_wait(line) {
         Ok(false) => {}
         Ok(true) => return Done::Waits,
         Err(_) => return Done::NoMemory,

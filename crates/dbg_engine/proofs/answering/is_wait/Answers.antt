@@ -1,14 +1,9 @@
-use Rattle.std.proofs.Common.{rules, ◌≡◌, ◌+◌, ◌++◌, ◌<◌, ◌≤◌, ◌^◌, [], ◌∷◌, length, map, IfOk, OnOk, ℕ, ◌-◌, ◌*◌, ◌/◌, ◌%◌, Bool, true, false, nat_eq, nat_lt, List, slice_index_or, slice_set, bit_and, bit_or, Fits, w8, w32, w64, Bor, MutBor}
-use Rattle.dbg_model.specs.Reply.{content_of, continued, threads_of, thread_hart, of_stopped, of_live, running, selecting, one_shown, registers_of, thread_number, register, valued, numbers_below, shown_thread, live_threads, stopped_threads, shown_byte, shown_range, memory_of, hindered, unknown_thread, placed, inserted_by, fault_content, is_wait, going_on, selected_after}
-use Rattle.engine_facts.specs.Seen.{seen_harts, seen_hart}
-use Rattle.dbg_engine.specs.declared.answering.ReadError.TheVariants.{NoMemory}
-use Rattle.dbg_engine.specs.Answering.{found_hart, IsStopped, IsLive, Reads, option_list}
+use Rattle.std.proofs.Common.{sym}
+use Rattle.dbg_engine.proofs.Replies.{wait_read, wait_refused}
 use Rattle.dbg_engine.proofs.answering.is_wait.Goals as goal
 
--- src/answering.rt:499:1
 pub returns-in-Ok : goal.returns-in-Ok
-returns-in-Ok c = ?
+returns-in-Ok c = wait_read c.args.line.now c.in-Ok.read.token c.in-Ok.read.command c.waits.result c.in-Ok.ensures.commands c.waits.ensures
 
--- src/answering.rt:497:1
-pub returns : goal.returns
-returns c = ?
+pub returns-else-is_memory : goal.returns-else-is_memory
+returns-else-is_memory c = wait_refused c.args.line.now c.in-Err.refusal c.in-Err.ensures.commands (sym c.if-is_memory.ensures)

@@ -1,10 +1,11 @@
-use Rattle.std.proofs.Common.{rules, ◌≡◌, ◌+◌, ◌++◌, ◌<◌, ◌≤◌, ◌^◌, [], ◌∷◌, length, map, IfOk, OnOk, ℕ, ◌-◌, ◌*◌, ◌/◌, ◌%◌, Bool, true, false, nat_eq, nat_lt, List, slice_index_or, slice_set, bit_and, bit_or, Fits, w8, w32, w64, Bor, MutBor}
-use Rattle.dbg_model.specs.Reply.{content_of, continued, threads_of, thread_hart, of_stopped, of_live, running, selecting, one_shown, registers_of, thread_number, register, valued, numbers_below, shown_thread, live_threads, stopped_threads, shown_byte, shown_range, memory_of, hindered, unknown_thread, placed, inserted_by, fault_content, is_wait, going_on, selected_after}
-use Rattle.engine_facts.specs.Seen.{seen_harts, seen_hart}
-use Rattle.dbg_engine.specs.declared.answering.ReadError.TheVariants.{NoMemory}
-use Rattle.dbg_engine.specs.Answering.{found_hart, IsStopped, IsLive, Reads, option_list}
+use Rattle.std.proofs.Common.{◌≡◌, ◌++◌, [], ◌∷◌, ℕ, ap, ◌∙◌}
+use Rattle.dbg_model.specs.declared.reply.Register.{Register}
+use Rattle.dbg_engine.proofs.Replies.{more_registers}
 use Rattle.dbg_engine.proofs.answering.push_all_registers.Goals as goal
 
--- src/answering.rt:187:5
 pub loop-number-preserved : goal.loop-number-preserved
-loop-number-preserved c = ?
+loop-number-preserved c =
+    let n = c.loop-number.number in
+    let one : ℕ → Register = λ v. record { number = n; value = v } in
+    more_registers c.args.core.now.regs n c.args.into.now.items c.loop-number.into.items c.push.new.self.items c.loop-number.invariant
+        (c.in_ok-push.ensures.items ∙ ap (λ v. c.loop-number.into.items ++ one v ∷ []) c.register.ensures)

@@ -1,25 +1,18 @@
-use Rattle.std.proofs.Common.{rules, ◌≡◌, ◌<◌, ◌≤◌, ◌-◌, ◌+◌, ◌^◌, [], length, slice_get, Some, None, replicate, IfOk, IfErr, OnOk, OnErr, MatchResult, Err, IsTrue, IsSome, ◌↔◌, true, false, ℕ, ◌*◌, ◌/◌, ◌%◌, Bool, nat_eq, nat_lt, List, ◌∷◌, ◌++◌, slice_index_or, slice_set, bit_and, bit_or, Fits, w8, w32, w64, Bor, MutBor}
-use Rattle.dbg_traits.specs.Settings.{AreSettings}
-use Rattle.data_memory.specs.Ranges.{bytes_at, range_at}
-use Rattle.text_words.specs.Words.{shown, is_planted}
-use Rattle.dbg_model.specs.Breaks.{is_temporary}
-use Rattle.dbg_model.specs.State.{first_state, any_runs, all_gone, due}
-use Rattle.dbg_model.specs.Lawful.{may_go, may_do}
-use Rattle.dbg_model.specs.Reply.{reply_of}
-use Rattle.engine_facts.specs.Minds.{first_mind, runs, has_gone, is_before, with_phase}
-use Rattle.engine_facts.specs.Facts.{other_holder, InText, OneLifted, Facts}
-use Rattle.engine_facts.specs.Seen.{seen}
-use Rattle.dbg_engine.specs.Steps.{running_from, next_running, IsTurned}
-use Rattle.dbg_engine.specs.Answering.{IsInserted, IsNoted}
-use Rattle.hart_machine.specs.declared.hart.Core.{Core}
-use Rattle.std.specs.List.{list_any, list_all}
-use Rattle.dbg_engine.specs.Calls.{Of, Rephases, Lifts, Halts, Turns, TrapsAt, Executes, Does, Lines, NextMoves, OverBy, Closes}
+use Rattle.std.proofs.Common.{◌≡◌, sym, ap, ◌∙◌, subst}
+use Rattle.engine_facts.specs.Seen.{Run}
+use Rattle.dbg_engine.specs.Calls.{Moves, NextMoves}
+use Rattle.dbg_engine.specs.Steps.{next_running}
+use Rattle.dbg_engine.specs.EngineInside.{run_of}
+use Rattle.dbg_engine.proofs.Replies.{holder_moves, next_moves}
 use Rattle.dbg_engine.proofs.engine.Engine.next_mover.Goals as goal
 
--- src/engine.rt:271:5
 pub returns-in-Some : goal.returns-in-Some
-returns-in-Some c = ?
+returns-in-Some c =
+    let P : Run → Type 0 = λ q. Moves q c.in-Some.hold.hart in
+    subst P c.self.view_is (holder_moves (run_of c.self.inside) c.in-Some.hold c.self.invariant.facts c.in-Some.is)
 
--- src/engine.rt:271:5
 pub returns-in-None : goal.returns-in-None
-returns-in-None c = ?
+returns-in-None c =
+    let P : Run → Type 0 = λ q. NextMoves c.next_running.result q in
+    let found = c.next_running.ensures ∙ ap (λ (q : Run). next_running q.minds c.args.from) (sym c.self.view_is) in
+    subst P c.self.view_is (next_moves (run_of c.self.inside) c.args.from c.next_running.result c.in-None.is found)
