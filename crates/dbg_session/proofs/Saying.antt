@@ -286,7 +286,7 @@ has_moved_so (turned.Stopped cause) is = tt
 has_moved_so (turned.Arrived number temporary) is = tt
 
 spare_facts : (e : Run) (n : ℕ) → Facts e → Facts (record e { spare = n })
-spare_facts e n f = record { leaves = f.leaves; settings = f.settings; count = f.count; harts = f.harts; planted = f.planted; texts = f.texts; retired = f.retired }
+spare_facts e n f = record { leaves = f.leaves; settings = f.settings; count = f.count; selected = f.selected; harts = f.harts; planted = f.planted; texts = f.texts; retired = f.retired }
 
 pub made_room : (e r : Run) → r ≡ record e { spare = r.spare } → Facts e → Facts r
 made_room e r is f = subst Facts (sym is) (spare_facts e r.spare f)
@@ -295,7 +295,7 @@ made_room e r is f = subst Facts (sym is) (spare_facts e r.spare f)
 pub moved : (t : Turned) (e r s : Run) (h pc : ℕ) → r ≡ record e { spare = r.spare } → Facts e → Facts s → h < length e.minds → IsPc r h pc → true ≡ has_moved t → Turns t r s h → Said t e s h pc
 moved t e r s h pc is f g low is_pc does m = turn_says t e r s h pc is (made_room e r is f) g low is_pc (has_moved_so t (sym does)) m
 
-and_false : (b : Bool) → (b && false) ≡ false
+pub and_false : (b : Bool) → (b && false) ≡ false
 and_false true = refl
 and_false false = refl
 

@@ -10,7 +10,7 @@ ghost use Rattle.dbg_session.specs.Turned.{turned_text, wrote_text, last_lefts, 
 ghost use Rattle.dbg_session.specs.Steps.{Turns, Does, Inputs};
 
 use crate::puts::put_all;
-use dbg_engine::{Engine, SPARE, Turned, is_wait};
+use dbg_engine::{Engine, SPARE, Turned};
 use dbg_traits::{NoMemory, Polled, World};
 use mi_input::next_line;
 use mi_reports::{break_text, lefts_text, reply_text, stop_text, stream_text};
@@ -126,13 +126,13 @@ pub fn turn_once<W: World>(alloc: Global, world: &mut W, engine: &mut Engine, ha
     }
     let pc = engine.pc(hart);
     let turned = engine.turn(hart);
+    engine.keep();
     if !has_moved(turned) {
         return Turn::Stood;
     }
     let Ok(text) = turned_text(alloc, engine, turned, hart, pc) else {
         return Turn::NoMemory;
     };
-    engine.keep();
     if put_all(world, text.as_slice()) {
         Turn::Moved
     } else {

@@ -1,10 +1,16 @@
-use Rattle.std.proofs.Common.{◌∙◌, take}
+use Rattle.std.proofs.Common.{◌∙◌, sym, take, refl}
 use Rattle.std.specs.Prelude.{true, false}
 use Rattle.dbg_session.specs.Stage.{stage_of}
 use Rattle.mi_reports.specs.Replies.{reply_text}
 use Rattle.dbg_session.proofs.Saying.{does_say}
-use Rattle.dbg_session.proofs.Doing.{does_line, keeps, says_as}
+use Rattle.dbg_session.proofs.Doing.{does_line, keeps, says_as, must_wait}
 use Rattle.dbg_session.proofs.steps.line_once.Goals as goal
+
+pub returns-in-Ok-true-clause-does : goal.returns-in-Ok-true-clause-does
+returns-in-Ok-true-clause-does g c =
+    let line = take c.in-Some.text c.args.rest.now in
+    let d = must_wait c.args.engine.now c.args.ended c.args.rest.now line c.in-Some.next c.in-Some.ensures.next (sym c.in-Ok-true.field-0-test ∙ c.in-Ok-true.ensures) in
+    (refl, refl, d.waits, d.not_yet)
 
 pub returns-in_default-reply_text-clause-does : goal.returns-in_default-reply_text-clause-does
 returns-in_default-reply_text-clause-does g c =
