@@ -1,9 +1,9 @@
 -- A line keeps what the type of an engine keeps.
-use Rattle.std.proofs.Common.{◌≡◌, ℕ, zero, suc, ◌+◌, ◌^◌, ◌-◌, ◌<◌, ◌≤◌, Bool, true, false, List, [], ◌∷◌, ◌++◌, length, refl, sym, ap, ◌∙◌, subst, arith}
+use Rattle.std.proofs.Common.{◌≡◌, ℕ, zero, suc, ◌+◌, ◌^◌, ◌-◌, ◌<◌, true, List, [], ◌∷◌, ◌++◌, length, refl, sym, ap, ◌∙◌, subst, arith}
 use Rattle.std.specs.Prelude.{Option, Some, None, is_some, slice_get, ◌&&◌, not}
 use Rattle.std.proofs.lemmas.Option.{slice_get_within}
 use Rattle.elf32_read.specs.Program.{Program, text_word}
-use Rattle.text_words.specs.Words.{Words, unpatched}
+use Rattle.text_words.specs.Words.{Words}
 use Rattle.text_words.proofs.Below.{word_below}
 use Rattle.hart_machine.specs.declared.hart.Core.{Core}
 use Rattle.hart_machine.specs.Patched.{Patched}
@@ -124,8 +124,8 @@ noted_to r line c spare f may is =
     let founded = subst (IsFounded r.opening.image (seen r).harts r.breaks) is.0 (reply_founded r.opening (seen r) line) in
     let len : length (seen r).harts ≡ r.opening.settings.harts = harts_length r.machine.cores r.minds f.harts.len ∙ f.count in
     let e : Enters n s = lines r (Did line) xs (selected_after r.selected c) spare s f refl (enter_did r.opening (seen r) line may ∙ ap Some done) same (length_threads r.minds ts)
-        (selected_within r.opening r.opening.image (seen r).harts r.breaks r.selected c f.selected len founded)
-        (harts_threads r.opening.image r.machine.cores r.minds r.hold ts f.harts) in
+    (selected_within r.opening r.opening.image (seen r).harts r.breaks r.selected c f.selected len founded)
+    (harts_threads r.opening.image r.machine.cores r.minds r.hold ts f.harts) in
     record { facts = e.facts; lines = record { journal = refl; seen = sym (done ∙ e.seen); opening = refl } }
 
 done_broken : (o : Opening) (s : State) (line : List ℕ) (b : Breakpoint) → (reply_of o s line).content ≡ content.Inserted b → done_by o s line ≡ broken_state s b
@@ -147,7 +147,7 @@ pub broken_to : (r : Run) (line : List ℕ) (b : Breakpoint) (t : Words) (spare 
 broken_to r line b t spare f may low is w =
     let done = done_broken r.opening (seen r) line b is in
     let e : Enters (broken r (Did line) b t spare) (broken_state (seen r) b) =
-        breaks_in r (Did line) b t spare f refl (enter_did r.opening (seen r) line may ∙ ap Some done) (inserted_in r line b low is) w in
+    breaks_in r (Did line) b t spare f refl (enter_did r.opening (seen r) line may ∙ ap Some done) (inserted_in r line b low is) w in
     record { facts = e.facts; lines = record { journal = refl; seen = sym (done ∙ e.seen); opening = refl } }
 
 -- the numbers have room

@@ -1,5 +1,5 @@
 -- An instruction of a running hart keeps what the type of an engine keeps.
-use Rattle.std.proofs.Common.{◌≡◌, ℕ, ◌+◌, ◌<◌, ◌++◌, Bool, true, false, List, [], ◌∷◌, length, refl, sym, ap, ◌∙◌, subst, arith}
+use Rattle.std.proofs.Common.{◌≡◌, ℕ, ◌+◌, ◌++◌, true, false, List, [], ◌∷◌, length, refl, sym, ap, ◌∙◌, subst}
 use Rattle.std.specs.Prelude.{Option, Some, None, map, slice_get, slice_set}
 use Rattle.rv_exec.specs.declared.effect.Cause.{Cause}
 use Rattle.rv_exec.specs.declared.effect.Stepped.{Stepped}
@@ -15,26 +15,24 @@ use Rattle.hart_machine.specs.Stepping.{StepsTo, StepGives}
 use Rattle.hart_machine.proofs.Places.{set_known}
 use Rattle.dbg_model.specs.declared.entry.Entry.{Entry}
 use Rattle.dbg_model.specs.declared.entry.Entry.TheVariants.{Left}
-use Rattle.dbg_model.specs.State.{Hart, State, due, is_running}
-use Rattle.dbg_model.specs.Lawful.{one, may_go, may_move, may_run}
+use Rattle.dbg_model.specs.State.{Hart, due}
+use Rattle.dbg_model.specs.Lawful.{may_go, may_move, may_run}
 use Rattle.dbg_model.specs.Journals.{lengthened}
-use Rattle.engine_facts.specs.declared.mind.Activity.{Activity}
 use Rattle.engine_facts.specs.declared.mind.Activity.TheVariants as activity
 use Rattle.engine_facts.specs.declared.mind.Hold.{Hold}
 use Rattle.engine_facts.specs.declared.mind.Mind.{Mind}
 use Rattle.engine_facts.specs.declared.mind.Phase.TheVariants as phase
-use Rattle.engine_facts.specs.Minds.{mode_of, is_before, ran_mind, exited_mind, gone_mind, lefts_live}
+use Rattle.engine_facts.specs.Minds.{is_before, ran_mind, exited_mind, gone_mind, lefts_live}
 use Rattle.engine_facts.specs.Seen.{Run, seen, seen_hart}
-use Rattle.engine_facts.specs.Facts.{Facts, Planted, wanted, other_holder}
-use Rattle.engine_facts.specs.Moves.{Released, executed, departed}
-use Rattle.engine_facts.proofs.Keeping.{Mover, Enters, hart_at}
+use Rattle.engine_facts.specs.Facts.{Facts, wanted, other_holder}
+use Rattle.engine_facts.specs.Moves.{executed, departed}
+use Rattle.engine_facts.proofs.Keeping.{Mover, hart_at}
 use Rattle.engine_facts.proofs.Holding.{core_at, released, unholds}
 use Rattle.engine_facts.proofs.Bounding.{Small, small_at}
 use Rattle.engine_facts.proofs.Planting.{fetch_plain, no_hit}
 use Rattle.engine_facts.proofs.Stepping.{executes, one_seen, unwanted}
 use Rattle.engine_facts.proofs.Exiting.{Departs, departs_alone, departs_all}
 use Rattle.engine_facts.proofs.Stopping.{may_by}
-use Rattle.dbg_engine.specs.declared.moving.Turned.{Turned}
 use Rattle.dbg_engine.specs.Steps.{Parts, applied, turned_of, is_done, is_exit, ReleasedBy}
 use Rattle.dbg_engine.specs.Calls.{Of, Executes, Runs, Exits, TrapsAt}
 

@@ -1,16 +1,14 @@
 -- Threads that go on, as they are kept and as they are seen.
-use Rattle.std.proofs.Common.{◌≡◌, ℕ, zero, suc, ◌<◌, List, [], ◌∷◌, length, refl, sym, ap, ◌∙◌, arith, length-set}
-use Rattle.std.specs.Prelude.{Option, Some, None, false, slice_get, slice_set}
+use Rattle.std.proofs.Common.{◌≡◌, ℕ, zero, suc, List, [], ◌∷◌, length, refl, sym, ap, ◌∙◌, arith, length-set}
+use Rattle.std.specs.Prelude.{Option, Some, None, slice_get, slice_set}
 use Rattle.elf32_read.specs.Program.{Program}
 use Rattle.hart_machine.specs.declared.hart.Core.{Core}
-use Rattle.hart_machine.proofs.Places.{same_some, set_known}
-use Rattle.dbg_model.specs.State.{Hart}
+use Rattle.hart_machine.proofs.Places.{set_known}
 use Rattle.dbg_model.specs.Reply.{resumed, resumed_at, resumed_thread, resumed_threads}
 use Rattle.engine_facts.specs.declared.mind.Activity.{Activity}
 use Rattle.engine_facts.specs.declared.mind.Activity.TheVariants as activity
 use Rattle.engine_facts.specs.declared.mind.Hold.{Hold}
 use Rattle.engine_facts.specs.declared.mind.Mind.{Mind}
-use Rattle.engine_facts.specs.Minds.{runs}
 use Rattle.engine_facts.specs.Seen.{seen_hart, seen_harts}
 use Rattle.engine_facts.specs.Facts.{Harts}
 use Rattle.engine_facts.proofs.Seeing.{seen_at, seen-set_mind}

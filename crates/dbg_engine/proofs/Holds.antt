@@ -2,32 +2,29 @@
 use Rattle.std.proofs.Common.{◌≡◌, ℕ, ◌+◌, ◌++◌, Bool, true, false, cond, List, [], ◌∷◌, refl, sym, ap, ◌∙◌, subst}
 use Rattle.std.specs.Prelude.{Option, Some, None, IsSome, slice_get, slice_set, ◌||◌, ◌==◌}
 use Rattle.rv_exec.specs.declared.effect.Cause.{Cause}
-use Rattle.rv_exec.specs.Memory.{Memory}
-use Rattle.text_words.specs.Words.{Words, shown, is_planted}
+use Rattle.text_words.specs.Words.{shown, is_planted}
 use Rattle.plain_machine.specs.Environment.{Traps}
 use Rattle.plain_machine.specs.Plain.{plain}
 use Rattle.hart_machine.specs.declared.hart.Core.{Core}
 use Rattle.hart_machine.specs.Patched.{Patched}
 use Rattle.dbg_model.specs.declared.breakpoint.Breakpoint.{Breakpoint}
 use Rattle.dbg_model.specs.declared.entry.Entry.{Entry}
-use Rattle.dbg_model.specs.declared.entry.Entry.TheVariants.{Stopped, Did}
-use Rattle.dbg_model.specs.declared.entry.Why.{Why}
+use Rattle.dbg_model.specs.declared.entry.Entry.TheVariants.{Stopped}
 use Rattle.dbg_model.specs.declared.entry.Why.TheVariants.{Break, Fault}
 use Rattle.dbg_model.specs.Breaks.{stands, stands_at, settled, stop_at, stops, fits, is_for}
 use Rattle.dbg_model.proofs.Options.{both_true, guard_some}
-use Rattle.dbg_model.specs.State.{Hart, State, due}
-use Rattle.dbg_model.specs.Lawful.{enter, may_go}
+use Rattle.dbg_model.specs.State.{Hart, due}
+use Rattle.dbg_model.specs.Lawful.{may_go}
 use Rattle.engine_facts.specs.declared.mind.Activity.TheVariants as activity
 use Rattle.engine_facts.specs.declared.mind.Hold.{Hold}
 use Rattle.engine_facts.specs.declared.mind.Mind.{Mind}
 use Rattle.engine_facts.specs.declared.mind.Phase.TheVariants as phase
 use Rattle.engine_facts.specs.Minds.{with_phase, first_mind, lifted_of}
 use Rattle.engine_facts.specs.Seen.{Run, seen, seen_hart}
-use Rattle.engine_facts.specs.Facts.{Facts, InText, Retired, wanted, other_holder}
+use Rattle.engine_facts.specs.Facts.{Facts, Retired, wanted, other_holder}
 use Rattle.engine_facts.specs.Moves.{Repatched, Released}
 use Rattle.engine_facts.proofs.Holding.{core_at, no_hold, released, unwinds, planted_text, stands_text, wanted_none}
 use Rattle.engine_facts.proofs.Planting.{text_shown}
-use Rattle.engine_facts.proofs.Keeping.{Enters}
 use Rattle.engine_facts.proofs.Stepping.{fact_of, lifts}
 use Rattle.engine_facts.proofs.Stopping.{halts_fault, halts_break, fault_comes, break_comes, may_by}
 use Rattle.dbg_engine.specs.Calls.{Of, TrapsAt, Rephases, Lifts, Halts, Closes}

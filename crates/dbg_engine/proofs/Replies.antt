@@ -1,7 +1,6 @@
 -- The parts of an answer.
 use Rattle.std.proofs.Common.{◌≡◌, ℕ, zero, suc, ◌+◌, ◌-◌, ◌%◌, ◌^◌, ◌<◌, ◌≤◌, Bool, true, false, List, [], ◌∷◌, ◌++◌, length, map, refl, sym, ap, ◌∙◌, subst, arith, append_assoc}
-use Rattle.std.specs.Prelude.{Option, Some, None, Result, Ok, Err, slice_get, ◌==◌}
-use Rattle.std.specs.List.{list_any}
+use Rattle.std.specs.Prelude.{Option, Some, None, Ok, Err, slice_get}
 use Rattle.rv_exec.specs.Registers.{Registers}
 use Rattle.rv_exec.specs.Memory.{Memory}
 use Rattle.elf32_read.specs.Program.{Program}
@@ -11,10 +10,8 @@ use Rattle.mi_commands.specs.declared.refusal.Fault.{Fault}
 use Rattle.mi_commands.specs.declared.refusal.Refusal.{Refusal}
 use Rattle.mi_commands.specs.declared.refusal.Refusal.TheVariants.{NoMemory, Long, Syntax, Cli, Faulty}
 use Rattle.hart_machine.specs.declared.hart.Core.{Core}
-use Rattle.hart_machine.proofs.Places.{same_some}
 use Rattle.dbg_model.specs.declared.reply.Content.{Content}
 use Rattle.dbg_model.specs.declared.reply.Content.TheVariants as content
-use Rattle.dbg_model.specs.declared.reply.Refused.{Refused}
 use Rattle.dbg_model.specs.declared.reply.Refused.TheVariants as refused
 use Rattle.dbg_model.specs.declared.reply.Register.{Register}
 use Rattle.dbg_model.specs.declared.reply.Reply.{Reply}
@@ -25,9 +22,8 @@ use Rattle.engine_facts.specs.declared.mind.Hold.{Hold}
 use Rattle.engine_facts.specs.declared.mind.Mind.{Mind}
 use Rattle.engine_facts.specs.declared.mind.Phase.TheVariants as phase
 use Rattle.engine_facts.specs.Minds.{runs, lifted_of}
-use Rattle.engine_facts.specs.Seen.{Run, seen, seen_harts, seen_hart}
+use Rattle.engine_facts.specs.Seen.{Run, seen, seen_harts}
 use Rattle.engine_facts.specs.Facts.{Facts, held_by, other_holder}
-use Rattle.engine_facts.proofs.Seeing.{seen_at}
 use Rattle.engine_facts.proofs.Updating.{equals}
 use Rattle.dbg_engine.specs.Answering.{is_memory}
 use Rattle.dbg_engine.specs.Steps.{next_running}

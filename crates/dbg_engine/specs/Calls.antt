@@ -5,7 +5,6 @@ use Rattle.data_memory.specs.Ranges.{bytes_at}
 use Rattle.plain_machine.specs.Environment.{Traps}
 use Rattle.plain_machine.specs.Plain.{plain}
 use Rattle.hart_machine.specs.Patched.{Patched}
-use Rattle.dbg_model.specs.declared.breakpoint.Breakpoint.{Breakpoint}
 use Rattle.std.specs.List.{list_any}
 use Rattle.dbg_model.specs.declared.reply.Reply.{Reply}
 use Rattle.dbg_model.specs.declared.entry.Entry.TheVariants.{Stopped, Did}

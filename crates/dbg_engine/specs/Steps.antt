@@ -1,5 +1,5 @@
 -- What a step of the machine does to the journal and to what is kept of the harts, and which hart is next.
-use Rattle.std.specs.Prelude.{◌≡◌, ℕ, ◌+◌, ◌-◌, ◌<◌, ◌≤◌, Bool, true, false, List, [], ◌∷◌, ◌++◌, length, drop, min, map, slice_set, Option, Some, None, if◌then◌else◌}
+use Rattle.std.specs.Prelude.{◌≡◌, ℕ, ◌+◌, ◌<◌, Bool, true, false, List, [], ◌∷◌, ◌++◌, length, drop, min, map, slice_set, Option, Some, None, if◌then◌else◌}
 use Rattle.rv_exec.specs.declared.effect.Stepped.{Stepped}
 use Rattle.rv_exec.specs.declared.effect.Stepped.TheVariants as stepped
 use Rattle.hart_machine.specs.Patched.{Patched}
@@ -7,11 +7,9 @@ use Rattle.dbg_model.specs.declared.breakpoint.Breakpoint.{Breakpoint}
 use Rattle.dbg_model.specs.declared.entry.Entry.{Entry}
 use Rattle.dbg_model.specs.declared.entry.Entry.TheVariants.{Left}
 use Rattle.dbg_model.specs.Journals.{lengthened}
-use Rattle.engine_facts.specs.declared.mind.Activity.{Activity}
-use Rattle.engine_facts.specs.declared.mind.Activity.TheVariants as activity
 use Rattle.engine_facts.specs.declared.mind.Hold.{Hold}
 use Rattle.engine_facts.specs.declared.mind.Mind.{Mind}
-use Rattle.engine_facts.specs.Minds.{runs, ran_mind, exited_mind, gone_mind, resumed_mind, lefts_live}
+use Rattle.engine_facts.specs.Minds.{runs, ran_mind, exited_mind, gone_mind, lefts_live}
 use Rattle.engine_facts.specs.Moves.{Released}
 use Rattle.dbg_engine.specs.declared.moving.Turned.{Turned}
 use Rattle.dbg_engine.specs.declared.moving.Turned.TheVariants as turned

@@ -6,8 +6,8 @@ ghost use Rattle.dbg_engine.specs.declared.answering.ReadError.TheVariants.{NoMe
 ghost use Rattle.dbg_engine.specs.Answering.{found_hart, IsStopped, IsLive, Reads, option_list, is_memory};
 
 use dbg_model::{
-    Breakpoint, Content, MOST_BREAKPOINTS, Obstacle, Refused, Register, RegisterList, Reply, Thread,
-    ThreadList,
+    Breakpoint, Content, MOST_BREAKPOINTS, Obstacle, Refused, Register, RegisterList, Reply,
+    Thread, ThreadList,
 };
 use dbg_traits::NoMemory;
 use elf32_read::Image;
@@ -171,11 +171,7 @@ fn register(core: &Core, n: u32) -> u32
 }
 
 // The registers of these numbers.
-fn push_registers(
-    into: &mut Vec<Register>,
-    core: &Core,
-    numbers: &[u32],
-) -> Result<(), AllocError>
+fn push_registers(into: &mut Vec<Register>, core: &Core, numbers: &[u32]) -> Result<(), AllocError>
     ensures { OnOk result (into.new.items ≡ into.old.items ++ map (valued core.now.regs) numbers.now) }
 {
     let [number, rest @ ..] = numbers else {
@@ -325,11 +321,7 @@ fn continued(
     }
 }
 
-fn live_threads(
-    alloc: Global,
-    cores: &[Core],
-    minds: &[Mind],
-) -> Result<Vec<Thread>, AllocError>
+fn live_threads(alloc: Global, cores: &[Core], minds: &[Mind]) -> Result<Vec<Thread>, AllocError>
     requires { length minds.now ≤ 16 }
     ensures { IfOk result (λ v. v.items ≡ live_threads 1 (seen_harts cores.now minds.now)) }
 {
@@ -567,7 +559,9 @@ pub fn answer(
     match command {
         Command::Blank => Ok(Content::Blank),
         Command::Wait => Ok(Content::Done),
-        Command::BreakInsert(insertion) => insert(alloc, image, cores, minds, breaks, next, insertion),
+        Command::BreakInsert(insertion) => insert(
+            alloc, image, cores, minds, breaks, next, insertion,
+        ),
         Command::Continue(target) => continued(alloc, cores, minds, selected, *target),
         Command::ThreadInfo { thread } => threads(alloc, cores, minds, selected, *thread),
         Command::ThreadSelect { thread } => Ok(select(*thread, find(cores, minds, *thread))),

@@ -19,12 +19,11 @@ use crate::answering::{answer, going_on, is_wait, refusal, refuse, selected_afte
 use crate::journal::note;
 use crate::moving::apply;
 use crate::patching::{
-    copy_breakpoint, is_temporary, put_back, release, release_at_exit, repatch, settle, stands, stop_at, wants,
+    copy_breakpoint, is_temporary, put_back, release, release_at_exit, repatch, settle, stands,
+    stop_at, wants,
 };
 use crate::resuming::resume_threads;
-use dbg_model::{
-    Breakpoint, Content, Entry, HISTORY, Journal, Opening, Refused, Reply, Why,
-};
+use dbg_model::{Breakpoint, Content, Entry, HISTORY, Journal, Opening, Refused, Reply, Why};
 use dbg_traits::NoMemory;
 use engine_facts::{Activity, Hold, Mind, Phase};
 use hart_machine::Machine;
@@ -589,12 +588,7 @@ impl Engine {
     }
 
     // Does a line that sets a breakpoint.
-    fn insert(
-        &mut self,
-        line: &[u8],
-        breakpoint: &Breakpoint,
-        address: u32,
-    ) -> Result<(), NoMemory>
+    fn insert(&mut self, line: &[u8], breakpoint: &Breakpoint, address: u32) -> Result<(), NoMemory>
         requires place { address ≡ breakpoint.now.address }
         requires may { may_do self.old.opening (seen self.old) line.now ≡ true }
         requires answer { IsInserted self.old line.now breakpoint.now }

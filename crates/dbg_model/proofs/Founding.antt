@@ -1,5 +1,5 @@
 -- What the answers rest on that change something.
-use Rattle.std.proofs.Common.{◌≡◌, ◌<◌, ℕ, zero, suc, Bool, true, false, cond, List, length, refl, sym, ap, ◌∙◌, nat_lt, arith}
+use Rattle.std.proofs.Common.{◌≡◌, ◌<◌, ℕ, zero, suc, Bool, true, false, List, length, refl, ap, nat_lt, arith}
 use Rattle.std.specs.Prelude.{Option, Some, None, Result, Ok, Err, is_some}
 use Rattle.std.proofs.lemmas.Bool.Decides.{nat_tests}
 use Rattle.rv_exec.specs.Memory.{Memory}
@@ -24,7 +24,7 @@ use Rattle.dbg_model.specs.declared.opening.Opening.{Opening}
 use Rattle.dbg_model.specs.declared.reply.Content.{Content}
 use Rattle.dbg_model.specs.declared.reply.Content.TheVariants as content
 use Rattle.dbg_model.specs.State.{Hart, State}
-use Rattle.dbg_model.specs.Reply.{thread_hart, when_stopped, of_stopped, when_live, of_live, selecting, hindered, running, continued, stopped_threads, threads_of, one_shown, thread_or, registers_of, memory_of, shown_range, inserted_at, for_thread, unknown_thread, placed, breakpoint_at, content_of, fault_content, asked_content, no_parts, reply_by, reply_of}
+use Rattle.dbg_model.specs.Reply.{thread_hart, when_stopped, of_stopped, when_live, of_live, selecting, running, continued, threads_of, one_shown, thread_or, registers_of, memory_of, shown_range, inserted_at, for_thread, unknown_thread, placed, content_of, fault_content, asked_content, no_parts, reply_by, reply_of}
 
 -- a breakpoint has a word of text and room; a thread that is selected is there
 abbrev pub IsFounded : Program → List Hart → List Breakpoint → Content → Type 0

@@ -1,19 +1,17 @@
 -- The answer to a line, from what reading it gives.
-use Rattle.std.proofs.Common.{◌≡◌, ◌<◌, ◌≤◌, ℕ, Bool, true, false, List, [], length, refl, sym, ap, ◌∙◌, arith, nat_lt}
-use Rattle.std.specs.Prelude.{Option, Some, None, Result, Ok, Err}
+use Rattle.std.proofs.Common.{◌≡◌, ◌<◌, ◌≤◌, ℕ, true, false, List, [], length, refl, arith, nat_lt}
+use Rattle.std.specs.Prelude.{Option, Some, None, Result}
 use Rattle.std.proofs.lemmas.Bool.Decides.{nat_tests}
-use Rattle.mi_input.specs.Parts.{PartsView, HasParts, is_cli, after_blanks, token_of}
+use Rattle.mi_input.specs.Parts.{PartsView, is_cli, after_blanks, token_of}
 use Rattle.mi_input.specs.Split.{HasNoParts}
 use Rattle.mi_input.specs.Reading.{parts_read}
 use Rattle.mi_input.proofs.Reading.{parts_sound, parts_complete, no_cli}
-use Rattle.mi_commands.specs.Commands.{answer}
-use Rattle.mi_commands.specs.Gives.{Commands, HasAnswer}
+use Rattle.mi_commands.specs.Gives.{HasAnswer}
 use Rattle.mi_commands.specs.declared.command.Command.{Command}
 use Rattle.mi_commands.specs.declared.refusal.Fault.{Fault}
 use Rattle.dbg_model.specs.declared.opening.Opening.{Opening}
 use Rattle.dbg_model.specs.declared.reply.Content.TheVariants as content
 use Rattle.dbg_model.specs.declared.reply.Refused.TheVariants as refused
-use Rattle.dbg_model.specs.declared.reply.Reply.{Reply}
 use Rattle.dbg_model.specs.State.{State}
 use Rattle.dbg_model.specs.Reply.{reply_of, asked_content, is_wait, waits}
 

@@ -1,6 +1,6 @@
 -- Breakpoints that the user set: where they stand, which of them stop a hart, and what an arrival changes
 -- (GDB manual, "Setting Breakpoints", "Thread-Specific Breakpoints", "Break Conditions").
-use Rattle.std.specs.Prelude.{ℕ, ◌+◌, ◌-◌, ◌^◌, min, Bool, true, false, List, [], ◌∷◌, ◌++◌, Option, Some, None, is_some, if◌then◌else◌, ◌==◌, ◌&&◌, ◌||◌}
+use Rattle.std.specs.Prelude.{ℕ, ◌+◌, ◌-◌, ◌^◌, min, Bool, true, false, List, [], ◌∷◌, Option, Some, None, if◌then◌else◌, ◌==◌, ◌&&◌, ◌||◌}
 use Rattle.dbg_model.specs.declared.breakpoint.Breakpoint.{Breakpoint}
 
 -- an enabled breakpoint at the address

@@ -1,5 +1,5 @@
 -- What a line of input is answered, and what it changes (GDB manual, "GDB/MI Program Execution", "GDB/MI Thread Commands", "GDB/MI Data Manipulation").
-use Rattle.std.specs.Prelude.{ℕ, zero, suc, ◌+◌, ◌-◌, ◌%◌, ◌^◌, Bool, true, false, not, List, [], ◌∷◌, ◌++◌, length, map, Option, Some, None, Result, Ok, Err, if◌then◌else◌, is_some, nat_lt, slice_get, slice_set}
+use Rattle.std.specs.Prelude.{ℕ, zero, suc, ◌+◌, ◌%◌, ◌^◌, Bool, true, false, not, List, [], ◌∷◌, ◌++◌, length, map, Option, Some, None, Result, Ok, Err, if◌then◌else◌, is_some, nat_lt, slice_get, slice_set}
 use Rattle.rv_exec.specs.Registers.{Registers, get}
 use Rattle.rv_exec.specs.Memory.{Memory}
 use Rattle.elf32_read.specs.Program.{Program, in_text, mapped, text_word}

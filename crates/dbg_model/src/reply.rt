@@ -130,9 +130,15 @@ pub enum Content {
     /// This thread is selected.
     Selected(u32),
     /// The threads that were asked for, and the one that is selected.
-    Threads { threads: ThreadList, selected: u32 },
+    Threads {
+        threads: ThreadList,
+        selected: u32,
+    },
     /// The live threads, and the one that is selected.
-    ThreadNumbers { numbers: NumberList, selected: u32 },
+    ThreadNumbers {
+        numbers: NumberList,
+        selected: u32,
+    },
     /// The names of all registers.
     RegisterNames,
     /// The registers that were asked for.
@@ -141,7 +147,10 @@ pub enum Content {
         registers: RegisterList,
     },
     /// The bytes from an address on.
-    Memory { address: u32, bytes: ByteList },
+    Memory {
+        address: u32,
+        bytes: ByteList,
+    },
     /// The line is refused.
     Refused(Refused),
 }

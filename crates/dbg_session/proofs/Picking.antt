@@ -15,8 +15,7 @@ use Rattle.engine_facts.specs.Minds.{mode_of, is_active, runs}
 use Rattle.engine_facts.specs.Seen.{Run, seen, seen_harts}
 use Rattle.engine_facts.specs.Facts.{Facts}
 use Rattle.engine_facts.proofs.Seeing.{any_seen}
-use Rattle.dbg_engine.specs.Calls.{Closes, Moves, NextMoves}
-use Rattle.dbg_engine.proofs.Commanding.{harts_length}
+use Rattle.dbg_engine.specs.Calls.{Closes, NextMoves}
 use Rattle.dbg_session.specs.Stage.{stage_of, runs_at, is_free, moves_at}
 use Rattle.dbg_session.specs.Taking.{has_line, is_some_line}
 use Rattle.dbg_session.specs.Seen.{Picks}

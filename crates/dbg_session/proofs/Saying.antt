@@ -29,11 +29,11 @@ use Rattle.engine_facts.specs.declared.mind.Mind.{Mind}
 use Rattle.engine_facts.specs.declared.mind.Hold.{Hold}
 use Rattle.engine_facts.specs.declared.mind.Phase.{Phase}
 use Rattle.engine_facts.specs.declared.mind.Phase.TheVariants as phase
-use Rattle.engine_facts.specs.Seen.{Run, seen, seen_harts}
-use Rattle.engine_facts.specs.Facts.{Facts, other_holder}
+use Rattle.engine_facts.specs.Seen.{Run, seen}
+use Rattle.engine_facts.specs.Facts.{Facts}
 use Rattle.engine_facts.specs.Minds.{mode_of, is_active, with_phase}
 use Rattle.engine_facts.proofs.Seeing.{seen_at}
-use Rattle.dbg_engine.specs.Calls.{Turns, Runs, Exits, Halts, Rephases, Lifts, Plants, Does}
+use Rattle.dbg_engine.specs.Calls.{Turns, Runs, Exits, Halts, Rephases, Does}
 use Rattle.dbg_session.specs.Stage.{stage_of, work_of, running, moves, moves_of, runs_at, runs_as, is_free, moves_at}
 use Rattle.dbg_model.specs.State.{is_running}
 use Rattle.dbg_model.specs.Lawful.{may_go}
@@ -205,8 +205,8 @@ quiets_say t r s h pc x p hold m at less text =
     let set = moves_set r.minds h x (with_phase x p) at in
     let fewer : moves s.minds < moves r.minds = omega (arith, ap moves m.minds) in
     let shown : work_of (stage_of s) ≡ 33 * (r.opening.settings.budget - (seen r).retired) + (33 * running (seen r).harts + moves s.minds) =
-        ap (λ o. 33 * (o.settings.budget - (seen s).retired) + (33 * running (seen s).harts + moves s.minds)) m.opening
-        ∙ ap (λ (u : State). 33 * (r.opening.settings.budget - u.retired) + (33 * running u.harts + moves s.minds)) m.seen in
+    ap (λ o. 33 * (o.settings.budget - (seen s).retired) + (33 * running (seen s).harts + moves s.minds)) m.opening
+    ∙ ap (λ (u : State). 33 * (r.opening.settings.budget - u.retired) + (33 * running u.harts + moves s.minds)) m.seen in
     record {
       opening = m.opening;
       said = said_is r s r.journal (turned_text s t h pc) m.opening m.journal (sym (append-nil (said r.opening r.journal)) ∙ ap (λ u. said r.opening r.journal ++ u) text);

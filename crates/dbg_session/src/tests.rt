@@ -350,12 +350,7 @@ const ONE_STOPPED: &str = "\
     ^done,memory=[{begin=\"0x00020000\",offset=\"0x00000000\",end=\"0x00020004\",contents=\"02000000\"}]\n(gdb)\n";
 
 // A world with a program of these words, and a budget of 1,000 instructions.
-fn program_world(
-    alloc: Global,
-    harts: &str,
-    file: Vec<u8>,
-    input: &str,
-) -> Result<MemWorld, Fail>
+fn program_world(alloc: Global, harts: &str, file: Vec<u8>, input: &str) -> Result<MemWorld, Fail>
     ensures { IfOk result (λ w. IsFresh (told_of w)) }
 {
     let mut words = words_of(alloc, "0")?;
@@ -366,13 +361,7 @@ fn program_world(
     files.push((ArgText::of(String::from_str(alloc, "f")?), file))?;
     let mut script = Vec::new(alloc);
     script.push(Cue::Piece(input.as_bytes().to_vec(alloc)?))?;
-    Ok(MemWorld::new(
-        alloc,
-        words,
-        files,
-        script,
-        limits_of(alloc, 0, 0)?,
-    ))
+    Ok(MemWorld::new(alloc, words, files, script, limits_of(alloc, 0, 0)?))
 }
 
 #[test]
@@ -384,7 +373,13 @@ fn lines_are_answered(rt: HostRuntime) -> Result<(), Fail> {
         (&COUNTS[..], "1", BREAKS_TWICE, Status::Done, BROKE_TWICE),
         (&SPINS[..], "1", CONTINUE, Status::Budget, RUNNING),
         (&JUMPS_AWAY[..], "1", READS_MEMORY, Status::Done, AWAY),
-        (&READS_TEXT[..], "1", READS_REGISTER, Status::Done, TEXT_UNREADABLE),
+        (
+            &READS_TEXT[..],
+            "1",
+            READS_REGISTER,
+            Status::Done,
+            TEXT_UNREADABLE,
+        ),
         (&GREETS[..], "1", CONTINUE, Status::Done, GREETED),
         (&SPINS[..], "1", ERRORS, Status::Done, REFUSED),
         (&SPINS[..], "2", ASKS_THREADS, Status::Done, THREADS),

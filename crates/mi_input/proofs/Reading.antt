@@ -1,5 +1,5 @@
 -- The parts of a line as a function are the parts by the grammar.
-use Rattle.std.proofs.Common.{◌≡◌, ℕ, suc, zero, ◌+◌, ◌-◌, ◌≤◌, ◌<◌, List, [], ◌∷◌, ◌++◌, length, take, drop, Bool, true, false, cond, not, ◌&&◌, eqb, Some, None, Result, Ok, Err, refl, sym, ap, subst, ◌∙◌, arith}
+use Rattle.std.proofs.Common.{◌≡◌, ℕ, suc, zero, ◌<◌, List, [], ◌∷◌, ◌++◌, length, take, drop, Bool, true, false, cond, not, ◌&&◌, eqb, Some, None, Result, Ok, Err, refl, sym, ap, subst, ◌∙◌, arith}
 use Rattle.std.specs.Prelude.{Option, take_while, option_and_then}
 use Rattle.std.specs.Option.{option_map}
 use Rattle.std.specs.List.{list_all, prefix_len}
@@ -10,7 +10,7 @@ use Rattle.mi_input.specs.declared.parts.Parts.{Parts}
 use Rattle.mi_input.specs.declared.parts.InputFault.{InputFault}
 use Rattle.mi_input.specs.declared.parts.InputFault.TheVariants as faults
 use Rattle.mi_input.specs.Parts.{PartsView, WordView, symbol, symbol_at, begins, is_blank, is_word_byte, is_plain, is_parted, after_blanks, token_of, behind_token, is_operation, is_operation_byte, IsText, IsWord, IsWordOf, IsWords, IsCommand, HasOperation, HasParts, is_cli}
-use Rattle.mi_input.specs.Split.{parts_view, Splits, HasNoParts}
+use Rattle.mi_input.specs.Split.{parts_view, Splits}
 use Rattle.mi_input.specs.Reading.{text_read, longer, parted_read, plain_run, word_read, words_read, with_words, operation_run, behind_operation, operation_parts, operation_read, command_read, blank_parts, parts_read, Reads}
 use Rattle.mi_input.proofs.Options.{bind_some, map_some, guard_some, same_some}
 use Rattle.mi_input.proofs.Words.{both, quote_spells_none, symbol_shorter, kind_shorter, one_word, one_run, Stops, run_passes, run_stops, cut_back, plain_read, blanks_end, view_of}
@@ -194,15 +194,18 @@ operation_sound start bytes p there h =
     let g = guard_some (is_operation op && is_parted rest) (option_map (with_words (token_of start) op) (words_read (suc (length rest)) rest)) p h in
     let ok = both (is_operation op) (is_parted rest) g.0 in
     let m = map_some (with_words (token_of start) op) (words_read (suc (length rest)) rest) p g.1 in
-    let whole : bytes ≡ op ++ rest = sym (run_split is_operation_byte bytes) in
-    (m.0, m.2, record {
-      token_is = refl;
-      rest = rest;
-      behind = there ∙ ap (λ (l : List ℕ). 45 ∷ l) whole;
-      named = ok.0;
-      parted = ok.1;
-      words_are = words_sound (suc (length rest)) rest m.0 m.1;
-    })
+    let whole : bytes ≡ op ++ rest = sym (run_split is_operation_byte bytes) in (
+      m.0,
+      m.2,
+      record {
+        token_is = refl;
+        rest = rest;
+        behind = there ∙ ap (λ (l : List ℕ). 45 ∷ l) whole;
+        named = ok.0;
+        parted = ok.1;
+        words_are = words_sound (suc (length rest)) rest m.0 m.1;
+      },
+    )
 
 operation_complete : (start token op : List ℕ) (ws : List WordView) → IsCommand start token op ws → command_read start ≡ Some (with_words token op ws)
 operation_complete start token op ws h =
@@ -212,7 +215,7 @@ operation_complete start token op ws h =
     let ok : (is_operation op && is_parted h.rest) ≡ true = and_true (is_operation op) (is_parted h.rest) h.named h.parted in
     let there : operation_parts (token_of start) op h.rest ≡ Some (with_words (token_of start) op ws) = rw (ok, words) refl in
     let read : operation_read (token_of start) bytes ≡ Some (with_words (token_of start) op ws) =
-        ap (λ o. operation_parts (token_of start) o (behind_operation bytes)) cut.0 ∙ (ap (operation_parts (token_of start) op) cut.1 ∙ there) in
+    ap (λ o. operation_parts (token_of start) o (behind_operation bytes)) cut.0 ∙ (ap (operation_parts (token_of start) op) cut.1 ∙ there) in
     rw (h.behind) read ∙ ap (λ (t : List ℕ). Some (with_words t op ws)) (sym h.token_is)
 
 -- ---- lines

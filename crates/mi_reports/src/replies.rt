@@ -142,11 +142,7 @@ fn push_value(into: &mut Vec<u8>, format: Format, value: u32) -> Result<(), Allo
     }
 }
 
-fn push_register(
-    into: &mut Vec<u8>,
-    format: Format,
-    register: Register,
-) -> Result<(), AllocError>
+fn push_register(into: &mut Vec<u8>, format: Format, register: Register) -> Result<(), AllocError>
     ensures { OnOk result (into.new.items ≡ into.old.items ++ register_text format register) }
 {
     push(into, text::REGISTER_HEAD)?;
@@ -243,10 +239,7 @@ fn push_ignored(into: &mut Vec<u8>, ignore: u32) -> Result<(), AllocError>
     push_word(into, ignore)
 }
 
-fn push_breakpoint_front(
-    into: &mut Vec<u8>,
-    breakpoint: &Breakpoint,
-) -> Result<(), AllocError>
+fn push_breakpoint_front(into: &mut Vec<u8>, breakpoint: &Breakpoint) -> Result<(), AllocError>
     ensures { OnOk result (into.new.items ≡ into.old.items ++ breakpoint_front breakpoint.now) }
 {
     push(into, text::BREAKPOINT_HEAD)?;
@@ -257,19 +250,13 @@ fn push_breakpoint_front(
     push(into, enabled_text(breakpoint.enabled))
 }
 
-fn push_breakpoint_place(
-    into: &mut Vec<u8>,
-    breakpoint: &Breakpoint,
-) -> Result<(), AllocError>
+fn push_breakpoint_place(into: &mut Vec<u8>, breakpoint: &Breakpoint) -> Result<(), AllocError>
     ensures { OnOk result (into.new.items ≡ into.old.items ++ breakpoint_place breakpoint.now) }
 {
     push_at(into, text::ADDRESS_HEAD, breakpoint.address)
 }
 
-fn push_breakpoint_counts(
-    into: &mut Vec<u8>,
-    breakpoint: &Breakpoint,
-) -> Result<(), AllocError>
+fn push_breakpoint_counts(into: &mut Vec<u8>, breakpoint: &Breakpoint) -> Result<(), AllocError>
     ensures { OnOk result (into.new.items ≡ into.old.items ++ breakpoint_counts breakpoint.now) }
 {
     push_for_thread(into, breakpoint.thread)?;
@@ -278,10 +265,7 @@ fn push_breakpoint_counts(
     push_ignored(into, breakpoint.ignore)
 }
 
-fn push_breakpoint_location(
-    into: &mut Vec<u8>,
-    breakpoint: &Breakpoint,
-) -> Result<(), AllocError>
+fn push_breakpoint_location(into: &mut Vec<u8>, breakpoint: &Breakpoint) -> Result<(), AllocError>
     ensures { OnOk result (into.new.items ≡ into.old.items ++ breakpoint_location breakpoint.now) }
 {
     push(into, text::LOCATION_HEAD)?;
@@ -369,11 +353,7 @@ fn error_tail(refused: &Refused) -> &'static str
     }
 }
 
-fn push_error(
-    alloc: Global,
-    into: &mut Vec<u8>,
-    refused: &Refused,
-) -> Result<(), AllocError>
+fn push_error(alloc: Global, into: &mut Vec<u8>, refused: &Refused) -> Result<(), AllocError>
     ensures { OnOk result (into.new.items ≡ into.old.items ++ content_text (Content.Refused refused.now)) }
 {
     let mut message = Vec::new(alloc);
@@ -383,11 +363,7 @@ fn push_error(
     push(into, error_tail(refused))
 }
 
-fn push_thread_info(
-    into: &mut Vec<u8>,
-    threads: &[Thread],
-    selected: u32,
-) -> Result<(), AllocError>
+fn push_thread_info(into: &mut Vec<u8>, threads: &[Thread], selected: u32) -> Result<(), AllocError>
     ensures { OnOk result (into.new.items ≡ into.old.items ++ content_text (Content.Threads threads.now selected)) }
 {
     push(into, text::THREADS_HEAD)?;
@@ -397,11 +373,7 @@ fn push_thread_info(
     push(into, text::QUOTED_END)
 }
 
-fn push_thread_numbers(
-    into: &mut Vec<u8>,
-    numbers: &[u32],
-    selected: u32,
-) -> Result<(), AllocError>
+fn push_thread_numbers(into: &mut Vec<u8>, numbers: &[u32], selected: u32) -> Result<(), AllocError>
     ensures { OnOk result (into.new.items ≡ into.old.items ++ content_text (Content.ThreadNumbers numbers.now selected)) }
 {
     push(into, text::NUMBERS_HEAD)?;
@@ -442,11 +414,7 @@ fn push_register_values(
 }
 
 // What stands behind the token.
-fn push_content(
-    alloc: Global,
-    into: &mut Vec<u8>,
-    content: &Content,
-) -> Result<(), AllocError>
+fn push_content(alloc: Global, into: &mut Vec<u8>, content: &Content) -> Result<(), AllocError>
     ensures { OnOk result (into.new.items ≡ into.old.items ++ content_text content.now) }
 {
     match content {
@@ -458,13 +426,25 @@ fn push_content(
         Content::Inserted(breakpoint) => push_breakpoint(into, breakpoint),
         Content::Running(threads) => push_going_on(into, threads.as_slice()),
         Content::Selected(thread) => push_selected(into, *thread),
-        Content::Threads { threads, selected } => push_thread_info(into, threads.as_slice(), *selected),
-        Content::ThreadNumbers { numbers, selected } => push_thread_numbers(into, numbers.as_slice(), *selected),
+        Content::Threads { threads, selected } => push_thread_info(
+            into,
+            threads.as_slice(),
+            *selected,
+        ),
+        Content::ThreadNumbers { numbers, selected } => push_thread_numbers(
+            into,
+            numbers.as_slice(),
+            *selected,
+        ),
         Content::RegisterNames => {
             push(into, text::NAMES)?;
             push(into, text::END)
         }
-        Content::Registers { format, registers } => push_register_values(into, *format, registers.as_slice()),
+        Content::Registers { format, registers } => push_register_values(
+            into,
+            *format,
+            registers.as_slice(),
+        ),
         Content::Memory { address, bytes } => push_memory(alloc, into, *address, bytes.as_slice()),
         Content::Refused(refused) => push_error(alloc, into, refused),
     }

@@ -57,7 +57,8 @@ pub const NUMBERS_TAIL: &str = "},current-thread-id=\"";
 
 pub const COUNT_HEAD: &str = "\",number-of-threads=\"";
 
-pub const NAMES: &str = "^done,register-names=[\"zero\",\"ra\",\"sp\",\"gp\",\"tp\",\"t0\",\"t1\",\"t2\",\"fp\",\"s1\",\"a0\",\"a1\",\"a2\",\"a3\",\"a4\",\"a5\",\"a6\",\"a7\",\"s2\",\"s3\",\"s4\",\"s5\",\"s6\",\"s7\",\"s8\",\"s9\",\"s10\",\"s11\",\"t3\",\"t4\",\"t5\",\"t6\",\"pc\"]";
+pub const NAMES: &str =
+    "^done,register-names=[\"zero\",\"ra\",\"sp\",\"gp\",\"tp\",\"t0\",\"t1\",\"t2\",\"fp\",\"s1\",\"a0\",\"a1\",\"a2\",\"a3\",\"a4\",\"a5\",\"a6\",\"a7\",\"s2\",\"s3\",\"s4\",\"s5\",\"s6\",\"s7\",\"s8\",\"s9\",\"s10\",\"s11\",\"t3\",\"t4\",\"t5\",\"t6\",\"pc\"]";
 
 pub const REGISTERS_HEAD: &str = "^done,register-values=[";
 

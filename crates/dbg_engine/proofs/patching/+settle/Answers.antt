@@ -1,4 +1,4 @@
-use Rattle.std.proofs.Common.{◌≡◌, Bool, true, false, not, ap, sym, ◌∙◌}
+use Rattle.std.proofs.Common.{sym, ◌∙◌}
 use Rattle.dbg_engine.proofs.Words.{settled_gone, settled_stays}
 use Rattle.dbg_engine.proofs.patching.+settle.Goals as goal
 

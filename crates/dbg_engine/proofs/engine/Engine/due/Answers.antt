@@ -1,10 +1,3 @@
-use Rattle.std.proofs.Common.{◌≡◌, ℕ, None, sym, ap, ◌∙◌}
-use Rattle.std.specs.Prelude.{Option}
-use Rattle.hart_machine.specs.declared.hart.Core.{Core}
-use Rattle.dbg_model.specs.declared.breakpoint.Breakpoint.{Breakpoint}
-use Rattle.dbg_model.specs.Breaks.{stop_at}
-use Rattle.dbg_model.specs.State.{Hart, due}
-use Rattle.engine_facts.specs.Seen.{Run}
 use Rattle.dbg_engine.specs.EngineInside.{run_of}
 use Rattle.dbg_engine.proofs.Holds.{due_new, due_stale}
 use Rattle.dbg_engine.proofs.engine.Engine.due.Goals as goal

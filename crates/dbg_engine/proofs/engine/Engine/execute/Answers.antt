@@ -1,5 +1,5 @@
-use Rattle.std.proofs.Common.{◌≡◌, ◌<◌, ℕ, true, false, length, List, sym, ap, ◌∙◌, arith, subst}
-use Rattle.std.specs.Prelude.{Option, Some, None, slice_get, vec_len, vec_capacity, ◌-◌}
+use Rattle.std.proofs.Common.{◌≡◌, ℕ, List, sym, ap, ◌∙◌, arith, subst}
+use Rattle.std.specs.Prelude.{vec_len, vec_capacity, ◌-◌}
 use Rattle.std.specs.Vec.{with_items}
 use Rattle.std.proofs.lemmas.List.{with_items_is}
 use Rattle.rv_exec.specs.declared.effect.Stepped.{Stepped}
@@ -7,7 +7,7 @@ use Rattle.text_words.specs.Words.{Words}
 use Rattle.hart_machine.specs.Patched.{Patched}
 use Rattle.dbg_model.specs.declared.breakpoint.Breakpoint.{Breakpoint}
 use Rattle.engine_facts.specs.declared.mind.Mind.{Mind}
-use Rattle.engine_facts.specs.Seen.{Run, seen}
+use Rattle.engine_facts.specs.Seen.{Run}
 use Rattle.engine_facts.specs.Facts.{Facts}
 use Rattle.engine_facts.specs.Moves.{HeldInText}
 use Rattle.engine_facts.proofs.Holding.{held_text}
@@ -15,7 +15,7 @@ use Rattle.dbg_engine.specs.declared.moving.Turned.{Turned}
 use Rattle.dbg_engine.specs.Steps.{Parts, applied, turned_of, is_exit, ReleasedBy}
 use Rattle.dbg_engine.specs.Calls.{Executes, TrapsAt}
 use Rattle.dbg_engine.specs.EngineInside.{run_of}
-use Rattle.dbg_engine.proofs.Executing.{Readied, readied, trapped, done, Executed, executed_to, parts_of, run_with}
+use Rattle.dbg_engine.proofs.Executing.{readied, trapped, done, Executed, executed_to, parts_of, run_with}
 use Rattle.dbg_engine.proofs.engine.Engine.execute.Goals as goal
 use Rattle.dbg_engine.proofs.engine.Engine.execute.Goals.{After-self-1}
 

@@ -1,6 +1,5 @@
-use Rattle.std.proofs.Common.{◌<◌, ◌^◌, arith, ◌≡◌, ◌∷◌, ◌++◌, [], ◌-◌, ◌+◌, ℕ, List, true, refl, sym, ap, ◌∙◌, subst}
+use Rattle.std.proofs.Common.{◌<◌, ◌^◌, arith, ◌≡◌, ◌∷◌, ◌++◌, [], ◌-◌, ◌+◌, sym, ap, ◌∙◌, subst}
 use Rattle.std.specs.Prelude.{vec_len, vec_capacity}
-use Rattle.dbg_model.specs.declared.breakpoint.Breakpoint.{Breakpoint}
 use Rattle.dbg_model.specs.declared.entry.Entry.TheVariants.{Did}
 use Rattle.dbg_model.specs.Lawful.{may_do}
 use Rattle.engine_facts.specs.Seen.{Run, seen}

@@ -1,9 +1,7 @@
-use Rattle.std.proofs.Common.{◌≡◌, ◌-◌, [], None, List, sym, ap, ◌∙◌, subst}
+use Rattle.std.proofs.Common.{◌-◌, None, List, sym, subst}
 use Rattle.std.specs.Prelude.{vec_len, vec_capacity}
 use Rattle.dbg_model.specs.declared.breakpoint.Breakpoint.{Breakpoint}
-use Rattle.dbg_model.specs.State.{State, first_state}
-use Rattle.engine_facts.specs.Seen.{Run, seen}
-use Rattle.engine_facts.specs.Facts.{Facts}
+use Rattle.engine_facts.specs.Seen.{Run}
 use Rattle.engine_facts.proofs.Beginning.{Begins, begins_at}
 use Rattle.dbg_engine.proofs.engine.Engine.load.Goals as goal
 use Rattle.dbg_engine.proofs.engine.Engine.load.Goals.{After-new-2}

@@ -1,4 +1,4 @@
-use Rattle.std.proofs.Common.{◌≡◌, sym, ap, ◌∙◌, subst}
+use Rattle.std.proofs.Common.{sym, ap, ◌∙◌, subst}
 use Rattle.engine_facts.specs.Seen.{Run}
 use Rattle.dbg_engine.specs.Calls.{Moves, NextMoves}
 use Rattle.dbg_engine.specs.Steps.{next_running}

@@ -1,7 +1,5 @@
-use Rattle.std.proofs.Common.{◌≡◌, ◌∷◌, ◌++◌, [], ◌-◌, ◌+◌, ◌<◌, ◌≤◌, ℕ, List, length, refl, sym, ap, ◌∙◌, subst, arith, true, false}
-use Rattle.std.specs.Prelude.{Option, Some, None, slice_get, slice_set, vec_len, vec_capacity}
+use Rattle.std.proofs.Common.{◌≡◌, sym}
 use Rattle.dbg_model.specs.State.{Hart}
-use Rattle.engine_facts.specs.Seen.{Run, seen_hart}
 use Rattle.dbg_engine.specs.EngineInside.{run_of}
 use Rattle.dbg_engine.proofs.Holds.{shown_at}
 use Rattle.dbg_engine.proofs.engine.Engine.shown_pc.Goals as goal

@@ -1,4 +1,4 @@
-use Rattle.std.proofs.Common.{None, Some, sym, subst}
+use Rattle.std.proofs.Common.{None, Some, subst}
 use Rattle.dbg_session.specs.Seen.{Seen, Picks}
 use Rattle.dbg_session.proofs.Picking.{picks_none, picks_some}
 use Rattle.dbg_session.proofs.session.Session.pick.Goals as goal
