@@ -18,7 +18,7 @@ use Rattle.dbg_session.proofs.Saying.{DoneSaid, and_false}
 
 -- the line that was done is the next of the rest
 pub does_line : (ended : Bool) (rest line : List ℕ) (next : ℕ) (r s : Run) (answer : Reply) → IsNext ended rest line next → 0 < next → next ≤ length rest → DoneSaid r s line answer → DoesLine ended rest next (stage_of r) (stage_of s)
-does_line ended rest line next r s answer is_next some within d = record { line = line; is_next = is_next; some = some; within = within; did = d.did }
+does_line ended rest line next r s answer is_next some within d = record { line = line; is_next = is_next; some = some; within = within; journal = d.journal; did = d.did }
 
 -- the text was said, and not put
 pub keeps : (t : Told) (r s : Stage) (text : List ℕ) → said_by s ≡ said_by r ++ text → Keeps t t r s

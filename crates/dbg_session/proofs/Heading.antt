@@ -88,6 +88,7 @@ pub heading : (s : Status) (t : Told) (r : Stage) (i : Taken) (c : Closed) → I
 heading s t r i c e h = record {
   opened = rw e.opening h.file;
   lines = told_same t.polled (λ b. Gives i.ended b (did r.journal) i.rest) (λ b. (rest : List (List ℕ)) × (did c.journal ++ rest ≡ lines b t.poll_ended)) (λ b g. rw (e.journal, h.ended) (front_lines i.ended b (did r.journal) i.rest g)) h.input;
+  in_time = rw (e.opening, e.journal) h.asks;
   state = r.state;
   lawful = e.leaves;
   plain = plain_of r.state;

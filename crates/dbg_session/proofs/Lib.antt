@@ -1,5 +1,6 @@
 pub mod Putting
 pub mod Working
+pub mod Timing
 pub mod Saying
 pub mod Doing
 pub mod Picking

@@ -48,6 +48,7 @@ ready t u words served bytes o r fresh asked is reads image settings opening jou
   clean = record { file = fresh.file_faults; poll = fresh.poll_faults; put = fresh.put_faults };
   polled = empty t.polled fresh.polled;
   written = empty t.written fresh.written;
+  asks = fresh.asks;
   running = fresh.poll_ended;
   journal = journal;
 })

@@ -1,6 +1,7 @@
 -- What a turn and a line say.
 use Rattle.std.proofs.Common.{◌≡◌, ◌<◌, ◌≤◌, ℕ, zero, suc, ◌+◌, ◌-◌, ◌*◌, Bool, true, false, List, [], ◌∷◌, ◌++◌, length, drop, refl, sym, ap, ◌∙◌, arith, subst, append_assoc}
-use Rattle.std.specs.Prelude.{Option, Some, None, is_none, ◌&&◌, map, slice_get}
+use Rattle.std.specs.Prelude.{Option, Some, None, is_none, ◌&&◌, ◌⊎◌, map, slice_get}
+use mathlib.Core.Logic.{inl, inr}
 use mathlib.Core.List.{append-nil}
 use Rattle.rv_exec.specs.declared.effect.Cause.{Cause}
 use Rattle.hart_machine.specs.declared.hart.Core.{Core}
@@ -13,7 +14,7 @@ use Rattle.dbg_model.specs.declared.entry.Mode.{Mode}
 use Rattle.dbg_model.specs.declared.entry.Mode.TheVariants as mode
 use Rattle.dbg_model.specs.declared.opening.Opening.{Opening}
 use Rattle.dbg_model.specs.Breaks.{is_temporary}
-use Rattle.dbg_model.specs.State.{Hart, State, all_gone}
+use Rattle.dbg_model.specs.State.{Hart, State, all_gone, any_runs}
 use Rattle.dbg_model.specs.Lawful.{one}
 use Rattle.dbg_model.specs.Leaving.{lefts_from, left_one, gone}
 use Rattle.dbg_model.specs.Journals.{lengthened, one_more_by, ran_count, did, did_one}
@@ -39,53 +40,24 @@ use Rattle.dbg_model.specs.State.{is_running}
 use Rattle.dbg_model.specs.Lawful.{may_go}
 use Rattle.engine_facts.specs.declared.mind.Activity.{Activity}
 use Rattle.engine_facts.specs.declared.mind.Activity.TheVariants as activity
-use Rattle.dbg_session.specs.Steps.{said_by}
+use Rattle.dbg_session.specs.Steps.{said_by, Goes}
 use Rattle.dbg_session.specs.Turned.{turned_text, last_lefts, stream_of, has_moved}
-use Rattle.dbg_session.proofs.Working.{one_works, halts, done_retired, running_gone, running_most, moves_most, moves_set}
+use Rattle.dbg_session.proofs.Timing.{did_line, Grown, grown_same, grown_more, grown_lengthened, grown_exits}
+use Rattle.dbg_session.proofs.Working.{one_works, one_runs, halt_runs, halts, done_retired, running_gone, running_most, moves_most, moves_set}
 use Rattle.dbg_engine.proofs.Commanding.{harts_length}
-
--- the lines of a journal that grows
-did-append : (j k : List Entry) → did (j ++ k) ≡ did j ++ did k
-did-append [] k = refl
-did-append (e ∷ es) k = ap (λ t. did_one e ++ t) (did-append es k) ∙ sym (append_assoc (did_one e) (did es) (did k))
-
-did_line : (j : List Entry) (line : List ℕ) → did (j ++ Did line ∷ []) ≡ did j ++ line ∷ []
-did_line j line = did-append j (Did line ∷ [])
-
-did_one_more : (e : Entry) (r : Option ℕ) (h : ℕ) → ran_count e h ≡ r → did (one_more_by r e h) ≡ did_one e
-did_one_more (Ran k n) None h is = refl
-did_one_more (Ran k n) (Some m) h is = refl
-did_one_more (Stopped k why) None h is = refl
-did_one_more (Stopped k why) (Some m) h is = cc
-did_one_more (Left k code) None h is = refl
-did_one_more (Left k code) (Some m) h is = cc
-did_one_more (Did line) None h is = refl
-did_one_more (Did line) (Some m) h is = cc
-
-did-lengthened : (j : List Entry) (h : ℕ) → did (lengthened j h) ≡ did j
-did-lengthened [] h = refl
-did-lengthened (e ∷ []) h = did_one_more e (ran_count e h) h refl ∙ sym (append-nil (did_one e))
-did-lengthened (e ∷ f ∷ es) h = ap (λ t. did_one e ++ t) (did-lengthened (f ∷ es) h)
-
-did_left : (k : ℕ) (m : Mode) (rest : List Entry) → did (left_one k m ++ rest) ≡ did rest
-did_left k mode.Stopped rest = refl
-did_left k mode.Running rest = refl
-did_left k (mode.Leaving code) rest = refl
-did_left k mode.Exited rest = refl
-
-did_lefts : (k : ℕ) (xs : List Hart) → did (lefts_from k xs) ≡ []
-did_lefts k [] = refl
-did_lefts k (x ∷ xs) = did_left k x.mode (lefts_from (k + 1) xs) ∙ did_lefts (k + 1) xs
-
-did_quiet : (j es : List Entry) → did es ≡ [] → did (j ++ es) ≡ did j
-did_quiet j es q = did-append j es ∙ (ap (λ t. did j ++ t) q ∙ append-nil (did j))
 
 -- what a turn that moved says, and leaves to do
 pub record Said (t : Turned) (r s : Run) (h pc : ℕ) : Type 0 where
   pub opening : s.opening ≡ r.opening
   pub said : said_by (stage_of s) ≡ said_by (stage_of r) ++ turned_text s t h pc
-  pub did : did s.journal ≡ did r.journal
+  pub goes : Goes (stage_of r) (stage_of s)
   pub work : work_of (stage_of s) < work_of (stage_of r)
+
+goes_by : (r s : Run) → Grown r.journal s.journal → (s.journal ≡ r.journal) ⊎ (any_runs (seen r).harts ≡ true) → Goes (stage_of r) (stage_of s)
+goes_by r s g ran = record { lines = g.lines; through = g.through; until = g.until; ran = ran }
+
+spared_goes : (e s : Run) (n : ℕ) → Goes (stage_of (record e { spare = n })) (stage_of s) → Goes (stage_of e) (stage_of s)
+spared_goes e s n g = record { lines = g.lines; through = g.through; until = g.until; ran = g.ran }
 
 abbrev pub IsPc : Run → ℕ → ℕ → Type 0
 IsPc r h pc = (c : Core) → slice_get r.machine.cores h ≡ Some c → pc ≡ c.regs.pc
@@ -122,7 +94,7 @@ runs_say t r s h pc out f g m text =
     record {
       opening = m.opening;
       said = said_is r s (lengthened r.journal h) (turned_text s t h pc) m.opening m.journal (l ∙ ap (λ u. said r.opening r.journal ++ u) (ap stream_text m.wrote ∙ text));
-      did = ap did m.journal ∙ did-lengthened r.journal h;
+      goes = goes_by r s (grown_lengthened r.journal s.journal h m.journal) (inr (one_runs r.opening h (seen r) (seen s) m.one));
       work = ran_less r s h (seen s) m.one refl (let z : running (seen s).harts ≤ running (seen s).harts = omega arith in z) m.opening g;
     }
 
@@ -153,7 +125,7 @@ exits_say t r s h pc count code f g m text =
     record {
       opening = m.opening;
       said = said_is r s (j ++ lefts) (turned_text s t h pc) m.opening m.journal (exits ∙ (ap (λ u. u ++ lefts_text lefts (all_gone (map gone m.between.harts)) code) first ∙ ap (λ u. said r.opening r.journal ++ u) (last ∙ text)));
-      did = ap did m.journal ∙ (did_quiet j lefts (did_lefts 0 m.between.harts) ∙ did-lengthened r.journal h);
+      goes = goes_by r s (grown_exits r.journal s.journal h m.between.harts m.journal) (inr (one_runs r.opening h (seen r) m.between m.one));
       work = ran_less r s h m.between m.one (m.retired ∙ sym (one_works r.opening h (seen r) m.between m.one).retired) (let e = ap running m.harts ∙ running_gone m.between.harts in let z : running (seen s).harts ≤ running m.between.harts = omega arith in z) m.opening g;
     }
 
@@ -181,7 +153,7 @@ halts_say t r s h pc why f g m text =
     record {
       opening = m.opening;
       said = text;
-      did = ap did m.journal ∙ did_quiet r.journal (e ∷ []) refl;
+      goes = goes_by r s (grown_more r.journal (e ∷ []) s.journal m.journal refl) (inr (halt_runs r.opening h why (seen r) (seen s) m.enters));
       work = subst P (sym m.opening) (omega arith);
     }
 
@@ -210,7 +182,7 @@ quiets_say t r s h pc x p hold m at less text =
     record {
       opening = m.opening;
       said = said_is r s r.journal (turned_text s t h pc) m.opening m.journal (sym (append-nil (said r.opening r.journal)) ∙ ap (λ u. said r.opening r.journal ++ u) text);
-      did = ap did m.journal;
+      goes = goes_by r s (grown_same r.journal s.journal m.journal) (inl m.journal);
       work = omega (arith, shown);
     }
 
@@ -242,20 +214,21 @@ says (turned.AllLeft code count) r s h pc f g low is moved m = exits_say (turned
 says (turned.Stopped cause) r s h pc f g low is moved m = faults_say r s h pc cause f g low is m
 says (turned.Arrived number temporary) r s h pc f g low is moved m = arrivals_say r s h pc number temporary f g low is m.0 m.1
 
-spared : {t : Turned} {e s : Run} {n h pc : ℕ} → Said t (record e { spare = n }) s h pc → Said t e s h pc
-spared d = record { opening = d.opening; said = d.said; did = d.did; work = d.work }
+spared : (t : Turned) (e s : Run) (n h pc : ℕ) → Said t (record e { spare = n }) s h pc → Said t e s h pc
+spared t e s n h pc d = record { opening = d.opening; said = d.said; goes = spared_goes e s n d.goes; work = d.work }
 
 -- the same of an engine before its room was made
 pub turn_says : (t : Turned) (e r s : Run) (h pc : ℕ) → r ≡ record e { spare = r.spare } → Facts r → Facts s → h < length e.minds → IsPc r h pc → HasMoved t → Turns t r s h → Said t e s h pc
 turn_says t e r s h pc is f g low is_pc moved m =
     let P : Run → Type 0 = λ q. Facts q → IsPc q h pc → Turns t q s h → Said t e s h pc in
-    let same : (f : Facts (record e { spare = r.spare })) → IsPc (record e { spare = r.spare }) h pc → Turns t (record e { spare = r.spare }) s h → Said t e s h pc = λ f p n. spared (says t (record e { spare = r.spare }) s h pc f g low p moved n) in
+    let same : (f : Facts (record e { spare = r.spare })) → IsPc (record e { spare = r.spare }) h pc → Turns t (record e { spare = r.spare }) s h → Said t e s h pc = λ f p n. spared t e s r.spare h pc (says t (record e { spare = r.spare }) s h pc f g low p moved n) in
     subst P (sym is) same f is_pc m
 
 -- a line that was done
 pub record DoneSaid (r s : Run) (line : List ℕ) (answer : Reply) : Type 0 where
   pub opening : s.opening ≡ r.opening
   pub said : said_by (stage_of s) ≡ said_by (stage_of r) ++ reply_text answer
+  pub journal : s.journal ≡ r.journal ++ Did line ∷ []
   pub did : did s.journal ≡ did r.journal ++ line ∷ []
   pub work : work_of (stage_of s) ≤ work_of (stage_of r) + 560
 
@@ -268,6 +241,7 @@ does_say r s line answer f g m =
     record {
       opening = m.opening;
       said = said_is r s (r.journal ++ Did line ∷ []) (reply_text answer) m.opening m.journal (said_added r.opening r.journal (seen r) (Did line) f.leaves ∙ ap (λ a. said r.opening r.journal ++ reply_text a) (sym m.answers));
+      journal = m.journal;
       did = ap did m.journal ∙ did_line r.journal line;
       work = subst P (sym m.opening) (omega arith);
     }

@@ -1,6 +1,6 @@
 -- How much the harts can still do.
-use Rattle.std.proofs.Common.{◌≡◌, ◌<◌, ◌≤◌, ℕ, zero, suc, ◌+◌, ◌*◌, Bool, true, false, cond, List, [], ◌∷◌, ◌++◌, length, refl, sym, ap, arith, subst, not, nat_lt}
-use Rattle.std.specs.Prelude.{Option, Some, None, ◌&&◌, ◌==◌, map, slice_get, slice_set}
+use Rattle.std.proofs.Common.{◌≡◌, ◌<◌, ◌≤◌, ℕ, zero, suc, ◌+◌, ◌*◌, Bool, true, false, cond, List, [], ◌∷◌, ◌++◌, length, refl, sym, ap, ◌∙◌, arith, subst, not, nat_lt}
+use Rattle.std.specs.Prelude.{Option, Some, None, ◌&&◌, ◌||◌, ◌==◌, map, slice_get, slice_set}
 use Rattle.std.proofs.lemmas.Bool.Decides.{nat_tests}
 use Rattle.plain_machine.specs.Environment.{Answer, Traps, Goes, Leave, Stays, LeavesAlone, LeavesAll}
 use Rattle.plain_machine.specs.Plain.{plain}
@@ -14,7 +14,7 @@ use Rattle.dbg_model.specs.Breaks.{settled}
 use Rattle.dbg_model.specs.declared.entry.Entry.TheVariants.{Stopped}
 use Rattle.dbg_model.specs.declared.limits.TheConstants.{HISTORY}
 use Rattle.dbg_model.specs.declared.opening.Opening.{Opening}
-use Rattle.dbg_model.specs.State.{Hart, State, hart_runs, any_leaves, is_running, due, is_due}
+use Rattle.dbg_model.specs.State.{Hart, State, hart_runs, any_runs, any_leaves, is_running, due, is_due}
 use Rattle.dbg_model.specs.Reply.{done_by}
 use Rattle.dbg_model.specs.Lawful.{one, one_by, enter, may_go, may_move, may_run, is_number, stepped_by, stepped, stopped, with_stop, faulted_by, stopped_by, with_leavers, leaving, leaving_at}
 use Rattle.dbg_model.specs.Leaving.{gone, gone_by}
@@ -95,6 +95,35 @@ pub one_works : (o : Opening) (h : ℕ) (s t : State) → one o h s ≡ Some t �
 unfolding one
 one_works o h s t is = one_by_works o s t h (slice_get s.harts h) refl is
 
+-- ---- a hart runs
+
+or_true : (b : Bool) → (b || true) ≡ true
+or_true true = refl
+or_true false = refl
+
+runs_there : (xs : List Hart) (h : ℕ) (x : Hart) → slice_get xs h ≡ Some x → hart_runs x ≡ true → any_runs xs ≡ true
+runs_there [] h x at is = cc
+runs_there (z ∷ zs) zero x at is = ap (λ (w : Hart). hart_runs w || any_runs zs) (same_some z x at) ∙ ap (λ b. b || any_runs zs) is
+runs_there (z ∷ zs) (suc h) x at is = ap (λ b. hart_runs z || b) (runs_there zs h x at is) ∙ or_true (hart_runs z)
+
+one_by_runs : (o : Opening) (s t : State) (h : ℕ) (r : Option Hart) → slice_get s.harts h ≡ r → one_by o s h r ≡ Some t → any_runs s.harts ≡ true
+one_by_runs o s t h None at is = cc
+one_by_runs o s t h (Some x) at is =
+    let g = guard_some (may_run o s h x) (stepped_by (plain o.image x.regs s.memory) s h x) t is in
+    runs_there s.harts h x at (both_true (may_go o s) (is_running x.mode) (both_true (may_move o s x) (not (is_due s.breaks h x)) g.0).0).1
+
+pub one_runs : (o : Opening) (h : ℕ) (s t : State) → one o h s ≡ Some t → any_runs s.harts ≡ true
+unfolding one
+one_runs o h s t is = one_by_runs o s t h (slice_get s.harts h) refl is
+
+some_run_by : (b : Bool) (xs : List Hart) → (0 < running xs → any_runs xs ≡ true) → 0 < cond b 1 0 + running xs → (b || any_runs xs) ≡ true
+some_run_by true xs step some = refl
+some_run_by false xs step some = step (omega (arith, some))
+
+some_run : (xs : List Hart) → 0 < running xs → any_runs xs ≡ true
+some_run [] some = absurd (omega arith)
+some_run (x ∷ xs) some = some_run_by (hart_runs x) xs (some_run xs) some
+
 -- a stop leaves one hart less that runs
 pub record Halted (s t : State) : Type 0 where
   pub retired : t.retired ≡ s.retired
@@ -125,6 +154,9 @@ stop_halts o (Fault cause) s t h (Some x) at is =
 pub halts : (o : Opening) (why : Why) (h : ℕ) (s t : State) → enter o s (Stopped h why) ≡ Some t → Halted s t
 unfolding enter
 halts o why h s t is = stop_halts o why s t h (slice_get s.harts h) refl is
+
+pub halt_runs : (o : Opening) (h : ℕ) (why : Why) (s t : State) → enter o s (Stopped h why) ≡ Some t → any_runs s.harts ≡ true
+halt_runs o h why s t is = let d = (halts o why h s t is).running in some_run s.harts (omega arith)
 
 pub done_retired : (o : Opening) (s : State) (line : List ℕ) → (done_by o s line).retired ≡ s.retired
 unfolding done_by

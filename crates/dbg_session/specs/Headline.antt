@@ -18,6 +18,7 @@ use Rattle.dbg_engine.specs.declared.engine.Closed.{Closed}
 use Rattle.engine_facts.specs.Facts.{Planted, Retired}
 use Rattle.dbg_session.specs.Words.{served_words, IsWhole}
 use Rattle.dbg_session.specs.Left.{core_registers, plain_registers}
+use Rattle.dbg_session.specs.InTime.{ToldInTime}
 use Rattle.dbg_session.specs.Ties.{Opened, Written, IsCut, Clean}
 use Rattle.dbg_session.specs.declared.status.Status.{Status}
 use Rattle.dbg_session.specs.declared.status.Status.TheVariants as status
@@ -44,6 +45,8 @@ pub record Headline (status : Status) (t : Told) (c : Closed) : Type 0 where
   pub opened : Opened t c.opening
   -- the lines that were done are a front of the input's lines
   pub lines : IfSome t.polled (λ bytes. (rest : List (List ℕ)) × (did c.journal ++ rest ≡ lines bytes t.poll_ended))
+  -- each line was answered before further input was asked for, and input was waited for only while no hart ran
+  pub in_time : ToldInTime c.opening c.journal t.polled t.asks
   -- the journal is lawful
   pub state : State
   pub lawful : Leaves c.opening c.journal state

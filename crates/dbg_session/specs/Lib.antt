@@ -3,6 +3,7 @@ pub mod Words
 pub mod Taking
 pub mod Turned
 pub mod Puts
+pub mod InTime
 pub mod Steps
 pub mod Ties
 pub mod Seen

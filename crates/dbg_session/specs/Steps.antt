@@ -1,12 +1,15 @@
 -- What the steps of a session do to the world and to what is said.
-use Rattle.std.specs.Prelude.{◌≡◌, ◌<◌, ◌≤◌, ℕ, ◌+◌, ◌&&◌, Bool, true, false, List, [], ◌∷◌, ◌++◌, length}
+use Rattle.std.specs.Prelude.{◌≡◌, ◌⊎◌, ◌<◌, ◌≤◌, ℕ, ◌+◌, ◌&&◌, Bool, true, false, List, [], ◌∷◌, ◌++◌, length}
 use Rattle.dbg_traits.specs.Told.{Told, more, with_ask}
 use Rattle.dbg_traits.specs.Causes.{Rose}
 use Rattle.dbg_session.specs.Puts.{PutsAll}
 use Rattle.mi_reports.specs.Said.{said}
 use Rattle.mi_input.specs.Lines.{lines, IsNext}
+use Rattle.dbg_model.specs.declared.entry.Entry.TheVariants.{Did}
+use Rattle.dbg_model.specs.State.{any_runs}
 use Rattle.dbg_model.specs.Lawful.{may_go, may_do}
 use Rattle.dbg_model.specs.Journals.{did}
+use Rattle.dbg_session.specs.InTime.{through, until}
 use Rattle.dbg_session.specs.Taking.{first_waits}
 use Rattle.dbg_session.specs.Stage.{Stage, work_of, moves_at}
 use Rattle.dbg_session.specs.declared.steps.Turn.{Turn}
@@ -37,6 +40,13 @@ Turns turn.Moved h t u r s = Says t u r s true × (work_of s < work_of r)
 Turns turn.Unput h t u r s = Says t u r s false
 Turns turn.NoMemory h t u r s = Keeps t u r s
 
+-- No line came: the journal's cuts at its lines are as they were. It grew only where a hart ran.
+pub record Goes (r s : Stage) : Type 0 where
+  pub lines : did s.journal ≡ did r.journal
+  pub through : (n : ℕ) → n ≤ length (did r.journal) → through n s.journal ≡ through n r.journal
+  pub until : (n : ℕ) → n < length (did r.journal) → until s.journal n ≡ until r.journal n
+  pub ran : (s.journal ≡ r.journal) ⊎ (any_runs r.state.harts ≡ true)
+
 -- whether the first of the lines may be done
 abbrev pub first_may : Stage → List (List ℕ) → Bool
 first_may r [] = false
@@ -52,6 +62,7 @@ pub record DoesLine (ended : Bool) (rest : List ℕ) (next : ℕ) (r s : Stage) 
   pub is_next : IsNext ended rest line next
   pub some : 0 < next
   pub within : next ≤ length rest
+  pub journal : s.journal ≡ r.journal ++ Did line ∷ []
   pub did : did s.journal ≡ did r.journal ++ line ∷ []
 
 abbrev pub Does : Done → Bool → List ℕ → Told → Told → Stage → Stage → Type 0

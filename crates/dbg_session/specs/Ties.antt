@@ -8,6 +8,7 @@ use Rattle.dbg_model.specs.State.{any_runs}
 use Rattle.dbg_model.specs.Journals.{did}
 use Rattle.dbg_session.specs.Stage.{Stage, work_of}
 use Rattle.dbg_session.specs.Words.{served_words, IsWhole}
+use Rattle.dbg_session.specs.InTime.{ToldInTime}
 use Rattle.dbg_session.specs.Taking.{Gives}
 use Rattle.dbg_session.specs.Steps.{said_by}
 use Rattle.dbg_session.specs.declared.status.Status.{Status}
@@ -71,6 +72,7 @@ pub record IsTied (s : Option Status) (t : Told) (r : Stage) (i : Taken) : Type 
   pub count : IfSome t.polled (λ bytes. length bytes ≡ i.count)
   pub written : IfSome t.written (λ written. Written s written (said_by r))
   pub ended : t.poll_ended ≡ i.ended
+  pub asks : ToldInTime r.opening r.journal t.polled t.asks
   pub cause : Cause s t r i
 
 -- how much a session can still do
@@ -101,5 +103,6 @@ pub record IsReady (t : Told) (r : Stage) : Type 0 where
   pub clean : Clean t
   pub polled : IsEmpty t.polled
   pub written : IsEmpty t.written
+  pub asks : (t.asks ≡ None) ⊎ (t.asks ≡ Some [])
   pub running : t.poll_ended ≡ false
   pub journal : r.journal ≡ []

@@ -107,6 +107,7 @@ impl<W: World> Session<W> {
         requires { self.old.status ≡ None }
         ensures { GotOn result self.old self.new (no_input self.old) }
     {
+        self.engine.keep();
         if self.ended {
             return false;
         }

@@ -1,13 +1,9 @@
 // The steps of a session, over its parts.
 ghost use Rattle.std.specs.Prelude.{◌≡◌, ◌<◌, ◌≤◌, ◌&&◌, length, IfOk, true, false};
-ghost use Rattle.dbg_model.specs.State.{any_runs};
-ghost use Rattle.dbg_model.specs.Reply.{is_wait};
-ghost use Rattle.engine_facts.specs.Seen.{seen};
-ghost use Rattle.dbg_model.specs.Journals.{did};
 ghost use Rattle.dbg_engine.specs.Steps.{IsTurned};
 ghost use Rattle.dbg_session.specs.Stage.{stage_of};
 ghost use Rattle.dbg_session.specs.Turned.{turned_text, wrote_text, last_lefts, has_moved};
-ghost use Rattle.dbg_session.specs.Steps.{Turns, Does, Inputs};
+ghost use Rattle.dbg_session.specs.Steps.{Turns, Goes, Does, Inputs};
 
 use crate::puts::put_all;
 use dbg_engine::{Engine, SPARE, Turned};
@@ -117,7 +113,7 @@ fn has_moved(turned: Turned) -> bool
 pub fn turn_once<W: World>(alloc: Global, world: &mut W, engine: &mut Engine, hart: u32) -> Turn
     requires { hart < length engine.old.minds }
     ensures opening { engine.new.opening ≡ engine.old.opening }
-    ensures did { did engine.new.journal ≡ did engine.old.journal }
+    ensures goes { Goes (stage_of engine.old) (stage_of engine.new) }
     ensures turns { Turns result hart (W.told world.old) (W.told world.new) (stage_of engine.old) (stage_of engine.new) }
 {
     engine.keep();
