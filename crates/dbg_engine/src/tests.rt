@@ -41,7 +41,7 @@ fn a_hart_is_resumed_and_exits(rt: HostRuntime) -> Result<(), Fail> {
     let Content::Running(threads) = &reply.content else {
         return Err(Fail::new("no thread goes on"));
     };
-    assert_eq!(rt; threads.as_slice(), &[1]);
+    assert_eq!(rt; threads.as_slice(), [1].as_slice());
     let cases = [
         (1, Turned::NotRunning),
         (0, Turned::Ran),

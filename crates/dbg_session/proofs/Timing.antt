@@ -239,10 +239,10 @@ none_ran r s w leaves d runs =
 waited_goes : (r s : Stage) (n : ℕ) (w : Option ℕ) → Leaves r.opening r.journal r.state → Goes r s → n ≤ length (did r.journal) → Waited r.opening (until r.journal n) w → Waited r.opening (until s.journal n) w
 waited_goes r s n w leaves g le d =
     elim (below_or_at n (length (did r.journal)) le) [
-      inl low ↦ waited_at r.opening (until r.journal n) (until s.journal n) w (g.until n low) d
-    | inr is ↦ elim g.ran [
-        inl same ↦ waited_at r.opening (until r.journal n) (until s.journal n) w (ap (λ t. until t n) same) d
-      | inr runs ↦ absurd (none_ran r s w leaves (waited_at r.opening (until r.journal n) r.journal w (sym (ap (until r.journal) is ∙ until_all r.journal)) d) runs)
+      | inl low ↦ waited_at r.opening (until r.journal n) (until s.journal n) w (g.until n low) d
+      | inr is ↦ elim g.ran [
+        | inl same ↦ waited_at r.opening (until r.journal n) (until s.journal n) w (ap (λ t. until t n) same) d
+        | inr runs ↦ absurd (none_ran r s w leaves (waited_at r.opening (until r.journal n) r.journal w (sym (ap (until r.journal) is ∙ until_all r.journal)) d) runs)
       ]
     ]
 

@@ -1,9 +1,8 @@
 -- Words, marks and instructions at the places of addresses.
-use Rattle.std.proofs.Common.{◌≡◌, ◌≢◌, ℕ, suc, zero, ◌+◌, ◌%◌, ◌^◌, ◌<◌, ◌≤◌, List, [], ◌∷◌, length, map, refl, ap, sym, ◌∙◌, subst, arith, Bool, true, false, cond, Some, None, Option, ◌&&◌, get_or, get_or-set_same, get_or-set_other, replicate}
-use Rattle.std.specs.Prelude.{slice_get, slice_index, slice_index_or, slice_set, is_some, IsSome, ◌==◌, if◌then◌else◌}
+use Rattle.std.proofs.Common.{◌≡◌, ◌≢◌, ℕ, suc, zero, ◌%◌, ◌^◌, ◌<◌, List, [], ◌∷◌, length, map, refl, ap, sym, ◌∙◌, arith, Bool, true, false, cond, Some, None, Option, ◌&&◌, get_or, get_or-set_same, get_or-set_other, replicate}
+use Rattle.std.specs.Prelude.{IfSome, slice_index, slice_index_or, slice_set, is_some, IsSome, ◌==◌}
 use Rattle.std.specs.Option.{option_map, option_map_or}
 use Rattle.std.specs.FinSet as set
-use Rattle.std.proofs.lemmas.Bool.{cases_Bool}
 use Rattle.std.proofs.lemmas.Bool.Decides.{nat_tests}
 use Rattle.rv_decode.specs.declared.instr.Instr.{Instr}
 use Rattle.rv_decode.specs.Decode.{decode}
@@ -12,7 +11,7 @@ use Rattle.text_words.specs.declared.layout.Section.{Section}
 use Rattle.text_words.specs.declared.text.TextWords.TheInside.{Inside}
 use Rattle.text_words.specs.Tables.{words_below, set_below}
 use Rattle.text_words.specs.Words.{Words, shown, is_planted, fetched, fetched_as, unpatched}
-use Rattle.text_words.specs.Layout.{Laid, place, index, word_at, flag_at, seen, IsLaid, sections_from, all_words}
+use Rattle.text_words.specs.Layout.{Laid, place, index, word_at, flag_at, seen, sections_from, all_words}
 use Rattle.text_words.proofs.Below.{word_below, in_below, inserted, removed, same_words, none_in}
 use Rattle.text_words.proofs.Places.{place_range, one_place, begun_word}
 
@@ -38,6 +37,10 @@ zero_test a e = grind (arith, nat_tests)
 pub index_range : (ss : List Section) (end addr i : ℕ) → Laid 0 ss end → index ss addr ≡ Some i → i < end
 unfolding index
 index_range ss end addr i h e = (place_range ss 0 end addr i h (some_of_test (addr % 4 == 0) (place ss addr) i e).1).1
+
+pub range_of : (ss : List Section) (end addr : ℕ) (o : Option ℕ) → Laid 0 ss end → o ≡ index ss addr → IfSome o (λ i. i < end)
+range_of ss end addr None h e = tt
+range_of ss end addr (Some i) h e = index_range ss end addr i h (sym e)
 
 pub one_index : (ss : List Section) (end a b i : ℕ) → Laid 0 ss end → index ss a ≡ Some i → index ss b ≡ Some i → a ≡ b
 unfolding index

@@ -1,6 +1,6 @@
 -- Where the words of text sections are.
-use Rattle.std.proofs.Common.{◌≡◌, ℕ, suc, zero, ◌+◌, ◌-◌, ◌*◌, ◌/◌, ◌%◌, ◌^◌, ◌<◌, ◌≤◌, inl, inr, List, [], ◌∷◌, ◌++◌, length, drop, refl, ap, sym, ◌∙◌, subst, arith, Bool, true, false, cond, Some, None, Option, length-append, append_assoc, get_or}
-use Rattle.std.specs.Prelude.{slice_get, slice_index, slice_index_or, find, ◌==◌, if◌then◌else◌}
+use Rattle.std.proofs.Common.{◌≡◌, ℕ, suc, zero, ◌+◌, ◌-◌, ◌*◌, ◌/◌, ◌%◌, ◌<◌, ◌≤◌, inl, inr, List, [], ◌∷◌, ◌++◌, length, drop, refl, ap, sym, ◌∙◌, subst, arith, Bool, true, false, cond, Some, None, Option, length-append, append_assoc}
+use Rattle.std.specs.Prelude.{◌⊎◌, slice_get, slice_index, slice_index_or, find, ◌==◌}
 use Rattle.std.specs.Option.{option_map, option_and_then}
 use Rattle.std.proofs.lemmas.Bool.{cases_Bool}
 use Rattle.std.proofs.lemmas.Bool.Decides.{nat_tests}
@@ -9,7 +9,8 @@ use Rattle.std.proofs.lemmas.List.{drop_more, get_or_append_left, get_or-append_
 use Rattle.elf32_read.specs.Fields.{spans, entries}
 use Rattle.elf32_read.specs.Program.{Program, Text, in_words, text_word}
 use Rattle.text_words.specs.declared.layout.Section.{Section}
-use Rattle.text_words.specs.Layout.{Laid, place, index, word_at, sections_from, all_words}
+use Rattle.text_words.specs.declared.layout.Table.{Table}
+use Rattle.text_words.specs.Layout.{Laid, IsTable, place, index, word_at, sections_from, all_words}
 
 pub laid_le : (ss : List Section) (from end : ℕ) → Laid from ss end → from ≤ end
 laid_le [] from end h = omega (arith, h)
@@ -147,3 +148,42 @@ unfolding index
 begun_word p addr =
     by_test (addr % 4 == 0) (slice_index (all_words p.text)) (place (sections_from 0 p.text) addr) (option_and_then (λ t. slice_get t.words ((addr - t.address) / 4)) (find (in_words addr) p.text))
     (laid_word p.text [] 0 addr refl)
+
+-- ---- the table of the places
+
+entries_length_of : {A : Type 0} (f : ℕ → A) (base n : ℕ) → length (entries f base 4 n) ≡ n
+entries_length_of f base zero = refl
+entries_length_of f base (suc n) = length-append (entries f base 4 n) (f (base + 4 * n) ∷ []) ∙ ap (λ k. k + 1) (entries_length_of f base n) ∙ omega arith
+
+below_or_last : (k n : ℕ) → k ≤ n → (k < n) ⊎ (k ≡ n)
+below_or_last zero zero le = inr refl
+below_or_last zero (suc n) le = inl (omega arith)
+below_or_last (suc k) zero le = absurd (omega arith)
+below_or_last (suc k) (suc n) le = elim (below_or_last k n (omega arith)) [ inl low ↦ inl (omega arith) | inr is ↦ inr (ap suc is) ]
+
+entry_at : {A : Type 0} (f : ℕ → A) (base n k : ℕ) (d : A) → k < n → slice_index_or (entries f base 4 n) k d ≡ f (base + 4 * k)
+entry_at f base zero k d low = absurd (omega arith)
+entry_at f base (suc n) k d low =
+    let front = entries f base 4 n in
+    elim (below_or_last k n (omega arith)) [
+      | inl less ↦ get_or_append_left front (f (base + 4 * n) ∷ []) d k (omega (arith, entries_length_of f base n)) ∙ entry_at f base n k d less
+      | inr is ↦
+          let at : k - n ≡ 0 = omega (arith, is) in
+          get_or-append_right front (f (base + 4 * n) ∷ []) n k d (entries_length_of f base n) (omega (arith, is)) ∙ ap (λ i. slice_index_or (f (base + 4 * n) ∷ []) i d) at ∙ ap (λ i. f (base + 4 * i)) (sym is)
+    ]
+
+pub table_is : (ss : List Section) (t : Table) (n : ℕ) → t.base % 4 ≡ 0 → t.places.items ≡ entries (index ss) t.base 4 n → IsTable ss t
+table_is ss t n base is = record {
+  base = base;
+  places = λ k low.
+      let few : k < n = let l = ap length is ∙ entries_length_of (index ss) t.base n in omega arith in
+      ap (λ xs. slice_index_or xs k None) is ∙ entry_at (index ss) t.base n k None few;
+}
+
+pub no_table : (ss : List Section) (t : Table) → t.base % 4 ≡ 0 → t.places.items ≡ [] → IsTable ss t
+no_table ss t base is = table_is ss t 0 base is
+
+-- the sections of an image, and its words
+pub laid_image : (ts : List Text) (ss : List Section) (ws : List ℕ) (n : ℕ) → ss ≡ sections_from 0 ts → ws ≡ all_words ts → n ≡ length ws → Laid 0 ss n
+laid_image ts ss ws n sections words len =
+    subst (λ xs. Laid 0 xs n) (sym sections) (subst (Laid 0 (sections_from 0 ts)) (let e : 0 + length (all_words ts) ≡ n = omega (arith, len, ap length words) in e) (laid_from ts 0))

@@ -1,9 +1,9 @@
 // Text sections side by side in one list of words.
-ghost use Rattle.std.specs.Prelude.{ℕ, ◌<◌, IfSome, ◌≢◌, ◌&&◌, is_some, ◌≡◌, ◌≤◌, ◌+◌, ◌*◌, ◌/◌, ◌++◌, ◌∷◌, [], length, map, OnOk, IfOk};
+ghost use Rattle.std.specs.Prelude.{ℕ, ◌<◌, ◌%◌, ◌^◌, IfSome, ◌≢◌, ◌&&◌, is_some, ◌≡◌, ◌≤◌, ◌+◌, ◌*◌, ◌/◌, ◌++◌, ◌∷◌, [], length, map, OnOk, IfOk};
 ghost use Rattle.rv_decode.specs.Decode.{decode};
 ghost use Rattle.elf32_read.specs.Fields.{u32_at, entries};
 ghost use Rattle.text_words.specs.Words.{fetched_as, decoded_as};
-ghost use Rattle.text_words.specs.Layout.{Laid, index, word_at, flag_at, sections_from, all_words};
+ghost use Rattle.text_words.specs.Layout.{Laid, IsTable, index, word_at, flag_at, sections_from, all_words};
 
 use crate::fetch::Fetch;
 use byteorder::{ByteOrder, LittleEndian};
@@ -21,9 +21,17 @@ pub struct Section {
     pub first: usize,
 }
 
-/// The place of the word at an address.
+/// The places of the words from an address on: it spares a search where a file has several text sections.
+#[derive(Drop)]
+pub struct Table {
+    /// A multiple of 4.
+    pub base: u32,
+    pub places: Vec<Option<usize>>,
+}
+
+// The place of the word at an address, by a search through the sections.
 #[tactic(auto, using(crate::proofs::Places::laid_at), unfolding(crate::specs::Layout::index))]
-pub fn place_of(sections: &[Section], addr: u32, len: usize) -> Option<usize>
+fn search(sections: &[Section], addr: u32, len: usize) -> Option<usize>
     requires { Laid 0 sections.now len }
     ensures value { result ≡ index sections.now addr }
     ensures range { IfSome result (λ i. i < len) }
@@ -42,23 +50,41 @@ pub fn place_of(sections: &[Section], addr: u32, len: usize) -> Option<usize>
     None
 }
 
+/// The place of the word at an address.
+pub fn place_of(sections: &[Section], table: &Table, addr: u32, len: usize) -> Option<usize>
+    requires laid { Laid 0 sections.now len }
+    requires table { IsTable sections.now table.now }
+    ensures value { result ≡ index sections.now addr }
+    ensures range { IfSome result (λ i. i < len) }
+{
+    if addr % 4 == 0 && addr >= table.base {
+        let k = ((addr - table.base) / 4) as usize;
+        if k < table.places.len() {
+            return table.places[k];
+        }
+    }
+    search(sections, addr, len)
+}
+
 /// The program's word at an address.
-pub fn shown_in(sections: &[Section], words: &[u32], addr: u32) -> Option<u32>
-    requires { Laid 0 sections.now (length words.now) }
+pub fn shown_in(sections: &[Section], table: &Table, words: &[u32], addr: u32) -> Option<u32>
+    requires laid { Laid 0 sections.now (length words.now) }
+    requires table { IsTable sections.now table.now }
     ensures { result ≡ word_at sections.now words.now addr }
 {
-    match place_of(sections, addr, words.len()) {
+    match place_of(sections, table, addr, words.len()) {
         Some(i) => Some(words[i]),
         None => None,
     }
 }
 
 /// Whether the word at an address is marked.
-pub fn planted_in(sections: &[Section], flags: &[bool], addr: u32) -> bool
-    requires { Laid 0 sections.now (length flags.now) }
+pub fn planted_in(sections: &[Section], table: &Table, flags: &[bool], addr: u32) -> bool
+    requires laid { Laid 0 sections.now (length flags.now) }
+    requires table { IsTable sections.now table.now }
     ensures { result ≡ flag_at sections.now flags.now addr }
 {
-    match place_of(sections, addr, flags.len()) {
+    match place_of(sections, table, addr, flags.len()) {
         Some(i) => flags[i],
         None => false,
     }
@@ -67,17 +93,19 @@ pub fn planted_in(sections: &[Section], flags: &[bool], addr: u32) -> bool
 /// What stands at an address for a hart.
 pub fn fetch_in(
     sections: &[Section],
+    table: &Table,
     words: &[u32],
     instructions: &[Option<Instr>],
     flags: &[bool],
     addr: u32,
 ) -> Fetch
     requires laid { Laid 0 sections.now (length words.now) }
+    requires table { IsTable sections.now table.now }
     requires decoded { instructions.now ≡ map decode words.now }
     requires flags { length flags.now ≡ length words.now }
     ensures { result ≡ fetched_as (word_at sections.now words.now addr) (flag_at sections.now flags.now addr) }
 {
-    match place_of(sections, addr, words.len()) {
+    match place_of(sections, table, addr, words.len()) {
         Some(i) => {
             if flags[i] {
                 Fetch::Planted
@@ -99,12 +127,13 @@ fn instruction_or_illegal(instruction: Option<Instr>) -> Fetch
 }
 
 /// Marks the word at an address, or takes its mark away; nothing where no word of text is.
-pub fn mark(sections: &[Section], flags: &mut [bool], addr: u32, flag: bool)
-    requires { Laid 0 sections.now (length flags.old) }
+pub fn mark(sections: &[Section], table: &Table, flags: &mut [bool], addr: u32, flag: bool)
+    requires laid { Laid 0 sections.now (length flags.old) }
+    requires table { IsTable sections.now table.now }
     ensures here { flag_at sections.now flags.new addr ≡ (flag && is_some (index sections.now addr)) }
     ensures others { (q : ℕ) → q ≢ addr → flag_at sections.now flags.new q ≡ flag_at sections.now flags.old q }
 {
-    if let Some(i) = place_of(sections, addr, flags.len()) {
+    if let Some(i) = place_of(sections, table, addr, flags.len()) {
         flags[i] = flag;
     }
 }
@@ -148,6 +177,65 @@ pub fn collect(
         add_words(words, text.bytes)?;
     }
     Ok(())
+}
+
+/// The most words that a table has places for, and the most comparisons that it may cost to make one.
+const MOST_PLACES: usize = 1 << 22;
+
+const MOST_LOOKS: usize = 1 << 28;
+
+// From where on the sections have words, and how many words there are up to the last.
+fn extent(sections: &[Section]) -> (u32, usize)
+    ensures base { result.0 % 4 ≡ 0 }
+    ensures end { result.0 + 4 * result.1 ≤ 2 ^ 32 }
+{
+    let mut first = u32::MAX;
+    let mut end = 0u64;
+    for section in sections {
+        let size = (section.count as u64).saturating_mul(4);
+        first = first.min(section.address);
+        end = end.max((section.address as u64).saturating_add(size));
+    }
+    let base = first / 4 * 4;
+    let reach = end.min(1 << 32).saturating_sub(base as u64);
+    (base, (reach / 4) as usize)
+}
+
+// Whether a table of so many places is worth its making.
+fn is_worth(sections: usize, count: usize) -> bool {
+    sections > 1 && count <= MOST_PLACES && count <= MOST_LOOKS / sections
+}
+
+fn push_places(
+    places: &mut Vec<Option<usize>>,
+    sections: &[Section],
+    base: u32,
+    count: usize,
+    len: usize,
+) -> Result<(), AllocError>
+    requires laid { Laid 0 sections.now len }
+    requires end { base + 4 * count ≤ 2 ^ 32 }
+    requires none { places.old.items ≡ [] }
+    ensures { OnOk result (places.new.items ≡ entries (index sections.now) base 4 count) }
+{
+    for k in 0..count {
+        places.push(search(sections, base + 4 * k as u32, len))?;
+    }
+    Ok(())
+}
+
+/// The table of the places of the sections' words; an empty one where a search is as fast, or a table too long.
+pub fn table_of(alloc: Global, sections: &[Section], len: usize) -> Result<Table, AllocError>
+    requires { Laid 0 sections.now len }
+    ensures { IfOk result (IsTable sections.now) }
+{
+    let (base, count) = extent(sections);
+    let mut places = Vec::new(alloc);
+    if !is_worth(sections.len(), count) {
+        return Ok(Table { base, places });
+    }
+    push_places(&mut places, sections, base, count, len)?;
+    Ok(Table { base, places })
 }
 
 /// The instruction of each word.

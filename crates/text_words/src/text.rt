@@ -3,7 +3,9 @@ ghost use Rattle.std.specs.FinSet as set;
 ghost use Rattle.text_words.specs.Words.{unpatched, shown, stored, is_planted, fetched};
 
 use crate::fetch::Fetch;
-use crate::layout::{Section, collect, decode_all, fetch_in, mark, planted_in, shown_in};
+use crate::layout::{
+    Section, Table, collect, decode_all, fetch_in, mark, planted_in, shown_in, table_of,
+};
 use elf32_read::Image;
 use rv_decode::Instr;
 use std::alloc::{AllocError, Global};
@@ -17,6 +19,7 @@ const EBREAK: u32 = 0x0010_0073;
 #[derive(Drop)]
 pub struct TextWords {
     sections: Vec<Section>,
+    table: Table,
     words: Vec<u32>,
     instructions: Vec<Option<Instr>>,
     planted: Vec<bool>,
@@ -46,10 +49,12 @@ impl TextWords {
         let mut sections = Vec::new(alloc);
         let mut words = Vec::new(alloc);
         collect(image, &mut sections, &mut words)?;
+        let table = table_of(alloc, sections.as_slice(), words.len())?;
         let instructions = decode_all(alloc, words.as_slice())?;
         let planted = Vec::from_elem(alloc, false, words.len())?;
         Ok(TextWords {
             sections,
+            table,
             words,
             instructions,
             planted,
@@ -70,14 +75,24 @@ impl TextWords {
     pub fn shown(&self, addr: u32) -> Option<u32>
         ensures { result ≡ shown self.now addr }
     {
-        shown_in(self.sections.as_slice(), self.words.as_slice(), addr)
+        shown_in(
+            self.sections.as_slice(),
+            &self.table,
+            self.words.as_slice(),
+            addr,
+        )
     }
 
     /// Whether a breakpoint is planted at an address.
     pub fn planted(&self, addr: u32) -> bool
         ensures { result ≡ is_planted self.now addr }
     {
-        planted_in(self.sections.as_slice(), self.planted.as_slice(), addr)
+        planted_in(
+            self.sections.as_slice(),
+            &self.table,
+            self.planted.as_slice(),
+            addr,
+        )
     }
 
     /// What stands at an address for a hart that executes it. The words were decoded when they were loaded.
@@ -86,6 +101,7 @@ impl TextWords {
     {
         fetch_in(
             self.sections.as_slice(),
+            &self.table,
             self.words.as_slice(),
             self.instructions.as_slice(),
             self.planted.as_slice(),
@@ -101,6 +117,7 @@ impl TextWords {
     {
         mark(
             self.sections.as_slice(),
+            &self.table,
             self.planted.as_mut_slice(),
             addr,
             true,
@@ -114,6 +131,7 @@ impl TextWords {
     {
         mark(
             self.sections.as_slice(),
+            &self.table,
             self.planted.as_mut_slice(),
             addr,
             false,

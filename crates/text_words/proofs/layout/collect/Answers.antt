@@ -1,4 +1,4 @@
-use Rattle.std.proofs.Common.{◌≡◌, ◌+◌, ◌/◌, ap, sym, ◌∙◌, length, arith, ℕ}
+use Rattle.std.proofs.Common.{◌≡◌, ◌/◌, ap, sym, ◌∙◌, length, ℕ}
 use Rattle.elf32_read.specs.Fields.{u32_at}
 use Rattle.elf32_read.specs.Views.{text_shown}
 use Rattle.text_words.specs.declared.layout.Section.{Section}

@@ -1,12 +1,11 @@
-use Rattle.std.proofs.Common.{◌≡◌, ◌≢◌, ◌^◌, ℕ, List, length, ap, sym, ◌∙◌, subst, true, false}
-use Rattle.std.specs.Prelude.{IsSome, is_some}
+use Rattle.std.proofs.Common.{◌≡◌, ◌≢◌, ◌^◌, ℕ, length, ap, sym, ◌∙◌, subst, false}
 use Rattle.std.specs.FinSet as set
 use Rattle.std.proofs.lemmas.List.{with_items_is}
 use Rattle.std.specs.Vec.{with_items}
 use Rattle.text_words.specs.Tables.{words_below, set_below}
-use Rattle.text_words.specs.Words.{Words, shown, is_planted, fetched, fetched_as}
-use Rattle.text_words.specs.Layout.{seen, index, word_at, flag_at}
-use Rattle.text_words.proofs.Marks.{shown_is, planted_is, fetched_is, placed_in, plant_set, lift_set}
+use Rattle.text_words.specs.Words.{Words}
+use Rattle.text_words.specs.Layout.{word_at, flag_at}
+use Rattle.text_words.proofs.Marks.{lift_set}
 use Rattle.text_words.proofs.text.TextWords.lift.Goals as goal
 
 pub returns : goal.returns

@@ -1,11 +1,7 @@
-use Rattle.std.proofs.Common.{◌≡◌, ◌≢◌, ◌^◌, ℕ, List, length, ap, sym, ◌∙◌, subst, true, false}
-use Rattle.std.specs.Prelude.{IsSome, is_some}
-use Rattle.std.specs.FinSet as set
-use Rattle.std.proofs.lemmas.List.{with_items_is}
-use Rattle.text_words.specs.Tables.{words_below, set_below}
-use Rattle.text_words.specs.Words.{Words, shown, is_planted, fetched, fetched_as}
-use Rattle.text_words.specs.Layout.{seen, index, word_at, flag_at}
-use Rattle.text_words.proofs.Marks.{shown_is, planted_is, fetched_is, placed_in, plant_set, lift_set}
+use Rattle.std.proofs.Common.{◌≡◌, ap, sym, ◌∙◌, subst}
+use Rattle.text_words.specs.Words.{is_planted}
+use Rattle.text_words.specs.Layout.{flag_at}
+use Rattle.text_words.proofs.Marks.{planted_is}
 use Rattle.text_words.proofs.text.TextWords.planted.Goals as goal
 
 pub returns : goal.returns
