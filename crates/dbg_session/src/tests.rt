@@ -185,19 +185,33 @@ fn the_end_of_the_input_ends_a_run(rt: HostRuntime) -> Result<(), Fail> {
     Ok(())
 }
 
+/// The history holds 4,194,304 lines.
 #[test]
-fn many_line_feeds_are_answered_each(rt: HostRuntime) -> Result<(), Fail> {
+fn line_feeds_are_answered_until_the_history_is_full(rt: HostRuntime) -> Result<(), Fail> {
     let alloc = rt.alloc();
-    let cue = Cue::Piece(vec![in alloc; b'\n'; 1000]?);
-    let world = world_of(alloc, "0", EXIT, cue, limits_of(alloc, 0, 0)?)?;
-    let Ended {
-        status,
-        world,
-        closed: _,
-    } = debug_run(&rt, alloc, world, &OpenGate);
-    assert_eq!(rt; status, Status::Done);
     // The opening has 43 bytes, and each answer 6.
-    assert_eq!(rt; world.output().len(), 6043);
+    let cases = [
+        (1000, Status::Done, 6043),
+        (4_194_304, Status::History, 25_165_867),
+    ];
+    for (count, expected, length) in cases {
+        let limits = Limits {
+            read: 4096,
+            poll: 4096,
+            put: 4096,
+            failing_reads: Vec::new(alloc),
+            failing_puts: Vec::new(alloc),
+        };
+        let cue = Cue::Piece(vec![in alloc; b'\n'; count]?);
+        let world = world_of(alloc, "0", EXIT, cue, limits)?;
+        let Ended {
+            status,
+            world,
+            closed: _,
+        } = debug_run(&rt, alloc, world, &OpenGate);
+        assert_eq!(rt; status, expected);
+        assert_eq!(rt; world.output().len(), length);
+    }
     Ok(())
 }
 
@@ -369,34 +383,36 @@ fn lines_are_answered(rt: HostRuntime) -> Result<(), Fail> {
     let alloc = rt.alloc();
     let hi = b"hi\n\0";
     let cases = [
-        (&RETURNS_TWO[..], "1", BREAKS, Status::Done, BROKE),
-        (&COUNTS[..], "1", BREAKS_TWICE, Status::Done, BROKE_TWICE),
-        (&SPINS[..], "1", CONTINUE, Status::Budget, RUNNING),
-        (&JUMPS_AWAY[..], "1", READS_MEMORY, Status::Done, AWAY),
+        (&RETURNS_TWO[..], "1", BREAKS, Status::Done, 4, BROKE),
+        (&COUNTS[..], "1", BREAKS_TWICE, Status::Done, 2, BROKE_TWICE),
+        (&SPINS[..], "1", CONTINUE, Status::Budget, 1000, RUNNING),
+        (&JUMPS_AWAY[..], "1", READS_MEMORY, Status::Done, 2, AWAY),
         (
             &READS_TEXT[..],
             "1",
             READS_REGISTER,
             Status::Done,
+            2,
             TEXT_UNREADABLE,
         ),
-        (&GREETS[..], "1", CONTINUE, Status::Done, GREETED),
-        (&SPINS[..], "1", ERRORS, Status::Done, REFUSED),
-        (&SPINS[..], "2", ASKS_THREADS, Status::Done, THREADS),
-        (&EXITS_ALL[..], "2", CONTINUE, Status::Done, ALL_EXITED),
-        (&ADDS_ONE[..], "2", ONE_STOPS, Status::Done, ONE_STOPPED),
-        (&ADDS_ONE[..], "16", ALL_ADD, Status::Done, SIXTEEN),
+        (&GREETS[..], "1", CONTINUE, Status::Done, 8, GREETED),
+        (&SPINS[..], "1", ERRORS, Status::Done, 0, REFUSED),
+        (&SPINS[..], "2", ASKS_THREADS, Status::Done, 0, THREADS),
+        (&EXITS_ALL[..], "2", CONTINUE, Status::Done, 3, ALL_EXITED),
+        (&ADDS_ONE[..], "2", ONE_STOPS, Status::Done, 6, ONE_STOPPED),
+        (&ADDS_ONE[..], "16", ALL_ADD, Status::Done, 6, SIXTEEN),
     ];
-    for (words, harts, input, expected, output) in cases {
+    for (words, harts, input, expected, executed, output) in cases {
         assert!(rt; !words.is_empty() && words.len() < 16);
         let file = plain(alloc, words, if words.len() == 8 { hi } else { &[0; 4] })?;
         let world = program_world(alloc, harts, file, input)?;
         let Ended {
             status,
             world,
-            closed: _,
+            closed,
         } = debug_run(&rt, alloc, world, &OpenGate);
         assert_eq!(rt; status, expected, "{input}");
+        assert_eq!(rt; retired(&closed), Some(executed), "{input}");
         assert!(rt; world.output().ends_with(output.as_bytes()), "{input}");
     }
     Ok(())
