@@ -22,24 +22,24 @@ abbrev pub ignored : ℕ → List ℕ
 ignored n = if n == 0 then [] else text.IGNORE_HEAD.now ++ decimal n
 
 -- what a breakpoint is called, and whether it stays and is enabled
-abbrev pub breakpoint_front : Breakpoint → List ℕ
+unfoldable pub breakpoint_front : Breakpoint → List ℕ
 breakpoint_front b =
     text.BREAKPOINT_HEAD.now ++ decimal b.number ++ text.DISPOSITION_HEAD.now ++ disposition b.temporary ++ text.ENABLED_HEAD.now ++ enabled_text b.enabled
 
 -- where it stands
-abbrev pub breakpoint_place : Breakpoint → List ℕ
+unfoldable pub breakpoint_place : Breakpoint → List ℕ
 breakpoint_place b = text.ADDRESS_HEAD.now ++ word_text b.address ++ text_field text.FUNCTION_HEAD.now b.function
 
 -- when it stops, and whom
-abbrev pub breakpoint_terms : Breakpoint → List ℕ
+unfoldable pub breakpoint_terms : Breakpoint → List ℕ
 breakpoint_terms b = text_field text.CONDITION_HEAD.now b.condition ++ for_thread b.thread
 
 -- its arrivals, and how many more are only counted
-abbrev pub breakpoint_counts : Breakpoint → List ℕ
+unfoldable pub breakpoint_counts : Breakpoint → List ℕ
 breakpoint_counts b = text.TIMES_HEAD.now ++ decimal b.times ++ ignored b.ignore
 
 -- where it was asked for
-abbrev pub breakpoint_location : Breakpoint → List ℕ
+unfoldable pub breakpoint_location : Breakpoint → List ℕ
 breakpoint_location b = text.LOCATION_HEAD.now ++ c_string b.location ++ text.FIELD_TAIL.now
 
 unfoldable pub breakpoint_text : Breakpoint → List ℕ

@@ -6,7 +6,7 @@ use Rattle.break_table.specs.declared.due.CondError.{CondError}
 use Rattle.break_table.specs.declared.due.CondError.TheVariants.{DivZero, Unread}
 use Rattle.dbg_model.specs.declared.entry.Entry.{Entry}
 use Rattle.dbg_model.specs.declared.entry.Entry.TheVariants.{Ran, Counted, Stopped, Left, Did}
-use Rattle.mi_reports.specs.Bytes.{hex8, word_text, octal, c_string}
+use Rattle.mi_reports.specs.Bytes.{word_text, octal, c_string}
 use Rattle.mi_reports.specs.declared.texts.TheConstants.{CREATED_HEAD, EXITED_HEAD, GROUP_TAIL, PROMPT, SIGNAL_HEAD, BREAK_HEAD, KEPT, DELETED, BREAK_NUMBER_HEAD, SEGMENTATION_FAULT, BUS_ERROR, ILLEGAL_INSTRUCTION, TRAP, FRAME_HEAD, FRAME_TAIL, STOPPED_HEAD, STOPPED_TAIL, EXITED_NORMALLY, EXIT_CODE_HEAD, LINE_TAIL, STREAM_HEAD, LOG_HEAD, CONDITION_ERROR, COLON, DIVISION_BY_ZERO, UNREADABLE}
 
 -- a line for each of the first n threads
@@ -29,10 +29,13 @@ signal Break = TRAP.now
 signal Illegal = ILLEGAL_INSTRUCTION.now
 signal FetchFault = SEGMENTATION_FAULT.now
 
+-- where hart h stopped, at pc
+unfoldable pub frame_text : ℕ → ℕ → List ℕ
+frame_text h pc = FRAME_HEAD.now ++ word_text pc ++ FRAME_TAIL.now ++ decimal (h + 1) ++ STOPPED_HEAD.now ++ decimal (h + 1) ++ STOPPED_TAIL.now
+
 -- hart h stopped at pc by a fault
 unfoldable pub stop_text : Cause → ℕ → ℕ → List ℕ
-stop_text cause h pc =
-    SIGNAL_HEAD.now ++ signal cause ++ FRAME_HEAD.now ++ hex8 pc ++ FRAME_TAIL.now ++ decimal (h + 1) ++ STOPPED_HEAD.now ++ decimal (h + 1) ++ STOPPED_TAIL.now
+stop_text cause h pc = SIGNAL_HEAD.now ++ signal cause ++ frame_text h pc
 
 -- what becomes of a breakpoint that is hit
 abbrev pub disposition : Bool → List ℕ
@@ -52,10 +55,9 @@ unfoldable pub condition_text : ℕ → Option CondError → List ℕ
 condition_text number None = []
 condition_text number (Some e) = LOG_HEAD.now ++ c_string (condition_message number e) ++ LINE_TAIL.now
 
--- the line of a hart h that stopped at pc by the breakpoint of that number
+-- the line of a stop by the breakpoint of that number
 unfoldable pub hit_text : Bool → ℕ → ℕ → ℕ → List ℕ
-hit_text temporary number h pc =
-    BREAK_HEAD.now ++ disposition temporary ++ BREAK_NUMBER_HEAD.now ++ decimal number ++ FRAME_HEAD.now ++ hex8 pc ++ FRAME_TAIL.now ++ decimal (h + 1) ++ STOPPED_HEAD.now ++ decimal (h + 1) ++ STOPPED_TAIL.now
+hit_text temporary number h pc = BREAK_HEAD.now ++ disposition temporary ++ BREAK_NUMBER_HEAD.now ++ decimal number ++ frame_text h pc
 
 -- hart h stopped at pc by the breakpoint of that number, whose condition had this error
 unfoldable pub break_text : Bool → ℕ → Option CondError → ℕ → ℕ → List ℕ

@@ -17,7 +17,11 @@ fn enabled_text(enabled: bool) -> &'static str
 }
 
 // A field that is left out where there is no text.
-fn push_text_field(into: &mut Vec<u8>, head: &str, field: &Option<ByteList>) -> Result<(), AllocError>
+fn push_text_field(
+    into: &mut Vec<u8>,
+    head: &str,
+    field: &Option<ByteList>,
+) -> Result<(), AllocError>
     ensures { OnOk result (into.new.items ≡ into.old.items ++ text_field head.now field.now) }
 {
     let Some(bytes) = field else {
@@ -47,6 +51,7 @@ fn push_ignored(into: &mut Vec<u8>, ignore: u32) -> Result<(), AllocError>
     push_word(into, ignore)
 }
 
+#[tactic(auto, unfolding(crate::specs::Breakpoints::breakpoint_front))]
 fn push_front(into: &mut Vec<u8>, breakpoint: &Breakpoint) -> Result<(), AllocError>
     ensures { OnOk result (into.new.items ≡ into.old.items ++ breakpoint_front breakpoint.now) }
 {
@@ -58,6 +63,7 @@ fn push_front(into: &mut Vec<u8>, breakpoint: &Breakpoint) -> Result<(), AllocEr
     push(into, enabled_text(breakpoint.enabled))
 }
 
+#[tactic(auto, unfolding(crate::specs::Breakpoints::breakpoint_place))]
 fn push_place(into: &mut Vec<u8>, breakpoint: &Breakpoint) -> Result<(), AllocError>
     ensures { OnOk result (into.new.items ≡ into.old.items ++ breakpoint_place breakpoint.now) }
 {
@@ -65,6 +71,7 @@ fn push_place(into: &mut Vec<u8>, breakpoint: &Breakpoint) -> Result<(), AllocEr
     push_text_field(into, text::FUNCTION_HEAD, &breakpoint.function)
 }
 
+#[tactic(auto, unfolding(crate::specs::Breakpoints::breakpoint_terms))]
 fn push_terms(into: &mut Vec<u8>, breakpoint: &Breakpoint) -> Result<(), AllocError>
     ensures { OnOk result (into.new.items ≡ into.old.items ++ breakpoint_terms breakpoint.now) }
 {
@@ -72,6 +79,7 @@ fn push_terms(into: &mut Vec<u8>, breakpoint: &Breakpoint) -> Result<(), AllocEr
     push_for_thread(into, breakpoint.thread)
 }
 
+#[tactic(auto, unfolding(crate::specs::Breakpoints::breakpoint_counts))]
 fn push_counts(into: &mut Vec<u8>, breakpoint: &Breakpoint) -> Result<(), AllocError>
     ensures { OnOk result (into.new.items ≡ into.old.items ++ breakpoint_counts breakpoint.now) }
 {
@@ -80,6 +88,7 @@ fn push_counts(into: &mut Vec<u8>, breakpoint: &Breakpoint) -> Result<(), AllocE
     push_ignored(into, breakpoint.ignore)
 }
 
+#[tactic(auto, unfolding(crate::specs::Breakpoints::breakpoint_location))]
 fn push_location(into: &mut Vec<u8>, breakpoint: &Breakpoint) -> Result<(), AllocError>
     ensures { OnOk result (into.new.items ≡ into.old.items ++ breakpoint_location breakpoint.now) }
 {

@@ -107,6 +107,7 @@ fn error_tail(refused: &Refused) -> &'static str
 }
 
 /// Appends what is answered to a line that is refused.
+#[tactic(auto, unfolding(crate::specs::Errors::refused_text))]
 pub fn push_error(alloc: Global, into: &mut Vec<u8>, refused: &Refused) -> Result<(), AllocError>
     ensures { OnOk result (into.new.items ≡ into.old.items ++ refused_text refused.now) }
 {
