@@ -1,5 +1,5 @@
 -- What a turn and a line say.
-use Rattle.std.proofs.Common.{◌≡◌, ◌<◌, ◌≤◌, ℕ, zero, suc, ◌+◌, ◌-◌, ◌*◌, Bool, true, false, List, [], ◌∷◌, ◌++◌, length, drop, refl, sym, ap, ◌∙◌, arith, subst, append_assoc}
+use Rattle.std.proofs.Common.{◌≡◌, ◌<◌, ◌≤◌, ℕ, zero, suc, ◌+◌, ◌-◌, ◌*◌, Bool, true, false, List, [], ◌∷◌, ◌++◌, length, drop, refl, sym, ap, ◌∙◌, arith, subst, append_assoc, cond}
 use Rattle.std.specs.Prelude.{Option, Some, None, is_none, ◌&&◌, ◌⊎◌, map, slice_get}
 use mathlib.Core.Logic.{inl, inr}
 use mathlib.Core.List.{append-nil}
@@ -36,7 +36,7 @@ use Rattle.engine_facts.specs.Minds.{mode_of, is_active, with_phase, counted_min
 use Rattle.engine_facts.proofs.Seeing.{seen_at}
 use Rattle.dbg_engine.specs.Calls.{Turns, Runs, Exits, Halts, Counts, Rephases, Does}
 use Rattle.break_table.specs.declared.due.CondError.{CondError}
-use Rattle.dbg_session.specs.Stage.{stage_of, work_of, running, moves, moves_of, runs_at, runs_as, is_free, moves_at}
+use Rattle.dbg_session.specs.Stage.{stage_of, work_of, running, moves, moves_of, moves_left, runs_at, runs_as, is_free, moves_at}
 use Rattle.dbg_model.specs.State.{is_running}
 use Rattle.dbg_model.specs.Lawful.{may_go}
 use Rattle.engine_facts.specs.declared.mind.Activity.{Activity}
@@ -172,6 +172,9 @@ arrivals_say r s h pc number temporary error f g low is_pc m kind =
     (said_added r.opening r.journal (seen r) e f.leaves ∙ (ap (λ p. said r.opening r.journal ++ break_text (is_temporary r.breaks number) number error h p) (pc_seen r h pc f low is_pc)
     ∙ ap (λ b. said r.opening r.journal ++ break_text b number error h pc) (sym kind))))
 
+moves_fresh : (x : Mind) → x.fresh ≡ true → moves_left x ≡ moves_of x.phase + 1
+moves_fresh x fresh = ap (λ b. moves_of x.phase + cond b 1 0) fresh
+
 -- breakpoints counted a hart
 counts_say : (r s : Run) (h pc : ℕ) → Facts r → Facts s → Counts r s h → Said turned.Counted r s h pc
 counts_say r s h pc f g m =
@@ -180,7 +183,7 @@ counts_say r s h pc f g m =
     let retired : s.retired ≡ r.retired = noted.retired in
     let running_same = noted.running in
     let set = moves_set r.minds h m.mind (counted_mind m.mind) m.at in
-    let one : cond m.mind.fresh 1 0 ≡ 1 = ap (λ b. cond b 1 0) m.fresh in
+    let one = moves_fresh m.mind m.fresh in
     let fewer : moves s.minds < moves r.minds = omega (arith, ap moves m.minds) in
     let P : Opening → Type 0 = λ o. 49 * (o.settings.budget - s.retired) + (49 * running (seen s).harts + moves s.minds) < work_of (stage_of r) in
     record {

@@ -8,7 +8,7 @@ use Rattle.std.proofs.lemmas.List.{take_all}
 use Rattle.dbg_traits.specs.Told.{Ask, told_length, more}
 use Rattle.mi_input.specs.Lines.{lines, lines_after, rest_line, without_cr}
 use Rattle.dbg_model.specs.declared.entry.Entry.{Entry}
-use Rattle.dbg_model.specs.declared.entry.Entry.TheVariants.{Ran, Stopped, Left, Did}
+use Rattle.dbg_model.specs.declared.entry.Entry.TheVariants.{Ran, Counted, Stopped, Left, Did}
 use Rattle.dbg_model.specs.declared.entry.Mode.{Mode}
 use Rattle.dbg_model.specs.declared.entry.Mode.TheVariants as mode
 use Rattle.dbg_model.specs.declared.opening.Opening.{Opening}
@@ -50,7 +50,9 @@ did_line j line = did-append j (Did line ∷ [])
 did_one_more : (e : Entry) (r : Option ℕ) (h : ℕ) → ran_count e h ≡ r → did (one_more_by r e h) ≡ did_one e
 did_one_more (Ran k n) None h is = refl
 did_one_more (Ran k n) (Some m) h is = refl
+did_one_more (Counted k) None h is = refl
 did_one_more (Stopped k why) None h is = refl
+did_one_more (Counted k) (Some m) h is = cc
 did_one_more (Stopped k why) (Some m) h is = cc
 did_one_more (Left k code) None h is = refl
 did_one_more (Left k code) (Some m) h is = cc
@@ -79,6 +81,7 @@ through_front : (n : ℕ) (j k : List Entry) → n ≤ length (did j) → throug
 through_front zero j k le = refl
 through_front (suc n) [] k le = absurd (omega arith)
 through_front (suc n) (Ran h count ∷ es) k le = ap (λ t. Ran h count ∷ t) (through_front (suc n) es k le)
+through_front (suc n) (Counted h ∷ es) k le = ap (λ t. Counted h ∷ t) (through_front (suc n) es k le)
 through_front (suc n) (Stopped h why ∷ es) k le = ap (λ t. Stopped h why ∷ t) (through_front (suc n) es k le)
 through_front (suc n) (Left h code ∷ es) k le = ap (λ t. Left h code ∷ t) (through_front (suc n) es k le)
 through_front (suc n) (Did line ∷ es) k le = ap (λ t. Did line ∷ t) (through_front n es k (omega arith))
@@ -86,6 +89,7 @@ through_front (suc n) (Did line ∷ es) k le = ap (λ t. Did line ∷ t) (throug
 until_front : (n : ℕ) (j k : List Entry) → n < length (did j) → until (j ++ k) n ≡ until j n
 until_front n [] k low = absurd (omega arith)
 until_front n (Ran h count ∷ es) k low = ap (λ t. Ran h count ∷ t) (until_front n es k low)
+until_front n (Counted h ∷ es) k low = ap (λ t. Counted h ∷ t) (until_front n es k low)
 until_front n (Stopped h why ∷ es) k low = ap (λ t. Stopped h why ∷ t) (until_front n es k low)
 until_front n (Left h code ∷ es) k low = ap (λ t. Left h code ∷ t) (until_front n es k low)
 until_front zero (Did line ∷ es) k low = refl
@@ -95,6 +99,7 @@ until_line : (n : ℕ) (j : List Entry) (line : List ℕ) → n ≤ length (did 
 until_line zero [] line le = refl
 until_line (suc n) [] line le = absurd (omega arith)
 until_line n (Ran h count ∷ es) line le = ap (λ t. Ran h count ∷ t) (until_line n es line le)
+until_line n (Counted h ∷ es) line le = ap (λ t. Counted h ∷ t) (until_line n es line le)
 until_line n (Stopped h why ∷ es) line le = ap (λ t. Stopped h why ∷ t) (until_line n es line le)
 until_line n (Left h code ∷ es) line le = ap (λ t. Left h code ∷ t) (until_line n es line le)
 until_line zero (Did text ∷ es) line le = refl
@@ -103,6 +108,7 @@ until_line (suc n) (Did text ∷ es) line le = ap (λ t. Did text ∷ t) (until_
 pub until_all : (j : List Entry) → until j (length (did j)) ≡ j
 until_all [] = refl
 until_all (Ran h count ∷ es) = ap (λ t. Ran h count ∷ t) (until_all es)
+until_all (Counted h ∷ es) = ap (λ t. Counted h ∷ t) (until_all es)
 until_all (Stopped h why ∷ es) = ap (λ t. Stopped h why ∷ t) (until_all es)
 until_all (Left h code ∷ es) = ap (λ t. Left h code ∷ t) (until_all es)
 until_all (Did line ∷ es) = ap (λ t. Did line ∷ t) (until_all es)
@@ -116,10 +122,12 @@ through_lengthened : (n : ℕ) (j : List Entry) (h : ℕ) → n ≤ length (did 
 through_lengthened zero j h le = refl
 through_lengthened (suc n) [] h le = absurd (omega arith)
 through_lengthened (suc n) (Ran k count ∷ []) h le = absurd (omega arith)
+through_lengthened (suc n) (Counted k ∷ []) h le = absurd (omega arith)
 through_lengthened (suc n) (Stopped k why ∷ []) h le = absurd (omega arith)
 through_lengthened (suc n) (Left k code ∷ []) h le = absurd (omega arith)
 through_lengthened (suc n) (Did line ∷ []) h le = through_last n line h le
 through_lengthened (suc n) (Ran k count ∷ f ∷ es) h le = ap (λ t. Ran k count ∷ t) (through_lengthened (suc n) (f ∷ es) h le)
+through_lengthened (suc n) (Counted k ∷ f ∷ es) h le = ap (λ t. Counted k ∷ t) (through_lengthened (suc n) (f ∷ es) h le)
 through_lengthened (suc n) (Stopped k why ∷ f ∷ es) h le = ap (λ t. Stopped k why ∷ t) (through_lengthened (suc n) (f ∷ es) h le)
 through_lengthened (suc n) (Left k code ∷ f ∷ es) h le = ap (λ t. Left k code ∷ t) (through_lengthened (suc n) (f ∷ es) h le)
 through_lengthened (suc n) (Did line ∷ f ∷ es) h le = let low : n ≤ length (did (f ∷ es)) = omega arith in ap (λ t. Did line ∷ t) (through_lengthened n (f ∷ es) h low)
@@ -127,11 +135,13 @@ through_lengthened (suc n) (Did line ∷ f ∷ es) h le = let low : n ≤ length
 until_lengthened : (n : ℕ) (j : List Entry) (h : ℕ) → n < length (did j) → until (lengthened j h) n ≡ until j n
 until_lengthened n [] h low = absurd (omega arith)
 until_lengthened n (Ran k count ∷ []) h low = absurd (omega arith)
+until_lengthened n (Counted k ∷ []) h low = absurd (omega arith)
 until_lengthened n (Stopped k why ∷ []) h low = absurd (omega arith)
 until_lengthened n (Left k code ∷ []) h low = absurd (omega arith)
 until_lengthened zero (Did line ∷ []) h low = refl
 until_lengthened (suc n) (Did line ∷ []) h low = absurd (omega arith)
 until_lengthened n (Ran k count ∷ f ∷ es) h low = ap (λ t. Ran k count ∷ t) (until_lengthened n (f ∷ es) h low)
+until_lengthened n (Counted k ∷ f ∷ es) h low = ap (λ t. Counted k ∷ t) (until_lengthened n (f ∷ es) h low)
 until_lengthened n (Stopped k why ∷ f ∷ es) h low = ap (λ t. Stopped k why ∷ t) (until_lengthened n (f ∷ es) h low)
 until_lengthened n (Left k code ∷ f ∷ es) h low = ap (λ t. Left k code ∷ t) (until_lengthened n (f ∷ es) h low)
 until_lengthened zero (Did line ∷ f ∷ es) h low = refl
@@ -142,6 +152,7 @@ through_first : (n : ℕ) (j : List Entry) → (rest : List Entry) × (through n
 through_first zero j = (j, refl)
 through_first (suc n) [] = ([], refl)
 through_first (suc n) (Ran h count ∷ es) = let d = through_first (suc n) es in (d.0, ap (λ t. Ran h count ∷ t) d.1)
+through_first (suc n) (Counted h ∷ es) = let d = through_first (suc n) es in (d.0, ap (λ t. Counted h ∷ t) d.1)
 through_first (suc n) (Stopped h why ∷ es) = let d = through_first (suc n) es in (d.0, ap (λ t. Stopped h why ∷ t) d.1)
 through_first (suc n) (Left h code ∷ es) = let d = through_first (suc n) es in (d.0, ap (λ t. Left h code ∷ t) d.1)
 through_first (suc n) (Did line ∷ es) = let d = through_first n es in (d.0, ap (λ t. Did line ∷ t) d.1)

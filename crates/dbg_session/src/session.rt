@@ -44,8 +44,9 @@ impl<W: World> Model for Session<W> {
 
     ghost use Rattle.data_memory.specs.Maps.{memory_code};
     ghost use Rattle.text_words.specs.Words.{words_code};
+    ghost use Rattle.break_table.specs.Codes.{term_code};
 
-    ghost coded = { Prim.hlevel (codes, memory_code, words_code, W.code) };
+    ghost coded = { Prim.hlevel (codes, memory_code, words_code, term_code, W.code) };
 
     ghost use Rattle.dbg_session.specs.SessionInside.{seen_of, taken_of};
 
