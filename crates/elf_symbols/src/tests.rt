@@ -167,3 +167,53 @@ fn long_names_are_found_like_short_ones(rt: HostRuntime) -> Result<(), Fail> {
     }
     Ok(())
 }
+
+/// Each is its name, type, flags, address, link and the size of its part of the file.
+const SECTIONS_BY_LD: [(&str, u32, u32, u32, u32, usize); 9] = [
+    ("", 0, 0, 0, 0, 0),
+    (".text", 1, 6, 0x10094, 0, 0x34),
+    (".rodata", 1, 2, 0x100c8, 0, 3),
+    (".data", 1, 3, 0x100d0, 0, 4),
+    (".bss", 8, 3, 0x100d4, 0, 0),
+    (".riscv.attributes", 0x7000_0003, 0, 0, 0, 0x2d),
+    (".symtab", 2, 0, 0, 7, 0x160),
+    (".strtab", 3, 0, 0, 0, 0x9d),
+    (".shstrtab", 3, 0, 0, 0, 0x46),
+];
+
+const SECTIONS_BY_LLD: [(&str, u32, u32, u32, u32, usize); 10] = [
+    ("", 0, 0, 0, 0, 0),
+    (".rodata", 1, 2, 0x100d4, 0, 3),
+    (".text", 1, 6, 0x110d8, 0, 0x34),
+    (".data", 1, 3, 0x1210c, 0, 4),
+    (".bss", 8, 3, 0x12110, 0, 0),
+    (".riscv.attributes", 0x7000_0003, 0, 0, 0, 0x2d),
+    (".comment", 1, 0x30, 0, 0, 0x1a),
+    (".symtab", 2, 0, 0, 9, 0x90),
+    (".shstrtab", 3, 0, 0, 0, 0x4f),
+    (".strtab", 3, 0, 0, 0, 0x69),
+];
+
+#[test]
+fn sections_of_both_linkers_are_those_of_readelf(rt: HostRuntime) -> Result<(), Fail> {
+    for (file, sections) in [(BY_LD, &SECTIONS_BY_LD[..]), (BY_LLD, &SECTIONS_BY_LLD[..])] {
+        let image = read_image(rt.alloc(), &hex::decode(rt.alloc(), file)?)?;
+        assert_eq!(rt; image.section_count(), sections.len());
+        for (k, (name, kind, flags, address, link, size)) in sections.iter().enumerate() {
+            assert!(rt; k < image.section_count());
+            let section = image.section_at(k);
+            assert_eq!(rt;
+                (section.kind, section.flags, section.address, section.link),
+                (*kind, *flags, *address, *link),
+                "of {name}"
+            );
+            assert_eq!(rt; section.bytes.len(), *size, "of {name}");
+            assert_eq!(rt;
+                image.section(name.as_bytes()).map(|bytes| bytes.len()),
+                Some(*size),
+                "of {name}"
+            );
+        }
+    }
+    Ok(())
+}
