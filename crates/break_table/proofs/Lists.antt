@@ -1,8 +1,7 @@
 -- Lists of which a function or a test sees each element.
-use Rattle.std.proofs.Common.{◌≡◌, ℕ, zero, suc, ◌+◌, ◌<◌, ap, refl, arith, add-one, cond, Bool, true, false, List, [], ◌∷◌, ◌++◌, length, map, get_or, set, All, subst, ◌≤◌, ◌≢◌, get_or-set_same, get_or-set_other, below_more, filter, take, slice_get, Some, Result, Ok, Err, IsOk, is_ok, if◌then◌else◌, ◌||◌}
+use Rattle.std.proofs.Common.{◌≡◌, ℕ, zero, suc, ◌+◌, ◌<◌, ap, refl, arith, add-one, cond, Bool, true, false, List, [], ◌∷◌, ◌++◌, length, map, get_or, set, subst, ◌≤◌, ◌≢◌, get_or-set_same, get_or-set_other, below_more, filter, take, slice_get, Some, Result, Ok, Err, IsOk, is_ok, if◌then◌else◌, ◌||◌}
 use Rattle.std.specs.List.{list_any}
 use Rattle.std.proofs.lemmas.List.{get_or-map, get_or_default, length-map}
-use Rattle.std.proofs.lemmas.List.Elements.{All-filter, All-nil, All-cons}
 
 pub map-take-more : {A B : Type 0} (f : A → B) (xs : List A) (k : ℕ) (x : A) → slice_get xs k ≡ Some x → map f (take (k + 1) xs) ≡ map f (take k xs) ++ f x ∷ []
 map-take-more f [] k x h = cc
@@ -26,14 +25,6 @@ map-by_index f g (x ∷ xs) (y ∷ ys) e h =
     let rest : map g xs ≡ map f (map g ys) = map-by_index f g xs ys same (λ k d within. h (suc k) d (omega arith)) in
     cc
 
--- a fact of each image, at the element of an index
-pub All-map : {A B : Type 0} (P : B → Type 0) (g : A → B) (xs : List A) → All P (map g xs) → (k : ℕ) (d : A) → k < length xs → P (g (get_or xs k d))
-All-map P g xs all k d within = let inside : k < length (map g xs) = simp length-map within in subst P (get_or-map g xs k d (g d) within) (all k (g d) inside)
-
--- a fact of each image stays where elements leave by what is seen of them
-pub All-map-filter : {A B : Type 0} (P : B → Type 0) (g : A → B) (p : B → Bool) (xs : List A) → All P (map g xs) → All P (map g (filter (λ x. p (g x)) xs))
-All-map-filter P g p xs all = rw (filter-map g p xs) (All-filter p P (map g xs) all)
-
 -- what is done of a list below an index, where the rest of it is as it was
 pub record DoneBelow {A B : Type 0} (f : B → B) (g : A → B) (old now : List A) (i : ℕ) : Type 0 where
   pub done : (k : ℕ) (d : A) → k < i → g (get_or now k d) ≡ f (g (get_or old k d))
@@ -56,7 +47,3 @@ if-ok (Err e) x a b h is = cc
 pub list_any-map : {A B : Type 0} (p : B → Bool) (g : A → B) (xs : List A) → list_any p (map g xs) ≡ list_any (λ x. p (g x)) xs
 list_any-map p g [] = refl
 list_any-map p g (x ∷ xs) = ap (λ b. p (g x) || b) (list_any-map p g xs)
-
-pub All-to_map : {A B : Type 0} (P : B → Type 0) (g : A → B) (xs : List A) → All (λ x. P (g x)) xs → All P (map g xs)
-All-to_map P g [] all = All-nil P
-All-to_map P g (x ∷ xs) all = All-cons P (g x) (map g xs) (all 0 x (omega arith)) (All-to_map P g xs (λ j e inside. all (suc j) e (omega arith)))

@@ -1,5 +1,5 @@
 -- What the breakpoints do at an arrival of a hart, whose registers (32 is pc) and mapped bytes are given.
-use Rattle.std.specs.Prelude.{ℕ, ◌+◌, ◌-◌, ◌^◌, ◌<◌, Bool, true, not, ◌==◌, ◌&&◌, nat_lt, nat_le, if◌then◌else◌, List, [], ◌∷◌, map, filter, Option, Some, None, option_and_then}
+use Rattle.std.specs.Prelude.{ℕ, ◌+◌, ◌-◌, ◌^◌, min, Bool, true, not, ◌==◌, ◌&&◌, nat_lt, nat_le, if◌then◌else◌, List, [], ◌∷◌, map, filter, Option, Some, None, option_and_then}
 use Rattle.std.specs.List.{list_any}
 use Rattle.std.specs.Option.{option_map}
 use Rattle.cond_expr.specs.Value.{value_of}
@@ -72,16 +72,16 @@ due_of hart registers bytes entries =
 abbrev pub stays : ℕ → (ℕ → ℕ) → (ℕ → Option ℕ) → Entry → Bool
 stays hart registers bytes e = not (e.temporary && stops hart registers bytes e)
 
+-- a count of 64 bits that rises, and stands still at its end
+abbrev pub raised : ℕ → ℕ
+raised n = min (n + 1) (2 ^ 64 - 1)
+
 -- the times rise where it stops or counts, and the ignore count falls where it counts
 abbrev pub settled_entry : ℕ → (ℕ → ℕ) → (ℕ → Option ℕ) → Entry → Entry
 settled_entry hart registers bytes e =
-    if counts hart (registers 32) e then record e { times = e.times + 1; ignore = e.ignore - 1 }
-    else (if stops hart registers bytes e then record e { times = e.times + 1 } else e)
+    if counts hart (registers 32) e then record e { times = raised e.times; ignore = e.ignore - 1 }
+    else (if stops hart registers bytes e then record e { times = raised e.times } else e)
 
 -- the entries after a due arrival
 abbrev pub settled : ℕ → (ℕ → ℕ) → (ℕ → Option ℕ) → List Entry → List Entry
 settled hart registers bytes entries = map (settled_entry hart registers bytes) (filter (stays hart registers bytes) entries)
-
--- one more arrival can be counted in a u64
-abbrev pub CanRise : Entry → Type 0
-CanRise e = e.times < 2 ^ 64 - 1

@@ -1,9 +1,9 @@
 //! The table of breakpoints.
 
-ghost use Rattle.std.specs.Prelude.{◌≡◌, ◌+◌, ◌-◌, ◌^◌, ◌<◌, ℕ, true, false, map, replicate, slice_get, IfOk, OnOk, OnErr, Some, None, All};
+ghost use Rattle.std.specs.Prelude.{◌≡◌, ◌+◌, ◌-◌, ◌^◌, ◌<◌, ℕ, true, false, map, replicate, slice_get, IfOk, OnOk, OnErr, Some, None};
 ghost use Rattle.std.specs.Option.{option_map};
 ghost use Rattle.break_table.specs.Entry.{asked_of, condition_of, entry_of};
-ghost use Rattle.break_table.specs.Arrival.{due_of, settled, CanRise};
+ghost use Rattle.break_table.specs.Arrival.{due_of, settled};
 ghost use Rattle.break_table.specs.Text.{is_instruction, is_place};
 ghost use Rattle.break_table.specs.Table.{changed, deleted, drawn, first_table, insert_fault, inserted, missing, stands, waits, with_condition, with_enabled, with_ignore, with_wait, Answers, IsRising};
 
@@ -180,7 +180,6 @@ impl BreakTable {
 
     /// Makes the changes of a due arrival of a hart: counts it, and deletes the temporary entries that stop.
     pub fn settle_arrival<V: View>(&mut self, hart: u32, view: &V)
-        requires { All CanRise self.old.entries }
         ensures { self.new ≡ record self.old { entries = settled hart (V.registers view.now) (V.bytes view.now) self.old.entries } }
     {
         if !is_marked(&self.marks, view.reg(32)) {

@@ -1,7 +1,6 @@
-ghost use Rattle.std.specs.Prelude.{◌<◌, ◌-◌, ◌^◌, ◌==◌, All, IsTrue, None, if◌then◌else◌};
-ghost use Rattle.break_table.specs.Arrival.{CanRise};
+ghost use Rattle.std.specs.Prelude.{◌==◌, None, if◌then◌else◌};
 
-use crate::{BreakEntry, BreakFault, BreakTable, CondError, Due, Location, Spec};
+use crate::{BreakFault, BreakTable, CondError, Due, Location, Spec};
 use cond_expr::{Expr, parse};
 use dbg_traits::View;
 use elf_symbols::{Symbols, symbols};
@@ -87,26 +86,6 @@ fn asked(
     }
 }
 
-/// Whether an arrival can still be counted at each entry.
-fn can_rise(entries: &[BreakEntry]) -> bool
-    ensures { IsTrue result → All (λ e. e.times < 2 ^ 64 - 1) entries.now }
-{
-    entries
-        .iter()
-        .all(|entry| entry.times < 0xFFFF_FFFF_FFFF_FFFF)
-}
-
-fn can_settle(table: &BreakTable) -> bool
-    ensures { IsTrue result → All CanRise table.now.entries }
-{
-    can_rise(table.entries())
-}
-
-fn settle(rt: &impl Abort, table: &mut BreakTable, hart: u32, pc: u32) {
-    assert!(rt; can_settle(table));
-    table.settle_arrival(hart, &At(pc));
-}
-
 fn insert(rt: &impl Abort, table: &mut BreakTable, spec: Spec) -> Result<u32, BreakFault> {
     assert!(rt; table.given() < 1000);
     table.insert(spec)
@@ -182,9 +161,9 @@ fn arrivals_are_decided_and_settled_by_the_entries(rt: HostRuntime) -> Result<()
             "at {pc}"
         );
         assert_eq!(rt; table.stands(pc), pc != 0x100AC && pc != 0x100B8, "at {pc}");
-        settle(&rt, &mut table, hart, pc);
+        table.settle_arrival(hart, &At(pc));
     }
-    settle(&rt, &mut table, 0, 0x10098);
+    table.settle_arrival(0, &At(0x10098));
     assert_eq!(rt; table.due(0, &At(0x10098)).stop, Some(2));
     assert_eq!(rt; table.entries().len(), SETTLED.len());
     for (entry, (number, times, ignore)) in table.entries().iter().zip(SETTLED) {

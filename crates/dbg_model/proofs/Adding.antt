@@ -5,7 +5,7 @@ use Rattle.std.specs.Option.{option_map}
 use Rattle.std.proofs.lemmas.Bool.Decides.{nat_tests}
 use mathlib.Core.Logic.{inl, inr}
 use Rattle.dbg_model.specs.declared.entry.Entry.{Entry}
-use Rattle.dbg_model.specs.declared.entry.Entry.TheVariants.{Ran, Stopped, Left, Did}
+use Rattle.dbg_model.specs.declared.entry.Entry.TheVariants.{Ran, Counted, Stopped, Left, Did}
 use Rattle.dbg_model.specs.declared.opening.Opening.{Opening}
 use Rattle.dbg_model.specs.State.{State, first_state}
 use Rattle.dbg_model.specs.Lawful.{enter, one, ran}
@@ -36,6 +36,7 @@ starts_at o s l =
 free : (prev : Option ℕ) (e : Entry) → ran_hart e ≡ None → follows prev e ≡ true
 free None e h = refl
 free (Some k) (Ran hart n) h = cc
+free (Some k) (Counted hart) h = refl
 free (Some k) (Stopped hart why) h = refl
 free (Some k) (Left hart code) h = refl
 free (Some k) (Did line) h = refl
@@ -134,6 +135,7 @@ lengthens_ran o front k n h false s t is by e = behind o front (Ran k n) h s t b
 -- one more instruction where the last entry is e
 lengthens_last : (o : Opening) (front : List Entry) (e : Entry) (h : ℕ) (s t : State) → CameBy o front e s → one o h s ≡ Some t → Leaves o (front ++ one_more e h) t
 lengthens_last o front (Ran k n) h s t by g = lengthens_ran o front k n h (k == h) s t refl by g
+lengthens_last o front (Counted k) h s t by g = behind o front (Counted k) h s t by refl g
 lengthens_last o front (Stopped k n) h s t by g = behind o front (Stopped k n) h s t by refl g
 lengthens_last o front (Left k code) h s t by g = behind o front (Left k code) h s t by refl g
 lengthens_last o front (Did line) h s t by g = behind o front (Did line) h s t by refl g
@@ -163,6 +165,7 @@ counted : (e : Entry) (h n : ℕ) → ran_count e h ≡ Some n → count_of e �
 counted (Ran k m) h n is =
     let g = guard_some (k == h) (Some m) n is in
     same_some m n g.1
+counted (Counted k) h n is = cc
 counted (Stopped k m) h n is = cc
 counted (Left k code) h n is = cc
 counted (Did line) h n is = cc

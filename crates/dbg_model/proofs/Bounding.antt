@@ -5,10 +5,10 @@ use Rattle.std.specs.Option.{option_map}
 use Rattle.std.proofs.lemmas.Bool.Decides.{nat_tests}
 use Rattle.plain_machine.specs.Plain.{plain}
 use Rattle.dbg_model.specs.declared.entry.Entry.{Entry}
-use Rattle.dbg_model.specs.declared.entry.Entry.TheVariants.{Ran, Stopped, Left, Did}
+use Rattle.dbg_model.specs.declared.entry.Entry.TheVariants.{Ran, Counted, Stopped, Left, Did}
 use Rattle.dbg_model.specs.declared.limits.TheConstants.{HISTORY}
 use Rattle.dbg_model.specs.declared.opening.Opening.{Opening}
-use Rattle.dbg_model.specs.State.{Hart, State, any_leaves, is_running, is_due}
+use Rattle.dbg_model.specs.State.{Hart, State, any_leaves, is_running, due, is_due}
 use Rattle.dbg_model.specs.Lawful.{enter, one, one_by, ran, may_run, may_move, may_go, stepped_by}
 use Rattle.dbg_model.specs.Journals.{Place, come, follows, ran_hart, replay_from, replay, first_place, Leaves}
 use Rattle.dbg_model.proofs.Options.{map_some, bind_some, guard_some, same_some, both_true}
@@ -24,7 +24,7 @@ go_below o s may =
 one_by_below : (o : Opening) (s t : State) (h : ℕ) (r : Option Hart) → one_by o s h r ≡ Some t → s.retired < o.settings.budget
 one_by_below o s t h None is = cc
 one_by_below o s t h (Some x) is =
-    go_below o s (both_true (may_go o s) (is_running x.mode) (both_true (may_move o s x) (not (is_due s.breaks h x)) (guard_some (may_run o s h x) (stepped_by (plain o.image x.regs s.memory) s h x) t is).0).0).0
+    go_below o s (both_true (may_go o s) (is_running x.mode) (both_true (may_move o s x) (not (is_due (due o.image s h x))) (guard_some (may_run o s h x) (stepped_by (plain o.image x.regs s.memory) s h x) t is).0).0).0
 
 one_below : (o : Opening) (h : ℕ) (s t : State) → one o h s ≡ Some t → s.retired < o.settings.budget
 unfolding one
@@ -44,6 +44,7 @@ same_within o s e t n a le = let r = a.retired in omega arith
 enter_within : (o : Opening) (s : State) (e : Entry) (t : State) → enter o s e ≡ Some t → s.retired ≤ o.settings.budget → t.retired ≤ o.settings.budget
 unfolding enter
 enter_within o s (Ran h n) t is le = ran_within o h s n t (guard_some (nat_lt 0 n) (ran o h s n) t is).1 le
+enter_within o s (Counted h) t is le = same_within o s (Counted h) t 1 (enter_adds o s (Counted h) t is) le
 enter_within o s (Stopped h why) t is le = same_within o s (Stopped h why) t 1 (enter_adds o s (Stopped h why) t is) le
 enter_within o s (Left h code) t is le = same_within o s (Left h code) t 1 (enter_adds o s (Left h code) t is) le
 enter_within o s (Did line) t is le = same_within o s (Did line) t 1 (enter_adds o s (Did line) t is) le

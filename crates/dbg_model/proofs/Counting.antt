@@ -11,12 +11,13 @@ use Rattle.rv_exec.specs.Causes.{cause_number}
 use Rattle.dbg_model.specs.declared.entry.Why.{Why}
 use Rattle.dbg_model.specs.declared.entry.Why.TheVariants.{Break, Fault}
 use Rattle.dbg_model.specs.declared.entry.Entry.{Entry}
-use Rattle.dbg_model.specs.declared.entry.Entry.TheVariants.{Ran, Stopped, Left, Did}
+use Rattle.dbg_model.specs.declared.entry.Entry.TheVariants.{Ran, Counted, Stopped, Left, Did}
 use Rattle.dbg_model.specs.declared.opening.Opening.{Opening}
-use Rattle.dbg_model.specs.Breaks.{settled}
-use Rattle.dbg_model.specs.State.{Hart, State, due}
-use Rattle.dbg_model.specs.Reply.{done_by, resumed_threads, going_on, selected_after, breaks_after, next_after, reply_of}
-use Rattle.dbg_model.specs.Lawful.{enter, one, one_by, ran, may_run, may_move, may_do, is_number, stepped_by, stepped, with_leavers, with_stop, faulted_by, stopped_by, left_by, leaver_from, exited_at}
+use Rattle.dbg_model.specs.Breaks.{is_stop}
+use Rattle.break_table.specs.declared.due.CondError.{CondError}
+use Rattle.dbg_model.specs.State.{Hart, State, due, is_counted, arrived}
+use Rattle.dbg_model.specs.Reply.{done_by}
+use Rattle.dbg_model.specs.Lawful.{enter, one, one_by, ran, may_run, may_move, may_do, stepped_by, stepped, with_leavers, with_stop, faulted_by, stopped_by, counted_by, with_count, left_by, leaver_from, exited_at}
 use Rattle.dbg_model.specs.Journals.{Place, come, follows, ran_hart, replay_from, replay, first_place, Leaves, lengthened, one_more_by, count_of, last_count, noted, noted_one}
 use Rattle.dbg_model.specs.Erase.{erase, erase_one, steps_of}
 use Rattle.dbg_model.proofs.Options.{map_some, bind_some, guard_some, same_some}
@@ -58,12 +59,18 @@ fault_adds (Goes r m out leave) cause s t h x is = cc
 
 stop_adds : (o : Opening) (s t : State) (h : ℕ) (why : Why) (r : Option Hart) → stopped_by o s h why r ≡ Some t → Adds s t 0 1
 stop_adds o s t h (Fault cause) None is = cc
-stop_adds o s t h (Break number) None is = cc
-stop_adds o s t h (Break number) (Some x) is =
-    let u : State = record (with_stop s h x) { breaks = settled s.breaks h x.regs.pc } in
-    is_more s t u 0 1 (same_some u t (guard_some (may_move o s x && is_number (due s.breaks h x) number) (Some u) t is).1) (record { retired = omega arith; noted = refl })
+stop_adds o s t h (Break number error) None is = cc
+stop_adds o s t h (Break number error) (Some x) is =
+    let u : State = record (with_stop s h x) { breaks = arrived o.image s h x } in
+    is_more s t u 0 1 (same_some u t (guard_some (may_move o s x && is_stop (due o.image s h x) number error) (Some u) t is).1) (record { retired = omega arith; noted = refl })
 stop_adds o s t h (Fault cause) (Some x) is =
     fault_adds (plain o.image x.regs s.memory) cause s t h x (guard_some (may_run o s h x) (faulted_by (plain o.image x.regs s.memory) cause s h x) t is).1
+
+count_adds : (o : Opening) (s t : State) (h : ℕ) (r : Option Hart) → counted_by o s h r ≡ Some t → Adds s t 0 1
+count_adds o s t h None is = cc
+count_adds o s t h (Some x) is =
+    let u = with_count o s h x in
+    is_more s t u 0 1 (same_some u t (guard_some (may_move o s x && is_counted (due o.image s h x)) (Some u) t is).1) (record { retired = omega arith; noted = refl })
 
 left_adds : (s t : State) (h code : ℕ) (r : Option (ℕ × ℕ)) → left_by s h code r ≡ Some t → Adds s t 0 1
 left_adds s t h code None is = cc
@@ -81,11 +88,11 @@ enter_adds o s (Ran h n) t is =
     let a = ran_adds o h s n t (guard_some (nat_lt 0 n) (ran o h s n) t is).1 in
     let l = length-replicated n (Step h) in
     record { retired = rw l a.retired; noted = a.noted }
+enter_adds o s (Counted h) t is = count_adds o s t h (slice_get s.harts h) is
 enter_adds o s (Stopped h why) t is = stop_adds o s t h why (slice_get s.harts h) is
 enter_adds o s (Left h code) t is = left_adds s t h code (leaver_from 0 s.harts) is
 enter_adds o s (Did line) t is =
-    let c = (reply_of o s line).content in
-    let u : State = record s { harts = resumed_threads s.harts (going_on c); breaks = breaks_after s.breaks c; next = next_after s.next c; selected = selected_after s.selected c; noted = s.noted + 1 } in
+    let u = done_by o s line in
     is_more s t u 0 1 (same_some u t (guard_some (may_do o s line) (Some u) t is).1) (record { retired = omega arith; noted = refl })
 
 pub length-both : {A : Type 0} (xs ys : List A) → length (xs ++ ys) ≡ length xs + length ys
@@ -105,11 +112,11 @@ replay_adds o p q (e ∷ es) is =
     record { retired = omega (arith, first.retired, rest.retired, l); noted = omega (arith, first.noted, rest.noted) }
 
 -- the numbers of the state that a journal leaves
-pub record Counted (j : List Entry) (s : State) : Type 0 where
+pub record HasCounts (j : List Entry) (s : State) : Type 0 where
   pub retired : s.retired ≡ length (erase j)
   pub noted : s.noted ≡ noted j
 
-pub counted : (o : Opening) (j : List Entry) (s : State) → Leaves o j s → Counted j s
+pub counted : (o : Opening) (j : List Entry) (s : State) → Leaves o j s → HasCounts j s
 unfolding replay
 counted o j s l =
     let a = replay_adds o (first_place o) (record { prev = l.prev; state = s }) j l.replays in
@@ -117,6 +124,7 @@ counted o j s l =
 
 count-le : (e : Entry) → count_of e ≤ length (erase_one e)
 count-le (Ran h n) = let l = length-replicated n (Step h) in omega arith
+count-le (Counted h) = omega arith
 count-le (Stopped h why) = omega arith
 count-le (Left h code) = omega arith
 count-le (Did line) = omega arith
@@ -147,6 +155,7 @@ erase-append (x ∷ xs) ys = ap (λ t. erase_one x ++ t) (erase-append xs ys) �
 
 quiet_erased : (e : Entry) → ran_hart e ≡ None → erase_one e ≡ []
 quiet_erased (Ran h n) q = cc
+quiet_erased (Counted h) q = refl
 quiet_erased (Stopped h why) q = refl
 quiet_erased (Left h code) q = refl
 quiet_erased (Did line) q = refl
@@ -183,6 +192,7 @@ step_more k e h q = rw q (omega arith)
 pub steps_lengthened : (k : ℕ) (j : List Entry) (h : ℕ) → steps_of k (erase (lengthened j h)) ≡ steps_of k (erase j) + here h k
 steps_lengthened k [] h = omega arith
 steps_lengthened k (Ran a n ∷ []) h = ran_longer (a == h) a n h k refl
+steps_lengthened k (Counted a ∷ []) h = step_more k (Counted a) h refl
 steps_lengthened k (Stopped a why ∷ []) h = step_more k (Stopped a why) h refl
 steps_lengthened k (Left a code ∷ []) h = step_more k (Left a code) h refl
 steps_lengthened k (Did line ∷ []) h = step_more k (Did line) h refl

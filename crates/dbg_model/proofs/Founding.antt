@@ -1,9 +1,14 @@
--- What the answers rest on that change something.
-use Rattle.std.proofs.Common.{◌≡◌, ◌<◌, ℕ, zero, suc, Bool, true, false, List, length, refl, ap, nat_lt, arith}
-use Rattle.std.specs.Prelude.{Option, Some, None, Result, Ok, Err, is_some}
+-- What the changes of lines rest on.
+use Rattle.std.proofs.Common.{◌≡◌, ◌<◌, ◌≤◌, ℕ, zero, suc, Bool, true, false, List, length, refl, ap, nat_lt, arith}
+use Rattle.std.specs.Prelude.{[], ◌∷◌, Option, Some, None, Result, Ok, Err, is_some}
 use Rattle.std.proofs.lemmas.Bool.Decides.{nat_tests}
 use Rattle.rv_exec.specs.Memory.{Memory}
 use Rattle.elf32_read.specs.Program.{Program, text_word}
+use Rattle.elf_symbols.specs.Names.{Names, Symbol, address_of}
+use Rattle.elf_symbols.specs.Entries.{names_of}
+use Rattle.cond_expr.specs.Term.{Term}
+use Rattle.cond_expr.specs.declared.fault.ExprFault.{ExprFault}
+use Rattle.break_table.specs.Entry.{Entry}
 use Rattle.mi_input.specs.Parts.{PartsView, is_cli, after_blanks}
 use Rattle.mi_input.specs.Reading.{parts_read}
 use Rattle.mi_commands.specs.Commands.{answer}
@@ -12,140 +17,262 @@ use Rattle.mi_commands.specs.declared.command.Command.TheVariants as command
 use Rattle.mi_commands.specs.declared.command.Insertion.{Insertion}
 use Rattle.mi_commands.specs.declared.command.Location.{Location}
 use Rattle.mi_commands.specs.declared.command.Location.TheVariants as location
-use Rattle.mi_commands.specs.declared.command.Target.{Target}
-use Rattle.mi_commands.specs.declared.command.Target.TheVariants as target
 use Rattle.mi_commands.specs.declared.refusal.Fault.{Fault}
 use Rattle.mi_commands.specs.declared.refusal.Fault.TheVariants as fault
-use Rattle.dbg_model.specs.declared.breakpoint.Breakpoint.{Breakpoint}
 use Rattle.dbg_model.specs.declared.entry.Mode.{Mode}
 use Rattle.dbg_model.specs.declared.entry.Mode.TheVariants as mode
 use Rattle.dbg_model.specs.declared.limits.TheConstants.{MOST_BREAKPOINTS}
 use Rattle.dbg_model.specs.declared.opening.Opening.{Opening}
 use Rattle.dbg_model.specs.declared.reply.Content.{Content}
 use Rattle.dbg_model.specs.declared.reply.Content.TheVariants as content
+use Rattle.cond_expr.specs.declared.evaluating.Value.{Value}
+use Rattle.cond_expr.specs.declared.evaluating.Value.TheVariants as worth
+use Rattle.cond_expr.specs.Value.{value_of}
+use Rattle.mi_commands.specs.declared.command.Target.{Target}
+use Rattle.mi_commands.specs.declared.command.Target.TheVariants as target
+use Rattle.dbg_model.specs.Breaks.{missing_number}
+use Rattle.dbg_model.specs.Conditions.{parsed}
+use Rattle.dbg_model.specs.Views.{register, shown_byte}
 use Rattle.dbg_model.specs.State.{Hart, State}
-use Rattle.dbg_model.specs.Reply.{thread_hart, when_stopped, of_stopped, when_live, of_live, selecting, running, continued, threads_of, one_shown, thread_or, registers_of, memory_of, shown_range, inserted_at, for_thread, unknown_thread, placed, content_of, fault_content, asked_content, no_parts, reply_by, reply_of}
+use Rattle.dbg_model.specs.Reply.{Change, stays, resumes, selects, inserts, deletes, enables, conditions, ignores, Outcome, implied, answered, thread_hart, when_stopped, of_stopped, when_live, of_live, selecting, running, continued, threads_of, one_shown, thread_or, registers_of, registers_at, memory_of, shown_range, worth_of, evaluated_as, evaluated, changing, for_thread, unless_missing, unknown_thread, placed, set_by, set_as, named_at, inserted_at, conditioned, conditioned_as, content_of, outcome_at, fault_outcome, asked_outcome, no_parts, answer_by, answer_of}
 
--- a breakpoint has a word of text and room; a thread that is selected is there
-abbrev pub IsFounded : Program → List Hart → List Breakpoint → Content → Type 0
-IsFounded p xs bs (content.Inserted b) = (is_some (text_word p b.address) ≡ true) × (length bs < 128)
-IsFounded p xs bs (content.Selected thread) = is_some (thread_hart xs thread) ≡ true
-IsFounded p xs bs c = Unit {0}
+-- a thread that is named is there
+abbrev pub IsThereOr : List Hart → Option ℕ → Type 0
+IsThereOr xs None = Unit {0}
+IsThereOr xs (Some thread) = is_some (thread_hart xs thread) ≡ true
 
-stopped_by : (p : Program) (xs : List Hart) (bs : List Breakpoint) (t : ℕ) (f : Hart → Content) (x : Hart) (m : Mode) → IsFounded p xs bs (f x) → IsFounded p xs bs (when_stopped t f x m)
-stopped_by p xs bs t f x mode.Stopped h = h
-stopped_by p xs bs t f x mode.Running h = tt
-stopped_by p xs bs t f x (mode.Leaving code) h = tt
-stopped_by p xs bs t f x mode.Exited h = tt
+-- a breakpoint has a word of text, room and its thread; a thread that is selected is there
+abbrev pub IsFounded : Program → List Hart → List Entry → Change → Type 0
+IsFounded p xs es (inserts a) = (is_some (text_word p a.address) ≡ true) × (length es < 128) × IsThereOr xs a.thread
+IsFounded p xs es (selects thread) = is_some (thread_hart xs thread) ≡ true
+IsFounded p xs es c = Unit {0}
 
-stopped_founded : (p : Program) (xs : List Hart) (bs : List Breakpoint) (t : ℕ) (f : Hart → Content) (r : Option Hart) → ((x : Hart) → IsFounded p xs bs (f x)) → IsFounded p xs bs (of_stopped t f r)
-stopped_founded p xs bs t f None h = tt
-stopped_founded p xs bs t f (Some x) h = stopped_by p xs bs t f x x.mode (h x)
+-- what a content implies rests on the same
+abbrev IsFoundedBy : Program → List Hart → List Entry → Content → Type 0
+IsFoundedBy p xs es c = IsFounded p xs es (implied c)
 
-live_by : (p : Program) (xs : List Hart) (bs : List Breakpoint) (t : ℕ) (f : Hart → Content) (x : Hart) (m : Mode) → IsFounded p xs bs (f x) → IsFounded p xs bs (when_live t f x m)
-live_by p xs bs t f x mode.Stopped h = h
-live_by p xs bs t f x mode.Running h = h
-live_by p xs bs t f x (mode.Leaving code) h = tt
-live_by p xs bs t f x mode.Exited h = tt
+live_by : (p : Program) (xs : List Hart) (es : List Entry) (t : ℕ) (f : Hart → Content) (x : Hart) (m : Mode) → IsFoundedBy p xs es (f x) → IsFoundedBy p xs es (when_live t f x m)
+live_by p xs es t f x mode.Stopped h = h
+live_by p xs es t f x mode.Running h = h
+live_by p xs es t f x (mode.Leaving code) h = tt
+live_by p xs es t f x mode.Exited h = tt
 
-live_founded : (p : Program) (xs : List Hart) (bs : List Breakpoint) (t : ℕ) (f : Hart → Content) (r : Option Hart) → ((x : Hart) → r ≡ Some x → IsFounded p xs bs (f x)) → IsFounded p xs bs (of_live t f r)
-live_founded p xs bs t f None h = tt
-live_founded p xs bs t f (Some x) h = live_by p xs bs t f x x.mode (h x refl)
+live_founded : (p : Program) (xs : List Hart) (es : List Entry) (t : ℕ) (f : Hart → Content) (r : Option Hart) → ((x : Hart) → r ≡ Some x → IsFoundedBy p xs es (f x)) → IsFoundedBy p xs es (of_live t f r)
+live_founded p xs es t f None h = tt
+live_founded p xs es t f (Some x) h = live_by p xs es t f x x.mode (h x refl)
 
-continued_founded : (p : Program) (xs : List Hart) (bs : List Breakpoint) (selected : ℕ) (t : Target) → IsFounded p xs bs (continued xs selected t)
-continued_founded p xs bs selected target.Selected = stopped_founded p xs bs selected (running selected) (thread_hart xs selected) (λ x. tt)
-continued_founded p xs bs selected (target.Thread thread) = stopped_founded p xs bs thread (running thread) (thread_hart xs thread) (λ x. tt)
-continued_founded p xs bs selected target.All = tt
+-- an answer that selects no thread
+abbrev Quiet : Content → Type 0
+Quiet (content.Selected t) = ⊥
+Quiet c = Unit {0}
 
-threads_founded : (p : Program) (xs : List Hart) (bs : List Breakpoint) (selected : ℕ) (t : Option ℕ) → IsFounded p xs bs (threads_of xs selected t)
-threads_founded p xs bs selected None = tt
-threads_founded p xs bs selected (Some thread) = live_founded p xs bs thread (one_shown selected thread) (thread_hart xs thread) (λ x e. tt)
+quiet_founded : (p : Program) (xs : List Hart) (es : List Entry) (c : Content) → Quiet c → IsFoundedBy p xs es c
+quiet_founded p xs es content.Blank q = tt
+quiet_founded p xs es content.Done q = tt
+quiet_founded p xs es (content.Inserted b) q = tt
+quiet_founded p xs es (content.Breakpoints bs) q = tt
+quiet_founded p xs es (content.Running ts) q = tt
+quiet_founded p xs es (content.Selected t) q = absurd q
+quiet_founded p xs es (content.Threads ts t) q = tt
+quiet_founded p xs es (content.ThreadNumbers ns t) q = tt
+quiet_founded p xs es content.RegisterNames q = tt
+quiet_founded p xs es (content.Registers f rs) q = tt
+quiet_founded p xs es (content.Memory a bs) q = tt
+quiet_founded p xs es (content.Value n u) q = tt
+quiet_founded p xs es (content.Refused r) q = tt
 
-memory_founded : (p : Program) (xs : List Hart) (bs : List Breakpoint) (addr : ℕ) (r : Result (List ℕ) ℕ) → IsFounded p xs bs (memory_of addr r)
-memory_founded p xs bs addr (Ok bytes) = tt
-memory_founded p xs bs addr (Err at) = tt
+stopped_by : (t : ℕ) (f : Hart → Content) (x : Hart) (m : Mode) → Quiet (f x) → Quiet (when_stopped t f x m)
+stopped_by t f x mode.Stopped h = h
+stopped_by t f x mode.Running h = tt
+stopped_by t f x (mode.Leaving code) h = tt
+stopped_by t f x mode.Exited h = tt
+
+stopped_quiet : (t : ℕ) (f : Hart → Content) (r : Option Hart) → ((x : Hart) → Quiet (f x)) → Quiet (of_stopped t f r)
+stopped_quiet t f None h = tt
+stopped_quiet t f (Some x) h = stopped_by t f x x.mode (h x)
+
+quiet_by : (t : ℕ) (f : Hart → Content) (x : Hart) (m : Mode) → Quiet (f x) → Quiet (when_live t f x m)
+quiet_by t f x mode.Stopped h = h
+quiet_by t f x mode.Running h = h
+quiet_by t f x (mode.Leaving code) h = tt
+quiet_by t f x mode.Exited h = tt
+
+live_quiet : (t : ℕ) (f : Hart → Content) (r : Option Hart) → ((x : Hart) → Quiet (f x)) → Quiet (of_live t f r)
+live_quiet t f None h = tt
+live_quiet t f (Some x) h = quiet_by t f x x.mode (h x)
+
+continued_quiet : (xs : List Hart) (selected : ℕ) (t : Target) → Quiet (continued xs selected t)
+continued_quiet xs selected target.Selected = stopped_quiet selected (running selected) (thread_hart xs selected) (λ x. tt)
+continued_quiet xs selected (target.Thread thread) = stopped_quiet thread (running thread) (thread_hart xs thread) (λ x. tt)
+continued_quiet xs selected target.All = tt
+
+threads_quiet : (xs : List Hart) (selected : ℕ) (t : Option ℕ) → Quiet (threads_of xs selected t)
+threads_quiet xs selected None = tt
+threads_quiet xs selected (Some thread) = live_quiet thread (one_shown selected thread) (thread_hart xs thread) (λ x. tt)
+
+memory_quiet : (addr : ℕ) (r : Result (List ℕ) ℕ) → Quiet (memory_of addr r)
+memory_quiet addr (Ok bytes) = tt
+memory_quiet addr (Err at) = tt
+
+worth_quiet : (v : Value) → Quiet (worth_of v)
+worth_quiet (worth.Word n u) = tt
+worth_quiet worth.DivZero = tt
+worth_quiet (worth.Unread addr) = tt
+
+evaluated_quiet : (p : Program) (m : Memory) (r : Result Term ExprFault) (x : Hart) → Quiet (evaluated_as p m r x)
+evaluated_quiet p m (Ok e) x = worth_quiet (value_of (register x.regs) (shown_byte p m) e)
+evaluated_quiet p m (Err f) x = tt
+
+pub content_founded : (p : Program) (names : Names) (xs : List Hart) (m : Memory) (es : List Entry) (selected : ℕ) (c : Command) → IsFoundedBy p xs es (content_of p names xs m es selected c)
+unfolding content_of
+content_founded p names xs m es selected command.Blank = tt
+content_founded p names xs m es selected (command.BreakInsert i) = tt
+content_founded p names xs m es selected (command.BreakDelete ns) = tt
+content_founded p names xs m es selected (command.BreakEnable ns) = tt
+content_founded p names xs m es selected (command.BreakDisable ns) = tt
+content_founded p names xs m es selected (command.BreakCondition n c) = tt
+content_founded p names xs m es selected (command.BreakAfter n c) = tt
+content_founded p names xs m es selected command.BreakList = tt
+content_founded p names xs m es selected (command.Continue t) = quiet_founded p xs es (continued xs selected t) (continued_quiet xs selected t)
+content_founded p names xs m es selected (command.Interrupt t) = tt
+content_founded p names xs m es selected (command.Step t) = tt
+content_founded p names xs m es selected (command.Next t) = tt
+content_founded p names xs m es selected (command.StepInstruction t) = tt
+content_founded p names xs m es selected (command.NextInstruction t) = tt
+content_founded p names xs m es selected (command.Finish t) = tt
+content_founded p names xs m es selected command.Wait = tt
+content_founded p names xs m es selected (command.ThreadInfo t) = quiet_founded p xs es (threads_of xs selected t) (threads_quiet xs selected t)
+content_founded p names xs m es selected (command.ThreadSelect thread) = live_founded p xs es thread (selecting thread) (thread_hart xs thread) (λ x e. ap is_some e)
+content_founded p names xs m es selected command.ThreadList = tt
+content_founded p names xs m es selected (command.FrameList t) = tt
+content_founded p names xs m es selected (command.FrameDepth t) = tt
+content_founded p names xs m es selected (command.FrameInfo t) = tt
+content_founded p names xs m es selected command.RegisterNames = tt
+content_founded p names xs m es selected (command.RegisterValues t f ns) = let c = registers_at xs (thread_or selected t) f ns in quiet_founded p xs es c (stopped_quiet (thread_or selected t) (registers_of f ns) (thread_hart xs (thread_or selected t)) (λ x. tt))
+content_founded p names xs m es selected (command.ReadMemory addr count) = quiet_founded p xs es (memory_of addr (shown_range p m addr count)) (memory_quiet addr (shown_range p m addr count))
+content_founded p names xs m es selected (command.Evaluate t e) =
+    let c = of_stopped (thread_or selected t) (evaluated p names m e) (thread_hart xs (thread_or selected t)) in
+    quiet_founded p xs es c (stopped_quiet (thread_or selected t) (evaluated p names m e) (thread_hart xs (thread_or selected t)) (λ x. evaluated_quiet p m (parsed names e) x))
+content_founded p names xs m es selected command.SetNonStop = tt
+content_founded p names xs m es selected command.SetMiAsync = tt
+content_founded p names xs m es selected (command.SetDisplaced d) = tt
+content_founded p names xs m es selected (command.Show s) = tt
+content_founded p names xs m es selected command.Exit = tt
 
 room : (n : ℕ) → nat_lt n 128 ≡ true → n < 128
 room n h = grind (arith, nat_tests)
 
-placed_founded : (p : Program) (xs : List Hart) (bs : List Breakpoint) (next addr : ℕ) (i : Insertion) (a b : Bool) → is_some (text_word p addr) ≡ a → nat_lt (length bs) MOST_BREAKPOINTS ≡ b → IsFounded p xs bs (placed p bs next addr i)
-placed_founded p xs bs next addr i true true e f = rw (e, f) (e, room (length bs) f)
-placed_founded p xs bs next addr i true false e f = rw (e, f) tt
-placed_founded p xs bs next addr i false b e f = rw e tt
+set_founded : (p : Program) (names : Names) (xs : List Hart) (es : List Entry) (given addr : ℕ) (i : Insertion) (text : List ℕ) (r : Result Term ExprFault) → is_some (text_word p addr) ≡ true → length es < 128 → IsThereOr xs i.thread
+    → IsFounded p xs es (set_as names given addr i text r).change
+set_founded p names xs es given addr i text (Ok x) at low there = (at, low, there)
+set_founded p names xs es given addr i text (Err f) at low there = tt
 
-thread_founded : (p : Program) (xs : List Hart) (bs : List Breakpoint) (t : Option ℕ) (c : Content) → IsFounded p xs bs c → IsFounded p xs bs (for_thread t c)
-thread_founded p xs bs None c h = h
-thread_founded p xs bs (Some thread) c h = tt
+set_by_founded : (p : Program) (names : Names) (xs : List Hart) (es : List Entry) (given addr : ℕ) (i : Insertion) (c : Option (List ℕ)) → is_some (text_word p addr) ≡ true → length es < 128 → IsThereOr xs i.thread
+    → IsFounded p xs es (set_by names given addr i c).change
+set_by_founded p names xs es given addr i None at low there = (at, low, there)
+set_by_founded p names xs es given addr i (Some text) at low there = set_founded p names xs es given addr i text (parsed names text) at low there
 
-inserted_founded : (p : Program) (xs : List Hart) (bs : List Breakpoint) (next : ℕ) (i : Insertion) (l : Location) (c : Option (List ℕ)) (n : ℕ) → IsFounded p xs bs (inserted_at p xs bs next i l c n)
-inserted_founded p xs bs next i (location.Address addr) None zero =
-    thread_founded p xs bs (unknown_thread xs i.thread) (placed p bs next addr i) (placed_founded p xs bs next addr i (is_some (text_word p addr)) (nat_lt (length bs) MOST_BREAKPOINTS) refl refl)
-inserted_founded p xs bs next i (location.Address addr) None (suc n) = tt
-inserted_founded p xs bs next i (location.Address addr) (Some c) n = tt
-inserted_founded p xs bs next i (location.Line file line) c n = tt
-inserted_founded p xs bs next i (location.Name name) c n = tt
+placed_founded : (p : Program) (names : Names) (xs : List Hart) (es : List Entry) (given : ℕ) (i : Insertion) (addr : ℕ) (a b : Bool) → is_some (text_word p addr) ≡ a → nat_lt (length es) MOST_BREAKPOINTS ≡ b → IsThereOr xs i.thread
+    → IsFounded p xs es (placed p names es given i addr).change
+placed_founded p names xs es given i addr true true e f there = rw (e, f) (set_by_founded p names xs es given addr i i.condition e (room (length es) f) there)
+placed_founded p names xs es given i addr true false e f there = rw (e, f) tt
+placed_founded p names xs es given i addr false b e f there = rw e tt
 
-pub content_founded : (p : Program) (xs : List Hart) (m : Memory) (bs : List Breakpoint) (next selected : ℕ) (c : Command) → IsFounded p xs bs (content_of p xs m bs next selected c)
-unfolding content_of
-content_founded p xs m bs next selected command.Blank = tt
-content_founded p xs m bs next selected (command.BreakInsert i) = inserted_founded p xs bs next i i.location i.condition i.ignore
-content_founded p xs m bs next selected (command.BreakDelete ns) = tt
-content_founded p xs m bs next selected (command.BreakEnable ns) = tt
-content_founded p xs m bs next selected (command.BreakDisable ns) = tt
-content_founded p xs m bs next selected (command.BreakCondition n c) = tt
-content_founded p xs m bs next selected (command.BreakAfter n c) = tt
-content_founded p xs m bs next selected command.BreakList = tt
-content_founded p xs m bs next selected (command.Continue t) = continued_founded p xs bs selected t
-content_founded p xs m bs next selected (command.Interrupt t) = tt
-content_founded p xs m bs next selected (command.Step t) = tt
-content_founded p xs m bs next selected (command.Next t) = tt
-content_founded p xs m bs next selected (command.StepInstruction t) = tt
-content_founded p xs m bs next selected (command.NextInstruction t) = tt
-content_founded p xs m bs next selected (command.Finish t) = tt
-content_founded p xs m bs next selected command.Wait = tt
-content_founded p xs m bs next selected (command.ThreadInfo t) = threads_founded p xs bs selected t
-content_founded p xs m bs next selected (command.ThreadSelect thread) = live_founded p xs bs thread (selecting thread) (thread_hart xs thread) (λ x e. ap is_some e)
-content_founded p xs m bs next selected command.ThreadList = tt
-content_founded p xs m bs next selected (command.FrameList t) = tt
-content_founded p xs m bs next selected (command.FrameDepth t) = tt
-content_founded p xs m bs next selected (command.FrameInfo t) = tt
-content_founded p xs m bs next selected command.RegisterNames = tt
-content_founded p xs m bs next selected (command.RegisterValues t f ns) = stopped_founded p xs bs (thread_or selected t) (registers_of f ns) (thread_hart xs (thread_or selected t)) (λ x. tt)
-content_founded p xs m bs next selected (command.ReadMemory addr count) = memory_founded p xs bs addr (shown_range p m addr count)
-content_founded p xs m bs next selected (command.Evaluate t e) = tt
-content_founded p xs m bs next selected command.SetNonStop = tt
-content_founded p xs m bs next selected command.SetMiAsync = tt
-content_founded p xs m bs next selected (command.SetDisplaced d) = tt
-content_founded p xs m bs next selected (command.Show s) = tt
-content_founded p xs m bs next selected command.Exit = tt
+named_founded : (p : Program) (names : Names) (xs : List Hart) (es : List Entry) (given : ℕ) (i : Insertion) (name : List ℕ) (r : Option Symbol) → IsThereOr xs i.thread → IsFounded p xs es (named_at p names es given i name r).change
+named_founded p names xs es given i name None there = tt
+named_founded p names xs es given i name (Some s) there = placed_founded p names xs es given i s.address (is_some (text_word p s.address)) (nat_lt (length es) MOST_BREAKPOINTS) refl refl there
 
-fault_founded : (p : Program) (xs : List Hart) (bs : List Breakpoint) (f : Fault) → IsFounded p xs bs (fault_content xs f)
-fault_founded p xs bs (fault.Undefined name) = tt
-fault_founded p xs bs (fault.Parameters name) = tt
-fault_founded p xs bs (fault.Number word) = tt
-fault_founded p xs bs fault.Setting = tt
-fault_founded p xs bs (fault.Location word thread) = thread_founded p xs bs (unknown_thread xs thread) _ tt
+inserted_founded : (p : Program) (names : Names) (xs : List Hart) (es : List Entry) (given : ℕ) (i : Insertion) (l : Location) → IsThereOr xs i.thread → IsFounded p xs es (inserted_at p names es given i l).change
+inserted_founded p names xs es given i (location.Address addr) there = placed_founded p names xs es given i addr (is_some (text_word p addr)) (nat_lt (length es) MOST_BREAKPOINTS) refl refl there
+inserted_founded p names xs es given i (location.Name name) there = named_founded p names xs es given i name (address_of names name) there
+inserted_founded p names xs es given i (location.Line file line) there = tt
 
-asked_founded : (o : Opening) (s : State) (r : Result Command Fault) → IsFounded o.image s.harts s.breaks (asked_content o s r)
-asked_founded o s (Ok c) = content_founded o.image s.harts s.memory s.breaks s.next s.selected c
+-- a thread that is none makes the refusal
+unknown_by : (xs : List Hart) (t : ℕ) (b : Bool) → is_some (thread_hart xs t) ≡ b → unknown_thread xs (Some t) ≡ None → is_some (thread_hart xs t) ≡ true
+unknown_by xs t true is h = is
+unknown_by xs t false is h = let e : unknown_thread xs (Some t) ≡ Some t = rw is refl in absurd (cc)
+
+pub known_thread : (xs : List Hart) (t : Option ℕ) → unknown_thread xs t ≡ None → IsThereOr xs t
+known_thread xs None h = tt
+known_thread xs (Some t) h = unknown_by xs t (is_some (thread_hart xs t)) refl h
+
+for_founded : (p : Program) (xs : List Hart) (es : List Entry) (t : Option ℕ) (u : Option ℕ) (r : Outcome) → unknown_thread xs t ≡ u → (IsThereOr xs t → IsFounded p xs es r.change) → IsFounded p xs es (for_thread u r).change
+for_founded p xs es t None r is h = h (known_thread xs t is)
+for_founded p xs es t (Some thread) r is h = tt
+
+unless_founded : (p : Program) (xs : List Hart) (es : List Entry) (m : Option ℕ) (r : Outcome) → IsFounded p xs es r.change → IsFounded p xs es (unless_missing m r).change
+unless_founded p xs es None r h = h
+unless_founded p xs es (Some n) r h = tt
+
+conditioned_founded : (p : Program) (names : Names) (xs : List Hart) (es : List Entry) (n : ℕ) (text : List ℕ) (r : Result Term ExprFault) → IsFounded p xs es (conditioned_as n text r).change
+conditioned_founded p names xs es n text (Ok x) = tt
+conditioned_founded p names xs es n text (Err f) = tt
+
+condition_founded : (p : Program) (names : Names) (xs : List Hart) (es : List Entry) (n : ℕ) (c : Option (List ℕ)) → IsFounded p xs es (conditioned names n c).change
+condition_founded p names xs es n None = tt
+condition_founded p names xs es n (Some text) = conditioned_founded p names xs es n text (parsed names text)
+
+pub outcome_founded : (p : Program) (names : Names) (xs : List Hart) (m : Memory) (es : List Entry) (given selected : ℕ) (c : Command) → IsFounded p xs es (outcome_at p names xs m es given selected c).change
+unfolding outcome_at
+outcome_founded p names xs m es given selected (command.BreakInsert i) = for_founded p xs es i.thread (unknown_thread xs i.thread) (inserted_at p names es given i i.location) refl (λ there. inserted_founded p names xs es given i i.location there)
+outcome_founded p names xs m es given selected (command.BreakDelete ns) = unless_founded p xs es (missing_number es ns) (changing (deletes ns)) tt
+outcome_founded p names xs m es given selected (command.BreakEnable ns) = unless_founded p xs es (missing_number es ns) (changing (enables true ns)) tt
+outcome_founded p names xs m es given selected (command.BreakDisable ns) = unless_founded p xs es (missing_number es ns) (changing (enables false ns)) tt
+outcome_founded p names xs m es given selected (command.BreakCondition n c) = unless_founded p xs es (missing_number es (n ∷ [])) (conditioned names n c) (condition_founded p names xs es n c)
+outcome_founded p names xs m es given selected (command.BreakAfter n k) = unless_founded p xs es (missing_number es (n ∷ [])) (changing (ignores n k)) tt
+outcome_founded p names xs m es given selected command.Blank = content_founded p names xs m es selected command.Blank
+outcome_founded p names xs m es given selected command.BreakList = content_founded p names xs m es selected command.BreakList
+outcome_founded p names xs m es given selected (command.Continue t) = content_founded p names xs m es selected (command.Continue t)
+outcome_founded p names xs m es given selected (command.Interrupt t) = content_founded p names xs m es selected (command.Interrupt t)
+outcome_founded p names xs m es given selected (command.Step t) = content_founded p names xs m es selected (command.Step t)
+outcome_founded p names xs m es given selected (command.Next t) = content_founded p names xs m es selected (command.Next t)
+outcome_founded p names xs m es given selected (command.StepInstruction t) = content_founded p names xs m es selected (command.StepInstruction t)
+outcome_founded p names xs m es given selected (command.NextInstruction t) = content_founded p names xs m es selected (command.NextInstruction t)
+outcome_founded p names xs m es given selected (command.Finish t) = content_founded p names xs m es selected (command.Finish t)
+outcome_founded p names xs m es given selected command.Wait = content_founded p names xs m es selected command.Wait
+outcome_founded p names xs m es given selected (command.ThreadInfo t) = content_founded p names xs m es selected (command.ThreadInfo t)
+outcome_founded p names xs m es given selected (command.ThreadSelect t) = content_founded p names xs m es selected (command.ThreadSelect t)
+outcome_founded p names xs m es given selected command.ThreadList = content_founded p names xs m es selected command.ThreadList
+outcome_founded p names xs m es given selected (command.FrameList t) = content_founded p names xs m es selected (command.FrameList t)
+outcome_founded p names xs m es given selected (command.FrameDepth t) = content_founded p names xs m es selected (command.FrameDepth t)
+outcome_founded p names xs m es given selected (command.FrameInfo t) = content_founded p names xs m es selected (command.FrameInfo t)
+outcome_founded p names xs m es given selected command.RegisterNames = content_founded p names xs m es selected command.RegisterNames
+outcome_founded p names xs m es given selected (command.RegisterValues t f ns) = content_founded p names xs m es selected (command.RegisterValues t f ns)
+outcome_founded p names xs m es given selected (command.ReadMemory addr count) = content_founded p names xs m es selected (command.ReadMemory addr count)
+outcome_founded p names xs m es given selected (command.Evaluate t e) = content_founded p names xs m es selected (command.Evaluate t e)
+outcome_founded p names xs m es given selected command.SetNonStop = content_founded p names xs m es selected command.SetNonStop
+outcome_founded p names xs m es given selected command.SetMiAsync = content_founded p names xs m es selected command.SetMiAsync
+outcome_founded p names xs m es given selected (command.SetDisplaced d) = content_founded p names xs m es selected (command.SetDisplaced d)
+outcome_founded p names xs m es given selected (command.Show s) = content_founded p names xs m es selected (command.Show s)
+outcome_founded p names xs m es given selected command.Exit = content_founded p names xs m es selected command.Exit
+
+fault_founded : (p : Program) (xs : List Hart) (es : List Entry) (f : Fault) → IsFounded p xs es (fault_outcome xs f).change
+fault_founded p xs es (fault.Undefined name) = tt
+fault_founded p xs es (fault.Parameters name) = tt
+fault_founded p xs es (fault.Number word) = tt
+fault_founded p xs es fault.Setting = tt
+fault_founded p xs es (fault.Location word thread) = for_founded p xs es thread (unknown_thread xs thread) _ refl (λ there. tt)
+
+asked_founded : (o : Opening) (s : State) (r : Result Command Fault) → IsFounded o.image s.harts s.breaks (asked_outcome o s r).change
+asked_founded o s (Ok c) = outcome_founded o.image (names_of o.image) s.harts s.memory s.breaks s.given s.selected c
 asked_founded o s (Err f) = fault_founded o.image s.harts s.breaks f
 
-abbrev Answered : Opening → State → Content → Type 0
+abbrev Answered : Opening → State → Change → Type 0
 Answered o s c = IsFounded o.image s.harts s.breaks c
 
-none_founded : (o : Opening) (s : State) (start : List ℕ) (b : Bool) → is_cli start ≡ b → Answered o s (no_parts start).content
+none_founded : (o : Opening) (s : State) (start : List ℕ) (b : Bool) → is_cli start ≡ b → Answered o s (no_parts start).outcome.change
 none_founded o s start true is = rw is tt
 none_founded o s start false is = rw is tt
 
-parts_founded : (o : Opening) (s : State) (line : List ℕ) (r : Option PartsView) → Answered o s (reply_by o s line r).content
+parts_founded : (o : Opening) (s : State) (line : List ℕ) (r : Option PartsView) → Answered o s (answer_by o s line r).outcome.change
 parts_founded o s line None = none_founded o s (after_blanks line) (is_cli (after_blanks line)) refl
 parts_founded o s line (Some p) = asked_founded o s (answer p)
 
-long_founded : (o : Opening) (s : State) (line : List ℕ) (b : Bool) → nat_lt 4096 (length line) ≡ b → Answered o s (reply_of o s line).content
-unfolding reply_of
+long_founded : (o : Opening) (s : State) (line : List ℕ) (b : Bool) → nat_lt 4096 (length line) ≡ b → Answered o s (answer_of o s line).outcome.change
+unfolding answer_of
 long_founded o s line true is = rw is tt
 long_founded o s line false is = rw is (parts_founded o s line (parts_read line))
 
--- the answer to a line
-pub reply_founded : (o : Opening) (s : State) (line : List ℕ) → IsFounded o.image s.harts s.breaks (reply_of o s line).content
-reply_founded o s line = long_founded o s line (nat_lt 4096 (length line)) refl
+-- the change of a line
+pub change_founded : (o : Opening) (s : State) (line : List ℕ) → IsFounded o.image s.harts s.breaks (answer_of o s line).outcome.change
+change_founded o s line = long_founded o s line (nat_lt 4096 (length line)) refl

@@ -7,3 +7,4 @@ pub mod Bounding
 pub mod Numbering
 pub mod Replying
 pub mod Founding
+pub mod Parsing

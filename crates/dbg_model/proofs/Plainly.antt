@@ -16,12 +16,12 @@ use Rattle.dbg_model.specs.declared.entry.Mode.TheVariants as mode
 use Rattle.dbg_model.specs.declared.entry.Why.{Why}
 use Rattle.dbg_model.specs.declared.entry.Why.TheVariants.{Break, Fault}
 use Rattle.dbg_model.specs.declared.entry.Entry.{Entry}
-use Rattle.dbg_model.specs.declared.entry.Entry.TheVariants.{Ran, Stopped, Left, Did}
+use Rattle.dbg_model.specs.declared.entry.Entry.TheVariants.{Ran, Counted, Stopped, Left, Did}
 use Rattle.dbg_model.specs.declared.opening.Opening.{Opening}
-use Rattle.dbg_model.specs.Breaks.{settled}
-use Rattle.dbg_model.specs.State.{Hart, State, first_state, first_harts, is_running, due, is_due}
-use Rattle.dbg_model.specs.Reply.{done_by, reply_of, resumed, resumed_by, resumed_at, resumed_thread, resumed_threads, going_on, selected_after, breaks_after, next_after}
-use Rattle.dbg_model.specs.Lawful.{enter, one, one_by, ran, may_run, may_move, may_go, may_do, is_number, stepped_by, stepped, leaving, leaving_at, with_leavers, with_stop, stopped, faulted_by, stopped_by, left_by, leaver_from, leaver_or, exited, exited_at}
+use Rattle.dbg_model.specs.Breaks.{is_stop}
+use Rattle.dbg_model.specs.State.{Hart, State, first_state, first_harts, is_running, due, is_due, is_counted, arrived}
+use Rattle.dbg_model.specs.Reply.{done_by, answer_of, changed_by, resumed, resumed_by, resumed_at, resumed_thread, resumed_threads, going_on}
+use Rattle.dbg_model.specs.Lawful.{enter, one, one_by, ran, may_run, may_move, may_go, may_do, stepped_by, stepped, leaving, leaving_at, with_leavers, with_stop, stopped, faulted_by, stopped_by, counted, counted_by, with_count, left_by, leaver_from, leaver_or, exited, exited_at}
 use Rattle.dbg_model.specs.Journals.{Place, come, follows, ran_hart, replay_from, replay, first_place, Leaves}
 use Rattle.dbg_model.specs.Erase.{erase, erase_one}
 use Rattle.dbg_model.proofs.Options.{map_some, bind_some, guard_some, bind_bind, bind_return, same_some, both_true}
@@ -95,7 +95,7 @@ runs_moves : (o : Opening) (s : State) (x : Hart) → may_move o s x ≡ true �
 runs_moves o s x may = runs_on x.mode (both_true (may_go o s) (is_running x.mode) may).1
 
 runs_runs : (o : Opening) (s : State) (h : ℕ) (x : Hart) → may_run o s h x ≡ true → is_gone x.mode ≡ false
-runs_runs o s h x may = runs_moves o s x (both_true (may_move o s x) (not (is_due s.breaks h x)) may).0
+runs_runs o s h x may = runs_moves o s x (both_true (may_move o s x) (not (is_due (due o.image s h x))) may).0
 
 -- the harts after an instruction, as the program has them
 stepped_plain : (xs : List Hart) (h : ℕ) (x : Hart) (r : Registers) (leave : Leave) → is_gone x.mode ≡ false
@@ -157,17 +157,24 @@ fault_plain (Traps met) cause s t h x at runs is =
 fault_plain (Goes r m out leave) cause s t h x at runs is = cc
 
 stop_plain : (o : Opening) (s t : State) (h : ℕ) (why : Why) (r : Option Hart) → slice_get s.harts h ≡ r → stopped_by o s h why r ≡ Some t → plain_of s ≡ plain_of t
-stop_plain o s t h (Break number) None at is = cc
-stop_plain o s t h (Break number) (Some x) at is =
-    let u : State = record (with_stop s h x) { breaks = settled s.breaks h x.regs.pc } in
-    let g = guard_some (may_move o s x && is_number (due s.breaks h x) number) (Some u) t is in
-    let runs = runs_moves o s x (both_true (may_move o s x) (is_number (due s.breaks h x) number) g.0).0 in
+stop_plain o s t h (Break number error) None at is = cc
+stop_plain o s t h (Break number error) (Some x) at is =
+    let u : State = record (with_stop s h x) { breaks = arrived o.image s h x } in
+    let g = guard_some (may_move o s x && is_stop (due o.image s h x) number error) (Some u) t is in
+    let runs = runs_moves o s x (both_true (may_move o s x) (is_stop (due o.image s h x) number error) g.0).0 in
     let same : plain_hart (stopped x) ≡ plain_hart x = ap (λ b. let y : PlainHart = record { regs = x.regs; has_exited = b } in y) (sym runs) in
     ap (λ ys. let p : PlainState = record { harts = ys; memory = s.memory; out = s.out } in p) (sym (same_plain s.harts h x (stopped x) at same)) ∙ ap plain_of (same_some u t g.1)
 stop_plain o s t h (Fault cause) None at is = cc
 stop_plain o s t h (Fault cause) (Some x) at is =
     let g = guard_some (may_run o s h x) (faulted_by (plain o.image x.regs s.memory) cause s h x) t is in
     fault_plain (plain o.image x.regs s.memory) cause s t h x at (runs_runs o s h x g.0) g.1
+
+count_plain : (o : Opening) (s t : State) (h : ℕ) (r : Option Hart) → slice_get s.harts h ≡ r → counted_by o s h r ≡ Some t → plain_of s ≡ plain_of t
+count_plain o s t h None at is = cc
+count_plain o s t h (Some x) at is =
+    let u = with_count o s h x in
+    let g = guard_some (may_move o s x && is_counted (due o.image s h x)) (Some u) t is in
+    ap (λ ys. let p : PlainState = record { harts = ys; memory = s.memory; out = s.out } in p) (sym (same_plain s.harts h x (counted x) at refl)) ∙ ap plain_of (same_some u t g.1)
 
 -- the hart that leaves
 record Leaver (xs : List Hart) (k : ℕ) (p : ℕ × ℕ) : Type 0 where
@@ -225,14 +232,15 @@ resumed_threads_plain xs (t ∷ ts) = resumed_threads_plain (resumed_thread xs t
 done_plain : (o : Opening) (s : State) (line : List ℕ) (t : State) → done_by o s line ≡ t → plain_of s ≡ plain_of t
 unfolding done_by
 done_plain o s line t is =
-    let c = (reply_of o s line).content in
-    let u : State = record s { harts = resumed_threads s.harts (going_on c); breaks = breaks_after s.breaks c; next = next_after s.next c; selected = selected_after s.selected c; noted = s.noted + 1 } in
+    let c = (answer_of o s line).outcome.change in
+    let u = changed_by s c in
     let same : plain_of s ≡ plain_of u = ap (λ ys. let p : PlainState = record { harts = ys; memory = s.memory; out = s.out } in p) (sym (resumed_threads_plain s.harts (going_on c))) in
     same ∙ ap plain_of is
 
 pub enter_plain : (o : Opening) (s : State) (e : Entry) (t : State) → enter o s e ≡ Some t → run_from o.image (plain_of s) (erase_one e) ≡ Some (plain_of t)
 unfolding enter
 enter_plain o s (Ran h n) t is = ran_plain o h s n t (guard_some (nat_lt 0 n) (ran o h s n) t is).1
+enter_plain o s (Counted h) t is = ap Some (count_plain o s t h (slice_get s.harts h) refl is)
 enter_plain o s (Stopped h why) t is = ap Some (stop_plain o s t h why (slice_get s.harts h) refl is)
 enter_plain o s (Left h code) t is = ap Some (left_plain s t h code (leaver_from 0 s.harts) refl is)
 enter_plain o s (Did line) t is = ap Some (done_plain o s line t (same_some (done_by o s line) t (guard_some (may_do o s line) (Some (done_by o s line)) t is).1))

@@ -13,7 +13,7 @@ use Rattle.dbg_model.specs.declared.opening.Opening.{Opening}
 use Rattle.dbg_model.specs.declared.reply.Content.TheVariants as content
 use Rattle.dbg_model.specs.declared.reply.Refused.TheVariants as refused
 use Rattle.dbg_model.specs.State.{State}
-use Rattle.dbg_model.specs.Reply.{reply_of, asked_content, is_wait, waits}
+use Rattle.dbg_model.specs.Reply.{answer_of, asked_outcome, refusing, is_wait, waits}
 
 short : (line : List ℕ) → length line ≤ 4096 → nat_lt 4096 (length line) ≡ false
 short line le = grind (arith, nat_tests)
@@ -25,23 +25,23 @@ none_read : (line : List ℕ) (r : Option PartsView) → parts_read line ≡ r �
 none_read line None is no_parts = is
 none_read line (Some p) is no_parts = absurd (no_parts p (parts_sound line p is))
 
-pub reply_long : (o : Opening) (s : State) (line : List ℕ) → 4096 < length line → reply_of o s line ≡ record { token = []; content = content.Refused refused.Long }
-unfolding reply_of
+pub reply_long : (o : Opening) (s : State) (line : List ℕ) → 4096 < length line → answer_of o s line ≡ record { token = []; outcome = refusing (content.Refused refused.Long) }
+unfolding answer_of
 reply_long o s line lt = rw (long line lt) refl
 
-pub reply_malformed : (o : Opening) (s : State) (line : List ℕ) → length line ≤ 4096 → HasNoParts line → is_cli (after_blanks line) ≡ false → reply_of o s line ≡ record { token = []; content = content.Refused refused.Syntax }
-unfolding reply_of
+pub reply_malformed : (o : Opening) (s : State) (line : List ℕ) → length line ≤ 4096 → HasNoParts line → is_cli (after_blanks line) ≡ false → answer_of o s line ≡ record { token = []; outcome = refusing (content.Refused refused.Syntax) }
+unfolding answer_of
 reply_malformed o s line le no_parts cli = rw (short line le, none_read line (parts_read line) refl no_parts, cli) refl
 
 cli_none : (line : List ℕ) → is_cli (after_blanks line) ≡ true → HasNoParts line
 cli_none line cli = λ p h. no_cli line p cli h
 
-pub reply_cli : (o : Opening) (s : State) (line token : List ℕ) → length line ≤ 4096 → is_cli (after_blanks line) ≡ true → token ≡ token_of (after_blanks line) → reply_of o s line ≡ record { token = token; content = content.Refused refused.Cli }
-unfolding reply_of
+pub reply_cli : (o : Opening) (s : State) (line token : List ℕ) → length line ≤ 4096 → is_cli (after_blanks line) ≡ true → token ≡ token_of (after_blanks line) → answer_of o s line ≡ record { token = token; outcome = refusing (content.Refused refused.Cli) }
+unfolding answer_of
 reply_cli o s line token le cli is = rw (short line le, none_read line (parts_read line) refl (cli_none line cli), cli, is) refl
 
-pub reply_answers : (o : Opening) (s : State) (line token : List ℕ) (a : Result Command Fault) → length line ≤ 4096 → HasAnswer line token a → reply_of o s line ≡ record { token = token; content = asked_content o s a }
-unfolding reply_of
+pub reply_answers : (o : Opening) (s : State) (line token : List ℕ) (a : Result Command Fault) → length line ≤ 4096 → HasAnswer line token a → answer_of o s line ≡ record { token = token; outcome = asked_outcome o s a }
+unfolding answer_of
 reply_answers o s line token a le h = rw (short line le, parts_complete line h.parts h.are_parts, h.token_is, h.answer_is) refl
 
 pub wait_answers : (line token : List ℕ) (a : Result Command Fault) → length line ≤ 4096 → HasAnswer line token a → is_wait line ≡ waits a

@@ -1,54 +1,49 @@
--- Breakpoints that the user set: where they stand, which of them stop a hart, and what an arrival changes
--- (GDB manual, "Setting Breakpoints", "Thread-Specific Breakpoints", "Break Conditions").
-use Rattle.std.specs.Prelude.{ℕ, ◌+◌, ◌-◌, ◌^◌, min, Bool, true, false, List, [], ◌∷◌, Option, Some, None, if◌then◌else◌, ◌==◌, ◌&&◌, ◌||◌}
-use Rattle.dbg_model.specs.declared.breakpoint.Breakpoint.{Breakpoint}
-
--- an enabled breakpoint at the address
-abbrev pub stands_at : Breakpoint → ℕ → Bool
-stands_at b a = b.enabled && (b.address == a)
-
--- an enabled breakpoint of the list is at the address
-abbrev pub stands : List Breakpoint → ℕ → Bool
-stands [] a = false
-stands (b ∷ bs) a = stands_at b a || stands bs a
-
--- threads are counted from 1, harts from 0
-abbrev pub is_for : Option ℕ → ℕ → Bool
-is_for None h = true
-is_for (Some thread) h = thread == h + 1
-
--- the breakpoint is for a hart at this pc
-abbrev pub fits : Breakpoint → ℕ → ℕ → Bool
-fits b h pc = stands_at b pc && is_for b.thread h
-
--- it stops the hart: no more arrivals are passed over
-abbrev pub stops : Breakpoint → ℕ → ℕ → Bool
-stops b h pc = fits b h pc && (b.ignore == 0)
-
--- the number of the first breakpoint that stops a hart at this pc, which is the least, since numbers rise along the list
-abbrev pub stop_at : List Breakpoint → ℕ → ℕ → Option ℕ
-stop_at [] h pc = None
-stop_at (b ∷ bs) h pc = if stops b h pc then Some b.number else stop_at bs h pc
+-- Breakpoints that the user set: which of them is temporary, and which numbers are theirs
+-- (GDB manual, "Setting Breakpoints", "Deleting Breakpoints", "Disabling Breakpoints").
+use Rattle.std.specs.Prelude.{ℕ, Bool, true, false, List, [], ◌∷◌, map, filter, Option, Some, None, if◌then◌else◌, ◌==◌, ◌&&◌}
+use Rattle.break_table.specs.Entry.{Entry}
+use Rattle.break_table.specs.Table.{has_number, changed_entry, is_other, with_enabled}
+use Rattle.break_table.specs.declared.due.CondError.{CondError}
+use Rattle.break_table.specs.declared.due.CondError.TheVariants.{DivZero, Unread}
+use Rattle.break_table.specs.declared.due.Due.{Due}
 
 -- whether the breakpoint of that number is temporary
-abbrev pub is_temporary : List Breakpoint → ℕ → Bool
+abbrev pub is_temporary : List Entry → ℕ → Bool
 is_temporary [] number = false
-is_temporary (b ∷ bs) number = if b.number == number then b.temporary else is_temporary bs number
+is_temporary (e ∷ es) number = if e.number == number then e.temporary else is_temporary es number
 
--- a count that rises, up to the greatest number of its type
-abbrev pub raised : ℕ → ℕ
-raised n = min (n + 1) (2 ^ 64 - 1)
+-- the first of the numbers that no breakpoint has
+abbrev pub missing_number : List Entry → List ℕ → Option ℕ
+missing_number es [] = None
+missing_number es (n ∷ ns) = if has_number n es then missing_number es ns else Some n
 
--- a breakpoint after an arrival of the hart at this pc
-abbrev pub arrived : ℕ → ℕ → Breakpoint → Breakpoint
-arrived h pc b = if fits b h pc then record b { ignore = b.ignore - 1; times = raised b.times } else b
+-- the breakpoints without those of these numbers
+abbrev pub without : List ℕ → List Entry → List Entry
+without [] es = es
+without (n ∷ ns) es = without ns (filter (is_other n) es)
 
--- the breakpoints after a stop of the hart at this pc: a temporary one that stops it is deleted
-abbrev pub settled : List Breakpoint → ℕ → ℕ → List Breakpoint
-settled [] h pc = []
-settled (b ∷ bs) h pc = if b.temporary && stops b h pc then settled bs h pc else arrived h pc b ∷ settled bs h pc
+-- the breakpoints, of which those of these numbers are enabled, or disabled
+abbrev pub enabling : Bool → List ℕ → List Entry → List Entry
+enabling enabled [] es = es
+enabling enabled (n ∷ ns) es = enabling enabled ns (map (changed_entry (with_enabled enabled) n) es)
 
--- a breakpoint for all threads, with nothing to pass over
-abbrev pub plain_breakpoint : ℕ → ℕ → List ℕ → Breakpoint
-plain_breakpoint number address location =
-    record { number = number; address = address; location = location; temporary = false; enabled = true; ignore = 0; thread = None; times = 0 }
+-- no breakpoint stops a hart, and none counts
+abbrev pub nothing_due : Due
+nothing_due = record { stop = None; error = None; counts = false }
+
+abbrev pub same_error : Option CondError → Option CondError → Bool
+same_error None None = true
+same_error None (Some e) = false
+same_error (Some e) None = false
+same_error (Some DivZero) (Some DivZero) = true
+same_error (Some DivZero) (Some (Unread b)) = false
+same_error (Some (Unread a)) (Some DivZero) = false
+same_error (Some (Unread a)) (Some (Unread b)) = a == b
+
+abbrev pub is_number : Option ℕ → ℕ → Bool
+is_number None n = false
+is_number (Some m) n = m == n
+
+-- the breakpoint of this number stops the hart, with this error of its condition
+abbrev pub is_stop : Due → ℕ → Option CondError → Bool
+is_stop d number error = is_number d.stop number && same_error d.error error

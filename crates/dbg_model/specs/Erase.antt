@@ -2,10 +2,11 @@
 use Rattle.std.specs.Prelude.{ℕ, ◌+◌, List, [], ◌∷◌, ◌++◌, replicate, if◌then◌else◌, ◌==◌}
 use Rattle.plain_machine.specs.PlainRun.{Item, Step}
 use Rattle.dbg_model.specs.declared.entry.Entry.{Entry}
-use Rattle.dbg_model.specs.declared.entry.Entry.TheVariants.{Ran, Stopped, Left, Did}
+use Rattle.dbg_model.specs.declared.entry.Entry.TheVariants.{Ran, Counted, Stopped, Left, Did}
 
 abbrev pub erase_one : Entry → List Item
 erase_one (Ran h n) = replicate n (Step h)
+erase_one (Counted h) = []
 erase_one (Stopped h why) = []
 erase_one (Left h code) = []
 erase_one (Did line) = []

@@ -2,7 +2,7 @@
 use Rattle.std.specs.Prelude.{◌≡◌, ℕ, ◌+◌, Bool, true, List, [], ◌∷◌, ◌++◌, Option, Some, None, option_and_then, if◌then◌else◌, ◌==◌, not}
 use Rattle.std.specs.Option.{option_map}
 use Rattle.dbg_model.specs.declared.entry.Entry.{Entry}
-use Rattle.dbg_model.specs.declared.entry.Entry.TheVariants.{Ran, Stopped, Left, Did}
+use Rattle.dbg_model.specs.declared.entry.Entry.TheVariants.{Ran, Counted, Stopped, Left, Did}
 use Rattle.dbg_model.specs.declared.opening.Opening.{Opening}
 use Rattle.dbg_model.specs.State.{State, first_state}
 use Rattle.dbg_model.specs.Lawful.{enter}
@@ -14,6 +14,7 @@ pub record Place : Type 0 where
 
 abbrev pub ran_hart : Entry → Option ℕ
 ran_hart (Ran h n) = Some h
+ran_hart (Counted h) = None
 ran_hart (Stopped h why) = None
 ran_hart (Left h code) = None
 ran_hart (Did line) = None
@@ -22,6 +23,7 @@ ran_hart (Did line) = None
 abbrev pub follows : Option ℕ → Entry → Bool
 follows None e = true
 follows (Some h) (Ran k n) = not (h == k)
+follows (Some h) (Counted k) = true
 follows (Some h) (Stopped k why) = true
 follows (Some h) (Left k code) = true
 follows (Some h) (Did line) = true
@@ -48,6 +50,7 @@ pub record Leaves (o : Opening) (j : List Entry) (s : State) : Type 0 where
 -- how many instructions of the hart an entry has
 abbrev pub ran_count : Entry → ℕ → Option ℕ
 ran_count (Ran k n) h = if k == h then Some n else None
+ran_count (Counted k) h = None
 ran_count (Stopped k why) h = None
 ran_count (Left k code) h = None
 ran_count (Did line) h = None
@@ -68,6 +71,7 @@ lengthened (e ∷ f ∷ es) h = e ∷ lengthened (f ∷ es) h
 -- how many instructions the last entry has
 abbrev pub count_of : Entry → ℕ
 count_of (Ran k n) = n
+count_of (Counted k) = 0
 count_of (Stopped k why) = 0
 count_of (Left k code) = 0
 count_of (Did line) = 0
@@ -80,6 +84,7 @@ last_count (e ∷ f ∷ es) = last_count (f ∷ es)
 -- the lines of the `Did` entries
 abbrev pub did_one : Entry → List (List ℕ)
 did_one (Ran h n) = []
+did_one (Counted h) = []
 did_one (Stopped h why) = []
 did_one (Left h code) = []
 did_one (Did line) = line ∷ []
@@ -91,6 +96,7 @@ did (e ∷ es) = did_one e ++ did es
 -- how many entries other than `Ran` there are
 abbrev pub noted_one : Entry → ℕ
 noted_one (Ran h n) = 0
+noted_one (Counted h) = 1
 noted_one (Stopped h why) = 1
 noted_one (Left h code) = 1
 noted_one (Did line) = 1

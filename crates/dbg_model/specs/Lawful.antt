@@ -10,11 +10,11 @@ use Rattle.dbg_model.specs.declared.entry.Mode.TheVariants as mode
 use Rattle.dbg_model.specs.declared.entry.Why.{Why}
 use Rattle.dbg_model.specs.declared.entry.Why.TheVariants.{Break, Fault}
 use Rattle.dbg_model.specs.declared.entry.Entry.{Entry}
-use Rattle.dbg_model.specs.declared.entry.Entry.TheVariants.{Ran, Stopped, Left, Did}
+use Rattle.dbg_model.specs.declared.entry.Entry.TheVariants.{Ran, Counted, Stopped, Left, Did}
 use Rattle.dbg_model.specs.declared.limits.TheConstants.{HISTORY}
 use Rattle.dbg_model.specs.declared.opening.Opening.{Opening}
-use Rattle.dbg_model.specs.Breaks.{settled}
-use Rattle.dbg_model.specs.State.{Hart, State, is_running, has_exited, any_runs, any_leaves, due, is_due}
+use Rattle.dbg_model.specs.Breaks.{is_stop}
+use Rattle.dbg_model.specs.State.{Hart, State, is_running, has_exited, any_runs, any_leaves, due, is_due, is_counted, arrived}
 use Rattle.dbg_model.specs.Reply.{done_by, is_wait}
 
 -- no exit is still to be reported, and neither the budget nor the history is used up
@@ -29,9 +29,9 @@ may_do o s line = may_go o s && not (any_runs s.harts && is_wait line)
 abbrev pub may_move : Opening → State → Hart → Bool
 may_move o s x = may_go o s && is_running x.mode
 
--- a hart may execute: no breakpoint stops it first
+-- a hart may execute: no breakpoint stops or counts it first
 abbrev pub may_run : Opening → State → ℕ → Hart → Bool
-may_run o s h x = may_move o s x && not (is_due s.breaks h x)
+may_run o s h x = may_move o s x && not (is_due (due o.image s h x))
 
 abbrev pub stepped : Hart → Registers → Hart
 stepped x r = record { regs = r; mode = x.mode; fresh = true }
@@ -79,15 +79,24 @@ abbrev pub faulted_by : Answer → Cause → State → ℕ → Hart → Option S
 faulted_by (Traps met) cause s h x = if cause_number met == cause_number cause then Some (with_stop s h x) else None
 faulted_by (Goes r m out leave) cause s h x = None
 
-abbrev pub is_number : Option ℕ → ℕ → Bool
-is_number None n = false
-is_number (Some m) n = m == n
-
 -- a hart stops: at a breakpoint that it has just come to, or by a trap
 abbrev pub stopped_by : Opening → State → ℕ → Why → Option Hart → Option State
 stopped_by o s h why None = None
-stopped_by o s h (Break number) (Some x) = if may_move o s x && is_number (due s.breaks h x) number then Some (record (with_stop s h x) { breaks = settled s.breaks h x.regs.pc }) else None
+stopped_by o s h (Break number error) (Some x) =
+    if may_move o s x && is_stop (due o.image s h x) number error then Some (record (with_stop s h x) { breaks = arrived o.image s h x }) else None
 stopped_by o s h (Fault cause) (Some x) = if may_run o s h x then faulted_by (plain o.image x.regs s.memory) cause s h x else None
+
+-- a hart that was counted has arrived, and isn't fresh any more
+abbrev pub counted : Hart → Hart
+counted x = record { regs = x.regs; mode = x.mode; fresh = false }
+
+abbrev pub with_count : Opening → State → ℕ → Hart → State
+with_count o s h x = record s { harts = slice_set s.harts h (counted x); breaks = arrived o.image s h x; noted = s.noted + 1 }
+
+-- a hart is only counted by the breakpoints that it has just come to
+abbrev pub counted_by : Opening → State → ℕ → Option Hart → Option State
+counted_by o s h None = None
+counted_by o s h (Some x) = if may_move o s x && is_counted (due o.image s h x) then Some (with_count o s h x) else None
 
 abbrev pub leaver_or : ℕ → Mode → Option (ℕ × ℕ) → Option (ℕ × ℕ)
 leaver_or k mode.Stopped rest = rest
@@ -115,6 +124,7 @@ left_by s h code (Some leaver) =
 -- the state after an entry, where it may come
 unfoldable pub enter : Opening → State → Entry → Option State
 enter o s (Ran h n) = if nat_lt 0 n then ran o h s n else None
+enter o s (Counted h) = counted_by o s h (slice_get s.harts h)
 enter o s (Stopped h why) = stopped_by o s h why (slice_get s.harts h)
 enter o s (Left h code) = left_by s h code (leaver_from 0 s.harts)
 enter o s (Did line) = if may_do o s line then Some (done_by o s line) else None

@@ -1,4 +1,6 @@
 pub mod Breaks
+pub mod Conditions
+pub mod Views
 pub mod State
 pub mod Reply
 pub mod Lawful

@@ -1,9 +1,19 @@
--- What a line of input is answered, and what it changes (GDB manual, "GDB/MI Program Execution", "GDB/MI Thread Commands", "GDB/MI Data Manipulation").
+-- What a line of input is answered, and what it changes (GDB manual, "GDB/MI Program Execution", "GDB/MI Thread Commands", "GDB/MI Data Manipulation",
+-- "GDB/MI Breakpoint Commands").
 use Rattle.std.specs.Prelude.{ℕ, zero, suc, ◌+◌, ◌%◌, ◌^◌, Bool, true, false, not, List, [], ◌∷◌, ◌++◌, length, map, Option, Some, None, Result, Ok, Err, if◌then◌else◌, is_some, nat_lt, slice_get, slice_set}
-use Rattle.rv_exec.specs.Registers.{Registers, get}
+use Rattle.rv_exec.specs.Registers.{Registers}
 use Rattle.rv_exec.specs.Memory.{Memory}
-use Rattle.elf32_read.specs.Program.{Program, in_text, mapped, text_word}
-use Rattle.data_memory.specs.Ranges.{value_at}
+use Rattle.std.specs.Option.{option_map}
+use Rattle.elf32_read.specs.Program.{Program, text_word}
+use Rattle.elf_symbols.specs.Names.{Names, Symbol, address_of, function_at}
+use Rattle.elf_symbols.specs.Entries.{names_of}
+use Rattle.cond_expr.specs.declared.fault.ExprFault.{ExprFault}
+use Rattle.cond_expr.specs.declared.evaluating.Value.{Value}
+use Rattle.cond_expr.specs.declared.evaluating.Value.TheVariants as worth
+use Rattle.cond_expr.specs.Term.{Term}
+use Rattle.cond_expr.specs.Value.{value_of}
+use Rattle.break_table.specs.Entry.{Condition, Entry, Asked, new_entry}
+use Rattle.break_table.specs.Table.{changed_entry, with_condition, with_ignore}
 use Rattle.mi_input.specs.Parts.{PartsView, is_cli, after_blanks, token_of}
 use Rattle.mi_input.specs.Reading.{parts_read}
 use Rattle.mi_commands.specs.Commands.{answer}
@@ -20,7 +30,7 @@ use Rattle.mi_commands.specs.declared.refusal.Fault.TheVariants as fault
 use Rattle.dbg_model.specs.declared.breakpoint.Breakpoint.{Breakpoint}
 use Rattle.dbg_model.specs.declared.limits.TheConstants.{MOST_BREAKPOINTS}
 use Rattle.dbg_model.specs.declared.reply.Obstacle.{Obstacle}
-use Rattle.dbg_model.specs.declared.reply.Obstacle.TheVariants.{UnknownThread, HasExited, IsRunning, NoInstruction, TooManyBreakpoints, Unreadable}
+use Rattle.dbg_model.specs.declared.reply.Obstacle.TheVariants.{UnknownThread, HasExited, IsRunning, NoBreakpoint, NoInstruction, TooManyBreakpoints, Expression, DivisionByZero, Unreadable}
 use Rattle.dbg_model.specs.declared.reply.Refused.TheVariants as refused
 use Rattle.dbg_model.specs.declared.reply.Register.{Register}
 use Rattle.dbg_model.specs.declared.reply.Thread.{Thread}
@@ -30,6 +40,9 @@ use Rattle.dbg_model.specs.declared.reply.Reply.{Reply}
 use Rattle.dbg_model.specs.declared.entry.Mode.{Mode}
 use Rattle.dbg_model.specs.declared.entry.Mode.TheVariants as mode
 use Rattle.dbg_model.specs.declared.opening.Opening.{Opening}
+use Rattle.dbg_model.specs.Breaks.{missing_number, without, enabling}
+use Rattle.dbg_model.specs.Conditions.{parsed}
+use Rattle.dbg_model.specs.Views.{register, shown_byte}
 use Rattle.dbg_model.specs.State.{Hart, State}
 
 -- ---- threads, which are counted from 1
@@ -97,10 +110,6 @@ stopped_threads thread (x ∷ xs) = stopped_by thread x.mode ++ stopped_threads 
 
 -- ---- registers and memory
 
--- a register by its number; 32 is pc
-abbrev pub register : Registers → ℕ → ℕ
-register r n = if nat_lt n 32 then get r n else r.pc
-
 abbrev pub valued : Registers → ℕ → Register
 valued r n = record { number = n; value = register r n }
 
@@ -116,10 +125,6 @@ asked_registers (n ∷ ns) = n ∷ ns
 
 abbrev pub registers_of : Format → List ℕ → Hart → Content
 registers_of format numbers x = content.Registers format (map (valued x.regs) (asked_registers numbers))
-
--- a byte as it is shown: text as the file has it, and data as it is now
-abbrev pub shown_byte : Program → Memory → ℕ → Option ℕ
-shown_byte p m addr = if in_text p addr then mapped p addr else value_at m addr
 
 abbrev pub and_byte : Result (List ℕ) ℕ → ℕ → Option ℕ → Result (List ℕ) ℕ
 and_byte (Err at) addr b = Err at
@@ -165,71 +170,194 @@ registers_at xs thread format numbers = of_stopped thread (registers_of format n
 abbrev pub not_built : Content
 not_built = content.Refused refused.NotBuilt
 
+-- ---- expressions
+
+abbrev pub worth_of : Value → Content
+worth_of (worth.Word n unsigned) = content.Value n unsigned
+worth_of worth.DivZero = hindered DivisionByZero
+worth_of (worth.Unread addr) = hindered (Unreadable addr)
+
+abbrev pub evaluated_as : Program → Memory → Result Term ExprFault → Hart → Content
+evaluated_as p m (Ok x) h = worth_of (value_of (register h.regs) (shown_byte p m) x)
+evaluated_as p m (Err f) h = hindered (Expression f)
+
+abbrev pub evaluated : Program → Names → Memory → List ℕ → Hart → Content
+evaluated p names m text h = evaluated_as p m (parsed names text) h
+
 -- ---- breakpoints
+
+abbrev pub name_of : Symbol → List ℕ
+name_of s = s.name
+
+abbrev pub condition_text : Condition → List ℕ
+condition_text c = c.text
+
+-- a breakpoint as it is listed
+abbrev pub listed : Names → Entry → Breakpoint
+listed names e = record {
+  number = e.number;
+  address = e.address;
+  function = option_map name_of (function_at names e.address);
+  location = e.location;
+  temporary = e.temporary;
+  enabled = e.enabled;
+  ignore = e.ignore;
+  condition = option_map condition_text e.condition;
+  thread = e.thread;
+  times = e.times;
+}
+
+-- ---- what is answered to a command that changes no breakpoint, over a program with its names, its harts, their memory, the breakpoints, and the selected thread
+unfoldable pub content_of : Program → Names → List Hart → Memory → List Entry → ℕ → Command → Content
+content_of p names xs m es selected command.Blank = content.Blank
+content_of p names xs m es selected command.Wait = content.Done
+content_of p names xs m es selected command.BreakList = content.Breakpoints (map (listed names) es)
+content_of p names xs m es selected (command.Continue t) = continued xs selected t
+content_of p names xs m es selected (command.ThreadInfo thread) = threads_of xs selected thread
+content_of p names xs m es selected (command.ThreadSelect thread) = of_live thread (selecting thread) (thread_hart xs thread)
+content_of p names xs m es selected command.ThreadList = content.ThreadNumbers (map thread_number (live_threads 1 xs)) selected
+content_of p names xs m es selected command.RegisterNames = content.RegisterNames
+content_of p names xs m es selected (command.RegisterValues thread format numbers) = registers_at xs (thread_or selected thread) format numbers
+content_of p names xs m es selected (command.ReadMemory addr count) = memory_of addr (shown_range p m addr count)
+content_of p names xs m es selected (command.Evaluate thread text) = of_stopped (thread_or selected thread) (evaluated p names m text) (thread_hart xs (thread_or selected thread))
+content_of p names xs m es selected c = not_built
+
+-- ---- changes
+
+-- what a line changes
+pub data Change : Type 0 where
+  stays : Change
+  -- these threads go on
+  resumes : List ℕ → Change
+  selects : ℕ → Change
+  -- a breakpoint is set
+  inserts : Asked → Change
+  -- the breakpoints of these numbers are deleted
+  deletes : List ℕ → Change
+  -- the breakpoints of these numbers are enabled, or disabled
+  enables : Bool → List ℕ → Change
+  -- the breakpoint of this number gets another condition, or none
+  conditions : ℕ → Option Condition → Change
+  -- so many arrivals at the breakpoint of this number are only counted
+  ignores : ℕ → ℕ → Change
+
+-- what is answered to a line, and what it changes
+pub record Outcome : Type 0 where
+  pub content : Content
+  pub change : Change
+
+-- what an answer changes by itself
+abbrev pub implied : Content → Change
+implied (content.Running threads) = resumes threads
+implied (content.Selected thread) = selects thread
+implied c = stays
+
+abbrev pub answered : Content → Outcome
+answered c = record { content = c; change = implied c }
+
+abbrev pub refusing : Content → Outcome
+refusing c = record { content = c; change = stays }
 
 -- whether a thread that is named is none
 abbrev pub unknown_thread : List Hart → Option ℕ → Option ℕ
 unknown_thread xs None = None
 unknown_thread xs (Some thread) = if is_some (thread_hart xs thread) then None else Some thread
 
+abbrev pub for_thread : Option ℕ → Outcome → Outcome
+for_thread None r = r
+for_thread (Some thread) r = refusing (hindered (UnknownThread thread))
+
+-- each of the numbers has to be a breakpoint's
+abbrev pub unless_missing : Option ℕ → Outcome → Outcome
+unless_missing None r = r
+unless_missing (Some number) r = refusing (hindered (NoBreakpoint number))
+
+abbrev pub changing : Change → Outcome
+changing c = record { content = content.Done; change = c }
+
+abbrev pub conditioned_as : ℕ → List ℕ → Result Term ExprFault → Outcome
+conditioned_as number text (Ok x) = changing (conditions number (Some (record { text = text; tree = x })))
+conditioned_as number text (Err f) = refusing (hindered (Expression f))
+
+abbrev pub conditioned : Names → ℕ → Option (List ℕ) → Outcome
+conditioned names number None = changing (conditions number None)
+conditioned names number (Some text) = conditioned_as number text (parsed names text)
+
 -- the breakpoint that is asked for at an address
-abbrev pub breakpoint_at : ℕ → ℕ → Insertion → Breakpoint
-breakpoint_at number addr i =
-    record { number = number; address = addr; location = i.text; temporary = i.temporary; enabled = not i.disabled; ignore = 0; thread = i.thread; times = 0 }
+abbrev pub asked_at : ℕ → Insertion → Option Condition → Asked
+asked_at addr i c = record { address = addr; location = i.text; temporary = i.temporary; enabled = not i.disabled; ignore = i.ignore; condition = c; thread = i.thread }
+
+abbrev pub setting : Names → ℕ → Asked → Outcome
+setting names given a = record { content = content.Inserted (listed names (new_entry (given + 1) a)); change = inserts a }
+
+abbrev pub set_as : Names → ℕ → ℕ → Insertion → List ℕ → Result Term ExprFault → Outcome
+set_as names given addr i text (Ok x) = setting names given (asked_at addr i (Some (record { text = text; tree = x })))
+set_as names given addr i text (Err f) = refusing (hindered (Expression f))
+
+abbrev pub set_by : Names → ℕ → ℕ → Insertion → Option (List ℕ) → Outcome
+set_by names given addr i None = setting names given (asked_at addr i None)
+set_by names given addr i (Some text) = set_as names given addr i text (parsed names text)
 
 -- a word of text has to be there, and room
-abbrev pub placed : Program → List Breakpoint → ℕ → ℕ → Insertion → Content
-placed p bs next addr i =
+abbrev pub placed : Program → Names → List Entry → ℕ → Insertion → ℕ → Outcome
+placed p names es given i addr =
     if is_some (text_word p addr)
-    then (if nat_lt (length bs) MOST_BREAKPOINTS then content.Inserted (breakpoint_at next addr i) else hindered TooManyBreakpoints)
-    else hindered (NoInstruction addr)
+    then (if nat_lt (length es) MOST_BREAKPOINTS then set_by names given addr i i.condition else refusing (hindered TooManyBreakpoints))
+    else refusing (hindered (NoInstruction addr))
 
-abbrev pub for_thread : Option ℕ → Content → Content
-for_thread None c = c
-for_thread (Some thread) c = hindered (UnknownThread thread)
+abbrev pub named_at : Program → Names → List Entry → ℕ → Insertion → List ℕ → Option Symbol → Outcome
+named_at p names es given i name None = refusing (content.Refused (refused.UnknownName name))
+named_at p names es given i name (Some s) = placed p names es given i s.address
 
--- conditions, counts of arrivals to pass over, and other locations than addresses aren't built yet
-abbrev pub inserted_at : Program → List Hart → List Breakpoint → ℕ → Insertion → Location → Option (List ℕ) → ℕ → Content
-inserted_at p xs bs next i (location.Address addr) None zero = for_thread (unknown_thread xs i.thread) (placed p bs next addr i)
-inserted_at p xs bs next i l condition ignore = not_built
+-- lines of source files aren't built yet
+abbrev pub inserted_at : Program → Names → List Entry → ℕ → Insertion → Location → Outcome
+inserted_at p names es given i (location.Address addr) = placed p names es given i addr
+inserted_at p names es given i (location.Name name) = named_at p names es given i name (address_of names name)
+inserted_at p names es given i (location.Line file line) = refusing not_built
 
-abbrev pub inserted_by : Program → List Hart → List Breakpoint → ℕ → Insertion → Content
-inserted_by p xs bs next i = inserted_at p xs bs next i i.location i.condition i.ignore
+abbrev pub inserted_by : Program → Names → List Hart → List Entry → ℕ → Insertion → Outcome
+inserted_by p names xs es given i = for_thread (unknown_thread xs i.thread) (inserted_at p names es given i i.location)
 
--- what is answered to a command over a program, its harts, their memory, the breakpoints with the next number, and the selected thread
-unfoldable pub content_of : Program → List Hart → Memory → List Breakpoint → ℕ → ℕ → Command → Content
-content_of p xs m bs next selected command.Blank = content.Blank
-content_of p xs m bs next selected command.Wait = content.Done
-content_of p xs m bs next selected (command.BreakInsert i) = inserted_by p xs bs next i
-content_of p xs m bs next selected (command.Continue t) = continued xs selected t
-content_of p xs m bs next selected (command.ThreadInfo thread) = threads_of xs selected thread
-content_of p xs m bs next selected (command.ThreadSelect thread) = of_live thread (selecting thread) (thread_hart xs thread)
-content_of p xs m bs next selected command.ThreadList = content.ThreadNumbers (map thread_number (live_threads 1 xs)) selected
-content_of p xs m bs next selected command.RegisterNames = content.RegisterNames
-content_of p xs m bs next selected (command.RegisterValues thread format numbers) = registers_at xs (thread_or selected thread) format numbers
-content_of p xs m bs next selected (command.ReadMemory addr count) = memory_of addr (shown_range p m addr count)
-content_of p xs m bs next selected c = not_built
+-- what is answered to a command, and what it changes, where so many numbers were given to breakpoints
+unfoldable pub outcome_at : Program → Names → List Hart → Memory → List Entry → ℕ → ℕ → Command → Outcome
+outcome_at p names xs m es given selected (command.BreakInsert i) = inserted_by p names xs es given i
+outcome_at p names xs m es given selected (command.BreakDelete ns) = unless_missing (missing_number es ns) (changing (deletes ns))
+outcome_at p names xs m es given selected (command.BreakEnable ns) = unless_missing (missing_number es ns) (changing (enables true ns))
+outcome_at p names xs m es given selected (command.BreakDisable ns) = unless_missing (missing_number es ns) (changing (enables false ns))
+outcome_at p names xs m es given selected (command.BreakCondition n c) = unless_missing (missing_number es (n ∷ [])) (conditioned names n c)
+outcome_at p names xs m es given selected (command.BreakAfter n k) = unless_missing (missing_number es (n ∷ [])) (changing (ignores n k))
+outcome_at p names xs m es given selected c = answered (content_of p names xs m es selected c)
 
 -- an unknown thread comes before a bad location
-abbrev pub fault_content : List Hart → Fault → Content
-fault_content xs (fault.Location word thread) = for_thread (unknown_thread xs thread) (content.Refused (refused.Faulty (fault.Location word thread)))
-fault_content xs f = content.Refused (refused.Faulty f)
+abbrev pub fault_outcome : List Hart → Fault → Outcome
+fault_outcome xs (fault.Location word thread) = for_thread (unknown_thread xs thread) (refusing (content.Refused (refused.Faulty (fault.Location word thread))))
+fault_outcome xs f = refusing (content.Refused (refused.Faulty f))
 
-abbrev pub asked_content : Opening → State → Result Command Fault → Content
-asked_content o s (Ok c) = content_of o.image s.harts s.memory s.breaks s.next s.selected c
-asked_content o s (Err f) = fault_content s.harts f
+abbrev pub asked_outcome : Opening → State → Result Command Fault → Outcome
+asked_outcome o s (Ok c) = outcome_at o.image (names_of o.image) s.harts s.memory s.breaks s.given s.selected c
+asked_outcome o s (Err f) = fault_outcome s.harts f
+
+-- what is answered to a line with its token, and what it changes
+pub record Answer : Type 0 where
+  pub token : List ℕ
+  pub outcome : Outcome
 
 -- a line without parts
-abbrev pub no_parts : List ℕ → Reply
-no_parts start = if is_cli start then record { token = token_of start; content = content.Refused refused.Cli } else record { token = []; content = content.Refused refused.Syntax }
+abbrev pub no_parts : List ℕ → Answer
+no_parts start =
+    if is_cli start then record { token = token_of start; outcome = refusing (content.Refused refused.Cli) }
+    else record { token = []; outcome = refusing (content.Refused refused.Syntax) }
 
-abbrev pub reply_by : Opening → State → List ℕ → Option PartsView → Reply
-reply_by o s line None = no_parts (after_blanks line)
-reply_by o s line (Some p) = record { token = p.token; content = asked_content o s (answer p) }
+abbrev pub answer_by : Opening → State → List ℕ → Option PartsView → Answer
+answer_by o s line None = no_parts (after_blanks line)
+answer_by o s line (Some p) = record { token = p.token; outcome = asked_outcome o s (answer p) }
 
--- the answer to a line
-unfoldable pub reply_of : Opening → State → List ℕ → Reply
-reply_of o s line = if nat_lt 4096 (length line) then record { token = []; content = content.Refused refused.Long } else reply_by o s line (parts_read line)
+unfoldable pub answer_of : Opening → State → List ℕ → Answer
+answer_of o s line = if nat_lt 4096 (length line) then record { token = []; outcome = refusing (content.Refused refused.Long) } else answer_by o s line (parts_read line)
+
+-- the reply to a line
+abbrev pub reply_of : Opening → State → List ℕ → Reply
+reply_of o s line = record { token = (answer_of o s line).token; content = (answer_of o s line).outcome.content }
 
 -- whether this is the command that waits until no thread runs, which is this product's own
 abbrev pub waits : Result Command Fault → Bool
@@ -243,7 +371,7 @@ parts_wait (Some p) = waits (answer p)
 unfoldable pub is_wait : List ℕ → Bool
 is_wait line = if nat_lt 4096 (length line) then false else parts_wait (parts_read line)
 
--- ---- changes
+-- ---- the state after a line
 
 -- a stopped hart goes on
 abbrev pub resumed_by : Hart → Mode → Hart
@@ -268,32 +396,40 @@ abbrev pub resumed_threads : List Hart → List ℕ → List Hart
 resumed_threads xs [] = xs
 resumed_threads xs (t ∷ ts) = resumed_threads (resumed_thread xs t) ts
 
--- which threads an answer lets go on
-abbrev pub going_on : Content → List ℕ
-going_on (content.Running threads) = threads
+-- which threads a change lets go on
+abbrev pub going_on : Change → List ℕ
+going_on (resumes threads) = threads
 going_on c = []
 
--- which thread is selected after an answer
-abbrev pub selected_after : ℕ → Content → ℕ
-selected_after thread (content.Selected t) = t
+-- which thread is selected after a change
+abbrev pub selected_after : ℕ → Change → ℕ
+selected_after thread (selects t) = t
 selected_after thread c = thread
 
--- the breakpoints after an answer, and the next number
-abbrev pub breaks_after : List Breakpoint → Content → List Breakpoint
-breaks_after bs (content.Inserted b) = bs ++ b ∷ []
-breaks_after bs c = bs
+-- the breakpoints after a change
+abbrev pub breaks_after : List Entry → ℕ → Change → List Entry
+breaks_after es given (inserts a) = es ++ new_entry (given + 1) a ∷ []
+breaks_after es given (deletes ns) = without ns es
+breaks_after es given (enables enabled ns) = enabling enabled ns es
+breaks_after es given (conditions n c) = map (changed_entry (with_condition c) n) es
+breaks_after es given (ignores n k) = map (changed_entry (with_ignore k) n) es
+breaks_after es given c = es
 
-abbrev pub next_after : ℕ → Content → ℕ
-next_after next (content.Inserted b) = next + 1
-next_after next c = next
+-- how many numbers were given after a change
+abbrev pub given_after : ℕ → Change → ℕ
+given_after given (inserts a) = given + 1
+given_after given c = given
+
+-- the state after a line that makes this change
+abbrev pub changed_by : State → Change → State
+changed_by s c = record s {
+  harts = resumed_threads s.harts (going_on c);
+  breaks = breaks_after s.breaks s.given c;
+  given = given_after s.given c;
+  selected = selected_after s.selected c;
+  noted = s.noted + 1;
+}
 
 -- the state after a line
 unfoldable pub done_by : Opening → State → List ℕ → State
-done_by o s line = let c = (reply_of o s line).content in
-    record s {
-      harts = resumed_threads s.harts (going_on c);
-      breaks = breaks_after s.breaks c;
-      next = next_after s.next c;
-      selected = selected_after s.selected c;
-      noted = s.noted + 1;
-    }
+done_by o s line = changed_by s (answer_of o s line).outcome.change

@@ -1,16 +1,19 @@
 -- The state of a session, as its journal makes it.
-use Rattle.std.specs.Prelude.{ℕ, ◌+◌, zero, suc, Bool, true, false, List, [], ◌∷◌, ◌++◌, Option, None, is_some, if◌then◌else◌}
+use Rattle.std.specs.Prelude.{ℕ, ◌+◌, zero, suc, Bool, true, false, not, ◌&&◌, ◌||◌, List, [], ◌∷◌, ◌++◌, is_some, if◌then◌else◌}
 use Rattle.std.specs.List.{list_any, list_all}
 use Rattle.rv_exec.specs.Registers.{Registers}
 use Rattle.rv_exec.specs.Memory.{Memory}
 use Rattle.elf32_read.specs.Program.{Program}
 use Rattle.data_memory.specs.Start.{start_memory}
 use Rattle.plain_machine.specs.Plain.{first_registers}
-use Rattle.dbg_model.specs.declared.breakpoint.Breakpoint.{Breakpoint}
+use Rattle.break_table.specs.Entry.{Entry}
+use Rattle.break_table.specs.Arrival.{due_of, settled}
+use Rattle.break_table.specs.declared.due.Due.{Due}
 use Rattle.dbg_model.specs.declared.entry.Mode.{Mode}
 use Rattle.dbg_model.specs.declared.entry.Mode.TheVariants as mode
 use Rattle.dbg_model.specs.declared.opening.Opening.{Opening}
-use Rattle.dbg_model.specs.Breaks.{stop_at}
+use Rattle.dbg_model.specs.Breaks.{nothing_due}
+use Rattle.dbg_model.specs.Views.{register, shown_byte}
 
 pub record Hart : Type 0 where
   pub regs : Registers
@@ -23,9 +26,10 @@ pub record State : Type 0 where
   pub memory : Memory
   -- the bytes that the program wrote
   pub out : List ℕ
-  -- the breakpoints that the user set, in rising order of their numbers, and the next number
-  pub breaks : List Breakpoint
-  pub next : ℕ
+  -- the breakpoints that the user set, in rising order of their numbers
+  pub breaks : List Entry
+  -- how many numbers were given to breakpoints, from 1 on
+  pub given : ℕ
   -- the selected thread, counted from 1
   pub selected : ℕ
   -- how many instructions were executed
@@ -78,16 +82,20 @@ hart_gone x = has_exited x.mode
 abbrev pub all_gone : List Hart → Bool
 all_gone xs = list_all hart_gone xs
 
--- the number of the breakpoint at which a hart has just arrived, and which stops it
-abbrev pub due : List Breakpoint → ℕ → Hart → Option ℕ
-due bs h x = if x.fresh then stop_at bs h x.regs.pc else None
+-- what the breakpoints do with a hart that has just arrived; elsewhere nothing
+unfoldable pub due : Program → State → ℕ → Hart → Due
+due p s h x = if x.fresh then due_of h (register x.regs) (shown_byte p s.memory) s.breaks else nothing_due
 
-abbrev pub is_due : List Breakpoint → ℕ → Hart → Bool
-is_due bs h x = is_some (due bs h x)
+-- only counted: nothing stops the hart
+abbrev pub is_counted : Due → Bool
+is_counted d = not (is_some d.stop) && d.counts
 
--- a breakpoint is added
-abbrev pub inserted : State → Breakpoint → State
-inserted s b = record s { breaks = s.breaks ++ b ∷ []; next = s.next + 1 }
+abbrev pub is_due : Due → Bool
+is_due d = is_some d.stop || d.counts
+
+-- the breakpoints after a due arrival of a hart
+unfoldable pub arrived : Program → State → ℕ → Hart → List Entry
+arrived p s h x = settled h (register x.regs) (shown_byte p s.memory) s.breaks
 
 -- the first n of so many harts, as a session begins with them
 abbrev pub first_harts : Program → ℕ → ℕ → List Hart
@@ -101,7 +109,7 @@ first_state o = record {
   memory = start_memory o.image o.settings.harts;
   out = [];
   breaks = [];
-  next = 1;
+  given = 0;
   selected = 1;
   retired = 0;
   noted = 0;

@@ -1,21 +1,60 @@
-use mi_commands::ByteList;
+// Breakpoints as they are listed.
+ghost use Rattle.std.specs.Prelude.{◌≡◌};
 
-/// A breakpoint that the user set. Contracts cite `specs/Breaks.antt`, which says when it stops a hart.
+use mi_commands::ByteList;
+use std::marker::Model;
+
+/// A breakpoint that the user set, as it is listed.
 #[derive(Drop)]
 pub struct Breakpoint {
-    /// Its number. Numbers rise from 1 along the list, and none is used again.
+    /// From 1 on, and never used again.
     pub number: u32,
-    /// The address at which it stands.
+    /// Of the instruction that it stands at.
     pub address: u32,
-    /// Where it was asked for, as the user wrote it.
+    /// The name of the function that the address lies in.
+    pub function: Option<ByteList>,
+    /// The text by which the address was given.
     pub location: ByteList,
-    /// Whether its first stop deletes it.
+    /// Whether it is deleted where it stops a hart.
     pub temporary: bool,
     pub enabled: bool,
-    /// How many arrivals are still to be passed over.
+    /// How many arrivals are only counted before one stops.
     pub ignore: u32,
-    /// The one thread that it stops, counted from 1; none for all of them.
+    /// The text of its condition.
+    pub condition: Option<ByteList>,
+    /// The one thread that it is for, counted from 1; none is for each.
     pub thread: Option<u32>,
-    /// How many arrivals it has met.
+    /// How many arrivals it counted or stopped.
     pub times: u64,
+}
+
+/// Breakpoints that contracts see as a list.
+#[derive(Drop)]
+pub struct BreakpointList {
+    breakpoints: Vec<Breakpoint>,
+}
+
+impl Model for BreakpointList {
+    ghost use Rattle.std.specs.Prelude.{List};
+    ghost use Rattle.dbg_model.specs.declared.breakpoint.Breakpoint.{Breakpoint};
+
+    ghost Value = { List Breakpoint };
+
+    ghost view = { λ l. l.breakpoints.items };
+}
+
+impl BreakpointList {
+    /// The breakpoints of a vector, which keeps its memory.
+    pub fn of(breakpoints: Vec<Breakpoint>) -> BreakpointList
+        ensures { result ≡ breakpoints.items }
+    {
+        BreakpointList { breakpoints }
+    }
+
+    /// The breakpoints in order.
+    pub fn as_slice(&self) -> &[Breakpoint]
+        ensures { result.now ≡ self.now }
+    {
+        self.breakpoints.as_slice()
+    }
 }

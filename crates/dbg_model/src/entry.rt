@@ -1,5 +1,6 @@
 ghost use Rattle.std.specs.Prelude.{◌≡◌};
 
+use break_table::CondError;
 use mi_commands::ByteList;
 use rv_exec::Cause;
 use std::marker::Model;
@@ -17,8 +18,11 @@ pub enum Mode {
 /// Why a hart stopped.
 #[derive(Clone, Copy, Debug, PartialEq, Eq)]
 pub enum Why {
-    /// It came to the breakpoint of this number.
-    Break { number: u32 },
+    /// It came to the breakpoint of this number, of whose condition the value couldn't be had for this reason.
+    Break {
+        number: u32,
+        error: Option<CondError>,
+    },
     /// Its instruction trapped.
     Fault(Cause),
 }
@@ -28,6 +32,8 @@ pub enum Why {
 pub enum Entry {
     /// A hart executed so many instructions.
     Ran { hart: u32, count: u64 },
+    /// A hart came to breakpoints that count it, and goes on.
+    Counted { hart: u32 },
     /// A hart stopped.
     Stopped { hart: u32, why: Why },
     /// A hart exited with this code.

@@ -7,7 +7,7 @@ mod limits;
 mod opening;
 mod reply;
 
-pub use breakpoint::Breakpoint;
+pub use breakpoint::{Breakpoint, BreakpointList};
 pub use entry::{Entry, Journal, Mode, Why};
 pub use limits::{HISTORY, MOST_BREAKPOINTS, MOST_INPUT};
 pub use opening::Opening;

@@ -1,7 +1,8 @@
 // What is answered to a line.
 ghost use Rattle.std.specs.Prelude.{◌≡◌};
 
-use crate::Breakpoint;
+use crate::{Breakpoint, BreakpointList};
+use cond_expr::ExprFault;
 use mi_commands::{ByteList, Fault, Format, NumberList};
 use mi_values::Token;
 use std::marker::Model;
@@ -15,10 +16,16 @@ pub enum Obstacle {
     HasExited(u32),
     /// The thread runs, and has to be stopped.
     IsRunning(u32),
+    /// No breakpoint has this number.
+    NoBreakpoint(u32),
     /// No word of text is at this address.
     NoInstruction(u32),
     /// The most breakpoints stand already.
     TooManyBreakpoints,
+    /// The expression has this fault.
+    Expression(ExprFault),
+    /// A divisor is 0.
+    DivisionByZero,
     /// The byte at this address can't be read.
     Unreadable(u32),
 }
@@ -36,6 +43,8 @@ pub enum Refused {
     Faulty(Fault),
     /// The state stands against the command.
     Hindered(Obstacle),
+    /// There is no symbol of this name.
+    UnknownName(ByteList),
     /// The command isn't built yet.
     NotBuilt,
 }
@@ -125,6 +134,8 @@ pub enum Content {
     Done,
     /// This breakpoint is set.
     Inserted(Breakpoint),
+    /// The breakpoints that are set.
+    Breakpoints(BreakpointList),
     /// These threads go on.
     Running(NumberList),
     /// This thread is selected.
@@ -151,6 +162,8 @@ pub enum Content {
         address: u32,
         bytes: ByteList,
     },
+    /// The value of an expression.
+    Value { word: u32, unsigned: bool },
     /// The line is refused.
     Refused(Refused),
 }

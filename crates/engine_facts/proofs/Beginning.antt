@@ -1,6 +1,10 @@
 -- An engine before its first move.
 use Rattle.std.proofs.Common.{◌≡◌, ℕ, zero, suc, List, [], ◌∷◌, ◌++◌, replicate, refl, sym, ap, ◌∙◌, subst, arith, inl, inr}
-use Rattle.std.specs.Prelude.{Some, None, ◌⊎◌, slice_get}
+use Rattle.std.specs.Prelude.{Option, Some, None, ◌⊎◌, slice_get}
+use Rattle.elf_symbols.specs.Names.{Names}
+use Rattle.elf_symbols.specs.Entries.{names_of}
+use Rattle.break_table.specs.Table.{Table, first_table}
+use Rattle.break_table.specs.Text.{is_instruction, is_place}
 use Rattle.std.proofs.lemmas.List.{length-replicate}
 use Rattle.dbg_traits.specs.Settings.{AreSettings}
 use Rattle.plain_machine.specs.Plain.{first_registers}
@@ -10,7 +14,7 @@ use Rattle.hart_machine.proofs.Places.{same_some}
 use Rattle.hart_machine.specs.Patched.{Patched}
 use Rattle.std.specs.Ordering.{nat_cmp}
 use Rattle.std.specs.FinSet.{contains-empty}
-use Rattle.dbg_model.specs.declared.breakpoint.Breakpoint.{Breakpoint}
+use Rattle.break_table.specs.Entry.{Entry as BreakEntry}
 use Rattle.dbg_model.specs.declared.entry.Entry.{Entry}
 use Rattle.dbg_model.specs.declared.opening.Opening.{Opening}
 use Rattle.dbg_model.specs.State.{State, first_state}
@@ -23,8 +27,27 @@ use Rattle.engine_facts.specs.Facts.{Facts, HartFact}
 use Rattle.engine_facts.proofs.Updating.{none_some}
 use Rattle.engine_facts.proofs.Seeing.{first_seen, length_first, out_is}
 
+abbrev pub run_at : Opening → ℕ → List Entry → Patched → List Mind → Table → Names → Run
+run_at o spare j m xs t ns =
+    record {
+      opening = o;
+      journal = j;
+      spare = spare;
+      machine = m;
+      minds = xs;
+      hold = None;
+      breaks = t.entries;
+      given = t.given;
+      bounds = t.text;
+      waits = t.waits;
+      names = ns;
+      selected = 1;
+      retired = 0;
+      noted = 0;
+    }
+
 abbrev pub first_run : Opening → ℕ → Run
-first_run o spare = record { opening = o; journal = []; spare = spare; machine = loaded o.image o.settings.harts; minds = replicate o.settings.harts first_mind; hold = None; breaks = []; next = 1; selected = 1; retired = 0; noted = 0 }
+first_run o spare = run_at o spare [] (loaded o.image o.settings.harts) (replicate o.settings.harts first_mind) (first_table o.image o.settings.harts) (names_of o.image)
 
 last_or : {A : Type 0} (xs : List A) (x y : A) (h : ℕ) → slice_get (xs ++ x ∷ []) h ≡ Some y → (slice_get xs h ≡ Some y) ⊎ (x ≡ y)
 last_or [] x y zero is = inr (same_some x y is)
@@ -50,15 +73,19 @@ replicated zero k x at = cc
 replicated (suc n) zero x at = sym (same_some first_mind x at)
 replicated (suc n) (suc k) x at = replicated n k x at
 
-no_break : {A : Type 0} (k : ℕ) (b : Breakpoint) → slice_get [] k ≡ Some b → A
+no_break : {A : Type 0} (k : ℕ) (b : BreakEntry) → slice_get [] k ≡ Some b → A
 no_break zero b at = cc
 no_break (suc k) b at = cc
 
 first_fact : (o : Opening) (k : ℕ) (c : Core) (x : Mind) → x ≡ first_mind → HartFact o.image None k c x
 first_fact o k c x is = subst (λ (y : Mind). HartFact o.image None k c y) (sym is) (record { placed = tt; held = refl; idle = λ e. refl })
 
-begins : (o : Opening) (spare : ℕ) → AreSettings o.settings → Facts (first_run o spare)
-begins o spare s =
+-- the table knows where text stands
+abbrev pub KnowsText : Opening → Table → Type 0
+KnowsText o t = (a : ℕ) → is_place t.text a ≡ is_instruction o.image a
+
+begins : (o : Opening) (spare : ℕ) → AreSettings o.settings → KnowsText o (first_table o.image o.settings.harts) → Facts (first_run o spare)
+begins o spare s places =
     let harts = length-replicate {A = Mind} o.settings.harts first_mind in
     record {
       leaves = subst (λ (t : State). Leaves o [] t) (sym (seen_begin o spare)) (starts o);
@@ -72,6 +99,9 @@ begins o spare s =
       };
       planted = record { words = refl; patches = λ a. contains-empty nat_cmp a };
       texts = λ k b at. no_break k b at;
+      places = places;
+      waits = length-replicate {A = Option ℕ} o.settings.harts None ∙ sym harts;
+      names = refl;
       retired = λ h c at. none_yet o.image.entry o.settings.harts o.settings.harts h c at;
     }
 
@@ -79,9 +109,17 @@ pub record Begins (o : Opening) (r : Run) : Type 0 where
   pub facts : Facts r
   pub state : seen r ≡ first_state o
 
-pub begins_at : (o : Opening) (spare : ℕ) (j : List Entry) (m : Patched) (xs : List Mind) → AreSettings o.settings → j ≡ [] → m ≡ loaded o.image o.settings.harts → xs ≡ replicate o.settings.harts first_mind
-    → Begins o (record { opening = o; journal = j; spare = spare; machine = m; minds = xs; hold = None; breaks = []; next = 1; selected = 1; retired = 0; noted = 0 })
-begins_at o spare j m xs s none is are =
-    let P : List Entry → Patched → List Mind → Type 0 = λ j m xs. Begins o (record { opening = o; journal = j; spare = spare; machine = m; minds = xs; hold = None; breaks = []; next = 1; selected = 1; retired = 0; noted = 0 }) in
-    let first : P [] (loaded o.image o.settings.harts) (replicate o.settings.harts first_mind) = record { facts = begins o spare s; state = seen_begin o spare } in
-    subst (λ (k : List Entry). P k m xs) (sym none) (subst (λ (n : Patched). P [] n xs) (sym is) (subst (λ (ys : List Mind). P [] (loaded o.image o.settings.harts) ys) (sym are) first))
+pub begins_at : (o : Opening) (spare : ℕ) (j : List Entry) (m : Patched) (xs : List Mind) (t : Table) (ns : Names) → AreSettings o.settings → j ≡ [] → m ≡ loaded o.image o.settings.harts → xs ≡ replicate o.settings.harts first_mind
+    → t ≡ first_table o.image o.settings.harts → KnowsText o t → ns ≡ names_of o.image → Begins o (run_at o spare j m xs t ns)
+begins_at o spare j m xs t ns s none is are table places names =
+    let P : List Entry → Patched → List Mind → Table → Names → Type 0 = λ j m xs t ns. Begins o (run_at o spare j m xs t ns) in
+    let l = loaded o.image o.settings.harts in
+    let ys = replicate o.settings.harts first_mind in
+    let u = first_table o.image o.settings.harts in
+    let known : KnowsText o u = subst (KnowsText o) table places in
+    let first : P [] l ys u (names_of o.image) = record { facts = begins o spare s known; state = seen_begin o spare } in
+    subst (λ (k : List Entry). P k m xs t ns) (sym none)
+    (subst (λ (n : Patched). P [] n xs t ns) (sym is)
+    (subst (λ (zs : List Mind). P [] l zs t ns) (sym are)
+    (subst (λ (v : Table). P [] l ys v ns) (sym table)
+    (subst (λ (n : Names). P [] l ys u n) (sym names) first))))

@@ -80,6 +80,9 @@ departs_alone r h spare code c c' x mem t f m runs may is more holds p =
           (record { holds = holds; fact = record { placed = tt; held = refl; idle = λ e. refl }; holder = λ d e. none_some d e });
       planted = p;
       texts = f.texts;
+      places = f.places;
+      waits = f.waits ∙ sym (length-set r.minds h exited_mind);
+      names = f.names;
       retired = retired_quiet (slice_set r.machine.cores h c') (lengthened r.journal h) es (λ i. refl) (retired_ran r.machine.cores h c c' r.journal m.core more f.retired);
     }) in
     record {
@@ -121,6 +124,9 @@ departs_all r h spare code c c' x mem t f m runs may is more p =
       harts = all_updated r.opening.image cs xs len;
       planted = p;
       texts = f.texts;
+      places = f.places;
+      waits = f.waits ∙ sym (length-set r.minds h exited_mind);
+      names = f.names;
       retired = retired_quiet cs (lengthened r.journal h) es (quiet_lefts_live code 0 xs) (retired_ran r.machine.cores h c c' r.journal m.core more f.retired);
     }) in
     record {

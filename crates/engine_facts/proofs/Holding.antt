@@ -7,8 +7,8 @@ use Rattle.text_words.specs.Words.{Words, is_planted}
 use Rattle.elf32_read.specs.Program.{Program}
 use Rattle.hart_machine.specs.declared.hart.Core.{Core}
 use Rattle.hart_machine.proofs.Places.{same_some}
-use Rattle.dbg_model.specs.declared.breakpoint.Breakpoint.{Breakpoint}
-use Rattle.dbg_model.specs.Breaks.{stands, stands_at}
+use Rattle.break_table.specs.Entry.{Entry as BreakEntry}
+use Rattle.break_table.specs.Table.{stands, stands_at}
 use Rattle.dbg_model.proofs.Options.{both_true}
 use Rattle.engine_facts.specs.declared.mind.Hold.{Hold}
 use Rattle.engine_facts.specs.declared.mind.Mind.{Mind}
@@ -55,14 +55,14 @@ and_true : (b : Bool) → (b && true) ≡ b
 and_true true = refl
 and_true false = refl
 
-pub wanted_none : (bs : List Breakpoint) (a : ℕ) → wanted bs None a ≡ stands bs a
-wanted_none bs a = and_true (stands bs a)
+pub wanted_none : (bs : List BreakEntry) (a : ℕ) → wanted bs None a ≡ stands a bs
+wanted_none bs a = and_true (stands a bs)
 
-wanted_elsewhere : (bs : List Breakpoint) (d : Hold) (b : ℕ) → (d.home ≡ b → ⊥) → wanted bs (Some d) b ≡ wanted bs None b
+wanted_elsewhere : (bs : List BreakEntry) (d : Hold) (b : ℕ) → (d.home ≡ b → ⊥) → wanted bs (Some d) b ≡ wanted bs None b
 wanted_elsewhere bs d b n = rw (differs d.home b n) refl
 
 -- the text where no patch stays lifted
-pub released : (p : Program) (t t' : Words) (bs : List Breakpoint) (hold : Option Hold) → Planted p t bs hold → Released t t' bs hold → Planted p t' bs None
+pub released : (p : Program) (t t' : Words) (bs : List BreakEntry) (hold : Option Hold) → Planted p t bs hold → Released t t' bs hold → Planted p t' bs None
 released p t t' bs None f w = subst (λ (u : Words). Planted p u bs None) (sym w) f
 released p t t' bs (Some d) f w =
     let w' : Repatched t t' d.home (wanted bs None d.home) = record { words = w.words; here = w.here ∙ sym (wanted_none bs d.home); others = w.others } in
@@ -98,7 +98,7 @@ unwinds r h c x t f m free w =
     })
     (released r.opening.image r.machine.text t r.breaks r.hold f.planted w)
 
-stands_in : (p : Program) (b : Breakpoint) (bs : List Breakpoint) (a : ℕ) (t : Bool) → stands_at b a ≡ t → (t || stands bs a) ≡ true → AreInText p (b ∷ bs) → (AreInText p bs → stands bs a ≡ true → InText p a) → InText p a
+stands_in : (p : Program) (b : BreakEntry) (bs : List BreakEntry) (a : ℕ) (t : Bool) → stands_at a b ≡ t → (t || stands a bs) ≡ true → AreInText p (b ∷ bs) → (AreInText p bs → stands a bs ≡ true → InText p a) → InText p a
 stands_in p b bs a true is e each ih =
     let at : (b.address == a) ≡ true = (both_true b.enabled (b.address == a) is).1 in
     let there : b.address ≡ a = grind (arith, nat_tests) in
@@ -106,13 +106,13 @@ stands_in p b bs a true is e each ih =
 stands_in p b bs a false is e each ih = ih (λ k d at. each (suc k) d at) e
 
 -- where a breakpoint stands is text
-pub stands_text : (p : Program) (bs : List Breakpoint) (a : ℕ) → AreInText p bs → stands bs a ≡ true → InText p a
+pub stands_text : (p : Program) (bs : List BreakEntry) (a : ℕ) → AreInText p bs → stands a bs ≡ true → InText p a
 stands_text p [] a each e = cc
-stands_text p (b ∷ bs) a each e = stands_in p b bs a (stands_at b a) refl e each (stands_text p bs a)
+stands_text p (b ∷ bs) a each e = stands_in p b bs a (stands_at a b) refl e each (stands_text p bs a)
 
 -- where a patch is planted is text
 pub planted_text : (r : Run) (a : ℕ) → Facts r → is_planted r.machine.text a ≡ true → InText r.opening.image a
-planted_text r a f is = stands_text r.opening.image r.breaks a f.texts (both_true (stands r.breaks a) (not (is_home r.hold a)) (sym (f.planted.patches a) ∙ is)).0
+planted_text r a f is = stands_text r.opening.image r.breaks a f.texts (both_true (stands a r.breaks) (not (is_home r.hold a)) (sym (f.planted.patches a) ∙ is)).0
 
 -- the patch is lifted for one hart at most
 pub one_lifted : (r : Run) → Facts r → OneLifted r

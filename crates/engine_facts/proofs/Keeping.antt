@@ -3,6 +3,8 @@ use Rattle.std.proofs.Common.{◌≡◌, ℕ, length, sym, ap, ◌∙◌, subst,
 use Rattle.std.specs.Prelude.{Option, Some, slice_get, slice_set}
 use Rattle.dbg_traits.specs.Settings.{AreSettings}
 use Rattle.text_words.specs.Words.{Words}
+use Rattle.elf_symbols.specs.Entries.{names_of}
+use Rattle.break_table.specs.Text.{is_instruction, is_place}
 use Rattle.hart_machine.specs.declared.hart.Core.{Core}
 use Rattle.hart_machine.proofs.Places.{set_known}
 use Rattle.dbg_model.specs.State.{State}
@@ -35,6 +37,9 @@ pub record Stands (r : Run) : Type 0 where
   pub harts : Harts r.opening.image r.machine.cores r.minds r.hold
   pub planted : Planted r.opening.image r.machine.text r.breaks r.hold
   pub texts : AreInText r.opening.image r.breaks
+  pub places : (a : ℕ) → is_place r.bounds a ≡ is_instruction r.opening.image a
+  pub waits : length r.waits ≡ length r.minds
+  pub names : r.names ≡ names_of r.opening.image
   pub retired : Retired r.machine.cores r.journal
 
 -- the facts after a move that was entered in the journal
@@ -54,6 +59,9 @@ entered r s settings l e f =
         harts = f.harts;
         planted = f.planted;
         texts = f.texts;
+        places = f.places;
+        waits = f.waits;
+        names = f.names;
         retired = f.retired;
       };
       seen = same;
@@ -77,6 +85,9 @@ silent r h c x x' t hold f m same ch p =
         harts = updated_mind r.opening.image r.machine.cores r.minds r.hold hold h c x x' f.harts m.core m.mind ch;
         planted = p;
         texts = f.texts;
+        places = f.places;
+        waits = f.waits ∙ sym (length-set r.minds h x');
+        names = f.names;
         retired = f.retired;
       };
       seen = seen_is;

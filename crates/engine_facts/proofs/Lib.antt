@@ -7,6 +7,7 @@ pub mod Stepping
 pub mod Holding
 pub mod Bounding
 pub mod Exiting
+pub mod Arriving
 pub mod Stopping
 pub mod Breaking
 pub mod Beginning

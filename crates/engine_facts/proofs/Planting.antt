@@ -22,7 +22,7 @@ use Rattle.plain_machine.specs.Environment.{Answer}
 use Rattle.plain_machine.specs.Plain.{plain, on_word, on_instruction}
 use Rattle.hart_machine.specs.Stepping.{FetchGives, StepGives}
 use Rattle.hart_machine.proofs.Places.{same_place}
-use Rattle.dbg_model.specs.declared.breakpoint.Breakpoint.{Breakpoint}
+use Rattle.break_table.specs.Entry.{Entry as BreakEntry}
 use Rattle.engine_facts.specs.declared.mind.Hold.{Hold}
 use Rattle.engine_facts.specs.Facts.{Planted, InText, wanted}
 use Rattle.engine_facts.specs.Moves.{Repatched}
@@ -55,25 +55,25 @@ patched_out t a = record { words = refl; here = in_remove_same t.planted a; othe
 pub patched_still : (t : Words) (a : ℕ) (is : Bool) → is_planted t a ≡ is → Repatched t t a is
 patched_still t a is e = record { words = refl; here = e; others = λ b n. refl }
 
-replanted_at : (bs bs' : List Breakpoint) (hold hold' : Option Hold) (t t' : Words) (a : ℕ) → ((b : ℕ) → is_planted t b ≡ wanted bs hold b) → Repatched t t' a (wanted bs' hold' a)
+pub replanted_at : (bs bs' : List BreakEntry) (hold hold' : Option Hold) (t t' : Words) (a : ℕ) → ((b : ℕ) → is_planted t b ≡ wanted bs hold b) → Repatched t t' a (wanted bs' hold' a)
     → ((b : ℕ) → (a ≡ b → ⊥) → wanted bs hold b ≡ wanted bs' hold' b) → (b : ℕ) → (a ≡ b) ⊎ (a ≡ b → ⊥) → is_planted t' b ≡ wanted bs' hold' b
 replanted_at bs bs' hold hold' t t' a p w same b (inl e) = let P : ℕ → Type 0 = λ b. is_planted t' b ≡ wanted bs' hold' b in subst P e w.here
 replanted_at bs bs' hold hold' t t' a p w same b (inr n) = w.others b n ∙ (p b ∙ same b n)
 
 -- one word is patched as it is wanted now, and the others are wanted as before
-pub replanted : (p : Program) (bs bs' : List Breakpoint) (hold hold' : Option Hold) (t t' : Words) (a : ℕ) → Planted p t bs hold → Repatched t t' a (wanted bs' hold' a)
+pub replanted : (p : Program) (bs bs' : List BreakEntry) (hold hold' : Option Hold) (t t' : Words) (a : ℕ) → Planted p t bs hold → Repatched t t' a (wanted bs' hold' a)
     → ((b : ℕ) → (a ≡ b → ⊥) → wanted bs hold b ≡ wanted bs' hold' b) → Planted p t' bs' hold'
 replanted p bs bs' hold hold' t t' a f w same =
     record { words = w.words ∙ f.words; patches = λ b. replanted_at bs bs' hold hold' t t' a f.patches w same b (same_place a b) }
 
 -- the program's word, as the machine shows it
-pub shown_image : (p : Program) (t : Words) (bs : List Breakpoint) (hold : Option Hold) (a : ℕ) → Planted p t bs hold → a < 2 ^ 32 → shown t a ≡ text_word p a
+pub shown_image : (p : Program) (t : Words) (bs : List BreakEntry) (hold : Option Hold) (a : ℕ) → Planted p t bs hold → a < 2 ^ 32 → shown t a ≡ text_word p a
 shown_image p t bs hold a f low = ap (λ (m : WordMap). map.get m a) f.words ∙ word_below (text_word p) (2 ^ 32) a low
 
-pub in_text : (p : Program) (t : Words) (bs : List Breakpoint) (hold : Option Hold) (a : ℕ) → Planted p t bs hold → IsSome (shown t a) → InText p a
+pub in_text : (p : Program) (t : Words) (bs : List BreakEntry) (hold : Option Hold) (a : ℕ) → Planted p t bs hold → IsSome (shown t a) → InText p a
 in_text p t bs hold a f some = subst (λ (m : WordMap). IsSome (map.get m a)) f.words some
 
-pub text_shown : (p : Program) (t : Words) (bs : List Breakpoint) (hold : Option Hold) (a : ℕ) → Planted p t bs hold → InText p a → IsSome (shown t a)
+pub text_shown : (p : Program) (t : Words) (bs : List BreakEntry) (hold : Option Hold) (a : ℕ) → Planted p t bs hold → InText p a → IsSome (shown t a)
 text_shown p t bs hold a f some = subst (λ (m : WordMap). IsSome (map.get m a)) (sym f.words) some
 
 decoded_gives : (s : Stepped) (i : Option Instr) (r r' : Registers) (m m' : Memory) → FetchGives s (decoded_as i) r r' m m' → StepGives s (on_instruction r m i) r r' m m'
@@ -85,7 +85,7 @@ found_gives s None r r' m m' g = g
 found_gives s (Some w) r r' m m' g = decoded_gives s (decode w) r r' m m' g
 
 -- where no patch is wanted, the image's instruction is executed
-pub fetch_plain : (s : Stepped) (p : Program) (t : Words) (bs : List Breakpoint) (hold : Option Hold) (r r' : Registers) (m m' : Memory) → Planted p t bs hold → r.pc < 2 ^ 32 → wanted bs hold r.pc ≡ false
+pub fetch_plain : (s : Stepped) (p : Program) (t : Words) (bs : List BreakEntry) (hold : Option Hold) (r r' : Registers) (m m' : Memory) → Planted p t bs hold → r.pc < 2 ^ 32 → wanted bs hold r.pc ≡ false
     → FetchGives s (fetched t r.pc) r r' m m' → StepGives s (plain p r m) r r' m m'
 unfolding plain
 fetch_plain s p t bs hold r r' m m' f low none g =

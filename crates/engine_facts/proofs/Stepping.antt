@@ -8,9 +8,9 @@ use Rattle.elf32_read.specs.Program.{Program}
 use Rattle.plain_machine.specs.Environment.{Goes, Leave, Stays}
 use Rattle.plain_machine.specs.Plain.{plain}
 use Rattle.hart_machine.specs.declared.hart.Core.{Core}
-use Rattle.dbg_model.specs.declared.breakpoint.Breakpoint.{Breakpoint}
+use Rattle.break_table.specs.Entry.{Entry as BreakEntry}
 use Rattle.dbg_model.specs.declared.opening.Opening.{Opening}
-use Rattle.dbg_model.specs.Breaks.{stands}
+use Rattle.break_table.specs.Table.{stands}
 use Rattle.dbg_model.specs.State.{Hart, State}
 use Rattle.dbg_model.specs.Lawful.{one, one_out, may_run, with_leavers}
 use Rattle.dbg_model.specs.Lawful as lawful
@@ -40,7 +40,7 @@ pub runs_not : {A : Type 0} (a : Activity) → a ≡ activity.Running → is_act
 runs_not a is not_active = let clash : true ≡ false = sym (ap is_active is) ∙ not_active in cc
 
 -- the lift changes what is wanted at home alone
-wanted_lifted : (bs : List Breakpoint) (h home b : ℕ) → (home ≡ b → ⊥) → wanted bs None b ≡ wanted bs (Some (record { hart = h; home = home })) b
+wanted_lifted : (bs : List BreakEntry) (h home b : ℕ) → (home ≡ b → ⊥) → wanted bs None b ≡ wanted bs (Some (record { hart = h; home = home })) b
 wanted_lifted bs h home b n = rw (differs home b n) refl
 
 and_off : (b : Bool) → (b && false) ≡ false
@@ -48,8 +48,8 @@ and_off true = refl
 and_off false = refl
 
 -- no patch is wanted where it is lifted
-pub unwanted_home : (bs : List Breakpoint) (h home : ℕ) → wanted bs (Some (record { hart = h; home = home })) home ≡ false
-unwanted_home bs h home = rw (equals home) (and_off (stands bs home))
+pub unwanted_home : (bs : List BreakEntry) (h home : ℕ) → wanted bs (Some (record { hart = h; home = home })) home ≡ false
+unwanted_home bs h home = rw (equals home) (and_off (stands home bs))
 
 -- a patch is lifted for a hart
 pub lifts : (r : Run) (h : ℕ) (c : Core) (x : Mind) (home : ℕ) (t : Words) → Facts r → Mover r h c x → x.activity ≡ activity.Running → r.hold ≡ None → c.regs.pc ≡ home → InText r.opening.image home → Repatched r.machine.text t home false
@@ -161,5 +161,8 @@ executes r h spare c c' x mem out f m runs before may is more =
           });
       planted = f.planted;
       texts = f.texts;
+      places = f.places;
+      waits = f.waits ∙ sym (length-set r.minds h x');
+      names = f.names;
       retired = retired_ran r.machine.cores h c c' r.journal m.core more f.retired;
     })

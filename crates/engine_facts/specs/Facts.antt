@@ -4,10 +4,12 @@ use Rattle.dbg_traits.specs.Settings.{AreSettings}
 use Rattle.elf32_read.specs.Program.{Program}
 use Rattle.text_words.specs.Words.{Words, shown, is_planted, unpatched}
 use Rattle.hart_machine.specs.declared.hart.Core.{Core}
-use Rattle.dbg_model.specs.declared.breakpoint.Breakpoint.{Breakpoint}
+use Rattle.break_table.specs.Entry.{Entry as BreakEntry}
+use Rattle.break_table.specs.Text.{is_instruction, is_place}
+use Rattle.elf_symbols.specs.Entries.{names_of}
 use Rattle.dbg_model.specs.declared.entry.Entry.{Entry}
 use Rattle.dbg_model.specs.declared.opening.Opening.{Opening}
-use Rattle.dbg_model.specs.Breaks.{stands}
+use Rattle.break_table.specs.Table.{stands}
 use Rattle.dbg_model.specs.Journals.{Leaves}
 use Rattle.dbg_model.specs.Erase.{erase, steps_of}
 use Rattle.engine_facts.specs.declared.mind.Hold.{Hold}
@@ -36,12 +38,12 @@ is_home None a = false
 is_home (Some d) a = d.home == a
 
 -- a patch is wanted where an enabled breakpoint stands and the patch isn't lifted
-abbrev pub wanted : List Breakpoint → Option Hold → ℕ → Bool
-wanted bs hold a = stands bs a && not (is_home hold a)
+abbrev pub wanted : List BreakEntry → Option Hold → ℕ → Bool
+wanted bs hold a = stands a bs && not (is_home hold a)
 
 -- the program's words are the image's, and a patch is planted exactly where one is wanted: so each stored word is
 -- EBREAK there, and elsewhere the image's
-pub record Planted (p : Program) (t : Words) (bs : List Breakpoint) (hold : Option Hold) : Type 0 where
+pub record Planted (p : Program) (t : Words) (bs : List BreakEntry) (hold : Option Hold) : Type 0 where
   pub words : t.words ≡ (unpatched p).words
   pub patches : (a : ℕ) → is_planted t a ≡ wanted bs hold a
 
@@ -64,8 +66,8 @@ pub record Harts (p : Program) (cores : List Core) (minds : List Mind) (hold : O
   pub holder : (d : Hold) → hold ≡ Some d → d.hart < length minds
 
 -- each breakpoint stands at a word of text
-abbrev pub AreInText : Program → List Breakpoint → Type 0
-AreInText p bs = (k : ℕ) (b : Breakpoint) → slice_get bs k ≡ Some b → InText p b.address
+abbrev pub AreInText : Program → List BreakEntry → Type 0
+AreInText p bs = (k : ℕ) (b : BreakEntry) → slice_get bs k ≡ Some b → InText p b.address
 
 -- the machine counts the instructions of each hart as the journal has them
 abbrev pub Retired : List Core → List Entry → Type 0
@@ -89,4 +91,8 @@ pub record Facts (r : Run) : Type 0 where
   pub harts : Harts r.opening.image r.machine.cores r.minds r.hold
   pub planted : Planted r.opening.image r.machine.text r.breaks r.hold
   pub texts : AreInText r.opening.image r.breaks
+  -- the table of breakpoints knows where text stands, and the harts
+  pub places : (a : ℕ) → is_place r.bounds a ≡ is_instruction r.opening.image a
+  pub waits : length r.waits ≡ length r.minds
+  pub names : r.names ≡ names_of r.opening.image
   pub retired : Retired r.machine.cores r.journal

@@ -2,3 +2,4 @@ pub mod Minds
 pub mod Seen
 pub mod Facts
 pub mod Moves
+pub mod Tables

@@ -60,6 +60,10 @@ first_mind = record { activity = activity.Stopped; fresh = false; phase = phase.
 abbrev pub ran_mind : Mind → Mind
 ran_mind x = record { activity = activity.Running; fresh = true; phase = after_step x.phase }
 
+-- a hart that breakpoints counted
+abbrev pub counted_mind : Mind → Mind
+counted_mind x = record { activity = x.activity; fresh = false; phase = x.phase }
+
 abbrev pub resumed_mind : Mind
 resumed_mind = record { activity = activity.Running; fresh = false; phase = phase.Idle }
 

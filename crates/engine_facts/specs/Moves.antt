@@ -3,14 +3,12 @@ use Rattle.std.specs.Prelude.{◌≡◌, ℕ, ◌+◌, Bool, List, [], ◌∷◌
 use Rattle.rv_exec.specs.Memory.{Memory}
 use Rattle.text_words.specs.Words.{Words, shown, is_planted}
 use Rattle.hart_machine.specs.declared.hart.Core.{Core}
-use Rattle.dbg_model.specs.declared.breakpoint.Breakpoint.{Breakpoint}
+use Rattle.break_table.specs.Entry.{Entry as BreakEntry}
 use Rattle.dbg_model.specs.declared.entry.Entry.{Entry}
-use Rattle.dbg_model.specs.Breaks.{stands}
-use Rattle.dbg_model.specs.State.{State, inserted}
+use Rattle.break_table.specs.Table.{stands}
 use Rattle.dbg_model.specs.Journals.{lengthened}
 use Rattle.engine_facts.specs.declared.mind.Hold.{Hold}
 use Rattle.engine_facts.specs.declared.mind.Mind.{Mind}
-use Rattle.engine_facts.specs.Minds.{first_mind}
 use Rattle.engine_facts.specs.Seen.{Run}
 
 -- one word is patched, or is so no more, and all others are as before
@@ -25,9 +23,9 @@ HeldInText t None = Unit {0}
 HeldInText t (Some d) = IsSome (shown t d.home)
 
 -- a lifted patch is planted again where a breakpoint stands
-abbrev pub Released : Words → Words → List Breakpoint → Option Hold → Type 0
+abbrev pub Released : Words → Words → List BreakEntry → Option Hold → Type 0
 Released old new bs None = new ≡ old
-Released old new bs (Some d) = Repatched old new d.home (stands bs d.home)
+Released old new bs (Some d) = Repatched old new d.home (stands d.home bs)
 
 -- a hart has another phase, with other patches and another hold
 abbrev pub rephased : Run → ℕ → Mind → Words → Option Hold → Run
@@ -57,35 +55,28 @@ departed r h c xs memory t lefts count spare =
       noted = r.noted + count;
     }
 
--- a hart that is idle stopped, with this entry, these patches and these breakpoints
-abbrev pub halted : Run → Entry → ℕ → Words → List Breakpoint → ℕ → Run
-halted r e h t bs spare =
+-- a hart stopped, or was counted, with this entry, these patches and these breakpoints
+abbrev pub halted : Run → Entry → ℕ → Mind → Words → List BreakEntry → ℕ → Run
+halted r e h x t bs spare =
     record r {
       journal = r.journal ++ e ∷ [];
       spare = spare;
       machine = record r.machine { text = t };
-      minds = slice_set r.minds h first_mind;
+      minds = slice_set r.minds h x;
       breaks = bs;
       noted = r.noted + 1;
     }
 
--- a line was done, after which these are the harts and the selected thread
-abbrev pub lined : Run → Entry → List Mind → ℕ → ℕ → Run
-lined r e xs selected spare =
-    record r { journal = r.journal ++ e ∷ []; spare = spare; minds = xs; selected = selected; noted = r.noted + 1 }
-
--- the state after a line that added a breakpoint
-abbrev pub broken_state : State → Breakpoint → State
-broken_state s b = record (inserted s b) { noted = s.noted + 1 }
-
--- a line was done that added a breakpoint, with these patches
-abbrev pub broken : Run → Entry → Breakpoint → Words → ℕ → Run
-broken r e b t spare =
+-- a line was done, after which these are the harts, the selected thread, the patches and the breakpoints
+abbrev pub lined : Run → Entry → List Mind → ℕ → Words → List BreakEntry → ℕ → ℕ → Run
+lined r e xs selected t bs given spare =
     record r {
       journal = r.journal ++ e ∷ [];
       spare = spare;
       machine = record r.machine { text = t };
-      breaks = r.breaks ++ b ∷ [];
-      next = r.next + 1;
+      minds = xs;
+      breaks = bs;
+      given = given;
+      selected = selected;
       noted = r.noted + 1;
     }

@@ -3,7 +3,9 @@ use Rattle.std.specs.Prelude.{ℕ, List, [], ◌∷◌, Option}
 use Rattle.std.specs.Option.{option_map_or}
 use Rattle.hart_machine.specs.declared.hart.Core.{Core}
 use Rattle.hart_machine.specs.Patched.{Patched}
-use Rattle.dbg_model.specs.declared.breakpoint.Breakpoint.{Breakpoint}
+use Rattle.break_table.specs.Entry.{Entry as BreakEntry}
+use Rattle.break_table.specs.declared.bounds.TextBounds.{TextBounds}
+use Rattle.elf_symbols.specs.Names.{Names}
 use Rattle.dbg_model.specs.declared.entry.Entry.{Entry}
 use Rattle.dbg_model.specs.declared.opening.Opening.{Opening}
 use Rattle.dbg_model.specs.State.{Hart, State}
@@ -20,8 +22,13 @@ pub record Run : Type 0 where
   pub machine : Patched
   pub minds : List Mind
   pub hold : Option Hold
-  pub breaks : List Breakpoint
-  pub next : ℕ
+  -- the breakpoints, how many numbers were given to breakpoints, where text stands, and where each hart waits
+  pub breaks : List BreakEntry
+  pub given : ℕ
+  pub bounds : List TextBounds
+  pub waits : List (Option ℕ)
+  -- the program's symbols
+  pub names : Names
   pub selected : ℕ
   pub retired : ℕ
   pub noted : ℕ
@@ -45,7 +52,7 @@ seen_with r out = record {
   memory = r.machine.memory;
   out = out;
   breaks = r.breaks;
-  next = r.next;
+  given = r.given;
   selected = r.selected;
   retired = r.retired;
   noted = r.noted;

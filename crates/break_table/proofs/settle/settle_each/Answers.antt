@@ -1,13 +1,7 @@
 use Rattle.std.proofs.Common.{arith, ◌<◌, length}
 use Rattle.break_table.specs.Entry.{entry_of}
-use Rattle.break_table.specs.Arrival.{CanRise}
-use Rattle.break_table.proofs.Lists.{DoneBelow-more, All-map, map-by_index}
+use Rattle.break_table.proofs.Lists.{DoneBelow-more, map-by_index}
 use Rattle.break_table.proofs.settle.settle_each.Goals as goal
-
-pub settle_entry-requires : goal.settle_entry-requires
-settle_entry-requires g c =
-    rw (c.loop-entry.invariant.rest c.loop-entry.entry-index c.entry-item.result (omega arith))
-    (All-map CanRise entry_of c.args.entries.now c.requires c.loop-entry.entry-index c.entry-item.result c.loop-entry-test.true)
 
 pub loop-entry-preserved : goal.loop-entry-preserved
 loop-entry-preserved g c =

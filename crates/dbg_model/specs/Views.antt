@@ -1,0 +1,14 @@
+-- What is seen of a hart: its registers, and the bytes of memory with the program's text.
+use Rattle.std.specs.Prelude.{ℕ, Option, if◌then◌else◌, nat_lt}
+use Rattle.rv_exec.specs.Registers.{Registers, get}
+use Rattle.rv_exec.specs.Memory.{Memory}
+use Rattle.elf32_read.specs.Program.{Program, in_text, mapped}
+use Rattle.data_memory.specs.Ranges.{value_at}
+
+-- a register by its number; 32 is pc
+abbrev pub register : Registers → ℕ → ℕ
+register r n = if nat_lt n 32 then get r n else r.pc
+
+-- a byte as it is shown: text as the file has it, and data as it is now
+abbrev pub shown_byte : Program → Memory → ℕ → Option ℕ
+shown_byte p m addr = if in_text p addr then mapped p addr else value_at m addr

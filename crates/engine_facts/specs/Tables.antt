@@ -1,0 +1,24 @@
+-- The breakpoints of a table over the words of text.
+use Rattle.std.specs.Prelude.{◌≡◌, ℕ, Bool, true, false, List, [], ◌∷◌, Option, Some, None, IsSome, ◌==◌, slice_get}
+use Rattle.text_words.specs.Words.{Words, shown, is_planted}
+use Rattle.break_table.specs.Entry.{Entry as BreakEntry}
+use Rattle.engine_facts.specs.declared.mind.Hold.{Hold}
+use Rattle.engine_facts.specs.Facts.{wanted}
+
+abbrev pub number_place_by : Bool → BreakEntry → Option ℕ → Option ℕ
+number_place_by true b rest = Some b.address
+number_place_by false b rest = rest
+
+-- the address of the breakpoint of a number
+abbrev pub number_place : List BreakEntry → ℕ → Option ℕ
+number_place [] number = None
+number_place (b ∷ bs) number = number_place_by (b.number == number) b (number_place bs number)
+
+-- each breakpoint stands at a word of text
+abbrev pub HaveWords : Words → List BreakEntry → Type 0
+HaveWords t bs = (k : ℕ) (b : BreakEntry) → slice_get bs k ≡ Some b → IsSome (shown t b.address)
+
+-- a patch is planted exactly where one is wanted
+pub record ArePlanted (t : Words) (bs : List BreakEntry) (hold : Option Hold) : Type 0 where
+  pub patches : (a : ℕ) → is_planted t a ≡ wanted bs hold a
+  pub words : HaveWords t bs
