@@ -1,8 +1,8 @@
 -- What an arrival does where no entry stands.
-use Rattle.std.proofs.Common.{◌≡◌, ℕ, ◌+◌, ◌-◌, ap, refl, Bool, true, false, ◌&&◌, cond, List, [], ◌∷◌, filter, Option, None, ◌==◌}
+use Rattle.std.proofs.Common.{◌≡◌, ℕ, ◌-◌, ap, refl, Bool, true, false, ◌&&◌, cond, List, [], ◌∷◌, filter, Option, None, ◌==◌}
 use Rattle.std.specs.List.{list_any}
 use Rattle.break_table.specs.Entry.{Entry}
-use Rattle.break_table.specs.Arrival.{fits, counts, stops, settled_entry, settled, told, due_of}
+use Rattle.break_table.specs.Arrival.{fits, counts, stops, raised, settled_entry, settled, told, due_of}
 use Rattle.break_table.specs.Table.{stands}
 use Rattle.break_table.proofs.Marking.{NoneAt}
 
@@ -43,5 +43,5 @@ module _ (hart : ℕ) (registers : ℕ → ℕ) (bytes : ℕ → Option ℕ) whe
   pub settled_entry-number : (e : Entry) → (settled_entry hart registers bytes e).number ≡ e.number
   settled_entry-number e =
       elim (counts hart (registers 32) e) as
-      (λ c. (cond c (record e { times = e.times + 1; ignore = e.ignore - 1 }) (cond (stops hart registers bytes e) (record e { times = e.times + 1 }) e)).number ≡ e.number)
-      [ true ↦ refl | false ↦ elim (stops hart registers bytes e) as (λ s. (cond s (record e { times = e.times + 1 }) e).number ≡ e.number) [ true ↦ refl | false ↦ refl ] ]
+      (λ c. (cond c (record e { times = raised e.times; ignore = e.ignore - 1 }) (cond (stops hart registers bytes e) (record e { times = raised e.times }) e)).number ≡ e.number)
+      [ true ↦ refl | false ↦ elim (stops hart registers bytes e) as (λ s. (cond s (record e { times = raised e.times }) e).number ≡ e.number) [ true ↦ refl | false ↦ refl ] ]

@@ -15,7 +15,7 @@ use Rattle.hart_machine.specs.Stepping.{StepsTo, StepGives}
 use Rattle.hart_machine.proofs.Places.{set_known}
 use Rattle.dbg_model.specs.declared.entry.Entry.{Entry}
 use Rattle.dbg_model.specs.declared.entry.Entry.TheVariants.{Left}
-use Rattle.dbg_model.specs.State.{Hart, due}
+use Rattle.dbg_model.specs.State.{Hart, due, is_due}
 use Rattle.dbg_model.specs.Lawful.{may_go, may_move, may_run}
 use Rattle.dbg_model.specs.Journals.{lengthened}
 use Rattle.engine_facts.specs.declared.mind.Activity.TheVariants as activity
@@ -34,7 +34,7 @@ use Rattle.engine_facts.proofs.Stepping.{executes, one_seen, unwanted}
 use Rattle.engine_facts.proofs.Exiting.{Departs, departs_alone, departs_all}
 use Rattle.engine_facts.proofs.Stopping.{may_by}
 use Rattle.dbg_engine.specs.Steps.{Parts, applied, turned_of, is_done, is_exit, ReleasedBy}
-use Rattle.dbg_engine.specs.Calls.{Of, Executes, Runs, Exits, TrapsAt}
+use Rattle.dbg_engine.specs.Calls.{Of, Undue, Executes, Runs, Exits, TrapsAt}
 
 -- the parts of an engine beside its machine and hold
 abbrev pub parts_of : Run → Parts
@@ -61,12 +61,12 @@ pub moves_by : (r : Run) (c : Core) (x : Mind) → may_go r.opening (seen r) ≡
 moves_by r c x may runs = rw (may, runs) refl
 
 pub ready : (r : Run) (h : ℕ) (x : Mind) (pc : ℕ) → Facts r → slice_get r.minds h ≡ Some x → is_before x.phase ≡ true → x.activity ≡ activity.Running → other_holder r.hold h ≡ None → Of r h (λ y. y.regs.pc ≡ pc)
-    → Of r h (λ y. due (seen r).breaks h y ≡ None) → (x.phase ≡ phase.Idle → is_planted r.machine.text pc ≡ false) → may_go r.opening (seen r) ≡ true → (c : Core) × Ready r h c x
+    → Undue r h → (x.phase ≡ phase.Idle → is_planted r.machine.text pc ≡ false) → may_go r.opening (seen r) ≡ true → (c : Core) × Ready r h c x
 ready r h x pc f at before runs free is none clear may =
     let k = core_at r h x f at in
     let c = k.0 in
     let here : c.regs.pc ≡ pc = of_hart r h c x (λ y. y.regs.pc ≡ pc) k.1 is in
-    let undue = of_hart r h c x (λ y. due (seen r).breaks h y ≡ None) k.1 none in (
+    let undue = of_hart r h c x (λ y. is_due (due r.opening.image (seen r) h y) ≡ false) k.1 none in (
       c,
       record {
         facts = f;
@@ -86,7 +86,7 @@ pub record Readied (r : Run) (h : ℕ) (x : Mind) : Type 0 where
   pub small : Small r
 
 pub readied : (r s : Run) (h pc : ℕ) (x : Mind) → r ≡ s → Facts r → slice_get s.minds h ≡ Some x → is_before x.phase ≡ true → x.activity ≡ activity.Running → other_holder s.hold h ≡ None → Of s h (λ y. y.regs.pc ≡ pc)
-    → Of s h (λ y. due (seen s).breaks h y ≡ None) → (x.phase ≡ phase.Idle → is_planted s.machine.text pc ≡ false) → may_go s.opening (seen s) ≡ true → Readied r h x
+    → Undue s h → (x.phase ≡ phase.Idle → is_planted s.machine.text pc ≡ false) → may_go s.opening (seen s) ≡ true → Readied r h x
 readied r s h pc x same f at before runs free is none clear may =
     let g : Facts s = subst Facts same f in
     let k = ready s h x pc g at before runs free is none clear may in

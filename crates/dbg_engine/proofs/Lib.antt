@@ -4,5 +4,7 @@ pub mod Holds
 pub mod Commanding
 pub mod Marking
 pub mod Words
+pub mod Tabling
+pub mod Reading
 pub mod GoingOn
 pub mod Replies

@@ -10,13 +10,12 @@ use Rattle.mi_commands.specs.declared.refusal.Fault.{Fault}
 use Rattle.mi_commands.specs.declared.refusal.Refusal.{Refusal}
 use Rattle.mi_commands.specs.declared.refusal.Refusal.TheVariants.{NoMemory, Long, Syntax, Cli, Faulty}
 use Rattle.hart_machine.specs.declared.hart.Core.{Core}
-use Rattle.dbg_model.specs.declared.reply.Content.{Content}
 use Rattle.dbg_model.specs.declared.reply.Content.TheVariants as content
 use Rattle.dbg_model.specs.declared.reply.Refused.TheVariants as refused
 use Rattle.dbg_model.specs.declared.reply.Register.{Register}
-use Rattle.dbg_model.specs.declared.reply.Reply.{Reply}
 use Rattle.dbg_model.specs.State.{Hart}
-use Rattle.dbg_model.specs.Reply.{valued, numbers_below, shown_byte, shown_range, and_byte, thread_hart, reply_of, content_of, fault_content, is_wait, waits}
+use Rattle.dbg_model.specs.Views.{shown_byte}
+use Rattle.dbg_model.specs.Reply.{Outcome, Answer, refusing, valued, numbers_below, shown_range, and_byte, thread_hart, answer_of, outcome_at, fault_outcome, is_wait, waits}
 use Rattle.dbg_model.proofs.Replying.{reply_long, reply_malformed, reply_cli, reply_answers, wait_answers, wait_long, wait_none, wait_cli}
 use Rattle.engine_facts.specs.declared.mind.Hold.{Hold}
 use Rattle.engine_facts.specs.declared.mind.Mind.{Mind}
@@ -88,36 +87,38 @@ range_goes p m addr k bytes b so some =
     let at = (addr + k) % 2 ^ 32 in
     range_more p m addr k ∙ (ap (λ r. and_byte r at (shown_byte p m at)) so ∙ ap (and_byte (Ok bytes) at) (sym some))
 
--- ---- replies
+-- ---- answers
 
-abbrev reply : List ℕ → Content → Reply
-reply t c = record { token = t; content = c }
+abbrev pub answered_with : List ℕ → Outcome → Answer
+answered_with t o = record { token = t; outcome = o }
 
-both_are : (r : Reply) (t : List ℕ) (c : Content) → r.token ≡ t → r.content ≡ c → r ≡ reply t c
-both_are r t c e f = ap (λ u. reply u r.content) e ∙ ap (reply t) f
+both_are : (t u : List ℕ) (o p : Outcome) → t ≡ u → o ≡ p → answered_with t o ≡ answered_with u p
+both_are t u o p e f = ap (λ v. answered_with v o) e ∙ ap (answered_with u) f
 
-pub reply_made : (r : Run) (line token : List ℕ) (cmd : Command) (c : Content) → (length line ≤ 4096) × HasAnswer line token (Ok cmd)
-    → c ≡ content_of r.opening.image (seen_harts r.machine.cores r.minds) r.machine.memory r.breaks r.next r.selected cmd → record { token = token; content = c } ≡ reply_of r.opening (seen r) line
-reply_made r line token cmd c h e = ap (reply token) e ∙ sym (reply_answers r.opening (seen r) line token (Ok cmd) h.0 h.1)
+pub reply_made : (r : Run) (line token : List ℕ) (cmd : Command) (o : Outcome) → Facts r → (length line ≤ 4096) × HasAnswer line token (Ok cmd)
+    → o ≡ outcome_at r.opening.image r.names (seen_harts r.machine.cores r.minds) r.machine.memory r.breaks r.given r.selected cmd → answered_with token o ≡ answer_of r.opening (seen r) line
+reply_made r line token cmd o f h e =
+    let names = ap (λ ns. outcome_at r.opening.image ns (seen_harts r.machine.cores r.minds) r.machine.memory r.breaks r.given r.selected cmd) f.names in
+    ap (answered_with token) (e ∙ names) ∙ sym (reply_answers r.opening (seen r) line token (Ok cmd) h.0 h.1)
 
-pub reply_faulty : (r : Run) (line token : List ℕ) (f : Fault) (c : Content) → (length line ≤ 4096) × HasAnswer line token (Err f) → c ≡ fault_content (seen_harts r.machine.cores r.minds) f
-    → record { token = token; content = c } ≡ reply_of r.opening (seen r) line
-reply_faulty r line token f c h e = ap (reply token) e ∙ sym (reply_answers r.opening (seen r) line token (Err f) h.0 h.1)
+pub reply_faulty : (r : Run) (line token : List ℕ) (f : Fault) (o : Outcome) → (length line ≤ 4096) × HasAnswer line token (Err f) → o ≡ fault_outcome (seen_harts r.machine.cores r.minds) f
+    → answered_with token o ≡ answer_of r.opening (seen r) line
+reply_faulty r line token f o h e = ap (answered_with token) e ∙ sym (reply_answers r.opening (seen r) line token (Err f) h.0 h.1)
 
-pub reply_too_long : (r : Run) (line : List ℕ) (a : Reply) (f : Refusal) → f ≡ Long → Commands line (Err f) → a.token ≡ [] → a.content ≡ content.Refused refused.Long → a ≡ reply_of r.opening (seen r) line
-reply_too_long r line a f is h t c =
+pub reply_too_long : (r : Run) (line token : List ℕ) (o : Outcome) (f : Refusal) → f ≡ Long → Commands line (Err f) → token ≡ [] → o ≡ refusing (content.Refused refused.Long) → answered_with token o ≡ answer_of r.opening (seen r) line
+reply_too_long r line token o f is h t c =
     let g : Commands line (Err Long) = subst (λ (x : Refusal). Commands line (Err x)) is h in
-    both_are a [] (content.Refused refused.Long) t c ∙ sym (reply_long r.opening (seen r) line g)
+    both_are token [] o (refusing (content.Refused refused.Long)) t c ∙ sym (reply_long r.opening (seen r) line g)
 
-pub reply_syntax : (r : Run) (line : List ℕ) (a : Reply) (f : Refusal) → f ≡ Syntax → Commands line (Err f) → a.token ≡ [] → a.content ≡ content.Refused refused.Syntax → a ≡ reply_of r.opening (seen r) line
-reply_syntax r line a f is h t c =
+pub reply_syntax : (r : Run) (line token : List ℕ) (o : Outcome) (f : Refusal) → f ≡ Syntax → Commands line (Err f) → token ≡ [] → o ≡ refusing (content.Refused refused.Syntax) → answered_with token o ≡ answer_of r.opening (seen r) line
+reply_syntax r line token o f is h t c =
     let g : Commands line (Err Syntax) = subst (λ (x : Refusal). Commands line (Err x)) is h in
-    both_are a [] (content.Refused refused.Syntax) t c ∙ sym (reply_malformed r.opening (seen r) line g.0 g.1 g.2)
+    both_are token [] o (refusing (content.Refused refused.Syntax)) t c ∙ sym (reply_malformed r.opening (seen r) line g.0 g.1 g.2)
 
-pub reply_no_command : (r : Run) (line token : List ℕ) (f : Refusal) → f ≡ Cli token → Commands line (Err f) → record { token = token; content = content.Refused refused.Cli } ≡ reply_of r.opening (seen r) line
-reply_no_command r line token f is h =
+pub reply_no_command : (r : Run) (line token : List ℕ) (o : Outcome) (f : Refusal) → f ≡ Cli token → Commands line (Err f) → o ≡ refusing (content.Refused refused.Cli) → answered_with token o ≡ answer_of r.opening (seen r) line
+reply_no_command r line token o f is h c =
     let g : Commands line (Err (Cli token)) = subst (λ (x : Refusal). Commands line (Err x)) is h in
-    sym (reply_cli r.opening (seen r) line token g.0 g.1 g.2)
+    ap (answered_with token) c ∙ sym (reply_cli r.opening (seen r) line token g.0 g.1 g.2)
 
 -- ---- waiting
 

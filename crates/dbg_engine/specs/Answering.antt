@@ -6,12 +6,19 @@ use Rattle.std.specs.Global.{Vec}
 use Rattle.mi_commands.specs.declared.refusal.Refusal.{Refusal}
 use Rattle.mi_commands.specs.declared.refusal.Refusal.TheVariants as refusal
 use Rattle.hart_machine.specs.declared.hart.Core.{Core}
-use Rattle.dbg_model.specs.declared.breakpoint.Breakpoint.{Breakpoint}
+use Rattle.cond_expr.specs.declared.expr.Expr.{Expr}
+use Rattle.cond_expr.specs.declared.fault.ExprFault.{ExprFault}
+use Rattle.cond_expr.specs.declared.fault.ParseError.{ParseError}
+use Rattle.cond_expr.specs.declared.fault.ParseError.TheVariants as failures
+use Rattle.cond_expr.specs.Term.{Term}
+use Rattle.cond_expr.specs.Condition.{text_of, tree_of}
 use Rattle.dbg_model.specs.declared.reply.Content.{Content}
-use Rattle.dbg_model.specs.declared.reply.Content.TheVariants as content
 use Rattle.dbg_model.specs.declared.reply.Obstacle.{Obstacle}
 use Rattle.dbg_model.specs.State.{Hart}
-use Rattle.dbg_model.specs.Reply.{of_stopped, of_live, hindered, reply_of}
+use Rattle.dbg_model.specs.Reply.{Change, Outcome, implied, of_stopped, of_live, hindered, answer_of}
+use Rattle.dbg_engine.specs.declared.answering.Response.{Response}
+use Rattle.dbg_engine.specs.declared.breaking.BreakChange.{BreakChange}
+use Rattle.dbg_engine.specs.Changing.{break_change}
 use Rattle.dbg_engine.specs.declared.answering.ReadError.{ReadError}
 use Rattle.dbg_engine.specs.declared.answering.ReadError.TheVariants.{NoMemory, Unreadable}
 use Rattle.engine_facts.specs.declared.mind.Mind.{Mind}
@@ -45,17 +52,23 @@ Reads (Ok v) r = r ≡ Ok v.items
 Reads (Err (NoMemory e)) r = Unit {0}
 Reads (Err (Unreadable at)) r = r ≡ Err at
 
--- the line sets this breakpoint
-abbrev pub IsInserted : Run → List ℕ → Breakpoint → Type 0
-IsInserted r line b = (reply_of r.opening (seen r) line).content ≡ content.Inserted b
+-- what is answered, as the model has it
+abbrev pub change_of : Content → Option BreakChange → Change
+change_of c None = implied c
+change_of c (Some b) = break_change b
 
-abbrev pub SetsNone : Content → Type 0
-SetsNone (content.Inserted b) = ⊥
-SetsNone c = Unit {0}
+abbrev pub seen_response : Response → Outcome
+seen_response r = record { content = r.content; change = change_of r.content r.change }
 
--- this is answered to the line, and sets no breakpoint
-abbrev pub IsNoted : Run → List ℕ → Content → Type 0
-IsNoted r line c = ((reply_of r.opening (seen r) line).content ≡ c) × SetsNone c
+-- the tree that was read, with its text, or the fault
+abbrev pub ReadsAs : Result Expr ParseError → Result Term ExprFault → List ℕ → Type 0
+ReadsAs (Ok e) r text = (r ≡ Ok (tree_of e)) × (text_of e ≡ text)
+ReadsAs (Err failures.NoMemory) r text = Unit {0}
+ReadsAs (Err (failures.Fault f)) r text = r ≡ Err f
+
+-- the line makes this change
+abbrev pub Makes : Run → List ℕ → Change → Type 0
+Makes r line c = (answer_of r.opening (seen r) line).outcome.change ≡ c
 
 -- memory was wanting when the line was read
 abbrev pub is_memory : Refusal → Bool

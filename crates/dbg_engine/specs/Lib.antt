@@ -1,4 +1,5 @@
 pub mod Steps
+pub mod Changing
 pub mod Calls
 pub mod EngineInside
 pub mod Answering

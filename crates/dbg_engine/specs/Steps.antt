@@ -3,7 +3,7 @@ use Rattle.std.specs.Prelude.{◌≡◌, ℕ, ◌+◌, ◌<◌, Bool, true, fals
 use Rattle.rv_exec.specs.declared.effect.Stepped.{Stepped}
 use Rattle.rv_exec.specs.declared.effect.Stepped.TheVariants as stepped
 use Rattle.hart_machine.specs.Patched.{Patched}
-use Rattle.dbg_model.specs.declared.breakpoint.Breakpoint.{Breakpoint}
+use Rattle.break_table.specs.Entry.{Entry as BreakEntry}
 use Rattle.dbg_model.specs.declared.entry.Entry.{Entry}
 use Rattle.dbg_model.specs.declared.entry.Entry.TheVariants.{Left}
 use Rattle.dbg_model.specs.Journals.{lengthened}
@@ -32,7 +32,7 @@ is_done stepped.Hit = false
 is_done (stepped.Trap cause) = false
 
 -- after an exit no patch stays lifted, and else nothing changed
-abbrev pub ReleasedBy : Bool → Patched → Patched → Option Hold → Option Hold → List Breakpoint → Type 0
+abbrev pub ReleasedBy : Bool → Patched → Patched → Option Hold → Option Hold → List BreakEntry → Type 0
 ReleasedBy true m n hold hold' bs = (hold' ≡ None) × Released m.text n.text bs hold × (n ≡ record m { text = n.text })
 ReleasedBy false m n hold hold' bs = (hold' ≡ hold) × (n ≡ m)
 
@@ -89,4 +89,5 @@ IsTurned turned.Lifted = Unit {0}
 IsTurned turned.Ran = Unit {0}
 IsTurned (turned.Wrote addr len) = Unit {0}
 IsTurned (turned.Stopped cause) = Unit {0}
-IsTurned (turned.Arrived number temporary) = Unit {0}
+IsTurned turned.Counted = Unit {0}
+IsTurned (turned.Arrived number temporary error) = Unit {0}

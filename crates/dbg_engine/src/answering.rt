@@ -1,22 +1,34 @@
 // What is answered to a command, over the parts of an engine.
-ghost use Rattle.std.specs.Prelude.{◌≡◌, ◌+◌, ◌++◌, ◌<◌, ◌≤◌, ◌^◌, [], ◌∷◌, length, map, IfOk, OnOk, Ok};
-ghost use Rattle.dbg_model.specs.Reply.{content_of, continued, threads_of, thread_hart, of_stopped, of_live, running, selecting, one_shown, registers_of, thread_number, register, valued, numbers_below, shown_thread, live_threads, stopped_threads, shown_byte, shown_range, memory_of, hindered, unknown_thread, placed, inserted_by, fault_content, is_wait, waits, going_on, selected_after};
+ghost use Rattle.std.specs.Prelude.{◌≡◌, ◌+◌, ◌-◌, ◌++◌, ◌<◌, ◌≤◌, ◌^◌, [], ◌∷◌, length, map, IfOk, OnOk, Ok};
+ghost use Rattle.std.specs.Option.{option_map};
+ghost use Rattle.elf_symbols.specs.Names.{function_at};
+ghost use Rattle.break_table.specs.Entry.{condition_of, entry_of};
+ghost use Rattle.break_table.specs.Table.{has_number};
+ghost use Rattle.dbg_model.specs.Breaks.{missing_number};
+ghost use Rattle.dbg_model.specs.Conditions.{parsed};
+ghost use Rattle.dbg_model.specs.Views.{register, shown_byte};
+ghost use Rattle.dbg_model.specs.Reply.{content_of, continued, threads_of, thread_hart, of_stopped, of_live, running, selecting, one_shown, registers_of, thread_number, valued, numbers_below, shown_thread, live_threads, stopped_threads, shown_range, memory_of, hindered, unknown_thread, name_of, condition_text, listed, evaluated, worth_of, unless_missing, changing, refusing, conditioned, conditioned_as, set_by, set_as, setting, asked_at, placed, inserted_at, inserted_by, named_at, outcome_at, fault_outcome, is_wait, waits, implied, going_on, selected_after, deletes, enables, ignores};
 ghost use Rattle.engine_facts.specs.Seen.{seen_harts, seen_hart};
 ghost use Rattle.dbg_engine.specs.declared.answering.ReadError.TheVariants.{NoMemory};
-ghost use Rattle.dbg_engine.specs.Answering.{found_hart, IsStopped, IsLive, Reads, option_list, is_memory};
+ghost use Rattle.dbg_engine.specs.Changing.{break_change};
+ghost use Rattle.dbg_engine.specs.Answering.{found_hart, seen_response, ReadsAs, IsStopped, IsLive, Reads, option_list, is_memory};
 
+use crate::breaking::BreakChange;
+use crate::view::{ShownHart, register, shown_byte};
+use break_table::{BreakEntry, BreakTable, Location as PlaceText, Spec};
+use cond_expr::{Expr, ParseError, Value, parse, value};
 use dbg_model::{
-    Breakpoint, Content, MOST_BREAKPOINTS, Obstacle, Refused, Register, RegisterList, Reply,
-    Thread, ThreadList,
+    Breakpoint, BreakpointList, Content, MOST_BREAKPOINTS, Obstacle, Refused, Register,
+    RegisterList, Thread, ThreadList,
 };
 use dbg_traits::NoMemory;
 use elf32_read::Image;
+use elf_symbols::Symbols;
 use engine_facts::{Activity, Mind};
 use hart_machine::{Core, Machine};
 use mi_commands::{
     ByteList, Command, Fault, Format, Insertion, Location, NumberList, Refusal, Target, command_of,
 };
-use mi_values::Token;
 use std::alloc::{AllocError, Global};
 
 /// How many registers there are: x0 to x31, and pc.
@@ -160,16 +172,6 @@ fn push_live(
     push_live(into, cores, minds, thread + 1)
 }
 
-fn register(core: &Core, n: u32) -> u32
-    ensures { result ≡ register core.now.regs n }
-{
-    if n < 32 {
-        core.regs.get(n)
-    } else {
-        core.regs.pc()
-    }
-}
-
 // The registers of these numbers.
 fn push_registers(into: &mut Vec<Register>, core: &Core, numbers: &[u32]) -> Result<(), AllocError>
     ensures { OnOk result (into.new.items ≡ into.old.items ++ map (valued core.now.regs) numbers.now) }
@@ -179,7 +181,7 @@ fn push_registers(into: &mut Vec<Register>, core: &Core, numbers: &[u32]) -> Res
     };
     into.push(Register {
         number: *number,
-        value: register(core, *number),
+        value: register(&core.regs, *number),
     })?;
     push_registers(into, core, rest)
 }
@@ -190,7 +192,7 @@ fn push_all_registers(into: &mut Vec<Register>, core: &Core) -> Result<(), Alloc
     for number in 0..REGISTERS {
         into.push(Register {
             number,
-            value: register(core, number),
+            value: register(&core.regs, number),
         })?;
     }
     Ok(())
@@ -219,16 +221,6 @@ fn registers(
         format,
         registers: RegisterList::of(registers),
     })
-}
-
-fn shown_byte(image: &Image, machine: &Machine, addr: u32) -> Option<u8>
-    ensures { result ≡ shown_byte image.now machine.now.memory addr }
-{
-    if image.in_text(addr) {
-        image.mapped(addr)
-    } else {
-        machine.byte(addr)
-    }
 }
 
 fn push_byte(into: &mut Vec<u8>, byte: u8) -> Result<(), AllocError>
@@ -417,79 +409,409 @@ fn unknown_thread(cores: &[Core], minds: &[Mind], thread: Option<u32>) -> Option
     }
 }
 
-// A breakpoint at an address, where a word of text and room are.
+// ---- expressions
+
+// The expression that a text spells, or its fault.
+fn read_condition(alloc: Global, text: &[u8], symbols: &Symbols) -> Result<Expr, ParseError>
+    ensures { ReadsAs result (parsed symbols.now text.now) text.now }
+{
+    parse(alloc, text, symbols)
+}
+
+fn worth(value: Value) -> Content
+    ensures { result ≡ worth_of value }
+{
+    match value {
+        Value::Word(word, unsigned) => Content::Value { word, unsigned },
+        Value::DivZero => hindered(Obstacle::DivisionByZero),
+        Value::Unread(addr) => hindered(Obstacle::Unreadable(addr)),
+    }
+}
+
+// The value of an expression for a thread that has to be stopped.
+fn evaluate(
+    alloc: Global,
+    image: &Image,
+    symbols: &Symbols,
+    machine: &Machine,
+    thread: u32,
+    found: Option<(&Core, Mind)>,
+    text: &[u8],
+) -> Result<Content, NoMemory>
+    ensures { IfOk result (λ c. c ≡ of_stopped thread (evaluated image.now symbols.now machine.now.memory text.now) (found_hart found.entry)) }
+{
+    let (core, _) = match stopped(thread, found) {
+        Ok(hart) => hart,
+        Err(obstacle) => return Ok(hindered(obstacle)),
+    };
+    match read_condition(alloc, text, symbols) {
+        Ok(expression) => {
+            let view = ShownHart {
+                regs: &core.regs,
+                image,
+                machine,
+            };
+            Ok(worth(value(&expression, &view)))
+        }
+        Err(ParseError::Fault(fault)) => Ok(hindered(Obstacle::Expression(fault))),
+        Err(ParseError::NoMemory) => Err(NoMemory),
+    }
+}
+
+// ---- breakpoints
+
+/// What is answered to a line, and what it changes of the breakpoints.
+#[derive(Drop)]
+pub struct Response {
+    pub content: Content,
+    /// Nothing where the line changes no breakpoint.
+    pub change: Option<BreakChange>,
+}
+
+fn refusing(obstacle: Obstacle) -> Response
+    ensures { seen_response result ≡ refusing (hindered obstacle) }
+{
+    Response {
+        content: hindered(obstacle),
+        change: None,
+    }
+}
+
+fn changing(change: BreakChange) -> Response
+    ensures { seen_response result ≡ changing (break_change change) }
+{
+    Response {
+        content: Content::Done,
+        change: Some(change),
+    }
+}
+
+fn bytes_of(alloc: Global, bytes: &[u8]) -> Result<ByteList, AllocError>
+    ensures { IfOk result (λ b. b ≡ bytes.now) }
+{
+    Ok(ByteList::of(Vec::from_slice(alloc, bytes)?))
+}
+
+// The name of the function at an address.
+fn function_at(alloc: Global, symbols: &Symbols, addr: u32) -> Result<Option<ByteList>, AllocError>
+    ensures { IfOk result (λ f. f ≡ option_map name_of (function_at symbols.now addr)) }
+{
+    match symbols.function_at(addr) {
+        None => Ok(None),
+        Some(named) => Ok(Some(bytes_of(alloc, named.name)?)),
+    }
+}
+
+fn condition_text(alloc: Global, condition: &Option<Expr>) -> Result<Option<ByteList>, AllocError>
+    ensures { IfOk result (λ t. t ≡ option_map condition_text (option_map condition_of condition.now)) }
+{
+    match condition {
+        None => Ok(None),
+        Some(expression) => Ok(Some(bytes_of(alloc, expression.text())?)),
+    }
+}
+
+// A breakpoint as it is listed.
+fn list(alloc: Global, symbols: &Symbols, entry: &BreakEntry) -> Result<Breakpoint, AllocError>
+    ensures { IfOk result (λ b. b ≡ listed symbols.now (entry_of entry.now)) }
+{
+    Ok(Breakpoint {
+        number: entry.number,
+        address: entry.address,
+        function: function_at(alloc, symbols, entry.address)?,
+        location: bytes_of(alloc, entry.location.as_slice())?,
+        temporary: entry.temporary,
+        enabled: entry.enabled,
+        ignore: entry.ignore,
+        condition: condition_text(alloc, &entry.condition)?,
+        thread: entry.thread,
+        times: entry.times,
+    })
+}
+
+fn push_listed(
+    alloc: Global,
+    into: &mut Vec<Breakpoint>,
+    symbols: &Symbols,
+    entries: &[BreakEntry],
+) -> Result<(), AllocError>
+    ensures { OnOk result (into.new.items ≡ into.old.items ++ map (listed symbols.now) (map entry_of entries.now)) }
+{
+    let [first, rest @ ..] = entries else {
+        return Ok(());
+    };
+    let listed = list(alloc, symbols, first)?;
+    into.push(listed)?;
+    push_listed(alloc, into, symbols, rest)
+}
+
+fn breakpoints(
+    alloc: Global,
+    symbols: &Symbols,
+    entries: &[BreakEntry],
+) -> Result<Content, AllocError>
+    ensures { IfOk result (λ c. c ≡ Content.Breakpoints (map (listed symbols.now) (map entry_of entries.now))) }
+{
+    let mut listed = Vec::new(alloc);
+    push_listed(alloc, &mut listed, symbols, entries)?;
+    Ok(Content::Breakpoints(BreakpointList::of(listed)))
+}
+
+fn has_number(entries: &[BreakEntry], number: u32) -> bool
+    ensures { result ≡ has_number number (map entry_of entries.now) }
+{
+    match entries {
+        [] => false,
+        [first, rest @ ..] => first.number == number || has_number(rest, number),
+    }
+}
+
+// The first of the numbers that no breakpoint has.
+fn missing(entries: &[BreakEntry], numbers: &[u32]) -> Option<u32>
+    ensures { result ≡ missing_number (map entry_of entries.now) numbers.now }
+{
+    match numbers {
+        [] => None,
+        [first, rest @ ..] => {
+            if has_number(entries, *first) {
+                missing(entries, rest)
+            } else {
+                Some(*first)
+            }
+        }
+    }
+}
+
+// A change of breakpoints that have to be there.
+fn unless_missing(missing: Option<u32>, change: BreakChange) -> Response
+    ensures { seen_response result ≡ unless_missing missing (changing (break_change change)) }
+{
+    match missing {
+        Some(number) => refusing(Obstacle::NoBreakpoint(number)),
+        None => changing(change),
+    }
+}
+
+fn delete(table: &BreakTable, numbers: NumberList) -> Response
+    ensures { seen_response result ≡ unless_missing (missing_number table.now.entries numbers) (changing (deletes numbers)) }
+{
+    unless_missing(
+        missing(table.entries(), numbers.as_slice()),
+        BreakChange::Delete(numbers),
+    )
+}
+
+fn enable(table: &BreakTable, numbers: NumberList, enabled: bool) -> Response
+    ensures { seen_response result ≡ unless_missing (missing_number table.now.entries numbers) (changing (enables enabled numbers)) }
+{
+    unless_missing(
+        missing(table.entries(), numbers.as_slice()),
+        BreakChange::Enable { numbers, enabled },
+    )
+}
+
+fn after(table: &BreakTable, number: u32, count: u32) -> Response
+    ensures { seen_response result ≡ unless_missing (missing_number table.now.entries (number ∷ [])) (changing (ignores number count)) }
+{
+    unless_missing(
+        missing(table.entries(), &[number]),
+        BreakChange::After { number, count },
+    )
+}
+
+// A condition of a breakpoint that is there, or none.
+fn condition(
+    alloc: Global,
+    symbols: &Symbols,
+    number: u32,
+    text: Option<ByteList>,
+) -> Result<Response, NoMemory>
+    ensures { IfOk result (λ r. seen_response r ≡ conditioned symbols.now number text) }
+{
+    let Some(text) = text else {
+        return Ok(changing(BreakChange::Condition {
+            number,
+            condition: None,
+        }));
+    };
+    match read_condition(alloc, text.as_slice(), symbols) {
+        Ok(expression) => Ok(changing(BreakChange::Condition {
+            number,
+            condition: Some(expression),
+        })),
+        Err(ParseError::Fault(fault)) => Ok(refusing(Obstacle::Expression(fault))),
+        Err(ParseError::NoMemory) => Err(NoMemory),
+    }
+}
+
+fn change_condition(
+    alloc: Global,
+    symbols: &Symbols,
+    table: &BreakTable,
+    number: u32,
+    text: Option<ByteList>,
+) -> Result<Response, NoMemory>
+    ensures { IfOk result (λ r. seen_response r ≡ unless_missing (missing_number table.now.entries (number ∷ [])) (conditioned symbols.now number text)) }
+{
+    match missing(table.entries(), &[number]) {
+        Some(number) => Ok(refusing(Obstacle::NoBreakpoint(number))),
+        None => condition(alloc, symbols, number, text),
+    }
+}
+
+// The breakpoint that is asked for at an address, where so many numbers were given before.
+fn set(
+    alloc: Global,
+    symbols: &Symbols,
+    given: u32,
+    address: u32,
+    insertion: &Insertion,
+    condition: Option<Expr>,
+) -> Result<Response, AllocError>
+    requires { given < 2 ^ 32 - 1 }
+    ensures { IfOk result (λ r. seen_response r ≡ setting symbols.now given (asked_at address insertion.now (option_map condition_of condition))) }
+{
+    let content = Content::Inserted(Breakpoint {
+        number: given + 1,
+        address,
+        function: function_at(alloc, symbols, address)?,
+        location: bytes_of(alloc, insertion.text.as_slice())?,
+        temporary: insertion.temporary,
+        enabled: !insertion.disabled,
+        ignore: insertion.ignore,
+        condition: condition_text(alloc, &condition)?,
+        thread: insertion.thread,
+        times: 0,
+    });
+    let location = PlaceText::of(Vec::from_slice(alloc, insertion.text.as_slice())?);
+    Ok(Response {
+        content,
+        change: Some(BreakChange::Insert(Spec {
+            address,
+            location,
+            temporary: insertion.temporary,
+            enabled: !insertion.disabled,
+            ignore: insertion.ignore,
+            condition,
+            thread: insertion.thread,
+        })),
+    })
+}
+
+// The same, with the condition still to be read.
+fn set_by(
+    alloc: Global,
+    symbols: &Symbols,
+    given: u32,
+    address: u32,
+    insertion: &Insertion,
+) -> Result<Response, NoMemory>
+    requires { given < 2 ^ 32 - 1 }
+    ensures { IfOk result (λ r. seen_response r ≡ set_by symbols.now given address insertion.now insertion.now.condition) }
+{
+    let Some(text) = &insertion.condition else {
+        return Ok(set(alloc, symbols, given, address, insertion, None)?);
+    };
+    match read_condition(alloc, text.as_slice(), symbols) {
+        Ok(expression) => Ok(set(
+            alloc,
+            symbols,
+            given,
+            address,
+            insertion,
+            Some(expression),
+        )?),
+        Err(ParseError::Fault(fault)) => Ok(refusing(Obstacle::Expression(fault))),
+        Err(ParseError::NoMemory) => Err(NoMemory),
+    }
+}
+
+// A breakpoint at an address, where a word of text and room have to be.
 fn place(
     alloc: Global,
     image: &Image,
-    breaks: &[Breakpoint],
-    next: u32,
-    address: u32,
+    symbols: &Symbols,
+    table: &BreakTable,
     insertion: &Insertion,
-) -> Result<Content, AllocError>
-    ensures { IfOk result (λ c. c ≡ placed image.now breaks.now next address insertion.now) }
+    address: u32,
+) -> Result<Response, NoMemory>
+    requires { table.now.given < 2 ^ 32 - 1 }
+    ensures { IfOk result (λ r. seen_response r ≡ placed image.now symbols.now table.now.entries table.now.given insertion.now address) }
 {
     if image.text_word(address).is_none() {
-        return Ok(hindered(Obstacle::NoInstruction(address)));
+        return Ok(refusing(Obstacle::NoInstruction(address)));
     }
-    if breaks.len() >= MOST_BREAKPOINTS {
-        return Ok(hindered(Obstacle::TooManyBreakpoints));
+    if table.entries().len() >= MOST_BREAKPOINTS {
+        return Ok(refusing(Obstacle::TooManyBreakpoints));
     }
-    let location = Vec::from_slice(alloc, insertion.text.as_slice())?;
-    Ok(Content::Inserted(Breakpoint {
-        number: next,
-        address,
-        location: ByteList::of(location),
-        temporary: insertion.temporary,
-        enabled: !insertion.disabled,
-        ignore: 0,
-        thread: insertion.thread,
-        times: 0,
-    }))
+    set_by(alloc, symbols, table.given(), address, insertion)
+}
+
+fn refused(refused: Refused) -> Response
+    ensures { seen_response result ≡ refusing (Content.Refused refused) }
+{
+    Response {
+        content: Content::Refused(refused),
+        change: None,
+    }
+}
+
+// Where the location leads.
+fn insert_at(
+    alloc: Global,
+    image: &Image,
+    symbols: &Symbols,
+    table: &BreakTable,
+    insertion: &Insertion,
+) -> Result<Response, NoMemory>
+    requires { table.now.given < 2 ^ 32 - 1 }
+    ensures { IfOk result (λ r. seen_response r ≡ inserted_at image.now symbols.now table.now.entries table.now.given insertion.now insertion.now.location) }
+{
+    match &insertion.location {
+        Location::Address(address) => place(alloc, image, symbols, table, insertion, *address),
+        Location::Name(name) => match symbols.address_of(name.as_slice()) {
+            Some(named) => place(alloc, image, symbols, table, insertion, named.address),
+            None => Ok(refused(Refused::UnknownName(bytes_of(alloc, name.as_slice())?))),
+        },
+        Location::Line { .. } => Ok(refused(Refused::NotBuilt)),
+    }
 }
 
 fn insert(
     alloc: Global,
     image: &Image,
+    symbols: &Symbols,
     cores: &[Core],
     minds: &[Mind],
-    breaks: &[Breakpoint],
-    next: u32,
+    table: &BreakTable,
     insertion: &Insertion,
-) -> Result<Content, AllocError>
-    ensures { IfOk result (λ c. c ≡ inserted_by image.now (seen_harts cores.now minds.now) breaks.now next insertion.now) }
+) -> Result<Response, NoMemory>
+    requires { table.now.given < 2 ^ 32 - 1 }
+    ensures { IfOk result (λ r. seen_response r ≡ inserted_by image.now symbols.now (seen_harts cores.now minds.now) table.now.entries table.now.given insertion.now) }
 {
-    match (&insertion.location, &insertion.condition, insertion.ignore) {
-        (Location::Address(address), None, 0) => {
-            match unknown_thread(cores, minds, insertion.thread) {
-                Some(thread) => Ok(hindered(Obstacle::UnknownThread(thread))),
-                None => place(alloc, image, breaks, next, *address, insertion),
-            }
-        }
-        _ => Ok(Content::Refused(Refused::NotBuilt)),
+    match unknown_thread(cores, minds, insertion.thread) {
+        Some(thread) => Ok(refusing(Obstacle::UnknownThread(thread))),
+        None => insert_at(alloc, image, symbols, table, insertion),
     }
 }
 
 /// Why a line with this fault is refused: an unknown thread comes before a bad location.
-pub fn refuse(cores: &[Core], minds: &[Mind], fault: Fault) -> Content
-    ensures { result ≡ fault_content (seen_harts cores.now minds.now) fault }
+pub fn refuse(cores: &[Core], minds: &[Mind], fault: Fault) -> Response
+    ensures { seen_response result ≡ fault_outcome (seen_harts cores.now minds.now) fault }
 {
     if let Fault::Location { thread, .. } = &fault {
         if let Some(thread) = unknown_thread(cores, minds, *thread) {
-            return hindered(Obstacle::UnknownThread(thread));
+            return refusing(Obstacle::UnknownThread(thread));
         }
     }
-    Content::Refused(Refused::Faulty(fault))
+    refused(Refused::Faulty(fault))
 }
 
 /// A line without parts is refused.
-pub fn refusal(alloc: Global, refused: Refused) -> Reply
-    ensures token { result.token ≡ [] }
-    ensures content { result.content ≡ Content.Refused refused }
+pub fn refusal(refused_as: Refused) -> Response
+    ensures { seen_response result ≡ refusing (Content.Refused refused_as) }
 {
-    Reply {
-        token: Token::none(alloc),
-        content: Content::Refused(refused),
-    }
+    refused(refused_as)
 }
 
 // Whether memory was wanting when a line was read.
@@ -522,7 +844,7 @@ pub fn is_wait(alloc: Global, line: &[u8]) -> Result<bool, NoMemory>
 
 /// Which threads an answer lets go on.
 pub fn going_on(content: &Content) -> &[u32]
-    ensures { result.now ≡ going_on content.now }
+    ensures { result.now ≡ going_on (implied content.now) }
 {
     match content {
         Content::Running(threads) => threads.as_slice(),
@@ -532,7 +854,7 @@ pub fn going_on(content: &Content) -> &[u32]
 
 /// Which thread is selected after an answer.
 pub fn selected_after(selected: u32, content: &Content) -> u32
-    ensures { result ≡ selected_after selected content.now }
+    ensures { result ≡ selected_after selected (implied content.now) }
 {
     match content {
         Content::Selected(thread) => *thread,
@@ -540,32 +862,30 @@ pub fn selected_after(selected: u32, content: &Content) -> u32
     }
 }
 
-/// What is answered to a command.
+/// What is answered to a command that changes no breakpoint.
 #[tactic(auto, unfolding(dbg_model::specs::Reply::content_of))]
-pub fn answer(
+fn answer_content(
     alloc: Global,
     image: &Image,
+    symbols: &Symbols,
     machine: &Machine,
     minds: &[Mind],
-    breaks: &[Breakpoint],
-    next: u32,
+    table: &BreakTable,
     selected: u32,
     command: &Command,
-) -> Result<Content, AllocError>
+) -> Result<Content, NoMemory>
     requires { length minds.now ≤ 16 }
-    ensures { IfOk result (λ c. c ≡ content_of image.now (seen_harts machine.now.cores minds.now) machine.now.memory breaks.now next selected command.now) }
+    ensures { IfOk result (λ c. c ≡ content_of image.now symbols.now (seen_harts machine.now.cores minds.now) machine.now.memory table.now.entries selected command.now) }
 {
     let cores = machine.cores();
     match command {
         Command::Blank => Ok(Content::Blank),
         Command::Wait => Ok(Content::Done),
-        Command::BreakInsert(insertion) => insert(
-            alloc, image, cores, minds, breaks, next, insertion,
-        ),
-        Command::Continue(target) => continued(alloc, cores, minds, selected, *target),
-        Command::ThreadInfo { thread } => threads(alloc, cores, minds, selected, *thread),
+        Command::BreakList => Ok(breakpoints(alloc, symbols, table.entries())?),
+        Command::Continue(target) => Ok(continued(alloc, cores, minds, selected, *target)?),
+        Command::ThreadInfo { thread } => Ok(threads(alloc, cores, minds, selected, *thread)?),
         Command::ThreadSelect { thread } => Ok(select(*thread, find(cores, minds, *thread))),
-        Command::ThreadList => thread_numbers(alloc, cores, minds, selected),
+        Command::ThreadList => Ok(thread_numbers(alloc, cores, minds, selected)?),
         Command::RegisterNames => Ok(Content::RegisterNames),
         Command::RegisterValues {
             thread,
@@ -574,9 +894,79 @@ pub fn answer(
         } => {
             let thread = thread.unwrap_or(selected);
             let found = find(cores, minds, thread);
-            registers(alloc, thread, found, *format, numbers.as_slice())
+            Ok(registers(
+                alloc,
+                thread,
+                found,
+                *format,
+                numbers.as_slice(),
+            )?)
         }
-        Command::ReadMemory { address, count } => memory(alloc, image, machine, *address, *count),
+        Command::ReadMemory { address, count } => Ok(memory(
+            alloc, image, machine, *address, *count,
+        )?),
+        Command::Evaluate { thread, expression } => {
+            let thread = thread.unwrap_or(selected);
+            let found = find(cores, minds, thread);
+            evaluate(
+                alloc,
+                image,
+                symbols,
+                machine,
+                thread,
+                found,
+                expression.as_slice(),
+            )
+        }
         _ => Ok(Content::Refused(Refused::NotBuilt)),
+    }
+}
+
+/// What is answered to a command, and what it changes.
+#[tactic(auto, unfolding(dbg_model::specs::Reply::outcome_at))]
+pub fn answer(
+    alloc: Global,
+    image: &Image,
+    symbols: &Symbols,
+    machine: &Machine,
+    minds: &[Mind],
+    table: &BreakTable,
+    selected: u32,
+    command: Command,
+) -> Result<Response, NoMemory>
+    requires few { length minds.now ≤ 16 }
+    requires given { table.now.given < 2 ^ 32 - 1 }
+    ensures { IfOk result (λ r. seen_response r ≡ outcome_at image.now symbols.now (seen_harts machine.now.cores minds.now) machine.now.memory table.now.entries table.now.given selected command) }
+{
+    match command {
+        Command::BreakInsert(insertion) => insert(
+            alloc,
+            image,
+            symbols,
+            machine.cores(),
+            minds,
+            table,
+            &insertion,
+        ),
+        Command::BreakDelete(numbers) => Ok(delete(table, numbers)),
+        Command::BreakEnable(numbers) => Ok(enable(table, numbers, true)),
+        Command::BreakDisable(numbers) => Ok(enable(table, numbers, false)),
+        Command::BreakCondition { number, condition } => change_condition(
+            alloc, symbols, table, number, condition,
+        ),
+        Command::BreakAfter { number, count } => Ok(after(table, number, count)),
+        command => Ok(Response {
+            content: answer_content(
+                alloc,
+                image,
+                symbols,
+                machine,
+                minds,
+                table,
+                selected,
+                &command,
+            )?,
+            change: None,
+        }),
     }
 }

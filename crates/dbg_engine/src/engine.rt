@@ -1,33 +1,37 @@
-ghost use Rattle.std.specs.Prelude.{◌≡◌, ◌&&◌, ◌<◌, ◌≤◌, ◌-◌, ◌+◌, ◌^◌, [], length, slice_get, Some, None, replicate, IfOk, IfErr, OnOk, OnErr, MatchResult, Err, IsTrue, IsSome, ◌↔◌, true, false};
+ghost use Rattle.std.specs.Prelude.{◌≡◌, ◌&&◌, ◌<◌, ◌≤◌, ◌-◌, ◌+◌, ◌^◌, [], length, slice_get, Some, None, replicate, IfOk, IfErr, OnOk, OnErr, MatchResult, Err, IsTrue, IsSome, ◌↔◌, map, true, false};
 ghost use Rattle.dbg_traits.specs.Settings.{AreSettings};
 ghost use Rattle.data_memory.specs.Ranges.{bytes_at, range_at};
 ghost use Rattle.text_words.specs.Words.{shown, is_planted};
 ghost use Rattle.dbg_model.specs.Breaks.{is_temporary};
-ghost use Rattle.dbg_model.specs.State.{first_state, any_runs, all_gone, due};
+ghost use Rattle.break_table.specs.Entry.{entry_of};
+ghost use Rattle.elf_symbols.specs.Entries.{names_of};
+ghost use Rattle.dbg_model.specs.State.{first_state, any_runs, all_gone, is_counted, is_due};
 ghost use Rattle.dbg_model.specs.Lawful.{may_go, may_do};
-ghost use Rattle.dbg_model.specs.Reply.{reply_of, is_wait};
-ghost use Rattle.engine_facts.specs.Minds.{first_mind, runs, has_gone, is_before, with_phase};
+ghost use Rattle.dbg_model.specs.Reply.{answer_of, implied, is_wait};
+ghost use Rattle.engine_facts.specs.Minds.{first_mind, counted_mind, runs, has_gone, is_before, with_phase};
 ghost use Rattle.engine_facts.specs.Facts.{other_holder, InText, OneLifted};
 ghost use Rattle.engine_facts.specs.Seen.{seen};
 ghost use Rattle.dbg_engine.specs.Steps.{running_from, next_running, IsTurned};
-ghost use Rattle.dbg_engine.specs.Answering.{IsInserted, IsNoted};
+ghost use Rattle.dbg_engine.specs.Answering.{seen_response, Makes};
+ghost use Rattle.dbg_engine.specs.Changing.{break_change};
 ghost use Rattle.hart_machine.specs.declared.hart.Core.{Core};
 ghost use Rattle.std.specs.List.{list_any, list_all};
 
 use crate::Turned;
-use crate::answering::{answer, going_on, is_wait, refusal, refuse, selected_after};
+use crate::answering::{Response, answer, going_on, is_wait, refusal, refuse, selected_after};
+use crate::breaking::{BreakChange, change_table, due_at, is_temporary, settle};
 use crate::journal::note;
 use crate::moving::apply;
-use crate::patching::{
-    copy_breakpoint, is_temporary, put_back, release, release_at_exit, repatch, settle, stands,
-    stop_at, wants,
-};
+use crate::patching::{release, release_at_exit, repatch, wants};
 use crate::resuming::resume_threads;
-use dbg_model::{Breakpoint, Content, Entry, HISTORY, Journal, Opening, Refused, Reply, Why};
+use break_table::{BreakEntry, BreakTable, Due};
+use dbg_model::{Content, Entry, HISTORY, Journal, Opening, Refused, Reply, Why};
 use dbg_traits::NoMemory;
+use elf_symbols::{Symbols, symbols};
 use engine_facts::{Activity, Hold, Mind, Phase};
 use hart_machine::Machine;
 use mi_commands::{ByteList, Refusal, command_of};
+use mi_values::Token;
 use rv_exec::{Cause, Stepped};
 use std::alloc::{AllocError, Global};
 use std::marker::Model;
@@ -53,8 +57,8 @@ pub struct Engine {
     machine: Machine,
     minds: Vec<Mind>,
     hold: Option<Hold>,
-    breaks: Vec<Breakpoint>,
-    next: u32,
+    table: BreakTable,
+    symbols: Symbols,
     selected: u32,
     retired: u64,
     noted: u64,
@@ -65,10 +69,11 @@ impl Model for Engine {
     ghost use Rattle.std.specs.Coded.{codes};
     ghost use Rattle.data_memory.specs.Maps.{memory_code};
     ghost use Rattle.text_words.specs.Words.{words_code};
+    ghost use Rattle.break_table.specs.Codes.{term_code};
 
     ghost Value = { Run };
 
-    ghost coded = { Prim.hlevel (codes, memory_code, words_code) };
+    ghost coded = { Prim.hlevel (codes, memory_code, words_code, term_code) };
 
     ghost use Rattle.dbg_engine.specs.EngineInside.{run_of, Keeps};
 
@@ -141,6 +146,22 @@ fn find_running(minds: &[Mind], hart: u32) -> Option<u32>
     }
 }
 
+const NOTHING_DUE: Due = Due {
+    stop: None,
+    error: None,
+    counts: false,
+};
+
+fn counted_mind(mind: Mind) -> Mind
+    ensures { result ≡ counted_mind mind }
+{
+    Mind {
+        activity: mind.activity,
+        fresh: false,
+        phase: mind.phase,
+    }
+}
+
 const STOPPED: Mind = Mind {
     activity: Activity::Stopped,
     fresh: false,
@@ -175,7 +196,7 @@ fn with_phase(mind: Mind, phase: Phase) -> Mind
 
 impl Engine {
     ghost use Rattle.engine_facts.specs.Facts.{Facts};
-    ghost use Rattle.dbg_engine.specs.Calls.{Of, Rephases, Lifts, Halts, Turns, TrapsAt, Executes, Does, Lines, NextMoves, OverBy, Closes};
+    ghost use Rattle.dbg_engine.specs.Calls.{Of, Rephases, Lifts, Halts, Counts, DueIs, Undue, Turns, TrapsAt, Executes, Does, Lines, NextMoves, OverBy, Closes};
 
     /// An engine before its first move: each hart is stopped at the entry.
     pub fn load(alloc: Global, opening: Opening) -> Result<Engine, NoMemory>
@@ -186,6 +207,8 @@ impl Engine {
     {
         let machine = Machine::load(alloc, &opening.image, opening.settings)?;
         let minds = first_minds(alloc, opening.settings.harts)?;
+        let table = BreakTable::new(alloc, &opening.image, opening.settings.harts)?;
+        let symbols = symbols(alloc, &opening.image)?;
         Ok(Engine {
             alloc,
             opening,
@@ -193,8 +216,8 @@ impl Engine {
             machine,
             minds,
             hold: None,
-            breaks: Vec::new(alloc),
-            next: 1,
+            table,
+            symbols,
             selected: 1,
             retired: 0,
             noted: 0,
@@ -330,7 +353,7 @@ impl Engine {
         requires free { other_holder self.old.hold h ≡ None }
         ensures { Rephases self.old self.new h mind (Phase.Idle) None }
     {
-        release(&mut self.machine, self.hold, self.breaks.as_slice());
+        release(&mut self.machine, self.hold, &self.table);
         self.hold = None;
         self.minds[h as usize] = with_phase(mind, Phase::Idle);
     }
@@ -343,6 +366,8 @@ impl Engine {
         requires free { other_holder self.old.hold h ≡ None }
         requires pc { Of self.old h (λ y. y.regs.pc ≡ pc) }
         requires planted { is_planted self.old.machine.text pc ≡ true }
+        requires due { Undue self.old h }
+        requires may { may_go self.old.opening (seen self.old) ≡ true }
         ensures { Lifts self.old self.new h }
     {
         repatch(&mut self.machine, pc, false);
@@ -357,7 +382,7 @@ impl Engine {
         requires runs { mind.activity ≡ Activity.Running }
         requires free { other_holder self.old.hold h ≡ None }
         requires pc { Of self.old h (λ y. y.regs.pc ≡ pc) }
-        requires due { Of self.old h (λ y. due (seen self.old).breaks h y ≡ None) }
+        requires due { Undue self.old h }
         requires unpatched { mind.phase ≡ Phase.Idle → is_planted self.old.machine.text pc ≡ false }
         requires spare { 32 ≤ self.old.spare }
         requires may { may_go self.old.opening (seen self.old) ≡ true }
@@ -372,7 +397,7 @@ impl Engine {
             stepped,
             &mut self.machine,
             &mut self.hold,
-            self.breaks.as_slice(),
+            &self.table,
         );
         apply(
             stepped,
@@ -390,7 +415,7 @@ impl Engine {
         requires mind { slice_get self.old.minds h ≡ Some mind }
         requires idle { mind.phase ≡ Phase.Idle }
         requires runs { mind.activity ≡ Activity.Running }
-        requires due { Of self.old h (λ y. due (seen self.old).breaks h y ≡ None) }
+        requires due { Undue self.old h }
         requires traps { TrapsAt self.old h cause }
         requires spare { 32 ≤ self.old.spare }
         requires may { may_go self.old.opening (seen self.old) ≡ true }
@@ -408,28 +433,51 @@ impl Engine {
     }
 
     // A hart that steps over nothing stops at a breakpoint.
-    fn note_arrival(&mut self, h: u32, mind: Mind, number: u32, pc: u32)
+    fn note_arrival(&mut self, h: u32, mind: Mind, number: u32, due: Due, pc: u32)
         requires mind { slice_get self.old.minds h ≡ Some mind }
         requires idle { mind.phase ≡ Phase.Idle }
         requires runs { mind.activity ≡ Activity.Running }
         requires pc { Of self.old h (λ y. y.regs.pc ≡ pc) }
-        requires due { Of self.old h (λ y. due (seen self.old).breaks h y ≡ Some number) }
+        requires due { DueIs self.old h due }
+        requires stops { due.stop ≡ Some number }
         requires spare { 32 ≤ self.old.spare }
         requires may { may_go self.old.opening (seen self.old) ≡ true }
-        requires hold { self.old.hold ≡ None }
-        ensures { Halts self.old self.new h (Why.Break number) }
+        ensures { Halts self.old self.new h (Why.Break number due.error) }
     {
         note(
             &mut self.entries,
             Entry::Stopped {
                 hart: h,
-                why: Why::Break { number },
+                why: Why::Break {
+                    number,
+                    error: due.error,
+                },
             },
         );
-        settle(&mut self.breaks, h, pc);
-        let wants = stands(self.breaks.as_slice(), pc);
+        settle(&mut self.table, &self.opening.image, &self.machine, h);
+        let wants = wants(&self.table, self.hold, pc);
         repatch(&mut self.machine, pc, wants);
         self.minds[h as usize] = STOPPED;
+        self.noted += 1;
+    }
+
+    // Breakpoints count a hart, which goes on.
+    fn note_count(&mut self, h: u32, mind: Mind, due: Due, pc: u32)
+        requires mind { slice_get self.old.minds h ≡ Some mind }
+        requires runs { mind.activity ≡ Activity.Running }
+        requires pc { Of self.old h (λ y. y.regs.pc ≡ pc) }
+        requires due { DueIs self.old h due }
+        requires counts { is_counted due ≡ true }
+        requires fresh { mind.fresh ≡ true }
+        requires spare { 32 ≤ self.old.spare }
+        requires may { may_go self.old.opening (seen self.old) ≡ true }
+        ensures { Counts self.old self.new h }
+    {
+        note(&mut self.entries, Entry::Counted { hart: h });
+        settle(&mut self.table, &self.opening.image, &self.machine, h);
+        let wants = wants(&self.table, self.hold, pc);
+        repatch(&mut self.machine, pc, wants);
+        self.minds[h as usize] = counted_mind(mind);
         self.noted += 1;
     }
 
@@ -441,16 +489,16 @@ impl Engine {
         self.machine.pc(h as usize)
     }
 
-    // The breakpoint at which a hart has just arrived, and which stops it.
-    fn due(&self, h: u32, mind: Mind, pc: u32) -> Option<u32>
-        requires mind { slice_get self.now.minds h ≡ Some mind }
-        requires pc { Of self.now h (λ y. y.regs.pc ≡ pc) }
-        ensures { Of self.now h (λ y. due (seen self.now).breaks h y ≡ result) }
+    // What the breakpoints do with a hart; nothing where it hasn't just arrived.
+    fn due(&self, h: u32, mind: Mind) -> Due
+        requires { slice_get self.now.minds h ≡ Some mind }
+        ensures due { DueIs self.now h result }
+        ensures fresh { result.counts ≡ true → mind.fresh ≡ true }
     {
         if mind.fresh {
-            stop_at(self.breaks.as_slice(), h, pc)
+            due_at(&self.table, &self.opening.image, &self.machine, h)
         } else {
-            None
+            NOTHING_DUE
         }
     }
 
@@ -458,7 +506,7 @@ impl Engine {
     fn is_temporary(&self, number: u32) -> bool
         ensures { result ≡ is_temporary self.now.breaks number }
     {
-        is_temporary(self.breaks.as_slice(), number)
+        is_temporary(self.table.entries(), number)
     }
 
     // Whether a patch is planted at an address.
@@ -468,34 +516,73 @@ impl Engine {
         self.machine.planted(addr)
     }
 
-    // A running hart that isn't behind its step goes on.
-    fn go_on(&mut self, h: u32, mind: Mind) -> Turned
+    // Whether a hart steps over nothing and its word isn't patched: then no breakpoint stands there.
+    fn is_clear(&self, h: u32, mind: Mind, pc: u32) -> bool
+        requires mind { slice_get self.now.minds h ≡ Some mind }
+        requires free { other_holder self.now.hold h ≡ None }
+        requires pc { Of self.now h (λ y. y.regs.pc ≡ pc) }
+        ensures undue { IsTrue result → Undue self.now h }
+        ensures unpatched { IsTrue result → is_planted self.now.machine.text pc ≡ false }
+        ensures patched { mind.phase ≡ Phase.Idle → result ≡ false → is_planted self.now.machine.text pc ≡ true }
+    {
+        mind.phase == Phase::Idle && !self.is_planted(pc)
+    }
+
+    // A hart that nothing stops executes, or stops by a fault.
+    fn run(&mut self, h: u32, mind: Mind, pc: u32) -> Turned
         requires mind { slice_get self.old.minds h ≡ Some mind }
         requires before { is_before mind.phase ≡ true }
         requires runs { mind.activity ≡ Activity.Running }
         requires free { other_holder self.old.hold h ≡ None }
+        requires pc { Of self.old h (λ y. y.regs.pc ≡ pc) }
+        requires due { Undue self.old h }
+        requires unpatched { mind.phase ≡ Phase.Idle → is_planted self.old.machine.text pc ≡ false }
         requires spare { 32 ≤ self.old.spare }
         requires may { may_go self.old.opening (seen self.old) ≡ true }
         ensures turns { Turns result self.old self.new h }
         ensures code { IsTurned result }
     {
-        let pc = self.shown_pc(h, mind);
-        if let Some(number) = self.due(h, mind, pc) {
-            let temporary = self.is_temporary(number);
-            self.unwind(h, mind);
-            self.note_arrival(h, with_phase(mind, Phase::Idle), number, pc);
-            return Turned::Arrived { number, temporary };
-        }
-        if mind.phase == Phase::Idle && self.is_planted(pc) {
-            self.lift(h, mind, pc);
-            return Turned::Lifted;
-        }
         let turned = self.execute(h, mind, pc);
         if let Turned::Stopped { cause } = turned {
             self.unwind(h, mind);
             self.note_fault(h, with_phase(mind, Phase::Idle), cause);
         }
         turned
+    }
+
+    // A running hart at a planted word, or in a step over one, goes on.
+    fn go_on(&mut self, h: u32, mind: Mind, pc: u32) -> Turned
+        requires mind { slice_get self.old.minds h ≡ Some mind }
+        requires before { is_before mind.phase ≡ true }
+        requires runs { mind.activity ≡ Activity.Running }
+        requires free { other_holder self.old.hold h ≡ None }
+        requires pc { Of self.old h (λ y. y.regs.pc ≡ pc) }
+        requires patched { mind.phase ≡ Phase.Idle → is_planted self.old.machine.text pc ≡ true }
+        requires spare { 32 ≤ self.old.spare }
+        requires may { may_go self.old.opening (seen self.old) ≡ true }
+        ensures turns { Turns result self.old self.new h }
+        ensures code { IsTurned result }
+    {
+        let due = self.due(h, mind);
+        if let Some(number) = due.stop {
+            let temporary = self.is_temporary(number);
+            self.unwind(h, mind);
+            self.note_arrival(h, with_phase(mind, Phase::Idle), number, due, pc);
+            return Turned::Arrived {
+                number,
+                temporary,
+                error: due.error,
+            };
+        }
+        if due.counts {
+            self.note_count(h, mind, due, pc);
+            return Turned::Counted;
+        }
+        if mind.phase == Phase::Idle {
+            self.lift(h, mind, pc);
+            return Turned::Lifted;
+        }
+        self.run(h, mind, pc)
     }
 
     /// One move of a hart: the first that fits.
@@ -519,7 +606,12 @@ impl Engine {
             self.unwind(h, mind);
             return Turned::Planted;
         }
-        self.go_on(h, mind)
+        let pc = self.shown_pc(h, mind);
+        if self.is_clear(h, mind, pc) {
+            self.run(h, mind, pc)
+        } else {
+            self.go_on(h, mind, pc)
+        }
     }
 
     /// Whether there is a word of text at an address.
@@ -530,10 +622,10 @@ impl Engine {
     }
 
     /// The breakpoints that the user set, in rising order of their numbers.
-    pub fn breakpoints(&self) -> &[Breakpoint]
-        ensures { result.now ≡ self.now.breaks }
+    pub fn breakpoints(&self) -> &[BreakEntry]
+        ensures { map entry_of result.now ≡ self.now.breaks }
     {
-        self.breaks.as_slice()
+        self.table.entries()
     }
 
     /// Where a hart is in a step over a breakpoint.
@@ -552,51 +644,43 @@ impl Engine {
         self.hold
     }
 
-    // What is answered to a line.
-    fn reply(&self, line: &[u8]) -> Result<Reply, NoMemory>
-        ensures { IfOk result (λ r. r ≡ reply_of self.now.opening (seen self.now) line.now) }
+    // What is answered to a line, with its token, and what it changes.
+    fn respond(&self, line: &[u8]) -> Result<(Token, Response), NoMemory>
+        requires { self.now.noted < HISTORY }
+        ensures { IfOk result (λ r. record { token = r.0; outcome = seen_response r.1 } ≡ answer_of self.now.opening (seen self.now) line.now) }
     {
         match command_of(self.alloc, line) {
             Ok(read) => {
-                let content = answer(
+                let response = answer(
                     self.alloc,
                     &self.opening.image,
+                    &self.symbols,
                     &self.machine,
                     self.minds.as_slice(),
-                    self.breaks.as_slice(),
-                    self.next,
+                    &self.table,
                     self.selected,
-                    &read.command,
+                    read.command,
                 )?;
-                Ok(Reply {
-                    token: read.token,
-                    content,
-                })
+                Ok((read.token, response))
             }
             Err(Refusal::NoMemory) => Err(NoMemory),
-            Err(Refusal::Long) => Ok(refusal(self.alloc, Refused::Long)),
-            Err(Refusal::Syntax) => Ok(refusal(self.alloc, Refused::Syntax)),
-            Err(Refusal::Cli(token)) => Ok(Reply {
+            Err(Refusal::Long) => Ok((Token::none(self.alloc), refusal(Refused::Long))),
+            Err(Refusal::Syntax) => Ok((Token::none(self.alloc), refusal(Refused::Syntax))),
+            Err(Refusal::Cli(token)) => Ok((token, refusal(Refused::Cli))),
+            Err(Refusal::Faulty { token, fault }) => Ok((
                 token,
-                content: Content::Refused(Refused::Cli),
-            }),
-            Err(Refusal::Faulty { token, fault }) => Ok(Reply {
-                token,
-                content: refuse(self.machine.cores(), self.minds.as_slice(), fault),
-            }),
+                refuse(self.machine.cores(), self.minds.as_slice(), fault),
+            )),
         }
     }
 
-    // Does a line that sets a breakpoint.
-    fn insert(&mut self, line: &[u8], breakpoint: &Breakpoint, address: u32) -> Result<(), NoMemory>
-        requires place { address ≡ breakpoint.now.address }
+    // Does a line that changes breakpoints.
+    fn change_breaks(&mut self, line: &[u8], change: BreakChange) -> Result<(), NoMemory>
         requires may { may_do self.old.opening (seen self.old) line.now ≡ true }
-        requires answer { IsInserted self.old line.now breakpoint.now }
+        requires makes { Makes self.old line.now (break_change change) }
         ensures { MatchResult result (λ _. Lines self.old self.new line.now) (λ _. self.new ≡ self.old) }
     {
         let copy = line.to_vec(self.alloc)?;
-        let added = copy_breakpoint(self.alloc, breakpoint)?;
-        self.breaks.reserve(1)?;
         self.entries.reserve(1)?;
         note(
             &mut self.entries,
@@ -604,18 +688,15 @@ impl Engine {
                 line: ByteList::of(copy),
             },
         );
-        put_back(&mut self.breaks, added);
-        let wants = wants(self.breaks.as_slice(), self.hold, address);
-        repatch(&mut self.machine, address, wants);
-        self.next += 1;
+        change_table(&mut self.machine, &mut self.table, self.hold, change);
         self.noted += 1;
         Ok(())
     }
 
-    // Does a line that sets no breakpoint.
+    // Does a line that changes no breakpoint.
     fn note_line(&mut self, line: &[u8], content: &Content) -> Result<(), NoMemory>
         requires may { may_do self.old.opening (seen self.old) line.now ≡ true }
-        requires answer { IsNoted self.old line.now content.now }
+        requires makes { Makes self.old line.now (implied content.now) }
         ensures { MatchResult result (λ _. Lines self.old self.new line.now) (λ _. self.new ≡ self.old) }
     {
         let copy = line.to_vec(self.alloc)?;
@@ -647,12 +728,13 @@ impl Engine {
         requires { may_do self.old.opening (seen self.old) line.now ≡ true }
         ensures { MatchResult result (Does self.old self.new line.now) (λ _. self.new ≡ self.old) }
     {
-        let reply = self.reply(line)?;
-        match &reply.content {
-            Content::Inserted(breakpoint) => self.insert(line, breakpoint, breakpoint.address)?,
-            content => self.note_line(line, content)?,
+        let (token, response) = self.respond(line)?;
+        let Response { content, change } = response;
+        match change {
+            Some(change) => self.change_breaks(line, change)?,
+            None => self.note_line(line, &content)?,
         }
-        Ok(reply)
+        Ok(Reply { token, content })
     }
 
     /// Ends it: a lifted patch is planted again where a breakpoint stands.
@@ -669,14 +751,14 @@ impl Engine {
             machine,
             minds: _,
             hold,
-            breaks,
-            next: _,
+            table,
+            symbols: _,
             selected: _,
             retired: _,
             noted: _,
         } = self;
         let mut machine = machine;
-        release(&mut machine, hold, breaks.as_slice());
+        release(&mut machine, hold, &table);
         Closed {
             opening,
             journal: Journal::of(entries),

@@ -2,6 +2,7 @@
 #![tactic(auto)]
 
 mod answering;
+mod breaking;
 mod engine;
 mod journal;
 mod moving;
@@ -9,7 +10,9 @@ mod patching;
 mod resuming;
 #[cfg(test)]
 mod tests;
+mod view;
 
 pub use engine::{Closed, End, Engine, SPARE};
 pub use engine_facts::{Activity, Hold, Mind, Phase};
 pub use moving::Turned;
+pub use view::ShownHart;

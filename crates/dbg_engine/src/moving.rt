@@ -6,6 +6,7 @@ ghost use Rattle.engine_facts.specs.Minds.{gone_mind, ran_mind, after_step};
 ghost use Rattle.dbg_engine.specs.Steps.{is_done, applied, turned_of, IsTurned};
 
 use crate::journal::{note, note_lefts, note_ran};
+use break_table::CondError;
 use dbg_model::Entry;
 use engine_facts::{Activity, Mind, Phase};
 use rv_exec::{Cause, Stepped};
@@ -33,8 +34,14 @@ pub enum Turned {
     AllLeft { code: u32, count: usize },
     /// The instruction trapped, and the hart stopped.
     Stopped { cause: Cause },
-    /// The hart stopped at the breakpoint of this number.
-    Arrived { number: u32, temporary: bool },
+    /// The hart came to breakpoints that count it, and goes on.
+    Counted,
+    /// The hart stopped at the breakpoint of this number, of whose condition the value couldn't be had for this reason.
+    Arrived {
+        number: u32,
+        temporary: bool,
+        error: Option<CondError>,
+    },
 }
 
 fn after_step(phase: Phase) -> Phase

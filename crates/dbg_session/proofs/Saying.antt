@@ -7,7 +7,7 @@ use Rattle.rv_exec.specs.declared.effect.Cause.{Cause}
 use Rattle.hart_machine.specs.declared.hart.Core.{Core}
 use Rattle.dbg_model.specs.declared.reply.Reply.{Reply}
 use Rattle.dbg_model.specs.declared.entry.Entry.{Entry}
-use Rattle.dbg_model.specs.declared.entry.Entry.TheVariants.{Ran, Stopped, Left, Did}
+use Rattle.dbg_model.specs.declared.entry.Entry.TheVariants.{Ran, Counted, Stopped, Left, Did}
 use Rattle.dbg_model.specs.declared.entry.Why.{Why}
 use Rattle.dbg_model.specs.declared.entry.Why.TheVariants.{Break, Fault}
 use Rattle.dbg_model.specs.declared.entry.Mode.{Mode}
@@ -32,9 +32,10 @@ use Rattle.engine_facts.specs.declared.mind.Phase.{Phase}
 use Rattle.engine_facts.specs.declared.mind.Phase.TheVariants as phase
 use Rattle.engine_facts.specs.Seen.{Run, seen}
 use Rattle.engine_facts.specs.Facts.{Facts}
-use Rattle.engine_facts.specs.Minds.{mode_of, is_active, with_phase}
+use Rattle.engine_facts.specs.Minds.{mode_of, is_active, with_phase, counted_mind}
 use Rattle.engine_facts.proofs.Seeing.{seen_at}
-use Rattle.dbg_engine.specs.Calls.{Turns, Runs, Exits, Halts, Rephases, Does}
+use Rattle.dbg_engine.specs.Calls.{Turns, Runs, Exits, Halts, Counts, Rephases, Does}
+use Rattle.break_table.specs.declared.due.CondError.{CondError}
 use Rattle.dbg_session.specs.Stage.{stage_of, work_of, running, moves, moves_of, runs_at, runs_as, is_free, moves_at}
 use Rattle.dbg_model.specs.State.{is_running}
 use Rattle.dbg_model.specs.Lawful.{may_go}
@@ -43,7 +44,7 @@ use Rattle.engine_facts.specs.declared.mind.Activity.TheVariants as activity
 use Rattle.dbg_session.specs.Steps.{said_by, Goes}
 use Rattle.dbg_session.specs.Turned.{turned_text, last_lefts, stream_of, has_moved}
 use Rattle.dbg_session.proofs.Timing.{did_line, Grown, grown_same, grown_more, grown_lengthened, grown_exits}
-use Rattle.dbg_session.proofs.Working.{one_works, one_runs, halt_runs, halts, done_retired, running_gone, running_most, moves_most, moves_set}
+use Rattle.dbg_session.proofs.Working.{one_works, one_runs, halt_runs, halts, count_notes, count_runs, done_retired, running_gone, running_most, moves_most, moves_set}
 use Rattle.dbg_engine.proofs.Commanding.{harts_length}
 
 -- what a turn that moved says, and leaves to do
@@ -67,13 +68,13 @@ unfolding stream_text
 nothing_written = refl
 
 -- few harts, and few moves of theirs
-pub few_moves : (r : Run) → Facts r → moves r.minds ≤ 32
+pub few_moves : (r : Run) → Facts r → moves r.minds ≤ 48
 few_moves r f = omega (arith, moves_most r.minds, f.count, f.settings.harts.1)
 
 pub few_run : (r : Run) → Facts r → running (seen r).harts ≤ 16
 few_run r f = omega (arith, running_most (seen r).harts, harts_length r.machine.cores r.minds f.harts.len, f.count, f.settings.harts.1)
 
-less_work : (b r s m n p q : ℕ) → r < b → s ≡ r + 1 → m ≤ n → p ≤ 32 → 33 * (b - s) + (33 * m + p) < 33 * (b - r) + (33 * n + q)
+less_work : (b r s m n p q : ℕ) → r < b → s ≡ r + 1 → m ≤ n → p ≤ 48 → 49 * (b - s) + (49 * m + p) < 49 * (b - r) + (49 * n + q)
 less_work b r s m n p q low is le few = omega arith
 
 ran_less : (r s : Run) (h : ℕ) (t : State) → one r.opening h (seen r) ≡ Some t → (seen s).retired ≡ t.retired → running (seen s).harts ≤ running t.harts → s.opening ≡ r.opening → Facts s → work_of (stage_of s) < work_of (stage_of r)
@@ -81,7 +82,7 @@ ran_less r s h t is retired run opening g =
     let w = one_works r.opening h (seen r) t is in
     let more : s.retired ≡ r.retired + 1 = retired ∙ w.retired in
     let le : running (seen s).harts ≤ running (seen r).harts = let a = w.running in omega arith in
-    let P : Opening → Type 0 = λ o. 33 * (o.settings.budget - s.retired) + (33 * running (seen s).harts + moves s.minds) < work_of (stage_of r) in
+    let P : Opening → Type 0 = λ o. 49 * (o.settings.budget - s.retired) + (49 * running (seen s).harts + moves s.minds) < work_of (stage_of r) in
     subst P (sym opening) (less_work r.opening.settings.budget r.retired s.retired (running (seen s).harts) (running (seen r).harts) (moves s.minds) (moves r.minds) w.below more le (few_moves s g))
 
 -- said over equal openings and journals
@@ -149,7 +150,7 @@ halts_say t r s h pc why f g m text =
     let same : s.retired ≡ r.retired = halt.retired in
     let less = halt.running in
     let few = few_moves s g in
-    let P : Opening → Type 0 = λ o. 33 * (o.settings.budget - s.retired) + (33 * running (seen s).harts + moves s.minds) < work_of (stage_of r) in
+    let P : Opening → Type 0 = λ o. 49 * (o.settings.budget - s.retired) + (49 * running (seen s).harts + moves s.minds) < work_of (stage_of r) in
     record {
       opening = m.opening;
       said = text;
@@ -163,22 +164,40 @@ faults_say r s h pc cause f g low is_pc m =
     halts_say (turned.Stopped cause) r s h pc (Fault cause) f g m
     (said_is r s (r.journal ++ e ∷ []) (stop_text cause h pc) m.opening m.journal (said_added r.opening r.journal (seen r) e f.leaves ∙ ap (λ p. said r.opening r.journal ++ stop_text cause h p) (pc_seen r h pc f low is_pc)))
 
-arrivals_say : (r s : Run) (h pc number : ℕ) (temporary : Bool) → Facts r → Facts s → h < length r.minds → IsPc r h pc → Halts r s h (Break number) → temporary ≡ is_temporary r.breaks number → Said (turned.Arrived number temporary) r s h pc
-arrivals_say r s h pc number temporary f g low is_pc m kind =
-    let e : Entry = Stopped h (Break number) in
-    halts_say (turned.Arrived number temporary) r s h pc (Break number) f g m
-    (said_is r s (r.journal ++ e ∷ []) (break_text temporary number h pc) m.opening m.journal
-    (said_added r.opening r.journal (seen r) e f.leaves ∙ (ap (λ p. said r.opening r.journal ++ break_text (is_temporary r.breaks number) number h p) (pc_seen r h pc f low is_pc)
-    ∙ ap (λ b. said r.opening r.journal ++ break_text b number h pc) (sym kind))))
+arrivals_say : (r s : Run) (h pc number : ℕ) (temporary : Bool) (error : Option CondError) → Facts r → Facts s → h < length r.minds → IsPc r h pc → Halts r s h (Break number error) → temporary ≡ is_temporary r.breaks number → Said (turned.Arrived number temporary error) r s h pc
+arrivals_say r s h pc number temporary error f g low is_pc m kind =
+    let e : Entry = Stopped h (Break number error) in
+    halts_say (turned.Arrived number temporary error) r s h pc (Break number error) f g m
+    (said_is r s (r.journal ++ e ∷ []) (break_text temporary number error h pc) m.opening m.journal
+    (said_added r.opening r.journal (seen r) e f.leaves ∙ (ap (λ p. said r.opening r.journal ++ break_text (is_temporary r.breaks number) number error h p) (pc_seen r h pc f low is_pc)
+    ∙ ap (λ b. said r.opening r.journal ++ break_text b number error h pc) (sym kind))))
+
+-- breakpoints counted a hart
+counts_say : (r s : Run) (h pc : ℕ) → Facts r → Facts s → Counts r s h → Said turned.Counted r s h pc
+counts_say r s h pc f g m =
+    let e : Entry = Counted h in
+    let noted = count_notes r.opening h (seen r) (seen s) m.enters in
+    let retired : s.retired ≡ r.retired = noted.retired in
+    let running_same = noted.running in
+    let set = moves_set r.minds h m.mind (counted_mind m.mind) m.at in
+    let one : cond m.mind.fresh 1 0 ≡ 1 = ap (λ b. cond b 1 0) m.fresh in
+    let fewer : moves s.minds < moves r.minds = omega (arith, ap moves m.minds) in
+    let P : Opening → Type 0 = λ o. 49 * (o.settings.budget - s.retired) + (49 * running (seen s).harts + moves s.minds) < work_of (stage_of r) in
+    record {
+      opening = m.opening;
+      said = said_is r s (r.journal ++ e ∷ []) [] m.opening m.journal (said_added r.opening r.journal (seen r) e f.leaves);
+      goes = goes_by r s (grown_more r.journal (e ∷ []) s.journal m.journal refl) (inr (count_runs r.opening h (seen r) (seen s) m.enters));
+      work = subst P (sym m.opening) (omega arith);
+    }
 
 -- a move that nothing shows
 quiets_say : (t : Turned) (r s : Run) (h pc : ℕ) (x : Mind) (p : Phase) (hold : Option Hold) → Rephases r s h x p hold → slice_get r.minds h ≡ Some x → moves_of p < moves_of x.phase → [] ≡ turned_text s t h pc → Said t r s h pc
 quiets_say t r s h pc x p hold m at less text =
     let set = moves_set r.minds h x (with_phase x p) at in
     let fewer : moves s.minds < moves r.minds = omega (arith, ap moves m.minds) in
-    let shown : work_of (stage_of s) ≡ 33 * (r.opening.settings.budget - (seen r).retired) + (33 * running (seen r).harts + moves s.minds) =
-    ap (λ o. 33 * (o.settings.budget - (seen s).retired) + (33 * running (seen s).harts + moves s.minds)) m.opening
-    ∙ ap (λ (u : State). 33 * (r.opening.settings.budget - u.retired) + (33 * running u.harts + moves s.minds)) m.seen in
+    let shown : work_of (stage_of s) ≡ 49 * (r.opening.settings.budget - (seen r).retired) + (49 * running (seen r).harts + moves s.minds) =
+    ap (λ o. 49 * (o.settings.budget - (seen s).retired) + (49 * running (seen s).harts + moves s.minds)) m.opening
+    ∙ ap (λ (u : State). 49 * (r.opening.settings.budget - u.retired) + (49 * running u.harts + moves s.minds)) m.seen in
     record {
       opening = m.opening;
       said = said_is r s r.journal (turned_text s t h pc) m.opening m.journal (sym (append-nil (said r.opening r.journal)) ∙ ap (λ u. said r.opening r.journal ++ u) text);
@@ -197,7 +216,8 @@ HasMoved (turned.Wrote addr len) = Unit {0}
 HasMoved (turned.Left code) = Unit {0}
 HasMoved (turned.AllLeft code count) = Unit {0}
 HasMoved (turned.Stopped cause) = Unit {0}
-HasMoved (turned.Arrived number temporary) = Unit {0}
+HasMoved turned.Counted = Unit {0}
+HasMoved (turned.Arrived number temporary error) = Unit {0}
 
 says : (t : Turned) (r s : Run) (h pc : ℕ) → Facts r → Facts s → h < length r.minds → IsPc r h pc → HasMoved t → Turns t r s h → Said t r s h pc
 says turned.Over r s h pc f g low is moved m = absurd moved
@@ -212,7 +232,8 @@ says (turned.Wrote addr len) r s h pc f g low is moved m = runs_say (turned.Wrot
 says (turned.Left code) r s h pc f g low is moved m = exits_say (turned.Left code) r s h pc 1 code f g m refl
 says (turned.AllLeft code count) r s h pc f g low is moved m = exits_say (turned.AllLeft code count) r s h pc count code f g m refl
 says (turned.Stopped cause) r s h pc f g low is moved m = faults_say r s h pc cause f g low is m
-says (turned.Arrived number temporary) r s h pc f g low is moved m = arrivals_say r s h pc number temporary f g low is m.0 m.1
+says turned.Counted r s h pc f g low is moved m = counts_say r s h pc f g m
+says (turned.Arrived number temporary error) r s h pc f g low is moved m = arrivals_say r s h pc number temporary error f g low is m.0 m.1
 
 spared : (t : Turned) (e s : Run) (n h pc : ℕ) → Said t (record e { spare = n }) s h pc → Said t e s h pc
 spared t e s n h pc d = record { opening = d.opening; said = d.said; goes = spared_goes e s n d.goes; work = d.work }
@@ -230,14 +251,14 @@ pub record DoneSaid (r s : Run) (line : List ℕ) (answer : Reply) : Type 0 wher
   pub said : said_by (stage_of s) ≡ said_by (stage_of r) ++ reply_text answer
   pub journal : s.journal ≡ r.journal ++ Did line ∷ []
   pub did : did s.journal ≡ did r.journal ++ line ∷ []
-  pub work : work_of (stage_of s) ≤ work_of (stage_of r) + 560
+  pub work : work_of (stage_of s) ≤ work_of (stage_of r) + 832
 
 pub does_say : (r s : Run) (line : List ℕ) (answer : Reply) → Facts r → Facts s → Does r s line answer → DoneSaid r s line answer
 does_say r s line answer f g m =
     let retired : s.retired ≡ r.retired = ap (λ (q : State). q.retired) m.seen ∙ done_retired r.opening (seen r) line in
     let run = few_run s g in
     let few = few_moves s g in
-    let P : Opening → Type 0 = λ o. 33 * (o.settings.budget - s.retired) + (33 * running (seen s).harts + moves s.minds) ≤ work_of (stage_of r) + 560 in
+    let P : Opening → Type 0 = λ o. 49 * (o.settings.budget - s.retired) + (49 * running (seen s).harts + moves s.minds) ≤ work_of (stage_of r) + 832 in
     record {
       opening = m.opening;
       said = said_is r s (r.journal ++ Did line ∷ []) (reply_text answer) m.opening m.journal (said_added r.opening r.journal (seen r) (Did line) f.leaves ∙ ap (λ a. said r.opening r.journal ++ reply_text a) (sym m.answers));
@@ -257,10 +278,11 @@ has_moved_so (turned.Wrote addr len) is = tt
 has_moved_so (turned.Left code) is = tt
 has_moved_so (turned.AllLeft code count) is = tt
 has_moved_so (turned.Stopped cause) is = tt
-has_moved_so (turned.Arrived number temporary) is = tt
+has_moved_so turned.Counted is = tt
+has_moved_so (turned.Arrived number temporary error) is = tt
 
 spare_facts : (e : Run) (n : ℕ) → Facts e → Facts (record e { spare = n })
-spare_facts e n f = record { leaves = f.leaves; settings = f.settings; count = f.count; selected = f.selected; harts = f.harts; planted = f.planted; texts = f.texts; retired = f.retired }
+spare_facts e n f = record { leaves = f.leaves; settings = f.settings; count = f.count; selected = f.selected; harts = f.harts; planted = f.planted; texts = f.texts; places = f.places; waits = f.waits; names = f.names; retired = f.retired }
 
 pub made_room : (e r : Run) → r ≡ record e { spare = r.spare } → Facts e → Facts r
 made_room e r is f = subst Facts (sym is) (spare_facts e r.spare f)
@@ -290,11 +312,11 @@ stands turned.NotRunning r s h f low no_move m =
     let c = get_within r.machine.cores h low_core in
     let x = get_within r.minds h low in
     let at = seen_at r.machine.cores r.minds h c.0 x.0 c.1 x.1 in
-    record { stage = ap stage_of m.0; why = ap (λ b. may_go r.opening (seen r) && (b && is_free r.hold h)) (ap runs_as at ∙ idle x.0.activity (m.1 x.0 x.1)) ∙ and_false (may_go r.opening (seen r)) }
+    record { stage = ap stage_of m.0; why = ap (λ b. may_go r.opening (seen r) && (b && is_free r.hold h)) (ap runs_as at ∙ idle x.0.activity (m.2 x.0 x.1)) ∙ and_false (may_go r.opening (seen r)) }
 stands (turned.Held by) r s h f low no_move m =
     record {
       stage = ap stage_of m.0;
-      why = ap (λ d. may_go r.opening (seen r) && (runs_at (seen r).harts h && is_none d)) m.1 ∙ (ap (λ b. may_go r.opening (seen r) && b) (and_false (runs_at (seen r).harts h)) ∙ and_false (may_go r.opening (seen r)));
+      why = ap (λ d. may_go r.opening (seen r) && (runs_at (seen r).harts h && is_none d)) m.3 ∙ (ap (λ b. may_go r.opening (seen r) && b) (and_false (runs_at (seen r).harts h)) ∙ and_false (may_go r.opening (seen r)));
     }
 stands turned.Planted r s h f low no_move m = cc
 stands turned.Lifted r s h f low no_move m = cc
@@ -303,7 +325,8 @@ stands (turned.Wrote addr len) r s h f low no_move m = cc
 stands (turned.Left code) r s h f low no_move m = cc
 stands (turned.AllLeft code count) r s h f low no_move m = cc
 stands (turned.Stopped cause) r s h f low no_move m = cc
-stands (turned.Arrived number temporary) r s h f low no_move m = cc
+stands turned.Counted r s h f low no_move m = cc
+stands (turned.Arrived number temporary error) r s h f low no_move m = cc
 
 stands_spared : (e s : Run) (h n : ℕ) → Stands (record e { spare = n }) s h → Stands e s h
 stands_spared e s h n d = record { stage = d.stage; why = d.why }

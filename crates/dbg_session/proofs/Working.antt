@@ -10,19 +10,19 @@ use Rattle.dbg_model.specs.declared.entry.Mode.{Mode}
 use Rattle.dbg_model.specs.declared.entry.Mode.TheVariants as mode
 use Rattle.dbg_model.specs.declared.entry.Why.{Why}
 use Rattle.dbg_model.specs.declared.entry.Why.TheVariants.{Break, Fault}
-use Rattle.dbg_model.specs.Breaks.{settled}
-use Rattle.dbg_model.specs.declared.entry.Entry.TheVariants.{Stopped}
+use Rattle.dbg_model.specs.Breaks.{is_stop}
+use Rattle.dbg_model.specs.declared.entry.Entry.TheVariants.{Counted, Stopped}
 use Rattle.dbg_model.specs.declared.limits.TheConstants.{HISTORY}
 use Rattle.dbg_model.specs.declared.opening.Opening.{Opening}
-use Rattle.dbg_model.specs.State.{Hart, State, hart_runs, any_runs, any_leaves, is_running, due, is_due}
+use Rattle.dbg_model.specs.State.{Hart, State, hart_runs, any_runs, any_leaves, is_running, due, is_due, is_counted, arrived}
 use Rattle.dbg_model.specs.Reply.{done_by}
-use Rattle.dbg_model.specs.Lawful.{one, one_by, enter, may_go, may_move, may_run, is_number, stepped_by, stepped, stopped, with_stop, faulted_by, stopped_by, with_leavers, leaving, leaving_at}
+use Rattle.dbg_model.specs.Lawful.{one, one_by, enter, may_go, may_move, may_run, stepped_by, stepped, stopped, with_stop, faulted_by, stopped_by, counted, counted_by, with_count, with_leavers, leaving, leaving_at}
 use Rattle.dbg_model.specs.Leaving.{gone, gone_by}
 use Rattle.dbg_model.proofs.Options.{guard_some, same_some, both_true}
 use Rattle.engine_facts.specs.declared.mind.Mind.{Mind}
 use Rattle.engine_facts.specs.declared.mind.Phase.{Phase}
 use Rattle.engine_facts.specs.declared.mind.Phase.TheVariants as phase
-use Rattle.dbg_session.specs.Stage.{running, moves, moves_of, runs_at, runs_as}
+use Rattle.dbg_session.specs.Stage.{running, moves, moves_of, moves_left, runs_at, runs_as}
 
 abbrev one_if : Bool → ℕ
 one_if b = cond b 1 0
@@ -89,7 +89,7 @@ one_by_works : (o : Opening) (s t : State) (h : ℕ) (r : Option Hart) → slice
 one_by_works o s t h None at is = cc
 one_by_works o s t h (Some x) at is =
     let g = guard_some (may_run o s h x) (stepped_by (plain o.image x.regs s.memory) s h x) t is in
-    answer_works o (plain o.image x.regs s.memory) s t h x at (go_below o s (both_true (may_go o s) (is_running x.mode) (both_true (may_move o s x) (not (is_due s.breaks h x)) g.0).0).0) g.1
+    answer_works o (plain o.image x.regs s.memory) s t h x at (go_below o s (both_true (may_go o s) (is_running x.mode) (both_true (may_move o s x) (not (is_due (due o.image s h x))) g.0).0).0) g.1
 
 pub one_works : (o : Opening) (h : ℕ) (s t : State) → one o h s ≡ Some t → Worked o s t
 unfolding one
@@ -110,7 +110,7 @@ one_by_runs : (o : Opening) (s t : State) (h : ℕ) (r : Option Hart) → slice_
 one_by_runs o s t h None at is = cc
 one_by_runs o s t h (Some x) at is =
     let g = guard_some (may_run o s h x) (stepped_by (plain o.image x.regs s.memory) s h x) t is in
-    runs_there s.harts h x at (both_true (may_go o s) (is_running x.mode) (both_true (may_move o s x) (not (is_due s.breaks h x)) g.0).0).1
+    runs_there s.harts h x at (both_true (may_go o s) (is_running x.mode) (both_true (may_move o s x) (not (is_due (due o.image s h x))) g.0).0).1
 
 pub one_runs : (o : Opening) (h : ℕ) (s t : State) → one o h s ≡ Some t → any_runs s.harts ≡ true
 unfolding one
@@ -138,18 +138,18 @@ fault_halts (Traps met) cause s t h x at runs is =
 fault_halts (Goes r m out leave) cause s t h x at runs is = cc
 
 stop_halts : (o : Opening) (why : Why) (s t : State) (h : ℕ) (r : Option Hart) → slice_get s.harts h ≡ r → stopped_by o s h why r ≡ Some t → Halted s t
-stop_halts o (Break number) s t h None at is = cc
+stop_halts o (Break number error) s t h None at is = cc
 stop_halts o (Fault cause) s t h None at is = cc
-stop_halts o (Break number) s t h (Some x) at is =
-    let u : State = record (with_stop s h x) { breaks = settled s.breaks h x.regs.pc } in
-    let g = guard_some (may_move o s x && is_number (due s.breaks h x) number) (Some u) t is in
-    let runs = (both_true (may_go o s) (is_running x.mode) (both_true (may_move o s x) (is_number (due s.breaks h x) number) g.0).0).1 in
+stop_halts o (Break number error) s t h (Some x) at is =
+    let u : State = record (with_stop s h x) { breaks = arrived o.image s h x } in
+    let g = guard_some (may_move o s x && is_stop (due o.image s h x) number error) (Some u) t is in
+    let runs = (both_true (may_go o s) (is_running x.mode) (both_true (may_move o s x) (is_stop (due o.image s h x) number error) g.0).0).1 in
     let set = running_set s.harts h x (stopped x) at in
     let one : one_if (hart_runs x) ≡ 1 = ap one_if runs in
     subst (λ (v : State). Halted s v) (same_some u t g.1) (record { retired = refl; running = omega arith })
 stop_halts o (Fault cause) s t h (Some x) at is =
     let g = guard_some (may_run o s h x) (faulted_by (plain o.image x.regs s.memory) cause s h x) t is in
-    fault_halts (plain o.image x.regs s.memory) cause s t h x at (both_true (may_go o s) (is_running x.mode) (both_true (may_move o s x) (not (is_due s.breaks h x)) g.0).0).1 g.1
+    fault_halts (plain o.image x.regs s.memory) cause s t h x at (both_true (may_go o s) (is_running x.mode) (both_true (may_move o s x) (not (is_due (due o.image s h x))) g.0).0).1 g.1
 
 pub halts : (o : Opening) (why : Why) (h : ℕ) (s t : State) → enter o s (Stopped h why) ≡ Some t → Halted s t
 unfolding enter
@@ -157,6 +157,28 @@ halts o why h s t is = stop_halts o why s t h (slice_get s.harts h) refl is
 
 pub halt_runs : (o : Opening) (h : ℕ) (why : Why) (s t : State) → enter o s (Stopped h why) ≡ Some t → any_runs s.harts ≡ true
 halt_runs o h why s t is = let d = (halts o why h s t is).running in some_run s.harts (omega arith)
+
+-- a count leaves as many harts that run
+pub record Noted (s t : State) : Type 0 where
+  pub retired : t.retired ≡ s.retired
+  pub running : running t.harts ≡ running s.harts
+
+count_by : (o : Opening) (s t : State) (h : ℕ) (r : Option Hart) → slice_get s.harts h ≡ r → counted_by o s h r ≡ Some t → Noted s t × (any_runs s.harts ≡ true)
+count_by o s t h None at is = cc
+count_by o s t h (Some x) at is =
+    let u = with_count o s h x in
+    let g = guard_some (may_move o s x && is_counted (due o.image s h x)) (Some u) t is in
+    let runs = (both_true (may_go o s) (is_running x.mode) (both_true (may_move o s x) (is_counted (due o.image s h x)) g.0).0).1 in
+    let set = running_set s.harts h x (counted x) at in
+    (subst (λ (v : State). Noted s v) (same_some u t g.1) (record { retired = refl; running = omega arith }), runs_there s.harts h x at runs)
+
+pub count_notes : (o : Opening) (h : ℕ) (s t : State) → enter o s (Counted h) ≡ Some t → Noted s t
+unfolding enter
+count_notes o h s t is = (count_by o s t h (slice_get s.harts h) refl is).0
+
+pub count_runs : (o : Opening) (h : ℕ) (s t : State) → enter o s (Counted h) ≡ Some t → any_runs s.harts ≡ true
+unfolding enter
+count_runs o h s t is = (count_by o s t h (slice_get s.harts h) refl is).1
 
 pub done_retired : (o : Opening) (s : State) (line : List ℕ) → (done_by o s line).retired ≡ s.retired
 unfolding done_by
@@ -177,13 +199,13 @@ moves_one phase.Idle = omega arith
 moves_one (phase.Lifted home) = omega arith
 moves_one (phase.Ran home) = omega arith
 
-pub moves_most : (xs : List Mind) → moves xs ≤ 2 * length xs
+pub moves_most : (xs : List Mind) → moves xs ≤ 3 * length xs
 moves_most [] = omega arith
-moves_most (x ∷ xs) = let one = moves_one x.phase in let ih = moves_most xs in omega arith
+moves_most (x ∷ xs) = let one = moves_one x.phase in let fresh = running_one x.fresh in let ih = moves_most xs in omega arith
 
-pub moves_set : (xs : List Mind) (h : ℕ) (x y : Mind) → slice_get xs h ≡ Some x → moves (slice_set xs h y) + moves_of x.phase ≡ moves xs + moves_of y.phase
+pub moves_set : (xs : List Mind) (h : ℕ) (x y : Mind) → slice_get xs h ≡ Some x → moves (slice_set xs h y) + moves_left x ≡ moves xs + moves_left y
 moves_set [] h x y at = cc
-moves_set (z ∷ zs) zero x y at = let same = ap (λ (w : Mind). moves_of w.phase) (same_some z x at) in omega arith
+moves_set (z ∷ zs) zero x y at = let same = ap moves_left (same_some z x at) in omega arith
 moves_set (z ∷ zs) (suc h) x y at = let ih = moves_set zs h x y at in omega arith
 
 -- a hart that runs is among the harts

@@ -26,19 +26,22 @@ abbrev pub running : List Hart → ℕ
 running [] = 0
 running (x ∷ xs) = cond (hart_runs x) 1 0 + running xs
 
--- the moves without an instruction that may still come: lifting a patch, and planting it again
+-- the moves without an instruction that may still come: lifting a patch, and planting it again; and the count of an arrival
 abbrev pub moves_of : Phase → ℕ
 moves_of phase.Idle = 1
 moves_of (phase.Lifted home) = 0
 moves_of (phase.Ran home) = 2
 
+abbrev pub moves_left : Mind → ℕ
+moves_left x = moves_of x.phase + cond x.fresh 1 0
+
 abbrev pub moves : List Mind → ℕ
 moves [] = 0
-moves (x ∷ xs) = moves_of x.phase + moves xs
+moves (x ∷ xs) = moves_left x + moves xs
 
--- how much the harts can still do; 16 harts have 32 such moves at most
+-- how much the harts can still do; 16 harts have 48 such moves at most
 abbrev pub work_of : Stage → ℕ
-work_of r = 33 * (r.opening.settings.budget - r.state.retired) + (33 * running r.state.harts + moves r.minds)
+work_of r = 49 * (r.opening.settings.budget - r.state.retired) + (49 * running r.state.harts + moves r.minds)
 
 abbrev pub runs_as : Option Hart → Bool
 runs_as None = false

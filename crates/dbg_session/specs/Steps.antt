@@ -68,7 +68,7 @@ pub record DoesLine (ended : Bool) (rest : List ℕ) (next : ℕ) (r s : Stage) 
 abbrev pub Does : Done → Bool → List ℕ → Told → Told → Stage → Stage → Type 0
 Does done.Nothing ended rest t u r s = (u ≡ t) × (s ≡ r) × (can_do r ended rest ≡ false)
 Does done.Waits ended rest t u r s = (u ≡ t) × (s ≡ r) × (first_waits (lines rest ended) ≡ true) × (can_do r ended rest ≡ false)
-Does (done.Done next) ended rest t u r s = Says t u r s true × DoesLine ended rest next r s × (work_of s ≤ work_of r + 560)
+Does (done.Done next) ended rest t u r s = Says t u r s true × DoesLine ended rest next r s × (work_of s ≤ work_of r + 832)
 Does (done.Unput next) ended rest t u r s = Says t u r s false × DoesLine ended rest next r s
 Does done.NoMemory ended rest t u r s = (u ≡ t) × (s ≡ r)
 Does (done.Unsaid next) ended rest t u r s = Keeps t u r s × DoesLine ended rest next r s

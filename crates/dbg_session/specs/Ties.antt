@@ -78,7 +78,7 @@ pub record IsTied (s : Option Status) (t : Told) (r : Stage) (i : Taken) : Type 
 -- how much a session can still do
 abbrev pub session_work : Option Status → Stage → Taken → ℕ
 session_work (Some s) r i = 0
-session_work None r i = 1 + work_of r + 561 * length i.rest + 562 * (MOST_INPUT - i.count) + cond i.ended 0 1
+session_work None r i = 1 + work_of r + 833 * length i.rest + 834 * (MOST_INPUT - i.count) + cond i.ended 0 1
 
 -- why a session is over
 abbrev pub OverBy : Option Status → Stage → ℕ → Type 0

@@ -31,7 +31,8 @@ turned_text r (turned.Wrote addr len) h pc = wrote_text r addr len
 turned_text r (turned.Left code) h pc = last_lefts r 1 code
 turned_text r (turned.AllLeft code count) h pc = last_lefts r count code
 turned_text r (turned.Stopped cause) h pc = stop_text cause h pc
-turned_text r (turned.Arrived number temporary) h pc = break_text temporary number h pc
+turned_text r turned.Counted h pc = []
+turned_text r (turned.Arrived number temporary error) h pc = break_text temporary number error h pc
 
 -- whether a turn moved its hart
 abbrev pub has_moved : Turned → Bool
@@ -45,4 +46,5 @@ has_moved (turned.Wrote addr len) = true
 has_moved (turned.Left code) = true
 has_moved (turned.AllLeft code count) = true
 has_moved (turned.Stopped cause) = true
-has_moved (turned.Arrived number temporary) = true
+has_moved turned.Counted = true
+has_moved (turned.Arrived number temporary error) = true

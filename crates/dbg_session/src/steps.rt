@@ -91,12 +91,17 @@ fn turned_text(
         | Turned::Held { .. }
         | Turned::Planted
         | Turned::Lifted
+        | Turned::Counted
         | Turned::Ran => Ok(Vec::new(alloc)),
         Turned::Wrote { addr, len } => wrote_text(alloc, engine, addr, len),
         Turned::Left { code } => last_lefts(alloc, engine, 1, code),
         Turned::AllLeft { code, count } => last_lefts(alloc, engine, count, code),
         Turned::Stopped { cause } => stop_text(alloc, cause, hart, pc),
-        Turned::Arrived { number, temporary } => break_text(alloc, temporary, number, hart, pc),
+        Turned::Arrived {
+            number,
+            temporary,
+            error,
+        } => break_text(alloc, temporary, number, error, hart, pc),
     }
 }
 

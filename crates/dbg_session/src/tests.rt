@@ -3,6 +3,7 @@ ghost use Rattle.dbg_traits.specs.Told.{IsFresh};
 ghost use Rattle.dbg_traits.specs.MemWorld.{told_of};
 
 use crate::{Closed, Ended, Status, debug_run};
+use dbg_model::Entry;
 use dbg_traits::{ArgText, Cue, Limits, MemWorld, OpenGate};
 use elf_gen::plain;
 use std::alloc::Global;
@@ -363,12 +364,75 @@ const ONE_STOPPED: &str = "\
     ^done\n(gdb)\n\
     ^done,memory=[{begin=\"0x00020000\",offset=\"0x00000000\",end=\"0x00020004\",contents=\"02000000\"}]\n(gdb)\n";
 
-// A world with a program of these words, and a budget of 1,000 instructions.
-fn program_world(alloc: Global, harts: &str, file: Vec<u8>, input: &str) -> Result<MemWorld, Fail>
+// The breakpoint stops the hart that finds 2 in memory, which is the second one.
+const SECOND_FINDS_TWO: &str = "\
+    -break-insert -c \"{int} 0x20000 == 2\" *0x10080\n-exec-continue --thread 1\n-exec-wait\n\
+    -exec-continue --thread 2\n-exec-wait\n";
+
+const SECOND_FOUND_TWO: &str = "\
+    ^done,bkpt={number=\"1\",type=\"breakpoint\",disp=\"keep\",enabled=\"y\",addr=\"0x00010080\",\
+    cond=\"{int} 0x20000 == 2\",times=\"0\",original-location=\"*0x10080\"}\n(gdb)\n\
+    ^running\n*running,thread-id=\"1\"\n(gdb)\n\
+    =thread-exited,id=\"1\",group-id=\"i1\"\n\
+    ^done\n(gdb)\n\
+    ^running\n*running,thread-id=\"2\"\n(gdb)\n\
+    *stopped,reason=\"breakpoint-hit\",disp=\"keep\",bkptno=\"1\",frame={addr=\"0x00010080\",args=[]},\
+    thread-id=\"2\",stopped-threads=[\"2\"]\n\
+    ^done\n(gdb)\n";
+
+const CANNOT_TELL: &str = "-break-insert -c \"{int} 0 == 1\" *0x10078\n-exec-continue\n";
+
+const COULD_NOT_TELL: &str = "\
+    ^running\n*running,thread-id=\"1\"\n(gdb)\n\
+    &\"Error in testing condition for breakpoint 1: Cannot access memory at address 0x00000000\\n\"\n\
+    *stopped,reason=\"breakpoint-hit\",disp=\"keep\",bkptno=\"1\",frame={addr=\"0x00010078\",args=[]},\
+    thread-id=\"1\",stopped-threads=[\"1\"]\n";
+
+const CHANGES: &str = "\
+    -data-evaluate-expression \"7 % 0\"\n-break-insert \"*0x10078\"\n\
+    -break-insert -t -d -i 2 -c \"$a0 > 0\" -p 1 *0x10078\n-break-delete 1 3\n-break-list\n-break-after 2 5\n\
+    -break-condition 2\n-break-enable 2 1\n-break-delete 1\n-break-list\n-data-evaluate-expression 1 + 2\n\
+    -data-evaluate-expression \"1 +\"\n-break-insert nowhere\n-break-after 7 1\n-break-condition 2 {int\n\
+    -data-evaluate-expression ~0\n";
+
+const CHANGED: &str = "\
+    ^error,msg=\"Division by zero\"\n(gdb)\n\
+    ^done,bkpt={number=\"1\",type=\"breakpoint\",disp=\"keep\",enabled=\"y\",addr=\"0x00010078\",times=\"0\",\
+    original-location=\"*0x10078\"}\n(gdb)\n\
+    ^done,bkpt={number=\"2\",type=\"breakpoint\",disp=\"del\",enabled=\"n\",addr=\"0x00010078\",cond=\"$a0 > 0\",\
+    thread=\"1\",times=\"0\",ignore=\"2\",original-location=\"*0x10078\"}\n(gdb)\n\
+    ^error,msg=\"No breakpoint number 3\"\n(gdb)\n\
+    ^done,BreakpointTable={nr_rows=\"2\",body=[\
+    bkpt={number=\"1\",type=\"breakpoint\",disp=\"keep\",enabled=\"y\",addr=\"0x00010078\",times=\"0\",\
+    original-location=\"*0x10078\"},\
+    bkpt={number=\"2\",type=\"breakpoint\",disp=\"del\",enabled=\"n\",addr=\"0x00010078\",cond=\"$a0 > 0\",\
+    thread=\"1\",times=\"0\",ignore=\"2\",original-location=\"*0x10078\"}]}\n(gdb)\n\
+    ^done\n(gdb)\n^done\n(gdb)\n^done\n(gdb)\n^done\n(gdb)\n\
+    ^done,BreakpointTable={nr_rows=\"1\",body=[\
+    bkpt={number=\"2\",type=\"breakpoint\",disp=\"del\",enabled=\"y\",addr=\"0x00010078\",\
+    thread=\"1\",times=\"0\",ignore=\"5\",original-location=\"*0x10078\"}]}\n(gdb)\n\
+    ^done,value=\"3\"\n(gdb)\n\
+    ^error,msg=\"Syntax error in expression at 3\"\n(gdb)\n\
+    ^error,msg=\"Function nowhere not defined\"\n(gdb)\n\
+    ^error,msg=\"No breakpoint number 7\"\n(gdb)\n\
+    ^error,msg=\"Syntax error in expression at 4\"\n(gdb)\n\
+    ^done,value=\"-1\"\n(gdb)\n";
+
+// The first two arrivals are only counted, and then the condition doesn't hold.
+const COUNTS_TWICE: &str = "-break-insert -i 2 -c \"1 == 2\" *0x10078\n-exec-continue\n";
+
+// A world with a program of these words, and a budget of instructions.
+fn program_world(
+    alloc: Global,
+    harts: &str,
+    budget: &str,
+    file: Vec<u8>,
+    input: &str,
+) -> Result<MemWorld, Fail>
     ensures { IfOk result (λ w. IsFresh (told_of w)) }
 {
     let mut words = words_of(alloc, "0")?;
-    for word in ["--budget", "1000", "--harts", harts] {
+    for word in ["--budget", budget, "--harts", harts] {
         words.push(ArgText::of(String::from_str(alloc, word)?))?;
     }
     let mut files = Vec::new(alloc);
@@ -401,11 +465,28 @@ fn lines_are_answered(rt: HostRuntime) -> Result<(), Fail> {
         (&EXITS_ALL[..], "2", CONTINUE, Status::Done, 3, ALL_EXITED),
         (&ADDS_ONE[..], "2", ONE_STOPS, Status::Done, 6, ONE_STOPPED),
         (&ADDS_ONE[..], "16", ALL_ADD, Status::Done, 6, SIXTEEN),
+        (
+            &ADDS_ONE[..],
+            "2",
+            SECOND_FINDS_TWO,
+            Status::Done,
+            6,
+            SECOND_FOUND_TWO,
+        ),
+        (
+            &RETURNS_TWO[..],
+            "1",
+            CANNOT_TELL,
+            Status::Done,
+            1,
+            COULD_NOT_TELL,
+        ),
+        (&RETURNS_TWO[..], "1", CHANGES, Status::Done, 0, CHANGED),
     ];
     for (words, harts, input, expected, executed, output) in cases {
         assert!(rt; !words.is_empty() && words.len() < 16);
         let file = plain(alloc, words, if words.len() == 8 { hi } else { &[0; 4] })?;
-        let world = program_world(alloc, harts, file, input)?;
+        let world = program_world(alloc, harts, "1000", file, input)?;
         let Ended {
             status,
             world,
@@ -415,5 +496,38 @@ fn lines_are_answered(rt: HostRuntime) -> Result<(), Fail> {
         assert_eq!(rt; retired(&closed), Some(executed), "{input}");
         assert!(rt; world.output().ends_with(output.as_bytes()), "{input}");
     }
+    Ok(())
+}
+
+// The entries of a journal: a `Ran` as its count, and any other as its first letter.
+fn shape(alloc: Global, closed: &Option<Closed>) -> Result<String, Fail> {
+    let mut shape = String::new(alloc);
+    if let Some(closed) = closed {
+        for entry in closed.journal.entries() {
+            match entry {
+                Entry::Ran { count, .. } => shape.push_str(&format!(in alloc; "{count}")?)?,
+                Entry::Counted { .. } => shape.push_str("C")?,
+                Entry::Stopped { .. } => shape.push_str("S")?,
+                Entry::Left { .. } => shape.push_str("L")?,
+                Entry::Did { .. } => shape.push_str("D")?,
+            }
+        }
+    }
+    Ok(shape)
+}
+
+#[test]
+fn ignored_arrivals_are_entries_and_say_nothing(rt: HostRuntime) -> Result<(), Fail> {
+    let alloc = rt.alloc();
+    let file = plain(alloc, &COUNTS, &[0; 4])?;
+    let world = program_world(alloc, "1", "10", file, COUNTS_TWICE)?;
+    let Ended {
+        status,
+        world,
+        closed,
+    } = debug_run(&rt, alloc, world, &OpenGate);
+    assert_eq!(rt; status, Status::Budget);
+    assert_eq!(rt; shape(alloc, &closed)?.as_str(), "DD1C2C7");
+    assert!(rt; world.output().ends_with(RUNNING.as_bytes()));
     Ok(())
 }

@@ -7,7 +7,7 @@ use Rattle.text_words.specs.Tables.{WordMap}
 use Rattle.text_words.specs.Words.{Words, shown, is_planted}
 use Rattle.hart_machine.proofs.Places.{same_some, same_place}
 use Rattle.break_table.specs.Entry.{Entry as BreakEntry, Condition}
-use Rattle.break_table.specs.Table.{stands, stands_at, is_other, changed_entry, with_enabled, with_condition, with_ignore, IsRising}
+use Rattle.break_table.specs.Table.{stands, stands_at, has_number, is_other, changed_entry, with_enabled, with_condition, with_ignore, IsRising}
 use Rattle.engine_facts.specs.declared.mind.Hold.{Hold}
 use Rattle.engine_facts.specs.Seen.{Run}
 use Rattle.engine_facts.specs.Facts.{Facts, Planted, AreInText, wanted, is_home}
@@ -125,6 +125,15 @@ words-changed t f (b ∷ bs) n same each =
 pub words-added : (t : Words) (bs : List BreakEntry) (b : BreakEntry) → HaveWords t bs → IsSome (shown t b.address) → HaveWords t (bs ++ b ∷ [])
 words-added t [] b each here = λ k d at. words_cons t b [] k d here each at
 words-added t (x ∷ xs) b each here = λ k d at. words_cons t x (xs ++ b ∷ []) k d (each 0 x refl) (words-added t xs b (λ j e is. each (suc j) e is) here) at
+
+-- a number that has an address is that of a breakpoint
+has_by : (b : BreakEntry) (bs : List BreakEntry) (n a : ℕ) (t : Bool) → number_place_by t b (number_place bs n) ≡ Some a → (number_place bs n ≡ Some a → has_number n bs ≡ true) → (t || has_number n bs) ≡ true
+has_by b bs n a true at ih = refl
+has_by b bs n a false at ih = ih at
+
+pub place-has : (bs : List BreakEntry) (n a : ℕ) → number_place bs n ≡ Some a → has_number n bs ≡ true
+place-has [] n a at = cc
+place-has (b ∷ bs) n a at = has_by b bs n a (b.number == n) at (place-has bs n a)
 
 -- the address of a number is that of a breakpoint
 place_by : (t : Words) (b : BreakEntry) (bs : List BreakEntry) (n a : ℕ) (is : Bool) → number_place_by is b (number_place bs n) ≡ Some a → IsSome (shown t b.address) → (number_place bs n ≡ Some a → IsSome (shown t a)) → IsSome (shown t a)

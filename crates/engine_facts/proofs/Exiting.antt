@@ -125,7 +125,7 @@ departs_all r h spare code c c' x mem t f m runs may is more p =
       planted = p;
       texts = f.texts;
       places = f.places;
-      waits = f.waits ∙ sym (length-set r.minds h exited_mind);
+      waits = f.waits ∙ sym (gone_len ∙ minds);
       names = f.names;
       retired = retired_quiet cs (lengthened r.journal h) es (quiet_lefts_live code 0 xs) (retired_ran r.machine.cores h c c' r.journal m.core more f.retired);
     }) in

@@ -40,13 +40,19 @@ use Rattle.engine_facts.proofs.Arriving.{stands-arrived, text-arrived}
 abbrev pub stop_state : State → ℕ → Core → Mind → List BreakEntry → State
 stop_state s h c x bs = record s { harts = slice_set s.harts h (seen_hart c x); breaks = bs; noted = s.noted + 1 }
 
+-- the facts hold after an entry that came
+pub record Comes (r n : Run) (e : Entry) : Type 0 where
+  pub facts : Facts n
+  pub comes : enter r.opening (seen r) e ≡ Some (seen n)
+
 -- a hart stops or is counted, with these patches and breakpoints
 pub halts : (r : Run) (e : Entry) (h spare : ℕ) (c : Core) (x x' : Mind) (t : Words) (bs : List BreakEntry) → Facts r → Mover r h c x → HartFact r.opening.image r.hold h c x' → ran_hart e ≡ None → enter r.opening (seen r) e ≡ Some (stop_state (seen r) h c x' bs)
-    → Planted r.opening.image t bs r.hold → AreInText r.opening.image bs → Enters (halted r e h x' t bs spare) (stop_state (seen r) h c x' bs)
+    → Planted r.opening.image t bs r.hold → AreInText r.opening.image bs → Comes r (halted r e h x' t bs spare) e
 halts r e h spare c x x' t bs f m fact quiet comes p texts =
     let s = stop_state (seen r) h c x' bs in
     let n : Run = halted r e h x' t bs spare in
     let harts : slice_set (seen r).harts h (seen_hart c x') ≡ seen_harts r.machine.cores (slice_set r.minds h x') = sym (seen-set_mind r.machine.cores r.minds h c x' m.core) in
+    let d : Enters n s =
     entered n s f.settings (added r.opening r.journal (seen r) s e f.leaves quiet comes)
     (ap (λ ys. let u : State = record s { harts = ys } in u) harts)
     (record {
@@ -60,7 +66,8 @@ halts r e h spare c x x' t bs f m fact quiet comes p texts =
       waits = f.waits ∙ sym (length-set r.minds h x');
       names = f.names;
       retired = retired_noted r.machine.cores r.journal e quiet f.retired;
-    })
+    }) in
+    record { facts = d.facts; comes = comes ∙ ap Some d.seen }
 
 -- what is known of a hart that stops where it steps over nothing
 stopped_fact : (r : Run) (h : ℕ) (c : Core) (x : Mind) → Facts r → Mover r h c x → x.phase ≡ phase.Idle → HartFact r.opening.image r.hold h c first_mind
@@ -116,17 +123,17 @@ planted_after r h c x t f w =
 
 -- an idle hart stops by a fault
 pub halts_fault : (r : Run) (h spare : ℕ) (c : Core) (x : Mind) (cause : Cause) → Facts r → Mover r h c x → x.phase ≡ phase.Idle → may_run r.opening (seen r) h (seen_hart c x) ≡ true → plain r.opening.image c.regs r.machine.memory ≡ Traps cause
-    → Enters (halted r (Stopped h (Fault cause)) h first_mind r.machine.text r.breaks spare) (stop_state (seen r) h c first_mind r.breaks)
+    → Comes r (halted r (Stopped h (Fault cause)) h first_mind r.machine.text r.breaks spare) (Stopped h (Fault cause))
 halts_fault r h spare c x cause f m idle may is =
     halts r (Stopped h (Fault cause)) h spare c x first_mind r.machine.text r.breaks f m (stopped_fact r h c x f m idle) refl (fault_comes r h c x cause m may is) f.planted f.texts
 
 -- an idle hart stops at a breakpoint
 pub halts_break : (r : Run) (h number spare : ℕ) (error : Option CondError) (c : Core) (x : Mind) (t : Words) → Facts r → Mover r h c x → x.phase ≡ phase.Idle → may_move r.opening (seen r) (seen_hart c x) ≡ true
     → (due r.opening.image (seen r) h (seen_hart c x)).stop ≡ Some number → (due r.opening.image (seen r) h (seen_hart c x)).error ≡ error → Repatched r.machine.text t c.regs.pc (wanted (after_arrival r h c x) r.hold c.regs.pc)
-    → Enters (halted r (Stopped h (Break number error)) h first_mind t (after_arrival r h c x) spare) (stop_state (seen r) h c first_mind (after_arrival r h c x))
+    → Comes r (halted r (Stopped h (Break number error)) h first_mind t (after_arrival r h c x) spare) (Stopped h (Break number error))
 halts_break r h number spare error c x t f m idle may is why w =
     let bs = after_arrival r h c x in
-    let P : Option CondError → Type 0 = λ e. Enters (halted r (Stopped h (Break number e)) h first_mind t bs spare) (stop_state (seen r) h c first_mind bs) in
+    let P : Option CondError → Type 0 = λ e. Comes r (halted r (Stopped h (Break number e)) h first_mind t bs spare) (Stopped h (Break number e)) in
     let d = due r.opening.image (seen r) h (seen_hart c x) in
     subst P why
     (halts r (Stopped h (Break number d.error)) h spare c x first_mind t bs f m (stopped_fact r h c x f m idle) refl (enter_break r.opening (seen r) h number (seen_hart c x) (hart_at r h c x m) may is)
@@ -135,7 +142,7 @@ halts_break r h number spare error c x t f m idle may is why w =
 -- a hart is counted at breakpoints, and stays in its phase
 pub counts : (r : Run) (h spare : ℕ) (c : Core) (x : Mind) (t : Words) → Facts r → Mover r h c x → may_move r.opening (seen r) (seen_hart c x) ≡ true
     → is_counted (due r.opening.image (seen r) h (seen_hart c x)) ≡ true → Repatched r.machine.text t c.regs.pc (wanted (after_arrival r h c x) r.hold c.regs.pc)
-    → Enters (halted r (Counted h) h (counted_mind x) t (after_arrival r h c x) spare) (stop_state (seen r) h c (counted_mind x) (after_arrival r h c x))
+    → Comes r (halted r (Counted h) h (counted_mind x) t (after_arrival r h c x) spare) (Counted h)
 counts r h spare c x t f m may is w =
     let bs = after_arrival r h c x in
     halts r (Counted h) h spare c x (counted_mind x) t bs f m (counted_fact r h c x f m) refl (enter_count r.opening (seen r) h (seen_hart c x) (hart_at r h c x m) may is)

@@ -1,7 +1,6 @@
-use Rattle.std.proofs.Common.{sym, rules, ◌≡◌, ◌∙◌, ap, subst, List, map, filter, length, drop, All}
+use Rattle.std.proofs.Common.{rules, ◌≡◌, ◌∙◌, ap, map, filter, length, drop}
 use Rattle.std.proofs.lemmas.Fn.{filter_same}
 use Rattle.std.proofs.Math.Seq.{take-append_seam}
-use Rattle.break_table.specs.declared.entry.BreakEntry.{BreakEntry}
 use Rattle.break_table.specs.Entry.{entry_of}
 use Rattle.break_table.specs.Arrival.{settled_entry, stays}
 use Rattle.break_table.proofs.Lists.{filter-map}

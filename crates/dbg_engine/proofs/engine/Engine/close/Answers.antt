@@ -1,7 +1,5 @@
-use Rattle.std.proofs.Common.{List, subst}
-use Rattle.dbg_model.specs.declared.breakpoint.Breakpoint.{Breakpoint}
+use Rattle.std.proofs.Common.{subst}
 use Rattle.engine_facts.specs.Seen.{Run}
-use Rattle.engine_facts.specs.Moves.{Released}
 use Rattle.engine_facts.proofs.Holding.{held_text}
 use Rattle.dbg_engine.specs.Calls.{Closes}
 use Rattle.dbg_engine.specs.EngineInside.{run_of}
@@ -15,6 +13,5 @@ pub returns-clause-machine : goal.returns-clause-machine
 returns-clause-machine c =
     let r = run_of c.self.inside in
     let m = c.release.new.machine in
-    let P : List Breakpoint → Type 0 = λ bs. Released r.machine.text m.text bs r.hold in
     let Q : Run → Type 0 = λ q. Closes q m in
-    subst Q c.self.view_is (closed r m c.self.invariant.facts (subst P c.as_slice.ensures.value c.release.ensures.text) c.release.ensures.rest)
+    subst Q c.self.view_is (closed r m c.self.invariant.facts c.release.ensures.text c.release.ensures.rest)

@@ -1,11 +1,12 @@
 use Rattle.std.proofs.Common.{◌≡◌, sym, ap, ◌∙◌, subst, true}
 use Rattle.std.specs.Prelude.{Some, slice_get, slice_set}
 use Rattle.text_words.specs.Words.{is_planted}
-use Rattle.engine_facts.specs.Seen.{Run}
+use Rattle.engine_facts.specs.Seen.{Run, seen}
 use Rattle.engine_facts.specs.Facts.{other_holder}
 use Rattle.engine_facts.proofs.Planting.{text_shown}
 use Rattle.engine_facts.proofs.Holding.{planted_text}
-use Rattle.dbg_engine.specs.Calls.{Lifts, Of}
+use Rattle.dbg_model.specs.Lawful.{may_go}
+use Rattle.dbg_engine.specs.Calls.{Lifts, Of, Undue}
 use Rattle.dbg_engine.specs.EngineInside.{run_of}
 use Rattle.dbg_engine.proofs.Holds.{Moved, lifted}
 use Rattle.dbg_engine.proofs.engine.Engine.lift.Goals as goal
@@ -22,7 +23,8 @@ move c =
     let mind : slice_get r.minds c.args.h ≡ Some c.args.mind = ap (λ (q : Run). slice_get q.minds c.args.h) c.self.view_is ∙ c.requires.mind in
     let planted : is_planted r.machine.text c.args.pc ≡ true = ap (λ (q : Run). is_planted q.machine.text c.args.pc) c.self.view_is ∙ c.requires.planted in
     let P : Run → Type 0 = λ q. Of q c.args.h (λ y. y.regs.pc ≡ c.args.pc) in
-    lifted r c.args.h c.args.pc c.args.mind c.with_phase.result c.repatch.new.machine c.self.invariant.facts mind c.requires.idle c.requires.runs (ap (λ (q : Run). other_holder q.hold c.args.h) c.self.view_is ∙ c.requires.free)
+    let U : Run → Type 0 = λ q. Undue q c.args.h in
+    lifted r c.args.h c.args.pc c.args.mind c.with_phase.result c.repatch.new.machine c.self.invariant.facts (ap (λ (q : Run). may_go q.opening (seen q)) c.self.view_is ∙ c.requires.may) (subst U (sym c.self.view_is) c.requires.due) mind c.requires.idle c.requires.runs (ap (λ (q : Run). other_holder q.hold c.args.h) c.self.view_is ∙ c.requires.free)
     (subst P (sym c.self.view_is) c.requires.pc) planted c.repatch.ensures.text c.repatch.ensures.rest c.with_phase.ensures
 
 pub invariant_of-self : goal.invariant_of-self

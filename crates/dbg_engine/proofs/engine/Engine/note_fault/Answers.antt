@@ -1,11 +1,10 @@
 use Rattle.std.proofs.Common.{◌≡◌, ◌-◌, ◌+◌, sym, ap, ◌∙◌, subst}
-use Rattle.std.specs.Prelude.{Some, None, slice_get, slice_set, vec_len, vec_capacity}
+use Rattle.std.specs.Prelude.{Some, slice_get, slice_set, vec_len, vec_capacity}
 use Rattle.dbg_model.specs.declared.entry.Why.TheVariants.{Fault}
-use Rattle.dbg_model.specs.State.{due}
 use Rattle.dbg_model.specs.Lawful.{may_go}
 use Rattle.engine_facts.specs.Minds.{first_mind}
 use Rattle.engine_facts.specs.Seen.{Run, seen}
-use Rattle.dbg_engine.specs.Calls.{Halts, Of, TrapsAt}
+use Rattle.dbg_engine.specs.Calls.{Halts, Undue, TrapsAt}
 use Rattle.dbg_engine.specs.EngineInside.{run_of}
 use Rattle.dbg_engine.proofs.Holds.{Moved, faulted}
 use Rattle.dbg_engine.proofs.engine.Engine.note_fault.Goals as goal
@@ -14,7 +13,7 @@ move : (c : goal.After-self-2-1) → (let r = run_of c.self.inside in let new : 
 move c =
     let r = run_of c.self.inside in
     let mind : slice_get r.minds c.args.h ≡ Some c.args.mind = ap (λ (q : Run). slice_get q.minds c.args.h) c.self.view_is ∙ c.requires.mind in
-    let P : Run → Type 0 = λ q. Of q c.args.h (λ y. due (seen q).breaks c.args.h y ≡ None) in
+    let P : Run → Type 0 = λ q. Undue q c.args.h in
     let Q : Run → Type 0 = λ q. TrapsAt q c.args.h c.args.cause in
     faulted r c.args.h (vec_capacity c.note.new.entries - vec_len c.note.new.entries) c.args.mind c.args.cause c.note.new.entries.items c.self.invariant.facts mind c.requires.idle c.requires.runs
     (subst P (sym c.self.view_is) c.requires.due) (subst Q (sym c.self.view_is) c.requires.traps) (ap (λ (q : Run). may_go q.opening (seen q)) c.self.view_is ∙ c.requires.may) c.note.ensures.entries

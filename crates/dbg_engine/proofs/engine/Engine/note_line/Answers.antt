@@ -7,7 +7,8 @@ use Rattle.dbg_model.specs.declared.entry.Entry.TheVariants.{Did}
 use Rattle.dbg_model.specs.Lawful.{may_do}
 use Rattle.engine_facts.specs.Seen.{Run, seen}
 use Rattle.engine_facts.specs.Facts.{Facts}
-use Rattle.dbg_engine.specs.Answering.{IsNoted}
+use Rattle.dbg_model.specs.Reply.{implied}
+use Rattle.dbg_engine.specs.Answering.{Makes}
 use Rattle.dbg_engine.specs.Calls.{Lines}
 use Rattle.dbg_engine.specs.Resuming.{resume_threads}
 use Rattle.dbg_engine.specs.EngineInside.{run_of}
@@ -21,11 +22,11 @@ new_run c xs = record (run_of c.self.inside) { journal = c.note.new.entries.item
 done : (c : After-self-3-1) → LinedTo (run_of c.self.inside) (new_run c c.resume_threads.new.minds) c.args.line.now
 done c =
     let r = run_of c.self.inside in
-    let P : Run → Type 0 = λ q. IsNoted q c.args.line.now c.args.content.now in
+    let P : Run → Type 0 = λ q. Makes q c.args.line.now (implied c.args.content.now) in
     let journal = c.note.ensures.entries ∙ (ap (λ t. t ++ Did c.of.result ∷ []) c.reserve.ensures.items ∙ ap (λ l. c.self.inside.entries.items ++ Did l ∷ []) (c.of.ensures ∙ c.in_ok-copy.ensures.items_if_clones_equal (λ x y e. e))) in
     let minds = c.resume_threads.ensures ∙ (ap (λ xs. resume_threads xs c.going_on.result.now) c.deref_mut.ensures.value ∙ ap (resume_threads r.minds) c.going_on.ensures) in
     noted r (vec_capacity c.note.new.entries - vec_len c.note.new.entries) c.args.line.now c.args.content.now c.note.new.entries.items c.resume_threads.new.minds c.selected_after-self-inside.result c.self.invariant.facts
-    (ap (λ (q : Run). may_do q.opening (seen q) c.args.line.now) c.self.view_is ∙ c.requires.may) (subst P (sym c.self.view_is) c.requires.answer) journal minds c.selected_after-self-inside.ensures
+    (ap (λ (q : Run). may_do q.opening (seen q) c.args.line.now) c.self.view_is ∙ c.requires.may) (subst P (sym c.self.view_is) c.requires.makes) journal minds c.selected_after-self-inside.ensures
 
 -- the minds, written back
 minds_are : (c : After-self-3-1) → c.resume_threads.new.minds ≡ (with_items c.self.inside.minds c.resume_threads.new.minds).items

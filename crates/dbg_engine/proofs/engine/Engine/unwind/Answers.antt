@@ -1,4 +1,4 @@
-use Rattle.std.proofs.Common.{◌≡◌, ap, ◌∙◌}
+use Rattle.std.proofs.Common.{◌≡◌, ap, ◌∙◌, refl}
 use Rattle.std.specs.Prelude.{Some, None, slice_get, slice_set}
 use Rattle.engine_facts.specs.declared.mind.Phase.TheVariants as phase
 use Rattle.engine_facts.specs.Seen.{Run}
@@ -16,8 +16,8 @@ move : (c : goal.After-self-2-1) → (let r = run_of c.self.inside in let new : 
 move c =
     let r = run_of c.self.inside in
     let mind : slice_get r.minds c.args.h ≡ Some c.args.mind = ap (λ (q : Run). slice_get q.minds c.args.h) c.self.view_is ∙ c.requires.mind in
-    unwound r c.args.h c.args.mind c.with_phase.result c.release.new.machine c.as_slice.result.now c.self.invariant.facts mind (ap (λ (q : Run). other_holder q.hold c.args.h) c.self.view_is ∙ c.requires.free)
-    c.release.ensures.text c.as_slice.ensures.value c.release.ensures.rest c.with_phase.ensures
+    unwound r c.args.h c.args.mind c.with_phase.result c.release.new.machine r.breaks c.self.invariant.facts mind (ap (λ (q : Run). other_holder q.hold c.args.h) c.self.view_is ∙ c.requires.free)
+    c.release.ensures.text refl c.release.ensures.rest c.with_phase.ensures
 
 pub invariant_of-self : goal.invariant_of-self
 invariant_of-self c = record { facts = (move c).facts }

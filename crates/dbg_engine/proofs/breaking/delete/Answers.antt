@@ -1,0 +1,3 @@
+use Rattle.std.proofs.Common.{◌≡◌, sym}
+use Rattle.dbg_engine.proofs.Tabling.{deleted_table, deleted_words, none_deleted}
+use Rattle.dbg_engine.proofs.breaking.delete.Goals as goal

@@ -1,0 +1,236 @@
+// The table of breakpoints, and the words of the machine that are planted for it.
+ghost use Rattle.std.specs.Prelude.{◌≡◌, ◌<◌, ◌-◌, ◌^◌, length, None, Some, IsSome, map, slice_get};
+ghost use Rattle.std.specs.Option.{option_map};
+ghost use Rattle.text_words.specs.Words.{shown};
+ghost use Rattle.hart_machine.specs.declared.hart.Core.{Core};
+ghost use Rattle.break_table.specs.Entry.{asked_of, condition_of, entry_of};
+ghost use Rattle.break_table.specs.Arrival.{due_of, settled};
+ghost use Rattle.break_table.specs.Table.{changed, deleted, insert_fault, inserted, with_condition, with_enabled, with_ignore};
+ghost use Rattle.dbg_model.specs.Breaks.{is_temporary, enabling, without};
+ghost use Rattle.dbg_model.specs.Views.{register, shown_byte};
+ghost use Rattle.engine_facts.specs.Facts.{wanted};
+ghost use Rattle.engine_facts.specs.Tables.{number_place, ArePlanted};
+ghost use Rattle.dbg_engine.specs.Changing.{break_change, changed_table, Applies, Retabled};
+
+use crate::patching::{repatch, wants};
+use crate::view::ShownHart;
+use break_table::{BreakEntry, BreakTable, Due, Spec};
+use cond_expr::Expr;
+use elf32_read::Image;
+use engine_facts::Hold;
+use hart_machine::Machine;
+use mi_commands::NumberList;
+
+/// What a line changes of the breakpoints.
+#[derive(Drop)]
+pub enum BreakChange {
+    Insert(Spec),
+    Delete(NumberList),
+    Enable {
+        numbers: NumberList,
+        enabled: bool,
+    },
+    Condition {
+        number: u32,
+        condition: Option<Expr>,
+    },
+    After {
+        number: u32,
+        count: u32,
+    },
+}
+
+/// What the breakpoints do with a hart that has just arrived.
+pub fn due_at(table: &BreakTable, image: &Image, machine: &Machine, h: u32) -> Due
+    requires { h < length machine.now.cores }
+    ensures { (c : Core) → slice_get machine.now.cores h ≡ Some c → result ≡ due_of h (register c.regs) (shown_byte image.now machine.now.memory) table.now.entries }
+{
+    let regs = &machine.cores()[h as usize].regs;
+    table.due(
+        h,
+        &ShownHart {
+            regs,
+            image,
+            machine,
+        },
+    )
+}
+
+/// The changes of an arrival in the table.
+pub fn settle(table: &mut BreakTable, image: &Image, machine: &Machine, h: u32)
+    requires { h < length machine.now.cores }
+    ensures entries { (c : Core) → slice_get machine.now.cores h ≡ Some c → table.new.entries ≡ settled h (register c.regs) (shown_byte image.now machine.now.memory) table.old.entries }
+    ensures rest { table.new ≡ record table.old { entries = table.new.entries } }
+{
+    let regs = &machine.cores()[h as usize].regs;
+    table.settle_arrival(
+        h,
+        &ShownHart {
+            regs,
+            image,
+            machine,
+        },
+    );
+}
+
+/// Whether the breakpoint of that number is temporary.
+pub fn is_temporary(entries: &[BreakEntry], number: u32) -> bool
+    ensures { result ≡ is_temporary (map entry_of entries.now) number }
+{
+    match entries {
+        [] => false,
+        [first, rest @ ..] => {
+            if first.number == number {
+                first.temporary
+            } else {
+                is_temporary(rest, number)
+            }
+        }
+    }
+}
+
+// The address of the breakpoint of a number.
+fn place_of(entries: &[BreakEntry], number: u32) -> Option<u32>
+    ensures { result ≡ number_place (map entry_of entries.now) number }
+{
+    match entries {
+        [] => None,
+        [first, rest @ ..] => {
+            if first.number == number {
+                Some(first.address)
+            } else {
+                place_of(rest, number)
+            }
+        }
+    }
+}
+
+// A new breakpoint, whose word is planted where it is wanted now.
+fn insert(machine: &mut Machine, table: &mut BreakTable, hold: Option<Hold>, spec: Spec)
+    requires planted { ArePlanted machine.old.text table.old.entries hold }
+    requires given { table.old.given < 2 ^ 32 - 1 }
+    requires may { insert_fault table.old (asked_of spec) ≡ None }
+    requires text { spec.address < 2 ^ 32 → IsSome (shown machine.old.text spec.address) }
+    ensures table { table.new ≡ inserted table.old (asked_of spec) }
+    ensures machine { Retabled machine.old machine.new table.new.entries hold }
+{
+    let place = spec.address;
+    let _ = table.insert(spec);
+    let wants = wants(table, hold, place);
+    repatch(machine, place, wants);
+}
+
+// The breakpoint of a number goes, if there is one.
+fn delete(machine: &mut Machine, table: &mut BreakTable, hold: Option<Hold>, number: u32)
+    requires { ArePlanted machine.old.text table.old.entries hold }
+    ensures table { table.new ≡ deleted number table.old }
+    ensures machine { Retabled machine.old machine.new table.new.entries hold }
+{
+    let Some(place) = place_of(table.entries(), number) else {
+        return;
+    };
+    let _ = table.delete(number);
+    let wants = wants(table, hold, place);
+    repatch(machine, place, wants);
+}
+
+// The breakpoint of a number is enabled, or disabled, if there is one.
+fn enable(
+    machine: &mut Machine,
+    table: &mut BreakTable,
+    hold: Option<Hold>,
+    number: u32,
+    enabled: bool,
+)
+    requires { ArePlanted machine.old.text table.old.entries hold }
+    ensures table { table.new ≡ changed (with_enabled enabled) number table.old }
+    ensures machine { Retabled machine.old machine.new table.new.entries hold }
+{
+    let Some(place) = place_of(table.entries(), number) else {
+        return;
+    };
+    if enabled {
+        let _ = table.enable(number);
+    } else {
+        let _ = table.disable(number);
+    }
+    let wants = wants(table, hold, place);
+    repatch(machine, place, wants);
+}
+
+fn delete_each(
+    machine: &mut Machine,
+    table: &mut BreakTable,
+    hold: Option<Hold>,
+    numbers: &[u32],
+)
+    requires { ArePlanted machine.old.text table.old.entries hold }
+    ensures table { table.new ≡ record table.old { entries = without numbers.now table.old.entries } }
+    ensures machine { Retabled machine.old machine.new table.new.entries hold }
+{
+    let [number, rest @ ..] = numbers else {
+        return;
+    };
+    delete(machine, table, hold, *number);
+    delete_each(machine, table, hold, rest);
+}
+
+fn enable_each(
+    machine: &mut Machine,
+    table: &mut BreakTable,
+    hold: Option<Hold>,
+    numbers: &[u32],
+    enabled: bool,
+)
+    requires { ArePlanted machine.old.text table.old.entries hold }
+    ensures table { table.new ≡ record table.old { entries = enabling enabled numbers.now table.old.entries } }
+    ensures machine { Retabled machine.old machine.new table.new.entries hold }
+{
+    let [number, rest @ ..] = numbers else {
+        return;
+    };
+    enable(machine, table, hold, *number, enabled);
+    enable_each(machine, table, hold, rest, enabled);
+}
+
+// The breakpoint of a number gets another condition, if there is one.
+fn set_condition(table: &mut BreakTable, number: u32, condition: Option<Expr>)
+    ensures { table.new ≡ changed (with_condition (option_map condition_of condition)) number table.old }
+{
+    let _ = table.condition(number, condition);
+}
+
+// So many arrivals at the breakpoint of a number are only counted, if there is one.
+fn set_ignore(table: &mut BreakTable, number: u32, count: u32)
+    ensures { table.new ≡ changed (with_ignore count) number table.old }
+{
+    let _ = table.after(number, count);
+}
+
+/// Makes a change of breakpoints, with the words that are planted for them.
+pub fn change_table(
+    machine: &mut Machine,
+    table: &mut BreakTable,
+    hold: Option<Hold>,
+    change: BreakChange,
+)
+    requires planted { ArePlanted machine.old.text table.old.entries hold }
+    requires given { table.old.given < 2 ^ 32 - 1 }
+    requires may { Applies machine.old.text table.old change }
+    ensures table { table.new ≡ changed_table table.old (break_change change) }
+    ensures machine { Retabled machine.old machine.new table.new.entries hold }
+{
+    match change {
+        BreakChange::Insert(spec) => insert(machine, table, hold, spec),
+        BreakChange::Delete(numbers) => delete_each(machine, table, hold, numbers.as_slice()),
+        BreakChange::Enable { numbers, enabled } => enable_each(
+            machine,
+            table,
+            hold,
+            numbers.as_slice(),
+            enabled,
+        ),
+        BreakChange::Condition { number, condition } => set_condition(table, number, condition),
+        BreakChange::After { number, count } => set_ignore(table, number, count),
+    }
+}

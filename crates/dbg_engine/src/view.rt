@@ -1,0 +1,52 @@
+// One hart as conditions and expressions see it.
+ghost use Rattle.std.specs.Prelude.{◌≡◌};
+ghost use Rattle.dbg_model.specs.Views.{register, shown_byte};
+
+use dbg_traits::View;
+use elf32_read::Image;
+use hart_machine::Machine;
+use rv_exec::Regs;
+
+/// One hart's registers, over the machine's data and the program's text. Breakpoints that are planted aren't seen.
+#[derive(Clone, Copy)]
+pub struct ShownHart<'a> {
+    pub regs: &'a Regs,
+    pub image: &'a Image,
+    pub machine: &'a Machine,
+}
+
+/// A register by its number; 32 is pc.
+pub fn register(regs: &Regs, n: u32) -> u32
+    ensures { result ≡ register regs.now n }
+{
+    if n < 32 {
+        regs.get(n)
+    } else {
+        regs.pc()
+    }
+}
+
+/// A byte as it is shown: text as the file has it, and data as it is now.
+pub fn shown_byte(image: &Image, machine: &Machine, addr: u32) -> Option<u8>
+    ensures { result ≡ shown_byte image.now machine.now.memory addr }
+{
+    if image.in_text(addr) {
+        image.mapped(addr)
+    } else {
+        machine.byte(addr)
+    }
+}
+
+impl<'a> View for ShownHart<'a> {
+    ghost registers = { λ v n. register v.regs.now n };
+
+    ghost bytes = { λ v addr. shown_byte v.image.now v.machine.now.memory addr };
+
+    fn reg(&self, n: u32) -> u32 {
+        register(self.regs, n)
+    }
+
+    fn byte(&self, addr: u32) -> Option<u8> {
+        shown_byte(self.image, self.machine, addr)
+    }
+}
