@@ -15,6 +15,7 @@ use Rattle.dbg_model.specs.declared.entry.Entry.{Entry}
 use Rattle.dbg_model.specs.declared.entry.Entry.TheVariants.{Counted, Stopped}
 use Rattle.dbg_model.specs.declared.entry.Why.TheVariants.{Break, Fault}
 use Rattle.dbg_model.specs.Breaks.{nothing_due}
+use Rattle.elf32_read.specs.Program.{Program}
 use Rattle.dbg_model.specs.Views.{register, shown_byte}
 use Rattle.dbg_model.specs.State.{Hart, State, due, is_due, is_counted, arrived as after_arrival}
 use Rattle.dbg_model.specs.Lawful.{enter, may_go}
@@ -171,27 +172,33 @@ shown_at r s h x P same f at each =
     let R : Run → Type 0 = λ q. slice_get q.minds h ≡ Some x → Of q h P in
     subst R same (λ at' y there. let k = core_at r h x f at' in subst P (same_hart r h k.0 x y k.1 there) (each k.0 k.1.core)) at
 
+fresh_due : (p : Program) (s : State) (h : ℕ) (c : Core) (x : Mind) → x.fresh ≡ true → due p s h (seen_hart c x) ≡ due_of h (register c.regs) (shown_byte p s.memory) s.breaks
+unfolding due
+fresh_due p s h c x fresh = rw fresh refl
+
+stale_due : (p : Program) (s : State) (h : ℕ) (c : Core) (x : Mind) → x.fresh ≡ false → due p s h (seen_hart c x) ≡ nothing_due
+unfolding due
+stale_due p s h c x fresh = rw fresh refl
+
 -- what is due for a hart that has just executed
 pub due_new : (r s : Run) (h : ℕ) (x : Mind) (d : Due) → r ≡ s → Facts r → slice_get s.minds h ≡ Some x → x.fresh ≡ true
     → ((c : Core) → slice_get r.machine.cores h ≡ Some c → d ≡ due_of h (register c.regs) (shown_byte r.opening.image r.machine.memory) r.breaks) → DueIs s h d
-unfolding due
 due_new r s h x d same f at fresh is =
     let R : Run → Type 0 = λ q. slice_get q.minds h ≡ Some x → DueIs q h d in
     subst R same
     (λ at' y there.
         let k = core_at r h x f at' in
-        let e : due r.opening.image (seen r) h (seen_hart k.0 x) ≡ d = rw fresh (sym (is k.0 k.1.core)) in
+        let e = fresh_due r.opening.image (seen r) h k.0 x fresh ∙ sym (is k.0 k.1.core) in
         subst (λ (z : Hart). due r.opening.image (seen r) h z ≡ d) (same_hart r h k.0 x y k.1 there) e) at
 
 -- nothing is due for one that hasn't
 pub due_stale : (r s : Run) (h : ℕ) (x : Mind) → r ≡ s → Facts r → slice_get s.minds h ≡ Some x → x.fresh ≡ false → DueIs s h nothing_due
-unfolding due
 due_stale r s h x same f at fresh =
     let R : Run → Type 0 = λ q. slice_get q.minds h ≡ Some x → DueIs q h nothing_due in
     subst R same
     (λ at' y there.
         let k = core_at r h x f at' in
-        let e : due r.opening.image (seen r) h (seen_hart k.0 x) ≡ nothing_due = rw fresh refl in
+        let e = stale_due r.opening.image (seen r) h k.0 x fresh in
         subst (λ (z : Hart). due r.opening.image (seen r) h z ≡ nothing_due) (same_hart r h k.0 x y k.1 there) e) at
 
 -- where a hart is due is text
@@ -204,12 +211,12 @@ due_text r h pc d x f at is due_is some =
     text_shown r.opening.image r.machine.text r.breaks r.hold pc f.planted (stands_text r.opening.image r.breaks pc f.texts there)
 
 -- at a word that isn't patched nothing is due for a hart that steps over nothing
-pub clear : (r s : Run) (h pc : ℕ) (x : Mind) → r ≡ s → Facts r → slice_get s.minds h ≡ Some x → x.phase ≡ phase.Idle → other_holder s.hold h ≡ None → Of s h (λ y. y.regs.pc ≡ pc) → is_planted s.machine.text pc ≡ false → Undue s h
+pub clear : (r s : Run) (h pc : ℕ) (x : Mind) → r ≡ s → Facts r → slice_get s.minds h ≡ Some x → x.phase ≡ phase.Idle → other_holder s.hold h ≡ None → Of s h (λ y. y.regs.pc ≡ pc) → is_planted r.machine.text pc ≡ false → Undue s h
 clear r s h pc x same f at idle free is off =
     let g : Facts s = subst Facts same f in
     let k = core_at s h x g at in
     let none : s.hold ≡ None = no_hold s.hold h free (sym (fact_of s h k.0 x g k.1).held ∙ ap lifted_of idle) in
     let here = of_hart s h k.0 x (λ y. y.regs.pc ≡ pc) k.1 is in
-    let stand : stands pc s.breaks ≡ false = sym (wanted_none s.breaks pc) ∙ (sym (ap (λ (o : Option Hold). wanted s.breaks o pc) none) ∙ (sym (g.planted.patches pc) ∙ off)) in
+    let stand : stands pc s.breaks ≡ false = sym (wanted_none s.breaks pc) ∙ (sym (ap (λ (o : Option Hold). wanted s.breaks o pc) none) ∙ (sym (g.planted.patches pc) ∙ (sym (ap (λ (q : Run). is_planted q.machine.text pc) same) ∙ off))) in
     let quiet : due s.opening.image (seen s) h (seen_hart k.0 x) ≡ nothing_due = undue s.opening.image (seen s) h (seen_hart k.0 x) (ap (λ a. stands a s.breaks) here ∙ stand) in
     λ y there. subst (λ (z : Hart). is_due (due s.opening.image (seen s) h z) ≡ false) (same_hart s h k.0 x y k.1 there) (ap is_due quiet)

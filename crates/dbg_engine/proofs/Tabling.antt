@@ -3,7 +3,8 @@ use Rattle.std.proofs.Common.{◌≡◌, ◌+◌, ℕ, Bool, true, false, cond, 
 use Rattle.std.specs.Prelude.{Option, Some, None, IsSome, Result, Ok, Err, OnOk, OnErr}
 use Rattle.text_words.specs.Words.{Words, shown}
 use Rattle.hart_machine.specs.Patched.{Patched}
-use Rattle.break_table.specs.Entry.{Entry as BreakEntry, Asked, new_entry}
+use Rattle.break_table.specs.declared.entry.BreakEntry.{BreakEntry as Kept}
+use Rattle.break_table.specs.Entry.{Entry as BreakEntry, Asked, entry_of, new_entry}
 use Rattle.break_table.specs.Table.{Table, inserted, deleted, changed, has_number, missing, with_enabled, Answers, IsRising, stands, stands_at}
 use Rattle.break_table.specs.declared.fault.BreakFault.{BreakFault}
 use Rattle.engine_facts.specs.declared.mind.Hold.{Hold}
@@ -35,6 +36,10 @@ inserted_words m n old new hold a want f is here wants w rest =
     let r : Retabled m n es hold =
     retabled m n old.entries es hold a.address want f (λ c apart. stands-added old.entries (new_entry (old.given + 1) a) c apart) (words-added m.text old.entries (new_entry (old.given + 1) a) f.words here) (wants ∙ ap (λ bs. wanted bs hold a.address) entries) w rest in
     subst (λ (bs : List BreakEntry). Retabled m n bs hold) (sym entries) r
+
+-- the place of a number, as the code looks it up
+pub number_at : (t : Table) (es : List Kept) (n : ℕ) (o p : Option ℕ) → map entry_of es ≡ t.entries → o ≡ number_place (map entry_of es) n → o ≡ p → number_place t.entries n ≡ p
+number_at t es n o p entries is found = ap (λ bs. number_place bs n) (sym entries) ∙ (sym is ∙ found)
 
 has_missing : (t : Table) (n a : ℕ) → number_place t.entries n ≡ Some a → missing n t.entries ≡ None
 has_missing t n a at = rw (place-has t.entries n a at) refl

@@ -9,6 +9,7 @@ ghost use Rattle.break_table.specs.Table.{changed, deleted, insert_fault, insert
 ghost use Rattle.dbg_model.specs.Breaks.{is_temporary, enabling, without};
 ghost use Rattle.dbg_model.specs.Views.{register, shown_byte};
 ghost use Rattle.engine_facts.specs.Facts.{wanted};
+ghost use Rattle.engine_facts.specs.Moves.{Repatched};
 ghost use Rattle.engine_facts.specs.Tables.{number_place, ArePlanted};
 ghost use Rattle.dbg_engine.specs.Changing.{break_change, changed_table, Applies, Retabled};
 
@@ -105,6 +106,17 @@ fn place_of(entries: &[BreakEntry], number: u32) -> Option<u32>
     }
 }
 
+// The word of an address is patched where that is wanted now.
+fn plant_as_wanted(machine: &mut Machine, table: &BreakTable, hold: Option<Hold>, addr: u32)
+    requires { addr < 2 ^ 32 → IsSome (shown machine.old.text addr) }
+    ensures text { Repatched machine.old.text machine.new.text addr (wanted table.now.entries hold addr) }
+    ensures there { IsSome (shown machine.old.text addr) }
+    ensures rest { machine.new ≡ record machine.old { text = machine.new.text } }
+{
+    let wants = wants(table, hold, addr);
+    repatch(machine, addr, wants);
+}
+
 // A new breakpoint, whose word is planted where it is wanted now.
 fn insert(machine: &mut Machine, table: &mut BreakTable, hold: Option<Hold>, spec: Spec)
     requires planted { ArePlanted machine.old.text table.old.entries hold }
@@ -116,8 +128,7 @@ fn insert(machine: &mut Machine, table: &mut BreakTable, hold: Option<Hold>, spe
 {
     let place = spec.address;
     let _ = table.insert(spec);
-    let wants = wants(table, hold, place);
-    repatch(machine, place, wants);
+    plant_as_wanted(machine, table, hold, place);
 }
 
 // The breakpoint of a number goes, if there is one.
@@ -130,8 +141,18 @@ fn delete(machine: &mut Machine, table: &mut BreakTable, hold: Option<Hold>, num
         return;
     };
     let _ = table.delete(number);
-    let wants = wants(table, hold, place);
-    repatch(machine, place, wants);
+    plant_as_wanted(machine, table, hold, place);
+}
+
+// The breakpoint of a number is enabled or disabled in the table, if there is one.
+fn set_enabled(table: &mut BreakTable, number: u32, enabled: bool)
+    ensures { table.new ≡ changed (with_enabled enabled) number table.old }
+{
+    let _ = if enabled {
+        table.enable(number)
+    } else {
+        table.disable(number)
+    };
 }
 
 // The breakpoint of a number is enabled, or disabled, if there is one.
@@ -149,13 +170,8 @@ fn enable(
     let Some(place) = place_of(table.entries(), number) else {
         return;
     };
-    if enabled {
-        let _ = table.enable(number);
-    } else {
-        let _ = table.disable(number);
-    }
-    let wants = wants(table, hold, place);
-    repatch(machine, place, wants);
+    set_enabled(table, number, enabled);
+    plant_as_wanted(machine, table, hold, place);
 }
 
 fn delete_each(

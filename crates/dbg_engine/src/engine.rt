@@ -509,13 +509,6 @@ impl Engine {
         is_temporary(self.table.entries(), number)
     }
 
-    // Whether a patch is planted at an address.
-    fn is_planted(&self, addr: u32) -> bool
-        ensures { result ≡ is_planted self.now.machine.text addr }
-    {
-        self.machine.planted(addr)
-    }
-
     // Whether a hart steps over nothing and its word isn't patched: then no breakpoint stands there.
     fn is_clear(&self, h: u32, mind: Mind, pc: u32) -> bool
         requires mind { slice_get self.now.minds h ≡ Some mind }
@@ -525,7 +518,7 @@ impl Engine {
         ensures unpatched { IsTrue result → is_planted self.now.machine.text pc ≡ false }
         ensures patched { mind.phase ≡ Phase.Idle → result ≡ false → is_planted self.now.machine.text pc ≡ true }
     {
-        mind.phase == Phase::Idle && !self.is_planted(pc)
+        mind.phase == Phase::Idle && !self.machine.planted(pc)
     }
 
     // A hart that nothing stops executes, or stops by a fault.

@@ -1,5 +1,8 @@
 pub mod Bytes
+pub mod Lists
 pub mod Text
+pub mod Breakpoints
+pub mod Errors
 pub mod Replies
 pub mod Said
 pub mod Refusals

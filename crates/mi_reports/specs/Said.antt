@@ -3,7 +3,7 @@ use Rattle.std.specs.Prelude.{ℕ, zero, suc, List, [], ◌∷◌, ◌++◌, Opt
 use Rattle.std.specs.Option.{option_map}
 use Rattle.dbg_model.specs.declared.entry.Why.TheVariants.{Break, Fault}
 use Rattle.dbg_model.specs.declared.entry.Entry.{Entry}
-use Rattle.dbg_model.specs.declared.entry.Entry.TheVariants.{Ran, Stopped, Left, Did}
+use Rattle.dbg_model.specs.declared.entry.Entry.TheVariants.{Ran, Counted, Stopped, Left, Did}
 use Rattle.dbg_model.specs.declared.opening.Opening.{Opening}
 use Rattle.dbg_model.specs.Breaks.{is_temporary}
 use Rattle.dbg_model.specs.State.{Hart, State, all_gone}
@@ -29,7 +29,8 @@ hart_pc (Some x) = x.regs.pc
 -- the lines of an entry that comes in a state
 abbrev pub entry_text : Opening → State → Entry → List ℕ
 entry_text o s (Ran h n) = ran_text o h s n
-entry_text o s (Stopped h (Break number)) = break_text (is_temporary s.breaks number) number h (hart_pc (slice_get s.harts h))
+entry_text o s (Counted h) = []
+entry_text o s (Stopped h (Break number error)) = break_text (is_temporary s.breaks number) number error h (hart_pc (slice_get s.harts h))
 entry_text o s (Stopped h (Fault cause)) = stop_text cause h (hart_pc (slice_get s.harts h))
 entry_text o s (Left h code) = gone_text h ++ (if all_gone (exited_at s.harts h (slice_get s.harts h)) then exit_text code else [])
 entry_text o s (Did line) = reply_text (reply_of o s line)

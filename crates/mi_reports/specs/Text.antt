@@ -1,11 +1,13 @@
 -- The lines of what entries show (GDB manual, "GDB/MI Async Records", "GDB/MI Result Records").
-use Rattle.std.specs.Prelude.{ℕ, zero, suc, ◌+◌, ◌==◌, Bool, List, [], ◌∷◌, ◌++◌, if◌then◌else◌, decimal}
+use Rattle.std.specs.Prelude.{ℕ, zero, suc, ◌+◌, ◌==◌, Bool, List, [], ◌∷◌, ◌++◌, Option, Some, None, if◌then◌else◌, decimal}
 use Rattle.rv_exec.specs.declared.effect.Cause.{Cause}
 use Rattle.rv_exec.specs.declared.effect.Cause.TheVariants.{FetchAlign, LoadFault, StoreFault, LoadAlign, StoreAlign, Break, Illegal, FetchFault}
+use Rattle.break_table.specs.declared.due.CondError.{CondError}
+use Rattle.break_table.specs.declared.due.CondError.TheVariants.{DivZero, Unread}
 use Rattle.dbg_model.specs.declared.entry.Entry.{Entry}
-use Rattle.dbg_model.specs.declared.entry.Entry.TheVariants.{Ran, Stopped, Left, Did}
-use Rattle.mi_reports.specs.Bytes.{hex8, octal, c_string}
-use Rattle.mi_reports.specs.declared.texts.TheConstants.{CREATED_HEAD, EXITED_HEAD, GROUP_TAIL, PROMPT, SIGNAL_HEAD, BREAK_HEAD, KEPT, DELETED, BREAK_NUMBER_HEAD, SEGMENTATION_FAULT, BUS_ERROR, ILLEGAL_INSTRUCTION, TRAP, FRAME_HEAD, FRAME_TAIL, STOPPED_HEAD, STOPPED_TAIL, EXITED_NORMALLY, EXIT_CODE_HEAD, LINE_TAIL, STREAM_HEAD}
+use Rattle.dbg_model.specs.declared.entry.Entry.TheVariants.{Ran, Counted, Stopped, Left, Did}
+use Rattle.mi_reports.specs.Bytes.{word_text, octal, c_string}
+use Rattle.mi_reports.specs.declared.texts.TheConstants.{CREATED_HEAD, EXITED_HEAD, GROUP_TAIL, PROMPT, SIGNAL_HEAD, BREAK_HEAD, KEPT, DELETED, BREAK_NUMBER_HEAD, SEGMENTATION_FAULT, BUS_ERROR, ILLEGAL_INSTRUCTION, TRAP, FRAME_HEAD, FRAME_TAIL, STOPPED_HEAD, STOPPED_TAIL, EXITED_NORMALLY, EXIT_CODE_HEAD, LINE_TAIL, STREAM_HEAD, LOG_HEAD, CONDITION_ERROR, COLON, DIVISION_BY_ZERO, UNREADABLE}
 
 -- a line for each of the first n threads
 abbrev pub created : ℕ → List ℕ
@@ -27,19 +29,39 @@ signal Break = TRAP.now
 signal Illegal = ILLEGAL_INSTRUCTION.now
 signal FetchFault = SEGMENTATION_FAULT.now
 
+-- where hart h stopped, at pc
+unfoldable pub frame_text : ℕ → ℕ → List ℕ
+frame_text h pc = FRAME_HEAD.now ++ word_text pc ++ FRAME_TAIL.now ++ decimal (h + 1) ++ STOPPED_HEAD.now ++ decimal (h + 1) ++ STOPPED_TAIL.now
+
 -- hart h stopped at pc by a fault
 unfoldable pub stop_text : Cause → ℕ → ℕ → List ℕ
-stop_text cause h pc =
-    SIGNAL_HEAD.now ++ signal cause ++ FRAME_HEAD.now ++ hex8 pc ++ FRAME_TAIL.now ++ decimal (h + 1) ++ STOPPED_HEAD.now ++ decimal (h + 1) ++ STOPPED_TAIL.now
+stop_text cause h pc = SIGNAL_HEAD.now ++ signal cause ++ frame_text h pc
 
 -- what becomes of a breakpoint that is hit
 abbrev pub disposition : Bool → List ℕ
 disposition temporary = if temporary then DELETED.now else KEPT.now
 
--- hart h stopped at pc by the breakpoint of that number
-unfoldable pub break_text : Bool → ℕ → ℕ → ℕ → List ℕ
-break_text temporary number h pc =
-    BREAK_HEAD.now ++ disposition temporary ++ BREAK_NUMBER_HEAD.now ++ decimal number ++ FRAME_HEAD.now ++ hex8 pc ++ FRAME_TAIL.now ++ decimal (h + 1) ++ STOPPED_HEAD.now ++ decimal (h + 1) ++ STOPPED_TAIL.now
+-- why the value of a condition can't be had
+abbrev pub error_text : CondError → List ℕ
+error_text DivZero = DIVISION_BY_ZERO.now
+error_text (Unread addr) = UNREADABLE.now ++ word_text addr
+
+-- what is told of such a condition, before its bytes are written as a C string: a line of its own
+abbrev pub condition_message : ℕ → CondError → List ℕ
+condition_message number e = CONDITION_ERROR.now ++ decimal number ++ COLON.now ++ error_text e ++ 10 ∷ []
+
+-- the line of the condition of that breakpoint; none where it had a value (GDB manual, "GDB/MI Stream Records": the log)
+unfoldable pub condition_text : ℕ → Option CondError → List ℕ
+condition_text number None = []
+condition_text number (Some e) = LOG_HEAD.now ++ c_string (condition_message number e) ++ LINE_TAIL.now
+
+-- the line of a stop by the breakpoint of that number
+unfoldable pub hit_text : Bool → ℕ → ℕ → ℕ → List ℕ
+hit_text temporary number h pc = BREAK_HEAD.now ++ disposition temporary ++ BREAK_NUMBER_HEAD.now ++ decimal number ++ frame_text h pc
+
+-- hart h stopped at pc by the breakpoint of that number, whose condition had this error
+unfoldable pub break_text : Bool → ℕ → Option CondError → ℕ → ℕ → List ℕ
+break_text temporary number error h pc = condition_text number error ++ hit_text temporary number h pc
 
 -- hart h has exited
 unfoldable pub gone_text : ℕ → List ℕ
@@ -59,6 +81,7 @@ abbrev pub gone_texts : List Entry → List ℕ
 gone_texts [] = []
 gone_texts (Left h code ∷ es) = gone_text h ++ gone_texts es
 gone_texts (Ran h n ∷ es) = gone_texts es
+gone_texts (Counted h ∷ es) = gone_texts es
 gone_texts (Stopped h why ∷ es) = gone_texts es
 gone_texts (Did line ∷ es) = gone_texts es
 

@@ -1,6 +1,9 @@
 //! The lines that a session puts: those of its opening, of each entry of its journal, and of its refusals.
 #![tactic(auto)]
 
+mod breakpoints;
+mod conditions;
+mod errors;
 mod numbers;
 mod refusals;
 mod replies;

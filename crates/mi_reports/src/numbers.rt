@@ -1,9 +1,16 @@
-// Numbers and bytes as text.
+// Texts, numbers and bytes behind what stands already.
 ghost use Rattle.std.specs.Prelude.{◌≡◌, ◌<◌, ◌+◌, ◌++◌, decimal, OnOk};
-ghost use Rattle.mi_reports.specs.Bytes.{hex_digit, hex8, octal, escaped, c_string};
+ghost use Rattle.mi_reports.specs.Bytes.{hex_digit, hex8, word_text, octal, escaped, c_string};
 
 use itoa::Buffer;
 use std::alloc::AllocError;
+
+/// Appends a text.
+pub fn push(into: &mut Vec<u8>, text: &str) -> Result<(), AllocError>
+    ensures { OnOk result (into.new.items ≡ into.old.items ++ text.now) }
+{
+    into.extend_from_slice(text.as_bytes())
+}
 
 fn hex_digit(d: u32) -> u8
     requires { d < 16 }
@@ -52,6 +59,29 @@ pub fn push_decimal(into: &mut Vec<u8>, n: u64) -> Result<(), AllocError>
 {
     let mut buffer = Buffer::new();
     into.extend_from_slice(buffer.format(n).as_bytes())
+}
+
+/// Appends a word in decimal.
+pub fn push_word(into: &mut Vec<u8>, n: u32) -> Result<(), AllocError>
+    ensures { OnOk result (into.new.items ≡ into.old.items ++ decimal n) }
+{
+    push_decimal(into, u64::from(n))
+}
+
+/// Appends a word as eight hexadecimal digits.
+#[tactic(auto, unfolding(crate::specs::Bytes::word_text))]
+pub fn push_address(into: &mut Vec<u8>, n: u32) -> Result<(), AllocError>
+    ensures { OnOk result (into.new.items ≡ into.old.items ++ word_text n) }
+{
+    into.extend_from_slice(&hex8(n))
+}
+
+/// Appends an address behind a text.
+pub fn push_at(into: &mut Vec<u8>, head: &str, address: u32) -> Result<(), AllocError>
+    ensures { OnOk result (into.new.items ≡ into.old.items ++ (head.now ++ word_text address)) }
+{
+    push(into, head)?;
+    push_address(into, address)
 }
 
 // Appends a byte as it stands in a C string.

@@ -1,37 +1,17 @@
 // The lines of replies.
 ghost use Rattle.std.specs.Prelude.{◌≡◌, ◌++◌, IfOk, OnOk, decimal};
 ghost use Rattle.hex.specs.Hex.{encode_lower};
-ghost use Rattle.mi_reports.specs.Bytes.{word_text};
-ghost use Rattle.mi_reports.specs.Replies.{behind_commas, joined, running_lines, place_text, thread_text, number_text, signed_text, value_text, register_text, range_text, memory_text, enabled_text, for_thread, ignored, breakpoint_front, breakpoint_place, breakpoint_counts, breakpoint_location, breakpoint_text, fault_message, obstacle_message, message, error_tail, content_text, reply_text};
+ghost use Rattle.mi_reports.specs.Lists.{behind_commas, joined};
+ghost use Rattle.mi_reports.specs.Replies.{running_lines, place_text, thread_text, number_text, signed_text, value_text, worth_text, register_text, range_text, memory_text, content_text, reply_text};
 
-use crate::numbers::{hex8, push_c_string, push_decimal};
+use crate::breakpoints::{push_breakpoint, push_breakpoints};
+use crate::errors::push_error;
+use crate::numbers::{push, push_address, push_decimal, push_word};
 use crate::reply_texts as text;
-use crate::report::{disposition, push};
 use crate::texts::PROMPT;
-use dbg_model::{Breakpoint, Content, Obstacle, Refused, Register, Reply, Thread};
-use mi_commands::{Fault, Format};
+use dbg_model::{Breakpoint, Content, Register, Reply, Thread};
+use mi_commands::Format;
 use std::alloc::{AllocError, Global};
-
-fn push_word(into: &mut Vec<u8>, n: u32) -> Result<(), AllocError>
-    ensures { OnOk result (into.new.items ≡ into.old.items ++ decimal n) }
-{
-    push_decimal(into, u64::from(n))
-}
-
-#[tactic(auto, unfolding(crate::specs::Bytes::word_text))]
-fn push_address(into: &mut Vec<u8>, n: u32) -> Result<(), AllocError>
-    ensures { OnOk result (into.new.items ≡ into.old.items ++ word_text n) }
-{
-    into.extend_from_slice(&hex8(n))
-}
-
-// An address behind a text.
-fn push_at(into: &mut Vec<u8>, head: &str, address: u32) -> Result<(), AllocError>
-    ensures { OnOk result (into.new.items ≡ into.old.items ++ (head.now ++ word_text address)) }
-{
-    push(into, head)?;
-    push_address(into, address)
-}
 
 fn push_running(into: &mut Vec<u8>, threads: &[u32]) -> Result<(), AllocError>
     ensures { OnOk result (into.new.items ≡ into.old.items ++ running_lines threads.now) }
@@ -130,6 +110,16 @@ fn push_signed(into: &mut Vec<u8>, value: u32) -> Result<(), AllocError>
     push_decimal(into, 0x1_0000_0000 - u64::from(value))
 }
 
+// A word as a number, by whether it is unsigned.
+fn push_worth(into: &mut Vec<u8>, word: u32, unsigned: bool) -> Result<(), AllocError>
+    ensures { OnOk result (into.new.items ≡ into.old.items ++ worth_text word unsigned) }
+{
+    if unsigned {
+        return push_word(into, word);
+    }
+    push_signed(into, word)
+}
+
 fn push_value(into: &mut Vec<u8>, format: Format, value: u32) -> Result<(), AllocError>
     ensures { OnOk result (into.new.items ≡ into.old.items ++ value_text format value) }
 {
@@ -213,156 +203,6 @@ fn push_memory(
     push(into, text::MEMORY_TAIL)
 }
 
-fn enabled_text(enabled: bool) -> &'static str
-    ensures { result.now ≡ enabled_text enabled }
-{
-    if enabled { text::YES } else { text::NO }
-}
-
-fn push_for_thread(into: &mut Vec<u8>, thread: Option<u32>) -> Result<(), AllocError>
-    ensures { OnOk result (into.new.items ≡ into.old.items ++ for_thread thread) }
-{
-    let Some(thread) = thread else {
-        return Ok(());
-    };
-    push(into, text::THREAD_HEAD)?;
-    push_word(into, thread)
-}
-
-fn push_ignored(into: &mut Vec<u8>, ignore: u32) -> Result<(), AllocError>
-    ensures { OnOk result (into.new.items ≡ into.old.items ++ ignored ignore) }
-{
-    if ignore == 0 {
-        return Ok(());
-    }
-    push(into, text::IGNORE_HEAD)?;
-    push_word(into, ignore)
-}
-
-fn push_breakpoint_front(into: &mut Vec<u8>, breakpoint: &Breakpoint) -> Result<(), AllocError>
-    ensures { OnOk result (into.new.items ≡ into.old.items ++ breakpoint_front breakpoint.now) }
-{
-    push(into, text::BREAKPOINT_HEAD)?;
-    push_word(into, breakpoint.number)?;
-    push(into, text::DISPOSITION_HEAD)?;
-    push(into, disposition(breakpoint.temporary))?;
-    push(into, text::ENABLED_HEAD)?;
-    push(into, enabled_text(breakpoint.enabled))
-}
-
-fn push_breakpoint_place(into: &mut Vec<u8>, breakpoint: &Breakpoint) -> Result<(), AllocError>
-    ensures { OnOk result (into.new.items ≡ into.old.items ++ breakpoint_place breakpoint.now) }
-{
-    push_at(into, text::ADDRESS_HEAD, breakpoint.address)
-}
-
-fn push_breakpoint_counts(into: &mut Vec<u8>, breakpoint: &Breakpoint) -> Result<(), AllocError>
-    ensures { OnOk result (into.new.items ≡ into.old.items ++ breakpoint_counts breakpoint.now) }
-{
-    push_for_thread(into, breakpoint.thread)?;
-    push(into, text::TIMES_HEAD)?;
-    push_decimal(into, breakpoint.times)?;
-    push_ignored(into, breakpoint.ignore)
-}
-
-fn push_breakpoint_location(into: &mut Vec<u8>, breakpoint: &Breakpoint) -> Result<(), AllocError>
-    ensures { OnOk result (into.new.items ≡ into.old.items ++ breakpoint_location breakpoint.now) }
-{
-    push(into, text::LOCATION_HEAD)?;
-    push_c_string(into, breakpoint.location.as_slice())?;
-    push(into, text::BREAKPOINT_TAIL)
-}
-
-fn push_breakpoint(into: &mut Vec<u8>, breakpoint: &Breakpoint) -> Result<(), AllocError>
-    ensures { OnOk result (into.new.items ≡ into.old.items ++ breakpoint_text breakpoint.now) }
-{
-    push_breakpoint_front(into, breakpoint)?;
-    push_breakpoint_place(into, breakpoint)?;
-    push_breakpoint_counts(into, breakpoint)?;
-    push_breakpoint_location(into, breakpoint)
-}
-
-fn push_fault(into: &mut Vec<u8>, fault: &Fault) -> Result<(), AllocError>
-    ensures { OnOk result (into.new.items ≡ into.old.items ++ fault_message fault.now) }
-{
-    match fault {
-        Fault::Undefined(name) => {
-            push(into, text::UNDEFINED)?;
-            into.extend_from_slice(name.as_slice())
-        }
-        Fault::Parameters(name) => {
-            push(into, text::PARAMETERS)?;
-            into.extend_from_slice(name.as_slice())
-        }
-        Fault::Number(word) => {
-            push(into, text::NUMBER)?;
-            into.extend_from_slice(word.as_slice())
-        }
-        Fault::Setting => push(into, text::SETTING),
-        Fault::Location { word, .. } => {
-            push(into, text::LOCATION)?;
-            into.extend_from_slice(word.as_slice())
-        }
-    }
-}
-
-fn push_obstacle(into: &mut Vec<u8>, obstacle: Obstacle) -> Result<(), AllocError>
-    ensures { OnOk result (into.new.items ≡ into.old.items ++ obstacle_message obstacle) }
-{
-    match obstacle {
-        Obstacle::UnknownThread(thread) => {
-            push(into, text::UNKNOWN_THREAD)?;
-            push_word(into, thread)
-        }
-        Obstacle::HasExited(thread) => {
-            push(into, text::THREAD)?;
-            push_word(into, thread)?;
-            push(into, text::HAS_EXITED)
-        }
-        Obstacle::IsRunning(thread) => {
-            push(into, text::THREAD)?;
-            push_word(into, thread)?;
-            push(into, text::IS_RUNNING)
-        }
-        Obstacle::NoInstruction(address) => push_at(into, text::NO_INSTRUCTION, address),
-        Obstacle::TooManyBreakpoints => push(into, text::TOO_MANY_BREAKPOINTS),
-        Obstacle::Unreadable(address) => push_at(into, text::UNREADABLE, address),
-    }
-}
-
-// The text of an error, before its bytes are written as a C string.
-fn push_message(into: &mut Vec<u8>, refused: &Refused) -> Result<(), AllocError>
-    ensures { OnOk result (into.new.items ≡ into.old.items ++ message refused.now) }
-{
-    match refused {
-        Refused::Long => push(into, text::LONG),
-        Refused::Syntax => push(into, text::SYNTAX),
-        Refused::Cli => push(into, text::CLI),
-        Refused::Faulty(fault) => push_fault(into, fault),
-        Refused::Hindered(obstacle) => push_obstacle(into, *obstacle),
-        Refused::NotBuilt => push(into, text::NOT_BUILT),
-    }
-}
-
-fn error_tail(refused: &Refused) -> &'static str
-    ensures { result.now ≡ error_tail refused.now }
-{
-    match refused {
-        Refused::Faulty(Fault::Undefined(_)) => text::UNDEFINED_TAIL,
-        _ => text::QUOTED_END,
-    }
-}
-
-fn push_error(alloc: Global, into: &mut Vec<u8>, refused: &Refused) -> Result<(), AllocError>
-    ensures { OnOk result (into.new.items ≡ into.old.items ++ content_text (Content.Refused refused.now)) }
-{
-    let mut message = Vec::new(alloc);
-    push_message(&mut message, refused)?;
-    push(into, text::ERROR_HEAD)?;
-    push_c_string(into, message.as_slice())?;
-    push(into, error_tail(refused))
-}
-
 fn push_thread_info(into: &mut Vec<u8>, threads: &[Thread], selected: u32) -> Result<(), AllocError>
     ensures { OnOk result (into.new.items ≡ into.old.items ++ content_text (Content.Threads threads.now selected)) }
 {
@@ -413,6 +253,32 @@ fn push_register_values(
     push(into, text::LIST_END)
 }
 
+fn push_inserted(into: &mut Vec<u8>, breakpoint: &Breakpoint) -> Result<(), AllocError>
+    ensures { OnOk result (into.new.items ≡ into.old.items ++ content_text (Content.Inserted breakpoint.now)) }
+{
+    push(into, text::INSERTED_HEAD)?;
+    push_breakpoint(into, breakpoint)?;
+    push(into, text::END)
+}
+
+fn push_table(into: &mut Vec<u8>, breakpoints: &[Breakpoint]) -> Result<(), AllocError>
+    ensures { OnOk result (into.new.items ≡ into.old.items ++ content_text (Content.Breakpoints breakpoints.now)) }
+{
+    push(into, text::TABLE_HEAD)?;
+    push_decimal(into, breakpoints.len() as u64)?;
+    push(into, text::BODY_HEAD)?;
+    push_breakpoints(into, breakpoints)?;
+    push(into, text::TABLE_END)
+}
+
+fn push_evaluated(into: &mut Vec<u8>, word: u32, unsigned: bool) -> Result<(), AllocError>
+    ensures { OnOk result (into.new.items ≡ into.old.items ++ content_text (Content.Value word unsigned)) }
+{
+    push(into, text::EVALUATED_HEAD)?;
+    push_worth(into, word, unsigned)?;
+    push(into, text::QUOTED_END)
+}
+
 // What stands behind the token.
 fn push_content(alloc: Global, into: &mut Vec<u8>, content: &Content) -> Result<(), AllocError>
     ensures { OnOk result (into.new.items ≡ into.old.items ++ content_text content.now) }
@@ -423,7 +289,8 @@ fn push_content(alloc: Global, into: &mut Vec<u8>, content: &Content) -> Result<
             push(into, text::DONE)?;
             push(into, text::END)
         }
-        Content::Inserted(breakpoint) => push_breakpoint(into, breakpoint),
+        Content::Inserted(breakpoint) => push_inserted(into, breakpoint),
+        Content::Breakpoints(breakpoints) => push_table(into, breakpoints.as_slice()),
         Content::Running(threads) => push_going_on(into, threads.as_slice()),
         Content::Selected(thread) => push_selected(into, *thread),
         Content::Threads { threads, selected } => push_thread_info(
@@ -446,6 +313,7 @@ fn push_content(alloc: Global, into: &mut Vec<u8>, content: &Content) -> Result<
             registers.as_slice(),
         ),
         Content::Memory { address, bytes } => push_memory(alloc, into, *address, bytes.as_slice()),
+        Content::Value { word, unsigned } => push_evaluated(into, *word, *unsigned),
         Content::Refused(refused) => push_error(alloc, into, refused),
     }
 }

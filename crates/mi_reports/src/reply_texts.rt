@@ -11,7 +11,15 @@ pub const END: &str = "\n(gdb)\n";
 
 pub const QUOTED_END: &str = "\"\n(gdb)\n";
 
-pub const BREAKPOINT_HEAD: &str = "^done,bkpt={number=\"";
+pub const INSERTED_HEAD: &str = "^done,";
+
+pub const TABLE_HEAD: &str = "^done,BreakpointTable={nr_rows=\"";
+
+pub const BODY_HEAD: &str = "\",body=[";
+
+pub const TABLE_END: &str = "]}\n(gdb)\n";
+
+pub const BREAKPOINT_HEAD: &str = "bkpt={number=\"";
 
 pub const DISPOSITION_HEAD: &str = "\",type=\"breakpoint\",disp=\"";
 
@@ -23,6 +31,10 @@ pub const NO: &str = "n";
 
 pub const ADDRESS_HEAD: &str = "\",addr=\"0x";
 
+pub const FUNCTION_HEAD: &str = "\",func=\"";
+
+pub const CONDITION_HEAD: &str = "\",cond=\"";
+
 pub const THREAD_HEAD: &str = "\",thread=\"";
 
 pub const TIMES_HEAD: &str = "\",times=\"";
@@ -30,8 +42,6 @@ pub const TIMES_HEAD: &str = "\",times=\"";
 pub const IGNORE_HEAD: &str = "\",ignore=\"";
 
 pub const LOCATION_HEAD: &str = "\",original-location=\"";
-
-pub const BREAKPOINT_TAIL: &str = "\"}\n(gdb)\n";
 
 pub const SELECTED_HEAD: &str = "^done,new-thread-id=\"";
 
@@ -78,6 +88,8 @@ pub const CONTENTS_HEAD: &str = "\",contents=\"";
 
 pub const MEMORY_TAIL: &str = "\"}]\n(gdb)\n";
 
+pub const EVALUATED_HEAD: &str = "^done,value=\"";
+
 pub const ERROR_HEAD: &str = "^error,msg=\"";
 
 pub const UNDEFINED_TAIL: &str = "\",code=\"undefined-command\"\n(gdb)\n";
@@ -106,11 +118,25 @@ pub const HAS_EXITED: &str = " has exited";
 
 pub const IS_RUNNING: &str = " is running";
 
+pub const NO_BREAKPOINT: &str = "No breakpoint number ";
+
+pub const FUNCTION: &str = "Function ";
+
+pub const NOT_DEFINED: &str = " not defined";
+
 pub const NO_INSTRUCTION: &str = "No instruction at address 0x";
 
 pub const TOO_MANY_BREAKPOINTS: &str = "Too many breakpoints";
 
-pub const UNREADABLE: &str = "Cannot access memory at address 0x";
+pub const LONG_EXPRESSION: &str = "Expression is longer than 256 bytes";
+
+pub const EXPRESSION_SYNTAX: &str = "Syntax error in expression at ";
+
+pub const EXPRESSION_NUMBER: &str = "Bad number in expression at ";
+
+pub const EXPRESSION_DEEP: &str = "Expression is nested too deeply at ";
+
+pub const EXPRESSION_NAME: &str = "No symbol in expression at ";
 
 pub const NOT_BUILT: &str = "Not built yet";
 

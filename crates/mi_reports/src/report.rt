@@ -1,19 +1,14 @@
 // The lines of what entries show.
 ghost use Rattle.std.specs.Prelude.{◌≡◌, ◌+◌, ◌++◌, ◌<◌, decimal, IfOk, OnOk};
-ghost use Rattle.mi_reports.specs.Text.{created, opening_text, signal, stop_text, disposition, break_text, gone_text, gone_texts, exit_text, lefts_text, stream_text};
+ghost use Rattle.mi_reports.specs.Text.{created, opening_text, signal, frame_text, stop_text, disposition, hit_text, break_text, gone_text, gone_texts, exit_text, lefts_text, stream_text};
 
-use crate::numbers::{hex8, push_c_string, push_decimal, push_octal};
+use crate::conditions::push_condition;
+use crate::numbers::{push, push_address, push_c_string, push_decimal, push_octal, push_word};
 use crate::texts;
+use break_table::CondError;
 use dbg_model::Entry;
 use rv_exec::Cause;
 use std::alloc::{AllocError, Global};
-
-/// Appends a text.
-pub fn push(into: &mut Vec<u8>, text: &str) -> Result<(), AllocError>
-    ensures { OnOk result (into.new.items ≡ into.old.items ++ text.now) }
-{
-    into.extend_from_slice(text.as_bytes())
-}
 
 fn push_thread(into: &mut Vec<u8>, hart: u32) -> Result<(), AllocError>
     ensures { OnOk result (into.new.items ≡ into.old.items ++ decimal (hart + 1)) }
@@ -54,6 +49,20 @@ fn signal(cause: Cause) -> &'static str
     }
 }
 
+// Where a hart stopped, to the end of the line.
+#[tactic(auto, unfolding(crate::specs::Text::frame_text))]
+fn push_frame(into: &mut Vec<u8>, hart: u32, pc: u32) -> Result<(), AllocError>
+    ensures { OnOk result (into.new.items ≡ into.old.items ++ frame_text hart pc) }
+{
+    push(into, texts::FRAME_HEAD)?;
+    push_address(into, pc)?;
+    push(into, texts::FRAME_TAIL)?;
+    push_thread(into, hart)?;
+    push(into, texts::STOPPED_HEAD)?;
+    push_thread(into, hart)?;
+    push(into, texts::STOPPED_TAIL)
+}
+
 /// The line of a stop of a hart by a fault, at pc.
 #[tactic(auto, unfolding(crate::specs::Text::stop_text))]
 pub fn stop_text(alloc: Global, cause: Cause, hart: u32, pc: u32) -> Result<Vec<u8>, AllocError>
@@ -62,13 +71,7 @@ pub fn stop_text(alloc: Global, cause: Cause, hart: u32, pc: u32) -> Result<Vec<
     let mut text = Vec::new(alloc);
     push(&mut text, texts::SIGNAL_HEAD)?;
     push(&mut text, signal(cause))?;
-    push(&mut text, texts::FRAME_HEAD)?;
-    text.extend_from_slice(&hex8(pc))?;
-    push(&mut text, texts::FRAME_TAIL)?;
-    push_thread(&mut text, hart)?;
-    push(&mut text, texts::STOPPED_HEAD)?;
-    push_thread(&mut text, hart)?;
-    push(&mut text, texts::STOPPED_TAIL)?;
+    push_frame(&mut text, hart, pc)?;
     Ok(text)
 }
 
@@ -83,29 +86,39 @@ pub fn disposition(temporary: bool) -> &'static str
     }
 }
 
-/// The line of a stop of a hart by the breakpoint of that number, at pc.
+#[tactic(auto, unfolding(crate::specs::Text::hit_text))]
+fn push_hit(
+    into: &mut Vec<u8>,
+    temporary: bool,
+    number: u32,
+    hart: u32,
+    pc: u32,
+) -> Result<(), AllocError>
+    ensures { OnOk result (into.new.items ≡ into.old.items ++ hit_text temporary number hart pc) }
+{
+    push(into, texts::BREAK_HEAD)?;
+    push(into, disposition(temporary))?;
+    push(into, texts::BREAK_NUMBER_HEAD)?;
+    push_word(into, number)?;
+    push_frame(into, hart, pc)
+}
+
+/// The lines of a stop of a hart by the breakpoint of that number, at pc. Where the value of its condition couldn't be
+/// had, a line that says why comes first.
 #[tactic(auto, unfolding(crate::specs::Text::break_text))]
 pub fn break_text(
     alloc: Global,
     temporary: bool,
     number: u32,
+    error: Option<CondError>,
     hart: u32,
     pc: u32,
 ) -> Result<Vec<u8>, AllocError>
-    ensures { IfOk result (λ v. v.items ≡ break_text temporary number hart pc) }
+    ensures { IfOk result (λ v. v.items ≡ break_text temporary number error hart pc) }
 {
     let mut text = Vec::new(alloc);
-    push(&mut text, texts::BREAK_HEAD)?;
-    push(&mut text, disposition(temporary))?;
-    push(&mut text, texts::BREAK_NUMBER_HEAD)?;
-    push_decimal(&mut text, u64::from(number))?;
-    push(&mut text, texts::FRAME_HEAD)?;
-    text.extend_from_slice(&hex8(pc))?;
-    push(&mut text, texts::FRAME_TAIL)?;
-    push_thread(&mut text, hart)?;
-    push(&mut text, texts::STOPPED_HEAD)?;
-    push_thread(&mut text, hart)?;
-    push(&mut text, texts::STOPPED_TAIL)?;
+    push_condition(alloc, &mut text, number, error)?;
+    push_hit(&mut text, temporary, number, hart, pc)?;
     Ok(text)
 }
 

@@ -40,3 +40,13 @@ pub const EXIT_CODE_HEAD: &str = "*stopped,reason=\"exited\",exit-code=\"0";
 pub const LINE_TAIL: &str = "\"\n";
 
 pub const STREAM_HEAD: &str = "@\"";
+
+pub const LOG_HEAD: &str = "&\"";
+
+pub const CONDITION_ERROR: &str = "Error in testing condition for breakpoint ";
+
+pub const COLON: &str = ": ";
+
+pub const DIVISION_BY_ZERO: &str = "Division by zero";
+
+pub const UNREADABLE: &str = "Cannot access memory at address 0x";

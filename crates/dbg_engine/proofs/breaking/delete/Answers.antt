@@ -1,3 +1,31 @@
-use Rattle.std.proofs.Common.{◌≡◌, sym}
-use Rattle.dbg_engine.proofs.Tabling.{deleted_table, deleted_words, none_deleted}
+use Rattle.std.proofs.Common.{◌≡◌, ◌<◌, ◌^◌, ℕ, List, sym, ap, ◌∙◌, refl}
+use Rattle.std.specs.Prelude.{Option, None, Some, IsSome}
+use Rattle.break_table.specs.Entry.{Entry as BreakEntry, entry_of}
+use Rattle.break_table.specs.declared.entry.BreakEntry.{BreakEntry as Kept}
+use Rattle.break_table.specs.Table.{Table}
+use Rattle.engine_facts.specs.Facts.{wanted}
+use Rattle.engine_facts.specs.Tables.{number_place}
+use Rattle.engine_facts.proofs.Breaking.{place-shown}
+use Rattle.dbg_engine.proofs.Tabling.{number_at, deleted_table, deleted_words, none_deleted}
 use Rattle.dbg_engine.proofs.breaking.delete.Goals as goal
+
+pub returns-in_default-clause-table : goal.returns-in_default-clause-table
+returns-in_default-clause-table c =
+    none_deleted c.args.table.now c.args.number (number_at c.args.table.now c.entries.result.now c.args.number c.place_of.result None c.entries.ensures.entries c.place_of.ensures c.in_default.is)
+
+pub plant_as_wanted-requires : goal.plant_as_wanted-requires
+plant_as_wanted-requires c low =
+    place-shown c.args.machine.now.text c.args.table.now.entries c.args.number c.in-Some.place c.requires.words
+    (number_at c.args.table.now c.entries.result.now c.args.number c.place_of.result (Some c.in-Some.place) c.entries.ensures.entries c.place_of.ensures c.in-Some.is)
+
+pub returns-clause-table : goal.returns-clause-table
+returns-clause-table c =
+    let at = number_at c.args.table.now c.entries.result.now c.args.number c.place_of.result (Some c.in-Some.place) c.entries.ensures.entries c.place_of.ensures c.in-Some.is in
+    deleted_table c.delete.result c.args.table.now c.delete.new.self c.args.number c.in-Some.place at c.delete.ensures.answer c.delete.ensures.done
+
+pub returns-clause-machine : goal.returns-clause-machine
+returns-clause-machine c =
+    let at = number_at c.args.table.now c.entries.result.now c.args.number c.place_of.result (Some c.in-Some.place) c.entries.ensures.entries c.place_of.ensures c.in-Some.is in
+    deleted_words c.args.machine.now c.plant_as_wanted.new.machine c.args.table.now c.delete.new.self c.args.hold c.args.number c.in-Some.place (wanted c.delete.new.self.entries c.args.hold c.in-Some.place) c.requires c.entries.ensures.rising at
+    (deleted_table c.delete.result c.args.table.now c.delete.new.self c.args.number c.in-Some.place at c.delete.ensures.answer c.delete.ensures.done)
+    refl c.plant_as_wanted.ensures.text c.plant_as_wanted.ensures.rest

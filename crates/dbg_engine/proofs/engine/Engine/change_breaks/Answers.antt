@@ -9,7 +9,7 @@ use Rattle.dbg_engine.specs.Changing.{break_change}
 use Rattle.dbg_engine.specs.EngineInside.{run_of}
 use Rattle.dbg_engine.proofs.Commanding.{LinedTo, changed, applies, numbers_room, noted_low}
 use Rattle.dbg_engine.proofs.engine.Engine.change_breaks.Goals as goal
-use Rattle.dbg_engine.proofs.engine.Engine.change_breaks.Goals.{After-self-2-1}
+use Rattle.dbg_engine.proofs.engine.Engine.change_breaks.Goals.{After-self-1}
 
 pub change_table-requires-clause-planted : goal.change_table-requires-clause-planted
 change_table-requires-clause-planted c = are_planted (run_of c.self.inside) c.self.invariant.facts
@@ -26,7 +26,7 @@ change_table-requires-clause-may c =
     let P : Run → Type 0 = λ q. Makes q c.args.line.now (break_change c.args.change) in
     applies r c.args.line.now c.args.change c.self.inside.table c.self.invariant.facts refl refl refl (subst P (sym c.self.view_is) c.requires.makes)
 
-move : (c : After-self-2-1) → (let r = run_of c.self.inside in let t = c.change_table.new.table in
+move : (c : After-self-1) → (let r = run_of c.self.inside in let t = c.change_table.new.table in
     let new : Run = record r { journal = c.note.new.entries.items; spare = vec_capacity c.note.new.entries - vec_len c.note.new.entries; machine = c.change_table.new.machine; breaks = t.entries; given = t.given; bounds = t.text; waits = t.waits; noted = r.noted + 1 } in
     LinedTo r new c.args.line.now)
 move c =

@@ -69,9 +69,8 @@ goes c =
     let st = c.step-stepped.ensures.step k.core k.ready.mover.core in
     let d = done c.step-stepped.result r c.args.h k.core c.args.mind c.step-stepped.new.self k.ready st c.in_default.not-Trap in
     let p : Parts = record { journal = c.apply.new.entries.items; minds = c.apply.new.minds; retired = c.apply.new.retired; noted = c.apply.new.noted } in
-    let R : List Breakpoint → Type 0 = λ bs. ReleasedBy (is_exit c.step-stepped.result) c.step-stepped.new.self c.release_at_exit.new.machine r.hold c.release_at_exit.new.hold bs in
     executed_to c.step-stepped.result r c.args.h (vec_capacity c.apply.new.entries - vec_len c.apply.new.entries) k.core c.args.mind c.step-stepped.new.self c.release_at_exit.new.machine c.release_at_exit.new.hold p d k.ready st
-    (subst R c.as_slice.ensures.value c.release_at_exit.ensures) (parts_is c.step-stepped.result c.args.h c.args.mind r p c.deref_mut.result.now c.deref_mut.ensures.value c.apply.ensures.parts)
+    c.release_at_exit.ensures (parts_is c.step-stepped.result c.args.h c.args.mind r p c.deref_mut.result.now c.deref_mut.ensures.value c.apply.ensures.parts)
 
 -- the minds, written back
 minds_are : (c : After-self-1) → c.apply.new.minds ≡ (with_items c.self.inside.minds c.apply.new.minds).items
