@@ -102,3 +102,19 @@ fn the_script_stops_at_twice_the_number(rt: HostRuntime) -> Result<(), Fail> {
     assert_eq!(rt; text.as_slice(), FOR_3.as_bytes());
     Ok(())
 }
+
+#[test]
+fn a_segment_of_32_mib_is_refused_as_large(rt: HostRuntime) -> Result<(), Fail> {
+    let mut file = plain(rt.alloc(), &[0x05d0_0893, 0x0000_0513, 0x0000_0073], &[])?;
+    assert!(rt; file.len() > 75);
+    // The memory size of the first program header.
+    file[72] = 0;
+    file[75] = 2;
+    let large = ElfFault {
+        kind: ElfKind::Large,
+        place: 52,
+    };
+    let answer = read_image(rt.alloc(), &file).err();
+    assert_eq!(rt; answer, Some(ElfReadError::Fault(large)));
+    Ok(())
+}

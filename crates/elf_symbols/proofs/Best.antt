@@ -1,5 +1,5 @@
 -- The best of a mapped list.
-use Rattle.std.proofs.Common.{◌≡◌, ℕ, Bool, true, false, cond, List, [], ◌∷◌, Option, None, Some, map, filter, refl, sym, ◌∙◌, ap, suc, arith, eqb-true}
+use Rattle.std.proofs.Common.{◌≡◌, ℕ, ◌≤◌, Bool, true, false, cond, List, [], ◌∷◌, Option, None, Some, map, filter, refl, sym, ◌∙◌, ap, suc, arith, eqb-true}
 use Rattle.std.specs.Prelude.{if◌then◌else◌, fold, option_and_then, unwrap_or, nat_le, ◌==◌, length}
 use Rattle.std.specs.Option.{option_map, option_map_or}
 use Rattle.std.specs.Str.{bytes_eq}
@@ -46,7 +46,7 @@ same_name b bs None = refl
 same_name b bs (Some name) = refl
 
 -- the symbol of a name, by the entries
-entry_address : (strings name : List ℕ) (symbols : List SymbolEntry) (names : Names) → (length name == 0) ≡ false
+pub entry_address : (strings name : List ℕ) (symbols : List SymbolEntry) (names : Names) → (length name == 0) ≡ false
     → map (symbol_of strings) symbols ≡ names.symbols
     → option_map (symbol_of strings) (best entry_preferred (filter (entry_named strings name) symbols)) ≡ address_of names name
 entry_address strings [] symbols names some e = cc
@@ -54,13 +54,13 @@ entry_address strings (b ∷ bs) symbols names some e =
     sym (best_map is_preferred (symbol_of strings) (λ s. bytes_eq (b ∷ bs) s.name) (entry_named strings (b ∷ bs)) symbols (λ x. same_name b bs (name_at strings x.name)))
     ∙ ap (λ (xs : List Symbol). best is_preferred (filter (λ s. bytes_eq (b ∷ bs) s.name) xs)) e
 
--- the symbol of a name, by their table
+-- the symbol of a name of at most 256 bytes, by their table
 pub found_address : (strings name : List ℕ) (symbols : List SymbolEntry) (names : Names) (table : BTreeMap (Vec ℕ) SymbolEntry)
-    → IsNameTable strings symbols table → (length name == 0) ≡ false → map (symbol_of strings) symbols ≡ names.symbols
+    → IsNameTable strings symbols table → length name ≤ 256 → (length name == 0) ≡ false → map (symbol_of strings) symbols ≡ names.symbols
     → option_map (symbol_of strings) (at_name table name) ≡ address_of names name
-found_address strings [] symbols names table kept some e = cc
-found_address strings (b ∷ bs) symbols names table kept some e =
-    ap (option_map (symbol_of strings)) (kept b bs) ∙ entry_address strings (b ∷ bs) symbols names some e
+found_address strings [] symbols names table kept short some e = cc
+found_address strings (b ∷ bs) symbols names table kept short some e =
+    ap (option_map (symbol_of strings)) (kept b bs short) ∙ entry_address strings (b ∷ bs) symbols names some e
 
 -- the function at an address, by the entries
 pub entry_function : (strings : List ℕ) (functions : List SymbolEntry) (names : Names) (addr : ℕ) → map (symbol_of strings) functions ≡ names.functions

@@ -1,5 +1,5 @@
 -- One entry more in the tables of the look-ups.
-use Rattle.std.proofs.Common.{◌≡◌, ℕ, ◌+◌, ◌<◌, Bool, true, false, cond, List, [], ◌∷◌, ◌++◌, Option, None, Some, filter, length, take, get_or, refl, sym, ◌∙◌, ap, subst, ⊎_elim, append-nil, eqb-true}
+use Rattle.std.proofs.Common.{◌≡◌, ℕ, ◌+◌, ◌<◌, ◌≤◌, arith, Bool, true, false, cond, List, [], ◌∷◌, ◌++◌, Option, None, Some, filter, length, take, get_or, refl, sym, ◌∙◌, ap, subst, ⊎_elim, append-nil, eqb-true}
 use Rattle.std.specs.Prelude.{if◌then◌else◌, fold, unwrap_or, ◌==◌}
 use Rattle.std.specs.Option.{option_map_or}
 use Rattle.std.specs.Str.{bytes_eq}
@@ -16,7 +16,7 @@ use Rattle.std.proofs.lemmas.Map.Text.{is_eq-slice_cmp}
 use Rattle.elf32_read.specs.Fields.{name_at}
 use Rattle.elf_symbols.specs.Names.{better, best}
 use Rattle.elf_symbols.specs.Entries.{entry_named, entry_preferred, entry_nearer}
-use Rattle.elf_symbols.specs.Lookups.{at_name, at_address, AddsName, AddsAddress}
+use Rattle.elf_symbols.specs.Lookups.{at_name, at_address, AddsName, AddsAddress, IsLong}
 use Rattle.elf_symbols.specs.declared.entry.SymbolEntry.{SymbolEntry}
 
 fold-append : {A : Type 0} (before : A → A → Bool) (xs : List A) (o : Option A) (x : A)
@@ -77,12 +77,28 @@ pub adds_name : (strings : List ℕ) (e : SymbolEntry) (m n : BTreeMap (Vec ℕ)
     → name ≡ unwrap_or (name_at strings e.name) []
     → ((q : List ℕ) → at_name n q ≡ cond (bytes_eq name q) (better entry_preferred (at_name m name) e) (at_name m q))
     → AddsName strings e m n
-adds_name strings e m n name is h b bs =
+adds_name strings e m n name is h b bs short =
     let test : bytes_eq name (b ∷ bs) ≡ entry_named strings (b ∷ bs) e =
     nat_list_eq_equiv.symm name (b ∷ bs) ∙ ap (bytes_eq (b ∷ bs)) is ∙ named_by b bs (name_at strings e.name) in
     h (b ∷ bs)
     ∙ cond_same (at_name m) name (b ∷ bs) (bytes_eq name (b ∷ bs)) (λ o. better entry_preferred o e) refl
     ∙ ap (λ (t : Bool). if t then better entry_preferred (at_name m (b ∷ bs)) e else at_name m (b ∷ bs)) test
+
+false_if : (b : Bool) → (b ≡ true → ⊥) → b ≡ false
+false_if true h = absurd (h refl)
+false_if false h = refl
+
+-- an entry with a long name, or with none, has no short one
+long_not_named : (name : List ℕ) (o : Option (List ℕ)) → IsLong o → length name ≤ 256 → option_map_or (bytes_eq name) o false ≡ false
+long_not_named name None h short = refl
+long_not_named name (Some m) h short =
+    false_if (bytes_eq name m) (λ e. let same : length name ≡ length m = ap length ((bytes_decides name m).0 e) in absurd (omega arith))
+
+-- nothing changes by an entry whose name isn't kept
+pub keeps_long : (strings : List ℕ) (e : SymbolEntry) (m : BTreeMap (Vec ℕ) SymbolEntry) → IsLong (name_at strings e.name) → AddsName strings e m m
+keeps_long strings e m long b bs short =
+    ap (λ (t : Bool). if t then better entry_preferred (at_name m (b ∷ bs)) e else at_name m (b ∷ bs))
+    (sym (long_not_named (b ∷ bs) (name_at strings e.name) long short))
 
 -- one that is preferred to what was there, or comes first
 pub taken_over : (e other : SymbolEntry) (o : Option SymbolEntry) → o ≡ Some other → entry_preferred e other ≡ true → better entry_preferred o e ≡ Some e

@@ -3,11 +3,11 @@ ghost use Rattle.std.specs.Prelude.{OnOk, IfOk};
 ghost use Rattle.elf_symbols.specs.Lookups.{AddsAddress, AddsName, IsAddressTable, IsNameTable};
 
 use crate::entry::SymbolEntry;
-use crate::names::{is_nearer, is_preferred, symbol_name};
+use crate::names::{is_nearer, is_preferred, short_name};
 use std::alloc::{AllocError, Global};
 use std::collections::BTreeMap;
 
-/// Puts an entry at its name, unless the one that is there is preferred or equal.
+/// Puts an entry at its name, unless the one that is there is preferred or equal, or the name isn't kept.
 fn put_name(
     alloc: Global,
     table: &mut BTreeMap<Vec<u8>, SymbolEntry>,
@@ -16,7 +16,9 @@ fn put_name(
 ) -> Result<(), AllocError>
     ensures { OnOk result (AddsName strings.now entry.now table.old table.new) }
 {
-    let name = symbol_name(strings, entry);
+    let Some(name) = short_name(strings, entry) else {
+        return Ok(());
+    };
     match table.get(name) {
         Some(other) if !is_preferred(entry, other) => Ok(()),
         _ => {
@@ -43,7 +45,7 @@ fn put_address(
     }
 }
 
-/// The preferred entry of each name.
+/// The preferred entry of each name of at most 256 bytes.
 pub fn name_table(
     alloc: Global,
     strings: &[u8],

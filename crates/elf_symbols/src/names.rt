@@ -1,14 +1,18 @@
-ghost use Rattle.std.specs.Prelude.{◌≡◌, ◌+◌, ◌&&◌, IfOk, None, Some, [], false, filter, length, map, nat_le, nat_lt, option_and_then, slice_get, unwrap_or};
+ghost use Rattle.std.specs.Prelude.{◌≡◌, ◌+◌, ◌&&◌, IfOk, IfNone, IfSome, None, Some, [], false, filter, length, map, nat_le, nat_lt, option_and_then, slice_get, unwrap_or};
 ghost use Rattle.std.specs.Option.{option_map, option_map_or};
 ghost use Rattle.elf32_read.specs.Fields.{name_at, name_from};
 ghost use Rattle.elf_symbols.specs.Entries.{begins_by, entry_named, entry_nearer, entry_preferred, names_by, symbol_of};
-ghost use Rattle.elf_symbols.specs.Lookups.{FindsBefore, IsAddressTable, IsNameTable};
+ghost use Rattle.elf_symbols.specs.Lookups.{FindsBefore, IsAddressTable, IsLong, IsNameTable};
 ghost use Rattle.elf_symbols.specs.Names.{address_of, best, bytes_before, covering, function_at};
 ghost use Rattle.elf_symbols.specs.Views.{symbol_shown};
 
 use crate::entry::SymbolEntry;
+use elf32_read::fields::begins_with_name;
 use std::collections::BTreeMap;
 use std::marker::Model;
+
+/// Longer names aren't kept in the table by name, since a string table can have many long ones in one.
+pub const MOST_KEPT: usize = 256;
 
 /// A symbol that was found.
 #[derive(Clone, Copy, Debug)]
@@ -27,7 +31,7 @@ pub struct Symbols {
     /// In the symbol table's order.
     symbols: Vec<SymbolEntry>,
     functions: Vec<SymbolEntry>,
-    /// The preferred entry of each name.
+    /// The preferred entry of each name of at most 256 bytes.
     by_name: BTreeMap<Vec<u8>, SymbolEntry>,
     /// The function of the least name at each address.
     by_address: BTreeMap<u32, SymbolEntry>,
@@ -58,6 +62,35 @@ fn first_name(bytes: &[u8]) -> &[u8]
     } else {
         &[]
     }
+}
+
+/// The bytes up to the first zero byte, where those are at most 256.
+fn short_front(bytes: &[u8]) -> Option<&[u8]>
+    ensures kept { IfSome result (λ name. name_from bytes.now ≡ Some name.now) }
+    ensures passed { IfNone result (IsLong (name_from bytes.now)) }
+{
+    let mut end = 0;
+    while end < bytes.len() && end <= MOST_KEPT && bytes[end] != 0 {
+        end += 1;
+    }
+    if end < bytes.len() && end <= MOST_KEPT {
+        Some(&bytes[..end])
+    } else {
+        None
+    }
+}
+
+/// The name of an entry, where it has at most 256 bytes.
+#[tactic(auto, unfolding(elf32_read::specs::Fields::name_at))]
+pub fn short_name<'a>(strings: &'a [u8], entry: &SymbolEntry) -> Option<&'a [u8]>
+    ensures kept { IfSome result (λ name. name_at strings.now entry.now.name ≡ Some name.now) }
+    ensures passed { IfNone result (IsLong (name_at strings.now entry.now.name)) }
+{
+    let start = entry.name as usize;
+    if start > strings.len() {
+        return None;
+    }
+    short_front(&strings[start..])
 }
 
 #[tactic(auto, unfolding(elf32_read::specs::Fields::name_at))]
@@ -108,6 +141,30 @@ pub fn is_nearer(strings: &[u8], a: &SymbolEntry, b: &SymbolEntry) -> bool
             && bytes_before(symbol_name(strings, a), symbol_name(strings, b)))
 }
 
+#[tactic(auto, unfolding(elf32_read::specs::Fields::name_at))]
+fn is_named(strings: &[u8], name: &[u8], entry: &SymbolEntry) -> bool
+    ensures { result ≡ entry_named strings.now name.now entry.now }
+{
+    let start = entry.name as usize;
+    start <= strings.len() && begins_with_name(&strings[start..], name)
+}
+
+/// The entry of a name: of the least address, and of equal ones a function. It goes over all symbols.
+fn entry_of(strings: &[u8], symbols: &[SymbolEntry], name: &[u8]) -> Option<SymbolEntry>
+    ensures { result ≡ best entry_preferred (filter (entry_named strings.now name.now) symbols.now) }
+{
+    let mut found: Option<SymbolEntry> = None;
+    for entry in symbols {
+        if is_named(strings, name, entry) {
+            found = match found {
+                Some(other) if !is_preferred(entry, &other) => Some(other),
+                _ => Some(*entry),
+            };
+        }
+    }
+    found
+}
+
 /// The function that begins at an address or before it, nearest.
 fn nearest(table: &BTreeMap<u32, SymbolEntry>, addr: u32) -> Option<SymbolEntry>
     ensures { FindsBefore table.now addr result }
@@ -126,6 +183,16 @@ fn shown<'a>(strings: &'a [u8], entry: &SymbolEntry) -> Named<'a>
         address: entry.address,
         size: entry.size,
         is_function: entry.kind == 2,
+    }
+}
+
+/// The symbol of a name, by a search through all symbols.
+fn look_up<'a>(strings: &'a [u8], symbols: &[SymbolEntry], name: &[u8]) -> Option<Named<'a>>
+    ensures { option_map symbol_shown result ≡ option_map (symbol_of strings.now) (best entry_preferred (filter (entry_named strings.now name.now) symbols.now)) }
+{
+    match entry_of(strings, symbols, name) {
+        Some(entry) => Some(shown(strings, &entry)),
+        None => None,
     }
 }
 
@@ -180,6 +247,9 @@ impl Symbols {
     {
         if name.is_empty() {
             return None;
+        }
+        if name.len() > MOST_KEPT {
+            return look_up(&self.strings, &self.symbols, name);
         }
         match self.by_name.get(name) {
             Some(entry) => Some(shown(&self.strings, entry)),

@@ -30,6 +30,48 @@ const BY_LD: &str = "\
     070000000a000000040000001000000009000000030000000000000000000000640200009d0000000000000000000000\
     010000000000000011000000030000000000000000000000010300004600000000000000000000000100000000000000";
 
+/// What lld 14 wrote of the same file.
+const BY_LLD: &str = "\
+    7f454c460101010000000000000000000200f30001000000f410010034000000a0020000000000003400200005002800\
+    0a00080006000000340000003400010034000100a0000000a00000000400000004000000010000000000000000000100\
+    00000100d7000000d7000000040000000010000001000000d8000000d8100100d8100100340000003400000005000000\
+    00100000010000000c0100000c2101000c2101000400000008000000060000000010000051e574640000000000000000\
+    000000000000000000000000060000000000000068690000130101ff3726010013060611930610002f25d60013010101\
+    67800000372701008325c710eff0dffd9308d005130500007300000003000000412c0000007269736376000122000000\
+    0572763332693270315f6d3270305f613270315f7a6d6d756c317030004c696e6b65723a2044656269616e204c4c4420\
+    31342e302e3600000000000000000000000000000000000001000000f410010000000000000002001f000000d8100100\
+    00000000000002003d000000d4000100000000000000010046000000f410010018000000120002004d0000000c210100\
+    040000001100030053000000d81001001c00000012000200580000001021010004000000110004005e000000d8100100\
+    1c00000012000200002e726f64617461002e74657874002e64617461002e627373002e72697363762e61747472696275\
+    746573002e636f6d6d656e74002e73796d746162002e7368737472746162002e73747274616200002478727633326932\
+    70315f6d3270305f613270315f7a6d6d756c31703000247872763332693270315f6d3270305f613270315f7a6d6d756c\
+    317030006772656574696e67005f7374617274006c696d697400776f726b00636f756e7400776f726b5f616c69617300\
+    000000000000000000000000000000000000000000000000000000000000000000000000000000000100000001000000\
+    02000000d4000100d40000000300000000000000000000000100000000000000090000000100000006000000d8100100\
+    d800000034000000000000000000000004000000000000000f00000001000000030000000c2101000c01000004000000\
+    000000000000000001000000000000001500000008000000030000001021010010010000040000000000000000000000\
+    01000000000000001a000000030000700000000000000000100100002d00000000000000000000000100000000000000\
+    2c0000000100000030000000000000003d0100001a000000000000000000000001000000010000003500000002000000\
+    00000000000000005801000090000000090000000400000004000000100000003d000000030000000000000000000000\
+    e80100004f00000000000000000000000100000000000000470000000300000000000000000000003702000069000000\
+    00000000000000000100000000000000";
+
+/// One word of text, and four symbols whose names are the ends of one name of 258 bytes `a`, laid out by hand.
+const LONG: &str = "\
+    7f454c460101010000000000000000000200f300010000005400010034000000ac010000000000003400200001002800\
+    040000000100000000000000000001000000010058000000580000000500000004000000730000000000000000000000\
+    000000000000000001000000100000000000000010000100020000002000000000000000100001000300000030000000\
+    000000001000010004000000400000000000000010000100006161616161616161616161616161616161616161616161\
+    616161616161616161616161616161616161616161616161616161616161616161616161616161616161616161616161\
+    616161616161616161616161616161616161616161616161616161616161616161616161616161616161616161616161\
+    616161616161616161616161616161616161616161616161616161616161616161616161616161616161616161616161\
+    616161616161616161616161616161616161616161616161616161616161616161616161616161616161616161616161\
+    616161616161616161616161616161616161616161616161616161616161616161616161616161616161610000000000\
+    000000000000000000000000000000000000000000000000000000000000000000000000000000000100000006000000\
+    540001005400000004000000000000000000000004000000000000000000000002000000000000000000000058000000\
+    500000000300000001000000040000001000000000000000030000000000000000000000a80000000401000000000000\
+    000000000100000000000000";
+
 #[test]
 fn symbols_of_gnu_ld_are_those_of_readelf(rt: HostRuntime) -> Result<(), Fail> {
     let image = read_image(rt.alloc(), &hex::decode(rt.alloc(), BY_LD)?)?;
@@ -66,6 +108,112 @@ fn symbols_of_gnu_ld_are_those_of_readelf(rt: HostRuntime) -> Result<(), Fail> {
     for (addr, want) in functions {
         let found = symbols.function_at(addr).map(|s| s.name);
         assert_eq!(rt; found, want.map(|name| name.as_bytes()), "at {addr}");
+    }
+    Ok(())
+}
+
+#[test]
+fn symbols_of_lld_are_those_of_readelf(rt: HostRuntime) -> Result<(), Fail> {
+    let image = read_image(rt.alloc(), &hex::decode(rt.alloc(), BY_LLD)?)?;
+    let symbols = symbols(rt.alloc(), &image)?;
+    let addresses = [
+        ("_start", Some((0x110f4, 24, true))),
+        ("work", Some((0x110d8, 28, true))),
+        ("work_alias", Some((0x110d8, 28, true))),
+        ("limit", Some((0x1210c, 4, false))),
+        ("count", Some((0x12110, 4, false))),
+        ("greeting", Some((0x100d4, 0, false))),
+        ("$xrv32i2p1_m2p0_a2p1_zmmul1p0", None),
+        ("_end", None),
+    ];
+    for (name, want) in addresses {
+        let found = symbols
+            .address_of(name.as_bytes())
+            .map(|s| (s.address, s.size, s.is_function));
+        assert_eq!(rt; found, want, "of {name}");
+    }
+    let functions = [
+        (0x110d7, None),
+        (0x110d8, Some("work")),
+        (0x110f3, Some("work")),
+        (0x110f4, Some("_start")),
+        (0x1110b, Some("_start")),
+        (0x1110c, None),
+    ];
+    for (addr, want) in functions {
+        let found = symbols.function_at(addr).map(|s| s.name);
+        assert_eq!(rt; found, want.map(|name| name.as_bytes()), "at {addr}");
+    }
+    Ok(())
+}
+
+#[test]
+fn long_names_are_found_like_short_ones(rt: HostRuntime) -> Result<(), Fail> {
+    let image = read_image(rt.alloc(), &hex::decode(rt.alloc(), LONG)?)?;
+    let symbols = symbols(rt.alloc(), &image)?;
+    let name = vec![in rt.alloc(); b'a'; 259]?;
+    let cases = [
+        (254, None),
+        (255, Some(0x40)),
+        (256, Some(0x30)),
+        (257, Some(0x20)),
+        (258, Some(0x10)),
+        (259, None),
+    ];
+    for (length, want) in cases {
+        assert!(rt; length <= name.len());
+        let found = symbols.address_of(&name[..length]).map(|s| s.address);
+        assert_eq!(rt; found, want, "of {length} bytes");
+    }
+    Ok(())
+}
+
+/// Each is its name, type, flags, address, link and the size of its part of the file.
+const SECTIONS_BY_LD: [(&str, u32, u32, u32, u32, usize); 9] = [
+    ("", 0, 0, 0, 0, 0),
+    (".text", 1, 6, 0x10094, 0, 0x34),
+    (".rodata", 1, 2, 0x100c8, 0, 3),
+    (".data", 1, 3, 0x100d0, 0, 4),
+    (".bss", 8, 3, 0x100d4, 0, 0),
+    (".riscv.attributes", 0x7000_0003, 0, 0, 0, 0x2d),
+    (".symtab", 2, 0, 0, 7, 0x160),
+    (".strtab", 3, 0, 0, 0, 0x9d),
+    (".shstrtab", 3, 0, 0, 0, 0x46),
+];
+
+const SECTIONS_BY_LLD: [(&str, u32, u32, u32, u32, usize); 10] = [
+    ("", 0, 0, 0, 0, 0),
+    (".rodata", 1, 2, 0x100d4, 0, 3),
+    (".text", 1, 6, 0x110d8, 0, 0x34),
+    (".data", 1, 3, 0x1210c, 0, 4),
+    (".bss", 8, 3, 0x12110, 0, 0),
+    (".riscv.attributes", 0x7000_0003, 0, 0, 0, 0x2d),
+    (".comment", 1, 0x30, 0, 0, 0x1a),
+    (".symtab", 2, 0, 0, 9, 0x90),
+    (".shstrtab", 3, 0, 0, 0, 0x4f),
+    (".strtab", 3, 0, 0, 0, 0x69),
+];
+
+#[test]
+fn sections_of_both_linkers_are_those_of_readelf(rt: HostRuntime) -> Result<(), Fail> {
+    for (file, sections) in [(BY_LD, &SECTIONS_BY_LD[..]), (BY_LLD, &SECTIONS_BY_LLD[..])] {
+        let image = read_image(rt.alloc(), &hex::decode(rt.alloc(), file)?)?;
+        assert_eq!(rt; image.section_count(), sections.len());
+        for (k, (name, kind, flags, address, link, size)) in sections.iter().enumerate() {
+            assert!(rt; k < image.section_count());
+            let section = image.section_at(k);
+            assert_eq!(rt;
+                (section.kind, section.flags, section.address, section.link),
+                (*kind, *flags, *address, *link),
+                "of {name}"
+            );
+            assert_eq!(rt; section.bytes.len(), *size, "of {name}");
+            assert_eq!(rt;
+                image.section(name.as_bytes()).map(|bytes| bytes.len()),
+                Some(*size),
+                "of {name}"
+            );
+        }
     }
     Ok(())
 }
