@@ -1,1 +1,5 @@
+pub mod Reading
+pub mod Operations
 pub mod Table
+pub mod Entries
+pub mod Rules

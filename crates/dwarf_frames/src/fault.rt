@@ -1,5 +1,9 @@
 //! Why a section has no rules for a place.
 
+ghost use Rattle.std.specs.Prelude.{◌≡◌};
+ghost use Rattle.dwarf_frames.specs.Reading.{fault_of};
+
+use leb_read::Leb;
 use thiserror::Error;
 
 /// What is wrong with a section. Of several faults the first that is met in reading is told.
@@ -26,4 +30,15 @@ pub enum FrameFault {
     /// A state is restored where none is remembered.
     #[error("no state is remembered")]
     Empty,
+}
+
+impl From<Leb> for FrameFault {
+    ghost from_gives = { λ fault e. e ≡ fault_of fault };
+
+    fn from(fault: Leb) -> FrameFault {
+        match fault {
+            Leb::Short => FrameFault::Short,
+            Leb::Wide => FrameFault::Leb,
+        }
+    }
 }

@@ -5,6 +5,8 @@
 #![tactic(auto)]
 
 mod fault;
+mod operand;
+mod operation;
 mod rules;
 
 pub use fault::FrameFault;

@@ -1,5 +1,8 @@
 //! The rules that tell a caller's registers (DWARF 5, section 6.4.1).
 
+ghost use Rattle.std.specs.Prelude.{◌≡◌, ◌<◌};
+ghost use Rattle.dwarf_frames.specs.Table.{first_rules};
+
 /// The canonical frame address (CFA): the value of a register, and an offset that is added to it modulo 2^32.
 #[derive(Clone, Copy, Debug, PartialEq, Eq)]
 pub struct CfaRule {
@@ -34,4 +37,35 @@ pub struct Rules {
     pub return_column: u8,
     /// By the numbers of the registers.
     pub registers: [RegisterRule; 32],
+}
+
+/// The number of the register that has the return address where nothing else is said (`ra`).
+const RETURN_ADDRESS: u8 = 1;
+
+/// The number of the stack pointer (`sp`).
+const STACK_POINTER: u8 = 2;
+
+impl Rules {
+    /// The rules before any operation: the CFA is x2, and no register has a rule.
+    pub fn new(return_column: u8) -> Rules
+        ensures { result ≡ first_rules return_column }
+    {
+        Rules {
+            cfa: CfaRule {
+                register: STACK_POINTER,
+                offset: 0,
+            },
+            return_column,
+            registers: [RegisterRule::Unspecified; 32],
+        }
+    }
+}
+
+/// The rules of a place that no entry covers: the CFA is x2, and the return address is in x1.
+impl Default for Rules {
+    ghost is_default = { λ r. r ≡ first_rules 1 };
+
+    fn default() -> Rules {
+        Rules::new(RETURN_ADDRESS)
+    }
 }
