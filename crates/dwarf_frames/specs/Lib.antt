@@ -3,3 +3,4 @@ pub mod Operations
 pub mod Table
 pub mod Entries
 pub mod Rules
+pub mod Gives

@@ -20,11 +20,14 @@ set_location_at bytes at = do
   r ← read (number_at 4 bytes at)
   found (SetLocation r.0) r.1
 
+abbrev pub advance : Factors → ℕ → Operation
+advance factors delta = Advance (scaled delta factors.code_alignment)
+
 -- an advance in a number of bytes
 unfoldable pub advance_at : ℕ → Factors → List ℕ → ℕ → Read Operation
 advance_at size factors bytes at = do
   r ← read (number_at size bytes at)
-  found (Advance (scaled r.0 factors.code_alignment)) r.1
+  found (advance factors r.0) r.1
 
 -- a register, and the rule that it gets
 unfoldable pub set_rule_at : RegisterRule → List ℕ → ℕ → Read Operation
@@ -148,7 +151,7 @@ whole_operation_at factors opcode bytes at =
 unfoldable pub operation_of : Factors → ℕ → List ℕ → ℕ → Read Operation
 operation_of factors byte bytes at =
     let low = byte % 64 in
-    if byte / 64 == 1 then found (Advance (scaled low factors.code_alignment)) at
+    if byte / 64 == 1 then found (advance factors low) at
     else (if byte / 64 == 2 then offset_at factors low bytes at
     else (if byte / 64 == 3 then found (Restore low) at
     else whole_operation_at factors byte bytes at))

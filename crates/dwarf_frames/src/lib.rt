@@ -4,6 +4,7 @@
 //! addresses of 32 bits.
 #![tactic(auto)]
 
+mod entry;
 mod fault;
 mod operand;
 mod operation;

@@ -3,7 +3,7 @@
 ghost use Rattle.std.specs.Prelude.{◌≡◌, ◌<◌, ◌≤◌, IfOk, length};
 ghost use Rattle.leb_read.specs.Leb.{IsBehind};
 ghost use Rattle.dwarf_frames.specs.Reading.{IsReached};
-ghost use Rattle.dwarf_frames.specs.Operations.{advance_at, cfa_at, cfa_offset_at, cfa_offset_signed_at, cfa_operation_at, cfa_register_at, cfa_signed_at, copied_from, copy_at, offset_at, offset_extended_at, offset_extended_signed_at, operation_at, operation_of, register_operation_at, restore_at, set_location_at, set_rule_at, val_offset_at, val_offset_signed_at, whole_operation_at};
+ghost use Rattle.dwarf_frames.specs.Operations.{advance, advance_at, cfa_at, cfa_offset_at, cfa_offset_signed_at, cfa_operation_at, cfa_register_at, cfa_signed_at, copied_from, copy_at, offset_at, offset_extended_at, offset_extended_signed_at, operation_at, operation_of, register_operation_at, restore_at, set_location_at, set_rule_at, val_offset_at, val_offset_signed_at, whole_operation_at};
 
 use crate::fault::FrameFault;
 use crate::operand::{REGISTERS, register_at, scaled, signed_at, unsigned_at};
@@ -48,10 +48,6 @@ fn set_location_at(bytes: &[u8], at: usize) -> Found
 {
     let (address, next) = u32_at(bytes, at)?;
     Ok((Operation::SetLocation(address), next))
-}
-
-fn advance(delta: u32, factors: Factors) -> Operation {
-    Operation::Advance(scaled(delta, factors.code_alignment))
 }
 
 // The rule for a register whose value another one has.
@@ -192,4 +188,118 @@ fn cfa_offset_signed_at(factors: Factors, bytes: &[u8], at: usize) -> Found
     let (offset, next) = signed_at(bytes, at)?;
     let offset = scaled(offset, factors.data_alignment);
     Ok((Operation::SetCfaOffset(offset), next))
+}
+
+// The operations of the CFA.
+#[tactic(auto, unfolding(crate::specs::Operations::cfa_operation_at))]
+fn cfa_operation_at(factors: Factors, opcode: u8, bytes: &[u8], at: usize) -> Found
+    ensures value { result ≡ cfa_operation_at factors opcode bytes.now at }
+    ensures within { IfOk result (λ r. IsReached bytes.now at r.1) }
+{
+    match opcode {
+        0x0C => cfa_at(bytes, at),
+        0x0D => cfa_register_at(bytes, at),
+        0x0E => cfa_offset_at(bytes, at),
+        0x12 => cfa_signed_at(factors, bytes, at),
+        0x13 => cfa_offset_signed_at(factors, bytes, at),
+        _ => Err(FrameFault::Opcode),
+    }
+}
+
+// The operations of a register, or else of the CFA.
+#[tactic(auto, unfolding(crate::specs::Operations::register_operation_at))]
+fn register_operation_at(factors: Factors, opcode: u8, bytes: &[u8], at: usize) -> Found
+    ensures value { result ≡ register_operation_at factors opcode bytes.now at }
+    ensures within { IfOk result (λ r. IsReached bytes.now at r.1) }
+{
+    match opcode {
+        0x05 => offset_extended_at(factors, bytes, at),
+        0x06 => restore_at(bytes, at),
+        0x07 => set_rule_at(RegisterRule::Undefined, bytes, at),
+        0x08 => set_rule_at(RegisterRule::SameValue, bytes, at),
+        0x09 => copy_at(bytes, at),
+        0x11 => offset_extended_signed_at(factors, bytes, at),
+        0x14 => val_offset_at(factors, bytes, at),
+        0x15 => val_offset_signed_at(factors, bytes, at),
+        _ => cfa_operation_at(factors, opcode, bytes, at),
+    }
+}
+
+// An advance of the location, whose number has been read.
+fn advance(factors: Factors, delta: u32) -> Operation
+    ensures { result ≡ advance factors delta }
+{
+    Operation::Advance(scaled(delta, factors.code_alignment))
+}
+
+#[tactic(auto, unfolding(crate::specs::Operations::advance_at))]
+fn advance_by_one_byte_at(factors: Factors, bytes: &[u8], at: usize) -> Found
+    ensures value { result ≡ advance_at 1 factors bytes.now at }
+    ensures within { IfOk result (λ r. IsReached bytes.now at r.1) }
+{
+    let (delta, next) = u8_at(bytes, at)?;
+    Ok((advance(factors, u32::from(delta)), next))
+}
+
+#[tactic(auto, unfolding(crate::specs::Operations::advance_at))]
+fn advance_by_two_bytes_at(factors: Factors, bytes: &[u8], at: usize) -> Found
+    ensures value { result ≡ advance_at 2 factors bytes.now at }
+    ensures within { IfOk result (λ r. IsReached bytes.now at r.1) }
+{
+    let (delta, next) = u16_at(bytes, at)?;
+    Ok((advance(factors, u32::from(delta)), next))
+}
+
+#[tactic(auto, unfolding(crate::specs::Operations::advance_at))]
+fn advance_by_four_bytes_at(factors: Factors, bytes: &[u8], at: usize) -> Found
+    ensures value { result ≡ advance_at 4 factors bytes.now at }
+    ensures within { IfOk result (λ r. IsReached bytes.now at r.1) }
+{
+    let (delta, next) = u32_at(bytes, at)?;
+    Ok((advance(factors, delta), next))
+}
+
+// The operations whose opcode is the whole byte.
+#[tactic(auto, unfolding(crate::specs::Operations::whole_operation_at))]
+fn whole_operation_at(factors: Factors, opcode: u8, bytes: &[u8], at: usize) -> Found
+    requires { at ≤ length bytes.now }
+    ensures value { result ≡ whole_operation_at factors opcode bytes.now at }
+    ensures within { IfOk result (λ r. IsReached bytes.now at r.1) }
+{
+    match opcode {
+        0x00 => Ok((Operation::Nop, at)),
+        0x01 => set_location_at(bytes, at),
+        0x02 => advance_by_one_byte_at(factors, bytes, at),
+        0x03 => advance_by_two_bytes_at(factors, bytes, at),
+        0x04 => advance_by_four_bytes_at(factors, bytes, at),
+        0x0A => Ok((Operation::RememberState, at)),
+        0x0B => Ok((Operation::RestoreState, at)),
+        _ => register_operation_at(factors, opcode, bytes, at),
+    }
+}
+
+// The operation of a byte whose high two bits are the opcode where they aren't 0.
+#[tactic(auto, unfolding(crate::specs::Operations::operation_of))]
+fn operation_of(factors: Factors, byte: u8, bytes: &[u8], at: usize) -> Found
+    requires { at ≤ length bytes.now }
+    ensures value { result ≡ operation_of factors byte bytes.now at }
+    ensures within { IfOk result (λ r. IsReached bytes.now at r.1) }
+{
+    let low = byte % 64;
+    match byte / 64 {
+        1 => Ok((advance(factors, u32::from(low)), at)),
+        2 => offset_at(factors, u64::from(low), bytes, at),
+        3 => Ok((Operation::Restore(u64::from(low)), at)),
+        _ => whole_operation_at(factors, byte, bytes, at),
+    }
+}
+
+/// The operation at a place, and the next place.
+#[tactic(auto, unfolding(crate::specs::Operations::operation_at))]
+pub fn operation_at(factors: Factors, bytes: &[u8], at: usize) -> Found
+    ensures value { result ≡ operation_at factors bytes.now at }
+    ensures within { IfOk result (λ r. IsBehind bytes.now at r.1) }
+{
+    let (byte, next) = u8_at(bytes, at)?;
+    operation_of(factors, byte, bytes, next)
 }
