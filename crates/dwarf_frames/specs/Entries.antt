@@ -47,9 +47,9 @@ description_of body = do
   id ← read (number_at 4 body 0)
   if id.0 == 0xFFFFFFFF then Ok None
     else (do
-    first ← read (number_at 4 body 4)
-    range ← read (number_at 4 body 8)
-    Ok (Some (record { common = id.0; first = first.0; range = range.0; program = drop 12 body })))
+    first ← read (number_at 4 body id.1)
+    range ← read (number_at 4 body first.1)
+    Ok (Some (record { common = id.0; first = first.0; range = range.0; program = drop range.1 body })))
 
 abbrev pub covers : Description → ℕ → Bool
 covers d pc = nat_le d.first pc && nat_lt pc (d.first + d.range)
@@ -123,6 +123,6 @@ unfoldable pub common_of : List ℕ → Result Common FrameFault
 common_of body = do
   id ← read (number_at 4 body 0)
   if id.0 == 0xFFFFFFFF then (do
-    version ← read (number_at 1 body 4)
+    version ← read (number_at 1 body id.1)
     if is_version version.0 then versioned_of version.0 body version.1 else Err Version)
     else Err Short

@@ -1,5 +1,5 @@
 -- Steps of reading, each of which may meet a fault: the first that is met is the answer.
-use Rattle.std.specs.Prelude.{ℕ, ℤ, pos, ◌+◌, ◌*◌, ◌%◌, ◌^◌, ◌≤◌, List, length, Result, Ok, Err, nat_lt, if◌then◌else◌}
+use Rattle.std.specs.Prelude.{ℕ, ℤ, pos, ◌+◌, ◌*◌, ◌%◌, ◌^◌, List, Result, Ok, Err, nat_lt, if◌then◌else◌}
 use Rattle.std.specs.Int.{int_rem_euclid}
 use Rattle.std.specs.Int.RustNames.{unsigned_abs}
 use Rattle.leb_read.specs.declared.fault.Leb.{Leb}
@@ -47,8 +47,3 @@ unfoldable pub register_at : List ℕ → ℕ → Read ℕ
 register_at bytes at = do
   r ← read (uleb_at bytes at)
   if nat_lt r.0 32 then found r.0 r.1 else Err fault.Opcode
-
--- a next place stands at the place or behind it, and no further than the end
-pub record IsReached (bytes : List ℕ) (at next : ℕ) : Type 0 where
-  pub behind : at ≤ next
-  pub within : next ≤ length bytes

@@ -1,5 +1,5 @@
 -- The rules of a place, and how operations change them (DWARF 5, section 6.4.1, "Structure of Call Frame Information").
-use Rattle.std.specs.Prelude.{◌≡◌, ℕ, ◌+◌, ◌-◌, ◌%◌, ◌^◌, ◌<◌, ⊤, List, [], ◌∷◌, ◌++◌, length, take, All, replicate, slice_get, slice_index_or, slice_set, Option, Some, None, Result, Ok, Err, nat_lt, if◌then◌else◌}
+use Rattle.std.specs.Prelude.{ℕ, ◌+◌, ◌-◌, ◌%◌, ◌^◌, List, [], ◌∷◌, ◌++◌, length, take, replicate, slice_get, slice_index_or, slice_set, Option, Some, None, Result, Ok, Err, nat_lt, if◌then◌else◌}
 use Rattle.dwarf_frames.specs.Reading.{◌>>=◌}
 use Rattle.dwarf_frames.specs.Operations.{Operations, Ends, Fails, Then}
 use Rattle.dwarf_frames.specs.declared.fault.FrameFault.{FrameFault}
@@ -9,7 +9,7 @@ use Rattle.dwarf_frames.specs.declared.operation.Operation.TheVariants.{Nop, Adv
 use Rattle.dwarf_frames.specs.declared.rules.Rules.{Rules}
 use Rattle.dwarf_frames.specs.declared.rules.CfaRule.{CfaRule}
 use Rattle.dwarf_frames.specs.declared.rules.RegisterRule.{RegisterRule}
-use Rattle.dwarf_frames.specs.declared.rules.RegisterRule.TheVariants.{Unspecified, Undefined, SameValue, Offset, ValOffset, Register}
+use Rattle.dwarf_frames.specs.declared.rules.RegisterRule.TheVariants.{Unspecified}
 
 -- before any operation: the CFA is the value of x2, and no register has a rule
 abbrev pub first_rules : ℕ → Rules
@@ -19,22 +19,6 @@ first_rules return_column =
       return_column = return_column;
       registers = replicate 32 Unspecified;
     }
-
--- a register that a rule names is there
-abbrev pub NamesRegister : RegisterRule → Type 0
-NamesRegister Unspecified = ⊤
-NamesRegister Undefined = ⊤
-NamesRegister SameValue = ⊤
-NamesRegister (Offset n) = ⊤
-NamesRegister (ValOffset n) = ⊤
-NamesRegister (Register n) = n < 32
-
--- the rules speak of the registers x0 to x31 alone
-pub record AreWithin (rules : Rules) : Type 0 where
-  pub cfa : rules.cfa.register < 32
-  pub return_column : rules.return_column < 32
-  pub registers : length rules.registers ≡ 32
-  pub named : All NamesRegister rules.registers
 
 -- the rule of a register; one above 31 has none
 abbrev pub rule_of : Rules → ℕ → RegisterRule

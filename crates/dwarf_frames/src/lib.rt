@@ -9,6 +9,7 @@ mod fault;
 mod operand;
 mod operation;
 mod rules;
+mod table;
 
 pub use fault::FrameFault;
 pub use rules::{CfaRule, RegisterRule, Rules};

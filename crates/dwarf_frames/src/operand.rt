@@ -36,6 +36,7 @@ pub fn signed_at(bytes: &[u8], at: usize) -> Result<(u32, usize), FrameFault>
 pub fn register_at(bytes: &[u8], at: usize) -> Result<(u8, usize), FrameFault>
     ensures value { result ≡ register_at bytes.now at }
     ensures within { IfOk result (λ r. IsBehind bytes.now at r.1) }
+    ensures register { IfOk result (λ r. r.0 < 32) }
 {
     let (number, next) = uleb(bytes, at)?;
     if number < REGISTERS {

@@ -2,7 +2,7 @@
 
 ghost use Rattle.std.specs.Prelude.{◌≡◌, ◌<◌, ◌≤◌, IfOk, length};
 ghost use Rattle.leb_read.specs.Leb.{IsBehind};
-ghost use Rattle.dwarf_frames.specs.Reading.{IsReached};
+ghost use Rattle.dwarf_frames.specs.Within.{IsFound, IsWithin, NamesRegister};
 ghost use Rattle.dwarf_frames.specs.Operations.{advance, advance_at, cfa_at, cfa_offset_at, cfa_offset_signed_at, cfa_operation_at, cfa_register_at, cfa_signed_at, copied_from, copy_at, offset_at, offset_extended_at, offset_extended_signed_at, operation_at, operation_of, register_operation_at, restore_at, set_location_at, set_rule_at, val_offset_at, val_offset_signed_at, whole_operation_at};
 
 use crate::fault::FrameFault;
@@ -44,7 +44,7 @@ type Found = Result<(Operation, usize), FrameFault>;
 #[tactic(auto, unfolding(crate::specs::Operations::set_location_at))]
 fn set_location_at(bytes: &[u8], at: usize) -> Found
     ensures value { result ≡ set_location_at bytes.now at }
-    ensures within { IfOk result (λ r. IsReached bytes.now at r.1) }
+    ensures within { IfOk result (λ r. IsFound bytes.now at r.0 r.1) }
 {
     let (address, next) = u32_at(bytes, at)?;
     Ok((Operation::SetLocation(address), next))
@@ -52,7 +52,8 @@ fn set_location_at(bytes: &[u8], at: usize) -> Found
 
 // The rule for a register whose value another one has.
 fn copied_from(source: u64) -> RegisterRule
-    ensures { result ≡ copied_from source }
+    ensures value { result ≡ copied_from source }
+    ensures within { NamesRegister result }
 {
     if source < REGISTERS {
         RegisterRule::Register(source as u8)
@@ -63,8 +64,9 @@ fn copied_from(source: u64) -> RegisterRule
 
 #[tactic(auto, unfolding(crate::specs::Operations::set_rule_at))]
 fn set_rule_at(rule: RegisterRule, bytes: &[u8], at: usize) -> Found
+    requires { NamesRegister rule }
     ensures value { result ≡ set_rule_at rule bytes.now at }
-    ensures within { IfOk result (λ r. IsReached bytes.now at r.1) }
+    ensures within { IfOk result (λ r. IsFound bytes.now at r.0 r.1) }
 {
     let (register, next) = uleb(bytes, at)?;
     Ok((Operation::SetRule(register, rule), next))
@@ -73,7 +75,7 @@ fn set_rule_at(rule: RegisterRule, bytes: &[u8], at: usize) -> Found
 #[tactic(auto, unfolding(crate::specs::Operations::offset_at))]
 fn offset_at(factors: Factors, register: u64, bytes: &[u8], at: usize) -> Found
     ensures value { result ≡ offset_at factors register bytes.now at }
-    ensures within { IfOk result (λ r. IsReached bytes.now at r.1) }
+    ensures within { IfOk result (λ r. IsFound bytes.now at r.0 r.1) }
 {
     let (offset, next) = unsigned_at(bytes, at)?;
     let rule = RegisterRule::Offset(scaled(offset, factors.data_alignment));
@@ -83,7 +85,7 @@ fn offset_at(factors: Factors, register: u64, bytes: &[u8], at: usize) -> Found
 #[tactic(auto, unfolding(crate::specs::Operations::offset_extended_at))]
 fn offset_extended_at(factors: Factors, bytes: &[u8], at: usize) -> Found
     ensures value { result ≡ offset_extended_at factors bytes.now at }
-    ensures within { IfOk result (λ r. IsReached bytes.now at r.1) }
+    ensures within { IfOk result (λ r. IsFound bytes.now at r.0 r.1) }
 {
     let (register, next) = uleb(bytes, at)?;
     offset_at(factors, register, bytes, next)
@@ -92,7 +94,7 @@ fn offset_extended_at(factors: Factors, bytes: &[u8], at: usize) -> Found
 #[tactic(auto, unfolding(crate::specs::Operations::offset_extended_signed_at))]
 fn offset_extended_signed_at(factors: Factors, bytes: &[u8], at: usize) -> Found
     ensures value { result ≡ offset_extended_signed_at factors bytes.now at }
-    ensures within { IfOk result (λ r. IsReached bytes.now at r.1) }
+    ensures within { IfOk result (λ r. IsFound bytes.now at r.0 r.1) }
 {
     let (register, next) = uleb(bytes, at)?;
     let (offset, next) = signed_at(bytes, next)?;
@@ -103,7 +105,7 @@ fn offset_extended_signed_at(factors: Factors, bytes: &[u8], at: usize) -> Found
 #[tactic(auto, unfolding(crate::specs::Operations::val_offset_at))]
 fn val_offset_at(factors: Factors, bytes: &[u8], at: usize) -> Found
     ensures value { result ≡ val_offset_at factors bytes.now at }
-    ensures within { IfOk result (λ r. IsReached bytes.now at r.1) }
+    ensures within { IfOk result (λ r. IsFound bytes.now at r.0 r.1) }
 {
     let (register, next) = uleb(bytes, at)?;
     let (offset, next) = unsigned_at(bytes, next)?;
@@ -114,7 +116,7 @@ fn val_offset_at(factors: Factors, bytes: &[u8], at: usize) -> Found
 #[tactic(auto, unfolding(crate::specs::Operations::val_offset_signed_at))]
 fn val_offset_signed_at(factors: Factors, bytes: &[u8], at: usize) -> Found
     ensures value { result ≡ val_offset_signed_at factors bytes.now at }
-    ensures within { IfOk result (λ r. IsReached bytes.now at r.1) }
+    ensures within { IfOk result (λ r. IsFound bytes.now at r.0 r.1) }
 {
     let (register, next) = uleb(bytes, at)?;
     let (offset, next) = signed_at(bytes, next)?;
@@ -125,7 +127,7 @@ fn val_offset_signed_at(factors: Factors, bytes: &[u8], at: usize) -> Found
 #[tactic(auto, unfolding(crate::specs::Operations::copy_at))]
 fn copy_at(bytes: &[u8], at: usize) -> Found
     ensures value { result ≡ copy_at bytes.now at }
-    ensures within { IfOk result (λ r. IsReached bytes.now at r.1) }
+    ensures within { IfOk result (λ r. IsFound bytes.now at r.0 r.1) }
 {
     let (register, next) = uleb(bytes, at)?;
     let (source, next) = uleb(bytes, next)?;
@@ -135,7 +137,7 @@ fn copy_at(bytes: &[u8], at: usize) -> Found
 #[tactic(auto, unfolding(crate::specs::Operations::restore_at))]
 fn restore_at(bytes: &[u8], at: usize) -> Found
     ensures value { result ≡ restore_at bytes.now at }
-    ensures within { IfOk result (λ r. IsReached bytes.now at r.1) }
+    ensures within { IfOk result (λ r. IsFound bytes.now at r.0 r.1) }
 {
     let (register, next) = uleb(bytes, at)?;
     Ok((Operation::Restore(register), next))
@@ -144,7 +146,7 @@ fn restore_at(bytes: &[u8], at: usize) -> Found
 #[tactic(auto, unfolding(crate::specs::Operations::cfa_at))]
 fn cfa_at(bytes: &[u8], at: usize) -> Found
     ensures value { result ≡ cfa_at bytes.now at }
-    ensures within { IfOk result (λ r. IsReached bytes.now at r.1) }
+    ensures within { IfOk result (λ r. IsFound bytes.now at r.0 r.1) }
 {
     let (register, next) = register_at(bytes, at)?;
     let (offset, next) = unsigned_at(bytes, next)?;
@@ -154,7 +156,7 @@ fn cfa_at(bytes: &[u8], at: usize) -> Found
 #[tactic(auto, unfolding(crate::specs::Operations::cfa_signed_at))]
 fn cfa_signed_at(factors: Factors, bytes: &[u8], at: usize) -> Found
     ensures value { result ≡ cfa_signed_at factors bytes.now at }
-    ensures within { IfOk result (λ r. IsReached bytes.now at r.1) }
+    ensures within { IfOk result (λ r. IsFound bytes.now at r.0 r.1) }
 {
     let (register, next) = register_at(bytes, at)?;
     let (offset, next) = signed_at(bytes, next)?;
@@ -165,7 +167,7 @@ fn cfa_signed_at(factors: Factors, bytes: &[u8], at: usize) -> Found
 #[tactic(auto, unfolding(crate::specs::Operations::cfa_register_at))]
 fn cfa_register_at(bytes: &[u8], at: usize) -> Found
     ensures value { result ≡ cfa_register_at bytes.now at }
-    ensures within { IfOk result (λ r. IsReached bytes.now at r.1) }
+    ensures within { IfOk result (λ r. IsFound bytes.now at r.0 r.1) }
 {
     let (register, next) = register_at(bytes, at)?;
     Ok((Operation::SetCfaRegister(register), next))
@@ -174,7 +176,7 @@ fn cfa_register_at(bytes: &[u8], at: usize) -> Found
 #[tactic(auto, unfolding(crate::specs::Operations::cfa_offset_at))]
 fn cfa_offset_at(bytes: &[u8], at: usize) -> Found
     ensures value { result ≡ cfa_offset_at bytes.now at }
-    ensures within { IfOk result (λ r. IsReached bytes.now at r.1) }
+    ensures within { IfOk result (λ r. IsFound bytes.now at r.0 r.1) }
 {
     let (offset, next) = unsigned_at(bytes, at)?;
     Ok((Operation::SetCfaOffset(offset), next))
@@ -183,7 +185,7 @@ fn cfa_offset_at(bytes: &[u8], at: usize) -> Found
 #[tactic(auto, unfolding(crate::specs::Operations::cfa_offset_signed_at))]
 fn cfa_offset_signed_at(factors: Factors, bytes: &[u8], at: usize) -> Found
     ensures value { result ≡ cfa_offset_signed_at factors bytes.now at }
-    ensures within { IfOk result (λ r. IsReached bytes.now at r.1) }
+    ensures within { IfOk result (λ r. IsFound bytes.now at r.0 r.1) }
 {
     let (offset, next) = signed_at(bytes, at)?;
     let offset = scaled(offset, factors.data_alignment);
@@ -194,7 +196,7 @@ fn cfa_offset_signed_at(factors: Factors, bytes: &[u8], at: usize) -> Found
 #[tactic(auto, unfolding(crate::specs::Operations::cfa_operation_at))]
 fn cfa_operation_at(factors: Factors, opcode: u8, bytes: &[u8], at: usize) -> Found
     ensures value { result ≡ cfa_operation_at factors opcode bytes.now at }
-    ensures within { IfOk result (λ r. IsReached bytes.now at r.1) }
+    ensures within { IfOk result (λ r. IsFound bytes.now at r.0 r.1) }
 {
     match opcode {
         0x0C => cfa_at(bytes, at),
@@ -210,7 +212,7 @@ fn cfa_operation_at(factors: Factors, opcode: u8, bytes: &[u8], at: usize) -> Fo
 #[tactic(auto, unfolding(crate::specs::Operations::register_operation_at))]
 fn register_operation_at(factors: Factors, opcode: u8, bytes: &[u8], at: usize) -> Found
     ensures value { result ≡ register_operation_at factors opcode bytes.now at }
-    ensures within { IfOk result (λ r. IsReached bytes.now at r.1) }
+    ensures within { IfOk result (λ r. IsFound bytes.now at r.0 r.1) }
 {
     match opcode {
         0x05 => offset_extended_at(factors, bytes, at),
@@ -235,7 +237,7 @@ fn advance(factors: Factors, delta: u32) -> Operation
 #[tactic(auto, unfolding(crate::specs::Operations::advance_at))]
 fn advance_by_one_byte_at(factors: Factors, bytes: &[u8], at: usize) -> Found
     ensures value { result ≡ advance_at 1 factors bytes.now at }
-    ensures within { IfOk result (λ r. IsReached bytes.now at r.1) }
+    ensures within { IfOk result (λ r. IsFound bytes.now at r.0 r.1) }
 {
     let (delta, next) = u8_at(bytes, at)?;
     Ok((advance(factors, u32::from(delta)), next))
@@ -244,7 +246,7 @@ fn advance_by_one_byte_at(factors: Factors, bytes: &[u8], at: usize) -> Found
 #[tactic(auto, unfolding(crate::specs::Operations::advance_at))]
 fn advance_by_two_bytes_at(factors: Factors, bytes: &[u8], at: usize) -> Found
     ensures value { result ≡ advance_at 2 factors bytes.now at }
-    ensures within { IfOk result (λ r. IsReached bytes.now at r.1) }
+    ensures within { IfOk result (λ r. IsFound bytes.now at r.0 r.1) }
 {
     let (delta, next) = u16_at(bytes, at)?;
     Ok((advance(factors, u32::from(delta)), next))
@@ -253,7 +255,7 @@ fn advance_by_two_bytes_at(factors: Factors, bytes: &[u8], at: usize) -> Found
 #[tactic(auto, unfolding(crate::specs::Operations::advance_at))]
 fn advance_by_four_bytes_at(factors: Factors, bytes: &[u8], at: usize) -> Found
     ensures value { result ≡ advance_at 4 factors bytes.now at }
-    ensures within { IfOk result (λ r. IsReached bytes.now at r.1) }
+    ensures within { IfOk result (λ r. IsFound bytes.now at r.0 r.1) }
 {
     let (delta, next) = u32_at(bytes, at)?;
     Ok((advance(factors, delta), next))
@@ -264,7 +266,7 @@ fn advance_by_four_bytes_at(factors: Factors, bytes: &[u8], at: usize) -> Found
 fn whole_operation_at(factors: Factors, opcode: u8, bytes: &[u8], at: usize) -> Found
     requires { at ≤ length bytes.now }
     ensures value { result ≡ whole_operation_at factors opcode bytes.now at }
-    ensures within { IfOk result (λ r. IsReached bytes.now at r.1) }
+    ensures within { IfOk result (λ r. IsFound bytes.now at r.0 r.1) }
 {
     match opcode {
         0x00 => Ok((Operation::Nop, at)),
@@ -283,7 +285,7 @@ fn whole_operation_at(factors: Factors, opcode: u8, bytes: &[u8], at: usize) -> 
 fn operation_of(factors: Factors, byte: u8, bytes: &[u8], at: usize) -> Found
     requires { at ≤ length bytes.now }
     ensures value { result ≡ operation_of factors byte bytes.now at }
-    ensures within { IfOk result (λ r. IsReached bytes.now at r.1) }
+    ensures within { IfOk result (λ r. IsFound bytes.now at r.0 r.1) }
 {
     let low = byte % 64;
     match byte / 64 {
@@ -298,7 +300,8 @@ fn operation_of(factors: Factors, byte: u8, bytes: &[u8], at: usize) -> Found
 #[tactic(auto, unfolding(crate::specs::Operations::operation_at))]
 pub fn operation_at(factors: Factors, bytes: &[u8], at: usize) -> Found
     ensures value { result ≡ operation_at factors bytes.now at }
-    ensures within { IfOk result (λ r. IsBehind bytes.now at r.1) }
+    ensures behind { IfOk result (λ r. IsBehind bytes.now at r.1) }
+    ensures within { IfOk result (λ r. IsWithin r.0) }
 {
     let (byte, next) = u8_at(bytes, at)?;
     operation_of(factors, byte, bytes, next)
