@@ -1,6 +1,6 @@
 -- The entries of a section (DWARF 5, section 6.4.1 and 7.24; DWARF 2 and 3 for versions 1 and 3).
-use Rattle.std.specs.Prelude.{ℕ, zero, suc, ◌+◌, ◌-◌, ◌*◌, ◌^◌, ◌==◌, ◌&&◌, ◌||◌, Bool, false, List, length, take, drop, Option, Some, None, Result, Ok, Err, nat_le, nat_lt, if◌then◌else◌}
-use Rattle.leb_read.specs.Leb.{number_at, uleb_at, text_at}
+use Rattle.std.specs.Prelude.{ℕ, zero, suc, ◌+◌, ◌==◌, ◌&&◌, ◌||◌, Bool, false, List, length, take, drop, Option, Some, None, Result, Ok, Err, nat_le, nat_lt, if◌then◌else◌}
+use Rattle.leb_read.specs.Leb.{number_at, text_at}
 use Rattle.dwarf_frames.specs.Reading.{◌>>=◌, Read, found, read, register_at, signed_at, unsigned_at}
 use Rattle.dwarf_frames.specs.declared.fault.FrameFault.{FrameFault}
 use Rattle.dwarf_frames.specs.declared.fault.FrameFault.TheVariants.{Short, Version, Augmentation, Opcode}
@@ -11,7 +11,7 @@ unfoldable pub entry_at : List ℕ → ℕ → Read (List ℕ)
 entry_at section at = do
   r ← read (number_at 4 section at)
   if nat_le 0xFFFFFFF0 r.0 || nat_lt (length section) (r.1 + r.0) then Err Short
-    else found (take r.0 (drop r.1 section)) (r.1 + r.0)
+      else found (take r.0 (drop r.1 section)) (r.1 + r.0)
 
 -- entries, each with its place, and whether the section ends too early behind them
 pub data Entries : Type 0 where
@@ -46,10 +46,10 @@ unfoldable pub description_of : List ℕ → Result (Option Description) FrameFa
 description_of body = do
   id ← read (number_at 4 body 0)
   if id.0 == 0xFFFFFFFF then Ok None
-    else (do
-    first ← read (number_at 4 body id.1)
-    range ← read (number_at 4 body first.1)
-    Ok (Some (record { common = id.0; first = first.0; range = range.0; program = drop range.1 body })))
+      else (do
+        first ← read (number_at 4 body id.1)
+        range ← read (number_at 4 body first.1)
+        Ok (Some (record { common = id.0; first = first.0; range = range.0; program = drop range.1 body })))
 
 abbrev pub covers : Description → ℕ → Bool
 covers d pc = nat_le d.first pc && nat_lt pc (d.first + d.range)
@@ -69,7 +69,7 @@ covering pc (Then at body rest) = do
 -- the bytes of the entry that begins at a place
 abbrev pub entry_of : ℕ → Entries → Result (List ℕ) FrameFault
 entry_of place Ends = Err Short
-entry_of place (Breaks e) = Err Short
+entry_of place (Breaks e) = Err e
 entry_of place (Then at body rest) = if at == place then Ok body else entry_of place rest
 
 -- what a common entry says
@@ -125,4 +125,4 @@ common_of body = do
   if id.0 == 0xFFFFFFFF then (do
     version ← read (number_at 1 body id.1)
     if is_version version.0 then versioned_of version.0 body version.1 else Err Version)
-    else Err Short
+      else Err Short

@@ -1,5 +1,5 @@
 -- The operations that bytes spell (DWARF 5, section 6.4.2, "Call Frame Instructions", and table 7.29).
-use Rattle.std.specs.Prelude.{ℕ, zero, suc, ◌+◌, ◌*◌, ◌/◌, ◌%◌, ◌^◌, ◌==◌, List, length, Result, Ok, Err, nat_le, nat_lt, if◌then◌else◌}
+use Rattle.std.specs.Prelude.{ℕ, zero, suc, ◌*◌, ◌/◌, ◌%◌, ◌^◌, ◌==◌, List, length, Ok, Err, nat_le, nat_lt, if◌then◌else◌}
 use Rattle.leb_read.specs.Leb.{number_at, uleb_at}
 use Rattle.dwarf_frames.specs.Reading.{◌>>=◌, Read, found, read, register_at, signed_at, unsigned_at}
 use Rattle.dwarf_frames.specs.declared.fault.FrameFault.{FrameFault}

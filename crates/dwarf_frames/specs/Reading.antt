@@ -1,5 +1,5 @@
 -- Steps of reading, each of which may meet a fault: the first that is met is the answer.
-use Rattle.std.specs.Prelude.{ℕ, ℤ, pos, ◌+◌, ◌*◌, ◌%◌, ◌^◌, List, Result, Ok, Err, nat_lt, if◌then◌else◌}
+use Rattle.std.specs.Prelude.{ℕ, pos, ◌%◌, ◌^◌, List, Result, Ok, Err, nat_lt, if◌then◌else◌}
 use Rattle.std.specs.Int.{int_rem_euclid}
 use Rattle.std.specs.Int.RustNames.{unsigned_abs}
 use Rattle.leb_read.specs.declared.fault.Leb.{Leb}

@@ -7,7 +7,6 @@ use Rattle.dwarf_frames.specs.declared.fault.FrameFault.TheVariants.{Depth, Empt
 use Rattle.dwarf_frames.specs.declared.operation.Operation.{Operation}
 use Rattle.dwarf_frames.specs.declared.operation.Operation.TheVariants.{Nop, Advance, SetLocation, SetRule, Restore, RememberState, RestoreState, SetCfa, SetCfaRegister, SetCfaOffset}
 use Rattle.dwarf_frames.specs.declared.rules.Rules.{Rules}
-use Rattle.dwarf_frames.specs.declared.rules.CfaRule.{CfaRule}
 use Rattle.dwarf_frames.specs.declared.rules.RegisterRule.{RegisterRule}
 use Rattle.dwarf_frames.specs.declared.rules.RegisterRule.TheVariants.{Unspecified}
 

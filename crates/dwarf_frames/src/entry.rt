@@ -175,3 +175,35 @@ pub fn common_of(body: &[u8]) -> Result<Common<'_>, FrameFault>
     }
     versioned_of(version, body, at)
 }
+
+/// The first description in the section's order that covers pc.
+pub fn covering(section: &[u8], pc: u32) -> Result<Option<Description<'_>>, FrameFault>
+    ensures { GivesDescription result (covering pc (entries section.now)) }
+{
+    let mut at = 0;
+    while at < section.len() {
+        let (body, next) = entry_at(section, at)?;
+        if let Some(description) = description_of(body)? {
+            if description.covers(pc) {
+                return Ok(Some(description));
+            }
+        }
+        at = next;
+    }
+    Ok(None)
+}
+
+/// The bytes of the entry that begins at a place.
+pub fn entry_of(section: &[u8], place: u32) -> Result<&[u8], FrameFault>
+    ensures { GivesBytes result (entry_of place (entries section.now)) }
+{
+    let mut at = 0;
+    while at < section.len() {
+        let (body, next) = entry_at(section, at)?;
+        if at == place as usize {
+            return Ok(body);
+        }
+        at = next;
+    }
+    Err(FrameFault::Short)
+}

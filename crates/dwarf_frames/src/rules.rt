@@ -2,6 +2,7 @@
 
 ghost use Rattle.std.specs.Prelude.{◌≡◌, ◌<◌};
 ghost use Rattle.dwarf_frames.specs.Table.{first_rules};
+ghost use Rattle.dwarf_frames.specs.Within.{AreWithin};
 
 /// The canonical frame address (CFA): the value of a register, and an offset that is added to it modulo 2^32.
 #[derive(Clone, Copy, Debug, PartialEq, Eq)]
@@ -46,9 +47,11 @@ const RETURN_ADDRESS: u8 = 1;
 const STACK_POINTER: u8 = 2;
 
 impl Rules {
-    /// The rules before any operation: the CFA is x2, and no register has a rule.
+    /// The rules before any operation: the CFA is x2, and no register has a rule; `return_column` must be below 32.
     pub fn new(return_column: u8) -> Rules
-        ensures { result ≡ first_rules return_column }
+        requires { return_column < 32 }
+        ensures value { result ≡ first_rules return_column }
+        ensures within { AreWithin result }
     {
         Rules {
             cfa: CfaRule {

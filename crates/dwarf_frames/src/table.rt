@@ -15,6 +15,7 @@ use arrayvec::ArrayVec;
 const DEPTH: usize = 8;
 
 /// The rules of a place, and those that are remembered.
+#[derive(Drop)]
 pub struct State {
     pub rules: Rules,
     remembered: ArrayVec<Rules, DEPTH>,
@@ -23,7 +24,9 @@ pub struct State {
 impl State {
     /// Nothing is remembered.
     pub fn new(rules: Rules) -> State
-        ensures { seen result ≡ record { rules = rules; remembered = [] } }
+        requires { AreWithin rules }
+        ensures value { seen result ≡ record { rules = rules; remembered = [] } }
+        ensures within { AreAllWithin (seen result) }
     {
         State {
             rules,
@@ -81,11 +84,7 @@ fn recall(state: &mut State) -> Result<(), FrameFault>
 }
 
 /// One operation, under the rules that the common entry gives.
-pub fn apply(
-    initial: &Rules,
-    state: &mut State,
-    operation: Operation,
-) -> Result<(), FrameFault>
+pub fn apply(initial: &Rules, state: &mut State, operation: Operation) -> Result<(), FrameFault>
     requires initial { AreWithin initial.now }
     requires state { AreAllWithin (seen state.old) }
     requires operation { IsWithin operation }
