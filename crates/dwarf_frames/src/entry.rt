@@ -17,7 +17,7 @@ const RESERVED: u32 = 0xFFFF_FFF0;
 const IS_COMMON: u32 = 0xFFFF_FFFF;
 
 /// A description: the range of code that an entry covers, and the program of its table.
-#[derive(Clone, Copy, Debug)]
+#[derive(Clone, Copy)]
 pub struct Description<'a> {
     /// The place of the common entry.
     pub common: u32,
@@ -29,7 +29,7 @@ pub struct Description<'a> {
 }
 
 /// What a common entry says for the descriptions that name it.
-#[derive(Clone, Copy, Debug)]
+#[derive(Clone, Copy)]
 pub struct Common<'a> {
     pub factors: Factors,
     /// Below 32.

@@ -11,7 +11,7 @@ use crate::rules::{CfaRule, RegisterRule};
 use leb_read::{u8_at, u16_at, u32_at, uleb};
 
 /// What a common entry's numbers are multiplied by.
-#[derive(Clone, Copy, Debug, PartialEq, Eq)]
+#[derive(Clone, Copy)]
 pub struct Factors {
     /// For advances of the location, modulo 2^32.
     pub code_alignment: u32,
@@ -20,7 +20,7 @@ pub struct Factors {
 }
 
 /// An operation, with advances and offsets in bytes, modulo 2^32.
-#[derive(Clone, Copy, Debug, PartialEq, Eq)]
+#[derive(Clone, Copy)]
 pub enum Operation {
     Nop,
     /// The location goes on.
