@@ -14,6 +14,13 @@ use Rattle.dwarf_frames.specs.declared.rules.RegisterRule.TheVariants.{Undefined
 abbrev pub scaled : ℕ → ℕ → ℕ
 scaled n factor = (n * factor) % 2 ^ 32
 
+-- a number times the data factor from the CFA: where the value stands, or the value itself
+abbrev pub offset_rule : Factors → ℕ → RegisterRule
+offset_rule factors n = Offset (scaled n factors.data_alignment)
+
+abbrev pub val_offset_rule : Factors → ℕ → RegisterRule
+val_offset_rule factors n = ValOffset (scaled n factors.data_alignment)
+
 -- the address in four bytes is the location
 unfoldable pub set_location_at : List ℕ → ℕ → Read Operation
 set_location_at bytes at = do
@@ -39,7 +46,7 @@ set_rule_at rule bytes at = do
 unfoldable pub offset_at : Factors → ℕ → List ℕ → ℕ → Read Operation
 offset_at factors register bytes at = do
   o ← unsigned_at bytes at
-  found (SetRule register (Offset (scaled o.0 factors.data_alignment))) o.1
+  found (SetRule register (offset_rule factors o.0)) o.1
 
 -- a register and its offset
 unfoldable pub offset_extended_at : Factors → List ℕ → ℕ → Read Operation
@@ -51,19 +58,19 @@ unfoldable pub offset_extended_signed_at : Factors → List ℕ → ℕ → Read
 offset_extended_signed_at factors bytes at = do
   r ← read (uleb_at bytes at)
   o ← signed_at bytes r.1
-  found (SetRule r.0 (Offset (scaled o.0 factors.data_alignment))) o.1
+  found (SetRule r.0 (offset_rule factors o.0)) o.1
 
 unfoldable pub val_offset_at : Factors → List ℕ → ℕ → Read Operation
 val_offset_at factors bytes at = do
   r ← read (uleb_at bytes at)
   o ← unsigned_at bytes r.1
-  found (SetRule r.0 (ValOffset (scaled o.0 factors.data_alignment))) o.1
+  found (SetRule r.0 (val_offset_rule factors o.0)) o.1
 
 unfoldable pub val_offset_signed_at : Factors → List ℕ → ℕ → Read Operation
 val_offset_signed_at factors bytes at = do
   r ← read (uleb_at bytes at)
   o ← signed_at bytes r.1
-  found (SetRule r.0 (ValOffset (scaled o.0 factors.data_alignment))) o.1
+  found (SetRule r.0 (val_offset_rule factors o.0)) o.1
 
 -- the value of a register above 31 can't be had
 abbrev pub copied_from : ℕ → RegisterRule

@@ -3,7 +3,7 @@
 ghost use Rattle.std.specs.Prelude.{◌≡◌, ◌<◌, ◌≤◌, IfOk, length};
 ghost use Rattle.leb_read.specs.Leb.{IsBehind};
 ghost use Rattle.dwarf_frames.specs.Within.{IsFound, IsWithin, NamesRegister};
-ghost use Rattle.dwarf_frames.specs.Operations.{advance, advance_at, cfa_at, cfa_offset_at, cfa_offset_signed_at, cfa_operation_at, cfa_register_at, cfa_signed_at, copied_from, copy_at, offset_at, offset_extended_at, offset_extended_signed_at, operation_at, operation_of, register_operation_at, restore_at, set_location_at, set_rule_at, val_offset_at, val_offset_signed_at, whole_operation_at};
+ghost use Rattle.dwarf_frames.specs.Operations.{advance, advance_at, cfa_at, cfa_offset_at, cfa_offset_signed_at, cfa_operation_at, cfa_register_at, cfa_signed_at, copied_from, copy_at, offset_at, offset_extended_at, offset_extended_signed_at, offset_rule, operation_at, operation_of, register_operation_at, restore_at, set_location_at, set_rule_at, val_offset_at, val_offset_rule, val_offset_signed_at, whole_operation_at};
 
 use crate::fault::FrameFault;
 use crate::operand::{REGISTERS, register_at, scaled, signed_at, unsigned_at};
@@ -72,14 +72,32 @@ fn set_rule_at(rule: RegisterRule, bytes: &[u8], at: usize) -> Found
     Ok((Operation::SetRule(register, rule), next))
 }
 
+// A number times the data factor from the CFA, where the value stands.
+fn offset_rule(factors: Factors, number: u32) -> RegisterRule
+    ensures value { result ≡ offset_rule factors number }
+    ensures within { NamesRegister result }
+{
+    RegisterRule::Offset(scaled(number, factors.data_alignment))
+}
+
+// A number times the data factor from the CFA, which is the value.
+fn val_offset_rule(factors: Factors, number: u32) -> RegisterRule
+    ensures value { result ≡ val_offset_rule factors number }
+    ensures within { NamesRegister result }
+{
+    RegisterRule::ValOffset(scaled(number, factors.data_alignment))
+}
+
 #[tactic(auto, unfolding(crate::specs::Operations::offset_at))]
 fn offset_at(factors: Factors, register: u64, bytes: &[u8], at: usize) -> Found
     ensures value { result ≡ offset_at factors register bytes.now at }
     ensures within { IfOk result (λ r. IsFound bytes.now at r.0 r.1) }
 {
     let (offset, next) = unsigned_at(bytes, at)?;
-    let rule = RegisterRule::Offset(scaled(offset, factors.data_alignment));
-    Ok((Operation::SetRule(register, rule), next))
+    Ok((
+        Operation::SetRule(register, offset_rule(factors, offset)),
+        next,
+    ))
 }
 
 #[tactic(auto, unfolding(crate::specs::Operations::offset_extended_at))]
@@ -98,8 +116,10 @@ fn offset_extended_signed_at(factors: Factors, bytes: &[u8], at: usize) -> Found
 {
     let (register, next) = uleb(bytes, at)?;
     let (offset, next) = signed_at(bytes, next)?;
-    let rule = RegisterRule::Offset(scaled(offset, factors.data_alignment));
-    Ok((Operation::SetRule(register, rule), next))
+    Ok((
+        Operation::SetRule(register, offset_rule(factors, offset)),
+        next,
+    ))
 }
 
 #[tactic(auto, unfolding(crate::specs::Operations::val_offset_at))]
@@ -109,8 +129,10 @@ fn val_offset_at(factors: Factors, bytes: &[u8], at: usize) -> Found
 {
     let (register, next) = uleb(bytes, at)?;
     let (offset, next) = unsigned_at(bytes, next)?;
-    let rule = RegisterRule::ValOffset(scaled(offset, factors.data_alignment));
-    Ok((Operation::SetRule(register, rule), next))
+    Ok((
+        Operation::SetRule(register, val_offset_rule(factors, offset)),
+        next,
+    ))
 }
 
 #[tactic(auto, unfolding(crate::specs::Operations::val_offset_signed_at))]
@@ -120,8 +142,10 @@ fn val_offset_signed_at(factors: Factors, bytes: &[u8], at: usize) -> Found
 {
     let (register, next) = uleb(bytes, at)?;
     let (offset, next) = signed_at(bytes, next)?;
-    let rule = RegisterRule::ValOffset(scaled(offset, factors.data_alignment));
-    Ok((Operation::SetRule(register, rule), next))
+    Ok((
+        Operation::SetRule(register, val_offset_rule(factors, offset)),
+        next,
+    ))
 }
 
 #[tactic(auto, unfolding(crate::specs::Operations::copy_at))]
@@ -159,8 +183,8 @@ fn cfa_signed_at(factors: Factors, bytes: &[u8], at: usize) -> Found
     ensures within { IfOk result (λ r. IsFound bytes.now at r.0 r.1) }
 {
     let (register, next) = register_at(bytes, at)?;
-    let (offset, next) = signed_at(bytes, next)?;
-    let offset = scaled(offset, factors.data_alignment);
+    let (number, next) = signed_at(bytes, next)?;
+    let offset = scaled(number, factors.data_alignment);
     Ok((Operation::SetCfa(CfaRule { register, offset }), next))
 }
 
@@ -178,8 +202,8 @@ fn cfa_offset_at(bytes: &[u8], at: usize) -> Found
     ensures value { result ≡ cfa_offset_at bytes.now at }
     ensures within { IfOk result (λ r. IsFound bytes.now at r.0 r.1) }
 {
-    let (offset, next) = unsigned_at(bytes, at)?;
-    Ok((Operation::SetCfaOffset(offset), next))
+    let (number, next) = unsigned_at(bytes, at)?;
+    Ok((Operation::SetCfaOffset(number), next))
 }
 
 #[tactic(auto, unfolding(crate::specs::Operations::cfa_offset_signed_at))]
@@ -187,8 +211,8 @@ fn cfa_offset_signed_at(factors: Factors, bytes: &[u8], at: usize) -> Found
     ensures value { result ≡ cfa_offset_signed_at factors bytes.now at }
     ensures within { IfOk result (λ r. IsFound bytes.now at r.0 r.1) }
 {
-    let (offset, next) = signed_at(bytes, at)?;
-    let offset = scaled(offset, factors.data_alignment);
+    let (number, next) = signed_at(bytes, at)?;
+    let offset = scaled(number, factors.data_alignment);
     Ok((Operation::SetCfaOffset(offset), next))
 }
 
