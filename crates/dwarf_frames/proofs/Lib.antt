@@ -1,0 +1,4 @@
+pub mod First
+pub mod Walk
+pub mod Fold
+pub mod Steps

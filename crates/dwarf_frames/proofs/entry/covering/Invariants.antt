@@ -1,0 +1,10 @@
+use Rattle.std.proofs.Common.{length, ◌-◌}
+use Rattle.dwarf_frames.specs.Entries.{covering}
+use Rattle.dwarf_frames.proofs.Walk.{Reaches}
+use Rattle.dwarf_frames.proofs.entry.covering.Given as goal
+
+abbrev pub invariant-loop-at : goal.invariant-loop-at
+invariant-loop-at l = Reaches (covering l.pc) l.section l.at
+
+abbrev pub decreases-loop-at : goal.decreases-loop-at
+decreases-loop-at l = length l.section - l.at

@@ -1,0 +1,16 @@
+use Rattle.std.proofs.Common.{length, ◌-◌}
+use Rattle.dwarf_frames.specs.Operations.{operations}
+use Rattle.dwarf_frames.specs.States.{AreAllWithin, seen}
+use Rattle.dwarf_frames.proofs.Steps.{fold_until}
+use Rattle.dwarf_frames.proofs.Fold.{Gives}
+use Rattle.dwarf_frames.proofs.running.run_until.Given as goal
+
+abbrev pub invariant-loop-at : goal.invariant-loop-at
+invariant-loop-at l =
+    record {
+      gives : Gives (fold_until l.restored l.pc (seen l.initial.state) l.first (operations l.factors l.program)) (fold_until l.restored l.pc (seen l.state) l.location) l.factors l.program l.at;
+      within : AreAllWithin (seen l.state);
+    }
+
+abbrev pub decreases-loop-at : goal.decreases-loop-at
+decreases-loop-at l = length l.program - l.at

@@ -1,0 +1,31 @@
+-- The rules of a place, from the bytes of a section.
+use Rattle.std.specs.Prelude.{ℕ, List, [], Option, Some, None, Result, Ok}
+use Rattle.dwarf_frames.specs.Reading.{◌>>=◌}
+use Rattle.dwarf_frames.specs.Operations.{operations}
+use Rattle.dwarf_frames.specs.Table.{first_rules, fold_operations, operations_until}
+use Rattle.dwarf_frames.specs.Entries.{Description, Common, covering, entries, entry_of, common_of}
+use Rattle.dwarf_frames.specs.declared.fault.FrameFault.{FrameFault}
+use Rattle.dwarf_frames.specs.declared.rules.Rules.{Rules}
+
+-- all operations of the common entry, in which the location doesn't move, and those of the description whose location
+-- isn't above pc
+unfoldable pub rules_by : Common → Description → ℕ → Result Rules FrameFault
+rules_by c d pc = do
+  s ← fold_operations (first_rules c.return_column) (record { rules = first_rules c.return_column; remembered = [] }) (operations c.factors c.program)
+  t ← fold_operations s.rules s (operations_until pc d.first (operations c.factors d.program))
+  Ok t.rules
+
+-- by the description and the common entry that it names
+abbrev pub described : List ℕ → ℕ → Option Description → Result (Option Rules) FrameFault
+described section pc None = Ok None
+described section pc (Some d) = do
+  body ← entry_of d.common (entries section)
+  c ← common_of body
+  rules ← rules_by c d pc
+  Ok (Some rules)
+
+-- the rules at pc, or none where no description covers it
+unfoldable pub rules_of : List ℕ → ℕ → Result (Option Rules) FrameFault
+rules_of section pc = do
+  d ← covering pc (entries section)
+  described section pc d
