@@ -1,7 +1,7 @@
 -- The frames of a hart, one after the other.
 use Rattle.std.proofs.Common.{◌≡◌, ℕ, ◌+◌, ◌<◌, ◌≤◌, zero, suc, List, [], ◌∷◌, ◌++◌, map, length, Option, None, Some, refl, sym, ◌∙◌, ap, subst, arith, append_assoc, add-one}
 use Rattle.std.specs.Prelude.{Result, slice_get, option_and_then, is_some}
-use Rattle.std.specs.Option.{option_map, option_map_or}
+use Rattle.std.specs.Option.{option_map_or}
 use Rattle.elf32_read.specs.Program.{Program}
 use Rattle.dwarf_frames.specs.declared.rules.Rules.{Rules}
 use Rattle.dwarf_frames.specs.declared.fault.FrameFault.{FrameFault}

@@ -1,4 +1,4 @@
-use Rattle.std.proofs.Common.{◌≡◌, ◌+◌, ◌-◌, ◌∷◌, ◌++◌, [], arith, rules, sym, ap, ◌∙◌}
+use Rattle.std.proofs.Common.{◌+◌, ◌-◌, ◌∷◌, ◌++◌, [], arith, sym, ap, ◌∙◌}
 use Rattle.frame_walk.proofs.Walks.{begins, caller_found, ended, ends, frame_told, goes_on, is_full}
 use Rattle.frame_walk.proofs.walking.walk.Goals as goal
 
