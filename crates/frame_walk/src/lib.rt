@@ -1,0 +1,13 @@
+//! The frames of a hart: which function called which, by the call frame information of a program.
+#![tactic(auto)]
+
+mod context;
+mod frame;
+mod memory;
+#[cfg(test)]
+mod tests;
+mod unwinding;
+mod walking;
+
+pub use frame::{Caller, Frame};
+pub use walking::{caller, cfa, walk};
