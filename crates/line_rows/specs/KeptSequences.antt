@@ -1,0 +1,24 @@
+-- How sequences are kept: their rows one after another in one list.
+use Rattle.std.specs.Prelude.{ℕ, ◌≤◌, List, map, length, drop, slice_range, All}
+use Rattle.line_rows.specs.RowList.{Sequence, SequenceList}
+use Rattle.line_rows.specs.declared.row.Row.{Row}
+use Rattle.line_rows.specs.declared.sequences.RowRange.{RowRange}
+use Rattle.line_rows.specs.declared.sequences.Sequences.TheInside.{Inside}
+
+abbrev pub sequence_in : List Row → RowRange → Sequence
+sequence_in rows r = record { rows = slice_range rows r.start r.past; end = r.end }
+
+abbrev pub sequences_in : List Row → List RowRange → List Sequence
+sequences_in rows ranges = map (sequence_in rows) ranges
+
+pub record IsRowRange (count : ℕ) (r : RowRange) : Type 0 where
+  pub ordered : r.start ≤ r.past
+  pub within : r.past ≤ count
+
+abbrev pub seen : Inside → SequenceList
+seen i = record { ended = sequences_in i.rows.items i.ranges.items; pending = drop i.pending i.rows.items }
+
+-- the rows of a sequence that isn't ended stand behind the others
+pub record IsKept (i : Inside) : Type 0 where
+  pub ranges : All (IsRowRange i.pending) i.ranges.items
+  pub pending : i.pending ≤ length i.rows.items

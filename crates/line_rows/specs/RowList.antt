@@ -1,0 +1,36 @@
+-- Line tables as lists (DWARF 5, section 6.2).
+use Rattle.std.specs.Prelude.{ℕ, ◌++◌, List, [], ◌∷◌, take}
+use Rattle.line_rows.specs.declared.row.Row.{Row}
+use Rattle.line_rows.specs.declared.row.SequenceView.{SequenceView}
+use Rattle.line_rows.specs.declared.fault.UnitFault.{UnitFault}
+
+-- rows that stand one after another in the program, and the address behind them
+pub record Sequence : Type 0 where
+  pub rows : List Row
+  pub end : ℕ
+
+-- sequences in the section's order, and the rows of one that isn't ended yet
+pub record SequenceList : Type 0 where
+  pub ended : List Sequence
+  pub pending : List Row
+
+-- what the units of a section give, in its order
+pub record RowList : Type 0 where
+  pub sequences : List Sequence
+  -- the rows of a sequence that isn't ended yet, which count for nothing
+  pub pending : List Row
+  -- the file names by their numbers
+  pub names : List (List ℕ)
+  -- the units that give no rows
+  pub faults : List UnitFault
+
+abbrev pub no_rows : RowList
+no_rows = record { sequences = []; pending = []; names = []; faults = [] }
+
+abbrev pub sequence_shown : SequenceView → Sequence
+sequence_shown v = record { rows = v.rows.now; end = v.end }
+
+-- a sequence ends; one without rows is none
+abbrev pub ended_with : List Sequence → List Row → ℕ → List Sequence
+ended_with sequences [] end = sequences
+ended_with sequences (row ∷ rows) end = sequences ++ record { rows = row ∷ rows; end = end } ∷ []

@@ -1,0 +1,21 @@
+/// A row: the place in the source of the instructions from its address on.
+#[derive(Clone, Copy, Debug, PartialEq, Eq)]
+pub struct Row {
+    pub address: u32,
+    /// The number of a file name; equal names have equal numbers.
+    pub file: u32,
+    /// From 1; 0 where no line is known.
+    pub line: u32,
+    /// Whether the address is a good place for a breakpoint at the line.
+    pub is_stmt: bool,
+    /// Whether a breakpoint on the function's body stands here.
+    pub prologue_end: bool,
+}
+
+/// A sequence of rows, one after another in the program.
+#[derive(Clone, Copy, Debug)]
+pub struct SequenceView<'a> {
+    pub rows: &'a [Row],
+    /// The address behind the last instruction.
+    pub end: u32,
+}

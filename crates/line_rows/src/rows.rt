@@ -1,0 +1,114 @@
+ghost use Rattle.std.specs.Prelude.{◌≡◌, ◌+◌, ◌<◌, [], ◌∷◌, ◌++◌, Some, length, take, OnOk, OnErr, slice_get};
+ghost use Rattle.line_rows.specs.RowList.{ended_with, no_rows, sequence_shown};
+
+use crate::fault::UnitFault;
+use crate::names::FileNames;
+use crate::row::{Row, SequenceView};
+use crate::sequences::Sequences;
+use dbg_traits::NoMemory;
+use std::alloc::Global;
+use std::marker::Model;
+
+/// What the units of a section of line tables give. Contracts see it as a `RowList`: the sequences in the section's
+/// order, the rows of one that isn't ended yet, the file names by their numbers, and the units that have a fault.
+#[derive(Drop)]
+pub struct Rows {
+    sequences: Sequences,
+    names: FileNames,
+    faults: Vec<UnitFault>,
+}
+
+impl Model for Rows {
+    ghost use Rattle.line_rows.specs.RowList.{RowList};
+
+    ghost Value = { RowList };
+
+    ghost view = { λ i. record { sequences = i.sequences.ended; pending = i.sequences.pending; names = i.names; faults = i.faults.items } };
+}
+
+impl Rows {
+    pub fn new(alloc: Global) -> Rows
+        ensures { result ≡ no_rows }
+    {
+        Rows {
+            sequences: Sequences::new(alloc),
+            names: FileNames::new(alloc),
+            faults: Vec::new(alloc),
+        }
+    }
+
+    /// A row more in the sequence that isn't ended yet.
+    pub fn push_row(&mut self, row: Row) -> Result<(), NoMemory>
+        ensures ok { OnOk result (self.new ≡ record self.old { pending = self.old.pending ++ row ∷ [] }) }
+        ensures err { OnErr result (self.new ≡ self.old) }
+    {
+        self.sequences.push(row)
+    }
+
+    /// Ends the sequence of the rows that were pushed, at the address behind its last instruction. Without rows there is none.
+    pub fn end_sequence(&mut self, end: u32) -> Result<(), NoMemory>
+        ensures ok { OnOk result (self.new ≡ record self.old { sequences = ended_with self.old.sequences self.old.pending end; pending = [] }) }
+        ensures err { OnErr result (self.new ≡ self.old) }
+    {
+        self.sequences.end(end)
+    }
+
+    /// Keeps the first `count` sequences, and drops the one that isn't ended.
+    pub fn keep_sequences(&mut self, count: usize)
+        ensures { self.new ≡ record self.old { sequences = take count self.old.sequences; pending = [] } }
+    {
+        self.sequences.truncate(count);
+    }
+
+    /// A file name more, whose number is the count of names before.
+    pub fn push_name(&mut self, name: &[u8]) -> Result<(), NoMemory>
+        ensures ok { OnOk result (self.new ≡ record self.old { names = self.old.names ++ name.now ∷ [] }) }
+        ensures err { OnErr result (self.new ≡ self.old) }
+    {
+        self.names.push(name)
+    }
+
+    /// A unit with a fault more.
+    pub fn push_fault(&mut self, fault: UnitFault) -> Result<(), NoMemory>
+        ensures ok { OnOk result (self.new ≡ record self.old { faults = self.old.faults ++ fault ∷ [] }) }
+        ensures err { OnErr result (self.new ≡ self.old) }
+    {
+        self.faults.push(fault)?;
+        Ok(())
+    }
+
+    pub fn sequence_count(&self) -> usize
+        ensures { result ≡ length self.now.sequences }
+    {
+        self.sequences.count()
+    }
+
+    /// A sequence by its number, in the section's order.
+    pub fn sequence(&self, k: usize) -> SequenceView<'_>
+        requires { k < length self.now.sequences }
+        ensures { slice_get self.now.sequences k ≡ Some (sequence_shown result) }
+    {
+        self.sequences.sequence(k)
+    }
+
+    pub fn name_count(&self) -> usize
+        ensures { result ≡ length self.now.names }
+    {
+        self.names.count()
+    }
+
+    /// A file name by its number.
+    pub fn name(&self, number: usize) -> &[u8]
+        requires { number < length self.now.names }
+        ensures { slice_get self.now.names number ≡ Some result.now }
+    {
+        self.names.name(number)
+    }
+
+    /// The units that have a fault, in the section's order.
+    pub fn faults(&self) -> &[UnitFault]
+        ensures { result.now ≡ self.now.faults }
+    {
+        &self.faults
+    }
+}

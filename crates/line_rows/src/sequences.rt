@@ -1,0 +1,93 @@
+ghost use Rattle.std.specs.Prelude.{◌≡◌, ◌+◌, ◌<◌, [], ◌∷◌, ◌++◌, Some, length, take, OnOk, OnErr, slice_get};
+ghost use Rattle.line_rows.specs.RowList.{ended_with, sequence_shown};
+
+use crate::row::{Row, SequenceView};
+use dbg_traits::NoMemory;
+use std::alloc::Global;
+use std::marker::Model;
+
+/// Where the rows of a sequence stand, and the address behind them.
+#[derive(Clone, Copy, Debug)]
+pub struct RowRange {
+    pub start: usize,
+    pub past: usize,
+    pub end: u32,
+}
+
+/// Sequences of rows in order, their rows one after another in one list. Contracts see a `SequenceList`.
+#[derive(Drop)]
+pub struct Sequences {
+    rows: Vec<Row>,
+    ranges: Vec<RowRange>,
+    /// Where the rows of the sequence that isn't ended begin.
+    pending: usize,
+}
+
+impl Model for Sequences {
+    ghost use Rattle.line_rows.specs.RowList.{SequenceList};
+
+    ghost Value = { SequenceList };
+
+    ghost use Rattle.line_rows.specs.KeptSequences.{seen, IsKept};
+
+    ghost view = { seen };
+
+    ghost invariant = { IsKept };
+}
+
+impl Sequences {
+    pub fn new(alloc: Global) -> Sequences
+        ensures { result ≡ record { ended = []; pending = [] } }
+    {
+        Sequences {
+            rows: Vec::new(alloc),
+            ranges: Vec::new(alloc),
+            pending: 0,
+        }
+    }
+
+    pub fn push(&mut self, row: Row) -> Result<(), NoMemory>
+        ensures ok { OnOk result (self.new ≡ record self.old { pending = self.old.pending ++ row ∷ [] }) }
+        ensures err { OnErr result (self.new ≡ self.old) }
+    {
+        self.rows.push(row)?;
+        Ok(())
+    }
+
+    pub fn end(&mut self, end: u32) -> Result<(), NoMemory>
+        ensures ok { OnOk result (self.new ≡ record { ended = ended_with self.old.ended self.old.pending end; pending = [] }) }
+        ensures err { OnErr result (self.new ≡ self.old) }
+    {
+        let start = self.pending;
+        let past = self.rows.len();
+        if start < past {
+            self.ranges.push(RowRange { start, past, end })?;
+            self.pending = past;
+        }
+        Ok(())
+    }
+
+    pub fn truncate(&mut self, count: usize)
+        ensures { self.new ≡ record { ended = take count self.old.ended; pending = [] } }
+    {
+        self.ranges.truncate(count);
+        self.rows.truncate(self.pending);
+    }
+
+    pub fn count(&self) -> usize
+        ensures { result ≡ length self.now.ended }
+    {
+        self.ranges.len()
+    }
+
+    pub fn sequence(&self, k: usize) -> SequenceView<'_>
+        requires { k < length self.now.ended }
+        ensures { slice_get self.now.ended k ≡ Some (sequence_shown result) }
+    {
+        let range = self.ranges[k];
+        SequenceView {
+            rows: &self.rows[range.start..range.past],
+            end: range.end,
+        }
+    }
+}
