@@ -1,0 +1,99 @@
+//! The rows of a unit's program.
+
+ghost use Rattle.line_programs.specs.Machine.{GivesRows, Steps, appended, defined, ended, program_of, stepped};
+
+use crate::decoding::operation_at;
+use crate::fault::ProgramError;
+use crate::machine::{initial, moved, row_of};
+use crate::operation::Operation;
+use crate::parameters::Parameters;
+use crate::reading::name_at;
+use crate::registers::Registers;
+use line_rows::Rows;
+use std::alloc::Global;
+
+/// Appends the row that the registers show.
+fn append(
+    parameters: &Parameters,
+    registers: Registers,
+    rows: &mut Rows,
+) -> Result<Registers, ProgramError>
+    ensures { Steps result (appended parameters.now registers rows.old) rows.new }
+{
+    rows.push_row(row_of(parameters, rows.name_count(), registers)?)?;
+    Ok(Registers {
+        prologue_end: false,
+        reached: registers.address,
+        ..registers
+    })
+}
+
+/// Ends the sequence at the row that the registers show.
+fn end(
+    parameters: &Parameters,
+    registers: Registers,
+    rows: &mut Rows,
+) -> Result<Registers, ProgramError>
+    ensures { Steps result (ended parameters.now registers rows.old) rows.new }
+{
+    let row = row_of(parameters, rows.name_count(), registers)?;
+    rows.end_sequence(row.address)?;
+    Ok(initial(parameters))
+}
+
+/// Takes the file whose name stands at a place of the unit into the table.
+fn define(
+    unit: &[u8],
+    at: usize,
+    registers: Registers,
+    rows: &mut Rows,
+) -> Result<Registers, ProgramError>
+    ensures { Steps result (defined unit.now at (record { registers = registers; rows = rows.old })) rows.new }
+{
+    let (name, _) = name_at(unit, at)?;
+    rows.push_name(name)?;
+    Ok(registers)
+}
+
+fn step(
+    parameters: &Parameters,
+    unit: &[u8],
+    operation: Operation,
+    registers: Registers,
+    rows: &mut Rows,
+) -> Result<Registers, ProgramError>
+    ensures { Steps result (stepped parameters.now unit.now operation (record { registers = registers; rows = rows.old })) rows.new }
+{
+    let moved = moved(parameters, operation, registers);
+    match operation {
+        Operation::Special(_) | Operation::Copy => append(parameters, moved, rows),
+        Operation::EndSequence => end(parameters, moved, rows),
+        Operation::DefineFile(at) => define(unit, at, moved, rows),
+        _ => Ok(moved),
+    }
+}
+
+/// The sequences of the program that begins at a place of a unit's bytes, in order, with the names of the files that it
+/// defines. The lengths are those of the standard opcodes, from opcode 1 on. The files of the rows are numbers in the
+/// unit's own table. A sequence that isn't ended gives no rows, nor does one without rows.
+pub fn program_rows(
+    alloc: Global,
+    parameters: &Parameters,
+    lengths: &[u8],
+    unit: &[u8],
+    at: usize,
+) -> Result<Rows, ProgramError>
+    ensures { GivesRows result (program_of parameters.now lengths.now unit.now at) }
+{
+    let mut rows = Rows::new(alloc);
+    let mut registers = initial(parameters);
+    let mut place = at;
+    'operations: while place < unit.len() {
+        let (operation, next) = operation_at(parameters, lengths, unit, place)?;
+        registers = step(parameters, unit, operation, registers, &mut rows)?;
+        place = next;
+    }
+    let count = rows.sequence_count();
+    rows.keep_sequences(count);
+    Ok(rows)
+}
