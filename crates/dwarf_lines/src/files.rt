@@ -27,12 +27,7 @@ fn text_from(section: &[u8], at: usize) -> &[u8]
 }
 
 /// The name at a place.
-pub fn name_in<'a>(
-    line: &'a [u8],
-    line_str: &'a [u8],
-    strs: &'a [u8],
-    place: NamePlace,
-) -> &'a [u8]
+pub fn name_in<'a>(line: &'a [u8], line_str: &'a [u8], strs: &'a [u8], place: NamePlace) -> &'a [u8]
     ensures { result.now ≡ name_in line.now line_str.now strs.now place }
 {
     match place {

@@ -9,3 +9,6 @@ mod unit;
 mod units;
 
 pub use section::rows;
+
+#[cfg(test)]
+mod tests;

@@ -14,12 +14,7 @@ use std::collections::BTreeMap;
 /// A unit with a fault gives no rows and stands in the list with the first fault that is met when its bytes are read in
 /// order. Behind a unit whose end can't be told nothing is read. A row's file is the number of a name, and equal names
 /// have equal numbers over all units.
-pub fn rows(
-    alloc: Global,
-    section: &[u8],
-    line_str: &[u8],
-    strs: &[u8],
-) -> Result<Rows, NoMemory>
+pub fn rows(alloc: Global, section: &[u8], line_str: &[u8], strs: &[u8]) -> Result<Rows, NoMemory>
     ensures { IfOk result (λ r. r ≡ rows_of section.now line_str.now strs.now) }
 {
     let ends = text_ends(line_str, strs);

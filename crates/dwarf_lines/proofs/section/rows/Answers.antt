@@ -14,7 +14,7 @@ pub loop-at-preserved : goal.loop-at-preserved
 loop-at-preserved c = record {
   same = c.loop-at.invariant.same
       ∙ goes_on c.args.section.now c.args.line_str.now c.args.strs.now _ c.loop-at.at c.in-Ok.end c.loop-at.rows c.add_at.new.rows
-          c.loop-at-test.true c.in-Ok.ensures.behind c.in-Ok.ensures.value c.text_ends-ends.ensures c.in_ok-add_at-in-Ok.ensures.same;
+      c.loop-at-test.true c.in-Ok.ensures.behind c.in-Ok.ensures.value c.text_ends-ends.ensures c.in_ok-add_at-in-Ok.ensures.same;
   table = c.in_ok-add_at-in-Ok.ensures.table;
   within = c.in-Ok.ensures.within;
 }
