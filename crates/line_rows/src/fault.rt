@@ -30,6 +30,6 @@ pub enum LineFault {
 #[derive(Clone, Copy, Debug, PartialEq, Eq)]
 pub struct UnitFault {
     /// Where the unit begins, in bytes from the start of the section.
-    pub offset: u32,
+    pub offset: usize,
     pub fault: LineFault,
 }

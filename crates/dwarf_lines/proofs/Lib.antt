@@ -1,0 +1,5 @@
+pub mod Places
+pub mod Known
+pub mod Programs
+pub mod Added
+pub mod Sections

@@ -1,0 +1,14 @@
+//! The rows of a section of line tables, in versions 2 to 5 of DWARF.
+#![tactic(auto)]
+
+mod adding;
+mod files;
+mod numbers;
+mod section;
+mod unit;
+mod units;
+
+pub use section::rows;
+
+#[cfg(test)]
+mod tests;

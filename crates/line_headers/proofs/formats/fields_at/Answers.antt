@@ -1,0 +1,13 @@
+use Rattle.std.proofs.Common.{sym}
+use Rattle.std.proofs.lemmas.Result.{err_from_is_err_and}
+use Rattle.line_headers.proofs.Loops.{fields_more, then_fault, then_value}
+use Rattle.line_headers.proofs.formats.fields_at.Goals as goal
+
+pub returns-in_err-field : goal.returns-in_err-field
+returns-in_err-field c =
+    let p = err_from_is_err_and c.from_residual.result c.from_residual.ensures.1 in
+    rw (p.1, p.2) (then_fault _ _ _ _ _ _ c.loop.invariant (fields_more _ c.loop.counter c.args.bytes.now c.loop.place c.loop-test.true) (sym c.in_err-field.ensures))
+
+pub loop-preserved : goal.loop-preserved
+loop-preserved c =
+    rw c.in_ok-push.ensures.items (then_value _ _ _ _ _ _ _ c.loop.invariant (fields_more _ c.loop.counter c.args.bytes.now c.loop.place c.loop-test.true) (sym c.in_ok-field.ensures))

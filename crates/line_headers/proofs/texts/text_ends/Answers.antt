@@ -1,0 +1,5 @@
+use Rattle.line_headers.proofs.Ends.{ends_tell}
+use Rattle.line_headers.proofs.texts.text_ends.Goals as goal
+
+pub returns : goal.returns
+returns c = ends_tell _ _ _ c.text_end.ensures c.text_end-2.ensures

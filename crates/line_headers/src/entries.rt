@@ -1,0 +1,167 @@
+//! The tables of directories and files in version 5.
+
+ghost use Rattle.std.specs.Prelude.{◌≡◌, IfOk};
+ghost use Rattle.leb_read.specs.Leb.{IsBehind};
+ghost use Rattle.line_headers.specs.Texts.{texts_before};
+ghost use Rattle.line_headers.specs.Gives.{Gives};
+ghost use Rattle.line_headers.specs.Entries.{counted_at, entries_at, entry_at, entry_tables_at, table_at, text_named, value_at};
+
+use crate::fault::HeaderError;
+use crate::fields::{run_at, text_length_at, unsigned_at, word_at};
+use crate::formats::{Field, Form, format_at};
+use crate::places::NamePlace;
+use crate::texts::TextEnds;
+use line_rows::LineFault;
+use std::alloc::Global;
+
+// The name at an offset, which is looked up for a path alone.
+fn text_named(
+    is_path: bool,
+    stands: bool,
+    name: NamePlace,
+    next: usize,
+) -> Result<(NamePlace, usize), LineFault>
+    ensures { result ≡ text_named is_path stands name next }
+{
+    if is_path && !stands {
+        return Err(LineFault::Short);
+    }
+    Ok((name, next))
+}
+
+// The name that a value gives.
+#[tactic(auto, unfolding(crate::specs::Entries::value_at))]
+fn value_at(
+    bytes: &[u8],
+    at: usize,
+    field: Field,
+    ends: TextEnds,
+) -> Result<(NamePlace, usize), LineFault>
+    ensures { result ≡ value_at (texts_before ends) field bytes.now at }
+{
+    match field.form {
+        Form::Text => {
+            let (_, next) = text_length_at(bytes, at)?;
+            Ok((NamePlace::Line(at), next))
+        }
+        Form::LineStr => {
+            let (offset, next) = word_at(bytes, at)?;
+            let offset = offset as usize;
+            text_named(
+                field.is_path,
+                offset < ends.line_str,
+                NamePlace::LineStr(offset),
+                next,
+            )
+        }
+        Form::Str => {
+            let (offset, next) = word_at(bytes, at)?;
+            let offset = offset as usize;
+            text_named(
+                field.is_path,
+                offset < ends.strs,
+                NamePlace::Str(offset),
+                next,
+            )
+        }
+        Form::Fixed(size) => {
+            let (_, next) = run_at(bytes, at, size)?;
+            Ok((NamePlace::Empty, next))
+        }
+        Form::Number => {
+            let (_, next) = unsigned_at(bytes, at)?;
+            Ok((NamePlace::Empty, next))
+        }
+        Form::Block => {
+            let (size, next) = unsigned_at(bytes, at)?;
+            let (_, next) = run_at(bytes, next, size as usize)?;
+            Ok((NamePlace::Empty, next))
+        }
+    }
+}
+
+// The name of an entry, and the place behind the entry.
+fn entry_at(
+    bytes: &[u8],
+    at: usize,
+    fields: &[Field],
+    ends: TextEnds,
+) -> Result<(NamePlace, usize), LineFault>
+    ensures { result ≡ entry_at (texts_before ends) fields.now NamePlace.Empty bytes.now at }
+{
+    let mut name = NamePlace::Empty;
+    let mut place = at;
+    for field in fields {
+        let (value, next) = value_at(bytes, place, *field, ends)?;
+        if field.is_path {
+            name = value;
+        }
+        place = next;
+    }
+    Ok((name, place))
+}
+
+fn entries_at(
+    alloc: Global,
+    bytes: &[u8],
+    at: usize,
+    fields: &[Field],
+    count: u64,
+    ends: TextEnds,
+) -> Result<(Vec<NamePlace>, usize), HeaderError>
+    ensures { Gives result (entries_at (texts_before ends) fields.now count bytes.now at) }
+{
+    let mut names = Vec::new(alloc);
+    let mut place = at;
+    for _ in 0..count {
+        let (name, next) = entry_at(bytes, place, fields, ends)?;
+        names.push(name)?;
+        place = next;
+    }
+    Ok((names, place))
+}
+
+// Entries without fields can't be told apart, and any count of them would fit.
+fn counted_at(
+    alloc: Global,
+    bytes: &[u8],
+    at: usize,
+    fields: &[Field],
+    count: u64,
+    ends: TextEnds,
+) -> Result<(Vec<NamePlace>, usize), HeaderError>
+    ensures { Gives result (counted_at (texts_before ends) fields.now count bytes.now at) }
+{
+    if fields.is_empty() && count > 0 {
+        return Err(HeaderError::Fault(LineFault::Header));
+    }
+    entries_at(alloc, bytes, at, fields, count, ends)
+}
+
+#[tactic(auto, unfolding(crate::specs::Entries::table_at))]
+fn table_at(
+    alloc: Global,
+    bytes: &[u8],
+    at: usize,
+    ends: TextEnds,
+) -> Result<(Vec<NamePlace>, usize), HeaderError>
+    ensures { Gives result (table_at (texts_before ends) bytes.now at) }
+{
+    let (fields, next) = format_at(alloc, bytes, at)?;
+    let (count, next) = unsigned_at(bytes, next)?;
+    counted_at(alloc, bytes, next, &fields, count, ends)
+}
+
+/// The files of a header of version 5.
+#[tactic(auto, unfolding(crate::specs::Entries::entry_tables_at))]
+pub fn entry_tables_at(
+    alloc: Global,
+    bytes: &[u8],
+    at: usize,
+    ends: TextEnds,
+) -> Result<(Vec<NamePlace>, usize), HeaderError>
+    ensures { Gives result (entry_tables_at (texts_before ends) bytes.now at) }
+{
+    let (_, next) = table_at(alloc, bytes, at, ends)?;
+    table_at(alloc, bytes, next, ends)
+}
