@@ -1,4 +1,4 @@
-pub mod Tests
+pub mod Orders
 pub mod Merge
 pub mod Rows
 pub mod Tables

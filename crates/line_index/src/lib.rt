@@ -9,3 +9,6 @@ mod table;
 mod text;
 
 pub use index::LineIndex;
+
+#[cfg(test)]
+mod tests;
