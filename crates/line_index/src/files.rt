@@ -1,10 +1,11 @@
 //! The address of a line of a file.
 
-ghost use Rattle.std.specs.Prelude.{◌≡◌, filter};
+ghost use Rattle.std.specs.Prelude.{◌≡◌, IfOk, filter, map};
 ghost use Rattle.elf_symbols.specs.Names.{best, better};
-ghost use Rattle.line_index.specs.Lines.{file_name, is_called, is_candidate, is_sooner, last_part};
+ghost use Rattle.line_index.specs.Lines.{file_name, is_called, is_candidate, is_sooner, last_part, part_start};
 
 use line_rows::{Row, Rows};
+use std::alloc::{AllocError, Global};
 
 /// The part of a name after its last `/`.
 fn last_part(name: &[u8]) -> &[u8]
@@ -46,19 +47,68 @@ fn is_sooner(row: &Row, other: &Row) -> bool
     row.line < other.line || (row.line == other.line && row.address < other.address)
 }
 
-fn is_candidate(rows: &Rows, file: &[u8], line: u32, row: &Row) -> bool
+/// Where the part after the last `/` begins.
+fn part_start(name: &[u8]) -> usize
+    ensures { result ≡ part_start name.now }
+{
+    name.len().saturating_sub(last_part(name).len())
+}
+
+/// Where the last part of each name begins.
+pub fn part_starts(alloc: Global, rows: &Rows) -> Result<Vec<usize>, AllocError>
+    ensures { IfOk result (λ v. v.items ≡ map part_start rows.now.names) }
+{
+    let mut starts = Vec::with_capacity(alloc, rows.name_count())?;
+    for k in 0..rows.name_count() {
+        starts.push(part_start(rows.name(k)))?;
+    }
+    Ok(starts)
+}
+
+/// The part of a name after its last `/`, by the place where it begins.
+fn part_from(name: &[u8], start: usize) -> &[u8]
+    requires { start ≡ part_start name.now }
+    ensures { result.now ≡ last_part name.now }
+{
+    &name[start..]
+}
+
+/// Whether a file is told by a name whose last part begins at a place.
+fn is_called_from(file: &[u8], name: &[u8], start: usize) -> bool
+    requires { start ≡ part_start name.now }
+    ensures { result ≡ is_called file.now name.now }
+{
+    name == file || part_from(name, start) == file
+}
+
+/// Whether a file is told by the name of a number.
+fn is_file(rows: &Rows, parts: &[usize], file: &[u8], number: u32) -> bool
+    requires { parts.now ≡ map part_start rows.now.names }
+    ensures { result ≡ is_called file.now (file_name rows.now.names number) }
+{
+    let k = number as usize;
+    if k < rows.name_count() {
+        is_called_from(file, rows.name(k), parts[k])
+    } else {
+        is_called(file, &[])
+    }
+}
+
+fn is_candidate(rows: &Rows, parts: &[usize], file: &[u8], line: u32, row: &Row) -> bool
+    requires { parts.now ≡ map part_start rows.now.names }
     ensures { result ≡ is_candidate rows.now.names file.now line row.now }
 {
-    (row.is_stmt && line <= row.line) && is_called(file, name_of(rows, row.file))
+    (row.is_stmt && line <= row.line) && is_file(rows, parts, file, row.file)
 }
 
 /// The statement of a file's least line that isn't below another, at its least address.
-pub fn soonest(rows: &Rows, kept: &[Row], file: &[u8], line: u32) -> Option<Row>
+pub fn soonest(rows: &Rows, parts: &[usize], kept: &[Row], file: &[u8], line: u32) -> Option<Row>
+    requires { parts.now ≡ map part_start rows.now.names }
     ensures { result ≡ best is_sooner (filter (is_candidate rows.now.names file.now line) kept.now) }
 {
     let mut found: Option<Row> = None;
     for row in kept {
-        if is_candidate(rows, file, line, row) {
+        if is_candidate(rows, parts, file, line, row) {
             found = sooner(found, row);
         }
     }

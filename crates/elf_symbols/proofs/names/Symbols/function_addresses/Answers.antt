@@ -15,5 +15,5 @@ pub returns : goal.returns
 returns c =
     let i = c.self.inside in
     IfOk-weaker c.addresses.result (λ (v : Vec ℕ). v.items ≡ map (λ e. e.address) c.deref.result.now) (λ (v : Vec ℕ). v.items ≡ map (λ s. s.address) c.args.self.now.functions)
-      (λ v h. h ∙ ap (λ (entries : List SymbolEntry). map (λ e. e.address) entries) c.deref.ensures.value ∙ sym (addresses-map i.strings.items i.functions.items) ∙ ap (λ (n : Names). map (λ s. s.address) n.functions) c.self.view_is)
-      c.addresses.ensures
+    (λ v h. h ∙ ap (λ (entries : List SymbolEntry). map (λ e. e.address) entries) c.deref.ensures.value ∙ sym (addresses-map i.strings.items i.functions.items) ∙ ap (λ (n : Names). map (λ s. s.address) n.functions) c.self.view_is)
+    c.addresses.ensures
