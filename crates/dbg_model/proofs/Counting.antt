@@ -14,7 +14,6 @@ use Rattle.dbg_model.specs.declared.entry.Entry.{Entry}
 use Rattle.dbg_model.specs.declared.entry.Entry.TheVariants.{Ran, Counted, Stopped, Left, Did}
 use Rattle.dbg_model.specs.declared.opening.Opening.{Opening}
 use Rattle.dbg_model.specs.Breaks.{is_stop}
-use Rattle.break_table.specs.declared.due.CondError.{CondError}
 use Rattle.dbg_model.specs.State.{Hart, State, due, is_counted, arrived}
 use Rattle.dbg_model.specs.Reply.{done_by}
 use Rattle.dbg_model.specs.Lawful.{enter, one, one_by, ran, may_run, may_move, may_do, stepped_by, stepped, with_leavers, with_stop, faulted_by, stopped_by, counted_by, with_count, left_by, leaver_from, exited_at}

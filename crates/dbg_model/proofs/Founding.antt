@@ -1,5 +1,5 @@
 -- What the changes of lines rest on.
-use Rattle.std.proofs.Common.{◌≡◌, ◌<◌, ◌≤◌, ℕ, zero, suc, Bool, true, false, List, length, refl, ap, nat_lt, arith}
+use Rattle.std.proofs.Common.{◌≡◌, ◌<◌, ℕ, Bool, true, false, List, length, refl, ap, nat_lt, arith}
 use Rattle.std.specs.Prelude.{[], ◌∷◌, Option, Some, None, Result, Ok, Err, is_some}
 use Rattle.std.proofs.lemmas.Bool.Decides.{nat_tests}
 use Rattle.rv_exec.specs.Memory.{Memory}
@@ -34,7 +34,7 @@ use Rattle.dbg_model.specs.Breaks.{missing_number}
 use Rattle.dbg_model.specs.Conditions.{parsed}
 use Rattle.dbg_model.specs.Views.{register, shown_byte}
 use Rattle.dbg_model.specs.State.{Hart, State}
-use Rattle.dbg_model.specs.Reply.{Change, stays, resumes, selects, inserts, deletes, enables, conditions, ignores, Outcome, implied, answered, thread_hart, when_stopped, of_stopped, when_live, of_live, selecting, running, continued, threads_of, one_shown, thread_or, registers_of, registers_at, memory_of, shown_range, worth_of, evaluated_as, evaluated, changing, for_thread, unless_missing, unknown_thread, placed, set_by, set_as, named_at, inserted_at, conditioned, conditioned_as, content_of, outcome_at, fault_outcome, asked_outcome, no_parts, answer_by, answer_of}
+use Rattle.dbg_model.specs.Reply.{Change, selects, inserts, deletes, enables, ignores, Outcome, implied, thread_hart, when_stopped, of_stopped, when_live, of_live, selecting, running, continued, threads_of, one_shown, thread_or, registers_of, registers_at, memory_of, shown_range, worth_of, evaluated_as, evaluated, changing, for_thread, unless_missing, unknown_thread, placed, set_by, set_as, named_at, inserted_at, conditioned, conditioned_as, content_of, outcome_at, fault_outcome, asked_outcome, no_parts, answer_by, answer_of}
 
 -- a thread that is named is there
 abbrev pub IsThereOr : List Hart → Option ℕ → Type 0

@@ -163,7 +163,10 @@ pub enum Content {
         bytes: ByteList,
     },
     /// The value of an expression.
-    Value { word: u32, unsigned: bool },
+    Value {
+        word: u32,
+        unsigned: bool,
+    },
     /// The line is refused.
     Refused(Refused),
 }

@@ -1,6 +1,6 @@
 -- What an arrival leaves of the breakpoints: where they stand elsewhere, and that each stands at a word of text.
 use Rattle.std.proofs.Common.{◌≡◌, ℕ, zero, suc, ◌-◌, Bool, true, false, cond, List, [], ◌∷◌, refl, sym, ap, ◌∙◌, subst, not, arith, map, filter}
-use Rattle.std.specs.Prelude.{Option, Some, None, slice_get, ◌&&◌, ◌||◌, ◌==◌, nat_lt}
+use Rattle.std.specs.Prelude.{Option, Some, None, slice_get, ◌&&◌, ◌||◌, ◌==◌}
 use Rattle.std.specs.List.{list_any}
 use Rattle.std.proofs.lemmas.Bool.Decides.{nat_tests}
 use Rattle.elf32_read.specs.Program.{Program}
@@ -8,7 +8,6 @@ use Rattle.hart_machine.proofs.Places.{same_some}
 use Rattle.break_table.specs.Entry.{Entry as BreakEntry}
 use Rattle.break_table.specs.Table.{stands, stands_at}
 use Rattle.break_table.specs.Arrival.{is_for, fits, counts, stops, is_met, stays, raised, settled_entry, settled, least, told, due_of}
-use Rattle.break_table.specs.declared.due.Due.{Due}
 use Rattle.dbg_model.specs.Breaks.{nothing_due}
 use Rattle.dbg_model.specs.Views.{register, shown_byte}
 use Rattle.dbg_model.specs.State.{Hart, State, due, is_due, arrived}

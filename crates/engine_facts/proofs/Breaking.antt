@@ -4,10 +4,10 @@ use Rattle.std.specs.Prelude.{Option, Some, None, IsSome, ◌&&◌, ◌||◌, �
 use Rattle.std.proofs.lemmas.Bool.Decides.{nat_tests}
 use Rattle.std.specs.FinMap as finite
 use Rattle.text_words.specs.Tables.{WordMap}
-use Rattle.text_words.specs.Words.{Words, shown, is_planted}
+use Rattle.text_words.specs.Words.{Words, shown}
 use Rattle.hart_machine.proofs.Places.{same_some, same_place}
-use Rattle.break_table.specs.Entry.{Entry as BreakEntry, Condition}
-use Rattle.break_table.specs.Table.{stands, stands_at, has_number, is_other, changed_entry, with_enabled, with_condition, with_ignore, IsRising}
+use Rattle.break_table.specs.Entry.{Entry as BreakEntry}
+use Rattle.break_table.specs.Table.{stands, stands_at, has_number, is_other, changed_entry, with_enabled, IsRising}
 use Rattle.engine_facts.specs.declared.mind.Hold.{Hold}
 use Rattle.engine_facts.specs.Seen.{Run}
 use Rattle.engine_facts.specs.Facts.{Facts, Planted, AreInText, wanted, is_home}
@@ -120,7 +120,7 @@ pub words-changed : (t : Words) (f : BreakEntry → BreakEntry) (bs : List Break
 words-changed t f [] n same each = each
 words-changed t f (b ∷ bs) n same each =
     λ k d at. words_cons t (changed_entry f n b) (map (changed_entry f n) bs) k d (subst (λ (a : ℕ). IsSome (shown t a)) (sym (address_by f b (b.number == n) same)) (each 0 b refl))
-        (words-changed t f bs n same (λ j e is. each (suc j) e is)) at
+    (words-changed t f bs n same (λ j e is. each (suc j) e is)) at
 
 pub words-added : (t : Words) (bs : List BreakEntry) (b : BreakEntry) → HaveWords t bs → IsSome (shown t b.address) → HaveWords t (bs ++ b ∷ [])
 words-added t [] b each here = λ k d at. words_cons t b [] k d here each at

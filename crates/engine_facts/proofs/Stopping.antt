@@ -1,6 +1,6 @@
 -- A hart stops, by a fault or at a breakpoint, or is counted by breakpoints, or goes on by a line.
-use Rattle.std.proofs.Common.{◌≡◌, ℕ, ◌+◌, Bool, true, false, List, [], ◌∷◌, ◌++◌, length, refl, sym, ap, ◌∙◌, subst, not, inl, length-set}
-use Rattle.std.specs.Prelude.{Option, Some, None, is_some, slice_get, slice_set, ◌&&◌, ◌||◌}
+use Rattle.std.proofs.Common.{◌≡◌, ℕ, ◌+◌, true, false, List, length, refl, sym, ap, ◌∙◌, subst, not, inl, length-set}
+use Rattle.std.specs.Prelude.{Option, Some, None, slice_get, slice_set, ◌&&◌}
 use Rattle.rv_exec.specs.declared.effect.Cause.{Cause}
 use Rattle.rv_exec.specs.Causes.{cause_number}
 use Rattle.text_words.specs.Words.{Words}
