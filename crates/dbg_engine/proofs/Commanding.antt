@@ -1,11 +1,11 @@
 -- A line keeps what the type of an engine keeps.
-use Rattle.std.proofs.Common.{◌≡◌, ℕ, zero, suc, ◌+◌, ◌^◌, ◌-◌, ◌/◌, ◌<◌, ◌≤◌, ◌%◌, Bool, true, false, cond, List, [], ◌∷◌, ◌++◌, length, refl, sym, ap, ◌∙◌, subst, arith, nat_lt}
-use Rattle.std.specs.Prelude.{Option, Some, None, IsSome, is_some, find, option_and_then, slice_get, ◌&&◌, ◌||◌, ◌==◌, not, nat_le}
+use Rattle.std.proofs.Common.{◌≡◌, ℕ, zero, suc, ◌+◌, ◌^◌, ◌-◌, ◌/◌, ◌<◌, ◌≤◌, ◌%◌, Bool, true, false, cond, List, [], ◌∷◌, ◌++◌, length, refl, sym, ap, ◌∙◌, subst, arith}
+use Rattle.std.specs.Prelude.{Option, Some, None, is_some, find, option_and_then, slice_get, ◌&&◌, ◌||◌, ◌==◌, not, nat_le}
 use Rattle.std.specs.List.{list_any}
 use Rattle.std.proofs.lemmas.Bool.Decides.{nat_tests}
 use Rattle.std.proofs.lemmas.Option.{slice_get_within}
 use Rattle.elf32_read.specs.Program.{Program, Text, text_word, in_words}
-use Rattle.text_words.specs.Words.{Words, shown}
+use Rattle.text_words.specs.Words.{Words}
 use Rattle.text_words.proofs.Below.{word_below}
 use Rattle.hart_machine.specs.declared.hart.Core.{Core}
 use Rattle.hart_machine.specs.Patched.{Patched}
@@ -20,7 +20,7 @@ use Rattle.dbg_model.specs.declared.opening.Opening.{Opening}
 use Rattle.dbg_model.specs.declared.reply.Content.{Content}
 use Rattle.dbg_model.specs.declared.reply.Content.TheVariants as content
 use Rattle.dbg_model.specs.State.{Hart, State, any_runs}
-use Rattle.dbg_model.specs.Reply.{Change, stays, resumes, selects, inserts, deletes, enables, conditions, ignores, implied, answer_of, changed_by, done_by, thread_hart, is_wait, going_on, selected_after, breaks_after, given_after, resumed_threads}
+use Rattle.dbg_model.specs.Reply.{Change, stays, resumes, selects, inserts, deletes, enables, conditions, ignores, implied, answer_of, changed_by, done_by, thread_hart, is_wait, going_on, selected_after, breaks_after, given_after}
 use Rattle.dbg_model.specs.Lawful.{enter, may_go, may_do}
 use Rattle.dbg_model.proofs.Founding.{IsFounded, IsThereOr, change_founded}
 use Rattle.dbg_model.proofs.Numbering.{given_within}

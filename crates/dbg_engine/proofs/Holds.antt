@@ -1,5 +1,5 @@
 -- The other moves of a hart, as the code makes them, and the end of an engine.
-use Rattle.std.proofs.Common.{◌≡◌, ℕ, ◌+◌, ◌++◌, Bool, true, false, cond, List, [], ◌∷◌, refl, sym, ap, ◌∙◌, subst}
+use Rattle.std.proofs.Common.{◌≡◌, ℕ, ◌+◌, ◌++◌, Bool, true, false, List, [], ◌∷◌, refl, sym, ap, ◌∙◌, subst}
 use Rattle.std.specs.Prelude.{Option, Some, None, IsSome, slice_get, slice_set}
 use Rattle.rv_exec.specs.declared.effect.Cause.{Cause}
 use Rattle.text_words.specs.Words.{shown, is_planted}
@@ -9,7 +9,7 @@ use Rattle.hart_machine.specs.declared.hart.Core.{Core}
 use Rattle.hart_machine.specs.Patched.{Patched}
 use Rattle.break_table.specs.Entry.{Entry as BreakEntry}
 use Rattle.break_table.specs.Arrival.{due_of, settled}
-use Rattle.break_table.specs.Table.{Table, stands}
+use Rattle.break_table.specs.Table.{stands}
 use Rattle.break_table.specs.declared.due.Due.{Due}
 use Rattle.dbg_model.specs.declared.entry.Entry.{Entry}
 use Rattle.dbg_model.specs.declared.entry.Entry.TheVariants.{Counted, Stopped}
@@ -18,7 +18,7 @@ use Rattle.dbg_model.specs.Breaks.{nothing_due}
 use Rattle.elf32_read.specs.Program.{Program}
 use Rattle.dbg_model.specs.Views.{register, shown_byte}
 use Rattle.dbg_model.specs.State.{Hart, State, due, is_due, is_counted, arrived as after_arrival}
-use Rattle.dbg_model.specs.Lawful.{enter, may_go}
+use Rattle.dbg_model.specs.Lawful.{may_go}
 use Rattle.engine_facts.specs.declared.mind.Activity.TheVariants as activity
 use Rattle.engine_facts.specs.declared.mind.Hold.{Hold}
 use Rattle.engine_facts.specs.declared.mind.Mind.{Mind}
@@ -187,9 +187,9 @@ due_new r s h x d same f at fresh is =
     let R : Run → Type 0 = λ q. slice_get q.minds h ≡ Some x → DueIs q h d in
     subst R same
     (λ at' y there.
-        let k = core_at r h x f at' in
-        let e = fresh_due r.opening.image (seen r) h k.0 x fresh ∙ sym (is k.0 k.1.core) in
-        subst (λ (z : Hart). due r.opening.image (seen r) h z ≡ d) (same_hart r h k.0 x y k.1 there) e) at
+    let k = core_at r h x f at' in
+    let e = fresh_due r.opening.image (seen r) h k.0 x fresh ∙ sym (is k.0 k.1.core) in
+    subst (λ (z : Hart). due r.opening.image (seen r) h z ≡ d) (same_hart r h k.0 x y k.1 there) e) at
 
 -- nothing is due for one that hasn't
 pub due_stale : (r s : Run) (h : ℕ) (x : Mind) → r ≡ s → Facts r → slice_get s.minds h ≡ Some x → x.fresh ≡ false → DueIs s h nothing_due
@@ -197,9 +197,9 @@ due_stale r s h x same f at fresh =
     let R : Run → Type 0 = λ q. slice_get q.minds h ≡ Some x → DueIs q h nothing_due in
     subst R same
     (λ at' y there.
-        let k = core_at r h x f at' in
-        let e = stale_due r.opening.image (seen r) h k.0 x fresh in
-        subst (λ (z : Hart). due r.opening.image (seen r) h z ≡ nothing_due) (same_hart r h k.0 x y k.1 there) e) at
+    let k = core_at r h x f at' in
+    let e = stale_due r.opening.image (seen r) h k.0 x fresh in
+    subst (λ (z : Hart). due r.opening.image (seen r) h z ≡ nothing_due) (same_hart r h k.0 x y k.1 there) e) at
 
 -- where a hart is due is text
 pub due_text : (r : Run) (h pc : ℕ) (d : Due) (x : Mind) → Facts r → slice_get r.minds h ≡ Some x → Of r h (λ y. y.regs.pc ≡ pc) → DueIs r h d → is_due d ≡ true → IsSome (shown r.machine.text pc)

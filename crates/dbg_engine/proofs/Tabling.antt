@@ -1,17 +1,17 @@
 -- One change of the table of breakpoints, with the word that is planted for it.
-use Rattle.std.proofs.Common.{◌≡◌, ◌+◌, ℕ, Bool, true, false, cond, List, [], ◌∷◌, ◌++◌, refl, sym, ap, ◌∙◌, subst, map, filter}
+use Rattle.std.proofs.Common.{◌≡◌, ◌+◌, ℕ, Bool, List, [], ◌∷◌, ◌++◌, refl, sym, ap, ◌∙◌, subst, map}
 use Rattle.std.specs.Prelude.{Option, Some, None, IsSome, Result, Ok, Err, OnOk, OnErr}
-use Rattle.text_words.specs.Words.{Words, shown}
+use Rattle.text_words.specs.Words.{shown}
 use Rattle.hart_machine.specs.Patched.{Patched}
 use Rattle.break_table.specs.declared.entry.BreakEntry.{BreakEntry as Kept}
 use Rattle.break_table.specs.Entry.{Entry as BreakEntry, Asked, entry_of, new_entry}
-use Rattle.break_table.specs.Table.{Table, inserted, deleted, changed, has_number, missing, with_enabled, Answers, IsRising, stands, stands_at}
+use Rattle.break_table.specs.Table.{Table, inserted, deleted, changed, missing, with_enabled, Answers, IsRising, stands, stands_at}
 use Rattle.break_table.specs.declared.fault.BreakFault.{BreakFault}
 use Rattle.engine_facts.specs.declared.mind.Hold.{Hold}
 use Rattle.engine_facts.specs.Facts.{wanted}
 use Rattle.engine_facts.specs.Moves.{Repatched}
 use Rattle.engine_facts.specs.Tables.{number_place, ArePlanted, HaveWords}
-use Rattle.engine_facts.proofs.Breaking.{stands-added, stands-deleted, stands-enabled, stands-kept, absent-deleted, absent-changed, words-added, words-filter, words-changed, place-has, place-shown, replanted_words, kept_words}
+use Rattle.engine_facts.proofs.Breaking.{stands-added, stands-deleted, stands-enabled, stands-kept, absent-deleted, absent-changed, words-added, words-filter, words-changed, place-has, replanted_words, kept_words}
 use Rattle.dbg_engine.specs.Changing.{Retabled}
 
 -- a change after which one word is patched as it is wanted now

@@ -1,6 +1,5 @@
 -- One word is patched anew.
-use Rattle.std.proofs.Common.{◌≡◌, ℕ, Bool, true, false, cond, List, [], ◌∷◌, ◌++◌, refl, sym, ap, ◌∙◌, subst}
-use Rattle.std.specs.Prelude.{◌&&◌}
+use Rattle.std.proofs.Common.{◌≡◌, ℕ, Bool, true, false, sym, ap, subst}
 use Rattle.std.specs.FinSet as set
 use Rattle.text_words.specs.Words.{Words}
 use Rattle.hart_machine.specs.Patched.{Patched}

@@ -1,5 +1,5 @@
 -- What a line changes of the breakpoints, as the code has it.
-use Rattle.std.specs.Prelude.{◌≡◌, ℕ, ◌<◌, ◌^◌, List, Option, Some, None, IsSome}
+use Rattle.std.specs.Prelude.{◌≡◌, ◌<◌, ◌^◌, List, Option, None, IsSome}
 use Rattle.std.specs.Option.{option_map}
 use Rattle.text_words.specs.Words.{Words, shown}
 use Rattle.hart_machine.specs.Patched.{Patched}

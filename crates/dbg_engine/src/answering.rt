@@ -22,8 +22,8 @@ use dbg_model::{
     RegisterList, Thread, ThreadList,
 };
 use dbg_traits::NoMemory;
-use elf32_read::Image;
 use elf_symbols::Symbols;
+use elf32_read::Image;
 use engine_facts::{Activity, Mind};
 use hart_machine::{Core, Machine};
 use mi_commands::{
@@ -713,14 +713,7 @@ fn set_by(
         return Ok(set(alloc, symbols, given, address, insertion, None)?);
     };
     match read_condition(alloc, text.as_slice(), symbols) {
-        Ok(expression) => Ok(set(
-            alloc,
-            symbols,
-            given,
-            address,
-            insertion,
-            Some(expression),
-        )?),
+        Ok(expression) => Ok(set(alloc, symbols, given, address, insertion, Some(expression))?),
         Err(ParseError::Fault(fault)) => Ok(refusing(Obstacle::Expression(fault))),
         Err(ParseError::NoMemory) => Err(NoMemory),
     }
@@ -894,13 +887,7 @@ fn answer_content(
         } => {
             let thread = thread.unwrap_or(selected);
             let found = find(cores, minds, thread);
-            Ok(registers(
-                alloc,
-                thread,
-                found,
-                *format,
-                numbers.as_slice(),
-            )?)
+            Ok(registers(alloc, thread, found, *format, numbers.as_slice())?)
         }
         Command::ReadMemory { address, count } => Ok(memory(
             alloc, image, machine, *address, *count,
@@ -957,14 +944,7 @@ pub fn answer(
         Command::BreakAfter { number, count } => Ok(after(table, number, count)),
         command => Ok(Response {
             content: answer_content(
-                alloc,
-                image,
-                symbols,
-                machine,
-                minds,
-                table,
-                selected,
-                &command,
+                alloc, image, symbols, machine, minds, table, selected, &command,
             )?,
             change: None,
         }),

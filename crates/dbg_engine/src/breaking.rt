@@ -174,12 +174,7 @@ fn enable(
     plant_as_wanted(machine, table, hold, place);
 }
 
-fn delete_each(
-    machine: &mut Machine,
-    table: &mut BreakTable,
-    hold: Option<Hold>,
-    numbers: &[u32],
-)
+fn delete_each(machine: &mut Machine, table: &mut BreakTable, hold: Option<Hold>, numbers: &[u32])
     requires { ArePlanted machine.old.text table.old.entries hold }
     ensures table { table.new ≡ record table.old { entries = without numbers.now table.old.entries } }
     ensures machine { Retabled machine.old machine.new table.new.entries hold }

@@ -393,12 +393,7 @@ impl Engine {
         if let Stepped::Trap(cause) = stepped {
             return Turned::Stopped { cause };
         }
-        release_at_exit(
-            stepped,
-            &mut self.machine,
-            &mut self.hold,
-            &self.table,
-        );
+        release_at_exit(stepped, &mut self.machine, &mut self.hold, &self.table);
         apply(
             stepped,
             h,

@@ -19,7 +19,9 @@ pub enum Turned {
     /// The hart doesn't run.
     NotRunning,
     /// The hart `by` is stepping over a breakpoint, and this one is held meanwhile.
-    Held { by: u32 },
+    Held {
+        by: u32,
+    },
     /// The step over a breakpoint ended: the word is planted again where a breakpoint stands.
     Planted,
     /// The step over a breakpoint began: the patch at the hart's pc was lifted.
@@ -27,13 +29,23 @@ pub enum Turned {
     /// One instruction was executed, and nothing was written.
     Ran,
     /// One instruction was executed, and it wrote the `len` bytes at `addr`.
-    Wrote { addr: u32, len: u32 },
+    Wrote {
+        addr: u32,
+        len: u32,
+    },
     /// One instruction was executed, and the hart has exited.
-    Left { code: u32 },
+    Left {
+        code: u32,
+    },
     /// One instruction was executed, and all live harts have exited, so many.
-    AllLeft { code: u32, count: usize },
+    AllLeft {
+        code: u32,
+        count: usize,
+    },
     /// The instruction trapped, and the hart stopped.
-    Stopped { cause: Cause },
+    Stopped {
+        cause: Cause,
+    },
     /// The hart came to breakpoints that count it, and goes on.
     Counted,
     /// The hart stopped at the breakpoint of this number, of whose condition the value couldn't be had for this reason.

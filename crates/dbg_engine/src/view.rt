@@ -19,11 +19,7 @@ pub struct ShownHart<'a> {
 pub fn register(regs: &Regs, n: u32) -> u32
     ensures { result ≡ register regs.now n }
 {
-    if n < 32 {
-        regs.get(n)
-    } else {
-        regs.pc()
-    }
+    if n < 32 { regs.get(n) } else { regs.pc() }
 }
 
 /// A byte as it is shown: text as the file has it, and data as it is now.

@@ -1,5 +1,5 @@
 -- What a turn and a line say.
-use Rattle.std.proofs.Common.{◌≡◌, ◌<◌, ◌≤◌, ℕ, zero, suc, ◌+◌, ◌-◌, ◌*◌, Bool, true, false, List, [], ◌∷◌, ◌++◌, length, drop, refl, sym, ap, ◌∙◌, arith, subst, append_assoc, cond}
+use Rattle.std.proofs.Common.{◌≡◌, ◌<◌, ◌≤◌, ℕ, zero, suc, ◌+◌, ◌-◌, ◌*◌, Bool, true, false, List, [], ◌∷◌, ◌++◌, length, drop, refl, sym, ap, ◌∙◌, arith, subst, cond}
 use Rattle.std.specs.Prelude.{Option, Some, None, is_none, ◌&&◌, ◌⊎◌, map, slice_get}
 use mathlib.Core.Logic.{inl, inr}
 use mathlib.Core.List.{append-nil}
@@ -7,17 +7,15 @@ use Rattle.rv_exec.specs.declared.effect.Cause.{Cause}
 use Rattle.hart_machine.specs.declared.hart.Core.{Core}
 use Rattle.dbg_model.specs.declared.reply.Reply.{Reply}
 use Rattle.dbg_model.specs.declared.entry.Entry.{Entry}
-use Rattle.dbg_model.specs.declared.entry.Entry.TheVariants.{Ran, Counted, Stopped, Left, Did}
+use Rattle.dbg_model.specs.declared.entry.Entry.TheVariants.{Counted, Stopped, Did}
 use Rattle.dbg_model.specs.declared.entry.Why.{Why}
 use Rattle.dbg_model.specs.declared.entry.Why.TheVariants.{Break, Fault}
-use Rattle.dbg_model.specs.declared.entry.Mode.{Mode}
-use Rattle.dbg_model.specs.declared.entry.Mode.TheVariants as mode
 use Rattle.dbg_model.specs.declared.opening.Opening.{Opening}
 use Rattle.dbg_model.specs.Breaks.{is_temporary}
-use Rattle.dbg_model.specs.State.{Hart, State, all_gone, any_runs}
+use Rattle.dbg_model.specs.State.{State, all_gone, any_runs}
 use Rattle.dbg_model.specs.Lawful.{one}
-use Rattle.dbg_model.specs.Leaving.{lefts_from, left_one, gone}
-use Rattle.dbg_model.specs.Journals.{lengthened, one_more_by, ran_count, did, did_one}
+use Rattle.dbg_model.specs.Leaving.{lefts_from, gone}
+use Rattle.dbg_model.specs.Journals.{lengthened, did}
 use Rattle.dbg_model.proofs.Adding.{lengthens}
 use Rattle.mi_reports.specs.Text.{stream_text, stop_text, break_text, lefts_text}
 use Rattle.mi_reports.specs.Replies.{reply_text}

@@ -1,4 +1,4 @@
-use Rattle.std.proofs.Common.{◌≡◌, refl}
+use Rattle.std.proofs.Common.{refl}
 use Rattle.std.specs.Option.{option_map}
 use Rattle.break_table.specs.Entry.{condition_of}
 use Rattle.break_table.specs.Table.{with_condition, with_ignore}

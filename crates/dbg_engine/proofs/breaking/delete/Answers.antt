@@ -1,10 +1,6 @@
-use Rattle.std.proofs.Common.{◌≡◌, ◌<◌, ◌^◌, ℕ, List, sym, ap, ◌∙◌, refl}
-use Rattle.std.specs.Prelude.{Option, None, Some, IsSome}
-use Rattle.break_table.specs.Entry.{Entry as BreakEntry, entry_of}
-use Rattle.break_table.specs.declared.entry.BreakEntry.{BreakEntry as Kept}
-use Rattle.break_table.specs.Table.{Table}
+use Rattle.std.proofs.Common.{refl}
+use Rattle.std.specs.Prelude.{None, Some}
 use Rattle.engine_facts.specs.Facts.{wanted}
-use Rattle.engine_facts.specs.Tables.{number_place}
 use Rattle.engine_facts.proofs.Breaking.{place-shown}
 use Rattle.dbg_engine.proofs.Tabling.{number_at, deleted_table, deleted_words, none_deleted}
 use Rattle.dbg_engine.proofs.breaking.delete.Goals as goal

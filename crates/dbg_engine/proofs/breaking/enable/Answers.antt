@@ -1,4 +1,4 @@
-use Rattle.std.proofs.Common.{◌≡◌, refl}
+use Rattle.std.proofs.Common.{refl}
 use Rattle.std.specs.Prelude.{None, Some}
 use Rattle.break_table.specs.Table.{with_enabled}
 use Rattle.engine_facts.specs.Facts.{wanted}

@@ -1,6 +1,6 @@
-use Rattle.std.proofs.Common.{◌≡◌, refl}
+use Rattle.std.proofs.Common.{refl}
 use Rattle.break_table.specs.Entry.{asked_of}
-use Rattle.break_table.specs.Table.{inserted, insert_fault}
+use Rattle.break_table.specs.Table.{insert_fault}
 use Rattle.engine_facts.specs.Facts.{wanted}
 use Rattle.dbg_engine.proofs.Tabling.{inserted_table, inserted_words}
 use Rattle.dbg_engine.proofs.breaking.insert.Goals as goal

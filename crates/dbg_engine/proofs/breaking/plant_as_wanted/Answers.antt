@@ -1,4 +1,4 @@
-use Rattle.std.proofs.Common.{◌≡◌, subst, Bool}
+use Rattle.std.proofs.Common.{subst, Bool}
 use Rattle.engine_facts.specs.Moves.{Repatched}
 use Rattle.dbg_engine.proofs.breaking.plant_as_wanted.Goals as goal
 

@@ -5,14 +5,13 @@ use Rattle.std.proofs.lemmas.List.{with_items_is}
 use Rattle.rv_exec.specs.declared.effect.Stepped.{Stepped}
 use Rattle.text_words.specs.Words.{Words}
 use Rattle.hart_machine.specs.Patched.{Patched}
-use Rattle.dbg_model.specs.declared.breakpoint.Breakpoint.{Breakpoint}
 use Rattle.engine_facts.specs.declared.mind.Mind.{Mind}
 use Rattle.engine_facts.specs.Seen.{Run}
 use Rattle.engine_facts.specs.Facts.{Facts}
 use Rattle.engine_facts.specs.Moves.{HeldInText}
 use Rattle.engine_facts.proofs.Holding.{held_text}
 use Rattle.dbg_engine.specs.declared.moving.Turned.{Turned}
-use Rattle.dbg_engine.specs.Steps.{Parts, applied, turned_of, is_exit, ReleasedBy}
+use Rattle.dbg_engine.specs.Steps.{Parts, applied, turned_of}
 use Rattle.dbg_engine.specs.Calls.{Executes, TrapsAt}
 use Rattle.dbg_engine.specs.EngineInside.{run_of}
 use Rattle.dbg_engine.proofs.Executing.{readied, trapped, done, Executed, executed_to, parts_of, run_with}

@@ -1,14 +1,12 @@
-use Rattle.std.proofs.Common.{◌≡◌, ◌-◌, ◌+◌, ◌<◌, sym, ap, ◌∙◌, subst, arith, true, false, Bool, ◌||◌, not, refl, cond}
-use Rattle.std.specs.Prelude.{Option, Some, None, is_some, length, slice_get, slice_set, vec_len, vec_capacity, ◌&&◌}
+use Rattle.std.proofs.Common.{◌≡◌, ◌-◌, ◌+◌, sym, ap, ◌∙◌, subst, arith, true, false, Bool, ◌||◌, not, refl}
+use Rattle.std.specs.Prelude.{Some, is_some, slice_get, slice_set, vec_len, vec_capacity, ◌&&◌}
 use Rattle.std.proofs.lemmas.Option.{slice_get_within}
 use Rattle.break_table.specs.Table.{Table}
 use Rattle.break_table.specs.declared.due.Due.{Due}
 use Rattle.dbg_model.specs.State.{is_due, is_counted}
 use Rattle.dbg_model.specs.Lawful.{may_go}
 use Rattle.engine_facts.specs.Seen.{Run, seen}
-use Rattle.engine_facts.specs.Facts.{wanted}
 use Rattle.dbg_engine.specs.EngineInside.{run_of}
-use Rattle.engine_facts.specs.Minds.{counted_mind}
 use Rattle.dbg_engine.specs.Calls.{Counts, Of, DueIs}
 use Rattle.dbg_engine.proofs.Holds.{Moved, Settles, counted, due_text}
 use Rattle.dbg_engine.proofs.engine.Engine.note_count.Goals as goal
