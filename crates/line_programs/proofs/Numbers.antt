@@ -1,5 +1,5 @@
 -- Numbers that are passed over, one after another.
-use Rattle.std.proofs.Common.{◌≡◌, ◌<◌, ◌+◌, ◌-◌, ℕ, suc, zero, List, Result, Ok, Err, refl, arith}
+use Rattle.std.proofs.Common.{◌≡◌, ◌<◌, ◌+◌, ◌-◌, ℕ, suc, zero, List, Ok, Err, refl, arith}
 use Rattle.leb_read.specs.Leb.{uleb_at}
 use Rattle.line_rows.specs.declared.fault.LineFault.{LineFault}
 use Rattle.line_programs.specs.Operations.{behind_numbers, in_unit}

@@ -1,15 +1,15 @@
 -- One operation of a program, and its end.
-use Rattle.std.proofs.Common.{◌≡◌, ◌<◌, ◌≤◌, ◌+◌, ◌-◌, ℕ, suc, zero, Bool, true, false, List, [], ◌∷◌, length, take, Result, Ok, Err, Option, Some, None, refl, sym, ap, ◌∙◌, arith}
+use Rattle.std.proofs.Common.{◌≡◌, ◌<◌, ◌≤◌, ◌+◌, ◌-◌, ℕ, suc, zero, List, [], ◌∷◌, length, take, Result, Ok, Err, Option, Some, None, refl, sym, ap, ◌∙◌, arith}
 use Rattle.std.proofs.lemmas.Bool.{lt-leb, le-leb}
 use Rattle.std.proofs.lemmas.List.{take_all}
-use Rattle.line_rows.specs.RowList.{RowList, Sequence}
+use Rattle.line_rows.specs.RowList.{RowList}
 use Rattle.line_rows.specs.declared.fault.LineFault.{LineFault}
 use Rattle.line_programs.specs.declared.fault.ProgramError.{ProgramError}
 use Rattle.line_programs.specs.declared.fault.ProgramError.TheVariants.{Fault, Memory}
 use Rattle.line_programs.specs.declared.operation.Operation.{Operation}
 use Rattle.line_programs.specs.declared.parameters.Parameters.{Parameters}
-use Rattle.line_programs.specs.Operations.{◌>>=◌, Operations, and_behind, no_operations, operation_at, operations_from, operations_of}
-use Rattle.line_programs.specs.Machine.{GivesRows, State, Steps, program_of, ran, run, settled, stepped}
+use Rattle.line_programs.specs.Operations.{Operations, and_behind, no_operations, operation_at, operations_from}
+use Rattle.line_programs.specs.Machine.{GivesRows, State, Steps, ran, run, settled, stepped}
 
 begun : (n : ℕ) (p : Parameters) (lengths bytes : List ℕ) (at : ℕ) → at < length bytes → length bytes ≤ n + at
     → operations_from n p lengths bytes at ≡ and_behind (operation_at p lengths bytes at) (operations_from (n - 1) p lengths bytes)

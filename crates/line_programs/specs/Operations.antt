@@ -59,7 +59,8 @@ behind_numbers (suc n) bytes at = in_unit (uleb_at bytes at) >>= (λ r. behind_n
 abbrev pub passed_over : ℕ → List ℕ → ℕ → Decoded
 passed_over n bytes at = behind_numbers n bytes at >>= (λ next. Ok (Pass, next))
 
--- a standard opcode, whose operands stand at this place; an unknown one has so many as the header says
+-- a standard opcode, whose operands stand at this place; an unknown one has so many as the header says.
+-- No row shows what set_column (5), set_basic_block (7), set_epilogue_begin (11) and set_isa (12) change.
 unfoldable pub standard_at : List ℕ → ℕ → List ℕ → ℕ → Decoded
 standard_at lengths opcode bytes at =
     if opcode == 1 then Ok (Copy, at)
@@ -85,7 +86,8 @@ file_at bytes at =
 abbrev pub passed_by_length : ℕ → List ℕ → ℕ → Decoded
 passed_by_length n bytes at = if nat_le (at + n) (length bytes) then Ok (Pass, at + n) else Err fault.Short
 
--- an extended opcode, whose length stands at this place
+-- an extended opcode, whose length stands at this place: end_sequence, set_address, define_file and set_discriminator are
+-- read by their operands, whatever their length says
 unfoldable pub extended_at : List ℕ → ℕ → Decoded
 extended_at bytes at =
     in_unit (uleb_at bytes at) >>= (λ size. in_unit (number_at 1 bytes size.1) >>= (λ opcode.

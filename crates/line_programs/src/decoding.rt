@@ -2,7 +2,7 @@
 
 ghost use Rattle.std.specs.Prelude.{◌≡◌, ◌≤◌, ◌<◌, ◌+◌, ◌-◌, IfOk, length, slice_index};
 ghost use Rattle.leb_read.specs.Leb.{IsBehind, number_at, sleb_at, uleb_at};
-ghost use Rattle.line_programs.specs.Operations.{IsFrom, extended_at, file_at, operation_at, operation_by, passed_by_length, passed_over, residue, standard_at, with_operand};
+ghost use Rattle.line_programs.specs.Operations.{IsFrom, extended_at, file_at, operation_at, passed_by_length, passed_over, residue, standard_at, with_operand};
 ghost use Rattle.line_programs.specs.declared.operation.Operation.TheVariants as op;
 
 use crate::operation::Operation;

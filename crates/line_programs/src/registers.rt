@@ -1,6 +1,6 @@
 //! The registers of the state machine (DWARF 4 and 5, section 6.2.2), as far as a row shows them.
 
-ghost use Rattle.std.specs.Prelude.{◌≡◌, ◌+◌, ◌*◌, ◌%◌, ◌^◌};
+ghost use Rattle.std.specs.Prelude.{◌≡◌, ◌^◌};
 ghost use Rattle.line_programs.specs.Operations.{residue};
 
 /// What the next row will show.

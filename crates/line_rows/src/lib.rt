@@ -11,3 +11,5 @@ pub use fault::{LineFault, UnitFault};
 pub use row::{Row, SequenceView};
 pub use rows::Rows;
 
+#[cfg(test)]
+mod tests;

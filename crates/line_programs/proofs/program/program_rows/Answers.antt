@@ -1,7 +1,6 @@
-use Rattle.std.proofs.Common.{◌≡◌, ◌<◌, ◌≤◌, ◌∙◌, ◌+◌, ◌-◌, length, refl, sym, ap, arith}
+use Rattle.std.proofs.Common.{◌∙◌, ◌-◌, length, refl, arith}
 use Rattle.std.proofs.lemmas.Result.{err_from_is_err_and}
-use Rattle.line_programs.specs.Operations.{operations_of}
-use Rattle.line_programs.specs.Machine.{State, program_of, ran}
+use Rattle.line_programs.specs.Machine.{program_of}
 use Rattle.line_programs.proofs.Runs.{failed, goes_on, kept, reading_fails, settles}
 use Rattle.line_programs.proofs.program.program_rows.Goals as goal
 
