@@ -7,6 +7,7 @@ ghost use Rattle.elf_symbols.specs.Names.{address_of, best, bytes_before, coveri
 ghost use Rattle.elf_symbols.specs.Views.{symbol_shown};
 
 use crate::entry::SymbolEntry;
+use std::alloc::{AllocError, Global};
 use std::collections::BTreeMap;
 use std::marker::Model;
 
@@ -145,6 +146,12 @@ fn covering<'a>(strings: &'a [u8], found: Option<SymbolEntry>, addr: u32) -> Opt
     }
 }
 
+fn addresses(alloc: Global, entries: &[SymbolEntry]) -> Result<Vec<u32>, AllocError>
+    ensures { IfOk result (λ v. v.items ≡ map (λ e. e.address) entries.now) }
+{
+    entries.iter().map(|e| e.address).collect(alloc)
+}
+
 impl Symbols {
     pub(crate) fn of(
         strings: Vec<u8>,
@@ -185,5 +192,12 @@ impl Symbols {
             Some(entry) => Some(shown(&self.strings, entry)),
             None => None,
         }
+    }
+
+    /// Where the functions in text begin, in the symbol table's order.
+    pub fn function_addresses(&self, alloc: Global) -> Result<Vec<u32>, AllocError>
+        ensures { IfOk result (λ v. v.items ≡ map (λ s. s.address) self.now.functions) }
+    {
+        addresses(alloc, &self.functions)
     }
 }

@@ -1,0 +1,9 @@
+pub mod Orders
+pub mod Merge
+pub mod Rows
+pub mod Tables
+pub mod Indexes
+pub mod LastPart
+pub mod Halves
+pub mod FunctionBody
+pub mod Ordered

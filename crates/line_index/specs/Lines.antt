@@ -1,0 +1,127 @@
+-- What look-ups in line tables answer (DWARF 5, section 6.2).
+use Rattle.std.specs.Prelude.{ℕ, ◌+◌, ◌-◌, length, ◌==◌, nat_le, nat_lt, ◌&&◌, ◌||◌, not, Bool, false, List, [], ◌∷◌, Option, None, Some, map, filter, find, flat_map, min, slice_get, unwrap_or, option_and_then, if◌then◌else◌}
+use Rattle.std.specs.List.{list_any}
+use Rattle.std.specs.Option.{option_map, option_map_or}
+use Rattle.std.specs.Str.{bytes_eq}
+use Rattle.elf32_read.specs.Program.{Program}
+use Rattle.elf_symbols.specs.Names.{Names, Symbol, best}
+use Rattle.line_rows.specs.RowList.{RowList, Sequence}
+use Rattle.line_rows.specs.declared.row.Row.{Row}
+use Rattle.line_index.specs.Text.{text_bounds, in_text, section_end}
+use Rattle.line_index.specs.declared.text.TextBounds.{TextBounds}
+
+-- line tables, and where the functions and the text of their program stand
+pub record Lines : Type 0 where
+  pub rows : RowList
+  -- the addresses of the functions in text
+  pub functions : List ℕ
+  pub text : List TextBounds
+
+abbrev pub lines_of : RowList → Names → Program → Lines
+lines_of rows names p = record { rows = rows; functions = map (λ s. s.address) names.functions; text = text_bounds p }
+
+-- whether the first row of a sequence is in text
+abbrev pub begins_in : List TextBounds → Sequence → Bool
+begins_in text s = option_map_or (λ r. in_text text r.address) (slice_get s.rows 0) false
+
+-- the sequences that count
+abbrev pub kept : List TextBounds → List Sequence → List Sequence
+kept text sequences = filter (begins_in text) sequences
+
+-- the rows that count
+abbrev pub rows_of : Lines → List Row
+rows_of lines = flat_map (λ s. s.rows) (kept lines.text lines.rows.sequences)
+
+-- whether the sequence begins at an address or before it, and ends above it
+abbrev pub covers : ℕ → Sequence → Bool
+covers pc s = option_map_or (λ r. nat_le r.address pc) (slice_get s.rows 0) false && nat_lt pc s.end
+
+-- whether a row of a sequence is taken in place of one before it: the greater address, and of equal ones the later row
+-- unless only the other is a statement
+abbrev pub is_later : Row → Row → Bool
+is_later row other = if row.is_stmt || not other.is_stmt then nat_le other.address row.address else nat_lt other.address row.address
+
+-- the row that an address belongs to
+abbrev pub row_in : ℕ → List Row → Option Row
+row_in pc rows = best is_later (filter (λ r. nat_le r.address pc) rows)
+
+-- the row of an address, in the first of the sequences that has it
+abbrev pub row_among : ℕ → List Sequence → Option Row
+row_among pc sequences = option_and_then (λ s. row_in pc s.rows) (find (covers pc) sequences)
+
+abbrev pub row_at : Lines → ℕ → Option Row
+row_at lines pc = row_among pc (kept lines.text lines.rows.sequences)
+
+-- whether a statement begins at an address with this row
+abbrev pub begins : ℕ → Row → Option Row
+begins pc r = if (r.address == pc) && r.is_stmt then Some r else None
+
+-- the row of a statement that begins at an address
+abbrev pub starts : Lines → ℕ → Option Row
+starts lines pc = option_and_then (begins pc) (row_at lines pc)
+
+-- a file name by its number
+abbrev pub file_name : List (List ℕ) → ℕ → List ℕ
+file_name names file = unwrap_or (slice_get names file) []
+
+abbrev pub is_slash : ℕ → Bool
+is_slash b = b == 47
+
+-- the part after the last `/`
+abbrev pub last_part : List ℕ → List ℕ
+last_part [] = []
+last_part (b ∷ bs) = if is_slash b || list_any is_slash bs then last_part bs else b ∷ bs
+
+-- where the part after the last `/` begins
+abbrev pub part_start : List ℕ → ℕ
+part_start name = length name - length (last_part name)
+
+-- whether a file is told by its name or by the last part of it
+abbrev pub is_called : List ℕ → List ℕ → Bool
+is_called file name = bytes_eq name file || bytes_eq (last_part name) file
+
+-- a statement of a file that isn't below a line
+abbrev pub is_candidate : List (List ℕ) → List ℕ → ℕ → Row → Bool
+is_candidate names file line r = (r.is_stmt && nat_le line r.line) && is_called file (file_name names r.file)
+
+-- the lesser line, and of equal ones the lesser address
+abbrev pub is_sooner : Row → Row → Bool
+is_sooner row other = nat_lt row.line other.line || ((row.line == other.line) && nat_lt row.address other.address)
+
+-- where the least line of a file that isn't below another has its least address
+abbrev pub address_of : Lines → List ℕ → ℕ → Option ℕ
+address_of lines file line = option_map (λ r. r.address) (best is_sooner (filter (is_candidate lines.rows.names file line) (rows_of lines)))
+
+-- the least number above another
+abbrev pub next_above : ℕ → List ℕ → Option ℕ
+next_above start addresses = best nat_lt (filter (nat_lt start) addresses)
+
+-- where a function ends; one without a size at the next function or at the end of its text section
+abbrev pub function_end : List ℕ → Symbol → ℕ → ℕ
+function_end functions f text_end =
+    if f.size == 0 then option_map_or (min text_end) (next_above f.address functions) text_end else f.address + f.size
+
+abbrev pub is_lower : Row → Row → Bool
+is_lower row other = nat_lt row.address other.address
+
+-- the least address of the rows that pass a test
+abbrev pub least_address : (Row → Bool) → List Row → Option ℕ
+least_address test rows = option_map (λ r. r.address) (best is_lower (filter test rows))
+
+-- whether a row ends the prologue of a function, which is a range of addresses
+abbrev pub ends_prologue : ℕ → ℕ → Row → Bool
+ends_prologue start end r = r.prologue_end && (nat_le start r.address && nat_lt r.address end)
+
+-- whether a row begins a statement within a function, above its start
+abbrev pub begins_within : ℕ → ℕ → Row → Bool
+begins_within start end r = r.is_stmt && (nat_lt start r.address && nat_lt r.address end)
+
+-- where a breakpoint on the body of a range stands
+abbrev pub body_in : List Row → ℕ → ℕ → ℕ
+body_in rows start end =
+    option_map_or (λ a. a) (least_address (ends_prologue start end) rows) (unwrap_or (least_address (begins_within start end) rows) start)
+
+-- where a breakpoint on a function stands; at its start where that isn't in text
+abbrev pub body_of : Lines → Symbol → ℕ
+body_of lines f =
+    option_map_or (λ text_end. body_in (rows_of lines) f.address (function_end lines.functions f text_end)) (section_end lines.text f.address) f.address

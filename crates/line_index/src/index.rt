@@ -1,0 +1,113 @@
+ghost use Rattle.std.specs.Prelude.{◌≡◌, IfOk};
+ghost use Rattle.elf_symbols.specs.Views.{symbol_shown};
+ghost use Rattle.line_index.specs.Lines.{Lines, address_of, begins, body_of, file_name, kept, lines_of, row_among, row_at, rows_of, starts};
+ghost use Rattle.line_index.specs.Steps.{IsTable};
+
+use crate::body::{body_in, function_end};
+use crate::files::{name_of, part_starts, soonest};
+use crate::steps::{Step, row_of};
+use crate::table::{kept_rows, table_of};
+use crate::text::{TextBounds, section_end, text_bounds};
+use dbg_traits::NoMemory;
+use elf_symbols::{Named, Symbols};
+use elf32_read::Image;
+use line_rows::{Row, Rows};
+use std::alloc::Global;
+use std::marker::Model;
+
+/// Line tables for look-ups. Contracts see them as `Lines`: the rows, and where functions and text stand.
+#[derive(Drop)]
+pub struct LineIndex {
+    rows: Rows,
+    functions: Vec<u32>,
+    text: Vec<TextBounds>,
+    /// The rows of the sequences whose first row is in text.
+    kept: Vec<Row>,
+    /// Where the last part of each file name begins.
+    parts: Vec<usize>,
+    /// The row of each address, in the order of the addresses at which it changes.
+    steps: Vec<Step>,
+}
+
+impl Model for LineIndex {
+    ghost use Rattle.line_index.specs.Lines.{Lines};
+
+    ghost Value = { Lines };
+
+    ghost use Rattle.line_index.specs.Inside.{seen, IsKept};
+
+    ghost view = { seen };
+
+    ghost invariant = { IsKept };
+}
+
+impl LineIndex {
+    /// The look-ups of the rows of a program. They take n log n time and some 70 bytes a row.
+    pub fn build(
+        alloc: Global,
+        rows: Rows,
+        symbols: &Symbols,
+        image: &Image,
+    ) -> Result<LineIndex, NoMemory>
+        ensures { IfOk result (λ index. index ≡ lines_of rows symbols.now image.now) }
+    {
+        let functions = symbols.function_addresses(alloc)?;
+        let text = text_bounds(alloc, image)?;
+        let parts = part_starts(alloc, &rows)?;
+        let kept = kept_rows(alloc, &rows, &text)?;
+        let steps = table_of(alloc, &rows, &text, 0, rows.sequence_count())?;
+        Ok(LineIndex {
+            rows,
+            functions,
+            text,
+            kept,
+            parts,
+            steps,
+        })
+    }
+
+    /// The row that the instruction at an address belongs to.
+    pub fn row_at(&self, pc: u32) -> Option<Row>
+        ensures { result ≡ row_at self.now pc }
+    {
+        row_of(&self.steps, pc)
+    }
+
+    /// The row of a statement that begins at an address.
+    pub fn starts(&self, pc: u32) -> Option<Row>
+        ensures { result ≡ starts self.now pc }
+    {
+        match self.row_at(pc) {
+            Some(row) if row.address == pc && row.is_stmt => Some(row),
+            _ => None,
+        }
+    }
+
+    /// Where the least line of a file that isn't below another has its least address. The file is told by its name or
+    /// by the part of its name after the last `/`.
+    pub fn address_of(&self, file: &[u8], line: u32) -> Option<u32>
+        ensures { result ≡ address_of self.now file.now line }
+    {
+        soonest(&self.rows, &self.parts, &self.kept, file, line).map(|row| row.address)
+    }
+
+    /// Where a breakpoint on a function stands: behind its prologue, or at its start where no row tells that.
+    pub fn body_of(&self, function: &Named<'_>) -> u32
+        ensures { result ≡ body_of self.now (symbol_shown function.now) }
+    {
+        match section_end(&self.text, function.address) {
+            Some(text_end) => {
+                let end = function_end(&self.functions, function, text_end);
+                body_in(&self.kept, function.address, end)
+            }
+            None => function.address,
+        }
+    }
+
+    /// A file name by the number that a row has.
+    pub fn file_name(&self, file: u32) -> &[u8]
+        ensures { result.now ≡ file_name self.now.rows.names file }
+    {
+        name_of(&self.rows, file)
+    }
+}

@@ -1,0 +1,14 @@
+//! Look-ups in line tables: the row of an address, the address of a line, and the body of a function.
+#![tactic(auto)]
+
+mod body;
+mod files;
+mod index;
+mod steps;
+mod table;
+mod text;
+
+pub use index::LineIndex;
+
+#[cfg(test)]
+mod tests;
