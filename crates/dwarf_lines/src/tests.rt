@@ -3,6 +3,7 @@ mod vectors;
 use crate::rows;
 use line_rows::{LineFault, Row, Rows};
 use std::alloc::{AllocError, Global};
+use std::process::Abort;
 use std::test::Fail;
 use vectors::{
     CLANG_2, CLANG_5, CLANG_5_NAMES, CLANG_ROWS, GCC_3, GCC_4, GCC_5, GCC_5_NAMES, GCC_ROWS,
@@ -18,6 +19,11 @@ const TWO_ROWS_5: &str = "\
     42000000 0500 04 00 2A000000 01 01 01 FB 0E 0D 000101010100000001000001\
     01 011F 01 00000000 02 011F 020B 02 0000000000 0000000000\
     0005027400010003 0901 4B 0208 000101";
+
+/// A unit in whose program the length of an extended opcode has ten bytes FF.
+const WIDE_LENGTH: &str = "\
+    2B000000 0200 1A000000 01 01 FB 0E 0D 000101010100000001000001 00 612E6300000000 00\
+    00FFFFFFFFFFFFFFFFFFFF";
 
 const TWO_ROWS_PRINTED: &str = "a.c 10 0x10074 x\na.c 11 0x10078 x\nend 0x10080\n";
 
@@ -61,126 +67,142 @@ fn first_fault(rows: &Rows) -> Option<(usize, LineFault)> {
     rows.faults().first().map(|f| (f.offset, f.fault))
 }
 
+/// Reads a section and compares its first fault and its rows.
+fn expect(
+    rt: &impl Abort,
+    alloc: Global,
+    section: &[u8],
+    names: &[u8],
+    fault: Option<(usize, LineFault)>,
+    want: &str,
+) -> Result<(), Fail> {
+    let read = rows(alloc, section, names, b"")?;
+    assert_eq!(rt; first_fault(&read), fault);
+    assert_eq!(rt; printed(alloc, &read)?.as_str(), want);
+    Ok(())
+}
+
+/// The same of a section written in hexadecimal digits.
+fn expect_rows(
+    rt: &impl Abort,
+    alloc: Global,
+    section: &str,
+    names: &str,
+    want: &str,
+) -> Result<(), Fail> {
+    let section = decoded(alloc, section)?;
+    let names = decoded(alloc, names)?;
+    expect(rt, alloc, &section, &names, None, want)
+}
+
+/// A section with one byte changed, and a second unit behind it.
+fn expect_changed(
+    rt: &impl Abort,
+    alloc: Global,
+    section: &[u8],
+    names: &[u8],
+    at: usize,
+    byte: u8,
+    fault: LineFault,
+    want: &str,
+) -> Result<(), Fail> {
+    let mut changed = section.to_vec(alloc)?;
+    assert!(rt; at < changed.len());
+    changed[at] = byte;
+    changed.extend_from_slice(&decoded(alloc, TWO_ROWS)?)?;
+    expect(rt, alloc, &changed, names, Some((0, fault)), want)
+}
+
 #[test]
 fn sections_of_gcc_and_clang_have_the_rows_that_readelf_prints(
     rt: HostRuntime,
 ) -> Result<(), Fail> {
-    let alloc = rt.alloc();
-    let cases = [
-        (CLANG_2, "", CLANG_ROWS),
-        (GCC_3, "", GCC_ROWS),
-        (GCC_4, "", GCC_ROWS),
-        (GCC_5, GCC_5_NAMES, GCC_ROWS),
-        (CLANG_5, CLANG_5_NAMES, CLANG_ROWS),
-    ];
-    for (section, names, want) in cases {
-        let read = rows(
-            alloc,
-            &decoded(alloc, section)?,
-            &decoded(alloc, names)?,
-            b"",
-        )?;
-        assert_eq!(rt; first_fault(&read), None);
-        assert_eq!(rt; printed(alloc, &read)?.as_str(), want);
-        assert_eq!(rt; read.name_count(), 2);
-    }
-    Ok(())
+    expect_rows(&rt, rt.alloc(), CLANG_2, "", CLANG_ROWS)?;
+    expect_rows(&rt, rt.alloc(), GCC_3, "", GCC_ROWS)?;
+    expect_rows(&rt, rt.alloc(), GCC_4, "", GCC_ROWS)?;
+    expect_rows(&rt, rt.alloc(), GCC_5, GCC_5_NAMES, GCC_ROWS)?;
+    expect_rows(&rt, rt.alloc(), CLANG_5, CLANG_5_NAMES, CLANG_ROWS)
 }
 
 #[test]
 fn a_unit_with_a_fault_gives_no_rows(rt: HostRuntime) -> Result<(), Fail> {
-    let alloc = rt.alloc();
-    let whole = decoded(alloc, TWO_ROWS)?;
-    let read = rows(alloc, &whole, b"", b"")?;
-    assert_eq!(rt; first_fault(&read), None);
-    assert_eq!(rt; printed(alloc, &read)?.as_str(), TWO_ROWS_PRINTED);
+    let whole = decoded(rt.alloc(), TWO_ROWS)?;
+    expect(&rt, rt.alloc(), &whole, b"", None, TWO_ROWS_PRINTED)?;
     for length in [51, 10, 3, 1] {
         assert!(rt; length <= whole.len());
-        let read = rows(alloc, &whole[..length], b"", b"")?;
-        assert_eq!(rt;
-            first_fault(&read),
-            Some((0, LineFault::Short)),
-            "of {length} bytes"
-        );
-        assert_eq!(rt; read.sequence_count(), 0);
+        let short = Some((0, LineFault::Short));
+        expect(&rt, rt.alloc(), &whole[..length], b"", short, "")?;
     }
+    // Behind a unit with a fault the next one is read.
     let changes = [
         (4, 6, LineFault::Version),
         (6, 0x2B, LineFault::Header),
         (13, 0, LineFault::Header),
         (14, 0, LineFault::Header),
         (43, 4, LineFault::File),
-        (3, 0xFE, LineFault::Short),
     ];
-    // Behind a unit with a fault the next one is read, but not where its end can't be told.
     for (at, byte, fault) in changes {
-        let mut section = whole.clone()?;
-        assert!(rt; at < section.len());
-        section[at] = byte;
-        section.extend_from_slice(&whole)?;
-        let read = rows(alloc, &section, b"", b"")?;
-        assert_eq!(rt; first_fault(&read), Some((0, fault)), "{byte} at {at}");
-        let want = if at == 3 { "" } else { TWO_ROWS_PRINTED };
-        assert_eq!(rt; printed(alloc, &read)?.as_str(), want, "{byte} at {at}");
+        expect_changed(
+            &rt,
+            rt.alloc(),
+            &whole,
+            b"",
+            at,
+            byte,
+            fault,
+            TWO_ROWS_PRINTED,
+        )?;
     }
-    Ok(())
+    // But not where its end can't be told.
+    expect_changed(&rt, rt.alloc(), &whole, b"", 3, 0xFE, LineFault::Short, "")
 }
 
 #[test]
 fn units_are_read_one_after_another(rt: HostRuntime) -> Result<(), Fail> {
-    let alloc = rt.alloc();
-    let mut section = decoded(alloc, TWO_ROWS)?;
-    section.extend_from_slice(&decoded(alloc, TWO_ROWS_5)?)?;
-    let read = rows(alloc, &section, b"a.c\0", b"")?;
-    assert_eq!(rt; (read.sequence_count(), read.name_count()), (2, 1));
-    section.extend_from_slice(&[0xF0, 0xFF, 0xFF, 0xFF, 5, 0, 0])?;
-    let read = rows(alloc, &section, b"a.c\0", b"")?;
+    let mut section = decoded(rt.alloc(), TWO_ROWS)?;
+    section.extend_from_slice(&decoded(rt.alloc(), TWO_ROWS_5)?)?;
+    section.extend_from_slice(&decoded(rt.alloc(), "F0FFFFFF 050000")?)?;
+    let read = rows(rt.alloc(), &section, b"a.c\0", b"")?;
     assert_eq!(rt; first_fault(&read), Some((122, LineFault::Header)));
     assert_eq!(rt; read.sequence_count(), 2);
-    // The length of an extended opcode has ten bytes FF.
-    let wide = "\
-        2B000000 0200 1A000000 01 01 FB 0E 0D 000101010100000001000001 00 612E6300000000 00\
-        00FFFFFFFFFFFFFFFFFFFF";
-    let read = rows(alloc, &decoded(alloc, wide)?, b"", b"")?;
-    assert_eq!(rt; first_fault(&read), Some((0, LineFault::Leb)));
-    Ok(())
+    assert_eq!(rt; read.name_count(), 1);
+    let wide = decoded(rt.alloc(), WIDE_LENGTH)?;
+    expect(&rt, rt.alloc(), &wide, b"", Some((0, LineFault::Leb)), "")
 }
 
 #[test]
 fn headers_of_version_5_name_files_by_offsets(rt: HostRuntime) -> Result<(), Fail> {
-    let alloc = rt.alloc();
-    let whole = decoded(alloc, TWO_ROWS_5)?;
-    let read = rows(alloc, &whole, b"a.c\0", b"")?;
-    assert_eq!(rt; first_fault(&read), None);
-    assert_eq!(rt; printed(alloc, &read)?.as_str(), TWO_ROWS_PRINTED);
-    // The file's form is at 40, its content type at 39, and the size of an address at 6.
-    let cases: [(usize, u8, &[u8], LineFault); 9] = [
-        (40, 0x1F, b"a.c", LineFault::Short),
-        (40, 0x1F, b"", LineFault::Short),
-        (40, 0x0E, b"a.c\0", LineFault::Short),
-        (40, 0x1A, b"a.c\0", LineFault::Form),
-        (40, 0x06, b"a.c\0", LineFault::Form),
-        (6, 8, b"a.c\0", LineFault::Header),
-        (7, 1, b"a.c\0", LineFault::Header),
-        (30, 0, b"a.c\0", LineFault::Header),
-        (45, 1, b"a.c\0", LineFault::Short),
+    let whole = decoded(rt.alloc(), TWO_ROWS_5)?;
+    expect(&rt, rt.alloc(), &whole, b"a.c\0", None, TWO_ROWS_PRINTED)?;
+    expect(
+        &rt,
+        rt.alloc(),
+        &whole,
+        b"a.c",
+        Some((0, LineFault::Short)),
+        "",
+    )?;
+    // The file's form is at 40, the count of the directory's fields at 30, and the size of an address at 6.
+    let changes = [
+        (40, 0x0E, LineFault::Short),
+        (40, 0x1A, LineFault::Form),
+        (40, 0x06, LineFault::Form),
+        (6, 8, LineFault::Header),
+        (7, 1, LineFault::Header),
+        (30, 0, LineFault::Header),
+        (45, 1, LineFault::Short),
     ];
-    for (at, byte, names, fault) in cases {
-        let mut section = whole.clone()?;
-        assert!(rt; at < section.len());
-        section[at] = byte;
-        let read = rows(alloc, &section, names, b"")?;
-        assert_eq!(rt; first_fault(&read), Some((0, fault)), "{byte} at {at}");
-        assert_eq!(rt; read.sequence_count(), 0);
+    for (at, byte, fault) in changes {
+        expect_changed(
+            &rt,
+            rt.alloc(),
+            &whole,
+            b"a.c\0",
+            at,
+            byte,
+            fault,
+            TWO_ROWS_PRINTED,
+        )?;
     }
-    // Another content type is passed over, and the name is empty.
-    let mut section = whole.clone()?;
-    assert!(rt; section.len() > 39);
-    section[39] = 3;
-    let read = rows(alloc, &section, b"a.c\0", b"")?;
-    assert_eq!(rt;
-        printed(alloc, &read)?.as_str(),
-        " 10 0x10074 x\n 11 0x10078 x\nend 0x10080\n"
-    );
     Ok(())
 }

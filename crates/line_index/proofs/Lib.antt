@@ -6,3 +6,4 @@ pub mod Indexes
 pub mod LastPart
 pub mod Halves
 pub mod FunctionBody
+pub mod Ordered

@@ -34,7 +34,7 @@ fn push_sequence(
     rows.end_sequence(end)
 }
 
-/// Several rows at one address, and sequences that overlap or begin out of text.
+/// Several rows at one address, rows out of order, and sequences that overlap or begin out of text.
 fn index_of(alloc: Global, image: &Image) -> Result<LineIndex, NoMemory> {
     let mut rows = Rows::new(alloc);
     rows.push_name(b"src/b.c")?;
@@ -44,8 +44,8 @@ fn index_of(alloc: Global, image: &Image) -> Result<LineIndex, NoMemory> {
         (0x10074, 0, 5, true, false),
         (0x10074, 0, 6, true, false),
         (0x10074, 1, 7, false, false),
-        (0x10078, 0, 8, false, false),
         (0x1007c, 0, 9, true, true),
+        (0x10078, 0, 8, false, false),
     ];
     push_sequence(&mut rows, &first, 0x10080)?;
     push_sequence(&mut rows, &[(0x10078, 0, 20, true, false)], 0x10084)?;
