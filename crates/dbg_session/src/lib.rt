@@ -9,6 +9,8 @@ mod status;
 mod steps;
 #[cfg(test)]
 mod tests;
+#[cfg(test)]
+mod told_tests;
 
 pub use dbg_engine::Closed;
 pub use run::debug_run;
