@@ -1,7 +1,6 @@
 -- The units of a section.
-use Rattle.std.proofs.Common.{◌≡◌, ℕ, zero, suc, ◌+◌, ◌-◌, ◌<◌, ◌≤◌, Bool, true, false, List, [], ◌∷◌, length, refl, arith, ◌∙◌, ap, sym, subst}
+use Rattle.std.proofs.Common.{◌≡◌, ℕ, zero, suc, ◌+◌, ◌-◌, ◌<◌, ◌≤◌, Bool, true, false, List, [], ◌∷◌, length, refl, arith, ◌∙◌, ap, sym}
 use Rattle.std.specs.Prelude.{Ok, Err, Result, if◌then◌else◌, nat_le}
-use Rattle.byteorder.specs.Endian.{little_number}
 use Rattle.leb_read.specs.Leb.{found, number_at}
 use Rattle.leb_read.specs.declared.fault.Leb.TheVariants.{Short}
 use Rattle.std.proofs.lemmas.Bool.Decides.{nat_tests}

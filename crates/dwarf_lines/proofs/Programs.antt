@@ -1,8 +1,8 @@
 -- The parameters of a program.
-use Rattle.std.proofs.Common.{◌≡◌, ℕ, zero, suc, ◌+◌, ◌-◌, ◌<◌, ◌≤◌, List, length, refl, arith, ◌∙◌, ap, sym, subst, take, drop, ℤ}
+use Rattle.std.proofs.Common.{◌≡◌, ℕ, zero, suc, ◌-◌, ◌<◌, List, length, arith, ◌∙◌, ap, sym, subst, take, drop, ℤ}
 use Rattle.std.proofs.lemmas.List.{take_rest}
 use Rattle.std.proofs.Props.{props}
-use Rattle.std.specs.Prelude.{Ok, Err, Result}
+use Rattle.std.specs.Prelude.{Err, Result}
 use Rattle.line_headers.specs.declared.header.Header.{Header}
 use Rattle.line_programs.specs.Machine.{GivesRows, program_of}
 use Rattle.line_programs.specs.declared.fault.ProgramError.{ProgramError}
@@ -10,7 +10,7 @@ use Rattle.line_programs.specs.declared.fault.ProgramError.TheVariants as error
 use Rattle.line_programs.specs.declared.parameters.Parameters.{Parameters}
 use Rattle.line_rows.specs.RowList.{RowList}
 use Rattle.line_rows.specs.declared.fault.LineFault.{LineFault}
-use Rattle.dwarf_lines.specs.Rows.{above, lengths_in, parameters_of, program_by, program_in}
+use Rattle.dwarf_lines.specs.Rows.{above, lengths_in, program_by, program_in}
 
 -- the parameters of a header under a line_range that isn't 0
 abbrev pub given : Header → ℕ → (r : ℕ) → 0 < r → Parameters

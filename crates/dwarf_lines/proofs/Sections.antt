@@ -1,6 +1,6 @@
 -- The steps from unit to unit.
-use Rattle.std.proofs.Common.{◌≡◌, ℕ, ◌+◌, ◌-◌, ◌<◌, ◌≤◌, List, [], length, take, fold, refl, arith, ◌∙◌, ap, sym}
-use Rattle.std.specs.Prelude.{Ok, Err, Result}
+use Rattle.std.proofs.Common.{◌≡◌, ℕ, ◌+◌, ◌-◌, ◌<◌, ◌≤◌, List, [], length, take, fold, arith, ◌∙◌, ap, sym}
+use Rattle.std.specs.Prelude.{Ok}
 use Rattle.std.specs.Ordering.{nat_cmp}
 use Rattle.std.specs.Cmp.Lexicographic.{slice_cmp}
 use Rattle.std.specs.BTreeMap as tree
@@ -9,8 +9,7 @@ use Rattle.std.specs.Map.{lookup}
 use Rattle.std.specs.Global.{Vec}
 use Rattle.line_headers.specs.Texts.{Texts, texts_in}
 use Rattle.line_rows.specs.RowList.{RowList, no_rows}
-use Rattle.line_rows.specs.declared.fault.LineFault.{LineFault}
-use Rattle.dwarf_lines.specs.Numbering.{AreNumbers, number_at, place_of}
+use Rattle.dwarf_lines.specs.Numbering.{AreNumbers, place_of}
 use Rattle.dwarf_lines.specs.Rows.{add_result, add_unit_of, rows_in, rows_of}
 use Rattle.dwarf_lines.specs.Units.{Unit, unit_end, units_from}
 use Rattle.dwarf_lines.proofs.Places.{units_at, units_behind}

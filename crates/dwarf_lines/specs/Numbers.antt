@@ -1,6 +1,6 @@
 -- The numbers of file names: names are numbered from 0 in the order in which rows first have them.
-use Rattle.std.specs.Prelude.{◌≡◌, ℕ, Bool, ◌-◌, List, [], ◌∷◌, ◌++◌, length, nat_lt, fold, Option, Some, if◌then◌else◌, slice_get}
-use Rattle.std.specs.List.{position_or_len, position, slice_index_or}
+use Rattle.std.specs.Prelude.{ℕ, Bool, ◌-◌, List, [], ◌∷◌, ◌++◌, length, nat_lt, fold, if◌then◌else◌}
+use Rattle.std.specs.List.{position_or_len, slice_index_or}
 use Rattle.std.specs.Str.{bytes_eq}
 use Rattle.line_rows.specs.RowList.{RowList, Sequence, ended_with}
 use Rattle.line_rows.specs.declared.row.Row.{Row}

@@ -1,5 +1,5 @@
 -- The rows of a section.
-use Rattle.std.specs.Prelude.{◌≡◌, ℕ, zero, suc, ◌+◌, ◌-◌, ◌<◌, List, [], ◌∷◌, ◌++◌, length, map, fold, take, drop, Result, Ok, Err}
+use Rattle.std.specs.Prelude.{ℕ, zero, suc, ◌+◌, ◌-◌, ◌<◌, List, [], ◌∷◌, ◌++◌, length, map, fold, take, drop, Result, Ok, Err}
 use Rattle.line_headers.specs.Reading.{Reading}
 use Rattle.line_headers.specs.Texts.{Texts, texts_in}
 use Rattle.line_headers.specs.Header.{header_at}
@@ -9,7 +9,6 @@ use Rattle.line_programs.specs.Machine.{program_of}
 use Rattle.line_programs.specs.declared.parameters.Parameters.{Parameters}
 use Rattle.line_rows.specs.RowList.{RowList, no_rows}
 use Rattle.line_rows.specs.declared.fault.LineFault.{LineFault}
-use Rattle.line_rows.specs.declared.fault.UnitFault.{UnitFault}
 use Rattle.dwarf_lines.specs.Names.{name_in}
 use Rattle.dwarf_lines.specs.Numbers.{UnitRows, add_unit}
 use Rattle.dwarf_lines.specs.Units.{Unit, units_of}

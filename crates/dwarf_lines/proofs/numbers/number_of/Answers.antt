@@ -1,4 +1,4 @@
-use Rattle.std.proofs.Common.{◌≡◌, sym, ◌∙◌}
+use Rattle.std.proofs.Common.{◌∙◌}
 use Rattle.dwarf_lines.proofs.Known.{numbered_new}
 use Rattle.dwarf_lines.proofs.numbers.number_of.Goals as goal
 

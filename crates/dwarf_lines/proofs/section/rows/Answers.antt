@@ -1,4 +1,4 @@
-use Rattle.std.proofs.Common.{◌≡◌, ap, arith, sym, ◌∙◌}
+use Rattle.std.proofs.Common.{ap, arith, ◌∙◌}
 use Rattle.line_rows.specs.RowList.{RowList}
 use Rattle.dwarf_lines.proofs.Sections.{begins, goes_on, no_numbers}
 use Rattle.dwarf_lines.proofs.section.rows.Goals as goal

@@ -1,4 +1,4 @@
-use Rattle.std.proofs.Common.{◌≡◌, arith, rules, w8, SFits}
+use Rattle.std.proofs.Common.{rules, w8, SFits}
 use Rattle.std.proofs.lemmas.Int.{to_z-of_z}
 use Rattle.dwarf_lines.proofs.Programs.{gives_fault, program_found}
 use Rattle.dwarf_lines.proofs.unit.program_in.Goals as goal
