@@ -3,6 +3,7 @@ use Rattle.std.specs.Prelude.{ℕ, suc, zero, ◌+◌, Bool, true, false, List, 
 use Rattle.rv_exec.specs.declared.effect.Cause.{Cause}
 use Rattle.rv_exec.specs.Causes.{cause_number}
 use Rattle.rv_exec.specs.Registers.{Registers}
+use Rattle.rv_exec.specs.Memory.{Memory}
 use Rattle.plain_machine.specs.Environment.{Answer, Traps, Goes, Leave, Stays, LeavesAlone, LeavesAll}
 use Rattle.plain_machine.specs.Plain.{plain}
 use Rattle.dbg_model.specs.declared.entry.Mode.{Mode}

@@ -15,7 +15,7 @@ use Rattle.engine_facts.specs.declared.mind.Hold.{Hold}
 use Rattle.engine_facts.specs.declared.mind.Mind.{Mind}
 use Rattle.engine_facts.specs.Minds.{gone_mind, lifted_of, slot_of, entered_of}
 use Rattle.engine_facts.specs.Facts.{HartFact, Harts, HasSlot, Slotted, Placed, held_by}
-use Rattle.engine_facts.specs.Moves.{AreHome}
+use Rattle.engine_facts.specs.Moves.{IsHome, AreHome, OneSlot}
 
 -- the slots of the others stay; what is out is another's as before, or hart h's own by its phase
 pub record SlotChange (old new : List (Option SlotUse)) (h : ℕ) (q : Phase) : Type 0 where
@@ -29,7 +29,7 @@ pub record Changes (p : Program) (old new : List (Option SlotUse)) (hold hold' :
   pub fact : HartFact p new hold' h c x
   pub holder : (d : Hold) → hold' ≡ Some d → (hold ≡ Some d) ⊎ (h ≡ d.hart)
 
-slotted_kept : (p : Program) (old new : List (Option SlotUse)) (h k slot home : ℕ) (q : Phase) → SlotChange old new h q → (h ≡ k → ⊥) → Slotted p old k slot home → Slotted p new k slot home
+abbrev slotted_kept : (p : Program) (old new : List (Option SlotUse)) (h k slot home : ℕ) (q : Phase) → SlotChange old new h q → (h ≡ k → ⊥) → Slotted p old k slot home → Slotted p new k slot home
 slotted_kept p old new h k slot home q ch n s =
     record { word = s.word; out = ch.kept slot (record { hart = k; word = s.word }) s.out n; image = s.image; at_slot = s.at_slot; at_home = s.at_home }
 
@@ -94,21 +94,16 @@ own_slot p cs slots xs hold h x slot u hs f e is =
 
 same_by : (p : Program) (cs : List Core) (slots : List (Option SlotUse)) (xs : List Mind) (hold : Option Hold) (h : ℕ) (x : Mind) (q : Phase) (slot : ℕ) (u : SlotUse) → Harts p cs slots xs hold → slice_get xs h ≡ Some x → slot_of q ≡ slot_of x.phase
     → use_at slots slot ≡ Some u → (h ≡ u.hart) ⊎ (h ≡ u.hart → ⊥) → ((h ≡ u.hart → ⊥) × (use_at slots slot ≡ Some u)) ⊎ ((h ≡ u.hart) × (slot_of q ≡ Some slot))
-same_by p cs slots xs hold h x q slot u hs f as e (inl is) = inr (is, as ∙ own_slot p cs slots xs hold h x slot u hs f e is)
-same_by p cs slots xs hold h x q slot u hs f as e (inr n) = inl (n, e)
+same_by p cs slots xs hold h x q slot u hs f alike e (inl is) = inr (is, alike ∙ own_slot p cs slots xs hold h x slot u hs f e is)
+same_by p cs slots xs hold h x q slot u hs f alike e (inr n) = inl (n, e)
 
 -- all stay
 pub slots_same : (p : Program) (cs : List Core) (slots : List (Option SlotUse)) (xs : List Mind) (hold : Option Hold) (h : ℕ) (x : Mind) (q : Phase) → Harts p cs slots xs hold → slice_get xs h ≡ Some x → slot_of q ≡ slot_of x.phase → SlotChange slots slots h q
-slots_same p cs slots xs hold h x q hs f as =
-    record { kept = λ slot u e n. e; out = λ slot u e. same_by p cs slots xs hold h x q slot u hs f as e (same_place h u.hart) }
+slots_same p cs slots xs hold h x q hs f alike =
+    record { kept = λ slot u e n. e; out = λ slot u e. same_by p cs slots xs hold h x q slot u hs f alike e (same_place h u.hart) }
 
 some_none : {A B : Type 0} (a : A) → Some a ≡ None → B
 some_none a e = cc
-
--- one slot changes its use, and the others stay
-pub record OneSlot (old new : List (Option SlotUse)) (slot : ℕ) (to : Option SlotUse) : Type 0 where
-  pub here : use_at new slot ≡ to
-  pub others : (s : ℕ) → (slot ≡ s → ⊥) → use_at new s ≡ use_at old s
 
 taken_kept : (old new : List (Option SlotUse)) (slot s : ℕ) (u v : SlotUse) → use_at old slot ≡ None → OneSlot old new slot (Some v) → use_at old s ≡ Some u → (slot ≡ s) ⊎ (slot ≡ s → ⊥) → use_at new s ≡ Some u
 taken_kept old new slot s u v was one e (inl is) = some_none u (sym e ∙ (ap (use_at old) (sym is) ∙ was))
@@ -158,19 +153,30 @@ slots_freed p cs old new xs hold h slot word x q hs f has was one =
 
 -- ---- all harts have exited
 
-home_entered : (p : Program) (cs : List Core) (xs : List Mind) (ds : List Core) (k : ℕ) (d : Core) → AreHome p cs xs ds → slice_get ds k ≡ Some d → d.entered ≡ None
-home_entered p [] xs [] k d h at = cc
-home_entered p [] xs (e ∷ ds) k d h at = absurd h
-home_entered p (c ∷ cs) xs [] k d h at = absurd h
-home_entered p (c ∷ cs) [] (e ∷ ds) k d h at = absurd h
-home_entered p (c ∷ cs) (x ∷ xs) (e ∷ ds) zero d h at = ap (λ (a : Core). a.entered) (sym (same_some e d at)) ∙ h.0.entered
-home_entered p (c ∷ cs) (x ∷ xs) (e ∷ ds) (suc k) d h at = home_entered p cs xs ds k d h.1 at
+-- a hart that is home, and what it was
+pub record HomeAt (p : Program) (cs : List Core) (xs : List Mind) (k : ℕ) (d : Core) : Type 0 where
+  pub core : Core
+  pub mind : Mind
+  pub core_at : slice_get cs k ≡ Some core
+  pub mind_at : slice_get xs k ≡ Some mind
+  pub home : IsHome p core mind d
+
+pub home_at : (p : Program) (cs : List Core) (xs : List Mind) (ds : List Core) (k : ℕ) (d : Core) → AreHome p cs xs ds → slice_get ds k ≡ Some d → HomeAt p cs xs k d
+home_at p [] xs [] k d h at = cc
+home_at p [] xs (e ∷ ds) k d h at = absurd h
+home_at p (c ∷ cs) xs [] k d h at = absurd h
+home_at p (c ∷ cs) [] (e ∷ ds) k d h at = absurd h
+home_at p (c ∷ cs) (x ∷ xs) (e ∷ ds) zero d h at =
+    record { core = c; mind = x; core_at = refl; mind_at = refl; home = subst (λ (y : Core). IsHome p c x y) (same_some e d at) h.0 }
+home_at p (c ∷ cs) (x ∷ xs) (e ∷ ds) (suc k) d h at =
+    let a = home_at p cs xs ds k d h.1 at in
+    record { core = a.core; mind = a.mind; core_at = a.core_at; mind_at = a.mind_at; home = a.home }
 
 -- a hart that has exited steps over nothing
-record IsGone (y : Mind) : Type 0 where
-  phase_is : y.phase ≡ phase.Idle
+pub record IsGone (y : Mind) : Type 0 where
+  pub phase_is : y.phase ≡ phase.Idle
 
-gone_by : (xs : List Mind) (k : ℕ) (y : Mind) → slice_get (map gone_mind xs) k ≡ Some y → IsGone y
+pub gone_by : (xs : List Mind) (k : ℕ) (y : Mind) → slice_get (map gone_mind xs) k ≡ Some y → IsGone y
 gone_by [] k y e = cc
 gone_by (x ∷ xs) zero y e = record { phase_is = ap (λ (z : Mind). z.phase) (sym (same_some (gone_mind x) y e)) }
 gone_by (x ∷ xs) (suc k) y e = gone_by xs k y e
@@ -199,7 +205,7 @@ pub all_updated : (p : Program) (cs : List Core) (slots : List (Option SlotUse))
 all_updated p cs slots xs ds len home free =
     record {
       len = simp length-map len;
-      each = λ k d y dk yk. gone_fact p slots xs k d y (home_entered p cs xs ds k d home dk) yk;
+      each = λ k d y dk yk. gone_fact p slots xs k d y (home_at p cs xs ds k d home dk).home.entered yk;
       holder = λ d e. none_some d e;
       used = λ slot u e. free_use slots slot u free e;
     }

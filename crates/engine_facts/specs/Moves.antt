@@ -1,9 +1,10 @@
 -- What the moves of an engine do to it.
-use Rattle.std.specs.Prelude.{◌≡◌, ℕ, ◌+◌, Bool, List, [], ◌∷◌, ◌++◌, Option, Some, None, IsSome, slice_set}
+use Rattle.std.specs.Prelude.{◌≡◌, ℕ, ◌+◌, Bool, List, [], ◌∷◌, ◌++◌, length, Option, Some, None, IsSome, slice_set}
 use Rattle.rv_exec.specs.Memory.{Memory}
 use Rattle.elf32_read.specs.Program.{Program}
 use Rattle.text_words.specs.Words.{Words, shown, is_planted}
 use Rattle.scratch_slots.specs.declared.slots.SlotUse.{SlotUse}
+use Rattle.scratch_slots.specs.Table.{use_at}
 use Rattle.mi_commands.specs.declared.command.Displaced.{Displaced}
 use Rattle.hart_machine.specs.declared.hart.Core.{Core}
 use Rattle.break_table.specs.Entry.{Entry as BreakEntry}
@@ -38,6 +39,22 @@ rephased r h x t hold = record r { machine = record r.machine { text = t }; mind
 abbrev pub rehomed : Run → ℕ → Core → Mind → Words → List (Option SlotUse) → Option Hold → Run
 rehomed r h c x t slots hold =
     record r { machine = record r.machine { text = t; cores = slice_set r.machine.cores h c; slots = slots }; minds = slice_set r.minds h x; hold = hold }
+
+-- one slot changes its use, and the others stay
+pub record OneSlot (old new : List (Option SlotUse)) (slot : ℕ) (to : Option SlotUse) : Type 0 where
+  pub here : use_at new slot ≡ to
+  pub others : (s : ℕ) → (slot ≡ s → ⊥) → use_at new s ≡ use_at old s
+
+-- the slots after a hart gave its own back
+pub record Frees (old new : List (Option SlotUse)) (slot : ℕ) : Type 0 where
+  pub one : OneSlot old new slot None
+  pub len : length new ≡ length old
+
+-- the slots after a hart took one for a word
+pub record Takes (old new : List (Option SlotUse)) (h slot word : ℕ) : Type 0 where
+  pub was : use_at old slot ≡ None
+  pub one : OneSlot old new slot (Some (record { hart = h; word = word }))
+  pub len : length new ≡ length old
 
 -- a hart is home: its registers are those that it shows
 pub record IsHome (p : Program) (c : Core) (x : Mind) (d : Core) : Type 0 where
