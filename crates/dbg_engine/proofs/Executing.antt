@@ -21,7 +21,7 @@ use Rattle.dbg_model.specs.Journals.{lengthened}
 use Rattle.engine_facts.specs.declared.mind.Activity.TheVariants as activity
 use Rattle.engine_facts.specs.declared.mind.Hold.{Hold}
 use Rattle.engine_facts.specs.declared.mind.Mind.{Mind}
-use Rattle.engine_facts.specs.declared.mind.Phase.TheVariants as phase
+use Rattle.step_over.specs.declared.phase.Phase.TheVariants as phase
 use Rattle.engine_facts.specs.Minds.{is_before, ran_mind, exited_mind, gone_mind, lefts_live}
 use Rattle.engine_facts.specs.Seen.{Run, seen, seen_hart}
 use Rattle.engine_facts.specs.Facts.{Facts, wanted, other_holder}

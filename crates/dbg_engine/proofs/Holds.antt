@@ -22,7 +22,7 @@ use Rattle.dbg_model.specs.Lawful.{may_go}
 use Rattle.engine_facts.specs.declared.mind.Activity.TheVariants as activity
 use Rattle.engine_facts.specs.declared.mind.Hold.{Hold}
 use Rattle.engine_facts.specs.declared.mind.Mind.{Mind}
-use Rattle.engine_facts.specs.declared.mind.Phase.TheVariants as phase
+use Rattle.step_over.specs.declared.phase.Phase.TheVariants as phase
 use Rattle.engine_facts.specs.Minds.{is_active, with_phase, first_mind, counted_mind, lifted_of}
 use Rattle.engine_facts.specs.Seen.{Run, seen, seen_hart}
 use Rattle.engine_facts.specs.Facts.{Facts, Retired, wanted, other_holder}

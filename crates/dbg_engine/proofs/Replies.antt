@@ -19,7 +19,7 @@ use Rattle.dbg_model.specs.Reply.{Outcome, Answer, refusing, valued, numbers_bel
 use Rattle.dbg_model.proofs.Replying.{reply_long, reply_malformed, reply_cli, reply_answers, wait_answers, wait_long, wait_none, wait_cli}
 use Rattle.engine_facts.specs.declared.mind.Hold.{Hold}
 use Rattle.engine_facts.specs.declared.mind.Mind.{Mind}
-use Rattle.engine_facts.specs.declared.mind.Phase.TheVariants as phase
+use Rattle.step_over.specs.declared.phase.Phase.TheVariants as phase
 use Rattle.engine_facts.specs.Minds.{runs, lifted_of}
 use Rattle.engine_facts.specs.Seen.{Run, seen, seen_harts}
 use Rattle.engine_facts.specs.Facts.{Facts, held_by, other_holder}

@@ -15,7 +15,7 @@ use Rattle.elf_symbols.specs.Entries.{names_of}
 use Rattle.dbg_model.specs.declared.entry.Entry.{Entry}
 use Rattle.dbg_model.specs.declared.opening.Opening.{Opening}
 use Rattle.break_table.specs.Table.{stands}
-use Rattle.dbg_model.specs.State.{is_off}
+use Rattle.dbg_model.specs.State.{State, is_off}
 use Rattle.dbg_model.specs.Journals.{Leaves}
 use Rattle.dbg_model.specs.Erase.{erase, steps_of}
 use Rattle.engine_facts.specs.declared.mind.Hold.{Hold}
@@ -113,6 +113,11 @@ pending d q = if not (is_off d) && is_lifted q then 1 else 0
 abbrev pub AreCopied : ℕ → List Core → List Mind → Displaced → List ℕ → ℕ → Type 0
 AreCopied count cores minds d passed sets =
     0 < count → (h : ℕ) (c : Core) (x : Mind) → slice_get cores h ≡ Some c → slice_get minds h ≡ Some x → slice_index passed h + pending d x.phase ≤ c.copied + sets
+
+-- where there are slots, each hart's copies and the lines that switched displaced stepping on are together at least its
+-- instructions that were executed where an enabled breakpoint stood, while displaced stepping wasn't off
+abbrev pub CopiedOver : ℕ → List Core → State → Type 0
+CopiedOver count cores s = 0 < count → (h : ℕ) (c : Core) → slice_get cores h ≡ Some c → slice_index s.passed h ≤ c.copied + s.sets
 
 -- the patch is lifted for one hart at most
 abbrev pub OneLifted : Run → Type 0
