@@ -1,7 +1,8 @@
 -- A copied step and its settling are the plain step at home.
-use Rattle.std.proofs.Common.{◌≡◌, ℕ, ◌+◌, ◌*◌, ◌%◌, ◌^◌, ◌<◌, Bool, true, false, length, min, refl, ap, sym, ◌∙◌, subst, arith, List, Option, Some, None}
-use Rattle.std.specs.Prelude.{[], ◌==◌, if◌then◌else◌}
-use Rattle.std.proofs.lemmas.Bool.{eq-eqb}
+use Rattle.std.proofs.Common.{◌≡◌, ℕ, ◌+◌, ◌*◌, ◌%◌, ◌^◌, ◌<◌, ◌≤◌, Bool, true, false, length, min, refl, ap, sym, ◌∙◌, subst, arith, List, Option, Some, None}
+use Rattle.std.specs.Prelude.{[], ◌-◌, ◌==◌, ◌&&◌, nat_le, slice_get, if◌then◌else◌}
+use Rattle.std.specs.Option.{option_and_then}
+use Rattle.std.proofs.lemmas.Bool.{eq-eqb, eqb-true, leb-true}
 use Rattle.rv_decode.specs.declared.instr.Instr.{Instr}
 use Rattle.rv_decode.specs.declared.instr.Instr.TheVariants.{Lui, Auipc, Jal, Jalr, Branch, Load, Store, OpImm, Op, MulDiv, Amo, Fence, FenceI, Ecall, Ebreak}
 use Rattle.rv_decode.specs.Decode.{decode}
@@ -15,7 +16,7 @@ use Rattle.data_memory.specs.Ranges.{bytes_at}
 use Rattle.displaced_fix.specs.Fix.{distance, moved_pc, fix, outcome_at_home, IsWordAddress}
 use Rattle.displaced_fix.proofs.Law.{law, given, never}
 use Rattle.scratch_slots.specs.declared.slots.SlotUse.{SlotUse}
-use Rattle.scratch_slots.specs.Table.{slot_address, use_at, is_address}
+use Rattle.scratch_slots.specs.Table.{slot_address, slot_number, use_at, is_address}
 use Rattle.text_words.specs.declared.fetch.Fetch.{Fetch}
 use Rattle.text_words.specs.Words.{decoded_as, fetched}
 use Rattle.plain_machine.specs.Environment.{Answer, Traps, Goes, Leave, Stays, LeavesAlone, LeavesAll, call, write, wrote, is_output, negative, answered}
@@ -23,8 +24,8 @@ use Rattle.plain_machine.specs.Plain.{on_word, on_instruction, on_outcome}
 use Rattle.plain_machine.specs.Answers.{StepGives}
 use Rattle.hart_machine.specs.declared.hart.Core.{Core}
 use Rattle.hart_machine.specs.Patched.{Patched}
-use Rattle.hart_machine.specs.Stepping.{CoreSteps, FetchGives, counted, still_entered, is_in_slot, fetch_of}
-use Rattle.hart_machine.specs.Copying.{settled_regs, fixed}
+use Rattle.hart_machine.specs.Stepping.{FetchGives, StepsTo, counted, has_run, is_in_slot, fetch_of}
+use Rattle.hart_machine.specs.Copying.{settled_regs, fixed, CopyIsStepAtHome}
 
 -- each slot is a word
 pub slot_is_word : (k : ℕ) → k < 512 → IsWordAddress (slot_address k)
@@ -104,15 +105,6 @@ module _ (slot home : ℕ) (at_slot : IsWordAddress slot) (at_home : IsWordAddre
       ap (λ q. answer_by (λ q. fix i slot home q true) (on_instruction q m (Some i))) (ap (set_pc r) at)
       ∙ outcome_alike i r m (step i (set_pc r slot) m) refl (law i r m slot home at_slot at_home).alike
 
--- whether a step executed an instruction
-abbrev pub has_run : Stepped → Bool
-has_run stepped.Ran = true
-has_run (stepped.Wrote addr len) = true
-has_run (stepped.HartExit code) = true
-has_run (stepped.AllExit code) = true
-has_run stepped.Hit = false
-has_run (stepped.Trap cause) = false
-
 gives_home : (s : Stepped) (a : Answer) (i : Instr) (slot home : ℕ) (r r' : Registers) (m m' : Memory) → StepGives s a r r' m m'
     → StepGives s (answer_by (λ q. fix i slot home q true) a) (set_pc r home) (fix i slot home r' (has_run s)) m m'
 gives_home stepped.Ran a i slot home r r' m m' g = ap (answer_by (λ q. fix i slot home q true)) g
@@ -144,9 +136,9 @@ copied_alike s w slot home r r' m m' a b at g = alike_by (decode w) s slot home 
 -- a copy that didn't run leaves pc alone to go home
 pub settled_unrun : (w slot home : ℕ) (r : Registers) → settled_regs w slot home r false ≡ set_pc r home
 settled_unrun w slot home r = elim (decode w) as (λ o. fixed o slot home r false ≡ set_pc r home) [
-    | None ↦ refl
-    | Some i ↦ refl
-  ]
+  | None ↦ refl
+  | Some i ↦ refl
+]
 
 -- a hart that has entered no slot finds the stored word
 pub fetch_text : (m : Patched) (c : Core) → c.entered ≡ None → fetch_of m c ≡ fetched m.text c.regs.pc
@@ -158,3 +150,30 @@ in_slot c slot e at = rw (e, at) (eq-eqb slot slot refl)
 -- and one at the slot that it entered finds the slot's word
 pub fetch_slot : (m : Patched) (c : Core) (slot : ℕ) (u : SlotUse) → c.entered ≡ Some slot → c.regs.pc ≡ slot → use_at m.slots slot ≡ Some u → fetch_of m c ≡ decoded_as (decode u.word)
 fetch_slot m c slot u e at found = rw (in_slot c slot e at, at, found) refl
+
+-- the address at which a slot is out is a word's
+address_in : (b : Bool) (slots : List (Option SlotUse)) (slot : ℕ) (u : SlotUse) → (if b then option_and_then (λ u. u) (slice_get slots (slot_number slot)) else None) ≡ Some u → b ≡ true
+address_in true slots slot u e = refl
+address_in false slots slot u e = cc
+
+aligned_in : (slot : ℕ) (b : Bool) → b ≡ nat_le 0xFFFFF000 slot → (b && ((slot - 0xFFFFF000) % 8 == 0)) ≡ true → slot % 4 ≡ 0
+aligned_in slot true e h =
+    let low : 0xFFFFF000 ≤ slot = leb-true 0xFFFFF000 slot (sym e) in
+    let even : (slot - 0xFFFFF000) % 8 ≡ 0 = eqb-true ((slot - 0xFFFFF000) % 8) 0 h in
+    omega (arith, low, even)
+aligned_in slot false e h = cc
+
+pub claimed_is_word : (slots : List (Option SlotUse)) (slot : ℕ) (u : SlotUse) → slot < 2 ^ 32 → use_at slots slot ≡ Some u → IsWordAddress slot
+claimed_is_word slots slot u h e =
+    record { fits = h; aligned = aligned_in slot (nat_le 0xFFFFF000 slot) refl (address_in (is_address slot) slots slot u e) }
+
+pub copy_is_step_at_home : CopyIsStepAtHome
+copy_is_step_at_home s old new h c u slot home e at found b t =
+    let a : IsWordAddress slot = claimed_is_word old.slots slot u (omega (arith, t.below, at)) found in
+    record {
+      gives = copied_alike s u.word slot home c.regs t.core.regs old.memory t.memory a b at
+          (subst (λ f. FetchGives s f c.regs t.core.regs old.memory t.memory) (fetch_slot old c slot u e at found) t.steps.gives);
+      retired = t.steps.retired;
+      copied = rw (t.steps.copied, in_slot c slot e at) refl;
+      entered = rw (t.steps.entered, e) refl;
+    }

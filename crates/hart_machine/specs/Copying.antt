@@ -1,14 +1,18 @@
 -- How a hart goes to a scratch slot, and comes home from it.
-use Rattle.std.specs.Prelude.{◌≡◌, ℕ, Bool, List, Option, Some, None, slice_get, slice_set}
+use Rattle.std.specs.Prelude.{◌≡◌, ℕ, Bool, List, Option, Some, None, slice_get, slice_set, if◌then◌else◌}
 use Rattle.std.specs.Option.{option_map}
 use Rattle.rv_decode.specs.declared.instr.Instr.{Instr}
 use Rattle.rv_decode.specs.Decode.{decode}
 use Rattle.rv_exec.specs.Registers.{Registers, set_pc}
-use Rattle.displaced_fix.specs.Fix.{fix}
+use Rattle.rv_exec.specs.Memory.{Memory}
+use Rattle.rv_exec.specs.declared.effect.Stepped.{Stepped}
+use Rattle.displaced_fix.specs.Fix.{fix, IsWordAddress}
 use Rattle.scratch_slots.specs.declared.slots.SlotUse.{SlotUse}
 use Rattle.scratch_slots.specs.Table.{use_at}
+use Rattle.plain_machine.specs.Plain.{on_word}
 use Rattle.hart_machine.specs.declared.hart.Core.{Core}
 use Rattle.hart_machine.specs.Patched.{Patched}
+use Rattle.hart_machine.specs.Stepping.{StepGives, StepsTo, counted, has_run}
 
 -- the hart that has a slot
 abbrev pub owner : List (Option SlotUse) → ℕ → Option ℕ
@@ -42,3 +46,17 @@ Settles old h slot home ran new =
     (c : Core) (u : SlotUse) →
     slice_get old.cores h ≡ Some c → use_at old.slots slot ≡ Some u →
     new ≡ with_core old h (settled_core u.word slot home c ran)
+
+-- a step in a slot, once it is settled, is the plain step at home of the word w that the slot holds
+pub record IsStepAtHome (s : Stepped) (w slot home : ℕ) (c c' : Core) (m m' : Memory) : Type 0 where
+  pub gives : StepGives s (on_word (set_pc c.regs home) m (Some w)) (set_pc c.regs home) (settled_regs w slot home c'.regs (has_run s)) m m'
+  pub retired : c'.retired ≡ counted s c.retired
+  pub copied : c'.copied ≡ counted s c.copied
+  pub entered : c'.entered ≡ (if has_run s then None else Some slot)
+
+-- each step of a hart at a slot that it entered is one at home
+abbrev pub CopyIsStepAtHome : Type 0
+CopyIsStepAtHome =
+    (s : Stepped) (old new : Patched) (h : ℕ) (c : Core) (u : SlotUse) (slot home : ℕ) →
+    c.entered ≡ Some slot → c.regs.pc ≡ slot → use_at old.slots slot ≡ Some u → IsWordAddress home →
+    (t : StepsTo s old h c new) → IsStepAtHome s u.word slot home c t.core old.memory t.memory

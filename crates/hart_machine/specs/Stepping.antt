@@ -1,5 +1,5 @@
 -- What a step of a hart does.
-use Rattle.std.specs.Prelude.{◌≡◌, ◌<◌, ◌≤◌, ℕ, zero, suc, ◌+◌, ◌^◌, ◌==◌, Bool, false, List, [], ◌∷◌, ◌++◌, replicate, Option, Some, None, slice_get, slice_set, if◌then◌else◌}
+use Rattle.std.specs.Prelude.{◌≡◌, ◌<◌, ◌≤◌, ℕ, zero, suc, ◌+◌, ◌^◌, ◌==◌, Bool, true, false, List, [], ◌∷◌, ◌++◌, replicate, Option, Some, None, slice_get, slice_set, if◌then◌else◌}
 use Rattle.rv_decode.specs.Decode.{decode}
 use Rattle.rv_decode.specs.declared.instr.Instr.{Instr}
 use Rattle.rv_exec.specs.declared.effect.Cause.TheVariants.{FetchFault, Illegal}
@@ -50,6 +50,15 @@ fetched_by t slots c = if is_in_slot c then copy_fetched (use_at slots c.regs.pc
 abbrev pub fetch_of : Patched → Core → Fetch
 fetch_of m c = fetched_by m.text m.slots c
 
+-- whether a step executed an instruction
+abbrev pub has_run : Stepped → Bool
+has_run stepped.Ran = true
+has_run (stepped.Wrote addr len) = true
+has_run (stepped.HartExit code) = true
+has_run (stepped.AllExit code) = true
+has_run stepped.Hit = false
+has_run (stepped.Trap cause) = false
+
 -- an instruction that was executed is counted
 abbrev pub counted : Stepped → ℕ → ℕ
 counted stepped.Ran n = n + 1
@@ -59,21 +68,13 @@ counted (stepped.AllExit code) n = n + 1
 counted stepped.Hit n = n
 counted (stepped.Trap cause) n = n
 
--- a slot is left by the instruction that was executed there
-abbrev pub still_entered : Stepped → Option ℕ → Option ℕ
-still_entered stepped.Ran entered = None
-still_entered (stepped.Wrote addr len) entered = None
-still_entered (stepped.HartExit code) entered = None
-still_entered (stepped.AllExit code) entered = None
-still_entered stepped.Hit entered = entered
-still_entered (stepped.Trap cause) entered = entered
-
 pub record CoreSteps (s : Stepped) (f : Fetch) (old new : Core) (m m' : Memory) : Type 0 where
   pub gives : FetchGives s f old.regs new.regs m m'
   pub retired : new.retired ≡ counted s old.retired
   -- only an instruction in a slot is a copy
   pub copied : new.copied ≡ (if is_in_slot old then counted s old.copied else old.copied)
-  pub entered : new.entered ≡ still_entered s old.entered
+  -- and executing one leaves the slot
+  pub entered : new.entered ≡ (if has_run s then None else old.entered)
 
 -- the hart and the memory change, and nothing else
 pub record StepsTo (s : Stepped) (old : Patched) (h : ℕ) (c : Core) (new : Patched) : Type 0 where

@@ -1,7 +1,7 @@
 // One hart, and one step of it.
 ghost use Rattle.std.specs.Prelude.{◌≡◌, ◌<◌, ◌≤◌, ◌-◌, ◌^◌, None, Some};
 ghost use Rattle.hart_machine.specs.Copying.{entered_core, settled_core};
-ghost use Rattle.hart_machine.specs.Stepping.{CoreSteps, FetchGives, InstructionGives, IsByteCode, copy_fetched, fetched_by};
+ghost use Rattle.hart_machine.specs.Stepping.{CoreSteps, FetchGives, InstructionGives, IsByteCode, copy_fetched, counted, fetched_by, has_run};
 ghost use Rattle.plain_machine.specs.Plain.{on_instruction};
 
 use data_memory::DataMemory;
@@ -51,6 +51,13 @@ fn execute_fetched(fetched: Fetch, regs: &mut Regs, memory: &mut DataMemory) -> 
     }
 }
 
+// Whether a step executed an instruction.
+fn has_run(stepped: Stepped) -> bool
+    ensures { result ≡ has_run stepped }
+{
+    !matches!(stepped, Stepped::Hit | Stepped::Trap(_))
+}
+
 // What a hart finds in a slot that it entered.
 fn fetch_copy(slot_use: Option<SlotUse>) -> Fetch
     ensures { result ≡ copy_fetched slot_use }
@@ -64,21 +71,23 @@ fn fetch_copy(slot_use: Option<SlotUse>) -> Fetch
     }
 }
 
-// One step of a hart that has entered no slot.
-fn step_text(fetched: Fetch, core: &mut Core, memory: &mut DataMemory) -> Stepped
-    requires count { core.old.retired < 2 ^ 64 - 1 }
-    requires outside { core.old.entered ≡ None }
+// Executes what was fetched at pc, and counts it where it was executed.
+fn step_fetched(fetched: Fetch, core: &mut Core, memory: &mut DataMemory) -> Stepped
+    requires { core.old.retired < 2 ^ 64 - 1 }
     ensures code { IsByteCode result }
-    ensures step { CoreSteps result fetched core.old core.new memory.old memory.new }
+    ensures gives { FetchGives result fetched core.old.regs core.new.regs memory.old memory.new }
+    ensures retired { core.new.retired ≡ counted result core.old.retired }
+    ensures copied { core.new.copied ≡ core.old.copied }
+    ensures entered { core.new.entered ≡ core.old.entered }
 {
     let stepped = execute_fetched(fetched, &mut core.regs, memory);
-    if !matches!(stepped, Stepped::Hit | Stepped::Trap(_)) {
+    if has_run(stepped) {
         core.retired += 1;
     }
     stepped
 }
 
-// One step of a hart that has entered a slot.
+// One step of a hart that has entered a slot. The slot's word is a copy, and its hart leaves the slot by executing it.
 fn step_entered(
     slot: u32,
     text: &TextWords,
@@ -89,6 +98,7 @@ fn step_entered(
     requires count { core.old.retired < 2 ^ 64 - 1 }
     requires copies { core.old.copied ≤ core.old.retired }
     requires entered { core.old.entered ≡ Some slot }
+    ensures pc { core.old.regs.pc < 2 ^ 32 }
     ensures code { IsByteCode result }
     ensures step { CoreSteps result (fetched_by text.now slots.now core.old) core.old core.new memory.old memory.new }
 {
@@ -99,9 +109,8 @@ fn step_entered(
     } else {
         text.fetch(pc)
     };
-    let stepped = execute_fetched(fetched, &mut core.regs, memory);
-    if !matches!(stepped, Stepped::Hit | Stepped::Trap(_)) {
-        core.retired += 1;
+    let stepped = step_fetched(fetched, core, memory);
+    if has_run(stepped) {
         core.copied += u64::from(is_copy);
         core.entered = None;
     }
@@ -117,11 +126,12 @@ pub fn step_core(
 ) -> Stepped
     requires count { core.old.retired < 2 ^ 64 - 1 }
     requires copies { core.old.copied ≤ core.old.retired }
+    ensures pc { core.old.regs.pc < 2 ^ 32 }
     ensures code { IsByteCode result }
     ensures step { CoreSteps result (fetched_by text.now slots.now core.old) core.old core.new memory.old memory.new }
 {
     match core.entered {
-        None => step_text(text.fetch(core.regs.pc()), core, memory),
+        None => step_fetched(text.fetch(core.regs.pc()), core, memory),
         Some(slot) => step_entered(slot, text, slots, core, memory),
     }
 }

@@ -250,6 +250,11 @@ impl Machine {
         ensures code { IsByteCode result }
         ensures step { Steps result self.old h self.new }
     {
-        step_core(&self.text, &self.slots, &mut self.cores[h], &mut self.memory)
+        step_core(
+            &self.text,
+            &self.slots,
+            &mut self.cores[h],
+            &mut self.memory,
+        )
     }
 }

@@ -379,15 +379,57 @@ const SLOT: u32 = 0xFFFF_F000;
 /// slot, and pc, ra and a0 at home. At the start ra is 0, a0 is 1 and a1 is 2.
 const COPIES: [(u32, Stepped, u64, [u32; 3], [u32; 3]); 7] = [
     // auipc a0, 0; jal ra, 8; jalr ra, 2(a1)
-    (0x0000_0517, Stepped::Ran, 1, [0xFFFF_F004, 0, SLOT], [0x0001_0078, 0, HOME]),
-    (0x0080_00EF, Stepped::Ran, 1, [0xFFFF_F008, 0xFFFF_F004, 1], [0x0001_007C, 0x0001_0078, 1]),
-    (0x0025_80E7, Stepped::Ran, 1, [4, 0xFFFF_F004, 1], [4, 0x0001_0078, 1]),
+    (
+        0x0000_0517,
+        Stepped::Ran,
+        1,
+        [0xFFFF_F004, 0, SLOT],
+        [0x0001_0078, 0, HOME],
+    ),
+    (
+        0x0080_00EF,
+        Stepped::Ran,
+        1,
+        [0xFFFF_F008, 0xFFFF_F004, 1],
+        [0x0001_007C, 0x0001_0078, 1],
+    ),
+    (
+        0x0025_80E7,
+        Stepped::Ran,
+        1,
+        [4, 0xFFFF_F004, 1],
+        [4, 0x0001_0078, 1],
+    ),
     // addi a0, a0, 5; ecall, with a number that is no call's
-    (0x0055_0513, Stepped::Ran, 1, [0xFFFF_F004, 0, 6], [0x0001_0078, 0, 6]),
-    (0x0000_0073, Stepped::Ran, 1, [0xFFFF_F004, 0, 0xFFFF_FFDA], [0x0001_0078, 0, 0xFFFF_FFDA]),
+    (
+        0x0055_0513,
+        Stepped::Ran,
+        1,
+        [0xFFFF_F004, 0, 6],
+        [0x0001_0078, 0, 6],
+    ),
+    (
+        0x0000_0073,
+        Stepped::Ran,
+        1,
+        [0xFFFF_F004, 0, 0xFFFF_FFDA],
+        [0x0001_0078, 0, 0xFFFF_FFDA],
+    ),
     // lw a0, 0(a0), which traps, and no instruction
-    (0x0005_2503, Stepped::Trap(Cause::LoadAlign), 0, [SLOT, 0, 1], [HOME, 0, 1]),
-    (0, Stepped::Trap(Cause::Illegal), 0, [SLOT, 0, 1], [HOME, 0, 1]),
+    (
+        0x0005_2503,
+        Stepped::Trap(Cause::LoadAlign),
+        0,
+        [SLOT, 0, 1],
+        [HOME, 0, 1],
+    ),
+    (
+        0,
+        Stepped::Trap(Cause::Illegal),
+        0,
+        [SLOT, 0, 1],
+        [HOME, 0, 1],
+    ),
 ];
 
 fn machine_of(alloc: Global, words: &[u32; 8], slots: u32) -> Result<Machine, Fail> {
@@ -457,9 +499,17 @@ fn a_settled_copy_leaves_what_the_word_leaves_at_home(rt: HostRuntime) -> Result
         let mut machine = machine_of(rt.alloc(), &[*word, 0, 0, 0, 0, 0, 0, 0], 1)?;
         enter_first(&rt, &mut machine, *word);
         assert_eq!(rt; step_hart(&rt, &mut machine, 1), *answer, "{word:#010x}");
-        assert_eq!(rt; seen(&rt, &machine), (*there, *count, *count), "{word:#010x}");
+        assert_eq!(rt;
+            seen(&rt, &machine),
+            (*there, *count, *count),
+            "{word:#010x}"
+        );
         settle_first(&rt, &mut machine, *count == 1);
-        assert_eq!(rt; seen(&rt, &machine), (*home, *count, *count), "{word:#010x}");
+        assert_eq!(rt;
+            seen(&rt, &machine),
+            (*home, *count, *count),
+            "{word:#010x}"
+        );
     }
     Ok(())
 }
@@ -470,11 +520,7 @@ fn a_slot_is_text_for_the_hart_that_entered_it_alone(rt: HostRuntime) -> Result<
     let words = [0xFFFF_F7B7, 0x0007_8067, 0, 0, 0, 0, 0, 0];
     let mut machine = machine_of(rt.alloc(), &words, 1)?;
     enter_first(&rt, &mut machine, 0xFFFF_F7B7);
-    for answer in [
-        Stepped::Ran,
-        Stepped::Ran,
-        Stepped::Trap(Cause::FetchFault),
-    ] {
+    for answer in [Stepped::Ran, Stepped::Ran, Stepped::Trap(Cause::FetchFault)] {
         assert_eq!(rt; step_hart(&rt, &mut machine, 0), answer);
     }
     assert_eq!(rt; seen(&rt, &machine), ([SLOT, 0, 1], 0, 0));
@@ -485,7 +531,10 @@ fn a_slot_is_text_for_the_hart_that_entered_it_alone(rt: HostRuntime) -> Result<
     assert_eq!(rt; seen(&rt, &machine), ([0x0001_0078, 0, 1], 1, 0));
     // and it comes to the slot by a jump, as the other hart did
     assert_eq!(rt; step_hart(&rt, &mut machine, 1), Stepped::Ran);
-    assert_eq!(rt; step_hart(&rt, &mut machine, 1), Stepped::Trap(Cause::FetchFault));
+    assert_eq!(rt;
+        step_hart(&rt, &mut machine, 1),
+        Stepped::Trap(Cause::FetchFault)
+    );
     Ok(())
 }
 
