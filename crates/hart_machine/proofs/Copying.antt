@@ -1,5 +1,5 @@
 -- A copied step and its settling are the plain step at home.
-use Rattle.std.proofs.Common.{◌≡◌, ℕ, ◌+◌, ◌*◌, ◌%◌, ◌^◌, ◌<◌, ◌≤◌, Bool, true, false, length, min, refl, ap, sym, ◌∙◌, subst, arith, List, Option, Some, None}
+use Rattle.std.proofs.Common.{◌≡◌, ℕ, ◌%◌, ◌^◌, ◌<◌, ◌≤◌, Bool, true, false, length, min, refl, ap, sym, ◌∙◌, subst, arith, List, Option, Some, None}
 use Rattle.std.specs.Prelude.{[], ◌-◌, ◌==◌, ◌&&◌, nat_le, slice_get, if◌then◌else◌}
 use Rattle.std.specs.Option.{option_and_then}
 use Rattle.std.proofs.lemmas.Bool.{eq-eqb, eqb-true, leb-true}
@@ -17,14 +17,13 @@ use Rattle.displaced_fix.specs.Fix.{distance, moved_pc, fix, outcome_at_home, Is
 use Rattle.displaced_fix.proofs.Law.{law, given, never}
 use Rattle.scratch_slots.specs.declared.slots.SlotUse.{SlotUse}
 use Rattle.scratch_slots.specs.Table.{slot_address, slot_number, use_at, is_address}
-use Rattle.text_words.specs.declared.fetch.Fetch.{Fetch}
 use Rattle.text_words.specs.Words.{decoded_as, fetched}
 use Rattle.plain_machine.specs.Environment.{Answer, Traps, Goes, Leave, Stays, LeavesAlone, LeavesAll, call, write, wrote, is_output, negative, answered}
 use Rattle.plain_machine.specs.Plain.{on_word, on_instruction, on_outcome}
 use Rattle.plain_machine.specs.Answers.{StepGives}
 use Rattle.hart_machine.specs.declared.hart.Core.{Core}
 use Rattle.hart_machine.specs.Patched.{Patched}
-use Rattle.hart_machine.specs.Stepping.{FetchGives, StepsTo, counted, has_run, is_in_slot, fetch_of}
+use Rattle.hart_machine.specs.Stepping.{FetchGives, has_run, is_in_slot, fetch_of}
 use Rattle.hart_machine.specs.Copying.{settled_regs, fixed, CopyIsStepAtHome}
 
 -- each slot is a word

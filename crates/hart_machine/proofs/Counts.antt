@@ -1,5 +1,5 @@
 -- Each copy was counted as an instruction too.
-use Rattle.std.proofs.Common.{◌≡◌, ℕ, zero, suc, ◌≤◌, ◌+◌, Bool, true, false, List, [], ◌∷◌, ◌++◌, ap, sym, subst, arith, inl, inr}
+use Rattle.std.proofs.Common.{◌≡◌, ℕ, zero, suc, ◌≤◌, Bool, true, false, List, [], ◌∷◌, ◌++◌, subst, arith, inl, inr}
 use Rattle.std.specs.Prelude.{Some, None, slice_get, slice_set, if◌then◌else◌, ◌⊎◌}
 use Rattle.rv_exec.specs.Memory.{Memory}
 use Rattle.rv_exec.specs.declared.effect.Stepped.{Stepped}

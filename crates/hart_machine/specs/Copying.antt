@@ -1,4 +1,5 @@
--- How a hart goes to a scratch slot, and comes home from it.
+-- How a hart goes to a scratch slot, and comes home from it: a copy of an instruction is executed there in place of the
+-- one at a breakpoint ("displaced stepping" in GDB's manual).
 use Rattle.std.specs.Prelude.{◌≡◌, ℕ, Bool, List, Option, Some, None, slice_get, slice_set, if◌then◌else◌}
 use Rattle.std.specs.Option.{option_map}
 use Rattle.rv_decode.specs.declared.instr.Instr.{Instr}

@@ -9,7 +9,7 @@ ghost use Rattle.rv_decode.specs.Decode.{decode};
 ghost use Rattle.scratch_slots.specs.Table.{slot_address, slot_number, use_at, least_free, with_use, AllOut};
 ghost use Rattle.scratch_slots.specs.declared.slots.SlotUse.{SlotUse};
 ghost use Rattle.hart_machine.specs.Copying.{Enters, Settles, owner};
-ghost use Rattle.hart_machine.specs.Stepping.{Steps, IsByteCode, first_cores, loaded};
+ghost use Rattle.hart_machine.specs.Stepping.{Steps, IsByteCode, first_cores, has_run, loaded};
 ghost use Rattle.hart_machine.specs.declared.hart.Core.{Core};
 
 use crate::Core;
@@ -243,12 +243,14 @@ impl Machine {
         }
     }
 
-    /// One instruction of a hart: the stored word at its pc, or the word of the slot that it entered.
+    /// One instruction of a hart: the stored word at its pc, or the word of the slot that it entered. Nothing changes
+    /// at a breakpoint, and where the instruction traps.
     pub fn step(&mut self, h: usize) -> Stepped
         requires hart { h < length self.old.cores }
         requires count { (c : Core) → slice_get self.old.cores h ≡ Some c → c.retired < 2 ^ 64 - 1 }
         ensures code { IsByteCode result }
         ensures step { Steps result self.old h self.new }
+        ensures stopped { has_run result ≡ false → self.new ≡ self.old }
     {
         step_core(
             &self.text,

@@ -432,16 +432,18 @@ const COPIES: [(u32, Stepped, u64, [u32; 3], [u32; 3]); 7] = [
     ),
 ];
 
-fn machine_of(alloc: Global, words: &[u32; 8], slots: u32) -> Result<Machine, Fail> {
+/// Two harts and two slots.
+const SLOTTED: Settings = Settings {
+    harts: 2,
+    workers: 0,
+    slots: 2,
+    budget: 100,
+    slice: 0,
+};
+
+fn slotted(alloc: Global, words: &[u32; 8]) -> Result<Machine, Fail> {
     let image = image_of(alloc, words)?;
-    let settings = Settings {
-        harts: 2,
-        workers: 0,
-        slots,
-        budget: 100,
-        slice: 0,
-    };
-    match Machine::load(alloc, &image, settings) {
+    match Machine::load(alloc, &image, SLOTTED) {
         Ok(machine) => Ok(machine),
         Err(_) => Err(Fail::new("out of memory")),
     }
@@ -496,7 +498,7 @@ fn seen(rt: &impl Abort, machine: &Machine) -> ([u32; 3], u64, u64) {
 #[test]
 fn a_settled_copy_leaves_what_the_word_leaves_at_home(rt: HostRuntime) -> Result<(), Fail> {
     for (word, answer, count, there, home) in &COPIES {
-        let mut machine = machine_of(rt.alloc(), &[*word, 0, 0, 0, 0, 0, 0, 0], 1)?;
+        let mut machine = slotted(rt.alloc(), &[*word, 0, 0, 0, 0, 0, 0, 0])?;
         enter_first(&rt, &mut machine, *word);
         assert_eq!(rt; step_hart(&rt, &mut machine, 1), *answer, "{word:#010x}");
         assert_eq!(rt;
@@ -518,7 +520,7 @@ fn a_settled_copy_leaves_what_the_word_leaves_at_home(rt: HostRuntime) -> Result
 #[test]
 fn a_slot_is_text_for_the_hart_that_entered_it_alone(rt: HostRuntime) -> Result<(), Fail> {
     let words = [0xFFFF_F7B7, 0x0007_8067, 0, 0, 0, 0, 0, 0];
-    let mut machine = machine_of(rt.alloc(), &words, 1)?;
+    let mut machine = slotted(rt.alloc(), &words)?;
     enter_first(&rt, &mut machine, 0xFFFF_F7B7);
     for answer in [Stepped::Ran, Stepped::Ran, Stepped::Trap(Cause::FetchFault)] {
         assert_eq!(rt; step_hart(&rt, &mut machine, 0), answer);
@@ -540,7 +542,7 @@ fn a_slot_is_text_for_the_hart_that_entered_it_alone(rt: HostRuntime) -> Result<
 
 #[test]
 fn a_freed_slot_is_claimed_again(rt: HostRuntime) -> Result<(), Fail> {
-    let mut machine = machine_of(rt.alloc(), &[0; 8], 2)?;
+    let mut machine = slotted(rt.alloc(), &[0; 8])?;
     assert_eq!(rt; machine.slots(), 2);
     assert_eq!(rt; machine.claim(0, 0x13), Some(SLOT));
     assert_eq!(rt; machine.claim(1, 0x17), Some(0xFFFF_F008));

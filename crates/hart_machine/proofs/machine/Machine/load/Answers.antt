@@ -1,5 +1,4 @@
-use Rattle.std.proofs.Common.{sym, subst, List}
-use Rattle.hart_machine.specs.declared.hart.Core.{Core}
+use Rattle.std.proofs.Common.{sym, subst}
 use Rattle.hart_machine.specs.Stepping.{AreCounted}
 use Rattle.hart_machine.proofs.Counts.{first_counted}
 use Rattle.hart_machine.proofs.machine.Machine.load.Goals as goal
