@@ -10,15 +10,6 @@ use Rattle.engine_facts.specs.Minds.{runs, slot_of, ran_mind, exited_mind, gone_
 use Rattle.dbg_engine.specs.declared.moving.Turned.{Turned}
 use Rattle.dbg_engine.specs.declared.moving.Turned.TheVariants as turned
 
--- an instruction was executed
-abbrev pub is_done : Stepped → Bool
-is_done stepped.Ran = true
-is_done (stepped.Wrote addr len) = true
-is_done (stepped.HartExit code) = true
-is_done (stepped.AllExit code) = true
-is_done stepped.Hit = false
-is_done (stepped.Trap cause) = false
-
 -- what changes at a step beside the machine
 pub record Parts : Type 0 where
   pub journal : List Entry

@@ -1,9 +1,9 @@
 // What a step of the machine does to the journal and to what is kept of the harts.
 ghost use Rattle.std.specs.Prelude.{◌≡◌, ◌≤◌, ◌<◌, ◌+◌, ◌-◌, ◌^◌, true, map, length, slice_set, vec_len, vec_capacity};
 ghost use Rattle.dbg_model.specs.Journals.{lengthened, last_count};
-ghost use Rattle.hart_machine.specs.Stepping.{IsByteCode};
+ghost use Rattle.hart_machine.specs.Stepping.{IsByteCode, has_run};
 ghost use Rattle.engine_facts.specs.Minds.{gone_mind, ran_mind, after_step};
-ghost use Rattle.dbg_engine.specs.Steps.{is_done, applied, turned_of, IsTurned};
+ghost use Rattle.dbg_engine.specs.Steps.{applied, turned_of, IsTurned};
 
 use crate::journal::{note, note_lefts, note_ran};
 use break_table::CondError;
@@ -140,7 +140,7 @@ pub fn apply(
     retired: &mut u64,
     noted: &mut u64,
 ) -> Turned
-    requires done { is_done stepped ≡ true }
+    requires done { has_run stepped ≡ true }
     requires code { IsByteCode stepped }
     requires hart { h < length minds.old }
     requires few { length minds.old ≤ 16 }

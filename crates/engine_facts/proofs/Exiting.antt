@@ -119,7 +119,7 @@ departs_alone r h spare code c d x mem t slots f m runs before none may is more 
     }
 
 -- the counts of harts that came home
-retired_home : (p : Program) (cs : List Core) (xs : List Mind) (ds : List Core) (j : List Entry) → AreHome p cs xs ds → Retired cs j → Retired ds j
+pub retired_home : (p : Program) (cs : List Core) (xs : List Mind) (ds : List Core) (j : List Entry) → AreHome p cs xs ds → Retired cs j → Retired ds j
 retired_home p cs xs ds j home r k d at =
     let a = home_at p cs xs ds k d home at in
     a.home.retired ∙ r k a.core a.core_at

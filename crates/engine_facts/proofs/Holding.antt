@@ -135,7 +135,7 @@ idle_seen p r activity.Stopped = refl
 idle_seen p r activity.Running = refl
 idle_seen p r activity.Exited = refl
 
-unslotted : (q : Phase) → slot_of q ≡ None → entered_of q ≡ None
+pub unslotted : (q : Phase) → slot_of q ≡ None → entered_of q ≡ None
 unslotted phase.Idle e = refl
 unslotted (phase.Copied slot home) e = cc
 unslotted (phase.Landed slot home) e = cc

@@ -11,25 +11,25 @@ use Rattle.step_over.specs.declared.phase.Phase.TheVariants as phase
 use Rattle.hart_machine.specs.declared.hart.Core.{Core}
 use Rattle.hart_machine.specs.Patched.{Patched}
 use Rattle.hart_machine.specs.Copying.{settled_core}
-use Rattle.hart_machine.proofs.Places.{same_some, same_place, get-set_same, get-set_other}
+use Rattle.hart_machine.proofs.Places.{same_some, same_place, set_known, get-set_same, get-set_other}
 use Rattle.engine_facts.specs.declared.mind.Activity.{Activity}
 use Rattle.engine_facts.specs.declared.mind.Activity.TheVariants as activity
 use Rattle.engine_facts.specs.declared.mind.Hold.{Hold}
 use Rattle.engine_facts.specs.declared.mind.Mind.{Mind}
-use Rattle.engine_facts.specs.Minds.{lifted_of, slot_of, with_phase}
+use Rattle.engine_facts.specs.Minds.{is_active, runs, lifted_of, slot_of, with_phase}
 use Rattle.engine_facts.specs.Seen.{Run, seen_regs, running_regs}
 use Rattle.engine_facts.specs.Facts.{Facts, Harts, HasSlot, Slotted, Executed, Placed, other_holder, held_by}
 use Rattle.engine_facts.specs.Moves.{IsHome, AreHome, Frees, OneSlot, Released, rehomed}
 use Rattle.engine_facts.specs.Homing.{Owns, OwnsRun, IsSlotted, settled_by, home_core, Leaves, GoesHome, AllGoHome}
-use Rattle.engine_facts.proofs.Updating.{AllFree}
+use Rattle.engine_facts.proofs.Updating.{AllFree, SlotChange, slots_same, slots_freed}
 use Rattle.engine_facts.proofs.Keeping.{Mover, StaysSeen}
 use Rattle.engine_facts.proofs.Stepping.{fact_of}
-use Rattle.engine_facts.proofs.Holding.{get_within, own_seen, home_copied, home_landed, no_hold, unwinds, comes_home}
+use Rattle.engine_facts.proofs.Holding.{get_within, unslotted, own_seen, home_copied, home_landed, no_hold, unwinds, comes_home}
 
 -- ---- one hart
 
 -- a hart has the slot of its phase
-slotted_by : (p : Program) (m : Patched) (h : ℕ) (c : Core) (q : Phase) → Placed p m.slots h c q → IsSlotted m h q
+pub slotted_by : (p : Program) (m : Patched) (h : ℕ) (c : Core) (q : Phase) → Placed p m.slots h c q → IsSlotted m h q
 slotted_by p m h c phase.Idle a = tt
 slotted_by p m h c (phase.Copied slot home) a = record { word = a.0.word; out = a.0.out }
 slotted_by p m h c (phase.Landed slot home) a = record { owns = record { word = a.slotted.word; out = a.slotted.out }; decodes = a.decodes }
@@ -40,7 +40,7 @@ pub is_slotted : (r : Run) (h : ℕ) (c : Core) (x : Mind) → Facts r → Mover
 is_slotted r h c x f m = slotted_by r.opening.image r.machine h c x.phase (fact_of r h c x f m).placed
 
 -- what a hart is at home
-home_is : (p : Program) (slots : List (Option SlotUse)) (h : ℕ) (c : Core) (q : Phase) → Placed p slots h c q → running_regs p c.regs q ≡ (home_core slots c q).regs
+pub home_is : (p : Program) (slots : List (Option SlotUse)) (h : ℕ) (c : Core) (q : Phase) → Placed p slots h c q → running_regs p c.regs q ≡ (home_core slots c q).regs
 home_is p slots h c phase.Idle a = refl
 home_is p slots h c (phase.Copied slot home) a =
     sym (home_copied p a.0.word slot home c.regs) ∙ ap (λ o. (settled_by o slot home c false).regs) (sym a.0.out)
@@ -55,7 +55,7 @@ kept_counts slots c None slot home b = (refl, refl)
 kept_counts slots c (Some u) slot home b = (refl, refl)
 
 -- its counts stay
-home_counts : (slots : List (Option SlotUse)) (c : Core) (q : Phase) → ((home_core slots c q).retired ≡ c.retired) × ((home_core slots c q).copied ≡ c.copied)
+pub home_counts : (slots : List (Option SlotUse)) (c : Core) (q : Phase) → ((home_core slots c q).retired ≡ c.retired) × ((home_core slots c q).copied ≡ c.copied)
 home_counts slots c phase.Idle = (refl, refl)
 home_counts slots c (phase.Copied slot home) = kept_counts slots c (use_at slots slot) slot home false
 home_counts slots c (phase.Landed slot home) = kept_counts slots c (use_at slots slot) slot home true
@@ -268,7 +268,7 @@ ready_regs : (p : Program) (slots : List (Option SlotUse)) (h : ℕ) (c : Core) 
 ready_regs p slots h c x (inl runs) a = sym (home_is p slots h c x.phase a) ∙ ap (λ t. seen_regs p c.regs t x.phase) (sym runs)
 ready_regs p slots h c x (inr idle) a = ap (λ q. (home_core slots c q).regs) idle ∙ sym (own_seen p c.regs x.activity x.phase (ap slot_of idle))
 
-home_out : (p : Program) (slots : List (Option SlotUse)) (h : ℕ) (c : Core) (q : Phase) → Placed p slots h c q → (slot_of q ≡ None → c.entered ≡ None) → (home_core slots c q).entered ≡ None
+pub home_out : (p : Program) (slots : List (Option SlotUse)) (h : ℕ) (c : Core) (q : Phase) → Placed p slots h c q → (slot_of q ≡ None → c.entered ≡ None) → (home_core slots c q).entered ≡ None
 home_out p slots h c phase.Idle a e = e refl
 home_out p slots h c (phase.Copied slot home) a e = settled_out slots c (use_at slots slot) slot home false (record { hart = h; word = a.0.word }) a.0.out
 home_out p slots h c (phase.Landed slot home) a e = settled_out slots c (use_at slots slot) slot home true (record { hart = h; word = a.slotted.word }) a.slotted.out
@@ -301,3 +301,52 @@ free_by old new xs slot (Some u) e used all =
 -- no slot is out then
 pub all_are_free : (old new : Patched) (xs : List Mind) → ((s : ℕ) (u : SlotUse) → use_at old.slots s ≡ Some u → HasSlot xs u.hart s) → AllGoHome old new 0 xs → AllFree new.slots
 all_are_free old new xs used all slot = free_by old new xs slot (use_at new.slots slot) refl used all
+
+-- a hart that comes home as it is
+stays_known : (old new : Patched) (h : ℕ) (c : Core) → slice_get old.cores h ≡ Some c → new ≡ old → new.cores ≡ slice_set old.cores h c
+stays_known old new h c at g = ap (λ (m : Patched). m.cores) g ∙ sym (set_known old.cores h c at)
+
+leaves_known : (old new : Patched) (h slot : ℕ) (c : Core) (q : Phase) → slice_get old.cores h ≡ Some c → Leaves old new h slot q → new.cores ≡ slice_set old.cores h (home_core old.slots c q)
+leaves_known old new h slot c q at g = ap (λ (m : Patched). m.cores) g.machine ∙ ap (λ e. slice_set old.cores h (home_core old.slots e q)) (same_some g.core c (sym g.at ∙ at))
+
+-- the harts after one came home
+pub home_known : (old new : Patched) (h : ℕ) (c : Core) (q : Phase) → slice_get old.cores h ≡ Some c → GoesHome old new h q → new.cores ≡ slice_set old.cores h (home_core old.slots c q)
+home_known old new h c phase.Idle at g = stays_known old new h c at g
+home_known old new h c (phase.Copied slot home) at g = leaves_known old new h slot c (phase.Copied slot home) at g
+home_known old new h c (phase.Landed slot home) at g = leaves_known old new h slot c (phase.Landed slot home) at g
+home_known old new h c (phase.Lifted home) at g = stays_known old new h c at g
+home_known old new h c (phase.Ran home) at g = stays_known old new h c at g
+
+-- the slots after a hart came home
+pub home_slots : (p : Program) (cs : List Core) (old new : Patched) (xs : List Mind) (hold : Option Hold) (h : ℕ) (x : Mind) (q : Phase) → Harts p cs old.slots xs hold → slice_get xs h ≡ Some x → slot_of q ≡ slot_of x.phase → IsSlotted old h q → GoesHome old new h q
+    → SlotChange old.slots new.slots h phase.Idle
+home_slots p cs old new xs hold h x phase.Idle hs f alike own g =
+    subst (λ (m : Patched). SlotChange old.slots m.slots h phase.Idle) (sym g) (slots_same p cs old.slots xs hold h x phase.Idle hs f alike)
+home_slots p cs old new xs hold h x (phase.Copied slot home) hs f alike own g = slots_freed p cs old.slots new.slots xs hold h slot own.word x phase.Idle hs f (sym alike) own.out g.frees.one
+home_slots p cs old new xs hold h x (phase.Landed slot home) hs f alike own g = slots_freed p cs old.slots new.slots xs hold h slot own.owns.word x phase.Idle hs f (sym alike) own.owns.out g.frees.one
+home_slots p cs old new xs hold h x (phase.Lifted home) hs f alike own g =
+    subst (λ (m : Patched). SlotChange old.slots m.slots h phase.Idle) (sym g) (slots_same p cs old.slots xs hold h x phase.Idle hs f alike)
+home_slots p cs old new xs hold h x (phase.Ran home) hs f alike own g =
+    subst (λ (m : Patched). SlotChange old.slots m.slots h phase.Idle) (sym g) (slots_same p cs old.slots xs hold h x phase.Idle hs f alike)
+
+-- what else a hart that comes home leaves as it is
+pub home_rest : (old new : Patched) (h : ℕ) (q : Phase) → GoesHome old new h q → OneHome old new h q
+home_rest old new h q g = one_home old new h q g
+
+running_or_idle : (x : Mind) (a : Activity) → x.activity ≡ a → (runs x ≡ false → x.phase ≡ phase.Idle) → x.activity ≡ activity.Running ⊎ (x.phase ≡ phase.Idle)
+running_or_idle x activity.Stopped is idle = inr (idle (ap is_active is))
+running_or_idle x activity.Running is idle = inl is
+running_or_idle x activity.Exited is idle = inr (idle (ap is_active is))
+
+-- each hart of which the facts are known can come home
+pub all_ready : (p : Program) (cs : List Core) (slots : List (Option SlotUse)) (xs : List Mind) (hold : Option Hold) → Harts p cs slots xs hold → (h : ℕ) (c : Core) (x : Mind) → slice_get cs h ≡ Some c → slice_get xs h ≡ Some x → Ready p slots h c x
+all_ready p cs slots xs hold hs h c x ec ex =
+    let f = hs.each h c x ec ex in
+    record { placed = f.placed; out = λ e. f.entered ∙ unslotted x.phase e; idle = running_or_idle x x.activity refl f.idle }
+
+-- and has the slot of its phase
+pub all_slotted : (p : Program) (m : Patched) (xs : List Mind) (hold : Option Hold) → Harts p m.cores m.slots xs hold → (j : ℕ) (x : Mind) → slice_get xs j ≡ Some x → IsSlotted m j x.phase
+all_slotted p m xs hold hs j x ex =
+    let low : j < length m.cores = omega (arith, slice_get_within xs j x ex, hs.len) in
+    let c = get_within m.cores j low in
+    slotted_by p m j c.0 x.phase (hs.each j c.0 x c.1 ex).placed

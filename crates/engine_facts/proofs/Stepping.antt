@@ -33,7 +33,7 @@ use Rattle.engine_facts.specs.declared.mind.Hold.{Hold}
 use Rattle.engine_facts.specs.declared.mind.Mind.{Mind}
 use Rattle.engine_facts.specs.Minds.{mode_of, is_active, is_lifted, lifted_of, slot_of, entered_of, is_copied, after_step, is_before, with_phase, ran_mind}
 use Rattle.engine_facts.specs.Seen.{Run, seen, seen_hart, seen_harts, seen_regs, running_regs, landed_regs}
-use Rattle.engine_facts.specs.Facts.{Facts, HartFact, InText, Placed, Slotted, held_by, is_home, wanted, Planted, pending}
+use Rattle.engine_facts.specs.Facts.{Facts, Harts, HartFact, InText, Placed, Slotted, held_by, is_home, wanted, Planted, pending}
 use Rattle.engine_facts.specs.Moves.{Repatched, rephased, executed}
 use Rattle.engine_facts.proofs.Seeing.{seen-set}
 use Rattle.engine_facts.proofs.Counting.{retired_ran, copied_more, Balances, adds}
@@ -225,7 +225,7 @@ after_lifted (phase.Landed slot home) = refl
 after_lifted (phase.Lifted home) = refl
 after_lifted (phase.Ran home) = refl
 
-after_slot : (q : Phase) → slot_of (after_step q) ≡ slot_of q
+pub after_slot : (q : Phase) → slot_of (after_step q) ≡ slot_of q
 after_slot phase.Idle = refl
 after_slot (phase.Copied slot home) = refl
 after_slot (phase.Landed slot home) = refl
@@ -289,6 +289,26 @@ here_none r c x none runs idle =
     let regs : seen_regs p c.regs x.activity x.phase ≡ c.regs = ap (λ t. seen_regs p c.regs t x.phase) runs ∙ ap (running_regs p c.regs) idle in
     ap (λ (t : Registers). stands t.pc r.breaks) regs ∙ none idle
 
+-- what is known of the harts after an instruction of one
+pub ran_harts : (r : Run) (h : ℕ) (c c' : Core) (x : Mind) (q : Registers) (mem : Memory) (out : List ℕ) (leave : Leave) → Facts r → Mover r h c x → x.activity ≡ activity.Running → is_before x.phase ≡ true
+    → plain r.opening.image (seen_hart r.opening.image c x).regs r.machine.memory ≡ Goes q mem out leave → c'.entered ≡ None → Harts r.opening.image (slice_set r.machine.cores h c') r.machine.slots (slice_set r.minds h (ran_mind x)) r.hold
+ran_harts r h c c' x q mem out leave f m runs before is left =
+    let p = r.opening.image in
+    let x' = ran_mind x in
+    let fact = fact_of r h c x f m in
+    updated p r.machine.cores r.machine.slots r.machine.slots r.minds r.hold r.hold h c' x x' f.harts m.mind
+    (record {
+      slots = slots_same p r.machine.cores r.machine.slots r.minds r.hold h x (after_step x.phase) f.harts m.mind (after_slot x.phase);
+      holds = λ k n. refl;
+      fact = record {
+        placed = after_placed p r.machine.slots h c c' x.phase fact.placed before (λ k slot home e a. copy_decodes r h c x q mem out leave runs is slot home e a);
+        entered = left ∙ sym (after_entered x.phase before);
+        held = after_lifted x.phase ∙ fact.held;
+        idle = λ e. true_false e;
+      };
+      holder = λ d e. inl e;
+    })
+
 -- one instruction, by which none exits
 pub executes : (r : Run) (h spare : ℕ) (c c' : Core) (x : Mind) (mem : Memory) (out : List ℕ) → Facts r → Mover r h c x → x.activity ≡ activity.Running → is_before x.phase ≡ true → (x.phase ≡ phase.Idle → stands c.regs.pc r.breaks ≡ false)
     → may_run r.opening (seen r) h (seen_hart r.opening.image c x) ≡ true → plain r.opening.image (seen_hart r.opening.image c x).regs r.machine.memory ≡ Goes (running_regs r.opening.image c'.regs (after_step x.phase)) mem out Stays
@@ -301,7 +321,6 @@ executes r h spare c c' x mem out f m runs before none may is more copied left =
     let s = after_one r h c x q mem out Stays in
     let n : Run = executed r h c' x' mem spare in
     let goes = one_seen r h c x q mem out Stays m may is in
-    let fact = fact_of r h c x f m in
     let harts : slice_set (seen r).harts h (lawful.stepped (seen_hart p c x) q) ≡ seen_harts p (slice_set r.machine.cores h c') (slice_set r.minds h x') =
     ap (slice_set (seen r).harts h) (ran_seen p c c' x runs) ∙ sym (seen-set p r.machine.cores r.minds h c' x') in
     entered n s f.settings (lengthens r.opening r.journal h (seen r) s f.leaves goes.one)
@@ -309,18 +328,7 @@ executes r h spare c c' x mem out f m runs before none may is more copied left =
     (record {
       count = length-set r.minds h x' ∙ f.count;
       selected = f.selected;
-      harts = updated p r.machine.cores r.machine.slots r.machine.slots r.minds r.hold r.hold h c' x x' f.harts m.mind
-          (record {
-            slots = slots_same p r.machine.cores r.machine.slots r.minds r.hold h x (after_step x.phase) f.harts m.mind (after_slot x.phase);
-            holds = λ k n. refl;
-            fact = record {
-              placed = after_placed p r.machine.slots h c c' x.phase fact.placed before (λ k slot home e a. copy_decodes r h c x q mem out Stays runs is slot home e a);
-              entered = left ∙ sym (after_entered x.phase before);
-              held = after_lifted x.phase ∙ fact.held;
-              idle = λ e. true_false e;
-            };
-            holder = λ d e. inl e;
-          });
+      harts = ran_harts r h c c' x q mem out Stays f m runs before is left;
       slots = f.slots;
       planted = f.planted;
       texts = f.texts;

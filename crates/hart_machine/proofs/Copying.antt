@@ -143,7 +143,7 @@ settled_unrun w slot home r = elim (decode w) as (λ o. fixed o slot home r fals
 pub fetch_text : (m : Patched) (c : Core) → c.entered ≡ None → fetch_of m c ≡ fetched m.text c.regs.pc
 fetch_text m c e = rw e refl
 
-in_slot : (c : Core) (slot : ℕ) → c.entered ≡ Some slot → c.regs.pc ≡ slot → is_in_slot c ≡ true
+pub in_slot : (c : Core) (slot : ℕ) → c.entered ≡ Some slot → c.regs.pc ≡ slot → is_in_slot c ≡ true
 in_slot c slot e at = rw (e, at) (eq-eqb slot slot refl)
 
 -- and one at the slot that it entered finds the slot's word

@@ -1,4 +1,4 @@
-ghost use Rattle.std.specs.Prelude.{◌≡◌, ◌≢◌, ◌<◌, ◌≤◌, ◌-◌, ◌^◌, ℕ, [], length, IfOk, IfErr, IfSome, IfNone, MatchResult, Err, Some, None, IsSome, true, false, slice_get, slice_set};
+ghost use Rattle.std.specs.Prelude.{◌≡◌, ◌≢◌, ◌<◌, ◌≤◌, ◌-◌, ◌^◌, ℕ, [], length, IfOk, IfErr, IfSome, IfNone, MatchResult, Err, Some, None, is_some, IsSome, true, false, slice_get, slice_set};
 ghost use Rattle.std.specs.Option.{option_map};
 ghost use Rattle.std.specs.FinSet as set;
 ghost use Rattle.text_words.specs.Words as text;
@@ -197,6 +197,13 @@ impl Machine {
         ensures { result ≡ use_at self.now.slots slot }
     {
         self.slots.at(slot)
+    }
+
+    /// Whether a scratch slot is free.
+    pub fn has_room(&self) -> bool
+        ensures { result ≡ is_some (least_free self.now.slots) }
+    {
+        self.slots.has_room()
     }
 
     /// Gives the hart the least free slot for a copy of the word. None exactly where all are out.
