@@ -1,5 +1,5 @@
 -- What an arrival does is what the entries at its address do.
-use Rattle.std.proofs.Common.{◌≡◌, ℕ, ◌-◌, ◌∙◌, refl, Bool, true, false, not, ◌&&◌, cond, List, filter, Option, ◌==◌}
+use Rattle.std.proofs.Common.{◌≡◌, ℕ, ◌-◌, refl, Bool, true, false, ◌&&◌, cond, List, filter, Option, ◌==◌}
 use Rattle.std.specs.List.{list_any}
 use Rattle.break_table.specs.Entry.{Entry}
 use Rattle.break_table.specs.Arrival.{fits, counts, stops, stays, leaves, raised, settled_entry, due_of}

@@ -1,5 +1,5 @@
 -- What a table keeps where its fields change.
-use Rattle.std.proofs.Common.{◌≡◌, ℕ, ◌+◌, ◌<◌, ◌≤◌, ◌∙◌, refl, arith, true, false, cond, Bool, [], ◌∷◌, ◌++◌, length, map, vec_len, vec_capacity, Vec, ◌==◌}
+use Rattle.std.proofs.Common.{◌≡◌, ℕ, ◌+◌, ◌<◌, ◌≤◌, refl, arith, true, false, cond, [], ◌∷◌, ◌++◌, map, vec_len, vec_capacity, Vec, ◌==◌}
 use Rattle.std.specs.Global.{Global}
 use Rattle.std.proofs.lemmas.List.{map-append}
 use Rattle.break_table.specs.declared.entry.BreakEntry.{BreakEntry}

@@ -1,7 +1,6 @@
 -- Lists of which a function or a test sees each element.
-use Rattle.std.proofs.Common.{◌≡◌, ℕ, zero, suc, ◌+◌, ◌<◌, ap, refl, arith, add-one, cond, Bool, true, false, List, [], ◌∷◌, ◌++◌, length, map, get_or, set, ◌≤◌, ◌≢◌, get_or-set_same, get_or-set_other, below_more, filter, take, slice_get, Some, Result, Ok, Err, IsOk, is_ok, if◌then◌else◌, ◌||◌, not}
+use Rattle.std.proofs.Common.{◌≡◌, ℕ, zero, suc, ◌+◌, ap, refl, add-one, cond, Bool, true, false, List, [], ◌∷◌, ◌++◌, map, filter, take, slice_get, Some, Result, Ok, Err, IsOk, is_ok, if◌then◌else◌, ◌||◌, not}
 use Rattle.std.specs.List.{list_any}
-use Rattle.std.proofs.lemmas.List.{get_or_default}
 
 pub map-take-more : {A B : Type 0} (f : A → B) (xs : List A) (k : ℕ) (x : A) → slice_get xs k ≡ Some x → map f (take (k + 1) xs) ≡ map f (take k xs) ++ f x ∷ []
 map-take-more f [] k x h = cc

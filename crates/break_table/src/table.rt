@@ -177,7 +177,12 @@ impl BreakTable {
     pub fn due<V: View>(&self, hart: u32, view: &V) -> Due
         ensures { result ≡ due_of hart (V.registers view.now) (V.bytes view.now) self.now.entries }
     {
-        due_among(&self.entries, run_at(&self.places, view.reg(32)), hart, view)
+        due_among(
+            &self.entries,
+            run_at(&self.places, view.reg(32)),
+            hart,
+            view,
+        )
     }
 
     /// Makes the changes of a due arrival of a hart: counts it, and deletes the temporary entries that stop.
@@ -185,14 +190,24 @@ impl BreakTable {
         ensures { self.new ≡ record self.old { entries = settled hart (V.registers view.now) (V.bytes view.now) self.old.entries } }
     {
         self.drop_leaving(hart, view);
-        settle_each(&mut self.entries, run_at(&self.places, view.reg(32)), hart, view);
+        settle_each(
+            &mut self.entries,
+            run_at(&self.places, view.reg(32)),
+            hart,
+            view,
+        );
     }
 
     /// Deletes the temporary entries that stop.
     fn drop_leaving<V: View>(&mut self, hart: u32, view: &V)
         ensures { self.new ≡ record self.old { entries = filter (stays hart (V.registers view.now) (V.bytes view.now)) self.old.entries } }
     {
-        if some_leaves(&self.entries, run_at(&self.places, view.reg(32)), hart, view) {
+        if some_leaves(
+            &self.entries,
+            run_at(&self.places, view.reg(32)),
+            hart,
+            view,
+        ) {
             retain_staying(&mut self.entries, hart, view);
             place_all(&mut self.places, &self.entries);
         }

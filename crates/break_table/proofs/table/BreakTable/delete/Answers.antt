@@ -1,4 +1,4 @@
-use Rattle.std.proofs.Common.{◌≡◌, subst, arith, map, List}
+use Rattle.std.proofs.Common.{subst, arith, map, List}
 use Rattle.break_table.specs.Entry.{entry_of}
 use Rattle.break_table.specs.Places.{ArePlaced}
 use Rattle.break_table.specs.Table.{is_other}

@@ -3,7 +3,7 @@ use Rattle.std.specs.List.{list_any}
 use Rattle.break_table.specs.declared.entry.BreakEntry.{BreakEntry}
 use Rattle.break_table.specs.Arrival.{leaves, stays}
 use Rattle.break_table.specs.Entry.{entry_of}
-use Rattle.break_table.specs.Places.{picked, ArePlaced}
+use Rattle.break_table.specs.Places.{ArePlaced}
 use Rattle.break_table.proofs.Here.{at, staying-here}
 use Rattle.break_table.proofs.Placing.{AreInside-run, picked-run}
 use Rattle.break_table.proofs.Rising.{IsRising-filter}
