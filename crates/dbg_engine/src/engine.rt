@@ -796,6 +796,13 @@ impl Engine {
         self.machine.shown(addr).is_some()
     }
 
+    /// Whether a breakpoint's word stands in text at an address.
+    pub fn planted(&self, addr: u32) -> bool
+        ensures { result ≡ is_planted self.now.machine.text addr }
+    {
+        self.machine.planted(addr)
+    }
+
     /// The breakpoints that the user set, in rising order of their numbers.
     pub fn breakpoints(&self) -> &[BreakEntry]
         ensures { map entry_of result.now ≡ self.now.breaks }
