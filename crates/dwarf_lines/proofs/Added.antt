@@ -3,15 +3,14 @@ use Rattle.std.proofs.Common.{◌≡◌, ℕ, zero, suc, ◌+◌, ◌-◌, ◌<�
 use Rattle.std.specs.Prelude.{slice_get, slice_set, nat_lt, ◌==◌, if◌then◌else◌}
 use Rattle.std.specs.List.{slice_index_or}
 use Rattle.std.proofs.lemmas.Bool.Decides.{nat_tests}
-use Rattle.line_rows.specs.RowList.{RowList, ended_with}
-use Rattle.line_rows.specs.declared.fault.UnitFault.{UnitFault}
+use Rattle.line_rows.specs.RowList.{RowList}
 use Rattle.line_rows.specs.declared.row.Row.{Row}
-use Rattle.dwarf_lines.specs.Adding.{Adds, AddsUnit, AreKept, FindsNumber, named, remembered}
+use Rattle.dwarf_lines.specs.Adding.{Adds, AreKept, FindsNumber, named, remembered}
 use Rattle.file_names.specs.Numbers.{is_known, number_of, place_of, with_name}
 use Rattle.dwarf_lines.specs.declared.numbers.NameNumbers.{NameNumbers}
-use Rattle.dwarf_lines.specs.Numbers.{UnitRows, add_row, end_sequence, file_name}
+use Rattle.dwarf_lines.specs.Numbers.{UnitRows, add_row, file_name}
 use Rattle.file_names.proofs.Known.{first_of, known_name, known_push, last_by, new_push}
-use Rattle.dwarf_lines.specs.Numbering.{AreKnown, AreNumbers, IsNumbered}
+use Rattle.dwarf_lines.specs.Numbering.{AreKnown, IsNumbered}
 
 -- what was remembered holds with one name more
 known_by : (names : List (List ℕ)) (q name : List ℕ) (n : ℕ) (b : Bool) → is_known names name ≡ b → place_of names q ≡ Some n → place_of (if b then names else names ++ name ∷ []) q ≡ Some n
@@ -105,18 +104,3 @@ row_added line_str strs unit known before numbers old new row n found pushed =
       same = same;
       kept = record { table = found.numbered.kept; files_known = found.files_known };
     }
-
--- a sequence more, behind its rows
-pub sequence_added : (line_str strs : List ℕ) (files : List (List ℕ)) (known : List (Option ℕ)) (numbers : NameNumbers) (want rows new : RowList) (end : ℕ)
-    → Adds want line_str strs files known numbers rows → new ≡ record rows { sequences = ended_with rows.sequences rows.pending end; pending = [] }
-    → Adds (end_sequence end want) line_str strs files known numbers new
-sequence_added line_str strs files known numbers want rows new end added ended =
-    record {
-      same = ap (λ (r : RowList). named r numbers) ended ∙ ap (λ (r : RowList). end_sequence end r) added.same;
-      kept = added.kept;
-    }
-
--- a fault more
-pub fault_added : (line_str strs : List ℕ) (numbers : NameNumbers) (old new : RowList) (fault : UnitFault) → AreNumbers line_str strs numbers → new ≡ record old { faults = old.faults ++ fault ∷ [] }
-    → AddsUnit (record (named old numbers) { faults = old.faults ++ fault ∷ [] }) line_str strs numbers new
-fault_added line_str strs numbers old new fault h pushed = record { same = ap (λ (r : RowList). named r numbers) pushed; table = h }

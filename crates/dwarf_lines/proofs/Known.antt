@@ -1,5 +1,5 @@
 -- The numbers of names while the units are read.
-use Rattle.std.proofs.Common.{◌≡◌, ℕ, ◌+◌, ◌-◌, ◌<◌, ◌≤◌, List, [], ◌++◌, None, length, map, refl, arith, ◌∙◌, ap, sym, subst, get_or}
+use Rattle.std.proofs.Common.{◌≡◌, ℕ, ◌+◌, ◌-◌, ◌<◌, ◌≤◌, List, [], ◌++◌, None, length, map, arith, ◌∙◌, sym, subst, get_or}
 use Rattle.std.proofs.lemmas.List.{get_or_append_left, get_or-append_right, get_or-map, length-map}
 use Rattle.std.specs.Prelude.{Result, Ok, Err, IfOk}
 use Rattle.line_rows.specs.RowList.{NameList, no_names}
@@ -7,7 +7,6 @@ use Rattle.line_headers.specs.declared.places.NamePlace.{NamePlace}
 use Rattle.line_headers.specs.declared.places.NamePlace.TheVariants as place
 use Rattle.file_names.specs.Tables.{HasNumbers, IsSection, Numbers, NumbersIn}
 use Rattle.file_names.specs.Texts.{text_from}
-use Rattle.file_names.specs.declared.classes.Classes.{Classes}
 use Rattle.file_names.specs.declared.sections.SectionTexts.{SectionTexts}
 use Rattle.file_names.proofs.Numbered.{no_section, section_stays}
 use Rattle.dwarf_lines.specs.Names.{name_in}

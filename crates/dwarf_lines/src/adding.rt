@@ -73,9 +73,7 @@ fn add_row(
     requires { AreKept line_str.now strs.now (shown line.now line_str.now strs.now unit.now).names known.old numbers.old }
     ensures { OnOk result (Adds (add_row (shown line.now line_str.now strs.now unit.now) (named rows.old numbers.old) row) line_str.now strs.now (shown line.now line_str.now strs.now unit.now).names known.new numbers.new rows.new) }
 {
-    let file = file_number(
-        alloc, line, line_str, strs, unit, row.file, known, numbers,
-    )?;
+    let file = file_number(alloc, line, line_str, strs, unit, row.file, known, numbers)?;
     rows.push_row(Row { file, ..row })
 }
 

@@ -23,11 +23,7 @@ pub struct NameNumbers {
 
 /// No names yet.
 #[tactic(auto, using(crate::proofs::Known::none_numbered))]
-pub fn no_numbers(
-    alloc: Global,
-    line_str: &[u8],
-    strs: &[u8],
-) -> Result<NameNumbers, NoMemory>
+pub fn no_numbers(alloc: Global, line_str: &[u8], strs: &[u8]) -> Result<NameNumbers, NoMemory>
     ensures table { IfOk result (λ numbers. AreNumbers line_str.now strs.now numbers) }
     ensures names { IfOk result (λ numbers. numbers.names.names ≡ []) }
 {
@@ -40,7 +36,6 @@ pub fn no_numbers(
 }
 
 // The number of the name at a place.
-#[tactic(auto, using(crate::proofs::Known::name_numbered, crate::proofs::Known::line_str_numbered, crate::proofs::Known::strs_numbered))]
 fn number_at(
     alloc: Global,
     line: &[u8],
@@ -80,7 +75,7 @@ fn number_at(
 
 /// The number of the name of a unit's file, which is the next one where no row had the name before. Files are counted
 /// from the first: those of the header, and behind them those that the program defines.
-#[tactic(auto, using(crate::proofs::Known::name_numbered, crate::proofs::Known::header_name, crate::proofs::Known::behind_name))]
+#[tactic(auto, using(crate::proofs::Known::header_name))]
 pub fn number_of_file(
     alloc: Global,
     line: &[u8],

@@ -1,18 +1,17 @@
 -- Steps from text to text.
-use Rattle.std.proofs.Common.{◌≡◌, ℕ, zero, suc, ◌+◌, ◌-◌, ◌*◌, ◌≤◌, ◌<◌, Bool, true, false, cond, List, [], ◌∷◌, ◌++◌, Option, None, Some, length, drop, take, refl, arith, ◌∙◌, ap, sym, subst, get_or, eqb-true}
+use Rattle.std.proofs.Common.{◌≡◌, ℕ, zero, suc, ◌+◌, ◌-◌, ◌*◌, ◌≤◌, ◌<◌, Bool, true, false, List, [], ◌∷◌, ◌++◌, Option, None, Some, length, drop, take, refl, arith, ◌∙◌, ap, sym, subst, get_or, eqb-true}
 use Rattle.std.specs.Prelude.{nat_lt, ◌==◌, slice_get, slice_set, slice_range, if◌then◌else◌}
 use Rattle.std.specs.List.{take_while}
 use Rattle.std.specs.BTreeMap.{BTreeMap}
 use Rattle.std.specs.BTreeMap as tree
-use Rattle.std.specs.Ordering.{nat_cmp, is_eq}
+use Rattle.std.specs.Ordering.{nat_cmp}
 use Rattle.std.specs.Cmp.{unsigned_ties}
-use Rattle.std.specs.Global.{Vec}
 use Rattle.std.proofs.lemmas.Bool.Decides.{nat_tests}
 use Rattle.std.proofs.lemmas.List.{length_push}
 use Rattle.std.proofs.lemmas.List.Sums.{take_while-cons}
 use Rattle.std.proofs.Math.Seq.{drop-cons}
 use Rattle.leb_read.specs.Leb.{is_text_byte}
-use Rattle.file_names.specs.Links.{link_at, linked, class_of, AreLinks, number_by}
+use Rattle.file_names.specs.Links.{link_at, class_of, AreLinks, number_by}
 use Rattle.file_names.specs.Tables.{AreClasses, Grows, Links, Meets, remembered}
 use Rattle.file_names.specs.Texts.{AreMet, IsMet, text_from}
 use Rattle.file_names.specs.declared.classes.Classes.{Classes}

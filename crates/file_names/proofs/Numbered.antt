@@ -1,6 +1,6 @@
 -- The number of a name by its class.
-use Rattle.std.proofs.Common.{◌≡◌, ℕ, zero, suc, ◌+◌, ◌-◌, ◌≤◌, ◌<◌, ◌^◌, Bool, true, false, cond, List, [], ◌∷◌, ◌++◌, Option, None, Some, length, drop, take, replicate, refl, arith, ◌∙◌, ap, sym, subst, get_or}
-use Rattle.std.specs.Prelude.{nat_lt, slice_set, slice_get, slice_range}
+use Rattle.std.proofs.Common.{◌≡◌, ℕ, zero, suc, ◌+◌, ◌-◌, ◌≤◌, ◌<◌, ◌^◌, List, [], ◌∷◌, ◌++◌, Option, None, Some, length, drop, take, replicate, refl, arith, ◌∙◌, ap, sym, subst, get_or}
+use Rattle.std.specs.Prelude.{slice_set, slice_get, slice_range}
 use Rattle.std.specs.BTreeMap.{BTreeMap}
 use Rattle.std.specs.List.{take_while}
 use Rattle.leb_read.specs.Leb.{is_text_byte}
@@ -9,10 +9,10 @@ use Rattle.line_rows.proofs.Flat.{slice_range-append, slice_range-behind}
 use Rattle.file_names.specs.declared.texts.Met.{Met}
 use Rattle.file_names.specs.declared.sections.SectionTexts.{SectionTexts}
 use Rattle.line_rows.specs.RowList.{NameList}
-use Rattle.file_names.specs.Links.{AreLinks, AreNumbers, class_of, link_at, number_by}
-use Rattle.file_names.specs.Numbers.{number_of, place_of, with_name}
+use Rattle.file_names.specs.Links.{AreLinks, AreNumbers, class_of, number_by}
+use Rattle.file_names.specs.Numbers.{place_of}
 use Rattle.file_names.specs.Tables.{GoesOn, Grows, HasNumbers, IsSection, Keeps, Numbers, NumbersIn, Opens, Sets, StandsAt}
-use Rattle.file_names.specs.Texts.{AreMet, IsMet, text_from}
+use Rattle.file_names.specs.Texts.{AreMet, text_from}
 use Rattle.file_names.specs.declared.classes.Classes.{Classes}
 use Rattle.file_names.proofs.Known.{known_name, new_name, set_numbers}
 use Rattle.file_names.proofs.Links.{class_below}
@@ -69,10 +69,6 @@ new_number old mid new before after name c n h g is there count sets pushed on =
 -- nothing is kept more
 pub goes_on_none : (texts : List ℕ) → GoesOn texts texts
 goes_on_none texts = ([], sym (append-nil texts))
-
-pub none_there : (o : Option ℕ) → ((n : ℕ) → o ≡ Some n → ⊥) → o ≡ None
-none_there None h = refl
-none_there (Some n) h = absurd (h n refl)
 
 pub open_known : (links : BTreeMap ℕ ℕ) (names : NameList) (section : List ℕ) (table : SectionTexts) (start : ℕ) → IsSection links names.texts section table → table.start ≡ Some start → Opens links names names section table start
 open_known links names section table start h is = record { names = refl; texts = goes_on_none names.texts; is_section = h; stands = h.kept start is }
@@ -208,23 +204,4 @@ no_section links texts section table start known =
     record {
       met = λ at met there. let none : slice_get [] at ≡ Some (Some met) = ap (λ (l : List (Option Met)). slice_get l at) (sym known) ∙ there in absurd (cc);
       kept = λ other there. let none : None ≡ Some other = sym start ∙ there in absurd (cc);
-    }
-
-none_by_class : (o : Option ℕ) → number_by (None ∷ []) o ≡ None
-none_by_class None = refl
-none_by_class (Some zero) = refl
-none_by_class (Some (suc c)) = refl
-
--- no class but that of the empty text, and no number
-pub no_numbers : (classes : Classes) → ((k : ℕ) → link_at classes.links k ≡ None) → classes.numbers.items ≡ None ∷ [] → HasNumbers classes []
-no_numbers classes empty numbers =
-    let size : length classes.numbers.items ≡ 1 = ap length numbers in
-    record {
-      classes = record {
-        some = omega arith;
-        values = λ k v there. let none = empty k in absurd (cc);
-        keys = λ k far. empty k;
-        apart = λ j k v e f. let none = empty j in absurd (cc);
-      };
-      numbers = λ q. ap (λ (l : List (Option ℕ)). number_by l (class_of classes.links q)) numbers ∙ none_by_class (class_of classes.links q);
     }

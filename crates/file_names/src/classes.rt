@@ -48,7 +48,7 @@ pub fn next_number(count: usize) -> Result<u32, NoMemory>
 }
 
 /// The class of a text by the class of what is behind its first byte.
-#[tactic(auto, using(crate::proofs::Grown::link_known, crate::proofs::Grown::link_new))]
+#[tactic(auto, using(crate::proofs::Grown::link_known))]
 pub fn longer(classes: &mut Classes, class: u32, byte: u8) -> Result<u32, NoMemory>
     requires classes { AreClasses classes.old }
     requires below { class < length classes.old.numbers.items }

@@ -10,4 +10,3 @@ pub use classes::Classes;
 pub use numbers::{number_in, number_of};
 pub use sections::SectionTexts;
 pub use texts::Met;
-

@@ -26,11 +26,7 @@ fn set_number(classes: &mut Classes, class: u32, number: u32)
 }
 
 /// The number of a name, which is the next one where the list had no such name.
-pub fn number_of(
-    classes: &mut Classes,
-    names: &mut FileNames,
-    name: &[u8],
-) -> Result<u32, NoMemory>
+pub fn number_of(classes: &mut Classes, names: &mut FileNames, name: &[u8]) -> Result<u32, NoMemory>
     requires { HasNumbers classes.old names.old.names }
     ensures { IfOk result (λ n. Numbers classes.old classes.new names.old names.new name.now n) }
 {

@@ -45,12 +45,7 @@ pub fn met_before(
 }
 
 // The text at a place, if it was met or is empty.
-fn met_already(
-    classes: &Classes,
-    known: &[Option<Met>],
-    section: &[u8],
-    at: u32,
-) -> Option<Met>
+fn met_already(classes: &Classes, known: &[Option<Met>], section: &[u8], at: u32) -> Option<Met>
     requires within { at < length section.now }
     requires known { AreMet classes.now.links section.now known.now }
     ensures { IfSome result (λ met. IsMet classes.now.links section.now at met) }
@@ -65,12 +60,7 @@ fn met_already(
 }
 
 // From a place on the first text that was met or is empty.
-fn first_met(
-    classes: &Classes,
-    known: &[Option<Met>],
-    section: &[u8],
-    at: u32,
-) -> Found
+fn first_met(classes: &Classes, known: &[Option<Met>], section: &[u8], at: u32) -> Found
     requires within { at ≤ length section.now }
     requires fits { length section.now < 2 ^ 32 }
     requires known { AreMet classes.now.links section.now known.now }

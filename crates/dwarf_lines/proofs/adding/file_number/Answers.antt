@@ -1,4 +1,4 @@
-use Rattle.std.proofs.Common.{ap, subst, List, [], ◌++◌, ℕ, map, get_or, None}
+use Rattle.std.proofs.Common.{subst, List, [], ◌++◌, ℕ, map, get_or, None}
 use Rattle.line_headers.specs.declared.places.NamePlace.{NamePlace}
 use Rattle.dwarf_lines.specs.Names.{name_in}
 use Rattle.dwarf_lines.specs.Numbering.{IsNumbered}

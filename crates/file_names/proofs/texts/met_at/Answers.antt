@@ -1,4 +1,4 @@
-use Rattle.std.proofs.Common.{◌≡◌, ◌+◌, ◌-◌, subst, sym, arith, List, Option}
+use Rattle.std.proofs.Common.{subst, sym, arith, List, Option}
 use Rattle.file_names.specs.Texts.{AreMet}
 use Rattle.file_names.specs.declared.texts.Met.{Met}
 use Rattle.file_names.proofs.Grown.{all_stay, grows_twice, met_kept}

@@ -1,5 +1,5 @@
 -- The names stay where more bytes come behind them.
-use Rattle.std.proofs.Common.{◌≡◌, ◌++◌, List, ℕ, ap}
+use Rattle.std.proofs.Common.{◌++◌, ap}
 use Rattle.line_rows.specs.RowList.{NameList}
 use Rattle.line_rows.proofs.Flat.{names_in-append}
 use Rattle.line_rows.proofs.names.FileNames.keep.Goals as goal

@@ -1,5 +1,5 @@
 -- The names before stay, and the new one stands behind them.
-use Rattle.std.proofs.Common.{◌≡◌, ◌++◌, ◌∷◌, [], List, ℕ, Result, Ok, Err, OnErr, ap, ◌∙◌, arith}
+use Rattle.std.proofs.Common.{◌≡◌, ◌++◌, ◌∷◌, [], Result, Ok, Err, OnErr, ap, ◌∙◌, arith}
 use Rattle.line_rows.specs.KeptNames.{names_in}
 use Rattle.line_rows.specs.RowList.{NameList}
 use Rattle.line_rows.proofs.Flat.{names_in-append, list_push}
