@@ -397,7 +397,7 @@ due_text r h pc d x f at is due_is some =
     let k = core_at r h x f at in
     let here = of_hart r h k.0 x (λ y. y.regs.pc ≡ pc) k.1 is in
     let e = of_hart r h k.0 x (λ y. due r.opening.image (seen r) h y ≡ d) k.1 due_is in
-    let there : stands pc r.breaks ≡ true = sym (ap (λ a. stands a r.breaks) here) ∙ due_stands r.opening.image (seen r) h (seen_hart k.0 x) (ap is_due e ∙ some) in
+    let there : stands pc r.breaks ≡ true = sym (ap (λ a. stands a r.breaks) here) ∙ due_stands r.opening.image (seen r) h (seen_hart r.opening.image k.0 x) (ap is_due e ∙ some) in
     text_shown r.opening.image r.machine.text r.breaks r.hold pc f.planted (stands_text r.opening.image r.breaks pc f.texts there)
 
 -- at a word that isn't patched nothing is due for a hart that steps over nothing

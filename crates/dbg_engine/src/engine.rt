@@ -21,7 +21,7 @@ ghost use Rattle.std.specs.List.{list_any, list_all};
 use crate::Turned;
 use crate::answering::{LineChange, Response, answer, going_on, is_wait, refusal, refuse, selected_after};
 use crate::breaking::{BreakChange, change_table, due_at, is_temporary, settle};
-use crate::homing::{go_home, go_home_at_exit, go_home_each};
+use crate::homing::{go_home, go_home_at_exit, go_home_each, landed_pc};
 use crate::journal::note;
 use crate::moving::{apply, ran_mind};
 use crate::patching::{release, repatch, wants};
@@ -364,12 +364,16 @@ impl Engine {
         self.entries.capacity() - self.entries.len()
     }
 
-    /// Where a hart is.
+    /// Where a hart shows its pc: at home, where it is in its slot.
     pub fn pc(&self, h: u32) -> u32
         requires { h < length self.now.minds }
-        ensures { (c : Core) → slice_get self.now.machine.cores h ≡ Some c → result ≡ c.regs.pc }
+        ensures { Of self.now h (λ y. y.regs.pc ≡ result) }
     {
-        self.machine.pc(h as usize)
+        let mind = self.mind(h);
+        if mind.activity != Activity::Running {
+            return self.machine.pc(h as usize);
+        }
+        self.shown_pc(h, mind)
     }
 
     /// The bytes from an address on; the first address that can't be read where there is one, and then nothing changed.
@@ -596,16 +600,20 @@ impl Engine {
         self.noted += 1;
     }
 
-    // Where a running hart shows its pc: at home, where it is at a copy.
+    // Where a running hart shows its pc: at home, where it is in its slot.
     fn shown_pc(&self, h: u32, mind: Mind) -> u32
         requires mind { slice_get self.now.minds h ≡ Some mind }
-        requires before { is_before mind.phase ≡ true }
         requires runs { mind.activity ≡ Activity.Running }
         ensures { Of self.now h (λ y. y.regs.pc ≡ result) }
     {
+        let pc = self.machine.pc(h as usize);
         match mind.phase {
+            Phase::Idle | Phase::Lifted { .. } | Phase::Ran { .. } => pc,
             Phase::Copied { home, .. } => home,
-            _ => self.machine.pc(h as usize),
+            Phase::Landed { slot, home } => match self.opening.image.text_word(home) {
+                Some(word) => landed_pc(word, slot, home, pc),
+                None => pc,
+            },
         }
     }
 

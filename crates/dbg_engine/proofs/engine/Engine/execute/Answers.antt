@@ -39,13 +39,23 @@ returns-in-Trap-clause-executes c =
     let Q : Run → Type 0 = λ q. TrapsAt q c.args.h c.in-Trap.cause in
     (ap (λ (m : Patched). let q : Run = record r { machine = m } in q) t.0 ∙ c.self.view_is, subst Q c.self.view_is t.1)
 
-pub release_at_exit-requires : goal.release_at_exit-requires
-release_at_exit-requires c =
-    let r = run_of c.self.inside in
-    let k = readied r c.args.self.now c.args.h c.args.pc c.args.mind c.self.view_is c.self.invariant.facts c.requires.mind c.requires.before c.requires.runs c.requires.free c.requires.pc c.requires.due c.requires.unpatched c.requires.may in
-    let st = c.step-stepped.ensures.step k.core k.ready.mover.core in
-    let P : Words → Type 0 = λ t. HeldInText t r.hold in
-    subst P (sym (ap (λ (m : Patched). m.text) st.machine)) (held_text r c.self.invariant.facts)
+pub go_home_at_exit-requires-clause-text : goal.go_home_at_exit-requires-clause-text
+go_home_at_exit-requires-clause-text c = ?
+
+pub go_home_at_exit-requires-clause-few : goal.go_home_at_exit-requires-clause-few
+go_home_at_exit-requires-clause-few c = ?
+
+pub go_home_at_exit-requires-clause-harts : goal.go_home_at_exit-requires-clause-harts
+go_home_at_exit-requires-clause-harts c = ?
+
+pub go_home_at_exit-requires-clause-hart : goal.go_home_at_exit-requires-clause-hart
+go_home_at_exit-requires-clause-hart c = ?
+
+pub go_home_at_exit-requires-clause-slot : goal.go_home_at_exit-requires-clause-slot
+go_home_at_exit-requires-clause-slot c = ?
+
+pub go_home_at_exit-requires-clause-slots : goal.go_home_at_exit-requires-clause-slots
+go_home_at_exit-requires-clause-slots c = ?
 
 pub apply-requires-clause-done : goal.apply-requires-clause-done
 apply-requires-clause-done c =

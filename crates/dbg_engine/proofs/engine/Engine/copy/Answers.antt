@@ -1,0 +1,1 @@
+use Rattle.dbg_engine.proofs.engine.Engine.copy.Goals as goal
