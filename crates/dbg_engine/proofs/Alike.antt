@@ -17,6 +17,7 @@ use Rattle.dbg_model.specs.declared.entry.Mode.{Mode}
 use Rattle.dbg_model.specs.declared.entry.Mode.TheVariants as mode
 use Rattle.dbg_model.specs.declared.reply.Content.{Content}
 use Rattle.dbg_model.specs.declared.reply.Content.TheVariants as content
+use Rattle.dbg_model.specs.declared.reply.Refused.TheVariants as refused
 use Rattle.dbg_model.specs.State.{Hart}
 use Rattle.dbg_model.specs.Reply.{Outcome, answered, refusing, thread_hart, thread_or, when_stopped, of_stopped, when_live, of_live, shown_by, shown_thread, live_threads, stopped_by, stopped_threads, running_by, running_threads, running, continued, one_shown, threads_of, selecting, thread_number, registers_of, evaluated, unknown_thread, for_thread, inserted_at, inserted_by, interrupted_by, interrupted_at, interrupted, changing, interrupts, content_of, outcome_at, fault_outcome}
 use Rattle.engine_facts.specs.declared.mind.Activity.{Activity}
@@ -220,4 +221,4 @@ fault_alike xs ys (fault.Undefined name) a = refl
 fault_alike xs ys (fault.Parameters name) a = refl
 fault_alike xs ys (fault.Number word) a = refl
 fault_alike xs ys fault.Setting a = refl
-fault_alike xs ys (fault.Location word thread) a = ap (λ u. for_thread u (refusing _)) (unknown_alike xs ys thread a)
+fault_alike xs ys (fault.Location word thread) a = ap (λ u. for_thread u (refusing (content.Refused (refused.Faulty (fault.Location word thread))))) (unknown_alike xs ys thread a)

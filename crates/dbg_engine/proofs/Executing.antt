@@ -43,6 +43,7 @@ use Rattle.engine_facts.proofs.Planting.{no_hit}
 use Rattle.engine_facts.proofs.Stepping.{after_regs, after_slot, executes, fact_of, gives_seen, one_seen, ran_harts}
 use Rattle.engine_facts.proofs.Exiting.{Departs, departs_alone, departs_all}
 use Rattle.engine_facts.proofs.Stopping.{may_by}
+use Rattle.dbg_engine.specs.declared.moving.Turned.TheVariants as turned
 use Rattle.dbg_engine.specs.Steps.{Parts, applied, turned_of}
 use Rattle.dbg_engine.specs.Homing.{ComesHome, HomedBy}
 use Rattle.dbg_engine.specs.Calls.{Of, Undue, Executes, Runs, Exits, TrapsAt}
@@ -353,6 +354,14 @@ applied_twice (stepped.AllExit code) h x p done =
     ap (λ xs. let ls = lefts_live code 0 xs in let q : Parts = record { journal = lengthened p.journal h ++ ls; minds = map gone_mind xs; retired = p.retired + 1; noted = p.noted + length ls } in q) (set_twice p.minds h (ran_mind x) (ran_mind x))
 applied_twice stepped.Hit h x p done = cc
 applied_twice (stepped.Trap cause) h x p done = cc
+
+pub turned_twice : (s : Stepped) (h : ℕ) (x : Mind) (xs : List Mind) → turned_of s h x (slice_set xs h (ran_mind x)) ≡ turned_of s h x xs
+turned_twice stepped.Ran h x xs = refl
+turned_twice (stepped.Wrote addr len) h x xs = refl
+turned_twice (stepped.HartExit code) h x xs = refl
+turned_twice (stepped.AllExit code) h x xs = ap (λ ys. turned.AllLeft code (length (lefts_live code 0 ys))) (set_twice xs h (ran_mind x) (ran_mind x))
+turned_twice stepped.Hit h x xs = refl
+turned_twice (stepped.Trap cause) h x xs = refl
 
 -- what the harts that leave need to come home
 pub record Prepared (r : Run) (h : ℕ) (x : Mind) (new : Patched) : Type 0 where

@@ -326,7 +326,10 @@ impl Engine {
         if self.machine.has_room() {
             return None;
         }
-        find_slotted(self.minds.as_slice(), 0)
+        let Some(hart) = find_slotted(self.minds.as_slice(), 0) else {
+            return None;
+        };
+        Some(hart)
     }
 
     /// The hart to move next: the one for which a patch is lifted, since all others stand held; else, where all slots
@@ -370,10 +373,10 @@ impl Engine {
         ensures { Of self.now h (λ y. y.regs.pc ≡ result) }
     {
         let mind = self.mind(h);
-        if mind.activity != Activity::Running {
-            return self.machine.pc(h as usize);
+        match mind.activity {
+            Activity::Running => self.shown_pc(h, mind),
+            _ => self.machine.pc(h as usize),
         }
-        self.shown_pc(h, mind)
     }
 
     /// The bytes from an address on; the first address that can't be read where there is one, and then nothing changed.
@@ -608,12 +611,12 @@ impl Engine {
     {
         let pc = self.machine.pc(h as usize);
         match mind.phase {
-            Phase::Idle | Phase::Lifted { .. } | Phase::Ran { .. } => pc,
             Phase::Copied { home, .. } => home,
             Phase::Landed { slot, home } => match self.opening.image.text_word(home) {
                 Some(word) => landed_pc(word, slot, home, pc),
                 None => pc,
             },
+            _ => pc,
         }
     }
 
@@ -724,6 +727,7 @@ impl Engine {
         ensures turns { Turns result self.old self.new h }
         ensures code { IsTurned result }
     {
+        self.keep();
         if mind.asked {
             self.note_interrupt(h, mind);
             return Turned::Interrupted;
