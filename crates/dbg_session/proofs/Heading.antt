@@ -98,6 +98,7 @@ heading s t r i c e h = record {
   output = refl;
   planted = e.planted;
   retired = e.retired;
+  copied = e.copied;
   said = rw (e.opening, e.journal) h.written;
   why = whys s t r i c e h;
 }

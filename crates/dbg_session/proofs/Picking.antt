@@ -1,7 +1,13 @@
 -- Which harts of an engine run, and what an engine leaves.
-use Rattle.std.proofs.Common.{◌≡◌, ◌≤◌, ℕ, zero, suc, Bool, true, false, List, [], ◌∷◌, length, refl, sym, ap, ◌∙◌, arith, not}
+use Rattle.std.proofs.Common.{◌≡◌, ◌<◌, ◌≤◌, ℕ, zero, suc, Bool, true, false, List, [], ◌∷◌, length, refl, sym, ap, ◌∙◌, arith, not}
 use Rattle.std.specs.Prelude.{Option, Some, None, IfSome, is_some, is_none, ◌&&◌, ◌||◌, slice_get, take}
 use mathlib.Core.List.{append-nil}
+use Rattle.std.specs.Option.{option_map}
+use Rattle.elf32_read.specs.Program.{Program}
+use Rattle.scratch_slots.specs.declared.slots.SlotUse.{SlotUse}
+use Rattle.scratch_slots.specs.Table.{least_free, AllOut}
+use Rattle.step_over.specs.declared.phase.Phase.{Phase}
+use Rattle.step_over.specs.declared.phase.Phase.TheVariants as phase
 use Rattle.hart_machine.specs.declared.hart.Core.{Core}
 use Rattle.hart_machine.proofs.Places.{same_some}
 use Rattle.mi_input.specs.Lines.{IsNext, lines}
@@ -12,11 +18,12 @@ use Rattle.engine_facts.specs.declared.mind.Activity.TheVariants as activity
 use Rattle.engine_facts.specs.declared.mind.Mind.{Mind}
 use Rattle.dbg_engine.specs.declared.engine.Closed.{Closed}
 use Rattle.engine_facts.specs.Minds.{mode_of, is_active, runs}
-use Rattle.engine_facts.specs.Seen.{Run, seen, seen_harts}
+use Rattle.engine_facts.specs.Seen.{Run, seen, seen_regs, seen_harts}
+use Rattle.engine_facts.specs.Moves.{AreHome}
 use Rattle.engine_facts.specs.Facts.{Facts}
 use Rattle.engine_facts.proofs.Seeing.{any_seen}
 use Rattle.dbg_engine.specs.Calls.{Closes, NextMoves}
-use Rattle.dbg_session.specs.Stage.{stage_of, runs_at, is_free, moves_at}
+use Rattle.dbg_session.specs.Stage.{stage_of, runs_at, is_free, is_idle, idle_as, are_out, waits_for_slot, moves_at}
 use Rattle.dbg_session.specs.Taking.{has_line, is_some_line}
 use Rattle.dbg_session.specs.Seen.{Picks}
 use Rattle.dbg_session.specs.Left.{IsLeft, core_registers, hart_registers}
@@ -26,18 +33,18 @@ active_runs activity.Stopped = refl
 active_runs activity.Running = refl
 active_runs activity.Exited = refl
 
-runs_mind : (cs : List Core) (xs : List Mind) (h : ℕ) (x : Mind) → length cs ≡ length xs → slice_get xs h ≡ Some x → runs_at (seen_harts cs xs) h ≡ runs x
-runs_mind [] [] h x len at = cc
-runs_mind [] (y ∷ ys) h x len at = absurd (omega arith)
-runs_mind (c ∷ cs) [] h x len at = cc
-runs_mind (c ∷ cs) (y ∷ ys) zero x len at = active_runs y.activity ∙ ap runs (same_some y x at)
-runs_mind (c ∷ cs) (y ∷ ys) (suc h) x len at = let l : length cs ≡ length ys = omega arith in runs_mind cs ys h x l at
+runs_mind : (p : Program) (cs : List Core) (xs : List Mind) (h : ℕ) (x : Mind) → length cs ≡ length xs → slice_get xs h ≡ Some x → runs_at (seen_harts p cs xs) h ≡ runs x
+runs_mind p [] [] h x len at = cc
+runs_mind p [] (y ∷ ys) h x len at = absurd (omega arith)
+runs_mind p (c ∷ cs) [] h x len at = cc
+runs_mind p (c ∷ cs) (y ∷ ys) zero x len at = active_runs y.activity ∙ ap runs (same_some y x at)
+runs_mind p (c ∷ cs) (y ∷ ys) (suc h) x len at = let l : length cs ≡ length ys = omega arith in runs_mind p cs ys h x l at
 
-runs_out : (cs : List Core) (xs : List Mind) (h : ℕ) → length xs ≤ h → runs_at (seen_harts cs xs) h ≡ false
-runs_out [] xs h le = refl
-runs_out (c ∷ cs) [] h le = refl
-runs_out (c ∷ cs) (y ∷ ys) zero le = absurd (omega arith)
-runs_out (c ∷ cs) (y ∷ ys) (suc h) le = let l : length ys ≤ h = omega arith in runs_out cs ys h l
+runs_out : (p : Program) (cs : List Core) (xs : List Mind) (h : ℕ) → length xs ≤ h → runs_at (seen_harts p cs xs) h ≡ false
+runs_out p [] xs h le = refl
+runs_out p (c ∷ cs) [] h le = refl
+runs_out p (c ∷ cs) (y ∷ ys) zero le = absurd (omega arith)
+runs_out p (c ∷ cs) (y ∷ ys) (suc h) le = let l : length ys ≤ h = omega arith in runs_out p cs ys h l
 
 pub and_false : (b : Bool) → (b && false) ≡ false
 and_false true = refl
@@ -49,13 +56,62 @@ or_true false = refl
 
 -- a hart that isn't there doesn't run
 pub out_of_range : (e : Run) (h : ℕ) → length e.minds ≤ h → not (may_go e.opening (seen e) && moves_at (stage_of e) h) ≡ true
-out_of_range e h le = ap (λ b. not (may_go e.opening (seen e) && (b && is_free e.hold h))) (runs_out e.machine.cores e.minds h le) ∙ ap not (and_false (may_go e.opening (seen e)))
+out_of_range e h le =
+    ap (λ b. not (may_go e.opening (seen e) && ((b && is_free e.hold h) && not (waits_for_slot e.machine.slots e.minds h)))) (runs_out e.opening.image e.machine.cores e.minds h le)
+    ∙ ap not (and_false (may_go e.opening (seen e)))
+
+-- ---- whether all slots are out
+
+none_least : (slots : List (Option SlotUse)) → AllOut slots → least_free slots ≡ None
+none_least [] out = refl
+none_least (None ∷ slots) out = absurd (out 0 refl)
+none_least (Some u ∷ slots) out = ap (option_map suc) (none_least slots (λ k at. out (suc k) at))
+
+none_next : (o : Option ℕ) → option_map suc o ≡ None → o ≡ None
+none_next None e = refl
+none_next (Some k) e = cc
+
+none_there : (slots : List (Option SlotUse)) (k : ℕ) → least_free slots ≡ None → slice_get slots k ≡ Some None → ⊥
+none_there [] k e at = cc
+none_there (None ∷ slots) k e at = cc
+none_there (Some u ∷ slots) zero e at = cc
+none_there (Some u ∷ slots) (suc k) e at = none_there slots k (none_next (least_free slots) e) at
+
+none_so : (o : Option ℕ) → is_none o ≡ true → o ≡ None
+none_so None e = refl
+none_so (Some k) e = cc
+
+pub out_so : (slots : List (Option SlotUse)) → 0 < length slots → AllOut slots → are_out slots ≡ true
+out_so [] some out = absurd (omega arith)
+out_so (u ∷ slots) some out = ap is_none (none_least (u ∷ slots) out)
+
+out_is : (slots : List (Option SlotUse)) → are_out slots ≡ true → (0 < length slots) × AllOut slots
+out_is [] is = cc
+out_is (u ∷ slots) is = let none = none_so (least_free (u ∷ slots)) is in (omega arith, λ k at. none_there (u ∷ slots) k none at)
+
+idle_so : (q : Phase) → is_idle q ≡ true → q ≡ phase.Idle
+idle_so phase.Idle is = refl
+idle_so (phase.Copied slot home) is = cc
+idle_so (phase.Landed slot home) is = cc
+idle_so (phase.Lifted home) is = cc
+idle_so (phase.Ran home) is = cc
+
+no_wait : (slots : List (Option SlotUse)) (q : Phase) (out idle : Bool) → are_out slots ≡ out → is_idle q ≡ idle → (q ≡ phase.Idle → 0 < length slots → AllOut slots → ⊥) → not (out && idle) ≡ true
+no_wait slots q false idle is rests room = refl
+no_wait slots q true false is rests room = refl
+no_wait slots q true true is rests room = let o = out_is slots is in absurd (room (idle_so q rests) o.0 o.1)
 
 pub picks_none : (e : Run) → Facts e → NextMoves None e → Picks None (stage_of e)
-picks_none e f none = sym (any_seen e.machine.cores e.minds f.harts.len) ∙ none
+picks_none e f none = sym (any_seen e.opening.image e.machine.cores e.minds f.harts.len) ∙ none
 
 pub picks_some : (e : Run) (h : ℕ) → Facts e → NextMoves (Some h) e → Picks (Some h) (stage_of e)
-picks_some e h f m = ap (λ b. b && is_free e.hold h) (runs_mind e.machine.cores e.minds h m.mind f.harts.len m.at ∙ m.runs) ∙ ap is_none m.free
+picks_some e h f m =
+    let slots = e.machine.slots in
+    let waits = waits_for_slot slots e.minds h in
+    ap (λ b. (b && is_free e.hold h) && not waits) (runs_mind e.opening.image e.machine.cores e.minds h m.mind f.harts.len m.at ∙ m.runs)
+    ∙ (ap (λ d. is_none d && not waits) m.free
+    ∙ (ap (λ x. not (are_out slots && idle_as x)) m.at
+    ∙ no_wait slots m.mind.phase (are_out slots) (is_idle m.mind.phase) refl refl m.room))
 
 -- a whole line stands in a rest whose next line is found
 pub next_stands : (ended : Bool) (rest line : List ℕ) (next : ℕ) → IsNext ended rest line next → has_line ended rest ≡ true
@@ -79,10 +135,15 @@ open_line may true true line is some = rw is refl
 open_line may true false line is some = rw (is, some) refl
 open_line may false running line is some = rw is refl
 
-regs_seen : (cs : List Core) (xs : List Mind) → length cs ≡ length xs → core_registers cs ≡ hart_registers (seen_harts cs xs)
-regs_seen [] xs len = refl
-regs_seen (c ∷ cs) [] len = absurd (omega arith)
-regs_seen (c ∷ cs) (x ∷ xs) len = let l : length cs ≡ length xs = omega arith in ap (λ t. c.regs ∷ t) (regs_seen cs xs l)
+-- harts at home have the registers that were seen
+home_regs : (p : Program) (cs : List Core) (xs : List Mind) (ds : List Core) → AreHome p cs xs ds → core_registers ds ≡ hart_registers (seen_harts p cs xs)
+home_regs p [] xs [] home = refl
+home_regs p [] xs (d ∷ ds) home = absurd home
+home_regs p (c ∷ cs) [] [] home = absurd home
+home_regs p (c ∷ cs) (x ∷ xs) [] home = absurd home
+home_regs p (c ∷ cs) [] (d ∷ ds) home = absurd home
+home_regs p (c ∷ cs) (x ∷ xs) (d ∷ ds) home =
+    ap (λ r. r ∷ core_registers ds) home.0.regs ∙ ap (λ t. seen_regs p c.regs x.activity x.phase ∷ t) (home_regs p cs xs ds home.1)
 
 -- what is left of an engine
 pub left : (e : Run) (c : Closed) → c.opening ≡ e.opening → c.journal ≡ e.journal → Closes e c.machine → Facts e → IsLeft (stage_of e) c
@@ -90,8 +151,9 @@ left e c o j m f = record {
   opening = o;
   journal = j;
   leaves = rw (o, j) f.leaves;
-  registers = ap core_registers m.cores ∙ regs_seen e.machine.cores e.minds f.harts.len;
+  registers = home_regs e.opening.image e.machine.cores e.minds c.machine.cores m.cores;
   memory = m.memory;
   planted = rw o m.text;
   retired = rw j m.retired;
+  copied = rw o m.copied;
 }

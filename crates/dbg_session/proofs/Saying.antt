@@ -1,5 +1,5 @@
 -- What a turn and a line say.
-use Rattle.std.proofs.Common.{◌≡◌, ◌<◌, ◌≤◌, ℕ, zero, suc, ◌+◌, ◌-◌, ◌*◌, Bool, true, false, List, [], ◌∷◌, ◌++◌, length, drop, refl, sym, ap, ◌∙◌, arith, subst, cond}
+use Rattle.std.proofs.Common.{◌≡◌, ◌<◌, ◌≤◌, ℕ, zero, suc, ◌+◌, ◌-◌, ◌*◌, Bool, true, false, List, [], ◌∷◌, ◌++◌, length, drop, refl, sym, ap, ◌∙◌, arith, subst, cond, not}
 use Rattle.std.specs.Prelude.{Option, Some, None, is_none, ◌&&◌, ◌⊎◌, map, slice_get}
 use mathlib.Core.Logic.{inl, inr}
 use mathlib.Core.List.{append-nil}
@@ -9,7 +9,7 @@ use Rattle.dbg_model.specs.declared.reply.Reply.{Reply}
 use Rattle.dbg_model.specs.declared.entry.Entry.{Entry}
 use Rattle.dbg_model.specs.declared.entry.Entry.TheVariants.{Counted, Stopped, Did}
 use Rattle.dbg_model.specs.declared.entry.Why.{Why}
-use Rattle.dbg_model.specs.declared.entry.Why.TheVariants.{Break, Fault}
+use Rattle.dbg_model.specs.declared.entry.Why.TheVariants.{Break, Interrupted, Fault}
 use Rattle.dbg_model.specs.declared.opening.Opening.{Opening}
 use Rattle.dbg_model.specs.Breaks.{is_temporary}
 use Rattle.dbg_model.specs.State.{State, all_gone, any_runs}
@@ -17,7 +17,7 @@ use Rattle.dbg_model.specs.Lawful.{one}
 use Rattle.dbg_model.specs.Leaving.{lefts_from, gone}
 use Rattle.dbg_model.specs.Journals.{lengthened, did}
 use Rattle.dbg_model.proofs.Adding.{lengthens}
-use Rattle.mi_reports.specs.Text.{stream_text, stop_text, break_text, lefts_text}
+use Rattle.mi_reports.specs.Text.{stream_text, stop_text, interrupt_text, break_text, lefts_text}
 use Rattle.mi_reports.specs.Replies.{reply_text}
 use Rattle.mi_reports.specs.Said.{said, hart_pc}
 use Rattle.mi_reports.proofs.Saying.{said_added, said_lengthened}
@@ -26,15 +26,15 @@ use Rattle.dbg_engine.specs.declared.moving.Turned.{Turned}
 use Rattle.dbg_engine.specs.declared.moving.Turned.TheVariants as turned
 use Rattle.engine_facts.specs.declared.mind.Mind.{Mind}
 use Rattle.engine_facts.specs.declared.mind.Hold.{Hold}
-use Rattle.engine_facts.specs.declared.mind.Phase.{Phase}
-use Rattle.engine_facts.specs.declared.mind.Phase.TheVariants as phase
-use Rattle.engine_facts.specs.Seen.{Run, seen}
+use Rattle.step_over.specs.declared.phase.Phase.{Phase}
+use Rattle.step_over.specs.declared.phase.Phase.TheVariants as phase
+use Rattle.engine_facts.specs.Seen.{Run, seen, seen_hart}
 use Rattle.engine_facts.specs.Facts.{Facts}
 use Rattle.engine_facts.specs.Minds.{mode_of, is_active, with_phase, counted_mind}
 use Rattle.engine_facts.proofs.Seeing.{seen_at}
-use Rattle.dbg_engine.specs.Calls.{Turns, Runs, Exits, Halts, Counts, Rephases, Does}
+use Rattle.dbg_engine.specs.Calls.{Of, Turns, Runs, Exits, Halts, Counts, Rephases, Does}
 use Rattle.break_table.specs.declared.due.CondError.{CondError}
-use Rattle.dbg_session.specs.Stage.{stage_of, work_of, running, moves, moves_of, moves_left, runs_at, runs_as, is_free, moves_at}
+use Rattle.dbg_session.specs.Stage.{stage_of, work_of, running, moves, moves_of, moves_left, runs_at, runs_as, is_free, is_idle, idle_as, waits_for_slot, moves_at}
 use Rattle.dbg_model.specs.State.{is_running}
 use Rattle.dbg_model.specs.Lawful.{may_go}
 use Rattle.engine_facts.specs.declared.mind.Activity.{Activity}
@@ -43,6 +43,7 @@ use Rattle.dbg_session.specs.Steps.{said_by, Goes}
 use Rattle.dbg_session.specs.Turned.{turned_text, last_lefts, stream_of, has_moved}
 use Rattle.dbg_session.proofs.Timing.{did_line, Grown, grown_same, grown_more, grown_lengthened, grown_exits}
 use Rattle.dbg_session.proofs.Working.{one_works, one_runs, halt_runs, halts, count_notes, count_runs, done_retired, running_gone, running_most, moves_most, moves_set}
+use Rattle.dbg_session.proofs.Picking.{out_so}
 use Rattle.dbg_engine.proofs.Commanding.{harts_length}
 
 -- what a turn that moved says, and leaves to do
@@ -58,8 +59,9 @@ goes_by r s g ran = record { lines = g.lines; through = g.through; until = g.unt
 spared_goes : (e s : Run) (n : ℕ) → Goes (stage_of (record e { spare = n })) (stage_of s) → Goes (stage_of e) (stage_of s)
 spared_goes e s n g = record { lines = g.lines; through = g.through; until = g.until; ran = g.ran }
 
+-- a hart shows its pc here
 abbrev pub IsPc : Run → ℕ → ℕ → Type 0
-IsPc r h pc = (c : Core) → slice_get r.machine.cores h ≡ Some c → pc ≡ c.regs.pc
+IsPc r h pc = Of r h (λ y. y.regs.pc ≡ pc)
 
 nothing_written : stream_text [] ≡ []
 unfolding stream_text
@@ -70,7 +72,7 @@ pub few_moves : (r : Run) → Facts r → moves r.minds ≤ 48
 few_moves r f = omega (arith, moves_most r.minds, f.count, f.settings.harts.1)
 
 pub few_run : (r : Run) → Facts r → running (seen r).harts ≤ 16
-few_run r f = omega (arith, running_most (seen r).harts, harts_length r.machine.cores r.minds f.harts.len, f.count, f.settings.harts.1)
+few_run r f = omega (arith, running_most (seen r).harts, harts_length r.opening.image r.machine.cores r.minds f.harts.len, f.count, f.settings.harts.1)
 
 less_work : (b r s m n p q : ℕ) → r < b → s ≡ r + 1 → m ≤ n → p ≤ 48 → 49 * (b - s) + (49 * m + p) < 49 * (b - r) + (49 * n + q)
 less_work b r s m n p q low is le few = omega arith
@@ -139,7 +141,8 @@ pc_seen r h pc f low is_pc =
     let low_core : h < length r.machine.cores = omega (arith, f.harts.len) in
     let c = get_within r.machine.cores h low_core in
     let x = get_within r.minds h low in
-    ap hart_pc (seen_at r.machine.cores r.minds h c.0 x.0 c.1 x.1) ∙ sym (is_pc c.0 c.1)
+    let at = seen_at r.opening.image r.machine.cores r.minds h c.0 x.0 c.1 x.1 in
+    ap hart_pc at ∙ is_pc (seen_hart r.opening.image c.0 x.0) at
 
 halts_say : (t : Turned) (r s : Run) (h pc : ℕ) (why : Why) → Facts r → Facts s → Halts r s h why → said_by (stage_of s) ≡ said_by (stage_of r) ++ turned_text s t h pc → Said t r s h pc
 halts_say t r s h pc why f g m text =
@@ -161,6 +164,12 @@ faults_say r s h pc cause f g low is_pc m =
     let e : Entry = Stopped h (Fault cause) in
     halts_say (turned.Stopped cause) r s h pc (Fault cause) f g m
     (said_is r s (r.journal ++ e ∷ []) (stop_text cause h pc) m.opening m.journal (said_added r.opening r.journal (seen r) e f.leaves ∙ ap (λ p. said r.opening r.journal ++ stop_text cause h p) (pc_seen r h pc f low is_pc)))
+
+interrupts_say : (r s : Run) (h pc : ℕ) → Facts r → Facts s → h < length r.minds → IsPc r h pc → Halts r s h Interrupted → Said turned.Interrupted r s h pc
+interrupts_say r s h pc f g low is_pc m =
+    let e : Entry = Stopped h Interrupted in
+    halts_say turned.Interrupted r s h pc Interrupted f g m
+    (said_is r s (r.journal ++ e ∷ []) (interrupt_text h pc) m.opening m.journal (said_added r.opening r.journal (seen r) e f.leaves ∙ ap (λ p. said r.opening r.journal ++ interrupt_text h p) (pc_seen r h pc f low is_pc)))
 
 arrivals_say : (r s : Run) (h pc number : ℕ) (temporary : Bool) (error : Option CondError) → Facts r → Facts s → h < length r.minds → IsPc r h pc → Halts r s h (Break number error) → temporary ≡ is_temporary r.breaks number → Said (turned.Arrived number temporary error) r s h pc
 arrivals_say r s h pc number temporary error f g low is_pc m kind =
@@ -210,13 +219,17 @@ abbrev pub HasMoved : Turned → Type 0
 HasMoved turned.Over = ⊥
 HasMoved turned.NotRunning = ⊥
 HasMoved (turned.Held by) = ⊥
+HasMoved turned.Fixed = Unit {0}
 HasMoved turned.Planted = Unit {0}
+HasMoved turned.Copied = Unit {0}
+HasMoved turned.NoSlot = ⊥
 HasMoved turned.Lifted = Unit {0}
 HasMoved turned.Ran = Unit {0}
 HasMoved (turned.Wrote addr len) = Unit {0}
 HasMoved (turned.Left code) = Unit {0}
 HasMoved (turned.AllLeft code count) = Unit {0}
 HasMoved (turned.Stopped cause) = Unit {0}
+HasMoved turned.Interrupted = Unit {0}
 HasMoved turned.Counted = Unit {0}
 HasMoved (turned.Arrived number temporary error) = Unit {0}
 
@@ -224,15 +237,21 @@ says : (t : Turned) (r s : Run) (h pc : ℕ) → Facts r → Facts s → h < len
 says turned.Over r s h pc f g low is moved m = absurd moved
 says turned.NotRunning r s h pc f g low is moved m = absurd moved
 says (turned.Held by) r s h pc f g low is moved m = absurd moved
+says turned.NoSlot r s h pc f g low is moved m = absurd moved
+says turned.Fixed r s h pc f g low is moved m =
+    quiets_say turned.Fixed r s h pc m.mind phase.Idle None m.rephases m.at (let e = ap moves_of m.landed in omega arith) refl
+says turned.Copied r s h pc f g low is moved m =
+    quiets_say turned.Copied r s h pc m.mind (phase.Copied m.slot m.home) None m.rephases m.before.at (let e = ap moves_of m.before.idle in omega arith) refl
 says turned.Planted r s h pc f g low is moved m =
     quiets_say turned.Planted r s h pc m.mind phase.Idle None m.rephases m.at (let e = ap moves_of m.ran in omega arith) refl
 says turned.Lifted r s h pc f g low is moved m =
-    quiets_say turned.Lifted r s h pc m.mind (phase.Lifted m.home) (Some (record { hart = h; home = m.home })) m.rephases m.at (let e = ap moves_of m.idle in omega arith) refl
+    quiets_say turned.Lifted r s h pc m.mind (phase.Lifted m.home) (Some (record { hart = h; home = m.home })) m.rephases m.before.at (let e = ap moves_of m.before.idle in omega arith) refl
 says turned.Ran r s h pc f g low is moved m = runs_say turned.Ran r s h pc [] f g m nothing_written
 says (turned.Wrote addr len) r s h pc f g low is moved m = runs_say (turned.Wrote addr len) r s h pc m.0 f g m.3 (ap stream_of (sym m.2))
 says (turned.Left code) r s h pc f g low is moved m = exits_say (turned.Left code) r s h pc 1 code f g m refl
 says (turned.AllLeft code count) r s h pc f g low is moved m = exits_say (turned.AllLeft code count) r s h pc count code f g m refl
 says (turned.Stopped cause) r s h pc f g low is moved m = faults_say r s h pc cause f g low is m
+says turned.Interrupted r s h pc f g low is moved m = interrupts_say r s h pc f g low is m.halts
 says turned.Counted r s h pc f g low is moved m = counts_say r s h pc f g m
 says (turned.Arrived number temporary error) r s h pc f g low is moved m = arrivals_say r s h pc number temporary error f g low is m.0 m.1
 
@@ -272,18 +291,22 @@ has_moved_so : (t : Turned) → has_moved t ≡ true → HasMoved t
 has_moved_so turned.Over is = cc
 has_moved_so turned.NotRunning is = cc
 has_moved_so (turned.Held by) is = cc
+has_moved_so turned.Fixed is = tt
 has_moved_so turned.Planted is = tt
+has_moved_so turned.Copied is = tt
+has_moved_so turned.NoSlot is = cc
 has_moved_so turned.Lifted is = tt
 has_moved_so turned.Ran is = tt
 has_moved_so (turned.Wrote addr len) is = tt
 has_moved_so (turned.Left code) is = tt
 has_moved_so (turned.AllLeft code count) is = tt
 has_moved_so (turned.Stopped cause) is = tt
+has_moved_so turned.Interrupted is = tt
 has_moved_so turned.Counted is = tt
 has_moved_so (turned.Arrived number temporary error) is = tt
 
 spare_facts : (e : Run) (n : ℕ) → Facts e → Facts (record e { spare = n })
-spare_facts e n f = record { leaves = f.leaves; settings = f.settings; count = f.count; selected = f.selected; harts = f.harts; planted = f.planted; texts = f.texts; places = f.places; waits = f.waits; names = f.names; retired = f.retired }
+spare_facts e n f = record { leaves = f.leaves; settings = f.settings; count = f.count; selected = f.selected; harts = f.harts; slots = f.slots; planted = f.planted; texts = f.texts; places = f.places; waits = f.waits; names = f.names; retired = f.retired; copied = f.copied }
 
 pub made_room : (e r : Run) → r ≡ record e { spare = r.spare } → Facts e → Facts r
 made_room e r is f = subst Facts (sym is) (spare_facts e r.spare f)
@@ -312,20 +335,36 @@ stands turned.NotRunning r s h f low no_move m =
     let low_core : h < length r.machine.cores = omega (arith, f.harts.len) in
     let c = get_within r.machine.cores h low_core in
     let x = get_within r.minds h low in
-    let at = seen_at r.machine.cores r.minds h c.0 x.0 c.1 x.1 in
-    record { stage = ap stage_of m.0; why = ap (λ b. may_go r.opening (seen r) && (b && is_free r.hold h)) (ap runs_as at ∙ idle x.0.activity (m.2 x.0 x.1)) ∙ and_false (may_go r.opening (seen r)) }
+    let at = seen_at r.opening.image r.machine.cores r.minds h c.0 x.0 c.1 x.1 in
+    record {
+      stage = ap stage_of m.0;
+      why = ap (λ b. may_go r.opening (seen r) && ((b && is_free r.hold h) && not (waits_for_slot r.machine.slots r.minds h))) (ap runs_as at ∙ idle x.0.activity (m.2 x.0 x.1)) ∙ and_false (may_go r.opening (seen r));
+    }
 stands (turned.Held by) r s h f low no_move m =
     record {
       stage = ap stage_of m.0;
-      why = ap (λ d. may_go r.opening (seen r) && (runs_at (seen r).harts h && is_none d)) m.3 ∙ (ap (λ b. may_go r.opening (seen r) && b) (and_false (runs_at (seen r).harts h)) ∙ and_false (may_go r.opening (seen r)));
+      why = ap (λ d. may_go r.opening (seen r) && ((runs_at (seen r).harts h && is_none d) && not (waits_for_slot r.machine.slots r.minds h))) m.3
+      ∙ (ap (λ b. may_go r.opening (seen r) && (b && not (waits_for_slot r.machine.slots r.minds h))) (and_false (runs_at (seen r).harts h)) ∙ and_false (may_go r.opening (seen r)));
     }
+stands turned.NoSlot r s h f low no_move m =
+    let d = m.1 in
+    let out = out_so r.machine.slots (omega (arith, f.slots, d.some)) d.out in
+    let waits : waits_for_slot r.machine.slots r.minds h ≡ true = ap (λ b. b && idle_as (slice_get r.minds h)) out ∙ (ap idle_as d.before.at ∙ ap is_idle d.before.idle) in
+    let first = runs_at (seen r).harts h && is_free r.hold h in
+    record {
+      stage = ap stage_of m.0;
+      why = ap (λ b. may_go r.opening (seen r) && (first && not b)) waits ∙ (ap (λ b. may_go r.opening (seen r) && b) (and_false first) ∙ and_false (may_go r.opening (seen r)));
+    }
+stands turned.Fixed r s h f low no_move m = cc
 stands turned.Planted r s h f low no_move m = cc
+stands turned.Copied r s h f low no_move m = cc
 stands turned.Lifted r s h f low no_move m = cc
 stands turned.Ran r s h f low no_move m = cc
 stands (turned.Wrote addr len) r s h f low no_move m = cc
 stands (turned.Left code) r s h f low no_move m = cc
 stands (turned.AllLeft code count) r s h f low no_move m = cc
 stands (turned.Stopped cause) r s h f low no_move m = cc
+stands turned.Interrupted r s h f low no_move m = cc
 stands turned.Counted r s h f low no_move m = cc
 stands (turned.Arrived number temporary error) r s h f low no_move m = cc
 

@@ -9,19 +9,19 @@ use Rattle.rv_exec.specs.Causes.{cause_number}
 use Rattle.dbg_model.specs.declared.entry.Mode.{Mode}
 use Rattle.dbg_model.specs.declared.entry.Mode.TheVariants as mode
 use Rattle.dbg_model.specs.declared.entry.Why.{Why}
-use Rattle.dbg_model.specs.declared.entry.Why.TheVariants.{Break, Fault}
+use Rattle.dbg_model.specs.declared.entry.Why.TheVariants.{Break, Interrupted, Fault}
 use Rattle.dbg_model.specs.Breaks.{is_stop}
 use Rattle.dbg_model.specs.declared.entry.Entry.TheVariants.{Counted, Stopped}
 use Rattle.dbg_model.specs.declared.limits.TheConstants.{HISTORY}
 use Rattle.dbg_model.specs.declared.opening.Opening.{Opening}
 use Rattle.dbg_model.specs.State.{Hart, State, hart_runs, any_runs, any_leaves, is_running, due, is_due, is_counted, arrived}
 use Rattle.dbg_model.specs.Reply.{done_by}
-use Rattle.dbg_model.specs.Lawful.{one, one_by, enter, may_go, may_move, may_run, stepped_by, stepped, stopped, with_stop, faulted_by, stopped_by, counted, counted_by, with_count, with_leavers, leaving, leaving_at}
+use Rattle.dbg_model.specs.Lawful.{one, one_by, enter, may_go, may_move, may_run, stepped_by, stepped, stopped, with_stop, faulted_by, stopped_by, counted, counted_by, with_count, with_leavers, leaving, leaving_at, with_step}
 use Rattle.dbg_model.specs.Leaving.{gone, gone_by}
 use Rattle.dbg_model.proofs.Options.{guard_some, same_some, both_true}
 use Rattle.engine_facts.specs.declared.mind.Mind.{Mind}
-use Rattle.engine_facts.specs.declared.mind.Phase.{Phase}
-use Rattle.engine_facts.specs.declared.mind.Phase.TheVariants as phase
+use Rattle.step_over.specs.declared.phase.Phase.{Phase}
+use Rattle.step_over.specs.declared.phase.Phase.TheVariants as phase
 use Rattle.dbg_session.specs.Stage.{running, moves, moves_of, moves_left, runs_at, runs_as}
 
 abbrev one_if : Bool → ℕ
@@ -73,7 +73,7 @@ pub record Worked (o : Opening) (s t : State) : Type 0 where
 answer_works : (o : Opening) (a : Answer) (s t : State) (h : ℕ) (x : Hart) → slice_get s.harts h ≡ Some x → s.retired < o.settings.budget → stepped_by a s h x ≡ Some t → Worked o s t
 answer_works o (Traps cause) s t h x at below is = cc
 answer_works o (Goes r m out leave) s t h x at below is =
-    let u : State = record s { harts = with_leavers leave (slice_set s.harts h (stepped x r)) h; memory = m; out = s.out ++ out; retired = s.retired + 1 } in
+    let u = with_step s h x r m out leave in
     let set = running_set s.harts h x (stepped x r) at in
     let l = leavers_running leave (slice_set s.harts h (stepped x r)) h in
     subst (λ (v : State). Worked o s v) (same_some u t is) (record { below = below; retired = refl; running = omega arith })
@@ -139,6 +139,7 @@ fault_halts (Goes r m out leave) cause s t h x at runs is = cc
 
 stop_halts : (o : Opening) (why : Why) (s t : State) (h : ℕ) (r : Option Hart) → slice_get s.harts h ≡ r → stopped_by o s h why r ≡ Some t → Halted s t
 stop_halts o (Break number error) s t h None at is = cc
+stop_halts o Interrupted s t h None at is = cc
 stop_halts o (Fault cause) s t h None at is = cc
 stop_halts o (Break number error) s t h (Some x) at is =
     let u : State = record (with_stop s h x) { breaks = arrived o.image s h x } in
@@ -147,6 +148,12 @@ stop_halts o (Break number error) s t h (Some x) at is =
     let set = running_set s.harts h x (stopped x) at in
     let one : one_if (hart_runs x) ≡ 1 = ap one_if runs in
     subst (λ (v : State). Halted s v) (same_some u t g.1) (record { retired = refl; running = omega arith })
+stop_halts o Interrupted s t h (Some x) at is =
+    let g = guard_some (may_run o s h x && x.asked) (Some (with_stop s h x)) t is in
+    let runs = (both_true (may_go o s) (is_running x.mode) (both_true (may_move o s x) (not (is_due (due o.image s h x))) (both_true (may_run o s h x) x.asked g.0).0).0).1 in
+    let set = running_set s.harts h x (stopped x) at in
+    let one : one_if (hart_runs x) ≡ 1 = ap one_if runs in
+    subst (λ (v : State). Halted s v) (same_some (with_stop s h x) t g.1) (record { retired = refl; running = omega arith })
 stop_halts o (Fault cause) s t h (Some x) at is =
     let g = guard_some (may_run o s h x) (faulted_by (plain o.image x.regs s.memory) cause s h x) t is in
     fault_halts (plain o.image x.regs s.memory) cause s t h x at (both_true (may_go o s) (is_running x.mode) (both_true (may_move o s x) (not (is_due (due o.image s h x))) g.0).0).1 g.1
@@ -196,6 +203,8 @@ running_most (x ∷ xs) = let one = running_one (hart_runs x) in let ih = runnin
 
 moves_one : (p : Phase) → moves_of p ≤ 2
 moves_one phase.Idle = omega arith
+moves_one (phase.Copied slot home) = omega arith
+moves_one (phase.Landed slot home) = omega arith
 moves_one (phase.Lifted home) = omega arith
 moves_one (phase.Ran home) = omega arith
 

@@ -15,7 +15,7 @@ use Rattle.dbg_model.specs.Journals.{Leaves, did, noted}
 use Rattle.dbg_model.specs.Erase.{erase}
 use Rattle.dbg_model.specs.declared.limits.TheConstants.{HISTORY, MOST_INPUT}
 use Rattle.dbg_engine.specs.declared.engine.Closed.{Closed}
-use Rattle.engine_facts.specs.Facts.{Planted, Retired}
+use Rattle.engine_facts.specs.Facts.{Planted, Retired, CopiedOver}
 use Rattle.dbg_session.specs.Words.{served_words, IsWhole}
 use Rattle.dbg_session.specs.Left.{core_registers, plain_registers}
 use Rattle.dbg_session.specs.InTime.{ToldInTime}
@@ -61,6 +61,8 @@ pub record Headline (status : Status) (t : Told) (c : Closed) : Type 0 where
   pub planted : Planted c.opening.image c.machine.text state.breaks None
   -- the machine executed each hart's instructions
   pub retired : Retired c.machine.cores c.journal
+  -- where there are slots, each hart executed by copies where a breakpoint stood, but for one instruction for each time that displaced stepping was switched on
+  pub copied : CopiedOver c.opening.settings.slots c.machine.cores state
   -- what was written is what was said
   pub said : IfSome t.written (λ written. Written (Some status) written (said c.opening c.journal))
   -- why it has its status

@@ -6,7 +6,7 @@ use Rattle.hart_machine.specs.declared.hart.Core.{Core}
 use Rattle.dbg_model.specs.State.{Hart}
 use Rattle.dbg_model.specs.Journals.{Leaves}
 use Rattle.dbg_engine.specs.declared.engine.Closed.{Closed}
-use Rattle.engine_facts.specs.Facts.{Planted, Retired}
+use Rattle.engine_facts.specs.Facts.{Planted, Retired, CopiedOver}
 use Rattle.dbg_session.specs.Stage.{Stage}
 
 -- the registers of harts, as the machine, the journal's state and the plain run have them
@@ -29,3 +29,5 @@ pub record IsLeft (r : Stage) (c : Closed) : Type 0 where
   -- a patch is planted exactly where an enabled breakpoint stands
   pub planted : Planted c.opening.image c.machine.text r.state.breaks None
   pub retired : Retired c.machine.cores c.journal
+  -- breakpoints were stepped over by copies
+  pub copied : CopiedOver c.opening.settings.slots c.machine.cores r.state

@@ -1,34 +1,39 @@
 -- What a session's engine is seen as.
-use Rattle.std.specs.Prelude.{ℕ, ◌+◌, ◌-◌, ◌*◌, ◌&&◌, Bool, false, cond, List, [], ◌∷◌, Option, Some, None, is_none, slice_get}
+use Rattle.std.specs.Prelude.{ℕ, ◌+◌, ◌-◌, ◌*◌, ◌&&◌, Bool, true, false, not, cond, List, [], ◌∷◌, Option, Some, None, is_none, slice_get}
+use Rattle.scratch_slots.specs.declared.slots.SlotUse.{SlotUse}
+use Rattle.scratch_slots.specs.Table.{least_free}
 use Rattle.dbg_model.specs.declared.entry.Entry.{Entry}
 use Rattle.dbg_model.specs.declared.opening.Opening.{Opening}
 use Rattle.dbg_model.specs.State.{Hart, State, hart_runs}
 use Rattle.engine_facts.specs.declared.mind.Hold.{Hold}
 use Rattle.engine_facts.specs.declared.mind.Mind.{Mind}
-use Rattle.engine_facts.specs.declared.mind.Phase.{Phase}
-use Rattle.engine_facts.specs.declared.mind.Phase.TheVariants as phase
+use Rattle.step_over.specs.declared.phase.Phase.{Phase}
+use Rattle.step_over.specs.declared.phase.Phase.TheVariants as phase
 use Rattle.engine_facts.specs.Facts.{other_holder}
 use Rattle.engine_facts.specs.Seen.{Run, seen}
 
--- how the session began, its journal, the state that the journal leaves, and where its harts are in steps over breakpoints
+-- how the session began, its journal, the state that the journal leaves, where its harts are in steps over breakpoints, and who has which scratch slot
 pub record Stage : Type 0 where
   pub opening : Opening
   pub journal : List Entry
   pub state : State
   pub minds : List Mind
   pub hold : Option Hold
+  pub slots : List (Option SlotUse)
 
 abbrev pub stage_of : Run → Stage
-stage_of r = record { opening = r.opening; journal = r.journal; state = seen r; minds = r.minds; hold = r.hold }
+stage_of r = record { opening = r.opening; journal = r.journal; state = seen r; minds = r.minds; hold = r.hold; slots = r.machine.slots }
 
 -- how many harts run
 abbrev pub running : List Hart → ℕ
 running [] = 0
 running (x ∷ xs) = cond (hart_runs x) 1 0 + running xs
 
--- the moves without an instruction that may still come: lifting a patch, and planting it again; and the count of an arrival
+-- the moves without an instruction that may still come: the beginning of a step over a breakpoint, and its end; and the count of an arrival
 abbrev pub moves_of : Phase → ℕ
 moves_of phase.Idle = 1
+moves_of (phase.Copied slot home) = 0
+moves_of (phase.Landed slot home) = 2
 moves_of (phase.Lifted home) = 0
 moves_of (phase.Ran home) = 2
 
@@ -55,6 +60,26 @@ runs_at xs h = runs_as (slice_get xs h)
 abbrev pub is_free : Option Hold → ℕ → Bool
 is_free hold h = is_none (other_holder hold h)
 
--- whether a hart can be moved
+abbrev pub is_idle : Phase → Bool
+is_idle phase.Idle = true
+is_idle (phase.Copied slot home) = false
+is_idle (phase.Landed slot home) = false
+is_idle (phase.Lifted home) = false
+is_idle (phase.Ran home) = false
+
+abbrev pub idle_as : Option Mind → Bool
+idle_as None = false
+idle_as (Some x) = is_idle x.phase
+
+-- there are slots, and all are out
+abbrev pub are_out : List (Option SlotUse) → Bool
+are_out [] = false
+are_out (u ∷ slots) = is_none (least_free (u ∷ slots))
+
+-- whether a hart that steps over nothing may have to wait for a slot
+abbrev pub waits_for_slot : List (Option SlotUse) → List Mind → ℕ → Bool
+waits_for_slot slots minds h = are_out slots && idle_as (slice_get minds h)
+
+-- whether a hart can be moved, whatever stands at its pc
 abbrev pub moves_at : Stage → ℕ → Bool
-moves_at r h = runs_at r.state.harts h && is_free r.hold h
+moves_at r h = (runs_at r.state.harts h && is_free r.hold h) && not (waits_for_slot r.slots r.minds h)

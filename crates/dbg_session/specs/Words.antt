@@ -9,9 +9,9 @@ use Rattle.dbg_session.specs.declared.file.TheConstants.{MOST_FILE}
 use Rattle.dbg_session.specs.declared.file.FileError.{FileError}
 use Rattle.dbg_session.specs.declared.file.FileError.TheVariants as error
 
--- there are no workers, scratch slots or slices yet
+-- there are no workers and slices yet
 abbrev pub is_served : Settings → Bool
-is_served s = (s.workers == 0) && ((s.slots == 16) && (s.slice == 256))
+is_served s = (s.workers == 0) && (s.slice == 256)
 
 abbrev pub served : Option Asked → Option Served
 served None = None

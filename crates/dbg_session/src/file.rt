@@ -26,11 +26,11 @@ pub struct Served {
     pub settings: Settings,
 }
 
-// There are no workers, scratch slots or slices yet.
+// There are no workers and slices yet.
 fn is_served(settings: Settings) -> bool
     ensures { result ≡ is_served settings }
 {
-    settings.workers == 0 && settings.slots == 16 && settings.slice == 256
+    settings.workers == 0 && settings.slice == 256
 }
 
 fn serve(alloc: Global, request: Request<'_>) -> Result<Option<Served>, NoMemory>

@@ -204,7 +204,8 @@ impl<W: World> Session<W> {
         }
     }
 
-    // The next hart that can be moved: the one that is stepping over a breakpoint, else the next that runs.
+    // The next hart that can be moved: the one for which a patch is lifted; else, where all slots are out, one that has
+    // a slot; else the next that runs.
     fn pick(&mut self) -> Option<u32>
         ensures same { self.new ≡ self.old }
         ensures picks { Picks result self.old.run }

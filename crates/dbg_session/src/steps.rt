@@ -9,7 +9,7 @@ use crate::puts::put_all;
 use dbg_engine::{Engine, SPARE, Turned};
 use dbg_traits::{NoMemory, Polled, World};
 use mi_input::next_line;
-use mi_reports::{break_text, lefts_text, reply_text, stop_text, stream_text};
+use mi_reports::{break_text, interrupt_text, lefts_text, reply_text, stop_text, stream_text};
 use std::alloc::{AllocError, Global};
 
 /// What one turn did.
@@ -89,7 +89,10 @@ fn turned_text(
         Turned::Over
         | Turned::NotRunning
         | Turned::Held { .. }
+        | Turned::Fixed
         | Turned::Planted
+        | Turned::Copied
+        | Turned::NoSlot
         | Turned::Lifted
         | Turned::Counted
         | Turned::Ran => Ok(Vec::new(alloc)),
@@ -97,6 +100,7 @@ fn turned_text(
         Turned::Left { code } => last_lefts(alloc, engine, 1, code),
         Turned::AllLeft { code, count } => last_lefts(alloc, engine, count, code),
         Turned::Stopped { cause } => stop_text(alloc, cause, hart, pc),
+        Turned::Interrupted => interrupt_text(alloc, hart, pc),
         Turned::Arrived {
             number,
             temporary,
@@ -110,7 +114,7 @@ fn has_moved(turned: Turned) -> bool
 {
     !matches!(
         turned,
-        Turned::Over | Turned::NotRunning | Turned::Held { .. }
+        Turned::Over | Turned::NotRunning | Turned::Held { .. } | Turned::NoSlot
     )
 }
 

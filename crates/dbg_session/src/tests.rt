@@ -115,6 +115,14 @@ fn retired(closed: &Option<Closed>) -> Option<u64> {
     }
 }
 
+// How many of them as copies in scratch slots.
+fn copied(closed: &Option<Closed>) -> Option<u64> {
+    match closed {
+        Some(closed) if closed.machine.harts() > 0 => Some(closed.machine.copied(0)),
+        _ => None,
+    }
+}
+
 #[test]
 fn a_program_runs_to_its_end(rt: HostRuntime) -> Result<(), Fail> {
     let alloc = rt.alloc();
@@ -319,7 +327,7 @@ const GREETED: &str = "\
 
 const ERRORS: &str = "\
     -foo\n\"a\n7x\n-thread-select 3\n-thread-info 2\n-data-list-register-values x 33\n-data-list-register-values o\n\
-    -break-insert *0x10076\n-break-insert a:b\n-exec-continue --thread 1 --all\n-exec-interrupt\n";
+    -break-insert *0x10076\n-break-insert a:b\n-exec-continue --thread 1 --all\n-exec-next\n";
 
 const REFUSED: &str = "\
     ^error,msg=\"Undefined MI command: foo\",code=\"undefined-command\"\n(gdb)\n\
@@ -421,19 +429,36 @@ const CHANGED: &str = "\
 // The first two arrivals are only counted, and then the condition doesn't hold.
 const COUNTS_TWICE: &str = "-break-insert -i 2 -c \"1 == 2\" *0x10078\n-exec-continue\n";
 
-// A world with a program of these words, and a budget of instructions.
+const LOOPS: &str = "\
+    -break-insert *0x10078\n-exec-continue\n-exec-wait\n1-data-list-register-values x 10\n\
+    -exec-continue\n-exec-wait\n2-data-list-register-values x 10\n";
+
+const LOOPED: &str = "\
+    ^done,bkpt={number=\"1\",type=\"breakpoint\",disp=\"keep\",enabled=\"y\",addr=\"0x00010078\",times=\"0\",\
+    original-location=\"*0x10078\"}\n(gdb)\n\
+    ^running\n*running,thread-id=\"1\"\n(gdb)\n\
+    *stopped,reason=\"breakpoint-hit\",disp=\"keep\",bkptno=\"1\",frame={addr=\"0x00010078\",args=[]},\
+    thread-id=\"1\",stopped-threads=[\"1\"]\n\
+    ^done\n(gdb)\n\
+    1^done,register-values=[{number=\"10\",value=\"0x00000001\"}]\n(gdb)\n\
+    ^running\n*running,thread-id=\"1\"\n(gdb)\n\
+    *stopped,reason=\"breakpoint-hit\",disp=\"keep\",bkptno=\"1\",frame={addr=\"0x00010078\",args=[]},\
+    thread-id=\"1\",stopped-threads=[\"1\"]\n\
+    ^done\n(gdb)\n\
+    2^done,register-values=[{number=\"10\",value=\"0x00000002\"}]\n(gdb)\n";
+
+// A world with a program, and further words of the command line.
 fn program_world(
     alloc: Global,
-    harts: &str,
-    budget: &str,
+    options: &[&str],
     file: Vec<u8>,
     input: &str,
 ) -> Result<MemWorld, Fail>
     ensures { IfOk result (λ w. IsFresh (told_of w)) }
 {
     let mut words = words_of(alloc, "0")?;
-    for word in ["--budget", budget, "--harts", harts] {
-        words.push(ArgText::of(String::from_str(alloc, word)?))?;
+    for word in options {
+        words.push(ArgText::of(String::from_str(alloc, *word)?))?;
     }
     let mut files = Vec::new(alloc);
     files.push((ArgText::of(String::from_str(alloc, "f")?), file))?;
@@ -486,7 +511,8 @@ fn lines_are_answered(rt: HostRuntime) -> Result<(), Fail> {
     for (words, harts, input, expected, executed, output) in cases {
         assert!(rt; !words.is_empty() && words.len() < 16);
         let file = plain(alloc, words, if words.len() == 8 { hi } else { &[0; 4] })?;
-        let world = program_world(alloc, harts, "1000", file, input)?;
+        let options = ["--budget", "1000", "--harts", harts];
+        let world = program_world(alloc, &options, file, input)?;
         let Ended {
             status,
             world,
@@ -495,6 +521,31 @@ fn lines_are_answered(rt: HostRuntime) -> Result<(), Fail> {
         assert_eq!(rt; status, expected, "{input}");
         assert_eq!(rt; retired(&closed), Some(executed), "{input}");
         assert!(rt; world.output().ends_with(output.as_bytes()), "{input}");
+    }
+    Ok(())
+}
+
+#[test]
+fn slots_are_used_and_change_nothing_that_is_told(rt: HostRuntime) -> Result<(), Fail> {
+    let alloc = rt.alloc();
+    let cases = [
+        (&[][..], 1),
+        (&["--slots", "1"][..], 1),
+        (&["--slots", "512"][..], 1),
+        (&["--slots", "0"][..], 0),
+    ];
+    for (options, copies) in cases {
+        let file = plain(alloc, &COUNTS, &[0; 4])?;
+        let world = program_world(alloc, options, file, LOOPS)?;
+        let Ended {
+            status,
+            world,
+            closed,
+        } = debug_run(&rt, alloc, world, &OpenGate);
+        assert_eq!(rt; status, Status::Done);
+        assert_eq!(rt; retired(&closed), Some(3));
+        assert_eq!(rt; copied(&closed), Some(copies));
+        assert!(rt; world.output().ends_with(LOOPED.as_bytes()));
     }
     Ok(())
 }
@@ -520,7 +571,7 @@ fn shape(alloc: Global, closed: &Option<Closed>) -> Result<String, Fail> {
 fn ignored_arrivals_are_entries_and_say_nothing(rt: HostRuntime) -> Result<(), Fail> {
     let alloc = rt.alloc();
     let file = plain(alloc, &COUNTS, &[0; 4])?;
-    let world = program_world(alloc, "1", "10", file, COUNTS_TWICE)?;
+    let world = program_world(alloc, &["--budget", "10"], file, COUNTS_TWICE)?;
     let Ended {
         status,
         world,

@@ -1,4 +1,4 @@
-//! Lines whose texts no clause compares with the manual: signals, registers, and threads that run or have exited.
+//! Lines whose texts no clause compares with the manual: signals, registers, settings, and threads that run or have exited.
 
 ghost use Rattle.std.specs.Prelude.{IfOk};
 ghost use Rattle.dbg_traits.specs.Told.{IsFresh};
@@ -95,7 +95,43 @@ const RUNNING: &str = "\
     ^error,msg=\"Bad number: 0\"\n(gdb)\n\
     ^error,msg=\"Bad number: 4097\"\n(gdb)\n";
 
-// A world with a program of these words, and a budget of 10,000 instructions.
+const INTERRUPTS: &str = "-exec-continue\n-exec-interrupt\n-exec-wait\n-exec-interrupt\n";
+
+const INTERRUPTED: &str = "\
+    ^running\n*running,thread-id=\"1\"\n(gdb)\n\
+    ^done\n(gdb)\n\
+    *stopped,reason=\"signal-received\",signal-name=\"SIGINT\",signal-meaning=\"Interrupt\",\
+    frame={addr=\"0x00010074\",args=[]},thread-id=\"1\",stopped-threads=[\"1\"]\n\
+    ^done\n(gdb)\n\
+    ^error,msg=\"Thread 1 is not running\"\n(gdb)\n";
+
+// The second time no thread runs.
+const INTERRUPTS_ALL: &str =
+    "-exec-continue --all\n-exec-interrupt --all\n-exec-wait\n-exec-interrupt --all\n";
+
+const ALL_INTERRUPTED: &str = "\
+    ^running\n*running,thread-id=\"1\"\n*running,thread-id=\"2\"\n(gdb)\n\
+    ^done\n(gdb)\n\
+    *stopped,reason=\"signal-received\",signal-name=\"SIGINT\",signal-meaning=\"Interrupt\",\
+    frame={addr=\"0x00010074\",args=[]},thread-id=\"2\",stopped-threads=[\"2\"]\n\
+    *stopped,reason=\"signal-received\",signal-name=\"SIGINT\",signal-meaning=\"Interrupt\",\
+    frame={addr=\"0x00010074\",args=[]},thread-id=\"1\",stopped-threads=[\"1\"]\n\
+    ^done\n(gdb)\n\
+    ^done\n(gdb)\n";
+
+const SETS: &str = "\
+    -gdb-show displaced-stepping\n-gdb-set displaced-stepping off\n-gdb-show displaced-stepping\n\
+    -gdb-set displaced-stepping maybe\n-gdb-show non-stop\n";
+
+const SET: &str = "\
+    ^done,value=\"auto\"\n(gdb)\n\
+    ^done\n(gdb)\n\
+    ^done,value=\"off\"\n(gdb)\n\
+    ^error,msg=\"Unsupported setting\"\n(gdb)\n\
+    ^done,value=\"on\"\n(gdb)\n";
+
+// A world with a program of these words, and a budget of 10,000 instructions. The input comes in pieces of 16 bytes, so
+// that harts run between its lines.
 fn world_of(alloc: Global, harts: &str, file: Vec<u8>, input: &str) -> Result<MemWorld, Fail>
     ensures { IfOk result (λ w. IsFresh (told_of w)) }
 {
@@ -109,7 +145,7 @@ fn world_of(alloc: Global, harts: &str, file: Vec<u8>, input: &str) -> Result<Me
     script.push(Cue::Piece(input.as_bytes().to_vec(alloc)?))?;
     let limits = Limits {
         read: 4096,
-        poll: 4096,
+        poll: 16,
         put: 4096,
         failing_reads: Vec::new(alloc),
         failing_puts: Vec::new(alloc),
@@ -118,7 +154,7 @@ fn world_of(alloc: Global, harts: &str, file: Vec<u8>, input: &str) -> Result<Me
 }
 
 #[test]
-fn signals_registers_and_threads_are_told(rt: HostRuntime) -> Result<(), Fail> {
+fn signals_registers_settings_and_threads_are_told(rt: HostRuntime) -> Result<(), Fail> {
     let alloc = rt.alloc();
     let cases = [
         (&BREAKS[..], "1", CONTINUE, Status::Done, TRAPPED),
@@ -128,6 +164,15 @@ fn signals_registers_and_threads_are_told(rt: HostRuntime) -> Result<(), Fail> {
         (&SPINS[..], "2", ASKS_ANOTHER, Status::Done, ANOTHER),
         (&EXITS[..], "1", AFTER_EXIT, Status::Done, EXITED),
         (&SPINS[..], "1", WHILE_RUNNING, Status::Budget, RUNNING),
+        (&SPINS[..], "1", INTERRUPTS, Status::Done, INTERRUPTED),
+        (
+            &SPINS[..],
+            "2",
+            INTERRUPTS_ALL,
+            Status::Done,
+            ALL_INTERRUPTED,
+        ),
+        (&SPINS[..], "1", SETS, Status::Done, SET),
     ];
     for (words, harts, input, expected, output) in cases {
         assert!(rt; !words.is_empty() && words.len() < 16);
