@@ -19,7 +19,9 @@ ghost use Rattle.hart_machine.specs.declared.hart.Core.{Core};
 ghost use Rattle.std.specs.List.{list_any, list_all};
 
 use crate::Turned;
-use crate::answering::{LineChange, Response, answer, going_on, is_wait, refusal, refuse, selected_after};
+use crate::answering::{
+    LineChange, Response, answer, going_on, is_wait, refusal, refuse, selected_after,
+};
 use crate::breaking::{BreakChange, change_table, due_at, is_temporary, settle};
 use crate::homing::{go_home, go_home_at_exit, go_home_each, landed_pc};
 use crate::journal::note;

@@ -1,8 +1,8 @@
 use crate::{End, Engine, Phase, Turned};
 use dbg_model::{Content, Opening};
 use dbg_traits::Settings;
-use elf32_read::read_image;
 use elf_gen::plain;
+use elf32_read::read_image;
 use rv_exec::Cause;
 use std::alloc::Global;
 use std::test::Fail;
@@ -21,7 +21,9 @@ enum Step {
 }
 
 use Step::{At, Line, Planted, Turn};
-use Turned::{AllLeft, Arrived, Copied, Fixed, Held, Interrupted, Left, Lifted, NoSlot, NotRunning, Over, Ran};
+use Turned::{
+    AllLeft, Arrived, Copied, Fixed, Held, Interrupted, Left, Lifted, NoSlot, NotRunning, Over, Ran,
+};
 
 // addi a7,zero,93; addi a0,zero,322; ecall. 322 modulo 256 is 66.
 const EXITS: [u32; 3] = [0x05D0_0893, 0x1420_0513, 0x0000_0073];
@@ -52,7 +54,13 @@ const STOPPED: Turned = Arrived {
     error: None,
 };
 
-fn engine_of(alloc: Global, words: &[u32], harts: u32, slots: u32, budget: u64) -> Result<Engine, Fail> {
+fn engine_of(
+    alloc: Global,
+    words: &[u32],
+    harts: u32,
+    slots: u32,
+    budget: u64,
+) -> Result<Engine, Fail> {
     if words.is_empty() || words.len() > 16 {
         return Err(Fail::new("1 to 16 words"));
     }
@@ -98,9 +106,7 @@ fn is_as_said(engine: &mut Engine, step: Step) -> bool {
                 && engine.turn(hart) == turned
         }
         At(hart, pc, phase) => {
-            (hart as usize) < engine.harts()
-                && engine.pc(hart) == pc
-                && engine.phase(hart) == phase
+            (hart as usize) < engine.harts() && engine.pc(hart) == pc && engine.phase(hart) == phase
         }
         Planted(addr, planted) => engine.planted(addr) == planted,
     }

@@ -88,9 +88,9 @@ departs_alone r h spare code c d x mem t slots f m runs before none may is more 
     let u : State = record s { harts = map gone s.harts; noted = s.noted + 1 } in
     let idle_bal : Balances r.opening.settings.slots r.displaced c d x.phase phase.Idle (adds (passes (seen r) y)) =
     λ some.
-      let b = balances r.opening.settings.slots r.displaced c d x.phase (stands y.regs.pc r.breaks) before copied (here_none r c x none runs) some in
-      let e = idle_pending r.displaced in
-      omega (arith, b, e)
+    let b = balances r.opening.settings.slots r.displaced c d x.phase (stands y.regs.pc r.breaks) before copied (here_none r c x none runs) some in
+    let e = idle_pending r.displaced in
+    omega (arith, b, e)
     in
     let e = entered n u f.settings (drained r n h s es f refl refl l lefts) (ap (λ hs. let v : State = record u { harts = hs } in v) after)
     (record {

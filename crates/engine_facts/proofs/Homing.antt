@@ -285,10 +285,10 @@ pub all_are_home : (p : Program) (old new : Patched) (xs : List Mind) → length
 all_are_home p old new xs len ready all =
     are_home p old.cores xs new.cores len all.len
     (λ j c x d ec ex ed.
-      let none : 0 + j ≡ j = omega arith in
-      let at : slice_get old.cores (0 + j) ≡ Some c = ap (slice_get old.cores) none ∙ ec in
-      let now : slice_get new.cores j ≡ Some (home_core old.slots c x.phase) = ap (slice_get new.cores) (sym none) ∙ all.home j c x at ex in
-      subst (λ (e : Core). IsHome p c x e) (same_some (home_core old.slots c x.phase) d (sym now ∙ ed)) (ready_home p old.slots j c x (ready j c x ec ex)))
+    let none : 0 + j ≡ j = omega arith in
+    let at : slice_get old.cores (0 + j) ≡ Some c = ap (slice_get old.cores) none ∙ ec in
+    let now : slice_get new.cores j ≡ Some (home_core old.slots c x.phase) = ap (slice_get new.cores) (sym none) ∙ all.home j c x at ex in
+    subst (λ (e : Core). IsHome p c x e) (same_some (home_core old.slots c x.phase) d (sym now ∙ ed)) (ready_home p old.slots j c x (ready j c x ec ex)))
 
 free_by : (old new : Patched) (xs : List Mind) (slot : ℕ) (o : Option SlotUse) → use_at new.slots slot ≡ o → ((s : ℕ) (u : SlotUse) → use_at old.slots s ≡ Some u → HasSlot xs u.hart s) → AllGoHome old new 0 xs → o ≡ None
 free_by old new xs slot None e used all = refl
