@@ -328,10 +328,7 @@ impl Engine {
         if self.machine.has_room() {
             return None;
         }
-        let Some(hart) = find_slotted(self.minds.as_slice(), 0) else {
-            return None;
-        };
-        Some(hart)
+        find_slotted(self.minds.as_slice(), 0)
     }
 
     /// The hart to move next: the one for which a patch is lifted, since all others stand held; else, where all slots
