@@ -1,0 +1,9 @@
+-- Where a session begins.
+use Rattle.std.proofs.Common.{◌≡◌, ◌+◌, ℕ, zero, suc, [], ◌∷◌, length, refl, ap, ◌∙◌, arith}
+use Rattle.elf32_read.specs.Program.{Program}
+use Rattle.dbg_model.specs.State.{first_harts}
+use Rattle.dbg_model.proofs.Counting.{length-both}
+
+pub length_first : (p : Program) (harts n : ℕ) → length (first_harts p harts n) ≡ n
+length_first p harts zero = refl
+length_first p harts (suc n) = let before = length_first p harts n in length-both (first_harts p harts n) _ ∙ omega (arith, before)

@@ -1,0 +1,19 @@
+use Rattle.std.proofs.Common.{◌≡◌, ◌≤◌, length, refl, ap, ◌∙◌, arith}
+use Rattle.break_table.specs.Table.{Table}
+use Rattle.dbg_model.proofs.Counting.{length-replicated}
+use Rattle.dbg_replay.proofs.Beginning.{length_first}
+use Rattle.dbg_replay.proofs.replaying.first_parts.Goals as goal
+
+pub returns-clause-kept : goal.returns-clause-kept
+returns-clause-kept c =
+    let o = c.args.opening.now in
+    let table = c.in_ok-new.ensures.table in
+    let given = ap (λ (t : Table). t.given) table in
+    record {
+      harts = ap length c.in_ok-first_harts.ensures ∙ length_first o.image o.settings.harts o.settings.harts;
+      places = c.in_ok-new.ensures.places;
+      waits = ap (λ (t : Table). length t.waits) table ∙ length-replicated o.settings.harts _;
+      given = omega (arith, given);
+      few = c.requires.harts.1;
+      budget = c.requires.budget.1;
+    }
