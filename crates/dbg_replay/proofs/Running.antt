@@ -65,13 +65,13 @@ finished : (o : Opening) (old new : Parts) (h : ℕ) (x : Hart) (v : Vec Hart) (
     → after ≡ stepped_by (Goes t k out leave) (shown old) h x → (t ≡ s) × (k ≡ m) → v.items ≡ slice_set old.harts.items h (stepped x s) → Finishes (Ok tt) (Goes t k out leave) (between old v m) h new → Comes o (Ok tt) after new
 finished o old new h x v m s t k out leave after kept is same items f =
     let harts : new.harts.items ≡ with_leavers leave (slice_set old.harts.items h (stepped x t)) h =
-        f.0 ∙ ap (λ ys. with_leavers leave ys h) (items ∙ ap (λ r. slice_set old.harts.items h (stepped x r)) (sym same.0)) in
+    f.0 ∙ ap (λ ys. with_leavers leave ys h) (items ∙ ap (λ r. slice_set old.harts.items h (stepped x r)) (sym same.0)) in
     let mid : Parts = record (between old v m) { harts = new.harts; out = new.out } in
     let state : shown mid ≡ after_one (shown old) (with_leavers leave (slice_set old.harts.items h (stepped x t)) h) k (old.out.items ++ out) =
-        ap (λ ys. after_one (shown old) ys m new.out.items) harts ∙ (ap (λ b. after_one (shown old) (with_leavers leave (slice_set old.harts.items h (stepped x t)) h) m b) f.1
-        ∙ ap (λ b. after_one (shown old) (with_leavers leave (slice_set old.harts.items h (stepped x t)) h) b (old.out.items ++ out)) (sym same.1)) in
+    ap (λ ys. after_one (shown old) ys m new.out.items) harts ∙ (ap (λ b. after_one (shown old) (with_leavers leave (slice_set old.harts.items h (stepped x t)) h) m b) f.1
+    ∙ ap (λ b. after_one (shown old) (with_leavers leave (slice_set old.harts.items h (stepped x t)) h) b (old.out.items ++ out)) (sym same.1)) in
     let count : length new.harts.items ≡ o.settings.harts =
-        ap length harts ∙ (length_leavers leave (slice_set old.harts.items h (stepped x t)) h ∙ (length-set old.harts.items h (stepped x t) ∙ kept.harts)) in
+    ap length harts ∙ (length_leavers leave (slice_set old.harts.items h (stepped x t)) h ∙ (length-set old.harts.items h (stepped x t) ∙ kept.harts)) in
     let still : Kept o mid = record { harts = count; places = kept.places; waits = kept.waits; given = kept.given; few = kept.few; budget = kept.budget } in
     (is ∙ ap Some (sym (ap shown f.2 ∙ state)), subst (Kept o) (sym f.2) still)
 

@@ -21,13 +21,7 @@ use rv_exec::{Cause, Stepped};
 use std::alloc::Global;
 
 // So many instructions of a hart, at least one.
-fn run(
-    alloc: Global,
-    opening: &Opening,
-    parts: &mut Parts,
-    h: u32,
-    count: u64,
-) -> Result<(), Halt>
+fn run(alloc: Global, opening: &Opening, parts: &mut Parts, h: u32, count: u64) -> Result<(), Halt>
     requires { Kept opening.now parts.old }
     ensures { Comes opening.now result (if nat_lt 0 count then ran opening.now h (shown parts.old) count else None) parts.new }
 {

@@ -18,3 +18,5 @@ pub use hart::ModelHart;
 pub use replaying::replay;
 pub use state::ModelState;
 
+#[cfg(test)]
+mod tests;

@@ -12,7 +12,11 @@ pub fn find(harts: &[ModelHart], h: u32) -> Option<ModelHart>
     ensures { result ≡ slice_get harts.now h }
 {
     let h = h as usize;
-    if h < harts.len() { Some(harts[h]) } else { None }
+    if h < harts.len() {
+        Some(harts[h])
+    } else {
+        None
+    }
 }
 
 pub fn is_running(mode: Mode) -> bool

@@ -6,11 +6,11 @@ ghost use Rattle.dbg_model.specs.Lawful.{may_go, may_move, may_run};
 ghost use Rattle.dbg_replay.specs.Parts.{shown};
 ghost use Rattle.dbg_replay.specs.Going.{Chosen, HasRoom};
 
+use crate::ModelHart;
 use crate::halt::Halt;
 use crate::modes::{any_leaves, find, is_running};
 use crate::state::Parts;
 use crate::view::SeenHart;
-use crate::ModelHart;
 use break_table::Due;
 use dbg_model::{HISTORY, Opening};
 

@@ -8,10 +8,10 @@ ghost use Rattle.dbg_model.specs.Journals.{first_place, follows, ran_hart, repla
 ghost use Rattle.dbg_replay.specs.Parts.{shown};
 ghost use Rattle.dbg_replay.specs.Going.{Kept, Ends, state_of};
 
+use crate::ModelHart;
 use crate::entries::enter;
 use crate::halt::Halt;
 use crate::state::{ModelState, Parts};
-use crate::ModelHart;
 use break_table::BreakTable;
 use data_memory::DataMemory;
 use dbg_model::{Entry, Journal, Mode, Opening};

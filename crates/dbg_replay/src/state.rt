@@ -4,7 +4,6 @@ ghost use Rattle.break_table.specs.Entry.{entry_of};
 use crate::ModelHart;
 use break_table::{BreakEntry, BreakTable};
 use data_memory::DataMemory;
-
 use std::marker::Model;
 
 /// What a state is made of.

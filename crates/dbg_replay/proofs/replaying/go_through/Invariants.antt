@@ -9,5 +9,5 @@ abbrev pub invariant-loop-entry : goal.invariant-loop-entry
 invariant-loop-entry l = record {
   rest : replay_from l.opening (first_place l.opening) l.entries ≡ replay_from l.opening (record { prev = l.prev; state = shown l.parts }) (drop l.entry-index l.entries);
   kept : Kept l.opening l.parts;
-  noted : l.parts.noted ≤ l.entry-index
+  noted : l.parts.noted ≤ l.entry-index;
 }
