@@ -1,3 +1,6 @@
+ghost use Rattle.std.specs.Prelude.{◌≤◌, IfOk};
+ghost use Rattle.dbg_traits.specs.Settings.{AreSettings};
+
 use crate::replay;
 use dbg_model::{Entry, Journal, Mode, Opening, Why};
 use dbg_traits::{NoMemory, Settings};
@@ -60,7 +63,11 @@ fn journal(alloc: Global, told: &[Told]) -> Result<Journal, Fail> {
     Ok(Journal::of(entries))
 }
 
-fn opening(alloc: Global, budget: u64) -> Result<Opening, Fail> {
+fn opening(alloc: Global, budget: u64) -> Result<Opening, Fail>
+    requires some { 1 ≤ budget }
+    requires few { budget ≤ 1000 }
+    ensures { IfOk result (λ o. AreSettings o.settings) }
+{
     let file = hex::decode(alloc, IMAGE)?;
     let settings = Settings {
         harts: 1,
@@ -109,7 +116,10 @@ fn a_breakpoint_stops_a_hart_on_its_way_to_its_exit(rt: HostRuntime) -> Result<(
     Ok(())
 }
 
-fn is_lawful(alloc: Global, budget: u64, told: &[Told]) -> Result<bool, Fail> {
+fn is_lawful(alloc: Global, budget: u64, told: &[Told]) -> Result<bool, Fail>
+    requires some { 1 ≤ budget }
+    requires few { budget ≤ 1000 }
+{
     let opening = opening(alloc, budget)?;
     match replay(alloc, &opening, &journal(alloc, told)?) {
         Ok(state) => Ok(state.is_some()),
