@@ -19,15 +19,19 @@ use Rattle.dbg_model.specs.declared.limits.TheConstants.{HISTORY}
 use Rattle.dbg_model.specs.declared.opening.Opening.{Opening}
 use Rattle.dbg_model.specs.declared.reply.Content.{Content}
 use Rattle.dbg_model.specs.declared.reply.Content.TheVariants as content
-use Rattle.dbg_model.specs.State.{Hart, State, any_runs}
-use Rattle.dbg_model.specs.Reply.{Change, stays, resumes, selects, inserts, deletes, enables, conditions, ignores, implied, answer_of, changed_by, done_by, thread_hart, is_wait, going_on, selected_after, breaks_after, given_after}
+use Rattle.mi_commands.specs.declared.command.Displaced.{Displaced}
+use Rattle.step_over.specs.declared.phase.Phase.{Phase}
+use Rattle.dbg_model.specs.State.{Hart, State, any_runs, is_off}
+use Rattle.dbg_model.specs.Reply.{Change, stays, resumes, selects, inserts, deletes, enables, conditions, ignores, interrupts, displaces, implied, answer_of, changed_by, done_by, thread_hart, is_wait, going_on, asking, selected_after, displaced_after, sets_after, breaks_after, given_after}
+use Rattle.dbg_model.specs.Reply as model
 use Rattle.dbg_model.specs.Lawful.{enter, may_go, may_do}
 use Rattle.dbg_model.proofs.Founding.{IsFounded, IsThereOr, change_founded}
 use Rattle.dbg_model.proofs.Numbering.{given_within}
 use Rattle.dbg_model.proofs.Options.{both_true}
 use Rattle.engine_facts.specs.declared.mind.Mind.{Mind}
-use Rattle.engine_facts.specs.Seen.{Run, seen, seen_with, seen_harts}
-use Rattle.engine_facts.specs.Facts.{Facts, IsThread, InText, Planted, AreInText}
+use Rattle.engine_facts.specs.Minds.{is_lifted}
+use Rattle.engine_facts.specs.Seen.{Run, seen, seen_with, told_of, seen_harts}
+use Rattle.engine_facts.specs.Facts.{Facts, IsThread, InText, Planted, AreInText, pending}
 use Rattle.engine_facts.specs.Moves.{lined}
 use Rattle.engine_facts.specs.Tables.{ArePlanted}
 use Rattle.engine_facts.proofs.Stopping.{lines}
@@ -40,18 +44,18 @@ use Rattle.dbg_engine.specs.declared.breaking.BreakChange.TheVariants as change
 use Rattle.dbg_engine.specs.Answering.{Makes}
 use Rattle.dbg_engine.specs.Changing.{break_change, changed_table, Applies, Retabled}
 use Rattle.dbg_engine.specs.Calls.{Lines}
-use Rattle.dbg_engine.specs.Resuming.{resume_threads}
-use Rattle.dbg_engine.proofs.GoingOn.{length_threads, seen_threads, harts_threads}
+use Rattle.dbg_engine.specs.Resuming.{resume_threads, ask_threads}
+use Rattle.dbg_engine.proofs.GoingOn.{length_threads, seen_threads, harts_threads, phases_threads, ask_length, seen_asked, ask_harts, ask_phases}
 
 enter_did : (o : Opening) (s : State) (line : List ℕ) → may_do o s line ≡ true → enter o s (Did line) ≡ Some (done_by o s line)
 unfolding enter
 enter_did o s line may = rw may refl
 
-pub harts_length : (cs : List Core) (xs : List Mind) → length cs ≡ length xs → length (seen_harts cs xs) ≡ length xs
-harts_length [] [] len = refl
-harts_length [] (x ∷ xs) len = absurd (omega arith)
-harts_length (c ∷ cs) [] len = refl
-harts_length (c ∷ cs) (x ∷ xs) len = let l : length cs ≡ length xs = omega arith in ap suc (harts_length cs xs l)
+pub harts_length : (p : Program) (cs : List Core) (xs : List Mind) → length cs ≡ length xs → length (seen_harts p cs xs) ≡ length xs
+harts_length p [] [] len = refl
+harts_length p [] (x ∷ xs) len = absurd (omega arith)
+harts_length p (c ∷ cs) [] len = refl
+harts_length p (c ∷ cs) (x ∷ xs) len = let l : length cs ≡ length xs = omega arith in ap suc (harts_length p cs xs l)
 
 there : (r : Option Hart) → is_some r ≡ true → (x : Hart) × (r ≡ Some x)
 there None e = cc
@@ -74,6 +78,8 @@ selected_within o p xs es selected (deletes ns) is len f = is
 selected_within o p xs es selected (enables b ns) is len f = is
 selected_within o p xs es selected (conditions n c) is len f = is
 selected_within o p xs es selected (ignores n k) is len f = is
+selected_within o p xs es selected (interrupts ts) is len f = is
+selected_within o p xs es selected (displaces value) is len f = is
 
 done_is : (o : Opening) (s : State) (line : List ℕ) (c : Change) → (answer_of o s line).outcome.change ≡ c → done_by o s line ≡ changed_by s c
 unfolding done_by
@@ -83,77 +89,131 @@ pub record LinedTo (r new : Run) (line : List ℕ) : Type 0 where
   pub facts : Facts new
   pub lines : Lines r new line
 
--- the engine after a line that makes this change
+-- what is kept of the harts after a line that makes this change
+abbrev minds_after : List Mind → Change → List Mind
+minds_after xs c = ask_threads (resume_threads xs (going_on c)) (asking c)
+
+-- the engine after such a line
 abbrev after_line : Run → List ℕ → Change → Words → ℕ → Run
-after_line r line c t spare = lined r (Did line) (resume_threads r.minds (going_on c)) (selected_after r.selected c) t (breaks_after r.breaks r.given c) (given_after r.given c) spare
+after_line r line c t spare =
+    lined r (Did line) (minds_after r.minds c) (selected_after r.selected c) (displaced_after r.displaced c) t (breaks_after r.breaks r.given c) (given_after r.given c) spare
+
+pending_by : (d : Displaced) (q : Phase) (off lifted : Bool) → is_off d ≡ off → is_lifted q ≡ lifted → pending d q ≤ cond off 0 1
+pending_by d q true lifted e f = rw (e, f) (omega arith)
+pending_by d q false true e f = rw (e, f) (omega arith)
+pending_by d q false false e f = rw (e, f) (omega arith)
+
+sets_by_more : (d value : Displaced) (q : Phase) (sets : ℕ) (off : Bool) → is_off value ≡ off → pending value q + sets ≤ pending d q + cond off sets (sets + 1)
+sets_by_more d value q sets true e = let l = pending_by value q true (is_lifted q) e refl in omega (arith, l)
+sets_by_more d value q sets false e = let l = pending_by value q false (is_lifted q) e refl in omega (arith, l)
+
+-- a line that switches displaced stepping on is counted for the one patch that may be lifted then
+sets_more : (d : Displaced) (sets : ℕ) (c : Change) (q : Phase) → pending (displaced_after d c) q + sets ≤ pending d q + sets_after sets c
+sets_more d sets stays q = omega arith
+sets_more d sets (resumes ts) q = omega arith
+sets_more d sets (selects t) q = omega arith
+sets_more d sets (inserts a) q = omega arith
+sets_more d sets (deletes ns) q = omega arith
+sets_more d sets (enables b ns) q = omega arith
+sets_more d sets (conditions n c) q = omega arith
+sets_more d sets (ignores n k) q = omega arith
+sets_more d sets (interrupts ts) q = omega arith
+sets_more d sets (displaces value) q = sets_by_more d value q sets (is_off value) refl
 
 lined_to : (r : Run) (line : List ℕ) (c : Change) (t : Words) (spare : ℕ) → Facts r → may_do r.opening (seen r) line ≡ true → Makes r line c → Planted r.opening.image t (breaks_after r.breaks r.given c) r.hold
     → AreInText r.opening.image (breaks_after r.breaks r.given c) → LinedTo r (after_line r line c t spare) line
 lined_to r line c t spare f may is p texts =
+    let image = r.opening.image in
     let ts = going_on c in
+    let us = asking c in
+    let xs = resume_threads r.minds ts in
     let n = after_line r line c t spare in
     let s = changed_by (seen r) c in
     let done = done_is r.opening (seen r) line c is in
-    let harts = seen_threads r.machine.cores r.minds ts f.harts.len in
-    let same : s ≡ seen_with n s.out = ap (λ ys. let u : State = record s { harts = ys } in u) (sym harts) in
-    let founded = subst (IsFounded r.opening.image (seen r).harts r.breaks) is (change_founded r.opening (seen r) line) in
-    let len : length (seen r).harts ≡ r.opening.settings.harts = harts_length r.machine.cores r.minds f.harts.len ∙ f.count in
+    let cores : length r.machine.cores ≡ length xs = f.harts.len ∙ sym (length_threads r.minds ts) in
+    let harts : seen_harts image r.machine.cores (minds_after r.minds c) ≡ s.harts =
+    seen_asked image r.machine.cores xs us cores ∙ ap (λ ys. model.ask_threads ys us) (seen_threads image r.machine.cores r.minds ts f.harts.len) in
+    let same : s ≡ seen_with n (told_of s) = ap (λ ys. let u : State = record s { harts = ys } in u) (sym harts) in
+    let founded = subst (IsFounded image (seen r).harts r.breaks) is (change_founded r.opening (seen r) line) in
+    let len : length (seen r).harts ≡ r.opening.settings.harts = harts_length image r.machine.cores r.minds f.harts.len ∙ f.count in
+    let resumed = harts_threads image r.machine.cores r.machine.slots r.minds r.hold ts f.harts in
     let e : Enters n s =
-    lines r (Did line) (resume_threads r.minds ts) (selected_after r.selected c) t (breaks_after r.breaks r.given c) (given_after r.given c) spare s f refl (enter_did r.opening (seen r) line may ∙ ap Some done) same (length_threads r.minds ts)
-    (selected_within r.opening r.opening.image (seen r).harts r.breaks r.selected c f.selected len founded)
-    (harts_threads r.opening.image r.machine.cores r.minds r.hold ts f.harts) p texts in
+    lines r (Did line) (minds_after r.minds c) (selected_after r.selected c) (displaced_after r.displaced c) t (breaks_after r.breaks r.given c) (given_after r.given c) spare s f refl (enter_did r.opening (seen r) line may ∙ ap Some done) same
+    (ask_length xs us ∙ length_threads r.minds ts)
+    (selected_within r.opening image (seen r).harts r.breaks r.selected c f.selected len founded)
+    (ask_harts image r.machine.cores r.machine.slots xs r.hold us resumed)
+    (record {
+      phases = ask_phases xs us ∙ phases_threads image r.machine.cores r.machine.slots r.minds r.hold ts f.harts;
+      passed = refl;
+      sets = λ q. sets_more r.displaced (seen r).sets c q;
+    }) p texts in
     record { facts = e.facts; lines = record { journal = refl; seen = sym (done ∙ e.seen); opening = refl } }
 
 -- ---- a line that changes no breakpoint
 
-no_breaks : (es : List BreakEntry) (k : ℕ) (c : Content) → breaks_after es k (implied c) ≡ es
-no_breaks es k content.Blank = refl
-no_breaks es k content.Done = refl
-no_breaks es k (content.Inserted b) = refl
-no_breaks es k (content.Breakpoints bs) = refl
-no_breaks es k (content.Running ts) = refl
-no_breaks es k (content.Selected t) = refl
-no_breaks es k (content.Threads ts t) = refl
-no_breaks es k (content.ThreadNumbers ns t) = refl
-no_breaks es k content.RegisterNames = refl
-no_breaks es k (content.Registers f rs) = refl
-no_breaks es k (content.Memory a ms) = refl
-no_breaks es k (content.Value n u) = refl
-no_breaks es k (content.Refused r) = refl
+-- a change of no breakpoint, no setting, and by which no interrupt is asked
+record IsQuiet (c : Change) : Type 0 where
+  breaks : (es : List BreakEntry) (k : ℕ) → breaks_after es k c ≡ es
+  number : (k : ℕ) → given_after k c ≡ k
+  asks : asking c ≡ []
+  setting : (d : Displaced) → displaced_after d c ≡ d
 
-no_number : (k : ℕ) (c : Content) → given_after k (implied c) ≡ k
-no_number k content.Blank = refl
-no_number k content.Done = refl
-no_number k (content.Inserted b) = refl
-no_number k (content.Breakpoints bs) = refl
-no_number k (content.Running ts) = refl
-no_number k (content.Selected t) = refl
-no_number k (content.Threads ts t) = refl
-no_number k (content.ThreadNumbers ns t) = refl
-no_number k content.RegisterNames = refl
-no_number k (content.Registers f rs) = refl
-no_number k (content.Memory a ms) = refl
-no_number k (content.Value n u) = refl
-no_number k (content.Refused r) = refl
+quiet_stays : IsQuiet stays
+quiet_stays = record { breaks = λ es k. refl; number = λ k. refl; asks = refl; setting = λ d. refl }
+
+quiet_change : (c : Content) → IsQuiet (implied c)
+quiet_change content.Blank = quiet_stays
+quiet_change content.Done = quiet_stays
+quiet_change (content.Inserted b) = quiet_stays
+quiet_change (content.Breakpoints bs) = quiet_stays
+quiet_change (content.Running ts) = record { breaks = λ es k. refl; number = λ k. refl; asks = refl; setting = λ d. refl }
+quiet_change (content.Selected t) = record { breaks = λ es k. refl; number = λ k. refl; asks = refl; setting = λ d. refl }
+quiet_change (content.Threads ts t) = quiet_stays
+quiet_change (content.ThreadNumbers ns t) = quiet_stays
+quiet_change content.RegisterNames = quiet_stays
+quiet_change (content.Registers f rs) = quiet_stays
+quiet_change (content.Memory a ms) = quiet_stays
+quiet_change (content.Value n u) = quiet_stays
+quiet_change (content.Setting v) = quiet_stays
+quiet_change (content.Refused r) = quiet_stays
 
 pub noted : (r : Run) (spare : ℕ) (line : List ℕ) (c : Content) (j : List Entry) (xs : List Mind) (selected : ℕ) → Facts r → may_do r.opening (seen r) line ≡ true → Makes r line (implied c)
     → j ≡ r.journal ++ Did line ∷ [] → xs ≡ resume_threads r.minds (going_on (implied c)) → selected ≡ selected_after r.selected (implied c)
     → (let new : Run = record r { journal = j; spare = spare; minds = xs; selected = selected; noted = r.noted + 1 } in LinedTo r new line)
 noted r spare line c j xs selected f may is same minds chosen =
-    let N : List Entry → List Mind → ℕ → List BreakEntry → ℕ → Run = λ es ys t bs g. record r { journal = es; spare = spare; minds = ys; selected = t; breaks = bs; given = g; noted = r.noted + 1 } in
-    let P : List Entry → List Mind → ℕ → List BreakEntry → ℕ → Type 0 = λ es ys t bs g. LinedTo r (N es ys t bs g) line in
+    let N : List Entry → List Mind → ℕ → Displaced → List BreakEntry → ℕ → Run = λ es ys t v bs g. record r { journal = es; spare = spare; minds = ys; selected = t; displaced = v; breaks = bs; given = g; noted = r.noted + 1 } in
+    let P : List Entry → List Mind → ℕ → Displaced → List BreakEntry → ℕ → Type 0 = λ es ys t v bs g. LinedTo r (N es ys t v bs g) line in
     let d = implied c in
+    let q = quiet_change c in
     let es = r.journal ++ Did line ∷ [] in
     let ys = resume_threads r.minds (going_on d) in
     let t = selected_after r.selected d in
-    let none = no_breaks r.breaks r.given c in
+    let none = q.breaks r.breaks r.given in
     let texts = subst (AreInText r.opening.image) (sym none) f.texts in
     let planted = subst (λ (bs : List BreakEntry). Planted r.opening.image r.machine.text bs r.hold) (sym none) f.planted in
-    let first : P es ys t (breaks_after r.breaks r.given d) (given_after r.given d) = lined_to r line d r.machine.text spare f may is planted texts in
-    let base : P es ys t r.breaks r.given = subst (λ (g : ℕ). P es ys t r.breaks g) (no_number r.given c) (subst (λ (bs : List BreakEntry). P es ys t bs (given_after r.given d)) none first) in
-    subst (λ (ls : List Entry). P ls xs selected r.breaks r.given) (sym same)
-    (subst (λ (zs : List Mind). P es zs selected r.breaks r.given) (sym minds)
-    (subst (λ (u : ℕ). P es ys u r.breaks r.given) (sym chosen) base))
+    let first : P es (ask_threads ys (asking d)) t (displaced_after r.displaced d) (breaks_after r.breaks r.given d) (given_after r.given d) = lined_to r line d r.machine.text spare f may is planted texts in
+    let unasked : P es ys t (displaced_after r.displaced d) (breaks_after r.breaks r.given d) (given_after r.given d) =
+    subst (λ (us : List ℕ). P es (ask_threads ys us) t (displaced_after r.displaced d) (breaks_after r.breaks r.given d) (given_after r.given d)) q.asks first in
+    let set : P es ys t r.displaced (breaks_after r.breaks r.given d) (given_after r.given d) = subst (λ (v : Displaced). P es ys t v (breaks_after r.breaks r.given d) (given_after r.given d)) (q.setting r.displaced) unasked in
+    let base : P es ys t r.displaced r.breaks r.given = subst (λ (g : ℕ). P es ys t r.displaced r.breaks g) (q.number r.given) (subst (λ (bs : List BreakEntry). P es ys t r.displaced bs (given_after r.given d)) none set) in
+    subst (λ (ls : List Entry). P ls xs selected r.displaced r.breaks r.given) (sym same)
+    (subst (λ (zs : List Mind). P es zs selected r.displaced r.breaks r.given) (sym minds)
+    (subst (λ (u : ℕ). P es ys u r.displaced r.breaks r.given) (sym chosen) base))
+
+-- a line that asks an interrupt
+pub asked_line : (r : Run) (spare : ℕ) (line ts : List ℕ) (j : List Entry) (xs : List Mind) → Facts r → may_do r.opening (seen r) line ≡ true → Makes r line (interrupts ts) → j ≡ r.journal ++ Did line ∷ [] → xs ≡ ask_threads r.minds ts
+    → (let new : Run = record r { journal = j; spare = spare; minds = xs; noted = r.noted + 1 } in LinedTo r new line)
+asked_line r spare line ts j xs f may is same minds =
+    let N : List Entry → List Mind → Run = λ es ys. record r { journal = es; spare = spare; minds = ys; noted = r.noted + 1 } in
+    let first = lined_to r line (interrupts ts) r.machine.text spare f may is f.planted f.texts in
+    subst (λ (es : List Entry). LinedTo r (N es xs) line) (sym same) (subst (λ (ys : List Mind). LinedTo r (N (r.journal ++ Did line ∷ []) ys) line) (sym minds) first)
+
+-- a line that sets displaced stepping
+pub displaced_line : (r : Run) (spare : ℕ) (line : List ℕ) (value : Displaced) (j : List Entry) → Facts r → may_do r.opening (seen r) line ≡ true → Makes r line (displaces value) → j ≡ r.journal ++ Did line ∷ []
+    → (let new : Run = record r { journal = j; spare = spare; displaced = value; noted = r.noted + 1 } in LinedTo r new line)
+displaced_line r spare line value j f may is same =
+    let N : List Entry → Run = λ es. record r { journal = es; spare = spare; displaced = value; noted = r.noted + 1 } in
+    subst (λ (es : List Entry). LinedTo r (N es) line) (sym same) (lined_to r line (displaces value) r.machine.text spare f may is f.planted f.texts)
 
 -- ---- a line that changes breakpoints
 
@@ -171,6 +231,20 @@ none_selects t (change.Enable ns e) = refl
 none_selects t (change.Condition n c) = refl
 none_selects t (change.After n k) = refl
 
+none_asks : (b : BreakChange) → asking (break_change b) ≡ []
+none_asks (change.Insert spec) = refl
+none_asks (change.Delete ns) = refl
+none_asks (change.Enable ns e) = refl
+none_asks (change.Condition n c) = refl
+none_asks (change.After n k) = refl
+
+none_displaces : (d : Displaced) (b : BreakChange) → displaced_after d (break_change b) ≡ d
+none_displaces d (change.Insert spec) = refl
+none_displaces d (change.Delete ns) = refl
+none_displaces d (change.Enable ns e) = refl
+none_displaces d (change.Condition n c) = refl
+none_displaces d (change.After n k) = refl
+
 pub changed : (r : Run) (spare : ℕ) (line : List ℕ) (b : BreakChange) (j : List Entry) (m : Patched) (old new : Table) → Facts r → may_do r.opening (seen r) line ≡ true → Makes r line (break_change b)
     → r.breaks ≡ old.entries → r.given ≡ old.given → r.bounds ≡ old.text → r.waits ≡ old.waits
     → j ≡ r.journal ++ Did line ∷ [] → new ≡ changed_table old (break_change b) → Retabled r.machine m new.entries r.hold
@@ -183,16 +257,19 @@ changed r spare line b j m old new f may is breaks given bounds waits same table
     let ws : new.waits ≡ r.waits = ap (λ (t : Table). t.waits) table ∙ sym waits in
     let again = planted_again r m.text (breaks_after r.breaks r.given d) f w.words (subst (λ (es : List BreakEntry). ArePlanted m.text es r.hold) bs w.planted) in
     let first = lined_to r line d m.text spare f may is again.0 again.1 in
-    let N : List Entry → Patched → List Mind → ℕ → List BreakEntry → ℕ → List TextBounds → List (Option ℕ) → Run =
-    λ es n ys t cs g us vs. record r { journal = es; spare = spare; machine = n; minds = ys; selected = t; breaks = cs; given = g; bounds = us; waits = vs; noted = r.noted + 1 } in
-    let P : List Entry → Patched → List Mind → ℕ → List BreakEntry → ℕ → List TextBounds → List (Option ℕ) → Type 0 = λ es n ys t cs g us vs. LinedTo r (N es n ys t cs g us vs) line in
+    let N : List Entry → Patched → List Mind → ℕ → Displaced → List BreakEntry → ℕ → List TextBounds → List (Option ℕ) → Run =
+    λ es n ys t v cs g us vs. record r { journal = es; spare = spare; machine = n; minds = ys; selected = t; displaced = v; breaks = cs; given = g; bounds = us; waits = vs; noted = r.noted + 1 } in
+    let D : Displaced → Type 0 = λ v. LinedTo r (N (r.journal ++ Did line ∷ []) (record r.machine { text = m.text }) (minds_after r.minds d) (selected_after r.selected d) v (breaks_after r.breaks r.given d) (given_after r.given d) r.bounds r.waits) line in
+    let P : List Entry → Patched → List Mind → ℕ → List BreakEntry → ℕ → List TextBounds → List (Option ℕ) → Type 0 = λ es n ys t cs g us vs. LinedTo r (N es n ys t r.displaced cs g us vs) line in
     let m' : Patched = record r.machine { text = m.text } in
     let es = r.journal ++ Did line ∷ [] in
     let cs = breaks_after r.breaks r.given d in
     let g = given_after r.given d in
     let still : P es m' r.minds r.selected cs g r.bounds r.waits =
     subst (λ (t : ℕ). P es m' r.minds t cs g r.bounds r.waits) (none_selects r.selected b)
-    (subst (λ (l : List ℕ). P es m' (resume_threads r.minds l) (selected_after r.selected d) cs g r.bounds r.waits) (none_go b) first) in
+    (subst (λ (l : List ℕ). P es m' (ask_threads r.minds l) (selected_after r.selected d) cs g r.bounds r.waits) (none_asks b)
+    (subst (λ (l : List ℕ). P es m' (ask_threads (resume_threads r.minds l) (asking d)) (selected_after r.selected d) cs g r.bounds r.waits) (none_go b)
+    (subst D (none_displaces r.displaced b) first))) in
     subst (λ (ls : List Entry). P ls m r.minds r.selected new.entries new.given new.text new.waits) (sym same)
     (subst (λ (n : Patched). P es n r.minds r.selected new.entries new.given new.text new.waits) (sym w.rest)
     (subst (λ (ds : List BreakEntry). P es m' r.minds r.selected ds new.given new.text new.waits) (sym bs)
@@ -243,7 +320,7 @@ pub applies : (r : Run) (line : List ℕ) (b : BreakChange) (t : Table) → Fact
 applies r line (change.Insert s) t f breaks bounds waits is =
     let k = subst (IsFounded r.opening.image (seen r).harts r.breaks) is (change_founded r.opening (seen r) line) in
     let place : is_place t.text s.address ≡ true = ap (λ us. is_place us s.address) (sym bounds) ∙ (f.places s.address ∙ word_place r.opening.image s.address k.0) in
-    let len : length (seen r).harts ≡ r.opening.settings.harts = harts_length r.machine.cores r.minds f.harts.len ∙ f.count in
+    let len : length (seen r).harts ≡ r.opening.settings.harts = harts_length r.opening.image r.machine.cores r.minds f.harts.len ∙ f.count in
     let full : nat_le 128 (length t.entries) ≡ false = ap (λ es. nat_le 128 (length es)) (sym breaks) ∙ not_full (length r.breaks) k.1 in
     let known : is_thread (length t.waits) s.thread ≡ true = ap (λ vs. is_thread (length vs) s.thread) (sym waits) ∙ thread_known r.opening (seen r).harts (length r.waits) s.thread len (f.waits ∙ f.count) k.2 in
     let free : insert_fault t (asked_of s) ≡ None = rw (place, full, known) refl in

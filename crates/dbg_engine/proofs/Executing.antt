@@ -1,5 +1,5 @@
 -- An instruction of a running hart keeps what the type of an engine keeps.
-use Rattle.std.proofs.Common.{◌≡◌, ℕ, ◌+◌, ◌++◌, true, false, List, [], ◌∷◌, length, refl, sym, ap, ◌∙◌, subst}
+use Rattle.std.proofs.Common.{◌≡◌, ℕ, ◌+◌, ◌++◌, Bool, true, false, cond, List, [], ◌∷◌, length, refl, sym, ap, ◌∙◌, subst, arith, length-set}
 use Rattle.std.specs.Prelude.{Option, Some, None, map, slice_get, slice_set}
 use Rattle.rv_exec.specs.declared.effect.Cause.{Cause}
 use Rattle.rv_exec.specs.declared.effect.Stepped.{Stepped}
@@ -7,12 +7,19 @@ use Rattle.rv_exec.specs.declared.effect.Stepped.TheVariants as stepped
 use Rattle.rv_exec.specs.Registers.{Registers}
 use Rattle.rv_exec.specs.Memory.{Memory}
 use Rattle.text_words.specs.Words.{Words, is_planted}
-use Rattle.plain_machine.specs.Environment.{Traps, Goes, Stays}
+use Rattle.plain_machine.specs.Environment.{Answer, Traps, Goes, Leave, Stays, LeavesAlone, LeavesAll}
 use Rattle.plain_machine.specs.Plain.{plain}
+use Rattle.scratch_slots.specs.declared.slots.SlotUse.{SlotUse}
+use Rattle.step_over.specs.declared.phase.Phase.{Phase}
+use Rattle.step_over.specs.declared.phase.Phase.TheVariants as phase
 use Rattle.hart_machine.specs.declared.hart.Core.{Core}
 use Rattle.hart_machine.specs.Patched.{Patched}
-use Rattle.hart_machine.specs.Stepping.{StepsTo, StepGives}
-use Rattle.hart_machine.proofs.Places.{set_known}
+use Rattle.hart_machine.specs.Stepping.{StepsTo, StepGives, has_run, is_at, is_in_slot}
+use Rattle.hart_machine.specs.Stepping as machine
+use Rattle.hart_machine.proofs.Copying.{in_slot}
+use Rattle.hart_machine.proofs.Stepping.{machine_same}
+use Rattle.hart_machine.proofs.Places.{same_some, set_twice, get-set_same}
+use Rattle.break_table.specs.Table.{stands}
 use Rattle.dbg_model.specs.declared.entry.Entry.{Entry}
 use Rattle.dbg_model.specs.declared.entry.Entry.TheVariants.{Left}
 use Rattle.dbg_model.specs.State.{Hart, due, is_due}
@@ -21,19 +28,22 @@ use Rattle.dbg_model.specs.Journals.{lengthened}
 use Rattle.engine_facts.specs.declared.mind.Activity.TheVariants as activity
 use Rattle.engine_facts.specs.declared.mind.Hold.{Hold}
 use Rattle.engine_facts.specs.declared.mind.Mind.{Mind}
-use Rattle.engine_facts.specs.declared.mind.Phase.TheVariants as phase
-use Rattle.engine_facts.specs.Minds.{is_before, ran_mind, exited_mind, gone_mind, lefts_live}
-use Rattle.engine_facts.specs.Seen.{Run, seen, seen_hart}
-use Rattle.engine_facts.specs.Facts.{Facts, wanted, other_holder}
+use Rattle.engine_facts.specs.Minds.{after_step, is_before, is_copied, slot_of, entered_of, ran_mind, exited_mind, gone_mind, lefts_live}
+use Rattle.engine_facts.specs.Seen.{Run, seen, seen_hart, seen_regs, running_regs}
+use Rattle.engine_facts.specs.Facts.{Facts, Harts, Placed, Planted, other_holder}
 use Rattle.engine_facts.specs.Moves.{executed, departed}
+use Rattle.engine_facts.specs.Homing.{home_core, GoesHome, AllGoHome}
+use Rattle.engine_facts.proofs.Counting.{adds}
 use Rattle.engine_facts.proofs.Keeping.{Mover, hart_at}
-use Rattle.engine_facts.proofs.Holding.{core_at, released, unholds}
+use Rattle.engine_facts.proofs.Holding.{core_at, released, unholds, own_seen, clear_stands}
+use Rattle.engine_facts.proofs.Homing.{slotted_by, home_is, home_counts, home_out, home_known, home_slots, home_rest, all_are_home, all_are_free, all_ready}
 use Rattle.engine_facts.proofs.Bounding.{Small, small_at}
-use Rattle.engine_facts.proofs.Planting.{fetch_plain, no_hit}
-use Rattle.engine_facts.proofs.Stepping.{executes, one_seen, unwanted}
+use Rattle.engine_facts.proofs.Planting.{no_hit}
+use Rattle.engine_facts.proofs.Stepping.{after_regs, after_slot, executes, fact_of, gives_seen, one_seen, ran_harts}
 use Rattle.engine_facts.proofs.Exiting.{Departs, departs_alone, departs_all}
 use Rattle.engine_facts.proofs.Stopping.{may_by}
-use Rattle.dbg_engine.specs.Steps.{Parts, applied, turned_of, is_done, is_exit, ReleasedBy}
+use Rattle.dbg_engine.specs.Steps.{Parts, applied, turned_of}
+use Rattle.dbg_engine.specs.Homing.{ComesHome, HomedBy}
 use Rattle.dbg_engine.specs.Calls.{Of, Undue, Executes, Runs, Exits, TrapsAt}
 
 -- the parts of an engine beside its machine and hold
@@ -50,22 +60,27 @@ pub record Ready (r : Run) (h : ℕ) (c : Core) (x : Mind) : Type 0 where
   pub runs : x.activity ≡ activity.Running
   pub before : is_before x.phase ≡ true
   pub free : other_holder r.hold h ≡ None
-  pub may : may_run r.opening (seen r) h (seen_hart c x) ≡ true
-  pub unwanted : wanted r.breaks r.hold c.regs.pc ≡ false
+  pub may : may_run r.opening (seen r) h (seen_hart r.opening.image c x) ≡ true
+  -- where it steps over nothing, no breakpoint stands
+  pub none : x.phase ≡ phase.Idle → stands c.regs.pc r.breaks ≡ false
 
 -- a fact of what the hart shows
-pub of_hart : (r : Run) (h : ℕ) (c : Core) (x : Mind) (P : Hart → Type 0) → Mover r h c x → Of r h P → P (seen_hart c x)
-of_hart r h c x P m of = of (seen_hart c x) (hart_at r h c x m)
+pub of_hart : (r : Run) (h : ℕ) (c : Core) (x : Mind) (P : Hart → Type 0) → Mover r h c x → Of r h P → P (seen_hart r.opening.image c x)
+of_hart r h c x P m of = of (seen_hart r.opening.image c x) (hart_at r h c x m)
 
-pub moves_by : (r : Run) (c : Core) (x : Mind) → may_go r.opening (seen r) ≡ true → x.activity ≡ activity.Running → may_move r.opening (seen r) (seen_hart c x) ≡ true
+pub moves_by : (r : Run) (c : Core) (x : Mind) → may_go r.opening (seen r) ≡ true → x.activity ≡ activity.Running → may_move r.opening (seen r) (seen_hart r.opening.image c x) ≡ true
 moves_by r c x may runs = rw (may, runs) refl
+
+-- a hart that steps over nothing shows its own pc
+pub own_pc : (r : Run) (c : Core) (x : Mind) → x.phase ≡ phase.Idle → (seen_hart r.opening.image c x).regs.pc ≡ c.regs.pc
+own_pc r c x idle = ap (λ (q : Registers). q.pc) (own_seen r.opening.image c.regs x.activity x.phase (ap slot_of idle))
 
 pub ready : (r : Run) (h : ℕ) (x : Mind) (pc : ℕ) → Facts r → slice_get r.minds h ≡ Some x → is_before x.phase ≡ true → x.activity ≡ activity.Running → other_holder r.hold h ≡ None → Of r h (λ y. y.regs.pc ≡ pc)
     → Undue r h → (x.phase ≡ phase.Idle → is_planted r.machine.text pc ≡ false) → may_go r.opening (seen r) ≡ true → (c : Core) × Ready r h c x
 ready r h x pc f at before runs free is none clear may =
     let k = core_at r h x f at in
     let c = k.0 in
-    let here : c.regs.pc ≡ pc = of_hart r h c x (λ y. y.regs.pc ≡ pc) k.1 is in
+    let here = of_hart r h c x (λ y. y.regs.pc ≡ pc) k.1 is in
     let undue = of_hart r h c x (λ y. is_due (due r.opening.image (seen r) h y) ≡ false) k.1 none in (
       c,
       record {
@@ -74,8 +89,8 @@ ready r h x pc f at before runs free is none clear may =
         runs = runs;
         before = before;
         free = free;
-        may = may_by r.opening (seen r) h (seen_hart c x) (moves_by r c x may runs) undue;
-        unwanted = unwanted r h c x f k.1 before (λ idle. ap (wanted r.breaks r.hold) here ∙ (sym (f.planted.patches pc) ∙ clear idle));
+        may = may_by r.opening (seen r) h (seen_hart r.opening.image c x) (moves_by r c x may runs) undue;
+        none = λ idle. clear_stands r h c x f k.1 free idle (ap (is_planted r.machine.text) (sym (own_pc r c x idle) ∙ here) ∙ clear idle);
       },
     )
 
@@ -92,15 +107,26 @@ readied r s h pc x same f at before runs free is none clear may =
     let k = ready s h x pc g at before runs free is none clear may in
     subst (λ (q : Run). Readied q h x) (sym same) (record { core = k.0; ready = k.1; small = small_at s g may })
 
+-- the registers that a hart shows after a step
+abbrev pub shown_after : Run → Core → Mind → Stepped → Registers
+shown_after r c x s = after_regs r.opening.image c.regs x.phase (has_run s)
+
 -- what the machine's answer says of the unpatched text
-plain_gives : (s : Stepped) (r : Run) (h : ℕ) (c : Core) (x : Mind) (new : Patched) → Ready r h c x → (t : StepsTo s r.machine h c new) → StepGives s (plain r.opening.image c.regs r.machine.memory) c.regs t.core.regs r.machine.memory t.memory
-plain_gives s r h c x new k t = fetch_plain s r.opening.image r.machine.text r.breaks r.hold c.regs t.core.regs r.machine.memory t.memory k.facts.planted t.below k.unwanted t.steps.gives
+pub plain_gives : (s : Stepped) (r : Run) (h : ℕ) (c : Core) (x : Mind) (new : Patched) → Ready r h c x → (t : StepsTo s r.machine h c new)
+    → StepGives s (plain r.opening.image (seen_hart r.opening.image c x).regs r.machine.memory) (seen_hart r.opening.image c x).regs (shown_after r t.core x s) r.machine.memory t.memory
+plain_gives s r h c x new k t =
+    let p = r.opening.image in
+    let shown : running_regs p c.regs x.phase ≡ seen_regs p c.regs x.activity x.phase = ap (λ a. seen_regs p c.regs a x.phase) (sym k.runs) in
+    let P : Registers → Type 0 = λ q. StepGives s (plain p q r.machine.memory) q (shown_after r t.core x s) r.machine.memory t.memory in
+    subst P shown (gives_seen r h s c t.core x t.memory k.facts k.mover k.before k.none t.below t.steps.gives)
 
 -- a planted word is never met
 pub never_hit : (s : Stepped) (r : Run) (h : ℕ) (c : Core) (x : Mind) (new : Patched) → Ready r h c x → StepsTo s r.machine h c new → s ≡ stepped.Hit → ⊥
-never_hit s r h c x new k t is = no_hit (plain r.opening.image c.regs r.machine.memory) c.regs t.core.regs r.machine.memory t.memory s (plain_gives s r h c x new k t) is
+never_hit s r h c x new k t is =
+    let y = seen_hart r.opening.image c x in
+    no_hit (plain r.opening.image y.regs r.machine.memory) y.regs (shown_after r t.core x s) r.machine.memory t.memory s (plain_gives s r h c x new k t) is
 
-done_as : (s : Stepped) → (s ≡ stepped.Hit → ⊥) → ((cause : Cause) → s ≡ stepped.Trap cause → ⊥) → is_done s ≡ true
+done_as : (s : Stepped) → (s ≡ stepped.Hit → ⊥) → ((cause : Cause) → s ≡ stepped.Trap cause → ⊥) → has_run s ≡ true
 done_as stepped.Ran hit trap = refl
 done_as (stepped.Wrote addr len) hit trap = refl
 done_as (stepped.HartExit code) hit trap = refl
@@ -109,30 +135,92 @@ done_as stepped.Hit hit trap = absurd (hit refl)
 done_as (stepped.Trap cause) hit trap = absurd (trap cause refl)
 
 -- what doesn't trap is executed
-pub done : (s : Stepped) (r : Run) (h : ℕ) (c : Core) (x : Mind) (new : Patched) → Ready r h c x → StepsTo s r.machine h c new → ((cause : Cause) → s ≡ stepped.Trap cause → ⊥) → is_done s ≡ true
+pub done : (s : Stepped) (r : Run) (h : ℕ) (c : Core) (x : Mind) (new : Patched) → Ready r h c x → StepsTo s r.machine h c new → ((cause : Cause) → s ≡ stepped.Trap cause → ⊥) → has_run s ≡ true
 done s r h c x new k t trap = done_as s (never_hit s r h c x new k t) trap
 
 -- a hart shows one thing
-pub same_hart : (r : Run) (h : ℕ) (c : Core) (x : Mind) (y : Hart) → Mover r h c x → slice_get (seen r).harts h ≡ Some y → seen_hart c x ≡ y
-same_hart r h c x y m at = let e : Some (seen_hart c x) ≡ Some y = sym (hart_at r h c x m) ∙ at in cc
+pub same_hart : (r : Run) (h : ℕ) (c : Core) (x : Mind) (y : Hart) → Mover r h c x → slice_get (seen r).harts h ≡ Some y → seen_hart r.opening.image c x ≡ y
+same_hart r h c x y m at = same_some (seen_hart r.opening.image c x) y (sym (hart_at r h c x m) ∙ at)
 
 -- at a trap nothing changed
 pub trapped : (cause : Cause) (r : Run) (h : ℕ) (c : Core) (x : Mind) (new : Patched) → Ready r h c x → StepsTo (stepped.Trap cause) r.machine h c new → (new ≡ r.machine) × TrapsAt r h cause
 trapped cause r h c x new k t =
     let p = plain_gives (stepped.Trap cause) r h c x new k t in
-    let core : t.core ≡ c = ap (λ (g : Registers). let d : Core = record { regs = g; retired = t.core.retired } in d) p.1 ∙ ap (λ (n : ℕ). let d : Core = record { regs = c.regs; retired = n } in d) t.steps.retired in
-    let cores : slice_set r.machine.cores h t.core ≡ r.machine.cores = ap (slice_set r.machine.cores h) core ∙ set_known r.machine.cores h c k.mover.core in
-    let machine : record r.machine { cores = slice_set r.machine.cores h t.core; memory = t.memory } ≡ r.machine =
-    ap (λ (cs : List Core). let m : Patched = record r.machine { cores = cs; memory = t.memory } in m) cores ∙ ap (λ (g : Memory). let m : Patched = record r.machine { memory = g } in m) p.2 in
     let P : Hart → Type 0 = λ y. plain r.opening.image y.regs r.machine.memory ≡ Traps cause in
-    (t.machine ∙ machine, λ y at. subst P (same_hart r h c x y k.mover at) p.0)
+    (machine_same (stepped.Trap cause) r.machine new h c k.mover.core refl t, λ y at. subst P (same_hart r h c x y k.mover at) p.0)
+
+-- ---- what is known after an instruction that doesn't trap
+
+-- a hart has entered its slot exactly where it is at a copy
+in_slot_by : (r : Run) (h : ℕ) (c : Core) (x : Mind) (q : Phase) → x.phase ≡ q → Facts r → Mover r h c x → is_before q ≡ true → is_in_slot c ≡ is_copied q
+in_slot_by r h c x phase.Idle is f m before = ap (is_at c.regs.pc) ((fact_of r h c x f m).entered ∙ ap entered_of is)
+in_slot_by r h c x (phase.Copied slot home) is f m before =
+    let fact = fact_of r h c x f m in
+    let P : Phase → Type 0 = λ q. Placed r.opening.image r.machine.slots h c q in
+    let placed : Placed r.opening.image r.machine.slots h c (phase.Copied slot home) = subst P is fact.placed in
+    in_slot c slot (fact.entered ∙ ap entered_of is) placed.1
+in_slot_by r h c x (phase.Landed slot home) is f m before = cc
+in_slot_by r h c x (phase.Lifted home) is f m before = ap (is_at c.regs.pc) ((fact_of r h c x f m).entered ∙ ap entered_of is)
+in_slot_by r h c x (phase.Ran home) is f m before = cc
+
+more_by : (b : Bool) (n : ℕ) → cond b (n + 1) n ≡ n + adds b
+more_by true n = refl
+more_by false n = omega arith
+
+-- how the hart's counts rise
+pub record Counted (s : Stepped) (r : Run) (c c' : Core) (x : Mind) : Type 0 where
+  pub retired : c'.retired ≡ c.retired + 1
+  pub copied : c'.copied ≡ c.copied + adds (is_copied x.phase)
+  pub entered : c'.entered ≡ None
+
+counted_more : (s : Stepped) (n : ℕ) → has_run s ≡ true → machine.counted s n ≡ n + 1
+counted_more stepped.Ran n e = refl
+counted_more (stepped.Wrote addr len) n e = refl
+counted_more (stepped.HartExit code) n e = refl
+counted_more (stepped.AllExit code) n e = refl
+counted_more stepped.Hit n e = cc
+counted_more (stepped.Trap cause) n e = cc
+
+pub counts : (s : Stepped) (r : Run) (h : ℕ) (c : Core) (x : Mind) (new : Patched) → has_run s ≡ true → Ready r h c x → (t : StepsTo s r.machine h c new) → Counted s r c t.core x
+counts s r h c x new d k t =
+    let inside = in_slot_by r h c x x.phase refl k.facts k.mover k.before in
+    let more : cond (is_in_slot c) (machine.counted s c.copied) c.copied ≡ cond (is_in_slot c) (c.copied + 1) c.copied = ap (λ n. cond (is_in_slot c) n c.copied) (counted_more s c.copied d) in
+    record {
+      retired = t.steps.retired ∙ counted_more s c.retired d;
+      copied = t.steps.copied ∙ (more ∙ (ap (λ b. cond b (c.copied + 1) c.copied) inside ∙ more_by (is_copied x.phase) c.copied));
+      entered = t.steps.entered ∙ ap (λ b. cond b None c.entered) d;
+    }
+
+-- an instruction that goes
+pub record Went (a : Answer) : Type 0 where
+  pub regs : Registers
+  pub memory : Memory
+  pub out : List ℕ
+  pub leave : Leave
+  pub is : a ≡ Goes regs memory out leave
+
+went : (s : Stepped) (a : Answer) (q q' : Registers) (m m' : Memory) → has_run s ≡ true → StepGives s a q q' m m' → Went a
+went stepped.Ran a q q' m m' d g = record { regs = q'; memory = m'; out = []; leave = Stays; is = g }
+went (stepped.Wrote addr len) a q q' m m' d g = record { regs = q'; memory = m'; out = g.0; leave = Stays; is = g.3 }
+went (stepped.HartExit code) a q q' m m' d g = record { regs = q'; memory = m'; out = []; leave = LeavesAlone code; is = g }
+went (stepped.AllExit code) a q q' m m' d g = record { regs = q'; memory = m'; out = []; leave = LeavesAll code; is = g }
+went stepped.Hit a q q' m m' d g = cc
+went (stepped.Trap cause) a q q' m m' d g = cc
+
+-- what is known of the harts then
+pub known : (s : Stepped) (r : Run) (h : ℕ) (c : Core) (x : Mind) (new : Patched) → has_run s ≡ true → Ready r h c x → (t : StepsTo s r.machine h c new)
+    → Harts r.opening.image (slice_set r.machine.cores h t.core) r.machine.slots (slice_set r.minds h (ran_mind x)) r.hold
+known s r h c x new d k t =
+    let y = seen_hart r.opening.image c x in
+    let w = went s (plain r.opening.image y.regs r.machine.memory) y.regs (shown_after r t.core x s) r.machine.memory t.memory d (plain_gives s r h c x new k t) in
+    ran_harts r h c t.core x w.regs w.memory w.out w.leave k.facts k.mover k.runs k.before w.is (counts s r h c x new d k t).entered
 
 -- what an instruction of a hart keeps
 pub record Executed (s : Stepped) (r new : Run) (h : ℕ) (x : Mind) : Type 0 where
   pub facts : Facts new
   pub does : Executes (turned_of s h x r.minds) r new h
 
--- the machine after an instruction, but for its text
+-- the machine after an instruction, before harts come home
 abbrev stepped_to : Run → ℕ → Core → Memory → Patched
 stepped_to r h c memory = record r.machine { cores = slice_set r.machine.cores h c; memory = memory }
 
@@ -141,15 +229,16 @@ pub record Ran (r new : Run) (h : ℕ) (out : List ℕ) : Type 0 where
   pub facts : Facts new
   pub runs : Runs r new h out
 
-ran_on : (r : Run) (h spare : ℕ) (c c' : Core) (x : Mind) (mem : Memory) (out : List ℕ) → Ready r h c x → plain r.opening.image c.regs r.machine.memory ≡ Goes c'.regs mem out Stays → c'.retired ≡ c.retired + 1
-    → Ran r (executed r h c' (ran_mind x) mem spare) h out
-ran_on r h spare c c' x mem out k is more =
-    let e = executes r h spare c c' x mem out k.facts k.mover k.runs k.before k.may is more in
-    let goes = one_seen r h c c' x mem out Stays k.mover k.runs k.may is in
+ran_on : (r : Run) (h spare : ℕ) (c c' : Core) (x : Mind) (mem : Memory) (out : List ℕ) (s : Stepped) → Ready r h c x → Counted s r c c' x
+    → plain r.opening.image (seen_hart r.opening.image c x).regs r.machine.memory ≡ Goes (running_regs r.opening.image c'.regs (after_step x.phase)) mem out Stays → Ran r (executed r h c' (ran_mind x) mem spare) h out
+ran_on r h spare c c' x mem out s k n is =
+    let e = executes r h spare c c' x mem out k.facts k.mover k.runs k.before k.none k.may is n.retired n.copied n.entered in
+    let goes = one_seen r h c x (running_regs r.opening.image c'.regs (after_step x.phase)) mem out Stays k.mover k.may is in
     record { facts = e.facts; runs = record { journal = refl; one = goes.one ∙ ap Some e.seen; wrote = goes.wrote; opening = refl } }
 
-exits_as : (r : Run) (h code count spare : ℕ) (c : Core) (xs : List Mind) (mem : Memory) (t : Words) (es : List Entry) → length es ≡ count → Departs r (departed r h c xs mem t es count spare) h code es → Exits r (departed r h c xs mem t es count spare) h count code
-exits_as r h code count spare c xs mem t es len d =
+exits_as : (r : Run) (h code count spare : ℕ) (cs : List Core) (xs : List Mind) (mem : Memory) (t : Words) (slots : List (Option SlotUse)) (es : List Entry) → length es ≡ count
+    → Departs r (departed r h cs xs mem t slots es count spare) h code es → Exits r (departed r h cs xs mem t slots es count spare) h count code
+exits_as r h code count spare cs xs mem t slots es len d =
     record {
       between = d.between;
       codes = d.codes;
@@ -163,46 +252,103 @@ exits_as r h code count spare c xs mem t es len d =
       opening = refl;
     }
 
--- the same with the machine and the hold of an instruction that lets no patch be released
-kept_by : (s : Stepped) (r : Run) (h spare : ℕ) (c : Core) (x : Mind) (mem : Memory) (m : Patched) (hold : Option Hold) → ReleasedBy false (stepped_to r h c mem) m r.hold hold r.breaks
-    → Executed s r (run_with r (stepped_to r h c mem) (applied s h x (parts_of r)) r.hold spare) h x → Executed s r (run_with r m (applied s h x (parts_of r)) hold spare) h x
-kept_by s r h spare c x mem m hold rel e =
+-- the same with the machine and the hold of an instruction by which none exits
+kept_by : (s : Stepped) (r : Run) (h spare : ℕ) (x : Mind) (m n : Patched) (hold : Option Hold) → (hold ≡ r.hold) × (n ≡ m) → Executed s r (run_with r m (applied s h x (parts_of r)) r.hold spare) h x
+    → Executed s r (run_with r n (applied s h x (parts_of r)) hold spare) h x
+kept_by s r h spare x m n hold rel e =
     let P : Patched → Option Hold → Type 0 = λ n o. Executed s r (run_with r n (applied s h x (parts_of r)) o spare) h x in
-    subst (λ (o : Option Hold). P m o) (sym rel.0) (subst (λ (n : Patched). P n r.hold) (sym rel.1) e)
+    subst (λ (o : Option Hold). P n o) (sym rel.0) (subst (λ (n : Patched). P n r.hold) (sym rel.1) e)
 
--- the same with those of one that does
-released_by : (s : Stepped) (r : Run) (h spare : ℕ) (c : Core) (x : Mind) (mem : Memory) (m : Patched) (hold : Option Hold) → ReleasedBy true (stepped_to r h c mem) m r.hold hold r.breaks
-    → Executed s r (run_with r (record (stepped_to r h c mem) { text = m.text }) (applied s h x (parts_of r)) None spare) h x → Executed s r (run_with r m (applied s h x (parts_of r)) hold spare) h x
-released_by s r h spare c x mem m hold rel e =
+-- the machine at the end, by its parts
+whole : (s : Stepped) (r : Run) (h spare : ℕ) (x : Mind) (m n : Patched) (hold : Option Hold) → hold ≡ None → n ≡ m → Executed s r (run_with r m (applied s h x (parts_of r)) None spare) h x → Executed s r (run_with r n (applied s h x (parts_of r)) hold spare) h x
+whole s r h spare x m n hold none same e =
     let P : Patched → Option Hold → Type 0 = λ n o. Executed s r (run_with r n (applied s h x (parts_of r)) o spare) h x in
-    subst (λ (o : Option Hold). P m o) (sym rel.0) (subst (λ (n : Patched). P n None) (sym rel.2) e)
+    subst (λ (o : Option Hold). P n o) (sym none) (subst (λ (n : Patched). P n None) (sym same) e)
 
-executed_by : (s : Stepped) (r : Run) (h spare : ℕ) (c : Core) (x : Mind) (new m : Patched) (hold : Option Hold) → is_done s ≡ true → Ready r h c x → (t : StepsTo s r.machine h c new) → ReleasedBy (is_exit s) (stepped_to r h t.core t.memory) m r.hold hold r.breaks
-    → Executed s r (run_with r m (applied s h x (parts_of r)) hold spare) h x
+-- the machine after harts came home, by its parts
+parts_home : (old between new : Patched) (cs : List Core) (slots : List (Option SlotUse)) → between ≡ record old { cores = between.cores; slots = between.slots } → between.cores ≡ cs → new ≡ record between { text = new.text }
+    → new ≡ record { text = new.text; cores = cs; memory = old.memory; slots = between.slots }
+parts_home old between new cs slots rest cores text =
+    text ∙ (ap (λ (m : Patched). let n : Patched = record { text = new.text; cores = m.cores; memory = m.memory; slots = m.slots } in n) rest
+    ∙ ap (λ ds. let n : Patched = record { text = new.text; cores = ds; memory = old.memory; slots = between.slots } in n) cores)
+
+-- this hart left
+left_alone : (r : Run) (h spare code : ℕ) (c : Core) (x : Mind) (new m : Patched) (hold : Option Hold) → Ready r h c x → (t : StepsTo (stepped.HartExit code) r.machine h c new)
+    → ComesHome (stepped_to r h t.core t.memory) m r.hold hold r.breaks (λ k. GoesHome (stepped_to r h t.core t.memory) k h (after_step x.phase)) → Executed (stepped.HartExit code) r (run_with r m (applied (stepped.HartExit code) h x (parts_of r)) hold spare) h x
+left_alone r h spare code c x new m hold k t rel =
+    let p = r.opening.image in
+    let s = stepped.HartExit code in
+    let mid = stepped_to r h t.core t.memory in
+    let q = after_step x.phase in
+    let g = rel.between in
+    let hs = known s r h c x new refl k t in
+    let at : slice_get mid.cores h ≡ Some t.core = get-set_same r.machine.cores h t.core c k.mover.core in
+    let x_at : slice_get (slice_set r.minds h (ran_mind x)) h ≡ Some (ran_mind x) = get-set_same r.minds h (ran_mind x) x k.mover.mind in
+    let fact = hs.each h t.core (ran_mind x) at x_at in
+    let own = slotted_by p mid h t.core q fact.placed in
+    let d = home_core r.machine.slots t.core q in
+    let n = counts s r h c x new refl k t in
+    let same = home_counts r.machine.slots t.core q in
+    let cores : g.cores ≡ slice_set r.machine.cores h d = home_known mid g h t.core q at rel.home ∙ set_twice r.machine.cores h t.core d in
+    let free = home_slots p r.machine.cores mid g r.minds r.hold h x q k.facts.harts k.mover.mind (after_slot x.phase) own rel.home in
+    let one = home_rest mid g h q rel.home in
+    let texts = released p g.text m.text r.breaks r.hold (subst (λ (u : Words). Planted p u r.breaks r.hold) (ap (λ (u : Patched). u.text) (sym one.rest)) k.facts.planted) rel.released in
+    let is = plain_gives s r h c x new k t ∙ ap (λ u. Goes u t.memory [] (LeavesAlone code)) (home_is p r.machine.slots h t.core q fact.placed) in
+    let e = departs_alone r h spare code c d x t.memory m.text g.slots k.facts k.mover k.runs k.before k.none k.may is (same.0 ∙ n.retired) (same.1 ∙ n.copied)
+    (home_out p r.machine.slots h t.core q fact.placed (λ without. n.entered)) (unholds r.hold h k.free) free one.slots_len texts in
+    whole s r h spare x (record { text = m.text; cores = slice_set r.machine.cores h d; memory = t.memory; slots = g.slots }) m hold rel.none (parts_home mid g m (slice_set r.machine.cores h d) g.slots one.rest cores rel.rest)
+    (record { facts = e.facts; does = exits_as r h code 1 spare (slice_set r.machine.cores h d) (slice_set r.minds h (exited_mind x)) t.memory m.text g.slots (Left h code ∷ []) refl e })
+
+-- all harts left
+left_all : (r : Run) (h spare code : ℕ) (c : Core) (x : Mind) (new m : Patched) (hold : Option Hold) → Ready r h c x → (t : StepsTo (stepped.AllExit code) r.machine h c new)
+    → ComesHome (stepped_to r h t.core t.memory) m r.hold hold r.breaks (λ k. AllGoHome (stepped_to r h t.core t.memory) k 0 (slice_set r.minds h (ran_mind x)))
+    → Executed (stepped.AllExit code) r (run_with r m (applied (stepped.AllExit code) h x (parts_of r)) hold spare) h x
+left_all r h spare code c x new m hold k t rel =
+    let p = r.opening.image in
+    let s = stepped.AllExit code in
+    let mid = stepped_to r h t.core t.memory in
+    let xs = slice_set r.minds h (ran_mind x) in
+    let g = rel.between in
+    let hs = known s r h c x new refl k t in
+    let n = counts s r h c x new refl k t in
+    let home = all_are_home p mid g xs hs.len (all_ready p mid.cores r.machine.slots xs r.hold hs) rel.home in
+    let free = all_are_free mid g xs hs.used rel.home in
+    let cores : length g.cores ≡ length r.machine.cores = rel.home.len ∙ length-set r.machine.cores h t.core in
+    let texts = released p g.text m.text r.breaks r.hold (subst (λ (u : Words). Planted p u r.breaks r.hold) (ap (λ (u : Patched). u.text) (sym rel.home.rest)) k.facts.planted) rel.released in
+    let es = lefts_live code 0 xs in
+    let e = departs_all r h spare code c t.core x g.cores t.memory m.text g.slots k.facts k.mover k.runs k.before k.none k.may (plain_gives s r h c x new k t) n.retired n.copied home free rel.home.slots_len cores texts in
+    whole s r h spare x (record { text = m.text; cores = g.cores; memory = t.memory; slots = g.slots }) m hold rel.none (parts_home mid g m g.cores g.slots rel.home.rest refl rel.rest)
+    (record { facts = e.facts; does = exits_as r h code (length es) spare g.cores (map gone_mind xs) t.memory m.text g.slots es refl e })
+
+executed_by : (s : Stepped) (r : Run) (h spare : ℕ) (c : Core) (x : Mind) (new m : Patched) (hold : Option Hold) → has_run s ≡ true → Ready r h c x → (t : StepsTo s r.machine h c new)
+    → HomedBy s (stepped_to r h t.core t.memory) m r.hold hold r.breaks h x (slice_set r.minds h (ran_mind x)) → Executed s r (run_with r m (applied s h x (parts_of r)) hold spare) h x
 executed_by stepped.Ran r h spare c x new m hold d k t rel =
-    let g = ran_on r h spare c t.core x t.memory [] k (plain_gives stepped.Ran r h c x new k t) t.steps.retired in
-    kept_by stepped.Ran r h spare t.core x t.memory m hold rel (record { facts = g.facts; does = g.runs })
+    let g = ran_on r h spare c t.core x t.memory [] stepped.Ran k (counts stepped.Ran r h c x new d k t) (plain_gives stepped.Ran r h c x new k t) in
+    kept_by stepped.Ran r h spare x (stepped_to r h t.core t.memory) m hold rel (record { facts = g.facts; does = g.runs })
 executed_by (stepped.Wrote addr len) r h spare c x new m hold d k t rel =
-    let p = plain_gives (stepped.Wrote addr len) r h c x new k t in
-    let g = ran_on r h spare c t.core x t.memory p.0 k p.3 t.steps.retired in
-    kept_by (stepped.Wrote addr len) r h spare t.core x t.memory m hold rel (record { facts = g.facts; does = (p.0, p.1, p.2, g.runs) })
-executed_by (stepped.HartExit code) r h spare c x new m hold d k t rel =
-    let p = released r.opening.image r.machine.text m.text r.breaks r.hold k.facts.planted rel.1 in
-    let g = departs_alone r h spare code c t.core x t.memory m.text k.facts k.mover k.runs k.may (plain_gives (stepped.HartExit code) r h c x new k t) t.steps.retired (unholds r.hold h k.free) p in
-    released_by (stepped.HartExit code) r h spare t.core x t.memory m hold rel
-    (record { facts = g.facts; does = exits_as r h code 1 spare t.core (slice_set r.minds h exited_mind) t.memory m.text (Left h code ∷ []) refl g })
-executed_by (stepped.AllExit code) r h spare c x new m hold d k t rel =
-    let es = lefts_live code 0 (slice_set r.minds h (ran_mind x)) in
-    let p = released r.opening.image r.machine.text m.text r.breaks r.hold k.facts.planted rel.1 in
-    let g = departs_all r h spare code c t.core x t.memory m.text k.facts k.mover k.runs k.may (plain_gives (stepped.AllExit code) r h c x new k t) t.steps.retired p in
-    released_by (stepped.AllExit code) r h spare t.core x t.memory m hold rel
-    (record { facts = g.facts; does = exits_as r h code (length es) spare t.core (map gone_mind (slice_set r.minds h (ran_mind x))) t.memory m.text es refl g })
+    let s = stepped.Wrote addr len in
+    let p = plain_gives s r h c x new k t in
+    let g = ran_on r h spare c t.core x t.memory p.0 s k (counts s r h c x new d k t) p.3 in
+    kept_by s r h spare x (stepped_to r h t.core t.memory) m hold rel (record { facts = g.facts; does = (p.0, p.1, p.2, g.runs) })
+executed_by (stepped.HartExit code) r h spare c x new m hold d k t rel = left_alone r h spare code c x new m hold k t rel
+executed_by (stepped.AllExit code) r h spare c x new m hold d k t rel = left_all r h spare code c x new m hold k t rel
 executed_by stepped.Hit r h spare c x new m hold d k t rel = cc
 executed_by (stepped.Trap cause) r h spare c x new m hold d k t rel = cc
 
-pub executed_to : (s : Stepped) (r : Run) (h spare : ℕ) (c : Core) (x : Mind) (new m : Patched) (hold : Option Hold) (q : Parts) → is_done s ≡ true → Ready r h c x → StepsTo s r.machine h c new → ReleasedBy (is_exit s) new m r.hold hold r.breaks → q ≡ applied s h x (parts_of r)
-    → Executed s r (run_with r m q hold spare) h x
+pub executed_to : (s : Stepped) (r : Run) (h spare : ℕ) (c : Core) (x : Mind) (new m : Patched) (hold : Option Hold) (q : Parts) → has_run s ≡ true → Ready r h c x → StepsTo s r.machine h c new
+    → HomedBy s new m r.hold hold r.breaks h x (slice_set r.minds h (ran_mind x)) → q ≡ applied s h x (parts_of r) → Executed s r (run_with r m q hold spare) h x
 executed_to s r h spare c x new m hold q d k t rel is =
     let Q : Parts → Type 0 = λ u. Executed s r (run_with r m u hold spare) h x in
-    let R : Patched → Type 0 = λ n. ReleasedBy (is_exit s) n m r.hold hold r.breaks in
+    let R : Patched → Type 0 = λ n. HomedBy s n m r.hold hold r.breaks h x (slice_set r.minds h (ran_mind x)) in
     subst Q (sym is) (executed_by s r h spare c x new m hold d k t (subst R t.machine rel))
+
+-- the parts after an instruction, where what is kept of the hart was set before
+pub applied_twice : (s : Stepped) (h : ℕ) (x : Mind) (p : Parts) → has_run s ≡ true → applied s h x (record p { minds = slice_set p.minds h (ran_mind x) }) ≡ applied s h x p
+applied_twice stepped.Ran h x p done = ap (λ xs. let q : Parts = record { journal = lengthened p.journal h; minds = xs; retired = p.retired + 1; noted = p.noted } in q) (set_twice p.minds h (ran_mind x) (ran_mind x))
+applied_twice (stepped.Wrote addr len) h x p done = ap (λ xs. let q : Parts = record { journal = lengthened p.journal h; minds = xs; retired = p.retired + 1; noted = p.noted } in q) (set_twice p.minds h (ran_mind x) (ran_mind x))
+applied_twice (stepped.HartExit code) h x p done =
+    ap (λ xs. let q : Parts = record { journal = lengthened p.journal h ++ Left h code ∷ []; minds = xs; retired = p.retired + 1; noted = p.noted + 1 } in q) (set_twice p.minds h (ran_mind x) (exited_mind x))
+applied_twice (stepped.AllExit code) h x p done =
+    ap (λ xs. let ls = lefts_live code 0 xs in let q : Parts = record { journal = lengthened p.journal h ++ ls; minds = map gone_mind xs; retired = p.retired + 1; noted = p.noted + length ls } in q) (set_twice p.minds h (ran_mind x) (ran_mind x))
+applied_twice stepped.Hit h x p done = cc
+applied_twice (stepped.Trap cause) h x p done = cc

@@ -1,39 +1,55 @@
 -- The other moves of a hart, as the code makes them, and the end of an engine.
-use Rattle.std.proofs.Common.{◌≡◌, ℕ, ◌+◌, ◌++◌, Bool, true, false, List, [], ◌∷◌, refl, sym, ap, ◌∙◌, subst}
-use Rattle.std.specs.Prelude.{Option, Some, None, IsSome, slice_get, slice_set}
+use Rattle.std.proofs.Common.{◌≡◌, ◌≢◌, ◌<◌, ◌≤◌, ℕ, zero, suc, ◌+◌, ◌%◌, ◌^◌, ◌++◌, Bool, true, false, cond, List, [], ◌∷◌, length, refl, sym, ap, ◌∙◌, subst, arith, length-set}
+use Rattle.std.specs.Prelude.{Option, Some, None, IsSome, slice_get, slice_index, slice_set, ◌==◌}
+use Rattle.std.specs.Option.{option_map}
+use Rattle.std.proofs.lemmas.Bool.Decides.{nat_tests}
 use Rattle.rv_exec.specs.declared.effect.Cause.{Cause}
-use Rattle.text_words.specs.Words.{shown, is_planted}
+use Rattle.rv_exec.specs.Registers.{Registers, set_pc}
+use Rattle.text_words.specs.Words.{Words, shown, is_planted}
+use Rattle.elf32_read.specs.Program.{Program, text_word}
 use Rattle.plain_machine.specs.Environment.{Traps}
 use Rattle.plain_machine.specs.Plain.{plain}
+use Rattle.displaced_fix.specs.Fix.{IsWordAddress}
+use Rattle.scratch_slots.specs.declared.slots.SlotUse.{SlotUse}
+use Rattle.scratch_slots.specs.Table.{slot_address, use_at, least_free, with_use}
+use Rattle.step_over.specs.declared.phase.Phase.{Phase}
+use Rattle.step_over.specs.declared.phase.Phase.TheVariants as phase
 use Rattle.hart_machine.specs.declared.hart.Core.{Core}
 use Rattle.hart_machine.specs.Patched.{Patched}
+use Rattle.hart_machine.specs.Copying.{Enters, entered_core, with_core}
+use Rattle.hart_machine.proofs.Copying.{slot_is_word}
+use Rattle.hart_machine.proofs.Places.{same_some}
+use Rattle.mi_commands.specs.declared.command.Displaced.{Displaced}
 use Rattle.break_table.specs.Entry.{Entry as BreakEntry}
 use Rattle.break_table.specs.Arrival.{due_of, settled}
 use Rattle.break_table.specs.Table.{stands}
 use Rattle.break_table.specs.declared.due.Due.{Due}
 use Rattle.dbg_model.specs.declared.entry.Entry.{Entry}
 use Rattle.dbg_model.specs.declared.entry.Entry.TheVariants.{Counted, Stopped}
-use Rattle.dbg_model.specs.declared.entry.Why.TheVariants.{Break, Fault}
+use Rattle.dbg_model.specs.declared.entry.Why.TheVariants.{Break, Interrupted, Fault}
 use Rattle.dbg_model.specs.Breaks.{nothing_due}
-use Rattle.elf32_read.specs.Program.{Program}
 use Rattle.dbg_model.specs.Views.{register, shown_byte}
-use Rattle.dbg_model.specs.State.{Hart, State, due, is_due, is_counted, arrived as after_arrival}
+use Rattle.dbg_model.specs.State.{Hart, State, due, is_due, is_counted, is_off, arrived as after_arrival}
 use Rattle.dbg_model.specs.Lawful.{may_go}
 use Rattle.engine_facts.specs.declared.mind.Activity.TheVariants as activity
 use Rattle.engine_facts.specs.declared.mind.Hold.{Hold}
 use Rattle.engine_facts.specs.declared.mind.Mind.{Mind}
-use Rattle.engine_facts.specs.declared.mind.Phase.TheVariants as phase
-use Rattle.engine_facts.specs.Minds.{is_active, with_phase, first_mind, counted_mind, lifted_of}
-use Rattle.engine_facts.specs.Seen.{Run, seen, seen_hart}
-use Rattle.engine_facts.specs.Facts.{Facts, Retired, wanted, other_holder}
-use Rattle.engine_facts.specs.Moves.{Repatched, Released}
-use Rattle.engine_facts.proofs.Holding.{core_at, no_hold, released, unwinds, planted_text, stands_text, wanted_none}
-use Rattle.engine_facts.proofs.Planting.{text_shown}
-use Rattle.engine_facts.proofs.Stepping.{fact_of, lifts}
+use Rattle.engine_facts.specs.Minds.{is_before, slot_of, with_phase, first_mind, counted_mind}
+use Rattle.engine_facts.specs.Seen.{Run, seen, seen_hart, seen_regs, running_regs}
+use Rattle.engine_facts.specs.Facts.{Facts, Planted, Retired, AreCopied, CopiedOver, pending, wanted, other_holder}
+use Rattle.engine_facts.specs.Moves.{Repatched, Released, HeldInText, Takes, AreHome}
+use Rattle.engine_facts.specs.Homing.{GoesHome, AllGoHome}
+use Rattle.engine_facts.proofs.Updating.{home_at}
+use Rattle.engine_facts.proofs.Holding.{core_at, released, planted_text, stands_text, clear_stands}
+use Rattle.engine_facts.proofs.Copying.{copies}
+use Rattle.engine_facts.proofs.Homing.{unwound, home_rest, all_are_home, all_are_free, all_ready}
+use Rattle.engine_facts.proofs.Exiting.{retired_home}
+use Rattle.engine_facts.proofs.Planting.{text_shown, shown_image}
+use Rattle.engine_facts.proofs.Stepping.{lifts}
 use Rattle.engine_facts.proofs.Arriving.{undue, due_stands}
-use Rattle.engine_facts.proofs.Stopping.{halts_fault, halts_break, counts, may_by}
-use Rattle.dbg_engine.specs.Calls.{Of, DueIs, Undue, TrapsAt, Rephases, Lifts, Halts, Counts, Closes}
-use Rattle.dbg_engine.proofs.Executing.{of_hart, moves_by, same_hart}
+use Rattle.engine_facts.proofs.Stopping.{halts_fault, halts_interrupt, halts_break, counts, may_by}
+use Rattle.dbg_engine.specs.Calls.{Of, DueIs, Undue, TrapsAt, AtPlanted, Rephases, Lifts, Copies, Halts, Interrupts, Counts, Closes}
+use Rattle.dbg_engine.proofs.Executing.{of_hart, own_pc, moves_by, same_hart}
 
 -- the facts hold after a move that did this
 pub record Moved (new : Run) (Did : Type 0) : Type 0 where
@@ -44,45 +60,184 @@ pub record Moved (new : Run) (Did : Type 0) : Type 0 where
 abbrev pub Retexted : Run → Patched → Type 0
 Retexted r m = m ≡ record r.machine { text = m.text }
 
-unwound_by : (r : Run) (h : ℕ) (x : Mind) (m : Patched) → Facts r → slice_get r.minds h ≡ Some x → other_holder r.hold h ≡ None → Released r.machine.text m.text r.breaks r.hold → Retexted r m
-    → (let new : Run = record r { machine = m; minds = slice_set r.minds h (with_phase x phase.Idle); hold = None } in Moved new (Rephases r new h x phase.Idle None))
-unwound_by r h x m f at free w same =
+-- a hart's slot is free after it came home
+freed_by : (old new : Patched) (h slot : ℕ) (q : Phase) → GoesHome old new h q → slot_of q ≡ Some slot → use_at new.slots slot ≡ None
+freed_by old new h slot phase.Idle g e = cc
+freed_by old new h slot (phase.Copied s home) g e = ap (use_at new.slots) (sym (same_some s slot e)) ∙ g.frees.one.here
+freed_by old new h slot (phase.Landed s home) g e = ap (use_at new.slots) (sym (same_some s slot e)) ∙ g.frees.one.here
+freed_by old new h slot (phase.Lifted home) g e = cc
+freed_by old new h slot (phase.Ran home) g e = cc
+
+-- what a hart that steps over nothing any more leaves
+pub record Unwinds (old new : Run) (h : ℕ) (x : Mind) : Type 0 where
+  pub home : Rephases old new h x phase.Idle None
+  pub freed : (slot : ℕ) → slot_of x.phase ≡ Some slot → use_at new.machine.slots slot ≡ None
+
+unwound_by : (r : Run) (h : ℕ) (x : Mind) (g m : Patched) → Facts r → slice_get r.minds h ≡ Some x → x.activity ≡ activity.Running → other_holder r.hold h ≡ None → GoesHome r.machine g h x.phase → Released g.text m.text r.breaks r.hold → m ≡ record g { text = m.text }
+    → (let new : Run = record r { machine = m; minds = slice_set r.minds h (with_phase x phase.Idle); hold = None } in Moved new (Unwinds r new h x))
+unwound_by r h x g m f at runs free goes w same =
     let k = core_at r h x f at in
     let N : Patched → Run = λ n. record r { machine = n; minds = slice_set r.minds h (with_phase x phase.Idle); hold = None } in
-    let P : Patched → Type 0 = λ n. Moved (N n) (Rephases r (N n) h x phase.Idle None) in
-    let s = unwinds r h k.0 x m.text f k.1 free w in
-    subst P (sym same) (record { facts = s.facts; does = record { journal = refl; seen = s.seen; opening = refl; spare = refl; minds = refl; hold = refl } })
-
--- a hart steps over nothing any more
-pub unwound : (r : Run) (h : ℕ) (x y : Mind) (m : Patched) (bs : List BreakEntry) → Facts r → slice_get r.minds h ≡ Some x → other_holder r.hold h ≡ None → Released r.machine.text m.text bs r.hold → bs ≡ r.breaks → Retexted r m → y ≡ with_phase x phase.Idle
-    → (let new : Run = record r { machine = m; minds = slice_set r.minds h y; hold = None } in Moved new (Rephases r new h x phase.Idle None))
-unwound r h x y m bs f at free w' are same is =
-    let w = subst (λ (cs : List BreakEntry). Released r.machine.text m.text cs r.hold) are w' in
-    let Q : Mind → Type 0 = λ z. (let new : Run = record r { machine = m; minds = slice_set r.minds h z; hold = None } in Moved new (Rephases r new h x phase.Idle None)) in
-    subst Q (sym is) (unwound_by r h x m f at free w same)
-
-lifted_by : (r : Run) (h pc : ℕ) (x : Mind) (m : Patched) → Facts r → may_go r.opening (seen r) ≡ true → Undue r h → slice_get r.minds h ≡ Some x → x.phase ≡ phase.Idle → x.activity ≡ activity.Running → other_holder r.hold h ≡ None → Of r h (λ y. y.regs.pc ≡ pc)
-    → is_planted r.machine.text pc ≡ true → Repatched r.machine.text m.text pc false → Retexted r m
-    → (let new : Run = record r { machine = m; minds = slice_set r.minds h (with_phase x (phase.Lifted pc)); hold = Some (record { hart = h; home = pc }) } in Moved new (Lifts r new h))
-lifted_by r h pc x m f may none_due at idle runs free is planted w same =
-    let k = core_at r h x f at in
-    let none : r.hold ≡ None = no_hold r.hold h free (sym (fact_of r h k.0 x f k.1).held ∙ ap lifted_of idle) in
-    let here = of_hart r h k.0 x (λ y. y.regs.pc ≡ pc) k.1 is in
-    let N : Patched → Run = λ n. record r { machine = n; minds = slice_set r.minds h (with_phase x (phase.Lifted pc)); hold = Some (record { hart = h; home = pc }) } in
-    let P : Patched → Type 0 = λ n. Moved (N n) (Lifts r (N n) h) in
-    let s = lifts r h k.0 x pc m.text f k.1 runs none here (planted_text r pc f planted) w in
-    subst P (sym same) (record {
+    let P : Patched → Type 0 = λ n. Moved (N n) (Unwinds r (N n) h x) in
+    let s = unwound r h k.0 x g m.text f k.1 runs free goes w in
+    subst P (sym same)
+    (record {
       facts = s.facts;
-      does = record { mind = x; home = pc; may = may; at = at; runs = ap is_active runs; idle = idle; free = none; pc = is; undue = none_due; planted = planted; rephases = record { journal = refl; seen = s.seen; opening = refl; spare = refl; minds = refl; hold = refl } };
+      does = record { home = record { journal = refl; seen = s.seen; opening = refl; spare = refl; minds = refl; hold = refl }; freed = λ slot e. freed_by r.machine g h slot x.phase goes e };
     })
 
+-- a hart steps over nothing any more
+pub unwound_to : (r : Run) (h : ℕ) (x y : Mind) (g m : Patched) (bs : List BreakEntry) → Facts r → slice_get r.minds h ≡ Some x → x.activity ≡ activity.Running → other_holder r.hold h ≡ None → GoesHome r.machine g h x.phase → Released g.text m.text bs r.hold → bs ≡ r.breaks
+    → m ≡ record g { text = m.text } → y ≡ with_phase x phase.Idle → (let new : Run = record r { machine = m; minds = slice_set r.minds h y; hold = None } in Moved new (Unwinds r new h x))
+unwound_to r h x y g m bs f at runs free goes w' are same is =
+    let w = subst (λ (cs : List BreakEntry). Released g.text m.text cs r.hold) are w' in
+    let Q : Mind → Type 0 = λ z. (let new : Run = record r { machine = m; minds = slice_set r.minds h z; hold = None } in Moved new (Unwinds r new h x)) in
+    subst Q (sym is) (unwound_by r h x g m f at runs free goes w same)
+
+-- the patches stay where a hart comes home
+pub home_held : (old new : Patched) (h : ℕ) (q : Phase) (hold : Option Hold) → GoesHome old new h q → HeldInText old.text hold → HeldInText new.text hold
+home_held old new h q hold g t = subst (λ (u : Words). HeldInText u hold) (ap (λ (m : Patched). m.text) (sym (home_rest old new h q g).rest)) t
+
+lifted_by : (r : Run) (h pc : ℕ) (x : Mind) (m : Patched) → Facts r → AtPlanted r h x pc → x.activity ≡ activity.Running → (0 < r.opening.settings.slots → is_off r.displaced ≡ true) → Repatched r.machine.text m.text pc false → Retexted r m
+    → (let new : Run = record r { machine = m; minds = slice_set r.minds h (with_phase x (phase.Lifted pc)); hold = Some (record { hart = h; home = pc }) } in Moved new (Lifts r new h))
+lifted_by r h pc x m f b runs only w same =
+    let k = core_at r h x f b.at in
+    let here : k.0.regs.pc ≡ pc = sym (own_pc r k.0 x b.idle) ∙ of_hart r h k.0 x (λ y. y.regs.pc ≡ pc) k.1 b.pc in
+    let N : Patched → Run = λ n. record r { machine = n; minds = slice_set r.minds h (with_phase x (phase.Lifted pc)); hold = Some (record { hart = h; home = pc }) } in
+    let P : Patched → Type 0 = λ n. Moved (N n) (Lifts r (N n) h) in
+    let s = lifts r h k.0 x pc m.text f k.1 runs b.idle only b.free here (planted_text r pc f b.planted) w in
+    subst P (sym same) (record { facts = s.facts; does = record { mind = x; home = pc; before = b; only = only; rephases = record { journal = refl; seen = s.seen; opening = refl; spare = refl; minds = refl; hold = refl } } })
+
 -- a patch was lifted for a hart
-pub lifted : (r : Run) (h pc : ℕ) (x y : Mind) (m : Patched) → Facts r → may_go r.opening (seen r) ≡ true → Undue r h → slice_get r.minds h ≡ Some x → x.phase ≡ phase.Idle → x.activity ≡ activity.Running → other_holder r.hold h ≡ None → Of r h (λ y. y.regs.pc ≡ pc)
-    → is_planted r.machine.text pc ≡ true → Repatched r.machine.text m.text pc false → Retexted r m → y ≡ with_phase x (phase.Lifted pc)
+pub lifted : (r : Run) (h pc : ℕ) (x y : Mind) (m : Patched) → Facts r → AtPlanted r h x pc → x.activity ≡ activity.Running → (0 < r.opening.settings.slots → is_off r.displaced ≡ true) → Repatched r.machine.text m.text pc false → Retexted r m → y ≡ with_phase x (phase.Lifted pc)
     → (let new : Run = record r { machine = m; minds = slice_set r.minds h y; hold = Some (record { hart = h; home = pc }) } in Moved new (Lifts r new h))
-lifted r h pc x y m f may none_due at idle runs free is planted w same e =
+lifted r h pc x y m f b runs only w same e =
     let Q : Mind → Type 0 = λ z. (let new : Run = record r { machine = m; minds = slice_set r.minds h z; hold = Some (record { hart = h; home = pc }) } in Moved new (Lifts r new h)) in
-    subst Q (sym e) (lifted_by r h pc x m f may none_due at idle runs free is planted w same)
+    subst Q (sym e) (lifted_by r h pc x m f b runs only w same)
+
+-- ---- a copy
+
+least_more : (slots : List (Option SlotUse)) (k : ℕ) (o : Option ℕ) → option_map suc o ≡ Some k → ((j : ℕ) → o ≡ Some j → j < length slots) → k < suc (length slots)
+least_more slots k None e ih = cc
+least_more slots k (Some j) e ih = let z : suc j ≡ k = same_some (suc j) k e in let l = ih j refl in omega (arith, z, l)
+
+least_within : (slots : List (Option SlotUse)) (k : ℕ) → least_free slots ≡ Some k → k < length slots
+least_within [] k e = cc
+least_within (None ∷ slots) k e = let z : 0 ≡ k = same_some 0 k e in omega arith
+least_within (Some u ∷ slots) k e = least_more slots k (least_free slots) e (λ j f. least_within slots j f)
+
+-- the word at a planted address is the image's
+planted_word : (r : Run) (pc word : ℕ) → Facts r → pc < 2 ^ 32 → Some word ≡ shown r.machine.text pc → text_word r.opening.image pc ≡ Some word
+planted_word r pc word f low is = sym (shown_image r.opening.image r.machine.text r.breaks r.hold pc f.planted low) ∙ sym is
+
+aligned_by : (a w : ℕ) (o : Option ℕ) (b : Bool) → (a % 4 == 0) ≡ b → cond b o None ≡ Some w → a % 4 ≡ 0
+aligned_by a w o true is e = grind (arith, nat_tests)
+aligned_by a w o false is e = cc
+
+-- which is at a multiple of 4
+word_aligned : (p : Program) (a w : ℕ) → text_word p a ≡ Some w → a % 4 ≡ 0
+word_aligned p a w e = aligned_by a w _ (a % 4 == 0) refl e
+
+slots_after : (old : List (Option SlotUse)) (o : Option ℕ) (u : SlotUse) → length (with_use old o u) ≡ length old
+slots_after old None u = refl
+slots_after old (Some k) u = length-set old k (Some u)
+
+-- the slot that is claimed has a number
+record Numbered (slots : List (Option SlotUse)) (slot : ℕ) : Type 0 where
+  number : ℕ
+  within : number < length slots
+  is : slot_address number ≡ slot
+
+numbered_by : (slots : List (Option SlotUse)) (slot : ℕ) (o : Option ℕ) → least_free slots ≡ o → Some slot ≡ option_map slot_address o → Numbered slots slot
+numbered_by slots slot None least e = cc
+numbered_by slots slot (Some k) least e = record { number = k; within = least_within slots k least; is = sym (same_some slot (slot_address k) e) }
+
+-- the machine after a claim
+pub record Claims (old new : Patched) (h word slot : ℕ) : Type 0 where
+  pub least : Some slot ≡ option_map slot_address (least_free old.slots)
+  pub machine : new ≡ record old { slots = with_use old.slots (least_free old.slots) (record { hart = h; word = word }) }
+  pub was : use_at old.slots slot ≡ None
+  pub taken : use_at new.slots slot ≡ Some (record { hart = h; word = word })
+  pub others : (s : ℕ) → Some slot ≢ Some s → use_at new.slots s ≡ use_at old.slots s
+
+-- what a claim does to the slots
+claim_takes : (old new : Patched) (h word slot : ℕ) → Claims old new h word slot → Takes old.slots (with_use old.slots (least_free old.slots) (record { hart = h; word = word })) h slot word
+claim_takes old new h word slot c =
+    let u : SlotUse = record { hart = h; word = word } in
+    let slots : new.slots ≡ with_use old.slots (least_free old.slots) u = ap (λ (m : Patched). m.slots) c.machine in
+    record {
+      was = c.was;
+      one = record {
+        here = ap (λ ss. use_at ss slot) (sym slots) ∙ c.taken;
+        others = λ s apart. ap (λ ss. use_at ss s) (sym slots) ∙ c.others s (λ e. apart (same_some slot s e));
+      };
+      len = slots_after old.slots (least_free old.slots) u;
+    }
+
+copied_by : (r : Run) (h pc word slot : ℕ) (x : Mind) (m n : Patched) → Facts r → AtPlanted r h x pc → x.activity ≡ activity.Running → is_off r.displaced ≡ false → pc < 2 ^ 32 → Some word ≡ shown r.machine.text pc → Claims r.machine m h word slot → Enters m h slot n
+    → (let new : Run = record r { machine = n; minds = slice_set r.minds h (with_phase x (phase.Copied slot pc)) } in Moved new (Copies r new h))
+copied_by r h pc word slot x m n f b runs on low is claims enters =
+    let k = core_at r h x f b.at in
+    let c = k.0 in
+    let u : SlotUse = record { hart = h; word = word } in
+    let slots = with_use r.machine.slots (least_free r.machine.slots) u in
+    let here : c.regs.pc ≡ pc = sym (own_pc r c x b.idle) ∙ of_hart r h c x (λ y. y.regs.pc ≡ pc) k.1 b.pc in
+    let image = planted_word r pc word f low is in
+    let number = numbered_by r.machine.slots slot (least_free r.machine.slots) refl claims.least in
+    let few : number.number < 512 = omega (arith, number.within, f.slots, f.settings.slots) in
+    let at_slot : IsWordAddress slot = subst IsWordAddress number.is (slot_is_word number.number few) in
+    let at_home : IsWordAddress pc = record { fits = low; aligned = word_aligned r.opening.image pc word image } in
+    let takes = claim_takes r.machine m h word slot claims in
+    let s = copies r h slot pc word c x slots f k.1 runs b.idle here image at_slot at_home takes in
+    let m0 : Patched = record r.machine { slots = slots } in
+    let core : slice_get m.cores h ≡ Some c = ap (λ (q : Patched). slice_get q.cores h) claims.machine ∙ k.1.core in
+    let n_is : n ≡ with_core m0 h (entered_core c slot) = enters c core ∙ ap (λ (q : Patched). with_core q h (entered_core c slot)) claims.machine in
+    let N : Patched → Run = λ q. record r { machine = q; minds = slice_set r.minds h (with_phase x (phase.Copied slot pc)) } in
+    let P : Patched → Type 0 = λ q. Moved (N q) (Copies r (N q) h) in
+    subst P (sym n_is)
+    (record {
+      facts = s.facts;
+      does = record {
+        mind = x;
+        home = pc;
+        slot = slot;
+        word = word;
+        before = b;
+        on = on;
+        image = image;
+        was = claims.was;
+        out = takes.one.here;
+        rephases = record { journal = refl; seen = s.seen; opening = refl; spare = refl; minds = refl; hold = b.free };
+      };
+    })
+
+-- a hart entered a slot with a copy of its word
+pub copied : (r : Run) (h pc word slot : ℕ) (x y : Mind) (m n : Patched) → Facts r → AtPlanted r h x pc → x.activity ≡ activity.Running → is_off r.displaced ≡ false → pc < 2 ^ 32 → Some word ≡ shown r.machine.text pc → Claims r.machine m h word slot → Enters m h slot n
+    → y ≡ with_phase x (phase.Copied slot pc) → (let new : Run = record r { machine = n; minds = slice_set r.minds h y } in Moved new (Copies r new h))
+copied r h pc word slot x y m n f b runs on low is claims enters e =
+    let Q : Mind → Type 0 = λ z. (let new : Run = record r { machine = n; minds = slice_set r.minds h z } in Moved new (Copies r new h)) in
+    subst Q (sym e) (copied_by r h pc word slot x m n f b runs on low is claims enters)
+
+none_by : (slots : List (Option SlotUse)) (o : Option ℕ) (u : SlotUse) → None ≡ option_map slot_address o → with_use slots o u ≡ slots
+none_by slots None u e = refl
+none_by slots (Some k) u e = cc
+
+-- a claim that finds none changes nothing
+pub none_claimed : (old new : Patched) (h word : ℕ) → None ≡ option_map slot_address (least_free old.slots) → new ≡ record old { slots = with_use old.slots (least_free old.slots) (record { hart = h; word = word }) } → new ≡ old
+none_claimed old new h word none is = is ∙ ap (λ ss. let m : Patched = record old { slots = ss } in m) (none_by old.slots (least_free old.slots) (record { hart = h; word = word }) none)
+
+-- a hart stopped by an interrupt
+pub interrupted : (r : Run) (h spare : ℕ) (x : Mind) (j : List Entry) → Facts r → slice_get r.minds h ≡ Some x → x.phase ≡ phase.Idle → x.activity ≡ activity.Running → x.asked ≡ true → Undue r h → may_go r.opening (seen r) ≡ true
+    → j ≡ r.journal ++ Stopped h Interrupted ∷ [] → (let new : Run = record r { journal = j; spare = spare; minds = slice_set r.minds h first_mind; noted = r.noted + 1 } in Moved new (Interrupts r new h))
+interrupted r h spare x j f at idle runs asked none may same =
+    let k = core_at r h x f at in
+    let c = k.0 in
+    let y = seen_hart r.opening.image c x in
+    let may' = may_by r.opening (seen r) h y (moves_by r c x may runs) (of_hart r h c x (λ y. is_due (due r.opening.image (seen r) h y) ≡ false) k.1 none) in
+    let e = halts_interrupt r h spare c x f k.1 idle asked may' in
+    let N : List Entry → Run = λ es. record r { journal = es; spare = spare; minds = slice_set r.minds h first_mind; noted = r.noted + 1 } in
+    let P : List Entry → Type 0 = λ es. Moved (N es) (Interrupts r (N es) h) in
+    subst P (sym same) (record { facts = e.facts; does = record { mind = x; at = at; idle = idle; asked = asked; halts = record { journal = refl; enters = e.comes; opening = refl } } })
 
 -- a hart stopped by a fault
 pub faulted : (r : Run) (h spare : ℕ) (x : Mind) (cause : Cause) (j : List Entry) → Facts r → slice_get r.minds h ≡ Some x → x.phase ≡ phase.Idle → x.activity ≡ activity.Running → Undue r h → TrapsAt r h cause
@@ -91,34 +246,54 @@ pub faulted : (r : Run) (h spare : ℕ) (x : Mind) (cause : Cause) (j : List Ent
 faulted r h spare x cause j f at idle runs none traps may same =
     let k = core_at r h x f at in
     let c = k.0 in
-    let may' = may_by r.opening (seen r) h (seen_hart c x) (moves_by r c x may runs) (of_hart r h c x (λ y. is_due (due r.opening.image (seen r) h y) ≡ false) k.1 none) in
+    let may' = may_by r.opening (seen r) h (seen_hart r.opening.image c x) (moves_by r c x may runs) (of_hart r h c x (λ y. is_due (due r.opening.image (seen r) h y) ≡ false) k.1 none) in
     let trap = of_hart r h c x (λ y. plain r.opening.image y.regs (seen r).memory ≡ Traps cause) k.1 traps in
     let e = halts_fault r h spare c x cause f k.1 idle may' trap in
     let N : List Entry → Run = λ es. record r { journal = es; spare = spare; minds = slice_set r.minds h first_mind; noted = r.noted + 1 } in
     let P : List Entry → Type 0 = λ es. Moved (N es) (Halts r (N es) h (Fault cause)) in
     subst P (sym same) (record { facts = e.facts; does = record { journal = refl; enters = e.comes; opening = refl } })
 
--- the table after an arrival, where the core of the hart is known
-abbrev pub Settles : Run → ℕ → List BreakEntry → Type 0
-Settles r h bs = (c : Core) → slice_get r.machine.cores h ≡ Some c → bs ≡ settled h (register c.regs) (shown_byte r.opening.image r.machine.memory) r.breaks
+-- the registers that a hart shows before an instruction, where it shows this pc
+shown_by : (p : Program) (c : Core) (x : Mind) (pc : ℕ) (q : Phase) → x.phase ≡ q → x.activity ≡ activity.Running → is_before q ≡ true → (seen_hart p c x).regs.pc ≡ pc → (seen_hart p c x).regs ≡ set_pc c.regs pc
+shown_by p c x pc phase.Idle is runs before here =
+    let own : (seen_hart p c x).regs ≡ c.regs = ap (λ a. seen_regs p c.regs a x.phase) runs ∙ ap (running_regs p c.regs) is in
+    own ∙ ap (set_pc c.regs) (sym (ap (λ (r : Registers). r.pc) own) ∙ here)
+shown_by p c x pc (phase.Copied slot home) is runs before here =
+    let copy : (seen_hart p c x).regs ≡ set_pc c.regs home = ap (λ a. seen_regs p c.regs a x.phase) runs ∙ ap (running_regs p c.regs) is in
+    copy ∙ ap (set_pc c.regs) (sym (ap (λ (r : Registers). r.pc) copy) ∙ here)
+shown_by p c x pc (phase.Landed slot home) is runs before here = cc
+shown_by p c x pc (phase.Lifted home) is runs before here =
+    let own : (seen_hart p c x).regs ≡ c.regs = ap (λ a. seen_regs p c.regs a x.phase) runs ∙ ap (running_regs p c.regs) is in
+    own ∙ ap (set_pc c.regs) (sym (ap (λ (r : Registers). r.pc) own) ∙ here)
+shown_by p c x pc (phase.Ran home) is runs before here = cc
 
-after_is : (r : Run) (h : ℕ) (c : Core) (x : Mind) (bs : List BreakEntry) → Settles r h bs → slice_get r.machine.cores h ≡ Some c → bs ≡ after_arrival r.opening.image (seen r) h (seen_hart c x)
+pub shown_is : (p : Program) (c : Core) (x : Mind) (pc : ℕ) → x.activity ≡ activity.Running → is_before x.phase ≡ true → (seen_hart p c x).regs.pc ≡ pc → (seen_hart p c x).regs ≡ set_pc c.regs pc
+shown_is p c x pc runs before here = shown_by p c x pc x.phase refl runs before here
+
+-- the table after an arrival, where the core of the hart is known
+abbrev pub Settles : Run → ℕ → ℕ → List BreakEntry → Type 0
+Settles r h pc bs = (c : Core) → slice_get r.machine.cores h ≡ Some c → bs ≡ settled h (register (set_pc c.regs pc)) (shown_byte r.opening.image r.machine.memory) r.breaks
+
+after_is : (r : Run) (h pc : ℕ) (c : Core) (x : Mind) (bs : List BreakEntry) → x.activity ≡ activity.Running → is_before x.phase ≡ true → (seen_hart r.opening.image c x).regs.pc ≡ pc → Settles r h pc bs → slice_get r.machine.cores h ≡ Some c
+    → bs ≡ after_arrival r.opening.image (seen r) h (seen_hart r.opening.image c x)
 unfolding after_arrival
-after_is r h c x bs settles at = settles c at
+after_is r h pc c x bs runs before here settles at =
+    settles c at ∙ ap (λ q. settled h (register q) (shown_byte r.opening.image r.machine.memory) r.breaks) (sym (shown_is r.opening.image c x pc runs before here))
 
 -- a hart stopped at a breakpoint
 pub arrived : (r : Run) (h number pc spare : ℕ) (d : Due) (x : Mind) (j : List Entry) (m : Patched) (bs : List BreakEntry) (want : Bool) → Facts r → slice_get r.minds h ≡ Some x → x.phase ≡ phase.Idle → x.activity ≡ activity.Running
-    → Of r h (λ y. y.regs.pc ≡ pc) → DueIs r h d → d.stop ≡ Some number → may_go r.opening (seen r) ≡ true → j ≡ r.journal ++ Stopped h (Break number d.error) ∷ [] → Settles r h bs → want ≡ wanted bs r.hold pc
+    → Of r h (λ y. y.regs.pc ≡ pc) → DueIs r h d → d.stop ≡ Some number → may_go r.opening (seen r) ≡ true → j ≡ r.journal ++ Stopped h (Break number d.error) ∷ [] → Settles r h pc bs → want ≡ wanted bs r.hold pc
     → Repatched r.machine.text m.text pc want → Retexted r m
     → (let new : Run = record r { journal = j; spare = spare; machine = m; minds = slice_set r.minds h first_mind; breaks = bs; noted = r.noted + 1 } in Moved new (Halts r new h (Break number d.error)))
 arrived r h number pc spare d x j m bs want f at idle runs is due_is stops may same settles wants w texts =
+    let before : is_before x.phase ≡ true = ap is_before idle in
     let k = core_at r h x f at in
     let c = k.0 in
     let here = of_hart r h c x (λ y. y.regs.pc ≡ pc) k.1 is in
     let due' = of_hart r h c x (λ y. due r.opening.image (seen r) h y ≡ d) k.1 due_is in
     let may' = moves_by r c x may runs in
-    let after = after_arrival r.opening.image (seen r) h (seen_hart c x) in
-    let bs_is : bs ≡ after = after_is r h c x bs settles k.1.core in
+    let after = after_arrival r.opening.image (seen r) h (seen_hart r.opening.image c x) in
+    let bs_is : bs ≡ after = after_is r h pc c x bs runs before here settles k.1.core in
     let W : Bool → Type 0 = λ b. Repatched r.machine.text m.text pc b in
     let V : ℕ → Type 0 = λ a. Repatched r.machine.text m.text a (wanted after r.hold a) in
     let w' = subst V (sym here) (subst W (wants ∙ ap (λ cs. wanted cs r.hold pc) bs_is) w) in
@@ -131,17 +306,17 @@ arrived r h number pc spare d x j m bs want f at idle runs is due_is stops may s
     subst (λ (ls : List Entry). P ls m bs) (sym same) (subst (λ (n : Patched). P es n bs) (sym texts) (subst (λ (cs : List BreakEntry). P es m' cs) (sym bs_is) base))
 
 -- a hart was counted by breakpoints
-pub counted : (r : Run) (h pc spare : ℕ) (d : Due) (x y : Mind) (j : List Entry) (m : Patched) (bs : List BreakEntry) (want : Bool) → Facts r → slice_get r.minds h ≡ Some x → x.activity ≡ activity.Running → Of r h (λ y. y.regs.pc ≡ pc)
-    → DueIs r h d → is_counted d ≡ true → may_go r.opening (seen r) ≡ true → j ≡ r.journal ++ Counted h ∷ [] → Settles r h bs → want ≡ wanted bs r.hold pc → Repatched r.machine.text m.text pc want → Retexted r m → y ≡ counted_mind x → x.fresh ≡ true
+pub counted : (r : Run) (h pc spare : ℕ) (d : Due) (x y : Mind) (j : List Entry) (m : Patched) (bs : List BreakEntry) (want : Bool) → Facts r → slice_get r.minds h ≡ Some x → is_before x.phase ≡ true → x.activity ≡ activity.Running → Of r h (λ y. y.regs.pc ≡ pc)
+    → DueIs r h d → is_counted d ≡ true → may_go r.opening (seen r) ≡ true → j ≡ r.journal ++ Counted h ∷ [] → Settles r h pc bs → want ≡ wanted bs r.hold pc → Repatched r.machine.text m.text pc want → Retexted r m → y ≡ counted_mind x → x.fresh ≡ true
     → (let new : Run = record r { journal = j; spare = spare; machine = m; minds = slice_set r.minds h y; breaks = bs; noted = r.noted + 1 } in Moved new (Counts r new h))
-counted r h pc spare d x y j m bs want f at runs is due_is counting may same settles wants w texts mind fresh =
+counted r h pc spare d x y j m bs want f at before runs is due_is counting may same settles wants w texts mind fresh =
     let k = core_at r h x f at in
     let c = k.0 in
     let here = of_hart r h c x (λ y. y.regs.pc ≡ pc) k.1 is in
     let due' = of_hart r h c x (λ y. due r.opening.image (seen r) h y ≡ d) k.1 due_is in
     let may' = moves_by r c x may runs in
-    let after = after_arrival r.opening.image (seen r) h (seen_hart c x) in
-    let bs_is : bs ≡ after = after_is r h c x bs settles k.1.core in
+    let after = after_arrival r.opening.image (seen r) h (seen_hart r.opening.image c x) in
+    let bs_is : bs ≡ after = after_is r h pc c x bs runs before here settles k.1.core in
     let W : Bool → Type 0 = λ b. Repatched r.machine.text m.text pc b in
     let V : ℕ → Type 0 = λ a. Repatched r.machine.text m.text a (wanted after r.hold a) in
     let w' = subst V (sym here) (subst W (wants ∙ ap (λ cs. wanted cs r.hold pc) bs_is) w) in
@@ -156,40 +331,55 @@ counted r h pc spare d x y j m bs want f at runs is due_is counting may same set
     (subst (λ (cs : List BreakEntry). P es m' cs y) (sym bs_is)
     (subst (λ (z : Mind). P es m' after z) (sym mind) base)))
 
+-- the copies that a machine counts
+copied_home : (p : Program) (count : ℕ) (cs : List Core) (xs : List Mind) (ds : List Core) (d : Displaced) (s : State) → AreHome p cs xs ds → AreCopied count cs xs d s.passed s.sets → CopiedOver count ds s
+copied_home p count cs xs ds d s home f some k e ek =
+    let a = home_at p cs xs ds k e home ek in
+    let had : slice_index s.passed k + pending d a.mind.phase ≤ a.core.copied + s.sets = f some k a.core a.mind a.core_at a.mind_at in
+    omega (arith, had, a.home.copied)
+
 -- the end of an engine
-pub closed : (r : Run) (m : Patched) → Facts r → Released r.machine.text m.text r.breaks r.hold → Retexted r m → Closes r m
-closed r m f w same =
+pub closed : (r : Run) (g m : Patched) → Facts r → AllGoHome r.machine g 0 r.minds → Released g.text m.text r.breaks r.hold → m ≡ record g { text = m.text } → Closes r m
+closed r g m f all w same =
+    let p = r.opening.image in
+    let home = all_are_home p r.machine g r.minds f.harts.len (all_ready p r.machine.cores r.machine.slots r.minds r.hold f.harts) all in
+    let free = all_are_free r.machine g r.minds f.harts.used all in
+    let cores : g.cores ≡ m.cores = ap (λ (n : Patched). n.cores) (sym same) in
+    let slots : m.slots ≡ g.slots = ap (λ (n : Patched). n.slots) same in
     record {
-      cores = ap (λ (n : Patched). n.cores) same;
-      memory = ap (λ (n : Patched). n.memory) same;
-      text = released r.opening.image r.machine.text m.text r.breaks r.hold f.planted w;
-      retired = subst (λ (cs : List Core). Retired cs r.journal) (sym (ap (λ (n : Patched). n.cores) same)) f.retired;
+      cores = subst (λ (cs : List Core). AreHome p r.machine.cores r.minds cs) cores home;
+      slots = λ slot. ap (λ ss. use_at ss slot) slots ∙ free slot;
+      memory = ap (λ (n : Patched). n.memory) same ∙ ap (λ (n : Patched). n.memory) all.rest;
+      text = released p g.text m.text r.breaks r.hold (subst (λ (u : Words). Planted p u r.breaks r.hold) (ap (λ (u : Patched). u.text) (sym all.rest)) f.planted) w;
+      retired = subst (λ (cs : List Core). Retired cs r.journal) cores (retired_home p r.machine.cores r.minds g.cores r.journal home f.retired);
+      copied = subst (λ (cs : List Core). CopiedOver r.opening.settings.slots cs (seen r)) cores (copied_home p r.opening.settings.slots r.machine.cores r.minds g.cores r.displaced (seen r) home f.copied);
     }
 
 -- what a shown hart has, where the core and what is kept are known
-pub shown_at : (r s : Run) (h : ℕ) (x : Mind) (P : Hart → Type 0) → r ≡ s → Facts r → slice_get s.minds h ≡ Some x → ((c : Core) → slice_get r.machine.cores h ≡ Some c → P (seen_hart c x)) → Of s h P
+pub shown_at : (r s : Run) (h : ℕ) (x : Mind) (P : Hart → Type 0) → r ≡ s → Facts r → slice_get s.minds h ≡ Some x → ((c : Core) → slice_get r.machine.cores h ≡ Some c → P (seen_hart r.opening.image c x)) → Of s h P
 shown_at r s h x P same f at each =
     let R : Run → Type 0 = λ q. slice_get q.minds h ≡ Some x → Of q h P in
     subst R same (λ at' y there. let k = core_at r h x f at' in subst P (same_hart r h k.0 x y k.1 there) (each k.0 k.1.core)) at
 
-fresh_due : (p : Program) (s : State) (h : ℕ) (c : Core) (x : Mind) → x.fresh ≡ true → due p s h (seen_hart c x) ≡ due_of h (register c.regs) (shown_byte p s.memory) s.breaks
+fresh_due : (p : Program) (s : State) (h pc : ℕ) (c : Core) (x : Mind) → x.fresh ≡ true → (seen_hart p c x).regs ≡ set_pc c.regs pc → due p s h (seen_hart p c x) ≡ due_of h (register (set_pc c.regs pc)) (shown_byte p s.memory) s.breaks
 unfolding due
-fresh_due p s h c x fresh = rw fresh refl
+fresh_due p s h pc c x fresh is = rw (fresh, is) refl
 
-stale_due : (p : Program) (s : State) (h : ℕ) (c : Core) (x : Mind) → x.fresh ≡ false → due p s h (seen_hart c x) ≡ nothing_due
+stale_due : (p : Program) (s : State) (h : ℕ) (c : Core) (x : Mind) → x.fresh ≡ false → due p s h (seen_hart p c x) ≡ nothing_due
 unfolding due
 stale_due p s h c x fresh = rw fresh refl
 
 -- what is due for a hart that has just executed
-pub due_new : (r s : Run) (h : ℕ) (x : Mind) (d : Due) → r ≡ s → Facts r → slice_get s.minds h ≡ Some x → x.fresh ≡ true
-    → ((c : Core) → slice_get r.machine.cores h ≡ Some c → d ≡ due_of h (register c.regs) (shown_byte r.opening.image r.machine.memory) r.breaks) → DueIs s h d
-due_new r s h x d same f at fresh is =
-    let R : Run → Type 0 = λ q. slice_get q.minds h ≡ Some x → DueIs q h d in
+pub due_new : (r s : Run) (h pc : ℕ) (x : Mind) (d : Due) → r ≡ s → Facts r → slice_get s.minds h ≡ Some x → x.fresh ≡ true → x.activity ≡ activity.Running → is_before x.phase ≡ true → Of s h (λ y. y.regs.pc ≡ pc)
+    → ((c : Core) → slice_get r.machine.cores h ≡ Some c → d ≡ due_of h (register (set_pc c.regs pc)) (shown_byte r.opening.image r.machine.memory) r.breaks) → DueIs s h d
+due_new r s h pc x d same f at fresh runs before here is =
+    let R : Run → Type 0 = λ q. slice_get q.minds h ≡ Some x → Of q h (λ y. y.regs.pc ≡ pc) → DueIs q h d in
     subst R same
-    (λ at' y there.
+    (λ at' here' y there.
     let k = core_at r h x f at' in
-    let e = fresh_due r.opening.image (seen r) h k.0 x fresh ∙ sym (is k.0 k.1.core) in
-    subst (λ (z : Hart). due r.opening.image (seen r) h z ≡ d) (same_hart r h k.0 x y k.1 there) e) at
+    let regs = shown_is r.opening.image k.0 x pc runs before (of_hart r h k.0 x (λ y. y.regs.pc ≡ pc) k.1 here') in
+    let e = fresh_due r.opening.image (seen r) h pc k.0 x fresh regs ∙ sym (is k.0 k.1.core) in
+    subst (λ (z : Hart). due r.opening.image (seen r) h z ≡ d) (same_hart r h k.0 x y k.1 there) e) at here
 
 -- nothing is due for one that hasn't
 pub due_stale : (r s : Run) (h : ℕ) (x : Mind) → r ≡ s → Facts r → slice_get s.minds h ≡ Some x → x.fresh ≡ false → DueIs s h nothing_due
@@ -215,8 +405,10 @@ pub clear : (r s : Run) (h pc : ℕ) (x : Mind) → r ≡ s → Facts r → slic
 clear r s h pc x same f at idle free is off =
     let g : Facts s = subst Facts same f in
     let k = core_at s h x g at in
-    let none : s.hold ≡ None = no_hold s.hold h free (sym (fact_of s h k.0 x g k.1).held ∙ ap lifted_of idle) in
+    let image = s.opening.image in
     let here = of_hart s h k.0 x (λ y. y.regs.pc ≡ pc) k.1 is in
-    let stand : stands pc s.breaks ≡ false = sym (wanted_none s.breaks pc) ∙ (sym (ap (λ (o : Option Hold). wanted s.breaks o pc) none) ∙ (sym (g.planted.patches pc) ∙ (sym (ap (λ (q : Run). is_planted q.machine.text pc) same) ∙ off))) in
-    let quiet : due s.opening.image (seen s) h (seen_hart k.0 x) ≡ nothing_due = undue s.opening.image (seen s) h (seen_hart k.0 x) (ap (λ a. stands a s.breaks) here ∙ stand) in
-    λ y there. subst (λ (z : Hart). is_due (due s.opening.image (seen s) h z) ≡ false) (same_hart s h k.0 x y k.1 there) (ap is_due quiet)
+    let own = own_pc s k.0 x idle in
+    let off' : is_planted s.machine.text k.0.regs.pc ≡ false = ap (is_planted s.machine.text) (sym own ∙ here) ∙ (sym (ap (λ (q : Run). is_planted q.machine.text pc) same) ∙ off) in
+    let stand : stands k.0.regs.pc s.breaks ≡ false = clear_stands s h k.0 x g k.1 free idle off' in
+    let quiet : due image (seen s) h (seen_hart image k.0 x) ≡ nothing_due = undue image (seen s) h (seen_hart image k.0 x) (ap (λ a. stands a s.breaks) own ∙ stand) in
+    λ y there. subst (λ (z : Hart). is_due (due image (seen s) h z) ≡ false) (same_hart s h k.0 x y k.1 there) (ap is_due quiet)

@@ -7,4 +7,5 @@ pub mod Words
 pub mod Tabling
 pub mod Reading
 pub mod GoingOn
+pub mod Alike
 pub mod Replies

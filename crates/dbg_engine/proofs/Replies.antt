@@ -1,6 +1,11 @@
 -- The parts of an answer.
 use Rattle.std.proofs.Common.{◌≡◌, ℕ, zero, suc, ◌+◌, ◌-◌, ◌%◌, ◌^◌, ◌<◌, ◌≤◌, Bool, true, false, List, [], ◌∷◌, ◌++◌, length, map, refl, sym, ap, ◌∙◌, subst, arith, append_assoc}
-use Rattle.std.specs.Prelude.{Option, Some, None, Ok, Err, slice_get}
+use Rattle.std.specs.Prelude.{Option, Some, None, Ok, Err, is_some, slice_get}
+use Rattle.std.specs.Option.{option_map}
+use Rattle.elf_symbols.specs.Entries.{names_of}
+use Rattle.scratch_slots.specs.declared.slots.SlotUse.{SlotUse}
+use Rattle.scratch_slots.specs.Table.{slot_address, use_at, least_free, AllOut}
+use Rattle.step_over.specs.declared.phase.Phase.{Phase}
 use Rattle.rv_exec.specs.Registers.{Registers}
 use Rattle.rv_exec.specs.Memory.{Memory}
 use Rattle.elf32_read.specs.Program.{Program}
@@ -19,15 +24,19 @@ use Rattle.dbg_model.specs.Reply.{Outcome, Answer, refusing, valued, numbers_bel
 use Rattle.dbg_model.proofs.Replying.{reply_long, reply_malformed, reply_cli, reply_answers, wait_answers, wait_long, wait_none, wait_cli}
 use Rattle.engine_facts.specs.declared.mind.Hold.{Hold}
 use Rattle.engine_facts.specs.declared.mind.Mind.{Mind}
-use Rattle.engine_facts.specs.declared.mind.Phase.TheVariants as phase
-use Rattle.engine_facts.specs.Minds.{runs, lifted_of}
+use Rattle.step_over.specs.declared.phase.Phase.TheVariants as phase
+use Rattle.engine_facts.specs.Minds.{runs, lifted_of, slot_of}
 use Rattle.engine_facts.specs.Seen.{Run, seen, seen_harts}
 use Rattle.engine_facts.specs.Facts.{Facts, held_by, other_holder}
 use Rattle.engine_facts.proofs.Updating.{equals}
-use Rattle.dbg_engine.specs.Answering.{is_memory}
-use Rattle.dbg_engine.specs.Steps.{next_running}
+use Rattle.engine_facts.proofs.Holding.{core_at}
+use Rattle.engine_facts.proofs.Stepping.{fact_of}
+use Rattle.hart_machine.proofs.Places.{same_some}
+use Rattle.dbg_engine.specs.Answering.{is_memory, own_hart, own_harts}
+use Rattle.dbg_engine.specs.Steps.{next_running, is_slotted, slotted_from}
 use Rattle.dbg_engine.specs.Calls.{Moves, NextMoves}
-use Rattle.dbg_engine.proofs.Seeing.{next_runs, none_runs}
+use Rattle.dbg_engine.proofs.Seeing.{next_runs, none_runs, slot_found, no_slot}
+use Rattle.dbg_engine.proofs.Alike.{own_alike, outcome_alike, fault_alike}
 
 -- ---- threads
 
@@ -35,20 +44,26 @@ pub thread_at : (xs : List Hart) (t : ℕ) → 0 < t → thread_hart xs t ≡ sl
 thread_at xs zero some = absurd (omega arith)
 thread_at xs (suc h) some = ap (slice_get xs) (omega arith)
 
-pub out_core : (cs : List Core) (xs : List Mind) (h : ℕ) → length cs ≤ h → slice_get (seen_harts cs xs) h ≡ None
+pub out_core : (cs : List Core) (xs : List Mind) (h : ℕ) → length cs ≤ h → slice_get (own_harts cs xs) h ≡ None
 out_core [] xs h le = refl
 out_core (c ∷ cs) [] h le = refl
 out_core (c ∷ cs) (x ∷ xs) zero le = absurd (omega arith)
 out_core (c ∷ cs) (x ∷ xs) (suc h) le = out_core cs xs h (omega arith)
 
-pub out_mind : (cs : List Core) (xs : List Mind) (h : ℕ) → length xs ≤ h → slice_get (seen_harts cs xs) h ≡ None
+pub out_mind : (cs : List Core) (xs : List Mind) (h : ℕ) → length xs ≤ h → slice_get (own_harts cs xs) h ≡ None
 out_mind [] xs h le = refl
 out_mind (c ∷ cs) [] h le = refl
 out_mind (c ∷ cs) (x ∷ xs) zero le = absurd (omega arith)
 out_mind (c ∷ cs) (x ∷ xs) (suc h) le = out_mind cs xs h (omega arith)
 
-pub no_thread : (cs : List Core) (xs : List Mind) → thread_hart (seen_harts cs xs) 0 ≡ None
+pub no_thread : (cs : List Core) (xs : List Mind) → thread_hart (own_harts cs xs) 0 ≡ None
 no_thread cs xs = refl
+
+pub own_at : (cs : List Core) (xs : List Mind) (h : ℕ) (c : Core) (x : Mind) → slice_get cs h ≡ Some c → slice_get xs h ≡ Some x → slice_get (own_harts cs xs) h ≡ Some (own_hart c x)
+own_at [] xs h c x e f = cc
+own_at (d ∷ ds) [] h c x e f = cc
+own_at (d ∷ ds) (y ∷ ys) zero c x e f = ap Some (ap (λ d. own_hart d y) (same_some d c e) ∙ ap (λ y. own_hart c y) (same_some y x f))
+own_at (d ∷ ds) (y ∷ ys) (suc h) c x e f = own_at ds ys h c x e f
 
 -- ---- registers and memory
 
@@ -96,14 +111,19 @@ both_are : (t u : List ℕ) (o p : Outcome) → t ≡ u → o ≡ p → answered
 both_are t u o p e f = ap (λ v. answered_with v o) e ∙ ap (answered_with u) f
 
 pub reply_made : (r : Run) (line token : List ℕ) (cmd : Command) (o : Outcome) → Facts r → (length line ≤ 4096) × HasAnswer line token (Ok cmd)
-    → o ≡ outcome_at r.opening.image r.names (seen_harts r.machine.cores r.minds) r.machine.memory r.breaks r.given r.selected cmd → answered_with token o ≡ answer_of r.opening (seen r) line
+    → o ≡ outcome_at r.opening.image r.names (own_harts r.machine.cores r.minds) r.machine.memory r.breaks r.given r.selected r.displaced cmd → answered_with token o ≡ answer_of r.opening (seen r) line
 reply_made r line token cmd o f h e =
-    let names = ap (λ ns. outcome_at r.opening.image ns (seen_harts r.machine.cores r.minds) r.machine.memory r.breaks r.given r.selected cmd) f.names in
-    ap (answered_with token) (e ∙ names) ∙ sym (reply_answers r.opening (seen r) line token (Ok cmd) h.0 h.1)
+    let p = r.opening.image in
+    let cs = r.machine.cores in
+    let names = ap (λ ns. outcome_at p ns (own_harts cs r.minds) r.machine.memory r.breaks r.given r.selected r.displaced cmd) f.names in
+    let alike = outcome_alike p (names_of p) (own_harts cs r.minds) (seen_harts p cs r.minds) r.machine.memory r.breaks r.given r.selected r.displaced cmd (own_alike p cs r.minds) in
+    ap (answered_with token) (e ∙ (names ∙ alike)) ∙ sym (reply_answers r.opening (seen r) line token (Ok cmd) h.0 h.1)
 
-pub reply_faulty : (r : Run) (line token : List ℕ) (f : Fault) (o : Outcome) → (length line ≤ 4096) × HasAnswer line token (Err f) → o ≡ fault_outcome (seen_harts r.machine.cores r.minds) f
+pub reply_faulty : (r : Run) (line token : List ℕ) (f : Fault) (o : Outcome) → (length line ≤ 4096) × HasAnswer line token (Err f) → o ≡ fault_outcome (own_harts r.machine.cores r.minds) f
     → answered_with token o ≡ answer_of r.opening (seen r) line
-reply_faulty r line token f o h e = ap (answered_with token) e ∙ sym (reply_answers r.opening (seen r) line token (Err f) h.0 h.1)
+reply_faulty r line token f o h e =
+    let alike = fault_alike (own_harts r.machine.cores r.minds) (seen_harts r.opening.image r.machine.cores r.minds) f (own_alike r.opening.image r.machine.cores r.minds) in
+    ap (answered_with token) (e ∙ alike) ∙ sym (reply_answers r.opening (seen r) line token (Err f) h.0 h.1)
 
 pub reply_too_long : (r : Run) (line token : List ℕ) (o : Outcome) (f : Refusal) → f ≡ Long → Commands line (Err f) → token ≡ [] → o ≡ refusing (content.Refused refused.Long) → answered_with token o ≡ answer_of r.opening (seen r) line
 reply_too_long r line token o f is h t c =
@@ -143,6 +163,10 @@ lifted_runs : (x : Mind) (home : ℕ) (b : Bool) → runs x ≡ b → (runs x �
 lifted_runs x home true is idle held = is
 lifted_runs x home false is idle held = let none : lifted_of x.phase ≡ None = ap lifted_of (idle is) in absurd cc
 
+-- a hart with its patch lifted isn't one that steps over nothing
+lifted_not : {A : Type 0} (q : Phase) (home : ℕ) → lifted_of q ≡ Some home → q ≡ phase.Idle → A
+lifted_not q home held idle = let none : None ≡ Some home = ap lifted_of (sym idle) ∙ held in cc
+
 pub holder_moves : (r : Run) (d : Hold) → Facts r → r.hold ≡ Some d → Moves r d.hart
 holder_moves r d f is =
     let low = f.harts.holder d is in
@@ -152,11 +176,78 @@ holder_moves r d f is =
     let own : held_by (Some d) d.hart ≡ Some d.home = rw (equals d.hart) refl in
     let held : lifted_of x.0.phase ≡ Some d.home = fact.held ∙ (ap (λ h. held_by h d.hart) is ∙ own) in
     let free : other_holder (Some d) d.hart ≡ None = rw (equals d.hart) refl in
-    record { mind = x.0; at = x.1; runs = lifted_runs x.0 d.home (runs x.0) refl fact.idle held; free = ap (λ h. other_holder h d.hart) is ∙ free }
+    record {
+      mind = x.0;
+      at = x.1;
+      runs = lifted_runs x.0 d.home (runs x.0) refl fact.idle held;
+      free = ap (λ h. other_holder h d.hart) is ∙ free;
+      room = λ idle some out. lifted_not x.0.phase d.home held idle;
+    }
 
-pub next_moves : (r : Run) (from : ℕ) (found : Option ℕ) → r.hold ≡ None → found ≡ next_running r.minds from → NextMoves found r
-next_moves r from None free is = none_runs r.minds from (sym is)
-next_moves r from (Some h) free is =
+pub next_moves : (r : Run) (from : ℕ) (found : Option ℕ) → r.hold ≡ None → found ≡ next_running r.minds from → (0 < length r.machine.slots → AllOut r.machine.slots → ⊥) → NextMoves found r
+next_moves r from None free is room = none_runs r.minds from (sym is)
+next_moves r from (Some h) free is room =
     let d = next_runs r.minds from h (sym is) in
     let place : h ≡ d.place = omega (arith, d.number) in
-    record { mind = d.mind; at = ap (slice_get r.minds) place ∙ d.at; runs = d.runs; free = ap (λ t. other_holder t h) free }
+    record { mind = d.mind; at = ap (slice_get r.minds) place ∙ d.at; runs = d.runs; free = ap (λ t. other_holder t h) free; room = λ idle some out. room some out }
+
+-- ---- where all slots are out
+
+slotted_not : {A : Type 0} (q : Phase) → is_some (slot_of q) ≡ true → q ≡ phase.Idle → A
+slotted_not q has idle = let none : false ≡ true = ap (λ p. is_some (slot_of p)) (sym idle) ∙ has in cc
+
+slotted_runs : (x : Mind) (b : Bool) → runs x ≡ b → (runs x ≡ false → x.phase ≡ phase.Idle) → is_slotted x ≡ true → runs x ≡ true
+slotted_runs x true is idle has = is
+slotted_runs x false is idle has = slotted_not x.phase has (idle is)
+
+-- a hart that has a slot moves
+pub slotted_moves : (r : Run) (h : ℕ) → Facts r → r.hold ≡ None → slotted_from 0 r.minds ≡ Some h → Moves r h
+slotted_moves r h f free is =
+    let d = slot_found 0 r.minds h is in
+    let place : h ≡ d.place = omega (arith, d.number) in
+    let at : slice_get r.minds h ≡ Some d.mind = ap (slice_get r.minds) place ∙ d.at in
+    let k = core_at r h d.mind f at in
+    let fact = fact_of r h k.0 d.mind f k.1 in
+    record {
+      mind = d.mind;
+      at = at;
+      runs = slotted_runs d.mind (runs d.mind) refl fact.idle d.slotted;
+      free = ap (λ t. other_holder t h) free;
+      room = λ idle some out. slotted_not d.mind.phase d.slotted idle;
+    }
+
+first_use : (slots : List (Option SlotUse)) → 0 < length slots → AllOut slots → (u : SlotUse) × (slice_get slots 0 ≡ Some (Some u))
+first_use [] some out = absurd (omega arith)
+first_use (None ∷ slots) some out = absurd (out 0 refl)
+first_use (Some u ∷ slots) some out = (u, refl)
+
+first_at : (slots : List (Option SlotUse)) (u : SlotUse) → slice_get slots 0 ≡ Some (Some u) → use_at slots (slot_address 0) ≡ Some u
+first_at [] u e = cc
+first_at (v ∷ slots) u e = same_some v (Some u) e
+
+-- where all slots are out, a hart has one
+pub some_slotted : (r : Run) → Facts r → 0 < length r.machine.slots → AllOut r.machine.slots → slotted_from 0 r.minds ≡ None → ⊥
+some_slotted r f some out none =
+    let u = first_use r.machine.slots some out in
+    let has = f.harts.used (slot_address 0) u.0 (first_at r.machine.slots u.0 u.1) in
+    let off : is_slotted has.mind ≡ false = no_slot 0 r.minds u.0.hart has.mind none has.at in
+    let on : is_slotted has.mind ≡ true = ap is_some has.has in
+    let clash : true ≡ false = sym on ∙ off in
+    cc
+
+least_more : (u : SlotUse) (slots : List (Option SlotUse)) (k : ℕ) (o : Option ℕ) → least_free slots ≡ o → option_map suc o ≡ Some k → ((j : ℕ) → least_free slots ≡ Some j → slice_get slots j ≡ Some None) → slice_get (Some u ∷ slots) k ≡ Some None
+least_more u slots k None is e ih = cc
+least_more u slots k (Some j) is e ih = let z : suc j ≡ k = same_some (suc j) k e in ap (slice_get (Some u ∷ slots)) (sym z) ∙ ih j is
+
+least_none : (slots : List (Option SlotUse)) (k : ℕ) → least_free slots ≡ Some k → slice_get slots k ≡ Some None
+least_none [] k e = cc
+least_none (None ∷ slots) k e = let z : 0 ≡ k = same_some 0 k e in ap (slice_get (None ∷ slots)) (sym z)
+least_none (Some u ∷ slots) k e = least_more u slots k (least_free slots) refl e (λ j f. least_none slots j f)
+
+room_by : (slots : List (Option SlotUse)) (o : Option ℕ) → least_free slots ≡ o → is_some o ≡ true → AllOut slots → ⊥
+room_by slots None e some out = absurd cc
+room_by slots (Some k) e some out = out k (least_none slots k e)
+
+-- where one is free not all are out
+pub has_room : (slots : List (Option SlotUse)) → is_some (least_free slots) ≡ true → AllOut slots → ⊥
+has_room slots some out = room_by slots (least_free slots) refl some out

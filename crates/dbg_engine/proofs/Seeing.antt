@@ -10,7 +10,7 @@ use Rattle.engine_facts.specs.Seen.{Run, seen}
 use Rattle.engine_facts.proofs.Bounding as bounding
 use Rattle.dbg_engine.specs.declared.engine.End.{End}
 use Rattle.dbg_engine.specs.declared.engine.End.TheVariants as end
-use Rattle.dbg_engine.specs.Steps.{running_from, next_running, some_or}
+use Rattle.dbg_engine.specs.Steps.{running_from, next_running, some_or, is_slotted, slotted_from}
 use Rattle.dbg_engine.specs.Calls.{OverBy}
 
 pub may_go_by : (r : Run) → OverBy None r → may_go r.opening (seen r) ≡ true
@@ -70,3 +70,31 @@ none_runs_by xs (Some k) e = cc
 -- none runs
 pub none_runs : (xs : List Mind) (from : ℕ) → next_running xs from ≡ None → list_any runs xs ≡ false
 none_runs xs from e = none_runs_by xs (running_from (min from (length xs)) (drop (min from (length xs)) xs)) e
+
+-- ---- a hart that has a slot
+
+-- a hart that was found
+pub record FoundSlot (k : ℕ) (xs : List Mind) (h : ℕ) : Type 0 where
+  pub place : ℕ
+  pub mind : Mind
+  pub at : slice_get xs place ≡ Some mind
+  pub slotted : is_slotted mind ≡ true
+  pub number : h ≡ k + place
+
+slot_by : (k : ℕ) (x : Mind) (xs : List Mind) (h : ℕ) (b : Bool) → is_slotted x ≡ b → cond b (Some k) (slotted_from (k + 1) xs) ≡ Some h → (slotted_from (k + 1) xs ≡ Some h → FoundSlot (k + 1) xs h) → FoundSlot k (x ∷ xs) h
+slot_by k x xs h true is e ih = let s = same_some k h e in record { place = 0; mind = x; at = refl; slotted = is; number = omega arith }
+slot_by k x xs h false is e ih = let f = ih e in record { place = suc f.place; mind = f.mind; at = f.at; slotted = f.slotted; number = omega (arith, f.number) }
+
+pub slot_found : (k : ℕ) (xs : List Mind) (h : ℕ) → slotted_from k xs ≡ Some h → FoundSlot k xs h
+slot_found k [] h e = cc
+slot_found k (x ∷ xs) h e = slot_by k x xs h (is_slotted x) refl e (λ f. slot_found (k + 1) xs h f)
+
+no_slot_by : (b : Bool) (k : ℕ) (rest : Option ℕ) → cond b (Some k) rest ≡ None → (b ≡ false) × (rest ≡ None)
+no_slot_by true k rest e = cc
+no_slot_by false k rest e = (refl, e)
+
+-- no hart of the list has one
+pub no_slot : (k : ℕ) (xs : List Mind) (j : ℕ) (x : Mind) → slotted_from k xs ≡ None → slice_get xs j ≡ Some x → is_slotted x ≡ false
+no_slot k [] j x e at = cc
+no_slot k (y ∷ ys) zero x e at = ap is_slotted (sym (same_some y x at)) ∙ (no_slot_by (is_slotted y) k (slotted_from (k + 1) ys) e).0
+no_slot k (y ∷ ys) (suc j) x e at = no_slot (k + 1) ys j x (no_slot_by (is_slotted y) k (slotted_from (k + 1) ys) e).1 at

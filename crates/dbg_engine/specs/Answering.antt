@@ -15,21 +15,32 @@ use Rattle.cond_expr.specs.Condition.{text_of, tree_of}
 use Rattle.dbg_model.specs.declared.reply.Content.{Content}
 use Rattle.dbg_model.specs.declared.reply.Obstacle.{Obstacle}
 use Rattle.dbg_model.specs.State.{Hart}
-use Rattle.dbg_model.specs.Reply.{Change, Outcome, implied, of_stopped, of_live, hindered, answer_of}
+use Rattle.dbg_model.specs.Reply.{Change, Outcome, interrupts, displaces, implied, of_stopped, of_live, hindered, answer_of}
+use Rattle.dbg_engine.specs.declared.answering.LineChange.{LineChange}
+use Rattle.dbg_engine.specs.declared.answering.LineChange.TheVariants as line
 use Rattle.dbg_engine.specs.declared.answering.Response.{Response}
-use Rattle.dbg_engine.specs.declared.breaking.BreakChange.{BreakChange}
 use Rattle.dbg_engine.specs.Changing.{break_change}
 use Rattle.dbg_engine.specs.declared.answering.ReadError.{ReadError}
 use Rattle.dbg_engine.specs.declared.answering.ReadError.TheVariants.{NoMemory, Unreadable}
 use Rattle.engine_facts.specs.declared.mind.Mind.{Mind}
-use Rattle.engine_facts.specs.Seen.{Run, seen, seen_hart}
+use Rattle.engine_facts.specs.Minds.{mode_of}
+use Rattle.engine_facts.specs.Seen.{Run, seen}
 
 -- a hart and what is kept of it
 abbrev pub Pair : Type 0
 Pair = Bor Core × Mind
 
+-- a hart with its own registers, which are those that it shows where it steps over nothing
+abbrev pub own_hart : Core → Mind → Hart
+own_hart c x = record { regs = c.regs; mode = mode_of x.activity; fresh = x.fresh; asked = x.asked }
+
+abbrev pub own_harts : List Core → List Mind → List Hart
+own_harts [] xs = []
+own_harts (c ∷ cs) [] = []
+own_harts (c ∷ cs) (x ∷ xs) = own_hart c x ∷ own_harts cs xs
+
 abbrev pub hart_of : Pair → Hart
-hart_of p = seen_hart p.0.now p.1
+hart_of p = own_hart p.0.now p.1
 
 abbrev pub found_hart : Option Pair → Option Hart
 found_hart found = option_map hart_of found
@@ -53,9 +64,11 @@ Reads (Err (NoMemory e)) r = Unit {0}
 Reads (Err (Unreadable at)) r = r ≡ Err at
 
 -- what is answered, as the model has it
-abbrev pub change_of : Content → Option BreakChange → Change
-change_of c None = implied c
-change_of c (Some b) = break_change b
+abbrev pub change_of : Content → LineChange → Change
+change_of c line.Implied = implied c
+change_of c (line.Breaks b) = break_change b
+change_of c (line.Interrupts threads) = interrupts threads
+change_of c (line.Displaces value) = displaces value
 
 abbrev pub seen_response : Response → Outcome
 seen_response r = record { content = r.content; change = change_of r.content r.change }
@@ -68,7 +81,7 @@ ReadsAs (Err (failures.Fault f)) r text = r ≡ Err f
 
 -- the line makes this change
 abbrev pub Makes : Run → List ℕ → Change → Type 0
-Makes r line c = (answer_of r.opening (seen r) line).outcome.change ≡ c
+Makes r text c = (answer_of r.opening (seen r) text).outcome.change ≡ c
 
 -- memory was wanting when the line was read
 abbrev pub is_memory : Refusal → Bool

@@ -4,6 +4,10 @@ use Rattle.rv_exec.specs.declared.effect.Cause.{Cause}
 use Rattle.data_memory.specs.Ranges.{bytes_at}
 use Rattle.plain_machine.specs.Environment.{Traps}
 use Rattle.plain_machine.specs.Plain.{plain}
+use Rattle.elf32_read.specs.Program.{text_word}
+use Rattle.scratch_slots.specs.Table.{use_at, AllOut}
+use Rattle.step_over.specs.declared.phase.Phase.{Phase}
+use Rattle.step_over.specs.declared.phase.Phase.TheVariants as phase
 use Rattle.hart_machine.specs.Patched.{Patched}
 use Rattle.text_words.specs.Words.{is_planted}
 use Rattle.std.specs.List.{list_any}
@@ -11,21 +15,20 @@ use Rattle.dbg_model.specs.declared.reply.Reply.{Reply}
 use Rattle.break_table.specs.declared.due.Due.{Due}
 use Rattle.dbg_model.specs.declared.entry.Entry.TheVariants.{Counted, Stopped, Did}
 use Rattle.dbg_model.specs.declared.entry.Why.{Why}
-use Rattle.dbg_model.specs.declared.entry.Why.TheVariants.{Break, Fault}
+use Rattle.dbg_model.specs.declared.entry.Why.TheVariants.{Break, Interrupted, Fault}
 use Rattle.dbg_model.specs.declared.limits.TheConstants.{HISTORY}
 use Rattle.dbg_model.specs.Breaks.{is_temporary}
-use Rattle.dbg_model.specs.State.{Hart, State, any_leaves, due, is_due}
+use Rattle.dbg_model.specs.State.{Hart, State, any_leaves, due, is_due, is_off}
 use Rattle.dbg_model.specs.Reply.{reply_of, done_by}
 use Rattle.dbg_model.specs.Lawful.{one, one_out, enter, may_go}
 use Rattle.dbg_model.specs.Leaving.{lefts_from, gone, LeaveWith}
 use Rattle.dbg_model.specs.Journals.{lengthened}
 use Rattle.engine_facts.specs.declared.mind.Hold.{Hold}
 use Rattle.engine_facts.specs.declared.mind.Mind.{Mind}
-use Rattle.engine_facts.specs.declared.mind.Phase.{Phase}
-use Rattle.engine_facts.specs.declared.mind.Phase.TheVariants as phase
 use Rattle.engine_facts.specs.Minds.{runs, with_phase, counted_mind}
 use Rattle.engine_facts.specs.Seen.{Run, seen}
-use Rattle.engine_facts.specs.Facts.{other_holder, Planted, Retired}
+use Rattle.engine_facts.specs.Facts.{other_holder, Planted, Retired, CopiedOver}
+use Rattle.engine_facts.specs.Moves.{AreHome}
 use Rattle.dbg_engine.specs.declared.moving.Turned.{Turned}
 use Rattle.dbg_engine.specs.declared.moving.Turned.TheVariants as turned
 use Rattle.dbg_engine.specs.declared.engine.End.{End}
@@ -52,19 +55,59 @@ pub record Rephases (old new : Run) (h : ℕ) (x : Mind) (p : Phase) (held : Opt
   pub minds : new.minds ≡ slice_set old.minds h (with_phase x p)
   pub hold : new.hold ≡ held
 
--- the patch at the hart's pc was lifted: the hart runs, nothing is due there, and no other hart steps over a breakpoint
+-- a running hart is at a planted word where nothing is due, no interrupt is asked of it, and no patch is lifted for another
+pub record AtPlanted (r : Run) (h : ℕ) (x : Mind) (home : ℕ) : Type 0 where
+  pub may : may_go r.opening (seen r) ≡ true
+  pub at : slice_get r.minds h ≡ Some x
+  pub runs : runs x ≡ true
+  pub idle : x.phase ≡ phase.Idle
+  pub asked : x.asked ≡ false
+  pub free : r.hold ≡ None
+  pub pc : Of r h (λ y. y.regs.pc ≡ home)
+  pub undue : Undue r h
+  pub planted : is_planted r.machine.text home ≡ true
+
+-- the patch at the hart's pc was lifted, since displaced stepping is off or there are no slots
 pub record Lifts (old new : Run) (h : ℕ) : Type 0 where
   pub mind : Mind
   pub home : ℕ
-  pub may : may_go old.opening (seen old) ≡ true
-  pub at : slice_get old.minds h ≡ Some mind
-  pub runs : runs mind ≡ true
-  pub idle : mind.phase ≡ phase.Idle
-  pub free : old.hold ≡ None
-  pub pc : Of old h (λ y. y.regs.pc ≡ home)
-  pub undue : Undue old h
-  pub planted : is_planted old.machine.text home ≡ true
+  pub before : AtPlanted old h mind home
+  pub only : 0 < old.opening.settings.slots → is_off old.displaced ≡ true
   pub rephases : Rephases old new h mind (phase.Lifted home) (Some (record { hart = h; home = home }))
+
+-- the hart entered a slot with a copy of its word
+pub record Copies (old new : Run) (h : ℕ) : Type 0 where
+  pub mind : Mind
+  pub home : ℕ
+  pub slot : ℕ
+  pub word : ℕ
+  pub before : AtPlanted old h mind home
+  pub on : is_off old.displaced ≡ false
+  pub image : text_word old.opening.image home ≡ Some word
+  pub was : use_at old.machine.slots slot ≡ None
+  pub out : use_at new.machine.slots slot ≡ Some (record { hart = h; word = word })
+  pub rephases : Rephases old new h mind (phase.Copied slot home) None
+
+-- all slots are out
+pub record FindsNone (r : Run) (h : ℕ) : Type 0 where
+  pub mind : Mind
+  pub home : ℕ
+  pub before : AtPlanted r h mind home
+  pub on : is_off r.displaced ≡ false
+  pub some : 0 < r.opening.settings.slots
+  pub out : AllOut r.machine.slots
+
+-- the registers of a hart that has executed its copy were put right, and its slot is free
+pub record Fixes (old new : Run) (h : ℕ) : Type 0 where
+  pub mind : Mind
+  pub slot : ℕ
+  pub home : ℕ
+  pub may : may_go old.opening (seen old) ≡ true
+  pub runs : runs mind ≡ true
+  pub at : slice_get old.minds h ≡ Some mind
+  pub landed : mind.phase ≡ phase.Landed slot home
+  pub freed : use_at new.machine.slots slot ≡ None
+  pub rephases : Rephases old new h mind phase.Idle None
 
 -- the patch of a hart that has executed was planted again where a breakpoint stands
 pub record Plants (old new : Run) (h : ℕ) : Type 0 where
@@ -116,18 +159,30 @@ pub record Counts (old new : Run) (h : ℕ) : Type 0 where
 abbrev pub Faults : Run → Run → ℕ → Cause → Type 0
 Faults old new h cause = Halts old new h (Fault cause)
 
+-- a hart that was interrupted stopped where it steps over nothing
+pub record Interrupts (old new : Run) (h : ℕ) : Type 0 where
+  pub mind : Mind
+  pub at : slice_get old.minds h ≡ Some mind
+  pub idle : mind.phase ≡ phase.Idle
+  pub asked : mind.asked ≡ true
+  pub halts : Halts old new h Interrupted
+
 -- what a turn did
 abbrev pub Turns : Turned → Run → Run → ℕ → Type 0
 Turns turned.Over old new h = (new ≡ old) × (may_go old.opening (seen old) ≡ false)
 Turns turned.NotRunning old new h = (new ≡ old) × (may_go old.opening (seen old) ≡ true) × ((x : Mind) → slice_get old.minds h ≡ Some x → runs x ≡ false)
 Turns (turned.Held by) old new h = (new ≡ old) × (may_go old.opening (seen old) ≡ true) × ((x : Mind) → slice_get old.minds h ≡ Some x → runs x ≡ true) × (other_holder old.hold h ≡ Some by)
+Turns turned.Fixed old new h = Fixes old new h
 Turns turned.Planted old new h = Plants old new h
+Turns turned.Copied old new h = Copies old new h
+Turns turned.NoSlot old new h = (new ≡ old) × FindsNone old h
 Turns turned.Lifted old new h = Lifts old new h
 Turns turned.Ran old new h = Runs old new h []
 Turns (turned.Wrote addr len) old new h = (out : List ℕ) × (0 < len) × (bytes_at new.machine.memory addr len ≡ Some out) × Runs old new h out
 Turns (turned.Left code) old new h = Exits old new h 1 code
 Turns (turned.AllLeft code count) old new h = Exits old new h count code
 Turns (turned.Stopped cause) old new h = Faults old new h cause
+Turns turned.Interrupted old new h = Interrupts old new h
 Turns turned.Counted old new h = Counts old new h
 Turns (turned.Arrived number temporary error) old new h = Halts old new h (Break number error) × (temporary ≡ is_temporary old.breaks number)
 
@@ -140,13 +195,17 @@ abbrev pub Executes : Turned → Run → Run → ℕ → Type 0
 Executes turned.Over old new h = ⊥
 Executes turned.NotRunning old new h = ⊥
 Executes (turned.Held by) old new h = ⊥
+Executes turned.Fixed old new h = ⊥
 Executes turned.Planted old new h = ⊥
+Executes turned.Copied old new h = ⊥
+Executes turned.NoSlot old new h = ⊥
 Executes turned.Lifted old new h = ⊥
 Executes turned.Ran old new h = Turns turned.Ran old new h
 Executes (turned.Wrote addr len) old new h = Turns (turned.Wrote addr len) old new h
 Executes (turned.Left code) old new h = Turns (turned.Left code) old new h
 Executes (turned.AllLeft code count) old new h = Turns (turned.AllLeft code count) old new h
 Executes (turned.Stopped cause) old new h = (new ≡ old) × TrapsAt old h cause
+Executes turned.Interrupted old new h = ⊥
 Executes turned.Counted old new h = ⊥
 Executes (turned.Arrived number temporary error) old new h = ⊥
 
@@ -163,12 +222,13 @@ pub record Lines (old new : Run) (line : List ℕ) : Type 0 where
   pub seen : seen new ≡ done_by old.opening (seen old) line
   pub opening : new.opening ≡ old.opening
 
--- the hart that can be moved next: the one that is stepping over a breakpoint, else one that runs
+-- the hart that can be moved next: the one for which a patch is lifted; else, where all slots are out, one that has a slot; else one that runs
 pub record Moves (r : Run) (h : ℕ) : Type 0 where
   pub mind : Mind
   pub at : slice_get r.minds h ≡ Some mind
   pub runs : runs mind ≡ true
   pub free : other_holder r.hold h ≡ None
+  pub room : mind.phase ≡ phase.Idle → 0 < length r.machine.slots → AllOut r.machine.slots → ⊥
 
 abbrev pub NextMoves : Option ℕ → Run → Type 0
 NextMoves None r = list_any runs r.minds ≡ false
@@ -180,9 +240,11 @@ OverBy None r = (r.retired < r.opening.settings.budget) × (r.noted < HISTORY)
 OverBy (Some end.Budget) r = r.opening.settings.budget ≤ r.retired
 OverBy (Some end.History) r = (r.retired < r.opening.settings.budget) × (HISTORY ≤ r.noted)
 
--- what is left at the end: no patch is lifted
+-- what is left at the end: each hart is home, no slot is out and no patch is lifted
 pub record Closes (r : Run) (m : Patched) : Type 0 where
-  pub cores : m.cores ≡ r.machine.cores
+  pub cores : AreHome r.opening.image r.machine.cores r.minds m.cores
+  pub slots : (slot : ℕ) → use_at m.slots slot ≡ None
   pub memory : m.memory ≡ r.machine.memory
   pub text : Planted r.opening.image m.text r.breaks None
   pub retired : Retired m.cores r.journal
+  pub copied : CopiedOver r.opening.settings.slots m.cores (seen r)

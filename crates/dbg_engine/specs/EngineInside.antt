@@ -18,6 +18,7 @@ run_of e = record {
   waits = e.table.waits;
   names = e.symbols;
   selected = e.selected;
+  displaced = e.displaced;
   retired = e.retired;
   noted = e.noted;
 }

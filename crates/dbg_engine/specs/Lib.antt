@@ -4,3 +4,4 @@ pub mod Calls
 pub mod EngineInside
 pub mod Answering
 pub mod Resuming
+pub mod Homing

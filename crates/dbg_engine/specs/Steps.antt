@@ -1,40 +1,14 @@
 -- What a step of the machine does to the journal and to what is kept of the harts, and which hart is next.
-use Rattle.std.specs.Prelude.{◌≡◌, ℕ, ◌+◌, ◌<◌, Bool, true, false, List, [], ◌∷◌, ◌++◌, length, drop, min, map, slice_set, Option, Some, None, if◌then◌else◌}
+use Rattle.std.specs.Prelude.{ℕ, ◌+◌, ◌<◌, Bool, true, false, List, [], ◌∷◌, ◌++◌, length, drop, min, map, slice_set, Option, Some, None, is_some, if◌then◌else◌}
 use Rattle.rv_exec.specs.declared.effect.Stepped.{Stepped}
 use Rattle.rv_exec.specs.declared.effect.Stepped.TheVariants as stepped
-use Rattle.hart_machine.specs.Patched.{Patched}
-use Rattle.break_table.specs.Entry.{Entry as BreakEntry}
 use Rattle.dbg_model.specs.declared.entry.Entry.{Entry}
 use Rattle.dbg_model.specs.declared.entry.Entry.TheVariants.{Left}
 use Rattle.dbg_model.specs.Journals.{lengthened}
-use Rattle.engine_facts.specs.declared.mind.Hold.{Hold}
 use Rattle.engine_facts.specs.declared.mind.Mind.{Mind}
-use Rattle.engine_facts.specs.Minds.{runs, ran_mind, exited_mind, gone_mind, lefts_live}
-use Rattle.engine_facts.specs.Moves.{Released}
+use Rattle.engine_facts.specs.Minds.{runs, slot_of, ran_mind, exited_mind, gone_mind, lefts_live}
 use Rattle.dbg_engine.specs.declared.moving.Turned.{Turned}
 use Rattle.dbg_engine.specs.declared.moving.Turned.TheVariants as turned
-
-abbrev pub is_exit : Stepped → Bool
-is_exit stepped.Ran = false
-is_exit (stepped.Wrote addr len) = false
-is_exit (stepped.HartExit code) = true
-is_exit (stepped.AllExit code) = true
-is_exit stepped.Hit = false
-is_exit (stepped.Trap cause) = false
-
--- an instruction was executed
-abbrev pub is_done : Stepped → Bool
-is_done stepped.Ran = true
-is_done (stepped.Wrote addr len) = true
-is_done (stepped.HartExit code) = true
-is_done (stepped.AllExit code) = true
-is_done stepped.Hit = false
-is_done (stepped.Trap cause) = false
-
--- after an exit no patch stays lifted, and else nothing changed
-abbrev pub ReleasedBy : Bool → Patched → Patched → Option Hold → Option Hold → List BreakEntry → Type 0
-ReleasedBy true m n hold hold' bs = (hold' ≡ None) × Released m.text n.text bs hold × (n ≡ record m { text = n.text })
-ReleasedBy false m n hold hold' bs = (hold' ≡ hold) × (n ≡ m)
 
 -- what changes at a step beside the machine
 pub record Parts : Type 0 where
@@ -48,7 +22,7 @@ abbrev pub applied : Stepped → ℕ → Mind → Parts → Parts
 applied stepped.Ran h x p = record { journal = lengthened p.journal h; minds = slice_set p.minds h (ran_mind x); retired = p.retired + 1; noted = p.noted }
 applied (stepped.Wrote addr len) h x p = record { journal = lengthened p.journal h; minds = slice_set p.minds h (ran_mind x); retired = p.retired + 1; noted = p.noted }
 applied (stepped.HartExit code) h x p =
-    record { journal = lengthened p.journal h ++ Left h code ∷ []; minds = slice_set p.minds h exited_mind; retired = p.retired + 1; noted = p.noted + 1 }
+    record { journal = lengthened p.journal h ++ Left h code ∷ []; minds = slice_set p.minds h (exited_mind x); retired = p.retired + 1; noted = p.noted + 1 }
 applied (stepped.AllExit code) h x p =
     let lefts = lefts_live code 0 (slice_set p.minds h (ran_mind x)) in
     record { journal = lengthened p.journal h ++ lefts; minds = map gone_mind (slice_set p.minds h (ran_mind x)); retired = p.retired + 1; noted = p.noted + length lefts }
@@ -73,6 +47,15 @@ abbrev pub some_or : Option ℕ → Option ℕ → Option ℕ
 some_or None other = other
 some_or (Some k) other = Some k
 
+-- whether a hart has a slot
+abbrev pub is_slotted : Mind → Bool
+is_slotted x = is_some (slot_of x.phase)
+
+-- the first hart of the list that has a slot, where the first of the list has the number k
+abbrev pub slotted_from : ℕ → List Mind → Option ℕ
+slotted_from k [] = None
+slotted_from k (x ∷ xs) = if is_slotted x then Some k else slotted_from (k + 1) xs
+
 -- the next hart that runs, in rising order round the harts
 abbrev pub next_running : List Mind → ℕ → Option ℕ
 next_running xs from = some_or (running_from (min from (length xs)) (drop (min from (length xs)) xs)) (running_from 0 xs)
@@ -90,4 +73,8 @@ IsTurned turned.Ran = Unit {0}
 IsTurned (turned.Wrote addr len) = Unit {0}
 IsTurned (turned.Stopped cause) = Unit {0}
 IsTurned turned.Counted = Unit {0}
+IsTurned turned.Fixed = Unit {0}
+IsTurned turned.Copied = Unit {0}
+IsTurned turned.NoSlot = Unit {0}
+IsTurned turned.Interrupted = Unit {0}
 IsTurned (turned.Arrived number temporary error) = Unit {0}

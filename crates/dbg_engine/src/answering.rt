@@ -7,11 +7,10 @@ ghost use Rattle.break_table.specs.Table.{has_number};
 ghost use Rattle.dbg_model.specs.Breaks.{missing_number};
 ghost use Rattle.dbg_model.specs.Conditions.{parsed};
 ghost use Rattle.dbg_model.specs.Views.{register, shown_byte};
-ghost use Rattle.dbg_model.specs.Reply.{content_of, continued, threads_of, thread_hart, of_stopped, of_live, running, selecting, one_shown, registers_of, thread_number, valued, numbers_below, shown_thread, live_threads, stopped_threads, shown_range, memory_of, hindered, unknown_thread, name_of, condition_text, listed, evaluated, worth_of, unless_missing, changing, refusing, conditioned, conditioned_as, set_by, set_as, setting, asked_at, placed, inserted_at, inserted_by, named_at, outcome_at, fault_outcome, is_wait, waits, implied, going_on, selected_after, deletes, enables, ignores};
-ghost use Rattle.engine_facts.specs.Seen.{seen_harts, seen_hart};
+ghost use Rattle.dbg_model.specs.Reply.{content_of, continued, threads_of, thread_hart, of_stopped, of_live, running, selecting, one_shown, registers_of, thread_number, valued, numbers_below, shown_thread, live_threads, stopped_threads, running_threads, interrupts, interrupted, interrupted_at, setting_value, shown_range, memory_of, hindered, unknown_thread, name_of, condition_text, listed, evaluated, worth_of, unless_missing, changing, refusing, conditioned, conditioned_as, set_by, set_as, setting, asked_at, placed, inserted_at, inserted_by, named_at, outcome_at, fault_outcome, is_wait, waits, implied, going_on, selected_after, deletes, enables, ignores};
 ghost use Rattle.dbg_engine.specs.declared.answering.ReadError.TheVariants.{NoMemory};
 ghost use Rattle.dbg_engine.specs.Changing.{break_change};
-ghost use Rattle.dbg_engine.specs.Answering.{found_hart, seen_response, ReadsAs, IsStopped, IsLive, Reads, option_list, is_memory};
+ghost use Rattle.dbg_engine.specs.Answering.{own_hart, own_harts, found_hart, seen_response, ReadsAs, IsStopped, IsLive, Reads, option_list, is_memory};
 
 use crate::breaking::BreakChange;
 use crate::view::{ShownHart, register, shown_byte};
@@ -27,7 +26,8 @@ use elf32_read::Image;
 use engine_facts::{Activity, Mind};
 use hart_machine::{Core, Machine};
 use mi_commands::{
-    ByteList, Command, Fault, Format, Insertion, Location, NumberList, Refusal, Target, command_of,
+    ByteList, Command, Displaced, Fault, Format, Insertion, Location, NumberList, Refusal, Setting,
+    Target, command_of,
 };
 use std::alloc::{AllocError, Global};
 
@@ -57,7 +57,7 @@ fn hindered(obstacle: Obstacle) -> Content
 
 /// The hart of a thread, which is counted from 1.
 fn find<'a>(cores: &'a [Core], minds: &[Mind], thread: u32) -> Option<(&'a Core, Mind)>
-    ensures { found_hart result ≡ thread_hart (seen_harts cores.now minds.now) thread }
+    ensures { found_hart result ≡ thread_hart (own_harts cores.now minds.now) thread }
 {
     if thread == 0 {
         return None;
@@ -107,7 +107,7 @@ fn push_stopped(
     thread: u32,
 ) -> Result<(), AllocError>
     requires { thread + length minds.now < 2 ^ 32 }
-    ensures { OnOk result (into.new.items ≡ into.old.items ++ stopped_threads thread (seen_harts cores.now minds.now)) }
+    ensures { OnOk result (into.new.items ≡ into.old.items ++ stopped_threads thread (own_harts cores.now minds.now)) }
 {
     let [_, cores @ ..] = cores else {
         return Ok(());
@@ -123,7 +123,7 @@ fn push_stopped(
 
 // A thread as it is shown; none where it has exited.
 fn show(thread: u32, core: &Core, mind: Mind) -> Option<Thread>
-    ensures { option_list result ≡ shown_thread thread (seen_hart core.now mind) }
+    ensures { option_list result ≡ shown_thread thread (own_hart core.now mind) }
 {
     match mind.activity {
         Activity::Stopped => Some(Thread {
@@ -144,7 +144,7 @@ fn push_thread(
     core: &Core,
     mind: Mind,
 ) -> Result<(), AllocError>
-    ensures { OnOk result (into.new.items ≡ into.old.items ++ shown_thread thread (seen_hart core.now mind)) }
+    ensures { OnOk result (into.new.items ≡ into.old.items ++ shown_thread thread (own_hart core.now mind)) }
 {
     if let Some(shown) = show(thread, core, mind) {
         into.push(shown)?;
@@ -160,7 +160,7 @@ fn push_live(
     thread: u32,
 ) -> Result<(), AllocError>
     requires { thread + length minds.now < 2 ^ 32 }
-    ensures { OnOk result (into.new.items ≡ into.old.items ++ live_threads thread (seen_harts cores.now minds.now)) }
+    ensures { OnOk result (into.new.items ≡ into.old.items ++ live_threads thread (own_harts cores.now minds.now)) }
 {
     let [core, cores @ ..] = cores else {
         return Ok(());
@@ -289,7 +289,7 @@ fn continue_one(
 
 fn continue_all(alloc: Global, cores: &[Core], minds: &[Mind]) -> Result<Content, AllocError>
     requires { length minds.now ≤ 16 }
-    ensures { IfOk result (λ c. c ≡ Content.Running (stopped_threads 1 (seen_harts cores.now minds.now))) }
+    ensures { IfOk result (λ c. c ≡ Content.Running (stopped_threads 1 (own_harts cores.now minds.now))) }
 {
     let mut threads = Vec::new(alloc);
     push_stopped(&mut threads, cores, minds, 1)?;
@@ -304,7 +304,7 @@ fn continued(
     target: Target,
 ) -> Result<Content, AllocError>
     requires { length minds.now ≤ 16 }
-    ensures { IfOk result (λ c. c ≡ continued (seen_harts cores.now minds.now) selected target) }
+    ensures { IfOk result (λ c. c ≡ continued (own_harts cores.now minds.now) selected target) }
 {
     match target {
         Target::Selected => continue_one(alloc, selected, find(cores, minds, selected)),
@@ -315,7 +315,7 @@ fn continued(
 
 fn live_threads(alloc: Global, cores: &[Core], minds: &[Mind]) -> Result<Vec<Thread>, AllocError>
     requires { length minds.now ≤ 16 }
-    ensures { IfOk result (λ v. v.items ≡ live_threads 1 (seen_harts cores.now minds.now)) }
+    ensures { IfOk result (λ v. v.items ≡ live_threads 1 (own_harts cores.now minds.now)) }
 {
     let mut threads = Vec::new(alloc);
     push_live(&mut threads, cores, minds, 1)?;
@@ -350,7 +350,7 @@ fn threads(
     thread: Option<u32>,
 ) -> Result<Content, AllocError>
     requires { length minds.now ≤ 16 }
-    ensures { IfOk result (λ c. c ≡ threads_of (seen_harts cores.now minds.now) selected thread) }
+    ensures { IfOk result (λ c. c ≡ threads_of (own_harts cores.now minds.now) selected thread) }
 {
     match thread {
         Some(thread) => one_thread(alloc, selected, thread, find(cores, minds, thread)),
@@ -378,7 +378,7 @@ fn thread_numbers(
     selected: u32,
 ) -> Result<Content, AllocError>
     requires { length minds.now ≤ 16 }
-    ensures { IfOk result (λ c. c ≡ Content.ThreadNumbers (map thread_number (live_threads 1 (seen_harts cores.now minds.now))) selected) }
+    ensures { IfOk result (λ c. c ≡ Content.ThreadNumbers (map thread_number (live_threads 1 (own_harts cores.now minds.now))) selected) }
 {
     let threads = live_threads(alloc, cores, minds)?;
     let mut numbers = Vec::new(alloc);
@@ -400,7 +400,7 @@ fn select(thread: u32, found: Option<(&Core, Mind)>) -> Content
 
 // The thread that is named and isn't there.
 fn unknown_thread(cores: &[Core], minds: &[Mind], thread: Option<u32>) -> Option<u32>
-    ensures { result ≡ unknown_thread (seen_harts cores.now minds.now) thread }
+    ensures { result ≡ unknown_thread (own_harts cores.now minds.now) thread }
 {
     let thread = thread?;
     match find(cores, minds, thread) {
@@ -448,6 +448,7 @@ fn evaluate(
         Ok(expression) => {
             let view = ShownHart {
                 regs: &core.regs,
+                pc: core.regs.pc(),
                 image,
                 machine,
             };
@@ -460,12 +461,24 @@ fn evaluate(
 
 // ---- breakpoints
 
-/// What is answered to a line, and what it changes of the breakpoints.
+/// What a line changes.
+#[derive(Drop)]
+pub enum LineChange {
+    /// What its answer says: threads go on, or one is selected; or nothing.
+    Implied,
+    /// The breakpoints.
+    Breaks(BreakChange),
+    /// An interrupt is asked of these threads.
+    Interrupts(NumberList),
+    /// Displaced stepping is set.
+    Displaces(Displaced),
+}
+
+/// What is answered to a line, and what it changes.
 #[derive(Drop)]
 pub struct Response {
     pub content: Content,
-    /// Nothing where the line changes no breakpoint.
-    pub change: Option<BreakChange>,
+    pub change: LineChange,
 }
 
 fn refusing(obstacle: Obstacle) -> Response
@@ -473,7 +486,7 @@ fn refusing(obstacle: Obstacle) -> Response
 {
     Response {
         content: hindered(obstacle),
-        change: None,
+        change: LineChange::Implied,
     }
 }
 
@@ -482,7 +495,7 @@ fn changing(change: BreakChange) -> Response
 {
     Response {
         content: Content::Done,
-        change: Some(change),
+        change: LineChange::Breaks(change),
     }
 }
 
@@ -686,7 +699,7 @@ fn set(
     let location = PlaceText::of(Vec::from_slice(alloc, insertion.text.as_slice())?);
     Ok(Response {
         content,
-        change: Some(BreakChange::Insert(Spec {
+        change: LineChange::Breaks(BreakChange::Insert(Spec {
             address,
             location,
             temporary: insertion.temporary,
@@ -745,7 +758,7 @@ fn refused(refused: Refused) -> Response
 {
     Response {
         content: Content::Refused(refused),
-        change: None,
+        change: LineChange::Implied,
     }
 }
 
@@ -780,7 +793,7 @@ fn insert(
     insertion: &Insertion,
 ) -> Result<Response, NoMemory>
     requires { table.now.given < 2 ^ 32 - 1 }
-    ensures { IfOk result (λ r. seen_response r ≡ inserted_by image.now symbols.now (seen_harts cores.now minds.now) table.now.entries table.now.given insertion.now) }
+    ensures { IfOk result (λ r. seen_response r ≡ inserted_by image.now symbols.now (own_harts cores.now minds.now) table.now.entries table.now.given insertion.now) }
 {
     match unknown_thread(cores, minds, insertion.thread) {
         Some(thread) => Ok(refusing(Obstacle::UnknownThread(thread))),
@@ -790,7 +803,7 @@ fn insert(
 
 /// Why a line with this fault is refused: an unknown thread comes before a bad location.
 pub fn refuse(cores: &[Core], minds: &[Mind], fault: Fault) -> Response
-    ensures { seen_response result ≡ fault_outcome (seen_harts cores.now minds.now) fault }
+    ensures { seen_response result ≡ fault_outcome (own_harts cores.now minds.now) fault }
 {
     if let Fault::Location { thread, .. } = &fault {
         if let Some(thread) = unknown_thread(cores, minds, *thread) {
@@ -855,6 +868,95 @@ pub fn selected_after(selected: u32, content: &Content) -> u32
     }
 }
 
+// The value of a setting.
+fn setting_value(displaced: Displaced, setting: Setting) -> Displaced
+    ensures { result ≡ setting_value displaced setting }
+{
+    match setting {
+        Setting::NonStop | Setting::MiAsync => Displaced::On,
+        Setting::DisplacedStepping => displaced,
+    }
+}
+
+// An interrupt is asked of these threads.
+fn interrupting(threads: Vec<u32>) -> Response
+    ensures { seen_response result ≡ changing (interrupts threads.items) }
+{
+    Response {
+        content: Content::Done,
+        change: LineChange::Interrupts(NumberList::of(threads)),
+    }
+}
+
+fn interrupt_one(
+    alloc: Global,
+    thread: u32,
+    found: Option<(&Core, Mind)>,
+) -> Result<Response, AllocError>
+    ensures { IfOk result (λ r. seen_response r ≡ interrupted_at thread (found_hart found.entry)) }
+{
+    let Some((_, mind)) = found else {
+        return Ok(refusing(Obstacle::UnknownThread(thread)));
+    };
+    match mind.activity {
+        Activity::Stopped => Ok(refusing(Obstacle::NotRunning(thread))),
+        Activity::Exited => Ok(refusing(Obstacle::HasExited(thread))),
+        Activity::Running => {
+            let mut threads = Vec::new(alloc);
+            threads.push(thread)?;
+            Ok(interrupting(threads))
+        }
+    }
+}
+
+// The threads that run, of which the first has this number.
+fn push_running(
+    into: &mut Vec<u32>,
+    cores: &[Core],
+    minds: &[Mind],
+    thread: u32,
+) -> Result<(), AllocError>
+    requires { thread + length minds.now < 2 ^ 32 }
+    ensures { OnOk result (into.new.items ≡ into.old.items ++ running_threads thread (own_harts cores.now minds.now)) }
+{
+    let [_, cores @ ..] = cores else {
+        return Ok(());
+    };
+    let [mind, minds @ ..] = minds else {
+        return Ok(());
+    };
+    if mind.activity == Activity::Running {
+        into.push(thread)?;
+    }
+    push_running(into, cores, minds, thread + 1)
+}
+
+fn interrupt_all(alloc: Global, cores: &[Core], minds: &[Mind]) -> Result<Response, AllocError>
+    requires { length minds.now ≤ 16 }
+    ensures { IfOk result (λ r. seen_response r ≡ changing (interrupts (running_threads 1 (own_harts cores.now minds.now)))) }
+{
+    let mut threads = Vec::new(alloc);
+    push_running(&mut threads, cores, minds, 1)?;
+    Ok(interrupting(threads))
+}
+
+fn interrupt(
+    alloc: Global,
+    cores: &[Core],
+    minds: &[Mind],
+    selected: u32,
+    target: Target,
+) -> Result<Response, AllocError>
+    requires { length minds.now ≤ 16 }
+    ensures { IfOk result (λ r. seen_response r ≡ interrupted (own_harts cores.now minds.now) selected target) }
+{
+    match target {
+        Target::Selected => interrupt_one(alloc, selected, find(cores, minds, selected)),
+        Target::Thread(thread) => interrupt_one(alloc, thread, find(cores, minds, thread)),
+        Target::All => interrupt_all(alloc, cores, minds),
+    }
+}
+
 /// What is answered to a command that changes no breakpoint.
 #[tactic(auto, unfolding(dbg_model::specs::Reply::content_of))]
 fn answer_content(
@@ -865,10 +967,11 @@ fn answer_content(
     minds: &[Mind],
     table: &BreakTable,
     selected: u32,
+    displaced: Displaced,
     command: &Command,
 ) -> Result<Content, NoMemory>
     requires { length minds.now ≤ 16 }
-    ensures { IfOk result (λ c. c ≡ content_of image.now symbols.now (seen_harts machine.now.cores minds.now) machine.now.memory table.now.entries selected command.now) }
+    ensures { IfOk result (λ c. c ≡ content_of image.now symbols.now (own_harts machine.now.cores minds.now) machine.now.memory table.now.entries selected displaced command.now) }
 {
     let cores = machine.cores();
     match command {
@@ -905,6 +1008,8 @@ fn answer_content(
                 expression.as_slice(),
             )
         }
+        Command::SetNonStop | Command::SetMiAsync => Ok(Content::Done),
+        Command::Show(setting) => Ok(Content::Setting(setting_value(displaced, *setting))),
         _ => Ok(Content::Refused(Refused::NotBuilt)),
     }
 }
@@ -919,11 +1024,12 @@ pub fn answer(
     minds: &[Mind],
     table: &BreakTable,
     selected: u32,
+    displaced: Displaced,
     command: Command,
 ) -> Result<Response, NoMemory>
     requires few { length minds.now ≤ 16 }
     requires given { table.now.given < 2 ^ 32 - 1 }
-    ensures { IfOk result (λ r. seen_response r ≡ outcome_at image.now symbols.now (seen_harts machine.now.cores minds.now) machine.now.memory table.now.entries table.now.given selected command) }
+    ensures { IfOk result (λ r. seen_response r ≡ outcome_at image.now symbols.now (own_harts machine.now.cores minds.now) machine.now.memory table.now.entries table.now.given selected displaced command) }
 {
     match command {
         Command::BreakInsert(insertion) => insert(
@@ -942,11 +1048,22 @@ pub fn answer(
             alloc, symbols, table, number, condition,
         ),
         Command::BreakAfter { number, count } => Ok(after(table, number, count)),
+        Command::Interrupt(target) => Ok(interrupt(
+            alloc,
+            machine.cores(),
+            minds,
+            selected,
+            target,
+        )?),
+        Command::SetDisplaced(value) => Ok(Response {
+            content: Content::Done,
+            change: LineChange::Displaces(value),
+        }),
         command => Ok(Response {
             content: answer_content(
-                alloc, image, symbols, machine, minds, table, selected, &command,
+                alloc, image, symbols, machine, minds, table, selected, displaced, &command,
             )?,
-            change: None,
+            change: LineChange::Implied,
         }),
     }
 }

@@ -1,6 +1,7 @@
 // The table of breakpoints, and the words of the machine that are planted for it.
 ghost use Rattle.std.specs.Prelude.{◌≡◌, ◌<◌, ◌-◌, ◌^◌, length, None, Some, IsSome, map, slice_get};
 ghost use Rattle.std.specs.Option.{option_map};
+ghost use Rattle.rv_exec.specs.Registers.{set_pc};
 ghost use Rattle.text_words.specs.Words.{shown};
 ghost use Rattle.hart_machine.specs.declared.hart.Core.{Core};
 ghost use Rattle.break_table.specs.Entry.{asked_of, condition_of, entry_of};
@@ -41,26 +42,27 @@ pub enum BreakChange {
     },
 }
 
-/// What the breakpoints do with a hart that has just arrived.
-pub fn due_at(table: &BreakTable, image: &Image, machine: &Machine, h: u32) -> Due
+/// What the breakpoints do with a hart that has just arrived, and shows its pc there.
+pub fn due_at(table: &BreakTable, image: &Image, machine: &Machine, h: u32, pc: u32) -> Due
     requires { h < length machine.now.cores }
-    ensures { (c : Core) → slice_get machine.now.cores h ≡ Some c → result ≡ due_of h (register c.regs) (shown_byte image.now machine.now.memory) table.now.entries }
+    ensures { (c : Core) → slice_get machine.now.cores h ≡ Some c → result ≡ due_of h (register (set_pc c.regs pc)) (shown_byte image.now machine.now.memory) table.now.entries }
 {
     let regs = &machine.cores()[h as usize].regs;
     table.due(
         h,
         &ShownHart {
             regs,
+            pc,
             image,
             machine,
         },
     )
 }
 
-/// The changes of an arrival in the table.
-pub fn settle(table: &mut BreakTable, image: &Image, machine: &Machine, h: u32)
+/// The changes in the table of the arrival of a hart that shows its pc there.
+pub fn settle(table: &mut BreakTable, image: &Image, machine: &Machine, h: u32, pc: u32)
     requires { h < length machine.now.cores }
-    ensures entries { (c : Core) → slice_get machine.now.cores h ≡ Some c → table.new.entries ≡ settled h (register c.regs) (shown_byte image.now machine.now.memory) table.old.entries }
+    ensures entries { (c : Core) → slice_get machine.now.cores h ≡ Some c → table.new.entries ≡ settled h (register (set_pc c.regs pc)) (shown_byte image.now machine.now.memory) table.old.entries }
     ensures rest { table.new ≡ record table.old { entries = table.new.entries } }
 {
     let regs = &machine.cores()[h as usize].regs;
@@ -68,6 +70,7 @@ pub fn settle(table: &mut BreakTable, image: &Image, machine: &Machine, h: u32)
         h,
         &ShownHart {
             regs,
+            pc,
             image,
             machine,
         },

@@ -1,36 +1,38 @@
-ghost use Rattle.std.specs.Prelude.{◌≡◌, ◌&&◌, ◌<◌, ◌≤◌, ◌-◌, ◌+◌, ◌^◌, [], length, slice_get, Some, None, replicate, IfOk, IfErr, OnOk, OnErr, MatchResult, Err, IsTrue, IsSome, ◌↔◌, map, true, false};
+ghost use Rattle.std.specs.Prelude.{◌≡◌, ◌&&◌, ◌<◌, ◌≤◌, ◌-◌, ◌+◌, ◌^◌, [], length, slice_get, Some, None, replicate, IfOk, IfErr, IfSome, IfNone, OnOk, OnErr, MatchResult, Err, IsTrue, IsSome, ◌↔◌, map, true, false, ℕ};
 ghost use Rattle.dbg_traits.specs.Settings.{AreSettings};
 ghost use Rattle.data_memory.specs.Ranges.{bytes_at, range_at};
 ghost use Rattle.text_words.specs.Words.{shown, is_planted};
 ghost use Rattle.dbg_model.specs.Breaks.{is_temporary};
 ghost use Rattle.break_table.specs.Entry.{entry_of};
 ghost use Rattle.elf_symbols.specs.Entries.{names_of};
-ghost use Rattle.dbg_model.specs.State.{first_state, any_runs, all_gone, is_counted, is_due};
+ghost use Rattle.scratch_slots.specs.Table.{use_at, AllOut};
+ghost use Rattle.dbg_model.specs.State.{first_state, any_runs, all_gone, is_counted, is_due, is_off};
 ghost use Rattle.dbg_model.specs.Lawful.{may_go, may_do};
-ghost use Rattle.dbg_model.specs.Reply.{answer_of, implied, is_wait};
-ghost use Rattle.engine_facts.specs.Minds.{first_mind, counted_mind, runs, has_gone, is_before, with_phase};
+ghost use Rattle.dbg_model.specs.Reply.{answer_of, implied, interrupts, displaces, is_wait};
+ghost use Rattle.engine_facts.specs.Minds.{first_mind, counted_mind, runs, has_gone, is_before, slot_of, with_phase};
 ghost use Rattle.engine_facts.specs.Facts.{other_holder, InText, OneLifted};
 ghost use Rattle.engine_facts.specs.Seen.{seen};
-ghost use Rattle.dbg_engine.specs.Steps.{running_from, next_running, IsTurned};
+ghost use Rattle.dbg_engine.specs.Steps.{running_from, next_running, is_slotted, slotted_from, IsTurned};
 ghost use Rattle.dbg_engine.specs.Answering.{seen_response, Makes};
 ghost use Rattle.dbg_engine.specs.Changing.{break_change};
 ghost use Rattle.hart_machine.specs.declared.hart.Core.{Core};
 ghost use Rattle.std.specs.List.{list_any, list_all};
 
 use crate::Turned;
-use crate::answering::{Response, answer, going_on, is_wait, refusal, refuse, selected_after};
+use crate::answering::{LineChange, Response, answer, going_on, is_wait, refusal, refuse, selected_after};
 use crate::breaking::{BreakChange, change_table, due_at, is_temporary, settle};
+use crate::homing::{go_home, go_home_at_exit, go_home_each};
 use crate::journal::note;
-use crate::moving::apply;
-use crate::patching::{release, release_at_exit, repatch, wants};
-use crate::resuming::resume_threads;
+use crate::moving::{apply, ran_mind};
+use crate::patching::{release, repatch, wants};
+use crate::resuming::{ask_threads, resume_threads};
 use break_table::{BreakEntry, BreakTable, Due};
 use dbg_model::{Content, Entry, HISTORY, Journal, Opening, Refused, Reply, Why};
 use dbg_traits::NoMemory;
 use elf_symbols::{Symbols, symbols};
 use engine_facts::{Activity, Hold, Mind, Phase};
 use hart_machine::Machine;
-use mi_commands::{ByteList, Refusal, command_of};
+use mi_commands::{ByteList, Displaced, Refusal, command_of};
 use mi_values::Token;
 use rv_exec::{Cause, Stepped};
 use std::alloc::{AllocError, Global};
@@ -60,6 +62,7 @@ pub struct Engine {
     table: BreakTable,
     symbols: Symbols,
     selected: u32,
+    displaced: Displaced,
     retired: u64,
     noted: u64,
 }
@@ -101,6 +104,7 @@ fn first_minds(alloc: Global, count: u32) -> Result<Vec<Mind>, AllocError>
         minds.push(Mind {
             activity: Activity::Stopped,
             fresh: false,
+            asked: false,
             phase: Phase::Idle,
         })?;
     }
@@ -131,6 +135,28 @@ fn all_gone(minds: &[Mind]) -> bool
     }
 }
 
+fn is_slotted(mind: &Mind) -> bool
+    ensures { result ≡ is_slotted mind.now }
+{
+    matches!(mind.phase, Phase::Copied { .. } | Phase::Landed { .. })
+}
+
+// The first hart that has a slot; the first of the list has the number `hart`.
+fn find_slotted(minds: &[Mind], hart: u32) -> Option<u32>
+    requires { hart + length minds.now ≤ 16 }
+    ensures { result ≡ slotted_from hart minds.now }
+{
+    match minds {
+        [] => None,
+        [first, rest @ ..] => {
+            if is_slotted(first) {
+                return Some(hart);
+            }
+            find_slotted(rest, hart + 1)
+        }
+    }
+}
+
 fn find_running(minds: &[Mind], hart: u32) -> Option<u32>
     requires { hart + length minds.now ≤ 16 }
     ensures { result ≡ running_from hart minds.now }
@@ -158,6 +184,7 @@ fn counted_mind(mind: Mind) -> Mind
     Mind {
         activity: mind.activity,
         fresh: false,
+        asked: mind.asked,
         phase: mind.phase,
     }
 }
@@ -165,6 +192,7 @@ fn counted_mind(mind: Mind) -> Mind
 const STOPPED: Mind = Mind {
     activity: Activity::Stopped,
     fresh: false,
+    asked: false,
     phase: Phase::Idle,
 };
 
@@ -190,13 +218,14 @@ fn with_phase(mind: Mind, phase: Phase) -> Mind
     Mind {
         activity: mind.activity,
         fresh: mind.fresh,
+        asked: mind.asked,
         phase,
     }
 }
 
 impl Engine {
     ghost use Rattle.engine_facts.specs.Facts.{Facts};
-    ghost use Rattle.dbg_engine.specs.Calls.{Of, Rephases, Lifts, Halts, Counts, DueIs, Undue, Turns, TrapsAt, Executes, Does, Lines, NextMoves, OverBy, Closes};
+    ghost use Rattle.dbg_engine.specs.Calls.{Of, AtPlanted, Rephases, Lifts, Copies, Halts, Interrupts, Counts, DueIs, Undue, Turns, TrapsAt, Executes, Does, Lines, NextMoves, OverBy, Closes};
 
     /// An engine before its first move: each hart is stopped at the entry.
     pub fn load(alloc: Global, opening: Opening) -> Result<Engine, NoMemory>
@@ -219,6 +248,7 @@ impl Engine {
             table,
             symbols,
             selected: 1,
+            displaced: Displaced::Auto,
             retired: 0,
             noted: 0,
         })
@@ -288,15 +318,29 @@ impl Engine {
         }
     }
 
-    /// The hart to move next: one that is stepping over a breakpoint, since all others stand held; else the next that
-    /// runs, in rising order round the harts from this one on.
+    // Where there are slots and all are out, a hart that has one.
+    fn slot_holder(&self) -> Option<u32>
+        ensures some { IfSome result (λ h. slotted_from 0 self.now.minds ≡ Some h) }
+        ensures none { IfNone result (0 < length self.now.machine.slots → AllOut self.now.machine.slots → ⊥) }
+    {
+        if self.machine.has_room() {
+            return None;
+        }
+        find_slotted(self.minds.as_slice(), 0)
+    }
+
+    /// The hart to move next: the one for which a patch is lifted, since all others stand held; else, where all slots
+    /// are out, one that has a slot; else the next that runs, in rising order round the harts from this one on.
     pub fn next_mover(&self, from: usize) -> Option<u32>
         ensures { NextMoves result self.now }
     {
-        match self.hold {
-            Some(hold) => Some(hold.hart),
-            None => self.next_running(from),
+        if let Some(hold) = self.hold {
+            return Some(hold.hart);
         }
+        if let Some(hart) = self.slot_holder() {
+            return Some(hart);
+        }
+        self.next_running(from)
     }
 
     /// Whether no hart is live.
@@ -311,6 +355,13 @@ impl Engine {
         ensures { result.now ≡ self.now.journal }
     {
         self.entries.as_slice()
+    }
+
+    /// For how many entries there is room.
+    pub fn spare(&self) -> usize
+        ensures { result ≡ self.now.spare }
+    {
+        self.entries.capacity() - self.entries.len()
     }
 
     /// Where a hart is.
@@ -347,12 +398,16 @@ impl Engine {
         self.minds[h as usize]
     }
 
-    // A hart steps over nothing any more: a lifted patch is planted again where a breakpoint stands.
+    // A running hart steps over nothing any more: it comes home from its slot, which is free then, and a lifted patch is
+    // planted again where a breakpoint stands.
     fn unwind(&mut self, h: u32, mind: Mind)
         requires mind { slice_get self.old.minds h ≡ Some mind }
+        requires runs { mind.activity ≡ Activity.Running }
         requires free { other_holder self.old.hold h ≡ None }
-        ensures { Rephases self.old self.new h mind (Phase.Idle) None }
+        ensures home { Rephases self.old self.new h mind (Phase.Idle) None }
+        ensures freed { (slot : ℕ) → slot_of mind.phase ≡ Some slot → use_at self.new.machine.slots slot ≡ None }
     {
+        go_home(&mut self.machine, h as usize, mind.phase);
         release(&mut self.machine, self.hold, &self.table);
         self.hold = None;
         self.minds[h as usize] = with_phase(mind, Phase::Idle);
@@ -360,19 +415,52 @@ impl Engine {
 
     // The patch at the hart's pc is lifted.
     fn lift(&mut self, h: u32, mind: Mind, pc: u32)
-        requires mind { slice_get self.old.minds h ≡ Some mind }
-        requires idle { mind.phase ≡ Phase.Idle }
+        requires before { AtPlanted self.old h mind pc }
         requires runs { mind.activity ≡ Activity.Running }
-        requires free { other_holder self.old.hold h ≡ None }
-        requires pc { Of self.old h (λ y. y.regs.pc ≡ pc) }
-        requires planted { is_planted self.old.machine.text pc ≡ true }
-        requires due { Undue self.old h }
-        requires may { may_go self.old.opening (seen self.old) ≡ true }
+        requires only { 0 < self.old.opening.settings.slots → is_off self.old.displaced ≡ true }
         ensures { Lifts self.old self.new h }
     {
         repatch(&mut self.machine, pc, false);
         self.hold = Some(Hold { hart: h, home: pc });
         self.minds[h as usize] = with_phase(mind, Phase::Lifted { home: pc });
+    }
+
+    // The hart enters the least free slot with a copy of its word. False where all slots are out.
+    fn copy(&mut self, h: u32, mind: Mind, pc: u32) -> bool
+        requires before { AtPlanted self.old h mind pc }
+        requires runs { mind.activity ≡ Activity.Running }
+        requires on { is_off self.old.displaced ≡ false }
+        ensures copied { IsTrue result → Copies self.old self.new h }
+        ensures full { result ≡ false → (self.new ≡ self.old) × AllOut self.old.machine.slots }
+    {
+        let Some(word) = self.machine.shown(pc) else {
+            unreachable!()
+        };
+        let Some(slot) = self.machine.claim(h, word) else {
+            return false;
+        };
+        self.machine.enter(h as usize, slot);
+        self.minds[h as usize] = with_phase(mind, Phase::Copied { slot, home: pc });
+        true
+    }
+
+    // A running hart at a planted word begins to step over it: by a copy where displaced stepping is on and there are
+    // slots, else by lifting the patch.
+    fn step_over(&mut self, h: u32, mind: Mind, pc: u32) -> Turned
+        requires before { AtPlanted self.old h mind pc }
+        requires runs { mind.activity ≡ Activity.Running }
+        ensures turns { Turns result self.old self.new h }
+        ensures code { IsTurned result }
+    {
+        if self.displaced == Displaced::Off || self.machine.slots() == 0 {
+            self.lift(h, mind, pc);
+            return Turned::Lifted;
+        }
+        if self.copy(h, mind, pc) {
+            Turned::Copied
+        } else {
+            Turned::NoSlot
+        }
     }
 
     // One instruction of a hart, where it can be executed.
@@ -393,7 +481,16 @@ impl Engine {
         if let Stepped::Trap(cause) = stepped {
             return Turned::Stopped { cause };
         }
-        release_at_exit(stepped, &mut self.machine, &mut self.hold, &self.table);
+        self.minds[h as usize] = ran_mind(mind);
+        go_home_at_exit(
+            stepped,
+            &mut self.machine,
+            &mut self.hold,
+            &self.table,
+            h as usize,
+            mind,
+            self.minds.as_slice(),
+        );
         apply(
             stepped,
             h,
@@ -427,6 +524,28 @@ impl Engine {
         self.noted += 1;
     }
 
+    // A hart that steps over nothing stops by an interrupt.
+    fn note_interrupt(&mut self, h: u32, mind: Mind)
+        requires mind { slice_get self.old.minds h ≡ Some mind }
+        requires idle { mind.phase ≡ Phase.Idle }
+        requires runs { mind.activity ≡ Activity.Running }
+        requires asked { mind.asked ≡ true }
+        requires due { Undue self.old h }
+        requires spare { 32 ≤ self.old.spare }
+        requires may { may_go self.old.opening (seen self.old) ≡ true }
+        ensures { Interrupts self.old self.new h }
+    {
+        note(
+            &mut self.entries,
+            Entry::Stopped {
+                hart: h,
+                why: Why::Interrupted,
+            },
+        );
+        self.minds[h as usize] = STOPPED;
+        self.noted += 1;
+    }
+
     // A hart that steps over nothing stops at a breakpoint.
     fn note_arrival(&mut self, h: u32, mind: Mind, number: u32, due: Due, pc: u32)
         requires mind { slice_get self.old.minds h ≡ Some mind }
@@ -449,7 +568,7 @@ impl Engine {
                 },
             },
         );
-        settle(&mut self.table, &self.opening.image, &self.machine, h);
+        settle(&mut self.table, &self.opening.image, &self.machine, h, pc);
         let wants = wants(&self.table, self.hold, pc);
         repatch(&mut self.machine, pc, wants);
         self.minds[h as usize] = STOPPED;
@@ -459,6 +578,7 @@ impl Engine {
     // Breakpoints count a hart, which goes on.
     fn note_count(&mut self, h: u32, mind: Mind, due: Due, pc: u32)
         requires mind { slice_get self.old.minds h ≡ Some mind }
+        requires before { is_before mind.phase ≡ true }
         requires runs { mind.activity ≡ Activity.Running }
         requires pc { Of self.old h (λ y. y.regs.pc ≡ pc) }
         requires due { DueIs self.old h due }
@@ -469,29 +589,37 @@ impl Engine {
         ensures { Counts self.old self.new h }
     {
         note(&mut self.entries, Entry::Counted { hart: h });
-        settle(&mut self.table, &self.opening.image, &self.machine, h);
+        settle(&mut self.table, &self.opening.image, &self.machine, h, pc);
         let wants = wants(&self.table, self.hold, pc);
         repatch(&mut self.machine, pc, wants);
         self.minds[h as usize] = counted_mind(mind);
         self.noted += 1;
     }
 
-    // Where a hart shows its pc.
+    // Where a running hart shows its pc: at home, where it is at a copy.
     fn shown_pc(&self, h: u32, mind: Mind) -> u32
-        requires { slice_get self.now.minds h ≡ Some mind }
+        requires mind { slice_get self.now.minds h ≡ Some mind }
+        requires before { is_before mind.phase ≡ true }
+        requires runs { mind.activity ≡ Activity.Running }
         ensures { Of self.now h (λ y. y.regs.pc ≡ result) }
     {
-        self.machine.pc(h as usize)
+        match mind.phase {
+            Phase::Copied { home, .. } => home,
+            _ => self.machine.pc(h as usize),
+        }
     }
 
     // What the breakpoints do with a hart; nothing where it hasn't just arrived.
-    fn due(&self, h: u32, mind: Mind) -> Due
-        requires { slice_get self.now.minds h ≡ Some mind }
+    fn due(&self, h: u32, mind: Mind, pc: u32) -> Due
+        requires mind { slice_get self.now.minds h ≡ Some mind }
+        requires before { is_before mind.phase ≡ true }
+        requires runs { mind.activity ≡ Activity.Running }
+        requires pc { Of self.now h (λ y. y.regs.pc ≡ pc) }
         ensures due { DueIs self.now h result }
         ensures fresh { result.counts ≡ true → mind.fresh ≡ true }
     {
         if mind.fresh {
-            due_at(&self.table, &self.opening.image, &self.machine, h)
+            due_at(&self.table, &self.opening.image, &self.machine, h, pc)
         } else {
             NOTHING_DUE
         }
@@ -507,9 +635,11 @@ impl Engine {
     // Whether a hart steps over nothing and its word isn't patched: then no breakpoint stands there.
     fn is_clear(&self, h: u32, mind: Mind, pc: u32) -> bool
         requires mind { slice_get self.now.minds h ≡ Some mind }
+        requires runs { mind.activity ≡ Activity.Running }
         requires free { other_holder self.now.hold h ≡ None }
         requires pc { Of self.now h (λ y. y.regs.pc ≡ pc) }
         ensures undue { IsTrue result → Undue self.now h }
+        ensures idle { IsTrue result → mind.phase ≡ Phase.Idle }
         ensures unpatched { IsTrue result → is_planted self.now.machine.text pc ≡ false }
         ensures patched { mind.phase ≡ Phase.Idle → result ≡ false → is_planted self.now.machine.text pc ≡ true }
     {
@@ -551,7 +681,7 @@ impl Engine {
         ensures turns { Turns result self.old self.new h }
         ensures code { IsTurned result }
     {
-        let due = self.due(h, mind);
+        let due = self.due(h, mind, pc);
         if let Some(number) = due.stop {
             let temporary = self.is_temporary(number);
             self.unwind(h, mind);
@@ -567,8 +697,49 @@ impl Engine {
             return Turned::Counted;
         }
         if mind.phase == Phase::Idle {
-            self.lift(h, mind, pc);
-            return Turned::Lifted;
+            return self.pass(h, mind, pc);
+        }
+        self.run(h, mind, pc)
+    }
+
+    // A running hart at a planted word where nothing is due stops by an interrupt, or begins to step over it.
+    fn pass(&mut self, h: u32, mind: Mind, pc: u32) -> Turned
+        requires mind { slice_get self.old.minds h ≡ Some mind }
+        requires idle { mind.phase ≡ Phase.Idle }
+        requires runs { mind.activity ≡ Activity.Running }
+        requires free { other_holder self.old.hold h ≡ None }
+        requires pc { Of self.old h (λ y. y.regs.pc ≡ pc) }
+        requires due { Undue self.old h }
+        requires patched { is_planted self.old.machine.text pc ≡ true }
+        requires spare { 32 ≤ self.old.spare }
+        requires may { may_go self.old.opening (seen self.old) ≡ true }
+        ensures turns { Turns result self.old self.new h }
+        ensures code { IsTurned result }
+    {
+        if mind.asked {
+            self.note_interrupt(h, mind);
+            return Turned::Interrupted;
+        }
+        self.step_over(h, mind, pc)
+    }
+
+    // A running hart that steps over nothing, at a word that isn't patched, stops by an interrupt or executes.
+    fn run_on(&mut self, h: u32, mind: Mind, pc: u32) -> Turned
+        requires mind { slice_get self.old.minds h ≡ Some mind }
+        requires idle { mind.phase ≡ Phase.Idle }
+        requires runs { mind.activity ≡ Activity.Running }
+        requires free { other_holder self.old.hold h ≡ None }
+        requires pc { Of self.old h (λ y. y.regs.pc ≡ pc) }
+        requires due { Undue self.old h }
+        requires unpatched { is_planted self.old.machine.text pc ≡ false }
+        requires spare { 32 ≤ self.old.spare }
+        requires may { may_go self.old.opening (seen self.old) ≡ true }
+        ensures turns { Turns result self.old self.new h }
+        ensures code { IsTurned result }
+    {
+        if mind.asked {
+            self.note_interrupt(h, mind);
+            return Turned::Interrupted;
         }
         self.run(h, mind, pc)
     }
@@ -590,13 +761,17 @@ impl Engine {
         if let Some(by) = other_holder(self.hold, h) {
             return Turned::Held { by };
         }
+        if let Phase::Landed { .. } = mind.phase {
+            self.unwind(h, mind);
+            return Turned::Fixed;
+        }
         if let Phase::Ran { .. } = mind.phase {
             self.unwind(h, mind);
             return Turned::Planted;
         }
         let pc = self.shown_pc(h, mind);
         if self.is_clear(h, mind, pc) {
-            self.run(h, mind, pc)
+            self.run_on(h, mind, pc)
         } else {
             self.go_on(h, mind, pc)
         }
@@ -647,6 +822,7 @@ impl Engine {
                     self.minds.as_slice(),
                     &self.table,
                     self.selected,
+                    self.displaced,
                     read.command,
                 )?;
                 Ok((read.token, response))
@@ -701,6 +877,44 @@ impl Engine {
         Ok(())
     }
 
+    // Does a line that asks an interrupt of these threads.
+    fn ask(&mut self, line: &[u8], threads: &[u32]) -> Result<(), NoMemory>
+        requires may { may_do self.old.opening (seen self.old) line.now ≡ true }
+        requires makes { Makes self.old line.now (interrupts threads.now) }
+        ensures { MatchResult result (λ _. Lines self.old self.new line.now) (λ _. self.new ≡ self.old) }
+    {
+        let copy = line.to_vec(self.alloc)?;
+        self.entries.reserve(1)?;
+        note(
+            &mut self.entries,
+            Entry::Did {
+                line: ByteList::of(copy),
+            },
+        );
+        ask_threads(&mut self.minds, threads);
+        self.noted += 1;
+        Ok(())
+    }
+
+    // Does a line that sets displaced stepping.
+    fn displace(&mut self, line: &[u8], value: Displaced) -> Result<(), NoMemory>
+        requires may { may_do self.old.opening (seen self.old) line.now ≡ true }
+        requires makes { Makes self.old line.now (displaces value) }
+        ensures { MatchResult result (λ _. Lines self.old self.new line.now) (λ _. self.new ≡ self.old) }
+    {
+        let copy = line.to_vec(self.alloc)?;
+        self.entries.reserve(1)?;
+        note(
+            &mut self.entries,
+            Entry::Did {
+                line: ByteList::of(copy),
+            },
+        );
+        self.displaced = value;
+        self.noted += 1;
+        Ok(())
+    }
+
     /// Whether a line can't be done yet: it waits until no hart runs, and one does.
     pub fn must_wait(&self, line: &[u8]) -> Result<bool, NoMemory>
         ensures { IfOk result (λ b. b ≡ (any_runs (seen self.now).harts && is_wait line.now)) }
@@ -719,13 +933,15 @@ impl Engine {
         let (token, response) = self.respond(line)?;
         let Response { content, change } = response;
         match change {
-            Some(change) => self.change_breaks(line, change)?,
-            None => self.note_line(line, &content)?,
+            LineChange::Breaks(change) => self.change_breaks(line, change)?,
+            LineChange::Interrupts(threads) => self.ask(line, threads.as_slice())?,
+            LineChange::Displaces(value) => self.displace(line, value)?,
+            LineChange::Implied => self.note_line(line, &content)?,
         }
         Ok(Reply { token, content })
     }
 
-    /// Ends it: a lifted patch is planted again where a breakpoint stands.
+    /// Ends it: each hart comes home from its slot, and a lifted patch is planted again where a breakpoint stands.
     pub fn close(self) -> Closed
         ensures opening { result.opening ≡ self.opening }
         ensures journal { result.journal ≡ self.journal }
@@ -737,15 +953,17 @@ impl Engine {
             opening,
             entries,
             machine,
-            minds: _,
+            minds,
             hold,
             table,
             symbols: _,
             selected: _,
+            displaced: _,
             retired: _,
             noted: _,
         } = self;
         let mut machine = machine;
+        go_home_each(&mut machine, minds.as_slice(), 0);
         release(&mut machine, hold, &table);
         Closed {
             opening,

@@ -4,6 +4,7 @@
 mod answering;
 mod breaking;
 mod engine;
+mod homing;
 mod journal;
 mod moving;
 mod patching;

@@ -1,9 +1,9 @@
 // What a step of the machine does to the journal and to what is kept of the harts.
 ghost use Rattle.std.specs.Prelude.{◌≡◌, ◌≤◌, ◌<◌, ◌+◌, ◌-◌, ◌^◌, true, map, length, slice_set, vec_len, vec_capacity};
 ghost use Rattle.dbg_model.specs.Journals.{lengthened, last_count};
-ghost use Rattle.hart_machine.specs.Stepping.{IsByteCode};
+ghost use Rattle.hart_machine.specs.Stepping.{IsByteCode, has_run};
 ghost use Rattle.engine_facts.specs.Minds.{gone_mind, ran_mind, after_step};
-ghost use Rattle.dbg_engine.specs.Steps.{is_done, applied, turned_of, IsTurned};
+ghost use Rattle.dbg_engine.specs.Steps.{applied, turned_of, IsTurned};
 
 use crate::journal::{note, note_lefts, note_ran};
 use break_table::CondError;
@@ -22,8 +22,14 @@ pub enum Turned {
     Held {
         by: u32,
     },
+    /// The step over a breakpoint by a copy ended: the hart's registers are put right, and its slot is free.
+    Fixed,
     /// The step over a breakpoint ended: the word is planted again where a breakpoint stands.
     Planted,
+    /// The step over a breakpoint began: the hart is at a copy of its word in a scratch slot.
+    Copied,
+    /// The hart is at a planted word, and no scratch slot is free.
+    NoSlot,
     /// The step over a breakpoint began: the patch at the hart's pc was lifted.
     Lifted,
     /// One instruction was executed, and nothing was written.
@@ -46,6 +52,8 @@ pub enum Turned {
     Stopped {
         cause: Cause,
     },
+    /// The hart stopped by an interrupt that was asked of it.
+    Interrupted,
     /// The hart came to breakpoints that count it, and goes on.
     Counted,
     /// The hart stopped at the breakpoint of this number, of whose condition the value couldn't be had for this reason.
@@ -56,21 +64,25 @@ pub enum Turned {
     },
 }
 
-fn after_step(phase: Phase) -> Phase
+/// The phase after an instruction.
+pub fn after_step(phase: Phase) -> Phase
     ensures { result ≡ after_step phase }
 {
     match phase {
         Phase::Idle => Phase::Idle,
+        Phase::Copied { slot, home } | Phase::Landed { slot, home } => Phase::Landed { slot, home },
         Phase::Lifted { home } | Phase::Ran { home } => Phase::Ran { home },
     }
 }
 
-fn ran_mind(mind: Mind) -> Mind
+/// What is kept of a hart that has just executed.
+pub fn ran_mind(mind: Mind) -> Mind
     ensures { result ≡ ran_mind mind }
 {
     Mind {
         activity: Activity::Running,
         fresh: true,
+        asked: mind.asked,
         phase: after_step(mind.phase),
     }
 }
@@ -104,6 +116,7 @@ fn gone_mind(mind: Mind) -> Mind
     Mind {
         activity: Activity::Exited,
         fresh: mind.fresh,
+        asked: mind.asked,
         phase: Phase::Idle,
     }
 }
@@ -127,7 +140,7 @@ pub fn apply(
     retired: &mut u64,
     noted: &mut u64,
 ) -> Turned
-    requires done { is_done stepped ≡ true }
+    requires done { has_run stepped ≡ true }
     requires code { IsByteCode stepped }
     requires hart { h < length minds.old }
     requires few { length minds.old ≤ 16 }
@@ -152,6 +165,7 @@ pub fn apply(
             let gone = Mind {
                 activity: Activity::Exited,
                 fresh: true,
+                asked: mind.asked,
                 phase: Phase::Idle,
             };
             note_instruction(h, gone, entries, minds, retired);

@@ -3,12 +3,10 @@ ghost use Rattle.std.specs.Prelude.{◌≡◌, IsSome};
 ghost use Rattle.text_words.specs.Words.{shown};
 ghost use Rattle.engine_facts.specs.Facts.{wanted};
 ghost use Rattle.engine_facts.specs.Moves.{Repatched, HeldInText, Released};
-ghost use Rattle.dbg_engine.specs.Steps.{ReleasedBy, is_exit};
 
 use break_table::BreakTable;
 use engine_facts::Hold;
 use hart_machine::Machine;
-use rv_exec::Stepped;
 
 /// The word is patched, or is so no more.
 pub fn repatch(machine: &mut Machine, addr: u32, wants: bool)
@@ -42,27 +40,5 @@ pub fn wants(table: &BreakTable, hold: Option<Hold>, addr: u32) -> bool
     match hold {
         None => table.stands(addr),
         Some(hold) => table.stands(addr) && hold.home != addr,
-    }
-}
-
-fn is_exit(stepped: Stepped) -> bool
-    ensures { result ≡ is_exit stepped }
-{
-    matches!(stepped, Stepped::HartExit(_) | Stepped::AllExit(_))
-}
-
-/// After an exit no patch stays lifted.
-pub fn release_at_exit(
-    stepped: Stepped,
-    machine: &mut Machine,
-    hold: &mut Option<Hold>,
-    table: &BreakTable,
-)
-    requires { HeldInText machine.old.text hold.old }
-    ensures { ReleasedBy (is_exit stepped) machine.old machine.new hold.old hold.new table.now.entries }
-{
-    if is_exit(stepped) {
-        release(machine, *hold, table);
-        *hold = None;
     }
 }

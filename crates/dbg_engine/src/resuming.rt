@@ -1,6 +1,6 @@
-// Threads that go on.
+// Threads that go on, and threads that are interrupted.
 ghost use Rattle.std.specs.Prelude.{◌≡◌, slice_get};
-ghost use Rattle.dbg_engine.specs.Resuming.{gone_on, resume_at, resume_thread, resume_threads};
+ghost use Rattle.dbg_engine.specs.Resuming.{asked, ask_at, ask_thread, ask_threads, gone_on, resume_at, resume_thread, resume_threads};
 
 use engine_facts::{Activity, Mind, Phase};
 
@@ -12,6 +12,7 @@ fn gone_on(mind: Mind) -> Mind
         Activity::Stopped => Mind {
             activity: Activity::Running,
             fresh: false,
+            asked: false,
             phase: Phase::Idle,
         },
         Activity::Running | Activity::Exited => mind,
@@ -45,4 +46,48 @@ pub fn resume_threads(minds: &mut [Mind], threads: &[u32])
     };
     resume_thread(minds, *thread);
     resume_threads(minds, rest);
+}
+
+// An interrupt is asked of a hart that runs.
+fn asked(mind: Mind) -> Mind
+    ensures { result ≡ asked mind }
+{
+    match mind.activity {
+        Activity::Running => Mind {
+            activity: mind.activity,
+            fresh: mind.fresh,
+            asked: true,
+            phase: mind.phase,
+        },
+        Activity::Stopped | Activity::Exited => mind,
+    }
+}
+
+// An interrupt is asked of the hart of a thread where it runs.
+fn ask_at(minds: &mut [Mind], h: usize)
+    ensures { minds.new ≡ ask_at minds.old h (slice_get minds.old h) }
+{
+    if h < minds.len() {
+        minds[h] = asked(minds[h]);
+    }
+}
+
+// An interrupt is asked of a thread where it runs. Threads are counted from 1.
+fn ask_thread(minds: &mut [Mind], thread: u32)
+    ensures { minds.new ≡ ask_thread minds.old thread }
+{
+    if thread > 0 {
+        ask_at(minds, thread as usize - 1);
+    }
+}
+
+/// An interrupt is asked of these threads where they run.
+pub fn ask_threads(minds: &mut [Mind], threads: &[u32])
+    ensures { minds.new ≡ ask_threads minds.old threads.now }
+{
+    let [thread, rest @ ..] = threads else {
+        return;
+    };
+    ask_thread(minds, *thread);
+    ask_threads(minds, rest);
 }

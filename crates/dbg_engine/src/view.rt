@@ -1,5 +1,6 @@
 // One hart as conditions and expressions see it.
 ghost use Rattle.std.specs.Prelude.{◌≡◌};
+ghost use Rattle.rv_exec.specs.Registers.{set_pc};
 ghost use Rattle.dbg_model.specs.Views.{register, shown_byte};
 
 use dbg_traits::View;
@@ -11,6 +12,8 @@ use rv_exec::Regs;
 #[derive(Clone, Copy)]
 pub struct ShownHart<'a> {
     pub regs: &'a Regs,
+    /// Where it shows its pc, which isn't that of its registers where it is at a copy.
+    pub pc: u32,
     pub image: &'a Image,
     pub machine: &'a Machine,
 }
@@ -34,12 +37,12 @@ pub fn shown_byte(image: &Image, machine: &Machine, addr: u32) -> Option<u8>
 }
 
 impl<'a> View for ShownHart<'a> {
-    ghost registers = { λ v n. register v.regs.now n };
+    ghost registers = { λ v n. register (set_pc v.regs.now v.pc) n };
 
     ghost bytes = { λ v addr. shown_byte v.image.now v.machine.now.memory addr };
 
     fn reg(&self, n: u32) -> u32 {
-        register(self.regs, n)
+        if n < 32 { self.regs.get(n) } else { self.pc }
     }
 
     fn byte(&self, addr: u32) -> Option<u8> {

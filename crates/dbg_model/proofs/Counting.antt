@@ -9,14 +9,14 @@ use Rattle.plain_machine.specs.PlainRun.{Item, Step}
 use Rattle.rv_exec.specs.declared.effect.Cause.{Cause}
 use Rattle.rv_exec.specs.Causes.{cause_number}
 use Rattle.dbg_model.specs.declared.entry.Why.{Why}
-use Rattle.dbg_model.specs.declared.entry.Why.TheVariants.{Break, Fault}
+use Rattle.dbg_model.specs.declared.entry.Why.TheVariants.{Break, Interrupted, Fault}
 use Rattle.dbg_model.specs.declared.entry.Entry.{Entry}
 use Rattle.dbg_model.specs.declared.entry.Entry.TheVariants.{Ran, Counted, Stopped, Left, Did}
 use Rattle.dbg_model.specs.declared.opening.Opening.{Opening}
 use Rattle.dbg_model.specs.Breaks.{is_stop}
 use Rattle.dbg_model.specs.State.{Hart, State, due, is_counted, arrived}
 use Rattle.dbg_model.specs.Reply.{done_by}
-use Rattle.dbg_model.specs.Lawful.{enter, one, one_by, ran, may_run, may_move, may_do, stepped_by, stepped, with_leavers, with_stop, faulted_by, stopped_by, counted_by, with_count, left_by, leaver_from, exited_at}
+use Rattle.dbg_model.specs.Lawful.{enter, one, one_by, ran, may_run, may_move, may_do, stepped_by, stepped, with_leavers, with_stop, faulted_by, stopped_by, counted_by, with_count, left_by, leaver_from, exited_at, with_step}
 use Rattle.dbg_model.specs.Journals.{Place, come, follows, ran_hart, replay_from, replay, first_place, Leaves, lengthened, one_more_by, count_of, last_count, noted, noted_one}
 use Rattle.dbg_model.specs.Erase.{erase, erase_one, steps_of}
 use Rattle.dbg_model.proofs.Options.{map_some, bind_some, guard_some, same_some}
@@ -32,7 +32,7 @@ is_more s t u a b is h = record { retired = ap (λ (v : State). v.retired) (sym 
 step_adds : (a : Answer) (s t : State) (h : ℕ) (x : Hart) → stepped_by a s h x ≡ Some t → Adds s t 1 0
 step_adds (Traps cause) s t h x is = cc
 step_adds (Goes r m out leave) s t h x is =
-    let u : State = record s { harts = with_leavers leave (slice_set s.harts h (stepped x r)) h; memory = m; out = s.out ++ out; retired = s.retired + 1 } in
+    let u = with_step s h x r m out leave in
     is_more s t u 1 0 (same_some u t is) (record { retired = refl; noted = omega arith })
 
 one_by_adds : (o : Opening) (s t : State) (h : ℕ) (r : Option Hart) → one_by o s h r ≡ Some t → Adds s t 1 0
@@ -62,6 +62,10 @@ stop_adds o s t h (Break number error) None is = cc
 stop_adds o s t h (Break number error) (Some x) is =
     let u : State = record (with_stop s h x) { breaks = arrived o.image s h x } in
     is_more s t u 0 1 (same_some u t (guard_some (may_move o s x && is_stop (due o.image s h x) number error) (Some u) t is).1) (record { retired = omega arith; noted = refl })
+stop_adds o s t h Interrupted None is = cc
+stop_adds o s t h Interrupted (Some x) is =
+    let u = with_stop s h x in
+    is_more s t u 0 1 (same_some u t (guard_some (may_run o s h x && x.asked) (Some u) t is).1) (record { retired = omega arith; noted = refl })
 stop_adds o s t h (Fault cause) (Some x) is =
     fault_adds (plain o.image x.regs s.memory) cause s t h x (guard_some (may_run o s h x) (faulted_by (plain o.image x.regs s.memory) cause s h x) t is).1
 

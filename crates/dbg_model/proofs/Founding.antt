@@ -14,6 +14,7 @@ use Rattle.mi_input.specs.Reading.{parts_read}
 use Rattle.mi_commands.specs.Commands.{answer}
 use Rattle.mi_commands.specs.declared.command.Command.{Command}
 use Rattle.mi_commands.specs.declared.command.Command.TheVariants as command
+use Rattle.mi_commands.specs.declared.command.Displaced.{Displaced}
 use Rattle.mi_commands.specs.declared.command.Insertion.{Insertion}
 use Rattle.mi_commands.specs.declared.command.Location.{Location}
 use Rattle.mi_commands.specs.declared.command.Location.TheVariants as location
@@ -34,7 +35,7 @@ use Rattle.dbg_model.specs.Breaks.{missing_number}
 use Rattle.dbg_model.specs.Conditions.{parsed}
 use Rattle.dbg_model.specs.Views.{register, shown_byte}
 use Rattle.dbg_model.specs.State.{Hart, State}
-use Rattle.dbg_model.specs.Reply.{Change, selects, inserts, deletes, enables, ignores, Outcome, implied, thread_hart, when_stopped, of_stopped, when_live, of_live, selecting, running, continued, threads_of, one_shown, thread_or, registers_of, registers_at, memory_of, shown_range, worth_of, evaluated_as, evaluated, changing, for_thread, unless_missing, unknown_thread, placed, set_by, set_as, named_at, inserted_at, conditioned, conditioned_as, content_of, outcome_at, fault_outcome, asked_outcome, no_parts, answer_by, answer_of}
+use Rattle.dbg_model.specs.Reply.{Change, selects, inserts, deletes, enables, ignores, Outcome, implied, thread_hart, when_stopped, of_stopped, when_live, of_live, selecting, running, continued, threads_of, one_shown, thread_or, registers_of, registers_at, memory_of, shown_range, worth_of, evaluated_as, evaluated, changing, for_thread, unless_missing, unknown_thread, placed, set_by, set_as, named_at, inserted_at, interrupted_by, interrupted_at, interrupted, conditioned, conditioned_as, content_of, outcome_at, fault_outcome, asked_outcome, no_parts, answer_by, answer_of}
 
 -- a thread that is named is there
 abbrev pub IsThereOr : List Hart → Option ℕ → Type 0
@@ -79,6 +80,7 @@ quiet_founded p xs es content.RegisterNames q = tt
 quiet_founded p xs es (content.Registers f rs) q = tt
 quiet_founded p xs es (content.Memory a bs) q = tt
 quiet_founded p xs es (content.Value n u) q = tt
+quiet_founded p xs es (content.Setting v) q = tt
 quiet_founded p xs es (content.Refused r) q = tt
 
 stopped_by : (t : ℕ) (f : Hart → Content) (x : Hart) (m : Mode) → Quiet (f x) → Quiet (when_stopped t f x m)
@@ -123,41 +125,41 @@ evaluated_quiet : (p : Program) (m : Memory) (r : Result Term ExprFault) (x : Ha
 evaluated_quiet p m (Ok e) x = worth_quiet (value_of (register x.regs) (shown_byte p m) e)
 evaluated_quiet p m (Err f) x = tt
 
-pub content_founded : (p : Program) (names : Names) (xs : List Hart) (m : Memory) (es : List Entry) (selected : ℕ) (c : Command) → IsFoundedBy p xs es (content_of p names xs m es selected c)
+pub content_founded : (p : Program) (names : Names) (xs : List Hart) (m : Memory) (es : List Entry) (selected : ℕ) (d : Displaced) (c : Command) → IsFoundedBy p xs es (content_of p names xs m es selected d c)
 unfolding content_of
-content_founded p names xs m es selected command.Blank = tt
-content_founded p names xs m es selected (command.BreakInsert i) = tt
-content_founded p names xs m es selected (command.BreakDelete ns) = tt
-content_founded p names xs m es selected (command.BreakEnable ns) = tt
-content_founded p names xs m es selected (command.BreakDisable ns) = tt
-content_founded p names xs m es selected (command.BreakCondition n c) = tt
-content_founded p names xs m es selected (command.BreakAfter n c) = tt
-content_founded p names xs m es selected command.BreakList = tt
-content_founded p names xs m es selected (command.Continue t) = quiet_founded p xs es (continued xs selected t) (continued_quiet xs selected t)
-content_founded p names xs m es selected (command.Interrupt t) = tt
-content_founded p names xs m es selected (command.Step t) = tt
-content_founded p names xs m es selected (command.Next t) = tt
-content_founded p names xs m es selected (command.StepInstruction t) = tt
-content_founded p names xs m es selected (command.NextInstruction t) = tt
-content_founded p names xs m es selected (command.Finish t) = tt
-content_founded p names xs m es selected command.Wait = tt
-content_founded p names xs m es selected (command.ThreadInfo t) = quiet_founded p xs es (threads_of xs selected t) (threads_quiet xs selected t)
-content_founded p names xs m es selected (command.ThreadSelect thread) = live_founded p xs es thread (selecting thread) (thread_hart xs thread) (λ x e. ap is_some e)
-content_founded p names xs m es selected command.ThreadList = tt
-content_founded p names xs m es selected (command.FrameList t) = tt
-content_founded p names xs m es selected (command.FrameDepth t) = tt
-content_founded p names xs m es selected (command.FrameInfo t) = tt
-content_founded p names xs m es selected command.RegisterNames = tt
-content_founded p names xs m es selected (command.RegisterValues t f ns) = let c = registers_at xs (thread_or selected t) f ns in quiet_founded p xs es c (stopped_quiet (thread_or selected t) (registers_of f ns) (thread_hart xs (thread_or selected t)) (λ x. tt))
-content_founded p names xs m es selected (command.ReadMemory addr count) = quiet_founded p xs es (memory_of addr (shown_range p m addr count)) (memory_quiet addr (shown_range p m addr count))
-content_founded p names xs m es selected (command.Evaluate t e) =
+content_founded p names xs m es selected d command.Blank = tt
+content_founded p names xs m es selected d (command.BreakInsert i) = tt
+content_founded p names xs m es selected d (command.BreakDelete ns) = tt
+content_founded p names xs m es selected d (command.BreakEnable ns) = tt
+content_founded p names xs m es selected d (command.BreakDisable ns) = tt
+content_founded p names xs m es selected d (command.BreakCondition n c) = tt
+content_founded p names xs m es selected d (command.BreakAfter n c) = tt
+content_founded p names xs m es selected d command.BreakList = tt
+content_founded p names xs m es selected d (command.Continue t) = quiet_founded p xs es (continued xs selected t) (continued_quiet xs selected t)
+content_founded p names xs m es selected d (command.Interrupt t) = tt
+content_founded p names xs m es selected d (command.Step t) = tt
+content_founded p names xs m es selected d (command.Next t) = tt
+content_founded p names xs m es selected d (command.StepInstruction t) = tt
+content_founded p names xs m es selected d (command.NextInstruction t) = tt
+content_founded p names xs m es selected d (command.Finish t) = tt
+content_founded p names xs m es selected d command.Wait = tt
+content_founded p names xs m es selected d (command.ThreadInfo t) = quiet_founded p xs es (threads_of xs selected t) (threads_quiet xs selected t)
+content_founded p names xs m es selected d (command.ThreadSelect thread) = live_founded p xs es thread (selecting thread) (thread_hart xs thread) (λ x e. ap is_some e)
+content_founded p names xs m es selected d command.ThreadList = tt
+content_founded p names xs m es selected d (command.FrameList t) = tt
+content_founded p names xs m es selected d (command.FrameDepth t) = tt
+content_founded p names xs m es selected d (command.FrameInfo t) = tt
+content_founded p names xs m es selected d command.RegisterNames = tt
+content_founded p names xs m es selected d (command.RegisterValues t f ns) = let c = registers_at xs (thread_or selected t) f ns in quiet_founded p xs es c (stopped_quiet (thread_or selected t) (registers_of f ns) (thread_hart xs (thread_or selected t)) (λ x. tt))
+content_founded p names xs m es selected d (command.ReadMemory addr count) = quiet_founded p xs es (memory_of addr (shown_range p m addr count)) (memory_quiet addr (shown_range p m addr count))
+content_founded p names xs m es selected d (command.Evaluate t e) =
     let c = of_stopped (thread_or selected t) (evaluated p names m e) (thread_hart xs (thread_or selected t)) in
     quiet_founded p xs es c (stopped_quiet (thread_or selected t) (evaluated p names m e) (thread_hart xs (thread_or selected t)) (λ x. evaluated_quiet p m (parsed names e) x))
-content_founded p names xs m es selected command.SetNonStop = tt
-content_founded p names xs m es selected command.SetMiAsync = tt
-content_founded p names xs m es selected (command.SetDisplaced d) = tt
-content_founded p names xs m es selected (command.Show s) = tt
-content_founded p names xs m es selected command.Exit = tt
+content_founded p names xs m es selected d command.SetNonStop = tt
+content_founded p names xs m es selected d command.SetMiAsync = tt
+content_founded p names xs m es selected d (command.SetDisplaced v) = tt
+content_founded p names xs m es selected d (command.Show s) = tt
+content_founded p names xs m es selected d command.Exit = tt
 
 room : (n : ℕ) → nat_lt n 128 ≡ true → n < 128
 room n h = grind (arith, nat_tests)
@@ -212,39 +214,54 @@ condition_founded : (p : Program) (names : Names) (xs : List Hart) (es : List En
 condition_founded p names xs es n None = tt
 condition_founded p names xs es n (Some text) = conditioned_founded p names xs es n text (parsed names text)
 
-pub outcome_founded : (p : Program) (names : Names) (xs : List Hart) (m : Memory) (es : List Entry) (given selected : ℕ) (c : Command) → IsFounded p xs es (outcome_at p names xs m es given selected c).change
+interrupted_by_founded : (p : Program) (xs : List Hart) (es : List Entry) (t : ℕ) (m : Mode) → IsFounded p xs es (interrupted_by t m).change
+interrupted_by_founded p xs es t mode.Stopped = tt
+interrupted_by_founded p xs es t mode.Running = tt
+interrupted_by_founded p xs es t (mode.Leaving code) = tt
+interrupted_by_founded p xs es t mode.Exited = tt
+
+interrupted_at_founded : (p : Program) (xs : List Hart) (es : List Entry) (t : ℕ) (r : Option Hart) → IsFounded p xs es (interrupted_at t r).change
+interrupted_at_founded p xs es t None = tt
+interrupted_at_founded p xs es t (Some x) = interrupted_by_founded p xs es t x.mode
+
+interrupted_founded : (p : Program) (xs : List Hart) (es : List Entry) (selected : ℕ) (t : Target) → IsFounded p xs es (interrupted xs selected t).change
+interrupted_founded p xs es selected target.Selected = interrupted_at_founded p xs es selected (thread_hart xs selected)
+interrupted_founded p xs es selected (target.Thread thread) = interrupted_at_founded p xs es thread (thread_hart xs thread)
+interrupted_founded p xs es selected target.All = tt
+
+pub outcome_founded : (p : Program) (names : Names) (xs : List Hart) (m : Memory) (es : List Entry) (given selected : ℕ) (d : Displaced) (c : Command) → IsFounded p xs es (outcome_at p names xs m es given selected d c).change
 unfolding outcome_at
-outcome_founded p names xs m es given selected (command.BreakInsert i) = for_founded p xs es i.thread (unknown_thread xs i.thread) (inserted_at p names es given i i.location) refl (λ there. inserted_founded p names xs es given i i.location there)
-outcome_founded p names xs m es given selected (command.BreakDelete ns) = unless_founded p xs es (missing_number es ns) (changing (deletes ns)) tt
-outcome_founded p names xs m es given selected (command.BreakEnable ns) = unless_founded p xs es (missing_number es ns) (changing (enables true ns)) tt
-outcome_founded p names xs m es given selected (command.BreakDisable ns) = unless_founded p xs es (missing_number es ns) (changing (enables false ns)) tt
-outcome_founded p names xs m es given selected (command.BreakCondition n c) = unless_founded p xs es (missing_number es (n ∷ [])) (conditioned names n c) (condition_founded p names xs es n c)
-outcome_founded p names xs m es given selected (command.BreakAfter n k) = unless_founded p xs es (missing_number es (n ∷ [])) (changing (ignores n k)) tt
-outcome_founded p names xs m es given selected command.Blank = content_founded p names xs m es selected command.Blank
-outcome_founded p names xs m es given selected command.BreakList = content_founded p names xs m es selected command.BreakList
-outcome_founded p names xs m es given selected (command.Continue t) = content_founded p names xs m es selected (command.Continue t)
-outcome_founded p names xs m es given selected (command.Interrupt t) = content_founded p names xs m es selected (command.Interrupt t)
-outcome_founded p names xs m es given selected (command.Step t) = content_founded p names xs m es selected (command.Step t)
-outcome_founded p names xs m es given selected (command.Next t) = content_founded p names xs m es selected (command.Next t)
-outcome_founded p names xs m es given selected (command.StepInstruction t) = content_founded p names xs m es selected (command.StepInstruction t)
-outcome_founded p names xs m es given selected (command.NextInstruction t) = content_founded p names xs m es selected (command.NextInstruction t)
-outcome_founded p names xs m es given selected (command.Finish t) = content_founded p names xs m es selected (command.Finish t)
-outcome_founded p names xs m es given selected command.Wait = content_founded p names xs m es selected command.Wait
-outcome_founded p names xs m es given selected (command.ThreadInfo t) = content_founded p names xs m es selected (command.ThreadInfo t)
-outcome_founded p names xs m es given selected (command.ThreadSelect t) = content_founded p names xs m es selected (command.ThreadSelect t)
-outcome_founded p names xs m es given selected command.ThreadList = content_founded p names xs m es selected command.ThreadList
-outcome_founded p names xs m es given selected (command.FrameList t) = content_founded p names xs m es selected (command.FrameList t)
-outcome_founded p names xs m es given selected (command.FrameDepth t) = content_founded p names xs m es selected (command.FrameDepth t)
-outcome_founded p names xs m es given selected (command.FrameInfo t) = content_founded p names xs m es selected (command.FrameInfo t)
-outcome_founded p names xs m es given selected command.RegisterNames = content_founded p names xs m es selected command.RegisterNames
-outcome_founded p names xs m es given selected (command.RegisterValues t f ns) = content_founded p names xs m es selected (command.RegisterValues t f ns)
-outcome_founded p names xs m es given selected (command.ReadMemory addr count) = content_founded p names xs m es selected (command.ReadMemory addr count)
-outcome_founded p names xs m es given selected (command.Evaluate t e) = content_founded p names xs m es selected (command.Evaluate t e)
-outcome_founded p names xs m es given selected command.SetNonStop = content_founded p names xs m es selected command.SetNonStop
-outcome_founded p names xs m es given selected command.SetMiAsync = content_founded p names xs m es selected command.SetMiAsync
-outcome_founded p names xs m es given selected (command.SetDisplaced d) = content_founded p names xs m es selected (command.SetDisplaced d)
-outcome_founded p names xs m es given selected (command.Show s) = content_founded p names xs m es selected (command.Show s)
-outcome_founded p names xs m es given selected command.Exit = content_founded p names xs m es selected command.Exit
+outcome_founded p names xs m es given selected d (command.BreakInsert i) = for_founded p xs es i.thread (unknown_thread xs i.thread) (inserted_at p names es given i i.location) refl (λ there. inserted_founded p names xs es given i i.location there)
+outcome_founded p names xs m es given selected d (command.BreakDelete ns) = unless_founded p xs es (missing_number es ns) (changing (deletes ns)) tt
+outcome_founded p names xs m es given selected d (command.BreakEnable ns) = unless_founded p xs es (missing_number es ns) (changing (enables true ns)) tt
+outcome_founded p names xs m es given selected d (command.BreakDisable ns) = unless_founded p xs es (missing_number es ns) (changing (enables false ns)) tt
+outcome_founded p names xs m es given selected d (command.BreakCondition n c) = unless_founded p xs es (missing_number es (n ∷ [])) (conditioned names n c) (condition_founded p names xs es n c)
+outcome_founded p names xs m es given selected d (command.BreakAfter n k) = unless_founded p xs es (missing_number es (n ∷ [])) (changing (ignores n k)) tt
+outcome_founded p names xs m es given selected d command.Blank = content_founded p names xs m es selected d command.Blank
+outcome_founded p names xs m es given selected d command.BreakList = content_founded p names xs m es selected d command.BreakList
+outcome_founded p names xs m es given selected d (command.Continue t) = content_founded p names xs m es selected d (command.Continue t)
+outcome_founded p names xs m es given selected d (command.Interrupt t) = interrupted_founded p xs es selected t
+outcome_founded p names xs m es given selected d (command.Step t) = content_founded p names xs m es selected d (command.Step t)
+outcome_founded p names xs m es given selected d (command.Next t) = content_founded p names xs m es selected d (command.Next t)
+outcome_founded p names xs m es given selected d (command.StepInstruction t) = content_founded p names xs m es selected d (command.StepInstruction t)
+outcome_founded p names xs m es given selected d (command.NextInstruction t) = content_founded p names xs m es selected d (command.NextInstruction t)
+outcome_founded p names xs m es given selected d (command.Finish t) = content_founded p names xs m es selected d (command.Finish t)
+outcome_founded p names xs m es given selected d command.Wait = content_founded p names xs m es selected d command.Wait
+outcome_founded p names xs m es given selected d (command.ThreadInfo t) = content_founded p names xs m es selected d (command.ThreadInfo t)
+outcome_founded p names xs m es given selected d (command.ThreadSelect t) = content_founded p names xs m es selected d (command.ThreadSelect t)
+outcome_founded p names xs m es given selected d command.ThreadList = content_founded p names xs m es selected d command.ThreadList
+outcome_founded p names xs m es given selected d (command.FrameList t) = content_founded p names xs m es selected d (command.FrameList t)
+outcome_founded p names xs m es given selected d (command.FrameDepth t) = content_founded p names xs m es selected d (command.FrameDepth t)
+outcome_founded p names xs m es given selected d (command.FrameInfo t) = content_founded p names xs m es selected d (command.FrameInfo t)
+outcome_founded p names xs m es given selected d command.RegisterNames = content_founded p names xs m es selected d command.RegisterNames
+outcome_founded p names xs m es given selected d (command.RegisterValues t f ns) = content_founded p names xs m es selected d (command.RegisterValues t f ns)
+outcome_founded p names xs m es given selected d (command.ReadMemory addr count) = content_founded p names xs m es selected d (command.ReadMemory addr count)
+outcome_founded p names xs m es given selected d (command.Evaluate t e) = content_founded p names xs m es selected d (command.Evaluate t e)
+outcome_founded p names xs m es given selected d command.SetNonStop = content_founded p names xs m es selected d command.SetNonStop
+outcome_founded p names xs m es given selected d command.SetMiAsync = content_founded p names xs m es selected d command.SetMiAsync
+outcome_founded p names xs m es given selected d (command.SetDisplaced v) = tt
+outcome_founded p names xs m es given selected d (command.Show s) = content_founded p names xs m es selected d (command.Show s)
+outcome_founded p names xs m es given selected d command.Exit = content_founded p names xs m es selected d command.Exit
 
 fault_founded : (p : Program) (xs : List Hart) (es : List Entry) (f : Fault) → IsFounded p xs es (fault_outcome xs f).change
 fault_founded p xs es (fault.Undefined name) = tt
@@ -254,7 +271,7 @@ fault_founded p xs es fault.Setting = tt
 fault_founded p xs es (fault.Location word thread) = for_founded p xs es thread (unknown_thread xs thread) _ refl (λ there. tt)
 
 asked_founded : (o : Opening) (s : State) (r : Result Command Fault) → IsFounded o.image s.harts s.breaks (asked_outcome o s r).change
-asked_founded o s (Ok c) = outcome_founded o.image (names_of o.image) s.harts s.memory s.breaks s.given s.selected c
+asked_founded o s (Ok c) = outcome_founded o.image (names_of o.image) s.harts s.memory s.breaks s.given s.selected s.displaced c
 asked_founded o s (Err f) = fault_founded o.image s.harts s.breaks f
 
 abbrev Answered : Opening → State → Change → Type 0

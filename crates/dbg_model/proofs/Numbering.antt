@@ -7,14 +7,14 @@ use Rattle.rv_exec.specs.Causes.{cause_number}
 use Rattle.plain_machine.specs.Environment.{Answer, Traps, Goes}
 use Rattle.plain_machine.specs.Plain.{plain}
 use Rattle.dbg_model.specs.declared.entry.Why.{Why}
-use Rattle.dbg_model.specs.declared.entry.Why.TheVariants.{Break, Fault}
+use Rattle.dbg_model.specs.declared.entry.Why.TheVariants.{Break, Interrupted, Fault}
 use Rattle.dbg_model.specs.declared.entry.Entry.{Entry}
 use Rattle.dbg_model.specs.declared.entry.Entry.TheVariants.{Ran, Counted, Stopped, Left, Did}
 use Rattle.dbg_model.specs.declared.opening.Opening.{Opening}
 use Rattle.dbg_model.specs.Breaks.{is_stop}
 use Rattle.dbg_model.specs.State.{Hart, State, due, is_counted, arrived}
-use Rattle.dbg_model.specs.Reply.{Change, stays, resumes, selects, inserts, deletes, enables, conditions, ignores, done_by, answer_of, given_after}
-use Rattle.dbg_model.specs.Lawful.{enter, one, one_by, ran, may_run, may_move, may_do, stepped_by, stepped, with_leavers, with_stop, faulted_by, stopped_by, counted_by, with_count, left_by, leaver_from, exited_at}
+use Rattle.dbg_model.specs.Reply.{Change, stays, resumes, selects, inserts, deletes, enables, conditions, ignores, interrupts, displaces, done_by, answer_of, given_after}
+use Rattle.dbg_model.specs.Lawful.{enter, one, one_by, ran, may_run, may_move, may_do, stepped_by, stepped, with_leavers, with_stop, faulted_by, stopped_by, counted_by, with_count, left_by, leaver_from, exited_at, with_step}
 use Rattle.dbg_model.specs.Journals.{Place, come, follows, ran_hart, replay_from, replay, first_place, Leaves, noted_one}
 use Rattle.dbg_model.proofs.Options.{map_some, bind_some, guard_some, same_some}
 use Rattle.dbg_model.proofs.Counting.{enter_adds}
@@ -25,7 +25,7 @@ same_given s t u is e = ap (λ (v : State). v.given) (sym is) ∙ e
 step_given : (a : Answer) (s t : State) (h : ℕ) (x : Hart) → stepped_by a s h x ≡ Some t → t.given ≡ s.given
 step_given (Traps cause) s t h x is = cc
 step_given (Goes r m out leave) s t h x is =
-    let u : State = record s { harts = with_leavers leave (slice_set s.harts h (stepped x r)) h; memory = m; out = s.out ++ out; retired = s.retired + 1 } in
+    let u = with_step s h x r m out leave in
     same_given s t u (same_some u t is) refl
 
 one_given : (o : Opening) (s t : State) (h : ℕ) (r : Option Hart) → one_by o s h r ≡ Some t → t.given ≡ s.given
@@ -53,6 +53,9 @@ stop_given o s t h (Break number error) None is = cc
 stop_given o s t h (Break number error) (Some x) is =
     let u : State = record (with_stop s h x) { breaks = arrived o.image s h x } in
     same_given s t u (same_some u t (guard_some (may_move o s x && is_stop (due o.image s h x) number error) (Some u) t is).1) refl
+stop_given o s t h Interrupted None is = cc
+stop_given o s t h Interrupted (Some x) is =
+    let u = with_stop s h x in same_given s t u (same_some u t (guard_some (may_run o s h x && x.asked) (Some u) t is).1) refl
 stop_given o s t h (Fault cause) (Some x) is =
     fault_given (plain o.image x.regs s.memory) cause s t h x (guard_some (may_run o s h x) (faulted_by (plain o.image x.regs s.memory) cause s h x) t is).1
 
@@ -77,6 +80,8 @@ given_more n (deletes ns) = omega arith
 given_more n (enables b ns) = omega arith
 given_more n (conditions k c) = omega arith
 given_more n (ignores k m) = omega arith
+given_more n (interrupts ts) = omega arith
+given_more n (displaces v) = omega arith
 
 done_given : (o : Opening) (s : State) (line : List ℕ) → (done_by o s line).given ≤ s.given + 1
 unfolding done_by

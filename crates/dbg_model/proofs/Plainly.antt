@@ -14,14 +14,14 @@ use Rattle.plain_machine.specs.PlainRun as machine
 use Rattle.dbg_model.specs.declared.entry.Mode.{Mode}
 use Rattle.dbg_model.specs.declared.entry.Mode.TheVariants as mode
 use Rattle.dbg_model.specs.declared.entry.Why.{Why}
-use Rattle.dbg_model.specs.declared.entry.Why.TheVariants.{Break, Fault}
+use Rattle.dbg_model.specs.declared.entry.Why.TheVariants.{Break, Interrupted, Fault}
 use Rattle.dbg_model.specs.declared.entry.Entry.{Entry}
 use Rattle.dbg_model.specs.declared.entry.Entry.TheVariants.{Ran, Counted, Stopped, Left, Did}
 use Rattle.dbg_model.specs.declared.opening.Opening.{Opening}
 use Rattle.dbg_model.specs.Breaks.{is_stop}
 use Rattle.dbg_model.specs.State.{Hart, State, first_state, first_harts, is_running, due, is_due, is_counted, arrived}
-use Rattle.dbg_model.specs.Reply.{done_by, answer_of, changed_by, resumed, resumed_by, resumed_at, resumed_thread, resumed_threads, going_on}
-use Rattle.dbg_model.specs.Lawful.{enter, one, one_by, ran, may_run, may_move, may_go, may_do, stepped_by, stepped, leaving, leaving_at, with_leavers, with_stop, stopped, faulted_by, stopped_by, counted, counted_by, with_count, left_by, leaver_from, leaver_or, exited, exited_at}
+use Rattle.dbg_model.specs.Reply.{done_by, answer_of, changed_by, resumed, resumed_by, resumed_at, resumed_thread, resumed_threads, going_on, asked_by, asked, ask_at, ask_thread, ask_threads, asking}
+use Rattle.dbg_model.specs.Lawful.{enter, one, one_by, ran, may_run, may_move, may_go, may_do, stepped_by, stepped, leaving, leaving_at, with_leavers, with_stop, stopped, faulted_by, stopped_by, counted, counted_by, with_count, left_by, leaver_from, leaver_or, exited, exited_at, with_step}
 use Rattle.dbg_model.specs.Journals.{Place, come, follows, ran_hart, replay_from, replay, first_place, Leaves}
 use Rattle.dbg_model.specs.Erase.{erase, erase_one}
 use Rattle.dbg_model.proofs.Options.{map_some, bind_some, guard_some, bind_bind, bind_return, same_some, both_true}
@@ -108,7 +108,7 @@ stepped_plain xs h x r leave runs =
 answers_plain : (a : Answer) (s t : State) (h : ℕ) (x : Hart) → is_gone x.mode ≡ false → stepped_by a s h x ≡ Some t → plain_after (plain_of s) h a ≡ Some (plain_of t)
 answers_plain (Traps cause) s t h x runs is = cc
 answers_plain (Goes r m out leave) s t h x runs is =
-    let u : State = record s { harts = with_leavers leave (slice_set s.harts h (stepped x r)) h; memory = m; out = s.out ++ out; retired = s.retired + 1 } in
+    let u = with_step s h x r m out leave in
     ap (λ ys. let p : PlainState = record { harts = ys; memory = m; out = s.out ++ out } in Some p) (sym (stepped_plain s.harts h x r leave runs))
     ∙ ap (λ v. Some (plain_of v)) (same_some u t is)
 
@@ -164,6 +164,12 @@ stop_plain o s t h (Break number error) (Some x) at is =
     let runs = runs_moves o s x (both_true (may_move o s x) (is_stop (due o.image s h x) number error) g.0).0 in
     let same : plain_hart (stopped x) ≡ plain_hart x = ap (λ b. let y : PlainHart = record { regs = x.regs; has_exited = b } in y) (sym runs) in
     ap (λ ys. let p : PlainState = record { harts = ys; memory = s.memory; out = s.out } in p) (sym (same_plain s.harts h x (stopped x) at same)) ∙ ap plain_of (same_some u t g.1)
+stop_plain o s t h Interrupted None at is = cc
+stop_plain o s t h Interrupted (Some x) at is =
+    let g = guard_some (may_run o s h x && x.asked) (Some (with_stop s h x)) t is in
+    let runs = runs_runs o s h x (both_true (may_run o s h x) x.asked g.0).0 in
+    let same : plain_hart (stopped x) ≡ plain_hart x = ap (λ b. let y : PlainHart = record { regs = x.regs; has_exited = b } in y) (sym runs) in
+    same_harts s (slice_set s.harts h (stopped x)) (s.noted + 1) t (same_plain s.harts h x (stopped x) at same) (same_some (with_stop s h x) t g.1)
 stop_plain o s t h (Fault cause) None at is = cc
 stop_plain o s t h (Fault cause) (Some x) at is =
     let g = guard_some (may_run o s h x) (faulted_by (plain o.image x.regs s.memory) cause s h x) t is in
@@ -229,12 +235,31 @@ resumed_threads_plain : (xs : List Hart) (ts : List ℕ) → map plain_hart (res
 resumed_threads_plain xs [] = refl
 resumed_threads_plain xs (t ∷ ts) = resumed_threads_plain (resumed_thread xs t) ts ∙ resumed_thread_plain xs t
 
+asked_plain : (x : Hart) (m : Mode) → x.mode ≡ m → plain_hart (asked_by x m) ≡ plain_hart x
+asked_plain x mode.Stopped is = refl
+asked_plain x mode.Running is = ap (λ c. let y : PlainHart = record { regs = x.regs; has_exited = c } in y) (sym (ap is_gone is))
+asked_plain x (mode.Leaving code) is = refl
+asked_plain x mode.Exited is = refl
+
+ask_at_plain : (xs : List Hart) (h : ℕ) (r : Option Hart) → slice_get xs h ≡ r → map plain_hart (ask_at xs h r) ≡ map plain_hart xs
+ask_at_plain xs h None at = refl
+ask_at_plain xs h (Some x) at = same_plain xs h x (asked x) at (asked_plain x x.mode refl)
+
+ask_thread_plain : (xs : List Hart) (t : ℕ) → map plain_hart (ask_thread xs t) ≡ map plain_hart xs
+ask_thread_plain xs zero = refl
+ask_thread_plain xs (suc h) = ask_at_plain xs h (slice_get xs h) refl
+
+-- nor do threads of which an interrupt is asked
+ask_threads_plain : (xs : List Hart) (ts : List ℕ) → map plain_hart (ask_threads xs ts) ≡ map plain_hart xs
+ask_threads_plain xs [] = refl
+ask_threads_plain xs (t ∷ ts) = ask_threads_plain (ask_thread xs t) ts ∙ ask_thread_plain xs t
+
 done_plain : (o : Opening) (s : State) (line : List ℕ) (t : State) → done_by o s line ≡ t → plain_of s ≡ plain_of t
 unfolding done_by
 done_plain o s line t is =
     let c = (answer_of o s line).outcome.change in
     let u = changed_by s c in
-    let same : plain_of s ≡ plain_of u = ap (λ ys. let p : PlainState = record { harts = ys; memory = s.memory; out = s.out } in p) (sym (resumed_threads_plain s.harts (going_on c))) in
+    let same : plain_of s ≡ plain_of u = ap (λ ys. let p : PlainState = record { harts = ys; memory = s.memory; out = s.out } in p) (sym (ask_threads_plain (resumed_threads s.harts (going_on c)) (asking c) ∙ resumed_threads_plain s.harts (going_on c))) in
     same ∙ ap plain_of is
 
 pub enter_plain : (o : Opening) (s : State) (e : Entry) (t : State) → enter o s e ≡ Some t → run_from o.image (plain_of s) (erase_one e) ≡ Some (plain_of t)
@@ -265,7 +290,7 @@ map-append f (x ∷ xs) ys = ap (λ t. f x ∷ t) (map-append f xs ys)
 start_harts : (p : Program) (harts n : ℕ) → machine.first_harts p harts n ≡ map plain_hart (first_harts p harts n)
 start_harts p harts zero = refl
 start_harts p harts (suc n) =
-    let x : Hart = record { regs = first_registers p.entry harts n; mode = mode.Stopped; fresh = false } in
+    let x : Hart = record { regs = first_registers p.entry harts n; mode = mode.Stopped; fresh = false; asked = false } in
     ap (λ t. t ++ plain_hart x ∷ []) (start_harts p harts n) ∙ sym (map-append plain_hart (first_harts p harts n) (x ∷ []))
 
 starts_plain : (o : Opening) → plain_start o.image o.settings.harts ≡ plain_of (first_state o)

@@ -1,20 +1,22 @@
 -- Which entries may come in a state, and the state that each leaves.
-use Rattle.std.specs.Prelude.{ℕ, suc, zero, ◌+◌, Bool, true, false, List, [], ◌∷◌, ◌++◌, map, Option, Some, None, option_and_then, if◌then◌else◌, ◌==◌, ◌&&◌, not, nat_lt, slice_get, slice_set}
+use Rattle.std.specs.Prelude.{ℕ, suc, zero, ◌+◌, Bool, true, false, List, [], ◌∷◌, ◌++◌, map, Option, Some, None, option_and_then, if◌then◌else◌, ◌==◌, ◌&&◌, not, nat_lt, slice_get, slice_index, slice_set}
 use Rattle.rv_exec.specs.declared.effect.Cause.{Cause}
 use Rattle.rv_exec.specs.Causes.{cause_number}
 use Rattle.rv_exec.specs.Registers.{Registers}
+use Rattle.rv_exec.specs.Memory.{Memory}
 use Rattle.plain_machine.specs.Environment.{Answer, Traps, Goes, Leave, Stays, LeavesAlone, LeavesAll}
 use Rattle.plain_machine.specs.Plain.{plain}
 use Rattle.dbg_model.specs.declared.entry.Mode.{Mode}
 use Rattle.dbg_model.specs.declared.entry.Mode.TheVariants as mode
 use Rattle.dbg_model.specs.declared.entry.Why.{Why}
-use Rattle.dbg_model.specs.declared.entry.Why.TheVariants.{Break, Fault}
+use Rattle.dbg_model.specs.declared.entry.Why.TheVariants.{Break, Interrupted, Fault}
 use Rattle.dbg_model.specs.declared.entry.Entry.{Entry}
 use Rattle.dbg_model.specs.declared.entry.Entry.TheVariants.{Ran, Counted, Stopped, Left, Did}
 use Rattle.dbg_model.specs.declared.limits.TheConstants.{HISTORY}
 use Rattle.dbg_model.specs.declared.opening.Opening.{Opening}
 use Rattle.dbg_model.specs.Breaks.{is_stop}
-use Rattle.dbg_model.specs.State.{Hart, State, is_running, has_exited, any_runs, any_leaves, due, is_due, is_counted, arrived}
+use Rattle.break_table.specs.Table.{stands}
+use Rattle.dbg_model.specs.State.{Hart, State, is_running, has_exited, is_off, any_runs, any_leaves, due, is_due, is_counted, arrived}
 use Rattle.dbg_model.specs.Reply.{done_by, is_wait}
 
 -- no exit is still to be reported, and neither the budget nor the history is used up
@@ -34,11 +36,11 @@ abbrev pub may_run : Opening → State → ℕ → Hart → Bool
 may_run o s h x = may_move o s x && not (is_due (due o.image s h x))
 
 abbrev pub stepped : Hart → Registers → Hart
-stepped x r = record { regs = r; mode = x.mode; fresh = true }
+stepped x r = record { regs = r; mode = x.mode; fresh = true; asked = x.asked }
 
 -- a live hart leaves
 abbrev pub leaving : ℕ → Hart → Hart
-leaving code x = if has_exited x.mode then x else record { regs = x.regs; mode = mode.Leaving code; fresh = x.fresh }
+leaving code x = if has_exited x.mode then x else record { regs = x.regs; mode = mode.Leaving code; fresh = x.fresh; asked = x.asked }
 
 abbrev pub leaving_at : ℕ → List Hart → ℕ → Option Hart → List Hart
 leaving_at code xs h None = xs
@@ -50,10 +52,27 @@ with_leavers Stays xs h = xs
 with_leavers (LeavesAlone code) xs h = leaving_at code xs h (slice_get xs h)
 with_leavers (LeavesAll code) xs h = map (leaving code) xs
 
+-- an enabled breakpoint stands where the hart is, and displaced stepping isn't off
+abbrev pub passes : State → Hart → Bool
+passes s x = not (is_off s.displaced) && stands x.regs.pc s.breaks
+
+abbrev pub one_more_at : List ℕ → ℕ → Bool → List ℕ
+one_more_at ns h true = slice_set ns h (slice_index ns h + 1)
+one_more_at ns h false = ns
+
+-- the state after an instruction of a hart
+abbrev pub with_step : State → ℕ → Hart → Registers → Memory → List ℕ → Leave → State
+with_step s h x r m out leave = record s {
+  harts = with_leavers leave (slice_set s.harts h (stepped x r)) h;
+  memory = m;
+  out = s.out ++ out;
+  passed = one_more_at s.passed h (passes s x);
+  retired = s.retired + 1;
+}
+
 abbrev pub stepped_by : Answer → State → ℕ → Hart → Option State
 stepped_by (Traps cause) s h x = None
-stepped_by (Goes r m out leave) s h x =
-    Some (record s { harts = with_leavers leave (slice_set s.harts h (stepped x r)) h; memory = m; out = s.out ++ out; retired = s.retired + 1 })
+stepped_by (Goes r m out leave) s h x = Some (with_step s h x r m out leave)
 
 abbrev pub one_by : Opening → State → ℕ → Option Hart → Option State
 one_by o s h None = None
@@ -69,7 +88,7 @@ ran o h s zero = Some s
 ran o h s (suc n) = option_and_then (one o h) (ran o h s n)
 
 abbrev pub stopped : Hart → Hart
-stopped x = record { regs = x.regs; mode = mode.Stopped; fresh = false }
+stopped x = record { regs = x.regs; mode = mode.Stopped; fresh = false; asked = false }
 
 abbrev pub with_stop : State → ℕ → Hart → State
 with_stop s h x = record s { harts = slice_set s.harts h (stopped x); noted = s.noted + 1 }
@@ -79,16 +98,17 @@ abbrev pub faulted_by : Answer → Cause → State → ℕ → Hart → Option S
 faulted_by (Traps met) cause s h x = if cause_number met == cause_number cause then Some (with_stop s h x) else None
 faulted_by (Goes r m out leave) cause s h x = None
 
--- a hart stops: at a breakpoint that it has just come to, or by a trap
+-- a hart stops: at a breakpoint that it has just come to, by an interrupt that was asked, or by a trap
 abbrev pub stopped_by : Opening → State → ℕ → Why → Option Hart → Option State
 stopped_by o s h why None = None
 stopped_by o s h (Break number error) (Some x) =
     if may_move o s x && is_stop (due o.image s h x) number error then Some (record (with_stop s h x) { breaks = arrived o.image s h x }) else None
+stopped_by o s h Interrupted (Some x) = if may_run o s h x && x.asked then Some (with_stop s h x) else None
 stopped_by o s h (Fault cause) (Some x) = if may_run o s h x then faulted_by (plain o.image x.regs s.memory) cause s h x else None
 
 -- a hart that was counted has arrived, and isn't fresh any more
 abbrev pub counted : Hart → Hart
-counted x = record { regs = x.regs; mode = x.mode; fresh = false }
+counted x = record { regs = x.regs; mode = x.mode; fresh = false; asked = x.asked }
 
 abbrev pub with_count : Opening → State → ℕ → Hart → State
 with_count o s h x = record s { harts = slice_set s.harts h (counted x); breaks = arrived o.image s h x; noted = s.noted + 1 }
@@ -110,7 +130,7 @@ leaver_from k [] = None
 leaver_from k (x ∷ xs) = leaver_or k x.mode (leaver_from (k + 1) xs)
 
 abbrev pub exited : Hart → Hart
-exited x = record { regs = x.regs; mode = mode.Exited; fresh = x.fresh }
+exited x = record { regs = x.regs; mode = mode.Exited; fresh = x.fresh; asked = x.asked }
 
 abbrev pub exited_at : List Hart → ℕ → Option Hart → List Hart
 exited_at xs h None = xs

@@ -19,10 +19,14 @@ use Rattle.mi_input.specs.Reading.{parts_read}
 use Rattle.mi_commands.specs.Commands.{answer}
 use Rattle.mi_commands.specs.declared.command.Command.{Command}
 use Rattle.mi_commands.specs.declared.command.Command.TheVariants as command
+use Rattle.mi_commands.specs.declared.command.Displaced.{Displaced}
+use Rattle.mi_commands.specs.declared.command.Displaced.TheVariants as displaced
 use Rattle.mi_commands.specs.declared.command.Format.{Format}
 use Rattle.mi_commands.specs.declared.command.Insertion.{Insertion}
 use Rattle.mi_commands.specs.declared.command.Location.{Location}
 use Rattle.mi_commands.specs.declared.command.Location.TheVariants as location
+use Rattle.mi_commands.specs.declared.command.Setting.{Setting}
+use Rattle.mi_commands.specs.declared.command.Setting.TheVariants as settings
 use Rattle.mi_commands.specs.declared.command.Target.{Target}
 use Rattle.mi_commands.specs.declared.command.Target.TheVariants as target
 use Rattle.mi_commands.specs.declared.refusal.Fault.{Fault}
@@ -30,7 +34,7 @@ use Rattle.mi_commands.specs.declared.refusal.Fault.TheVariants as fault
 use Rattle.dbg_model.specs.declared.breakpoint.Breakpoint.{Breakpoint}
 use Rattle.dbg_model.specs.declared.limits.TheConstants.{MOST_BREAKPOINTS}
 use Rattle.dbg_model.specs.declared.reply.Obstacle.{Obstacle}
-use Rattle.dbg_model.specs.declared.reply.Obstacle.TheVariants.{UnknownThread, HasExited, IsRunning, NoBreakpoint, NoInstruction, TooManyBreakpoints, Expression, DivisionByZero, Unreadable}
+use Rattle.dbg_model.specs.declared.reply.Obstacle.TheVariants.{UnknownThread, HasExited, IsRunning, NotRunning, NoBreakpoint, NoInstruction, TooManyBreakpoints, Expression, DivisionByZero, Unreadable}
 use Rattle.dbg_model.specs.declared.reply.Refused.TheVariants as refused
 use Rattle.dbg_model.specs.declared.reply.Register.{Register}
 use Rattle.dbg_model.specs.declared.reply.Thread.{Thread}
@@ -43,7 +47,7 @@ use Rattle.dbg_model.specs.declared.opening.Opening.{Opening}
 use Rattle.dbg_model.specs.Breaks.{missing_number, without, enabling}
 use Rattle.dbg_model.specs.Conditions.{parsed}
 use Rattle.dbg_model.specs.Views.{register, shown_byte}
-use Rattle.dbg_model.specs.State.{Hart, State}
+use Rattle.dbg_model.specs.State.{Hart, State, is_off}
 
 -- ---- threads, which are counted from 1
 
@@ -108,6 +112,17 @@ abbrev pub stopped_threads : ℕ → List Hart → List ℕ
 stopped_threads thread [] = []
 stopped_threads thread (x ∷ xs) = stopped_by thread x.mode ++ stopped_threads (thread + 1) xs
 
+abbrev pub running_by : ℕ → Mode → List ℕ
+running_by thread mode.Stopped = []
+running_by thread mode.Running = thread ∷ []
+running_by thread (mode.Leaving code) = []
+running_by thread mode.Exited = []
+
+-- the threads that run, of which the first has this number
+abbrev pub running_threads : ℕ → List Hart → List ℕ
+running_threads thread [] = []
+running_threads thread (x ∷ xs) = running_by thread x.mode ++ running_threads (thread + 1) xs
+
 -- ---- registers and memory
 
 abbrev pub valued : Registers → ℕ → Register
@@ -167,6 +182,12 @@ thread_number t = t.number
 abbrev pub registers_at : List Hart → ℕ → Format → List ℕ → Content
 registers_at xs thread format numbers = of_stopped thread (registers_of format numbers) (thread_hart xs thread)
 
+-- the value of a setting; the mode is always non-stop, and commands are always done while harts run
+abbrev pub setting_value : Displaced → Setting → Displaced
+setting_value d settings.NonStop = displaced.On
+setting_value d settings.MiAsync = displaced.On
+setting_value d settings.DisplacedStepping = d
+
 abbrev pub not_built : Content
 not_built = content.Refused refused.NotBuilt
 
@@ -207,20 +228,23 @@ listed names e = record {
   times = e.times;
 }
 
--- ---- what is answered to a command that changes no breakpoint, over a program with its names, its harts, their memory, the breakpoints, and the selected thread
-unfoldable pub content_of : Program → Names → List Hart → Memory → List Entry → ℕ → Command → Content
-content_of p names xs m es selected command.Blank = content.Blank
-content_of p names xs m es selected command.Wait = content.Done
-content_of p names xs m es selected command.BreakList = content.Breakpoints (map (listed names) es)
-content_of p names xs m es selected (command.Continue t) = continued xs selected t
-content_of p names xs m es selected (command.ThreadInfo thread) = threads_of xs selected thread
-content_of p names xs m es selected (command.ThreadSelect thread) = of_live thread (selecting thread) (thread_hart xs thread)
-content_of p names xs m es selected command.ThreadList = content.ThreadNumbers (map thread_number (live_threads 1 xs)) selected
-content_of p names xs m es selected command.RegisterNames = content.RegisterNames
-content_of p names xs m es selected (command.RegisterValues thread format numbers) = registers_at xs (thread_or selected thread) format numbers
-content_of p names xs m es selected (command.ReadMemory addr count) = memory_of addr (shown_range p m addr count)
-content_of p names xs m es selected (command.Evaluate thread text) = of_stopped (thread_or selected thread) (evaluated p names m text) (thread_hart xs (thread_or selected thread))
-content_of p names xs m es selected c = not_built
+-- ---- what is answered to a command that changes no breakpoint, over a program with its names, its harts, their memory, the breakpoints, the selected thread, and the setting
+unfoldable pub content_of : Program → Names → List Hart → Memory → List Entry → ℕ → Displaced → Command → Content
+content_of p names xs m es selected d command.Blank = content.Blank
+content_of p names xs m es selected d command.Wait = content.Done
+content_of p names xs m es selected d command.BreakList = content.Breakpoints (map (listed names) es)
+content_of p names xs m es selected d (command.Continue t) = continued xs selected t
+content_of p names xs m es selected d (command.ThreadInfo thread) = threads_of xs selected thread
+content_of p names xs m es selected d (command.ThreadSelect thread) = of_live thread (selecting thread) (thread_hart xs thread)
+content_of p names xs m es selected d command.ThreadList = content.ThreadNumbers (map thread_number (live_threads 1 xs)) selected
+content_of p names xs m es selected d command.RegisterNames = content.RegisterNames
+content_of p names xs m es selected d (command.RegisterValues thread format numbers) = registers_at xs (thread_or selected thread) format numbers
+content_of p names xs m es selected d (command.ReadMemory addr count) = memory_of addr (shown_range p m addr count)
+content_of p names xs m es selected d (command.Evaluate thread text) = of_stopped (thread_or selected thread) (evaluated p names m text) (thread_hart xs (thread_or selected thread))
+content_of p names xs m es selected d command.SetNonStop = content.Done
+content_of p names xs m es selected d command.SetMiAsync = content.Done
+content_of p names xs m es selected d (command.Show s) = content.Setting (setting_value d s)
+content_of p names xs m es selected d c = not_built
 
 -- ---- changes
 
@@ -240,6 +264,10 @@ pub data Change : Type 0 where
   conditions : ℕ → Option Condition → Change
   -- so many arrivals at the breakpoint of this number are only counted
   ignores : ℕ → ℕ → Change
+  -- an interrupt is asked of these threads
+  interrupts : List ℕ → Change
+  -- displaced stepping is set
+  displaces : Displaced → Change
 
 -- what is answered to a line, and what it changes
 pub record Outcome : Type 0 where
@@ -318,15 +346,35 @@ inserted_at p names es given i (location.Line file line) = refusing not_built
 abbrev pub inserted_by : Program → Names → List Hart → List Entry → ℕ → Insertion → Outcome
 inserted_by p names xs es given i = for_thread (unknown_thread xs i.thread) (inserted_at p names es given i i.location)
 
+-- ---- interrupts
+
+abbrev pub interrupted_by : ℕ → Mode → Outcome
+interrupted_by thread mode.Stopped = refusing (hindered (NotRunning thread))
+interrupted_by thread mode.Running = changing (interrupts (thread ∷ []))
+interrupted_by thread (mode.Leaving code) = refusing (hindered (HasExited thread))
+interrupted_by thread mode.Exited = refusing (hindered (HasExited thread))
+
+abbrev pub interrupted_at : ℕ → Option Hart → Outcome
+interrupted_at thread None = refusing (hindered (UnknownThread thread))
+interrupted_at thread (Some x) = interrupted_by thread x.mode
+
+-- a thread that is interrupted has to run; of all those that run it may be none
+abbrev pub interrupted : List Hart → ℕ → Target → Outcome
+interrupted xs selected target.Selected = interrupted_at selected (thread_hart xs selected)
+interrupted xs selected (target.Thread thread) = interrupted_at thread (thread_hart xs thread)
+interrupted xs selected target.All = changing (interrupts (running_threads 1 xs))
+
 -- what is answered to a command, and what it changes, where so many numbers were given to breakpoints
-unfoldable pub outcome_at : Program → Names → List Hart → Memory → List Entry → ℕ → ℕ → Command → Outcome
-outcome_at p names xs m es given selected (command.BreakInsert i) = inserted_by p names xs es given i
-outcome_at p names xs m es given selected (command.BreakDelete ns) = unless_missing (missing_number es ns) (changing (deletes ns))
-outcome_at p names xs m es given selected (command.BreakEnable ns) = unless_missing (missing_number es ns) (changing (enables true ns))
-outcome_at p names xs m es given selected (command.BreakDisable ns) = unless_missing (missing_number es ns) (changing (enables false ns))
-outcome_at p names xs m es given selected (command.BreakCondition n c) = unless_missing (missing_number es (n ∷ [])) (conditioned names n c)
-outcome_at p names xs m es given selected (command.BreakAfter n k) = unless_missing (missing_number es (n ∷ [])) (changing (ignores n k))
-outcome_at p names xs m es given selected c = answered (content_of p names xs m es selected c)
+unfoldable pub outcome_at : Program → Names → List Hart → Memory → List Entry → ℕ → ℕ → Displaced → Command → Outcome
+outcome_at p names xs m es given selected d (command.BreakInsert i) = inserted_by p names xs es given i
+outcome_at p names xs m es given selected d (command.BreakDelete ns) = unless_missing (missing_number es ns) (changing (deletes ns))
+outcome_at p names xs m es given selected d (command.BreakEnable ns) = unless_missing (missing_number es ns) (changing (enables true ns))
+outcome_at p names xs m es given selected d (command.BreakDisable ns) = unless_missing (missing_number es ns) (changing (enables false ns))
+outcome_at p names xs m es given selected d (command.BreakCondition n c) = unless_missing (missing_number es (n ∷ [])) (conditioned names n c)
+outcome_at p names xs m es given selected d (command.BreakAfter n k) = unless_missing (missing_number es (n ∷ [])) (changing (ignores n k))
+outcome_at p names xs m es given selected d (command.Interrupt t) = interrupted xs selected t
+outcome_at p names xs m es given selected d (command.SetDisplaced value) = changing (displaces value)
+outcome_at p names xs m es given selected d c = answered (content_of p names xs m es selected d c)
 
 -- an unknown thread comes before a bad location
 abbrev pub fault_outcome : List Hart → Fault → Outcome
@@ -334,7 +382,7 @@ fault_outcome xs (fault.Location word thread) = for_thread (unknown_thread xs th
 fault_outcome xs f = refusing (content.Refused (refused.Faulty f))
 
 abbrev pub asked_outcome : Opening → State → Result Command Fault → Outcome
-asked_outcome o s (Ok c) = outcome_at o.image (names_of o.image) s.harts s.memory s.breaks s.given s.selected c
+asked_outcome o s (Ok c) = outcome_at o.image (names_of o.image) s.harts s.memory s.breaks s.given s.selected s.displaced c
 asked_outcome o s (Err f) = fault_outcome s.harts f
 
 -- what is answered to a line with its token, and what it changes
@@ -375,7 +423,7 @@ is_wait line = if nat_lt 4096 (length line) then false else parts_wait (parts_re
 
 -- a stopped hart goes on
 abbrev pub resumed_by : Hart → Mode → Hart
-resumed_by x mode.Stopped = record { regs = x.regs; mode = mode.Running; fresh = false }
+resumed_by x mode.Stopped = record { regs = x.regs; mode = mode.Running; fresh = false; asked = false }
 resumed_by x mode.Running = x
 resumed_by x (mode.Leaving code) = x
 resumed_by x mode.Exited = x
@@ -395,6 +443,47 @@ resumed_thread xs (suc h) = resumed_at xs h (slice_get xs h)
 abbrev pub resumed_threads : List Hart → List ℕ → List Hart
 resumed_threads xs [] = xs
 resumed_threads xs (t ∷ ts) = resumed_threads (resumed_thread xs t) ts
+
+-- an interrupt is asked of a hart that runs
+abbrev pub asked_by : Hart → Mode → Hart
+asked_by x mode.Stopped = x
+asked_by x mode.Running = record { regs = x.regs; mode = mode.Running; fresh = x.fresh; asked = true }
+asked_by x (mode.Leaving code) = x
+asked_by x mode.Exited = x
+
+abbrev pub asked : Hart → Hart
+asked x = asked_by x x.mode
+
+abbrev pub ask_at : List Hart → ℕ → Option Hart → List Hart
+ask_at xs h None = xs
+ask_at xs h (Some x) = slice_set xs h (asked x)
+
+abbrev pub ask_thread : List Hart → ℕ → List Hart
+ask_thread xs zero = xs
+ask_thread xs (suc h) = ask_at xs h (slice_get xs h)
+
+-- the harts, of which an interrupt is asked of these threads where they run
+abbrev pub ask_threads : List Hart → List ℕ → List Hart
+ask_threads xs [] = xs
+ask_threads xs (t ∷ ts) = ask_threads (ask_thread xs t) ts
+
+-- of which threads a change asks an interrupt
+abbrev pub asking : Change → List ℕ
+asking (interrupts threads) = threads
+asking c = []
+
+-- the setting after a change
+abbrev pub displaced_after : Displaced → Change → Displaced
+displaced_after d (displaces value) = value
+displaced_after d c = d
+
+abbrev pub sets_by : ℕ → Displaced → ℕ
+sets_by sets value = if is_off value then sets else sets + 1
+
+-- how many lines have set it to on or auto after a change
+abbrev pub sets_after : ℕ → Change → ℕ
+sets_after sets (displaces value) = sets_by sets value
+sets_after sets c = sets
 
 -- which threads a change lets go on
 abbrev pub going_on : Change → List ℕ
@@ -423,10 +512,12 @@ given_after given c = given
 -- the state after a line that makes this change
 abbrev pub changed_by : State → Change → State
 changed_by s c = record s {
-  harts = resumed_threads s.harts (going_on c);
+  harts = ask_threads (resumed_threads s.harts (going_on c)) (asking c);
   breaks = breaks_after s.breaks s.given c;
   given = given_after s.given c;
   selected = selected_after s.selected c;
+  displaced = displaced_after s.displaced c;
+  sets = sets_after s.sets c;
   noted = s.noted + 1;
 }
 

@@ -1,5 +1,5 @@
 -- The state of a session, as its journal makes it.
-use Rattle.std.specs.Prelude.{ℕ, zero, suc, Bool, true, false, not, ◌&&◌, ◌||◌, List, [], ◌∷◌, ◌++◌, is_some, if◌then◌else◌}
+use Rattle.std.specs.Prelude.{ℕ, zero, suc, Bool, true, false, not, ◌&&◌, ◌||◌, List, [], ◌∷◌, ◌++◌, replicate, is_some, if◌then◌else◌}
 use Rattle.std.specs.List.{list_any, list_all}
 use Rattle.rv_exec.specs.Registers.{Registers}
 use Rattle.rv_exec.specs.Memory.{Memory}
@@ -9,6 +9,8 @@ use Rattle.plain_machine.specs.Plain.{first_registers}
 use Rattle.break_table.specs.Entry.{Entry}
 use Rattle.break_table.specs.Arrival.{due_of, settled}
 use Rattle.break_table.specs.declared.due.Due.{Due}
+use Rattle.mi_commands.specs.declared.command.Displaced.{Displaced}
+use Rattle.mi_commands.specs.declared.command.Displaced.TheVariants as displaced
 use Rattle.dbg_model.specs.declared.entry.Mode.{Mode}
 use Rattle.dbg_model.specs.declared.entry.Mode.TheVariants as mode
 use Rattle.dbg_model.specs.declared.opening.Opening.{Opening}
@@ -20,6 +22,8 @@ pub record Hart : Type 0 where
   pub mode : Mode
   -- an instruction of its own has just ended
   pub fresh : Bool
+  -- an interrupt is asked of it
+  pub asked : Bool
 
 pub record State : Type 0 where
   pub harts : List Hart
@@ -32,16 +36,16 @@ pub record State : Type 0 where
   pub given : ℕ
   -- the selected thread, counted from 1
   pub selected : ℕ
+  -- whether a planted instruction is executed as a copy in a slot; at first auto, which means on
+  pub displaced : Displaced
+  -- how many lines set that to on or auto
+  pub sets : ℕ
+  -- for each hart, how many of its instructions were executed where an enabled breakpoint stood, while that wasn't off
+  pub passed : List ℕ
   -- how many instructions were executed
   pub retired : ℕ
   -- how many entries other than `Ran` there are
   pub noted : ℕ
-
-abbrev pub is_stopped : Mode → Bool
-is_stopped mode.Stopped = true
-is_stopped mode.Running = false
-is_stopped (mode.Leaving code) = false
-is_stopped mode.Exited = false
 
 abbrev pub is_running : Mode → Bool
 is_running mode.Stopped = false
@@ -78,6 +82,11 @@ any_leaves xs = list_any hart_leaves xs
 abbrev pub hart_gone : Hart → Bool
 hart_gone x = has_exited x.mode
 
+abbrev pub is_off : Displaced → Bool
+is_off displaced.On = false
+is_off displaced.Off = true
+is_off displaced.Auto = false
+
 -- no hart is live
 abbrev pub all_gone : List Hart → Bool
 all_gone xs = list_all hart_gone xs
@@ -100,7 +109,7 @@ arrived p s h x = settled h (register x.regs) (shown_byte p s.memory) s.breaks
 -- the first n of so many harts, as a session begins with them
 abbrev pub first_harts : Program → ℕ → ℕ → List Hart
 first_harts p harts zero = []
-first_harts p harts (suc n) = first_harts p harts n ++ record { regs = first_registers p.entry harts n; mode = mode.Stopped; fresh = false } ∷ []
+first_harts p harts (suc n) = first_harts p harts n ++ record { regs = first_registers p.entry harts n; mode = mode.Stopped; fresh = false; asked = false } ∷ []
 
 -- where a session begins
 abbrev pub first_state : Opening → State
@@ -111,6 +120,9 @@ first_state o = record {
   breaks = [];
   given = 0;
   selected = 1;
+  displaced = displaced.Auto;
+  sets = 0;
+  passed = replicate o.settings.harts 0;
   retired = 0;
   noted = 0;
 }

@@ -23,6 +23,8 @@ pub enum Why {
         number: u32,
         error: Option<CondError>,
     },
+    /// An interrupt was asked of it.
+    Interrupted,
     /// Its instruction trapped.
     Fault(Cause),
 }

@@ -3,7 +3,7 @@ ghost use Rattle.std.specs.Prelude.{◌≡◌};
 
 use crate::{Breakpoint, BreakpointList};
 use cond_expr::ExprFault;
-use mi_commands::{ByteList, Fault, Format, NumberList};
+use mi_commands::{ByteList, Displaced, Fault, Format, NumberList};
 use mi_values::Token;
 use std::marker::Model;
 
@@ -16,6 +16,8 @@ pub enum Obstacle {
     HasExited(u32),
     /// The thread runs, and has to be stopped.
     IsRunning(u32),
+    /// The thread is stopped, and has to run.
+    NotRunning(u32),
     /// No breakpoint has this number.
     NoBreakpoint(u32),
     /// No word of text is at this address.
@@ -167,6 +169,8 @@ pub enum Content {
         word: u32,
         unsigned: bool,
     },
+    /// The value of a setting.
+    Setting(Displaced),
     /// The line is refused.
     Refused(Refused),
 }

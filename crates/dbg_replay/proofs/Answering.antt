@@ -1,6 +1,6 @@
 -- What lines change.
 use Rattle.std.proofs.Common.{◌≡◌, ◌≤◌, ◌<◌, ◌+◌, ◌-◌, ◌/◌, ◌%◌, ℕ, zero, suc, Bool, true, false, cond, List, [], ◌∷◌, length, refl, sym, ap, ◌∙◌, subst, arith, length-set}
-use Rattle.std.specs.Prelude.{Option, Some, None, Result, Ok, Err, is_some, find, option_and_then, slice_get, ◌&&◌, ◌||◌, ◌==◌, nat_le}
+use Rattle.std.specs.Prelude.{Option, Some, None, Result, Ok, Err, is_some, find, option_and_then, slice_get, slice_index, ◌&&◌, ◌||◌, ◌==◌, nat_le}
 use Rattle.std.specs.List.{list_any}
 use Rattle.std.proofs.lemmas.Bool.Decides.{nat_tests}
 use Rattle.std.proofs.lemmas.Option.{slice_get_within}
@@ -23,8 +23,8 @@ use Rattle.break_table.specs.Table.{Table, is_thread}
 use Rattle.break_table.specs.Text.{is_instruction, is_place}
 use Rattle.dbg_model.specs.declared.opening.Opening.{Opening}
 use Rattle.dbg_model.specs.Conditions.{parsed}
-use Rattle.dbg_model.specs.State.{Hart, State}
-use Rattle.dbg_model.specs.Reply.{Answer, Change, Outcome, stays, resumes, selects, inserts, deletes, enables, conditions, ignores, answer_of, asked_at, changed_by, done_by, fault_outcome, for_thread, given_after, going_on, is_wait, outcome_at, resumed, resumed_at, resumed_thread, resumed_threads, set_as, set_by, setting, thread_hart, unknown_thread, waits}
+use Rattle.dbg_model.specs.State.{Hart, State, is_off}
+use Rattle.dbg_model.specs.Reply.{Answer, Change, Outcome, stays, resumes, selects, interrupts, displaces, inserts, deletes, enables, conditions, ignores, answer_of, asked_at, changed_by, done_by, fault_outcome, for_thread, given_after, ask_at, ask_thread, ask_threads, asked, asking, sets_after, going_on, is_wait, outcome_at, resumed, resumed_at, resumed_thread, resumed_threads, set_as, set_by, setting, thread_hart, unknown_thread, waits}
 use Rattle.dbg_model.proofs.Founding.{IsFounded, IsThereOr, change_founded}
 use Rattle.dbg_model.proofs.Replying.{reply_long, reply_malformed, reply_cli, reply_answers, wait_answers, wait_long, wait_none, wait_cli}
 use Rattle.dbg_replay.specs.declared.changes.LineChange.{LineChange}
@@ -65,9 +65,9 @@ set_some names given addr i c text read e x is same spelled told made =
 
 -- a line of a command makes the command's change
 pub line_made : (o : Opening) (s : State) (line token : List ℕ) (names : Names) (cmd : Command) → (length line ≤ 4096) × HasAnswer line token (Ok cmd) → names ≡ names_of o.image
-    → (outcome_at o.image names s.harts s.memory s.breaks s.given s.selected cmd).change ≡ (answer_of o s line).outcome.change
+    → (outcome_at o.image names s.harts s.memory s.breaks s.given s.selected s.displaced cmd).change ≡ (answer_of o s line).outcome.change
 line_made o s line token names cmd h is =
-    ap (λ ns. (outcome_at o.image ns s.harts s.memory s.breaks s.given s.selected cmd).change) is ∙ sym (ap (λ (a : Answer). a.outcome.change) (reply_answers o s line token (Ok cmd) h.0 h.1))
+    ap (λ ns. (outcome_at o.image ns s.harts s.memory s.breaks s.given s.selected s.displaced cmd).change) is ∙ sym (ap (λ (a : Answer). a.outcome.change) (reply_answers o s line token (Ok cmd) h.0 h.1))
 
 for_nothing : (t : Option ℕ) (r : Outcome) → r.change ≡ stays → (for_thread t r).change ≡ stays
 for_nothing None r is = is
@@ -131,6 +131,8 @@ can_by : (o : Opening) (p : Parts) (x : LineChange) → Kept o p → IsFounded o
 can_by o p change.Nothing kept f = tt
 can_by o p (change.Resume threads) kept f = tt
 can_by o p (change.Select thread) kept f = tt
+can_by o p (change.Interrupt threads) kept f = tt
+can_by o p (change.Displace displaced) kept f = tt
 can_by o p (change.Insert spec) kept f =
     let place : is_place p.table.text spec.address ≡ true = kept.places spec.address ∙ word_place o.image spec.address f.0 in
     let full : nat_le 128 (length p.table.entries) ≡ false = not_full (length p.table.entries) f.1 in
@@ -163,6 +165,18 @@ length_threads : (xs : List Hart) (ts : List ℕ) → length (resumed_threads xs
 length_threads xs [] = refl
 length_threads xs (t ∷ ts) = length_threads (resumed_thread xs t) ts ∙ length_thread xs t
 
+length_ask_at : (xs : List Hart) (h : ℕ) (r : Option Hart) → length (ask_at xs h r) ≡ length xs
+length_ask_at xs h None = refl
+length_ask_at xs h (Some x) = length-set xs h (asked x)
+
+length_ask : (xs : List Hart) (t : ℕ) → length (ask_thread xs t) ≡ length xs
+length_ask xs zero = refl
+length_ask xs (suc h) = length_ask_at xs h (slice_get xs h)
+
+length_asks : (xs : List Hart) (ts : List ℕ) → length (ask_threads xs ts) ≡ length xs
+length_asks xs [] = refl
+length_asks xs (t ∷ ts) = length_asks (ask_thread xs t) ts ∙ length_ask xs t
+
 given_more : (n : ℕ) (c : Change) → given_after n c ≤ n + 1
 given_more n stays = omega arith
 given_more n (resumes ts) = omega arith
@@ -172,6 +186,24 @@ given_more n (deletes ns) = omega arith
 given_more n (enables b ns) = omega arith
 given_more n (conditions k c) = omega arith
 given_more n (ignores k m) = omega arith
+given_more n (interrupts ts) = omega arith
+given_more n (displaces d) = omega arith
+
+sets_by_more : (n : ℕ) (b : Bool) → cond b n (n + 1) ≤ n + 1
+sets_by_more n true = omega arith
+sets_by_more n false = omega arith
+
+sets_more : (n : ℕ) (c : Change) → sets_after n c ≤ n + 1
+sets_more n stays = omega arith
+sets_more n (resumes ts) = omega arith
+sets_more n (selects t) = omega arith
+sets_more n (inserts a) = omega arith
+sets_more n (deletes ns) = omega arith
+sets_more n (enables b ns) = omega arith
+sets_more n (conditions k c) = omega arith
+sets_more n (ignores k m) = omega arith
+sets_more n (interrupts ts) = omega arith
+sets_more n (displaces d) = sets_by_more n (is_off d)
 
 still_kept : (o : Opening) (old new : Parts) (c : Change) → Kept o old → shown new ≡ changed_by (shown old) c → new.table ≡ changed_table old.table c → Kept o new
 still_kept o old new c kept state table =
@@ -179,13 +211,19 @@ still_kept o old new c kept state table =
     let noted : new.noted ≡ old.noted + 1 = ap (λ (s : State). s.noted) state in
     let more = given_more old.table.given c in
     let before = kept.given in
+    let sets : new.sets ≡ sets_after old.sets c = ap (λ (s : State). s.sets) state in
+    let sets_low = sets_more old.sets c in
+    let sets_before = kept.sets in
     record {
-      harts = ap (λ (s : State). length s.harts) state ∙ (length_threads old.harts.items (going_on c) ∙ kept.harts);
+      harts = ap (λ (s : State). length s.harts) state ∙ (length_asks (resumed_threads old.harts.items (going_on c)) (asking c) ∙ (length_threads old.harts.items (going_on c) ∙ kept.harts));
       places = λ addr. ap (λ (t : Table). is_place t.text addr) table ∙ kept.places addr;
       waits = ap (λ (t : Table). length t.waits) table ∙ kept.waits;
       given = omega arith;
       few = kept.few;
       budget = kept.budget;
+      counts = ap (λ (s : State). length s.passed) state ∙ kept.counts;
+      passed = λ k. subst (λ (s : State). slice_index s.passed k ≤ s.retired) (sym state) (kept.passed k);
+      sets = omega arith;
     }
 
 -- a line came

@@ -11,13 +11,15 @@ use Rattle.cond_expr.specs.Term.{Term}
 use Rattle.cond_expr.specs.Condition.{text_of, tree_of}
 use Rattle.break_table.specs.Entry.{asked_of, condition_of}
 use Rattle.break_table.specs.Table.{Table, insert_fault}
-use Rattle.dbg_model.specs.Reply.{Change, stays, resumes, selects, inserts, deletes, enables, conditions, ignores, breaks_after, given_after}
+use Rattle.dbg_model.specs.Reply.{Change, stays, resumes, selects, interrupts, displaces, inserts, deletes, enables, conditions, ignores, breaks_after, given_after}
 use Rattle.dbg_replay.specs.declared.changes.LineChange.{LineChange}
 use Rattle.dbg_replay.specs.declared.changes.LineChange.TheVariants as change
 
 abbrev pub change_of : LineChange → Change
 change_of change.Nothing = stays
 change_of (change.Resume threads) = resumes threads
+change_of (change.Interrupt threads) = interrupts threads
+change_of (change.Displace displaced) = displaces displaced
 change_of (change.Select thread) = selects thread
 change_of (change.Insert spec) = inserts (asked_of spec)
 change_of (change.Delete numbers) = deletes numbers
@@ -33,6 +35,8 @@ changed_table t c = record t { entries = breaks_after t.entries t.given c; given
 abbrev pub CanBeMade : Table → LineChange → Type 0
 CanBeMade t change.Nothing = Unit {0}
 CanBeMade t (change.Resume threads) = Unit {0}
+CanBeMade t (change.Interrupt threads) = Unit {0}
+CanBeMade t (change.Displace displaced) = Unit {0}
 CanBeMade t (change.Select thread) = Unit {0}
 CanBeMade t (change.Insert spec) = insert_fault t (asked_of spec) ≡ None
 CanBeMade t (change.Delete numbers) = Unit {0}

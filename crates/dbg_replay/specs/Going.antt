@@ -1,11 +1,13 @@
 -- What the parts of a replay answer.
-use Rattle.std.specs.Prelude.{◌≡◌, ◌<◌, ◌≤◌, ◌==◌, ℕ, Bool, true, false, List, ◌++◌, length, Option, Some, None, Result, Ok, Err, slice_get}
+use Rattle.std.specs.Prelude.{◌≡◌, ◌<◌, ◌≤◌, ◌==◌, ℕ, Bool, true, false, List, ◌++◌, length, Option, Some, None, Result, Ok, Err, slice_get, slice_index}
 use Rattle.rv_exec.specs.declared.effect.Cause.{Cause}
 use Rattle.rv_exec.specs.declared.effect.Stepped.{Stepped}
 use Rattle.rv_exec.specs.declared.effect.Stepped.TheVariants as stepped
 use Rattle.rv_exec.specs.Causes.{cause_number}
 use Rattle.plain_machine.specs.Environment.{Answer, Traps, Goes}
 use Rattle.break_table.specs.Text.{is_instruction, is_place}
+use Rattle.dbg_model.specs.declared.entry.Mode.{Mode}
+use Rattle.dbg_model.specs.declared.entry.Mode.TheVariants as mode
 use Rattle.dbg_model.specs.declared.limits.TheConstants.{HISTORY}
 use Rattle.dbg_model.specs.declared.opening.Opening.{Opening}
 use Rattle.dbg_model.specs.State.{Hart, State}
@@ -15,6 +17,13 @@ use Rattle.dbg_replay.specs.declared.halt.Halt.{Halt}
 use Rattle.dbg_replay.specs.declared.halt.Halt.TheVariants.{NoMemory, Unlawful}
 use Rattle.dbg_replay.specs.declared.state.Parts.{Parts}
 use Rattle.dbg_replay.specs.Parts.{shown}
+
+-- a hart at this mode is stopped
+abbrev pub is_stopped : Mode → Bool
+is_stopped mode.Stopped = true
+is_stopped mode.Running = false
+is_stopped (mode.Leaving code) = false
+is_stopped mode.Exited = false
 
 -- neither the budget nor the history is used up
 abbrev pub HasRoom : Opening → Parts → Type 0
@@ -34,6 +43,9 @@ pub record Kept (o : Opening) (p : Parts) : Type 0 where
   pub given : p.table.given ≤ p.noted
   pub few : o.settings.harts ≤ 16
   pub budget : o.settings.budget ≤ 1_000_000_000_000
+  pub counts : length p.passed.items ≡ o.settings.harts
+  pub passed : (k : ℕ) → slice_index p.passed.items k ≤ p.retired
+  pub sets : p.sets ≤ p.noted
 
 -- something came and left these parts, as the model has it; or it may not come
 abbrev pub Comes : Opening → Result (Unit {0}) Halt → Option State → Parts → Type 0

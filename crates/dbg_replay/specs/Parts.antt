@@ -10,6 +10,9 @@ shown p = record {
   breaks = p.table.entries;
   given = p.table.given;
   selected = p.selected;
+  displaced = p.displaced;
+  sets = p.sets;
+  passed = p.passed.items;
   retired = p.retired;
   noted = p.noted;
 }

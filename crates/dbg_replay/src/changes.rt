@@ -3,18 +3,19 @@ ghost use Rattle.std.specs.Prelude.{◌≡◌, ◌+◌, ◌-◌, ◌^◌, ◌<�
 ghost use Rattle.std.specs.Option.{option_map};
 ghost use Rattle.break_table.specs.Entry.{asked_of, condition_of};
 ghost use Rattle.break_table.specs.Table.{changed, deleted, insert_fault, inserted, with_condition, with_enabled, with_ignore};
+ghost use Rattle.dbg_model.specs.State.{is_off};
 ghost use Rattle.dbg_model.specs.Breaks.{enabling, without};
-ghost use Rattle.dbg_model.specs.Reply.{changed_by, resumed_at, resumed_thread, resumed_threads};
+ghost use Rattle.dbg_model.specs.Reply.{ask_thread, ask_threads, changed_by, sets_by, resumed_at, resumed_thread, resumed_threads};
 ghost use Rattle.dbg_replay.specs.Parts.{shown};
 ghost use Rattle.dbg_replay.specs.Going.{Kept};
 ghost use Rattle.dbg_replay.specs.Changes.{change_of, changed_table, CanBeMade};
 
 use crate::ModelHart;
-use crate::modes::{find, resumed};
+use crate::modes::{asked, find, resumed};
 use crate::state::Parts;
 use break_table::{BreakTable, Spec};
 use cond_expr::Expr;
-use mi_commands::NumberList;
+use mi_commands::{Displaced, NumberList};
 
 /// What a line changes.
 #[derive(Drop)]
@@ -22,6 +23,10 @@ pub enum LineChange {
     Nothing,
     /// These threads go on.
     Resume(NumberList),
+    /// An interrupt is asked of these threads.
+    Interrupt(NumberList),
+    /// Displaced stepping is set.
+    Displace(Displaced),
     /// This thread is selected.
     Select(u32),
     Insert(Spec),
@@ -62,6 +67,43 @@ fn resume_threads(harts: &mut [ModelHart], threads: &[u32])
     };
     resume_thread(harts, *thread);
     resume_threads(harts, rest);
+}
+
+// An interrupt is asked of a thread where it runs.
+fn ask_thread(harts: &mut [ModelHart], thread: u32)
+    ensures { harts.new ≡ ask_thread harts.old thread }
+{
+    if thread == 0 {
+        return;
+    }
+    let h = thread - 1;
+    if let Some(hart) = find(harts, h) {
+        harts[h as usize] = asked(hart);
+    }
+}
+
+// An interrupt is asked of these threads where they run.
+fn ask_threads(harts: &mut [ModelHart], threads: &[u32])
+    ensures { harts.new ≡ ask_threads harts.old threads.now }
+{
+    let [thread, rest @ ..] = threads else {
+        return;
+    };
+    ask_thread(harts, *thread);
+    ask_threads(harts, rest);
+}
+
+pub fn is_off(displaced: Displaced) -> bool
+    ensures { result ≡ is_off displaced }
+{
+    matches!(displaced, Displaced::Off)
+}
+
+fn sets_by(sets: u64, displaced: Displaced) -> u64
+    requires { sets < 2 ^ 64 - 1 }
+    ensures { result ≡ sets_by sets displaced }
+{
+    if is_off(displaced) { sets } else { sets + 1 }
 }
 
 fn insert(table: &mut BreakTable, spec: Spec)
@@ -131,7 +173,11 @@ fn change_table(table: &mut BreakTable, change: LineChange)
     ensures { table.new ≡ changed_table table.old (change_of change) }
 {
     match change {
-        LineChange::Nothing | LineChange::Resume(_) | LineChange::Select(_) => {}
+        LineChange::Nothing
+        | LineChange::Resume(_)
+        | LineChange::Interrupt(_)
+        | LineChange::Displace(_)
+        | LineChange::Select(_) => {}
         LineChange::Insert(spec) => insert(table, spec),
         LineChange::Delete(numbers) => delete_each(table, numbers.as_slice()),
         LineChange::Enable { numbers, enabled } => enable_each(table, numbers.as_slice(), enabled),
@@ -145,12 +191,20 @@ pub fn make(parts: &mut Parts, change: LineChange)
     requires given { parts.old.table.given < 2 ^ 32 - 1 }
     requires may { CanBeMade parts.old.table change }
     requires room { parts.old.noted < 2 ^ 64 - 1 }
+    requires sets { parts.old.sets < 2 ^ 64 - 1 }
     ensures state { shown parts.new ≡ changed_by (shown parts.old) (change_of change) }
     ensures table { parts.new.table ≡ changed_table parts.old.table (change_of change) }
 {
     match &change {
         LineChange::Resume(threads) => {
             resume_threads(parts.harts.as_mut_slice(), threads.as_slice());
+        }
+        LineChange::Interrupt(threads) => {
+            ask_threads(parts.harts.as_mut_slice(), threads.as_slice());
+        }
+        LineChange::Displace(displaced) => {
+            parts.sets = sets_by(parts.sets, *displaced);
+            parts.displaced = *displaced;
         }
         LineChange::Select(thread) => parts.selected = *thread,
         _ => {}

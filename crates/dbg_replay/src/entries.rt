@@ -104,6 +104,20 @@ fn stop_at(
     Ok(())
 }
 
+// A hart stops, since an interrupt was asked of it.
+fn interrupt(opening: &Opening, parts: &mut Parts, h: u32) -> Result<(), Halt>
+    requires { Kept opening.now parts.old }
+    ensures { Comes opening.now result (stopped_by opening.now (shown parts.old) h reason.Interrupted (slice_get parts.old.harts.items h)) parts.new }
+{
+    let hart = runner(opening, parts, h)?;
+    if !hart.is_asked() {
+        return Err(Halt::Unlawful);
+    }
+    parts.harts[h as usize] = stopped(hart);
+    parts.noted += 1;
+    Ok(())
+}
+
 fn traps_with(stepped: Stepped, cause: Cause) -> bool
     ensures { result ≡ traps_with stepped cause }
 {
@@ -167,6 +181,7 @@ pub fn enter(
         Entry::Counted { hart } => count(opening, parts, *hart),
         Entry::Stopped { hart, why } => match *why {
             Why::Break { number, error } => stop_at(opening, parts, *hart, number, error),
+            Why::Interrupted => interrupt(opening, parts, *hart),
             Why::Fault(cause) => stop_by(opening, parts, *hart, cause),
         },
         Entry::Left { hart, code } => leave(opening, parts, *hart, *code),

@@ -10,6 +10,7 @@ pub struct ModelHart {
     regs: Regs,
     mode: Mode,
     fresh: bool,
+    asked: bool,
 }
 
 impl Model for ModelHart {
@@ -17,17 +18,22 @@ impl Model for ModelHart {
 
     ghost Value = { Hart };
 
-    ghost view = { λ x. record { regs = x.regs; mode = x.mode; fresh = x.fresh } };
+    ghost view = { λ x. record { regs = x.regs; mode = x.mode; fresh = x.fresh; asked = x.asked } };
 
-    ghost inverse = { λ x. record { regs = x.regs; mode = x.mode; fresh = x.fresh } };
+    ghost inverse = { λ x. record { regs = x.regs; mode = x.mode; fresh = x.fresh; asked = x.asked } };
 }
 
 impl ModelHart {
     /// A hart with these registers, at this mode.
-    pub fn new(regs: Regs, mode: Mode, fresh: bool) -> ModelHart
-        ensures { result ≡ record { regs = regs; mode = mode; fresh = fresh } }
+    pub fn new(regs: Regs, mode: Mode, fresh: bool, asked: bool) -> ModelHart
+        ensures { result ≡ record { regs = regs; mode = mode; fresh = fresh; asked = asked } }
     {
-        ModelHart { regs, mode, fresh }
+        ModelHart {
+            regs,
+            mode,
+            fresh,
+            asked,
+        }
     }
 
     /// Its registers.
@@ -49,5 +55,12 @@ impl ModelHart {
         ensures { result ≡ self.now.fresh }
     {
         self.fresh
+    }
+
+    /// Whether an interrupt is asked of it.
+    pub fn is_asked(&self) -> bool
+        ensures { result ≡ self.now.asked }
+    {
+        self.asked
     }
 }

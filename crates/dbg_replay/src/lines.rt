@@ -9,7 +9,7 @@ ghost use Rattle.elf_symbols.specs.Entries.{names_of};
 ghost use Rattle.dbg_model.specs.Breaks.{missing_number};
 ghost use Rattle.dbg_model.specs.Conditions.{parsed};
 ghost use Rattle.dbg_model.specs.Lawful.{may_do};
-ghost use Rattle.dbg_model.specs.Reply.{answer_of, asked_at, changing, conditioned, conditioned_as, content_of, continued, deletes, done_by, enables, ignores, implied, inserted_at, inserted_by, is_wait, named_at, of_live, of_stopped, outcome_at, placed, running, selecting, set_as, set_by, setting, stopped_threads, thread_hart, unknown_thread, unless_missing, waits};
+ghost use Rattle.dbg_model.specs.Reply.{answer_of, asked_at, changing, conditioned, conditioned_as, content_of, continued, deletes, done_by, enables, ignores, implied, interrupted, interrupted_at, interrupts, running_threads, inserted_at, inserted_by, is_wait, named_at, of_live, of_stopped, outcome_at, placed, running, selecting, set_as, set_by, setting, stopped_threads, thread_hart, unknown_thread, unless_missing, waits};
 ghost use Rattle.dbg_replay.specs.Parts.{shown};
 ghost use Rattle.dbg_replay.specs.Going.{Comes, Kept};
 ghost use Rattle.dbg_replay.specs.Changes.{change_of, is_memory, ReadsAs};
@@ -17,7 +17,7 @@ ghost use Rattle.dbg_replay.specs.Changes.{change_of, is_memory, ReadsAs};
 use crate::ModelHart;
 use crate::changes::{LineChange, make};
 use crate::halt::Halt;
-use crate::modes::{any_runs, find, is_stopped};
+use crate::modes::{any_runs, find, is_running, is_stopped};
 use crate::movers::may_go;
 use crate::state::Parts;
 use break_table::{BreakEntry, BreakTable, Location as PlaceText, Spec};
@@ -99,6 +99,66 @@ fn continued(
         Target::Selected => continue_one(alloc, selected, thread_hart(harts, selected)),
         Target::Thread(thread) => continue_one(alloc, thread, thread_hart(harts, thread)),
         Target::All => continue_all(alloc, harts),
+    }
+}
+
+// An interrupt of a thread that has to run.
+fn interrupt_one(
+    alloc: Global,
+    thread: u32,
+    found: Option<ModelHart>,
+) -> Result<LineChange, AllocError>
+    ensures { IfOk result (λ c. change_of c ≡ (interrupted_at thread found).change) }
+{
+    let Some(hart) = found else {
+        return Ok(LineChange::Nothing);
+    };
+    match hart.mode() {
+        Mode::Running => {
+            let mut threads = Vec::new(alloc);
+            threads.push(thread)?;
+            Ok(LineChange::Interrupt(NumberList::of(threads)))
+        }
+        Mode::Stopped | Mode::Leaving(_) | Mode::Exited => Ok(LineChange::Nothing),
+    }
+}
+
+// The threads that run, of which the first has this number.
+fn push_running(into: &mut Vec<u32>, harts: &[ModelHart], thread: u32) -> Result<(), AllocError>
+    requires { thread + length harts.now < 2 ^ 32 }
+    ensures { OnOk result (into.new.items ≡ into.old.items ++ running_threads thread harts.now) }
+{
+    let [hart, rest @ ..] = harts else {
+        return Ok(());
+    };
+    if is_running(hart.mode()) {
+        into.push(thread)?;
+    }
+    push_running(into, rest, thread + 1)
+}
+
+fn interrupt_all(alloc: Global, harts: &[ModelHart]) -> Result<LineChange, AllocError>
+    requires { length harts.now ≤ 16 }
+    ensures { IfOk result (λ c. change_of c ≡ interrupts (running_threads 1 harts.now)) }
+{
+    let mut threads = Vec::new(alloc);
+    push_running(&mut threads, harts, 1)?;
+    Ok(LineChange::Interrupt(NumberList::of(threads)))
+}
+
+fn interrupted(
+    alloc: Global,
+    harts: &[ModelHart],
+    selected: u32,
+    target: Target,
+) -> Result<LineChange, AllocError>
+    requires { length harts.now ≤ 16 }
+    ensures { IfOk result (λ c. change_of c ≡ (interrupted harts.now selected target).change) }
+{
+    match target {
+        Target::Selected => interrupt_one(alloc, selected, thread_hart(harts, selected)),
+        Target::Thread(thread) => interrupt_one(alloc, thread, thread_hart(harts, thread)),
+        Target::All => interrupt_all(alloc, harts),
     }
 }
 
@@ -341,7 +401,7 @@ fn command_change(
     command: Command,
 ) -> Result<LineChange, NoMemory>
     requires { length parts.now.harts.items ≤ 16 }
-    ensures { IfOk result (λ c. change_of c ≡ (outcome_at image.now symbols.now parts.now.harts.items parts.now.memory parts.now.table.entries parts.now.table.given parts.now.selected command).change) }
+    ensures { IfOk result (λ c. change_of c ≡ (outcome_at image.now symbols.now parts.now.harts.items parts.now.memory parts.now.table.entries parts.now.table.given parts.now.selected parts.now.displaced command).change) }
 {
     let harts = parts.harts.as_slice();
     let table = &parts.table;
@@ -355,6 +415,8 @@ fn command_change(
         ),
         Command::BreakAfter { number, count } => Ok(after(table, number, count)),
         Command::Continue(target) => Ok(continued(alloc, harts, parts.selected, target)?),
+        Command::Interrupt(target) => Ok(interrupted(alloc, harts, parts.selected, target)?),
+        Command::SetDisplaced(displaced) => Ok(LineChange::Displace(displaced)),
         Command::ThreadSelect { thread } => Ok(select(thread, thread_hart(harts, thread))),
         _ => Ok(LineChange::Nothing),
     }

@@ -1,8 +1,9 @@
 // What the harts are at.
 ghost use Rattle.std.specs.Prelude.{◌≡◌, ◌+◌, ◌≤◌, ◌<◌, ◌^◌, length, map, slice_get};
-ghost use Rattle.dbg_model.specs.State.{any_runs, any_leaves, is_running, is_leaving, is_stopped};
+ghost use Rattle.dbg_model.specs.State.{any_runs, any_leaves, is_running, is_leaving};
 ghost use Rattle.dbg_model.specs.Lawful.{leaver_from, leaving, exited, counted, stopped};
-ghost use Rattle.dbg_model.specs.Reply.{resumed};
+ghost use Rattle.dbg_model.specs.Reply.{asked, resumed};
+ghost use Rattle.dbg_replay.specs.Going.{is_stopped};
 
 use crate::ModelHart;
 use dbg_model::Mode;
@@ -81,6 +82,7 @@ pub fn leaving(code: u32, hart: ModelHart) -> ModelHart
             hart.regs(),
             Mode::Leaving(code),
             hart.is_fresh(),
+            hart.is_asked(),
         ),
     }
 }
@@ -98,21 +100,21 @@ pub fn leave_all(harts: &mut [ModelHart], code: u32)
 pub fn exited(hart: ModelHart) -> ModelHart
     ensures { result ≡ exited hart }
 {
-    ModelHart::new(hart.regs(), Mode::Exited, hart.is_fresh())
+    ModelHart::new(hart.regs(), Mode::Exited, hart.is_fresh(), hart.is_asked())
 }
 
 /// A hart that was counted.
 pub fn counted(hart: ModelHart) -> ModelHart
     ensures { result ≡ counted hart }
 {
-    ModelHart::new(hart.regs(), hart.mode(), false)
+    ModelHart::new(hart.regs(), hart.mode(), false, hart.is_asked())
 }
 
 /// A hart that stopped.
 pub fn stopped(hart: ModelHart) -> ModelHart
     ensures { result ≡ stopped hart }
 {
-    ModelHart::new(hart.regs(), Mode::Stopped, false)
+    ModelHart::new(hart.regs(), Mode::Stopped, false, false)
 }
 
 /// A stopped hart goes on.
@@ -120,7 +122,17 @@ pub fn resumed(hart: ModelHart) -> ModelHart
     ensures { result ≡ resumed hart }
 {
     match hart.mode() {
-        Mode::Stopped => ModelHart::new(hart.regs(), Mode::Running, false),
+        Mode::Stopped => ModelHart::new(hart.regs(), Mode::Running, false, false),
         Mode::Running | Mode::Leaving(_) | Mode::Exited => hart,
+    }
+}
+
+/// An interrupt is asked of a hart that runs.
+pub fn asked(hart: ModelHart) -> ModelHart
+    ensures { result ≡ asked hart }
+{
+    match hart.mode() {
+        Mode::Running => ModelHart::new(hart.regs(), Mode::Running, hart.is_fresh(), true),
+        Mode::Stopped | Mode::Leaving(_) | Mode::Exited => hart,
     }
 }

@@ -1,5 +1,5 @@
 // A whole journal.
-ghost use Rattle.std.specs.Prelude.{◌≡◌, ◌+◌, ◌≤◌, ◌<◌, ◌^◌, IfOk, None, length};
+ghost use Rattle.std.specs.Prelude.{◌≡◌, ◌+◌, ◌≤◌, ◌<◌, ◌^◌, IfOk, None, length, replicate};
 ghost use Rattle.std.specs.Option.{option_map};
 ghost use Rattle.dbg_traits.specs.Settings.{AreSettings};
 ghost use Rattle.elf_symbols.specs.Entries.{names_of};
@@ -18,6 +18,7 @@ use dbg_model::{Entry, Journal, Mode, Opening};
 use dbg_traits::NoMemory;
 use elf_symbols::{Symbols, symbols};
 use elf32_read::Image;
+use mi_commands::Displaced;
 use plain_machine::first_registers;
 use std::alloc::{AllocError, Global};
 
@@ -31,9 +32,18 @@ fn first_harts(alloc: Global, image: &Image, harts: u32) -> Result<Vec<ModelHart
             first_registers(image.entry(), harts, hart),
             Mode::Stopped,
             false,
+            false,
         ))?;
     }
     Ok(all)
+}
+
+fn no_counts(alloc: Global, harts: usize) -> Result<Vec<u64>, AllocError>
+    ensures { IfOk result (λ v. v.items ≡ replicate harts 0) }
+{
+    let mut counts = Vec::new(alloc);
+    counts.resize(harts, 0)?;
+    Ok(counts)
 }
 
 // Where a session begins.
@@ -49,6 +59,9 @@ fn first_parts(alloc: Global, opening: &Opening) -> Result<Parts, NoMemory>
         out: Vec::new(alloc),
         table: BreakTable::new(alloc, &opening.image, harts)?,
         selected: 1,
+        displaced: Displaced::Auto,
+        sets: 0,
+        passed: no_counts(alloc, harts as usize)?,
         retired: 0,
         noted: 0,
     })

@@ -4,6 +4,7 @@ ghost use Rattle.break_table.specs.Entry.{entry_of};
 use crate::ModelHart;
 use break_table::{BreakEntry, BreakTable};
 use data_memory::DataMemory;
+use mi_commands::Displaced;
 use std::marker::Model;
 
 /// What a state is made of.
@@ -19,6 +20,12 @@ pub struct Parts {
     pub table: BreakTable,
     /// The selected thread, counted from 1.
     pub selected: u32,
+    /// Whether a planted instruction is executed as a copy in a slot.
+    pub displaced: Displaced,
+    /// How many lines set that to on or auto.
+    pub sets: u64,
+    /// For each hart, how many of its instructions were executed where an enabled breakpoint stood, while that wasn't off.
+    pub passed: Vec<u64>,
     /// How many instructions were executed.
     pub retired: u64,
     /// How many entries other than `Ran` there are.
@@ -82,6 +89,14 @@ impl ModelState {
         ensures { result ≡ self.now.selected }
     {
         self.parts.selected
+    }
+
+    /// For each hart, how many of its instructions were executed where an enabled breakpoint stood, while displaced
+    /// stepping wasn't off.
+    pub fn passed(&self) -> &[u64]
+        ensures { result.now ≡ self.now.passed }
+    {
+        self.parts.passed.as_slice()
     }
 
     /// How many instructions were executed.

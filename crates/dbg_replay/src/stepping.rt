@@ -1,16 +1,17 @@
 // One instruction of a hart.
-ghost use Rattle.std.specs.Prelude.{◌≡◌, ◌++◌, ◌<◌, List, ℕ, Some, OnOk, length};
+ghost use Rattle.std.specs.Prelude.{◌≡◌, ◌++◌, ◌<◌, ◌-◌, ◌^◌, List, ℕ, Some, OnOk, length, slice_index};
 ghost use Rattle.rv_exec.specs.Registers.{Registers};
 ghost use Rattle.rv_exec.specs.Memory.{Memory};
 ghost use Rattle.data_memory.specs.Ranges.{bytes_at};
 ghost use Rattle.plain_machine.specs.Answers.{StepGives};
 ghost use Rattle.plain_machine.specs.Environment.{Answer};
 ghost use Rattle.plain_machine.specs.Plain.{plain};
-ghost use Rattle.dbg_model.specs.Lawful.{one};
+ghost use Rattle.dbg_model.specs.Lawful.{one, one_more_at, passes};
 ghost use Rattle.dbg_replay.specs.Parts.{shown};
 ghost use Rattle.dbg_replay.specs.Going.{Comes, Finishes, Kept};
 
 use crate::ModelHart;
+use crate::changes::is_off;
 use crate::halt::Halt;
 use crate::modes::{leave_all, leaving};
 use crate::movers::runner;
@@ -75,15 +76,35 @@ fn finish(alloc: Global, parts: &mut Parts, h: u32, stepped: Stepped) -> Result<
     Ok(())
 }
 
+// Whether an enabled breakpoint stands where the hart is, and displaced stepping isn't off.
+fn passes(parts: &Parts, hart: &ModelHart) -> bool
+    ensures { result ≡ passes (shown parts.now) hart.now }
+{
+    !is_off(parts.displaced) && parts.table.stands(hart.regs().pc())
+}
+
+// One more instruction of a hart that passed a breakpoint, if it did.
+fn count_pass(passed: &mut Vec<u64>, h: usize, passes: bool)
+    requires hart { h < length passed.old.items }
+    requires room { slice_index passed.old.items h < 2 ^ 64 - 1 }
+    ensures { passed.new.items ≡ one_more_at passed.old.items h passes }
+{
+    if passes {
+        passed[h] += 1;
+    }
+}
+
 /// One instruction of a hart that may execute.
 pub fn step(alloc: Global, opening: &Opening, parts: &mut Parts, h: u32) -> Result<(), Halt>
     requires { Kept opening.now parts.old }
     ensures { Comes opening.now result (one opening.now h (shown parts.old)) parts.new }
 {
     let hart = runner(opening, parts, h)?;
+    let passes = passes(parts, &hart);
     let mut regs = hart.regs();
     let stepped = execute_plain(&opening.image, &mut regs, &mut parts.memory);
-    parts.harts[h as usize] = ModelHart::new(regs, hart.mode(), true);
+    parts.harts[h as usize] = ModelHart::new(regs, hart.mode(), true, hart.is_asked());
+    count_pass(&mut parts.passed, h as usize, passes);
     parts.retired += 1;
     finish(alloc, parts, h, stepped)
 }

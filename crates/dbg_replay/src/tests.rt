@@ -25,13 +25,15 @@ enum Told {
     Counted(u32),
     /// A hart stops at the breakpoint of a number.
     Stopped(u32, u32),
+    /// A hart stops by an interrupt.
+    Interrupted(u32),
     /// A hart stops by EBREAK.
     Faulted(u32),
     Left(u32, u32),
     Did(&'static str),
 }
 
-use Told::{Counted, Did, Faulted, Left, Ran, Stopped};
+use Told::{Counted, Did, Faulted, Interrupted, Left, Ran, Stopped};
 
 fn entry(alloc: Global, told: Told) -> Result<Entry, Fail> {
     Ok(match told {
@@ -43,6 +45,10 @@ fn entry(alloc: Global, told: Told) -> Result<Entry, Fail> {
                 number,
                 error: None,
             },
+        },
+        Interrupted(hart) => Entry::Stopped {
+            hart,
+            why: Why::Interrupted,
         },
         Faulted(hart) => Entry::Stopped {
             hart,
@@ -108,6 +114,8 @@ fn a_breakpoint_stops_a_hart_on_its_way_to_its_exit(rt: HostRuntime) -> Result<(
     assert_eq!(rt; hart.regs().pc(), 0x0001_0084);
     assert_eq!(rt; (state.retired(), state.selected()), (4, 1));
     assert!(rt; state.output().is_empty());
+    // It was resumed where the breakpoint stands.
+    assert_eq!(rt; state.passed(), [1].as_slice());
     let [breakpoint] = state.breakpoints() else {
         return Err(Fail::new("there is one breakpoint"));
     };
@@ -133,10 +141,12 @@ fn lawful_journals_are_gone_through(rt: HostRuntime) -> Result<(), Fail> {
     let go = Did("-exec-continue");
     let set = Did("-break-insert *0x10078");
     let counting = Did("-break-insert -i 1 *0x10078");
+    let stop = Did("-exec-interrupt");
     assert!(rt; is_lawful(alloc, 9, &[])?);
     assert!(rt; is_lawful(alloc, 9, &[go, Ran(0, 2)])?);
     assert!(rt; is_lawful(alloc, 9, &[set, go, Ran(0, 1), Stopped(0, 1)])?);
     assert!(rt; is_lawful(alloc, 9, &[counting, go, Ran(0, 1), Counted(0), Ran(0, 1)])?);
+    assert!(rt; is_lawful(alloc, 9, &[go, Ran(0, 1), stop, Interrupted(0)])?);
     Ok(())
 }
 
@@ -155,10 +165,11 @@ fn no_other_journals_are_gone_through(rt: HostRuntime) -> Result<(), Fail> {
     assert!(rt; !is_lawful(alloc, 9, &[set, go, Ran(0, 1), Counted(0)])?);
     assert!(rt; !is_lawful(alloc, 9, &[set, go, Ran(0, 1), Stopped(0, 2)])?);
     assert!(rt; !is_lawful(alloc, 9, &[go, Ran(0, 1), Stopped(0, 1)])?);
-    // No trap, no exit, another code.
+    // No trap, no exit, another code, no interrupt that was asked.
     assert!(rt; !is_lawful(alloc, 9, &[go, Faulted(0)])?);
     assert!(rt; !is_lawful(alloc, 9, &[go, Left(0, 2)])?);
     assert!(rt; !is_lawful(alloc, 9, &[go, Ran(0, 4), Left(0, 3)])?);
+    assert!(rt; !is_lawful(alloc, 9, &[go, Ran(0, 1), Interrupted(0)])?);
     // A wait while a hart runs, a line after the budget.
     assert!(rt; !is_lawful(alloc, 9, &[go, Did("-exec-wait")])?);
     assert!(rt; !is_lawful(alloc, 2, &[go, Ran(0, 2), Did("-thread-list-ids")])?);

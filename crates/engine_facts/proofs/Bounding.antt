@@ -63,7 +63,7 @@ pub may_go_by : (r : Run) → r.retired < r.opening.settings.budget → r.noted 
 may_go_by r b n =
     let budget : nat_lt r.retired r.opening.settings.budget ≡ true = grind (arith, nat_tests) in
     let history : nat_lt r.noted HISTORY ≡ true = grind (arith, nat_tests) in
-    rw (seen_quiet r.machine.cores r.minds, budget, history) refl
+    rw (seen_quiet r.opening.image r.machine.cores r.minds, budget, history) refl
 
 and_false : (b : Bool) → (b && false) ≡ false
 and_false true = refl
@@ -72,9 +72,9 @@ and_false false = refl
 pub may_not_budget : (r : Run) → r.opening.settings.budget ≤ r.retired → may_go r.opening (seen r) ≡ false
 may_not_budget r o =
     let budget : nat_lt r.retired r.opening.settings.budget ≡ false = grind (arith, nat_tests) in
-    rw (seen_quiet r.machine.cores r.minds, budget) refl
+    rw (seen_quiet r.opening.image r.machine.cores r.minds, budget) refl
 
 pub may_not_history : (r : Run) → HISTORY ≤ r.noted → may_go r.opening (seen r) ≡ false
 may_not_history r n =
     let history : nat_lt r.noted HISTORY ≡ false = grind (arith, nat_tests) in
-    rw (seen_quiet r.machine.cores r.minds, history, and_false (nat_lt r.retired r.opening.settings.budget)) refl
+    rw (seen_quiet r.opening.image r.machine.cores r.minds, history, and_false (nat_lt r.retired r.opening.settings.budget)) refl

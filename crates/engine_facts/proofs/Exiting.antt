@@ -1,18 +1,23 @@
 -- An instruction by which harts exit: they leave, each is reported, and no patch stays lifted.
-use Rattle.std.proofs.Common.{◌≡◌, ℕ, ◌+◌, true, List, [], ◌∷◌, ◌++◌, length, refl, sym, ap, ◌∙◌, subst, arith, length-set}
-use Rattle.std.specs.Prelude.{Some, None, map, slice_get, slice_set}
+use Rattle.std.proofs.Common.{◌≡◌, ◌≤◌, ℕ, ◌+◌, true, false, List, [], ◌∷◌, ◌++◌, length, refl, sym, ap, ◌∙◌, subst, arith, length-set}
+use Rattle.std.specs.Prelude.{Option, Some, None, map, slice_get, slice_index, slice_set}
 use Rattle.std.proofs.lemmas.List.{length-map}
 use Rattle.rv_exec.specs.Memory.{Memory}
 use Rattle.text_words.specs.Words.{Words}
 use Rattle.plain_machine.specs.Environment.{Goes, LeavesAlone, LeavesAll}
 use Rattle.plain_machine.specs.Plain.{plain}
+use Rattle.elf32_read.specs.Program.{Program}
+use Rattle.scratch_slots.specs.declared.slots.SlotUse.{SlotUse}
+use Rattle.mi_commands.specs.declared.command.Displaced.{Displaced}
+use Rattle.step_over.specs.declared.phase.Phase.TheVariants as phase
 use Rattle.hart_machine.specs.declared.hart.Core.{Core}
 use Rattle.hart_machine.proofs.Places.{set_twice, get-set_same}
+use Rattle.break_table.specs.Table.{stands}
 use Rattle.dbg_model.specs.declared.entry.Entry.{Entry}
 use Rattle.dbg_model.specs.declared.entry.Entry.TheVariants.{Left}
 use Rattle.dbg_model.specs.declared.entry.Mode.TheVariants as mode
 use Rattle.dbg_model.specs.State.{Hart, State, any_leaves}
-use Rattle.dbg_model.specs.Lawful.{one, one_out, may_run, leaving}
+use Rattle.dbg_model.specs.Lawful.{one, one_out, one_more_at, may_run, leaving, passes}
 use Rattle.dbg_model.specs.Lawful as lawful
 use Rattle.dbg_model.specs.Leaving.{lefts_from, gone, LeaveWith}
 use Rattle.dbg_model.specs.Journals.{Leaves, lengthened}
@@ -20,15 +25,16 @@ use Rattle.dbg_model.proofs.Adding.{lengthens}
 use Rattle.dbg_model.proofs.Leaving.{drains}
 use Rattle.engine_facts.specs.declared.mind.Activity.TheVariants as activity
 use Rattle.engine_facts.specs.declared.mind.Mind.{Mind}
-use Rattle.engine_facts.specs.Minds.{exited_mind, gone_mind, lefts_live, ran_mind}
-use Rattle.engine_facts.specs.Seen.{Run, seen, seen_hart, seen_harts}
-use Rattle.engine_facts.specs.Facts.{Facts, Planted, held_by}
-use Rattle.engine_facts.specs.Moves.{departed}
+use Rattle.engine_facts.specs.Minds.{mode_of, after_step, is_before, is_copied, exited_mind, gone_mind, lefts_live, ran_mind}
+use Rattle.engine_facts.specs.Seen.{Run, seen, seen_hart, seen_harts, running_regs}
+use Rattle.engine_facts.specs.Facts.{Facts, Planted, AreCopied, Retired, held_by, pending}
+use Rattle.engine_facts.specs.Moves.{AreHome, departed}
 use Rattle.engine_facts.proofs.Seeing.{seen-set, seen_quiet, alone_lefts, alone_gone, alone_with, alone_some, all_lefts, all_left, all_with, all_some}
-use Rattle.engine_facts.proofs.Counting.{retired_ran, retired_quiet, quiet_lefts_live}
-use Rattle.engine_facts.proofs.Updating.{updated, all_updated, none_some}
+use Rattle.engine_facts.proofs.Counting.{retired_ran, retired_quiet, quiet_lefts_live, copied_more, Balances, adds}
+use Rattle.engine_facts.proofs.Updating.{SlotChange, AllFree, updated, all_updated, home_at, gone_by, none_some}
 use Rattle.engine_facts.proofs.Keeping.{Mover, entered, hart_at}
-use Rattle.engine_facts.proofs.Stepping.{next_state, ran_hart, one_seen}
+use Rattle.engine_facts.proofs.Stepping.{after_one, one_seen, ran_seen, balances, here_none}
+use Rattle.engine_facts.proofs.Holding.{idle_pending}
 
 -- an instruction by which harts left, and the entries by which that is reported
 pub record Departs (r n : Run) (h code : ℕ) (lefts : List Entry) : Type 0 where
@@ -52,88 +58,131 @@ drained r n h t lefts f same journal l is =
 zero_plus : (h : ℕ) → 0 + h ≡ h
 zero_plus h = omega arith
 
--- this hart exits
-pub departs_alone : (r : Run) (h spare code : ℕ) (c c' : Core) (x : Mind) (mem : Memory) (t : Words) → Facts r → Mover r h c x → x.activity ≡ activity.Running → may_run r.opening (seen r) h (seen_hart c x) ≡ true
-    → plain r.opening.image c.regs r.machine.memory ≡ Goes c'.regs mem [] (LeavesAlone code) → c'.retired ≡ c.retired + 1 → ((k : ℕ) → (h ≡ k → ⊥) → held_by r.hold k ≡ held_by None k) → Planted r.opening.image t r.breaks None
-    → Departs r (departed r h c' (slice_set r.minds h exited_mind) mem t (Left h code ∷ []) 1 spare) h code (Left h code ∷ [])
-departs_alone r h spare code c c' x mem t f m runs may is more holds p =
-    let goes = one_seen r h c c' x mem [] (LeavesAlone code) m runs may is in
-    let xs = slice_set r.minds h exited_mind in
+-- this hart exits, and is home
+pub departs_alone : (r : Run) (h spare code : ℕ) (c d : Core) (x : Mind) (mem : Memory) (t : Words) (slots : List (Option SlotUse)) → Facts r → Mover r h c x → x.activity ≡ activity.Running → is_before x.phase ≡ true
+    → (x.phase ≡ phase.Idle → stands c.regs.pc r.breaks ≡ false) → may_run r.opening (seen r) h (seen_hart r.opening.image c x) ≡ true
+    → plain r.opening.image (seen_hart r.opening.image c x).regs r.machine.memory ≡ Goes d.regs mem [] (LeavesAlone code) → d.retired ≡ c.retired + 1 → d.copied ≡ c.copied + adds (is_copied x.phase) → d.entered ≡ None
+    → ((k : ℕ) → (h ≡ k → ⊥) → held_by r.hold k ≡ held_by None k) → SlotChange r.machine.slots slots h phase.Idle → length slots ≡ length r.machine.slots → Planted r.opening.image t r.breaks None
+    → Departs r (departed r h (slice_set r.machine.cores h d) (slice_set r.minds h (exited_mind x)) mem t slots (Left h code ∷ []) 1 spare) h code (Left h code ∷ [])
+departs_alone r h spare code c d x mem t slots f m runs before none may is more copied out holds free len p =
+    let image = r.opening.image in
+    let y = seen_hart image c x in
+    let goes = one_seen r h c x d.regs mem [] (LeavesAlone code) m may is in
+    let x' = exited_mind x in
+    let xs = slice_set r.minds h x' in
+    let cs = slice_set r.machine.cores h d in
     let es = Left h code ∷ [] in
-    let n : Run = departed r h c' xs mem t es 1 spare in
-    let s = next_state (seen r) h (LeavesAlone code) (ran_hart c') mem [] in
-    let ys = slice_set (seen r).harts h (ran_hart c') in
-    let z : Hart = record { regs = c'.regs; mode = mode.Leaving code; fresh = true } in
-    let quiet = seen_quiet r.machine.cores r.minds in
+    let n : Run = departed r h cs xs mem t slots es 1 spare in
+    let s = after_one r h c x d.regs mem [] (LeavesAlone code) in
+    let w : Hart = record { regs = d.regs; mode = mode.Running; fresh = true; asked = x.asked } in
+    let z : Hart = record { regs = d.regs; mode = mode.Leaving code; fresh = true; asked = x.asked } in
+    let stepped_is : lawful.stepped y d.regs ≡ w = ap (λ a. let v : Hart = record { regs = d.regs; mode = mode_of a; fresh = true; asked = x.asked } in v) runs in
+    let ys = slice_set (seen r).harts h (lawful.stepped y d.regs) in
+    let quiet = seen_quiet image r.machine.cores r.minds in
     let had = hart_at r h c x m in
-    let there : slice_get ys h ≡ Some (ran_hart c') = get-set_same (seen r).harts h (ran_hart c') (seen_hart c x) had in
-    let harts : s.harts ≡ slice_set (seen r).harts h z = ap (lawful.leaving_at code ys h) there ∙ set_twice (seen r).harts h (ran_hart c') z in
-    let lefts : lefts_from 0 s.harts ≡ es = ap (lefts_from 0) harts ∙ (alone_lefts (seen r).harts h 0 code (seen_hart c x) z quiet had refl ∙ ap (λ k. Left k code ∷ []) (zero_plus h)) in
-    let after : map gone s.harts ≡ seen_harts (slice_set r.machine.cores h c') xs = ap (map gone) harts ∙ (alone_gone (seen r).harts h z quiet ∙ sym (seen-set r.machine.cores r.minds h c' exited_mind)) in
+    let there : slice_get ys h ≡ Some w = get-set_same (seen r).harts h (lawful.stepped y d.regs) y had ∙ ap Some stepped_is in
+    let harts : s.harts ≡ slice_set (seen r).harts h z = ap (lawful.leaving_at code ys h) there ∙ set_twice (seen r).harts h (lawful.stepped y d.regs) z in
+    let lefts : lefts_from 0 s.harts ≡ es = ap (lefts_from 0) harts ∙ (alone_lefts (seen r).harts h 0 code y z quiet had refl ∙ ap (λ k. Left k code ∷ []) (zero_plus h)) in
+    let after : map gone s.harts ≡ seen_harts image cs xs = ap (map gone) harts ∙ (alone_gone (seen r).harts h z quiet ∙ sym (seen-set image r.machine.cores r.minds h d x')) in
     let l = lengthens r.opening r.journal h (seen r) s f.leaves goes.one in
     let u : State = record s { harts = map gone s.harts; noted = s.noted + 1 } in
+    let idle_bal : Balances r.opening.settings.slots r.displaced c d x.phase phase.Idle (adds (passes (seen r) y)) =
+    λ some.
+      let b = balances r.opening.settings.slots r.displaced c d x.phase (stands y.regs.pc r.breaks) before copied (here_none r c x none runs) some in
+      let e = idle_pending r.displaced in
+      omega (arith, b, e)
+    in
     let e = entered n u f.settings (drained r n h s es f refl refl l lefts) (ap (λ hs. let v : State = record u { harts = hs } in v) after)
     (record {
-      count = length-set r.minds h exited_mind ∙ f.count;
+      count = length-set r.minds h x' ∙ f.count;
       selected = f.selected;
-      harts = updated r.opening.image r.machine.cores r.minds r.hold None h c' x exited_mind f.harts m.mind
-          (record { holds = holds; fact = record { placed = tt; held = refl; idle = λ e. refl }; holder = λ d e. none_some d e });
+      harts = updated image r.machine.cores r.machine.slots slots r.minds r.hold None h d x x' f.harts m.mind
+          (record { slots = free; holds = holds; fact = record { placed = tt; entered = out; held = refl; idle = λ e. refl }; holder = λ d e. none_some d e });
+      slots = len ∙ f.slots;
       planted = p;
       texts = f.texts;
       places = f.places;
-      waits = f.waits ∙ sym (length-set r.minds h exited_mind);
+      waits = f.waits ∙ sym (length-set r.minds h x');
       names = f.names;
-      retired = retired_quiet (slice_set r.machine.cores h c') (lengthened r.journal h) es (λ i. refl) (retired_ran r.machine.cores h c c' r.journal m.core more f.retired);
+      retired = retired_quiet cs (lengthened r.journal h) es (λ i. refl) (retired_ran r.machine.cores h c d r.journal m.core more f.retired);
+      copied = copied_more r.opening.settings.slots r.machine.cores r.minds h c d x x' r.displaced (seen r).passed (seen r).sets (passes (seen r) y) m.core m.mind idle_bal f.copied;
     }) in
     record {
       facts = e.facts;
       between = s;
       codes = subst (LeaveWith code) (sym harts) (alone_with (seen r).harts h code z quiet refl);
-      some = ap any_leaves harts ∙ alone_some (seen r).harts h code (seen_hart c x) z had refl;
+      some = ap any_leaves harts ∙ alone_some (seen r).harts h code y z had refl;
       one = goes.one;
       wrote = goes.wrote;
       reported = lefts;
       harts = sym after;
     }
 
--- all harts exit
-pub departs_all : (r : Run) (h spare code : ℕ) (c c' : Core) (x : Mind) (mem : Memory) (t : Words) → Facts r → Mover r h c x → x.activity ≡ activity.Running → may_run r.opening (seen r) h (seen_hart c x) ≡ true
-    → plain r.opening.image c.regs r.machine.memory ≡ Goes c'.regs mem [] (LeavesAll code) → c'.retired ≡ c.retired + 1 → Planted r.opening.image t r.breaks None
-    → (let es = lefts_live code 0 (slice_set r.minds h (ran_mind x)) in Departs r (departed r h c' (map gone_mind (slice_set r.minds h (ran_mind x))) mem t es (length es) spare) h code es)
-departs_all r h spare code c c' x mem t f m runs may is more p =
-    let goes = one_seen r h c c' x mem [] (LeavesAll code) m runs may is in
+-- the counts of harts that came home
+pub retired_home : (p : Program) (cs : List Core) (xs : List Mind) (ds : List Core) (j : List Entry) → AreHome p cs xs ds → Retired cs j → Retired ds j
+retired_home p cs xs ds j home r k d at =
+    let a = home_at p cs xs ds k d home at in
+    a.home.retired ∙ r k a.core a.core_at
+
+-- what the copies of harts that have exited count
+copied_gone : (p : Program) (count : ℕ) (cs : List Core) (xs : List Mind) (ds : List Core) (d : Displaced) (passed : List ℕ) (sets : ℕ) → AreHome p cs xs ds → AreCopied count cs xs d passed sets → AreCopied count ds (map gone_mind xs) d passed sets
+copied_gone p count cs xs ds d passed sets home f some k e y ek yk =
+    let a = home_at p cs xs ds k e home ek in
+    let had : slice_index passed k + pending d a.mind.phase ≤ a.core.copied + sets = f some k a.core a.mind a.core_at a.mind_at in
+    let same = a.home.copied in
+    let none : pending d y.phase ≡ 0 = ap (pending d) (gone_by xs k y yk).phase_is ∙ idle_pending d in
+    omega (arith, had, same, none)
+
+-- all harts exit, and are home
+pub departs_all : (r : Run) (h spare code : ℕ) (c c' : Core) (x : Mind) (ds : List Core) (mem : Memory) (t : Words) (slots : List (Option SlotUse)) → Facts r → Mover r h c x → x.activity ≡ activity.Running → is_before x.phase ≡ true
+    → (x.phase ≡ phase.Idle → stands c.regs.pc r.breaks ≡ false) → may_run r.opening (seen r) h (seen_hart r.opening.image c x) ≡ true
+    → plain r.opening.image (seen_hart r.opening.image c x).regs r.machine.memory ≡ Goes (running_regs r.opening.image c'.regs (after_step x.phase)) mem [] (LeavesAll code) → c'.retired ≡ c.retired + 1 → c'.copied ≡ c.copied + adds (is_copied x.phase)
+    → AreHome r.opening.image (slice_set r.machine.cores h c') (slice_set r.minds h (ran_mind x)) ds → AllFree slots → length slots ≡ length r.machine.slots → length ds ≡ length r.machine.cores → Planted r.opening.image t r.breaks None
+    → (let es = lefts_live code 0 (slice_set r.minds h (ran_mind x)) in Departs r (departed r h ds (map gone_mind (slice_set r.minds h (ran_mind x))) mem t slots es (length es) spare) h code es)
+departs_all r h spare code c c' x ds mem t slots f m runs before none may is more copied home free slots_len ds_len p =
+    let image = r.opening.image in
+    let q = running_regs image c'.regs (after_step x.phase) in
+    let y = seen_hart image c x in
+    let goes = one_seen r h c x q mem [] (LeavesAll code) m may is in
     let cs = slice_set r.machine.cores h c' in
     let xs = slice_set r.minds h (ran_mind x) in
     let es = lefts_live code 0 xs in
-    let n : Run = departed r h c' (map gone_mind xs) mem t es (length es) spare in
-    let s = next_state (seen r) h (LeavesAll code) (ran_hart c') mem [] in
-    let ran : slice_set (seen r).harts h (ran_hart c') ≡ seen_harts cs xs = sym (seen-set r.machine.cores r.minds h c' (ran_mind x)) in
-    let harts : s.harts ≡ map (leaving code) (seen_harts cs xs) = ap (map (leaving code)) ran in
+    let n : Run = departed r h ds (map gone_mind xs) mem t slots es (length es) spare in
+    let s = after_one r h c x q mem [] (LeavesAll code) in
+    let w = lawful.stepped y q in
+    let w_is : w ≡ seen_hart image c' (ran_mind x) = ran_seen image c c' x runs in
+    let ran : slice_set (seen r).harts h w ≡ seen_harts image cs xs = ap (slice_set (seen r).harts h) w_is ∙ sym (seen-set image r.machine.cores r.minds h c' (ran_mind x)) in
+    let harts : s.harts ≡ map (leaving code) (seen_harts image cs xs) = ap (map (leaving code)) ran in
     let cores : length cs ≡ length r.machine.cores = length-set r.machine.cores h c' in
     let minds : length xs ≡ length r.minds = length-set r.minds h (ran_mind x) in
     let len : length cs ≡ length xs = cores ∙ (f.harts.len ∙ sym minds) in
-    let lefts : lefts_from 0 s.harts ≡ es = ap (lefts_from 0) harts ∙ all_lefts 0 code cs xs len in
-    let after : map gone s.harts ≡ seen_harts cs (map gone_mind xs) = ap (map gone) harts ∙ all_left code cs xs in
+    let home_len : length ds ≡ length xs = ds_len ∙ (f.harts.len ∙ sym minds) in
+    let lefts : lefts_from 0 s.harts ≡ es = ap (lefts_from 0) harts ∙ all_lefts image 0 code cs xs len in
+    let after : map gone s.harts ≡ seen_harts image ds (map gone_mind xs) = ap (map gone) harts ∙ all_left image code cs xs ds home in
     let l = lengthens r.opening r.journal h (seen r) s f.leaves goes.one in
     let u : State = record s { harts = map gone s.harts; noted = s.noted + length es } in
     let gone_len : length (map gone_mind xs) ≡ length xs = simp length-map in
+    let counted = copied_more r.opening.settings.slots r.machine.cores r.minds h c c' x (ran_mind x) r.displaced (seen r).passed (seen r).sets (passes (seen r) y) m.core m.mind
+    (balances r.opening.settings.slots r.displaced c c' x.phase (stands y.regs.pc r.breaks) before copied (here_none r c x none runs)) f.copied in
     let e = entered n u f.settings (drained r n h s es f refl refl l lefts) (ap (λ hs. let v : State = record u { harts = hs } in v) after)
     (record {
       count = gone_len ∙ (minds ∙ f.count);
       selected = f.selected;
-      harts = all_updated r.opening.image cs xs len;
+      harts = all_updated image cs slots xs ds home_len home free;
+      slots = slots_len ∙ f.slots;
       planted = p;
       texts = f.texts;
       places = f.places;
       waits = f.waits ∙ sym (gone_len ∙ minds);
       names = f.names;
-      retired = retired_quiet cs (lengthened r.journal h) es (quiet_lefts_live code 0 xs) (retired_ran r.machine.cores h c c' r.journal m.core more f.retired);
+      retired = retired_quiet ds (lengthened r.journal h) es (quiet_lefts_live code 0 xs) (retired_home image cs xs ds (lengthened r.journal h) home (retired_ran r.machine.cores h c c' r.journal m.core more f.retired));
+      copied = copied_gone image r.opening.settings.slots cs xs ds r.displaced (one_more_at (seen r).passed h (passes (seen r) y)) (seen r).sets home counted;
     }) in
     record {
       facts = e.facts;
       between = s;
-      codes = subst (LeaveWith code) (sym harts) (all_with code cs xs);
-      some = all_some code (slice_set (seen r).harts h (ran_hart c')) h (ran_hart c') (get-set_same (seen r).harts h (ran_hart c') (seen_hart c x) (hart_at r h c x m)) refl;
+      codes = subst (LeaveWith code) (sym harts) (all_with image code cs xs);
+      some = all_some code (slice_set (seen r).harts h w) h w (get-set_same (seen r).harts h w y (hart_at r h c x m)) (ap mode_of runs);
       one = goes.one;
       wrote = goes.wrote;
       reported = lefts;

@@ -4,23 +4,33 @@ use Rattle.std.specs.Prelude.{Option, Some, None, slice_get, ◌&&◌, ◌||◌,
 use Rattle.std.proofs.lemmas.Bool.Decides.{nat_tests}
 use Rattle.std.proofs.lemmas.Option.{slice_get_within}
 use Rattle.text_words.specs.Words.{Words, is_planted}
-use Rattle.elf32_read.specs.Program.{Program}
+use Rattle.elf32_read.specs.Program.{Program, text_word}
+use Rattle.rv_exec.specs.Registers.{Registers}
+use Rattle.scratch_slots.specs.declared.slots.SlotUse.{SlotUse}
+use Rattle.scratch_slots.specs.Table.{use_at}
+use Rattle.mi_commands.specs.declared.command.Displaced.{Displaced}
+use Rattle.step_over.specs.declared.phase.Phase.{Phase}
+use Rattle.step_over.specs.declared.phase.Phase.TheVariants as phase
 use Rattle.hart_machine.specs.declared.hart.Core.{Core}
+use Rattle.hart_machine.specs.Copying.{settled_regs}
+use Rattle.hart_machine.proofs.Copying.{settled_unrun}
 use Rattle.hart_machine.proofs.Places.{same_some}
 use Rattle.break_table.specs.Entry.{Entry as BreakEntry}
 use Rattle.break_table.specs.Table.{stands, stands_at}
+use Rattle.dbg_model.specs.State.{is_off}
 use Rattle.dbg_model.proofs.Options.{both_true}
+use Rattle.engine_facts.specs.declared.mind.Activity.{Activity}
+use Rattle.engine_facts.specs.declared.mind.Activity.TheVariants as activity
 use Rattle.engine_facts.specs.declared.mind.Hold.{Hold}
 use Rattle.engine_facts.specs.declared.mind.Mind.{Mind}
-use Rattle.engine_facts.specs.declared.mind.Phase.TheVariants as phase
-use Rattle.engine_facts.specs.Minds.{lifted_of, with_phase}
-use Rattle.engine_facts.specs.Seen.{Run}
-use Rattle.engine_facts.specs.Facts.{Facts, Planted, InText, AreInText, held_by, is_home, wanted, other_holder, OneLifted}
-use Rattle.engine_facts.specs.Moves.{Repatched, HeldInText, Released, rephased}
-use Rattle.engine_facts.proofs.Updating.{differs, equals, none_some}
+use Rattle.engine_facts.specs.Minds.{lifted_of, slot_of, entered_of, with_phase}
+use Rattle.engine_facts.specs.Seen.{Run, seen_regs, running_regs, landed_regs}
+use Rattle.engine_facts.specs.Facts.{Facts, Planted, InText, AreInText, held_by, is_home, wanted, other_holder, pending, OneLifted}
+use Rattle.engine_facts.specs.Moves.{Repatched, HeldInText, Released, Frees, rehomed, rephased}
+use Rattle.engine_facts.proofs.Updating.{slots_same, slots_freed, differs, equals, none_held, none_some}
 use Rattle.engine_facts.proofs.Planting.{replanted, text_shown}
-use Rattle.engine_facts.proofs.Keeping.{Mover, StaysSeen, silent}
-use Rattle.engine_facts.proofs.Stepping.{fact_of, home_text, holds_is}
+use Rattle.engine_facts.proofs.Keeping.{Mover, StaysSeen, silent, silent_home}
+use Rattle.engine_facts.proofs.Stepping.{fact_of, home_text, holds_is, seen_alike, shown_alike}
 
 -- what stands in a list
 pub get_within : {A : Type 0} (xs : List A) (h : ℕ) → h < length xs → (x : A) × (slice_get xs h ≡ Some x)
@@ -87,16 +97,90 @@ pub no_hold : (hold : Option Hold) (h : ℕ) → other_holder hold h ≡ None �
 no_hold None h free held = refl
 no_hold (Some d) h free held = no_hold_as d h (d.hart == h) refl free held
 
--- a hart steps over nothing any more
-pub unwinds : (r : Run) (h : ℕ) (c : Core) (x : Mind) (t : Words) → Facts r → Mover r h c x → other_holder r.hold h ≡ None → Released r.machine.text t r.breaks r.hold → StaysSeen r (rephased r h (with_phase x phase.Idle) t None)
-unwinds r h c x t f m free w =
-    silent r h c x (with_phase x phase.Idle) t None f m refl
+and_right : (b : Bool) → (b && true) ≡ false → b ≡ false
+and_right true e = cc
+and_right false e = refl
+
+-- where a hart steps over nothing, and the word at its pc isn't patched, no breakpoint stands
+pub clear_stands : (r : Run) (h : ℕ) (c : Core) (x : Mind) → Facts r → Mover r h c x → other_holder r.hold h ≡ None → x.phase ≡ phase.Idle → is_planted r.machine.text c.regs.pc ≡ false → stands c.regs.pc r.breaks ≡ false
+clear_stands r h c x f m free idle clear =
+    let hold : r.hold ≡ None = no_hold r.hold h free (none_held r.hold h x.phase (fact_of r h c x f m).held idle) in
+    let off : wanted r.breaks None c.regs.pc ≡ false = ap (λ (o : Option Hold). wanted r.breaks o c.regs.pc) (sym hold) ∙ (sym (f.planted.patches c.regs.pc) ∙ clear) in
+    and_right (stands c.regs.pc r.breaks) off
+
+-- ---- a hart steps over nothing any more
+
+pub and_off : (b : Bool) → (b && false) ≡ false
+and_off true = refl
+and_off false = refl
+
+pub idle_pending : (d : Displaced) → pending d phase.Idle ≡ 0
+idle_pending d = ap (λ b. cond b 1 0) (and_off (not (is_off d)))
+
+-- its own registers are those that it shows, where it has no slot
+own_regs : (p : Program) (r : Registers) (q : Phase) → slot_of q ≡ None → running_regs p r q ≡ r
+own_regs p r phase.Idle e = refl
+own_regs p r (phase.Copied slot home) e = cc
+own_regs p r (phase.Landed slot home) e = cc
+own_regs p r (phase.Lifted home) e = refl
+own_regs p r (phase.Ran home) e = refl
+
+pub own_seen : (p : Program) (r : Registers) (a : Activity) (q : Phase) → slot_of q ≡ None → seen_regs p r a q ≡ r
+own_seen p r activity.Stopped q e = refl
+own_seen p r activity.Running q e = own_regs p r q e
+own_seen p r activity.Exited q e = refl
+
+pub idle_seen : (p : Program) (r : Registers) (a : Activity) → seen_regs p r a phase.Idle ≡ r
+idle_seen p r activity.Stopped = refl
+idle_seen p r activity.Running = refl
+idle_seen p r activity.Exited = refl
+
+pub unslotted : (q : Phase) → slot_of q ≡ None → entered_of q ≡ None
+unslotted phase.Idle e = refl
+unslotted (phase.Copied slot home) e = cc
+unslotted (phase.Landed slot home) e = cc
+unslotted (phase.Lifted home) e = refl
+unslotted (phase.Ran home) e = refl
+
+-- a hart without a slot
+pub unwinds : (r : Run) (h : ℕ) (c : Core) (x : Mind) (t : Words) → Facts r → Mover r h c x → slot_of x.phase ≡ None → other_holder r.hold h ≡ None → Released r.machine.text t r.breaks r.hold → StaysSeen r (rephased r h (with_phase x phase.Idle) t None)
+unwinds r h c x t f m without free w =
+    let p = r.opening.image in
+    silent r h c x (with_phase x phase.Idle) t None f m
+    (shown_alike p c c x (with_phase x phase.Idle) refl refl refl (idle_seen p c.regs x.activity ∙ sym (own_seen p c.regs x.activity x.phase without)))
     (record {
+      slots = slots_same p r.machine.cores r.machine.slots r.minds r.hold h x phase.Idle f.harts m.mind (sym without);
       holds = unholds r.hold h free;
-      fact = record { placed = tt; held = refl; idle = λ e. refl };
+      fact = record { placed = tt; entered = (fact_of r h c x f m).entered ∙ unslotted x.phase without; held = refl; idle = λ e. refl };
       holder = λ e is. none_some e is;
     })
+    (λ some. let z = idle_pending r.displaced in omega arith)
     (released r.opening.image r.machine.text t r.breaks r.hold f.planted w)
+
+pub home_copied : (p : Program) (w slot home : ℕ) (r : Registers) → settled_regs w slot home r false ≡ running_regs p r (phase.Copied slot home)
+home_copied p w slot home r = settled_unrun w slot home r
+
+pub home_landed : (p : Program) (w slot home : ℕ) (r : Registers) → text_word p home ≡ Some w → settled_regs w slot home r true ≡ running_regs p r (phase.Landed slot home)
+home_landed p w slot home r image = ap (λ o. landed_regs o slot home r) (sym image)
+
+-- a hart with a slot comes home, and gives the slot back
+pub comes_home : (r : Run) (h slot word : ℕ) (c d : Core) (x : Mind) (slots : List (Option SlotUse)) → Facts r → Mover r h c x → x.activity ≡ activity.Running → slot_of x.phase ≡ Some slot → lifted_of x.phase ≡ None → other_holder r.hold h ≡ None
+    → use_at r.machine.slots slot ≡ Some (record { hart = h; word = word }) → Frees r.machine.slots slots slot → d.regs ≡ running_regs r.opening.image c.regs x.phase → d.retired ≡ c.retired → d.copied ≡ c.copied → d.entered ≡ None
+    → StaysSeen r (rehomed r h d (with_phase x phase.Idle) r.machine.text slots None)
+comes_home r h slot word c d x slots f m runs has lifted free was frees regs retired copied out =
+    let p = r.opening.image in
+    let x' = with_phase x phase.Idle in
+    let hold : r.hold ≡ None = no_hold r.hold h free (sym (fact_of r h c x f m).held ∙ lifted) in
+    let seen_now : seen_regs p d.regs x.activity phase.Idle ≡ seen_regs p c.regs x.activity x.phase = seen_alike p d.regs c.regs x.activity phase.Idle x.phase runs regs in
+    silent_home r h c d x x' r.machine.text slots None f m (shown_alike p c d x x' refl refl refl seen_now)
+    (record {
+      slots = slots_freed p r.machine.cores r.machine.slots slots r.minds r.hold h slot word x phase.Idle f.harts m.mind has was frees.one;
+      holds = unholds r.hold h free;
+      fact = record { placed = tt; entered = out; held = refl; idle = λ e. refl };
+      holder = λ e is. none_some e is;
+    })
+    frees.len (record { retired = retired; copied = copied; pending = λ some. let z = idle_pending r.displaced in omega arith })
+    (subst (λ (o : Option Hold). Planted p r.machine.text r.breaks o) hold f.planted)
 
 stands_in : (p : Program) (b : BreakEntry) (bs : List BreakEntry) (a : ℕ) (t : Bool) → stands_at a b ≡ t → (t || stands a bs) ≡ true → AreInText p (b ∷ bs) → (AreInText p bs → stands a bs ≡ true → InText p a) → InText p a
 stands_in p b bs a true is e each ih =

@@ -5,6 +5,8 @@ pub mod Planting
 pub mod Keeping
 pub mod Stepping
 pub mod Holding
+pub mod Copying
+pub mod Homing
 pub mod Bounding
 pub mod Exiting
 pub mod Arriving

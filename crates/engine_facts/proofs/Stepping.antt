@@ -1,38 +1,47 @@
 -- A hart steps over a planted word, or executes where none is.
-use Rattle.std.proofs.Common.{◌≡◌, ℕ, ◌+◌, ◌++◌, Bool, true, false, List, refl, sym, ap, ◌∙◌, subst, inl, inr, length-set}
-use Rattle.std.specs.Prelude.{Option, Some, None, slice_get, slice_set, ◌&&◌}
-use Rattle.rv_exec.specs.Registers.{Registers}
+use Rattle.std.proofs.Common.{◌≡◌, ◌<◌, ◌≤◌, ℕ, ◌+◌, ◌^◌, Bool, true, false, cond, not, List, refl, sym, ap, ◌∙◌, subst, arith, inl, inr, length-set}
+use Rattle.std.specs.Prelude.{Option, Some, None, IsSome, slice_get, slice_set, ◌&&◌}
+use Rattle.rv_decode.specs.declared.instr.Instr.{Instr}
+use Rattle.rv_decode.specs.Decode.{decode}
+use Rattle.rv_exec.specs.declared.effect.Stepped.{Stepped}
+use Rattle.rv_exec.specs.Registers.{Registers, set_pc}
 use Rattle.rv_exec.specs.Memory.{Memory}
+use Rattle.text_words.specs.declared.fetch.Fetch.{Fetch}
 use Rattle.text_words.specs.Words.{Words}
-use Rattle.elf32_read.specs.Program.{Program}
+use Rattle.elf32_read.specs.Program.{Program, text_word}
 use Rattle.plain_machine.specs.Environment.{Goes, Leave, Stays}
-use Rattle.plain_machine.specs.Plain.{plain}
+use Rattle.plain_machine.specs.Plain.{plain, on_word, on_instruction}
+use Rattle.scratch_slots.specs.declared.slots.SlotUse.{SlotUse}
+use Rattle.step_over.specs.declared.phase.Phase.{Phase}
+use Rattle.step_over.specs.declared.phase.Phase.TheVariants as phase
 use Rattle.hart_machine.specs.declared.hart.Core.{Core}
+use Rattle.hart_machine.specs.Copying.{settled_regs}
+use Rattle.hart_machine.specs.Stepping.{FetchGives, StepGives, fetch_of, has_run}
+use Rattle.hart_machine.proofs.Copying.{copied_alike, settled_unrun, fetch_text, fetch_slot}
+use Rattle.hart_machine.proofs.Places.{same_some}
+use Rattle.mi_commands.specs.declared.command.Displaced.{Displaced}
 use Rattle.break_table.specs.Entry.{Entry as BreakEntry}
-use Rattle.dbg_model.specs.declared.opening.Opening.{Opening}
 use Rattle.break_table.specs.Table.{stands}
-use Rattle.dbg_model.specs.State.{Hart, State}
-use Rattle.dbg_model.specs.Lawful.{one, one_out, may_run, with_leavers}
+use Rattle.dbg_model.specs.declared.opening.Opening.{Opening}
+use Rattle.dbg_model.specs.State.{Hart, State, is_off}
+use Rattle.dbg_model.specs.Lawful.{one, one_out, may_run, passes}
 use Rattle.dbg_model.specs.Lawful as lawful
 use Rattle.dbg_model.proofs.Adding.{lengthens}
 use Rattle.engine_facts.specs.declared.mind.Activity.{Activity}
 use Rattle.engine_facts.specs.declared.mind.Activity.TheVariants as activity
 use Rattle.engine_facts.specs.declared.mind.Hold.{Hold}
 use Rattle.engine_facts.specs.declared.mind.Mind.{Mind}
-use Rattle.engine_facts.specs.declared.mind.Phase.{Phase}
-use Rattle.engine_facts.specs.declared.mind.Phase.TheVariants as phase
-use Rattle.engine_facts.specs.Minds.{mode_of, is_active, runs, lifted_of, after_step, is_before, with_phase, ran_mind}
-use Rattle.engine_facts.specs.Seen.{Run, seen, seen_hart, seen_harts}
-use Rattle.engine_facts.specs.Facts.{Facts, HartFact, InText, Placed, held_by, wanted, Planted}
+use Rattle.engine_facts.specs.Minds.{mode_of, is_active, is_lifted, lifted_of, slot_of, entered_of, is_copied, after_step, is_before, with_phase, ran_mind}
+use Rattle.engine_facts.specs.Seen.{Run, seen, seen_hart, seen_harts, seen_regs, running_regs, landed_regs}
+use Rattle.engine_facts.specs.Facts.{Facts, Harts, HartFact, InText, Placed, Slotted, held_by, is_home, wanted, Planted, pending}
 use Rattle.engine_facts.specs.Moves.{Repatched, rephased, executed}
 use Rattle.engine_facts.proofs.Seeing.{seen-set}
-use Rattle.engine_facts.proofs.Counting.{retired_ran}
-use Rattle.engine_facts.proofs.Updating.{updated, holds_by, holds_own, equals, differs}
-use Rattle.engine_facts.proofs.Planting.{replanted}
+use Rattle.engine_facts.proofs.Counting.{retired_ran, copied_more, Balances, adds}
+use Rattle.engine_facts.proofs.Updating.{updated, slots_same, holds_by, holds_own, equals, differs}
+use Rattle.engine_facts.proofs.Planting.{replanted, fetch_plain}
 use Rattle.engine_facts.proofs.Keeping.{Mover, StaysSeen, Enters, entered, silent, hart_at}
-use Rattle.hart_machine.proofs.Places.{same_some}
 
-pub fact_of : (r : Run) (h : ℕ) (c : Core) (x : Mind) → Facts r → Mover r h c x → HartFact r.opening.image r.hold h c x
+pub fact_of : (r : Run) (h : ℕ) (c : Core) (x : Mind) → Facts r → Mover r h c x → HartFact r.opening.image r.machine.slots r.hold h c x
 fact_of r h c x f m = f.harts.each h c x m.core m.mind
 
 -- a hart that runs isn't one that doesn't
@@ -51,53 +60,128 @@ and_off false = refl
 pub unwanted_home : (bs : List BreakEntry) (h home : ℕ) → wanted bs (Some (record { hart = h; home = home })) home ≡ false
 unwanted_home bs h home = rw (equals home) (and_off (stands home bs))
 
--- a patch is lifted for a hart
-pub lifts : (r : Run) (h : ℕ) (c : Core) (x : Mind) (home : ℕ) (t : Words) → Facts r → Mover r h c x → x.activity ≡ activity.Running → r.hold ≡ None → c.regs.pc ≡ home → InText r.opening.image home → Repatched r.machine.text t home false
-    → StaysSeen r (rephased r h (with_phase x (phase.Lifted home)) t (Some (record { hart = h; home = home })))
-lifts r h c x home t f m runs none pc text w =
+-- a hart shows the same in two phases in which its registers are seen alike
+pub seen_alike : (p : Program) (r r' : Registers) (a : Activity) (q q' : Phase) → a ≡ activity.Running → running_regs p r q ≡ running_regs p r' q' → seen_regs p r a q ≡ seen_regs p r' a q'
+seen_alike p r r' a q q' runs same = rw runs same
+
+pub shown_alike : (p : Program) (c c' : Core) (x x' : Mind) → x'.activity ≡ x.activity → x'.fresh ≡ x.fresh → x'.asked ≡ x.asked → seen_regs p c'.regs x'.activity x'.phase ≡ seen_regs p c.regs x.activity x.phase → seen_hart p c' x' ≡ seen_hart p c x
+shown_alike p c c' x x' activity fresh asked regs = rw (regs, activity, fresh, asked) refl
+
+-- nothing is pending where displaced stepping is off
+none_pending : (d : Displaced) (home : ℕ) → is_off d ≡ true → pending d (phase.Lifted home) ≡ 0
+none_pending d home off = rw off refl
+
+-- a patch is lifted for a hart, where it can't be stepped over by a copy
+pub lifts : (r : Run) (h : ℕ) (c : Core) (x : Mind) (home : ℕ) (t : Words) → Facts r → Mover r h c x → x.activity ≡ activity.Running → x.phase ≡ phase.Idle → (0 < r.opening.settings.slots → is_off r.displaced ≡ true) → r.hold ≡ None → c.regs.pc ≡ home
+    → InText r.opening.image home → Repatched r.machine.text t home false → StaysSeen r (rephased r h (with_phase x (phase.Lifted home)) t (Some (record { hart = h; home = home })))
+lifts r h c x home t f m runs idle only none pc text w =
+    let p = r.opening.image in
     let d : Hold = record { hart = h; home = home } in
+    let x' = with_phase x (phase.Lifted home) in
     let w' : Repatched r.machine.text t home (wanted r.breaks (Some d) home) = record { words = w.words; here = w.here ∙ sym (unwanted_home r.breaks h home); others = w.others } in
     let P : Option Hold → Type 0 = λ hold. Planted r.opening.image r.machine.text r.breaks hold in
     let Q : Option Hold → Type 0 = λ hold. (k : ℕ) → (h ≡ k → ⊥) → held_by hold k ≡ held_by (Some d) k in
-    silent r h c x (with_phase x (phase.Lifted home)) t (Some d) f m refl
+    let was : running_regs p c.regs phase.Idle ≡ running_regs p c.regs x.phase = ap (running_regs p c.regs) (sym idle) in
+    silent r h c x x' t (Some d) f m (shown_alike p c c x x' refl refl refl (seen_alike p c.regs c.regs x.activity (phase.Lifted home) x.phase runs was))
     (record {
+      slots = slots_same p r.machine.cores r.machine.slots r.minds r.hold h x (phase.Lifted home) f.harts m.mind (sym (ap slot_of idle));
       holds = subst Q (sym none) (λ k n. holds_own h home k n);
-      fact = record { placed = (text, pc); held = rw (equals h) refl; idle = λ e. runs_not x.activity runs e };
+      fact = record { placed = (text, pc); entered = (fact_of r h c x f m).entered ∙ ap entered_of idle; held = rw (equals h) refl; idle = λ e. runs_not x.activity runs e };
       holder = λ e is. inr (ap (λ (t : Hold). t.hart) (same_some d e is));
     })
+    (λ some. let z = none_pending r.displaced home (only some) in omega arith)
     (replanted r.opening.image r.breaks r.breaks None (Some d) r.machine.text t home (subst P none f.planted) w' (λ b n. wanted_lifted r.breaks h home b n))
 
 -- who holds, where a patch is lifted for the hart that moves
 pub holds_is : (r : Run) (h : ℕ) (c : Core) (x : Mind) (home : ℕ) → Facts r → Mover r h c x → lifted_of x.phase ≡ Some home → r.hold ≡ Some (record { hart = h; home = home })
 holds_is r h c x home f m lifted = holds_by r.hold h home (sym lifted ∙ (fact_of r h c x f m).held)
 
-placed_text : (p : Program) (c : Core) (q : Phase) (home : ℕ) → lifted_of q ≡ Some home → Placed p c q → InText p home
-placed_text p c phase.Idle home is a = cc
-placed_text p c (phase.Lifted b) home is a = subst (InText p) (same_some b home is) a.0
-placed_text p c (phase.Ran b) home is a = subst (InText p) (same_some b home is) a
+placed_text : (p : Program) (slots : List (Option SlotUse)) (h : ℕ) (c : Core) (q : Phase) (home : ℕ) → lifted_of q ≡ Some home → Placed p slots h c q → InText p home
+placed_text p slots h c phase.Idle home is a = cc
+placed_text p slots h c (phase.Copied slot b) home is a = cc
+placed_text p slots h c (phase.Landed slot b) home is a = cc
+placed_text p slots h c (phase.Lifted b) home is a = subst (InText p) (same_some b home is) a.0
+placed_text p slots h c (phase.Ran b) home is a = subst (InText p) (same_some b home is) a
 
 pub home_text : (r : Run) (h : ℕ) (c : Core) (x : Mind) (home : ℕ) → Facts r → Mover r h c x → lifted_of x.phase ≡ Some home → InText r.opening.image home
-home_text r h c x home f m lifted = placed_text r.opening.image c x.phase home lifted (fact_of r h c x f m).placed
+home_text r h c x home f m lifted = placed_text r.opening.image r.machine.slots h c x.phase home lifted (fact_of r h c x f m).placed
 
--- no patch is wanted where a hart may execute
-unwanted_by : (r : Run) (h : ℕ) (c : Core) (x : Mind) (q : Phase) → x.phase ≡ q → Facts r → Mover r h c x → is_before q ≡ true → (q ≡ phase.Idle → wanted r.breaks r.hold c.regs.pc ≡ false) → wanted r.breaks r.hold c.regs.pc ≡ false
-unwanted_by r h c x phase.Idle is f m before none = none refl
-unwanted_by r h c x (phase.Ran home) is f m before none = cc
-unwanted_by r h c x (phase.Lifted home) is f m before none =
-    let P : Phase → Type 0 = λ q. Placed r.opening.image c q in
-    let placed : Placed r.opening.image c (phase.Lifted home) = subst P is (fact_of r h c x f m).placed in
+-- ---- what a step gives at home
+
+-- the registers at home after a step in a phase, which executed or didn't
+abbrev pub after_regs : Program → Registers → Phase → Bool → Registers
+after_regs p r q true = running_regs p r (after_step q)
+after_regs p r q false = running_regs p r q
+
+-- in text no patch is met
+text_gives : (r : Run) (s : Stepped) (c c' : Core) (m' : Memory) (q : Phase) → Facts r → c.regs.pc < 2 ^ 32 → c.entered ≡ None → wanted r.breaks r.hold c.regs.pc ≡ false → FetchGives s (fetch_of r.machine c) c.regs c'.regs r.machine.memory m'
+    → StepGives s (plain r.opening.image c.regs r.machine.memory) c.regs c'.regs r.machine.memory m'
+text_gives r s c c' m' q f low out none g =
+    let P : Fetch → Type 0 = λ w. FetchGives s w c.regs c'.regs r.machine.memory m' in
+    fetch_plain s r.opening.image r.machine.text r.breaks r.hold c.regs c'.regs r.machine.memory m' f.planted low none (subst P (fetch_text r.machine c out) g)
+
+settled_after : (p : Program) (w slot home : ℕ) (r : Registers) (b : Bool) → text_word p home ≡ Some w → settled_regs w slot home r b ≡ after_regs p r (phase.Copied slot home) b
+settled_after p w slot home r true image = ap (λ o. landed_regs o slot home r) (sym image)
+settled_after p w slot home r false image = settled_unrun w slot home r
+
+idle_ran : (p : Program) (r : Registers) (b : Bool) → r ≡ after_regs p r phase.Idle b
+idle_ran p r true = refl
+idle_ran p r false = refl
+
+lifted_ran : (p : Program) (r : Registers) (home : ℕ) (b : Bool) → r ≡ after_regs p r (phase.Lifted home) b
+lifted_ran p r home true = refl
+lifted_ran p r home false = refl
+
+-- what a hart shows of its step is the plain step of what it shows
+abbrev pub GivesSeen : Run → Stepped → Core → Core → Memory → Phase → Type 0
+GivesSeen r s c c' m' q =
+    StepGives s (plain r.opening.image (running_regs r.opening.image c.regs q) r.machine.memory) (running_regs r.opening.image c.regs q) (after_regs r.opening.image c'.regs q (has_run s)) r.machine.memory m'
+
+gives_by : (r : Run) (h : ℕ) (s : Stepped) (c c' : Core) (x : Mind) (m' : Memory) (q : Phase) → x.phase ≡ q → Facts r → Mover r h c x → is_before q ≡ true → (q ≡ phase.Idle → stands c.regs.pc r.breaks ≡ false) → c.regs.pc < 2 ^ 32
+    → FetchGives s (fetch_of r.machine c) c.regs c'.regs r.machine.memory m' → GivesSeen r s c c' m' q
+unfolding plain
+gives_by r h s c c' x m' phase.Idle is f m before none low g =
+    let off : wanted r.breaks r.hold c.regs.pc ≡ false = ap (λ b. b && not (is_home r.hold c.regs.pc)) (none refl) in
+    let out : c.entered ≡ None = (fact_of r h c x f m).entered ∙ ap entered_of is in
+    let P : Registers → Type 0 = λ q. StepGives s (plain r.opening.image c.regs r.machine.memory) c.regs q r.machine.memory m' in
+    subst P (idle_ran r.opening.image c'.regs (has_run s)) (text_gives r s c c' m' phase.Idle f low out off g)
+gives_by r h s c c' x m' (phase.Copied slot home) is f m before none low g =
+    let p = r.opening.image in
+    let P : Phase → Type 0 = λ q. Placed p r.machine.slots h c q in
+    let a : Placed p r.machine.slots h c (phase.Copied slot home) = subst P is (fact_of r h c x f m).placed in
+    let w = a.0.word in
+    let out : c.entered ≡ Some slot = (fact_of r h c x f m).entered ∙ ap entered_of is in
+    let Q : Fetch → Type 0 = λ e. FetchGives s e c.regs c'.regs r.machine.memory m' in
+    let g' = subst Q (fetch_slot r.machine c slot (record { hart = h; word = w }) out a.1 a.0.out) g in
+    let done = copied_alike s w slot home c.regs c'.regs r.machine.memory m' a.0.at_slot a.0.at_home a.1 g' in
+    let here = set_pc c.regs home in
+    let R : Option ℕ → Type 0 = λ o. StepGives s (on_word here r.machine.memory o) here (settled_regs w slot home c'.regs (has_run s)) r.machine.memory m' in
+    let T : Registers → Type 0 = λ q. StepGives s (on_word here r.machine.memory (text_word p home)) here q r.machine.memory m' in
+    subst T (settled_after p w slot home c'.regs (has_run s) a.0.image) (subst R (sym a.0.image) done)
+gives_by r h s c c' x m' (phase.Landed slot home) is f m before none low g = cc
+gives_by r h s c c' x m' (phase.Lifted home) is f m before none low g =
+    let p = r.opening.image in
+    let P : Phase → Type 0 = λ q. Placed p r.machine.slots h c q in
+    let a : Placed p r.machine.slots h c (phase.Lifted home) = subst P is (fact_of r h c x f m).placed in
     let hold = holds_is r h c x home f m (ap lifted_of is) in
-    ap (λ (o : Option Hold). wanted r.breaks o c.regs.pc) hold ∙ (ap (wanted r.breaks (Some (record { hart = h; home = home }))) placed.1 ∙ unwanted_home r.breaks h home)
+    let off : wanted r.breaks r.hold c.regs.pc ≡ false = ap (λ (o : Option Hold). wanted r.breaks o c.regs.pc) hold ∙ (ap (wanted r.breaks (Some (record { hart = h; home = home }))) a.1 ∙ unwanted_home r.breaks h home) in
+    let out : c.entered ≡ None = (fact_of r h c x f m).entered ∙ ap entered_of is in
+    let Q : Registers → Type 0 = λ q. StepGives s (plain p c.regs r.machine.memory) c.regs q r.machine.memory m' in
+    subst Q (lifted_ran p c'.regs home (has_run s)) (text_gives r s c c' m' (phase.Lifted home) f low out off g)
+gives_by r h s c c' x m' (phase.Ran home) is f m before none low g = cc
 
-pub unwanted : (r : Run) (h : ℕ) (c : Core) (x : Mind) → Facts r → Mover r h c x → is_before x.phase ≡ true → (x.phase ≡ phase.Idle → wanted r.breaks r.hold c.regs.pc ≡ false) → wanted r.breaks r.hold c.regs.pc ≡ false
-unwanted r h c x f m before none = unwanted_by r h c x x.phase refl f m before none
+pub gives_seen : (r : Run) (h : ℕ) (s : Stepped) (c c' : Core) (x : Mind) (m' : Memory) → Facts r → Mover r h c x → is_before x.phase ≡ true → (x.phase ≡ phase.Idle → stands c.regs.pc r.breaks ≡ false) → c.regs.pc < 2 ^ 32
+    → FetchGives s (fetch_of r.machine c) c.regs c'.regs r.machine.memory m' → GivesSeen r s c c' m' x.phase
+gives_seen r h s c c' x m' f m before none low g = gives_by r h s c c' x m' x.phase refl f m before none low g
 
--- the state after an instruction
-abbrev pub next_state : State → ℕ → Leave → Hart → Memory → List ℕ → State
-next_state s h leave y m out = record s { harts = with_leavers leave (slice_set s.harts h y) h; memory = m; out = s.out ++ out; retired = s.retired + 1 }
+-- ---- one instruction
+
+-- the state after an instruction of a hart that is seen so before
+abbrev pub after_one : Run → ℕ → Core → Mind → Registers → Memory → List ℕ → Leave → State
+after_one r h c x q m out leave = lawful.with_step (seen r) h (seen_hart r.opening.image c x) q m out leave
 
 one_goes : (o : Opening) (s : State) (h : ℕ) (y : Hart) (r : Registers) (m : Memory) (out : List ℕ) (leave : Leave) → slice_get s.harts h ≡ Some y → may_run o s h y ≡ true → plain o.image y.regs s.memory ≡ Goes r m out leave
-    → one o h s ≡ Some (next_state s h leave (lawful.stepped y r) m out)
+    → one o h s ≡ Some (lawful.with_step s h y r m out leave)
 unfolding one
 one_goes o s h y r m out leave at may is = rw (at, may, is) refl
 
@@ -105,64 +189,153 @@ out_goes : (o : Opening) (s : State) (h : ℕ) (y : Hart) (r : Registers) (m : M
 unfolding one_out
 out_goes o s h y r m out leave at is = rw (at, is) refl
 
--- a hart that has executed
-abbrev pub ran_hart : Core → Hart
-ran_hart c = record { regs = c.regs; mode = mode_of activity.Running; fresh = true }
-
 -- one instruction, in the state that is seen
-pub record OneSeen (r : Run) (h : ℕ) (c : Core) (m : Memory) (out : List ℕ) (leave : Leave) : Type 0 where
-  pub one : one r.opening h (seen r) ≡ Some (next_state (seen r) h leave (ran_hart c) m out)
+pub record OneSeen (r : Run) (h : ℕ) (c : Core) (x : Mind) (q : Registers) (m : Memory) (out : List ℕ) (leave : Leave) : Type 0 where
+  pub one : one r.opening h (seen r) ≡ Some (after_one r h c x q m out leave)
   pub wrote : one_out r.opening h (seen r) ≡ out
 
-pub one_seen : (r : Run) (h : ℕ) (c c' : Core) (x : Mind) (m : Memory) (out : List ℕ) (leave : Leave) → Mover r h c x → x.activity ≡ activity.Running → may_run r.opening (seen r) h (seen_hart c x) ≡ true
-    → plain r.opening.image c.regs r.machine.memory ≡ Goes c'.regs m out leave → OneSeen r h c' m out leave
-one_seen r h c c' x m out leave v runs may is =
+pub one_seen : (r : Run) (h : ℕ) (c : Core) (x : Mind) (q : Registers) (m : Memory) (out : List ℕ) (leave : Leave) → Mover r h c x → may_run r.opening (seen r) h (seen_hart r.opening.image c x) ≡ true
+    → plain r.opening.image (seen_hart r.opening.image c x).regs r.machine.memory ≡ Goes q m out leave → OneSeen r h c x q m out leave
+one_seen r h c x q m out leave v may is =
+    let y = seen_hart r.opening.image c x in
     let at = hart_at r h c x v in
-    let same : lawful.stepped (seen_hart c x) c'.regs ≡ ran_hart c' = ap (λ a. let y : Hart = record { regs = c'.regs; mode = mode_of a; fresh = true } in y) runs in
     record {
-      one = one_goes r.opening (seen r) h (seen_hart c x) c'.regs m out leave at may is ∙ ap (λ y. Some (next_state (seen r) h leave y m out)) same;
-      wrote = out_goes r.opening (seen r) h (seen_hart c x) c'.regs m out leave at is;
+      one = one_goes r.opening (seen r) h y q m out leave at may is;
+      wrote = out_goes r.opening (seen r) h y q m out leave at is;
     }
 
+-- a hart that has executed, as it is seen
+pub ran_seen : (p : Program) (c c' : Core) (x : Mind) → x.activity ≡ activity.Running → lawful.stepped (seen_hart p c x) (running_regs p c'.regs (after_step x.phase)) ≡ seen_hart p c' (ran_mind x)
+ran_seen p c c' x runs =
+    let q = running_regs p c'.regs (after_step x.phase) in
+    ap (λ a. let y : Hart = record { regs = q; mode = mode_of a; fresh = true; asked = x.asked } in y) runs
+
 -- where a hart is after an instruction
-after_placed : (p : Program) (c c' : Core) (q : Phase) → Placed p c q → is_before q ≡ true → Placed p c' (after_step q)
-after_placed p c c' phase.Idle a before = tt
-after_placed p c c' (phase.Lifted home) a before = a.0
-after_placed p c c' (phase.Ran home) a before = cc
+after_placed : (p : Program) (slots : List (Option SlotUse)) (h : ℕ) (c c' : Core) (q : Phase) → Placed p slots h c q → is_before q ≡ true → (is_copied q ≡ true → (slot home : ℕ) (e : q ≡ phase.Copied slot home) (a : Slotted p slots h slot home) → IsSome (decode a.word)) → Placed p slots h c' (after_step q)
+after_placed p slots h c c' phase.Idle a before runs = tt
+after_placed p slots h c c' (phase.Copied slot home) a before runs = record { slotted = a.0; decodes = runs refl slot home refl a.0 }
+after_placed p slots h c c' (phase.Landed slot home) a before runs = cc
+after_placed p slots h c c' (phase.Lifted home) a before runs = a.0
+after_placed p slots h c c' (phase.Ran home) a before runs = cc
 
 after_lifted : (q : Phase) → lifted_of (after_step q) ≡ lifted_of q
 after_lifted phase.Idle = refl
+after_lifted (phase.Copied slot home) = refl
+after_lifted (phase.Landed slot home) = refl
 after_lifted (phase.Lifted home) = refl
 after_lifted (phase.Ran home) = refl
+
+pub after_slot : (q : Phase) → slot_of (after_step q) ≡ slot_of q
+after_slot phase.Idle = refl
+after_slot (phase.Copied slot home) = refl
+after_slot (phase.Landed slot home) = refl
+after_slot (phase.Lifted home) = refl
+after_slot (phase.Ran home) = refl
+
+after_entered : (q : Phase) → is_before q ≡ true → entered_of (after_step q) ≡ None
+after_entered phase.Idle b = refl
+after_entered (phase.Copied slot home) b = refl
+after_entered (phase.Landed slot home) b = refl
+after_entered (phase.Lifted home) b = refl
+after_entered (phase.Ran home) b = refl
 
 true_false : {A : Type 0} → true ≡ false → A
 true_false e = cc
 
--- one instruction, by which none exits
-pub executes : (r : Run) (h spare : ℕ) (c c' : Core) (x : Mind) (mem : Memory) (out : List ℕ) → Facts r → Mover r h c x → x.activity ≡ activity.Running → is_before x.phase ≡ true → may_run r.opening (seen r) h (seen_hart c x) ≡ true
-    → plain r.opening.image c.regs r.machine.memory ≡ Goes c'.regs mem out Stays → c'.retired ≡ c.retired + 1 → Enters (executed r h c' (ran_mind x) mem spare) (next_state (seen r) h Stays (ran_hart c') mem out)
-executes r h spare c c' x mem out f m runs before may is more =
+-- the word of a plain step that went is an instruction's
+word_decodes : (r : Registers) (q : Registers) (m m' : Memory) (out : List ℕ) (leave : Leave) (o : Option Instr) → on_instruction r m o ≡ Goes q m' out leave → IsSome o
+word_decodes r q m m' out leave None e = cc
+word_decodes r q m m' out leave (Some i) e = refl
+
+-- a copy that goes is of an instruction
+pub copy_decodes : (r : Run) (h : ℕ) (c : Core) (x : Mind) (q : Registers) (m' : Memory) (out : List ℕ) (leave : Leave) → x.activity ≡ activity.Running → plain r.opening.image (seen_hart r.opening.image c x).regs r.machine.memory ≡ Goes q m' out leave
+    → (slot home : ℕ) → x.phase ≡ phase.Copied slot home → (a : Slotted r.opening.image r.machine.slots h slot home) → IsSome (decode a.word)
+unfolding plain
+copy_decodes r h c x q m' out leave runs is slot home e a =
+    let p = r.opening.image in
+    let here = set_pc c.regs home in
+    let regs : seen_regs p c.regs x.activity x.phase ≡ here = ap (λ t. seen_regs p c.regs t x.phase) runs ∙ ap (running_regs p c.regs) e in
+    let at : on_word here r.machine.memory (text_word p home) ≡ Goes q m' out leave = ap (λ t. on_word t r.machine.memory (text_word p t.pc)) (sym regs) ∙ is in
+    word_decodes here q r.machine.memory m' out leave (decode a.word) (ap (on_word here r.machine.memory) (sym a.image) ∙ at)
+
+-- what the hart's copies count after an instruction
+ahead_by : (d : Displaced) (home : ℕ) (off here : Bool) → is_off d ≡ off → adds (not off && here) ≤ pending d (phase.Lifted home)
+ahead_by d home true here is = rw is (omega arith)
+ahead_by d home false true is = rw is (omega arith)
+ahead_by d home false false is = rw is (omega arith)
+
+-- nothing is pending for a hart without a lifted patch, or that has executed
+pub none_ahead : (d : Displaced) (q : Phase) → is_lifted q ≡ false → pending d q ≡ 0
+none_ahead d q e = ap (λ b. cond (not (is_off d) && b) 1 0) e ∙ ap (λ b. cond b 1 0) (and_off (not (is_off d)))
+
+adds_most : (b : Bool) → adds b ≤ 1
+adds_most true = omega arith
+adds_most false = omega arith
+
+adds_none : (d : Displaced) (b : Bool) → b ≡ false → adds (not (is_off d) && b) ≡ 0
+adds_none d b e = ap (λ t. adds (not (is_off d) && t)) e ∙ ap adds (and_off (not (is_off d)))
+
+pub balances : (count : ℕ) (d : Displaced) (c c' : Core) (q : Phase) (here : Bool) → is_before q ≡ true → c'.copied ≡ c.copied + adds (is_copied q) → (q ≡ phase.Idle → here ≡ false) → Balances count d c c' q (after_step q) (adds (not (is_off d) && here))
+balances count d c c' phase.Idle here before copied none some = let z = adds_none d here (none refl) in omega (arith, copied, z)
+balances count d c c' (phase.Copied slot home) here before copied none some = let z = adds_most (not (is_off d) && here) in let n = none_ahead d (phase.Landed slot home) refl in omega (arith, copied, z, n)
+balances count d c c' (phase.Landed slot home) here before copied none some = cc
+balances count d c c' (phase.Lifted home) here before copied none some = let z = ahead_by d home (is_off d) here refl in let n = none_ahead d (phase.Ran home) refl in omega (arith, copied, z, n)
+balances count d c c' (phase.Ran home) here before copied none some = cc
+
+-- where the hart shows its pc a breakpoint may stand; where it steps over nothing, that is its own pc
+pub here_none : (r : Run) (c : Core) (x : Mind) → (x.phase ≡ phase.Idle → stands c.regs.pc r.breaks ≡ false) → x.activity ≡ activity.Running → x.phase ≡ phase.Idle → stands (seen_hart r.opening.image c x).regs.pc r.breaks ≡ false
+here_none r c x none runs idle =
+    let p = r.opening.image in
+    let regs : seen_regs p c.regs x.activity x.phase ≡ c.regs = ap (λ t. seen_regs p c.regs t x.phase) runs ∙ ap (running_regs p c.regs) idle in
+    ap (λ (t : Registers). stands t.pc r.breaks) regs ∙ none idle
+
+-- what is known of the harts after an instruction of one
+pub ran_harts : (r : Run) (h : ℕ) (c c' : Core) (x : Mind) (q : Registers) (mem : Memory) (out : List ℕ) (leave : Leave) → Facts r → Mover r h c x → x.activity ≡ activity.Running → is_before x.phase ≡ true
+    → plain r.opening.image (seen_hart r.opening.image c x).regs r.machine.memory ≡ Goes q mem out leave → c'.entered ≡ None → Harts r.opening.image (slice_set r.machine.cores h c') r.machine.slots (slice_set r.minds h (ran_mind x)) r.hold
+ran_harts r h c c' x q mem out leave f m runs before is left =
+    let p = r.opening.image in
     let x' = ran_mind x in
-    let s = next_state (seen r) h Stays (ran_hart c') mem out in
-    let n : Run = executed r h c' x' mem spare in
-    let goes = one_seen r h c c' x mem out Stays m runs may is in
     let fact = fact_of r h c x f m in
-    let harts : slice_set (seen r).harts h (ran_hart c') ≡ seen_harts (slice_set r.machine.cores h c') (slice_set r.minds h x') = sym (seen-set r.machine.cores r.minds h c' x') in
+    updated p r.machine.cores r.machine.slots r.machine.slots r.minds r.hold r.hold h c' x x' f.harts m.mind
+    (record {
+      slots = slots_same p r.machine.cores r.machine.slots r.minds r.hold h x (after_step x.phase) f.harts m.mind (after_slot x.phase);
+      holds = λ k n. refl;
+      fact = record {
+        placed = after_placed p r.machine.slots h c c' x.phase fact.placed before (λ k slot home e a. copy_decodes r h c x q mem out leave runs is slot home e a);
+        entered = left ∙ sym (after_entered x.phase before);
+        held = after_lifted x.phase ∙ fact.held;
+        idle = λ e. true_false e;
+      };
+      holder = λ d e. inl e;
+    })
+
+-- one instruction, by which none exits
+pub executes : (r : Run) (h spare : ℕ) (c c' : Core) (x : Mind) (mem : Memory) (out : List ℕ) → Facts r → Mover r h c x → x.activity ≡ activity.Running → is_before x.phase ≡ true → (x.phase ≡ phase.Idle → stands c.regs.pc r.breaks ≡ false)
+    → may_run r.opening (seen r) h (seen_hart r.opening.image c x) ≡ true → plain r.opening.image (seen_hart r.opening.image c x).regs r.machine.memory ≡ Goes (running_regs r.opening.image c'.regs (after_step x.phase)) mem out Stays
+    → c'.retired ≡ c.retired + 1 → c'.copied ≡ c.copied + adds (is_copied x.phase) → c'.entered ≡ None
+    → Enters (executed r h c' (ran_mind x) mem spare) (after_one r h c x (running_regs r.opening.image c'.regs (after_step x.phase)) mem out Stays)
+executes r h spare c c' x mem out f m runs before none may is more copied left =
+    let p = r.opening.image in
+    let x' = ran_mind x in
+    let q = running_regs p c'.regs (after_step x.phase) in
+    let s = after_one r h c x q mem out Stays in
+    let n : Run = executed r h c' x' mem spare in
+    let goes = one_seen r h c x q mem out Stays m may is in
+    let harts : slice_set (seen r).harts h (lawful.stepped (seen_hart p c x) q) ≡ seen_harts p (slice_set r.machine.cores h c') (slice_set r.minds h x') =
+    ap (slice_set (seen r).harts h) (ran_seen p c c' x runs) ∙ sym (seen-set p r.machine.cores r.minds h c' x') in
     entered n s f.settings (lengthens r.opening r.journal h (seen r) s f.leaves goes.one)
     (ap (λ ys. let u : State = record s { harts = ys } in u) harts)
     (record {
       count = length-set r.minds h x' ∙ f.count;
       selected = f.selected;
-      harts = updated r.opening.image r.machine.cores r.minds r.hold r.hold h c' x x' f.harts m.mind
-          (record {
-            holds = λ k n. refl;
-            fact = record { placed = after_placed r.opening.image c c' x.phase fact.placed before; held = after_lifted x.phase ∙ fact.held; idle = λ e. true_false e };
-            holder = λ d e. inl e;
-          });
+      harts = ran_harts r h c c' x q mem out Stays f m runs before is left;
+      slots = f.slots;
       planted = f.planted;
       texts = f.texts;
       places = f.places;
       waits = f.waits ∙ sym (length-set r.minds h x');
       names = f.names;
       retired = retired_ran r.machine.cores h c c' r.journal m.core more f.retired;
+      copied = copied_more r.opening.settings.slots r.machine.cores r.minds h c c' x x' r.displaced (seen r).passed (seen r).sets (passes (seen r) (seen_hart p c x)) m.core m.mind
+          (balances r.opening.settings.slots r.displaced c c' x.phase (stands (seen_hart p c x).regs.pc r.breaks) before copied (here_none r c x none runs)) f.copied;
     })

@@ -1,92 +1,130 @@
 -- A hart stops, by a fault or at a breakpoint, or is counted by breakpoints, or goes on by a line.
-use Rattle.std.proofs.Common.{◌≡◌, ℕ, ◌+◌, true, false, List, length, refl, sym, ap, ◌∙◌, subst, not, inl, length-set}
-use Rattle.std.specs.Prelude.{Option, Some, None, slice_get, slice_set, ◌&&◌}
+use Rattle.std.proofs.Common.{◌≡◌, ◌<◌, ◌≤◌, ℕ, zero, suc, ◌+◌, true, false, List, [], ◌∷◌, length, refl, sym, ap, ◌∙◌, subst, not, arith, inl, length-set}
+use Rattle.std.specs.Prelude.{Option, Some, None, map, slice_get, slice_index, slice_set, ◌&&◌}
 use Rattle.rv_exec.specs.declared.effect.Cause.{Cause}
 use Rattle.rv_exec.specs.Causes.{cause_number}
 use Rattle.text_words.specs.Words.{Words}
 use Rattle.elf32_read.specs.Program.{Program}
 use Rattle.plain_machine.specs.Environment.{Traps}
 use Rattle.plain_machine.specs.Plain.{plain}
+use Rattle.scratch_slots.specs.declared.slots.SlotUse.{SlotUse}
+use Rattle.mi_commands.specs.declared.command.Displaced.{Displaced}
+use Rattle.step_over.specs.declared.phase.Phase.{Phase}
+use Rattle.step_over.specs.declared.phase.Phase.TheVariants as phase
 use Rattle.hart_machine.specs.declared.hart.Core.{Core}
+use Rattle.hart_machine.proofs.Places.{same_some}
 use Rattle.break_table.specs.Entry.{Entry as BreakEntry}
 use Rattle.break_table.specs.declared.due.CondError.{CondError}
 use Rattle.break_table.specs.declared.due.CondError.TheVariants.{DivZero, Unread}
 use Rattle.break_table.specs.declared.due.Due.{Due}
 use Rattle.dbg_model.specs.declared.entry.Entry.{Entry}
 use Rattle.dbg_model.specs.declared.entry.Entry.TheVariants.{Counted, Stopped}
-use Rattle.dbg_model.specs.declared.entry.Why.TheVariants.{Break, Fault}
+use Rattle.dbg_model.specs.declared.entry.Why.TheVariants.{Break, Interrupted, Fault}
+use Rattle.dbg_model.specs.declared.entry.Mode.TheVariants as mode
 use Rattle.dbg_model.specs.declared.opening.Opening.{Opening}
 use Rattle.dbg_model.specs.Breaks.{is_stop, same_error}
 use Rattle.dbg_model.specs.State.{Hart, State, due, is_due, is_counted, arrived}
-use Rattle.dbg_model.specs.Lawful.{enter, may_move, may_run, with_stop, with_count}
+use Rattle.dbg_model.specs.Lawful.{enter, may_move, may_run, stopped, with_stop, with_count}
 use Rattle.dbg_model.specs.Journals.{ran_hart}
 use Rattle.dbg_model.proofs.Adding.{added}
 use Rattle.engine_facts.specs.declared.mind.Hold.{Hold}
 use Rattle.engine_facts.specs.declared.mind.Mind.{Mind}
-use Rattle.engine_facts.specs.declared.mind.Phase.TheVariants as phase
-use Rattle.engine_facts.specs.Minds.{first_mind, resumed_mind, counted_mind, lifted_of, runs}
-use Rattle.engine_facts.specs.Seen.{Run, seen, seen_with, seen_hart, seen_harts}
-use Rattle.engine_facts.specs.Facts.{Facts, Harts, HartFact, Planted, AreInText, wanted, is_home, held_by, IsThread}
+use Rattle.engine_facts.specs.Minds.{first_mind, resumed_mind, asked_mind, counted_mind, lifted_of, slot_of, entered_of, runs}
+use Rattle.engine_facts.specs.Seen.{Run, seen, seen_with, told_of, seen_hart, seen_harts, seen_regs}
+use Rattle.engine_facts.specs.Facts.{Facts, Harts, HartFact, Planted, AreInText, AreCopied, wanted, is_home, held_by, pending, IsThread}
 use Rattle.engine_facts.specs.Moves.{Repatched, halted, lined}
 use Rattle.engine_facts.proofs.Seeing.{seen-set_mind}
-use Rattle.engine_facts.proofs.Counting.{retired_noted}
-use Rattle.engine_facts.proofs.Updating.{updated_mind, equals}
+use Rattle.engine_facts.proofs.Counting.{retired_noted, copied_mind}
+use Rattle.engine_facts.proofs.Updating.{updated_mind, slots_same, equals}
 use Rattle.engine_facts.proofs.Planting.{replanted}
 use Rattle.engine_facts.proofs.Keeping.{Mover, Enters, entered, hart_at}
 use Rattle.engine_facts.proofs.Stepping.{fact_of}
+use Rattle.engine_facts.proofs.Holding.{idle_pending, idle_seen}
 use Rattle.engine_facts.proofs.Arriving.{stands-arrived, text-arrived}
 
 -- the state after an entry about a hart that is seen so afterwards
-abbrev pub stop_state : State → ℕ → Core → Mind → List BreakEntry → State
-stop_state s h c x bs = record s { harts = slice_set s.harts h (seen_hart c x); breaks = bs; noted = s.noted + 1 }
+abbrev pub stop_state : State → ℕ → Hart → List BreakEntry → State
+stop_state s h y bs = record s { harts = slice_set s.harts h y; breaks = bs; noted = s.noted + 1 }
 
 -- the facts hold after an entry that came
 pub record Comes (r n : Run) (e : Entry) : Type 0 where
   pub facts : Facts n
   pub comes : enter r.opening (seen r) e ≡ Some (seen n)
 
+-- a hart of which less is pending keeps its slot
+pub record Rests (r : Run) (x x' : Mind) : Type 0 where
+  pub slot : slot_of x'.phase ≡ slot_of x.phase
+  pub pending : 0 < r.opening.settings.slots → pending r.displaced x'.phase ≤ pending r.displaced x.phase
+
 -- a hart stops or is counted, with these patches and breakpoints
-pub halts : (r : Run) (e : Entry) (h spare : ℕ) (c : Core) (x x' : Mind) (t : Words) (bs : List BreakEntry) → Facts r → Mover r h c x → HartFact r.opening.image r.hold h c x' → ran_hart e ≡ None → enter r.opening (seen r) e ≡ Some (stop_state (seen r) h c x' bs)
-    → Planted r.opening.image t bs r.hold → AreInText r.opening.image bs → Comes r (halted r e h x' t bs spare) e
-halts r e h spare c x x' t bs f m fact quiet comes p texts =
-    let s = stop_state (seen r) h c x' bs in
+pub halts : (r : Run) (e : Entry) (h spare : ℕ) (c : Core) (x x' : Mind) (t : Words) (bs : List BreakEntry) → Facts r → Mover r h c x → HartFact r.opening.image r.machine.slots r.hold h c x' → Rests r x x' → ran_hart e ≡ None
+    → enter r.opening (seen r) e ≡ Some (stop_state (seen r) h (seen_hart r.opening.image c x') bs) → Planted r.opening.image t bs r.hold → AreInText r.opening.image bs → Comes r (halted r e h x' t bs spare) e
+halts r e h spare c x x' t bs f m fact rests quiet comes p texts =
+    let image = r.opening.image in
+    let s = stop_state (seen r) h (seen_hart image c x') bs in
     let n : Run = halted r e h x' t bs spare in
-    let harts : slice_set (seen r).harts h (seen_hart c x') ≡ seen_harts r.machine.cores (slice_set r.minds h x') = sym (seen-set_mind r.machine.cores r.minds h c x' m.core) in
+    let harts : slice_set (seen r).harts h (seen_hart image c x') ≡ seen_harts image r.machine.cores (slice_set r.minds h x') = sym (seen-set_mind image r.machine.cores r.minds h c x' m.core) in
     let d : Enters n s =
     entered n s f.settings (added r.opening r.journal (seen r) s e f.leaves quiet comes)
     (ap (λ ys. let u : State = record s { harts = ys } in u) harts)
     (record {
       count = length-set r.minds h x' ∙ f.count;
       selected = f.selected;
-      harts = updated_mind r.opening.image r.machine.cores r.minds r.hold r.hold h c x x' f.harts m.core m.mind
-          (record { holds = λ k n. refl; fact = fact; holder = λ d e. inl e });
+      harts = updated_mind image r.machine.cores r.machine.slots r.minds r.hold r.hold h c x x' f.harts m.core m.mind
+          (record { slots = slots_same image r.machine.cores r.machine.slots r.minds r.hold h x x'.phase f.harts m.mind rests.slot; holds = λ k n. refl; fact = fact; holder = λ d e. inl e });
+      slots = f.slots;
       planted = p;
       texts = texts;
       places = f.places;
       waits = f.waits ∙ sym (length-set r.minds h x');
       names = f.names;
       retired = retired_noted r.machine.cores r.journal e quiet f.retired;
+      copied = copied_mind r.opening.settings.slots r.machine.cores r.minds h c x x' r.displaced (seen r).passed (seen r).sets m.core m.mind rests.pending f.copied;
     }) in
     record { facts = d.facts; comes = comes ∙ ap Some d.seen }
 
 -- what is known of a hart that stops where it steps over nothing
-stopped_fact : (r : Run) (h : ℕ) (c : Core) (x : Mind) → Facts r → Mover r h c x → x.phase ≡ phase.Idle → HartFact r.opening.image r.hold h c first_mind
+stopped_fact : (r : Run) (h : ℕ) (c : Core) (x : Mind) → Facts r → Mover r h c x → x.phase ≡ phase.Idle → HartFact r.opening.image r.machine.slots r.hold h c first_mind
 stopped_fact r h c x f m idle =
-    let held : None ≡ held_by r.hold h = ap lifted_of (sym idle) ∙ (fact_of r h c x f m).held in
-    record { placed = tt; held = held; idle = λ e. refl }
+    let fact = fact_of r h c x f m in
+    let held : None ≡ held_by r.hold h = ap lifted_of (sym idle) ∙ fact.held in
+    record { placed = tt; entered = fact.entered ∙ ap entered_of idle; held = held; idle = λ e. refl }
+
+stopped_rests : (r : Run) (x : Mind) → x.phase ≡ phase.Idle → Rests r x first_mind
+stopped_rests r x idle = record { slot = sym (ap slot_of idle); pending = λ some. let z = idle_pending r.displaced in omega arith }
+
+-- it is seen as it is
+stopped_seen : (p : Program) (c : Core) (x : Mind) → x.phase ≡ phase.Idle → stopped (seen_hart p c x) ≡ seen_hart p c first_mind
+stopped_seen p c x idle =
+    let regs : seen_regs p c.regs x.activity x.phase ≡ c.regs = ap (seen_regs p c.regs x.activity) idle ∙ idle_seen p c.regs x.activity in
+    ap (λ q. let y : Hart = record { regs = q; mode = mode.Stopped; fresh = false; asked = false } in y) regs
 
 -- what is known of a hart that is counted, which stays in its phase
-counted_fact : (r : Run) (h : ℕ) (c : Core) (x : Mind) → Facts r → Mover r h c x → HartFact r.opening.image r.hold h c (counted_mind x)
-counted_fact r h c x f m = let k = fact_of r h c x f m in record { placed = k.placed; held = k.held; idle = k.idle }
+counted_fact : (r : Run) (h : ℕ) (c : Core) (x : Mind) → Facts r → Mover r h c x → HartFact r.opening.image r.machine.slots r.hold h c (counted_mind x)
+counted_fact r h c x f m = let k = fact_of r h c x f m in record { placed = k.placed; entered = k.entered; held = k.held; idle = k.idle }
 
 -- the stop by a fault comes
 enter_fault : (o : Opening) (s : State) (h : ℕ) (y : Hart) (cause : Cause) → slice_get s.harts h ≡ Some y → may_run o s h y ≡ true → plain o.image y.regs s.memory ≡ Traps cause → enter o s (Stopped h (Fault cause)) ≡ Some (with_stop s h y)
 unfolding enter
 enter_fault o s h y cause at may is = rw (at, may, is, equals (cause_number cause)) refl
 
-pub fault_comes : (r : Run) (h : ℕ) (c : Core) (x : Mind) (cause : Cause) → Mover r h c x → may_run r.opening (seen r) h (seen_hart c x) ≡ true → plain r.opening.image c.regs r.machine.memory ≡ Traps cause
-    → enter r.opening (seen r) (Stopped h (Fault cause)) ≡ Some (stop_state (seen r) h c first_mind r.breaks)
-fault_comes r h c x cause m may is = enter_fault r.opening (seen r) h (seen_hart c x) cause (hart_at r h c x m) may is
+-- the state after a stop of a hart that steps over nothing
+stop_seen : (r : Run) (h : ℕ) (c : Core) (x : Mind) (bs : List BreakEntry) → x.phase ≡ phase.Idle
+    → record (with_stop (seen r) h (seen_hart r.opening.image c x)) { breaks = bs } ≡ stop_state (seen r) h (seen_hart r.opening.image c first_mind) bs
+stop_seen r h c x bs idle = ap (λ y. stop_state (seen r) h y bs) (stopped_seen r.opening.image c x idle)
+
+pub fault_comes : (r : Run) (h : ℕ) (c : Core) (x : Mind) (cause : Cause) → Mover r h c x → x.phase ≡ phase.Idle → may_run r.opening (seen r) h (seen_hart r.opening.image c x) ≡ true
+    → plain r.opening.image (seen_hart r.opening.image c x).regs r.machine.memory ≡ Traps cause → enter r.opening (seen r) (Stopped h (Fault cause)) ≡ Some (stop_state (seen r) h (seen_hart r.opening.image c first_mind) r.breaks)
+fault_comes r h c x cause m idle may is = enter_fault r.opening (seen r) h (seen_hart r.opening.image c x) cause (hart_at r h c x m) may is ∙ ap Some (stop_seen r h c x r.breaks idle)
+
+-- the stop by an interrupt comes
+enter_interrupt : (o : Opening) (s : State) (h : ℕ) (y : Hart) → slice_get s.harts h ≡ Some y → may_run o s h y ≡ true → y.asked ≡ true → enter o s (Stopped h Interrupted) ≡ Some (with_stop s h y)
+unfolding enter
+enter_interrupt o s h y at may asked = rw (at, may, asked) refl
+
+interrupt_comes : (r : Run) (h : ℕ) (c : Core) (x : Mind) → Mover r h c x → x.phase ≡ phase.Idle → x.asked ≡ true → may_run r.opening (seen r) h (seen_hart r.opening.image c x) ≡ true
+    → enter r.opening (seen r) (Stopped h Interrupted) ≡ Some (stop_state (seen r) h (seen_hart r.opening.image c first_mind) r.breaks)
+interrupt_comes r h c x m idle asked may = enter_interrupt r.opening (seen r) h (seen_hart r.opening.image c x) (hart_at r h c x m) may asked ∙ ap Some (stop_seen r h c x r.breaks idle)
 
 same_error_self : (e : Option CondError) → same_error e e ≡ true
 same_error_self None = refl
@@ -113,61 +151,140 @@ may_by o s h y may none = ap (λ b. b && not (is_due (due o.image s h y))) may �
 
 -- the breakpoints after an arrival
 abbrev pub after_arrival : Run → ℕ → Core → Mind → List BreakEntry
-after_arrival r h c x = arrived r.opening.image (seen r) h (seen_hart c x)
+after_arrival r h c x = arrived r.opening.image (seen r) h (seen_hart r.opening.image c x)
+
+-- where a hart shows its pc
+abbrev pub shown_pc : Run → Core → Mind → ℕ
+shown_pc r c x = (seen_hart r.opening.image c x).regs.pc
 
 -- the patches after an arrival, where the word at pc is as it is wanted then
-planted_after : (r : Run) (h : ℕ) (c : Core) (x : Mind) (t : Words) → Facts r → Repatched r.machine.text t c.regs.pc (wanted (after_arrival r h c x) r.hold c.regs.pc) → Planted r.opening.image t (after_arrival r h c x) r.hold
+planted_after : (r : Run) (h : ℕ) (c : Core) (x : Mind) (t : Words) → Facts r → Repatched r.machine.text t (shown_pc r c x) (wanted (after_arrival r h c x) r.hold (shown_pc r c x)) → Planted r.opening.image t (after_arrival r h c x) r.hold
 planted_after r h c x t f w =
-    replanted r.opening.image r.breaks (after_arrival r h c x) r.hold r.hold r.machine.text t c.regs.pc f.planted w
-    (λ a n. ap (λ u. u && not (is_home r.hold a)) (stands-arrived r.opening.image (seen r) h (seen_hart c x) a n))
+    replanted r.opening.image r.breaks (after_arrival r h c x) r.hold r.hold r.machine.text t (shown_pc r c x) f.planted w
+    (λ a n. ap (λ u. u && not (is_home r.hold a)) (stands-arrived r.opening.image (seen r) h (seen_hart r.opening.image c x) a n))
 
 -- an idle hart stops by a fault
-pub halts_fault : (r : Run) (h spare : ℕ) (c : Core) (x : Mind) (cause : Cause) → Facts r → Mover r h c x → x.phase ≡ phase.Idle → may_run r.opening (seen r) h (seen_hart c x) ≡ true → plain r.opening.image c.regs r.machine.memory ≡ Traps cause
-    → Comes r (halted r (Stopped h (Fault cause)) h first_mind r.machine.text r.breaks spare) (Stopped h (Fault cause))
+pub halts_fault : (r : Run) (h spare : ℕ) (c : Core) (x : Mind) (cause : Cause) → Facts r → Mover r h c x → x.phase ≡ phase.Idle → may_run r.opening (seen r) h (seen_hart r.opening.image c x) ≡ true
+    → plain r.opening.image (seen_hart r.opening.image c x).regs r.machine.memory ≡ Traps cause → Comes r (halted r (Stopped h (Fault cause)) h first_mind r.machine.text r.breaks spare) (Stopped h (Fault cause))
 halts_fault r h spare c x cause f m idle may is =
-    halts r (Stopped h (Fault cause)) h spare c x first_mind r.machine.text r.breaks f m (stopped_fact r h c x f m idle) refl (fault_comes r h c x cause m may is) f.planted f.texts
+    halts r (Stopped h (Fault cause)) h spare c x first_mind r.machine.text r.breaks f m (stopped_fact r h c x f m idle) (stopped_rests r x idle) refl (fault_comes r h c x cause m idle may is) f.planted f.texts
+
+-- an idle hart stops by an interrupt
+pub halts_interrupt : (r : Run) (h spare : ℕ) (c : Core) (x : Mind) → Facts r → Mover r h c x → x.phase ≡ phase.Idle → x.asked ≡ true → may_run r.opening (seen r) h (seen_hart r.opening.image c x) ≡ true
+    → Comes r (halted r (Stopped h Interrupted) h first_mind r.machine.text r.breaks spare) (Stopped h Interrupted)
+halts_interrupt r h spare c x f m idle asked may =
+    halts r (Stopped h Interrupted) h spare c x first_mind r.machine.text r.breaks f m (stopped_fact r h c x f m idle) (stopped_rests r x idle) refl (interrupt_comes r h c x m idle asked may) f.planted f.texts
 
 -- an idle hart stops at a breakpoint
-pub halts_break : (r : Run) (h number spare : ℕ) (error : Option CondError) (c : Core) (x : Mind) (t : Words) → Facts r → Mover r h c x → x.phase ≡ phase.Idle → may_move r.opening (seen r) (seen_hart c x) ≡ true
-    → (due r.opening.image (seen r) h (seen_hart c x)).stop ≡ Some number → (due r.opening.image (seen r) h (seen_hart c x)).error ≡ error → Repatched r.machine.text t c.regs.pc (wanted (after_arrival r h c x) r.hold c.regs.pc)
-    → Comes r (halted r (Stopped h (Break number error)) h first_mind t (after_arrival r h c x) spare) (Stopped h (Break number error))
+pub halts_break : (r : Run) (h number spare : ℕ) (error : Option CondError) (c : Core) (x : Mind) (t : Words) → Facts r → Mover r h c x → x.phase ≡ phase.Idle → may_move r.opening (seen r) (seen_hart r.opening.image c x) ≡ true
+    → (due r.opening.image (seen r) h (seen_hart r.opening.image c x)).stop ≡ Some number → (due r.opening.image (seen r) h (seen_hart r.opening.image c x)).error ≡ error
+    → Repatched r.machine.text t (shown_pc r c x) (wanted (after_arrival r h c x) r.hold (shown_pc r c x)) → Comes r (halted r (Stopped h (Break number error)) h first_mind t (after_arrival r h c x) spare) (Stopped h (Break number error))
 halts_break r h number spare error c x t f m idle may is why w =
+    let y = seen_hart r.opening.image c x in
     let bs = after_arrival r h c x in
     let P : Option CondError → Type 0 = λ e. Comes r (halted r (Stopped h (Break number e)) h first_mind t bs spare) (Stopped h (Break number e)) in
-    let d = due r.opening.image (seen r) h (seen_hart c x) in
+    let d = due r.opening.image (seen r) h y in
     subst P why
-    (halts r (Stopped h (Break number d.error)) h spare c x first_mind t bs f m (stopped_fact r h c x f m idle) refl (enter_break r.opening (seen r) h number (seen_hart c x) (hart_at r h c x m) may is)
-    (planted_after r h c x t f w) (text-arrived r.opening.image (seen r) h (seen_hart c x) f.texts))
+    (halts r (Stopped h (Break number d.error)) h spare c x first_mind t bs f m (stopped_fact r h c x f m idle) (stopped_rests r x idle) refl
+    (enter_break r.opening (seen r) h number y (hart_at r h c x m) may is ∙ ap Some (stop_seen r h c x bs idle))
+    (planted_after r h c x t f w) (text-arrived r.opening.image (seen r) h y f.texts))
 
 -- a hart is counted at breakpoints, and stays in its phase
-pub counts : (r : Run) (h spare : ℕ) (c : Core) (x : Mind) (t : Words) → Facts r → Mover r h c x → may_move r.opening (seen r) (seen_hart c x) ≡ true
-    → is_counted (due r.opening.image (seen r) h (seen_hart c x)) ≡ true → Repatched r.machine.text t c.regs.pc (wanted (after_arrival r h c x) r.hold c.regs.pc)
+pub counts : (r : Run) (h spare : ℕ) (c : Core) (x : Mind) (t : Words) → Facts r → Mover r h c x → may_move r.opening (seen r) (seen_hart r.opening.image c x) ≡ true
+    → is_counted (due r.opening.image (seen r) h (seen_hart r.opening.image c x)) ≡ true → Repatched r.machine.text t (shown_pc r c x) (wanted (after_arrival r h c x) r.hold (shown_pc r c x))
     → Comes r (halted r (Counted h) h (counted_mind x) t (after_arrival r h c x) spare) (Counted h)
 counts r h spare c x t f m may is w =
+    let y = seen_hart r.opening.image c x in
     let bs = after_arrival r h c x in
-    halts r (Counted h) h spare c x (counted_mind x) t bs f m (counted_fact r h c x f m) refl (enter_count r.opening (seen r) h (seen_hart c x) (hart_at r h c x m) may is)
-    (planted_after r h c x t f w) (text-arrived r.opening.image (seen r) h (seen_hart c x) f.texts)
+    halts r (Counted h) h spare c x (counted_mind x) t bs f m (counted_fact r h c x f m) (record { slot = refl; pending = λ some. omega arith }) refl
+    (enter_count r.opening (seen r) h y (hart_at r h c x m) may is) (planted_after r h c x t f w) (text-arrived r.opening.image (seen r) h y f.texts)
+
+-- ---- lines
 
 -- a stopped hart goes on
-pub resumed_harts : (p : Program) (cs : List Core) (xs : List Mind) (hold : Option Hold) (h : ℕ) (c : Core) (x : Mind) → Harts p cs xs hold → slice_get cs h ≡ Some c → slice_get xs h ≡ Some x → runs x ≡ false → Harts p cs (slice_set xs h resumed_mind) hold
-resumed_harts p cs xs hold h c x hs e f stops =
+pub resumed_harts : (p : Program) (cs : List Core) (slots : List (Option SlotUse)) (xs : List Mind) (hold : Option Hold) (h : ℕ) (c : Core) (x : Mind) → Harts p cs slots xs hold → slice_get cs h ≡ Some c → slice_get xs h ≡ Some x → runs x ≡ false
+    → Harts p cs slots (slice_set xs h resumed_mind) hold
+resumed_harts p cs slots xs hold h c x hs e f stops =
     let fact = hs.each h c x e f in
-    updated_mind p cs xs hold hold h c x resumed_mind hs e f
-    (record { holds = λ k n. refl; fact = record { placed = tt; held = ap lifted_of (sym (fact.idle stops)) ∙ fact.held; idle = λ a. refl }; holder = λ d a. inl a })
+    let idle = fact.idle stops in
+    updated_mind p cs slots xs hold hold h c x resumed_mind hs e f
+    (record {
+      slots = slots_same p cs slots xs hold h x phase.Idle hs f (sym (ap slot_of idle));
+      holds = λ k n. refl;
+      fact = record { placed = tt; entered = fact.entered ∙ ap entered_of idle; held = ap lifted_of (sym idle) ∙ fact.held; idle = λ a. refl };
+      holder = λ d a. inl a;
+    })
 
--- a line is done that changes harts, the selected thread and the breakpoints
-pub lines : (r : Run) (e : Entry) (xs : List Mind) (selected : ℕ) (t : Words) (bs : List BreakEntry) (given spare : ℕ) (s : State) → Facts r → ran_hart e ≡ None → enter r.opening (seen r) e ≡ Some s → s ≡ seen_with (lined r e xs selected t bs given spare) s.out
-    → length xs ≡ length r.minds → IsThread r.opening selected → Harts r.opening.image r.machine.cores xs r.hold → Planted r.opening.image t bs r.hold → AreInText r.opening.image bs → Enters (lined r e xs selected t bs given spare) s
-lines r e xs selected t bs given spare s f quiet comes same len thread hs p texts =
-    entered (lined r e xs selected t bs given spare) s f.settings (added r.opening r.journal (seen r) s e f.leaves quiet comes) same
+-- an interrupt is asked of a hart
+pub asked_harts : (p : Program) (cs : List Core) (slots : List (Option SlotUse)) (xs : List Mind) (hold : Option Hold) (h : ℕ) (c : Core) (x : Mind) → Harts p cs slots xs hold → slice_get cs h ≡ Some c → slice_get xs h ≡ Some x
+    → Harts p cs slots (slice_set xs h (asked_mind x)) hold
+asked_harts p cs slots xs hold h c x hs e f =
+    let fact = hs.each h c x e f in
+    updated_mind p cs slots xs hold hold h c x (asked_mind x) hs e f
+    (record {
+      slots = slots_same p cs slots xs hold h x x.phase hs f refl;
+      holds = λ k n. refl;
+      fact = record { placed = fact.placed; entered = fact.entered; held = fact.held; idle = fact.idle };
+      holder = λ d a. inl a;
+    })
+
+-- the phases of the harts
+abbrev pub phase_of : Mind → Phase
+phase_of x = x.phase
+
+-- a hart, where the phases are the same
+record HasPhase (xs : List Mind) (k : ℕ) (q : Phase) : Type 0 where
+  mind : Mind
+  at : slice_get xs k ≡ Some mind
+  same : mind.phase ≡ q
+
+abbrev rest : List Phase → List Phase
+rest [] = []
+rest (q ∷ qs) = qs
+
+first_phase : (x y : Mind) (xs ys : List Mind) → map phase_of (x ∷ xs) ≡ map phase_of (y ∷ ys) → y.phase ≡ x.phase
+first_phase x y xs ys same = sym (same_some x.phase y.phase (ap (λ qs. slice_get qs 0) same))
+
+rest_phases : (x y : Mind) (xs ys : List Mind) → map phase_of (x ∷ xs) ≡ map phase_of (y ∷ ys) → map phase_of xs ≡ map phase_of ys
+rest_phases x y xs ys same = ap rest same
+
+phase_at : (xs ys : List Mind) (k : ℕ) (x : Mind) → map phase_of xs ≡ map phase_of ys → slice_get xs k ≡ Some x → HasPhase ys k x.phase
+phase_at [] ys k x same at = cc
+phase_at (z ∷ xs) [] k x same at = cc
+phase_at (z ∷ xs) (y ∷ ys) zero x same at = record { mind = y; at = refl; same = first_phase z y xs ys same ∙ ap phase_of (same_some z x at) }
+phase_at (z ∷ xs) (y ∷ ys) (suc k) x same at = let p = phase_at xs ys k x (rest_phases z y xs ys same) at in record { mind = p.mind; at = p.at; same = p.same }
+
+-- what a line does to what copies count
+pub record Resets (r : Run) (xs : List Mind) (d : Displaced) (s : State) : Type 0 where
+  pub phases : map phase_of xs ≡ map phase_of r.minds
+  pub passed : s.passed ≡ (seen r).passed
+  pub sets : (q : Phase) → pending d q + (seen r).sets ≤ pending r.displaced q + s.sets
+
+copied_line : (r : Run) (xs : List Mind) (d : Displaced) (s : State) → Facts r → Resets r xs d s → AreCopied r.opening.settings.slots r.machine.cores xs d s.passed s.sets
+copied_line r xs d s f l some h c x ec ex =
+    let p = phase_at xs r.minds h x l.phases ex in
+    let had : slice_index (seen r).passed h + pending r.displaced p.mind.phase ≤ c.copied + (seen r).sets = f.copied some h c p.mind ec p.at in
+    let same : pending r.displaced p.mind.phase ≡ pending r.displaced x.phase = ap (pending r.displaced) p.same in
+    let more = l.sets x.phase in
+    let passed : slice_index s.passed h ≡ slice_index (seen r).passed h = ap (λ ns. slice_index ns h) l.passed in
+    omega (arith, had, same, more, passed)
+
+-- a line is done that changes harts, the selected thread, the setting and the breakpoints
+pub lines : (r : Run) (e : Entry) (xs : List Mind) (selected : ℕ) (d : Displaced) (t : Words) (bs : List BreakEntry) (given spare : ℕ) (s : State) → Facts r → ran_hart e ≡ None → enter r.opening (seen r) e ≡ Some s
+    → s ≡ seen_with (lined r e xs selected d t bs given spare) (told_of s) → length xs ≡ length r.minds → IsThread r.opening selected → Harts r.opening.image r.machine.cores r.machine.slots xs r.hold → Resets r xs d s
+    → Planted r.opening.image t bs r.hold → AreInText r.opening.image bs → Enters (lined r e xs selected d t bs given spare) s
+lines r e xs selected d t bs given spare s f quiet comes same len thread hs l p texts =
+    entered (lined r e xs selected d t bs given spare) s f.settings (added r.opening r.journal (seen r) s e f.leaves quiet comes) same
     (record {
       count = len ∙ f.count;
       selected = thread;
       harts = hs;
+      slots = f.slots;
       planted = p;
       texts = texts;
       places = f.places;
       waits = f.waits ∙ sym len;
       names = f.names;
       retired = retired_noted r.machine.cores r.journal e quiet f.retired;
+      copied = copied_line r xs d s f l;
     })

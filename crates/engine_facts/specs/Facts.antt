@@ -1,7 +1,12 @@
 -- What the type of an engine keeps.
-use Rattle.std.specs.Prelude.{◌≡◌, ◌<◌, ◌≤◌, ℕ, Bool, false, ◌&&◌, ◌==◌, not, List, length, Option, Some, None, IsSome, slice_get, if◌then◌else◌}
+use Rattle.std.specs.Prelude.{◌≡◌, ◌<◌, ◌≤◌, ◌+◌, ℕ, Bool, false, ◌&&◌, ◌==◌, not, List, length, Option, Some, None, IsSome, slice_get, slice_index, if◌then◌else◌}
 use Rattle.dbg_traits.specs.Settings.{AreSettings}
-use Rattle.elf32_read.specs.Program.{Program}
+use Rattle.rv_decode.specs.Decode.{decode}
+use Rattle.elf32_read.specs.Program.{Program, text_word}
+use Rattle.displaced_fix.specs.Fix.{IsWordAddress}
+use Rattle.scratch_slots.specs.declared.slots.SlotUse.{SlotUse}
+use Rattle.scratch_slots.specs.Table.{use_at}
+use Rattle.mi_commands.specs.declared.command.Displaced.{Displaced}
 use Rattle.text_words.specs.Words.{Words, shown, is_planted, unpatched}
 use Rattle.hart_machine.specs.declared.hart.Core.{Core}
 use Rattle.break_table.specs.Entry.{Entry as BreakEntry}
@@ -10,13 +15,14 @@ use Rattle.elf_symbols.specs.Entries.{names_of}
 use Rattle.dbg_model.specs.declared.entry.Entry.{Entry}
 use Rattle.dbg_model.specs.declared.opening.Opening.{Opening}
 use Rattle.break_table.specs.Table.{stands}
+use Rattle.dbg_model.specs.State.{State, is_off}
 use Rattle.dbg_model.specs.Journals.{Leaves}
 use Rattle.dbg_model.specs.Erase.{erase, steps_of}
 use Rattle.engine_facts.specs.declared.mind.Hold.{Hold}
 use Rattle.engine_facts.specs.declared.mind.Mind.{Mind}
-use Rattle.engine_facts.specs.declared.mind.Phase.{Phase}
-use Rattle.engine_facts.specs.declared.mind.Phase.TheVariants as phase
-use Rattle.engine_facts.specs.Minds.{runs, lifted_of}
+use Rattle.step_over.specs.declared.phase.Phase.{Phase}
+use Rattle.step_over.specs.declared.phase.Phase.TheVariants as phase
+use Rattle.engine_facts.specs.Minds.{runs, lifted_of, slot_of, entered_of, is_lifted}
 use Rattle.engine_facts.specs.Seen.{Run, seen}
 
 -- a word of text is at the address
@@ -47,23 +53,48 @@ pub record Planted (p : Program) (t : Words) (bs : List BreakEntry) (hold : Opti
   pub words : t.words ≡ (unpatched p).words
   pub patches : (a : ℕ) → is_planted t a ≡ wanted bs hold a
 
--- where a hart is in each phase
-abbrev pub Placed : Program → Core → Phase → Type 0
-Placed p c phase.Idle = Unit {0}
-Placed p c (phase.Lifted home) = InText p home × (c.regs.pc ≡ home)
-Placed p c (phase.Ran home) = InText p home
+-- hart h has the slot, for a copy of the image's word at home
+pub record Slotted (p : Program) (slots : List (Option SlotUse)) (h slot home : ℕ) : Type 0 where
+  pub word : ℕ
+  pub out : use_at slots slot ≡ Some (record { hart = h; word = word })
+  pub image : text_word p home ≡ Some word
+  pub at_slot : IsWordAddress slot
+  pub at_home : IsWordAddress home
 
-pub record HartFact (p : Program) (hold : Option Hold) (h : ℕ) (c : Core) (x : Mind) : Type 0 where
-  pub placed : Placed p c x.phase
+-- behind a copy that was executed, and so is of an instruction
+pub record Executed (p : Program) (slots : List (Option SlotUse)) (h slot home : ℕ) : Type 0 where
+  pub slotted : Slotted p slots h slot home
+  pub decodes : IsSome (decode slotted.word)
+
+-- where a hart is in each phase
+abbrev pub Placed : Program → List (Option SlotUse) → ℕ → Core → Phase → Type 0
+Placed p slots h c phase.Idle = Unit {0}
+Placed p slots h c (phase.Copied slot home) = Slotted p slots h slot home × (c.regs.pc ≡ slot)
+Placed p slots h c (phase.Landed slot home) = Executed p slots h slot home
+Placed p slots h c (phase.Lifted home) = InText p home × (c.regs.pc ≡ home)
+Placed p slots h c (phase.Ran home) = InText p home
+
+pub record HartFact (p : Program) (slots : List (Option SlotUse)) (hold : Option Hold) (h : ℕ) (c : Core) (x : Mind) : Type 0 where
+  pub placed : Placed p slots h c x.phase
+  -- a hart has entered its slot exactly where it is at the copy
+  pub entered : c.entered ≡ entered_of x.phase
   -- so the patch is lifted for one hart at most
   pub held : lifted_of x.phase ≡ held_by hold h
   -- a hart that isn't running steps over nothing
   pub idle : runs x ≡ false → x.phase ≡ phase.Idle
 
-pub record Harts (p : Program) (cores : List Core) (minds : List Mind) (hold : Option Hold) : Type 0 where
+-- hart k has the slot
+pub record HasSlot (minds : List Mind) (k slot : ℕ) : Type 0 where
+  pub mind : Mind
+  pub at : slice_get minds k ≡ Some mind
+  pub has : slot_of mind.phase ≡ Some slot
+
+pub record Harts (p : Program) (cores : List Core) (slots : List (Option SlotUse)) (minds : List Mind) (hold : Option Hold) : Type 0 where
   pub len : length cores ≡ length minds
-  pub each : (h : ℕ) (c : Core) (x : Mind) → slice_get cores h ≡ Some c → slice_get minds h ≡ Some x → HartFact p hold h c x
+  pub each : (h : ℕ) (c : Core) (x : Mind) → slice_get cores h ≡ Some c → slice_get minds h ≡ Some x → HartFact p slots hold h c x
   pub holder : (d : Hold) → hold ≡ Some d → d.hart < length minds
+  -- each slot that is out is of one hart, which has it
+  pub used : (slot : ℕ) (u : SlotUse) → use_at slots slot ≡ Some u → HasSlot minds u.hart slot
 
 -- each breakpoint stands at a word of text
 abbrev pub AreInText : Program → List BreakEntry → Type 0
@@ -72,6 +103,21 @@ AreInText p bs = (k : ℕ) (b : BreakEntry) → slice_get bs k ≡ Some b → In
 -- the machine counts the instructions of each hart as the journal has them
 abbrev pub Retired : List Core → List Entry → Type 0
 Retired cores j = (h : ℕ) (c : Core) → slice_get cores h ≡ Some c → c.retired ≡ steps_of h (erase j)
+
+-- one for a hart with a lifted patch, which will execute where a breakpoint stands and not as a copy
+abbrev pub pending : Displaced → Phase → ℕ
+pending d q = if not (is_off d) && is_lifted q then 1 else 0
+
+-- where there are slots, each hart executed by copies where an enabled breakpoint stood and displaced stepping wasn't off,
+-- but for one instruction at most for each time that it was switched on
+abbrev pub AreCopied : ℕ → List Core → List Mind → Displaced → List ℕ → ℕ → Type 0
+AreCopied count cores minds d passed sets =
+    0 < count → (h : ℕ) (c : Core) (x : Mind) → slice_get cores h ≡ Some c → slice_get minds h ≡ Some x → slice_index passed h + pending d x.phase ≤ c.copied + sets
+
+-- where there are slots, each hart's copies and the lines that switched displaced stepping on are together at least its
+-- instructions that were executed where an enabled breakpoint stood, while displaced stepping wasn't off
+abbrev pub CopiedOver : ℕ → List Core → State → Type 0
+CopiedOver count cores s = 0 < count → (h : ℕ) (c : Core) → slice_get cores h ≡ Some c → slice_index s.passed h ≤ c.copied + s.sets
 
 -- the patch is lifted for one hart at most
 abbrev pub OneLifted : Run → Type 0
@@ -88,7 +134,8 @@ pub record Facts (r : Run) : Type 0 where
   pub count : length r.minds ≡ r.opening.settings.harts
   -- the selected thread is one of the harts
   pub selected : IsThread r.opening r.selected
-  pub harts : Harts r.opening.image r.machine.cores r.minds r.hold
+  pub harts : Harts r.opening.image r.machine.cores r.machine.slots r.minds r.hold
+  pub slots : length r.machine.slots ≡ r.opening.settings.slots
   pub planted : Planted r.opening.image r.machine.text r.breaks r.hold
   pub texts : AreInText r.opening.image r.breaks
   -- the table of breakpoints knows where text stands, and the harts
@@ -96,3 +143,4 @@ pub record Facts (r : Run) : Type 0 where
   pub waits : length r.waits ≡ length r.minds
   pub names : r.names ≡ names_of r.opening.image
   pub retired : Retired r.machine.cores r.journal
+  pub copied : AreCopied r.opening.settings.slots r.machine.cores r.minds r.displaced (seen r).passed (seen r).sets

@@ -6,8 +6,8 @@ use Rattle.dbg_model.specs.declared.entry.Mode.{Mode}
 use Rattle.dbg_model.specs.declared.entry.Mode.TheVariants as mode
 use Rattle.engine_facts.specs.declared.mind.Activity.{Activity}
 use Rattle.engine_facts.specs.declared.mind.Activity.TheVariants as activity
-use Rattle.engine_facts.specs.declared.mind.Phase.{Phase}
-use Rattle.engine_facts.specs.declared.mind.Phase.TheVariants as phase
+use Rattle.step_over.specs.declared.phase.Phase.{Phase}
+use Rattle.step_over.specs.declared.phase.Phase.TheVariants as phase
 use Rattle.engine_facts.specs.declared.mind.Mind.{Mind}
 
 abbrev pub mode_of : Activity → Mode
@@ -34,44 +34,86 @@ has_gone x = is_gone x.activity
 -- the address whose patch is lifted for a hart
 abbrev pub lifted_of : Phase → Option ℕ
 lifted_of phase.Idle = None
+lifted_of (phase.Copied slot home) = None
+lifted_of (phase.Landed slot home) = None
 lifted_of (phase.Lifted home) = Some home
 lifted_of (phase.Ran home) = Some home
+
+-- the slot that a hart has
+abbrev pub slot_of : Phase → Option ℕ
+slot_of phase.Idle = None
+slot_of (phase.Copied slot home) = Some slot
+slot_of (phase.Landed slot home) = Some slot
+slot_of (phase.Lifted home) = None
+slot_of (phase.Ran home) = None
+
+-- the slot whose copy a hart executes next
+abbrev pub entered_of : Phase → Option ℕ
+entered_of phase.Idle = None
+entered_of (phase.Copied slot home) = Some slot
+entered_of (phase.Landed slot home) = None
+entered_of (phase.Lifted home) = None
+entered_of (phase.Ran home) = None
+
+-- a hart at a copy
+abbrev pub is_copied : Phase → Bool
+is_copied phase.Idle = false
+is_copied (phase.Copied slot home) = true
+is_copied (phase.Landed slot home) = false
+is_copied (phase.Lifted home) = false
+is_copied (phase.Ran home) = false
+
+-- whether a patch is lifted for a hart that is to execute there
+abbrev pub is_lifted : Phase → Bool
+is_lifted phase.Idle = false
+is_lifted (phase.Copied slot home) = false
+is_lifted (phase.Landed slot home) = false
+is_lifted (phase.Lifted home) = true
+is_lifted (phase.Ran home) = false
 
 -- the phase after an instruction
 abbrev pub after_step : Phase → Phase
 after_step phase.Idle = phase.Idle
+after_step (phase.Copied slot home) = phase.Landed slot home
+after_step (phase.Landed slot home) = phase.Landed slot home
 after_step (phase.Lifted home) = phase.Ran home
 after_step (phase.Ran home) = phase.Ran home
 
 -- a hart that may execute next
 abbrev pub is_before : Phase → Bool
 is_before phase.Idle = true
+is_before (phase.Copied slot home) = true
+is_before (phase.Landed slot home) = false
 is_before (phase.Lifted home) = true
 is_before (phase.Ran home) = false
 
 abbrev pub with_phase : Mind → Phase → Mind
-with_phase x p = record { activity = x.activity; fresh = x.fresh; phase = p }
+with_phase x p = record { activity = x.activity; fresh = x.fresh; asked = x.asked; phase = p }
 
 -- a hart that is stopped, as all are at the beginning
 abbrev pub first_mind : Mind
-first_mind = record { activity = activity.Stopped; fresh = false; phase = phase.Idle }
+first_mind = record { activity = activity.Stopped; fresh = false; asked = false; phase = phase.Idle }
 
 -- a hart that has just executed, or was resumed, or exited
 abbrev pub ran_mind : Mind → Mind
-ran_mind x = record { activity = activity.Running; fresh = true; phase = after_step x.phase }
+ran_mind x = record { activity = activity.Running; fresh = true; asked = x.asked; phase = after_step x.phase }
 
 -- a hart that breakpoints counted
 abbrev pub counted_mind : Mind → Mind
-counted_mind x = record { activity = x.activity; fresh = false; phase = x.phase }
+counted_mind x = record { activity = x.activity; fresh = false; asked = x.asked; phase = x.phase }
 
 abbrev pub resumed_mind : Mind
-resumed_mind = record { activity = activity.Running; fresh = false; phase = phase.Idle }
+resumed_mind = record { activity = activity.Running; fresh = false; asked = false; phase = phase.Idle }
 
-abbrev pub exited_mind : Mind
-exited_mind = record { activity = activity.Exited; fresh = true; phase = phase.Idle }
+-- a hart of which an interrupt is asked
+abbrev pub asked_mind : Mind → Mind
+asked_mind x = record { activity = x.activity; fresh = x.fresh; asked = true; phase = x.phase }
+
+abbrev pub exited_mind : Mind → Mind
+exited_mind x = record { activity = activity.Exited; fresh = true; asked = x.asked; phase = phase.Idle }
 
 abbrev pub gone_mind : Mind → Mind
-gone_mind x = record { activity = activity.Exited; fresh = x.fresh; phase = phase.Idle }
+gone_mind x = record { activity = activity.Exited; fresh = x.fresh; asked = x.asked; phase = phase.Idle }
 
 abbrev pub left_live : ℕ → ℕ → Activity → List Entry
 left_live code k activity.Stopped = Left k code ∷ []

@@ -1,7 +1,11 @@
 -- What the moves of an engine do to it.
-use Rattle.std.specs.Prelude.{◌≡◌, ℕ, ◌+◌, Bool, List, [], ◌∷◌, ◌++◌, Option, Some, None, IsSome, slice_set}
+use Rattle.std.specs.Prelude.{◌≡◌, ℕ, ◌+◌, Bool, List, [], ◌∷◌, ◌++◌, length, Option, Some, None, IsSome, slice_set}
 use Rattle.rv_exec.specs.Memory.{Memory}
+use Rattle.elf32_read.specs.Program.{Program}
 use Rattle.text_words.specs.Words.{Words, shown, is_planted}
+use Rattle.scratch_slots.specs.declared.slots.SlotUse.{SlotUse}
+use Rattle.scratch_slots.specs.Table.{use_at}
+use Rattle.mi_commands.specs.declared.command.Displaced.{Displaced}
 use Rattle.hart_machine.specs.declared.hart.Core.{Core}
 use Rattle.break_table.specs.Entry.{Entry as BreakEntry}
 use Rattle.dbg_model.specs.declared.entry.Entry.{Entry}
@@ -9,7 +13,7 @@ use Rattle.break_table.specs.Table.{stands}
 use Rattle.dbg_model.specs.Journals.{lengthened}
 use Rattle.engine_facts.specs.declared.mind.Hold.{Hold}
 use Rattle.engine_facts.specs.declared.mind.Mind.{Mind}
-use Rattle.engine_facts.specs.Seen.{Run}
+use Rattle.engine_facts.specs.Seen.{Run, seen_regs}
 
 -- one word is patched, or is so no more, and all others are as before
 pub record Repatched (old new : Words) (a : ℕ) (is : Bool) : Type 0 where
@@ -31,6 +35,42 @@ Released old new bs (Some d) = Repatched old new d.home (stands d.home bs)
 abbrev pub rephased : Run → ℕ → Mind → Words → Option Hold → Run
 rephased r h x t hold = record r { machine = record r.machine { text = t }; minds = slice_set r.minds h x; hold = hold }
 
+-- a hart has another phase, with other registers, patches, slots and another hold
+abbrev pub rehomed : Run → ℕ → Core → Mind → Words → List (Option SlotUse) → Option Hold → Run
+rehomed r h c x t slots hold =
+    record r { machine = record r.machine { text = t; cores = slice_set r.machine.cores h c; slots = slots }; minds = slice_set r.minds h x; hold = hold }
+
+-- one slot changes its use, and the others stay
+pub record OneSlot (old new : List (Option SlotUse)) (slot : ℕ) (to : Option SlotUse) : Type 0 where
+  pub here : use_at new slot ≡ to
+  pub others : (s : ℕ) → (slot ≡ s → ⊥) → use_at new s ≡ use_at old s
+
+-- the slots after a hart gave its own back
+pub record Frees (old new : List (Option SlotUse)) (slot : ℕ) : Type 0 where
+  pub one : OneSlot old new slot None
+  pub len : length new ≡ length old
+
+-- the slots after a hart took one for a word
+pub record Takes (old new : List (Option SlotUse)) (h slot word : ℕ) : Type 0 where
+  pub was : use_at old slot ≡ None
+  pub one : OneSlot old new slot (Some (record { hart = h; word = word }))
+  pub len : length new ≡ length old
+
+-- a hart is home: its registers are those that it shows
+pub record IsHome (p : Program) (c : Core) (x : Mind) (d : Core) : Type 0 where
+  pub regs : d.regs ≡ seen_regs p c.regs x.activity x.phase
+  pub retired : d.retired ≡ c.retired
+  pub copied : d.copied ≡ c.copied
+  pub entered : d.entered ≡ None
+
+-- each hart is home
+abbrev pub AreHome : Program → List Core → List Mind → List Core → Type 0
+AreHome p [] xs [] = Unit {0}
+AreHome p [] xs (d ∷ ds) = ⊥
+AreHome p (c ∷ cs) xs [] = ⊥
+AreHome p (c ∷ cs) [] (d ∷ ds) = ⊥
+AreHome p (c ∷ cs) (x ∷ xs) (d ∷ ds) = IsHome p c x d × AreHome p cs xs ds
+
 -- one instruction of a hart, by which none exits
 abbrev pub executed : Run → ℕ → Core → Mind → Memory → ℕ → Run
 executed r h c x memory spare =
@@ -42,13 +82,13 @@ executed r h c x memory spare =
       retired = r.retired + 1;
     }
 
--- one instruction of a hart, by which harts exited with these entries
-abbrev pub departed : Run → ℕ → Core → List Mind → Memory → Words → List Entry → ℕ → ℕ → Run
-departed r h c xs memory t lefts count spare =
+-- one instruction of a hart, by which harts exited with these entries, after which these are the harts, patches and slots
+abbrev pub departed : Run → ℕ → List Core → List Mind → Memory → Words → List (Option SlotUse) → List Entry → ℕ → ℕ → Run
+departed r h cs xs memory t slots lefts count spare =
     record r {
       journal = lengthened r.journal h ++ lefts;
       spare = spare;
-      machine = record { text = t; cores = slice_set r.machine.cores h c; memory = memory };
+      machine = record { text = t; cores = cs; memory = memory; slots = slots };
       minds = xs;
       hold = None;
       retired = r.retired + 1;
@@ -67,9 +107,9 @@ halted r e h x t bs spare =
       noted = r.noted + 1;
     }
 
--- a line was done, after which these are the harts, the selected thread, the patches and the breakpoints
-abbrev pub lined : Run → Entry → List Mind → ℕ → Words → List BreakEntry → ℕ → ℕ → Run
-lined r e xs selected t bs given spare =
+-- a line was done, after which these are the harts, the selected thread, the setting, the patches and the breakpoints
+abbrev pub lined : Run → Entry → List Mind → ℕ → Displaced → Words → List BreakEntry → ℕ → ℕ → Run
+lined r e xs selected d t bs given spare =
     record r {
       journal = r.journal ++ e ∷ [];
       spare = spare;
@@ -78,5 +118,6 @@ lined r e xs selected t bs given spare =
       breaks = bs;
       given = given;
       selected = selected;
+      displaced = d;
       noted = r.noted + 1;
     }

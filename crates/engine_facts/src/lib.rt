@@ -3,4 +3,5 @@
 
 mod mind;
 
-pub use mind::{Activity, Hold, Mind, Phase};
+pub use mind::{Activity, Hold, Mind};
+pub use step_over::Phase;

@@ -1,3 +1,5 @@
+use step_over::Phase;
+
 /// What the debugger lets a hart do.
 #[derive(Clone, Copy, Debug, PartialEq, Eq)]
 pub enum Activity {
@@ -6,23 +8,15 @@ pub enum Activity {
     Exited,
 }
 
-/// Where a hart is in a step over the planted word at its pc.
-#[derive(Clone, Copy, Debug, PartialEq, Eq)]
-pub enum Phase {
-    /// It isn't stepping over anything.
-    Idle,
-    /// It is at `home`, from which the patch was lifted.
-    Lifted { home: u32 },
-    /// It has executed the word at `home`, where the patch is still to be planted again.
-    Ran { home: u32 },
-}
-
 /// What the debugger keeps of a hart.
 #[derive(Clone, Copy, Debug, PartialEq, Eq)]
 pub struct Mind {
     pub activity: Activity,
     /// An instruction of its own has just ended.
     pub fresh: bool,
+    /// An interrupt is asked of it.
+    pub asked: bool,
+    /// Where it is in a step over the planted word at its pc.
     pub phase: Phase,
 }
 

@@ -1,3 +1,4 @@
+pub mod Copying
 pub mod Patched
 pub mod Stepping
 pub mod Views

@@ -2,11 +2,13 @@
 #![tactic(auto)]
 
 mod hart;
+mod laws;
 mod machine;
 #[cfg(test)]
 mod tests;
 mod view;
 
 pub use hart::Core;
+pub use laws::copy_is_step_at_home;
 pub use machine::Machine;
 pub use view::HartView;

@@ -1,34 +1,42 @@
-ghost use Rattle.std.specs.Prelude.{◌≡◌, ◌<◌, ◌≤◌, ◌-◌, ◌^◌, ℕ, [], length, IfOk, IfErr, MatchResult, Err, Some, None, IsSome, true, false, slice_get};
+ghost use Rattle.std.specs.Prelude.{◌≡◌, ◌≢◌, ◌<◌, ◌≤◌, ◌-◌, ◌^◌, ℕ, [], length, IfOk, IfErr, IfSome, IfNone, MatchResult, Err, Some, None, is_some, IsSome, true, false, slice_get, slice_set};
+ghost use Rattle.std.specs.Option.{option_map};
 ghost use Rattle.std.specs.FinSet as set;
 ghost use Rattle.text_words.specs.Words as text;
 ghost use Rattle.data_memory.specs.Start.{start_memory};
 ghost use Rattle.data_memory.specs.Ranges.{bytes_at, range_at, value_at};
 ghost use Rattle.dbg_traits.specs.Settings.{AreSettings, AreHarts};
-ghost use Rattle.hart_machine.specs.Stepping.{Steps, IsByteCode, first_cores, loaded};
+ghost use Rattle.rv_decode.specs.Decode.{decode};
+ghost use Rattle.scratch_slots.specs.Table.{slot_address, slot_number, use_at, least_free, with_use, AllOut};
+ghost use Rattle.scratch_slots.specs.declared.slots.SlotUse.{SlotUse};
+ghost use Rattle.hart_machine.specs.Copying.{Enters, Settles, owner};
+ghost use Rattle.hart_machine.specs.Stepping.{Steps, IsByteCode, first_cores, has_run, loaded};
 ghost use Rattle.hart_machine.specs.declared.hart.Core.{Core};
 
 use crate::Core;
-use crate::hart::step_core;
+use crate::hart::{enter_core, settle_core, step_core};
 use crate::view::HartView;
 use data_memory::DataMemory;
 use dbg_traits::{NoMemory, Settings};
 use elf32_read::Image;
 use plain_machine::first_registers;
 use rv_exec::Stepped;
+use scratch_slots::{SlotUse, Slots};
 use std::alloc::{AllocError, Global};
 use std::marker::Model;
 use text_words::TextWords;
 
-/// Several harts over one text and one memory.
+/// Several harts over one text, one memory and the scratch slots.
 #[derive(Drop)]
 pub struct Machine {
     text: TextWords,
     cores: Vec<Core>,
     memory: DataMemory,
+    slots: Slots,
 }
 
 impl Model for Machine {
     ghost use Rattle.hart_machine.specs.Patched.{Patched};
+    ghost use Rattle.hart_machine.specs.Stepping.{AreCounted};
     ghost use Rattle.std.specs.Coded.{codes};
     ghost use Rattle.data_memory.specs.Maps.{memory_code};
     ghost use Rattle.text_words.specs.Words.{words_code};
@@ -37,7 +45,9 @@ impl Model for Machine {
 
     ghost coded = { Prim.hlevel (codes, memory_code, words_code) };
 
-    ghost view = { λ m. record { text = m.text; cores = m.cores.items; memory = m.memory } };
+    ghost view = { λ m. record { text = m.text; cores = m.cores.items; memory = m.memory; slots = m.slots } };
+
+    ghost invariant = { λ m. AreCounted m.cores.items };
 }
 
 fn first_cores(alloc: Global, entry: u32, harts: u32) -> Result<Vec<Core>, AllocError>
@@ -49,6 +59,8 @@ fn first_cores(alloc: Global, entry: u32, harts: u32) -> Result<Vec<Core>, Alloc
         cores.push(Core {
             regs: first_registers(entry, harts, hart),
             retired: 0,
+            copied: 0,
+            entered: None,
         })?;
     }
     Ok(cores)
@@ -58,12 +70,13 @@ impl Machine {
     /// A machine before its first step.
     pub fn load(alloc: Global, image: &Image, settings: Settings) -> Result<Machine, NoMemory>
         requires { AreSettings settings }
-        ensures { IfOk result (λ m. m ≡ loaded image.now settings.harts) }
+        ensures { IfOk result (λ m. m ≡ loaded image.now settings.harts settings.slots) }
     {
         Ok(Machine {
             text: TextWords::load(alloc, image)?,
             cores: first_cores(alloc, image.entry(), settings.harts)?,
             memory: DataMemory::load(alloc, image, settings.harts)?,
+            slots: Slots::new(settings.slots),
         })
     }
 
@@ -102,6 +115,14 @@ impl Machine {
         ensures { (c : Core) → slice_get self.now.cores h ≡ Some c → result ≡ c.retired }
     {
         self.cores[h].retired
+    }
+
+    /// How many of these it has executed in scratch slots.
+    pub fn copied(&self, h: usize) -> u64
+        requires { h < length self.now.cores }
+        ensures { (c : Core) → slice_get self.now.cores h ≡ Some c → result ≡ c.copied }
+    {
+        self.cores[h].copied
     }
 
     /// What a reader sees of a hart: its registers, and the bytes of data and of the program's text.
@@ -164,15 +185,85 @@ impl Machine {
         self.text.lift(addr);
     }
 
-    /// One instruction of a hart: the stored word at its pc.
+    /// How many scratch slots there are, free or not.
+    pub fn slots(&self) -> u32
+        ensures { result ≡ length self.now.slots }
+    {
+        self.slots.count()
+    }
+
+    /// The use of the slot at an address; None where no slot is there, or it is free.
+    pub fn slot(&self, slot: u32) -> Option<SlotUse>
+        ensures { result ≡ use_at self.now.slots slot }
+    {
+        self.slots.at(slot)
+    }
+
+    /// Whether a scratch slot is free.
+    pub fn has_room(&self) -> bool
+        ensures { result ≡ is_some (least_free self.now.slots) }
+    {
+        self.slots.has_room()
+    }
+
+    /// Gives the hart the least free slot for a copy of the word. None exactly where all are out.
+    pub fn claim(&mut self, hart: u32, word: u32) -> Option<u32>
+        ensures slot { result ≡ option_map slot_address (least_free self.old.slots) }
+        ensures machine { self.new ≡ record self.old { slots = with_use self.old.slots (least_free self.old.slots) (record { hart = hart; word = word }) } }
+        ensures was_free { IfSome result (λ slot. use_at self.old.slots slot ≡ None) }
+        ensures taken { IfSome result (λ slot. use_at self.new.slots slot ≡ Some (record { hart = hart; word = word })) }
+        ensures others { (other : ℕ) → result ≢ Some other → use_at self.new.slots other ≡ use_at self.old.slots other }
+        ensures full { IfNone result (AllOut self.old.slots) }
+    {
+        self.slots.claim(hart, word)
+    }
+
+    /// Takes back a slot, which must be out.
+    pub fn free(&mut self, slot: u32)
+        requires { IsSome (use_at self.old.slots slot) }
+        ensures machine { self.new ≡ record self.old { slots = slice_set self.old.slots (slot_number slot) None } }
+        ensures freed { use_at self.new.slots slot ≡ None }
+        ensures others { (other : ℕ) → other ≢ slot → use_at self.new.slots other ≡ use_at self.old.slots other }
+    {
+        self.slots.free(slot);
+    }
+
+    /// Puts a hart at a slot that it has claimed: its next step executes the slot's word.
+    pub fn enter(&mut self, h: usize, slot: u32)
+        requires hart { h < length self.old.cores }
+        requires claimed { owner self.old.slots slot ≡ Some h }
+        ensures { Enters self.old h slot self.new }
+    {
+        enter_core(&mut self.cores[h], slot);
+    }
+
+    /// Takes a hart home from a slot that it has claimed: makes of its registers those that the slot's word leaves at
+    /// `home`. Where the word didn't run, or is no instruction, pc alone goes to `home`. The slot stays claimed.
+    pub fn settle(&mut self, h: usize, slot: u32, home: u32, ran: bool)
+        requires hart { h < length self.old.cores }
+        requires claimed { owner self.old.slots slot ≡ Some h }
+        requires word { (u : SlotUse) → use_at self.old.slots slot ≡ Some u → ran ≡ true → IsSome (decode u.word) }
+        ensures { Settles self.old h slot home ran self.new }
+    {
+        if let Some(found) = self.slots.at(slot) {
+            settle_core(&mut self.cores[h], found.word, slot, home, ran);
+        }
+    }
+
+    /// One instruction of a hart: the stored word at its pc, or the word of the slot that it entered. Nothing changes
+    /// at a breakpoint, and where the instruction traps.
     pub fn step(&mut self, h: usize) -> Stepped
         requires hart { h < length self.old.cores }
         requires count { (c : Core) → slice_get self.old.cores h ≡ Some c → c.retired < 2 ^ 64 - 1 }
         ensures code { IsByteCode result }
         ensures step { Steps result self.old h self.new }
+        ensures stopped { has_run result ≡ false → self.new ≡ self.old }
     {
-        let core = &mut self.cores[h];
-        let fetched = self.text.fetch(core.regs.pc());
-        step_core(fetched, core, &mut self.memory)
+        step_core(
+            &self.text,
+            &self.slots,
+            &mut self.cores[h],
+            &mut self.memory,
+        )
     }
 }

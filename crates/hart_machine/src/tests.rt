@@ -2,6 +2,7 @@ use crate::Machine;
 use dbg_traits::{Settings, View};
 use elf32_read::{Image, read_image};
 use plain_machine::Plain;
+use rv_decode::decode;
 use rv_exec::{Cause, Stepped};
 use std::alloc::Global;
 use std::process::Abort;
@@ -366,5 +367,189 @@ fn a_planted_word_stops_a_hart_until_it_is_lifted(rt: HostRuntime) -> Result<(),
     assert!(rt; 0 < machine.harts());
     assert!(rt; machine.retired(0) == 0);
     assert_eq!(rt; machine.step(0), Stepped::Ran);
+    Ok(())
+}
+
+/// Where the copied words belong, and the slot that they are copied to.
+const HOME: u32 = 0x0001_0074;
+
+const SLOT: u32 = 0xFFFF_F000;
+
+/// A word at `HOME`, what a step of its copy answers, and then how many copies were executed; pc, ra and a0 in the
+/// slot, and pc, ra and a0 at home. At the start ra is 0, a0 is 1 and a1 is 2.
+const COPIES: [(u32, Stepped, u64, [u32; 3], [u32; 3]); 7] = [
+    // auipc a0, 0; jal ra, 8; jalr ra, 2(a1)
+    (
+        0x0000_0517,
+        Stepped::Ran,
+        1,
+        [0xFFFF_F004, 0, SLOT],
+        [0x0001_0078, 0, HOME],
+    ),
+    (
+        0x0080_00EF,
+        Stepped::Ran,
+        1,
+        [0xFFFF_F008, 0xFFFF_F004, 1],
+        [0x0001_007C, 0x0001_0078, 1],
+    ),
+    (
+        0x0025_80E7,
+        Stepped::Ran,
+        1,
+        [4, 0xFFFF_F004, 1],
+        [4, 0x0001_0078, 1],
+    ),
+    // addi a0, a0, 5; ecall, with a number that is no call's
+    (
+        0x0055_0513,
+        Stepped::Ran,
+        1,
+        [0xFFFF_F004, 0, 6],
+        [0x0001_0078, 0, 6],
+    ),
+    (
+        0x0000_0073,
+        Stepped::Ran,
+        1,
+        [0xFFFF_F004, 0, 0xFFFF_FFDA],
+        [0x0001_0078, 0, 0xFFFF_FFDA],
+    ),
+    // lw a0, 0(a0), which traps, and no instruction
+    (
+        0x0005_2503,
+        Stepped::Trap(Cause::LoadAlign),
+        0,
+        [SLOT, 0, 1],
+        [HOME, 0, 1],
+    ),
+    (
+        0,
+        Stepped::Trap(Cause::Illegal),
+        0,
+        [SLOT, 0, 1],
+        [HOME, 0, 1],
+    ),
+];
+
+/// Two harts and two slots.
+const SLOTTED: Settings = Settings {
+    harts: 2,
+    workers: 0,
+    slots: 2,
+    budget: 100,
+    slice: 0,
+};
+
+fn slotted(alloc: Global, words: &[u32; 8]) -> Result<Machine, Fail> {
+    let image = image_of(alloc, words)?;
+    match Machine::load(alloc, &image, SLOTTED) {
+        Ok(machine) => Ok(machine),
+        Err(_) => Err(Fail::new("out of memory")),
+    }
+}
+
+// Hart 1 claims the first slot for the word, and enters it.
+fn enter_first(rt: &impl Abort, machine: &mut Machine, word: u32) {
+    assert_eq!(rt; machine.claim(1, word), Some(SLOT));
+    let Some(found) = machine.slot(SLOT) else {
+        assert!(rt; false, "the slot is free");
+        return;
+    };
+    assert!(rt; found.hart == 1);
+    assert!(rt; 1 < machine.harts());
+    machine.enter(1, SLOT);
+}
+
+// Takes hart 1 home, where it still has its slot.
+fn settle_first(rt: &impl Abort, machine: &mut Machine, ran: bool) {
+    let Some(found) = machine.slot(SLOT) else {
+        assert!(rt; false, "the slot is free");
+        return;
+    };
+    assert!(rt; found.hart == 1);
+    assert!(rt; 1 < machine.harts());
+    if ran {
+        assert!(rt; decode(found.word).is_some());
+        machine.settle(1, SLOT, HOME, true);
+    } else {
+        machine.settle(1, SLOT, HOME, false);
+    }
+    assert_eq!(rt; machine.slot(SLOT), Some(found));
+}
+
+fn step_hart(rt: &impl Abort, machine: &mut Machine, h: usize) -> Stepped {
+    assert!(rt; h < machine.harts());
+    assert!(rt; machine.retired(h) < 100);
+    machine.step(h)
+}
+
+// The pc, ra and a0 of hart 1, and its two counts.
+fn seen(rt: &impl Abort, machine: &Machine) -> ([u32; 3], u64, u64) {
+    assert!(rt; 1 < machine.harts());
+    let view = machine.view(1);
+    (
+        [view.reg(32), view.reg(1), view.reg(10)],
+        machine.retired(1),
+        machine.copied(1),
+    )
+}
+
+#[test]
+fn a_settled_copy_leaves_what_the_word_leaves_at_home(rt: HostRuntime) -> Result<(), Fail> {
+    for (word, answer, count, there, home) in &COPIES {
+        let mut machine = slotted(rt.alloc(), &[*word, 0, 0, 0, 0, 0, 0, 0])?;
+        enter_first(&rt, &mut machine, *word);
+        assert_eq!(rt; step_hart(&rt, &mut machine, 1), *answer, "{word:#010x}");
+        assert_eq!(rt;
+            seen(&rt, &machine),
+            (*there, *count, *count),
+            "{word:#010x}"
+        );
+        settle_first(&rt, &mut machine, *count == 1);
+        assert_eq!(rt;
+            seen(&rt, &machine),
+            (*home, *count, *count),
+            "{word:#010x}"
+        );
+    }
+    Ok(())
+}
+
+/// LUI a5, 0xFFFFF and JALR x0, 0(a5) jump to the slot, which another hart has entered.
+#[test]
+fn a_slot_is_text_for_the_hart_that_entered_it_alone(rt: HostRuntime) -> Result<(), Fail> {
+    let words = [0xFFFF_F7B7, 0x0007_8067, 0, 0, 0, 0, 0, 0];
+    let mut machine = slotted(rt.alloc(), &words)?;
+    enter_first(&rt, &mut machine, 0xFFFF_F7B7);
+    for answer in [Stepped::Ran, Stepped::Ran, Stepped::Trap(Cause::FetchFault)] {
+        assert_eq!(rt; step_hart(&rt, &mut machine, 0), answer);
+    }
+    assert_eq!(rt; seen(&rt, &machine), ([SLOT, 0, 1], 0, 0));
+    // a hart that goes home unrun executes its word there, and this is no copy
+    settle_first(&rt, &mut machine, false);
+    assert_eq!(rt; seen(&rt, &machine), ([HOME, 0, 1], 0, 0));
+    assert_eq!(rt; step_hart(&rt, &mut machine, 1), Stepped::Ran);
+    assert_eq!(rt; seen(&rt, &machine), ([0x0001_0078, 0, 1], 1, 0));
+    // and it comes to the slot by a jump, as the other hart did
+    assert_eq!(rt; step_hart(&rt, &mut machine, 1), Stepped::Ran);
+    assert_eq!(rt;
+        step_hart(&rt, &mut machine, 1),
+        Stepped::Trap(Cause::FetchFault)
+    );
+    Ok(())
+}
+
+#[test]
+fn a_freed_slot_is_claimed_again(rt: HostRuntime) -> Result<(), Fail> {
+    let mut machine = slotted(rt.alloc(), &[0; 8])?;
+    assert_eq!(rt; machine.slots(), 2);
+    assert_eq!(rt; machine.claim(0, 0x13), Some(SLOT));
+    assert_eq!(rt; machine.claim(1, 0x17), Some(0xFFFF_F008));
+    assert_eq!(rt; machine.claim(1, 0x13), None);
+    assert!(rt; machine.slot(SLOT).is_some());
+    machine.free(SLOT);
+    assert_eq!(rt; machine.slot(SLOT), None);
+    assert_eq!(rt; machine.claim(1, 0x6F), Some(SLOT));
     Ok(())
 }

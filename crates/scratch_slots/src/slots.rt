@@ -1,4 +1,4 @@
-ghost use Rattle.std.specs.Prelude.{◌≡◌, ◌≢◌, ◌≤◌, ◌<◌, ℕ, IfSome, IfNone, length, replicate, None, Some, slice_set, IsSome};
+ghost use Rattle.std.specs.Prelude.{◌≡◌, ◌≢◌, ◌≤◌, ◌<◌, ℕ, IfSome, IfNone, length, replicate, None, Some, slice_set, is_some, IsSome};
 ghost use Rattle.std.specs.Option.{option_map};
 
 use crate::index::{clear_bit, first_one, set_bit};
@@ -74,6 +74,16 @@ impl Slots {
         } else {
             None
         }
+    }
+
+    /// Whether a slot is free.
+    pub fn has_room(&self) -> bool
+        ensures { result ≡ is_some (least_free self.now) }
+    {
+        let Some(_k) = first_one(&self.free) else {
+            return false
+        };
+        true
     }
 
     /// Gives the hart the least free slot for a copy of the word. None exactly where all are out.

@@ -8,6 +8,7 @@ fn the_least_free_slot_is_claimed(rt: HostRuntime) {
     assert_eq!(rt; slots.claim(1, 0x17), Some(0xFFFF_F008));
     assert_eq!(rt; slots.claim(2, 0x6F), Some(0xFFFF_F010));
     assert_eq!(rt; slots.claim(3, 0x13), None);
+    assert!(rt; !slots.has_room());
     assert_eq!(rt;
         slots.at(0xFFFF_F008),
         Some(SlotUse {
@@ -19,6 +20,7 @@ fn the_least_free_slot_is_claimed(rt: HostRuntime) {
         slots.free(0xFFFF_F008);
     }
     assert_eq!(rt; slots.at(0xFFFF_F008), None);
+    assert!(rt; slots.has_room());
     assert_eq!(rt;
         slots.at(0xFFFF_F010),
         Some(SlotUse {

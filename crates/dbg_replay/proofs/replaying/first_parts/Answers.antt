@@ -1,7 +1,8 @@
-use Rattle.std.proofs.Common.{◌≡◌, ◌≤◌, length, refl, ap, ◌∙◌, arith}
+use Rattle.std.proofs.Common.{◌≡◌, ◌≤◌, length, refl, sym, subst, ap, ◌∙◌, arith}
+use Rattle.std.specs.Prelude.{slice_index}
 use Rattle.break_table.specs.Table.{Table}
 use Rattle.dbg_model.proofs.Counting.{length-replicated}
-use Rattle.dbg_replay.proofs.Beginning.{length_first}
+use Rattle.dbg_replay.proofs.Beginning.{length_first, none_counted}
 use Rattle.dbg_replay.proofs.replaying.first_parts.Goals as goal
 
 pub returns-clause-kept : goal.returns-clause-kept
@@ -16,4 +17,7 @@ returns-clause-kept c =
       given = omega (arith, given);
       few = c.requires.harts.1;
       budget = c.requires.budget.1;
+      counts = ap length c.in_ok-no_counts.ensures ∙ length-replicated o.settings.harts _;
+      passed = λ k. subst (λ ns. slice_index ns k ≤ 0) (sym c.in_ok-no_counts.ensures) (none_counted o.settings.harts k);
+      sets = omega arith;
     }

@@ -1,8 +1,8 @@
-use Rattle.std.proofs.Common.{true, rules, ◌≡◌, ◌≤◌, ◌<◌, length, sym, ap, ◌∙◌, arith, subst, length-set}
+use Rattle.std.proofs.Common.{true, Bool, rules, ◌≡◌, ◌≤◌, ◌<◌, length, sym, ap, ◌∙◌, arith, subst, length-set}
 use Rattle.std.specs.Prelude.{Ok, Err, slice_get, slice_set, Result}
 use Rattle.std.proofs.lemmas.Option.{slice_get_within}
 use Rattle.dbg_model.specs.State.{Hart}
-use Rattle.dbg_model.specs.Lawful.{one}
+use Rattle.dbg_model.specs.Lawful.{one, one_more_at}
 use Rattle.dbg_model.specs.declared.entry.Mode.{Mode}
 use Rattle.dbg_replay.specs.declared.halt.Halt.{Halt}
 use Rattle.dbg_replay.specs.Parts.{shown}
@@ -32,6 +32,6 @@ finish-requires c =
 pub returns : goal.returns
 returns c =
     let xs = c.args.parts.now.harts.items in
-    let made = c.new.ensures ∙ ap (λ (m : Mode). let y : Hart = record { regs = c.execute_plain-stepped.new.regs; mode = m; fresh = true } in y) c.mode.ensures in
-    one_comes c.args.opening.now c.args.parts.now c.finish.new.parts c.args.h c.in_ok-hart.hart _ c.execute_plain-stepped.new.memory c.execute_plain-stepped.result c.regs-regs.result c.execute_plain-stepped.new.regs c.finish.result c.requires
-    c.in_ok-hart.ensures.hart.0 c.in_ok-hart.ensures.hart.1 c.regs-regs.ensures c.execute_plain-stepped.ensures (ap (slice_set xs c.args.h) made) c.finish.ensures
+    let made = c.new.ensures ∙ ap (λ (m : Mode). let y : Hart = record { regs = c.execute_plain-stepped.new.regs; mode = m; fresh = true; asked = c.is_asked.result } in y) c.mode.ensures ∙ ap (λ (a : Bool). let y : Hart = record { regs = c.execute_plain-stepped.new.regs; mode = c.in_ok-hart.hart.mode; fresh = true; asked = a } in y) c.is_asked.ensures in
+    one_comes c.args.opening.now c.args.parts.now c.finish.new.parts c.args.h c.in_ok-hart.hart _ _ c.execute_plain-stepped.new.memory c.execute_plain-stepped.result c.regs-regs.result c.execute_plain-stepped.new.regs c.finish.result c.requires
+    c.in_ok-hart.ensures.hart.0 c.in_ok-hart.ensures.hart.1 c.regs-regs.ensures c.execute_plain-stepped.ensures (ap (slice_set xs c.args.h) made) (c.count_pass.ensures ∙ ap (one_more_at c.args.parts.now.passed.items c.args.h) c.passes-passes.ensures) c.finish.ensures

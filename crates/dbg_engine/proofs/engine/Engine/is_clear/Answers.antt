@@ -1,5 +1,5 @@
 use Rattle.std.proofs.Common.{rules, ◌≡◌, ◌∙◌, sym, Bool, true, false, not, IsTrue, refl}
-use Rattle.engine_facts.specs.declared.mind.Phase.TheVariants as phase
+use Rattle.step_over.specs.declared.phase.Phase.TheVariants as phase
 use Rattle.dbg_engine.specs.EngineInside.{run_of}
 use Rattle.dbg_engine.proofs.Holds.{clear}
 use Rattle.dbg_engine.proofs.engine.Engine.is_clear.Goals as goal

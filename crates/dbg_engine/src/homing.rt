@@ -1,0 +1,73 @@
+// Harts that come home from their scratch slots.
+ghost use Rattle.std.specs.Prelude.{◌≡◌, ◌<◌, ◌≤◌, ◌+◌, ◌^◌, ℕ, length, slice_get, slice_set, Some};
+ghost use Rattle.engine_facts.specs.declared.mind.Mind.{Mind};
+ghost use Rattle.engine_facts.specs.Minds.{after_step};
+ghost use Rattle.engine_facts.specs.Moves.{HeldInText};
+ghost use Rattle.engine_facts.specs.Homing.{IsSlotted, GoesHome, AllGoHome};
+ghost use Rattle.dbg_engine.specs.Homing.{HomedBy};
+
+use crate::moving::after_step;
+use crate::patching::release;
+use break_table::BreakTable;
+use engine_facts::{Hold, Mind, Phase};
+use hart_machine::Machine;
+use rv_exec::Stepped;
+
+/// Takes a hart home from the slot of its phase, if it has one.
+pub fn go_home(machine: &mut Machine, h: usize, phase: Phase)
+    requires hart { h < length machine.old.cores }
+    requires slot { IsSlotted machine.old h phase }
+    ensures { GoesHome machine.old machine.new h phase }
+{
+    match phase {
+        Phase::Copied { slot, home } => {
+            machine.settle(h, slot, home, false);
+            machine.free(slot);
+        }
+        Phase::Landed { slot, home } => {
+            machine.settle(h, slot, home, true);
+            machine.free(slot);
+        }
+        Phase::Idle | Phase::Lifted { .. } | Phase::Ran { .. } => {}
+    }
+}
+
+/// Takes each hart of the list home; the first of them has the number `h`.
+pub fn go_home_each(machine: &mut Machine, minds: &[Mind], h: usize)
+    requires harts { h + length minds.now ≤ length machine.old.cores }
+    requires slots { (j : ℕ) (x : Mind) → slice_get minds.now j ≡ Some x → IsSlotted machine.old (h + j) x.phase }
+    ensures { AllGoHome machine.old machine.new h minds.now }
+{
+    let [first, rest @ ..] = minds else {
+        return;
+    };
+    go_home(machine, h, first.phase);
+    go_home_each(machine, rest, h + 1);
+}
+
+/// After an exit the harts that leave come home, and no patch stays lifted. Where all leave, `minds` has what is kept
+/// of each hart after the instruction.
+pub fn go_home_at_exit(
+    stepped: Stepped,
+    machine: &mut Machine,
+    hold: &mut Option<Hold>,
+    table: &BreakTable,
+    h: usize,
+    mind: Mind,
+    minds: &[Mind],
+)
+    requires text { HeldInText machine.old.text hold.old }
+    requires harts { length minds.now ≤ length machine.old.cores }
+    requires hart { h < length machine.old.cores }
+    requires slot { IsSlotted machine.old h (after_step mind.phase) }
+    requires slots { (j : ℕ) (x : Mind) → slice_get minds.now j ≡ Some x → IsSlotted machine.old j x.phase }
+    ensures { HomedBy stepped machine.old machine.new hold.old hold.new table.now.entries h mind minds.now }
+{
+    match stepped {
+        Stepped::HartExit(_) => go_home(machine, h, after_step(mind.phase)),
+        Stepped::AllExit(_) => go_home_each(machine, minds, 0),
+        Stepped::Ran | Stepped::Wrote { .. } | Stepped::Hit | Stepped::Trap(_) => return,
+    }
+    release(machine, *hold, table);
+    *hold = None;
+}

@@ -1,0 +1,63 @@
+-- How a hart goes to a scratch slot, and comes home from it: a copy of an instruction is executed there in place of the
+-- one at a breakpoint ("displaced stepping" in GDB's manual).
+use Rattle.std.specs.Prelude.{◌≡◌, ℕ, Bool, List, Option, Some, None, slice_get, slice_set, if◌then◌else◌}
+use Rattle.std.specs.Option.{option_map}
+use Rattle.rv_decode.specs.declared.instr.Instr.{Instr}
+use Rattle.rv_decode.specs.Decode.{decode}
+use Rattle.rv_exec.specs.Registers.{Registers, set_pc}
+use Rattle.rv_exec.specs.Memory.{Memory}
+use Rattle.rv_exec.specs.declared.effect.Stepped.{Stepped}
+use Rattle.displaced_fix.specs.Fix.{fix, IsWordAddress}
+use Rattle.scratch_slots.specs.declared.slots.SlotUse.{SlotUse}
+use Rattle.scratch_slots.specs.Table.{use_at}
+use Rattle.plain_machine.specs.Plain.{on_word}
+use Rattle.hart_machine.specs.declared.hart.Core.{Core}
+use Rattle.hart_machine.specs.Patched.{Patched}
+use Rattle.hart_machine.specs.Stepping.{StepGives, StepsTo, counted, has_run}
+
+-- the hart that has a slot
+abbrev pub owner : List (Option SlotUse) → ℕ → Option ℕ
+owner slots slot = option_map (λ u. u.hart) (use_at slots slot)
+
+abbrev pub with_core : Patched → ℕ → Core → Patched
+with_core m h c = record m { cores = slice_set m.cores h c }
+
+abbrev pub entered_core : Core → ℕ → Core
+entered_core c slot = record c { regs = set_pc c.regs slot; entered = Some slot }
+
+-- a word that is no instruction did nothing, so that pc alone goes home
+abbrev pub fixed : Option Instr → ℕ → ℕ → Registers → Bool → Registers
+fixed None slot home r ran = set_pc r home
+fixed (Some i) slot home r ran = fix i slot home r ran
+
+-- the registers at home, after those that a copy of the word left at the slot, or before it ran
+abbrev pub settled_regs : ℕ → ℕ → ℕ → Registers → Bool → Registers
+settled_regs w slot home r ran = fixed (decode w) slot home r ran
+
+abbrev pub settled_core : ℕ → ℕ → ℕ → Core → Bool → Core
+settled_core w slot home c ran = record c { regs = settled_regs w slot home c.regs ran; entered = None }
+
+-- hart h is at the slot, and nothing else changes
+abbrev pub Enters : Patched → ℕ → ℕ → Patched → Type 0
+Enters old h slot new = (c : Core) → slice_get old.cores h ≡ Some c → new ≡ with_core old h (entered_core c slot)
+
+-- hart h is home from the slot, and nothing else changes
+abbrev pub Settles : Patched → ℕ → ℕ → ℕ → Bool → Patched → Type 0
+Settles old h slot home ran new =
+    (c : Core) (u : SlotUse) →
+    slice_get old.cores h ≡ Some c → use_at old.slots slot ≡ Some u →
+    new ≡ with_core old h (settled_core u.word slot home c ran)
+
+-- a step in a slot, once it is settled, is the plain step at home of the word w that the slot holds
+pub record IsStepAtHome (s : Stepped) (w slot home : ℕ) (c c' : Core) (m m' : Memory) : Type 0 where
+  pub gives : StepGives s (on_word (set_pc c.regs home) m (Some w)) (set_pc c.regs home) (settled_regs w slot home c'.regs (has_run s)) m m'
+  pub retired : c'.retired ≡ counted s c.retired
+  pub copied : c'.copied ≡ counted s c.copied
+  pub entered : c'.entered ≡ (if has_run s then None else Some slot)
+
+-- each step of a hart at a slot that it entered is one at home
+abbrev pub CopyIsStepAtHome : Type 0
+CopyIsStepAtHome =
+    (s : Stepped) (old new : Patched) (h : ℕ) (c : Core) (u : SlotUse) (slot home : ℕ) →
+    c.entered ≡ Some slot → c.regs.pc ≡ slot → use_at old.slots slot ≡ Some u → IsWordAddress home →
+    (t : StepsTo s old h c new) → IsStepAtHome s u.word slot home c t.core old.memory t.memory
