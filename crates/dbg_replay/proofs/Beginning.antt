@@ -1,5 +1,5 @@
 -- Where a session begins.
-use Rattle.std.proofs.Common.{◌≡◌, ◌+◌, ◌≤◌, ℕ, zero, suc, [], ◌∷◌, length, replicate, refl, ap, ◌∙◌, arith}
+use Rattle.std.proofs.Common.{◌≡◌, ◌≤◌, ℕ, zero, suc, length, replicate, refl, ◌∙◌, arith}
 use Rattle.std.specs.Prelude.{slice_index}
 use Rattle.elf32_read.specs.Program.{Program}
 use Rattle.dbg_model.specs.State.{first_harts}

@@ -1,6 +1,6 @@
 -- The entries of a journal, one behind another.
-use Rattle.std.proofs.Common.{◌≡◌, ◌≤◌, ◌<◌, ◌+◌, ℕ, zero, suc, Bool, true, false, cond, List, [], ◌∷◌, length, drop, refl, sym, ap, ◌∙◌, arith, add-one}
-use Rattle.std.specs.Prelude.{Option, Some, None, option_and_then, Ok, Err, get_or}
+use Rattle.std.proofs.Common.{◌≡◌, ◌≤◌, ◌<◌, ◌+◌, ℕ, zero, suc, Bool, true, false, List, [], ◌∷◌, length, drop, refl, sym, ap, ◌∙◌, arith}
+use Rattle.std.specs.Prelude.{Option, Some, None, option_and_then, Err, get_or}
 use Rattle.std.specs.Option.{option_map}
 use Rattle.std.proofs.Math.Seq.{drop-cons}
 use Rattle.dbg_model.specs.declared.entry.Entry.{Entry}
@@ -14,7 +14,6 @@ use Rattle.dbg_model.proofs.Counting.{enter_adds}
 use Rattle.dbg_replay.specs.declared.halt.Halt.{Halt}
 use Rattle.dbg_replay.specs.declared.halt.Halt.TheVariants.{NoMemory, Unlawful}
 use Rattle.dbg_replay.specs.declared.state.Parts.{Parts}
-use Rattle.dbg_replay.specs.Parts.{shown}
 use Rattle.dbg_replay.specs.Going.{Comes, Ends, state_of}
 
 abbrev pub place_at : Option ℕ → State → Place

@@ -1,6 +1,6 @@
 -- A change of the entry of a number, whether or not it is there.
 use Rattle.std.proofs.Common.{◌≡◌, ℕ, Bool, true, false, cond, List, [], ◌∷◌, refl, sym, ap, ◌∙◌, not, map, filter}
-use Rattle.std.specs.Prelude.{Option, Some, None, ◌||◌, ◌==◌, Result, Ok, Err, OnOk, OnErr}
+use Rattle.std.specs.Prelude.{Some, None, ◌||◌, ◌==◌, Result, Ok, Err, OnOk, OnErr}
 use Rattle.break_table.specs.declared.fault.BreakFault.{BreakFault}
 use Rattle.break_table.specs.Entry.{Entry}
 use Rattle.break_table.specs.Table.{Table, changed, changed_entry, deleted, has_number, is_other, missing, Answers}

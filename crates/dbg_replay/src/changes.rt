@@ -1,13 +1,12 @@
 // What a line changes, over the parts of a state.
-ghost use Rattle.std.specs.Prelude.{◌≡◌, ◌+◌, ◌-◌, ◌^◌, ◌<◌, None, slice_get};
+ghost use Rattle.std.specs.Prelude.{◌≡◌, ◌+◌, ◌-◌, ◌^◌, ◌<◌, None};
 ghost use Rattle.std.specs.Option.{option_map};
 ghost use Rattle.break_table.specs.Entry.{asked_of, condition_of};
 ghost use Rattle.break_table.specs.Table.{changed, deleted, insert_fault, inserted, with_condition, with_enabled, with_ignore};
 ghost use Rattle.dbg_model.specs.State.{is_off};
 ghost use Rattle.dbg_model.specs.Breaks.{enabling, without};
-ghost use Rattle.dbg_model.specs.Reply.{ask_thread, ask_threads, changed_by, sets_by, resumed_at, resumed_thread, resumed_threads};
+ghost use Rattle.dbg_model.specs.Reply.{ask_thread, ask_threads, changed_by, sets_by, resumed_thread, resumed_threads};
 ghost use Rattle.dbg_replay.specs.Parts.{shown};
-ghost use Rattle.dbg_replay.specs.Going.{Kept};
 ghost use Rattle.dbg_replay.specs.Changes.{change_of, changed_table, CanBeMade};
 
 use crate::ModelHart;

@@ -9,7 +9,7 @@ ghost use Rattle.elf_symbols.specs.Entries.{names_of};
 ghost use Rattle.dbg_model.specs.Breaks.{missing_number};
 ghost use Rattle.dbg_model.specs.Conditions.{parsed};
 ghost use Rattle.dbg_model.specs.Lawful.{may_do};
-ghost use Rattle.dbg_model.specs.Reply.{answer_of, asked_at, changing, conditioned, conditioned_as, content_of, continued, deletes, done_by, enables, ignores, implied, interrupted, interrupted_at, interrupts, running_threads, inserted_at, inserted_by, is_wait, named_at, of_live, of_stopped, outcome_at, placed, running, selecting, set_as, set_by, setting, stopped_threads, thread_hart, unknown_thread, unless_missing, waits};
+ghost use Rattle.dbg_model.specs.Reply.{answer_of, asked_at, changing, conditioned, continued, deletes, done_by, enables, ignores, implied, interrupted, interrupted_at, interrupts, running_threads, inserted_at, inserted_by, is_wait, of_live, of_stopped, outcome_at, placed, running, selecting, set_by, setting, stopped_threads, thread_hart, unknown_thread, unless_missing, waits};
 ghost use Rattle.dbg_replay.specs.Parts.{shown};
 ghost use Rattle.dbg_replay.specs.Going.{Comes, Kept};
 ghost use Rattle.dbg_replay.specs.Changes.{change_of, is_memory, ReadsAs};

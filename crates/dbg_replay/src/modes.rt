@@ -1,5 +1,5 @@
 // What the harts are at.
-ghost use Rattle.std.specs.Prelude.{◌≡◌, ◌+◌, ◌≤◌, ◌<◌, ◌^◌, length, map, slice_get};
+ghost use Rattle.std.specs.Prelude.{◌≡◌, ◌+◌, ◌≤◌, length, map, slice_get};
 ghost use Rattle.dbg_model.specs.State.{any_runs, any_leaves, is_running, is_leaving};
 ghost use Rattle.dbg_model.specs.Lawful.{leaver_from, leaving, exited, counted, stopped};
 ghost use Rattle.dbg_model.specs.Reply.{asked, resumed};

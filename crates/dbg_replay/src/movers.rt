@@ -1,6 +1,5 @@
 // Which hart may move, and what the breakpoints do with it.
-ghost use Rattle.std.specs.Prelude.{◌≡◌, ◌<◌, IsTrue, IfOk};
-ghost use Rattle.dbg_model.specs.declared.limits.TheConstants.{HISTORY};
+ghost use Rattle.std.specs.Prelude.{◌≡◌, IsTrue, IfOk};
 ghost use Rattle.dbg_model.specs.State.{due, is_due, arrived};
 ghost use Rattle.dbg_model.specs.Lawful.{may_go, may_move, may_run};
 ghost use Rattle.dbg_replay.specs.Parts.{shown};

@@ -1,10 +1,10 @@
 // A whole journal.
-ghost use Rattle.std.specs.Prelude.{◌≡◌, ◌+◌, ◌≤◌, ◌<◌, ◌^◌, IfOk, None, length, replicate};
+ghost use Rattle.std.specs.Prelude.{◌≡◌, ◌≤◌, IfOk, replicate};
 ghost use Rattle.std.specs.Option.{option_map};
 ghost use Rattle.dbg_traits.specs.Settings.{AreSettings};
 ghost use Rattle.elf_symbols.specs.Entries.{names_of};
 ghost use Rattle.dbg_model.specs.State.{first_harts, first_state};
-ghost use Rattle.dbg_model.specs.Journals.{first_place, follows, ran_hart, replay, replay_from};
+ghost use Rattle.dbg_model.specs.Journals.{follows, ran_hart, replay};
 ghost use Rattle.dbg_replay.specs.Parts.{shown};
 ghost use Rattle.dbg_replay.specs.Going.{Kept, Ends, state_of};
 

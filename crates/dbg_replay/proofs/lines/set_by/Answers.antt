@@ -1,4 +1,3 @@
-use Rattle.std.proofs.Common.{sym, ◌∙◌}
 use Rattle.dbg_replay.proofs.Answering.{set_none, set_some}
 use Rattle.dbg_replay.proofs.lines.set_by.Goals as goal
 

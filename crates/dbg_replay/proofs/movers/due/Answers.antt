@@ -1,8 +1,7 @@
-use Rattle.std.proofs.Common.{rules, ◌≡◌, true, sym, ap, ◌∙◌}
+use Rattle.std.proofs.Common.{rules, sym, ap, ◌∙◌}
 use Rattle.rv_exec.specs.Registers.{Registers}
 use Rattle.break_table.specs.Arrival.{due_of}
 use Rattle.dbg_model.specs.Views.{register, shown_byte}
-use Rattle.dbg_model.specs.State.{due}
 use Rattle.dbg_replay.proofs.Arriving.{due_fresh}
 use Rattle.dbg_replay.specs.Parts.{shown}
 use Rattle.dbg_replay.proofs.movers.due.Goals as goal

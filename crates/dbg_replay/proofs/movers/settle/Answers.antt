@@ -1,4 +1,4 @@
-use Rattle.std.proofs.Common.{◌≡◌, sym, ap, ◌∙◌}
+use Rattle.std.proofs.Common.{sym, ap, ◌∙◌}
 use Rattle.rv_exec.specs.Registers.{Registers}
 use Rattle.break_table.specs.Arrival.{settled}
 use Rattle.break_table.specs.Table.{Table}

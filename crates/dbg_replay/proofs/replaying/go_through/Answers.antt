@@ -1,7 +1,7 @@
-use Rattle.std.proofs.Common.{rules, ℕ, ◌≡◌, ◌≤◌, length, drop, ◌+◌, sym, ap, ◌∙◌, subst, true, false}
+use Rattle.std.proofs.Common.{rules, ℕ, ◌≡◌, drop, ◌+◌, sym, ap, ◌∙◌, subst, true}
 use Rattle.std.specs.Prelude.{Option, Err, Result}
 use Rattle.std.specs.Option.{option_map}
-use Rattle.dbg_model.specs.Journals.{first_place, follows, replay, replay_from}
+use Rattle.dbg_model.specs.Journals.{follows, replay, replay_from}
 use Rattle.dbg_replay.specs.declared.halt.Halt.{Halt}
 use Rattle.dbg_replay.specs.Parts.{shown}
 use Rattle.dbg_replay.specs.Going.{Ends, state_of}

@@ -1,5 +1,5 @@
-use Rattle.std.proofs.Common.{true, Bool, rules, ◌≡◌, ◌≤◌, ◌<◌, length, sym, ap, ◌∙◌, arith, subst, length-set}
-use Rattle.std.specs.Prelude.{Ok, Err, slice_get, slice_set, Result}
+use Rattle.std.proofs.Common.{true, Bool, rules, ◌≡◌, sym, ap, ◌∙◌, arith, subst, length-set}
+use Rattle.std.specs.Prelude.{Err, slice_set, Result}
 use Rattle.std.proofs.lemmas.Option.{slice_get_within}
 use Rattle.dbg_model.specs.State.{Hart}
 use Rattle.dbg_model.specs.Lawful.{one, one_more_at}
