@@ -1,6 +1,6 @@
 pub mod Sections
 pub mod Lists
-pub mod Marking
+pub mod Placing
 pub mod Rising
-pub mod Nowhere
+pub mod Here
 pub mod Keeping

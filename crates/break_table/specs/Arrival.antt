@@ -72,6 +72,9 @@ due_of hart registers bytes entries =
 abbrev pub stays : ℕ → (ℕ → ℕ) → (ℕ → Option ℕ) → Entry → Bool
 stays hart registers bytes e = not (e.temporary && stops hart registers bytes e)
 
+abbrev pub leaves : ℕ → (ℕ → ℕ) → (ℕ → Option ℕ) → Entry → Bool
+leaves hart registers bytes e = not (stays hart registers bytes e)
+
 -- a count of 64 bits that rises, and stands still at its end
 abbrev pub raised : ℕ → ℕ
 raised n = min (n + 1) (2 ^ 64 - 1)

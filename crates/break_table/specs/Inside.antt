@@ -2,7 +2,7 @@
 use Rattle.std.specs.Prelude.{◌≡◌, ◌≤◌, map, vec_capacity, vec_len}
 use Rattle.break_table.specs.Entry.{entry_of}
 use Rattle.break_table.specs.Table.{Table, IsRising}
-use Rattle.break_table.specs.Marks.{AreMarked}
+use Rattle.break_table.specs.Places.{ArePlaced}
 use Rattle.break_table.specs.declared.table.BreakTable.TheInside.{Inside}
 
 abbrev pub seen : Inside → Table
@@ -12,5 +12,6 @@ pub record IsKept (t : Inside) : Type 0 where
   pub rising : IsRising 0 (map entry_of t.entries.items) t.given
   pub few : vec_len t.entries ≤ 128
   pub room : 128 ≤ vec_capacity t.entries
-  pub long : vec_len t.marks ≡ 1024
-  pub marked : AreMarked t.marks.items (map entry_of t.entries.items)
+  pub same : vec_len t.places ≡ vec_len t.entries
+  pub room_for_places : 128 ≤ vec_capacity t.places
+  pub placed : ArePlaced t.places.items (map entry_of t.entries.items)

@@ -3,6 +3,6 @@ pub mod Entry
 pub mod Arrival
 pub mod Text
 pub mod Table
-pub mod Marks
+pub mod Places
 pub mod Inside
 pub mod Changes

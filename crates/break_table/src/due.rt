@@ -1,12 +1,14 @@
 //! Which breakpoints count and stop at an arrival.
 
-ghost use Rattle.std.specs.Prelude.{◌≡◌, map};
+ghost use Rattle.std.specs.Prelude.{◌≡◌, length, map};
 ghost use Rattle.cond_expr.specs.Condition.{tree_of};
 ghost use Rattle.cond_expr.specs.Value.{value_of};
 ghost use Rattle.break_table.specs.Entry.{condition_of, entry_of};
 ghost use Rattle.break_table.specs.Arrival.{counts, due_of, error_of, fits, is_for, is_met, stops, value_error};
+ghost use Rattle.break_table.specs.Places.{picked, AreInside};
 
 use crate::entry::BreakEntry;
+use crate::places::{Place, entry_at};
 use cond_expr::{Expr, Value, value};
 use dbg_traits::View;
 
@@ -92,26 +94,28 @@ pub fn stops<V: View>(entry: &BreakEntry, hart: u32, view: &V) -> bool
     fits(entry, hart, view.reg(32)) && entry.ignore == 0 && is_met(entry, view)
 }
 
-/// What entries do at an arrival.
-pub fn due_among<V: View>(entries: &[BreakEntry], hart: u32, view: &V) -> Due
-    ensures { result ≡ due_of hart (V.registers view.now) (V.bytes view.now) (map entry_of entries.now) }
+/// What the entries at places do at an arrival.
+pub fn due_among<V: View>(entries: &[BreakEntry], places: &[Place], hart: u32, view: &V) -> Due
+    requires { AreInside (length entries.now) places.now }
+    ensures { result ≡ due_of hart (V.registers view.now) (V.bytes view.now) (picked (map entry_of entries.now) places.now) }
 {
-    let [first, rest @ ..] = entries else {
+    let [first, rest @ ..] = places else {
         return NOTHING;
     };
-    let due = due_among(rest, hart, view);
-    if counts(first, hart, view.reg(32)) {
+    let due = due_among(entries, rest, hart, view);
+    let entry = entry_at(entries, first);
+    if counts(entry, hart, view.reg(32)) {
         return Due {
             counts: true,
             ..due
         };
     }
-    if !stops(first, hart, view) || due.stop.is_some_and(|least| least < first.number) {
+    if !stops(entry, hart, view) || due.stop.is_some_and(|least| least < entry.number) {
         return due;
     }
     Due {
-        stop: Some(first.number),
-        error: error_of(first, view),
+        stop: Some(entry.number),
+        error: error_of(entry, view),
         ..due
     }
 }

@@ -3,12 +3,14 @@
 ghost use Rattle.std.specs.Prelude.{◌≡◌, ◌<◌, false, length, map, slice_get, Some, MatchResult};
 ghost use Rattle.std.specs.List.{list_any};
 ghost use Rattle.break_table.specs.Entry.{entry_of};
-ghost use Rattle.break_table.specs.Table.{has_number, is_thread, is_wait, stands_at};
+ghost use Rattle.break_table.specs.Table.{has_number, is_thread, is_wait, stands, stands_at};
 ghost use Rattle.std.specs.Option.{option_map};
 ghost use Rattle.break_table.specs.declared.fault.BreakFault.TheVariants.{NoNumber};
+ghost use Rattle.break_table.specs.Places.{picked, AreInside};
 
 use crate::entry::BreakEntry;
 use crate::fault::BreakFault;
+use crate::places::{Place, entry_at};
 
 /// The place of the entry of a number.
 pub fn place_of(entries: &[BreakEntry], number: u32) -> Result<usize, BreakFault>
@@ -38,11 +40,15 @@ fn stands_at(entry: &BreakEntry, addr: u32) -> bool
     entry.enabled && entry.address == addr
 }
 
-/// Whether an enabled entry stands at an address.
-pub fn stands_among(entries: &[BreakEntry], addr: u32) -> bool
-    ensures { result ≡ list_any (λ e. stands_at addr (entry_of e)) entries.now }
+/// Whether an enabled entry at places stands at an address.
+pub fn stands_among(entries: &[BreakEntry], places: &[Place], addr: u32) -> bool
+    requires { AreInside (length entries.now) places.now }
+    ensures { result ≡ stands addr (picked (map entry_of entries.now) places.now) }
 {
-    entries.iter().any(|entry| stands_at(entry, addr))
+    let [first, rest @ ..] = places else {
+        return false;
+    };
+    stands_at(entry_at(entries, first), addr) || stands_among(entries, rest, addr)
 }
 
 /// Whether a hart waits at an address.

@@ -8,7 +8,7 @@ mod entry;
 mod fault;
 mod finding;
 mod location;
-mod marks;
+mod places;
 mod settle;
 mod table;
 

@@ -1,20 +1,20 @@
 //! The table of breakpoints.
 
-ghost use Rattle.std.specs.Prelude.{◌≡◌, ◌+◌, ◌-◌, ◌^◌, ◌<◌, ℕ, true, false, map, replicate, slice_get, IfOk, OnOk, OnErr, Some, None};
+ghost use Rattle.std.specs.Prelude.{◌≡◌, ◌+◌, ◌-◌, ◌^◌, ◌<◌, ℕ, true, false, filter, map, replicate, slice_get, IfOk, OnOk, OnErr, Some, None};
 ghost use Rattle.std.specs.Option.{option_map};
 ghost use Rattle.break_table.specs.Entry.{asked_of, condition_of, entry_of};
-ghost use Rattle.break_table.specs.Arrival.{due_of, settled};
+ghost use Rattle.break_table.specs.Arrival.{due_of, settled, stays};
 ghost use Rattle.break_table.specs.Text.{is_instruction, is_place};
 ghost use Rattle.break_table.specs.Table.{changed, deleted, drawn, first_table, insert_fault, inserted, missing, stands, waits, with_condition, with_enabled, with_ignore, with_wait, Answers, IsRising};
 
 use crate::bounds::{TextBounds, is_place, text_bounds};
 use crate::change::{Change, change_entry, remove};
-use crate::due::{Due, NOTHING, due_among};
+use crate::due::{Due, due_among};
 use crate::entry::{BreakEntry, Spec};
 use crate::fault::BreakFault;
 use crate::finding::{has_thread, stands_among, waits_among};
-use crate::marks::{PLACES, is_marked, mark, mark_all};
-use crate::settle::settle;
+use crate::places::{Place, add_place, place_all, run_at};
+use crate::settle::{retain_staying, settle_each, some_leaves};
 use cond_expr::Expr;
 use dbg_traits::{NoMemory, View};
 use elf32_read::Image;
@@ -31,7 +31,8 @@ const MOST: usize = 128;
 #[derive(Drop)]
 pub struct BreakTable {
     entries: Vec<BreakEntry>,
-    marks: Vec<bool>,
+    /// The place of each entry, sorted by address.
+    places: Vec<Place>,
     given: u32,
     text: Vec<TextBounds>,
     waits: Vec<Option<u32>>,
@@ -70,7 +71,7 @@ impl BreakTable {
     {
         Ok(BreakTable {
             entries: Vec::with_capacity(alloc, MOST)?,
-            marks: vec![in alloc; false; PLACES]?,
+            places: Vec::with_capacity(alloc, MOST)?,
             given: 0,
             text: text_bounds(alloc, image)?,
             waits: no_waits(alloc, harts as usize)?,
@@ -103,7 +104,11 @@ impl BreakTable {
         }
         self.given += 1;
         let number = self.given;
-        mark(&mut self.marks, spec.address);
+        let place = Place {
+            address: spec.address,
+            index: self.entries.len(),
+        };
+        add_place(&mut self.places, place);
         let _ = self.entries.push(BreakEntry::new(number, spec));
         Ok(number)
     }
@@ -115,7 +120,7 @@ impl BreakTable {
         ensures refused { OnErr result (self.new ≡ self.old) }
     {
         remove(&mut self.entries, number)?;
-        mark_all(&mut self.marks, &self.entries);
+        place_all(&mut self.places, &self.entries);
         Ok(())
     }
 
@@ -165,28 +170,47 @@ impl BreakTable {
     pub fn stands(&self, addr: u32) -> bool
         ensures { result ≡ stands addr self.now.entries }
     {
-        is_marked(&self.marks, addr) && stands_among(&self.entries, addr)
+        stands_among(&self.entries, run_at(&self.places, addr), addr)
     }
 
     /// What the entries do at an arrival of a hart, counted from 0, by what it sees.
     pub fn due<V: View>(&self, hart: u32, view: &V) -> Due
         ensures { result ≡ due_of hart (V.registers view.now) (V.bytes view.now) self.now.entries }
     {
-        if !is_marked(&self.marks, view.reg(32)) {
-            return NOTHING;
-        }
-        due_among(&self.entries, hart, view)
+        due_among(
+            &self.entries,
+            run_at(&self.places, view.reg(32)),
+            hart,
+            view,
+        )
     }
 
     /// Makes the changes of a due arrival of a hart: counts it, and deletes the temporary entries that stop.
     pub fn settle_arrival<V: View>(&mut self, hart: u32, view: &V)
         ensures { self.new ≡ record self.old { entries = settled hart (V.registers view.now) (V.bytes view.now) self.old.entries } }
     {
-        if !is_marked(&self.marks, view.reg(32)) {
-            return;
+        self.drop_leaving(hart, view);
+        settle_each(
+            &mut self.entries,
+            run_at(&self.places, view.reg(32)),
+            hart,
+            view,
+        );
+    }
+
+    /// Deletes the temporary entries that stop.
+    fn drop_leaving<V: View>(&mut self, hart: u32, view: &V)
+        ensures { self.new ≡ record self.old { entries = filter (stays hart (V.registers view.now) (V.bytes view.now)) self.old.entries } }
+    {
+        if some_leaves(
+            &self.entries,
+            run_at(&self.places, view.reg(32)),
+            hart,
+            view,
+        ) {
+            retain_staying(&mut self.entries, hart, view);
+            place_all(&mut self.places, &self.entries);
         }
-        settle(&mut self.entries, hart, view);
-        mark_all(&mut self.marks, &self.entries);
     }
 
     /// The next number, for something else than a breakpoint.

@@ -41,6 +41,27 @@ fn program(alloc: Global) -> Result<Image, Fail> {
     Ok(read_image(alloc, &hex::decode(alloc, BY_LD)?)?)
 }
 
+/// What makes the text of that file 128 words long: bytes of its headers, and what they become.
+const LONG_TEXT: [(usize, u8); 7] = [
+    (0x64, 0xB0),
+    (0x65, 0x04),
+    (0x68, 0xB0),
+    (0x69, 0x04),
+    (0x74, 0),
+    (0x384, 0),
+    (0x385, 0x02),
+];
+
+fn long_program(alloc: Global) -> Result<Image, Fail> {
+    let mut file = hex::decode(alloc, BY_LD)?;
+    for (place, value) in LONG_TEXT {
+        if let Some(byte) = file.get_mut(place) {
+            *byte = value;
+        }
+    }
+    Ok(read_image(alloc, &file)?)
+}
+
 /// A hart at an address. Each other register holds its number, and no byte is mapped.
 #[derive(Clone, Copy)]
 struct At(u32);
@@ -196,8 +217,10 @@ fn the_129th_entry_and_each_fault_are_refused(rt: HostRuntime) -> Result<(), Fai
         let spec = asked(address, ' ', 0, None, thread, Vec::new(alloc));
         assert_eq!(rt; insert(&rt, &mut table, spec), Err(fault));
     }
+    assert_eq!(rt; table.due(0, &At(0x10094)).stop, Some(1));
     assert_eq!(rt; table.disable(128), Ok(()));
     assert_eq!(rt; table.delete(1), Ok(()));
+    assert_eq!(rt; table.due(0, &At(0x10094)).stop, Some(2));
     for (thread, answer) in [
         (Some(0), Err(BreakFault::Thread)),
         (Some(3), Err(BreakFault::Thread)),
@@ -206,6 +229,61 @@ fn the_129th_entry_and_each_fault_are_refused(rt: HostRuntime) -> Result<(), Fai
     ] {
         let spec = asked(0x10094, ' ', 0, None, thread, Vec::new(alloc));
         assert_eq!(rt; insert(&rt, &mut table, spec), answer);
+    }
+    Ok(())
+}
+
+/// Entries of three addresses in no order, of which the third is temporary.
+const MIXED: [(u32, char); 6] = [
+    (0x100B0, ' '),
+    (0x10094, ' '),
+    (0x100B0, 't'),
+    (0x10098, ' '),
+    (0x100B0, ' '),
+    (0x10094, ' '),
+];
+
+#[test]
+fn entries_of_an_address_are_found_after_each_change(rt: HostRuntime) -> Result<(), Fail> {
+    let alloc = rt.alloc();
+    let mut table = BreakTable::new(alloc, &program(alloc)?, 1)?;
+    for (address, kind) in MIXED {
+        let spec = asked(address, kind, 0, None, None, Vec::new(alloc));
+        assert!(rt; insert(&rt, &mut table, spec).is_ok());
+    }
+    assert_eq!(rt; table.delete(4), Ok(()));
+    assert_eq!(rt; table.due(0, &At(0x100B0)).stop, Some(1));
+    assert_eq!(rt; table.delete(1), Ok(()));
+    assert_eq!(rt; table.due(0, &At(0x100B0)).stop, Some(3));
+    table.settle_arrival(0, &At(0x100B0));
+    for (pc, stop) in [
+        (0x10094, Some(2)),
+        (0x10098, None),
+        (0x100B0, Some(5)),
+        (0x100B4, None),
+    ] {
+        assert_eq!(rt; table.due(0, &At(pc)).stop, stop, "at {pc}");
+        assert_eq!(rt; table.stands(pc), stop.is_some(), "at {pc}");
+    }
+    for (entry, left) in table.entries().iter().zip([(2, 0), (5, 1), (6, 0)]) {
+        assert_eq!(rt; (entry.number, entry.times), left);
+    }
+    Ok(())
+}
+
+#[test]
+fn one_of_128_addresses_is_found(rt: HostRuntime) -> Result<(), Fail> {
+    let alloc = rt.alloc();
+    let mut table = BreakTable::new(alloc, &long_program(alloc)?, 1)?;
+    for back in 0..128 {
+        let spec = asked(0x10290 - 4 * back, ' ', 0, None, None, Vec::new(alloc));
+        assert!(rt; insert(&rt, &mut table, spec).is_ok());
+    }
+    for back in 0..128 {
+        assert_eq!(rt; table.due(0, &At(0x10290 - 4 * back)).stop, Some(back + 1));
+    }
+    for pc in [0x10090, 0x10294, 0] {
+        assert!(rt; !table.stands(pc), "at {pc}");
     }
     Ok(())
 }

@@ -62,7 +62,7 @@ zeros (suc n) zero = refl
 zeros (suc n) (suc i) = zeros n i
 
 -- no page has a frame
-pub nothing : (m n : ℕ) (p : List ℕ) (c : List Cell) → p ≡ replicate m 0 → c ≡ replicate n Absent → m ≡ 1048576 → n ≡ 4096 → Holds p c (λ q. None)
+pub nothing : (m n : ℕ) (p : List ℕ) (c : List Cell) → p ≡ replicate m 0 → c ≡ replicate n Absent → m ≡ 8388608 → n ≡ 512 → Holds p c (λ q. None)
 nothing m n p c e f em en = record {
   kept = record {
     size = ap length e ∙ length-replicate m 0 ∙ em;

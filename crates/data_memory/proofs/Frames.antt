@@ -23,28 +23,28 @@ at_page pages p n q l e = ap (slice_index (slice_set pages p n)) e ∙ get_or-se
 off_page : (pages : List ℕ) (p n q : ℕ) → q ≢ p → slice_index (slice_set pages p n) q ≡ slice_index pages q
 off_page pages p n q d = get_or-set_other pages p q n 0 d
 
-module _ (pages : List ℕ) (cells ys : List Cell) (p n : ℕ) (h : IsPaged pages cells) (l : p < 1048576) (free : slice_index pages p ≡ 0)
-    (e : n ≡ length cells / 4096) (more : length ys ≡ 4096) (blank : (j : ℕ) → cell ys j ≡ Absent) where
-  long : 4096 ≤ length cells
+module _ (pages : List ℕ) (cells ys : List Cell) (p n : ℕ) (h : IsPaged pages cells) (l : p < 8388608) (free : slice_index pages p ≡ 0)
+    (e : n ≡ length cells / 512) (more : length ys ≡ 512) (blank : (j : ℕ) → cell ys j ≡ Absent) where
+  long : 512 ≤ length cells
   long = omega (arith, h.framed 0 (omega arith))
 
   room : p < length pages
   room = omega (arith, h.size)
 
-  grown : length (cells ++ ys) ≡ length cells + 4096
+  grown : length (cells ++ ys) ≡ length cells + 512
   grown = length-append cells ys ∙ ap (λ k. length cells + k) more
 
   left : (i : ℕ) → i < length cells → cell (cells ++ ys) i ≡ cell cells i
   left i s = get_or_append_left cells ys Absent i s
 
-  framed : (q : ℕ) → q < 1048576 → slice_index (slice_set pages p n) q * 4096 + 4096 ≤ length (cells ++ ys)
+  framed : (q : ℕ) → q < 8388608 → slice_index (slice_set pages p n) q * 512 + 512 ≤ length (cells ++ ys)
   framed q s =
       elim (cases_eq q p) [
         | inl d ↦ omega (arith, at_page pages p n q room d, grown)
         | inr d ↦ omega (arith, off_page pages p n q d, grown, h.framed q s)
       ]
 
-  apart : (q r : ℕ) → q < 1048576 → r < 1048576 → slice_index (slice_set pages p n) q ≡ slice_index (slice_set pages p n) r
+  apart : (q r : ℕ) → q < 8388608 → r < 8388608 → slice_index (slice_set pages p n) q ≡ slice_index (slice_set pages p n) r
       → (slice_index (slice_set pages p n) q ≡ 0) ⊎ (q ≡ r)
   apart q r s t same =
       elim (cases_eq q p) [
@@ -67,17 +67,17 @@ module _ (pages : List ℕ) (cells ys : List Cell) (p n : ℕ) (h : IsPaged page
   each : (q : ℕ) → q < 2 ^ 32 → byte_at (slice_set pages p n) (cells ++ ys) q ≡ byte_at pages cells q
   unfolding spot
   each q s =
-      elim (cases_eq (q / 4096) p) [
+      elim (cases_eq (q / 512) p) [
         | inl d ↦
-            let place : slice_index (slice_set pages p n) (q / 4096) * 4096 + q % 4096 ≡ length cells + q % 4096 = omega (arith, at_page pages p n (q / 4096) room d, h.whole) in
-            let old : slice_index pages (q / 4096) * 4096 + q % 4096 ≡ q % 4096 = omega (arith, ap (slice_index pages) d) in
+            let place : slice_index (slice_set pages p n) (q / 512) * 512 + q % 512 ≡ length cells + q % 512 = omega (arith, at_page pages p n (q / 512) room d, h.whole) in
+            let old : slice_index pages (q / 512) * 512 + q % 512 ≡ q % 512 = omega (arith, ap (slice_index pages) d) in
             ap (λ i. byte_of (cell (cells ++ ys) i)) place
-            ∙ ap byte_of (get_or-append_right cells ys (length cells) (length cells + q % 4096) Absent refl (omega arith))
-            ∙ ap byte_of (blank (length cells + q % 4096 - length cells))
-            ∙ sym (ap (λ i. byte_of (cell cells i)) old ∙ ap byte_of (h.absent (q % 4096) (omega arith)))
+            ∙ ap byte_of (get_or-append_right cells ys (length cells) (length cells + q % 512) Absent refl (omega arith))
+            ∙ ap byte_of (blank (length cells + q % 512 - length cells))
+            ∙ sym (ap (λ i. byte_of (cell cells i)) old ∙ ap byte_of (h.absent (q % 512) (omega arith)))
         | inr d ↦
-            ap (λ f. byte_of (cell (cells ++ ys) (f * 4096 + q % 4096))) (off_page pages p n (q / 4096) d)
-            ∙ ap byte_of (left (slice_index pages (q / 4096) * 4096 + q % 4096) (omega (arith, h.framed (q / 4096) (omega arith))))
+            ap (λ f. byte_of (cell (cells ++ ys) (f * 512 + q % 512))) (off_page pages p n (q / 512) d)
+            ∙ ap byte_of (left (slice_index pages (q / 512) * 512 + q % 512) (omega (arith, h.framed (q / 512) (omega arith))))
       ]
 
   pub framed_holds : Holds (slice_set pages p n) (cells ++ ys) (byte_at pages cells)
@@ -98,8 +98,8 @@ all_absent (suc n) zero = refl
 all_absent (suc n) (suc j) = all_absent n j
 
 -- a cell is written in a frame that one page has
-module _ (pages : List ℕ) (cells : List Cell) (addr : ℕ) (b : Cell) (h : IsPaged pages cells) (n : slice_index pages (addr / 4096) ≢ 0) (l : addr < 2 ^ 32) where
-  above : 4096 ≤ spot pages addr
+module _ (pages : List ℕ) (cells : List Cell) (addr : ℕ) (b : Cell) (h : IsPaged pages cells) (n : slice_index pages (addr / 512) ≢ 0) (l : addr < 2 ^ 32) where
+  above : 512 ≤ spot pages addr
   unfolding spot
   above = omega (arith, n)
 
@@ -109,8 +109,8 @@ module _ (pages : List ℕ) (cells : List Cell) (addr : ℕ) (b : Cell) (h : IsP
   no_other : (q : ℕ) → q < 2 ^ 32 → q ≢ addr → spot pages q ≢ spot pages addr
   unfolding spot
   no_other q s d e =
-      let frames : slice_index pages (q / 4096) ≡ slice_index pages (addr / 4096) = omega arith in
-      elim (h.apart (q / 4096) (addr / 4096) (omega arith) (omega arith) frames) [
+      let frames : slice_index pages (q / 512) ≡ slice_index pages (addr / 512) = omega arith in
+      elim (h.apart (q / 512) (addr / 512) (omega arith) (omega arith) frames) [
         | inl z ↦ n (sym frames ∙ z)
         | inr p ↦ d (omega arith)
       ]
@@ -137,7 +137,7 @@ module _ (pages : List ℕ) (cells : List Cell) (addr : ℕ) (b : Cell) (h : IsP
       ]
 
 -- what was held, with one byte changed
-pub placed : (pages : List ℕ) (cells : List Cell) (addr : ℕ) (b : Cell) (f : ℕ → Option Byte) → Holds pages cells f → slice_index pages (addr / 4096) ≢ 0 → addr < 2 ^ 32
+pub placed : (pages : List ℕ) (cells : List Cell) (addr : ℕ) (b : Cell) (f : ℕ → Option Byte) → Holds pages cells f → slice_index pages (addr / 512) ≢ 0 → addr < 2 ^ 32
     → Holds pages (slice_set cells (spot pages addr) b) (changed f addr (byte_of b))
 placed pages cells addr b f h n l = record {
   kept = placed_kept pages cells addr b h.kept n l;

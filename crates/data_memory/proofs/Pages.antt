@@ -11,21 +11,21 @@ use Rattle.data_memory.specs.Paged.{byte_of, cell, spot, byte_at, paged, IsPaged
 use Rattle.data_memory.proofs.Maps.{get_below, insert_below}
 
 -- an aligned number lies within one page
-pub within_page : (k n j : ℕ) → IsLen n → k % n ≡ 0 → j < n → k % 4096 + j < 4096
+pub within_page : (k n j : ℕ) → IsLen n → k % n ≡ 0 → j < n → k % 512 + j < 512
 within_page k n j (inl e) a h = omega arith
 within_page k n j (inr (inl e)) a h = let b : k % 2 ≡ 0 = subst (λ m. k % m ≡ 0) e a in omega arith
 within_page k n j (inr (inr e)) a h = let b : k % 4 ≡ 0 = subst (λ m. k % m ≡ 0) e a in omega arith
 
-pub spot_along : (pages : List ℕ) (k j : ℕ) → k % 4096 + j < 4096 → spot pages (k + j) ≡ spot pages k + j
+pub spot_along : (pages : List ℕ) (k j : ℕ) → k % 512 + j < 512 → spot pages (k + j) ≡ spot pages k + j
 unfolding spot
 spot_along pages k j h =
-    let page : (k + j) / 4096 ≡ k / 4096 = omega arith in
-    let place : (k + j) % 4096 ≡ k % 4096 + j = omega arith in
-    ap (λ p. slice_index pages p * 4096 + (k + j) % 4096) page ∙ omega arith
+    let page : (k + j) / 512 ≡ k / 512 = omega arith in
+    let place : (k + j) % 512 ≡ k % 512 + j = omega arith in
+    ap (λ p. slice_index pages p * 512 + (k + j) % 512) page ∙ omega arith
 
-pub spot_within : (pages : List ℕ) (cells : List Cell) (k j : ℕ) → IsPaged pages cells → k < 2 ^ 32 → k % 4096 + j < 4096 → spot pages k + j < length cells
+pub spot_within : (pages : List ℕ) (cells : List Cell) (k j : ℕ) → IsPaged pages cells → k < 2 ^ 32 → k % 512 + j < 512 → spot pages k + j < length cells
 unfolding spot
-spot_within pages cells k j h l w = omega (arith, h.framed (k / 4096) (omega arith))
+spot_within pages cells k j h l w = omega (arith, h.framed (k / 512) (omega arith))
 
 -- the cells from place i on are those of the addresses from k on
 pub record Along (pages : List ℕ) (k i n : ℕ) : Type 0 where
@@ -66,9 +66,9 @@ pub one_address : (pages : List ℕ) (cells : List Cell) (a b : ℕ) → IsPaged
     → (cell cells (spot pages b) ≡ Absent → ⊥) → a ≡ b
 unfolding spot
 one_address pages cells a b h la lb e n =
-    let frames : slice_index pages (a / 4096) ≡ slice_index pages (b / 4096) = omega arith in
-    elim (h.apart (a / 4096) (b / 4096) (omega arith) (omega arith) frames) [
-      | inl z ↦ absurd (n (h.absent (slice_index pages (b / 4096) * 4096 + b % 4096) (omega arith)))
+    let frames : slice_index pages (a / 512) ≡ slice_index pages (b / 512) = omega arith in
+    elim (h.apart (a / 512) (b / 512) (omega arith) (omega arith) frames) [
+      | inl z ↦ absurd (n (h.absent (slice_index pages (b / 512) * 512 + b % 512) (omega arith)))
       | inr s ↦ omega arith
     ]
 

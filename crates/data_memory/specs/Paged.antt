@@ -17,7 +17,7 @@ cell cells i = slice_index_or cells i Absent
 
 -- where the cell of an address is: in the frame that its page has
 unfoldable pub spot : List ℕ → ℕ → ℕ
-spot pages addr = slice_index pages (addr / 4096) * 4096 + addr % 4096
+spot pages addr = slice_index pages (addr / 512) * 512 + addr % 512
 
 abbrev pub byte_at : List ℕ → List Cell → ℕ → Option Byte
 byte_at pages cells addr = byte_of (cell cells (spot pages addr))
@@ -27,11 +27,11 @@ paged pages cells = memory_below (byte_at pages cells) (2 ^ 32)
 
 -- each page has a frame, and only the first frame, of absent cells, is that of several pages
 pub record IsPaged (pages : List ℕ) (cells : List Cell) : Type 0 where
-  pub size : length pages ≡ 1048576
-  pub whole : length cells % 4096 ≡ 0
-  pub framed : (p : ℕ) → p < 1048576 → slice_index pages p * 4096 + 4096 ≤ length cells
-  pub absent : (i : ℕ) → i < 4096 → cell cells i ≡ Absent
-  pub apart : (p q : ℕ) → p < 1048576 → q < 1048576 → slice_index pages p ≡ slice_index pages q → (slice_index pages p ≡ 0) ⊎ (p ≡ q)
+  pub size : length pages ≡ 8388608
+  pub whole : length cells % 512 ≡ 0
+  pub framed : (p : ℕ) → p < 8388608 → slice_index pages p * 512 + 512 ≤ length cells
+  pub absent : (i : ℕ) → i < 512 → cell cells i ≡ Absent
+  pub apart : (p q : ℕ) → p < 8388608 → q < 8388608 → slice_index pages p ≡ slice_index pages q → (slice_index pages p ≡ 0) ⊎ (p ≡ q)
 
 -- the number that n cells from place i spell, lowest first, where none is absent
 abbrev pub spelled : List Cell → ℕ → ℕ → Option ℕ

@@ -5,15 +5,15 @@ ghost use Rattle.data_memory.specs.Paged.{IsPaged, Holds, byte_of, byte_at, chan
 use crate::paged::{Cell, spot};
 use std::alloc::AllocError;
 
-const PAGE: usize = 4096;
+const PAGE: usize = 512;
 
 /// Gives the page of the address a frame, if it has none.
 fn frame(pages: &mut [u32], cells: &mut Vec<Cell>, addr: u32) -> Result<(), AllocError>
     requires { IsPaged pages.old cells.old.items }
     ensures same { OnOk result (Holds pages.new cells.new.items (byte_at pages.old cells.old.items)) }
-    ensures framed { OnOk result (slice_index pages.new (addr / 4096) ≢ 0) }
+    ensures framed { OnOk result (slice_index pages.new (addr / 512) ≢ 0) }
 {
-    let page = (addr / 4096) as usize;
+    let page = (addr / 512) as usize;
     if pages[page] == 0 {
         let Ok(number) = u32::try_from(cells.len() / PAGE) else {
             return Err(AllocError);

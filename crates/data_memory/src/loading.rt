@@ -19,9 +19,9 @@ const STACK_STEP: u32 = 0x0002_0000;
 const STACK_SIZE: u32 = 0x0001_0000;
 
 /// The number of pages, and the bytes in each.
-const PAGES: usize = 0x0010_0000;
+const PAGES: usize = 0x0080_0000;
 
-const PAGE: usize = 4096;
+const PAGE: usize = 512;
 
 /// Pages without frames of their own.
 pub fn no_pages(alloc: Global) -> Result<(Vec<u32>, Vec<Cell>), AllocError>

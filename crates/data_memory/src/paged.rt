@@ -46,10 +46,10 @@ pub fn is_aligned(addr: u32, len: u32) -> bool
 
 #[tactic(auto, unfolding(crate::specs::Paged::spot))]
 pub fn spot(pages: &[u32], addr: u32) -> usize
-    requires { length pages.now ≡ 1048576 }
+    requires { length pages.now ≡ 8388608 }
     ensures { result ≡ spot pages.now addr }
 {
-    pages[(addr / 4096) as usize] as usize * 4096 + (addr % 4096) as usize
+    pages[(addr / 512) as usize] as usize * 512 + (addr % 512) as usize
 }
 
 pub fn number(cells: &[Cell], at: usize, len: u32) -> Option<u32>

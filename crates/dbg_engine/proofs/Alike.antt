@@ -17,6 +17,7 @@ use Rattle.dbg_model.specs.declared.entry.Mode.{Mode}
 use Rattle.dbg_model.specs.declared.entry.Mode.TheVariants as mode
 use Rattle.dbg_model.specs.declared.reply.Content.{Content}
 use Rattle.dbg_model.specs.declared.reply.Content.TheVariants as content
+use Rattle.dbg_model.specs.declared.reply.Refused.TheVariants as refused
 use Rattle.dbg_model.specs.State.{Hart}
 use Rattle.dbg_model.specs.Reply.{Outcome, answered, refusing, thread_hart, thread_or, when_stopped, of_stopped, when_live, of_live, shown_by, shown_thread, live_threads, stopped_by, stopped_threads, running_by, running_threads, running, continued, one_shown, threads_of, selecting, thread_number, registers_of, evaluated, unknown_thread, for_thread, inserted_at, inserted_by, interrupted_by, interrupted_at, interrupted, changing, interrupts, content_of, outcome_at, fault_outcome}
 use Rattle.engine_facts.specs.declared.mind.Activity.{Activity}
@@ -28,8 +29,8 @@ use Rattle.dbg_engine.specs.Answering.{own_hart, own_harts}
 
 -- two harts that are at the same, and the same where they are stopped
 pub record HartAlike (x y : Hart) : Type 0 where
-  pub mode : x.mode ≡ y.mode
-  pub stopped : x.mode ≡ mode.Stopped → x ≡ y
+  pub alike : x.mode ≡ y.mode
+  pub same : x.mode ≡ mode.Stopped → x ≡ y
 
 abbrev pub Alike : List Hart → List Hart → Type 0
 Alike [] [] = Unit {0}
@@ -51,7 +52,7 @@ hart_by p c x activity.Exited is e = cc
 pub own_alike : (p : Program) (cs : List Core) (xs : List Mind) → Alike (own_harts cs xs) (seen_harts p cs xs)
 own_alike p [] xs = tt
 own_alike p (c ∷ cs) [] = tt
-own_alike p (c ∷ cs) (x ∷ xs) = (record { mode = refl; stopped = λ e. hart_by p c x x.activity refl e }, own_alike p cs xs)
+own_alike p (c ∷ cs) (x ∷ xs) = (record { alike = refl; same = λ e. hart_by p c x x.activity refl e }, own_alike p cs xs)
 
 get_alike : (xs ys : List Hart) (h : ℕ) → Alike xs ys → FoundAlike (slice_get xs h) (slice_get ys h)
 get_alike [] [] h a = tt
@@ -74,7 +75,7 @@ stopped_alike : (t : ℕ) (f : Hart → Content) (a b : Option Hart) → FoundAl
 stopped_alike t f None None k = refl
 stopped_alike t f None (Some y) k = absurd k
 stopped_alike t f (Some x) None k = absurd k
-stopped_alike t f (Some x) (Some y) k = when_stopped_alike t f x y x.mode k.stopped ∙ ap (when_stopped t f y) k.mode
+stopped_alike t f (Some x) (Some y) k = when_stopped_alike t f x y x.mode k.same ∙ ap (when_stopped t f y) k.alike
 
 when_live_alike : (t : ℕ) (f : Hart → Content) (x y : Hart) (m : Mode) → f x ≡ f y → when_live t f x m ≡ when_live t f y m
 when_live_alike t f x y mode.Stopped same = same
@@ -86,7 +87,7 @@ live_alike : (t : ℕ) (f : Hart → Content) (a b : Option Hart) → ((x y : Ha
 live_alike t f None None same k = refl
 live_alike t f None (Some y) same k = absurd k
 live_alike t f (Some x) None same k = absurd k
-live_alike t f (Some x) (Some y) same k = when_live_alike t f x y x.mode (same x y k) ∙ ap (when_live t f y) k.mode
+live_alike t f (Some x) (Some y) same k = when_live_alike t f x y x.mode (same x y k) ∙ ap (when_live t f y) k.alike
 
 shown_alike : (t : ℕ) (x y : Hart) (m : Mode) → (m ≡ mode.Stopped → x ≡ y) → shown_by t x m ≡ shown_by t y m
 shown_alike t x y mode.Stopped same = ap (λ z. shown_by t z mode.Stopped) (same refl)
@@ -95,7 +96,7 @@ shown_alike t x y (mode.Leaving code) same = refl
 shown_alike t x y mode.Exited same = refl
 
 one_alike : (t : ℕ) (x y : Hart) → HartAlike x y → shown_thread t x ≡ shown_thread t y
-one_alike t x y k = shown_alike t x y x.mode k.stopped ∙ ap (shown_by t y) k.mode
+one_alike t x y k = shown_alike t x y x.mode k.same ∙ ap (shown_by t y) k.alike
 
 all_live_alike : (t : ℕ) (xs ys : List Hart) → Alike xs ys → live_threads t xs ≡ live_threads t ys
 all_live_alike t [] [] a = refl
@@ -107,13 +108,13 @@ all_stopped_alike : (t : ℕ) (xs ys : List Hart) → Alike xs ys → stopped_th
 all_stopped_alike t [] [] a = refl
 all_stopped_alike t [] (y ∷ ys) a = absurd a
 all_stopped_alike t (x ∷ xs) [] a = absurd a
-all_stopped_alike t (x ∷ xs) (y ∷ ys) a = ap (λ m. stopped_by t m ++ stopped_threads (t + 1) xs) a.0.mode ∙ ap (λ l. stopped_by t y.mode ++ l) (all_stopped_alike (t + 1) xs ys a.1)
+all_stopped_alike t (x ∷ xs) (y ∷ ys) a = ap (λ m. stopped_by t m ++ stopped_threads (t + 1) xs) a.0.alike ∙ ap (λ l. stopped_by t y.mode ++ l) (all_stopped_alike (t + 1) xs ys a.1)
 
 all_running_alike : (t : ℕ) (xs ys : List Hart) → Alike xs ys → running_threads t xs ≡ running_threads t ys
 all_running_alike t [] [] a = refl
 all_running_alike t [] (y ∷ ys) a = absurd a
 all_running_alike t (x ∷ xs) [] a = absurd a
-all_running_alike t (x ∷ xs) (y ∷ ys) a = ap (λ m. running_by t m ++ running_threads (t + 1) xs) a.0.mode ∙ ap (λ l. running_by t y.mode ++ l) (all_running_alike (t + 1) xs ys a.1)
+all_running_alike t (x ∷ xs) (y ∷ ys) a = ap (λ m. running_by t m ++ running_threads (t + 1) xs) a.0.alike ∙ ap (λ l. running_by t y.mode ++ l) (all_running_alike (t + 1) xs ys a.1)
 
 continued_alike : (xs ys : List Hart) (selected : ℕ) (t : Target) → Alike xs ys → continued xs selected t ≡ continued ys selected t
 continued_alike xs ys selected target.Selected a = stopped_alike selected (running selected) (thread_hart xs selected) (thread_hart ys selected) (thread_alike xs ys selected a)
@@ -129,7 +130,7 @@ interrupted_one : (t : ℕ) (a b : Option Hart) → FoundAlike a b → interrupt
 interrupted_one t None None k = refl
 interrupted_one t None (Some y) k = absurd k
 interrupted_one t (Some x) None k = absurd k
-interrupted_one t (Some x) (Some y) k = ap (interrupted_by t) k.mode
+interrupted_one t (Some x) (Some y) k = ap (interrupted_by t) k.alike
 
 interrupted_alike : (xs ys : List Hart) (selected : ℕ) (t : Target) → Alike xs ys → interrupted xs selected t ≡ interrupted ys selected t
 interrupted_alike xs ys selected target.Selected a = interrupted_one selected (thread_hart xs selected) (thread_hart ys selected) (thread_alike xs ys selected a)
@@ -220,4 +221,4 @@ fault_alike xs ys (fault.Undefined name) a = refl
 fault_alike xs ys (fault.Parameters name) a = refl
 fault_alike xs ys (fault.Number word) a = refl
 fault_alike xs ys fault.Setting a = refl
-fault_alike xs ys (fault.Location word thread) a = ap (λ u. for_thread u (refusing _)) (unknown_alike xs ys thread a)
+fault_alike xs ys (fault.Location word thread) a = ap (λ u. for_thread u (refusing (content.Refused (refused.Faulty (fault.Location word thread))))) (unknown_alike xs ys thread a)

@@ -98,10 +98,13 @@ abbrev after_line : Run → List ℕ → Change → Words → ℕ → Run
 after_line r line c t spare =
     lined r (Did line) (minds_after r.minds c) (selected_after r.selected c) (displaced_after r.displaced c) t (breaks_after r.breaks r.given c) (given_after r.given c) spare
 
+pending_as : (d : Displaced) (q : Phase) (off lifted : Bool) → is_off d ≡ off → is_lifted q ≡ lifted → pending d q ≡ cond (not off && lifted) 1 0
+pending_as d q off lifted e f = ap (λ b. cond (not b && is_lifted q) 1 0) e ∙ ap (λ b. cond (not off && b) 1 0) f
+
 pending_by : (d : Displaced) (q : Phase) (off lifted : Bool) → is_off d ≡ off → is_lifted q ≡ lifted → pending d q ≤ cond off 0 1
-pending_by d q true lifted e f = rw (e, f) (omega arith)
-pending_by d q false true e f = rw (e, f) (omega arith)
-pending_by d q false false e f = rw (e, f) (omega arith)
+pending_by d q true lifted e f = let p : pending d q ≡ cond (not true && lifted) 1 0 = pending_as d q true lifted e f in omega (arith, p)
+pending_by d q false true e f = let p : pending d q ≡ cond (not false && true) 1 0 = pending_as d q false true e f in omega (arith, p)
+pending_by d q false false e f = let p : pending d q ≡ cond (not false && false) 1 0 = pending_as d q false false e f in omega (arith, p)
 
 sets_by_more : (d value : Displaced) (q : Phase) (sets : ℕ) (off : Bool) → is_off value ≡ off → pending value q + sets ≤ pending d q + cond off sets (sets + 1)
 sets_by_more d value q sets true e = let l = pending_by value q true (is_lifted q) e refl in omega (arith, l)

@@ -1,6 +1,7 @@
 -- An instruction of a running hart keeps what the type of an engine keeps.
-use Rattle.std.proofs.Common.{◌≡◌, ℕ, ◌+◌, ◌++◌, Bool, true, false, cond, List, [], ◌∷◌, length, refl, sym, ap, ◌∙◌, subst, arith, length-set}
+use Rattle.std.proofs.Common.{◌≡◌, ◌<◌, ◌≤◌, ℕ, ◌+◌, ◌++◌, Bool, true, false, cond, List, [], ◌∷◌, length, refl, sym, ap, ◌∙◌, subst, arith, length-set}
 use Rattle.std.specs.Prelude.{Option, Some, None, map, slice_get, slice_set}
+use Rattle.std.proofs.lemmas.Option.{slice_get_within}
 use Rattle.rv_exec.specs.declared.effect.Cause.{Cause}
 use Rattle.rv_exec.specs.declared.effect.Stepped.{Stepped}
 use Rattle.rv_exec.specs.declared.effect.Stepped.TheVariants as stepped
@@ -31,17 +32,18 @@ use Rattle.engine_facts.specs.declared.mind.Mind.{Mind}
 use Rattle.engine_facts.specs.Minds.{after_step, is_before, is_copied, slot_of, entered_of, ran_mind, exited_mind, gone_mind, lefts_live}
 use Rattle.engine_facts.specs.Seen.{Run, seen, seen_hart, seen_regs, running_regs}
 use Rattle.engine_facts.specs.Facts.{Facts, Harts, Placed, Planted, other_holder}
-use Rattle.engine_facts.specs.Moves.{executed, departed}
-use Rattle.engine_facts.specs.Homing.{home_core, GoesHome, AllGoHome}
+use Rattle.engine_facts.specs.Moves.{HeldInText, executed, departed}
+use Rattle.engine_facts.specs.Homing.{IsSlotted, home_core, GoesHome, AllGoHome}
 use Rattle.engine_facts.proofs.Counting.{adds}
 use Rattle.engine_facts.proofs.Keeping.{Mover, hart_at}
-use Rattle.engine_facts.proofs.Holding.{core_at, released, unholds, own_seen, clear_stands}
-use Rattle.engine_facts.proofs.Homing.{slotted_by, home_is, home_counts, home_out, home_known, home_slots, home_rest, all_are_home, all_are_free, all_ready}
+use Rattle.engine_facts.proofs.Holding.{core_at, released, unholds, own_seen, clear_stands, held_text}
+use Rattle.engine_facts.proofs.Homing.{slotted_by, home_is, home_counts, home_out, home_known, home_slots, home_rest, all_are_home, all_are_free, all_ready, all_slotted}
 use Rattle.engine_facts.proofs.Bounding.{Small, small_at}
 use Rattle.engine_facts.proofs.Planting.{no_hit}
 use Rattle.engine_facts.proofs.Stepping.{after_regs, after_slot, executes, fact_of, gives_seen, one_seen, ran_harts}
 use Rattle.engine_facts.proofs.Exiting.{Departs, departs_alone, departs_all}
 use Rattle.engine_facts.proofs.Stopping.{may_by}
+use Rattle.dbg_engine.specs.declared.moving.Turned.TheVariants as turned
 use Rattle.dbg_engine.specs.Steps.{Parts, applied, turned_of}
 use Rattle.dbg_engine.specs.Homing.{ComesHome, HomedBy}
 use Rattle.dbg_engine.specs.Calls.{Of, Undue, Executes, Runs, Exits, TrapsAt}
@@ -352,3 +354,39 @@ applied_twice (stepped.AllExit code) h x p done =
     ap (λ xs. let ls = lefts_live code 0 xs in let q : Parts = record { journal = lengthened p.journal h ++ ls; minds = map gone_mind xs; retired = p.retired + 1; noted = p.noted + length ls } in q) (set_twice p.minds h (ran_mind x) (ran_mind x))
 applied_twice stepped.Hit h x p done = cc
 applied_twice (stepped.Trap cause) h x p done = cc
+
+pub turned_twice : (s : Stepped) (h : ℕ) (x : Mind) (xs : List Mind) → turned_of s h x (slice_set xs h (ran_mind x)) ≡ turned_of s h x xs
+turned_twice stepped.Ran h x xs = refl
+turned_twice (stepped.Wrote addr len) h x xs = refl
+turned_twice (stepped.HartExit code) h x xs = refl
+turned_twice (stepped.AllExit code) h x xs = ap (λ ys. turned.AllLeft code (length (lefts_live code 0 ys))) (set_twice xs h (ran_mind x) (ran_mind x))
+turned_twice stepped.Hit h x xs = refl
+turned_twice (stepped.Trap cause) h x xs = refl
+
+-- what the harts that leave need to come home
+pub record Prepared (r : Run) (h : ℕ) (x : Mind) (new : Patched) : Type 0 where
+  pub text : HeldInText new.text r.hold
+  pub few : length new.cores ≤ 16
+  pub harts : length (slice_set r.minds h (ran_mind x)) ≤ length new.cores
+  pub hart : h < length new.cores
+  pub slot : IsSlotted new h (after_step x.phase)
+  pub slots : (j : ℕ) (y : Mind) → slice_get (slice_set r.minds h (ran_mind x)) j ≡ Some y → IsSlotted new j y.phase
+
+pub prepared : (s : Stepped) (r : Run) (h : ℕ) (c : Core) (x : Mind) (new : Patched) → has_run s ≡ true → Ready r h c x → Small r → StepsTo s r.machine h c new → Prepared r h x new
+prepared s r h c x new d k small t =
+    let mid = stepped_to r h t.core t.memory in
+    let xs = slice_set r.minds h (ran_mind x) in
+    let hs = known s r h c x new d k t in
+    let slots = all_slotted r.opening.image mid xs r.hold hs in
+    let len : length xs ≡ length r.minds = length-set r.minds h (ran_mind x) in
+    let low : h < length r.minds = slice_get_within r.minds h x k.mover.mind in
+    let x_at : slice_get xs h ≡ Some (ran_mind x) = get-set_same r.minds h (ran_mind x) x k.mover.mind in
+    subst (Prepared r h x) (sym t.machine)
+    (record {
+      text = held_text r k.facts;
+      few = omega (arith, hs.len, len, small.harts);
+      harts = omega (arith, hs.len);
+      hart = omega (arith, hs.len, len, low);
+      slot = slots h (ran_mind x) x_at;
+      slots = slots;
+    })

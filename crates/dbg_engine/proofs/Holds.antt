@@ -1,6 +1,6 @@
 -- The other moves of a hart, as the code makes them, and the end of an engine.
 use Rattle.std.proofs.Common.{◌≡◌, ◌≢◌, ◌<◌, ◌≤◌, ℕ, zero, suc, ◌+◌, ◌%◌, ◌^◌, ◌++◌, Bool, true, false, cond, List, [], ◌∷◌, length, refl, sym, ap, ◌∙◌, subst, arith, length-set}
-use Rattle.std.specs.Prelude.{Option, Some, None, IsSome, slice_get, slice_index, slice_set, ◌==◌}
+use Rattle.std.specs.Prelude.{Option, Some, None, IsSome, is_some, slice_get, slice_index, slice_set, ◌==◌}
 use Rattle.std.specs.Option.{option_map}
 use Rattle.std.proofs.lemmas.Bool.Decides.{nat_tests}
 use Rattle.rv_exec.specs.declared.effect.Cause.{Cause}
@@ -16,7 +16,7 @@ use Rattle.step_over.specs.declared.phase.Phase.{Phase}
 use Rattle.step_over.specs.declared.phase.Phase.TheVariants as phase
 use Rattle.hart_machine.specs.declared.hart.Core.{Core}
 use Rattle.hart_machine.specs.Patched.{Patched}
-use Rattle.hart_machine.specs.Copying.{Enters, entered_core, with_core}
+use Rattle.hart_machine.specs.Copying.{Enters, entered_core, with_core, settled_regs}
 use Rattle.hart_machine.proofs.Copying.{slot_is_word}
 use Rattle.hart_machine.proofs.Places.{same_some}
 use Rattle.mi_commands.specs.declared.command.Displaced.{Displaced}
@@ -31,21 +31,22 @@ use Rattle.dbg_model.specs.Breaks.{nothing_due}
 use Rattle.dbg_model.specs.Views.{register, shown_byte}
 use Rattle.dbg_model.specs.State.{Hart, State, due, is_due, is_counted, is_off, arrived as after_arrival}
 use Rattle.dbg_model.specs.Lawful.{may_go}
+use Rattle.engine_facts.specs.declared.mind.Activity.{Activity}
 use Rattle.engine_facts.specs.declared.mind.Activity.TheVariants as activity
 use Rattle.engine_facts.specs.declared.mind.Hold.{Hold}
 use Rattle.engine_facts.specs.declared.mind.Mind.{Mind}
 use Rattle.engine_facts.specs.Minds.{is_before, slot_of, with_phase, first_mind, counted_mind}
-use Rattle.engine_facts.specs.Seen.{Run, seen, seen_hart, seen_regs, running_regs}
+use Rattle.engine_facts.specs.Seen.{Run, seen, seen_hart, seen_regs, running_regs, landed_regs}
 use Rattle.engine_facts.specs.Facts.{Facts, Planted, Retired, AreCopied, CopiedOver, pending, wanted, other_holder}
 use Rattle.engine_facts.specs.Moves.{Repatched, Released, HeldInText, Takes, AreHome}
 use Rattle.engine_facts.specs.Homing.{GoesHome, AllGoHome}
-use Rattle.engine_facts.proofs.Updating.{home_at}
-use Rattle.engine_facts.proofs.Holding.{core_at, released, planted_text, stands_text, clear_stands}
+use Rattle.engine_facts.proofs.Updating.{home_at, none_held}
+use Rattle.engine_facts.proofs.Holding.{core_at, released, planted_text, stands_text, clear_stands, own_seen, no_hold}
 use Rattle.engine_facts.proofs.Copying.{copies}
 use Rattle.engine_facts.proofs.Homing.{unwound, home_rest, all_are_home, all_are_free, all_ready}
 use Rattle.engine_facts.proofs.Exiting.{retired_home}
 use Rattle.engine_facts.proofs.Planting.{text_shown, shown_image}
-use Rattle.engine_facts.proofs.Stepping.{lifts}
+use Rattle.engine_facts.proofs.Stepping.{fact_of, lifts}
 use Rattle.engine_facts.proofs.Arriving.{undue, due_stands}
 use Rattle.engine_facts.proofs.Stopping.{halts_fault, halts_interrupt, halts_break, counts, may_by}
 use Rattle.dbg_engine.specs.Calls.{Of, DueIs, Undue, TrapsAt, AtPlanted, Rephases, Lifts, Copies, Halts, Interrupts, Counts, Closes}
@@ -397,7 +398,7 @@ due_text r h pc d x f at is due_is some =
     let k = core_at r h x f at in
     let here = of_hart r h k.0 x (λ y. y.regs.pc ≡ pc) k.1 is in
     let e = of_hart r h k.0 x (λ y. due r.opening.image (seen r) h y ≡ d) k.1 due_is in
-    let there : stands pc r.breaks ≡ true = sym (ap (λ a. stands a r.breaks) here) ∙ due_stands r.opening.image (seen r) h (seen_hart k.0 x) (ap is_due e ∙ some) in
+    let there : stands pc r.breaks ≡ true = sym (ap (λ a. stands a r.breaks) here) ∙ due_stands r.opening.image (seen r) h (seen_hart r.opening.image k.0 x) (ap is_due e ∙ some) in
     text_shown r.opening.image r.machine.text r.breaks r.hold pc f.planted (stands_text r.opening.image r.breaks pc f.texts there)
 
 -- at a word that isn't patched nothing is due for a hart that steps over nothing
@@ -412,3 +413,55 @@ clear r s h pc x same f at idle free is off =
     let stand : stands k.0.regs.pc s.breaks ≡ false = clear_stands s h k.0 x g k.1 free idle off' in
     let quiet : due image (seen s) h (seen_hart image k.0 x) ≡ nothing_due = undue image (seen s) h (seen_hart image k.0 x) (ap (λ a. stands a s.breaks) own ∙ stand) in
     λ y there. subst (λ (z : Hart). is_due (due image (seen s) h z) ≡ false) (same_hart s h k.0 x y k.1 there) (ap is_due quiet)
+
+-- ---- where a hart shows its pc
+
+unslotted_by : (q : Phase) → ((slot home : ℕ) → q ≡ phase.Copied slot home → ⊥) → ((slot home : ℕ) → q ≡ phase.Landed slot home → ⊥) → slot_of q ≡ None
+unslotted_by phase.Idle a b = refl
+unslotted_by (phase.Copied slot home) a b = absurd (a slot home refl)
+unslotted_by (phase.Landed slot home) a b = absurd (b slot home refl)
+unslotted_by (phase.Lifted home) a b = refl
+unslotted_by (phase.Ran home) a b = refl
+
+-- a hart without a slot shows its own
+pub pc_own : (p : Program) (c : Core) (x : Mind) (pc : ℕ) → ((slot home : ℕ) → x.phase ≡ phase.Copied slot home → ⊥) → ((slot home : ℕ) → x.phase ≡ phase.Landed slot home → ⊥) → pc ≡ c.regs.pc → (seen_hart p c x).regs.pc ≡ pc
+pc_own p c x pc a b e = ap (λ (r : Registers). r.pc) (own_seen p c.regs x.activity x.phase (unslotted_by x.phase a b)) ∙ sym e
+
+unrunning_by : (p : Program) (r : Registers) (a : Activity) (q : Phase) → (a ≡ activity.Running → ⊥) → seen_regs p r a q ≡ r
+unrunning_by p r activity.Stopped q n = refl
+unrunning_by p r activity.Running q n = absurd (n refl)
+unrunning_by p r activity.Exited q n = refl
+
+-- nor does one that doesn't run show another
+pub pc_unrunning : (p : Program) (c : Core) (x : Mind) (pc : ℕ) → (x.activity ≡ activity.Running → ⊥) → pc ≡ c.regs.pc → (seen_hart p c x).regs.pc ≡ pc
+pc_unrunning p c x pc n e = ap (λ (r : Registers). r.pc) (unrunning_by p c.regs x.activity x.phase n) ∙ sym e
+
+running_at : (p : Program) (c : Core) (x : Mind) (q : Phase) → x.activity ≡ activity.Running → x.phase ≡ q → (seen_hart p c x).regs ≡ running_regs p c.regs q
+running_at p c x q runs is = ap (λ a. seen_regs p c.regs a x.phase) runs ∙ ap (running_regs p c.regs) is
+
+-- one at a copy shows home
+pub pc_copied : (p : Program) (c : Core) (x : Mind) (slot home : ℕ) → x.activity ≡ activity.Running → x.phase ≡ phase.Copied slot home → (seen_hart p c x).regs.pc ≡ home
+pc_copied p c x slot home runs is = ap (λ (r : Registers). r.pc) (running_at p c x (phase.Copied slot home) runs is)
+
+-- one behind it what the word leaves at home
+pub pc_landed : (p : Program) (c : Core) (x : Mind) (slot home pc word : ℕ) → x.activity ≡ activity.Running → x.phase ≡ phase.Landed slot home → Some word ≡ text_word p home → ((r : Registers) → r.pc ≡ c.regs.pc → (settled_regs word slot home r true).pc ≡ pc)
+    → (seen_hart p c x).regs.pc ≡ pc
+pc_landed p c x slot home pc word runs is found e =
+    ap (λ (r : Registers). r.pc) (running_at p c x (phase.Landed slot home) runs is) ∙ (ap (λ o. (landed_regs o slot home c.regs).pc) (sym found) ∙ e c.regs refl)
+
+pub pc_wordless : (p : Program) (c : Core) (x : Mind) (slot home pc : ℕ) → x.activity ≡ activity.Running → x.phase ≡ phase.Landed slot home → None ≡ text_word p home → pc ≡ c.regs.pc → (seen_hart p c x).regs.pc ≡ pc
+pc_wordless p c x slot home pc runs is none e =
+    ap (λ (r : Registers). r.pc) (running_at p c x (phase.Landed slot home) runs is) ∙ (ap (λ o. (landed_regs o slot home c.regs).pc) (sym none) ∙ sym e)
+
+-- no patch is held, where none is for another hart and this one steps over nothing
+pub unheld : (r : Run) (h : ℕ) (x : Mind) → Facts r → slice_get r.minds h ≡ Some x → x.phase ≡ phase.Idle → other_holder r.hold h ≡ None → r.hold ≡ None
+unheld r h x f at idle free =
+    let k = core_at r h x f at in
+    no_hold r.hold h free (none_held r.hold h x.phase (fact_of r h k.0 x f k.1).held idle)
+
+-- a planted word is there
+pub planted_there : {A : Type 0} (r : Run) (pc : ℕ) → Facts r → is_planted r.machine.text pc ≡ true → None ≡ shown r.machine.text pc → A
+planted_there r pc f planted none =
+    let some : IsSome (shown r.machine.text pc) = text_shown r.opening.image r.machine.text r.breaks r.hold pc f.planted (planted_text r pc f planted) in
+    let clash : false ≡ true = ap is_some none ∙ some in
+    cc

@@ -1,6 +1,7 @@
 pub mod Seeing
 pub mod Executing
 pub mod Holds
+pub mod Homes
 pub mod Commanding
 pub mod Marking
 pub mod Words

@@ -21,7 +21,7 @@ ghost use Rattle.std.specs.List.{list_any, list_all};
 use crate::Turned;
 use crate::answering::{LineChange, Response, answer, going_on, is_wait, refusal, refuse, selected_after};
 use crate::breaking::{BreakChange, change_table, due_at, is_temporary, settle};
-use crate::homing::{go_home, go_home_at_exit, go_home_each};
+use crate::homing::{go_home, go_home_at_exit, go_home_each, landed_pc};
 use crate::journal::note;
 use crate::moving::{apply, ran_mind};
 use crate::patching::{release, repatch, wants};
@@ -326,7 +326,10 @@ impl Engine {
         if self.machine.has_room() {
             return None;
         }
-        find_slotted(self.minds.as_slice(), 0)
+        let Some(hart) = find_slotted(self.minds.as_slice(), 0) else {
+            return None;
+        };
+        Some(hart)
     }
 
     /// The hart to move next: the one for which a patch is lifted, since all others stand held; else, where all slots
@@ -364,12 +367,16 @@ impl Engine {
         self.entries.capacity() - self.entries.len()
     }
 
-    /// Where a hart is.
+    /// Where a hart shows its pc: at home, where it is in its slot.
     pub fn pc(&self, h: u32) -> u32
         requires { h < length self.now.minds }
-        ensures { (c : Core) → slice_get self.now.machine.cores h ≡ Some c → result ≡ c.regs.pc }
+        ensures { Of self.now h (λ y. y.regs.pc ≡ result) }
     {
-        self.machine.pc(h as usize)
+        let mind = self.mind(h);
+        match mind.activity {
+            Activity::Running => self.shown_pc(h, mind),
+            _ => self.machine.pc(h as usize),
+        }
     }
 
     /// The bytes from an address on; the first address that can't be read where there is one, and then nothing changed.
@@ -596,16 +603,20 @@ impl Engine {
         self.noted += 1;
     }
 
-    // Where a running hart shows its pc: at home, where it is at a copy.
+    // Where a running hart shows its pc: at home, where it is in its slot.
     fn shown_pc(&self, h: u32, mind: Mind) -> u32
         requires mind { slice_get self.now.minds h ≡ Some mind }
-        requires before { is_before mind.phase ≡ true }
         requires runs { mind.activity ≡ Activity.Running }
         ensures { Of self.now h (λ y. y.regs.pc ≡ result) }
     {
+        let pc = self.machine.pc(h as usize);
         match mind.phase {
             Phase::Copied { home, .. } => home,
-            _ => self.machine.pc(h as usize),
+            Phase::Landed { slot, home } => match self.opening.image.text_word(home) {
+                Some(word) => landed_pc(word, slot, home, pc),
+                None => pc,
+            },
+            _ => pc,
         }
     }
 
@@ -716,6 +727,7 @@ impl Engine {
         ensures turns { Turns result self.old self.new h }
         ensures code { IsTurned result }
     {
+        self.keep();
         if mind.asked {
             self.note_interrupt(h, mind);
             return Turned::Interrupted;
@@ -782,6 +794,13 @@ impl Engine {
         ensures { IsTrue result ↔ InText self.now.opening.image addr }
     {
         self.machine.shown(addr).is_some()
+    }
+
+    /// Whether a breakpoint's word stands in text at an address.
+    pub fn planted(&self, addr: u32) -> bool
+        ensures { result ≡ is_planted self.now.machine.text addr }
+    {
+        self.machine.planted(addr)
     }
 
     /// The breakpoints that the user set, in rising order of their numbers.

@@ -1,8 +1,10 @@
 // Harts that come home from their scratch slots.
-ghost use Rattle.std.specs.Prelude.{◌≡◌, ◌<◌, ◌≤◌, ◌+◌, ◌^◌, ℕ, length, slice_get, slice_set, Some};
+ghost use Rattle.std.specs.Prelude.{◌≡◌, ◌<◌, ◌≤◌, ◌+◌, ◌^◌, ℕ, length, slice_get, None, Some, true};
+ghost use Rattle.rv_exec.specs.Registers.{Registers};
+ghost use Rattle.hart_machine.specs.Copying.{settled_regs};
 ghost use Rattle.engine_facts.specs.declared.mind.Mind.{Mind};
 ghost use Rattle.engine_facts.specs.Minds.{after_step};
-ghost use Rattle.engine_facts.specs.Moves.{HeldInText};
+ghost use Rattle.engine_facts.specs.Moves.{HeldInText, Released};
 ghost use Rattle.engine_facts.specs.Homing.{IsSlotted, GoesHome, AllGoHome};
 ghost use Rattle.dbg_engine.specs.Homing.{HomedBy};
 
@@ -11,7 +13,20 @@ use crate::patching::release;
 use break_table::BreakTable;
 use engine_facts::{Hold, Mind, Phase};
 use hart_machine::Machine;
+use rv_decode::{Instr, decode};
 use rv_exec::Stepped;
+
+/// The pc at home of a hart that has executed a copy of the word and is at this pc: only JALR leaves one that isn't
+/// counted from the copy's. A word that is no instruction did nothing.
+pub fn landed_pc(word: u32, slot: u32, home: u32, pc: u32) -> u32
+    ensures { (r : Registers) → r.pc ≡ pc → (settled_regs word slot home r true).pc ≡ result }
+{
+    match decode(word) {
+        None => home,
+        Some(Instr::Jalr { .. }) => pc,
+        Some(_) => pc.wrapping_add(home.wrapping_sub(slot)),
+    }
+}
 
 /// Takes a hart home from the slot of its phase, if it has one.
 pub fn go_home(machine: &mut Machine, h: usize, phase: Phase)
@@ -34,6 +49,7 @@ pub fn go_home(machine: &mut Machine, h: usize, phase: Phase)
 
 /// Takes each hart of the list home; the first of them has the number `h`.
 pub fn go_home_each(machine: &mut Machine, minds: &[Mind], h: usize)
+    requires few { length machine.old.cores ≤ 16 }
     requires harts { h + length minds.now ≤ length machine.old.cores }
     requires slots { (j : ℕ) (x : Mind) → slice_get minds.now j ≡ Some x → IsSlotted machine.old (h + j) x.phase }
     ensures { AllGoHome machine.old machine.new h minds.now }
@@ -43,6 +59,17 @@ pub fn go_home_each(machine: &mut Machine, minds: &[Mind], h: usize)
     };
     go_home(machine, h, first.phase);
     go_home_each(machine, rest, h + 1);
+}
+
+// A lifted patch is planted again where a breakpoint stands, and is held no more.
+fn let_go(machine: &mut Machine, hold: &mut Option<Hold>, table: &BreakTable)
+    requires { HeldInText machine.old.text hold.old }
+    ensures text { Released machine.old.text machine.new.text table.now.entries hold.old }
+    ensures rest { machine.new ≡ record machine.old { text = machine.new.text } }
+    ensures none { hold.new ≡ None }
+{
+    release(machine, *hold, table);
+    *hold = None;
 }
 
 /// After an exit the harts that leave come home, and no patch stays lifted. Where all leave, `minds` has what is kept
@@ -57,6 +84,7 @@ pub fn go_home_at_exit(
     minds: &[Mind],
 )
     requires text { HeldInText machine.old.text hold.old }
+    requires few { length machine.old.cores ≤ 16 }
     requires harts { length minds.now ≤ length machine.old.cores }
     requires hart { h < length machine.old.cores }
     requires slot { IsSlotted machine.old h (after_step mind.phase) }
@@ -64,10 +92,14 @@ pub fn go_home_at_exit(
     ensures { HomedBy stepped machine.old machine.new hold.old hold.new table.now.entries h mind minds.now }
 {
     match stepped {
-        Stepped::HartExit(_) => go_home(machine, h, after_step(mind.phase)),
-        Stepped::AllExit(_) => go_home_each(machine, minds, 0),
-        Stepped::Ran | Stepped::Wrote { .. } | Stepped::Hit | Stepped::Trap(_) => return,
+        Stepped::HartExit(_) => {
+            go_home(machine, h, after_step(mind.phase));
+            let_go(machine, hold, table);
+        }
+        Stepped::AllExit(_) => {
+            go_home_each(machine, minds, 0);
+            let_go(machine, hold, table);
+        }
+        Stepped::Ran | Stepped::Wrote { .. } | Stepped::Hit | Stepped::Trap(_) => {}
     }
-    release(machine, *hold, table);
-    *hold = None;
 }

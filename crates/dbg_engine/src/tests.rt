@@ -1,58 +1,278 @@
-use crate::{End, Engine, Turned};
+use crate::{End, Engine, Phase, Turned};
 use dbg_model::{Content, Opening};
 use dbg_traits::Settings;
 use elf32_read::read_image;
+use elf_gen::plain;
+use rv_exec::Cause;
+use std::alloc::Global;
 use std::test::Fail;
 
-/// ADDI a7, x0, 93, then ADDI a0, x0, 322, then ECALL, at 0x10094.
-const IMAGE: &str = "\
-    7f454c460101010000000000000000000200f300010000009400010034000000aa000000000000003400200003002800\
-    0200000001000000000000000000010000000100a0000000a0000000050000000400000001000000a000000000000200\
-    000002000400000006000000060000000100000001000000a40000000600020006000200060000000600000004000000\
-    010000009308d0051305201473000000010203040a0b0c0d0e0f00000000000000000000000000000000000000000000\
-    00000000000000000000000000000000000000000000010000000600000094000100940000000c000000000000000000\
-    00000400000000000000";
+// One thing that is done with an engine, or asked of it.
+#[derive(Clone, Copy)]
+enum Step {
+    // A line, which is answered without an error.
+    Line(&'static str),
+    // A turn of a hart, and what it did.
+    Turn(u32, Turned),
+    // Where a hart shows its pc, and in which step over a breakpoint it is.
+    At(u32, u32, Phase),
+    // Whether the word at an address is planted.
+    Planted(u32, bool),
+}
 
-/// 322 modulo 256 is 66.
-#[test]
-fn a_hart_is_resumed_and_exits(rt: HostRuntime) -> Result<(), Fail> {
-    let file = hex::decode(rt.alloc(), IMAGE)?;
+use Step::{At, Line, Planted, Turn};
+use Turned::{AllLeft, Arrived, Copied, Fixed, Held, Interrupted, Left, Lifted, NoSlot, NotRunning, Over, Ran};
+
+// addi a7,zero,93; addi a0,zero,322; ecall. 322 modulo 256 is 66.
+const EXITS: [u32; 3] = [0x05D0_0893, 0x1420_0513, 0x0000_0073];
+
+// addi a0,a0,1, and a branch back to it.
+const LOOPS: [u32; 2] = [0x0015_0513, 0xFE00_0EE3];
+
+// lui a5,0xfffff; jalr zero,0(a5)
+const JUMPS_AWAY: [u32; 2] = [0xFFFF_F7B7, 0x0007_8067];
+
+// addi a7,zero,94; addi a0,zero,7; ecall
+const EXITS_ALL: [u32; 3] = [0x05E0_0893, 0x0070_0513, 0x0000_0073];
+
+// In the first slot.
+const COPIED: Phase = Phase::Copied {
+    slot: 0xFFFF_F000,
+    home: 0x1_0078,
+};
+
+const LANDED: Phase = Phase::Landed {
+    slot: 0xFFFF_F000,
+    home: 0x1_0078,
+};
+
+const STOPPED: Turned = Arrived {
+    number: 1,
+    temporary: false,
+    error: None,
+};
+
+fn engine_of(alloc: Global, words: &[u32], harts: u32, slots: u32, budget: u64) -> Result<Engine, Fail> {
+    if words.is_empty() || words.len() > 16 {
+        return Err(Fail::new("1 to 16 words"));
+    }
+    if harts == 0 || harts > 16 || slots > 512 || budget == 0 || budget > 1000 {
+        return Err(Fail::new("settings out of range"));
+    }
+    let file = plain(alloc, words, &[0; 4])?;
     let settings = Settings {
-        harts: 2,
+        harts,
         workers: 0,
-        slots: 0,
-        budget: 3,
+        slots,
+        budget,
         slice: 0,
     };
     let opening = Opening {
-        image: read_image(rt.alloc(), &file)?,
+        image: read_image(alloc, &file)?,
         settings,
     };
-    let Ok(mut engine) = Engine::load(rt.alloc(), opening) else {
-        return Err(Fail::new("out of memory"));
+    Engine::load(alloc, opening).map_err(|_| Fail::new("out of memory"))
+}
+
+// Whether a line is answered, and not refused.
+fn is_done(engine: &mut Engine, line: &str) -> bool {
+    if !engine.may_go() {
+        return false;
+    }
+    let Ok(false) = engine.must_wait(line.as_bytes()) else {
+        return false;
     };
-    assert!(rt; engine.may_go());
-    let Ok(false) = engine.must_wait(b"-exec-continue") else {
-        return Err(Fail::new("it may go on"));
-    };
-    let Ok(reply) = engine.command(b"-exec-continue") else {
-        return Err(Fail::new("out of memory"));
-    };
-    let Content::Running(threads) = &reply.content else {
-        return Err(Fail::new("no thread goes on"));
-    };
-    assert_eq!(rt; threads.as_slice(), [1].as_slice());
+    match engine.command(line.as_bytes()) {
+        Ok(reply) => !matches!(&reply.content, Content::Refused(_)),
+        Err(_) => false,
+    }
+}
+
+// Whether a step is as it says.
+fn is_as_said(engine: &mut Engine, step: Step) -> bool {
+    match step {
+        Line(line) => is_done(engine, line),
+        Turn(hart, turned) => {
+            engine.reserve_journal(32).is_ok()
+                && (hart as usize) < engine.harts()
+                && engine.turn(hart) == turned
+        }
+        At(hart, pc, phase) => {
+            (hart as usize) < engine.harts()
+                && engine.pc(hart) == pc
+                && engine.phase(hart) == phase
+        }
+        Planted(addr, planted) => engine.planted(addr) == planted,
+    }
+}
+
+const CONTINUE: Step = Line("-exec-continue --all");
+
+const BREAK: Step = Line("-break-insert *0x10078");
+
+// It never stops, and so each hart steps over it.
+const PASSED: Step = Line("-break-insert -c \"0 == 1\" *0x10078");
+
+// A hart stops at a branch, and steps over it by a copy.
+const ONE_COPIES: [Step; 16] = [
+    BREAK,
+    CONTINUE,
+    Turn(0, Ran),
+    Turn(0, STOPPED),
+    Turn(0, NotRunning),
+    CONTINUE,
+    Turn(0, Copied),
+    At(0, 0x1_0078, COPIED),
+    Planted(0x1_0078, true),
+    Turn(0, Ran),
+    At(0, 0x1_0074, LANDED),
+    Turn(0, Fixed),
+    At(0, 0x1_0074, Phase::Idle),
+    Turn(0, Ran),
+    Turn(0, STOPPED),
+    At(0, 0x1_0078, Phase::Idle),
+];
+
+// Both breakpoints at an address are deleted while a hart is at its copy.
+const DELETES: [Step; 14] = [
+    BREAK,
+    BREAK,
+    CONTINUE,
+    Turn(0, Ran),
+    Turn(0, STOPPED),
+    CONTINUE,
+    Turn(0, Copied),
+    Line("-break-delete 1"),
+    Planted(0x1_0078, true),
+    Line("-break-delete 2"),
+    Planted(0x1_0078, false),
+    Turn(0, Ran),
+    Turn(0, Fixed),
+    At(0, 0x1_0074, Phase::Idle),
+];
+
+// An interrupt waits until the hart is home.
+const INTERRUPTS: [Step; 10] = [
+    PASSED,
+    CONTINUE,
+    Turn(0, Ran),
+    Turn(0, Copied),
+    Turn(0, Ran),
+    Line("-exec-interrupt"),
+    Turn(0, Fixed),
+    Turn(0, Interrupted),
+    At(0, 0x1_0074, Phase::Idle),
+    Turn(0, NotRunning),
+];
+
+// Two harts, and a slot for one.
+const WAITS_FOR_A_SLOT: [Step; 9] = [
+    PASSED,
+    CONTINUE,
+    Turn(0, Ran),
+    Turn(1, Ran),
+    Turn(0, Copied),
+    Turn(1, NoSlot),
+    Turn(0, Ran),
+    Turn(0, Fixed),
+    Turn(1, Copied),
+];
+
+// Displaced stepping is switched off, and on again while a hart is lifted.
+const SWITCHES: [Step; 13] = [
+    PASSED,
+    Line("-gdb-set displaced-stepping off"),
+    CONTINUE,
+    Turn(0, Ran),
+    Turn(1, Ran),
+    Turn(0, Lifted),
+    Planted(0x1_0078, false),
+    Turn(1, Held { by: 0 }),
+    Line("-gdb-set displaced-stepping on"),
+    Turn(1, Held { by: 0 }),
+    Turn(0, Ran),
+    Turn(0, Turned::Planted),
+    Turn(1, Copied),
+];
+
+// The others are at their copies while one ends them all.
+const ALL_LEAVE: [Step; 16] = [
+    PASSED,
+    CONTINUE,
+    Turn(0, Ran),
+    Turn(0, Copied),
+    Turn(0, Ran),
+    Turn(0, Fixed),
+    Turn(1, Ran),
+    Turn(1, Copied),
+    Turn(2, Ran),
+    Turn(2, Copied),
+    Turn(3, Ran),
+    Turn(3, Copied),
+    Turn(0, AllLeft { code: 7, count: 4 }),
+    At(1, 0x1_0078, Phase::Idle),
+    At(3, 0x1_0078, Phase::Idle),
+    Turn(1, NotRunning),
+];
+
+const NO_INSTRUCTION: Turned = Turned::Stopped {
+    cause: Cause::FetchFault,
+};
+
+// A hart jumps to the slot of another.
+const JUMPS_INTO_A_SLOT: [Step; 12] = [
+    PASSED,
+    CONTINUE,
+    Turn(0, Ran),
+    Turn(0, Copied),
+    At(0, 0x1_0078, COPIED),
+    Turn(1, Ran),
+    Turn(1, Copied),
+    Turn(1, Ran),
+    Turn(1, Fixed),
+    Turn(1, NO_INSTRUCTION),
+    At(1, 0xFFFF_F000, Phase::Idle),
+    Turn(0, Ran),
+];
+
+// The budget is 3.
+const EXITS_BY_ITS_BUDGET: [Step; 6] = [
+    Line("-exec-continue"),
+    Turn(1, NotRunning),
+    Turn(0, Ran),
+    Turn(0, Ran),
+    Turn(0, Left { code: 66 }),
+    Turn(0, Over),
+];
+
+#[test]
+fn harts_move_as_they_must(rt: HostRuntime) -> Result<(), Fail> {
+    let alloc = rt.alloc();
+    // Words, harts, slots and budget.
     let cases = [
-        (1, Turned::NotRunning),
-        (0, Turned::Ran),
-        (0, Turned::Ran),
-        (0, Turned::Left { code: 66 }),
-        (0, Turned::Over),
+        (&LOOPS[..], 1, 2, 100, &ONE_COPIES[..]),
+        (&LOOPS[..], 1, 2, 100, &DELETES[..]),
+        (&LOOPS[..], 1, 2, 100, &INTERRUPTS[..]),
+        (&LOOPS[..], 2, 1, 100, &WAITS_FOR_A_SLOT[..]),
+        (&LOOPS[..], 2, 1, 100, &SWITCHES[..]),
+        (&EXITS_ALL[..], 4, 3, 100, &ALL_LEAVE[..]),
+        (&JUMPS_AWAY[..], 2, 2, 100, &JUMPS_INTO_A_SLOT[..]),
+        (&EXITS[..], 2, 0, 3, &EXITS_BY_ITS_BUDGET[..]),
     ];
-    for (hart, turned) in cases {
-        assert!(rt; engine.reserve_journal(32).is_ok());
-        assert!(rt; (hart as usize) < engine.harts());
-        assert_eq!(rt; engine.turn(hart), turned, "hart {hart}");
+    for (case, (words, harts, slots, budget, steps)) in cases.into_iter().enumerate() {
+        let mut engine = engine_of(alloc, words, harts, slots, budget)?;
+        for (place, step) in steps.iter().enumerate() {
+            assert!(rt; is_as_said(&mut engine, *step), "case {case}, step {place}");
+        }
+    }
+    Ok(())
+}
+
+#[test]
+fn the_journal_grows_by_what_is_new(rt: HostRuntime) -> Result<(), Fail> {
+    let mut engine = engine_of(rt.alloc(), &EXITS, 2, 0, 3)?;
+    for step in EXITS_BY_ITS_BUDGET {
+        assert!(rt; is_as_said(&mut engine, step));
     }
     assert_eq!(rt; engine.over(), Some(End::Budget));
     assert_eq!(rt; engine.entries().len(), 3);

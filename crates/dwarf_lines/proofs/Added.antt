@@ -1,16 +1,16 @@
 -- A row more.
-use Rattle.std.proofs.Common.{◌≡◌, ℕ, zero, suc, ◌+◌, ◌-◌, ◌<◌, Bool, true, false, List, [], ◌∷◌, ◌++◌, Option, None, Some, length, refl, arith, ◌∙◌, ap, sym, subst, eqb-true, get_or}
+use Rattle.std.proofs.Common.{◌≡◌, ℕ, zero, suc, ◌-◌, ◌<◌, Bool, true, false, List, [], ◌∷◌, ◌++◌, Option, None, Some, length, refl, arith, ◌∙◌, ap, sym, subst, eqb-true, get_or}
 use Rattle.std.specs.Prelude.{slice_get, slice_set, nat_lt, ◌==◌, if◌then◌else◌}
 use Rattle.std.specs.List.{slice_index_or}
-use Rattle.std.specs.BTreeMap.{BTreeMap}
-use Rattle.std.specs.Global.{Vec}
 use Rattle.std.proofs.lemmas.Bool.Decides.{nat_tests}
 use Rattle.line_rows.specs.RowList.{RowList}
 use Rattle.line_rows.specs.declared.row.Row.{Row}
-use Rattle.dwarf_lines.specs.Adding.{Adds, AreKept, FindsNumber, remembered}
-use Rattle.dwarf_lines.specs.Numbers.{UnitRows, add_row, file_name, number_of, with_name, is_known}
-use Rattle.dwarf_lines.proofs.Known.{first_of, found_place, known_push, last_by, new_push}
-use Rattle.dwarf_lines.specs.Numbering.{AreKnown, AreNumbers, IsNumbered, place_of}
+use Rattle.dwarf_lines.specs.Adding.{Adds, AreKept, FindsNumber, named, remembered}
+use Rattle.file_names.specs.Numbers.{is_known, number_of, place_of, with_name}
+use Rattle.dwarf_lines.specs.declared.numbers.NameNumbers.{NameNumbers}
+use Rattle.dwarf_lines.specs.Numbers.{UnitRows, add_row, file_name}
+use Rattle.file_names.proofs.Known.{first_of, known_name, known_push, last_by, new_push}
+use Rattle.dwarf_lines.specs.Numbering.{AreKnown, IsNumbered}
 
 -- what was remembered holds with one name more
 known_by : (names : List (List ℕ)) (q name : List ℕ) (n : ℕ) (b : Bool) → is_known names name ≡ b → place_of names q ≡ Some n → place_of (if b then names else names ++ name ∷ []) q ≡ Some n
@@ -27,9 +27,9 @@ place_by names name false e =
     let absent : place_of names name ≡ None = rw e refl in
     new_push names name absent ∙ ap (λ (k : ℕ). Some k) (sym (last_by _ _ (first_of names name) e))
 
-numbered_place : (old new : RowList) (numbers : BTreeMap (Vec ℕ) ℕ) (name : List ℕ) (n : ℕ) → IsNumbered old new numbers name n → place_of new.names name ≡ Some n
-numbered_place old new numbers name n h =
-    ap (λ (r : RowList). place_of r.names name) h.rows ∙ place_by old.names name (is_known old.names name) refl ∙ ap (λ (k : ℕ). Some k) (sym h.is)
+numbered_place : (line_str strs : List ℕ) (old new : NameNumbers) (name : List ℕ) (n : ℕ) → IsNumbered line_str strs old new name n → place_of new.names.names name ≡ Some n
+numbered_place line_str strs old new name n h =
+    ap (λ (l : List (List ℕ)). place_of l name) h.names ∙ place_by old.names.names name (is_known old.names.names name) refl ∙ ap (λ (k : ℕ). Some k) (sym h.is)
 
 get_here : {X : Type 0} (xs : List X) (k : ℕ) (d : X) → k < length xs → slice_get xs k ≡ Some (get_or xs k d)
 get_here [] k d h = absurd (omega arith)
@@ -65,48 +65,42 @@ remembered_by files known names k n h here true within =
 remembered_by files known names k n h here false past = h
 
 -- a file whose number is remembered
-pub found_known : (unit : UnitRows) (file k : ℕ) (known : List (Option ℕ)) (numbers : BTreeMap (Vec ℕ) ℕ) (rows : RowList) (n : ℕ)
-    → AreKept unit.names known numbers rows → k ≡ file - unit.first → slice_get known k ≡ Some (Some n)
-    → FindsNumber unit file rows known numbers rows n
-found_known unit file k known numbers rows n kept is there =
-    let here : place_of rows.names (file_name unit file) ≡ Some n = subst (λ (i : ℕ). place_of rows.names (slice_index_or unit.names i []) ≡ Some n) is (kept.files_known k n there) in
-    let f = found_place _ _ n here in
+pub found_known : (line_str strs : List ℕ) (unit : UnitRows) (file k : ℕ) (known : List (Option ℕ)) (numbers : NameNumbers) (n : ℕ)
+    → AreKept line_str strs unit.names known numbers → k ≡ file - unit.first → slice_get known k ≡ Some (Some n)
+    → FindsNumber line_str strs unit file numbers numbers known n
+found_known line_str strs unit file k known numbers n kept is there =
+    let here : place_of numbers.names.names (file_name unit file) ≡ Some n = subst (λ (i : ℕ). place_of numbers.names.names (slice_index_or unit.names i []) ≡ Some n) is (kept.files_known k n there) in
+    let f = known_name numbers.names.names (file_name unit file) n here in
     record {
-      numbered = record { is = sym f.1; rows = rw f.0 refl; kept = kept.table };
+      numbered = record { is = f.0; names = sym f.1; kept = kept.table };
       files_known = kept.files_known;
     }
 
 -- a file whose number is found by its name
-pub found_new : (unit : UnitRows) (file k : ℕ) (known after : List (Option ℕ)) (numbers more : BTreeMap (Vec ℕ) ℕ) (rows new : RowList) (name : List ℕ) (n : ℕ)
-    → AreKept unit.names known numbers rows → k ≡ file - unit.first → name ≡ slice_index_or unit.names k []
-    → IsNumbered rows new more name n → after ≡ remembered known k n
-    → FindsNumber unit file rows after more new n
-found_new unit file k known after numbers more rows new name n kept is named numbered kept_at =
-    let same : name ≡ file_name unit file = named ∙ ap (λ (i : ℕ). slice_index_or unit.names i []) is in
-    let here : place_of new.names (slice_index_or unit.names k []) ≡ Some n =
-    subst (λ (l : List ℕ). place_of new.names l ≡ Some n) named (numbered_place rows new more name n numbered) in
-    let stay : AreKnown unit.names known new.names =
-    subst (λ (l : List (List ℕ)). AreKnown unit.names known l) (sym (ap (λ (r : RowList). r.names) numbered.rows)) (still_known unit.names known rows.names name kept.files_known) in
+pub found_new : (line_str strs : List ℕ) (unit : UnitRows) (file k : ℕ) (known after : List (Option ℕ)) (old new : NameNumbers) (n : ℕ)
+    → AreKept line_str strs unit.names known old → k ≡ file - unit.first
+    → IsNumbered line_str strs old new (slice_index_or unit.names k []) n → after ≡ remembered known k n
+    → FindsNumber line_str strs unit file old new after n
+found_new line_str strs unit file k known after old new n kept is numbered kept_at =
+    let here : place_of new.names.names (slice_index_or unit.names k []) ≡ Some n = numbered_place line_str strs old new (slice_index_or unit.names k []) n numbered in
+    let stay : AreKnown unit.names known new.names.names =
+    subst (λ (l : List (List ℕ)). AreKnown unit.names known l) (sym numbered.names) (still_known unit.names known old.names.names (slice_index_or unit.names k []) kept.files_known) in
     record {
-      numbered = subst (λ (l : List ℕ). IsNumbered rows new more l n) same numbered;
-      files_known = subst (λ (l : List (Option ℕ)). AreKnown unit.names l new.names) (sym kept_at) (remembered_by unit.names known new.names k n stay here (nat_lt k (length known)) refl);
+      numbered = subst (λ (i : ℕ). IsNumbered line_str strs old new (slice_index_or unit.names i []) n) is numbered;
+      files_known = subst (λ (l : List (Option ℕ)). AreKnown unit.names l new.names.names) (sym kept_at) (remembered_by unit.names known new.names.names k n stay here (nat_lt k (length known)) refl);
     }
 
 -- a row more, with its number
-pub row_added : (unit : UnitRows) (known : List (Option ℕ)) (numbers : BTreeMap (Vec ℕ) ℕ) (old named new : RowList) (row : Row) (n : ℕ)
-    → FindsNumber unit row.file old known numbers named n
-    → new ≡ record named { pending = named.pending ++ record row { file = n } ∷ [] }
-    → Adds (add_row unit old row) unit.names known numbers new
-row_added unit known numbers old named new row n found pushed =
-    let same : new ≡ add_row unit old row =
-    pushed
-    ∙ ap (λ (k : ℕ). record named { pending = named.pending ++ record row { file = k } ∷ [] }) found.numbered.is
-    ∙ ap (λ (r : RowList). record r { pending = r.pending ++ record row { file = number_of old.names (file_name unit row.file) } ∷ [] }) found.numbered.rows in
-    let stay : new.names ≡ named.names = ap (λ (r : RowList). r.names) pushed in
+pub row_added : (line_str strs : List ℕ) (unit : UnitRows) (known : List (Option ℕ)) (before numbers : NameNumbers) (old new : RowList) (row : Row) (n : ℕ)
+    → FindsNumber line_str strs unit row.file before numbers known n
+    → new ≡ record old { pending = old.pending ++ record row { file = n } ∷ [] }
+    → Adds (add_row unit (named old before) row) line_str strs unit.names known numbers new
+row_added line_str strs unit known before numbers old new row n found pushed =
+    let same : named new numbers ≡ add_row unit (named old before) row =
+    ap (λ (r : RowList). named r numbers) pushed
+    ∙ ap (λ (k : ℕ). record old { names = numbers.names.names; pending = old.pending ++ record row { file = k } ∷ [] }) found.numbered.is
+    ∙ ap (λ (l : List (List ℕ)). record old { names = l; pending = old.pending ++ record row { file = number_of before.names.names (file_name unit row.file) } ∷ [] }) found.numbered.names in
     record {
       same = same;
-      kept = record {
-        table = subst (λ (l : List (List ℕ)). AreNumbers numbers l) (sym stay) found.numbered.kept;
-        files_known = subst (λ (l : List (List ℕ)). AreKnown unit.names known l) (sym stay) found.files_known;
-      };
+      kept = record { table = found.numbered.kept; files_known = found.files_known };
     }

@@ -7,7 +7,7 @@ use Rattle.std.proofs.lemmas.Bool.Decides.{nat_tests}
 use Rattle.line_rows.specs.declared.fault.LineFault.{LineFault}
 use Rattle.line_rows.specs.declared.fault.LineFault.TheVariants as fault
 use Rattle.dwarf_lines.specs.Units.{Unit, and_behind, end_by, unit_end, units_from}
-use Rattle.line_headers.specs.Reading.{Reading, fixed_at, in_unit}
+use Rattle.line_rows.specs.Reading.{Reading, fixed_at, in_unit}
 
 abbrev second : Reading ℕ → ℕ
 second (Ok r) = r.1

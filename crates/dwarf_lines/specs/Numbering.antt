@@ -1,31 +1,21 @@
 -- How the numbers of names are kept while the units are read.
 use Rattle.std.specs.Prelude.{◌≡◌, ℕ, List, [], Option, Some, slice_get}
-use Rattle.std.specs.Ordering.{nat_cmp}
-use Rattle.std.specs.Cmp.Lexicographic.{slice_cmp}
-use Rattle.std.specs.BTreeMap as tree
-use Rattle.std.specs.BTreeMap.{BTreeMap}
-use Rattle.std.specs.Global.{Vec}
-use Rattle.std.specs.List.{position, slice_index_or}
-use Rattle.std.specs.Str.{bytes_eq}
-use Rattle.line_rows.specs.RowList.{RowList}
-use Rattle.dwarf_lines.specs.Numbers.{number_of, with_name}
+use Rattle.std.specs.List.{slice_index_or}
+use Rattle.file_names.specs.Numbers.{number_of, place_of, with_name}
+use Rattle.file_names.specs.Tables.{HasNumbers, IsSection}
+use Rattle.dwarf_lines.specs.declared.numbers.NameNumbers.{NameNumbers}
 
--- what the table has at a name
-abbrev pub number_at : BTreeMap (Vec ℕ) ℕ → List ℕ → Option ℕ
-number_at numbers name = tree.get_by (λ k. slice_cmp nat_cmp name k.items) numbers
+-- each name of the list is found by its number, and what is kept of the two sections is their own
+pub record AreNumbers (line_str strs : List ℕ) (numbers : NameNumbers) : Type 0 where
+  pub table : HasNumbers numbers.classes numbers.names.names
+  pub in_line_str : IsSection numbers.classes.links numbers.names.texts line_str numbers.line_str
+  pub in_strs : IsSection numbers.classes.links numbers.names.texts strs numbers.strs
 
-abbrev pub place_of : List (List ℕ) → List ℕ → Option ℕ
-place_of names name = position (bytes_eq name) names
-
--- the table has each name at its place in the list
-abbrev pub AreNumbers : BTreeMap (Vec ℕ) ℕ → List (List ℕ) → Type 0
-AreNumbers numbers names = (name : List ℕ) → number_at numbers name ≡ place_of names name
-
--- a name has its number, and the table and the list have the name
-pub record IsNumbered (old new : RowList) (numbers : BTreeMap (Vec ℕ) ℕ) (name : List ℕ) (number : ℕ) : Type 0 where
-  pub is : number ≡ number_of old.names name
-  pub rows : new ≡ record old { names = with_name old.names name }
-  pub kept : AreNumbers numbers new.names
+-- a name has its number, and the list has the name
+pub record IsNumbered (line_str strs : List ℕ) (old new : NameNumbers) (name : List ℕ) (number : ℕ) : Type 0 where
+  pub is : number ≡ number_of old.names.names name
+  pub names : new.names.names ≡ with_name old.names.names name
+  pub kept : AreNumbers line_str strs new
 
 -- what is remembered of a unit's files: the numbers of some
 abbrev pub AreKnown : List (List ℕ) → List (Option ℕ) → List (List ℕ) → Type 0

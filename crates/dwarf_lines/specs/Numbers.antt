@@ -1,19 +1,9 @@
--- The numbers of file names: names are numbered from 0 in the order in which rows first have them.
-use Rattle.std.specs.Prelude.{ℕ, Bool, ◌-◌, List, [], ◌∷◌, ◌++◌, length, nat_lt, fold, if◌then◌else◌}
-use Rattle.std.specs.List.{position_or_len, slice_index_or}
-use Rattle.std.specs.Str.{bytes_eq}
+-- Rows with the numbers of their names over all units.
+use Rattle.std.specs.Prelude.{ℕ, ◌-◌, List, [], ◌∷◌, ◌++◌, fold}
+use Rattle.std.specs.List.{slice_index_or}
+use Rattle.file_names.specs.Numbers.{number_of, with_name}
 use Rattle.line_rows.specs.RowList.{RowList, Sequence, ended_with}
 use Rattle.line_rows.specs.declared.row.Row.{Row}
-
--- a name's number, which for a new name is the next one
-abbrev pub number_of : List (List ℕ) → List ℕ → ℕ
-number_of names name = position_or_len (bytes_eq name) names
-
-abbrev pub is_known : List (List ℕ) → List ℕ → Bool
-is_known names name = nat_lt (number_of names name) (length names)
-
-abbrev pub with_name : List (List ℕ) → List ℕ → List (List ℕ)
-with_name names name = if is_known names name then names else names ++ name ∷ []
 
 -- what a unit gives: the names of its files, the number of the first of them, and its sequences
 pub record UnitRows : Type 0 where

@@ -1,6 +1,6 @@
 -- The rows of a section.
 use Rattle.std.specs.Prelude.{ℕ, zero, suc, ◌+◌, ◌-◌, ◌<◌, List, [], ◌∷◌, ◌++◌, length, map, fold, take, drop, Result, Ok, Err}
-use Rattle.line_headers.specs.Reading.{Reading}
+use Rattle.line_rows.specs.Reading.{Reading}
 use Rattle.line_headers.specs.Texts.{Texts, texts_in}
 use Rattle.line_headers.specs.Header.{header_at}
 use Rattle.line_headers.specs.declared.header.Header.{Header}

@@ -1,6 +1,6 @@
 -- The units of a section, one after another (DWARF 5, section 6.2.4, item 1, and section 7.4).
 use Rattle.std.specs.Prelude.{ℕ, zero, suc, ◌+◌, nat_le, List, [], ◌∷◌, length, Result, Ok, Err, if◌then◌else◌}
-use Rattle.line_headers.specs.Reading.{Reading, fixed_at}
+use Rattle.line_rows.specs.Reading.{Reading, fixed_at}
 use Rattle.line_rows.specs.declared.fault.LineFault.{LineFault}
 use Rattle.line_rows.specs.declared.fault.LineFault.TheVariants as fault
 

@@ -2,14 +2,13 @@
 
 ghost use Rattle.std.specs.Prelude.{◌≡◌, ◌+◌, ◌-◌, ◌<◌, ◌≤◌, ◌++◌, [], IfOk, OnOk, length, map, fold, slice_get, Some};
 ghost use Rattle.std.specs.List.{slice_index_or};
-ghost use Rattle.dwarf_lines.specs.Adding.{Adds, AddsUnit, AreKept, FindsNumber, no_sequence, remembered, shown};
+ghost use Rattle.dwarf_lines.specs.Adding.{Adds, AddsUnit, AreKept, FindsNumber, named, no_sequence, remembered, shown};
 ghost use Rattle.line_headers.specs.Texts.{texts_before};
 ghost use Rattle.dwarf_lines.specs.Numbering.{AreNumbers};
 ghost use Rattle.dwarf_lines.specs.Rows.{add_result, rows_in};
 ghost use Rattle.dwarf_lines.specs.Numbers.{add_row, add_sequence, add_unit};
 
-use crate::files::file_name;
-use crate::numbers::{Numbers, number_of};
+use crate::numbers::{NameNumbers, number_of_file};
 use crate::unit::{UnitFound, read_unit};
 use dbg_traits::NoMemory;
 use line_headers::{HeaderError, TextEnds};
@@ -35,18 +34,25 @@ fn file_number(
     unit: &UnitFound,
     file: u32,
     known: &mut [Option<u32>],
-    numbers: &mut Numbers,
-    rows: &mut Rows,
+    numbers: &mut NameNumbers,
 ) -> Result<u32, NoMemory>
-    requires { AreKept (shown line.now line_str.now strs.now unit.now).names known.old numbers.old rows.old }
-    ensures { IfOk result (FindsNumber (shown line.now line_str.now strs.now unit.now) file rows.old known.new numbers.new rows.new) }
+    requires { AreKept line_str.now strs.now (shown line.now line_str.now strs.now unit.now).names known.old numbers.old }
+    ensures { IfOk result (FindsNumber line_str.now strs.now (shown line.now line_str.now strs.now unit.now) file numbers.old numbers.new known.new) }
 {
     let k = file.saturating_sub(unit.first_file) as usize;
     if let Some(Some(number)) = known.get(k) {
         return Ok(*number);
     }
-    let name = file_name(line, line_str, strs, &unit.files, &unit.rows, k);
-    let number = number_of(alloc, numbers, rows, name)?;
+    let number = number_of_file(
+        alloc,
+        line,
+        line_str,
+        strs,
+        &unit.files,
+        &unit.rows,
+        k,
+        numbers,
+    )?;
     remember(known, k, number);
     Ok(number)
 }
@@ -61,15 +67,13 @@ fn add_row(
     unit: &UnitFound,
     row: Row,
     known: &mut [Option<u32>],
-    numbers: &mut Numbers,
+    numbers: &mut NameNumbers,
     rows: &mut Rows,
 ) -> Result<(), NoMemory>
-    requires { AreKept (shown line.now line_str.now strs.now unit.now).names known.old numbers.old rows.old }
-    ensures { OnOk result (Adds (add_row (shown line.now line_str.now strs.now unit.now) rows.old row) (shown line.now line_str.now strs.now unit.now).names known.new numbers.new rows.new) }
+    requires { AreKept line_str.now strs.now (shown line.now line_str.now strs.now unit.now).names known.old numbers.old }
+    ensures { OnOk result (Adds (add_row (shown line.now line_str.now strs.now unit.now) (named rows.old numbers.old) row) line_str.now strs.now (shown line.now line_str.now strs.now unit.now).names known.new numbers.new rows.new) }
 {
-    let file = file_number(
-        alloc, line, line_str, strs, unit, row.file, known, numbers, rows,
-    )?;
+    let file = file_number(alloc, line, line_str, strs, unit, row.file, known, numbers)?;
     rows.push_row(Row { file, ..row })
 }
 
@@ -82,12 +86,12 @@ fn add_sequence(
     unit: &UnitFound,
     k: usize,
     known: &mut [Option<u32>],
-    numbers: &mut Numbers,
+    numbers: &mut NameNumbers,
     rows: &mut Rows,
 ) -> Result<(), NoMemory>
     requires within { k < length unit.now.rows.sequences }
-    requires kept { AreKept (shown line.now line_str.now strs.now unit.now).names known.old numbers.old rows.old }
-    ensures { OnOk result (Adds (add_sequence (shown line.now line_str.now strs.now unit.now) rows.old (slice_index_or unit.now.rows.sequences k no_sequence)) (shown line.now line_str.now strs.now unit.now).names known.new numbers.new rows.new) }
+    requires kept { AreKept line_str.now strs.now (shown line.now line_str.now strs.now unit.now).names known.old numbers.old }
+    ensures { OnOk result (Adds (add_sequence (shown line.now line_str.now strs.now unit.now) (named rows.old numbers.old) (slice_index_or unit.now.rows.sequences k no_sequence)) line_str.now strs.now (shown line.now line_str.now strs.now unit.now).names known.new numbers.new rows.new) }
 {
     let sequence = unit.rows.sequence(k);
     for row in sequence.rows {
@@ -106,11 +110,11 @@ fn add_unit(
     line_str: &[u8],
     strs: &[u8],
     unit: &UnitFound,
-    numbers: &mut Numbers,
+    numbers: &mut NameNumbers,
     rows: &mut Rows,
 ) -> Result<(), NoMemory>
-    requires { AreNumbers numbers.old rows.old.names }
-    ensures { OnOk result (AddsUnit (add_unit (shown line.now line_str.now strs.now unit.now) rows.old) numbers.new rows.new) }
+    requires { AreNumbers line_str.now strs.now numbers.old }
+    ensures { OnOk result (AddsUnit (add_unit (shown line.now line_str.now strs.now unit.now) (named rows.old numbers.old)) line_str.now strs.now numbers.new rows.new) }
 {
     let count = unit.files.len().saturating_add(unit.rows.name_count());
     let mut known = vec![in alloc; None; count]?;
@@ -130,12 +134,12 @@ pub fn add_at(
     line_str: &[u8],
     strs: &[u8],
     ends: TextEnds,
-    numbers: &mut Numbers,
+    numbers: &mut NameNumbers,
     rows: &mut Rows,
 ) -> Result<(), NoMemory>
     requires within { at + 4 ≤ length bytes.now }
-    requires numbers { AreNumbers numbers.old rows.old.names }
-    ensures { OnOk result (AddsUnit (add_result at rows.old (rows_in (texts_before ends) bytes.now line_str.now strs.now (at + 4))) numbers.new rows.new) }
+    requires numbers { AreNumbers line_str.now strs.now numbers.old }
+    ensures { OnOk result (AddsUnit (add_result at (named rows.old numbers.old) (rows_in (texts_before ends) bytes.now line_str.now strs.now (at + 4))) line_str.now strs.now numbers.new rows.new) }
 {
     match read_unit(alloc, bytes, at + 4, line_str, strs, ends) {
         Ok(unit) => add_unit(alloc, bytes, line_str, strs, &unit, numbers, rows),

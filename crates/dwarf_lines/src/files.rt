@@ -1,11 +1,10 @@
 //! The names of the files of a unit.
 
-ghost use Rattle.std.specs.Prelude.{◌≡◌, ◌++◌, [], length, map, take_while};
+ghost use Rattle.std.specs.Prelude.{◌≡◌, [], length, take_while};
 ghost use Rattle.std.specs.List.{slice_index_or};
 ghost use Rattle.leb_read.specs.Leb.{is_text_byte};
-ghost use Rattle.dwarf_lines.specs.Names.{name_in, text_from};
+ghost use Rattle.file_names.specs.Texts.{text_from};
 
-use line_headers::NamePlace;
 use line_rows::Rows;
 
 // How many bytes stand before the first zero byte.
@@ -15,8 +14,8 @@ fn text_length(bytes: &[u8]) -> usize
     bytes.iter().take_while(|b| **b != 0).count()
 }
 
-// The bytes from a place up to the first zero byte.
-fn text_from(section: &[u8], at: usize) -> &[u8]
+/// The bytes from a place up to the first zero byte.
+pub fn text_from(section: &[u8], at: usize) -> &[u8]
     ensures { result.now ≡ text_from section.now at }
 {
     if section.len() < at {
@@ -26,35 +25,12 @@ fn text_from(section: &[u8], at: usize) -> &[u8]
     &front[..text_length(front)]
 }
 
-/// The name at a place.
-pub fn name_in<'a>(line: &'a [u8], line_str: &'a [u8], strs: &'a [u8], place: NamePlace) -> &'a [u8]
-    ensures { result.now ≡ name_in line.now line_str.now strs.now place }
+/// The name of a file that a program defines, counted from the first.
+pub fn defined_name(defined: &Rows, k: usize) -> &[u8]
+    ensures { result.now ≡ slice_index_or defined.now.names k [] }
 {
-    match place {
-        NamePlace::Empty => &[],
-        NamePlace::Line(at) => text_from(line, at),
-        NamePlace::LineStr(at) => text_from(line_str, at),
-        NamePlace::Str(at) => text_from(strs, at),
-    }
-}
-
-/// The name of a unit's file, counted from the first: of the header's, and behind them of those that the program defines.
-pub fn file_name<'a>(
-    line: &'a [u8],
-    line_str: &'a [u8],
-    strs: &'a [u8],
-    files: &[NamePlace],
-    defined: &'a Rows,
-    k: usize,
-) -> &'a [u8]
-    ensures { result.now ≡ slice_index_or (map (name_in line.now line_str.now strs.now) files.now ++ defined.now.names) k [] }
-{
-    if k < files.len() {
-        return name_in(line, line_str, strs, files[k]);
-    }
-    let behind = k - files.len();
-    if behind < defined.name_count() {
-        defined.name(behind)
+    if k < defined.name_count() {
+        defined.name(k)
     } else {
         &[]
     }

@@ -1,42 +1,97 @@
 //! The numbers of file names.
 
-ghost use Rattle.std.specs.Prelude.{◌≡◌, IfOk};
+ghost use Rattle.std.specs.Prelude.{◌≡◌, ◌++◌, [], IfOk, map};
+ghost use Rattle.std.specs.List.{slice_index_or};
+ghost use Rattle.dwarf_lines.specs.Names.{name_in};
 ghost use Rattle.dwarf_lines.specs.Numbering.{AreNumbers, IsNumbered};
 
+use crate::files::{defined_name, text_from};
 use dbg_traits::NoMemory;
-use line_rows::Rows;
+use file_names::{Classes, SectionTexts, number_in, number_of};
+use line_headers::NamePlace;
+use line_rows::{FileNames, Rows};
 use std::alloc::Global;
-use std::collections::BTreeMap;
 
-/// The number of each name that rows have.
-pub type Numbers = BTreeMap<Vec<u8>, u32>;
-
-/// The number of a name, which is the next one where no row had the name before.
-pub fn number_of(
-    alloc: Global,
-    numbers: &mut Numbers,
-    rows: &mut Rows,
-    name: &[u8],
-) -> Result<u32, NoMemory>
-    requires { AreNumbers numbers.old rows.old.names }
-    ensures { IfOk result (IsNumbered rows.old rows.new numbers.new name.now) }
-{
-    if let Some(number) = numbers.get(name) {
-        return Ok(*number);
-    }
-    let number = next_number(rows.name_count())?;
-    let key = Vec::from_slice(alloc, name)?;
-    rows.push_name(name)?;
-    numbers.insert(key, number)?;
-    Ok(number)
+/// The names that rows have, and what their numbers are found by.
+#[derive(Drop)]
+pub struct NameNumbers {
+    pub classes: Classes,
+    pub line_str: SectionTexts,
+    pub strs: SectionTexts,
+    pub names: FileNames,
 }
 
-// There is no room for more names than numbers of 32 bits.
-fn next_number(count: usize) -> Result<u32, NoMemory>
-    ensures { IfOk result (λ n. n ≡ count) }
+/// No names yet.
+#[tactic(auto, using(crate::proofs::Known::none_numbered))]
+pub fn no_numbers(alloc: Global, line_str: &[u8], strs: &[u8]) -> Result<NameNumbers, NoMemory>
+    ensures table { IfOk result (λ numbers. AreNumbers line_str.now strs.now numbers) }
+    ensures names { IfOk result (λ numbers. numbers.names.names ≡ []) }
 {
-    if count > u32::MAX as usize {
-        return Err(NoMemory);
+    Ok(NameNumbers {
+        classes: Classes::new(alloc)?,
+        line_str: SectionTexts::new(alloc),
+        strs: SectionTexts::new(alloc),
+        names: FileNames::new(alloc),
+    })
+}
+
+// The number of the name at a place.
+fn number_at(
+    alloc: Global,
+    line: &[u8],
+    line_str: &[u8],
+    strs: &[u8],
+    place: NamePlace,
+    numbers: &mut NameNumbers,
+) -> Result<u32, NoMemory>
+    requires { AreNumbers line_str.now strs.now numbers.old }
+    ensures { IfOk result (λ n. IsNumbered line_str.now strs.now numbers.old numbers.new (name_in line.now line_str.now strs.now place) n) }
+{
+    match place {
+        NamePlace::Empty => number_of(&mut numbers.classes, &mut numbers.names, &[]),
+        NamePlace::Line(at) => number_of(
+            &mut numbers.classes,
+            &mut numbers.names,
+            text_from(line, at),
+        ),
+        NamePlace::LineStr(at) => number_in(
+            alloc,
+            &mut numbers.classes,
+            &mut numbers.names,
+            &mut numbers.line_str,
+            line_str,
+            at,
+        ),
+        NamePlace::Str(at) => number_in(
+            alloc,
+            &mut numbers.classes,
+            &mut numbers.names,
+            &mut numbers.strs,
+            strs,
+            at,
+        ),
     }
-    Ok(count as u32)
+}
+
+/// The number of the name of a unit's file, which is the next one where no row had the name before. Files are counted
+/// from the first: those of the header, and behind them those that the program defines.
+#[tactic(auto, using(crate::proofs::Known::header_name))]
+pub fn number_of_file(
+    alloc: Global,
+    line: &[u8],
+    line_str: &[u8],
+    strs: &[u8],
+    files: &[NamePlace],
+    defined: &Rows,
+    k: usize,
+    numbers: &mut NameNumbers,
+) -> Result<u32, NoMemory>
+    requires { AreNumbers line_str.now strs.now numbers.old }
+    ensures { IfOk result (λ n. IsNumbered line_str.now strs.now numbers.old numbers.new (slice_index_or (map (name_in line.now line_str.now strs.now) files.now ++ defined.now.names) k []) n) }
+{
+    if k < files.len() {
+        return number_at(alloc, line, line_str, strs, files[k], numbers);
+    }
+    let name = defined_name(defined, k - files.len());
+    number_of(&mut numbers.classes, &mut numbers.names, name)
 }

@@ -2,12 +2,12 @@ ghost use Rattle.std.specs.Prelude.{◌≡◌, IfOk};
 ghost use Rattle.dwarf_lines.specs.Rows.{rows_of};
 
 use crate::adding::add_at;
+use crate::numbers::no_numbers;
 use crate::units::unit_end;
 use dbg_traits::NoMemory;
 use line_headers::text_ends;
 use line_rows::{Rows, UnitFault};
 use std::alloc::Global;
-use std::collections::BTreeMap;
 
 /// The rows of a section of line tables, with the bytes of `.debug_line_str` and `.debug_str`, empty where there is none.
 ///
@@ -18,7 +18,7 @@ pub fn rows(alloc: Global, section: &[u8], line_str: &[u8], strs: &[u8]) -> Resu
     ensures { IfOk result (λ r. r ≡ rows_of section.now line_str.now strs.now) }
 {
     let ends = text_ends(line_str, strs);
-    let mut numbers = BTreeMap::new(alloc);
+    let mut numbers = no_numbers(alloc, line_str, strs)?;
     let mut rows = Rows::new(alloc);
     let mut at = 0;
     while at < section.len() {
@@ -38,9 +38,11 @@ pub fn rows(alloc: Global, section: &[u8], line_str: &[u8], strs: &[u8]) -> Resu
             }
             Err(fault) => {
                 rows.push_fault(UnitFault { offset: at, fault })?;
+                rows.set_names(numbers.names);
                 return Ok(rows);
             }
         }
     }
+    rows.set_names(numbers.names);
     Ok(rows)
 }

@@ -206,3 +206,33 @@ fn headers_of_version_5_name_files_by_offsets(rt: HostRuntime) -> Result<(), Fai
     }
     Ok(())
 }
+
+/// A unit like `TWO_ROWS_5` whose rows' file is named by an offset in this form.
+fn named_by_offset(rt: &impl Abort, alloc: Global, form: u8, offset: u8) -> Result<Vec<u8>, Fail> {
+    let mut unit = decoded(alloc, TWO_ROWS_5)?;
+    assert!(rt; unit.len() > 49);
+    unit[40] = form;
+    unit[49] = offset;
+    Ok(unit)
+}
+
+#[test]
+fn names_that_overlap_have_equal_numbers_where_they_are_equal(rt: HostRuntime) -> Result<(), Fail> {
+    let mut section = decoded(rt.alloc(), TWO_ROWS)?;
+    // a.c of each section, .c, a.c again, and the whole text.
+    for (form, offset) in [(0x1F, 2), (0x0E, 4), (0x1F, 3), (0x1F, 2), (0x1F, 0)] {
+        section.extend_from_slice(&named_by_offset(&rt, rt.alloc(), form, offset)?)?;
+    }
+    let read = rows(rt.alloc(), &section, b"b/a.c\0", b"src/a.c\0")?;
+    assert_eq!(rt; first_fault(&read), None);
+    let want = "\
+a.c 10 0x10074 x\na.c 11 0x10078 x\nend 0x10080\n\
+a.c 10 0x10074 x\na.c 11 0x10078 x\nend 0x10080\n\
+a.c 10 0x10074 x\na.c 11 0x10078 x\nend 0x10080\n\
+.c 10 0x10074 x\n.c 11 0x10078 x\nend 0x10080\n\
+a.c 10 0x10074 x\na.c 11 0x10078 x\nend 0x10080\n\
+b/a.c 10 0x10074 x\nb/a.c 11 0x10078 x\nend 0x10080\n";
+    assert_eq!(rt; printed(rt.alloc(), &read)?.as_str(), want);
+    assert_eq!(rt; read.name_count(), 3);
+    Ok(())
+}

@@ -1,8 +1,7 @@
 ghost use Rattle.std.specs.Prelude.{◌≡◌, ◌+◌, ◌≤◌, IfOk, length};
 ghost use Rattle.dwarf_lines.specs.Units.{unit_end};
 
-use line_headers::word_at;
-use line_rows::LineFault;
+use line_rows::{LineFault, word_at};
 
 /// Lengths from here on are none of the 32-bit format.
 const RESERVED: u32 = 0xFFFF_FFF0;

@@ -4,3 +4,6 @@ pub mod Tables
 pub mod Accepted
 pub mod Texts
 pub mod Kept
+pub mod Rising
+pub mod Fronts
+pub mod Found

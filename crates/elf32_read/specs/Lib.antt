@@ -6,4 +6,5 @@ pub mod Reading
 pub mod Views
 pub mod Stages
 pub mod Ranges
+pub mod Spans
 pub mod Inside

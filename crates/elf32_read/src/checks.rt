@@ -1,16 +1,19 @@
-ghost use Rattle.std.specs.Prelude.{◌≡◌, ◌+◌, ◌*◌, ◌%◌, ◌==◌, ◌&&◌, ◌≤◌, ◌<◌, ◌⊎◌, ◌∷◌, [], ℕ, length, IfOk, All, map, filter, slice_index};
+ghost use Rattle.std.specs.Prelude.{◌≡◌, ◌+◌, ◌*◌, ◌%◌, ◌==◌, ◌&&◌, ◌≤◌, ◌<◌, ◌⊎◌, ◌∷◌, [], ℕ, length, not, take, IfOk, map, slice_index, slice_index_or};
+ghost use Rattle.std.specs.Bool.{OnTrue};
 ghost use Rattle.std.specs.List.{list_any};
 ghost use Rattle.std.specs.Result.{result_err};
-ghost use Rattle.elf32_read.specs.Fields.{overlap};
 ghost use Rattle.elf32_read.specs.Headers.{file_header, loaded, text_headers, section_headers, holds_text, names, names_header};
-ghost use Rattle.elf32_read.specs.Checks.{check, first_fault, is_magic, size_checks, header_checks, segment_fits, segments_overlap, segment_checks, memory_checks, section_fits, section_check, name_check, name_checks, entry_checks, text_fits, sections_overlap, text_checks, in_section};
+ghost use Rattle.elf32_read.specs.Checks.{segments_overlap, sections_overlap, check, first_fault, is_magic, size_checks, header_checks, segment_fits, segment_checks, memory_checks, section_fits, section_check, name_check, name_checks, entry_checks, text_fits, text_checks, in_section};
 ghost use Rattle.elf32_read.specs.Stages.{table_fault};
+ghost use Rattle.elf32_read.specs.Spans.{AreFilled, AreSegments, AreSome, IsApartFront, IsSpanTable, section_spans, segment_spans};
 
 use crate::fault::{ElfFault, ElfKind};
 use crate::fields::zero_end;
 use crate::header::{
     FILE_HEADER_SIZE, FILE_LIMIT, FileHeader, ProgramHeader, SectionHeader, section_bytes,
 };
+use crate::lookup::holder;
+use crate::spans::{Span, SpanTable};
 
 /// The greatest sum of the segments' sizes in memory.
 const MEMORY_LIMIT: u64 = 16_777_216;
@@ -26,13 +29,6 @@ pub fn check(holds: bool, kind: ElfKind, place: u32) -> Result<(), ElfFault>
     } else {
         Err(ElfFault { kind, place })
     }
-}
-
-/// Whether two ranges of addresses, each by its start and size, have one in common.
-fn overlap(start: u32, size: u32, other: u32, other_size: u32) -> bool
-    ensures { result ≡ overlap start size other other_size }
-{
-    (start as u64) < other as u64 + other_size as u64 && (other as u64) < start as u64 + size as u64
 }
 
 pub fn check_size(bytes: &[u8]) -> Result<(), ElfFault>
@@ -100,18 +96,28 @@ fn segment_fits(size: usize, h: &ProgramHeader) -> bool
             && h.address as u64 + h.memory_size as u64 <= LOAD_END)
 }
 
-fn meets_segment(h: &ProgramHeader, others: &[ProgramHeader]) -> bool
-    ensures { result ≡ list_any (segments_overlap h.now) others.now }
+/// Whether the segment of a number has no address in common with an earlier one.
+fn is_segment_apart(segments: &[ProgramHeader], k: usize, h: &ProgramHeader, apart: usize) -> bool
+    requires front { IsApartFront (segment_spans segments.now) apart }
+    requires before { k ≤ apart }
+    requires number { k < length segments.now }
+    requires is { slice_index_or segments.now k h.now ≡ h.now }
+    ensures value { result ≡ not (list_any (segments_overlap h.now) (take k segments.now)) }
+    ensures before { OnTrue result (k < apart) }
 {
-    others.iter().any(|other| overlap(h.address, h.memory_size, other.address, other.memory_size))
+    k < apart
 }
 
-pub fn check_segments(size: usize, segments: &[ProgramHeader]) -> Result<(), ElfFault>
-    ensures { result_err result ≡ first_fault (segment_checks size [] segments.now) }
+/// `apart` is how many segments there are before the first one that has an address in common with an earlier one.
+pub fn check_segments(size: usize, segments: &[ProgramHeader], apart: usize) -> Result<(), ElfFault>
+    requires { IsApartFront (segment_spans segments.now) apart }
+    ensures checks { result_err result ≡ first_fault (segment_checks size [] segments.now) }
+    ensures apart { IfOk result (λ _. length segments.now ≤ apart) }
+    ensures filled { IfOk result (λ _. AreFilled segments.now) }
 {
     for (k, h) in segments.iter().enumerate() {
-        let apart = !meets_segment(h, &segments[..k]);
-        check(segment_fits(size, h) && apart, ElfKind::Segment, h.place)?;
+        let is_apart = is_segment_apart(segments, k, h, apart);
+        check(segment_fits(size, h) && is_apart, ElfKind::Segment, h.place)?;
     }
     Ok(())
 }
@@ -181,16 +187,13 @@ fn is_whole(h: &SectionHeader) -> bool
     h.address % 4 == 0 && h.size % 4 == 0
 }
 
-fn is_executable(segments: &[ProgramHeader], h: &SectionHeader) -> bool
-    ensures { result ≡ list_any (holds_text h.now) segments.now }
-{
-    segments.iter().any(|s| holds_text(h, s))
-}
-
-fn text_fits(segments: &[ProgramHeader], h: &SectionHeader) -> bool
+fn text_fits(segments: &[ProgramHeader], sorted: &[Span], h: &SectionHeader) -> bool
+    requires sorted { AreSegments segments.now sorted.now }
+    requires filled { AreFilled segments.now }
+    requires some { 0 < h.now.size }
     ensures { result ≡ text_fits segments.now h.now }
 {
-    is_whole(h) && (h.kind != 8 && is_executable(segments, h))
+    is_whole(h) && (h.kind != 8 && holder(segments, sorted, h).is_some())
 }
 
 /// Whether a section lies wholly in the file part of an executable segment.
@@ -202,18 +205,40 @@ pub fn holds_text(h: &SectionHeader, s: &ProgramHeader) -> bool
             && h.address as u64 + h.size as u64 <= s.address as u64 + s.file_size as u64)
 }
 
-fn meets_section(h: &SectionHeader, others: &[SectionHeader]) -> bool
-    ensures { result ≡ list_any (sections_overlap h.now) others.now }
+/// Whether the text section of a number has no address in common with an earlier one.
+fn is_text_apart(texts: &[SectionHeader], k: usize, h: &SectionHeader, apart: usize) -> bool
+    requires front { IsApartFront (section_spans texts.now) apart }
+    requires before { k ≤ apart }
+    requires number { k < length texts.now }
+    requires is { slice_index_or texts.now k h.now ≡ h.now }
+    ensures value { result ≡ not (list_any (sections_overlap h.now) (take k texts.now)) }
+    ensures before { OnTrue result (k < apart) }
 {
-    others.iter().any(|other| overlap(h.address, h.size, other.address, other.size))
+    k < apart
 }
 
-pub fn check_text(segments: &[ProgramHeader], texts: &[SectionHeader]) -> Result<(), ElfFault>
-    ensures { result_err result ≡ first_fault (text_checks segments.now [] texts.now) }
+/// `sorted` are the segments' ranges, and `apart` is how many texts there are before the first one that has an
+/// address in common with an earlier one.
+pub fn check_text(
+    segments: &[ProgramHeader],
+    sorted: &[Span],
+    texts: &[SectionHeader],
+    apart: usize,
+) -> Result<(), ElfFault>
+    requires sorted { AreSegments segments.now sorted.now }
+    requires filled { AreFilled segments.now }
+    requires some { AreSome texts.now }
+    requires front { IsApartFront (section_spans texts.now) apart }
+    ensures checks { result_err result ≡ first_fault (text_checks segments.now [] texts.now) }
+    ensures apart { IfOk result (λ _. length texts.now ≤ apart) }
 {
     for (k, h) in texts.iter().enumerate() {
-        let apart = !meets_section(h, &texts[..k]);
-        check(text_fits(segments, h) && apart, ElfKind::Text, h.place)?;
+        let is_apart = is_text_apart(texts, k, h, apart);
+        check(
+            text_fits(segments, sorted, h) && is_apart,
+            ElfKind::Text,
+            h.place,
+        )?;
     }
     Ok(())
 }
@@ -243,18 +268,25 @@ pub fn check_tables(
     bytes: &[u8],
     header: &FileHeader,
     segments: &[ProgramHeader],
+    segment_table: &SpanTable,
     sections: &[SectionHeader],
     texts: &[SectionHeader],
+    text_table: &SpanTable,
 ) -> Result<(), ElfFault>
     requires header { header.now ≡ file_header bytes.now }
     requires segments { segments.now ≡ loaded bytes.now }
+    requires segment_table { IsSpanTable (segment_spans segments.now) segment_table.now }
     requires sections { sections.now ≡ section_headers bytes.now }
     requires texts { texts.now ≡ text_headers bytes.now }
+    requires text_table { IsSpanTable (section_spans texts.now) text_table.now }
     requires within { header.now.section_headers + 40 * header.now.section_header_count ≤ length bytes.now }
     requires limit { length bytes.now ≤ FILE_LIMIT }
-    ensures { result_err result ≡ table_fault bytes.now }
+    ensures checks { result_err result ≡ table_fault bytes.now }
+    ensures segments { IfOk result (λ _. length segments.now ≤ segment_table.now.apart) }
+    ensures filled { IfOk result (λ _. AreFilled segments.now) }
+    ensures texts { IfOk result (λ _. length texts.now ≤ text_table.now.apart) }
 {
-    check_segments(bytes.len(), segments)?;
+    check_segments(bytes.len(), segments, segment_table.apart)?;
     check_memory(segments)?;
     let names = header.section_names;
     check(
@@ -264,6 +296,6 @@ pub fn check_tables(
     )?;
     check_sections(bytes.len(), sections)?;
     check_names(bytes, header, sections)?;
-    check_text(segments, texts)?;
+    check_text(segments, &segment_table.sorted, texts, text_table.apart)?;
     check_entry(header, texts)
 }

@@ -5,12 +5,14 @@ ghost use Rattle.elf32_read.specs.Checks.{fault_of};
 ghost use Rattle.elf32_read.specs.Headers.{file_header, loaded, program_of, section_headers, text_headers};
 ghost use Rattle.elf32_read.specs.Views.{section_shown, segment_shown, text_shown, unnamed};
 ghost use Rattle.elf32_read.specs.Ranges.{text_range};
+ghost use Rattle.elf32_read.specs.Spans.{AreSegments, AreTexts};
 
 use crate::fault::ElfReadError;
 use crate::header::{FileHeader, ProgramHeader, SectionHeader, names_of};
 use crate::lookup::{
     in_ranges, loaded_byte, may_write, section_called, section_in, segment_in, text_in, word_in,
 };
+use crate::spans::Span;
 use crate::views::{SectionView, SegmentView, TextView};
 use std::alloc::Global;
 use std::marker::Model;
@@ -31,8 +33,13 @@ pub struct TextRange {
 pub struct Image {
     file: Vec<u8>,
     header: FileHeader,
+    /// In the file's order, as `text` and `sections`.
     segments: Vec<ProgramHeader>,
+    /// The segments' ranges in the order of their addresses.
+    segment_spans: Vec<Span>,
     text: Vec<TextRange>,
+    /// The text sections' ranges in the order of their addresses.
+    text_spans: Vec<Span>,
     sections: Vec<SectionHeader>,
 }
 
@@ -53,13 +60,17 @@ impl Image {
         file: Vec<u8>,
         header: FileHeader,
         segments: Vec<ProgramHeader>,
+        segment_spans: Vec<Span>,
         text: Vec<TextRange>,
+        text_spans: Vec<Span>,
         sections: Vec<SectionHeader>,
     ) -> Image
         requires accepted { fault_of file.items ≡ None }
         requires header { header ≡ file_header file.items }
         requires segments { segments.items ≡ loaded file.items }
+        requires segment_spans { AreSegments segments.items segment_spans.items }
         requires text { text.items ≡ map (text_range file.items) (text_headers file.items) }
+        requires text_spans { AreTexts text.items text_spans.items }
         requires sections { sections.items ≡ section_headers file.items }
         ensures { result ≡ program_of file.items }
     {
@@ -67,7 +78,9 @@ impl Image {
             file,
             header,
             segments,
+            segment_spans,
             text,
+            text_spans,
             sections,
         }
     }
@@ -83,7 +96,7 @@ impl Image {
     pub fn in_text(&self, addr: u32) -> bool
         ensures { result ≡ in_text self.now addr }
     {
-        in_ranges(&self.text, addr)
+        in_ranges(&self.text, &self.text_spans, addr)
     }
 
     /// The word of text at an address; none where the address isn't a multiple of 4 in text.
@@ -93,21 +106,27 @@ impl Image {
         if addr % 4 != 0 {
             return None;
         }
-        word_in(&self.file, &self.text, addr)
+        word_in(&self.file, &self.text, &self.text_spans, addr)
     }
 
     /// The byte that is loaded at an address, in text or data; none where no segment has it.
     pub fn mapped(&self, addr: u32) -> Option<u8>
         ensures { result ≡ mapped self.now addr }
     {
-        loaded_byte(&self.file, &self.segments, addr)
+        loaded_byte(&self.file, &self.segments, &self.segment_spans, addr)
     }
 
     /// Whether the program may write at an address: its segment is writable, and it isn't text.
     pub fn writable(&self, addr: u32) -> bool
         ensures { result ≡ writable self.now addr }
     {
-        may_write(&self.segments, &self.text, addr)
+        may_write(
+            &self.segments,
+            &self.segment_spans,
+            &self.text,
+            &self.text_spans,
+            addr,
+        )
     }
 
     /// What stands in the file of the first section of a name.

@@ -8,6 +8,7 @@ mod header;
 mod image;
 mod lookup;
 mod read;
+mod spans;
 mod views;
 
 pub use fault::{ElfFault, ElfKind, ElfReadError};

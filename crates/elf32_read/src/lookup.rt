@@ -3,26 +3,17 @@ ghost use Rattle.std.specs.List.{list_any};
 ghost use Rattle.std.specs.Option.{option_copied, option_map, option_map_or};
 ghost use Rattle.elf32_read.specs.Fields.{u32_at};
 ghost use Rattle.elf32_read.specs.Program.{byte_of};
-ghost use Rattle.elf32_read.specs.Headers.{section_bytes, section_of, segment_of};
+ghost use Rattle.elf32_read.specs.Headers.{holds_text, section_bytes, section_of, segment_of};
 ghost use Rattle.elf32_read.specs.Views.{range_shown, section_shown, segment_shown, text_shown, unnamed};
 ghost use Rattle.elf32_read.specs.Ranges.{IsRange, IsWithin, in_loaded, in_range, is_called, is_writable_header};
+ghost use Rattle.elf32_read.specs.Spans.{AreFilled, AreSegments, AreTexts};
 
+use crate::checks::holds_text;
 use crate::fields::{begins_with_name, u32_at};
 use crate::header::{ProgramHeader, SectionHeader, section_bytes};
 use crate::image::TextRange;
+use crate::spans::{Span, number_at};
 use crate::views::{SectionView, SegmentView, TextView};
-
-fn in_loaded(addr: u32, h: &ProgramHeader) -> bool
-    ensures { result ≡ in_loaded addr h.now }
-{
-    h.address <= addr && (addr as u64) < h.address as u64 + h.memory_size as u64
-}
-
-fn in_range(addr: u32, t: &TextRange) -> bool
-    ensures { result ≡ in_range addr t.now }
-{
-    t.address <= addr && (addr as u64) < t.address as u64 + t.size as u64
-}
 
 /// The byte of a segment at an address, which is zero past the file part.
 fn byte_in(file: &[u8], h: &ProgramHeader, addr: u32) -> u8
@@ -38,56 +29,115 @@ fn byte_in(file: &[u8], h: &ProgramHeader, addr: u32) -> u8
     }
 }
 
+/// The segment that has an address, by the segments' ranges.
+fn segment_at(segments: &[ProgramHeader], sorted: &[Span], addr: u32) -> Option<ProgramHeader>
+    requires { AreSegments segments.now sorted.now }
+    ensures { result ≡ find (in_loaded addr) segments.now }
+{
+    match number_at(sorted, addr) {
+        Some(k) => Some(segments[k]),
+        None => None,
+    }
+}
+
+/// The text section that has an address, by the sections' ranges.
+fn text_at(text: &[TextRange], sorted: &[Span], addr: u32) -> Option<TextRange>
+    requires { AreTexts text.now sorted.now }
+    ensures { result ≡ find (in_range addr) text.now }
+{
+    match number_at(sorted, addr) {
+        Some(k) => Some(text[k]),
+        None => None,
+    }
+}
+
+/// The segment that a text section lies in, which is the one that has its first byte.
+pub fn holder(
+    segments: &[ProgramHeader],
+    sorted: &[Span],
+    h: &SectionHeader,
+) -> Option<ProgramHeader>
+    requires sorted { AreSegments segments.now sorted.now }
+    requires filled { AreFilled segments.now }
+    requires some { 0 < h.now.size }
+    ensures { result ≡ find (holds_text h.now) segments.now }
+{
+    match segment_at(segments, sorted, h.address) {
+        Some(s) if holds_text(h, &s) => Some(s),
+        _ => None,
+    }
+}
+
 /// The byte that is loaded at an address.
-pub fn loaded_byte(file: &[u8], segments: &[ProgramHeader], addr: u32) -> Option<u8>
-    requires { All (IsWithin file.now) segments.now }
+pub fn loaded_byte(
+    file: &[u8],
+    segments: &[ProgramHeader],
+    sorted: &[Span],
+    addr: u32,
+) -> Option<u8>
+    requires within { All (IsWithin file.now) segments.now }
+    requires sorted { AreSegments segments.now sorted.now }
     ensures { result ≡ option_map (λ h. byte_of addr (segment_of file.now h)) (find (in_loaded addr) segments.now) }
 {
-    for h in segments {
-        if in_loaded(addr, h) {
-            return Some(byte_in(file, h, addr));
-        }
+    match segment_at(segments, sorted, addr) {
+        Some(h) => Some(byte_in(file, &h, addr)),
+        None => None,
     }
-    None
 }
 
 /// Whether the segment at an address may be written.
-fn in_writable(segments: &[ProgramHeader], addr: u32) -> bool
+fn in_writable(segments: &[ProgramHeader], sorted: &[Span], addr: u32) -> bool
+    requires { AreSegments segments.now sorted.now }
     ensures { result ≡ option_map_or is_writable_header (find (in_loaded addr) segments.now) false }
 {
-    for h in segments {
-        if in_loaded(addr, h) {
-            return h.flags & 2 == 2;
-        }
+    match segment_at(segments, sorted, addr) {
+        Some(h) => h.flags & 2 == 2,
+        None => false,
     }
-    false
 }
 
-pub fn in_ranges(text: &[TextRange], addr: u32) -> bool
+pub fn in_ranges(text: &[TextRange], sorted: &[Span], addr: u32) -> bool
+    requires { AreTexts text.now sorted.now }
     ensures { result ≡ list_any (in_range addr) text.now }
 {
-    text.iter().any(|t| in_range(addr, t))
+    text_at(text, sorted, addr).is_some()
 }
 
 /// Whether an address is writable and not text.
-pub fn may_write(segments: &[ProgramHeader], text: &[TextRange], addr: u32) -> bool
+pub fn may_write(
+    segments: &[ProgramHeader],
+    sorted_segments: &[Span],
+    text: &[TextRange],
+    sorted_text: &[Span],
+    addr: u32,
+) -> bool
+    requires segments { AreSegments segments.now sorted_segments.now }
+    requires text { AreTexts text.now sorted_text.now }
     ensures { result ≡ (option_map_or is_writable_header (find (in_loaded addr) segments.now) false && not (list_any (in_range addr) text.now)) }
 {
-    in_writable(segments, addr) && !in_ranges(text, addr)
+    in_writable(segments, sorted_segments, addr) && !in_ranges(text, sorted_text, addr)
 }
 
 /// The word of text at an address that is a multiple of 4.
-pub fn word_in(file: &[u8], text: &[TextRange], addr: u32) -> Option<u32>
+pub fn word_in(file: &[u8], text: &[TextRange], sorted: &[Span], addr: u32) -> Option<u32>
     requires ranges { All (IsRange file.now) text.now }
+    requires sorted { AreTexts text.now sorted.now }
     requires aligned { addr % 4 ≡ 0 }
     ensures { result ≡ option_map (λ t. u32_at file.now (t.offset + (addr - t.address))) (find (in_range addr) text.now) }
 {
-    for t in text {
-        if in_range(addr, t) {
-            return Some(u32_at(file, t.offset + (addr - t.address) as usize));
-        }
+    match text_at(text, sorted, addr) {
+        Some(t) => Some(word_of(file, &t, addr)),
+        None => None,
     }
-    None
+}
+
+fn word_of(file: &[u8], t: &TextRange, addr: u32) -> u32
+    requires range { IsRange file.now t.now }
+    requires inside { in_range addr t.now ≡ true }
+    requires aligned { addr % 4 ≡ 0 }
+    ensures { result ≡ u32_at file.now (t.now.offset + (addr - t.now.address)) }
+{
+    u32_at(file, t.offset + (addr - t.address) as usize)
 }
 
 #[tactic(auto, unfolding(crate::specs::Fields::name_at))]

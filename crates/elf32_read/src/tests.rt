@@ -1,4 +1,5 @@
 use crate::{ElfFault, ElfKind, ElfReadError, read_image};
+use std::alloc::Global;
 use std::test::Fail;
 
 /// A program of three words, laid out by hand: one R+X segment with the headers, an empty R+W one.
@@ -10,6 +11,11 @@ const PLAIN: &str = "\
     000000010000000600000074000100740000000c00000000000000000000000400000000000000070000000100000003\
     000000000002008000000000000000000000000000000001000000000000000d00000003000000000000000000000080\
     0000001700000000000000000000000100000000000000";
+
+/// The header of a file with four program headers, which follow it, and no sections.
+const FOUR_SEGMENTS: &str = "\
+    7f454c460101010000000000000000000200f30001000000740001003400000034000000000000003400200004002800\
+    00000000";
 
 /// What GNU ld 2.40 wrote of a small assembler file.
 const BY_LD: &str = "\
@@ -165,5 +171,53 @@ fn a_file_of_lld_is_read_as_readelf_shows_it(rt: HostRuntime) -> Result<(), Fail
         (symbols.kind, symbols.link, symbols.bytes.len()),
         (2, 9, 0x90)
     );
+    Ok(())
+}
+
+/// A file of nothing but four segments of these addresses and sizes in memory.
+fn of_segments(alloc: Global, ranges: &[(u32, u32); 4]) -> Result<Vec<u8>, Fail> {
+    let mut file = hex::decode(alloc, FOUR_SEGMENTS)?;
+    for (address, size) in ranges {
+        for word in [1, 0, *address, 0, 0, *size, 6, 0] {
+            for byte in word.to_le_bytes() {
+                file.push(byte)?;
+            }
+        }
+    }
+    Ok(file)
+}
+
+#[test]
+fn the_first_segment_that_meets_an_earlier_one_is_named(rt: HostRuntime) -> Result<(), Fail> {
+    let no_text = fault(ElfKind::Text, 52);
+    let second = fault(ElfKind::Segment, 84);
+    let third = fault(ElfKind::Segment, 116);
+    let fourth = fault(ElfKind::Segment, 148);
+    let cases = [
+        (
+            [(0x3000, 16), (0x1000, 16), (0x2000, 16), (0x1010, 16)],
+            no_text,
+        ),
+        (
+            [(0x3000, 16), (0x1000, 16), (0x2000, 16), (0x100F, 16)],
+            fourth,
+        ),
+        (
+            [(0x3000, 16), (0x3001, 1), (0x2000, 16), (0x2000, 16)],
+            second,
+        ),
+        (
+            [(0x3000, 16), (0x1000, 16), (0xFFF, 0x2010), (0x1000, 1)],
+            third,
+        ),
+        (
+            [(0x3000, 16), (0x1000, 0x2001), (0x3000, 16), (0, 1)],
+            second,
+        ),
+    ];
+    for (ranges, wanted) in cases {
+        let answer = read_image(rt.alloc(), &of_segments(rt.alloc(), &ranges)?).err();
+        assert_eq!(rt; answer, wanted);
+    }
     Ok(())
 }

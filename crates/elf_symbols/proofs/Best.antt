@@ -6,7 +6,7 @@ use Rattle.std.specs.Str.{bytes_eq}
 use Rattle.std.specs.BTreeMap.{BTreeMap}
 use Rattle.std.specs.Global.{Vec}
 use Rattle.elf32_read.specs.Fields.{name_at}
-use Rattle.elf_symbols.specs.Names.{Symbol, Names, better, best, bytes_before, is_preferred, is_nearer, address_of, function_at, covering}
+use Rattle.elf_symbols.specs.Names.{Symbol, Names, better, best, is_preferred, is_nearer, address_of, function_at, covering}
 use Rattle.elf_symbols.specs.Entries.{symbol_of, entry_preferred, entry_nearer, entry_named, begins_by}
 use Rattle.elf_symbols.specs.Lookups.{at_name, IsNameTable}
 use Rattle.elf_symbols.specs.declared.entry.SymbolEntry.{SymbolEntry}
@@ -76,14 +76,3 @@ no_address names (b ∷ bs) e = absurd (never (length bs) (eqb-true _ _ e))
   where
     never : (n : ℕ) → suc n ≡ 0 → ⊥
     never n h = omega arith
-
-pub nothing_before : (xs : List ℕ) → bytes_before xs [] ≡ false
-nothing_before [] = refl
-nothing_before (x ∷ xs) = refl
-
--- nothing comes before the empty name
-pub nothing_shorter : (xs ys : List ℕ) → length ys ≡ 0 → bytes_before xs ys ≡ false
-nothing_shorter xs [] e = nothing_before xs
-nothing_shorter xs (y ∷ ys) e = absurd (omega arith)
-
-pub ruleset ends = (nothing_before, nothing_shorter)

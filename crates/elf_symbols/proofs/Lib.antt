@@ -3,3 +3,4 @@ pub mod Best
 pub mod Tables
 pub mod Puts
 pub mod Nearest
+pub mod Order

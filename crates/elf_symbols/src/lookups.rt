@@ -1,5 +1,6 @@
 // The tables of the look-ups.
-ghost use Rattle.std.specs.Prelude.{OnOk, IfOk};
+ghost use Rattle.std.specs.Prelude.{◌≡◌, OnOk, IfOk};
+ghost use Rattle.elf32_read.specs.Fields.{zero_end};
 ghost use Rattle.elf_symbols.specs.Lookups.{AddsAddress, AddsName, IsAddressTable, IsNameTable};
 
 use crate::entry::SymbolEntry;
@@ -28,16 +29,19 @@ fn put_name(
     }
 }
 
-/// Puts a function at its address, unless the one that is there has the lesser name or the same.
+/// Puts a function at its address, unless the one that is there has the lesser name or the same. The strings end
+/// their last name at `end`.
 fn put_address(
     table: &mut BTreeMap<u32, SymbolEntry>,
     strings: &[u8],
+    end: usize,
     entry: &SymbolEntry,
 ) -> Result<(), AllocError>
+    requires { end ≡ zero_end strings.now }
     ensures { OnOk result (AddsAddress strings.now entry.now table.old table.new) }
 {
     match table.get(&entry.address) {
-        Some(other) if !is_nearer(strings, entry, other) => Ok(()),
+        Some(other) if !is_nearer(strings, end, entry, other) => Ok(()),
         _ => {
             table.insert(entry.address, *entry)?;
             Ok(())
@@ -64,13 +68,15 @@ pub fn name_table(
 pub fn address_table(
     alloc: Global,
     strings: &[u8],
+    end: usize,
     functions: &[SymbolEntry],
 ) -> Result<BTreeMap<u32, SymbolEntry>, AllocError>
+    requires { end ≡ zero_end strings.now }
     ensures { IfOk result (λ table. IsAddressTable strings.now functions.now table) }
 {
     let mut table = BTreeMap::new(alloc);
     for entry in functions {
-        put_address(&mut table, strings, entry)?;
+        put_address(&mut table, strings, end, entry)?;
     }
     Ok(table)
 }

@@ -1,6 +1,6 @@
-ghost use Rattle.std.specs.Prelude.{◌≡◌, ◌+◌, ◌&&◌, IfOk, IfNone, IfSome, None, Some, [], false, filter, length, map, nat_le, nat_lt, option_and_then, slice_get, unwrap_or};
+ghost use Rattle.std.specs.Prelude.{◌≡◌, ◌+◌, ◌&&◌, IfOk, IfNone, IfSome, None, Some, [], true, false, filter, is_some, length, map, nat_le, nat_lt, option_and_then, slice_get, unwrap_or};
 ghost use Rattle.std.specs.Option.{option_map, option_map_or};
-ghost use Rattle.elf32_read.specs.Fields.{name_at, name_from};
+ghost use Rattle.elf32_read.specs.Fields.{name_at, name_from, zero_end};
 ghost use Rattle.elf_symbols.specs.Entries.{begins_by, entry_named, entry_nearer, entry_preferred, names_by, symbol_of};
 ghost use Rattle.elf_symbols.specs.Lookups.{FindsBefore, IsAddressTable, IsLong, IsNameTable};
 ghost use Rattle.elf_symbols.specs.Names.{address_of, best, bytes_before, covering, function_at};
@@ -106,10 +106,12 @@ pub fn symbol_name<'a>(strings: &'a [u8], entry: &SymbolEntry) -> &'a [u8]
     }
 }
 
-/// Whether a name comes before another in the order of their bytes.
-#[tactic(auto, using(crate::proofs::Best::ends))]
-fn bytes_before(left: &[u8], right: &[u8]) -> bool
-    ensures { result ≡ bytes_before left.now right.now }
+/// Whether a name comes before another in the order of their bytes, by what stands from the start of each on. It
+/// reads no further than the first byte that differs.
+fn name_before(left: &[u8], right: &[u8]) -> bool
+    requires left { is_some (name_from left.now) ≡ true }
+    requires right { is_some (name_from right.now) ≡ true }
+    ensures { result ≡ bytes_before (unwrap_or (name_from left.now) []) (unwrap_or (name_from right.now) []) }
 {
     let mut left = left;
     let mut right = right;
@@ -120,6 +122,12 @@ fn bytes_before(left: &[u8], right: &[u8]) -> bool
         let [a, left_rest @ ..] = left else {
             return true;
         };
+        if *b == 0 {
+            return false;
+        }
+        if *a == 0 {
+            return true;
+        }
         if a != b {
             return a < b;
         }
@@ -128,18 +136,36 @@ fn bytes_before(left: &[u8], right: &[u8]) -> bool
     }
 }
 
+/// Whether the name at one place of the strings, which end their last name at `end`, comes before that at another.
+#[tactic(auto, using(crate::proofs::Proper::proper_names), unfolding(elf32_read::specs::Fields::name_at))]
+fn place_before(strings: &[u8], end: usize, a: usize, b: usize) -> bool
+    requires { end ≡ zero_end strings.now }
+    ensures { result ≡ bytes_before (unwrap_or (name_at strings.now a) []) (unwrap_or (name_at strings.now b) []) }
+{
+    if b >= end {
+        return false;
+    }
+    if a >= end {
+        return strings[b] != 0;
+    }
+    if a == b {
+        return false;
+    }
+    name_before(&strings[a..], &strings[b..])
+}
+
 pub fn is_preferred(a: &SymbolEntry, b: &SymbolEntry) -> bool
     ensures { result ≡ entry_preferred a.now b.now }
 {
     a.address < b.address || (a.address == b.address && (a.kind == 2 && !(b.kind == 2)))
 }
 
-pub fn is_nearer(strings: &[u8], a: &SymbolEntry, b: &SymbolEntry) -> bool
+pub fn is_nearer(strings: &[u8], end: usize, a: &SymbolEntry, b: &SymbolEntry) -> bool
+    requires { end ≡ zero_end strings.now }
     ensures { result ≡ entry_nearer strings.now a.now b.now }
 {
     b.address < a.address
-        || (a.address == b.address
-            && bytes_before(symbol_name(strings, a), symbol_name(strings, b)))
+        || (a.address == b.address && place_before(strings, end, a.name as usize, b.name as usize))
 }
 
 #[tactic(auto, unfolding(elf32_read::specs::Fields::name_at))]

@@ -84,10 +84,11 @@ pub fn symbols(alloc: Global, image: &Image) -> Result<Symbols, NoMemory>
     ensures { IfOk result (λ s. s ≡ names_of image.now) }
 {
     let strings = symbol_strings(image);
-    let symbols = counted_entries(alloc, symbol_bytes(image), strings, zero_end(strings))?;
+    let end = zero_end(strings);
+    let symbols = counted_entries(alloc, symbol_bytes(image), strings, end)?;
     let functions = code_entries(alloc, image, &symbols)?;
     let by_name = name_table(alloc, strings, &symbols)?;
-    let by_address = address_table(alloc, strings, &functions)?;
+    let by_address = address_table(alloc, strings, end, &functions)?;
     let strings = Vec::from_slice(alloc, strings)?;
     Ok(Symbols::of(strings, symbols, functions, by_name, by_address))
 }

@@ -168,6 +168,22 @@ fn long_names_are_found_like_short_ones(rt: HostRuntime) -> Result<(), Fail> {
     Ok(())
 }
 
+#[test]
+fn of_long_names_at_one_address_the_least_is_told(rt: HostRuntime) -> Result<(), Fail> {
+    let mut file = hex::decode(rt.alloc(), LONG)?;
+    // The four symbols as functions at the one word of text.
+    for at in [0x68, 0x78, 0x88, 0x98] {
+        assert!(rt; at < 0x99 && file.len() > 0xA8);
+        file[at + 4] = 0x54;
+        file[at + 6] = 1;
+        file[at + 12] = 0x12;
+    }
+    let symbols = symbols(rt.alloc(), &read_image(rt.alloc(), &file)?)?;
+    let found = symbols.function_at(0x1_0054).map(|s| s.name.len());
+    assert_eq!(rt; found, Some(255));
+    Ok(())
+}
+
 /// Each is its name, type, flags, address, link and the size of its part of the file.
 const SECTIONS_BY_LD: [(&str, u32, u32, u32, u32, usize); 9] = [
     ("", 0, 0, 0, 0, 0),

@@ -2,7 +2,8 @@
 use Rattle.std.proofs.Common.{◌≡◌, ℕ, suc, ◌+◌, ◌-◌, ◌<◌, Bool, List, [], ◌∷◌, ◌++◌, length, refl, arith, ◌∙◌, ap, sym, append_assoc, subst, Option, Some}
 use Rattle.std.proofs.lemmas.List.{length_push}
 use Rattle.std.specs.Prelude.{Ok, Err}
-use Rattle.line_headers.specs.Reading.{Reading, and_then, reading_map}
+use Rattle.line_rows.specs.Reading.{Reading}
+use Rattle.line_headers.specs.Reading.{and_then, reading_map}
 use Rattle.line_headers.specs.Texts.{Texts}
 use Rattle.line_headers.specs.Names.{names_at, entry_then}
 use Rattle.line_headers.specs.Names as names

@@ -1,6 +1,7 @@
 -- The tables of directories and files in version 5 (DWARF 5, section 6.2.4, items 13 to 20, and section 7.5.6).
 use Rattle.std.specs.Prelude.{ℕ, zero, suc, ◌==◌, ◌&&◌, not, Bool, true, false, List, [], ◌∷◌, Option, None, Some, option_and_then, Err, Ok, if◌then◌else◌}
-use Rattle.line_headers.specs.Reading.{Reading, and_then, reading_map, fixed_at, run_at, unsigned_at, text_length_at}
+use Rattle.line_rows.specs.Reading.{Reading, fixed_at, unsigned_at}
+use Rattle.line_headers.specs.Reading.{and_then, reading_map, run_at, text_length_at}
 use Rattle.line_headers.specs.Texts.{Texts}
 use Rattle.line_headers.specs.declared.places.NamePlace.{NamePlace}
 use Rattle.line_headers.specs.declared.places.NamePlace.TheVariants as place

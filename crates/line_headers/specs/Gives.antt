@@ -1,7 +1,7 @@
 -- What a reading into a vector gives. Want of memory may come.
 use Rattle.std.specs.Prelude.{◌≡◌, ℕ, List, Result, Ok, Err}
 use Rattle.std.specs.Global.{Vec}
-use Rattle.line_headers.specs.Reading.{Reading}
+use Rattle.line_rows.specs.Reading.{Reading}
 use Rattle.line_headers.specs.declared.fault.HeaderError.{HeaderError}
 use Rattle.line_headers.specs.declared.fault.HeaderError.TheVariants as error
 

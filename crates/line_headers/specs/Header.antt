@@ -1,7 +1,8 @@
 -- The header of a unit (DWARF 5, section 6.2.4; DWARF 4, section 6.2.4).
 use Rattle.std.specs.Prelude.{◌≡◌, ℕ, ◌==◌, ◌<◌, ◌≤◌, List, length, Result, Ok, Err, if◌then◌else◌}
 use Rattle.std.specs.Global.{Vec}
-use Rattle.line_headers.specs.Reading.{Reading, and_then, reading_map}
+use Rattle.line_rows.specs.Reading.{Reading}
+use Rattle.line_headers.specs.Reading.{and_then, reading_map}
 use Rattle.line_headers.specs.Texts.{Texts}
 use Rattle.line_headers.specs.Names.{name_tables_at}
 use Rattle.line_headers.specs.Entries.{entry_tables_at}

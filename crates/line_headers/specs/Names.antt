@@ -1,6 +1,7 @@
 -- The tables of directories and files in versions 2 to 4 (DWARF 4, section 6.2.4, items 11 and 12).
 use Rattle.std.specs.Prelude.{ℕ, zero, suc, ◌+◌, ◌==◌, Bool, true, false, List, [], ◌∷◌, length, Option, None, Some, Err, Ok, if◌then◌else◌}
-use Rattle.line_headers.specs.Reading.{Reading, and_then, reading_map, unsigned_at, text_length_at}
+use Rattle.line_rows.specs.Reading.{Reading, unsigned_at}
+use Rattle.line_headers.specs.Reading.{and_then, reading_map, text_length_at}
 use Rattle.line_headers.specs.declared.places.NamePlace.{NamePlace}
 use Rattle.line_headers.specs.declared.places.NamePlace.TheVariants as place
 use Rattle.line_rows.specs.declared.fault.LineFault.TheVariants as fault

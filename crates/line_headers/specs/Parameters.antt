@@ -1,7 +1,8 @@
 -- What stands in a header before its tables (DWARF 5, section 6.2.4, items 1 to 12; DWARF 4, items 1 to 10).
 use Rattle.std.specs.Prelude.{ℕ, ◌+◌, ◌-◌, ◌≤◌, ◌==◌, nat_le, nat_lt, not, ◌&&◌, List, length, Ok, Err, if◌then◌else◌, Bool}
 use Rattle.std.specs.Int.{w8, cast_signed}
-use Rattle.line_headers.specs.Reading.{Reading, and_then, reading_map, fixed_at, run_at}
+use Rattle.line_rows.specs.Reading.{Reading, fixed_at}
+use Rattle.line_headers.specs.Reading.{and_then, reading_map, run_at}
 use Rattle.line_headers.specs.declared.parameters.Opcodes.{Opcodes}
 use Rattle.line_headers.specs.declared.parameters.Lines.{Lines}
 use Rattle.line_rows.specs.declared.fault.LineFault.{LineFault}

@@ -7,11 +7,11 @@ ghost use Rattle.line_headers.specs.Gives.{Gives};
 ghost use Rattle.line_headers.specs.Entries.{counted_at, entries_at, entry_at, entry_tables_at, table_at, text_named, value_at};
 
 use crate::fault::HeaderError;
-use crate::fields::{run_at, text_length_at, unsigned_at, word_at};
+use crate::fields::{run_at, text_length_at};
 use crate::formats::{Field, Form, format_at};
 use crate::places::NamePlace;
 use crate::texts::TextEnds;
-use line_rows::LineFault;
+use line_rows::{LineFault, unsigned_at, word_at};
 use std::alloc::Global;
 
 // The name at an offset, which is looked up for a path alone.

@@ -6,8 +6,7 @@ ghost use Rattle.line_headers.specs.Gives.{Gives};
 ghost use Rattle.line_headers.specs.Entries.{field_at, field_of, fields_at, form_of, format_at, is_text_form};
 
 use crate::fault::HeaderError;
-use crate::fields::{byte_at, unsigned_at};
-use line_rows::LineFault;
+use line_rows::{LineFault, byte_at, unsigned_at};
 use std::alloc::Global;
 
 /// How a value is written.

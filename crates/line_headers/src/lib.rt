@@ -12,7 +12,6 @@ mod places;
 mod texts;
 
 pub use fault::HeaderError;
-pub use fields::word_at;
 pub use header::{Header, read_header};
 pub use parameters::{Lines, Opcodes};
 pub use places::NamePlace;

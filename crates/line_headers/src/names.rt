@@ -6,9 +6,9 @@ ghost use Rattle.line_headers.specs.Gives.{Gives};
 ghost use Rattle.line_headers.specs.Names.{entry_at, name_tables_at, names_at, numbers_at};
 
 use crate::fault::HeaderError;
-use crate::fields::{text_length_at, unsigned_at};
+use crate::fields::text_length_at;
 use crate::places::NamePlace;
-use line_rows::LineFault;
+use line_rows::{LineFault, unsigned_at};
 use std::alloc::Global;
 
 // A file's directory, time and length are passed over.

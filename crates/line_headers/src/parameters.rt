@@ -3,8 +3,8 @@ ghost use Rattle.std.specs.Prelude.{◌≡◌, ◌<◌, ◌≤◌, IfOk, length}
 ghost use Rattle.leb_read.specs.Leb.{IsBehind};
 ghost use Rattle.line_headers.specs.Parameters.{AreWithin, constant_at, lines_at, nonzero_at, opcodes_at, program_at, sizes_at, version_at};
 
-use crate::fields::{byte_at, half_at, run_at, word_at};
-use line_rows::LineFault;
+use crate::fields::run_at;
+use line_rows::{LineFault, byte_at, half_at, word_at};
 
 /// How a program steps through addresses and lines.
 #[derive(Clone, Copy, Debug, PartialEq, Eq)]

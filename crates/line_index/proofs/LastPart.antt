@@ -1,8 +1,10 @@
 -- The part of a name after its last `/`.
-use Rattle.std.proofs.Common.{◌≡◌, ℕ, zero, suc, ◌-◌, ◌≤◌, length, drop, map, Some, arith, Bool, true, false, List, [], ◌∷◌, refl, ap, ◌∙◌}
-use Rattle.std.specs.Prelude.{if◌then◌else◌, ◌||◌, slice_get, slice_index_or}
+use Rattle.std.proofs.Common.{◌≡◌, ℕ, zero, suc, ◌+◌, ◌<◌, length, drop, arith, Bool, true, false, List, [], ◌∷◌, refl, ap, sym, ◌∙◌}
+use Rattle.std.specs.Prelude.{if◌then◌else◌, ◌||◌}
 use Rattle.std.specs.List.{list_any}
-use Rattle.line_index.specs.Lines.{is_slash, last_part, part_start}
+use Rattle.std.specs.Str.{bytes_eq}
+use Rattle.std.specs.Cmp.Lexicographic.{bytes_decides}
+use Rattle.line_index.specs.Lines.{is_slash, last_part}
 
 -- the part that was found, where no `/` is in the rest
 abbrev pub IsPart : List ℕ → List ℕ → List ℕ → Type 0
@@ -30,24 +32,25 @@ part-other name part bs b h e =
     either true x y z = refl
     either false x y z = refl
 
-drop-le : (name part : List ℕ) (b : ℕ) → length part ≤ length name → drop (length (b ∷ name) - length part) (b ∷ name) ≡ drop (length name - length part) name
-drop-le name part b h = ap (λ n. drop n (b ∷ name)) (let e : length (b ∷ name) - length part ≡ suc (length name - length part) = omega arith in e)
+-- a longer name is not the file
+not_long : (name file : List ℕ) → length file < length name → bytes_eq name file ≡ false
+not_long name file long = by_answer (bytes_eq name file) refl
+  where
+    by_answer : (b : Bool) → bytes_eq name file ≡ b → bytes_eq name file ≡ false
+    by_answer true e = let same : length name ≡ length file = ap length ((bytes_decides name file).0 e) in absurd (omega arith)
+    by_answer false e = e
 
-part-shorter : (name : List ℕ) → length (last_part name) ≤ length name
-part-shorter [] = omega arith
-part-shorter (b ∷ bs) =
-    elim (is_slash b || list_any is_slash bs) as (λ v. length (if v then last_part bs else b ∷ bs) ≤ length (b ∷ bs))
-    [ true ↦ (let rest = part-shorter bs in omega arith) | false ↦ omega arith ]
+-- a byte in front that is further from the end than the file is long
+front_byte : (file bs : List ℕ) (b : ℕ) (t u : Bool) → is_slash b ≡ t → list_any is_slash bs ≡ u → length file < length bs → bytes_eq (last_part (b ∷ bs)) file ≡ bytes_eq (last_part bs) file
+front_byte file bs b true u e f long = ap (λ (v : Bool). bytes_eq (if v || list_any is_slash bs then last_part bs else b ∷ bs) file) e
+front_byte file bs b false true e f long = ap (λ (v : Bool). bytes_eq (if v || list_any is_slash bs then last_part bs else b ∷ bs) file) e ∙ ap (λ (v : Bool). bytes_eq (if v then last_part bs else b ∷ bs) file) f
+front_byte file bs b false false e f long =
+    ap (λ (v : Bool). bytes_eq (if v || list_any is_slash bs then last_part bs else b ∷ bs) file) e
+    ∙ ap (λ (v : Bool). bytes_eq (if v then last_part bs else b ∷ bs) file) f
+    ∙ not_long (b ∷ bs) file (omega arith) ∙ sym (ap (λ (l : List ℕ). bytes_eq l file) (whole bs f) ∙ not_long bs file long)
 
--- the last part of a name is its rest from there
-pub drop_part : (name : List ℕ) → drop (part_start name) name ≡ last_part name
-drop_part [] = refl
-drop_part (b ∷ bs) =
-    elim (is_slash b || list_any is_slash bs) as (λ v. drop (length (b ∷ bs) - length (if v then last_part bs else b ∷ bs)) (b ∷ bs) ≡ (if v then last_part bs else b ∷ bs))
-    [ true ↦ drop-le bs (last_part bs) b (part-shorter bs) ∙ drop_part bs | false ↦ ap (λ n. drop n (b ∷ bs)) (let e : length (b ∷ bs) - length (b ∷ bs) ≡ 0 = omega arith in e) ]
-
--- what a mapped list has where the list has an element
-pub index-map : (names : List (List ℕ)) (k : ℕ) (name : List ℕ) (d : ℕ) → slice_get names k ≡ Some name → slice_index_or (map part_start names) k d ≡ part_start name
-index-map [] k name d h = cc
-index-map (n ∷ names) zero name d h = let e : n ≡ name = cc in ap part_start e
-index-map (n ∷ names) (suc k) name d h = index-map names k name d h
+-- only the end of a name counts
+pub end_part : (file name : List ℕ) (k : ℕ) → k + length file < length name → bytes_eq (last_part (drop k name)) file ≡ bytes_eq (last_part name) file
+end_part file name zero long = refl
+end_part file [] (suc k) long = refl
+end_part file (b ∷ bs) (suc k) long = end_part file bs k (omega arith) ∙ sym (front_byte file bs b (is_slash b) (list_any is_slash bs) refl refl (omega arith))

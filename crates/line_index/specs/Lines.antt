@@ -1,5 +1,5 @@
 -- What look-ups in line tables answer (DWARF 5, section 6.2).
-use Rattle.std.specs.Prelude.{ℕ, ◌+◌, ◌-◌, length, ◌==◌, nat_le, nat_lt, ◌&&◌, ◌||◌, not, Bool, false, List, [], ◌∷◌, Option, None, Some, map, filter, find, flat_map, min, slice_get, unwrap_or, option_and_then, if◌then◌else◌}
+use Rattle.std.specs.Prelude.{ℕ, ◌+◌, ◌==◌, nat_le, nat_lt, ◌&&◌, ◌||◌, not, Bool, false, List, [], ◌∷◌, Option, None, Some, map, filter, find, flat_map, min, slice_get, unwrap_or, option_and_then, if◌then◌else◌}
 use Rattle.std.specs.List.{list_any}
 use Rattle.std.specs.Option.{option_map, option_map_or}
 use Rattle.std.specs.Str.{bytes_eq}
@@ -71,10 +71,6 @@ is_slash b = b == 47
 abbrev pub last_part : List ℕ → List ℕ
 last_part [] = []
 last_part (b ∷ bs) = if is_slash b || list_any is_slash bs then last_part bs else b ∷ bs
-
--- where the part after the last `/` begins
-abbrev pub part_start : List ℕ → ℕ
-part_start name = length name - length (last_part name)
 
 -- whether a file is told by its name or by the last part of it
 abbrev pub is_called : List ℕ → List ℕ → Bool

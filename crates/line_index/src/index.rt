@@ -4,7 +4,7 @@ ghost use Rattle.line_index.specs.Lines.{Lines, address_of, begins, body_of, fil
 ghost use Rattle.line_index.specs.Steps.{IsTable};
 
 use crate::body::{body_in, function_end};
-use crate::files::{name_of, part_starts, soonest};
+use crate::files::{name_of, soonest};
 use crate::steps::{Step, row_of};
 use crate::table::{kept_rows, table_of};
 use crate::text::{TextBounds, section_end, text_bounds};
@@ -23,8 +23,6 @@ pub struct LineIndex {
     text: Vec<TextBounds>,
     /// The rows of the sequences whose first row is in text.
     kept: Vec<Row>,
-    /// Where the last part of each file name begins.
-    parts: Vec<usize>,
     /// The row of each address, in the order of the addresses at which it changes.
     steps: Vec<Step>,
 }
@@ -53,7 +51,6 @@ impl LineIndex {
     {
         let functions = symbols.function_addresses(alloc)?;
         let text = text_bounds(alloc, image)?;
-        let parts = part_starts(alloc, &rows)?;
         let kept = kept_rows(alloc, &rows, &text)?;
         let steps = table_of(alloc, &rows, &text, 0, rows.sequence_count())?;
         Ok(LineIndex {
@@ -61,7 +58,6 @@ impl LineIndex {
             functions,
             text,
             kept,
-            parts,
             steps,
         })
     }
@@ -88,7 +84,7 @@ impl LineIndex {
     pub fn address_of(&self, file: &[u8], line: u32) -> Option<u32>
         ensures { result ≡ address_of self.now file.now line }
     {
-        soonest(&self.rows, &self.parts, &self.kept, file, line).map(|row| row.address)
+        soonest(&self.rows, &self.kept, file, line).map(|row| row.address)
     }
 
     /// Where a breakpoint on a function stands: behind its prologue, or at its start where no row tells that.

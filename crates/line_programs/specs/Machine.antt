@@ -1,6 +1,7 @@
 -- The state machine of a line number program (DWARF 4 and 5, sections 6.2.2 and 6.2.5).
 use Rattle.std.specs.Prelude.{◌≡◌, ℕ, ◌+◌, ◌-◌, ◌*◌, ◌/◌, ◌%◌, ◌^◌, Bool, true, false, not, ◌&&◌, nat_le, nat_lt, ℤ, pos, ◌+ℤ◌, List, [], ◌∷◌, ◌++◌, length, Result, Ok, Err, Option, Some, None, if◌then◌else◌}
 use Rattle.leb_read.specs.Leb.{text_at}
+use Rattle.line_rows.specs.Reading.{in_unit}
 use Rattle.line_rows.specs.RowList.{RowList, ended_with, no_rows}
 use Rattle.line_rows.specs.declared.row.Row.{Row}
 use Rattle.line_rows.specs.declared.fault.LineFault.{LineFault}
@@ -11,7 +12,7 @@ use Rattle.line_programs.specs.declared.parameters.Parameters.{Parameters}
 use Rattle.line_programs.specs.declared.fault.ProgramError.{ProgramError}
 use Rattle.line_programs.specs.declared.fault.ProgramError.TheVariants as error
 use Rattle.line_programs.specs.declared.registers.Registers.{Registers}
-use Rattle.line_programs.specs.Operations.{◌>>=◌, Operations, in_unit, operations_of, residue}
+use Rattle.line_programs.specs.Operations.{◌>>=◌, Operations, operations_of, residue}
 
 -- how a sequence begins
 abbrev pub initial : Parameters → Registers

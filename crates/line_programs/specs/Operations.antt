@@ -1,9 +1,8 @@
 -- The operations of a line number program, as its bytes spell them (DWARF 4 and 5, section 6.2.5).
 use Rattle.std.specs.Prelude.{◌≡◌, ◌≤◌, ℕ, zero, suc, ℤ, pos, negsuc, ◌+◌, ◌-◌, ◌%◌, ◌^◌, ◌==◌, List, [], ◌∷◌, length, slice_index, nat_le, Result, Ok, Err, Option, Some, None, if◌then◌else◌}
 use Rattle.std.specs.Borrow.{Bor}
-use Rattle.leb_read.specs.Leb.{Read, number_at, sleb_at, text_at, uleb_at}
-use Rattle.leb_read.specs.declared.fault.Leb.{Leb}
-use Rattle.leb_read.specs.declared.fault.Leb.TheVariants as leb
+use Rattle.leb_read.specs.Leb.{sleb_at, text_at}
+use Rattle.line_rows.specs.Reading.{Reading, fixed_at, in_unit, unsigned_at}
 use Rattle.line_rows.specs.declared.fault.LineFault.{LineFault}
 use Rattle.line_rows.specs.declared.fault.LineFault.TheVariants as fault
 use Rattle.line_programs.specs.declared.operation.Operation.{Operation}
@@ -16,18 +15,12 @@ abbrev pub ◌>>=◌ : {A B : Type 0} → Result A LineFault → (A → Result B
 Ok x >>= f = f x
 Err e >>= f = Err e
 
--- the fault of a unit in which a number can't be read
-abbrev pub fault_of : Leb → LineFault
-fault_of leb.Short = fault.Short
-fault_of leb.Wide = fault.Leb
-
--- what a reader of numbers or texts finds, in a unit
-abbrev pub in_unit : {A : Type 0} → Read A → Result (A × ℕ) LineFault
-in_unit (Ok r) = Ok r
-in_unit (Err e) = Err (fault_of e)
+-- a signed number of variable length (DWARF 5, section 7.6)
+unfoldable pub signed_at : List ℕ → ℕ → Reading ℤ
+signed_at bytes at = in_unit (sleb_at bytes at)
 
 -- what a reader that lends bytes gives
-abbrev pub GivesName : Result (Bor (List ℕ) × ℕ) LineFault → Result (List ℕ × ℕ) LineFault → Type 0
+abbrev pub GivesName : Reading (Bor (List ℕ)) → Reading (List ℕ) → Type 0
 GivesName (Ok p) read = read ≡ Ok (p.0.now, p.1)
 GivesName (Err e) read = read ≡ Err e
 
@@ -38,12 +31,12 @@ pub record IsFrom (bytes : List ℕ) (at next : ℕ) : Type 0 where
 
 -- an operation and the place behind it
 abbrev pub Decoded : Type 0
-Decoded = Result (Operation × ℕ) LineFault
+Decoded = Reading Operation
 
 -- the operation of an operand
-abbrev pub with_operand : {A : Type 0} → (A → Operation) → Read A → Decoded
+abbrev pub with_operand : {A : Type 0} → (A → Operation) → Reading A → Decoded
 with_operand operation (Ok r) = Ok (operation r.0, r.1)
-with_operand operation (Err e) = Err (fault_of e)
+with_operand operation (Err e) = Err e
 
 -- a signed number modulo 2 ^ 32
 abbrev pub residue : ℤ → ℕ
@@ -53,7 +46,7 @@ residue (negsuc n) = 2 ^ 32 - 1 - n % 2 ^ 32
 -- the place behind so many unsigned numbers
 unfoldable pub behind_numbers : ℕ → List ℕ → ℕ → Result ℕ LineFault
 behind_numbers zero bytes at = Ok at
-behind_numbers (suc n) bytes at = in_unit (uleb_at bytes at) >>= (λ r. behind_numbers n bytes r.1)
+behind_numbers (suc n) bytes at = unsigned_at bytes at >>= (λ r. behind_numbers n bytes r.1)
 
 -- so many operands that are passed over
 abbrev pub passed_over : ℕ → List ℕ → ℕ → Decoded
@@ -64,17 +57,17 @@ passed_over n bytes at = behind_numbers n bytes at >>= (λ next. Ok (Pass, next)
 unfoldable pub standard_at : List ℕ → ℕ → List ℕ → ℕ → Decoded
 standard_at lengths opcode bytes at =
     if opcode == 1 then Ok (Copy, at)
-    else (if opcode == 2 then with_operand AdvancePc (uleb_at bytes at)
-    else (if opcode == 3 then with_operand (λ n. AdvanceLine (residue n)) (sleb_at bytes at)
-    else (if opcode == 4 then with_operand SetFile (uleb_at bytes at)
-    else (if opcode == 5 then with_operand (λ _. Pass) (uleb_at bytes at)
+    else (if opcode == 2 then with_operand AdvancePc (unsigned_at bytes at)
+    else (if opcode == 3 then with_operand (λ n. AdvanceLine (residue n)) (signed_at bytes at)
+    else (if opcode == 4 then with_operand SetFile (unsigned_at bytes at)
+    else (if opcode == 5 then with_operand (λ _. Pass) (unsigned_at bytes at)
     else (if opcode == 6 then Ok (NegateStmt, at)
     else (if opcode == 7 then Ok (Pass, at)
     else (if opcode == 8 then Ok (ConstAddPc, at)
-    else (if opcode == 9 then with_operand FixedAdvancePc (number_at 2 bytes at)
+    else (if opcode == 9 then with_operand FixedAdvancePc (fixed_at 2 bytes at)
     else (if opcode == 10 then Ok (SetPrologueEnd, at)
     else (if opcode == 11 then Ok (Pass, at)
-    else (if opcode == 12 then with_operand (λ _. Pass) (uleb_at bytes at)
+    else (if opcode == 12 then with_operand (λ _. Pass) (unsigned_at bytes at)
     else passed_over (slice_index lengths (opcode - 1)) bytes at)))))))))))
 
 -- a file's name, and behind it its directory, time and length
@@ -90,11 +83,11 @@ passed_by_length n bytes at = if nat_le (at + n) (length bytes) then Ok (Pass, a
 -- read by their operands, whatever their length says
 unfoldable pub extended_at : List ℕ → ℕ → Decoded
 extended_at bytes at =
-    in_unit (uleb_at bytes at) >>= (λ size. in_unit (number_at 1 bytes size.1) >>= (λ opcode.
+    unsigned_at bytes at >>= (λ size. fixed_at 1 bytes size.1 >>= (λ opcode.
     if opcode.0 == 1 then Ok (EndSequence, opcode.1)
-    else (if opcode.0 == 2 then with_operand SetAddress (number_at 4 bytes opcode.1)
+    else (if opcode.0 == 2 then with_operand SetAddress (fixed_at 4 bytes opcode.1)
     else (if opcode.0 == 3 then file_at bytes opcode.1
-    else (if opcode.0 == 4 then with_operand (λ _. Pass) (uleb_at bytes opcode.1)
+    else (if opcode.0 == 4 then with_operand (λ _. Pass) (unsigned_at bytes opcode.1)
     else passed_by_length size.0 bytes size.1)))))
 
 -- by the opcode in front of this place
@@ -105,7 +98,7 @@ operation_by p lengths opcode bytes at =
 
 -- the operation at a place
 unfoldable pub operation_at : Parameters → List ℕ → List ℕ → ℕ → Decoded
-operation_at p lengths bytes at = in_unit (number_at 1 bytes at) >>= (λ opcode. operation_by p lengths opcode.0 bytes opcode.1)
+operation_at p lengths bytes at = fixed_at 1 bytes at >>= (λ opcode. operation_by p lengths opcode.0 bytes opcode.1)
 
 -- the operations from a place to the end of the bytes, or up to the first fault
 pub record Operations : Type 0 where

@@ -1,15 +1,16 @@
 //! The operation at a place.
 
 ghost use Rattle.std.specs.Prelude.{◌≡◌, ◌≤◌, ◌<◌, ◌+◌, ◌-◌, IfOk, length, slice_index};
-ghost use Rattle.leb_read.specs.Leb.{IsBehind, number_at, sleb_at, uleb_at};
-ghost use Rattle.line_programs.specs.Operations.{IsFrom, extended_at, file_at, operation_at, passed_by_length, passed_over, residue, standard_at, with_operand};
+ghost use Rattle.leb_read.specs.Leb.{IsBehind};
+ghost use Rattle.line_rows.specs.Reading.{fixed_at, unsigned_at};
+ghost use Rattle.line_programs.specs.Operations.{IsFrom, extended_at, file_at, operation_at, passed_by_length, passed_over, residue, signed_at, standard_at, with_operand};
 ghost use Rattle.line_programs.specs.declared.operation.Operation.TheVariants as op;
 
 use crate::operation::Operation;
 use crate::parameters::Parameters;
-use crate::reading::{behind_numbers, byte_at, half_at, name_at, signed_at, unsigned_at, word_at};
+use crate::reading::{behind_numbers, name_at, signed_at};
 use crate::registers::residue;
-use line_rows::LineFault;
+use line_rows::{LineFault, byte_at, half_at, unsigned_at, word_at};
 
 // The standard opcodes (DWARF 5, table 7.25).
 const COPY: u8 = 1;
@@ -46,7 +47,7 @@ const DEFINE_FILE: u8 = 3;
 const SET_DISCRIMINATOR: u8 = 4;
 
 fn advance_pc(unit: &[u8], at: usize) -> Result<(Operation, usize), LineFault>
-    ensures value { result ≡ with_operand op.AdvancePc (uleb_at unit.now at) }
+    ensures value { result ≡ with_operand op.AdvancePc (unsigned_at unit.now at) }
     ensures within { IfOk result (λ r. IsFrom unit.now at r.1) }
 {
     let (count, next) = unsigned_at(unit, at)?;
@@ -54,7 +55,7 @@ fn advance_pc(unit: &[u8], at: usize) -> Result<(Operation, usize), LineFault>
 }
 
 fn advance_line(unit: &[u8], at: usize) -> Result<(Operation, usize), LineFault>
-    ensures value { result ≡ with_operand (λ n. op.AdvanceLine (residue n)) (sleb_at unit.now at) }
+    ensures value { result ≡ with_operand (λ n. op.AdvanceLine (residue n)) (signed_at unit.now at) }
     ensures within { IfOk result (λ r. IsFrom unit.now at r.1) }
 {
     let (lines, next) = signed_at(unit, at)?;
@@ -62,7 +63,7 @@ fn advance_line(unit: &[u8], at: usize) -> Result<(Operation, usize), LineFault>
 }
 
 fn set_file(unit: &[u8], at: usize) -> Result<(Operation, usize), LineFault>
-    ensures value { result ≡ with_operand op.SetFile (uleb_at unit.now at) }
+    ensures value { result ≡ with_operand op.SetFile (unsigned_at unit.now at) }
     ensures within { IfOk result (λ r. IsFrom unit.now at r.1) }
 {
     let (file, next) = unsigned_at(unit, at)?;
@@ -70,7 +71,7 @@ fn set_file(unit: &[u8], at: usize) -> Result<(Operation, usize), LineFault>
 }
 
 fn fixed_advance_pc(unit: &[u8], at: usize) -> Result<(Operation, usize), LineFault>
-    ensures value { result ≡ with_operand op.FixedAdvancePc (number_at 2 unit.now at) }
+    ensures value { result ≡ with_operand op.FixedAdvancePc (fixed_at 2 unit.now at) }
     ensures within { IfOk result (λ r. IsFrom unit.now at r.1) }
 {
     let (bytes, next) = half_at(unit, at)?;
@@ -78,7 +79,7 @@ fn fixed_advance_pc(unit: &[u8], at: usize) -> Result<(Operation, usize), LineFa
 }
 
 fn set_address(unit: &[u8], at: usize) -> Result<(Operation, usize), LineFault>
-    ensures value { result ≡ with_operand op.SetAddress (number_at 4 unit.now at) }
+    ensures value { result ≡ with_operand op.SetAddress (fixed_at 4 unit.now at) }
     ensures within { IfOk result (λ r. IsFrom unit.now at r.1) }
 {
     let (address, next) = word_at(unit, at)?;
@@ -87,7 +88,7 @@ fn set_address(unit: &[u8], at: usize) -> Result<(Operation, usize), LineFault>
 
 /// An operation whose one operand no row shows.
 fn passed_operand(unit: &[u8], at: usize) -> Result<(Operation, usize), LineFault>
-    ensures value { result ≡ with_operand (λ _. op.Pass) (uleb_at unit.now at) }
+    ensures value { result ≡ with_operand (λ _. op.Pass) (unsigned_at unit.now at) }
     ensures within { IfOk result (λ r. IsFrom unit.now at r.1) }
 {
     let (_, next) = unsigned_at(unit, at)?;

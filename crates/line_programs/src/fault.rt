@@ -1,9 +1,7 @@
 ghost use Rattle.std.specs.Prelude.{◌≡◌};
 ghost use Rattle.line_programs.specs.declared.fault.ProgramError.TheVariants.{Fault, Memory};
-ghost use Rattle.line_programs.specs.Operations.{fault_of};
 
 use dbg_traits::NoMemory;
-use leb_read::Leb;
 use line_rows::LineFault;
 use thiserror::Error;
 
@@ -29,15 +27,5 @@ impl From<NoMemory> for ProgramError {
 
     fn from(_: NoMemory) -> Self {
         ProgramError::Memory
-    }
-}
-
-/// The fault of a unit in which a number can't be read.
-pub fn fault_of(fault: Leb) -> LineFault
-    ensures { result ≡ fault_of fault }
-{
-    match fault {
-        Leb::Short => LineFault::Short,
-        Leb::Wide => LineFault::Leb,
     }
 }

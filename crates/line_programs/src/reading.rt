@@ -1,46 +1,20 @@
-//! Numbers in a unit, with the faults of a unit.
+//! Signed numbers, names and rows of numbers in a unit.
 
 ghost use Rattle.std.specs.Prelude.{◌≡◌, ◌≤◌, IfOk, length};
-ghost use Rattle.leb_read.specs.Leb.{IsBehind, IsBehindText, number_at, sleb_at, text_at, uleb_at};
-ghost use Rattle.line_programs.specs.Operations.{IsFrom, GivesName, behind_numbers, in_unit};
+ghost use Rattle.leb_read.specs.Leb.{IsBehind, IsBehindText, text_at};
+ghost use Rattle.line_rows.specs.Reading.{in_unit};
+ghost use Rattle.line_programs.specs.Operations.{IsFrom, GivesName, behind_numbers, signed_at};
 
-use crate::fault::fault_of;
-use leb_read::{sleb, text_at, u8_at, u16_at, u32_at, uleb};
-use line_rows::LineFault;
+use leb_read::{sleb, text_at};
+use line_rows::{LineFault, fault_of, in_unit, unsigned_at};
 
-pub fn byte_at(unit: &[u8], at: usize) -> Result<(u8, usize), LineFault>
-    ensures value { result ≡ in_unit (number_at 1 unit.now at) }
-    ensures within { IfOk result (λ r. IsBehind unit.now at r.1) }
-{
-    u8_at(unit, at).map_err(fault_of)
-}
-
-pub fn half_at(unit: &[u8], at: usize) -> Result<(u16, usize), LineFault>
-    ensures value { result ≡ in_unit (number_at 2 unit.now at) }
-    ensures within { IfOk result (λ r. IsBehind unit.now at r.1) }
-{
-    u16_at(unit, at).map_err(fault_of)
-}
-
-pub fn word_at(unit: &[u8], at: usize) -> Result<(u32, usize), LineFault>
-    ensures value { result ≡ in_unit (number_at 4 unit.now at) }
-    ensures within { IfOk result (λ r. IsBehind unit.now at r.1) }
-{
-    u32_at(unit, at).map_err(fault_of)
-}
-
-pub fn unsigned_at(unit: &[u8], at: usize) -> Result<(u64, usize), LineFault>
-    ensures value { result ≡ in_unit (uleb_at unit.now at) }
-    ensures within { IfOk result (λ r. IsBehind unit.now at r.1) }
-{
-    uleb(unit, at).map_err(fault_of)
-}
-
+/// The signed number of variable length at a place, and the next place.
+#[tactic(auto, unfolding(crate::specs::Operations::signed_at))]
 pub fn signed_at(unit: &[u8], at: usize) -> Result<(i64, usize), LineFault>
-    ensures value { result ≡ in_unit (sleb_at unit.now at) }
+    ensures value { result ≡ signed_at unit.now at }
     ensures within { IfOk result (λ r. IsBehind unit.now at r.1) }
 {
-    sleb(unit, at).map_err(fault_of)
+    in_unit(sleb(unit, at))
 }
 
 /// The bytes from a place up to a zero byte, and the place behind that.

@@ -1,10 +1,10 @@
 -- Parts of a list that grows at its end.
-use Rattle.std.proofs.Common.{◌≡◌, ℕ, zero, suc, ◌+◌, ◌-◌, ◌≤◌, List, [], ◌∷◌, ◌++◌, length, take, drop, map, refl, ap, ◌∙◌, sym, arith, length-drop}
+use Rattle.std.proofs.Common.{◌≡◌, ℕ, zero, suc, ◌+◌, ◌-◌, ◌≤◌, List, [], ◌∷◌, ◌++◌, length, take, drop, refl, ap, ◌∙◌, sym, arith, length-drop}
 use Rattle.std.specs.Prelude.{slice_range, All}
 use Rattle.std.proofs.lemmas.List.{take-append-le, drop-append-le, take-append-drop, map-append, take-map, length-take}
 use Rattle.std.proofs.lemmas.List.Elements.{All-head, All-tail}
-use Rattle.std.proofs.Math.Seq.{drop-append_seam, take-append_seam, take-length}
-use Rattle.line_rows.specs.RowList.{Sequence, SequenceList}
+use Rattle.std.proofs.Math.Seq.{drop-append_seam, take-length}
+use Rattle.line_rows.specs.RowList.{NameList, SequenceList}
 use Rattle.line_rows.specs.KeptNames.{name_in, names_in, IsNameRange}
 use Rattle.line_rows.specs.KeptSequences.{sequence_in, sequences_in, IsRowRange}
 use Rattle.line_rows.specs.declared.names.NameRange.{NameRange}
@@ -36,6 +36,11 @@ names_in-push bytes name ranges r h e f =
     let all : names_in (bytes ++ name) ranges ≡ names_in bytes ranges = names_in-append bytes name ranges h in
     let here : name_in (bytes ++ name) r ≡ name = slice_range-behind bytes name r.start r.past e f in
     map-append (name_in (bytes ++ name)) ranges (r ∷ []) ∙ cc
+
+-- the same of the texts with their names
+pub list_push : (bytes name : List ℕ) (ranges : List NameRange) (r : NameRange) → All (IsNameRange (length bytes)) ranges → r.start ≡ length bytes → r.past ≡ length bytes + length name
+    → (let more : NameList = record { texts = bytes ++ name; names = names_in (bytes ++ name) (ranges ++ r ∷ []) } in more ≡ record { texts = bytes ++ name; names = names_in bytes ranges ++ name ∷ [] })
+list_push bytes name ranges r h e f = rw (names_in-push bytes name ranges r h e f) refl
 
 -- sequences stay where rows come behind them
 pub sequences_in-append : (rows more : List Row) (count : ℕ) (ranges : List RowRange) → count ≤ length rows → All (IsRowRange count) ranges → sequences_in (rows ++ more) ranges ≡ sequences_in rows ranges

@@ -1,3 +1,4 @@
 pub mod RowList
 pub mod KeptNames
 pub mod KeptSequences
+pub mod Reading

@@ -1,5 +1,5 @@
 -- Line tables as lists (DWARF 5, section 6.2).
-use Rattle.std.specs.Prelude.{ℕ, ◌++◌, List, [], ◌∷◌, take}
+use Rattle.std.specs.Prelude.{ℕ, ◌++◌, List, [], ◌∷◌}
 use Rattle.line_rows.specs.declared.row.Row.{Row}
 use Rattle.line_rows.specs.declared.row.SequenceView.{SequenceView}
 use Rattle.line_rows.specs.declared.fault.UnitFault.{UnitFault}
@@ -23,6 +23,14 @@ pub record RowList : Type 0 where
   pub names : List (List ℕ)
   -- the units that give no rows
   pub faults : List UnitFault
+
+-- texts that are kept, and file names by their numbers, which are parts of them
+pub record NameList : Type 0 where
+  pub texts : List ℕ
+  pub names : List (List ℕ)
+
+abbrev pub no_names : NameList
+no_names = record { texts = []; names = [] }
 
 abbrev pub no_rows : RowList
 no_rows = record { sequences = []; pending = []; names = []; faults = [] }

@@ -3,11 +3,14 @@
 
 mod fault;
 mod names;
+mod reading;
 mod row;
 mod rows;
 mod sequences;
 
 pub use fault::{LineFault, UnitFault};
+pub use names::FileNames;
+pub use reading::{byte_at, fault_of, half_at, in_unit, unsigned_at, word_at};
 pub use row::{Row, SequenceView};
 pub use rows::Rows;
 

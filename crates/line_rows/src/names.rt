@@ -1,4 +1,5 @@
-ghost use Rattle.std.specs.Prelude.{◌≡◌, ◌+◌, ◌<◌, [], ◌∷◌, ◌++◌, Some, length, OnOk, OnErr, slice_get};
+ghost use Rattle.std.specs.Prelude.{◌≡◌, ◌+◌, ◌<◌, ◌≤◌, [], ◌∷◌, ◌++◌, Some, length, IfOk, OnOk, OnErr, slice_get, slice_range};
+ghost use Rattle.line_rows.specs.RowList.{NameList, no_names};
 
 use dbg_traits::NoMemory;
 use std::alloc::Global;
@@ -11,7 +12,7 @@ pub struct NameRange {
     pub past: usize,
 }
 
-/// File names by their numbers, one after another in one list of bytes. Contracts see the list of names.
+/// File names by their numbers, as parts of texts that are kept once. Contracts see a `NameList`.
 #[derive(Drop)]
 pub struct FileNames {
     bytes: Vec<u8>,
@@ -19,9 +20,9 @@ pub struct FileNames {
 }
 
 impl Model for FileNames {
-    ghost use Rattle.std.specs.Prelude.{List, ℕ};
+    ghost use Rattle.line_rows.specs.RowList.{NameList};
 
-    ghost Value = { List (List ℕ) };
+    ghost Value = { NameList };
 
     ghost use Rattle.line_rows.specs.KeptNames.{seen, IsKept};
 
@@ -32,7 +33,7 @@ impl Model for FileNames {
 
 impl FileNames {
     pub fn new(alloc: Global) -> FileNames
-        ensures { result ≡ [] }
+        ensures { result ≡ no_names }
     {
         FileNames {
             bytes: Vec::new(alloc),
@@ -40,9 +41,25 @@ impl FileNames {
         }
     }
 
+    /// How many bytes of texts are kept.
+    pub fn kept(&self) -> usize
+        ensures { result ≡ length self.now.texts }
+    {
+        self.bytes.len()
+    }
+
+    /// Keeps a text more, of which names can be parts.
+    pub fn keep(&mut self, text: &[u8]) -> Result<(), NoMemory>
+        ensures { OnOk result (self.new ≡ record self.old { texts = self.old.texts ++ text.now }) }
+    {
+        self.bytes.extend_from_slice(text)?;
+        Ok(())
+    }
+
+    /// A name more, whose text is kept with it.
     pub fn push(&mut self, name: &[u8]) -> Result<(), NoMemory>
-        ensures ok { OnOk result (self.new ≡ self.old ++ name.now ∷ []) }
-        ensures err { OnErr result (self.new ≡ self.old) }
+        ensures ok { OnOk result (self.new ≡ record { texts = self.old.texts ++ name.now; names = self.old.names ++ name.now ∷ [] }) }
+        ensures err { OnErr result (self.new.names ≡ self.old.names) }
     {
         let start = self.bytes.len();
         self.bytes.extend_from_slice(name)?;
@@ -51,15 +68,25 @@ impl FileNames {
         Ok(())
     }
 
+    /// A name more that is a part of the texts.
+    pub fn push_part(&mut self, start: usize, past: usize) -> Result<(), NoMemory>
+        requires ordered { start ≤ past }
+        requires within { past ≤ length self.old.texts }
+        ensures { OnOk result (self.new ≡ record self.old { names = self.old.names ++ slice_range self.old.texts start past ∷ [] }) }
+    {
+        self.ranges.push(NameRange { start, past })?;
+        Ok(())
+    }
+
     pub fn count(&self) -> usize
-        ensures { result ≡ length self.now }
+        ensures { result ≡ length self.now.names }
     {
         self.ranges.len()
     }
 
     pub fn name(&self, number: usize) -> &[u8]
-        requires { number < length self.now }
-        ensures { slice_get self.now number ≡ Some result.now }
+        requires { number < length self.now.names }
+        ensures { slice_get self.now.names number ≡ Some result.now }
     {
         let range = self.ranges[number];
         &self.bytes[range.start..range.past]

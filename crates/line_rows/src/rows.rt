@@ -23,7 +23,7 @@ impl Model for Rows {
 
     ghost Value = { RowList };
 
-    ghost view = { λ i. record { sequences = i.sequences.ended; pending = i.sequences.pending; names = i.names; faults = i.faults.items } };
+    ghost view = { λ i. record { sequences = i.sequences.ended; pending = i.sequences.pending; names = i.names.names; faults = i.faults.items } };
 }
 
 impl Rows {
@@ -66,6 +66,13 @@ impl Rows {
         ensures err { OnErr result (self.new ≡ self.old) }
     {
         self.names.push(name)
+    }
+
+    /// Has these file names in place of its own.
+    pub fn set_names(&mut self, names: FileNames)
+        ensures { self.new ≡ record self.old { names = names.names } }
+    {
+        self.names = names;
     }
 
     /// A unit with a fault more.

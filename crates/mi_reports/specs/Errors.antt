@@ -31,6 +31,7 @@ abbrev pub obstacle_message : Obstacle → List ℕ
 obstacle_message (obstacle.UnknownThread t) = text.UNKNOWN_THREAD.now ++ decimal t
 obstacle_message (obstacle.HasExited t) = text.THREAD.now ++ decimal t ++ text.HAS_EXITED.now
 obstacle_message (obstacle.IsRunning t) = text.THREAD.now ++ decimal t ++ text.IS_RUNNING.now
+obstacle_message (obstacle.NotRunning t) = text.THREAD.now ++ decimal t ++ text.NOT_RUNNING.now
 obstacle_message (obstacle.NoBreakpoint n) = text.NO_BREAKPOINT.now ++ decimal n
 obstacle_message (obstacle.NoInstruction addr) = text.NO_INSTRUCTION.now ++ word_text addr
 obstacle_message obstacle.TooManyBreakpoints = text.TOO_MANY_BREAKPOINTS.now

@@ -1,6 +1,8 @@
 -- The lines of a reply (GDB manual, "GDB/MI Result Records", "GDB/MI Thread Commands", "GDB/MI Data Manipulation",
--- "GDB/MI Breakpoint Commands").
+-- "GDB/MI Breakpoint Commands", "GDB/MI Miscellaneous Commands").
 use Rattle.std.specs.Prelude.{ℕ, ◌+◌, ◌-◌, ◌%◌, ◌^◌, Bool, List, [], ◌∷◌, ◌++◌, length, Option, Some, None, if◌then◌else◌, nat_lt, decimal}
+use Rattle.mi_commands.specs.declared.command.Displaced.{Displaced}
+use Rattle.mi_commands.specs.declared.command.Displaced.TheVariants as displaced
 use Rattle.mi_commands.specs.declared.command.Format.{Format}
 use Rattle.mi_commands.specs.declared.command.Format.TheVariants.{Hexadecimal, Decimal}
 use Rattle.dbg_model.specs.declared.reply.Register.{Register}
@@ -58,6 +60,13 @@ range_text addr end = text.MEMORY_HEAD.now ++ word_text addr ++ text.MEMORY_END.
 abbrev pub memory_text : ℕ → List ℕ → List ℕ
 memory_text addr bytes = range_text addr ((addr + length bytes) % 2 ^ 32) ++ encode_lower bytes ++ text.MEMORY_TAIL.now
 
+-- ---- settings
+
+abbrev pub setting_text : Displaced → List ℕ
+setting_text displaced.On = text.ON.now
+setting_text displaced.Off = text.OFF.now
+setting_text displaced.Auto = text.AUTO.now
+
 -- ---- the reply
 
 -- behind the token
@@ -76,6 +85,7 @@ content_text content.RegisterNames = text.NAMES.now ++ text.END.now
 content_text (content.Registers format registers) = text.REGISTERS_HEAD.now ++ joined (register_text format) registers ++ text.LIST_END.now
 content_text (content.Memory addr bytes) = memory_text addr bytes
 content_text (content.Value word unsigned) = text.EVALUATED_HEAD.now ++ worth_text word unsigned ++ text.QUOTED_END.now
+content_text (content.Setting value) = text.EVALUATED_HEAD.now ++ setting_text value ++ text.QUOTED_END.now
 content_text (content.Refused r) = refused_text r
 
 -- the lines of a reply

@@ -7,7 +7,7 @@ use Rattle.break_table.specs.declared.due.CondError.TheVariants.{DivZero, Unread
 use Rattle.dbg_model.specs.declared.entry.Entry.{Entry}
 use Rattle.dbg_model.specs.declared.entry.Entry.TheVariants.{Ran, Counted, Stopped, Left, Did}
 use Rattle.mi_reports.specs.Bytes.{word_text, octal, c_string}
-use Rattle.mi_reports.specs.declared.texts.TheConstants.{CREATED_HEAD, EXITED_HEAD, GROUP_TAIL, PROMPT, SIGNAL_HEAD, BREAK_HEAD, KEPT, DELETED, BREAK_NUMBER_HEAD, SEGMENTATION_FAULT, BUS_ERROR, ILLEGAL_INSTRUCTION, TRAP, FRAME_HEAD, FRAME_TAIL, STOPPED_HEAD, STOPPED_TAIL, EXITED_NORMALLY, EXIT_CODE_HEAD, LINE_TAIL, STREAM_HEAD, LOG_HEAD, CONDITION_ERROR, COLON, DIVISION_BY_ZERO, UNREADABLE}
+use Rattle.mi_reports.specs.declared.texts.TheConstants.{CREATED_HEAD, EXITED_HEAD, GROUP_TAIL, PROMPT, SIGNAL_HEAD, BREAK_HEAD, KEPT, DELETED, BREAK_NUMBER_HEAD, SEGMENTATION_FAULT, BUS_ERROR, ILLEGAL_INSTRUCTION, TRAP, INTERRUPT, FRAME_HEAD, FRAME_TAIL, STOPPED_HEAD, STOPPED_TAIL, EXITED_NORMALLY, EXIT_CODE_HEAD, LINE_TAIL, STREAM_HEAD, LOG_HEAD, CONDITION_ERROR, COLON, DIVISION_BY_ZERO, UNREADABLE}
 
 -- a line for each of the first n threads
 abbrev pub created : ℕ → List ℕ
@@ -33,9 +33,17 @@ signal FetchFault = SEGMENTATION_FAULT.now
 unfoldable pub frame_text : ℕ → ℕ → List ℕ
 frame_text h pc = FRAME_HEAD.now ++ word_text pc ++ FRAME_TAIL.now ++ decimal (h + 1) ++ STOPPED_HEAD.now ++ decimal (h + 1) ++ STOPPED_TAIL.now
 
+-- hart h stopped at pc by a signal, which is given with its meaning
+unfoldable pub signal_text : List ℕ → ℕ → ℕ → List ℕ
+signal_text name h pc = SIGNAL_HEAD.now ++ name ++ frame_text h pc
+
 -- hart h stopped at pc by a fault
 unfoldable pub stop_text : Cause → ℕ → ℕ → List ℕ
-stop_text cause h pc = SIGNAL_HEAD.now ++ signal cause ++ frame_text h pc
+stop_text cause h pc = signal_text (signal cause) h pc
+
+-- hart h stopped at pc by an interrupt that was asked of it
+unfoldable pub interrupt_text : ℕ → ℕ → List ℕ
+interrupt_text h pc = signal_text INTERRUPT.now h pc
 
 -- what becomes of a breakpoint that is hit
 abbrev pub disposition : Bool → List ℕ

@@ -69,6 +69,11 @@ fn push_obstacle(into: &mut Vec<u8>, obstacle: Obstacle) -> Result<(), AllocErro
             push_word(into, thread)?;
             push(into, text::IS_RUNNING)
         }
+        Obstacle::NotRunning(thread) => {
+            push(into, text::THREAD)?;
+            push_word(into, thread)?;
+            push(into, text::NOT_RUNNING)
+        }
         Obstacle::NoBreakpoint(number) => push_counted(into, text::NO_BREAKPOINT, number),
         Obstacle::NoInstruction(address) => push_at(into, text::NO_INSTRUCTION, address),
         Obstacle::TooManyBreakpoints => push(into, text::TOO_MANY_BREAKPOINTS),

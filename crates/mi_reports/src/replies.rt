@@ -2,7 +2,7 @@
 ghost use Rattle.std.specs.Prelude.{◌≡◌, ◌++◌, IfOk, OnOk, decimal};
 ghost use Rattle.hex.specs.Hex.{encode_lower};
 ghost use Rattle.mi_reports.specs.Lists.{behind_commas, joined};
-ghost use Rattle.mi_reports.specs.Replies.{running_lines, place_text, thread_text, number_text, signed_text, value_text, worth_text, register_text, range_text, memory_text, content_text, reply_text};
+ghost use Rattle.mi_reports.specs.Replies.{running_lines, place_text, thread_text, number_text, signed_text, value_text, worth_text, setting_text, register_text, range_text, memory_text, content_text, reply_text};
 
 use crate::breakpoints::{push_breakpoint, push_breakpoints};
 use crate::errors::push_error;
@@ -10,7 +10,7 @@ use crate::numbers::{push, push_address, push_decimal, push_word};
 use crate::reply_texts as text;
 use crate::texts::PROMPT;
 use dbg_model::{Breakpoint, Content, Register, Reply, Thread};
-use mi_commands::Format;
+use mi_commands::{Displaced, Format};
 use std::alloc::{AllocError, Global};
 
 fn push_running(into: &mut Vec<u8>, threads: &[u32]) -> Result<(), AllocError>
@@ -279,6 +279,24 @@ fn push_evaluated(into: &mut Vec<u8>, word: u32, unsigned: bool) -> Result<(), A
     push(into, text::QUOTED_END)
 }
 
+fn setting_text(value: Displaced) -> &'static str
+    ensures { result.now ≡ setting_text value }
+{
+    match value {
+        Displaced::On => text::ON,
+        Displaced::Off => text::OFF,
+        Displaced::Auto => text::AUTO,
+    }
+}
+
+fn push_setting(into: &mut Vec<u8>, value: Displaced) -> Result<(), AllocError>
+    ensures { OnOk result (into.new.items ≡ into.old.items ++ content_text (Content.Setting value)) }
+{
+    push(into, text::EVALUATED_HEAD)?;
+    push(into, setting_text(value))?;
+    push(into, text::QUOTED_END)
+}
+
 // What stands behind the token.
 fn push_content(alloc: Global, into: &mut Vec<u8>, content: &Content) -> Result<(), AllocError>
     ensures { OnOk result (into.new.items ≡ into.old.items ++ content_text content.now) }
@@ -314,6 +332,7 @@ fn push_content(alloc: Global, into: &mut Vec<u8>, content: &Content) -> Result<
         ),
         Content::Memory { address, bytes } => push_memory(alloc, into, *address, bytes.as_slice()),
         Content::Value { word, unsigned } => push_evaluated(into, *word, *unsigned),
+        Content::Setting(value) => push_setting(into, *value),
         Content::Refused(refused) => push_error(alloc, into, refused),
     }
 }

@@ -90,6 +90,12 @@ pub const MEMORY_TAIL: &str = "\"}]\n(gdb)\n";
 
 pub const EVALUATED_HEAD: &str = "^done,value=\"";
 
+pub const ON: &str = "on";
+
+pub const OFF: &str = "off";
+
+pub const AUTO: &str = "auto";
+
 pub const ERROR_HEAD: &str = "^error,msg=\"";
 
 pub const UNDEFINED_TAIL: &str = "\",code=\"undefined-command\"\n(gdb)\n";
@@ -117,6 +123,8 @@ pub const THREAD: &str = "Thread ";
 pub const HAS_EXITED: &str = " has exited";
 
 pub const IS_RUNNING: &str = " is running";
+
+pub const NOT_RUNNING: &str = " is not running";
 
 pub const NO_BREAKPOINT: &str = "No breakpoint number ";
 

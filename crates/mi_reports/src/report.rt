@@ -1,6 +1,6 @@
 // The lines of what entries show.
 ghost use Rattle.std.specs.Prelude.{◌≡◌, ◌+◌, ◌++◌, ◌<◌, decimal, IfOk, OnOk};
-ghost use Rattle.mi_reports.specs.Text.{created, opening_text, signal, frame_text, stop_text, disposition, hit_text, break_text, gone_text, gone_texts, exit_text, lefts_text, stream_text};
+ghost use Rattle.mi_reports.specs.Text.{created, opening_text, signal, frame_text, signal_text, stop_text, interrupt_text, disposition, hit_text, break_text, gone_text, gone_texts, exit_text, lefts_text, stream_text};
 
 use crate::conditions::push_condition;
 use crate::numbers::{push, push_address, push_c_string, push_decimal, push_octal, push_word};
@@ -63,16 +63,32 @@ fn push_frame(into: &mut Vec<u8>, hart: u32, pc: u32) -> Result<(), AllocError>
     push(into, texts::STOPPED_TAIL)
 }
 
+// A signal comes with its meaning.
+#[tactic(auto, unfolding(crate::specs::Text::signal_text))]
+fn signal_text(alloc: Global, signal: &str, hart: u32, pc: u32) -> Result<Vec<u8>, AllocError>
+    ensures { IfOk result (λ v. v.items ≡ signal_text signal.now hart pc) }
+{
+    let mut text = Vec::new(alloc);
+    push(&mut text, texts::SIGNAL_HEAD)?;
+    push(&mut text, signal)?;
+    push_frame(&mut text, hart, pc)?;
+    Ok(text)
+}
+
 /// The line of a stop of a hart by a fault, at pc.
 #[tactic(auto, unfolding(crate::specs::Text::stop_text))]
 pub fn stop_text(alloc: Global, cause: Cause, hart: u32, pc: u32) -> Result<Vec<u8>, AllocError>
     ensures { IfOk result (λ v. v.items ≡ stop_text cause hart pc) }
 {
-    let mut text = Vec::new(alloc);
-    push(&mut text, texts::SIGNAL_HEAD)?;
-    push(&mut text, signal(cause))?;
-    push_frame(&mut text, hart, pc)?;
-    Ok(text)
+    signal_text(alloc, signal(cause), hart, pc)
+}
+
+/// The line of a stop of a hart by an interrupt that was asked of it, at pc.
+#[tactic(auto, unfolding(crate::specs::Text::interrupt_text))]
+pub fn interrupt_text(alloc: Global, hart: u32, pc: u32) -> Result<Vec<u8>, AllocError>
+    ensures { IfOk result (λ v. v.items ≡ interrupt_text hart pc) }
+{
+    signal_text(alloc, texts::INTERRUPT, hart, pc)
 }
 
 /// What becomes of a breakpoint that is hit.

@@ -25,6 +25,8 @@ pub const ILLEGAL_INSTRUCTION: &str = "SIGILL\",signal-meaning=\"Illegal instruc
 
 pub const TRAP: &str = "SIGTRAP\",signal-meaning=\"Trace/breakpoint trap";
 
+pub const INTERRUPT: &str = "SIGINT\",signal-meaning=\"Interrupt";
+
 pub const FRAME_HEAD: &str = "\",frame={addr=\"0x";
 
 pub const FRAME_TAIL: &str = "\",args=[]},thread-id=\"";

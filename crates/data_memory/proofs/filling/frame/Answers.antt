@@ -12,10 +12,10 @@ pub returns-in_ok-resize-clause-same : goal.returns-in_ok-resize-clause-same
 returns-in_ok-resize-clause-same c =
     let xs : List Cell = c.args.cells.now.items in
     let n : vec_len c.args.cells.now ≡ length xs = c.args.cells.now.ok.0 in
-    let ys : List Cell = replicate (c.len-then-pages-page-eq0.result + 4096 - vec_len c.args.cells.now) Absent in
-    let items : c.resize.new.self.items ≡ xs ++ ys = c.in_ok-resize.ensures.items ∙ ap (λ zs. zs ++ ys) (take_all (c.len-then-pages-page-eq0.result + 4096) xs (omega (arith, c.len-then-pages-page-eq0.ensures))) in
-    subst (λ ds. Holds (slice_set c.args.pages.now (c.args.addr / 4096) c.in-Ok.number) ds (byte_at c.args.pages.now xs)) (sym items)
-    (framed_holds c.args.pages.now xs ys (c.args.addr / 4096) c.in-Ok.number c.requires (omega arith) c.if-pages-page-eq0.true
+    let ys : List Cell = replicate (c.len-then-pages-page-eq0.result + 512 - vec_len c.args.cells.now) Absent in
+    let items : c.resize.new.self.items ≡ xs ++ ys = c.in_ok-resize.ensures.items ∙ ap (λ zs. zs ++ ys) (take_all (c.len-then-pages-page-eq0.result + 512) xs (omega (arith, c.len-then-pages-page-eq0.ensures))) in
+    subst (λ ds. Holds (slice_set c.args.pages.now (c.args.addr / 512) c.in-Ok.number) ds (byte_at c.args.pages.now xs)) (sym items)
+    (framed_holds c.args.pages.now xs ys (c.args.addr / 512) c.in-Ok.number c.requires (omega arith) c.if-pages-page-eq0.true
     (omega (arith, c.in-Ok.ensures.1, c.len.ensures))
-    (length-replicate (c.len-then-pages-page-eq0.result + 4096 - vec_len c.args.cells.now) Absent ∙ omega (arith, c.len-then-pages-page-eq0.ensures))
-    (all_absent (c.len-then-pages-page-eq0.result + 4096 - vec_len c.args.cells.now)))
+    (length-replicate (c.len-then-pages-page-eq0.result + 512 - vec_len c.args.cells.now) Absent ∙ omega (arith, c.len-then-pages-page-eq0.ensures))
+    (all_absent (c.len-then-pages-page-eq0.result + 512 - vec_len c.args.cells.now)))

@@ -1,8 +1,9 @@
-use Rattle.std.proofs.Common.{◌≡◌, take, drop, []}
+use Rattle.std.proofs.Common.{◌≡◌, ◌≤◌, take, drop, []}
 use Rattle.elf32_read.specs.Checks.{first_fault, segment_checks}
 use Rattle.elf32_read.proofs.checks.check_segments.Given as goal
 
 abbrev pub invariant-loop-k : goal.invariant-loop-k
-invariant-loop-k l =
-    first_fault (segment_checks l.size [] l.segments)
-    ≡ first_fault (segment_checks l.size (take l.k l.segments) (drop l.k l.segments))
+invariant-loop-k l = record {
+  before : l.k ≤ l.apart;
+  same : first_fault (segment_checks l.size [] l.segments) ≡ first_fault (segment_checks l.size (take l.k l.segments) (drop l.k l.segments));
+}

@@ -1,11 +1,35 @@
 use Rattle.std.proofs.Common.{◌≡◌, ◌∙◌, ap, filter}
 use Rattle.elf32_read.specs.Headers.{is_text, loaded, text_headers}
+use Rattle.elf32_read.specs.declared.header.ProgramHeader.{ProgramHeader}
+use Rattle.elf32_read.specs.declared.header.SectionHeader.{SectionHeader}
+use Rattle.elf32_read.proofs.Found.{some_texts, texts_rise}
+use Rattle.elf32_read.proofs.Fronts.{table_rises}
 use Rattle.elf32_read.proofs.Tables.{ranged}
 use Rattle.elf32_read.proofs.read.read_image.Goals as goal
 
+pub text_ranges-requires-clause-sorted : goal.text_ranges-requires-clause-sorted
+text_ranges-requires-clause-sorted c =
+    let r = table_rises (λ (h : ProgramHeader). h.address) (λ (h : ProgramHeader). h.memory_size) c.in_ok-segments.segments.items c.in_ok-segment_table.segment_table (rw c.deref-2.ensures.value at c.in_ok-segment_table.ensures) (rw c.deref-4.ensures.value at c.in_ok-check_tables.ensures.segments) in
+    rw (c.deref-7.ensures.value, c.deref-8.ensures.value) r
+
+pub text_ranges-requires-clause-some : goal.text_ranges-requires-clause-some
+text_ranges-requires-clause-some c =
+    let t : c.deref-9.result.now ≡ text_headers c.args.bytes.now =
+    c.deref-9.ensures.value ∙ c.in_ok-texts.ensures ∙ ap (filter is_text) (c.deref.ensures.value ∙ c.in_ok-sections.ensures) in
+    rw t (some_texts c.args.bytes.now)
+
+pub of-requires-clause-segment_spans : goal.of-requires-clause-segment_spans
+of-requires-clause-segment_spans c =
+    table_rises (λ (h : ProgramHeader). h.address) (λ (h : ProgramHeader). h.memory_size) c.in_ok-segments.segments.items c.in_ok-segment_table.segment_table (rw c.deref-2.ensures.value at c.in_ok-segment_table.ensures) (rw c.deref-4.ensures.value at c.in_ok-check_tables.ensures.segments)
+
+pub of-requires-clause-text_spans : goal.of-requires-clause-text_spans
+of-requires-clause-text_spans c =
+    let r = table_rises (λ (h : SectionHeader). h.address) (λ (h : SectionHeader). h.size) c.in_ok-texts.texts.items c.in_ok-text_table.text_table (rw c.deref-3.ensures.value at c.in_ok-text_table.ensures) (rw c.deref-6.ensures.value at c.in_ok-check_tables.ensures.texts) in
+    texts_rise c.deref-7.result.now c.in_ok-texts.texts.items c.in_ok-text.text.items c.in_ok-text_table.text_table.sorted.items (rw c.deref-9.ensures.value at c.in_ok-text.ensures) r
+
 pub of-requires-clause-text : goal.of-requires-clause-text
 of-requires-clause-text c =
-    let s : c.deref-5.result.now ≡ loaded c.args.bytes.now = c.deref-5.ensures.value ∙ c.in_ok-segments.ensures in
-    let t : c.deref-6.result.now ≡ text_headers c.args.bytes.now =
-    c.deref-6.ensures.value ∙ c.in_ok-texts.ensures ∙ ap (filter is_text) (c.deref.ensures.value ∙ c.in_ok-sections.ensures) in
+    let s : c.deref-7.result.now ≡ loaded c.args.bytes.now = c.deref-7.ensures.value ∙ c.in_ok-segments.ensures in
+    let t : c.deref-9.result.now ≡ text_headers c.args.bytes.now =
+    c.deref-9.ensures.value ∙ c.in_ok-texts.ensures ∙ ap (filter is_text) (c.deref.ensures.value ∙ c.in_ok-sections.ensures) in
     ranged _ _ _ _ _ c.in_ok-text.ensures s t c.in_ok-from_slice.ensures.items

@@ -7,6 +7,7 @@ invariant_of-self c = record {
   rising = IsRising-higher 0 _ _ _ c.self.invariant.rising (omega arith);
   few = c.self.invariant.few;
   room = c.self.invariant.room;
-  long = c.self.invariant.long;
-  marked = c.self.invariant.marked;
+  same = c.self.invariant.same;
+  room_for_places = c.self.invariant.room_for_places;
+  placed = c.self.invariant.placed;
 }

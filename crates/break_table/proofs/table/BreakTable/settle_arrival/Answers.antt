@@ -1,29 +1,36 @@
-use Rattle.std.proofs.Common.{◌≡◌, ◌∙◌, subst, refl, arith, Some, false, slice_get, length, map, List}
+use Rattle.std.proofs.Common.{◌≡◌, ◌∙◌, ap, refl, length, map}
 use Rattle.std.proofs.lemmas.List.{with_items_is}
-use Rattle.break_table.specs.declared.entry.BreakEntry.{BreakEntry}
+use Rattle.break_table.specs.Arrival.{settled_entry}
 use Rattle.break_table.specs.Entry.{entry_of}
-use Rattle.break_table.specs.Arrival.{stays}
-use Rattle.break_table.specs.Marks.{place_of, AreMarked}
-use Rattle.break_table.proofs.Marking.{NoneAt, NoneAt-unmarked}
-use Rattle.break_table.proofs.Nowhere.{settled-nowhere, settled_entry-number}
-use Rattle.break_table.proofs.Rising.{IsRising-filter, IsRising-map}
+use Rattle.break_table.specs.Table.{Table}
+use Rattle.break_table.proofs.Here.{settled_entry-elsewhere, settled_entry-number, settled_entry-address}
+use Rattle.break_table.proofs.Keeping.{IsKept-mapped}
+use Rattle.break_table.proofs.Placing.{AreInside-run, changed_each-run}
 use Rattle.break_table.proofs.table.BreakTable.settle_arrival.Goals as goal
 
-pub returns-then-not-is_marked : goal.returns-then-not-is_marked
-returns-then-not-is_marked g c =
-    let free : slice_get c.self.inside.marks.items (place_of (g.V.View.registers c.args.view.now 32)) ≡ Some false = rw (← c.deref.ensures.value, ← c.reg.ensures) c.if-not-is_marked.ensures in
-    let none : NoneAt (g.V.View.registers c.args.view.now 32) (map entry_of c.self.inside.entries.items) = NoneAt-unmarked _ _ _ free c.self.invariant.marked in
-    rw (← c.self.view_is, settled-nowhere c.args.hart (g.V.View.registers c.args.view.now) (g.V.View.bytes c.args.view.now) (map entry_of c.self.inside.entries.items) none) refl
+pub settle_each-requires : goal.settle_each-requires
+settle_each-requires g c =
+    rw (c.run_at.ensures, c.deref.ensures.value, c.deref_mut.ensures.value) (AreInside-run c.self.inside.places.items c.self.inside.entries.items c.reg.result c.self.invariant.placed)
 
 pub invariant_of-self : goal.invariant_of-self
 invariant_of-self g c =
-    let long : length c.mark_all.new.marks ≡ c.self.inside.marks.len = c.mark_all.auto.marks ∙ c.deref_mut.ensures.len in record {
-      rising =
-          rw c.settle.ensures.entries
-          (IsRising-map 0 c.self.inside.given _ (settled_entry-number c.args.hart (g.V.View.registers c.args.view.now) (g.V.View.bytes c.args.view.now)) _
-          (IsRising-filter 0 c.self.inside.given (stays c.args.hart (g.V.View.registers c.args.view.now) (g.V.View.bytes c.args.view.now)) (map entry_of c.self.inside.entries.items) c.self.invariant.rising));
-      few = omega (arith, c.settle.ensures.fewer, c.self.invariant.few);
-      room = omega (arith, c.settle.ensures.capacity, c.self.invariant.room);
-      long = c.self.invariant.long;
-      marked = rw (with_items_is c.self.inside.marks c.mark_all.new.marks long) (subst (λ (es : List BreakEntry). AreMarked c.mark_all.new.marks (map entry_of es)) c.deref-2.ensures.value c.mark_all.ensures);
-    }
+    let registers = g.V.View.registers c.args.view.now in
+    let bytes = g.V.View.bytes c.args.view.now in
+    let f = settled_entry c.args.hart registers bytes in
+    let long : length c.settle_each.new.entries ≡ c.self.inside.entries.len = c.settle_each.auto.entries ∙ c.deref_mut.ensures.len in
+    let is : map entry_of c.settle_each.new.entries ≡ map f (map entry_of c.self.inside.entries.items) =
+    (rw (c.run_at.ensures, c.deref.ensures.value, c.deref_mut.ensures.value, c.reg.ensures) at c.settle_each.ensures)
+    ∙ changed_each-run c.self.inside.places.items c.self.inside.entries.items (registers 32) c.self.invariant.placed f (settled_entry-elsewhere c.args.hart registers bytes) in
+    IsKept-mapped f c.self.inside _ (settled_entry-number c.args.hart registers bytes) (settled_entry-address c.args.hart registers bytes) c.self.invariant
+    (ap (map entry_of) (with_items_is c.self.inside.entries c.settle_each.new.entries long) ∙ is) refl refl
+
+pub returns : goal.returns
+returns g c =
+    let registers = g.V.View.registers c.args.view.now in
+    let bytes = g.V.View.bytes c.args.view.now in
+    let f = settled_entry c.args.hart registers bytes in
+    let long : length c.settle_each.new.entries ≡ c.self.inside.entries.len = c.settle_each.auto.entries ∙ c.deref_mut.ensures.len in
+    let is : map entry_of c.settle_each.new.entries ≡ map f (map entry_of c.self.inside.entries.items) =
+    (rw (c.run_at.ensures, c.deref.ensures.value, c.deref_mut.ensures.value, c.reg.ensures) at c.settle_each.ensures)
+    ∙ changed_each-run c.self.inside.places.items c.self.inside.entries.items (registers 32) c.self.invariant.placed f (settled_entry-elsewhere c.args.hart registers bytes) in
+    rw (with_items_is c.self.inside.entries c.settle_each.new.entries long, is) (ap (λ (t : Table). record t { entries = map f t.entries }) (c.self.view_is ∙ c.drop_leaving.ensures))

@@ -5,8 +5,8 @@ use Rattle.mi_commands.specs.declared.refusal.Refusal.{Refusal}
 use Rattle.mi_commands.specs.declared.refusal.Refusal.TheVariants.{Faulty}
 use Rattle.dbg_model.specs.declared.limits.TheConstants.{HISTORY}
 use Rattle.dbg_model.specs.Reply.{answer_of, outcome_at, fault_outcome}
-use Rattle.engine_facts.specs.Seen.{Run, seen, seen_harts}
-use Rattle.dbg_engine.specs.Answering.{seen_response}
+use Rattle.engine_facts.specs.Seen.{Run, seen}
+use Rattle.dbg_engine.specs.Answering.{seen_response, own_harts}
 use Rattle.dbg_engine.specs.EngineInside.{run_of}
 use Rattle.dbg_engine.proofs.Commanding.{numbers_room}
 use Rattle.dbg_engine.proofs.Replies.{answered_with, reply_made, reply_faulty, reply_too_long, reply_syntax, reply_no_command}
@@ -22,7 +22,7 @@ returns-in_ok-response-in-Ok c =
     let r = run_of c.self.inside in
     let cmd = c.in-Ok.read.command in
     let token = c.in-Ok.read.token in
-    let minds = ap (λ xs. outcome_at r.opening.image r.names (seen_harts r.machine.cores xs) r.machine.memory r.breaks r.given r.selected cmd) c.as_slice.ensures.value in
+    let minds = ap (λ xs. outcome_at r.opening.image r.names (own_harts r.machine.cores xs) r.machine.memory r.breaks r.given r.selected r.displaced cmd) c.as_slice.ensures.value in
     let P : Run → Type 0 = λ q. answered_with token (seen_response c.in_ok-response-in-Ok.response) ≡ answer_of q.opening (seen q) c.args.line.now in
     subst P c.self.view_is (reply_made r c.args.line.now token cmd (seen_response c.in_ok-response-in-Ok.response) c.self.invariant.facts c.in-Ok.ensures.commands (c.in_ok-response-in-Ok.ensures ∙ minds))
 
@@ -47,7 +47,7 @@ returns-in-Err-Faulty c =
     let token = c.in-Err-Faulty.token in
     let fault = c.in-Err-Faulty.fault in
     let given : Commands c.args.line.now (Err (Faulty token fault)) = subst (λ (f : Refusal). Commands c.args.line.now (Err f)) c.in-Err-Faulty.field-0-is c.in-Err-Faulty.ensures.commands in
-    let cores = ap (λ cs. fault_outcome (seen_harts cs c.as_slice-in-Err-Faulty.result.now) fault) c.cores.ensures in
-    let minds = ap (λ xs. fault_outcome (seen_harts r.machine.cores xs) fault) c.as_slice-in-Err-Faulty.ensures.value in
+    let cores = ap (λ cs. fault_outcome (own_harts cs c.as_slice-in-Err-Faulty.result.now) fault) c.cores.ensures in
+    let minds = ap (λ xs. fault_outcome (own_harts r.machine.cores xs) fault) c.as_slice-in-Err-Faulty.ensures.value in
     let P : Run → Type 0 = λ q. answered_with token (seen_response c.refuse.result) ≡ answer_of q.opening (seen q) c.args.line.now in
     subst P c.self.view_is (reply_faulty r c.args.line.now token fault (seen_response c.refuse.result) given (c.refuse.ensures ∙ (cores ∙ minds)))

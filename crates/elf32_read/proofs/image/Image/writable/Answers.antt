@@ -5,4 +5,4 @@ use Rattle.elf32_read.proofs.image.Image.writable.Goals as goal
 pub returns : goal.returns
 returns c =
     c.may_write.ensures
-    ∙ rw (c.deref.ensures.value, c.deref-2.ensures.value) (kept_writable c.self.inside c.args.self.now c.args.addr c.self.invariant c.self.view_is)
+    ∙ rw (c.deref.ensures.value, c.deref-3.ensures.value) (kept_writable c.self.inside c.args.self.now c.args.addr c.self.invariant c.self.view_is)

@@ -1,5 +1,5 @@
 -- The rows of ended sequences stay.
-use Rattle.std.proofs.Common.{◌≡◌, ◌∙◌, ap, List, ◌++◌, ◌∷◌, []}
+use Rattle.std.proofs.Common.{◌∙◌, ap, ◌++◌, ◌∷◌, []}
 use Rattle.line_rows.specs.RowList.{SequenceList}
 use Rattle.line_rows.proofs.Flat.{sequences_push}
 use Rattle.line_rows.proofs.sequences.Sequences.push.Goals as goal

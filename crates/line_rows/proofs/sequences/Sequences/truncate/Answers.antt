@@ -1,6 +1,5 @@
 -- The first ranges, and no pending rows.
-use Rattle.std.proofs.Common.{◌≡◌, ◌∙◌, ap, List, ◌++◌, ◌∷◌, [], take, drop, refl}
-use Rattle.line_rows.specs.RowList.{SequenceList}
+use Rattle.std.proofs.Common.{refl}
 use Rattle.line_rows.proofs.Flat.{sequences_take, drop-take}
 use Rattle.line_rows.proofs.sequences.Sequences.truncate.Goals as goal
 

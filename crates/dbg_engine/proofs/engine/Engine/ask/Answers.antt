@@ -1,0 +1,47 @@
+use Rattle.std.proofs.Common.{◌≡◌, ◌-◌, ◌+◌, ◌++◌, [], ◌∷◌, List, sym, ap, ◌∙◌, subst}
+use Rattle.std.specs.Prelude.{vec_len, vec_capacity}
+use Rattle.std.specs.Vec.{with_items}
+use Rattle.std.proofs.lemmas.List.{with_items_is}
+use Rattle.engine_facts.specs.declared.mind.Mind.{Mind}
+use Rattle.dbg_model.specs.declared.entry.Entry.TheVariants.{Did}
+use Rattle.dbg_model.specs.Lawful.{may_do}
+use Rattle.engine_facts.specs.Seen.{Run, seen}
+use Rattle.engine_facts.specs.Facts.{Facts}
+use Rattle.dbg_model.specs.Reply.{interrupts}
+use Rattle.dbg_engine.specs.Answering.{Makes}
+use Rattle.dbg_engine.specs.Calls.{Lines}
+use Rattle.dbg_engine.specs.Resuming.{ask_threads}
+use Rattle.dbg_engine.specs.EngineInside.{run_of}
+use Rattle.dbg_engine.proofs.Commanding.{LinedTo, asked_line}
+use Rattle.dbg_engine.proofs.engine.Engine.ask.Goals as goal
+use Rattle.dbg_engine.proofs.engine.Engine.ask.Goals.{After-self-2-1}
+
+abbrev new_run : After-self-2-1 → List Mind → Run
+new_run c xs = record (run_of c.self.inside) { journal = c.note.new.entries.items; spare = vec_capacity c.note.new.entries - vec_len c.note.new.entries; minds = xs; noted = (run_of c.self.inside).noted + 1 }
+
+done : (c : After-self-2-1) → LinedTo (run_of c.self.inside) (new_run c c.ask_threads.new.minds) c.args.line.now
+done c =
+    let r = run_of c.self.inside in
+    let P : Run → Type 0 = λ q. Makes q c.args.line.now (interrupts c.args.threads.now) in
+    let journal = c.note.ensures.entries ∙ (ap (λ t. t ++ Did c.of.result ∷ []) c.reserve.ensures.items ∙ ap (λ l. c.self.inside.entries.items ++ Did l ∷ []) (c.of.ensures ∙ c.in_ok-copy.ensures.items_if_clones_equal (λ x y e. e))) in
+    let minds = c.ask_threads.ensures ∙ ap (λ xs. ask_threads xs c.args.threads.now) c.deref_mut.ensures.value in
+    asked_line r (vec_capacity c.note.new.entries - vec_len c.note.new.entries) c.args.line.now c.args.threads.now c.note.new.entries.items c.ask_threads.new.minds c.self.invariant.facts
+    (ap (λ (q : Run). may_do q.opening (seen q) c.args.line.now) c.self.view_is ∙ c.requires.may) (subst P (sym c.self.view_is) c.requires.makes) journal minds
+
+-- the minds, written back
+minds_are : (c : After-self-2-1) → c.ask_threads.new.minds ≡ (with_items c.self.inside.minds c.ask_threads.new.minds).items
+minds_are c =
+    let a = c.ask_threads.auto.minds in
+    let b = c.deref_mut.ensures in
+    sym (with_items_is c.self.inside.minds c.ask_threads.new.minds (a ∙ b.len))
+
+pub invariant_of-self-2 : goal.invariant_of-self-2
+invariant_of-self-2 c =
+    let P : List Mind → Type 0 = λ xs. Facts (new_run c xs) in
+    record { facts = subst P (minds_are c) (done c).facts }
+
+pub returns : goal.returns
+returns c =
+    let P : List Mind → Type 0 = λ xs. Lines c.args.self.now (new_run c xs) c.args.line.now in
+    let Q : Run → Type 0 = λ q. Lines q (new_run c c.ask_threads.new.minds) c.args.line.now in
+    subst P (minds_are c) (subst Q c.self.view_is (done c).lines)

@@ -1,0 +1,9 @@
+use Rattle.elf32_read.proofs.Found.{checked_all}
+use Rattle.elf32_read.proofs.Rising.{get_or_any}
+use Rattle.elf32_read.proofs.checks.check_segments.Goals as goal
+
+pub is_segment_apart-is_apart-requires-clause-is : goal.is_segment_apart-is_apart-requires-clause-is
+is_segment_apart-is_apart-requires-clause-is c = get_or_any c.args.segments.now c.loop-k.k _ _ c.loop-k-test.true
+
+pub returns-clause-filled : goal.returns-clause-filled
+returns-clause-filled c = checked_all c.args.size c.loop-k.k c.args.segments.now c.loop-k-test.false c.loop-k.invariant.same

@@ -1,0 +1,4 @@
+pub mod Links
+pub mod Known
+pub mod Grown
+pub mod Numbered

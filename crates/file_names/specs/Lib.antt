@@ -1,0 +1,4 @@
+pub mod Numbers
+pub mod Links
+pub mod Texts
+pub mod Tables

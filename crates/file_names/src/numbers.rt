@@ -1,0 +1,107 @@
+//! The numbers of names.
+
+ghost use Rattle.std.specs.Prelude.{◌≡◌, ◌+◌, ◌<◌, ◌≤◌, IfOk, None, Some, length, replicate, slice_index_or};
+ghost use Rattle.file_names.specs.Tables.{HasNumbers, IsSection, Numbers, NumbersIn, Opens, Sets};
+ghost use Rattle.file_names.specs.Texts.{text_from};
+
+use crate::classes::{Classes, class_of, next_number};
+use crate::sections::SectionTexts;
+use crate::texts::{Met, met_at};
+use dbg_traits::NoMemory;
+use line_rows::FileNames;
+use std::alloc::Global;
+
+fn number_by(classes: &Classes, class: u32) -> Option<u32>
+    requires { class < length classes.now.numbers.items }
+    ensures { result ≡ slice_index_or classes.now.numbers.items class None }
+{
+    classes.numbers[class as usize]
+}
+
+fn set_number(classes: &mut Classes, class: u32, number: u32)
+    requires { class < length classes.old.numbers.items }
+    ensures { Sets classes.old classes.new class number }
+{
+    classes.numbers[class as usize] = Some(number);
+}
+
+/// The number of a name, which is the next one where the list had no such name.
+pub fn number_of(classes: &mut Classes, names: &mut FileNames, name: &[u8]) -> Result<u32, NoMemory>
+    requires { HasNumbers classes.old names.old.names }
+    ensures { IfOk result (λ n. Numbers classes.old classes.new names.old names.new name.now n) }
+{
+    let class = class_of(classes, name)?;
+    if let Some(number) = number_by(classes, class) {
+        return Ok(number);
+    }
+    let number = next_number(names.count())?;
+    names.push(name)?;
+    set_number(classes, class, number);
+    Ok(number)
+}
+
+fn no_texts(alloc: Global, count: usize) -> Result<Vec<Option<Met>>, NoMemory>
+    ensures { IfOk result (λ v. v.items ≡ replicate count None) }
+{
+    Ok(vec![in alloc; None; count]?)
+}
+
+// Where a section is kept, which it is from the first time on.
+fn kept_at(
+    alloc: Global,
+    classes: &Classes,
+    names: &mut FileNames,
+    table: &mut SectionTexts,
+    section: &[u8],
+) -> Result<usize, NoMemory>
+    requires { IsSection classes.now.links names.old.texts section.now table.old }
+    ensures { IfOk result (λ start. Opens classes.now.links names.old names.new section.now table.new start) }
+{
+    if let Some(start) = table.start {
+        return Ok(start);
+    }
+    let _fits = next_number(section.len())?;
+    let start = names.kept();
+    names.keep(section)?;
+    let _end = names.kept();
+    table.known = no_texts(alloc, section.len())?;
+    table.start = Some(start);
+    Ok(start)
+}
+
+// A place within a section where the same text stands.
+#[tactic(auto, using(crate::proofs::Numbered::text_past))]
+fn within(section: &[u8], at: usize) -> usize
+    ensures below { result ≤ length section.now }
+    ensures same { text_from section.now result ≡ text_from section.now at }
+{
+    if section.len() < at {
+        return section.len();
+    }
+    at
+}
+
+/// The number of the name that begins at a place of a section and ends before a zero byte, as `number_of`.
+pub fn number_in(
+    alloc: Global,
+    classes: &mut Classes,
+    names: &mut FileNames,
+    table: &mut SectionTexts,
+    section: &[u8],
+    at: usize,
+) -> Result<u32, NoMemory>
+    requires numbers { HasNumbers classes.old names.old.names }
+    requires kept { IsSection classes.old.links names.old.texts section.now table.old }
+    ensures { IfOk result (λ n. NumbersIn classes.old classes.new names.old names.new section.now at table.new n) }
+{
+    let start = kept_at(alloc, classes, names, table, section)?;
+    let at = next_number(within(section, at))?;
+    let met = met_at(classes, &mut table.known, section, at)?;
+    if let Some(number) = number_by(classes, met.class) {
+        return Ok(number);
+    }
+    let number = next_number(names.count())?;
+    names.push_part(start + at as usize, start + met.past as usize)?;
+    set_number(classes, met.class, number);
+    Ok(number)
+}

@@ -1,0 +1,116 @@
+//! Texts in a section, which can overlap.
+
+ghost use Rattle.std.specs.Prelude.{◌≡◌, ◌+◌, ◌^◌, ◌<◌, ◌≤◌, IfOk, IfSome, length};
+ghost use Rattle.file_names.specs.Tables.{AreClasses, Finds, Keeps, Meets, remembered};
+ghost use Rattle.file_names.specs.Texts.{AreMet, IsMet};
+
+use crate::classes::{Classes, longer};
+use dbg_traits::NoMemory;
+
+/// A text in a section, by its class and by where it ends.
+#[derive(Clone, Copy, Debug)]
+pub struct Met {
+    pub class: u32,
+    pub past: u32,
+}
+
+/// A text and where it begins.
+#[derive(Clone, Copy, Debug)]
+pub struct Found {
+    pub at: u32,
+    pub met: Met,
+}
+
+/// The text at a place, by that at the next one.
+pub fn met_before(
+    classes: &mut Classes,
+    section: &[u8],
+    at: u32,
+    behind: Met,
+) -> Result<Met, NoMemory>
+    requires classes { AreClasses classes.old }
+    requires within { at < length section.now }
+    requires met { IsMet classes.old.links section.now (at + 1) behind }
+    ensures { IfOk result (λ met. Meets classes.old classes.new section.now at met) }
+{
+    let byte = section[at as usize];
+    if byte == 0 {
+        return Ok(Met { class: 0, past: at });
+    }
+    let class = longer(classes, behind.class, byte)?;
+    Ok(Met {
+        class,
+        past: behind.past,
+    })
+}
+
+// The text at a place, if it was met or is empty.
+fn met_already(classes: &Classes, known: &[Option<Met>], section: &[u8], at: u32) -> Option<Met>
+    requires within { at < length section.now }
+    requires known { AreMet classes.now.links section.now known.now }
+    ensures { IfSome result (λ met. IsMet classes.now.links section.now at met) }
+{
+    if let Some(Some(met)) = known.get(at as usize) {
+        return Some(*met);
+    }
+    if section[at as usize] == 0 {
+        return Some(Met { class: 0, past: at });
+    }
+    None
+}
+
+// From a place on the first text that was met or is empty.
+fn first_met(classes: &Classes, known: &[Option<Met>], section: &[u8], at: u32) -> Found
+    requires within { at ≤ length section.now }
+    requires fits { length section.now < 2 ^ 32 }
+    requires known { AreMet classes.now.links section.now known.now }
+    ensures { Finds classes.now.links section.now at result }
+{
+    let mut place = at;
+    while (place as usize) < section.len() {
+        if let Some(met) = met_already(classes, known, section, place) {
+            return Found { at: place, met };
+        }
+        place += 1;
+    }
+    Found {
+        at: place,
+        met: Met {
+            class: 0,
+            past: place,
+        },
+    }
+}
+
+fn remember(known: &mut [Option<Met>], at: u32, met: Met)
+    ensures { known.new ≡ remembered known.old at met }
+{
+    let k = at as usize;
+    if k < known.len() {
+        known[k] = Some(met);
+    }
+}
+
+/// The text at a place. Each place of a section is gone over once, in whatever order texts are asked for.
+pub fn met_at(
+    classes: &mut Classes,
+    known: &mut [Option<Met>],
+    section: &[u8],
+    at: u32,
+) -> Result<Met, NoMemory>
+    requires classes { AreClasses classes.old }
+    requires within { at ≤ length section.now }
+    requires fits { length section.now < 2 ^ 32 }
+    requires known { AreMet classes.old.links section.now known.old }
+    ensures { IfOk result (λ met. Keeps classes.old classes.new section.now known.new at met) }
+{
+    let found = first_met(classes, known, section, at);
+    let mut place = found.at;
+    let mut met = found.met;
+    while place > at {
+        place -= 1;
+        met = met_before(classes, section, place, met)?;
+        remember(known, place, met);
+    }
+    Ok(met)
+}
