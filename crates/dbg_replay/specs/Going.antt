@@ -1,0 +1,81 @@
+-- What the parts of a replay answer.
+use Rattle.std.specs.Prelude.{◌≡◌, ◌<◌, ◌≤◌, ◌==◌, ℕ, Bool, true, false, List, ◌++◌, length, Option, Some, None, Result, Ok, Err, slice_get, slice_index}
+use Rattle.rv_exec.specs.declared.effect.Cause.{Cause}
+use Rattle.rv_exec.specs.declared.effect.Stepped.{Stepped}
+use Rattle.rv_exec.specs.declared.effect.Stepped.TheVariants as stepped
+use Rattle.rv_exec.specs.Causes.{cause_number}
+use Rattle.plain_machine.specs.Environment.{Answer, Traps, Goes}
+use Rattle.break_table.specs.Text.{is_instruction, is_place}
+use Rattle.dbg_model.specs.declared.entry.Mode.{Mode}
+use Rattle.dbg_model.specs.declared.entry.Mode.TheVariants as mode
+use Rattle.dbg_model.specs.declared.limits.TheConstants.{HISTORY}
+use Rattle.dbg_model.specs.declared.opening.Opening.{Opening}
+use Rattle.dbg_model.specs.State.{Hart, State}
+use Rattle.dbg_model.specs.Lawful.{with_leavers}
+use Rattle.dbg_model.specs.Journals.{Place}
+use Rattle.dbg_replay.specs.declared.halt.Halt.{Halt}
+use Rattle.dbg_replay.specs.declared.halt.Halt.TheVariants.{NoMemory, Unlawful}
+use Rattle.dbg_replay.specs.declared.state.Parts.{Parts}
+use Rattle.dbg_replay.specs.Parts.{shown}
+
+-- a hart at this mode is stopped
+abbrev pub is_stopped : Mode → Bool
+is_stopped mode.Stopped = true
+is_stopped mode.Running = false
+is_stopped (mode.Leaving code) = false
+is_stopped mode.Exited = false
+
+-- neither the budget nor the history is used up
+abbrev pub HasRoom : Opening → Parts → Type 0
+HasRoom o p = (p.retired < o.settings.budget) × (p.noted < HISTORY)
+
+-- the hart of a number, where it may do so
+abbrev pub Chosen : Result Hart Halt → List Hart → ℕ → (Hart → Bool) → Type 0
+Chosen (Ok x) xs h may = (slice_get xs h ≡ Some x) × (may x ≡ true)
+Chosen (Err Unlawful) xs h may = (x : Hart) → slice_get xs h ≡ Some x → may x ≡ false
+Chosen (Err NoMemory) xs h may = ⊥
+
+-- what parts keep of the opening
+pub record Kept (o : Opening) (p : Parts) : Type 0 where
+  pub harts : length p.harts.items ≡ o.settings.harts
+  pub places : (addr : ℕ) → is_place p.table.text addr ≡ is_instruction o.image addr
+  pub waits : length p.table.waits ≡ o.settings.harts
+  pub given : p.table.given ≤ p.noted
+  pub few : o.settings.harts ≤ 16
+  pub budget : o.settings.budget ≤ 1_000_000_000_000
+  pub counts : length p.passed.items ≡ o.settings.harts
+  pub passed : (k : ℕ) → slice_index p.passed.items k ≤ p.retired
+  pub sets : p.sets ≤ p.noted
+
+-- something came and left these parts, as the model has it; or it may not come
+abbrev pub Comes : Opening → Result (Unit {0}) Halt → Option State → Parts → Type 0
+Comes o (Ok u) after new = (after ≡ Some (shown new)) × Kept o new
+Comes o (Err Unlawful) after new = after ≡ None
+Comes o (Err NoMemory) after new = Unit {0}
+
+-- the output and the harts are as an instruction of hart h leaves them, beside its registers and the memory
+abbrev pub Finishes : Result (Unit {0}) Halt → Answer → Parts → ℕ → Parts → Type 0
+Finishes (Ok u) (Goes r m out leave) old h new =
+    (new.harts.items ≡ with_leavers leave old.harts.items h) × (new.out.items ≡ old.out.items ++ out) × (new ≡ record old { harts = new.harts; out = new.out })
+Finishes (Ok u) (Traps cause) old h new = ⊥
+Finishes (Err Unlawful) (Goes r m out leave) old h new = ⊥
+Finishes (Err Unlawful) (Traps cause) old h new = Unit {0}
+Finishes (Err NoMemory) a old h new = Unit {0}
+
+-- an instruction trapped with this cause
+abbrev pub traps_with : Stepped → Cause → Bool
+traps_with stepped.Ran cause = false
+traps_with (stepped.Wrote addr len) cause = false
+traps_with (stepped.HartExit code) cause = false
+traps_with (stepped.AllExit code) cause = false
+traps_with stepped.Hit cause = false
+traps_with (stepped.Trap met) cause = cause_number met == cause_number cause
+
+abbrev pub state_of : Place → State
+state_of p = p.state
+
+-- the journal leaves the state of these parts, or it isn't lawful
+abbrev pub Ends : Result (Unit {0}) Halt → Option State → Parts → Type 0
+Ends (Ok u) left p = left ≡ Some (shown p)
+Ends (Err Unlawful) left p = left ≡ None
+Ends (Err NoMemory) left p = Unit {0}

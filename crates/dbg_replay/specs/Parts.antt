@@ -1,0 +1,18 @@
+-- The state that parts are shown as.
+use Rattle.dbg_model.specs.State.{State}
+use Rattle.dbg_replay.specs.declared.state.Parts.{Parts}
+
+abbrev pub shown : Parts → State
+shown p = record {
+  harts = p.harts.items;
+  memory = p.memory;
+  out = p.out.items;
+  breaks = p.table.entries;
+  given = p.table.given;
+  selected = p.selected;
+  displaced = p.displaced;
+  sets = p.sets;
+  passed = p.passed.items;
+  retired = p.retired;
+  noted = p.noted;
+}

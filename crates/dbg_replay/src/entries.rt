@@ -1,0 +1,190 @@
+// Entries of a journal: whether each may come, and the state that it leaves.
+ghost use Rattle.std.specs.Prelude.{◌≡◌, ◌<◌, ◌-◌, ◌^◌, None, if◌then◌else◌, nat_lt, slice_get};
+ghost use Rattle.dbg_model.specs.declared.entry.Why.TheVariants as reason;
+ghost use Rattle.dbg_model.specs.Breaks.{is_number, is_stop, same_error};
+ghost use Rattle.dbg_model.specs.State.{is_counted};
+ghost use Rattle.dbg_model.specs.Lawful.{counted_by, enter, left_by, leaver_from, ran, stopped_by};
+ghost use Rattle.elf_symbols.specs.Entries.{names_of};
+ghost use Rattle.dbg_replay.specs.Parts.{shown};
+ghost use Rattle.dbg_replay.specs.Going.{Comes, Kept, traps_with};
+
+use crate::halt::Halt;
+use crate::lines::do_line;
+use crate::modes::{counted, exited, find, leaver_from, stopped};
+use crate::movers::{due, mover, runner, settle};
+use crate::state::Parts;
+use crate::stepping::{execute_plain, step};
+use break_table::{CondError, Due};
+use dbg_model::{Entry, Opening, Why};
+use elf_symbols::Symbols;
+use rv_exec::{Cause, Stepped};
+use std::alloc::Global;
+
+// So many instructions of a hart, at least one.
+fn run(alloc: Global, opening: &Opening, parts: &mut Parts, h: u32, count: u64) -> Result<(), Halt>
+    requires { Kept opening.now parts.old }
+    ensures { Comes opening.now result (if nat_lt 0 count then ran opening.now h (shown parts.old) count else None) parts.new }
+{
+    if count == 0 {
+        return Err(Halt::Unlawful);
+    }
+    for done in 0..count {
+        step(alloc, opening, parts, h)?;
+    }
+    Ok(())
+}
+
+fn is_counted(due: Due) -> bool
+    ensures { result ≡ is_counted due }
+{
+    due.stop.is_none() && due.counts
+}
+
+// Breakpoints only count a hart, which goes on.
+fn count(opening: &Opening, parts: &mut Parts, h: u32) -> Result<(), Halt>
+    requires { Kept opening.now parts.old }
+    ensures { Comes opening.now result (counted_by opening.now (shown parts.old) h (slice_get parts.old.harts.items h)) parts.new }
+{
+    let hart = mover(opening, parts, h)?;
+    if !is_counted(due(opening, parts, h, &hart)) {
+        return Err(Halt::Unlawful);
+    }
+    settle(opening, parts, h, &hart);
+    parts.harts[h as usize] = counted(hart);
+    parts.noted += 1;
+    Ok(())
+}
+
+fn is_number(found: Option<u32>, number: u32) -> bool
+    ensures { result ≡ is_number found number }
+{
+    match found {
+        None => false,
+        Some(found) => found == number,
+    }
+}
+
+fn same_error(one: Option<CondError>, other: Option<CondError>) -> bool
+    ensures { result ≡ same_error one other }
+{
+    match one {
+        None => other.is_none(),
+        Some(CondError::DivZero) => matches!(other, Some(CondError::DivZero)),
+        Some(CondError::Unread(addr)) => match other {
+            Some(CondError::Unread(other)) => addr == other,
+            Some(CondError::DivZero) | None => false,
+        },
+    }
+}
+
+fn is_stop(due: Due, number: u32, error: Option<CondError>) -> bool
+    ensures { result ≡ is_stop due number error }
+{
+    is_number(due.stop, number) && same_error(due.error, error)
+}
+
+// A hart stops at the breakpoint of a number, of whose condition the value couldn't be had for this reason.
+fn stop_at(
+    opening: &Opening,
+    parts: &mut Parts,
+    h: u32,
+    number: u32,
+    error: Option<CondError>,
+) -> Result<(), Halt>
+    requires { Kept opening.now parts.old }
+    ensures { Comes opening.now result (stopped_by opening.now (shown parts.old) h (reason.Break number error) (slice_get parts.old.harts.items h)) parts.new }
+{
+    let hart = mover(opening, parts, h)?;
+    if !is_stop(due(opening, parts, h, &hart), number, error) {
+        return Err(Halt::Unlawful);
+    }
+    settle(opening, parts, h, &hart);
+    parts.harts[h as usize] = stopped(hart);
+    parts.noted += 1;
+    Ok(())
+}
+
+// A hart stops, since an interrupt was asked of it.
+fn interrupt(opening: &Opening, parts: &mut Parts, h: u32) -> Result<(), Halt>
+    requires { Kept opening.now parts.old }
+    ensures { Comes opening.now result (stopped_by opening.now (shown parts.old) h reason.Interrupted (slice_get parts.old.harts.items h)) parts.new }
+{
+    let hart = runner(opening, parts, h)?;
+    if !hart.is_asked() {
+        return Err(Halt::Unlawful);
+    }
+    parts.harts[h as usize] = stopped(hart);
+    parts.noted += 1;
+    Ok(())
+}
+
+fn traps_with(stepped: Stepped, cause: Cause) -> bool
+    ensures { result ≡ traps_with stepped cause }
+{
+    match stepped {
+        Stepped::Trap(met) => met.number() == cause.number(),
+        _ => false,
+    }
+}
+
+// A hart stops by a trap of its instruction.
+fn stop_by(opening: &Opening, parts: &mut Parts, h: u32, cause: Cause) -> Result<(), Halt>
+    requires { Kept opening.now parts.old }
+    ensures { Comes opening.now result (stopped_by opening.now (shown parts.old) h (reason.Fault cause) (slice_get parts.old.harts.items h)) parts.new }
+{
+    let hart = runner(opening, parts, h)?;
+    let mut regs = hart.regs();
+    let stepped = execute_plain(&opening.image, &mut regs, &mut parts.memory);
+    if !traps_with(stepped, cause) {
+        return Err(Halt::Unlawful);
+    }
+    parts.harts[h as usize] = stopped(hart);
+    parts.noted += 1;
+    Ok(())
+}
+
+// The least hart that leaves is reported.
+fn leave(opening: &Opening, parts: &mut Parts, h: u32, code: u32) -> Result<(), Halt>
+    requires kept { Kept opening.now parts.old }
+    requires room { parts.old.noted < 2 ^ 64 - 1 }
+    ensures { Comes opening.now result (left_by (shown parts.old) h code (leaver_from 0 parts.old.harts.items)) parts.new }
+{
+    let Some((hart, with)) = leaver_from(0, parts.harts.as_slice()) else {
+        return Err(Halt::Unlawful);
+    };
+    if hart != h || with != code {
+        return Err(Halt::Unlawful);
+    }
+    if let Some(leaver) = find(parts.harts.as_slice(), h) {
+        parts.harts[h as usize] = exited(leaver);
+    }
+    parts.noted += 1;
+    Ok(())
+}
+
+/// One entry.
+#[tactic(auto, unfolding(dbg_model::specs::Lawful::enter))]
+pub fn enter(
+    alloc: Global,
+    opening: &Opening,
+    symbols: &Symbols,
+    parts: &mut Parts,
+    entry: &Entry,
+) -> Result<(), Halt>
+    requires kept { Kept opening.now parts.old }
+    requires names { symbols.now ≡ names_of opening.now.image }
+    requires room { parts.old.noted < 2 ^ 64 - 1 }
+    ensures { Comes opening.now result (enter opening.now (shown parts.old) entry.now) parts.new }
+{
+    match entry {
+        Entry::Ran { hart, count } => run(alloc, opening, parts, *hart, *count),
+        Entry::Counted { hart } => count(opening, parts, *hart),
+        Entry::Stopped { hart, why } => match *why {
+            Why::Break { number, error } => stop_at(opening, parts, *hart, number, error),
+            Why::Interrupted => interrupt(opening, parts, *hart),
+            Why::Fault(cause) => stop_by(opening, parts, *hart, cause),
+        },
+        Entry::Left { hart, code } => leave(opening, parts, *hart, *code),
+        Entry::Did { line } => do_line(alloc, opening, symbols, parts, line.as_slice()),
+    }
+}

@@ -1,0 +1,22 @@
+//! The model as a plain program: it goes through a journal entry by entry over the unpatched machine, and tells whether
+//! the journal is lawful and which state it leaves. It is slow, and no part of the debugger.
+#![tactic(auto)]
+
+mod changes;
+mod entries;
+mod halt;
+mod hart;
+mod lines;
+mod modes;
+mod movers;
+mod replaying;
+mod state;
+mod stepping;
+mod view;
+
+pub use hart::ModelHart;
+pub use replaying::replay;
+pub use state::ModelState;
+
+#[cfg(test)]
+mod tests;
