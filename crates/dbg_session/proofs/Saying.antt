@@ -344,7 +344,7 @@ stands (turned.Held by) r s h f low no_move m =
     record {
       stage = ap stage_of m.0;
       why = ap (λ d. may_go r.opening (seen r) && ((runs_at (seen r).harts h && is_none d) && not (waits_for_slot r.machine.slots r.minds h))) m.3
-      ∙ (ap (λ b. may_go r.opening (seen r) && (b && not (waits_for_slot r.machine.slots r.minds h))) (and_false (runs_at (seen r).harts h)) ∙ and_false (may_go r.opening (seen r)));
+          ∙ (ap (λ b. may_go r.opening (seen r) && (b && not (waits_for_slot r.machine.slots r.minds h))) (and_false (runs_at (seen r).harts h)) ∙ and_false (may_go r.opening (seen r)));
     }
 stands turned.NoSlot r s h f low no_move m =
     let d = m.1 in
