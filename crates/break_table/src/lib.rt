@@ -18,6 +18,3 @@ pub use entry::{BreakEntry, Spec};
 pub use fault::BreakFault;
 pub use location::Location;
 pub use table::BreakTable;
-
-#[cfg(test)]
-mod tests;

@@ -18,6 +18,3 @@ pub use fault::{ExprFault, FaultKind, ParseError};
 pub use register::Register;
 pub use token::{Binary, Leaf, Prefix, ReadType};
 pub use tree::Node;
-
-#[cfg(test)]
-mod tests;

@@ -8,7 +8,5 @@ mod memory;
 mod operation;
 mod paged;
 mod reading;
-#[cfg(test)]
-mod tests;
 
 pub use memory::DataMemory;

@@ -9,8 +9,6 @@ mod journal;
 mod moving;
 mod patching;
 mod resuming;
-#[cfg(test)]
-mod tests;
 mod view;
 
 pub use engine::{Closed, End, Engine, SPARE};

@@ -17,6 +17,3 @@ mod view;
 pub use hart::ModelHart;
 pub use replaying::replay;
 pub use state::ModelState;
-
-#[cfg(test)]
-mod tests;

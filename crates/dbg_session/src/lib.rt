@@ -7,10 +7,6 @@ mod run;
 mod session;
 mod status;
 mod steps;
-#[cfg(test)]
-mod tests;
-#[cfg(test)]
-mod told_tests;
 
 pub use dbg_engine::Closed;
 pub use run::debug_run;

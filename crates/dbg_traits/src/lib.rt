@@ -5,8 +5,6 @@ mod memory;
 mod names;
 mod script;
 mod settings;
-#[cfg(test)]
-mod tests;
 mod text;
 mod view;
 mod world;

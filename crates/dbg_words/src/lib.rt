@@ -8,6 +8,3 @@ mod request;
 
 pub use read::read_words;
 pub use request::Request;
-
-#[cfg(test)]
-mod tests;

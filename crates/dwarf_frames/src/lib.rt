@@ -36,6 +36,3 @@ pub fn rules_at(section: &[u8], pc: u32) -> Result<Option<Rules>, FrameFault>
     let common = common_of(entry_of(section, description.common)?)?;
     Ok(Some(rules_by(&common, &description, pc)?))
 }
-
-#[cfg(test)]
-mod tests;

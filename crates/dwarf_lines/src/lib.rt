@@ -9,6 +9,3 @@ mod unit;
 mod units;
 
 pub use section::rows;
-
-#[cfg(test)]
-mod tests;

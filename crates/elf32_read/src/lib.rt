@@ -15,6 +15,3 @@ pub use fault::{ElfFault, ElfKind, ElfReadError};
 pub use image::Image;
 pub use read::read_image;
 pub use views::{SectionView, SegmentView, TextView};
-
-#[cfg(test)]
-mod tests;

@@ -10,6 +10,3 @@ mod session;
 pub use bare::plain;
 pub use generated::generate;
 pub use session::script;
-
-#[cfg(test)]
-mod tests;

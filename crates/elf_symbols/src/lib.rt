@@ -8,6 +8,3 @@ mod table;
 
 pub use names::{Named, Symbols};
 pub use table::symbols;
-
-#[cfg(test)]
-mod tests;

@@ -4,8 +4,6 @@
 mod context;
 mod frame;
 mod memory;
-#[cfg(test)]
-mod tests;
 mod unwinding;
 mod walking;
 

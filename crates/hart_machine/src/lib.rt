@@ -4,8 +4,6 @@
 mod hart;
 mod laws;
 mod machine;
-#[cfg(test)]
-mod tests;
 mod view;
 
 pub use hart::Core;

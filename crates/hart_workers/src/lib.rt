@@ -6,6 +6,3 @@ mod run;
 
 pub use crew::{Crew, Duty};
 pub use run::run_crew;
-
-#[cfg(test)]
-mod tests;

@@ -10,6 +10,3 @@ mod leb;
 pub use fault::Leb;
 pub use fixed::{text_at, u8_at, u16_at, u32_at};
 pub use leb::{sleb, uleb};
-
-#[cfg(test)]
-mod tests;

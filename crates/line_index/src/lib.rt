@@ -9,6 +9,3 @@ mod table;
 mod text;
 
 pub use index::LineIndex;
-
-#[cfg(test)]
-mod tests;

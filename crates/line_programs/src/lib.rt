@@ -15,6 +15,3 @@ pub use fault::ProgramError;
 pub use operation::Operation;
 pub use parameters::Parameters;
 pub use program::program_rows;
-
-#[cfg(test)]
-mod tests;

@@ -13,6 +13,3 @@ pub use names::FileNames;
 pub use reading::{byte_at, fault_of, half_at, in_unit, unsigned_at, word_at};
 pub use row::{Row, SequenceView};
 pub use rows::Rows;
-
-#[cfg(test)]
-mod tests;

@@ -19,6 +19,3 @@ pub use answering::command_of;
 pub use command::{Command, CommandLine, Displaced, Format, Insertion, Location, Setting, Target};
 pub use lists::{ByteList, NumberList};
 pub use refusal::{Fault, Refusal};
-
-#[cfg(test)]
-mod tests;

@@ -11,6 +11,3 @@ mod word;
 pub use line_parts::split;
 pub use lines::next_line;
 pub use parts::{InputFault, Parts, Word};
-
-#[cfg(test)]
-mod tests;

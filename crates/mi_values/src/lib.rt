@@ -23,6 +23,3 @@ pub use sign::{NoticeSign, StreamSign};
 pub use token::{Token, is_digit, is_token};
 pub use value::Value;
 pub use write::write_line;
-
-#[cfg(test)]
-mod tests;

@@ -2,7 +2,5 @@
 #![tactic(auto)]
 
 mod slice;
-#[cfg(test)]
-mod tests;
 
 pub use slice::{Job, Slice, registers_alone, run_slice};

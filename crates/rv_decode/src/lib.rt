@@ -4,8 +4,6 @@
 mod bits;
 mod decoder;
 mod instr;
-#[cfg(test)]
-mod tests;
 
 pub use decoder::{decode, one_row_fits};
 pub use instr::{AluOp, AmoOp, BranchOp, Instr, LoadOp, MulOp, Reg, StoreOp};

@@ -7,8 +7,6 @@ mod executing;
 mod no_bytes;
 mod port;
 mod regs;
-#[cfg(test)]
-mod tests;
 
 pub use effect::{Cause, Effect, Stepped};
 pub use executing::execute;

@@ -3,7 +3,5 @@
 
 mod index;
 mod slots;
-#[cfg(test)]
-mod tests;
 
 pub use slots::{SlotUse, Slots};

@@ -3,8 +3,6 @@
 
 mod laws;
 mod phase;
-#[cfg(test)]
-mod tests;
 
 pub use laws::{
     one_run_or_none, one_step_or_none, other_marks_show_the_same, run_is_a_plain_step,

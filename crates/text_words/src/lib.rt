@@ -3,8 +3,6 @@
 
 mod fetch;
 mod layout;
-#[cfg(test)]
-mod tests;
 mod text;
 
 pub use fetch::Fetch;
