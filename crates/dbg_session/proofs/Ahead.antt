@@ -12,15 +12,15 @@ use Rattle.dbg_session.specs.Stage.{Stage, moves_at}
 use Rattle.dbg_session.specs.Seen.{movers_from, movers, any_of, gap, ahead}
 
 -- the first hart of the list that runs, where the first of the list has the number k
-running_from : ℕ → List Mind → Option ℕ
+abbrev running_from : ℕ → List Mind → Option ℕ
 running_from k [] = None
 running_from k (x ∷ xs) = if runs x then Some k else running_from (k + 1) xs
 
 above : (f k : ℕ) → f ≤ k → nat_le f k ≡ true
 above f k le = grind (arith, nat_tests)
 
-below : (f k : ℕ) → k < f → nat_le f k ≡ false
-below f k lt = grind (arith, nat_tests)
+not_above : (f k : ℕ) → k < f → nat_le f k ≡ false
+not_above f k lt = grind (arith, nat_tests)
 
 head_above : (b : Bool) (f k : ℕ) (ks : List ℕ) (o : Option ℕ) → nat_le f k ≡ true → find (nat_le f) ks ≡ o → find (nat_le f) (if b then k ∷ ks else ks) ≡ (if b then Some k else o)
 head_above true f k ks o is rest = rw is refl
@@ -39,7 +39,7 @@ head_below false f k ks is = refl
 least_from : (d f k : ℕ) (xs : List Mind) → f ≡ k + d → find (nat_le f) (running_harts k xs) ≡ running_from f (drop d xs)
 least_from zero f k xs is = least_all f k xs (omega arith) ∙ ap (λ n. running_from n xs) (let e : k ≡ f = omega arith in e)
 least_from (suc d) f k [] is = refl
-least_from (suc d) f k (x ∷ xs) is = head_below (runs x) f k (running_harts (k + 1) xs) (below f k (omega arith)) ∙ least_from d f (k + 1) xs (omega arith)
+least_from (suc d) f k (x ∷ xs) is = head_below (runs x) f k (running_harts (k + 1) xs) (not_above f k (omega arith)) ∙ least_from d f (k + 1) xs (omega arith)
 
 next_is : (xs : List Mind) (from : ℕ) → next_running xs from ≡ some_or (running_from from (drop from xs)) (running_from 0 xs)
 next_is xs from = ap (λ o. some_or o (least_running xs 0)) (least_from from from 0 xs (omega arith)) ∙ ap (some_or (running_from from (drop from xs))) (least_from 0 0 0 xs refl)
@@ -80,8 +80,8 @@ record Vain (ms : List Bool) (k h : ℕ) : Type 0 where
   place : ℕ
   is : h ≡ k + place
   within : place < length ms
-  some : any_of ms ≡ true → (any_of (drop (place + 1) ms) ≡ true) × (gap ms ≡ place + 1 + gap (drop (place + 1) ms))
-  none : any_of ms ≡ false → any_of (drop (place + 1) ms) ≡ false
+  some : any_of ms ≡ true → (any_of (drop (suc place) ms) ≡ true) × (gap ms ≡ suc place + gap (drop (suc place) ms))
+  none : any_of ms ≡ false → any_of (drop (suc place) ms) ≡ false
 
 vain_first : (m : Bool) (ms : List Bool) (k : ℕ) → m ≡ false → Vain (m ∷ ms) k k
 vain_first true ms k is = cc
@@ -90,7 +90,7 @@ vain_first false ms k is = record { place = 0; is = omega arith; within = omega 
 vain_later : (m : Bool) (ms : List Bool) (k h : ℕ) → m ≡ false → Vain ms (k + 1) h → Vain (m ∷ ms) k h
 vain_later true ms k h is v = cc
 vain_later false ms k h is v = let e = v.is in let w = v.within in record {
-  place = v.place + 1;
+  place = suc v.place;
   is = omega arith;
   within = omega arith;
   some = λ any. let s = v.some any in let g = s.1 in (s.0, omega arith);
@@ -143,15 +143,15 @@ ahead_most ms next = ahead_by (any_of (drop next ms)) ms next refl
 fewer_behind : (b : Bool) (ms : List Bool) (next h : ℕ) → any_of (drop next ms) ≡ b → next ≤ length ms → Vain (drop next ms) next h → ahead ms (h + 1) < ahead ms next
 fewer_behind true ms next h is le v =
     let s = v.some is in
-    let at : drop (v.place + 1) (drop next ms) ≡ drop (h + 1) ms = drop-drop (v.place + 1) next ms ∙ ap (λ n. drop n ms) (let e = v.is in let k : next + (v.place + 1) ≡ h + 1 = omega arith in k) in
+    let at : drop (suc v.place) (drop next ms) ≡ drop (h + 1) ms = drop-drop (suc v.place) next ms ∙ ap (λ n. drop n ms) (let e = v.is in let k : next + suc v.place ≡ h + 1 = omega arith in k) in
     let some = subst (λ (xs : List Bool). any_of xs ≡ true) at s.0 in
-    let less = subst (λ (xs : List Bool). gap (drop next ms) ≡ v.place + 1 + gap xs) at s.1 in
+    let less = subst (λ (xs : List Bool). gap (drop next ms) ≡ suc v.place + gap xs) at s.1 in
     let e = ahead_some ms next is in
     let f = ahead_some ms (h + 1) some in
     omega arith
 fewer_behind false ms next h is le v =
     let none = v.none is in
-    let at : drop (v.place + 1) (drop next ms) ≡ drop (h + 1) ms = drop-drop (v.place + 1) next ms ∙ ap (λ n. drop n ms) (let e = v.is in let k : next + (v.place + 1) ≡ h + 1 = omega arith in k) in
+    let at : drop (suc v.place) (drop next ms) ≡ drop (h + 1) ms = drop-drop (suc v.place) next ms ∙ ap (λ n. drop n ms) (let e = v.is in let k : next + suc v.place ≡ h + 1 = omega arith in k) in
     let gone = subst (λ (xs : List Bool). any_of xs ≡ false) at none in
     let e = ahead_none ms next is in
     let f = ahead_none ms (h + 1) gone in
@@ -165,8 +165,9 @@ fewer_round : (ms : List Bool) (next h : ℕ) → any_of (drop next ms) ≡ fals
 fewer_round ms next h none some v =
     let s = v.some some in
     let i : v.place ≡ h = let e = v.is in omega arith in
-    let any = subst (λ n. any_of (drop (n + 1) ms) ≡ true) i s.0 in
-    let less = subst (λ n. gap ms ≡ n + 1 + gap (drop (n + 1) ms)) i s.1 in
+    let j : suc v.place ≡ h + 1 = omega (arith, i) in
+    let any = subst (λ n. any_of (drop n ms) ≡ true) j s.0 in
+    let less = subst (λ n. gap ms ≡ n + gap (drop n ms)) j s.1 in
     let e = ahead_none ms next none in
     let f = ahead_some ms (h + 1) any in
     omega arith
@@ -230,7 +231,7 @@ some_of (false ∷ ms) zero is = cc
 some_of (false ∷ ms) (suc j) is = some_of ms j is
 
 pub some_mover : (r : Stage) (m : ℕ) → m < length r.minds → moves_at r m ≡ true → any_of (movers r) ≡ true
-some_mover r m low is = some_of (movers r) m (mover_at r 0 (length r.minds) m low ∙ is)
+some_mover r m low is = some_of (movers r) m (mover_at r 0 (length r.minds) m low ∙ (ap (moves_at r) (let e : 0 + m ≡ m = omega arith in e) ∙ is))
 
 pub movers_below : (r : Stage) (k : ℕ) (xs : List Mind) → ((j : ℕ) (x : Mind) → slice_get xs j ≡ Some x → moves_at r (k + j) ≡ true → runs x ≡ true) → AreBelow (movers_from r k (length xs)) xs
 movers_below r k [] run = tt
