@@ -237,3 +237,49 @@ pub movers_below : (r : Stage) (k : ℕ) (xs : List Mind) → ((j : ℕ) (x : Mi
 movers_below r k [] run = tt
 movers_below r k (x ∷ xs) run =
     (λ is. run 0 x refl (ap (moves_at r) (let e : k + 0 ≡ k = omega arith in e) ∙ is), movers_below r (k + 1) xs (λ j y at is. run (suc j) y at (ap (moves_at r) (let e : k + suc j ≡ (k + 1) + j = omega arith in e) ∙ is)))
+
+below_end_by : (b : Bool) (k h : ℕ) (xs : List Mind) (o : Option ℕ) → (if b then Some k else o) ≡ Some h → (o ≡ Some h → h < (k + 1) + length xs) → h < k + (length xs + 1)
+below_end_by true k h xs o is later = let e = same_number k h is in omega arith
+below_end_by false k h xs o is later = let low = later is in omega arith
+
+below_end : (k h : ℕ) (xs : List Mind) → running_from k xs ≡ Some h → h < k + length xs
+below_end k h [] is = cc
+below_end k h (x ∷ xs) is = let low = below_end_by (runs x) k h xs (running_from (k + 1) xs) is (below_end (k + 1) h xs) in omega arith
+
+within_by : (from h : ℕ) (xs : List Mind) (first : Option ℕ) → running_from from (drop from xs) ≡ first → some_or first (running_from 0 xs) ≡ Some h → h < length xs
+within_by from h xs (Some k) found is =
+    let there = found ∙ is in
+    let low = below_end from h (drop from xs) there in
+    let some = none_within (drop from xs) from h there in
+    let l = length-drop from xs in
+    omega arith
+within_by from h xs None found is = let low = below_end 0 h xs is in omega arith
+
+-- the next that runs is one of the harts
+pub next_within : (xs : List Mind) (from h : ℕ) → next_running xs from ≡ Some h → h < length xs
+next_within xs from h is = within_by from h xs (running_from from (drop from xs)) refl (sym (next_is xs from) ∙ is)
+
+some_here : (b rest : Bool) (k h : ℕ) (o : Option ℕ) → (if b then Some k else o) ≡ Some h → (o ≡ Some h → rest ≡ true) → (b || rest) ≡ true
+some_here true rest k h o is more = refl
+some_here false rest k h o is more = more is
+
+some_from : (k h : ℕ) (xs : List Mind) → running_from k xs ≡ Some h → list_any runs xs ≡ true
+some_from k h [] is = cc
+some_from k h (x ∷ xs) is = some_here (runs x) (list_any runs xs) k h (running_from (k + 1) xs) is (some_from (k + 1) h xs)
+
+or_true : (b : Bool) → (b || true) ≡ true
+or_true true = refl
+or_true false = refl
+
+some_dropped : (n : ℕ) (xs : List Mind) → list_any runs (drop n xs) ≡ true → list_any runs xs ≡ true
+some_dropped zero xs is = is
+some_dropped (suc n) [] is = is
+some_dropped (suc n) (x ∷ xs) is = ap (λ b. runs x || b) (some_dropped n xs is) ∙ or_true (runs x)
+
+some_by : (from h : ℕ) (xs : List Mind) (first : Option ℕ) → running_from from (drop from xs) ≡ first → some_or first (running_from 0 xs) ≡ Some h → list_any runs xs ≡ true
+some_by from h xs (Some k) found is = some_dropped from xs (some_from from h (drop from xs) (found ∙ is))
+some_by from h xs None found is = some_from 0 h xs is
+
+-- where one is next, one runs
+pub next_runs : (xs : List Mind) (from h : ℕ) → next_running xs from ≡ Some h → list_any runs xs ≡ true
+next_runs xs from h is = some_by from h xs (running_from from (drop from xs)) refl (sym (next_is xs from) ∙ is)

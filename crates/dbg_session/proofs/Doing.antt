@@ -8,11 +8,16 @@ use Rattle.dbg_model.specs.declared.reply.Reply.{Reply}
 use Rattle.dbg_model.specs.State.{any_runs}
 use Rattle.dbg_model.specs.Reply.{is_wait}
 use Rattle.dbg_model.proofs.Options.{both_true}
+use Rattle.dbg_model.specs.declared.opening.Opening.{Opening}
+use Rattle.engine_facts.specs.Facts.{Facts}
 use Rattle.engine_facts.specs.Seen.{Run, seen}
 use Rattle.dbg_session.specs.Stage.{Stage, stage_of}
 use Rattle.dbg_session.specs.Puts.{PutsAll}
 use Rattle.dbg_session.specs.Steps.{said_by, Says, Keeps, DoesLine, may_take, can_do}
-use Rattle.dbg_session.specs.Taking.{first_waits}
+use Rattle.dbg_session.specs.Taking.{first_waits, has_line, is_some_line}
+use Rattle.dbg_session.specs.Ties.{GoesOn}
+use Rattle.dbg_model.specs.Lawful.{may_go}
+use Rattle.dbg_engine.proofs.Seeing.{may_go_by}
 use Rattle.dbg_session.proofs.Saying.{DoneSaid}
 
 first_line : (ended : Bool) (rest line : List ℕ) (next : ℕ) → IsNext ended rest line next → (more : List (List ℕ)) × (lines rest ended ≡ line ∷ more)
@@ -51,3 +56,15 @@ must_wait r ended rest line next is b =
     let first = first_line ended rest line next is in
     let both = both_true (any_runs (seen r).harts) (is_wait line) (sym b) in
     record { waits = ap first_waits first.1 ∙ both.1; runs = both.0 }
+
+-- a session that goes on may go on
+pub may : (e : Run) (count : ℕ) → GoesOn (stage_of e) count → may_go e.opening (seen e) ≡ true
+may e count goes = may_go_by e (goes.below.budget, goes.below.history, goes.open_)
+
+-- the next line stands, of which there was no memory to read or to do it
+pub stands : (ended : Bool) (rest line : List ℕ) (next : ℕ) → IsNext ended rest line next → has_line ended rest ≡ true
+stands ended rest line next is = ap is_some_line (first_line ended rest line next is).1
+
+-- a session has as many harts as before
+pub minds_same : (e s : Run) → Facts e → Facts s → s.opening ≡ e.opening → length s.minds ≡ length e.minds
+minds_same e s f g opening = g.count ∙ (ap (λ (o : Opening). o.settings.harts) opening ∙ sym f.count)

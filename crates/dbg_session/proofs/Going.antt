@@ -1,8 +1,18 @@
 -- How the steps of a round follow each other.
-use Rattle.std.proofs.Common.{◌≡◌, ◌<◌, ◌≤◌, ℕ, zero, suc, ◌+◌, Bool, true, false, List, length, drop, refl, sym, ap, ◌∙◌, arith, subst, not}
+use Rattle.std.proofs.Common.{◌≡◌, ◌<◌, ◌≤◌, ℕ, zero, suc, ◌+◌, Bool, true, false, List, [], ◌++◌, length, drop, refl, sym, ap, ◌∙◌, arith, subst, not}
 use Rattle.std.specs.Prelude.{Option, Some, None, ◌&&◌, ◌||◌, is_some}
 use Rattle.dbg_session.specs.declared.status.Status.{Status}
-use Rattle.dbg_session.specs.Round.{Moment, Takes, TakesBy, Lines, Moves, Settles, SettlesBy, Unless, Then, Round}
+use mathlib.Core.Logic.{inl, inr}
+use Rattle.dbg_traits.specs.Told.{Told, more, raised, with_ask}
+use Rattle.mi_input.specs.Lines.{lines}
+use Rattle.dbg_model.specs.State.{any_runs}
+use Rattle.dbg_session.specs.declared.steps.Done.{Done}
+use Rattle.dbg_session.specs.declared.steps.Input.TheVariants as input
+use Rattle.dbg_session.specs.Stage.{Stage}
+use Rattle.dbg_session.specs.Steps.{Does, can_do, with_poll}
+use Rattle.dbg_session.specs.Taking.{has_line, is_some_line}
+use Rattle.dbg_session.specs.Ties.{OverBy}
+use Rattle.dbg_session.specs.Round.{Moment, Takes, TakesBy, Polls, Lines, LinesBy, DoesOne, AfterLine, behind, Moves, Settles, Unless, Then, Round}
 
 -- once the status is set nothing more is done
 pub ended : (o : Option Status) (R : Moment → Moment → Type 0) (m : Moment) → is_some o ≡ true → Unless o R m m
@@ -27,9 +37,41 @@ pub round_whole : (p a b c d : Moment) → Takes p a → is_some a.status ≡ fa
 round_whole p a b c d t is l on m going e =
     (a, t, goes_on a.status (Then Lines (Then Moves Settles)) a d is (b, l, goes_on b.status (Then Moves Settles) b d on (c, m, goes_on c.status Settles c d going e)))
 
--- a moment before which nothing was to be taken
-pub taken_none : (p : Moment) (ended has : Bool) → (not ended && not has) ≡ false → TakesBy (not ended && not has) p p
-taken_none p ended has is = rw is refl
+-- ---- single steps
 
-pub settled_none : (p : Moment) (b : Bool) → b ≡ false → SettlesBy b p p
-settled_none p b is = rw is refl
+-- input was asked for
+takes_when : (ended has : Bool) (p q : Moment) → ended ≡ false → has ≡ false → Polls p q → TakesBy (not ended && not has) p q
+takes_when ended has p q un none polls = rw (un, none) polls
+
+pub took : (p : Moment) (n : ℕ) (bytes : List ℕ) (u : Told) (rest : List ℕ) (s : Option Status) (wait : Bool) → p.input.ended ≡ false → lines p.input.rest false ≡ [] → wait ≡ any_runs p.run.state.harts → 0 < n → length bytes ≡ n → n ≤ 4096 → rest ≡ p.input.rest ++ bytes
+    → u ≡ record (with_poll p.told) { polled = more p.told.polled bytes; input_length = raised p.told.input_length n; asks = with_ask (not wait) p.told } → OverBy s p.run (p.input.count + n)
+    → Takes p (record p { told = u; input = record { rest = rest; count = p.input.count + n; ended = p.input.ended }; status = s })
+took p n bytes u rest s wait un none runs some len few behind is over =
+    let asked = subst (λ b. u ≡ record (with_poll p.told) { polled = more p.told.polled bytes; input_length = raised p.told.input_length n; asks = with_ask (not b) p.told }) runs is in
+    takes_when p.input.ended (has_line false p.input.rest) p (record p { told = u; input = record { rest = rest; count = p.input.count + n; ended = p.input.ended }; status = s }) un (ap is_some_line none)
+    (record { answer = input.Took n; told = u; rest = rest; status = s; inputs = (bytes, some, len, few, behind, asked); after = over; is = refl })
+
+-- a line was done
+lines_when : (can : Bool) (p q : Moment) → can ≡ true → DoesOne p q → LinesBy can p q
+lines_when can p q is does = rw is does
+
+pub does : (p : Moment) (answer : Done) (u : Told) (r : Stage) (s : Option Status) (rest : List ℕ) → can_do p.run p.input.ended p.input.rest ≡ true → r.opening ≡ p.run.opening → Does answer p.input.ended p.input.rest p.told u p.run r → AfterLine answer r p.input.count s
+    → rest ≡ drop (behind answer) p.input.rest → Lines p (record p { told = u; run = r; input = record p.input { rest = rest }; status = s })
+does p answer u r s rest can opening d after same =
+    inl (lines_when (can_do p.run p.input.ended p.input.rest) p (record p { told = u; run = r; input = record p.input { rest = rest }; status = s }) can (record {
+      answer = answer;
+      told = u;
+      run = r;
+      status = s;
+      opening = opening;
+      does = d;
+      after = after;
+      is = ap (λ (xs : List ℕ). let q : Moment = record p { told = u; run = r; input = record p.input { rest = xs }; status = s } in q) same;
+    }))
+
+-- a turn that stood left all as it was
+pub same_moment : (p : Moment) (u : Told) (r : Stage) → u ≡ p.told → r ≡ p.run → record p { told = u; run = r } ≡ p
+same_moment p u r told run = rw (told, run) refl
+
+pub cannot_move : (may moves : Bool) → may ≡ true → (may && moves) ≡ false → moves ≡ false
+cannot_move may moves is why = rw is at why

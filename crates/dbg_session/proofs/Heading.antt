@@ -1,6 +1,6 @@
 -- The headline, from what the type of a session keeps.
-use Rattle.std.proofs.Common.{◌≡◌, ◌<◌, ◌≤◌, ℕ, Bool, true, false, List, [], ◌∷◌, ◌++◌, length, refl, sym, ap, ◌∙◌, arith}
-use Rattle.std.specs.Prelude.{Option, Some, None, IfSome, IsSomeAnd}
+use Rattle.std.proofs.Common.{◌≡◌, ◌<◌, ◌≤◌, ℕ, Bool, true, false, List, [], ◌∷◌, ◌++◌, length, refl, sym, ap, ◌∙◌, arith, subst}
+use Rattle.std.specs.Prelude.{Option, Some, None, IfSome, IsSome, IsSomeAnd}
 use mathlib.Core.Logic.{inl, inr}
 use mathlib.Core.List.{append-nil}
 use Rattle.std.specs.Prelude.{map}
@@ -19,7 +19,13 @@ use Rattle.dbg_session.specs.Taking.{Gives}
 use Rattle.dbg_session.specs.Left.{IsLeft, hart_registers, plain_registers}
 use Rattle.dbg_session.specs.Ties.{IsTied, IsHeld, AllDone, Taken}
 use Rattle.dbg_session.specs.Ties as ties
-use Rattle.dbg_session.specs.Headline.{Headline, IsDone, IsBelow, Why, Ends}
+use Rattle.elf32_read.specs.Checks.{fault_of}
+use Rattle.elf32_read.specs.Reading as reading
+use Rattle.elf32_read.specs.declared.fault.ElfFault.{ElfFault}
+use Rattle.dbg_model.proofs.Options.{same_some}
+use Rattle.dbg_session.specs.declared.file.Served.{Served}
+use Rattle.dbg_session.specs.Words.{served_words, IsWhole}
+use Rattle.dbg_session.specs.Headline.{Headline, IsDone, IsBelow, Why, Early, IsPart, Refused, IsFile, Ends}
 use Rattle.dbg_session.specs.declared.status.Status.{Status}
 use Rattle.dbg_session.specs.declared.status.Status.TheVariants as status
 use Rattle.dbg_session.proofs.Tying.{told_same}
@@ -106,3 +112,27 @@ heading s t r i c e h = record {
 pub ends : (s : Status) (t : Told) (r : Stage) (i : Taken) (o : Option Closed) → IsSomeAnd o (IsLeft r) → IsTied (Some s) t r i → Ends s t o
 ends s t r i None e h = absurd e
 ends s t r i (Some c) e h = heading s t r i c e h
+
+not_served : (o : Option Served) → o ≡ None → IsSome o → ⊥
+not_served None is some = cc
+not_served (Some s) is some = cc
+
+part_of : (t : Told) → IsPart t → IsWhole t → ⊥
+part_of t part (inl ended) = let e : false ≡ true = sym part.ended ∙ ended in cc
+part_of t part (inr most) = let l = part.length in omega (arith, most)
+
+told_bytes : (o : Option (List ℕ)) (bytes : List ℕ) (P : List ℕ → Type 0) → o ≡ Some bytes → IfSome o P → P bytes
+told_bytes o bytes P is h = subst (λ (x : Option (List ℕ)). IfSome x P) is h
+
+-- a refused file that was read whole is answered with its fault
+pub refuses : (s : Status) (t : Told) (f : ElfFault) → Early s t → Refused t f → IsFile f s
+refuses status.Words t f early r = absurd (not_served (served_words t.words) early.2 r.words)
+refuses (status.File g) t f early r =
+    let is : fault_of r.bytes ≡ Some g = told_bytes t.file_taken r.bytes (λ b. reading.Refused b g) r.taken early.1.fault in
+    same_some g f (sym is ∙ r.fault)
+refuses status.ReadFault t f early r = absurd (part_of t early.2 r.whole)
+refuses status.NoMemory t f early r = tt
+refuses status.Done t f early r = absurd early
+refuses status.Budget t f early r = absurd early
+refuses status.History t f early r = absurd early
+refuses status.WriteFault t f early r = absurd early

@@ -10,4 +10,5 @@ pub mod Opening
 pub mod Ahead
 pub mod Getting
 pub mod Going
+pub mod Passing
 pub mod Heading

@@ -17,7 +17,7 @@ use Rattle.dbg_session.specs.Puts.{PutsAll}
 use Rattle.mi_reports.specs.Refusals.{bad_file}
 use Rattle.mi_reports.specs.declared.refusals.TheConstants.{USAGE}
 use Rattle.dbg_session.specs.declared.status.Status.TheVariants as status
-use Rattle.dbg_session.specs.Headline.{Early, Line, Silent, IsUnpolled, IsUnread, IsRead, IsReadIfAny, HasFault}
+use Rattle.dbg_session.specs.Headline.{Early, Line, Silent, IsUnpolled, IsUnread, IsRead, IsReadIfAny, IsPart, HasFault}
 
 empty : {A : Type 0} (o : Option (List A)) → (o ≡ None) ⊎ (o ≡ Some []) → IsEmpty o
 empty o (inl is) = rw is tt
@@ -131,6 +131,7 @@ early_read t u words served fresh asked is reads =
     rw reads.4 (
       record { polls = h.polls; taken = h.taken; polled = h.polled; asks = h.asks; faults = h.faults; ended = h.ended },
       record { served = served; words = served_is t words served asked is; name = refl },
+      record { ended = fresh.file_ended; length = reads.2 },
       rose,
       silent t fresh,
     )

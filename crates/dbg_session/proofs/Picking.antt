@@ -1,6 +1,6 @@
 -- Which harts of an engine run, and what an engine leaves.
 use Rattle.std.proofs.Common.{◌≡◌, ◌<◌, ◌≤◌, ℕ, zero, suc, Bool, true, false, List, [], ◌∷◌, length, refl, sym, ap, ◌∙◌, arith, not}
-use Rattle.std.specs.Prelude.{Option, Some, None, IfSome, is_some, is_none, ◌&&◌, ◌||◌, slice_get, take}
+use Rattle.std.specs.Prelude.{Option, Some, None, IfSome, IfNone, is_some, is_none, ◌&&◌, ◌||◌, slice_get, take}
 use mathlib.Core.List.{append-nil}
 use Rattle.std.specs.Option.{option_map}
 use Rattle.elf32_read.specs.Program.{Program}
@@ -46,9 +46,10 @@ pub next_stands : (ended : Bool) (rest line : List ℕ) (next : ℕ) → IsNext 
 next_stands true rest line next is = ap is_some_line is
 next_stands false rest line next is = ap (λ r. is_some_line (lines r false)) (sym (append-nil rest)) ∙ ap is_some_line (is [] false)
 
-pub stands_if : (ended : Bool) (rest xs : List ℕ) (r : Option (ℕ × ℕ)) → xs ≡ rest → IfSome r (λ p. IsNext ended xs (take p.0 xs) p.1) → true ≡ is_some r → has_line ended rest ≡ true
-stands_if ended rest xs None same next is = cc
-stands_if ended rest xs (Some p) same next is = ap (has_line ended) (sym same) ∙ next_stands ended xs (take p.0 xs) p.1 next
+-- whether a whole line stands in a rest that was searched
+pub line_is : (ended : Bool) (rest xs : List ℕ) (r : Option (ℕ × ℕ)) → xs ≡ rest → IfSome r (λ p. IsNext ended xs (take p.0 xs) p.1) → IfNone r (lines xs ended ≡ []) → is_some r ≡ has_line ended rest
+line_is ended rest xs None same next none = sym (ap is_some_line (ap (λ t. lines t ended) (sym same) ∙ none))
+line_is ended rest xs (Some p) same next none = sym (ap (has_line ended) (sym same) ∙ next_stands ended xs (take p.0 xs) p.1 next)
 
 -- whether a session is open: it ended, a hart runs, and a line stands at the end
 pub open_running : (ended running line : Bool) → running ≡ true → not ((ended && not running) && not line) ≡ true

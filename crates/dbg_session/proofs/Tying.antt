@@ -17,7 +17,7 @@ use Rattle.mi_reports.specs.Text.{opening_text}
 use Rattle.mi_reports.specs.Said.{said}
 use Rattle.mi_reports.proofs.Saying.{said_nothing}
 use Rattle.dbg_session.specs.Stage.{Stage}
-use Rattle.dbg_session.specs.Taking.{Gives}
+use Rattle.dbg_session.specs.Taking.{Gives, has_line, is_some_line}
 use Rattle.dbg_session.specs.InTime.{ToldInTime}
 use Rattle.dbg_session.specs.Steps.{said_by, Says, Keeps, DoesLine, Goes, with_poll}
 use Rattle.dbg_model.specs.declared.opening.Opening.{Opening}
@@ -260,17 +260,21 @@ turn_unput t u r s i h opened leaves says goes =
 pub slice_from : (items xs : List ℕ) (start : ℕ) → xs ≡ items → take (length xs - start) (drop start xs) ≡ drop start items
 slice_from items xs start is = take_all (length xs - start) (drop start xs) (simp length-drop (omega arith)) ∙ ap (drop start) is
 
+no_lines : (ls : List (List ℕ)) → is_some_line ls ≡ false → ls ≡ []
+no_lines [] is = refl
+no_lines (l ∷ ls) is = cc
+
 -- no whole line is kept
-none_stands : (rest piece : List ℕ) (r : Option (ℕ × ℕ)) → piece ≡ rest → IfNone r (lines piece false ≡ []) → false ≡ is_some r → lines rest false ≡ []
-none_stands rest piece None is none e = ap (λ t. lines t false) (sym is) ∙ none
-none_stands rest piece (Some p) is none e = cc
+none_stands : (ended : Bool) (rest : List ℕ) → ended ≡ false → false ≡ has_line ended rest → lines rest false ≡ []
+none_stands true rest un is = cc
+none_stands false rest un is = no_lines (lines rest false) (sym is)
 
 still_if : (b runs : Bool) → b ≡ runs → not b ≡ true → runs ≡ false
 still_if true runs is e = cc
 still_if false runs is e = sym is
 
-pub quiet : (r : Stage) (i : Taken) (piece : List ℕ) (next : Option (ℕ × ℕ)) (b : Bool) → i.ended ≡ false → piece ≡ i.rest → IfNone next (lines piece false ≡ []) → false ≡ is_some next → b ≡ any_runs r.state.harts → Leaves r.opening r.journal r.state → IsQuiet (not b) r i
-quiet r i piece next b ended is none e runs leaves = record { ended = ended; none = none_stands i.rest piece next is none e; still = still_if b (any_runs r.state.harts) runs; leaves = leaves }
+pub quiet : (r : Stage) (i : Taken) (b : Bool) → i.ended ≡ false → false ≡ has_line i.ended i.rest → b ≡ any_runs r.state.harts → Leaves r.opening r.journal r.state → IsQuiet (not b) r i
+quiet r i b ended none runs leaves = record { ended = ended; none = none_stands i.ended i.rest ended none; still = still_if b (any_runs r.state.harts) runs; leaves = leaves }
 
 pub drop_front : (n : ℕ) (xs ys : List ℕ) → n ≤ length xs → drop n (xs ++ ys) ≡ drop n xs ++ ys
 drop_front zero xs ys le = refl
@@ -280,6 +284,10 @@ drop_front (suc n) (x ∷ xs) ys le = drop_front n xs ys (omega arith)
 pub counted_by : (s : Option Status) (r : Stage) (count n : ℕ) → count < limits.input → n ≤ 4096 → OverBy s r (count + n) → IsCounted s (count + n)
 counted_by None r count n low few o = o.below.input
 counted_by (Some s) r count n low few o = omega arith
+
+pub counted_same : (s : Option Status) (r : Stage) (count : ℕ) → count < limits.input → OverBy s r count → IsCounted s count
+counted_same None r count low o = o.below.input
+counted_same (Some s) r count low o = omega arith
 
 -- the opening lines
 gives_none : (o : Option (List ℕ)) → IsEmpty o → IfSome o (λ bytes. Gives false bytes [] [])

@@ -109,6 +109,11 @@ pub record IsRead (t : Told) : Type 0 where
   pub words : served_words t.words ≡ Some served
   pub name : t.file_name ≡ Some served.name
 
+-- the file was read in part alone
+pub record IsPart (t : Told) : Type 0 where
+  pub ended : t.file_ended ≡ false
+  pub length : t.file_length < most_file
+
 -- the file that was read, if one was, is the one that the words name
 abbrev pub IsReadIfAny : Told → Type 0
 IsReadIfAny t = (t.file_name ≡ None) ⊎ IsRead t
@@ -125,7 +130,7 @@ pub record HasFault (t : Told) (f : ElfFault) : Type 0 where
 abbrev pub Early : Status → Told → Type 0
 Early status.Words t = IsUnpolled t × IsUnread t × (served_words t.words ≡ None) × Line USAGE.now t
 Early (status.File f) t = IsUnpolled t × HasFault t f × Line (bad_file f) t
-Early status.ReadFault t = IsUnpolled t × IsRead t × (0 < t.file_faults) × Silent t
+Early status.ReadFault t = IsUnpolled t × IsRead t × IsPart t × (0 < t.file_faults) × Silent t
 Early status.NoMemory t = IsUnpolled t × IsReadIfAny t × (t.file_faults ≡ 0) × Silent t
 Early s t = ⊥
 

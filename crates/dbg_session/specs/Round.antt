@@ -1,5 +1,5 @@
 -- What one round of a session does.
-use Rattle.std.specs.Prelude.{◌≡◌, ◌<◌, ◌≤◌, ◌+◌, ◌&&◌, not, ℕ, zero, suc, Bool, true, false, List, drop, Option, None, Some}
+use Rattle.std.specs.Prelude.{◌≡◌, ◌⊎◌, ◌<◌, ◌≤◌, ◌+◌, ◌&&◌, not, ℕ, zero, suc, Bool, true, false, List, drop, Option, None, Some}
 use Rattle.dbg_traits.specs.Told.{Told}
 use Rattle.dbg_model.specs.State.{any_runs}
 use Rattle.dbg_model.specs.Lawful.{may_go}
@@ -81,7 +81,7 @@ abbrev pub AfterLine : Done → Stage → ℕ → Option Status → Type 0
 AfterLine (done.Done next) r count s = OverBy s r count
 AfterLine (done.Unput next) r count s = s ≡ Some status.WriteFault
 AfterLine (done.Unsaid next) r count s = s ≡ Some status.NoMemory
-AfterLine done.NoMemory r count s = s ≡ Some status.NoMemory
+AfterLine done.NoMemory r count s = ⊥
 AfterLine done.Nothing r count s = ⊥
 AfterLine done.Waits r count s = ⊥
 
@@ -91,6 +91,7 @@ pub record DoesOne (p q : Moment) : Type 0 where
   pub told : Told
   pub run : Stage
   pub status : Option Status
+  pub opening : run.opening ≡ p.run.opening
   pub does : Does answer p.input.ended p.input.rest p.told told p.run run
   pub after : AfterLine answer run p.input.count status
   pub is : q ≡ record p { told = told; run = run; input = record p.input { rest = drop (behind answer) p.input.rest }; status = status }
@@ -100,8 +101,12 @@ abbrev pub LinesBy : Bool → Moment → Moment → Type 0
 LinesBy true p q = DoesOne p q
 LinesBy false p q = q ≡ p
 
+-- there was no memory to read or to do the line that is kept
+abbrev pub IsUnread : Moment → Moment → Type 0
+IsUnread p q = (has_line p.input.ended p.input.rest ≡ true) × (q ≡ record p { status = Some status.NoMemory })
+
 abbrev pub Lines : Moment → Moment → Type 0
-Lines p q = LinesBy (can_do p.run p.input.ended p.input.rest) p q
+Lines p q = LinesBy (can_do p.run p.input.ended p.input.rest) p q ⊎ IsUnread p q
 
 -- ---- a hart is moved
 
@@ -118,6 +123,7 @@ pub record TurnsOne (h : ℕ) (p q : Moment) : Type 0 where
   pub told : Told
   pub run : Stage
   pub status : Option Status
+  pub opening : run.opening ≡ p.run.opening
   pub turns : Turns answer h p.told told p.run run
   pub after : AfterTurn answer run p.input.count status
   pub is : q ≡ record p { told = told; run = run; status = status }

@@ -14,7 +14,7 @@ use Rattle.dbg_model.specs.Lawful.{may_go}
 use Rattle.dbg_model.specs.Journals.{did, lengthened}
 use Rattle.engine_facts.specs.declared.mind.Mind.{Mind}
 use Rattle.dbg_session.specs.InTime.{through, until}
-use Rattle.dbg_session.specs.Taking.{first_waits}
+use Rattle.dbg_session.specs.Taking.{first_waits, has_line}
 use Rattle.dbg_session.specs.Stage.{Stage, moves_at}
 use Rattle.dbg_session.specs.declared.steps.Turn.{Turn}
 use Rattle.dbg_session.specs.declared.steps.Turn.TheVariants as turn
@@ -101,7 +101,7 @@ Does done.Nothing ended rest t u r s = (u ≡ t) × (s ≡ r) × (lines rest end
 Does done.Waits ended rest t u r s = (u ≡ t) × (s ≡ r) × (first_waits (lines rest ended) ≡ true) × (any_runs r.state.harts ≡ true)
 Does (done.Done next) ended rest t u r s = Says t u r s true × DoesLine ended rest next r s
 Does (done.Unput next) ended rest t u r s = Says t u r s false × DoesLine ended rest next r s
-Does done.NoMemory ended rest t u r s = (u ≡ t) × (s ≡ r)
+Does done.NoMemory ended rest t u r s = (u ≡ t) × (s ≡ r) × (has_line ended rest ≡ true)
 Does (done.Unsaid next) ended rest t u r s = Keeps t u r s × DoesLine ended rest next r s
 
 -- a poll was made

@@ -127,6 +127,7 @@ impl<W: World> Session<W> {
     // Takes input, where no whole line is kept and the input has not ended. True where it got on.
     fn take_input(&mut self) -> bool
         requires { self.old.status ≡ None }
+        ensures opening { self.new.run.opening ≡ self.old.run.opening }
         ensures takes { Takes (moment W.told self.old) (moment W.told self.new) }
         ensures less { GotOn result self.old self.new (no_input self.old) }
     {
@@ -165,6 +166,7 @@ impl<W: World> Session<W> {
     // Does the next line that is kept, unless it waits while a hart runs. True where it got on.
     fn do_line(&mut self) -> bool
         requires { self.old.status ≡ None }
+        ensures opening { self.new.run.opening ≡ self.old.run.opening }
         ensures lines { Lines (moment W.told self.old) (moment W.told self.new) }
         ensures less { GotOn result self.old self.new (no_line self.old) }
     {
@@ -223,12 +225,15 @@ impl<W: World> Session<W> {
         requires known { hart < length self.old.run.minds }
         ensures next { self.new.next ≡ self.old.next }
         ensures same { length self.new.run.minds ≡ length self.old.run.minds }
+        ensures opening { self.new.run.opening ≡ self.old.run.opening }
         ensures moves { IsTrue result → TurnsOne hart (moment W.told self.old) (moment W.told self.new) }
         ensures stands { OnFalse result ((moment W.told self.new ≡ moment W.told self.old) × (moves_at self.old.run hart ≡ false)) }
         ensures less { IsTrue result → session_work self.new.status self.new.run self.new.input < session_work self.old.status self.old.run self.old.input }
     {
         self.engine.keep();
-        match turn_once(self.alloc, &mut self.world, &mut self.engine, hart) {
+        let turn = turn_once(self.alloc, &mut self.world, &mut self.engine, hart);
+        self.engine.keep();
+        match turn {
             Turn::Stood => false,
             Turn::Moved => {
                 self.status = over(&self.engine, self.count);
@@ -263,10 +268,11 @@ impl<W: World> Session<W> {
     fn turn_hart(&mut self, hart: u32)
         requires going { self.old.status ≡ None }
         requires known { hart < length self.old.run.minds }
+        ensures opening { self.new.run.opening ≡ self.old.run.opening }
         ensures moves { MovesOne hart (moment W.told self.old) (moment W.told self.new) }
         ensures less { HasTurned hart self.old self.new }
     {
-        let mut count = 0;
+        let mut count = 0usize;
         while count < 64 && self.status.is_none() {
             if !self.move_hart(hart) {
                 return;
@@ -278,6 +284,7 @@ impl<W: World> Session<W> {
     // Picks the next hart that runs, and turns it. True where one runs.
     fn move_on(&mut self) -> bool
         requires { self.old.status ≡ None }
+        ensures opening { self.new.run.opening ≡ self.old.run.opening }
         ensures moves { Moves (moment W.told self.old) (moment W.told self.new) }
         ensures less { GotOn result self.old self.new (no_move self.old) }
     {
@@ -294,6 +301,7 @@ impl<W: World> Session<W> {
     // The session is done where the input ended, no line is left and no hart runs. True where it is.
     fn settle(&mut self) -> bool
         requires { self.old.status ≡ None }
+        ensures opening { self.new.run.opening ≡ self.old.run.opening }
         ensures settles { Settles (moment W.told self.old) (moment W.told self.new) }
         ensures less { GotOn result self.old self.new (is_open self.old) }
     {
@@ -313,6 +321,7 @@ impl<W: World> Session<W> {
     // One round: input is taken, a line is done, a hart is moved.
     fn go_round(&mut self)
         requires { self.old.status ≡ None }
+        ensures opening { self.new.run.opening ≡ self.old.run.opening }
         ensures round { Round (moment W.told self.old) (moment W.told self.new) }
         ensures less { work self.new < work self.old }
     {

@@ -1,0 +1,19 @@
+use Rattle.std.proofs.Common.{List, ℕ, arith, subst}
+use Rattle.dbg_session.specs.Puts.{PutsAll}
+use Rattle.dbg_session.specs.Stage.{stage_of}
+use Rattle.dbg_session.proofs.Tying.{begins, tied_open, counted_open}
+use Rattle.dbg_session.proofs.session.Session.open.Goals as goal
+
+pub invariant_of-result : goal.invariant_of-result
+invariant_of-result g c =
+    let told = g.W.World.told in
+    let P : List ℕ → Type 0 = λ text. PutsAll c.put_all.result text (told c.args.world) (told c.put_all.new.world) in
+    let puts = subst P c.requires.text c.put_all.ensures in
+    let r = stage_of c.args.engine in
+    let goes = begins r c.keep.ensures.leaves c.requires.ready.journal c.keep.ensures.settings in
+    rw (c.status_of-status.ensures, c.new.ensures.items) (
+      tied_open c.put_all.result (told c.args.world) (told c.put_all.new.world) r c.requires.ready goes puts,
+      omega arith,
+      counted_open c.put_all.result,
+      tt,
+    )
