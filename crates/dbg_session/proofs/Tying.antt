@@ -224,9 +224,9 @@ put_of o t u r s i j h opened says count ended input times over =
     let c = h.cause.0 in
     let v : Told = record t { written = more t.written says.text } in
     rw says.puts (tied_over o v s j over
-        (held_put t v r s i j h.held opened refl refl refl refl refl refl refl refl refl refl count ended input times)
-        (record { file = c.file; poll = c.poll; put = c.put })
-        (put_by t.written (said_by r) (said_by s) says.text says.said h.written))
+    (held_put t v r s i j h.held opened refl refl refl refl refl refl refl refl refl refl count ended input times)
+    (record { file = c.file; poll = c.poll; put = c.put })
+    (put_by t.written (said_by r) (said_by s) says.text says.said h.written))
 
 pub line_unput : (t u : Told) (r s : Stage) (i : Taken) (next : ℕ) → IsTied None t r i → s.opening ≡ r.opening → Says t u r s false → DoesLine i.ended i.rest next r s → IsTied (Some status.WriteFault) u s (record i { rest = drop next i.rest })
 line_unput t u r s i next h opened says does =
