@@ -1,8 +1,7 @@
-use crate::{Job, Slice, registers_alone, run_slice};
+use crate::programs::HOME as AT;
 use arrayvec::ArrayVec;
+use reg_slices::{Job, Slice, registers_alone, run_slice};
 use rv_exec::Regs;
-
-const AT: u32 = 0x0001_0074;
 
 /// A window at `AT` as LLVM assembles it, how many words of it count, a limit, and the count, pc and x5 after.
 const RUNS: [([u32; 3], usize, u32, u32, u32, u32); 9] = [

@@ -1,10 +1,13 @@
-use crate::DataMemory;
-use elf32_read::read_image;
+use data_memory::DataMemory;
+use elf32_read::{Image, read_image};
+use rv_decode::{AluOp, Instr, Reg};
 use rv_exec::{AmoOp, Cause, DataPort};
+use std::alloc::Global;
 use std::test::Fail;
+use text_words::{Fetch, TextWords};
 
-/// Three words of text at 0x10094 behind the headers, which are mapped too; six writable bytes at 0x20000, four of
-/// them in the file; six bytes at 0x20006 that are only read.
+/// ADDI a7, x0, 93, a word that is no instruction, and ECALL at 0x10094, behind the headers, which are mapped too; six
+/// writable bytes at 0x20000, four of them in the file; six bytes at 0x20006 that are only read.
 const IMAGE: &str = "\
     7f454c460101010000000000000000000200f300010000009400010034000000aa000000000000003400200003002800\
     0200000001000000000000000000010000000100a0000000a0000000050000000400000001000000a000000000000200\
@@ -13,11 +16,14 @@ const IMAGE: &str = "\
     00000000000000000000000000000000000000000000010000000600000094000100940000000c000000000000000000\
     00000400000000000000";
 
+fn image(alloc: Global) -> Result<Image, Fail> {
+    let file = hex::decode(alloc, IMAGE)?;
+    Ok(read_image(alloc, &file)?)
+}
+
 #[test]
-fn data_and_stacks_are_mapped_and_text_is_not(rt: HostRuntime) -> Result<(), Fail> {
-    let file = hex::decode(rt.alloc(), IMAGE)?;
-    let image = read_image(rt.alloc(), &file)?;
-    let memory = DataMemory::load(rt.alloc(), &image, 2)?;
+fn data_and_stacks_are_read_and_text_is_not(rt: HostRuntime) -> Result<(), Fail> {
+    let memory = DataMemory::load(rt.alloc(), &image(rt.alloc())?, 2)?;
     let cases = [
         (0x0000_FFFF, None, false),
         (0x0001_0000, Some(0x7F), false),
@@ -43,14 +49,19 @@ fn data_and_stacks_are_mapped_and_text_is_not(rt: HostRuntime) -> Result<(), Fai
         assert_eq!(rt; memory.byte(addr), byte, "at {addr}");
         assert_eq!(rt; memory.writable(addr), writable, "at {addr}");
     }
+    let mut into = [9; 4];
+    assert_eq!(rt; memory.read_range(0x0002_000A, &mut into), Err(0x0002_000C));
+    assert_eq!(rt; memory.read_range(0x0001_0092, &mut into), Err(0x0001_0094));
+    assert_eq!(rt; memory.read_range(0xFFFF_FFFF, &mut into), Err(0xFFFF_FFFF));
+    assert_eq!(rt; into.as_slice(), [9; 4].as_slice());
+    assert_eq!(rt; memory.read_range(0x0002_0004, &mut into), Ok(()));
+    assert_eq!(rt; into.as_slice(), [0, 0, 0x0A, 0x0B].as_slice());
     Ok(())
 }
 
 #[test]
 fn a_misaligned_access_is_refused_before_an_unmapped_one(rt: HostRuntime) -> Result<(), Fail> {
-    let file = hex::decode(rt.alloc(), IMAGE)?;
-    let image = read_image(rt.alloc(), &file)?;
-    let mut memory = DataMemory::load(rt.alloc(), &image, 1)?;
+    let mut memory = DataMemory::load(rt.alloc(), &image(rt.alloc())?, 1)?;
     let loads = [
         (0x0002_0000, Ok(0x0403_0201)),
         (0x0002_0004, Ok(0x0B0A_0000)),
@@ -84,14 +95,7 @@ fn a_misaligned_access_is_refused_before_an_unmapped_one(rt: HostRuntime) -> Res
     assert_eq!(rt; memory.byte(0x0002_0000), Some(0x44));
     assert_eq!(rt; memory.byte(0x0002_0003), Some(0x11));
     assert_eq!(rt; memory.byte(0x0002_0004), Some(0));
-    Ok(())
-}
-
-#[test]
-fn an_amo_answers_the_old_word(rt: HostRuntime) -> Result<(), Fail> {
-    let file = hex::decode(rt.alloc(), IMAGE)?;
-    let image = read_image(rt.alloc(), &file)?;
-    let mut memory = DataMemory::load(rt.alloc(), &image, 1)?;
+    assert_eq!(rt; memory.store(0x0002_0000, 4, 0x0403_0201), Ok(()));
     assert_eq!(rt; memory.amo(AmoOp::Add, 0x0002_0000, 0xFF), Ok(0x0403_0201));
     assert_eq!(rt; memory.load(0x0002_0000, 4), Ok(0x0403_0300));
     assert_eq!(rt;
@@ -108,16 +112,45 @@ fn an_amo_answers_the_old_word(rt: HostRuntime) -> Result<(), Fail> {
 }
 
 #[test]
-fn a_range_is_read_whole_or_not_at_all(rt: HostRuntime) -> Result<(), Fail> {
-    let file = hex::decode(rt.alloc(), IMAGE)?;
-    let image = read_image(rt.alloc(), &file)?;
-    let memory = DataMemory::load(rt.alloc(), &image, 1)?;
-    let mut into = [9; 4];
-    assert_eq!(rt; memory.read_range(0x0002_000A, &mut into), Err(0x0002_000C));
-    assert_eq!(rt; memory.read_range(0x0001_0092, &mut into), Err(0x0001_0094));
-    assert_eq!(rt; memory.read_range(0xFFFF_FFFF, &mut into), Err(0xFFFF_FFFF));
-    assert_eq!(rt; into.as_slice(), [9; 4].as_slice());
-    assert_eq!(rt; memory.read_range(0x0002_0004, &mut into), Ok(()));
-    assert_eq!(rt; into.as_slice(), [0, 0, 0x0A, 0x0B].as_slice());
+fn words_of_text_are_shown_and_a_planted_one_is_ebreak(rt: HostRuntime) -> Result<(), Fail> {
+    let mut text = TextWords::load(rt.alloc(), &image(rt.alloc())?)?;
+    let addi = Instr::OpImm {
+        op: AluOp::Add,
+        rd: Reg::new(17),
+        rs1: Reg::new(0),
+        imm: 93,
+    };
+    let cases = [
+        (0x0001_0000, None, Fetch::Absent),
+        (0x0001_0090, None, Fetch::Absent),
+        (0x0001_0094, Some(0x05D0_0893), Fetch::Instruction(addi)),
+        (0x0001_0096, None, Fetch::Absent),
+        (0x0001_0098, Some(0xFFFF_FFFF), Fetch::Illegal),
+        (
+            0x0001_009C,
+            Some(0x0000_0073),
+            Fetch::Instruction(Instr::Ecall),
+        ),
+        (0x0001_00A0, None, Fetch::Absent),
+        (0x0002_0000, None, Fetch::Absent),
+    ];
+    for (addr, word, fetch) in cases {
+        assert_eq!(rt; text.word(addr), word, "at {addr}");
+        assert_eq!(rt; text.shown(addr), word, "at {addr}");
+        assert!(rt; !text.planted(addr), "at {addr}");
+        assert_eq!(rt; text.fetch(addr), fetch, "at {addr}");
+    }
+    assert!(rt; text.shown(0x0001_0098).is_some());
+    assert!(rt; !text.planted(0x0001_0098));
+    text.plant(0x0001_0098);
+    assert_eq!(rt; text.word(0x0001_0098), Some(0x0010_0073));
+    assert_eq!(rt; text.shown(0x0001_0098), Some(0xFFFF_FFFF));
+    assert_eq!(rt; text.fetch(0x0001_0098), Fetch::Planted);
+    assert_eq!(rt; text.word(0x0001_0094), Some(0x05D0_0893));
+    assert_eq!(rt; text.word(0x0001_009C), Some(0x0000_0073));
+    assert!(rt; text.planted(0x0001_0098));
+    text.lift(0x0001_0098);
+    assert_eq!(rt; text.word(0x0001_0098), Some(0xFFFF_FFFF));
+    assert_eq!(rt; text.fetch(0x0001_0098), Fetch::Illegal);
     Ok(())
 }
