@@ -295,22 +295,22 @@ fn assert_names(
     Ok(())
 }
 
+fn assert_linked(rt: &impl Abort, alloc: Global, file: &str, linked: &Linked) -> Result<(), Fail> {
+    let image = read_image(alloc, &hex::decode(alloc, file)?)?;
+    assert_loaded(rt, &image, linked);
+    assert_sections(rt, &image, linked.sections);
+    assert_eq!(rt; image.section(b".rodata"), Some(b"hi\0".as_slice()));
+    assert_eq!(rt; image.section(b".data"), Some([3, 0, 0, 0].as_slice()));
+    assert!(rt; image.segment_count() > 0);
+    let last = image.segment(image.segment_count() - 1);
+    assert_eq!(rt; last.bytes, [3, 0, 0, 0].as_slice());
+    assert_names(rt, alloc, &image, linked)
+}
+
 #[test]
 fn files_of_two_linkers_are_read_as_readelf_shows_them(rt: HostRuntime) -> Result<(), Fail> {
-    for (file, linked) in [(LD_FILE, &BY_LD), (LLD_FILE, &BY_LLD)] {
-        let image = read_image(rt.alloc(), &hex::decode(rt.alloc(), file)?)?;
-        assert_loaded(&rt, &image, linked);
-        assert_sections(&rt, &image, linked.sections);
-        assert_eq!(rt; image.section(b".rodata"), Some(b"hi\0".as_slice()));
-        assert_eq!(rt; image.section(b".data"), Some([3, 0, 0, 0].as_slice()));
-        assert!(rt; image.segment_count() > 0);
-        assert_eq!(rt;
-            image.segment(image.segment_count() - 1).bytes,
-            [3, 0, 0, 0].as_slice()
-        );
-        assert_names(&rt, rt.alloc(), &image, linked)?;
-    }
-    Ok(())
+    assert_linked(&rt, rt.alloc(), LD_FILE, &BY_LD)?;
+    assert_linked(&rt, rt.alloc(), LLD_FILE, &BY_LLD)
 }
 
 #[test]
