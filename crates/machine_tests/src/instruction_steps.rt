@@ -1,7 +1,7 @@
 use crate::programs::{DATA, HOME, ONWARD, SLOT, image_of};
 use data_memory::DataMemory;
 use displaced_fix::{copied_step_is_home, fix};
-use rv_decode::decode;
+use rv_decode::{Instr, decode};
 use rv_exec::{Cause, DataPort, Effect, NoBytes, Regs, execute};
 use std::test::Fail;
 
@@ -200,25 +200,27 @@ const ACCESSES: [(u32, u32, Effect, u32, u32); 16] = [
 /// lw x6, 0(x7)
 const READ_BACK: u32 = 0x0003_A303;
 
+// What `i` does at an address, where x5 is this.
+fn run_at(i: Instr, at: u32, x5: u32) -> (Effect, Regs) {
+    let mut regs = Regs::new(at);
+    regs.set(5, x5);
+    let effect = execute(i, &mut regs, &mut NoBytes);
+    (effect, regs)
+}
+
 #[test]
 fn an_instruction_and_its_copy_change_pc_and_one_register(rt: HostRuntime) -> Result<(), Fail> {
     copied_step_is_home();
     for (word, x5, effect, pc, x1, x5_after) in &STEPS {
         let i = decode(*word).ok_or("an instruction")?;
-        for at in [HOME, SLOT] {
-            let mut regs = Regs::new(at);
-            regs.set(5, *x5);
-            assert_eq!(rt;
-                execute(i, &mut regs, &mut NoBytes),
-                *effect,
-                "{word:#010x}"
-            );
-            if at == SLOT {
-                fix(i, SLOT, HOME, &mut regs, *effect == Effect::Done);
-            }
-            let after = (regs.pc(), regs.get(1), regs.get(5), regs.get(0));
-            assert_eq!(rt; after, (*pc, *x1, *x5_after, 0), "{word:#010x} at {at:#x}");
-        }
+        let (is_effect, regs) = run_at(i, HOME, *x5);
+        assert_eq!(rt; is_effect, *effect, "{word:#010x}");
+        let after = (regs.pc(), regs.get(1), regs.get(5), regs.get(0));
+        assert_eq!(rt; after, (*pc, *x1, *x5_after, 0), "{word:#010x}");
+        let (is_effect, mut copy) = run_at(i, SLOT, *x5);
+        assert_eq!(rt; is_effect, *effect, "{word:#010x}");
+        fix(i, SLOT, HOME, &mut copy, is_effect == Effect::Done);
+        assert_eq!(rt; copy, regs, "{word:#010x}");
     }
     Ok(())
 }
