@@ -212,12 +212,15 @@ fn run_at(i: Instr, at: u32, x5: u32) -> (Effect, Regs) {
 fn an_instruction_and_its_copy_change_pc_and_one_register(rt: HostRuntime) -> Result<(), Fail> {
     copied_step_is_home();
     for (word, x5, effect, pc, x1, x5_after) in &STEPS {
-        let i = decode(*word).ok_or("an instruction")?;
-        let (is_effect, regs) = run_at(i, HOME, *x5);
+        let Some(i) = decode(*word) else {
+            return Err(Fail::new("an instruction"));
+        };
+        let (at_home, copied) = (i, i);
+        let (is_effect, regs) = run_at(at_home, HOME, *x5);
         assert_eq!(rt; is_effect, *effect, "{word:#010x}");
         let after = (regs.pc(), regs.get(1), regs.get(5), regs.get(0));
         assert_eq!(rt; after, (*pc, *x1, *x5_after, 0), "{word:#010x}");
-        let (is_effect, mut copy) = run_at(i, SLOT, *x5);
+        let (is_effect, mut copy) = run_at(copied, SLOT, *x5);
         assert_eq!(rt; is_effect, *effect, "{word:#010x}");
         fix(i, SLOT, HOME, &mut copy, is_effect == Effect::Done);
         assert_eq!(rt; copy, regs, "{word:#010x}");
