@@ -1,7 +1,6 @@
 //! What is owed after an instruction was executed at another address than its own.
 #![tactic(auto)]
 
-
 ghost use Rattle.std.specs.Prelude.{◌≡◌, ℕ, ◌<◌, ◌^◌, ◌%◌};
 ghost use Rattle.displaced_fix.specs.Fix.{fix, moved_register, CopiedStepIsHome};
 

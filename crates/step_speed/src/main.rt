@@ -7,8 +7,6 @@ ghost use Rattle.std.specs.Prelude.{◌≤◌};
 
 mod operation;
 mod ram;
-#[cfg(test)]
-mod tests;
 
 use ram::Ram;
 use rv_decode::{Instr, decode};
