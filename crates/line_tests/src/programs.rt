@@ -1,4 +1,4 @@
-use crate::{Parameters, ProgramError, program_rows};
+use line_programs::{Parameters, ProgramError, program_rows};
 use line_rows::{LineFault, Row, Rows};
 use std::alloc::Global;
 use std::test::Fail;

@@ -1,7 +1,7 @@
 use Rattle.std.proofs.Common.{◌≡◌, false}
 use Rattle.dbg_traits.specs.MemWorld.{told_of}
 use Rattle.dbg_traits.specs.Names.{IsNamed, IsSameName}
-use Rattle.dbg_traits.proofs.tests.check_reads.Given as goal
+use Rattle.world_tests.proofs.memory_worlds.check_reads.Given as goal
 
 abbrev pub invariant-loop-read : goal.invariant-loop-read
 invariant-loop-read g l = record {

@@ -1,66 +1,15 @@
 ghost use Rattle.std.specs.Prelude.{◌==◌, None, if◌then◌else◌};
 
-use crate::{BreakFault, BreakTable, CondError, Due, Location, Spec};
+use crate::linked::{program, program_symbols};
+use break_table::{BreakFault, BreakTable, CondError, Due, Location, Spec};
 use cond_expr::{Expr, parse};
 use dbg_traits::View;
-use elf_symbols::{Symbols, symbols};
-use elf32_read::{Image, read_image};
+use elf_gen::plain;
+use elf_symbols::Symbols;
+use elf32_read::read_image;
 use std::alloc::Global;
 use std::process::Abort;
 use std::test::Fail;
-
-/// What GNU ld 2.40 wrote of a small assembler file.
-const BY_LD: &str = "\
-    7f454c460101010000000000000000000200f30001000000b00001003400000048030000000000003400200003002800\
-    0900080003000070d400000000000000000000002d000000000000000400000001000000010000000000000000000100\
-    00000100cb000000cb000000050000001000000001000000d0000000d0000100d0000100040000000800000006000000\
-    10000000130101ff370601001306460d930610002f25d6001301010167800000370701008325070deff0dffd9308d005\
-    1305000073000000686900000000000003000000412c00000072697363760001220000000572763332693270315f6d32\
-    70305f613270315f7a6d6d756c3170300000000000000000000000000000000000000000000000009400010000000000\
-    0300010000000000c8000100000000000300020000000000d0000100000000000300030000000000d400010000000000\
-    03000400000000000000000000000000030005000100000000000000000000000400f1ff05000000b000010000000000\
-    000001000500000094000100000000000000010023000000c800010000000000000002002c000000d008010000000000\
-    1000f1ff3e000000d0000100040000001100030044000000d4000100000000001000030054000000940001001c000000\
-    1200010070000000b000010018000000120001005f000000d800010000000000100004006b000000d400010000000000\
-    1000040077000000d400010004000000110004007d000000d000010000000000100003008c000000d400010000000000\
-    1000030093000000d8000100000000001000040098000000940001001c0000001200010000612e6f0024787276333269\
-    3270315f6d3270305f613270315f7a6d6d756c317030006772656574696e67005f5f676c6f62616c5f706f696e746572\
-    24006c696d6974005f5f53444154415f424547494e5f5f00776f726b5f616c696173005f5f4253535f454e445f5f005f\
-    5f6273735f737461727400636f756e74005f5f444154415f424547494e5f5f005f6564617461005f656e6400776f726b\
-    00002e73796d746162002e737472746162002e7368737472746162002e74657874002e726f64617461002e6461746100\
-    2e627373002e72697363762e617474726962757465730000000000000000000000000000000000000000000000000000\
-    000000000000000000000000000000001b00000001000000060000009400010094000000340000000000000000000000\
-    0400000000000000210000000100000002000000c8000100c80000000300000000000000000000000100000000000000\
-    290000000100000003000000d0000100d000000004000000000000000000000001000000000000002f00000008000000\
-    03000000d4000100d4000000040000000000000000000000010000000000000034000000030000700000000000000000\
-    d40000002d00000000000000000000000100000000000000010000000200000000000000000000000401000060010000\
-    070000000a000000040000001000000009000000030000000000000000000000640200009d0000000000000000000000\
-    010000000000000011000000030000000000000000000000010300004600000000000000000000000100000000000000";
-
-fn program(alloc: Global) -> Result<Image, Fail> {
-    Ok(read_image(alloc, &hex::decode(alloc, BY_LD)?)?)
-}
-
-/// What makes the text of that file 128 words long: bytes of its headers, and what they become.
-const LONG_TEXT: [(usize, u8); 7] = [
-    (0x64, 0xB0),
-    (0x65, 0x04),
-    (0x68, 0xB0),
-    (0x69, 0x04),
-    (0x74, 0),
-    (0x384, 0),
-    (0x385, 0x02),
-];
-
-fn long_program(alloc: Global) -> Result<Image, Fail> {
-    let mut file = hex::decode(alloc, BY_LD)?;
-    for (place, value) in LONG_TEXT {
-        if let Some(byte) = file.get_mut(place) {
-            *byte = value;
-        }
-    }
-    Ok(read_image(alloc, &file)?)
-}
 
 /// A hart at an address. Each other register holds its number, and no byte is mapped.
 #[derive(Clone, Copy)]
@@ -157,9 +106,8 @@ const SETTLED: [(u32, u64, u32); 10] = [
 #[test]
 fn arrivals_are_decided_and_settled_by_the_entries(rt: HostRuntime) -> Result<(), Fail> {
     let alloc = rt.alloc();
-    let image = program(alloc)?;
-    let names = symbols(alloc, &image)?;
-    let mut table = BreakTable::new(alloc, &image, 2)?;
+    let names = program_symbols(alloc)?;
+    let mut table = BreakTable::new(alloc, &program(alloc)?, 2)?;
     for (address, kind, ignore, text, thread) in ASKED {
         let spec = asked(
             address,
@@ -274,15 +222,16 @@ fn entries_of_an_address_are_found_after_each_change(rt: HostRuntime) -> Result<
 #[test]
 fn one_of_128_addresses_is_found(rt: HostRuntime) -> Result<(), Fail> {
     let alloc = rt.alloc();
-    let mut table = BreakTable::new(alloc, &long_program(alloc)?, 1)?;
+    let image = read_image(alloc, &plain(alloc, &[0x13; 128], b"")?)?;
+    let mut table = BreakTable::new(alloc, &image, 1)?;
     for back in 0..128 {
-        let spec = asked(0x10290 - 4 * back, ' ', 0, None, None, Vec::new(alloc));
+        let spec = asked(0x10270 - 4 * back, ' ', 0, None, None, Vec::new(alloc));
         assert!(rt; insert(&rt, &mut table, spec).is_ok());
     }
     for back in 0..128 {
-        assert_eq!(rt; table.due(0, &At(0x10290 - 4 * back)).stop, Some(back + 1));
+        assert_eq!(rt; table.due(0, &At(0x10270 - 4 * back)).stop, Some(back + 1));
     }
-    for pc in [0x10090, 0x10294, 0] {
+    for pc in [0x10070, 0x10274, 0] {
         assert!(rt; !table.stands(pc), "at {pc}");
     }
     Ok(())

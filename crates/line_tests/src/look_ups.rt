@@ -1,20 +1,13 @@
-use crate::LineIndex;
+use crate::images::program_of;
 use dbg_traits::NoMemory;
+use dwarf_lines::rows;
+use elf_gen::generate;
 use elf_symbols::{Named, symbols};
 use elf32_read::{Image, read_image};
+use line_index::LineIndex;
 use line_rows::{Row, Rows};
 use std::alloc::Global;
 use std::test::Fail;
-
-/// A program of three words from 0x00010074 on, laid out by hand.
-const PLAIN: &str = "\
-    7f454c460101010000000000000000000200f30001000000740001003400000097000000000000003400200002002800\
-    040003000100000000000000000001000000010080000000800000000500000004000000010000008000000000000200\
-    00000200000000000000000006000000010000009308d0051305000073000000002e74657874002e64617461002e7368\
-    737472746162000000000000000000000000000000000000000000000000000000000000000000000000000000000001\
-    000000010000000600000074000100740000000c00000000000000000000000400000000000000070000000100000003\
-    000000000002008000000000000000000000000000000001000000000000000d00000003000000000000000000000080\
-    0000001700000000000000000000000100000000000000";
 
 /// A sequence of rows: address, file, line, whether a statement, whether the prologue ends.
 fn push_sequence(
@@ -54,7 +47,7 @@ fn index_of(alloc: Global, image: &Image) -> Result<LineIndex, NoMemory> {
 
 #[test]
 fn rows_lines_and_bodies(rt: HostRuntime) -> Result<(), Fail> {
-    let image = read_image(rt.alloc(), &hex::decode(rt.alloc(), PLAIN)?)?;
+    let image = program_of(rt.alloc(), 3)?;
     let index = index_of(rt.alloc(), &image).ok().ok_or("memory")?;
     let rows = [
         (0x10073, None, false),
@@ -102,5 +95,33 @@ fn rows_lines_and_bodies(rt: HostRuntime) -> Result<(), Fail> {
         assert_eq!(rt; index.body_of(&function), body, "{address} {size}");
     }
     assert_eq!(rt; index.file_name(1), b"b.h".as_slice());
+    Ok(())
+}
+
+/// The rows of count.c in a generated program, from what GNU as wrote of it: address, line.
+const COUNT: [(u32, u32); 5] = [
+    (0x1008C, 10),
+    (0x10094, 11),
+    (0x1009C, 12),
+    (0x100A0, 13),
+    (0x100A8, 14),
+];
+
+/// With ample memory there is an index of each list of rows, an empty one too.
+#[test]
+fn an_index_is_built_of_a_section_and_of_nothing(rt: HostRuntime) -> Result<(), Fail> {
+    let image = read_image(rt.alloc(), &generate(rt.alloc(), 1)?)?;
+    let names = symbols(rt.alloc(), &image)?;
+    let section = image.section(b".debug_line").ok_or("no section")?;
+    let read = rows(rt.alloc(), section, b"", b"")?;
+    let index = LineIndex::build(rt.alloc(), read, &names, &image)?;
+    for (address, line) in COUNT {
+        assert_eq!(rt; index.starts(address).map(|row| row.line), Some(line));
+        assert_eq!(rt; index.address_of(b"count.c", line), Some(address));
+    }
+    assert_eq!(rt; index.row_at(0x100B4), None);
+    let none = LineIndex::build(rt.alloc(), Rows::new(rt.alloc()), &names, &image)?;
+    assert_eq!(rt; none.row_at(0x1008C), None);
+    assert_eq!(rt; none.address_of(b"count.c", 10), None);
     Ok(())
 }

@@ -1,5 +1,5 @@
-use crate::{LineFault, Row, Rows, UnitFault};
 use dbg_traits::NoMemory;
+use line_rows::{LineFault, Row, Rows, UnitFault};
 use std::alloc::Global;
 use std::test::Fail;
 

@@ -1,5 +1,5 @@
-use super::*;
 use dbg_traits::{ArgText, Settings};
+use dbg_words::{Request, read_words};
 use std::alloc::{AllocError, Global};
 use std::test::*;
 

@@ -1,19 +1,12 @@
 ghost use Rattle.std.specs.Prelude.{◌%◌, ◌&&◌, ◌==◌, None, Some, nat_le, nat_lt, slice_index, if◌then◌else◌};
 
-use crate::{Frame, caller, cfa, walk};
+use crate::images::program_of;
 use arrayvec::ArrayVec;
 use dbg_traits::View;
-use elf32_read::{Image, read_image};
+use elf32_read::Image;
+use frame_walk::{Frame, caller, cfa, walk};
 use std::process::Abort;
 use std::test::Fail;
-
-/// A program with 64 bytes of text from 0x10074 up.
-const PROGRAM: &str = "\
-    7f454c460101010000000000000000000200f30001000000740001003400000094000000000000003400200001002800\
-    0200000001000000540000007400010074000100400000004000000005000000040000003707020083254700ef000001\
-    9308d0051305000073000000130101ff2326110037060200930610002f25d6009385f5ffe39c05fe8320c10013010101\
-    678000000000000000000000000000000000000000000000000000000000000000000000000000000000000000000000\
-    010000000600000074000100540000004000000000000000000000000400000000000000";
 
 /// As readelf interprets it: from 0x1008C up to 0x100B4 the CFA is sp, from 0x10090 to 0x100AF it is 16 above, and from 0x10094 to
 /// 0x100AB ra is saved 4 below the CFA.
@@ -96,7 +89,7 @@ fn check(
 #[test]
 fn frames_follow_the_rules_at_the_calls(rt: HostRuntime) -> Result<(), Fail> {
     let alloc = rt.alloc();
-    let image = read_image(alloc, &hex::decode(alloc, PROGRAM)?)?;
+    let image = program_of(alloc, 16)?;
     let by_sp = hex::decode(alloc, BY_STACK_POINTER)?;
     let by_s0 = hex::decode(alloc, BY_FRAME_POINTER)?;
 
@@ -143,7 +136,7 @@ fn frames_follow_the_rules_at_the_calls(rt: HostRuntime) -> Result<(), Fail> {
 #[test]
 fn the_innermost_frame_alone_and_the_longest_walk(rt: HostRuntime) -> Result<(), Fail> {
     let alloc = rt.alloc();
-    let image = read_image(alloc, &hex::decode(alloc, PROGRAM)?)?;
+    let image = program_of(alloc, 16)?;
     let section = hex::decode(alloc, BY_STACK_POINTER)?;
 
     let hart = in_work(0x100A0);

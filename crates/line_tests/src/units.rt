@@ -1,13 +1,11 @@
-mod vectors;
-
-use crate::rows;
+use crate::vectors::{
+    CLANG_2, CLANG_5, CLANG_5_NAMES, CLANG_ROWS, GCC_3, GCC_4, GCC_5, GCC_5_NAMES, GCC_ROWS,
+};
+use dwarf_lines::rows;
 use line_rows::{LineFault, Row, Rows};
 use std::alloc::{AllocError, Global};
 use std::process::Abort;
 use std::test::Fail;
-use vectors::{
-    CLANG_2, CLANG_5, CLANG_5_NAMES, CLANG_ROWS, GCC_3, GCC_4, GCC_5, GCC_5_NAMES, GCC_ROWS,
-};
 
 /// A unit of version 2 with two rows of the file a.c.
 const TWO_ROWS: &str = "\

@@ -1,4 +1,4 @@
-use crate::{InputFault, Parts, next_line, split};
+use mi_input::{InputFault, Parts, next_line, split};
 use mi_values::Token;
 use std::alloc::Global;
 use std::test::Fail;

@@ -1,7 +1,7 @@
 ghost use Rattle.std.specs.Prelude.{◌≡◌, ◌≤◌, ◌<◌, ◌==◌, nat_le};
 
-use super::*;
 use dbg_traits::{Gate, OpenGate};
+use hart_workers::{Crew, Duty, run_crew};
 use std::sync::Mutex;
 use std::sync::atomic::{AtomicU64, Ordering};
 use std::test::*;
@@ -230,4 +230,96 @@ fn slices_of_two_harts_are_ready_side_by_side(rt: HostRuntime) {
     assert!(rt; harts.taken >= 20);
     assert_eq!(rt; gate.other.load(Ordering::SeqCst), 1);
     assert_eq!(rt; gate.gave_up.load(Ordering::SeqCst), 0);
+}
+
+// How many asks are answered with Again while a worker is missing.
+const PATIENCE: u32 = 10_000_000;
+
+// Notes who asks. The first ask of each worker gets Again, and there are no jobs before each of them has asked.
+#[derive(Drop)]
+struct Roll<const JOBS: u32> {
+    asked: [bool; 16],
+    missing: u32,
+    patience: u32,
+    handed: u32,
+    taken: u32,
+    over: bool,
+}
+
+impl<const JOBS: u32> Roll<JOBS> {
+    // Whether this is the worker's first ask.
+    fn is_new(&mut self, worker: u32) -> bool {
+        match self.asked.get_mut(worker as usize) {
+            Some(asked) if !*asked => {
+                *asked = true;
+                self.missing = self.missing.saturating_sub(1);
+                true
+            }
+            _ => false,
+        }
+    }
+}
+
+impl<const JOBS: u32> Crew for Roll<JOBS> {
+    type Job = u32;
+
+    type Done = u32;
+
+    ghost is_over = { λ c. c.over };
+
+    fn duty(&mut self, worker: u32) -> Duty<u32> {
+        if self.over {
+            return Duty::Over;
+        }
+        if self.is_new(worker) {
+            return Duty::Again;
+        }
+        if self.missing > 0 {
+            self.patience = self.patience.saturating_sub(1);
+            self.over = self.patience == 0;
+            return Duty::Again;
+        }
+        if self.handed >= JOBS {
+            return Duty::Again;
+        }
+        self.handed += 1;
+        Duty::Job(self.handed)
+    }
+
+    fn hart_of(_job: &u32) -> u32 {
+        0
+    }
+
+    fn work(job: u32) -> u32 {
+        job
+    }
+
+    fn take(&mut self, _done: u32) {
+        self.taken = self.taken.saturating_add(1);
+        self.over = self.taken >= JOBS;
+    }
+
+    fn over(&self) -> bool {
+        self.over
+    }
+}
+
+#[test]
+fn each_worker_asks_by_its_number_and_stays_after_again(rt: HostRuntime) {
+    for workers in [1, 2, 3, 16] {
+        let crew = Mutex::new(Roll::<20> {
+            asked: [false; 16],
+            missing: workers,
+            patience: PATIENCE,
+            handed: 0,
+            taken: 0,
+            over: false,
+        });
+        run_crew(&rt, &crew, workers, &OpenGate);
+        let roll = crew.into_inner();
+        for (number, asked) in roll.asked.iter().enumerate() {
+            assert_eq!(rt; *asked, number < workers as usize, "{number} of {workers}");
+        }
+        assert_eq!(rt; roll.taken, 20);
+    }
 }

@@ -1,10 +1,12 @@
-ghost use Rattle.std.specs.Prelude.{◌≡◌, ◌<◌, ◌==◌, [], ◌∷◌, cond, IfOk, Some, None, false};
+ghost use Rattle.std.specs.Prelude.{◌≡◌, ◌<◌, ◌==◌, ◌++◌, [], ◌∷◌, cond, IfOk, Some, None, false};
 ghost use Rattle.dbg_traits.specs.MemWorld.{told_first, told_of};
 ghost use Rattle.dbg_traits.specs.Names.{IsNamed, IsSameName};
 ghost use Rattle.dbg_traits.specs.Settings.{AreSettings};
 
-use super::*;
-use crate::names::end_place;
+use dbg_traits::{
+    ArgText, Cue, FileRead, Limits, MemWorld, NamePlace, Polled, Put, Settings, View, World,
+    place_of,
+};
 use std::alloc::Global;
 use std::convert::AsStr;
 use std::process::Abort;
@@ -63,21 +65,41 @@ fn settings_have_a_least_and_a_greatest(rt: HostRuntime) {
     assert_eq!(rt; harts_of(greatest), 16);
 }
 
+// Two words, the second of which ends with the name, and the name.
+fn named(
+    alloc: Global,
+    other: &str,
+    front: &str,
+    name: &str,
+) -> Result<(Vec<ArgText>, ArgText), Fail>
+    ensures { IfOk result (λ made. made.0.items ≡ other.now ∷ ((front.now ++ made.1) ∷ [])) }
+{
+    let mut word = String::from_str(alloc, front)?;
+    word.push_str(name)?;
+    let mut words = Vec::new(alloc);
+    words.push(ArgText::of(String::from_str(alloc, other)?))?;
+    words.push(ArgText::of(word))?;
+    Ok((words, ArgText::of(String::from_str(alloc, name)?)))
+}
+
 #[test]
-fn a_name_is_the_end_of_a_word(rt: HostRuntime) {
-    for (word, name, place) in [
-        ("--check=f", "f", Some(8)),
-        ("f", "f", Some(0)),
-        ("f", "", Some(1)),
-        ("f", "ff", None),
-        ("--check=f", "check", None),
+fn a_name_is_the_end_of_the_first_word_that_has_it(rt: HostRuntime) -> Result<(), Fail> {
+    for (other, front, name, word, from) in [
+        ("--harts=2", "--check=", "f", 1, 8),
+        ("f", "--check=", "f", 0, 0),
+        ("--check=f", "", "f", 0, 8),
+        ("f", "g", "", 0, 1),
+        ("f", "", "ff", 1, 0),
+        ("--check=f", "", "check", 1, 0),
     ] {
+        let (words, name) = named(rt.alloc(), other, front, name)?;
         assert_eq!(rt;
-            end_place(word.as_bytes(), name.as_bytes()),
-            place,
-            "{name} of {word}"
+            place_of(&words, &name),
+            NamePlace { word, from },
+            "of {other}"
         );
     }
+    Ok(())
 }
 
 fn limits(alloc: Global, failing_reads: &[u64], failing_puts: &[u64]) -> Result<Limits, Fail> {

@@ -1,4 +1,4 @@
-use crate::{Leb, sleb, text_at, u8_at, u16_at, u32_at, uleb};
+use leb_read::{Leb, sleb, text_at, u8_at, u16_at, u32_at, uleb};
 
 #[test]
 fn unsigned_numbers_are_those_of_dwarf(rt: HostRuntime) {

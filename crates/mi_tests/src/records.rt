@@ -1,4 +1,4 @@
-use crate::{
+use mi_values::{
     Fields, Line, Name, NoticeSign, RecordFault, StreamSign, Token, read_line, write_line,
 };
 use std::alloc::Global;
