@@ -64,9 +64,10 @@ fn obstacle(number: u32) -> Obstacle {
     }
 }
 
-// Why a line is refused, by the number of its message.
+// Why a line is refused, by the number of its message; 0 is that of commands that aren't built.
 fn refused(number: u32, word: ByteList) -> Refused {
     match number {
+        0 => Refused::NotBuilt,
         1 => Refused::Long,
         2 => Refused::Syntax,
         3 => Refused::Cli,
@@ -81,7 +82,8 @@ fn refused(number: u32, word: ByteList) -> Refused {
 }
 
 /// The number of each error, the word that it repeats, and its line behind the token.
-const ERRORS: [(u32, &str, &str); 25] = [
+const ERRORS: [(u32, &str, &str); 26] = [
+    (0, "", "^error,msg=\"Not built yet\"\n"),
     (1, "", "^error,msg=\"Line is longer than 4096 bytes\"\n"),
     (2, "", "^error,msg=\"Malformed MI line\"\n"),
     (3, "", "^error,msg=\"Only MI commands are accepted\"\n"),

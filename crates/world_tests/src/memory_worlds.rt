@@ -84,7 +84,7 @@ fn named(
 
 #[test]
 fn a_name_is_the_end_of_the_first_word_that_has_it(rt: HostRuntime) -> Result<(), Fail> {
-    for (other, front, name, word, from) in [
+    for (other, front, end, word, from) in [
         ("--harts=2", "--check=", "f", 1, 8),
         ("f", "--check=", "f", 0, 0),
         ("--check=f", "", "f", 0, 8),
@@ -92,7 +92,7 @@ fn a_name_is_the_end_of_the_first_word_that_has_it(rt: HostRuntime) -> Result<()
         ("f", "", "ff", 1, 0),
         ("--check=f", "", "check", 1, 0),
     ] {
-        let (words, name) = named(rt.alloc(), other, front, name)?;
+        let (words, name) = named(rt.alloc(), other, front, end)?;
         assert_eq!(rt;
             place_of(&words, &name),
             NamePlace { word, from },
