@@ -69,59 +69,63 @@ fn seen(section: &[u8], pc: u32, register: usize) -> Seen {
     }
 }
 
-/// An offset below the CFA.
-fn below(bytes: u32) -> u32 {
-    0u32.wrapping_sub(bytes)
-}
+/// Offsets below the CFA.
+const BELOW_4: u32 = 0xFFFF_FFFC;
+
+const BELOW_8: u32 = 0xFFFF_FFF8;
+
+const BELOW_12: u32 = 0xFFFF_FFF4;
+
+/// A section, pc, a register, and what is seen.
+const ROWS: [(&[u8], u32, usize, Seen); 42] = [
+    (&PROGRAM, 0x1008B, 1, Ok(None)),
+    (&PROGRAM, 0x1008C, 1, Ok(Some((2, 0, Unspecified)))),
+    (&PROGRAM, 0x10090, 1, Ok(Some((2, 16, Unspecified)))),
+    (&PROGRAM, 0x10093, 1, Ok(Some((2, 16, Unspecified)))),
+    (&PROGRAM, 0x10094, 1, Ok(Some((2, 16, Offset(BELOW_4))))),
+    (&PROGRAM, 0x100A8, 1, Ok(Some((2, 16, Offset(BELOW_4))))),
+    (&PROGRAM, 0x100AC, 1, Ok(Some((2, 16, Unspecified)))),
+    (&PROGRAM, 0x100B0, 1, Ok(Some((2, 0, Unspecified)))),
+    (&PROGRAM, 0x100B4, 1, Ok(None)),
+    (&GCC, 0x10074, 1, Ok(Some((2, 0, Unspecified)))),
+    (&GCC, 0x10090, 8, Ok(Some((2, 32, Offset(BELOW_8))))),
+    (&GCC, 0x1009C, 1, Ok(Some((2, 32, Offset(BELOW_4))))),
+    (&GCC, 0x100BC, 1, Ok(Some((2, 32, Unspecified)))),
+    (&GCC, 0x100C4, 8, Ok(Some((2, 0, Unspecified)))),
+    (&GCC, 0x100E4, 8, Ok(Some((8, 0, Offset(BELOW_8))))),
+    (&GCC, 0x10104, 8, Ok(Some((2, 16, Offset(BELOW_8))))),
+    (&GCC, 0x10124, 1, Ok(Some((2, 16, Offset(BELOW_4))))),
+    (&GCC, 0x10128, 1, Ok(None)),
+    (&CLANG, 0x10084, 9, Ok(Some((2, 32, Offset(BELOW_12))))),
+    (&CLANG, 0x100EC, 1, Ok(Some((8, 0, Offset(BELOW_4))))),
+    (&BEHIND, 0x1008, 1, Ok(Some((2, 8, Unspecified)))),
+    (&BEHIND, 0x1010, 1, Ok(Some((2, 16, Unspecified)))),
+    (&BEHIND, 0x1018, 1, Ok(None)),
+    (&[], 0, 1, Ok(None)),
+    // Each operation once.
+    (&EVERY, 0x1000, 0, Ok(Some((2, 0, Unspecified)))),
+    (&EVERY, 0x1000, 1, Ok(Some((2, 0, Offset(BELOW_4))))),
+    (&EVERY, 0x1000, 3, Ok(Some((2, 0, SameValue)))),
+    (&EVERY, 0x1000, 5, Ok(Some((2, 0, Offset(BELOW_8))))),
+    (&EVERY, 0x1000, 6, Ok(Some((2, 0, Undefined)))),
+    (&EVERY, 0x1000, 7, Ok(Some((2, 0, SameValue)))),
+    (&EVERY, 0x1000, 8, Ok(Some((2, 0, Register(9))))),
+    (&EVERY, 0x1000, 9, Ok(Some((2, 0, Offset(8))))),
+    (&EVERY, 0x1000, 10, Ok(Some((2, 0, ValOffset(BELOW_12))))),
+    (&EVERY, 0x1000, 11, Ok(Some((2, 0, ValOffset(12))))),
+    (&EVERY, 0x1004, 1, Ok(Some((8, 16, Unspecified)))),
+    (&EVERY, 0x1004, 3, Ok(Some((8, 16, Undefined)))),
+    (&EVERY, 0x1008, 3, Ok(Some((9, 16, SameValue)))),
+    (&EVERY, 0x100C, 5, Ok(Some((9, 32, Unspecified)))),
+    (&EVERY, 0x1010, 5, Ok(Some((2, 8, Unspecified)))),
+    (&EVERY, 0x1014, 5, Ok(Some((2, 12, Unspecified)))),
+    (&EVERY, 0x101D, 5, Ok(Some((2, 0, Offset(BELOW_8))))),
+    (&EVERY, 0x101E, 5, Err(FrameFault::Opcode)),
+];
 
 #[test]
 fn sections_have_the_rows_of_readelf(rt: HostRuntime) {
-    let rows: [(&[u8], u32, usize, Seen); 42] = [
-        (&PROGRAM, 0x1008B, 1, Ok(None)),
-        (&PROGRAM, 0x1008C, 1, Ok(Some((2, 0, Unspecified)))),
-        (&PROGRAM, 0x10090, 1, Ok(Some((2, 16, Unspecified)))),
-        (&PROGRAM, 0x10093, 1, Ok(Some((2, 16, Unspecified)))),
-        (&PROGRAM, 0x10094, 1, Ok(Some((2, 16, Offset(below(4)))))),
-        (&PROGRAM, 0x100A8, 1, Ok(Some((2, 16, Offset(below(4)))))),
-        (&PROGRAM, 0x100AC, 1, Ok(Some((2, 16, Unspecified)))),
-        (&PROGRAM, 0x100B0, 1, Ok(Some((2, 0, Unspecified)))),
-        (&PROGRAM, 0x100B4, 1, Ok(None)),
-        (&GCC, 0x10074, 1, Ok(Some((2, 0, Unspecified)))),
-        (&GCC, 0x10090, 8, Ok(Some((2, 32, Offset(below(8)))))),
-        (&GCC, 0x1009C, 1, Ok(Some((2, 32, Offset(below(4)))))),
-        (&GCC, 0x100BC, 1, Ok(Some((2, 32, Unspecified)))),
-        (&GCC, 0x100C4, 8, Ok(Some((2, 0, Unspecified)))),
-        (&GCC, 0x100E4, 8, Ok(Some((8, 0, Offset(below(8)))))),
-        (&GCC, 0x10104, 8, Ok(Some((2, 16, Offset(below(8)))))),
-        (&GCC, 0x10124, 1, Ok(Some((2, 16, Offset(below(4)))))),
-        (&GCC, 0x10128, 1, Ok(None)),
-        (&CLANG, 0x10084, 9, Ok(Some((2, 32, Offset(below(12)))))),
-        (&CLANG, 0x100EC, 1, Ok(Some((8, 0, Offset(below(4)))))),
-        (&BEHIND, 0x1008, 1, Ok(Some((2, 8, Unspecified)))),
-        (&BEHIND, 0x1010, 1, Ok(Some((2, 16, Unspecified)))),
-        (&BEHIND, 0x1018, 1, Ok(None)),
-        (&[], 0, 1, Ok(None)),
-        // Each operation once.
-        (&EVERY, 0x1000, 0, Ok(Some((2, 0, Unspecified)))),
-        (&EVERY, 0x1000, 1, Ok(Some((2, 0, Offset(below(4)))))),
-        (&EVERY, 0x1000, 3, Ok(Some((2, 0, SameValue)))),
-        (&EVERY, 0x1000, 5, Ok(Some((2, 0, Offset(below(8)))))),
-        (&EVERY, 0x1000, 6, Ok(Some((2, 0, Undefined)))),
-        (&EVERY, 0x1000, 7, Ok(Some((2, 0, SameValue)))),
-        (&EVERY, 0x1000, 8, Ok(Some((2, 0, Register(9))))),
-        (&EVERY, 0x1000, 9, Ok(Some((2, 0, Offset(8))))),
-        (&EVERY, 0x1000, 10, Ok(Some((2, 0, ValOffset(below(12)))))),
-        (&EVERY, 0x1000, 11, Ok(Some((2, 0, ValOffset(12))))),
-        (&EVERY, 0x1004, 1, Ok(Some((8, 16, Unspecified)))),
-        (&EVERY, 0x1004, 3, Ok(Some((8, 16, Undefined)))),
-        (&EVERY, 0x1008, 3, Ok(Some((9, 16, SameValue)))),
-        (&EVERY, 0x100C, 5, Ok(Some((9, 32, Unspecified)))),
-        (&EVERY, 0x1010, 5, Ok(Some((2, 8, Unspecified)))),
-        (&EVERY, 0x1014, 5, Ok(Some((2, 12, Unspecified)))),
-        (&EVERY, 0x101D, 5, Ok(Some((2, 0, Offset(below(8)))))),
-        (&EVERY, 0x101E, 5, Err(FrameFault::Opcode)),
-    ];
-    for (section, pc, register, want) in rows {
+    for (section, pc, register, want) in ROWS {
         assert_eq!(rt; seen(section, pc, register), want, "x{register} at {pc}");
     }
 }
@@ -141,49 +145,51 @@ fn filled(
     Ok(changed)
 }
 
+// A section, the bytes that are changed, pc, and whether an entry covers it.
+// The common entry's version is at 8, its augmentation at 9, its return column at 12, its operations from 13 on. The
+// description begins at 16, its operations at 32.
+const FAULTS: [(&[u8], usize, usize, u8, u32, Result<bool, FrameFault>); 28] = [
+    (&PROGRAM, 0, 1, 3, 0x1008C, Err(FrameFault::Short)),
+    (&PROGRAM, 0, 1, 3, 0, Err(FrameFault::Short)),
+    (&PROGRAM, 8, 9, 0, 0x1008C, Err(FrameFault::Version)),
+    (&PROGRAM, 8, 9, 1, 0x1008C, Ok(true)),
+    (&PROGRAM, 8, 9, 2, 0x1008C, Err(FrameFault::Version)),
+    (&PROGRAM, 8, 9, 4, 0x1008C, Err(FrameFault::Version)),
+    (&PROGRAM, 8, 9, 2, 0x1008B, Ok(false)),
+    (
+        &PROGRAM,
+        9,
+        10,
+        0x7A,
+        0x1008C,
+        Err(FrameFault::Augmentation),
+    ),
+    (&PROGRAM, 12, 13, 31, 0x1008C, Ok(true)),
+    (&PROGRAM, 12, 13, 32, 0x1008C, Err(FrameFault::Opcode)),
+    (&PROGRAM, 13, 14, 0x16, 0x1008C, Err(FrameFault::Opcode)),
+    (&PROGRAM, 13, 14, 0x0B, 0x1008C, Err(FrameFault::Empty)),
+    (&PROGRAM, 14, 15, 32, 0x1008C, Err(FrameFault::Opcode)),
+    (&PROGRAM, 16, 17, 0x19, 0x1008C, Err(FrameFault::Short)),
+    (&PROGRAM, 16, 17, 11, 0x1008C, Err(FrameFault::Short)),
+    (&PROGRAM, 16, 20, 0xFF, 0x1008C, Err(FrameFault::Short)),
+    (&PROGRAM, 20, 21, 4, 0x1008C, Err(FrameFault::Short)),
+    (&PROGRAM, 20, 21, 16, 0x1008C, Err(FrameFault::Short)),
+    (&PROGRAM, 32, 33, 0x0B, 0x1008C, Err(FrameFault::Empty)),
+    (&PROGRAM, 32, 40, 0x0A, 0x1008C, Ok(true)),
+    (&PROGRAM, 32, 41, 0x0A, 0x1008C, Err(FrameFault::Depth)),
+    (&PROGRAM, 34, 44, 0xFF, 0x1008F, Ok(true)),
+    (&PROGRAM, 34, 44, 0xFF, 0x10090, Err(FrameFault::Leb)),
+    (&PROGRAM, 43, 44, 0x0E, 0x100AF, Ok(true)),
+    (&PROGRAM, 43, 44, 0x0E, 0x100B0, Err(FrameFault::Short)),
+    // The sizes of an address and of a segment, of version 4.
+    (&CLANG, 10, 11, 4, 0x10084, Ok(true)),
+    (&CLANG, 10, 11, 8, 0x10084, Err(FrameFault::Version)),
+    (&CLANG, 11, 12, 1, 0x10084, Err(FrameFault::Version)),
+];
+
 #[test]
 fn the_first_fault_is_told(rt: HostRuntime) -> Result<(), Fail> {
-    // The common entry's version is at 8, its augmentation at 9, its return column at 12, its operations from 13 on. The
-    // description begins at 16, its operations at 32.
-    let cases: [(&[u8], usize, usize, u8, u32, Result<bool, FrameFault>); 28] = [
-        (&PROGRAM, 0, 1, 3, 0x1008C, Err(FrameFault::Short)),
-        (&PROGRAM, 0, 1, 3, 0, Err(FrameFault::Short)),
-        (&PROGRAM, 8, 9, 0, 0x1008C, Err(FrameFault::Version)),
-        (&PROGRAM, 8, 9, 1, 0x1008C, Ok(true)),
-        (&PROGRAM, 8, 9, 2, 0x1008C, Err(FrameFault::Version)),
-        (&PROGRAM, 8, 9, 4, 0x1008C, Err(FrameFault::Version)),
-        (&PROGRAM, 8, 9, 2, 0x1008B, Ok(false)),
-        (
-            &PROGRAM,
-            9,
-            10,
-            0x7A,
-            0x1008C,
-            Err(FrameFault::Augmentation),
-        ),
-        (&PROGRAM, 12, 13, 31, 0x1008C, Ok(true)),
-        (&PROGRAM, 12, 13, 32, 0x1008C, Err(FrameFault::Opcode)),
-        (&PROGRAM, 13, 14, 0x16, 0x1008C, Err(FrameFault::Opcode)),
-        (&PROGRAM, 13, 14, 0x0B, 0x1008C, Err(FrameFault::Empty)),
-        (&PROGRAM, 14, 15, 32, 0x1008C, Err(FrameFault::Opcode)),
-        (&PROGRAM, 16, 17, 0x19, 0x1008C, Err(FrameFault::Short)),
-        (&PROGRAM, 16, 17, 11, 0x1008C, Err(FrameFault::Short)),
-        (&PROGRAM, 16, 20, 0xFF, 0x1008C, Err(FrameFault::Short)),
-        (&PROGRAM, 20, 21, 4, 0x1008C, Err(FrameFault::Short)),
-        (&PROGRAM, 20, 21, 16, 0x1008C, Err(FrameFault::Short)),
-        (&PROGRAM, 32, 33, 0x0B, 0x1008C, Err(FrameFault::Empty)),
-        (&PROGRAM, 32, 40, 0x0A, 0x1008C, Ok(true)),
-        (&PROGRAM, 32, 41, 0x0A, 0x1008C, Err(FrameFault::Depth)),
-        (&PROGRAM, 34, 44, 0xFF, 0x1008F, Ok(true)),
-        (&PROGRAM, 34, 44, 0xFF, 0x10090, Err(FrameFault::Leb)),
-        (&PROGRAM, 43, 44, 0x0E, 0x100AF, Ok(true)),
-        (&PROGRAM, 43, 44, 0x0E, 0x100B0, Err(FrameFault::Short)),
-        // The sizes of an address and of a segment, of version 4.
-        (&CLANG, 10, 11, 4, 0x10084, Ok(true)),
-        (&CLANG, 10, 11, 8, 0x10084, Err(FrameFault::Version)),
-        (&CLANG, 11, 12, 1, 0x10084, Err(FrameFault::Version)),
-    ];
-    for (section, from, to, byte, pc, want) in cases {
+    for (section, from, to, byte, pc, want) in FAULTS {
         let changed = filled(rt.alloc(), section, from, to, byte)?;
         let found = rules_at(&changed, pc).map(|rules| rules.is_some());
         assert_eq!(rt; found, want, "{byte} from {from} to {to}, at {pc}");

@@ -74,33 +74,35 @@ fn every_escape_is_written_and_read(rt: HostRuntime) -> Result<(), Fail> {
     Ok(())
 }
 
+/// What is no line.
+const REFUSED: [&str; 22] = [
+    "",
+    "^done",
+    "^done\r\n",
+    "(gdb) \n",
+    "*\n",
+    "done\n",
+    "^done,\n",
+    "^done, a=\"1\"\n",
+    "^done,a=1\n",
+    "^done,a=[b=]\n",
+    "^done,a=[\"1\",b=\"2\"]\n",
+    "^done,a={\"1\"}\n",
+    "^done,a.b=\"1\"\n",
+    "1234567890123456789^done\n",
+    "@\"a\n",
+    "@\"\\101\"\n",
+    "@\"\\012\"\n",
+    "@\"\\400\"\n",
+    "@\"\\q\"\n",
+    "@\"\t\"\n",
+    "@\"\u{7F}\"\n",
+    "@\"a\" \n",
+];
+
 #[test]
 fn what_is_no_line_is_refused(rt: HostRuntime) -> Result<(), Fail> {
-    let refused = [
-        "",
-        "^done",
-        "^done\r\n",
-        "(gdb) \n",
-        "*\n",
-        "done\n",
-        "^done,\n",
-        "^done, a=\"1\"\n",
-        "^done,a=1\n",
-        "^done,a=[b=]\n",
-        "^done,a=[\"1\",b=\"2\"]\n",
-        "^done,a={\"1\"}\n",
-        "^done,a.b=\"1\"\n",
-        "1234567890123456789^done\n",
-        "@\"a\n",
-        "@\"\\101\"\n",
-        "@\"\\012\"\n",
-        "@\"\\400\"\n",
-        "@\"\\q\"\n",
-        "@\"\t\"\n",
-        "@\"\u{7F}\"\n",
-        "@\"a\" \n",
-    ];
-    for text in refused {
+    for text in REFUSED {
         let fault = read_line(rt.alloc(), text.as_bytes()).err();
         assert_eq!(rt; fault, Some(RecordFault::Text), "at {text}");
     }

@@ -203,111 +203,124 @@ fn breakpoints_are_shown_with_their_parts(rt: HostRuntime) -> Result<(), Fail> {
     check(&rt, alloc, "", two, want.as_str())
 }
 
-// The registers a0 and pc, in a format.
-fn registers(alloc: Global, format: Format) -> Result<Content, Fail> {
+// The registers a0 and pc.
+fn registers(alloc: Global) -> Result<RegisterList, Fail> {
     let registers = [(10, 0xFFFF_FFFF), (32, 0x1_0078)].map(|(number, value)| Register {
         number,
         value,
     });
-    Ok(Content::Registers {
-        format,
-        registers: RegisterList::of(registers.to_vec(alloc)?),
-    })
+    Ok(RegisterList::of(registers.to_vec(alloc)?))
 }
 
 // Hart 0 is stopped and hart 2 runs.
-fn threads(alloc: Global, selected: u32) -> Result<Content, Fail> {
+fn threads(alloc: Global) -> Result<ThreadList, Fail> {
     let threads = [(1, Some(0x1_0078)), (3, None)].map(|(number, stopped_at)| Thread {
         number,
         stopped_at,
     });
-    Ok(Content::Threads {
-        threads: ThreadList::of(threads.to_vec(alloc)?),
-        selected,
+    Ok(ThreadList::of(threads.to_vec(alloc)?))
+}
+
+fn numbers(alloc: Global, numbers: &[u32]) -> Result<NumberList, Fail> {
+    Ok(NumberList::of(numbers.to_vec(alloc)?))
+}
+
+// What the row of this name answers.
+fn content(alloc: Global, name: &str) -> Result<Content, Fail> {
+    Ok(match name {
+        "blank" => Content::Blank,
+        "done" => Content::Done,
+        "running" => Content::Running(numbers(alloc, &[1, 3])?),
+        "none running" => Content::Running(numbers(alloc, &[])?),
+        "selected" => Content::Selected(16),
+        "threads" => Content::Threads {
+            threads: threads(alloc)?,
+            selected: 3,
+        },
+        "numbers" => Content::ThreadNumbers {
+            numbers: numbers(alloc, &[1, 3])?,
+            selected: 2,
+        },
+        "no numbers" => Content::ThreadNumbers {
+            numbers: numbers(alloc, &[])?,
+            selected: 1,
+        },
+        "names" => Content::RegisterNames,
+        "hexadecimal" => Content::Registers {
+            format: Format::Hexadecimal,
+            registers: registers(alloc)?,
+        },
+        "decimal" => Content::Registers {
+            format: Format::Decimal,
+            registers: registers(alloc)?,
+        },
+        "memory" => Content::Memory {
+            address: 0xFFFF_FFFE,
+            bytes: bytes(alloc, "\0k\n")?,
+        },
+        "signed" => Content::Value {
+            word: 0x8000_0000,
+            unsigned: false,
+        },
+        "unsigned" => Content::Value {
+            word: 0x8000_0000,
+            unsigned: true,
+        },
+        "on" => Content::Setting(Displaced::On),
+        "off" => Content::Setting(Displaced::Off),
+        _ => Content::Setting(Displaced::Auto),
     })
 }
 
+/// The lines of each reply.
+const REPLIES: [(&str, &str); 17] = [
+    ("blank", "(gdb)\n"),
+    ("done", "^done\n(gdb)\n"),
+    (
+        "running",
+        "^running\n*running,thread-id=\"1\"\n*running,thread-id=\"3\"\n(gdb)\n",
+    ),
+    ("none running", "^running\n(gdb)\n"),
+    ("selected", "^done,new-thread-id=\"16\"\n(gdb)\n"),
+    (
+        "threads",
+        "^done,threads=[{id=\"1\",target-id=\"Hart 0\",frame={level=\"0\",addr=\"0x00010078\",args=[]},state=\"stopped\"},{id=\"3\",target-id=\"Hart 2\",state=\"running\"}],current-thread-id=\"3\"\n(gdb)\n",
+    ),
+    (
+        "numbers",
+        "^done,thread-ids={thread-id=\"1\",thread-id=\"3\"},current-thread-id=\"2\",number-of-threads=\"2\"\n(gdb)\n",
+    ),
+    (
+        "no numbers",
+        "^done,thread-ids={},current-thread-id=\"1\",number-of-threads=\"0\"\n(gdb)\n",
+    ),
+    (
+        "names",
+        "^done,register-names=[\"zero\",\"ra\",\"sp\",\"gp\",\"tp\",\"t0\",\"t1\",\"t2\",\"fp\",\"s1\",\"a0\",\"a1\",\"a2\",\"a3\",\"a4\",\"a5\",\"a6\",\"a7\",\"s2\",\"s3\",\"s4\",\"s5\",\"s6\",\"s7\",\"s8\",\"s9\",\"s10\",\"s11\",\"t3\",\"t4\",\"t5\",\"t6\",\"pc\"]\n(gdb)\n",
+    ),
+    (
+        "hexadecimal",
+        "^done,register-values=[{number=\"10\",value=\"0xffffffff\"},{number=\"32\",value=\"0x00010078\"}]\n(gdb)\n",
+    ),
+    (
+        "decimal",
+        "^done,register-values=[{number=\"10\",value=\"-1\"},{number=\"32\",value=\"65656\"}]\n(gdb)\n",
+    ),
+    (
+        "memory",
+        "^done,memory=[{begin=\"0xfffffffe\",offset=\"0x00000000\",end=\"0x00000001\",contents=\"006b0a\"}]\n(gdb)\n",
+    ),
+    ("signed", "^done,value=\"-2147483648\"\n(gdb)\n"),
+    ("unsigned", "^done,value=\"2147483648\"\n(gdb)\n"),
+    ("on", "^done,value=\"on\"\n(gdb)\n"),
+    ("off", "^done,value=\"off\"\n(gdb)\n"),
+    ("auto", "^done,value=\"auto\"\n(gdb)\n"),
+];
+
 #[test]
 fn each_reply_has_its_lines(rt: HostRuntime) -> Result<(), Fail> {
-    let alloc = rt.alloc();
-    let rows = [
-        (Content::Blank, "(gdb)\n"),
-        (Content::Done, "^done\n(gdb)\n"),
-        (
-            Content::Running(NumberList::of([1, 3].to_vec(alloc)?)),
-            "^running\n*running,thread-id=\"1\"\n*running,thread-id=\"3\"\n(gdb)\n",
-        ),
-        (
-            Content::Running(NumberList::of(Vec::new(alloc))),
-            "^running\n(gdb)\n",
-        ),
-        (Content::Selected(16), "^done,new-thread-id=\"16\"\n(gdb)\n"),
-        (
-            threads(alloc, 3)?,
-            "^done,threads=[{id=\"1\",target-id=\"Hart 0\",frame={level=\"0\",addr=\"0x00010078\",args=[]},state=\"stopped\"},{id=\"3\",target-id=\"Hart 2\",state=\"running\"}],current-thread-id=\"3\"\n(gdb)\n",
-        ),
-        (
-            Content::ThreadNumbers {
-                numbers: NumberList::of([1, 3].to_vec(alloc)?),
-                selected: 2,
-            },
-            "^done,thread-ids={thread-id=\"1\",thread-id=\"3\"},current-thread-id=\"2\",number-of-threads=\"2\"\n(gdb)\n",
-        ),
-        (
-            Content::ThreadNumbers {
-                numbers: NumberList::of(Vec::new(alloc)),
-                selected: 1,
-            },
-            "^done,thread-ids={},current-thread-id=\"1\",number-of-threads=\"0\"\n(gdb)\n",
-        ),
-        (
-            Content::RegisterNames,
-            "^done,register-names=[\"zero\",\"ra\",\"sp\",\"gp\",\"tp\",\"t0\",\"t1\",\"t2\",\"fp\",\"s1\",\"a0\",\"a1\",\"a2\",\"a3\",\"a4\",\"a5\",\"a6\",\"a7\",\"s2\",\"s3\",\"s4\",\"s5\",\"s6\",\"s7\",\"s8\",\"s9\",\"s10\",\"s11\",\"t3\",\"t4\",\"t5\",\"t6\",\"pc\"]\n(gdb)\n",
-        ),
-        (
-            registers(alloc, Format::Hexadecimal)?,
-            "^done,register-values=[{number=\"10\",value=\"0xffffffff\"},{number=\"32\",value=\"0x00010078\"}]\n(gdb)\n",
-        ),
-        (
-            registers(alloc, Format::Decimal)?,
-            "^done,register-values=[{number=\"10\",value=\"-1\"},{number=\"32\",value=\"65656\"}]\n(gdb)\n",
-        ),
-        (
-            Content::Memory {
-                address: 0xFFFF_FFFE,
-                bytes: bytes(alloc, "\0k\n")?,
-            },
-            "^done,memory=[{begin=\"0xfffffffe\",offset=\"0x00000000\",end=\"0x00000001\",contents=\"006b0a\"}]\n(gdb)\n",
-        ),
-        (
-            Content::Value {
-                word: 0x8000_0000,
-                unsigned: false,
-            },
-            "^done,value=\"-2147483648\"\n(gdb)\n",
-        ),
-        (
-            Content::Value {
-                word: 0x8000_0000,
-                unsigned: true,
-            },
-            "^done,value=\"2147483648\"\n(gdb)\n",
-        ),
-        (
-            Content::Setting(Displaced::On),
-            "^done,value=\"on\"\n(gdb)\n",
-        ),
-        (
-            Content::Setting(Displaced::Off),
-            "^done,value=\"off\"\n(gdb)\n",
-        ),
-        (
-            Content::Setting(Displaced::Auto),
-            "^done,value=\"auto\"\n(gdb)\n",
-        ),
-    ];
-    for (content, want) in rows {
-        check(&rt, alloc, "", content, want)?;
+    for (name, want) in REPLIES {
+        check(&rt, rt.alloc(), "", content(rt.alloc(), name)?, want)?;
     }
     Ok(())
 }
@@ -326,6 +339,24 @@ const SIGNALS: [(Cause, &str, &str); 8] = [
 
 const FRAME: &str = "frame={addr=\"0x00010078\",args=[]},thread-id=\"2\",stopped-threads=[\"2\"]\n";
 
+/// Whether the breakpoint is temporary, why its condition has no value, the line of that, and what becomes of it.
+const BREAKS: [(bool, Option<CondError>, &str, &str); 4] = [
+    (false, None, "", "keep"),
+    (true, None, "", "del"),
+    (
+        false,
+        Some(CondError::DivZero),
+        "&\"Error in testing condition for breakpoint 17: Division by zero\\n\"\n",
+        "keep",
+    ),
+    (
+        true,
+        Some(CondError::Unread(0xFFFF_FFFE)),
+        "&\"Error in testing condition for breakpoint 17: Cannot access memory at address 0xfffffffe\\n\"\n",
+        "del",
+    ),
+];
+
 #[test]
 fn each_stop_has_its_lines(rt: HostRuntime) -> Result<(), Fail> {
     let alloc = rt.alloc();
@@ -338,22 +369,7 @@ fn each_stop_has_its_lines(rt: HostRuntime) -> Result<(), Fail> {
     let text = interrupt_text(alloc, 1, 0x1_0078)?;
     let want = format!(in alloc; "{head}\"SIGINT\",signal-meaning=\"Interrupt\",{FRAME}")?;
     assert_eq!(rt; text.as_slice(), want.as_bytes());
-    for (temporary, error, line, disposition) in [
-        (false, None, "", "keep"),
-        (true, None, "", "del"),
-        (
-            false,
-            Some(CondError::DivZero),
-            "&\"Error in testing condition for breakpoint 17: Division by zero\\n\"\n",
-            "keep",
-        ),
-        (
-            true,
-            Some(CondError::Unread(0xFFFF_FFFE)),
-            "&\"Error in testing condition for breakpoint 17: Cannot access memory at address 0xfffffffe\\n\"\n",
-            "del",
-        ),
-    ] {
+    for (temporary, error, line, disposition) in BREAKS {
         let text = break_text(alloc, temporary, 17, error, 1, 0x1_0078)?;
         let want = format!(in alloc;
             "{line}*stopped,reason=\"breakpoint-hit\",disp=\"{disposition}\",bkptno=\"17\",{FRAME}"
