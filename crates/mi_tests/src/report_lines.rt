@@ -1,0 +1,452 @@
+use break_table::CondError;
+use cond_expr::{ExprFault, FaultKind};
+use dbg_model::{
+    Breakpoint, BreakpointList, Content, Entry, Obstacle, Refused, Register, RegisterList, Reply,
+    Thread, ThreadList,
+};
+use elf32_read::{ElfFault, ElfKind};
+use mi_commands::{ByteList, Displaced, Fault, Format, NumberList};
+use mi_reports::{
+    USAGE, bad_file, break_text, interrupt_text, lefts_text, opening_text, reply_text, stop_text,
+    stream_text,
+};
+use mi_values::{Token, is_token};
+use rv_exec::Cause;
+use std::alloc::Global;
+use std::process::Abort;
+use std::test::Fail;
+
+fn bytes(alloc: Global, text: &str) -> Result<ByteList, Fail> {
+    Ok(ByteList::of(text.as_bytes().to_vec(alloc)?))
+}
+
+fn token(rt: &impl Abort, alloc: Global, digits: &str) -> Result<Token, Fail> {
+    let digits = digits.as_bytes().to_vec(alloc)?;
+    assert!(rt; is_token(&digits));
+    Ok(Token::new(digits))
+}
+
+// Compares the lines of a reply.
+fn check(
+    rt: &impl Abort,
+    alloc: Global,
+    digits: &str,
+    content: Content,
+    want: &str,
+) -> Result<(), Fail> {
+    let reply = Reply {
+        token: token(rt, alloc, digits)?,
+        content,
+    };
+    let text = reply_text(alloc, &reply)?;
+    assert_eq!(rt; str::from_utf8(&text).unwrap_or("no text"), want);
+    Ok(())
+}
+
+// What stands against a command, by the number of its message.
+fn obstacle(number: u32) -> Obstacle {
+    let fault = |kind, at| Obstacle::Expression(ExprFault { kind, at });
+    match number {
+        8 => Obstacle::UnknownThread(17),
+        9 => Obstacle::HasExited(2),
+        10 => Obstacle::IsRunning(16),
+        11 => Obstacle::NotRunning(2),
+        12 => Obstacle::NoBreakpoint(4_294_967_295),
+        16 => Obstacle::NoInstruction(0x1_00B6),
+        17 => Obstacle::TooManyBreakpoints,
+        18 => fault(FaultKind::Long, 256),
+        19 => fault(FaultKind::Text, 0),
+        20 => fault(FaultKind::Number, 7),
+        21 => fault(FaultKind::Deep, 32),
+        22 => fault(FaultKind::Name, 10),
+        23 => Obstacle::DivisionByZero,
+        _ => Obstacle::Unreadable(0xFFFF_FFFE),
+    }
+}
+
+// Why a line is refused, by the number of its message; 0 is that of commands that aren't built.
+fn refused(number: u32, word: ByteList) -> Refused {
+    match number {
+        0 => Refused::NotBuilt,
+        1 => Refused::Long,
+        2 => Refused::Syntax,
+        3 => Refused::Cli,
+        4 => Refused::Faulty(Fault::Undefined(word)),
+        5 => Refused::Faulty(Fault::Parameters(word)),
+        6 => Refused::Faulty(Fault::Number(word)),
+        7 => Refused::Faulty(Fault::Setting),
+        13 => Refused::Faulty(Fault::Location { word, thread: None }),
+        14 => Refused::UnknownName(word),
+        _ => Refused::Hindered(obstacle(number)),
+    }
+}
+
+/// The number of each error, the word that it repeats, and its line behind the token.
+const ERRORS: [(u32, &str, &str); 26] = [
+    (0, "", "^error,msg=\"Not built yet\"\n"),
+    (1, "", "^error,msg=\"Line is longer than 4096 bytes\"\n"),
+    (2, "", "^error,msg=\"Malformed MI line\"\n"),
+    (3, "", "^error,msg=\"Only MI commands are accepted\"\n"),
+    (
+        4,
+        "exec-run",
+        "^error,msg=\"Undefined MI command: exec-run\",code=\"undefined-command\"\n",
+    ),
+    (
+        5,
+        "exec-wait",
+        "^error,msg=\"Wrong parameters for exec-wait\"\n",
+    ),
+    (6, "0x", "^error,msg=\"Bad number: 0x\"\n"),
+    (
+        6,
+        "\"\\\t\u{7F}",
+        "^error,msg=\"Bad number: \\\"\\\\\\t\\177\"\n",
+    ),
+    (7, "", "^error,msg=\"Unsupported setting\"\n"),
+    (8, "", "^error,msg=\"Unknown thread 17\"\n"),
+    (9, "", "^error,msg=\"Thread 2 has exited\"\n"),
+    (10, "", "^error,msg=\"Thread 16 is running\"\n"),
+    (11, "", "^error,msg=\"Thread 2 is not running\"\n"),
+    (12, "", "^error,msg=\"No breakpoint number 4294967295\"\n"),
+    (13, "*x", "^error,msg=\"Bad location: *x\"\n"),
+    (14, "main", "^error,msg=\"Function main not defined\"\n"),
+    (
+        16,
+        "",
+        "^error,msg=\"No instruction at address 0x000100b6\"\n",
+    ),
+    (17, "", "^error,msg=\"Too many breakpoints\"\n"),
+    (
+        18,
+        "",
+        "^error,msg=\"Expression is longer than 256 bytes\"\n",
+    ),
+    (19, "", "^error,msg=\"Syntax error in expression at 0\"\n"),
+    (20, "", "^error,msg=\"Bad number in expression at 7\"\n"),
+    (
+        21,
+        "",
+        "^error,msg=\"Expression is nested too deeply at 32\"\n",
+    ),
+    (22, "", "^error,msg=\"No symbol in expression at 10\"\n"),
+    (23, "", "^error,msg=\"Division by zero\"\n"),
+    (
+        24,
+        "",
+        "^error,msg=\"Cannot access memory at address 0xfffffffe\"\n",
+    ),
+    (14, "", "^error,msg=\"Function  not defined\"\n"),
+];
+
+#[test]
+fn each_error_has_its_text(rt: HostRuntime) -> Result<(), Fail> {
+    for (number, word, line) in ERRORS {
+        let content = Content::Refused(refused(number, bytes(rt.alloc(), word)?));
+        let want = format!(in rt.alloc(); "17{line}(gdb)\n")?;
+        check(&rt, rt.alloc(), "17", content, want.as_str())?;
+    }
+    Ok(())
+}
+
+// A breakpoint with each part, or with none that can be left out.
+fn breakpoint(alloc: Global, number: u32, is_whole: bool) -> Result<Breakpoint, Fail> {
+    let mut breakpoint = Breakpoint {
+        number,
+        address: 0x1_0078,
+        function: None,
+        location: bytes(alloc, "*0x10078")?,
+        temporary: is_whole,
+        enabled: !is_whole,
+        ignore: 0,
+        condition: None,
+        thread: None,
+        times: 0,
+    };
+    if is_whole {
+        breakpoint.function = Some(bytes(alloc, "work")?);
+        breakpoint.condition = Some(bytes(alloc, "1 == \"")?);
+        breakpoint.ignore = 2_147_483_647;
+        breakpoint.thread = Some(16);
+        breakpoint.times = 18_446_744_073_709_551_615;
+    }
+    Ok(breakpoint)
+}
+
+const WHOLE: &str =
+    "bkpt={number=\"129\",type=\"breakpoint\",disp=\"del\",enabled=\"n\",addr=\"0x00010078\",func=\"work\",cond=\"1 == \\\"\",thread=\"16\",times=\"18446744073709551615\",ignore=\"2147483647\",original-location=\"*0x10078\"}";
+
+const BARE: &str =
+    "bkpt={number=\"1\",type=\"breakpoint\",disp=\"keep\",enabled=\"y\",addr=\"0x00010078\",times=\"0\",original-location=\"*0x10078\"}";
+
+#[test]
+fn breakpoints_are_shown_with_their_parts(rt: HostRuntime) -> Result<(), Fail> {
+    let alloc = rt.alloc();
+    let whole = Content::Inserted(breakpoint(alloc, 129, true)?);
+    let want = format!(in alloc; "4^done,{WHOLE}\n(gdb)\n")?;
+    check(&rt, alloc, "4", whole, want.as_str())?;
+    let none = Content::Breakpoints(BreakpointList::of(Vec::new(alloc)));
+    check(
+        &rt,
+        alloc,
+        "",
+        none,
+        "^done,BreakpointTable={nr_rows=\"0\",body=[]}\n(gdb)\n",
+    )?;
+    let mut list = Vec::new(alloc);
+    list.push(breakpoint(alloc, 1, false)?)?;
+    list.push(breakpoint(alloc, 129, true)?)?;
+    let two = Content::Breakpoints(BreakpointList::of(list));
+    let want = format!(in alloc;
+        "^done,BreakpointTable={{nr_rows=\"2\",body=[{BARE},{WHOLE}]}}\n(gdb)\n"
+    )?;
+    check(&rt, alloc, "", two, want.as_str())
+}
+
+// The registers a0 and pc.
+fn registers(alloc: Global) -> Result<RegisterList, Fail> {
+    let registers = [(10, 0xFFFF_FFFF), (32, 0x1_0078)].map(|(number, value)| Register {
+        number,
+        value,
+    });
+    Ok(RegisterList::of(registers.to_vec(alloc)?))
+}
+
+// Hart 0 is stopped and hart 2 runs.
+fn threads(alloc: Global) -> Result<ThreadList, Fail> {
+    let threads = [(1, Some(0x1_0078)), (3, None)].map(|(number, stopped_at)| Thread {
+        number,
+        stopped_at,
+    });
+    Ok(ThreadList::of(threads.to_vec(alloc)?))
+}
+
+fn numbers(alloc: Global, numbers: &[u32]) -> Result<NumberList, Fail> {
+    Ok(NumberList::of(numbers.to_vec(alloc)?))
+}
+
+// What the row of this name answers.
+fn content(alloc: Global, name: &str) -> Result<Content, Fail> {
+    Ok(match name {
+        "blank" => Content::Blank,
+        "done" => Content::Done,
+        "running" => Content::Running(numbers(alloc, &[1, 3])?),
+        "none running" => Content::Running(numbers(alloc, &[])?),
+        "selected" => Content::Selected(16),
+        "threads" => Content::Threads {
+            threads: threads(alloc)?,
+            selected: 3,
+        },
+        "numbers" => Content::ThreadNumbers {
+            numbers: numbers(alloc, &[1, 3])?,
+            selected: 2,
+        },
+        "no numbers" => Content::ThreadNumbers {
+            numbers: numbers(alloc, &[])?,
+            selected: 1,
+        },
+        "names" => Content::RegisterNames,
+        "hexadecimal" => Content::Registers {
+            format: Format::Hexadecimal,
+            registers: registers(alloc)?,
+        },
+        "decimal" => Content::Registers {
+            format: Format::Decimal,
+            registers: registers(alloc)?,
+        },
+        "memory" => Content::Memory {
+            address: 0xFFFF_FFFE,
+            bytes: bytes(alloc, "\0k\n")?,
+        },
+        "signed" => Content::Value {
+            word: 0x8000_0000,
+            unsigned: false,
+        },
+        "unsigned" => Content::Value {
+            word: 0x8000_0000,
+            unsigned: true,
+        },
+        "on" => Content::Setting(Displaced::On),
+        "off" => Content::Setting(Displaced::Off),
+        _ => Content::Setting(Displaced::Auto),
+    })
+}
+
+/// The lines of each reply.
+const REPLIES: [(&str, &str); 17] = [
+    ("blank", "(gdb)\n"),
+    ("done", "^done\n(gdb)\n"),
+    (
+        "running",
+        "^running\n*running,thread-id=\"1\"\n*running,thread-id=\"3\"\n(gdb)\n",
+    ),
+    ("none running", "^running\n(gdb)\n"),
+    ("selected", "^done,new-thread-id=\"16\"\n(gdb)\n"),
+    (
+        "threads",
+        "^done,threads=[{id=\"1\",target-id=\"Hart 0\",frame={level=\"0\",addr=\"0x00010078\",args=[]},state=\"stopped\"},{id=\"3\",target-id=\"Hart 2\",state=\"running\"}],current-thread-id=\"3\"\n(gdb)\n",
+    ),
+    (
+        "numbers",
+        "^done,thread-ids={thread-id=\"1\",thread-id=\"3\"},current-thread-id=\"2\",number-of-threads=\"2\"\n(gdb)\n",
+    ),
+    (
+        "no numbers",
+        "^done,thread-ids={},current-thread-id=\"1\",number-of-threads=\"0\"\n(gdb)\n",
+    ),
+    (
+        "names",
+        "^done,register-names=[\"zero\",\"ra\",\"sp\",\"gp\",\"tp\",\"t0\",\"t1\",\"t2\",\"fp\",\"s1\",\"a0\",\"a1\",\"a2\",\"a3\",\"a4\",\"a5\",\"a6\",\"a7\",\"s2\",\"s3\",\"s4\",\"s5\",\"s6\",\"s7\",\"s8\",\"s9\",\"s10\",\"s11\",\"t3\",\"t4\",\"t5\",\"t6\",\"pc\"]\n(gdb)\n",
+    ),
+    (
+        "hexadecimal",
+        "^done,register-values=[{number=\"10\",value=\"0xffffffff\"},{number=\"32\",value=\"0x00010078\"}]\n(gdb)\n",
+    ),
+    (
+        "decimal",
+        "^done,register-values=[{number=\"10\",value=\"-1\"},{number=\"32\",value=\"65656\"}]\n(gdb)\n",
+    ),
+    (
+        "memory",
+        "^done,memory=[{begin=\"0xfffffffe\",offset=\"0x00000000\",end=\"0x00000001\",contents=\"006b0a\"}]\n(gdb)\n",
+    ),
+    ("signed", "^done,value=\"-2147483648\"\n(gdb)\n"),
+    ("unsigned", "^done,value=\"2147483648\"\n(gdb)\n"),
+    ("on", "^done,value=\"on\"\n(gdb)\n"),
+    ("off", "^done,value=\"off\"\n(gdb)\n"),
+    ("auto", "^done,value=\"auto\"\n(gdb)\n"),
+];
+
+#[test]
+fn each_reply_has_its_lines(rt: HostRuntime) -> Result<(), Fail> {
+    for (name, want) in REPLIES {
+        check(&rt, rt.alloc(), "", content(rt.alloc(), name)?, want)?;
+    }
+    Ok(())
+}
+
+/// What a trap is told as, in hart 1, which is thread 2.
+const SIGNALS: [(Cause, &str, &str); 8] = [
+    (Cause::FetchFault, "SIGSEGV", "Segmentation fault"),
+    (Cause::LoadFault, "SIGSEGV", "Segmentation fault"),
+    (Cause::StoreFault, "SIGSEGV", "Segmentation fault"),
+    (Cause::FetchAlign, "SIGBUS", "Bus error"),
+    (Cause::LoadAlign, "SIGBUS", "Bus error"),
+    (Cause::StoreAlign, "SIGBUS", "Bus error"),
+    (Cause::Illegal, "SIGILL", "Illegal instruction"),
+    (Cause::Break, "SIGTRAP", "Trace/breakpoint trap"),
+];
+
+const FRAME: &str = "frame={addr=\"0x00010078\",args=[]},thread-id=\"2\",stopped-threads=[\"2\"]\n";
+
+/// Whether the breakpoint is temporary, why its condition has no value, the line of that, and what becomes of it.
+const BREAKS: [(bool, Option<CondError>, &str, &str); 4] = [
+    (false, None, "", "keep"),
+    (true, None, "", "del"),
+    (
+        false,
+        Some(CondError::DivZero),
+        "&\"Error in testing condition for breakpoint 17: Division by zero\\n\"\n",
+        "keep",
+    ),
+    (
+        true,
+        Some(CondError::Unread(0xFFFF_FFFE)),
+        "&\"Error in testing condition for breakpoint 17: Cannot access memory at address 0xfffffffe\\n\"\n",
+        "del",
+    ),
+];
+
+#[test]
+fn each_stop_has_its_lines(rt: HostRuntime) -> Result<(), Fail> {
+    let alloc = rt.alloc();
+    let head = "*stopped,reason=\"signal-received\",signal-name=";
+    for (cause, name, meaning) in SIGNALS {
+        let text = stop_text(alloc, cause, 1, 0x1_0078)?;
+        let want = format!(in alloc; "{head}\"{name}\",signal-meaning=\"{meaning}\",{FRAME}")?;
+        assert_eq!(rt; text.as_slice(), want.as_bytes());
+    }
+    let text = interrupt_text(alloc, 1, 0x1_0078)?;
+    let want = format!(in alloc; "{head}\"SIGINT\",signal-meaning=\"Interrupt\",{FRAME}")?;
+    assert_eq!(rt; text.as_slice(), want.as_bytes());
+    for (temporary, error, line, disposition) in BREAKS {
+        let text = break_text(alloc, temporary, 17, error, 1, 0x1_0078)?;
+        let want = format!(in alloc;
+            "{line}*stopped,reason=\"breakpoint-hit\",disp=\"{disposition}\",bkptno=\"17\",{FRAME}"
+        )?;
+        assert_eq!(rt; text.as_slice(), want.as_bytes());
+    }
+    Ok(())
+}
+
+/// Whether no live hart is left, the code, and the lines behind those of the threads.
+const EXITS: [(bool, u32, &str); 5] = [
+    (false, 0, ""),
+    (true, 0, "*stopped,reason=\"exited-normally\"\n"),
+    (true, 7, "*stopped,reason=\"exited\",exit-code=\"07\"\n"),
+    (true, 8, "*stopped,reason=\"exited\",exit-code=\"010\"\n"),
+    (true, 255, "*stopped,reason=\"exited\",exit-code=\"0377\"\n"),
+];
+
+#[test]
+fn threads_are_told_as_created_and_as_exited(rt: HostRuntime) -> Result<(), Fail> {
+    let alloc = rt.alloc();
+    let text = opening_text(alloc, 2)?;
+    let want =
+        "=thread-created,id=\"1\",group-id=\"i1\"\n=thread-created,id=\"2\",group-id=\"i1\"\n(gdb)\n";
+    assert_eq!(rt; text.as_slice(), want.as_bytes());
+    let threads =
+        "=thread-exited,id=\"1\",group-id=\"i1\"\n=thread-exited,id=\"16\",group-id=\"i1\"\n";
+    for (all, code, line) in EXITS {
+        let entries = [
+            Entry::Left { hart: 0, code },
+            Entry::Counted { hart: 1 },
+            Entry::Left { hart: 15, code },
+        ];
+        assert!(rt; code < 256);
+        let text = lefts_text(alloc, &entries, all, code)?;
+        let want = format!(in alloc; "{threads}{line}")?;
+        assert_eq!(rt; text.as_slice(), want.as_bytes());
+    }
+    Ok(())
+}
+
+const KINDS: [(ElfKind, &str); 12] = [
+    (ElfKind::Short, "Short"),
+    (ElfKind::Magic, "Magic"),
+    (ElfKind::Class, "Class"),
+    (ElfKind::Order, "Order"),
+    (ElfKind::Kind, "Kind"),
+    (ElfKind::Machine, "Machine"),
+    (ElfKind::Flags, "Flags"),
+    (ElfKind::Segment, "Segment"),
+    (ElfKind::Section, "Section"),
+    (ElfKind::Text, "Text"),
+    (ElfKind::Entry, "Entry"),
+    (ElfKind::Large, "Large"),
+];
+
+#[test]
+fn words_files_and_output_have_their_lines(rt: HostRuntime) -> Result<(), Fail> {
+    let alloc = rt.alloc();
+    assert_eq!(rt;
+        USAGE,
+        "^error,msg=\"usage: rvdbg [--harts N] [--workers N] [--slots N] [--budget N] [--slice N] FILE\"\n"
+    );
+    for (kind, name) in KINDS {
+        let fault = ElfFault {
+            kind,
+            place: 33_554_432,
+        };
+        let text = bad_file(alloc, fault)?;
+        let want = format!(in alloc;
+            "^error,msg=\"Not an accepted ELF file: {name} at 33554432\"\n"
+        )?;
+        assert_eq!(rt; text.as_slice(), want.as_bytes());
+    }
+    let text = stream_text(alloc, b"a\n\r\t\"\\ ~\x00\x1F\x7F\xFF")?;
+    let want = "@\"a\\n\\r\\t\\\"\\\\ ~\\000\\037\\177\\377\"\n";
+    assert_eq!(rt; text.as_slice(), want.as_bytes());
+    assert!(rt; stream_text(alloc, b"")?.is_empty());
+    Ok(())
+}
