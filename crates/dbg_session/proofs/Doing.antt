@@ -7,18 +7,29 @@ use Rattle.mi_input.specs.Lines.{IsNext, lines}
 use Rattle.dbg_model.specs.declared.reply.Reply.{Reply}
 use Rattle.dbg_model.specs.State.{any_runs}
 use Rattle.dbg_model.specs.Reply.{is_wait}
-use Rattle.dbg_model.specs.Lawful.{may_go, may_do}
 use Rattle.dbg_model.proofs.Options.{both_true}
 use Rattle.engine_facts.specs.Seen.{Run, seen}
 use Rattle.dbg_session.specs.Stage.{Stage, stage_of}
 use Rattle.dbg_session.specs.Puts.{PutsAll}
-use Rattle.dbg_session.specs.Steps.{said_by, Says, Keeps, DoesLine, first_may, can_do}
+use Rattle.dbg_session.specs.Steps.{said_by, Says, Keeps, DoesLine, may_take, can_do}
 use Rattle.dbg_session.specs.Taking.{first_waits}
-use Rattle.dbg_session.proofs.Saying.{DoneSaid, and_false}
+use Rattle.dbg_session.proofs.Saying.{DoneSaid}
+
+first_line : (ended : Bool) (rest line : List ℕ) (next : ℕ) → IsNext ended rest line next → (more : List (List ℕ)) × (lines rest ended ≡ line ∷ more)
+first_line true rest line next is = (lines (drop next rest) true, is)
+first_line false rest line next is = (lines (drop next rest ++ []) false, ap (λ bs. lines bs false) (sym (append-nil rest)) ∙ is [] false)
 
 -- the line that was done is the next of the rest
-pub does_line : (ended : Bool) (rest line : List ℕ) (next : ℕ) (r s : Run) (answer : Reply) → IsNext ended rest line next → 0 < next → next ≤ length rest → DoneSaid r s line answer → DoesLine ended rest next (stage_of r) (stage_of s)
-does_line ended rest line next r s answer is_next some within d = record { line = line; is_next = is_next; some = some; within = within; journal = d.journal; did = d.did }
+pub does_line : (ended : Bool) (rest line : List ℕ) (next : ℕ) (r s : Run) (answer : Reply) → IsNext ended rest line next → 0 < next → next ≤ length rest → false ≡ any_runs (seen r).harts && is_wait line → DoneSaid r s line answer → DoesLine ended rest next (stage_of r) (stage_of s)
+does_line ended rest line next r s answer is_next some within may d = record {
+  line = line;
+  is_next = is_next;
+  some = some;
+  within = within;
+  may = ap (may_take (stage_of r)) (first_line ended rest line next is_next).1 ∙ ap not (sym may);
+  journal = d.journal;
+  did = d.did;
+}
 
 -- the text was said, and not put
 pub keeps : (t : Told) (r s : Stage) (text : List ℕ) → said_by s ≡ said_by r ++ text → Keeps t t r s
@@ -30,21 +41,13 @@ says_as put t u r s text piece same is puts =
     let P : List ℕ → Type 0 = λ x. PutsAll put x t u in
     record { text = text; said = is; puts = subst P same puts }
 
-first_line : (ended : Bool) (rest line : List ℕ) (next : ℕ) → IsNext ended rest line next → (more : List (List ℕ)) × (lines rest ended ≡ line ∷ more)
-first_line true rest line next is = (lines (drop next rest) true, is)
-first_line false rest line next is = (lines (drop next rest ++ []) false, ap (λ bs. lines bs false) (sym (append-nil rest)) ∙ is [] false)
-
 pub record MustWait (r : Run) (ended : Bool) (rest : List ℕ) : Type 0 where
   pub waits : first_waits (lines rest ended) ≡ true
-  pub not_yet : can_do (stage_of r) ended rest ≡ false
+  pub runs : any_runs (seen r).harts ≡ true
 
 -- the next line waits, and a hart runs
 pub must_wait : (r : Run) (ended : Bool) (rest line : List ℕ) (next : ℕ) → IsNext ended rest line next → true ≡ any_runs (seen r).harts && is_wait line → MustWait r ended rest
 must_wait r ended rest line next is b =
     let first = first_line ended rest line next is in
     let both = both_true (any_runs (seen r).harts) (is_wait line) (sym b) in
-    let never : may_do r.opening (seen r) line ≡ false = ap (λ w. may_go r.opening (seen r) && not w) (sym b) ∙ and_false (may_go r.opening (seen r)) in
-    record {
-      waits = ap first_waits first.1 ∙ both.1;
-      not_yet = ap (first_may (stage_of r)) first.1 ∙ never;
-    }
+    record { waits = ap first_waits first.1 ∙ both.1; runs = both.0 }

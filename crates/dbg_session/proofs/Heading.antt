@@ -6,7 +6,7 @@ use mathlib.Core.List.{append-nil}
 use Rattle.std.specs.Prelude.{map}
 use Rattle.dbg_traits.specs.Told.{Told}
 use Rattle.mi_input.specs.Lines.{lines}
-use Rattle.dbg_model.specs.declared.limits.TheConstants.{MOST_INPUT}
+use Rattle.dbg_model.specs.Limits as limits
 use Rattle.dbg_model.specs.State.{Hart}
 use Rattle.dbg_model.specs.Journals.{did, noted}
 use Rattle.dbg_model.specs.Erase.{erase}
@@ -17,8 +17,9 @@ use Rattle.dbg_engine.specs.declared.engine.Closed.{Closed}
 use Rattle.dbg_session.specs.Stage.{Stage}
 use Rattle.dbg_session.specs.Taking.{Gives}
 use Rattle.dbg_session.specs.Left.{IsLeft, hart_registers, plain_registers}
-use Rattle.dbg_session.specs.Ties.{IsTied, Taken}
-use Rattle.dbg_session.specs.Headline.{Headline, Why, Ends}
+use Rattle.dbg_session.specs.Ties.{IsTied, IsHeld, AllDone, Taken}
+use Rattle.dbg_session.specs.Ties as ties
+use Rattle.dbg_session.specs.Headline.{Headline, IsDone, IsBelow, Why, Ends}
 use Rattle.dbg_session.specs.declared.status.Status.{Status}
 use Rattle.dbg_session.specs.declared.status.Status.TheVariants as status
 use Rattle.dbg_session.proofs.Tying.{told_same}
@@ -29,14 +30,6 @@ front_lines false bytes done rest h = (lines (rest ++ []) false, sym (h [] false
 
 all_lines : (bytes : List ℕ) (done : List (List ℕ)) (rest : List ℕ) → Gives true bytes done rest → lines rest true ≡ [] → lines bytes true ≡ done
 all_lines bytes done rest h none = h ∙ (ap (λ t. done ++ t) none ∙ append-nil done)
-
-most_bytes : (o : Option (List ℕ)) (n : ℕ) → IfSome o (λ b. length b ≡ n) → MOST_INPUT ≤ n → IfSome o (λ b. MOST_INPUT ≤ length b)
-most_bytes None n h le = tt
-most_bytes (Some b) n h le = omega (arith, h)
-
-few_bytes : (o : Option (List ℕ)) (n : ℕ) → IfSome o (λ b. length b ≡ n) → n < MOST_INPUT → IfSome o (λ b. length b < MOST_INPUT)
-few_bytes None n h lt = tt
-few_bytes (Some b) n h lt = omega (arith, h)
 
 -- the numbers of the journal
 record Numbers (c : Closed) (r : Stage) : Type 0 where
@@ -50,29 +43,35 @@ numbers c r e =
     let n = counted c.opening c.journal r.state e.leaves in
     record { steps = sym n.retired; notes = sym n.noted; most = within_budget c.opening c.journal r.state e.leaves; budget = ap (λ o. o.settings.budget) e.opening }
 
+below : (t : Told) (r : Stage) (i : Taken) (c : Closed) → IsLeft r c → IsHeld t r i → ties.IsBelow r i.count → IsBelow t c
+below t r i c e h b =
+    let n = numbers c r e in
+    let low = b.budget in
+    let few = b.history in
+    let less = b.input in
+    record { budget = omega (arith, low, n.steps, n.budget); history = omega (arith, few, n.notes); input = omega (arith, less, h.count) }
+
+done_by : (t : Told) (r : Stage) (i : Taken) (c : Closed) → IsLeft r c → IsHeld t r i → AllDone r i → IsDone t c r.state
+done_by t r i c e h d =
+    let ended = d.ended in
+    record {
+      ended = h.ended ∙ ended;
+      all = told_same t.polled (λ b. Gives i.ended b (did r.journal) i.rest) (λ b. lines b true ≡ did c.journal) (λ b g. all_lines b (did r.journal) i.rest (rw ended at g) d.none ∙ ap did (sym e.journal)) h.input;
+      still = d.still;
+    }
+
 whys : (s : Status) (t : Told) (r : Stage) (i : Taken) (c : Closed) → IsLeft r c → IsTied (Some s) t r i → Why s t c r.state
 whys status.Done t r i c e h =
-    let d = h.cause.1 in
-    let ended = d.ended in
-    let n = numbers c r e in
-    let b = d.below in (
-      h.cause.0,
-      record {
-        ended = h.ended ∙ ended;
-        all = told_same t.polled (λ b. Gives i.ended b (did r.journal) i.rest) (λ b. lines b true ≡ did c.journal) (λ b g. all_lines b (did r.journal) i.rest (rw ended at g) d.none ∙ ap did (sym e.journal)) h.input;
-        still = d.still;
-      },
-      omega (arith, b.0, n.steps, n.budget),
-      omega (arith, b.1, n.notes),
-      few_bytes t.polled i.count h.count b.2,
-    )
+    let d = h.cause in
+    (d.0, below t r i c e h.held d.1, elim d.2 [ inl all ↦ inl (done_by t r i c e h.held all) | inr exited ↦ inr exited ])
 whys status.Budget t r i c e h = let n = numbers c r e in let b = h.cause.1 in (h.cause.0, omega (arith, n.steps, n.most, n.budget))
 whys status.History t r i c e h =
     let n = numbers c r e in
-    let b = h.cause.1 in (
+    let b = h.cause.1 in
+    let same = h.held.count in (
       h.cause.0,
       omega (arith, n.steps, n.budget),
-      elim h.cause.2 [ inl noted ↦ inl (omega (arith, n.notes)) | inr count ↦ inr (most_bytes t.polled i.count h.count count) ],
+      elim h.cause.2 [ inl noted ↦ inl (omega (arith, n.notes)) | inr count ↦ inr (omega (arith, same)) ],
     )
 whys status.ReadFault t r i c e h = h.cause
 whys status.WriteFault t r i c e h = h.cause
@@ -86,9 +85,10 @@ regs_plain (x ∷ xs) = ap (λ t. x.regs ∷ t) (regs_plain xs)
 
 pub heading : (s : Status) (t : Told) (r : Stage) (i : Taken) (c : Closed) → IsLeft r c → IsTied (Some s) t r i → Headline s t c
 heading s t r i c e h = record {
-  opened = rw e.opening h.file;
-  lines = told_same t.polled (λ b. Gives i.ended b (did r.journal) i.rest) (λ b. (rest : List (List ℕ)) × (did c.journal ++ rest ≡ lines b t.poll_ended)) (λ b g. rw (e.journal, h.ended) (front_lines i.ended b (did r.journal) i.rest g)) h.input;
-  in_time = rw (e.opening, e.journal) h.asks;
+  opened = rw e.opening h.held.file;
+  polled = told_same t.polled (λ b. length b ≡ i.count) (λ b. length b ≡ t.input_length) (λ b is. is ∙ sym h.held.count) h.held.polled;
+  lines = told_same t.polled (λ b. Gives i.ended b (did r.journal) i.rest) (λ b. (rest : List (List ℕ)) × (did c.journal ++ rest ≡ lines b t.poll_ended)) (λ b g. rw (e.journal, h.held.ended) (front_lines i.ended b (did r.journal) i.rest g)) h.held.input;
+  in_time = rw (e.opening, e.journal) h.held.asks;
   state = r.state;
   lawful = e.leaves;
   plain = plain_of r.state;

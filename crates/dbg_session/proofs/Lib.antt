@@ -6,5 +6,7 @@ pub mod Doing
 pub mod Picking
 pub mod Tying
 pub mod Opening
+pub mod Ahead
 pub mod Getting
+pub mod Going
 pub mod Heading

@@ -9,17 +9,17 @@ use Rattle.elf32_read.specs.Reading.{IsImage, Refused}
 use Rattle.elf32_read.specs.declared.fault.ElfFault.{ElfFault}
 use Rattle.dbg_model.specs.declared.opening.Opening.{Opening}
 use Rattle.dbg_session.specs.declared.file.Served.{Served}
-use Rattle.dbg_session.specs.declared.file.TheConstants.{MOST_FILE}
 use Rattle.dbg_session.specs.Stage.{Stage}
-use Rattle.dbg_session.specs.Words.{served_words, IsWhole, ReadsAll}
+use Rattle.dbg_session.specs.Words.{served_words, IsWhole, most_file, ReadsAll, ReadsSome, named_of}
+use Rattle.dbg_session.specs.declared.file.FileError.TheVariants as error
 use Rattle.dbg_session.specs.Ties.{IsReady, IsEmpty, IsCut}
 use Rattle.dbg_session.specs.Puts.{PutsAll}
 use Rattle.mi_reports.specs.Refusals.{bad_file}
 use Rattle.mi_reports.specs.declared.refusals.TheConstants.{USAGE}
 use Rattle.dbg_session.specs.declared.status.Status.TheVariants as status
-use Rattle.dbg_session.specs.Headline.{Early, Line, Silent}
+use Rattle.dbg_session.specs.Headline.{Early, Line, Silent, IsUnpolled, IsUnread, IsRead, IsReadIfAny, HasFault}
 
-empty : (o : Option (List ℕ)) → (o ≡ None) ⊎ (o ≡ Some []) → IsEmpty o
+empty : {A : Type 0} (o : Option (List A)) → (o ≡ None) ⊎ (o ≡ Some []) → IsEmpty o
 empty o (inl is) = rw is tt
 empty o (inr is) = rw is refl
 
@@ -31,24 +31,22 @@ told_all : (o : Option (List ℕ)) (bytes : List ℕ) (P : List ℕ → Type 0) 
 told_all o bytes P (inl is) p = rw is tt
 told_all o bytes P (inr is) p = rw is p
 
-whole : (o : Option (List ℕ)) (bytes : List ℕ) (ended : Bool) → (o ≡ None) ⊎ (o ≡ Some []) → (ended ≡ true) ⊎ (MOST_FILE ≤ length bytes) → (ended ≡ true) ⊎ IfSome (more o bytes) (λ b. MOST_FILE ≤ length b)
-whole o bytes ended fresh (inl is) = inl is
-whole o bytes ended fresh (inr le) = inr (told_all o bytes (λ b. MOST_FILE ≤ length b) fresh le)
-
 pub ready : (t u : Told) (words : List (List ℕ)) (served : Served) (bytes : List ℕ) (o : Opening) (r : Stage) → IsFresh t → words ≡ t.words → Some served ≡ served_words words → ReadsAll bytes served.name t u → IsImage bytes o.image → o.settings ≡ served.settings → r.opening ≡ o → r.journal ≡ [] → IsReady u r
-ready t u words served bytes o r fresh asked is reads image settings opening journal = rw reads.2 (record {
+ready t u words served bytes o r fresh asked is reads image settings opening journal = rw reads.3 (record {
   opened = rw opening (record {
     name = served.name;
     asked = ap served_words (sym asked) ∙ (sym is ∙ ap (λ s. Some (record { name = served.name; settings = s })) (sym settings));
     named = refl;
-    whole = whole t.file_taken bytes reads.0 fresh.taken reads.1;
+    whole = reads.1;
+    taken = told_all t.file_taken bytes (λ b. length b ≡ length bytes) fresh.taken refl;
     faults = fresh.file_faults;
     image = told_all t.file_taken bytes (λ b. IsImage b o.image) fresh.taken image;
   });
   clean = record { file = fresh.file_faults; poll = fresh.poll_faults; put = fresh.put_faults };
   polled = empty t.polled fresh.polled;
+  taken = fresh.input_length;
   written = empty t.written fresh.written;
-  asks = fresh.asks;
+  asks = empty t.asks fresh.asks;
   running = fresh.poll_ended;
   journal = journal;
 })
@@ -56,6 +54,12 @@ ready t u words served bytes o r fresh asked is reads image settings opening jou
 -- nothing was written at the beginning
 pub silent : (t : Told) → IsFresh t → Silent t
 silent t fresh = nothing_in t.written fresh.written
+
+unpolled : (t : Told) → IsFresh t → IsUnpolled t
+unpolled t fresh = record { polls = fresh.polls; taken = fresh.input_length; polled = empty t.polled fresh.polled; asks = empty t.asks fresh.asks; faults = fresh.poll_faults; ended = fresh.poll_ended }
+
+unread : (t : Told) → IsFresh t → IsUnread t
+unread t fresh = record { name = fresh.named; taken = fresh.file_length; bytes = empty t.file_taken fresh.taken; faults = fresh.file_faults; ended = fresh.file_ended }
 
 front_of : (o : Option (List ℕ)) (line piece : List ℕ) (n : ℕ) → piece ≡ line → (o ≡ None) ⊎ (o ≡ Some []) → IfSome (more o (take n piece)) (λ written. IsCut written line)
 front_of o line piece n same fresh = told_all o (take n piece) (λ written. IsCut written line) fresh (drop n piece, take-append-drop n piece ∙ same)
@@ -73,32 +77,98 @@ line_written false t u line piece same fresh none puts =
       whole = λ zero. absurd (omega (arith, zero, rose));
     })
 
+-- A put leaves all but the output and its faults.
+put_unpolled : (b : Bool) (t u : Told) (piece : List ℕ) → PutsAll b piece t u → IsUnpolled t → IsUnpolled u
+put_unpolled true t u piece puts h = rw puts (record { polls = h.polls; taken = h.taken; polled = h.polled; asks = h.asks; faults = h.faults; ended = h.ended })
+put_unpolled false t u piece puts h = rw puts.3 (record { polls = h.polls; taken = h.taken; polled = h.polled; asks = h.asks; faults = h.faults; ended = h.ended })
+
+put_unread : (b : Bool) (t u : Told) (piece : List ℕ) → PutsAll b piece t u → IsUnread t → IsUnread u
+put_unread true t u piece puts h = rw puts (record { name = h.name; taken = h.taken; bytes = h.bytes; faults = h.faults; ended = h.ended })
+put_unread false t u piece puts h = rw puts.3 (record { name = h.name; taken = h.taken; bytes = h.bytes; faults = h.faults; ended = h.ended })
+
 put_words : (b : Bool) (t u : Told) (piece : List ℕ) → PutsAll b piece t u → u.words ≡ t.words
 put_words true t u piece puts = ap (λ (v : Told). v.words) puts
 put_words false t u piece puts = ap (λ (v : Told). v.words) puts.3
 
 -- the words were refused
 pub early_words : (b : Bool) (t u : Told) (words : List (List ℕ)) (piece : List ℕ) → IsFresh t → words ≡ t.words → None ≡ served_words words → piece ≡ USAGE.now → PutsAll b piece t u → Early status.Words u
-early_words b t u words piece fresh asked is same puts =
-    (ap served_words (put_words b t u piece puts ∙ sym asked) ∙ sym is, line_written b t u USAGE.now piece same fresh.written fresh.put_faults puts)
+early_words b t u words piece fresh asked is same puts = (
+  put_unpolled b t u piece puts (unpolled t fresh),
+  put_unread b t u piece puts (unread t fresh),
+  ap served_words (put_words b t u piece puts ∙ sym asked) ∙ sym is,
+  line_written b t u USAGE.now piece same fresh.written fresh.put_faults puts,
+)
 
-abbrev HasFault : Told → ElfFault → Type 0
-HasFault t f = IsSome (served_words t.words) × IsWhole t × (t.file_faults ≡ 0) × IfSome t.file_taken (λ bytes. Refused bytes f)
+-- there was no memory to read the words
+pub early_memory : (t : Told) → IsFresh t → Early status.NoMemory t
+early_memory t fresh = (unpolled t fresh, inl fresh.named, fresh.file_faults, silent t fresh)
+
+served_is : (t : Told) (words : List (List ℕ)) (served : Served) → words ≡ t.words → Some served ≡ served_words words → served_words t.words ≡ Some served
+served_is t words served asked is = ap served_words (sym asked) ∙ sym is
+
+-- reading the file leaves the input and the output
+all_unpolled : (t u : Told) (bytes name : List ℕ) → ReadsAll bytes name t u → IsFresh t → IsUnpolled u
+all_unpolled t u bytes name reads fresh = let h = unpolled t fresh in rw reads.3 (record { polls = h.polls; taken = h.taken; polled = h.polled; asks = h.asks; faults = h.faults; ended = h.ended })
+
+all_read : (t u : Told) (words : List (List ℕ)) (served : Served) (bytes : List ℕ) → words ≡ t.words → Some served ≡ served_words words → ReadsAll bytes served.name t u → IsRead u
+all_read t u words served bytes asked is reads = rw reads.3 (record { served = served; words = served_is t words served asked is; name = refl })
+
+-- there was no memory once the file was read
+pub read_memory : (t u : Told) (words : List (List ℕ)) (served : Served) (bytes : List ℕ) → IsFresh t → words ≡ t.words → Some served ≡ served_words words → ReadsAll bytes served.name t u → Early status.NoMemory u
+read_memory t u words served bytes fresh asked is reads = (
+  all_unpolled t u bytes served.name reads fresh,
+  inr (all_read t u words served bytes asked is reads),
+  rw reads.3 fresh.file_faults,
+  rw reads.3 (silent t fresh),
+)
+
+-- the file wasn't read whole
+pub early_read : (t u : Told) (words : List (List ℕ)) (served : Served) → IsFresh t → words ≡ t.words → Some served ≡ served_words words → ReadsSome error.Failed served.name t u → Early status.ReadFault u
+early_read t u words served fresh asked is reads =
+    let h = unpolled t fresh in
+    let none = fresh.file_faults in
+    let rose : 0 < reads.1 = omega (arith, none, reads.3) in
+    rw reads.4 (
+      record { polls = h.polls; taken = h.taken; polled = h.polled; asks = h.asks; faults = h.faults; ended = h.ended },
+      record { served = served; words = served_is t words served asked is; name = refl },
+      rose,
+      silent t fresh,
+    )
+
+name_by : (bytes : List ℕ) (t u : Told) (words : List (List ℕ)) (served : Served) → served_words u.words ≡ Some served → u.file_name ≡ named_of bytes served.name → IsReadIfAny u
+name_by [] t u words served is name = inl name
+name_by (b ∷ bs) t u words served is name = inr (record { served = served; words = is; name = name })
+
+pub early_room : (t u : Told) (words : List (List ℕ)) (served : Served) → IsFresh t → words ≡ t.words → Some served ≡ served_words words → ReadsSome error.NoMemory served.name t u → Early status.NoMemory u
+early_room t u words served fresh asked is reads =
+    let h = unpolled t fresh in
+    let v : Told = record t { file_name = named_of reads.0 served.name; file_taken = more t.file_taken reads.0; file_length = length reads.0 } in
+    rw reads.2 (
+      record { polls = h.polls; taken = h.taken; polled = h.polled; asks = h.asks; faults = h.faults; ended = h.ended },
+      name_by reads.0 t v words served (served_is t words served asked is) refl,
+      fresh.file_faults,
+      silent t fresh,
+    )
 
 put_fault : (b : Bool) (t u : Told) (f : ElfFault) (piece : List ℕ) → PutsAll b piece t u → HasFault t f → HasFault u f
-put_fault true t u f piece puts h = rw puts h
-put_fault false t u f piece puts h = rw puts.3 h
+put_fault true t u f piece puts h = rw puts (record { read = record { served = h.read.served; words = h.read.words; name = h.read.name }; whole = h.whole; faults = h.faults; length = h.length; fault = h.fault })
+put_fault false t u f piece puts h = rw puts.3 (record { read = record { served = h.read.served; words = h.read.words; name = h.read.name }; whole = h.whole; faults = h.faults; length = h.length; fault = h.fault })
 
 read_fault : (t u : Told) (words : List (List ℕ)) (served : Served) (bytes : List ℕ) (f : ElfFault) → IsFresh t → words ≡ t.words → Some served ≡ served_words words → ReadsAll bytes served.name t u → Refused bytes f → HasFault u f
-read_fault t u words served bytes f fresh asked is reads fault =
-    let words_are : served_words t.words ≡ Some served = ap served_words (sym asked) ∙ sym is in
-    rw reads.2 (rw words_are refl, whole t.file_taken bytes reads.0 fresh.taken reads.1, fresh.file_faults, told_all t.file_taken bytes (λ b. Refused b f) fresh.taken fault)
+read_fault t u words served bytes f fresh asked is reads fault = rw reads.3 (record {
+  read = record { served = served; words = served_is t words served asked is; name = refl };
+  whole = reads.1;
+  faults = fresh.file_faults;
+  length = told_all t.file_taken bytes (λ b. length b ≡ length bytes) fresh.taken refl;
+  fault = told_all t.file_taken bytes (λ b. Refused b f) fresh.taken fault;
+})
 
 -- the file was refused
 pub early_file : (b : Bool) (t u v : Told) (words : List (List ℕ)) (served : Served) (bytes : List ℕ) (f : ElfFault) (piece : List ℕ) → IsFresh t → words ≡ t.words → Some served ≡ served_words words → ReadsAll bytes served.name t u → Refused bytes f → piece ≡ bad_file f → PutsAll b piece u v → Early (status.File f) v
 early_file b t u v words served bytes f piece fresh asked is reads fault same puts =
-    let h = put_fault b u v f piece puts (read_fault t u words served bytes f fresh asked is reads fault) in
-    let written : u.written ≡ t.written = ap (λ (x : Told). x.written) reads.2 in
-    let none : u.put_faults ≡ 0 = ap (λ (x : Told). x.put_faults) reads.2 ∙ fresh.put_faults in
-    let l = line_written b u v (bad_file f) piece same (rw written fresh.written) none puts in
-    (h.0, h.1, h.2, h.3, l)
+    let written : u.written ≡ t.written = ap (λ (x : Told). x.written) reads.3 in
+    let none : u.put_faults ≡ 0 = ap (λ (x : Told). x.put_faults) reads.3 ∙ fresh.put_faults in (
+      put_unpolled b u v piece puts (all_unpolled t u bytes served.name reads fresh),
+      put_fault b u v f piece puts (read_fault t u words served bytes f fresh asked is reads fault),
+      line_written b u v (bad_file f) piece same (rw written fresh.written) none puts,
+    )

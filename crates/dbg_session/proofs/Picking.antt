@@ -12,7 +12,7 @@ use Rattle.hart_machine.specs.declared.hart.Core.{Core}
 use Rattle.hart_machine.proofs.Places.{same_some}
 use Rattle.mi_input.specs.Lines.{IsNext, lines}
 use Rattle.dbg_model.specs.State.{is_running}
-use Rattle.dbg_model.specs.Lawful.{may_go}
+use Rattle.dbg_model.proofs.Options.{both_true}
 use Rattle.engine_facts.specs.declared.mind.Activity.{Activity}
 use Rattle.engine_facts.specs.declared.mind.Activity.TheVariants as activity
 use Rattle.engine_facts.specs.declared.mind.Mind.{Mind}
@@ -22,10 +22,9 @@ use Rattle.engine_facts.specs.Seen.{Run, seen, seen_regs, seen_harts}
 use Rattle.engine_facts.specs.Moves.{AreHome}
 use Rattle.engine_facts.specs.Facts.{Facts}
 use Rattle.engine_facts.proofs.Seeing.{any_seen}
-use Rattle.dbg_engine.specs.Calls.{Closes, NextMoves}
+use Rattle.dbg_engine.specs.Calls.{Closes}
 use Rattle.dbg_session.specs.Stage.{stage_of, runs_at, is_free, is_idle, idle_as, are_out, waits_for_slot, moves_at}
 use Rattle.dbg_session.specs.Taking.{has_line, is_some_line}
-use Rattle.dbg_session.specs.Seen.{Picks}
 use Rattle.dbg_session.specs.Left.{IsLeft, core_registers, hart_registers}
 
 active_runs : (a : Activity) → is_running (mode_of a) ≡ is_active a
@@ -40,12 +39,6 @@ runs_mind p (c ∷ cs) [] h x len at = cc
 runs_mind p (c ∷ cs) (y ∷ ys) zero x len at = active_runs y.activity ∙ ap runs (same_some y x at)
 runs_mind p (c ∷ cs) (y ∷ ys) (suc h) x len at = let l : length cs ≡ length ys = omega arith in runs_mind p cs ys h x l at
 
-runs_out : (p : Program) (cs : List Core) (xs : List Mind) (h : ℕ) → length xs ≤ h → runs_at (seen_harts p cs xs) h ≡ false
-runs_out p [] xs h le = refl
-runs_out p (c ∷ cs) [] h le = refl
-runs_out p (c ∷ cs) (y ∷ ys) zero le = absurd (omega arith)
-runs_out p (c ∷ cs) (y ∷ ys) (suc h) le = let l : length ys ≤ h = omega arith in runs_out p cs ys h l
-
 pub and_false : (b : Bool) → (b && false) ≡ false
 and_false true = refl
 and_false false = refl
@@ -53,12 +46,6 @@ and_false false = refl
 pub or_true : (b : Bool) → (b || true) ≡ true
 or_true true = refl
 or_true false = refl
-
--- a hart that isn't there doesn't run
-pub out_of_range : (e : Run) (h : ℕ) → length e.minds ≤ h → not (may_go e.opening (seen e) && moves_at (stage_of e) h) ≡ true
-out_of_range e h le =
-    ap (λ b. not (may_go e.opening (seen e) && ((b && is_free e.hold h) && not (waits_for_slot e.machine.slots e.minds h)))) (runs_out e.opening.image e.machine.cores e.minds h le)
-    ∙ ap not (and_false (may_go e.opening (seen e)))
 
 -- ---- whether all slots are out
 
@@ -89,30 +76,6 @@ out_is : (slots : List (Option SlotUse)) → are_out slots ≡ true → (0 < len
 out_is [] is = cc
 out_is (u ∷ slots) is = let none = none_so (least_free (u ∷ slots)) is in (omega arith, λ k at. none_there (u ∷ slots) k none at)
 
-idle_so : (q : Phase) → is_idle q ≡ true → q ≡ phase.Idle
-idle_so phase.Idle is = refl
-idle_so (phase.Copied slot home) is = cc
-idle_so (phase.Landed slot home) is = cc
-idle_so (phase.Lifted home) is = cc
-idle_so (phase.Ran home) is = cc
-
-no_wait : (slots : List (Option SlotUse)) (q : Phase) (out idle : Bool) → are_out slots ≡ out → is_idle q ≡ idle → (q ≡ phase.Idle → 0 < length slots → AllOut slots → ⊥) → not (out && idle) ≡ true
-no_wait slots q false idle is rests room = refl
-no_wait slots q true false is rests room = refl
-no_wait slots q true true is rests room = let o = out_is slots is in absurd (room (idle_so q rests) o.0 o.1)
-
-pub picks_none : (e : Run) → Facts e → NextMoves None e → Picks None (stage_of e)
-picks_none e f none = sym (any_seen e.opening.image e.machine.cores e.minds f.harts.len) ∙ none
-
-pub picks_some : (e : Run) (h : ℕ) → Facts e → NextMoves (Some h) e → Picks (Some h) (stage_of e)
-picks_some e h f m =
-    let slots = e.machine.slots in
-    let waits = waits_for_slot slots e.minds h in
-    ap (λ b. (b && is_free e.hold h) && not waits) (runs_mind e.opening.image e.machine.cores e.minds h m.mind f.harts.len m.at ∙ m.runs)
-    ∙ (ap (λ d. is_none d && not waits) m.free
-    ∙ (ap (λ x. not (are_out slots && idle_as x)) m.at
-    ∙ no_wait slots m.mind.phase (are_out slots) (is_idle m.mind.phase) refl refl m.room))
-
 -- a whole line stands in a rest whose next line is found
 pub next_stands : (ended : Bool) (rest line : List ℕ) (next : ℕ) → IsNext ended rest line next → has_line ended rest ≡ true
 next_stands true rest line next is = ap is_some_line is
@@ -122,18 +85,24 @@ pub stands_if : (ended : Bool) (rest xs : List ℕ) (r : Option (ℕ × ℕ)) �
 stands_if ended rest xs None same next is = cc
 stands_if ended rest xs (Some p) same next is = ap (has_line ended) (sym same) ∙ next_stands ended xs (take p.0 xs) p.1 next
 
--- whether a session is open: it may go on, ended, a hart runs, and a line stands at the end
-pub open_running : (may ended running line : Bool) → may ≡ true → running ≡ true → (may && not ((ended && not running) && not line)) ≡ true
-open_running may true running line is run = rw (is, run) refl
-open_running may false running line is run = rw is refl
+-- whether a session is open: it ended, a hart runs, and a line stands at the end
+pub open_running : (ended running line : Bool) → running ≡ true → not ((ended && not running) && not line) ≡ true
+open_running true running line run = rw run refl
+open_running false running line run = refl
 
-pub open_polled : (may ended running line : Bool) → may ≡ true → ended ≡ false → (may && not ((ended && not running) && not line)) ≡ true
-open_polled may ended running line is polled = rw (is, polled) refl
+pub open_polled : (ended running line : Bool) → ended ≡ false → not ((ended && not running) && not line) ≡ true
+open_polled ended running line polled = rw polled refl
 
-pub open_line : (may ended running line : Bool) → may ≡ true → line ≡ true → (may && not ((ended && not running) && not line)) ≡ true
-open_line may true true line is some = rw is refl
-open_line may true false line is some = rw (is, some) refl
-open_line may false running line is some = rw is refl
+pub open_line : (ended running line : Bool) → line ≡ true → not ((ended && not running) && not line) ≡ true
+open_line true true line some = refl
+open_line true false line some = rw some refl
+open_line false running line some = refl
+
+-- a hart that can be moved runs
+pub mover_runs : (e : Run) (h : ℕ) (x : Mind) → Facts e → slice_get e.minds h ≡ Some x → moves_at (stage_of e) h ≡ true → runs x ≡ true
+mover_runs e h x f at is =
+    let first = both_true (runs_at (seen e).harts h && is_free e.hold h) (not (waits_for_slot e.machine.slots e.minds h)) is in
+    sym (runs_mind e.opening.image e.machine.cores e.minds h x f.harts.len at) ∙ (both_true (runs_at (seen e).harts h) (is_free e.hold h) first.0).0
 
 -- harts at home have the registers that were seen
 home_regs : (p : Program) (cs : List Core) (xs : List Mind) (ds : List Core) → AreHome p cs xs ds → core_registers ds ≡ hart_registers (seen_harts p cs xs)

@@ -38,7 +38,7 @@ use Rattle.dbg_model.specs.State.{is_running}
 use Rattle.dbg_model.specs.Lawful.{may_go}
 use Rattle.engine_facts.specs.declared.mind.Activity.{Activity}
 use Rattle.engine_facts.specs.declared.mind.Activity.TheVariants as activity
-use Rattle.dbg_session.specs.Steps.{said_by, Goes}
+use Rattle.dbg_session.specs.Steps.{said_by, Goes, IsMove}
 use Rattle.dbg_session.specs.Turned.{turned_text, last_lefts, stream_of, has_moved}
 use Rattle.dbg_session.proofs.Timing.{did_line, Grown, grown_same, grown_more, grown_lengthened, grown_exits}
 use Rattle.dbg_session.proofs.Working.{one_works, one_runs, halt_runs, halts, count_notes, count_runs, done_retired, running_gone, running_most, moves_most, moves_set}
@@ -50,6 +50,7 @@ pub record Said (t : Turned) (r s : Run) (h pc : ℕ) : Type 0 where
   pub opening : s.opening ≡ r.opening
   pub said : said_by (stage_of s) ≡ said_by (stage_of r) ++ turned_text s t h pc
   pub goes : Goes (stage_of r) (stage_of s)
+  pub move : IsMove h (stage_of r) (stage_of s)
   pub work : work_of (stage_of s) < work_of (stage_of r)
 
 goes_by : (r s : Run) → Grown r.journal s.journal → (s.journal ≡ r.journal) ⊎ (any_runs (seen r).harts ≡ true) → Goes (stage_of r) (stage_of s)
@@ -95,6 +96,7 @@ runs_say t r s h pc out f g m text =
       opening = m.opening;
       said = said_is r s (lengthened r.journal h) (turned_text s t h pc) m.opening m.journal (l ∙ ap (λ u. said r.opening r.journal ++ u) (ap stream_text m.wrote ∙ text));
       goes = goes_by r s (grown_lengthened r.journal s.journal h m.journal) (inr (one_runs r.opening h (seen r) (seen s) m.one));
+      move = inr (inl ([], m.journal ∙ sym (append-nil (lengthened r.journal h))));
       work = ran_less r s h (seen s) m.one refl (let z : running (seen s).harts ≤ running (seen s).harts = omega arith in z) m.opening g;
     }
 
@@ -126,6 +128,7 @@ exits_say t r s h pc count code f g m text =
       opening = m.opening;
       said = said_is r s (j ++ lefts) (turned_text s t h pc) m.opening m.journal (exits ∙ (ap (λ u. u ++ lefts_text lefts (all_gone (map gone m.between.harts)) code) first ∙ ap (λ u. said r.opening r.journal ++ u) (last ∙ text)));
       goes = goes_by r s (grown_exits r.journal s.journal h m.between.harts m.journal) (inr (one_runs r.opening h (seen r) m.between m.one));
+      move = inr (inl (m.between.harts, m.journal));
       work = ran_less r s h m.between m.one (m.retired ∙ sym (one_works r.opening h (seen r) m.between m.one).retired) (let e = ap running m.harts ∙ running_gone m.between.harts in let z : running (seen s).harts ≤ running m.between.harts = omega arith in z) m.opening g;
     }
 
@@ -155,6 +158,7 @@ halts_say t r s h pc why f g m text =
       opening = m.opening;
       said = text;
       goes = goes_by r s (grown_more r.journal (e ∷ []) s.journal m.journal refl) (inr (halt_runs r.opening h why (seen r) (seen s) m.enters));
+      move = inr (inr (e, refl, m.journal));
       work = subst P (sym m.opening) (omega arith);
     }
 
@@ -196,6 +200,7 @@ counts_say r s h pc f g m =
       opening = m.opening;
       said = said_is r s (r.journal ++ e ∷ []) [] m.opening m.journal (said_added r.opening r.journal (seen r) e f.leaves);
       goes = goes_by r s (grown_more r.journal (e ∷ []) s.journal m.journal refl) (inr (count_runs r.opening h (seen r) (seen s) m.enters));
+      move = inr (inr (e, refl, m.journal));
       work = subst P (sym m.opening) (omega arith);
     }
 
@@ -211,6 +216,7 @@ quiets_say t r s h pc x p hold m at less text =
       opening = m.opening;
       said = said_is r s r.journal (turned_text s t h pc) m.opening m.journal (sym (append-nil (said r.opening r.journal)) ∙ ap (λ u. said r.opening r.journal ++ u) text);
       goes = goes_by r s (grown_same r.journal s.journal m.journal) (inl m.journal);
+      move = inl (m.journal, with_phase x p, m.minds);
       work = omega (arith, shown);
     }
 
@@ -255,7 +261,7 @@ says turned.Counted r s h pc f g low is moved m = counts_say r s h pc f g m
 says (turned.Arrived number temporary error) r s h pc f g low is moved m = arrivals_say r s h pc number temporary error f g low is m.0 m.1
 
 spared : (t : Turned) (e s : Run) (n h pc : ℕ) → Said t (record e { spare = n }) s h pc → Said t e s h pc
-spared t e s n h pc d = record { opening = d.opening; said = d.said; goes = spared_goes e s n d.goes; work = d.work }
+spared t e s n h pc d = record { opening = d.opening; said = d.said; goes = spared_goes e s n d.goes; move = d.move; work = d.work }
 
 -- the same of an engine before its room was made
 pub turn_says : (t : Turned) (e r s : Run) (h pc : ℕ) → r ≡ record e { spare = r.spare } → Facts r → Facts s → h < length e.minds → IsPc r h pc → HasMoved t → Turns t r s h → Said t e s h pc

@@ -370,8 +370,7 @@ told_end r wait asks polled written rest d none g all still leaves =
     subst (λ (p : Option (List ℕ)). ToldInTime r.opening r.journal p (more asks (asked wait polled written ∷ []))) (more_none polled) (told_took r wait asks polled written [] rest d none g all still leaves)
 
 -- nothing was asked for at the beginning
-pub told_none : (o : Opening) (j : List Entry) (polled : Option (List ℕ)) (asks : Option (List Ask)) → (asks ≡ None) ⊎ (asks ≡ Some []) → ToldInTime o j polled asks
-told_none o j None asks (inl is) = subst (λ (x : Option (List Ask)). ToldInTime o j None x) (sym is) tt
-told_none o j (Some bytes) asks (inl is) = subst (λ (x : Option (List Ask)). ToldInTime o j (Some bytes) x) (sym is) tt
-told_none o j None asks (inr is) = subst (λ (x : Option (List Ask)). ToldInTime o j None x) (sym is) tt
-told_none o j (Some bytes) asks (inr is) = subst (λ (x : Option (List Ask)). ToldInTime o j (Some bytes) x) (sym is) tt
+pub told_none : (o : Opening) (j : List Entry) (polled : Option (List ℕ)) (asks : Option (List Ask)) → IsEmpty asks → ToldInTime o j polled asks
+told_none o j polled None none = tt
+told_none o j None (Some xs) none = tt
+told_none o j (Some bytes) (Some xs) none = subst (λ (ys : List Ask). AllInTime o j bytes ys) (sym none) tt

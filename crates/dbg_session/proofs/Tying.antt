@@ -1,23 +1,28 @@
 -- The steps of a session keep what ties it to its world.
 use Rattle.std.proofs.Common.{◌≡◌, ◌<◌, ◌≤◌, ℕ, zero, suc, not, ◌+◌, ◌-◌, Bool, true, false, cond, List, [], ◌∷◌, ◌++◌, length, take, drop, refl, sym, ap, ◌∙◌, append_assoc, arith, subst, length-append, length-drop}
 use Rattle.std.specs.Prelude.{Option, Some, None, IfSome, IfNone, is_some}
+use mathlib.Core.Logic.{inl, inr}
+use Rattle.dbg_traits.specs.Causes.{Rose}
 use mathlib.Core.List.{append-nil}
 use Rattle.std.proofs.lemmas.List.{take-append-drop, take_all}
-use Rattle.dbg_traits.specs.Told.{Told, more, with_ask}
+use Rattle.dbg_traits.specs.Told.{Told, more, raised, with_ask}
 use Rattle.mi_input.specs.Lines.{IsNext, lines}
-use Rattle.dbg_model.specs.declared.limits.TheConstants.{MOST_INPUT}
-use Rattle.dbg_model.specs.State.{any_runs}
-use Rattle.dbg_model.specs.Journals.{did, Leaves}
+use Rattle.dbg_model.specs.Limits as limits
+use Rattle.dbg_traits.specs.Settings.{AreSettings}
+use Rattle.dbg_model.specs.declared.entry.Entry.{Entry}
+use Rattle.dbg_model.specs.State.{State, any_runs, first_state}
+use Rattle.dbg_model.specs.Journals.{did, Leaves, Place, first_place, replay}
+use Rattle.dbg_model.proofs.Options.{same_some}
 use Rattle.mi_reports.specs.Text.{opening_text}
 use Rattle.mi_reports.specs.Said.{said}
 use Rattle.mi_reports.proofs.Saying.{said_nothing}
 use Rattle.dbg_session.specs.Stage.{Stage}
 use Rattle.dbg_session.specs.Taking.{Gives}
 use Rattle.dbg_session.specs.InTime.{ToldInTime}
-use Rattle.dbg_session.specs.Steps.{said_by, Says, Keeps, DoesLine, Goes}
+use Rattle.dbg_session.specs.Steps.{said_by, Says, Keeps, DoesLine, Goes, with_poll}
 use Rattle.dbg_model.specs.declared.opening.Opening.{Opening}
 use Rattle.dbg_session.specs.Words.{served_words}
-use Rattle.dbg_session.specs.Ties.{IsTied, Taken, Opened, IsCut, OverBy, IsReady, IsEmpty, IsCounted}
+use Rattle.dbg_session.specs.Ties.{IsTied, IsHeld, Taken, Opened, Clean, GoesOn, IsCut, OverBy, IsReady, IsEmpty, IsCounted}
 use Rattle.dbg_session.specs.Puts.{PutsAll}
 use Rattle.dbg_session.proofs.Timing.{told_line, told_goes, told_took, told_end, told_none}
 use Rattle.dbg_session.specs.declared.status.Status.{Status}
@@ -42,16 +47,16 @@ told_same None P Q step h = tt
 told_same (Some bytes) P Q step h = step bytes h
 
 -- a session whose status is found
-pub tied_over : (s : Option Status) (t : Told) (r : Stage) (i : Taken) → OverBy s r i.count → IsTied None t r i → IsTied s t r i
-tied_over None t r i o h = h
-tied_over (Some status.Done) t r i o h = absurd o
-tied_over (Some status.Words) t r i o h = absurd o
-tied_over (Some (status.File f)) t r i o h = absurd o
-tied_over (Some status.Budget) t r i o h = record { file = h.file; input = h.input; count = h.count; written = h.written; ended = h.ended; asks = h.asks; cause = (h.cause, o) }
-tied_over (Some status.History) t r i o h = record { file = h.file; input = h.input; count = h.count; written = h.written; ended = h.ended; asks = h.asks; cause = (h.cause, o.0, o.1) }
-tied_over (Some status.ReadFault) t r i o h = absurd o
-tied_over (Some status.WriteFault) t r i o h = absurd o
-tied_over (Some status.NoMemory) t r i o h = absurd o
+pub tied_over : (s : Option Status) (t : Told) (r : Stage) (i : Taken) → OverBy s r i.count → IsHeld t r i → Clean t → IfSome t.written (λ written. written ≡ said_by r) → IsTied s t r i
+tied_over None t r i o h c w = record { held = h; written = w; cause = (c, o) }
+tied_over (Some status.Done) t r i o h c w = record { held = h; written = w; cause = (c, o.0, inr o.1) }
+tied_over (Some status.Words) t r i o h c w = absurd o
+tied_over (Some (status.File f)) t r i o h c w = absurd o
+tied_over (Some status.Budget) t r i o h c w = record { held = h; written = w; cause = (c, o) }
+tied_over (Some status.History) t r i o h c w = record { held = h; written = w; cause = (c, o.0, o.1) }
+tied_over (Some status.ReadFault) t r i o h c w = absurd o
+tied_over (Some status.WriteFault) t r i o h c w = absurd o
+tied_over (Some status.NoMemory) t r i o h c w = absurd o
 
 -- where input is asked for: each whole line was done, and it may wait only while no hart runs
 pub record IsQuiet (wait : Bool) (r : Stage) (i : Taken) : Type 0 where
@@ -60,33 +65,91 @@ pub record IsQuiet (wait : Bool) (r : Stage) (i : Taken) : Type 0 where
   pub still : wait ≡ true → any_runs r.state.harts ≡ false
   pub leaves : Leaves r.opening r.journal r.state
 
-polled_so : (t : Told) (r : Stage) (i : Taken) → IsTied None t r i → i.ended ≡ false → IfSome t.polled (λ bytes. Gives false bytes (did r.journal) i.rest)
+polled_so : (t : Told) (r : Stage) (i : Taken) → IsHeld t r i → i.ended ≡ false → IfSome t.polled (λ bytes. Gives false bytes (did r.journal) i.rest)
 polled_so t r i h un = subst (λ b. IfSome t.polled (λ bytes. Gives b bytes (did r.journal) i.rest)) un h.input
 
--- more input was polled
-pub tied_took : (t u : Told) (r : Stage) (i j : Taken) (wait : Bool) (bytes : List ℕ) (n : ℕ) → IsTied None t r i → IsQuiet wait r i → length bytes ≡ n
-    → u ≡ record t { polled = more t.polled bytes; asks = with_ask wait t } → j ≡ record { rest = i.rest ++ bytes; count = i.count + n; ended = i.ended } → IsTied None u r j
-tied_took t u r i j wait bytes n h q len is eq = rw (is, eq) (record {
-  file = record { name = h.file.name; asked = h.file.asked; named = h.file.named; whole = h.file.whole; faults = h.file.faults; image = h.file.image };
-  input = told_more t.polled bytes (λ b. Gives i.ended b (did r.journal) i.rest) (λ b. Gives i.ended b (did r.journal) (i.rest ++ bytes)) (λ b g. gives_more i.ended b bytes (did r.journal) i.rest q.ended g) h.input;
-  count = told_more t.polled bytes (λ b. length b ≡ i.count) (λ b. length b ≡ i.count + n) (λ b e. omega (arith, length-append b bytes, len, e)) h.count;
-  written = h.written;
+-- what was opened stays so, where the words and the file are as they were
+opened_as : (t u : Told) (o p : Opening) → p ≡ o → Opened t o → u.words ≡ t.words → u.file_name ≡ t.file_name → u.file_taken ≡ t.file_taken → u.file_length ≡ t.file_length → u.file_ended ≡ t.file_ended → u.file_faults ≡ t.file_faults → Opened u p
+opened_as t u o p same h words name taken long ended faults =
+    let P : Opening → Type 0 = λ q. Opened u q in
+    subst P (sym same) (record {
+      name = h.name;
+      asked = ap served_words words ∙ h.asked;
+      named = name ∙ h.named;
+      whole = rw (ended, long) h.whole;
+      taken = rw (taken, long) h.taken;
+      faults = faults ∙ h.faults;
+      image = rw taken h.image;
+    })
+
+-- a poll alone changes nothing that is tied
+pub held_polled : (t u : Told) (r : Stage) (i : Taken) → IsHeld t r i → u ≡ with_poll t → IsHeld u r i
+held_polled t u r i h is = rw is (record {
+  file = opened_as t (with_poll t) r.opening r.opening refl h.file refl refl refl refl refl refl;
+  input = h.input;
+  polled = h.polled;
+  count = h.count;
   ended = h.ended;
-  asks = told_took r wait t.asks t.polled t.written bytes i.rest h.asks q.none (polled_so t r i h q.ended) h.written q.still q.leaves;
-  cause = record { file = h.cause.file; poll = h.cause.poll; put = h.cause.put };
+  asks = h.asks;
 })
 
+-- a count that is below its type's end
+raised_is : (before count n : ℕ) → before ≡ count → count < limits.input → n ≤ 4096 → raised before n ≡ count + n
+raised_is before count n same low few = omega (arith, same)
+
+-- more input was polled
+held_took : (t : Told) (r : Stage) (i : Taken) (wait : Bool) (bytes : List ℕ) (n : ℕ) → IsTied None t r i → IsQuiet wait r i → length bytes ≡ n → n ≤ 4096
+    → IsHeld (record (with_poll t) { polled = more t.polled bytes; input_length = raised t.input_length n; asks = with_ask wait t }) r (record { rest = i.rest ++ bytes; count = i.count + n; ended = i.ended })
+held_took t r i wait bytes n h q len few =
+    let u : Told = record (with_poll t) { polled = more t.polled bytes; input_length = raised t.input_length n; asks = with_ask wait t } in
+    record {
+      file = opened_as t u r.opening r.opening refl h.held.file refl refl refl refl refl refl;
+      input = told_more t.polled bytes (λ b. Gives i.ended b (did r.journal) i.rest) (λ b. Gives i.ended b (did r.journal) (i.rest ++ bytes)) (λ b g. gives_more i.ended b bytes (did r.journal) i.rest q.ended g) h.held.input;
+      polled = told_more t.polled bytes (λ b. length b ≡ i.count) (λ b. length b ≡ i.count + n) (λ b e. omega (arith, length-append b bytes, len, e)) h.held.polled;
+      count = raised_is t.input_length i.count n h.held.count h.cause.1.below.input few;
+      ended = h.held.ended;
+      asks = told_took r wait t.asks t.polled t.written bytes i.rest h.held.asks q.none (polled_so t r i h.held q.ended) h.written q.still q.leaves;
+    }
+
+pub tied_took : (s : Option Status) (t u : Told) (r : Stage) (i j : Taken) (wait : Bool) (bytes : List ℕ) (n : ℕ) → IsTied None t r i → IsQuiet wait r i → length bytes ≡ n → n ≤ 4096
+    → u ≡ record (with_poll t) { polled = more t.polled bytes; input_length = raised t.input_length n; asks = with_ask wait t } → j ≡ record { rest = i.rest ++ bytes; count = i.count + n; ended = i.ended } → OverBy s r j.count → IsTied s u r j
+tied_took s t u r i j wait bytes n h q len few is eq over =
+    let k : Taken = record { rest = i.rest ++ bytes; count = i.count + n; ended = i.ended } in
+    let o : OverBy s r k.count = subst (λ (x : Taken). OverBy s r x.count) eq over in
+    let c = h.cause.0 in
+    rw (is, eq) (tied_over s (record (with_poll t) { polled = more t.polled bytes; input_length = raised t.input_length n; asks = with_ask wait t }) r k o (held_took t r i wait bytes n h q len few) (record { file = c.file; poll = c.poll; put = c.put }) h.written)
+
 -- the input ended
-pub tied_end : (t u : Told) (r : Stage) (i j : Taken) (wait : Bool) → IsTied None t r i → IsQuiet wait r i → u ≡ record t { poll_ended = true; asks = with_ask wait t } → j ≡ record i { ended = true } → IsTied None u r j
-tied_end t u r i j wait h q is eq = rw (is, eq) (record {
-  file = record { name = h.file.name; asked = h.file.asked; named = h.file.named; whole = h.file.whole; faults = h.file.faults; image = h.file.image };
-  input = told_same t.polled (λ b. Gives i.ended b (did r.journal) i.rest) (λ b. Gives true b (did r.journal) i.rest) (λ b g. gives_end i.ended b (did r.journal) i.rest g) h.input;
-  count = h.count;
-  written = h.written;
-  ended = refl;
-  asks = told_end r wait t.asks t.polled t.written i.rest h.asks q.none (polled_so t r i h q.ended) h.written q.still q.leaves;
-  cause = record { file = h.cause.file; poll = h.cause.poll; put = h.cause.put };
-})
+pub tied_end : (t u : Told) (r : Stage) (i j : Taken) (wait : Bool) → IsTied None t r i → IsQuiet wait r i → u ≡ record (with_poll t) { poll_ended = true; asks = with_ask wait t } → j ≡ record i { ended = true } → IsTied None u r j
+tied_end t u r i j wait h q is eq =
+    let c = h.cause.0 in
+    rw (is, eq) (record {
+      held = record {
+        file = opened_as t (record (with_poll t) { poll_ended = true; asks = with_ask wait t }) r.opening r.opening refl h.held.file refl refl refl refl refl refl;
+        input = told_same t.polled (λ b. Gives i.ended b (did r.journal) i.rest) (λ b. Gives true b (did r.journal) i.rest) (λ b g. gives_end i.ended b (did r.journal) i.rest g) h.held.input;
+        polled = h.held.polled;
+        count = h.held.count;
+        ended = refl;
+        asks = told_end r wait t.asks t.polled t.written i.rest h.held.asks q.none (polled_so t r i h.held q.ended) h.written q.still q.leaves;
+      };
+      written = h.written;
+      cause = (record { file = c.file; poll = c.poll; put = c.put }, h.cause.1);
+    })
+
+-- nothing came
+pub tied_nothing : (t u : Told) (r : Stage) (i : Taken) → IsTied None t r i → u ≡ with_poll t → IsTied None u r i
+tied_nothing t u r i h is =
+    let c = h.cause.0 in
+    let held = held_polled t (with_poll t) r i h.held refl in
+    rw is (record { held = held; written = h.written; cause = (record { file = c.file; poll = c.poll; put = c.put }, h.cause.1) })
+
+-- a poll failed
+pub tied_unpolled : (t u : Told) (r : Stage) (i : Taken) (faults : ℕ) → IsTied None t r i → Rose t.poll_faults faults → u ≡ record (with_poll t) { poll_faults = faults } → IsTied (Some status.ReadFault) u r i
+tied_unpolled t u r i faults h rose is =
+    let f = opened_as t (record (with_poll t) { poll_faults = faults }) r.opening r.opening refl h.held.file refl refl refl refl refl refl in
+    let c = h.cause.0.poll in
+    let above : 0 < faults = omega (arith, rose) in
+    rw is (record { held = record { file = f; input = h.held.input; polled = h.held.polled; count = h.held.count; ended = h.held.ended; asks = h.held.asks }; written = h.written; cause = above })
 
 -- a line was done
 gives_line : (ended : Bool) (bytes : List ℕ) (done : List (List ℕ)) (rest line : List ℕ) (next : ℕ) → Gives ended bytes done rest → IsNext ended rest line next → Gives ended bytes (done ++ line ∷ []) (drop next rest)
@@ -110,94 +173,88 @@ unsaid : (o : Option (List ℕ)) (before after text : List ℕ) → after ≡ be
 unsaid None before after text said h = tt
 unsaid (Some w) before after text said h = (text, ap (λ t. t ++ text) h ∙ sym said)
 
--- what was opened stays so, where the words and the file are as they were
-opened_as : (t u : Told) (o p : Opening) → p ≡ o → Opened t o → u.words ≡ t.words → u.file_name ≡ t.file_name → u.file_taken ≡ t.file_taken → u.file_ended ≡ t.file_ended → u.file_faults ≡ t.file_faults → Opened u p
-opened_as t u o p same h words name taken ended faults =
-    let P : Opening → Type 0 = λ q. Opened u q in
-    subst P (sym same) (record {
-      name = h.name;
-      asked = ap served_words words ∙ h.asked;
-      named = name ∙ h.named;
-      whole = rw (ended, taken) h.whole;
-      faults = faults ∙ h.faults;
-      image = rw taken h.image;
-    })
+-- the input as a line leaves it
+line_input : (t : Told) (r s : Stage) (i : Taken) (next : ℕ) → IsHeld t r i → DoesLine i.ended i.rest next r s → IfSome t.polled (λ b. Gives i.ended b (did s.journal) (drop next i.rest))
+line_input t r s i next h does =
+    told_same t.polled (λ b. Gives i.ended b (did r.journal) i.rest) (λ b. Gives i.ended b (did s.journal) (drop next i.rest)) (λ bytes g. rw does.did (gives_line i.ended bytes (did r.journal) i.rest does.line next g does.is_next)) h.input
 
--- A put failed. What is known of the input is handed in.
-pub tied_unput : (t u : Told) (r s : Stage) (i j : Taken) → IsTied None t r i → s.opening ≡ r.opening → Says t u r s false → ToldInTime s.opening s.journal t.polled t.asks → j.ended ≡ i.ended → j.count ≡ i.count
-    → ((bytes : List ℕ) → Gives i.ended bytes (did r.journal) i.rest → Gives j.ended bytes (did s.journal) j.rest) → IsTied (Some status.WriteFault) u s j
-tied_unput t u r s i j h opened says asks same count step =
+turn_input : (t : Told) (r s : Stage) (i : Taken) → IsHeld t r i → Goes r s → IfSome t.polled (λ b. Gives i.ended b (did s.journal) i.rest)
+turn_input t r s i h goes = told_same t.polled (λ b. Gives i.ended b (did r.journal) i.rest) (λ b. Gives i.ended b (did s.journal) i.rest) (λ bytes g. rw goes.lines g) h.input
+
+-- What is tied after a step that put its lines, or a part of them. What is known of the input is handed in.
+held_put : (t u : Told) (r s : Stage) (i j : Taken) → IsHeld t r i → s.opening ≡ r.opening → u.words ≡ t.words → u.file_name ≡ t.file_name → u.file_taken ≡ t.file_taken → u.file_length ≡ t.file_length → u.file_ended ≡ t.file_ended → u.file_faults ≡ t.file_faults
+    → u.polled ≡ t.polled → u.input_length ≡ t.input_length → u.poll_ended ≡ t.poll_ended → u.asks ≡ t.asks → j.count ≡ i.count → j.ended ≡ i.ended
+    → IfSome t.polled (λ b. Gives j.ended b (did s.journal) j.rest) → ToldInTime s.opening s.journal t.polled t.asks → IsHeld u s j
+held_put t u r s i j h opened words name taken long fended faults polled length poll_ended asks count ended input times = record {
+  file = opened_as t u r.opening s.opening opened h.file words name taken long fended faults;
+  input = rw polled input;
+  polled = rw (polled, count) h.polled;
+  count = length ∙ (h.count ∙ sym count);
+  ended = poll_ended ∙ (h.ended ∙ sym ended);
+  asks = rw (polled, asks) times;
+}
+
+-- a put failed
+unput_by : (t u : Told) (r s : Stage) (i j : Taken) → IsTied None t r i → s.opening ≡ r.opening → Says t u r s false → j.count ≡ i.count → j.ended ≡ i.ended
+    → IfSome t.polled (λ b. Gives j.ended b (did s.journal) j.rest) → ToldInTime s.opening s.journal t.polled t.asks → IsTied (Some status.WriteFault) u s j
+unput_by t u r s i j h opened says count ended input times =
     let p = says.puts in
-    let rose : 0 < p.1 = let c = h.cause.put in omega (arith, p.2) in
+    let c = h.cause.0.put in
+    let rose : 0 < p.1 = omega (arith, p.2) in
     rw p.3 (record {
-      file = opened_as t (record t { written = more t.written (take p.0 says.text); put_faults = p.1 }) r.opening s.opening opened h.file refl refl refl refl refl;
-      input = told_same t.polled (λ b. Gives i.ended b (did r.journal) i.rest) (λ b. Gives j.ended b (did s.journal) j.rest) step h.input;
-      count = rw count h.count;
+      held = held_put t (record t { written = more t.written (take p.0 says.text); put_faults = p.1 }) r s i j h.held opened refl refl refl refl refl refl refl refl refl refl count ended input times;
       written = cut_by t.written (said_by r) (said_by s) says.text p.0 says.said h.written;
-      ended = h.ended ∙ sym same;
-      asks = asks;
       cause = rose;
     })
 
+-- there was no memory for the lines
+unsaid_by : (t u : Told) (r s : Stage) (i j : Taken) → IsTied None t r i → s.opening ≡ r.opening → Keeps t u r s → j.count ≡ i.count → j.ended ≡ i.ended
+    → IfSome t.polled (λ b. Gives j.ended b (did s.journal) j.rest) → ToldInTime s.opening s.journal t.polled t.asks → IsTied (Some status.NoMemory) u s j
+unsaid_by t u r s i j h opened keeps count ended input times =
+    rw keeps.told (record {
+      held = held_put t t r s i j h.held opened refl refl refl refl refl refl refl refl refl refl count ended input times;
+      written = unsaid t.written (said_by r) (said_by s) keeps.text keeps.said h.written;
+      cause = tt;
+    })
+
+-- the lines were put
+put_of : (o : Option Status) (t u : Told) (r s : Stage) (i j : Taken) → IsTied None t r i → s.opening ≡ r.opening → Says t u r s true → j.count ≡ i.count → j.ended ≡ i.ended
+    → IfSome t.polled (λ b. Gives j.ended b (did s.journal) j.rest) → ToldInTime s.opening s.journal t.polled t.asks → OverBy o s j.count → IsTied o u s j
+put_of o t u r s i j h opened says count ended input times over =
+    let c = h.cause.0 in
+    let v : Told = record t { written = more t.written says.text } in
+    rw says.puts (tied_over o v s j over
+        (held_put t v r s i j h.held opened refl refl refl refl refl refl refl refl refl refl count ended input times)
+        (record { file = c.file; poll = c.poll; put = c.put })
+        (put_by t.written (said_by r) (said_by s) says.text says.said h.written))
+
 pub line_unput : (t u : Told) (r s : Stage) (i : Taken) (next : ℕ) → IsTied None t r i → s.opening ≡ r.opening → Says t u r s false → DoesLine i.ended i.rest next r s → IsTied (Some status.WriteFault) u s (record i { rest = drop next i.rest })
 line_unput t u r s i next h opened says does =
-    tied_unput t u r s i (record i { rest = drop next i.rest }) h opened says (told_line r s does.line t.polled t.asks opened does.journal h.asks) refl refl
-    (λ bytes g. rw does.did (gives_line i.ended bytes (did r.journal) i.rest does.line next g does.is_next))
+    unput_by t u r s i (record i { rest = drop next i.rest }) h opened says refl refl (line_input t r s i next h.held does) (told_line r s does.line t.polled t.asks opened does.journal h.held.asks)
 
 -- A line was done, and there was no memory for its reply.
 pub line_unsaid : (t u : Told) (r s : Stage) (i : Taken) (next : ℕ) → IsTied None t r i → s.opening ≡ r.opening → Keeps t u r s → DoesLine i.ended i.rest next r s → IsTied (Some status.NoMemory) u s (record i { rest = drop next i.rest })
 line_unsaid t u r s i next h opened keeps does =
-    rw keeps.told (record {
-      file = opened_as t t r.opening s.opening opened h.file refl refl refl refl refl;
-      input = told_same t.polled (λ b. Gives i.ended b (did r.journal) i.rest) (λ b. Gives i.ended b (did s.journal) (drop next i.rest)) (λ bytes g. rw does.did (gives_line i.ended bytes (did r.journal) i.rest does.line next g does.is_next)) h.input;
-      count = h.count;
-      written = unsaid t.written (said_by r) (said_by s) keeps.text keeps.said h.written;
-      ended = h.ended;
-      asks = told_line r s does.line t.polled t.asks opened does.journal h.asks;
-      cause = tt;
-    })
+    unsaid_by t u r s i (record i { rest = drop next i.rest }) h opened keeps refl refl (line_input t r s i next h.held does) (told_line r s does.line t.polled t.asks opened does.journal h.held.asks)
 
 -- A line was done, and its reply put.
-pub line_done : (t u : Told) (r s : Stage) (i : Taken) (next : ℕ) → IsTied None t r i → s.opening ≡ r.opening → Says t u r s true → DoesLine i.ended i.rest next r s → IsTied None u s (record i { rest = drop next i.rest })
-line_done t u r s i next h opened says does =
-    rw says.puts (record {
-      file = opened_as t (record t { written = more t.written says.text }) r.opening s.opening opened h.file refl refl refl refl refl;
-      input = told_same t.polled (λ b. Gives i.ended b (did r.journal) i.rest) (λ b. Gives i.ended b (did s.journal) (drop next i.rest)) (λ bytes g. rw does.did (gives_line i.ended bytes (did r.journal) i.rest does.line next g does.is_next)) h.input;
-      count = h.count;
-      written = put_by t.written (said_by r) (said_by s) says.text says.said h.written;
-      ended = h.ended;
-      asks = told_line r s does.line t.polled t.asks opened does.journal h.asks;
-      cause = record { file = h.cause.file; poll = h.cause.poll; put = h.cause.put };
-    })
+pub line_done : (o : Option Status) (t u : Told) (r s : Stage) (i : Taken) (next : ℕ) → IsTied None t r i → s.opening ≡ r.opening → Says t u r s true → DoesLine i.ended i.rest next r s → OverBy o s i.count → IsTied o u s (record i { rest = drop next i.rest })
+line_done o t u r s i next h opened says does over =
+    put_of o t u r s i (record i { rest = drop next i.rest }) h opened says refl refl (line_input t r s i next h.held does) (told_line r s does.line t.polled t.asks opened does.journal h.held.asks) over
 
 -- A hart moved, and its lines were put.
-pub turn_put : (t u : Told) (r s : Stage) (i : Taken) → IsTied None t r i → s.opening ≡ r.opening → Leaves r.opening r.journal r.state → Says t u r s true → Goes r s → IsTied None u s i
-turn_put t u r s i h opened leaves says goes =
-    rw says.puts (record {
-      file = opened_as t (record t { written = more t.written says.text }) r.opening s.opening opened h.file refl refl refl refl refl;
-      input = told_same t.polled (λ b. Gives i.ended b (did r.journal) i.rest) (λ b. Gives i.ended b (did s.journal) i.rest) (λ bytes g. rw goes.lines g) h.input;
-      count = h.count;
-      written = put_by t.written (said_by r) (said_by s) says.text says.said h.written;
-      ended = h.ended;
-      asks = told_goes r s t.polled t.asks opened leaves goes h.asks;
-      cause = record { file = h.cause.file; poll = h.cause.poll; put = h.cause.put };
-    })
+pub turn_put : (o : Option Status) (t u : Told) (r s : Stage) (i : Taken) → IsTied None t r i → s.opening ≡ r.opening → Leaves r.opening r.journal r.state → Says t u r s true → Goes r s → OverBy o s i.count → IsTied o u s i
+turn_put o t u r s i h opened leaves says goes over =
+    put_of o t u r s i i h opened says refl refl (turn_input t r s i h.held goes) (told_goes r s t.polled t.asks opened leaves goes h.held.asks) over
 
 -- A hart moved, and there was no memory for its lines.
 pub turn_unsaid : (t u : Told) (r s : Stage) (i : Taken) → IsTied None t r i → s.opening ≡ r.opening → Leaves r.opening r.journal r.state → Keeps t u r s → Goes r s → IsTied (Some status.NoMemory) u s i
 turn_unsaid t u r s i h opened leaves keeps goes =
-    rw keeps.told (record {
-      file = opened_as t t r.opening s.opening opened h.file refl refl refl refl refl;
-      input = told_same t.polled (λ b. Gives i.ended b (did r.journal) i.rest) (λ b. Gives i.ended b (did s.journal) i.rest) (λ bytes g. rw goes.lines g) h.input;
-      count = h.count;
-      written = unsaid t.written (said_by r) (said_by s) keeps.text keeps.said h.written;
-      ended = h.ended;
-      asks = told_goes r s t.polled t.asks opened leaves goes h.asks;
-      cause = tt;
-    })
+    unsaid_by t u r s i i h opened keeps refl refl (turn_input t r s i h.held goes) (told_goes r s t.polled t.asks opened leaves goes h.held.asks)
 
 pub turn_unput : (t u : Told) (r s : Stage) (i : Taken) → IsTied None t r i → s.opening ≡ r.opening → Leaves r.opening r.journal r.state → Says t u r s false → Goes r s → IsTied (Some status.WriteFault) u s i
-turn_unput t u r s i h opened leaves says goes = tied_unput t u r s i i h opened says (told_goes r s t.polled t.asks opened leaves goes h.asks) refl refl (λ bytes g. rw goes.lines g)
+turn_unput t u r s i h opened leaves says goes =
+    unput_by t u r s i i h opened says refl refl (turn_input t r s i h.held goes) (told_goes r s t.polled t.asks opened leaves goes h.held.asks)
 
 -- the slice from a place on
 pub slice_from : (items xs : List ℕ) (start : ℕ) → xs ≡ items → take (length xs - start) (drop start xs) ≡ drop start items
@@ -220,8 +277,8 @@ drop_front zero xs ys le = refl
 drop_front (suc n) [] ys le = absurd (omega arith)
 drop_front (suc n) (x ∷ xs) ys le = drop_front n xs ys (omega arith)
 
-pub counted_by : (s : Option Status) (r : Stage) (count n : ℕ) → count < MOST_INPUT → n ≤ 4096 → OverBy s r (count + n) → IsCounted s (count + n)
-counted_by None r count n low few o = o.2
+pub counted_by : (s : Option Status) (r : Stage) (count n : ℕ) → count < limits.input → n ≤ 4096 → OverBy s r (count + n) → IsCounted s (count + n)
+counted_by None r count n low few o = o.below.input
 counted_by (Some s) r count n low few o = omega arith
 
 -- the opening lines
@@ -244,25 +301,44 @@ some_put (Some bytes) text said n h e = (drop n text, ap (λ t. (t ++ take n tex
 said_none : (r : Stage) → r.journal ≡ [] → opening_text r.opening.settings.harts ≡ said_by r
 said_none r h = sym (ap (said r.opening) h ∙ said_nothing r.opening)
 
-pub tied_open : (b : Bool) (t u : Told) (r : Stage) → IsReady t r → PutsAll b (opening_text r.opening.settings.harts) t u → IsTied (cond b None (Some status.WriteFault)) u r (record { rest = []; count = 0; ended = false })
-tied_open true t u r h puts = rw puts (record {
-  file = record { name = h.opened.name; asked = h.opened.asked; named = h.opened.named; whole = h.opened.whole; faults = h.opened.faults; image = h.opened.image };
-  input = rw h.journal (gives_none t.polled h.polled);
-  count = count_none t.polled h.polled;
+first_left : (o : Opening) (s : State) → Leaves o [] s → first_state o ≡ s
+unfolding replay
+first_left o s l = ap (λ (p : Place). p.state) (same_some (first_place o) (record { prev = l.prev; state = s }) l.replays)
+
+-- an engine that has done nothing goes on
+pub begins : (r : Stage) → Leaves r.opening r.journal r.state → r.journal ≡ [] → AreSettings r.opening.settings → GoesOn r 0
+begins r leaves none ranges =
+    let empty : Leaves r.opening [] r.state = subst (λ (j : List Entry). Leaves r.opening j r.state) none leaves in
+    let is : first_state r.opening ≡ r.state = first_left r.opening r.state empty in
+    let some = ranges.budget.0 in
+    subst (λ (s : State). GoesOn (record r { state = s }) 0) is (record { below = record { budget = omega arith; history = omega arith; input = omega arith }; open_ = refl })
+
+pub tied_open : (b : Bool) (t u : Told) (r : Stage) → IsReady t r → GoesOn r 0 → PutsAll b (opening_text r.opening.settings.harts) t u → IsTied (cond b None (Some status.WriteFault)) u r (record { rest = []; count = 0; ended = false })
+tied_open true t u r h goes puts = rw puts (record {
+  held = record {
+    file = opened_as t (record t { written = more t.written (opening_text r.opening.settings.harts) }) r.opening r.opening refl h.opened refl refl refl refl refl refl;
+    input = rw h.journal (gives_none t.polled h.polled);
+    polled = count_none t.polled h.polled;
+    count = h.taken;
+    ended = h.running;
+    asks = told_none r.opening r.journal t.polled t.asks h.asks;
+  };
   written = all_put t.written (opening_text r.opening.settings.harts) (said_by r) h.written (said_none r h.journal);
-  ended = h.running;
-  asks = told_none r.opening r.journal t.polled t.asks h.asks;
-  cause = record { file = h.clean.file; poll = h.clean.poll; put = h.clean.put };
+  cause = (record { file = h.clean.file; poll = h.clean.poll; put = h.clean.put }, goes);
 })
-tied_open false t u r h puts =
-    let rose : 0 < puts.1 = let c = h.clean.put in omega (arith, puts.2) in
+tied_open false t u r h goes puts =
+    let c = h.clean.put in
+    let rose : 0 < puts.1 = omega (arith, puts.2) in
     rw puts.3 (record {
-      file = record { name = h.opened.name; asked = h.opened.asked; named = h.opened.named; whole = h.opened.whole; faults = h.opened.faults; image = h.opened.image };
-      input = rw h.journal (gives_none t.polled h.polled);
-      count = count_none t.polled h.polled;
+      held = record {
+        file = opened_as t (record t { written = more t.written (take puts.0 (opening_text r.opening.settings.harts)); put_faults = puts.1 }) r.opening r.opening refl h.opened refl refl refl refl refl refl;
+        input = rw h.journal (gives_none t.polled h.polled);
+        polled = count_none t.polled h.polled;
+        count = h.taken;
+        ended = h.running;
+        asks = told_none r.opening r.journal t.polled t.asks h.asks;
+      };
       written = some_put t.written (opening_text r.opening.settings.harts) (said_by r) puts.0 h.written (said_none r h.journal);
-      ended = h.running;
-      asks = told_none r.opening r.journal t.polled t.asks h.asks;
       cause = rose;
     })
 

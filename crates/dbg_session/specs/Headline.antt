@@ -13,13 +13,14 @@ use Rattle.mi_reports.specs.declared.refusals.TheConstants.{USAGE}
 use Rattle.dbg_model.specs.State.{State, any_runs}
 use Rattle.dbg_model.specs.Journals.{Leaves, did, noted}
 use Rattle.dbg_model.specs.Erase.{erase}
-use Rattle.dbg_model.specs.declared.limits.TheConstants.{HISTORY, MOST_INPUT}
+use Rattle.dbg_model.specs.Limits as limits
 use Rattle.dbg_engine.specs.declared.engine.Closed.{Closed}
 use Rattle.engine_facts.specs.Facts.{Planted, Retired, CopiedOver}
-use Rattle.dbg_session.specs.Words.{served_words, IsWhole}
+use Rattle.dbg_session.specs.Words.{served_words, IsWhole, most_file}
+use Rattle.dbg_session.specs.declared.file.Served.{Served}
 use Rattle.dbg_session.specs.Left.{core_registers, plain_registers}
 use Rattle.dbg_session.specs.InTime.{ToldInTime}
-use Rattle.dbg_session.specs.Ties.{Opened, Written, IsCut, Clean}
+use Rattle.dbg_session.specs.Ties.{Opened, Written, IsCut, IsEmpty, Clean}
 use Rattle.dbg_session.specs.declared.status.Status.{Status}
 use Rattle.dbg_session.specs.declared.status.Status.TheVariants as status
 
@@ -29,11 +30,17 @@ pub record IsDone (t : Told) (c : Closed) (s : State) : Type 0 where
   pub all : IfSome t.polled (λ bytes. lines bytes true ≡ did c.journal)
   pub still : any_runs s.harts ≡ false
 
--- why a session that was begun has its status
+-- no limit is reached: of instructions, of entries and of input
+pub record IsBelow (t : Told) (c : Closed) : Type 0 where
+  pub budget : length (erase c.journal) < c.opening.settings.budget
+  pub history : noted c.journal < limits.history
+  pub input : t.input_length < limits.input
+
+-- Why a session that was begun has its status. It is done by its input, or by a line that exits.
 abbrev pub Why : Status → Told → Closed → State → Type 0
-Why status.Done t c s = Clean t × IsDone t c s × (length (erase c.journal) < c.opening.settings.budget) × (noted c.journal < HISTORY) × IfSome t.polled (λ bytes. length bytes < MOST_INPUT)
+Why status.Done t c s = Clean t × IsBelow t c × (IsDone t c s ⊎ (s.exited ≡ true))
 Why status.Budget t c s = Clean t × (length (erase c.journal) ≡ c.opening.settings.budget)
-Why status.History t c s = Clean t × (length (erase c.journal) < c.opening.settings.budget) × ((HISTORY ≤ noted c.journal) ⊎ IfSome t.polled (λ bytes. MOST_INPUT ≤ length bytes))
+Why status.History t c s = Clean t × (length (erase c.journal) < c.opening.settings.budget) × ((limits.history ≤ noted c.journal) ⊎ (limits.input ≤ t.input_length))
 Why status.ReadFault t c s = 0 < t.poll_faults
 Why status.WriteFault t c s = 0 < t.put_faults
 Why status.NoMemory t c s = Unit {0}
@@ -43,6 +50,8 @@ Why (status.File f) t c s = ⊥
 pub record Headline (status : Status) (t : Told) (c : Closed) : Type 0 where
   -- the file
   pub opened : Opened t c.opening
+  -- the input that was polled has the number of bytes that is told
+  pub polled : IfSome t.polled (λ bytes. length bytes ≡ t.input_length)
   -- the lines that were done are a front of the input's lines
   pub lines : IfSome t.polled (λ bytes. (rest : List (List ℕ)) × (did c.journal ++ rest ≡ lines bytes t.poll_ended))
   -- each line was answered before further input was asked for, and input was waited for only while no hart ran
@@ -77,12 +86,47 @@ pub record Line (line : List ℕ) (t : Told) : Type 0 where
 abbrev pub Silent : Told → Type 0
 Silent t = IfSome t.written (λ written. written ≡ [])
 
--- why a run ended before a session was begun, and what it wrote
+-- no input was asked for
+pub record IsUnpolled (t : Told) : Type 0 where
+  pub polls : t.polls ≡ 0
+  pub taken : t.input_length ≡ 0
+  pub polled : IsEmpty t.polled
+  pub asks : IsEmpty t.asks
+  pub faults : t.poll_faults ≡ 0
+  pub ended : t.poll_ended ≡ false
+
+-- no file was read
+pub record IsUnread (t : Told) : Type 0 where
+  pub name : t.file_name ≡ None
+  pub taken : t.file_length ≡ 0
+  pub bytes : IsEmpty t.file_taken
+  pub faults : t.file_faults ≡ 0
+  pub ended : t.file_ended ≡ false
+
+-- the words are served, and the file that was read is the one that they name
+pub record IsRead (t : Told) : Type 0 where
+  pub served : Served
+  pub words : served_words t.words ≡ Some served
+  pub name : t.file_name ≡ Some served.name
+
+-- the file that was read, if one was, is the one that the words name
+abbrev pub IsReadIfAny : Told → Type 0
+IsReadIfAny t = (t.file_name ≡ None) ⊎ IsRead t
+
+-- a file that was read whole, without a failure, and has this fault
+pub record HasFault (t : Told) (f : ElfFault) : Type 0 where
+  pub read : IsRead t
+  pub whole : IsWhole t
+  pub faults : t.file_faults ≡ 0
+  pub length : IfSome t.file_taken (λ bytes. length bytes ≡ t.file_length)
+  pub fault : IfSome t.file_taken (λ bytes. reading.Refused bytes f)
+
+-- Why a run ended before a session was begun, and what it wrote. No input was asked for.
 abbrev pub Early : Status → Told → Type 0
-Early status.Words t = (served_words t.words ≡ None) × Line USAGE.now t
-Early (status.File f) t = IsSome (served_words t.words) × IsWhole t × (t.file_faults ≡ 0) × IfSome t.file_taken (λ bytes. reading.Refused bytes f) × Line (bad_file f) t
-Early status.ReadFault t = IsSome (served_words t.words) × (0 < t.file_faults) × Silent t
-Early status.NoMemory t = Silent t
+Early status.Words t = IsUnpolled t × IsUnread t × (served_words t.words ≡ None) × Line USAGE.now t
+Early (status.File f) t = IsUnpolled t × HasFault t f × Line (bad_file f) t
+Early status.ReadFault t = IsUnpolled t × IsRead t × (0 < t.file_faults) × Silent t
+Early status.NoMemory t = IsUnpolled t × IsReadIfAny t × (t.file_faults ≡ 0) × Silent t
 Early s t = ⊥
 
 abbrev pub Ends : Status → Told → Option Closed → Type 0
@@ -121,7 +165,6 @@ IsFile f s = ⊥
 pub record Refused (t : Told) (f : ElfFault) : Type 0 where
   pub words : IsSome (served_words t.words)
   pub whole : IsWhole t
-  pub clean : t.file_faults ≡ 0
   pub bytes : List ℕ
   pub taken : t.file_taken ≡ Some bytes
   pub fault : reading.Refused bytes f

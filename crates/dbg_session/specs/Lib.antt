@@ -10,3 +10,5 @@ pub mod Seen
 pub mod SessionInside
 pub mod Left
 pub mod Headline
+pub mod Numbers
+pub mod Round

@@ -1,17 +1,21 @@
 -- What the steps of a session do to the world and to what is said.
-use Rattle.std.specs.Prelude.{◌≡◌, ◌⊎◌, ◌<◌, ◌≤◌, ℕ, ◌+◌, ◌&&◌, Bool, true, false, List, [], ◌∷◌, ◌++◌, length}
-use Rattle.dbg_traits.specs.Told.{Told, more, with_ask}
+use Rattle.std.specs.Prelude.{◌≡◌, ◌⊎◌, ◌<◌, ◌≤◌, ℕ, ◌&&◌, not, Bool, true, false, List, [], ◌∷◌, ◌++◌, length, drop, slice_set, Option, Some, None}
+use Rattle.dbg_traits.specs.Told.{Told, more, raised, with_ask}
 use Rattle.dbg_traits.specs.Causes.{Rose}
 use Rattle.dbg_session.specs.Puts.{PutsAll}
 use Rattle.mi_reports.specs.Said.{said}
 use Rattle.mi_input.specs.Lines.{lines, IsNext}
-use Rattle.dbg_model.specs.declared.entry.Entry.TheVariants.{Did}
-use Rattle.dbg_model.specs.State.{any_runs}
-use Rattle.dbg_model.specs.Lawful.{may_go, may_do}
-use Rattle.dbg_model.specs.Journals.{did}
+use Rattle.dbg_model.specs.declared.entry.Entry.{Entry}
+use Rattle.dbg_model.specs.declared.entry.Entry.TheVariants.{Ran, Counted, Stopped, Left, Did}
+use Rattle.dbg_model.specs.State.{Hart, any_runs}
+use Rattle.dbg_model.specs.Reply.{is_wait}
+use Rattle.dbg_model.specs.Leaving.{lefts_from}
+use Rattle.dbg_model.specs.Lawful.{may_go}
+use Rattle.dbg_model.specs.Journals.{did, lengthened}
+use Rattle.engine_facts.specs.declared.mind.Mind.{Mind}
 use Rattle.dbg_session.specs.InTime.{through, until}
 use Rattle.dbg_session.specs.Taking.{first_waits}
-use Rattle.dbg_session.specs.Stage.{Stage, work_of, moves_at}
+use Rattle.dbg_session.specs.Stage.{Stage, moves_at}
 use Rattle.dbg_session.specs.declared.steps.Turn.{Turn}
 use Rattle.dbg_session.specs.declared.steps.Turn.TheVariants as turn
 use Rattle.dbg_session.specs.declared.steps.Done.{Done}
@@ -34,11 +38,36 @@ pub record Keeps (t u : Told) (r s : Stage) : Type 0 where
   pub said : said_by s ≡ said_by r ++ text
   pub told : u ≡ t
 
+-- the hart that an entry is of
+abbrev pub hart_of : Entry → Option ℕ
+hart_of (Ran h count) = Some h
+hart_of (Counted h) = Some h
+hart_of (Stopped h why) = Some h
+hart_of (Left h code) = Some h
+hart_of (Did line) = None
+
+-- A move of hart h without an entry, as a copy that it enters: only what is kept of h changes.
+abbrev pub IsSilent : ℕ → Stage → Stage → Type 0
+IsSilent h r s = (s.journal ≡ r.journal) × ((x : Mind) × (s.minds ≡ slice_set r.minds h x))
+
+-- an instruction of hart h, with the exits that it causes
+abbrev pub IsStep : ℕ → Stage → Stage → Type 0
+IsStep h r s = (left : List Hart) × (s.journal ≡ lengthened r.journal h ++ lefts_from 0 left)
+
+-- a stop or a count of hart h
+abbrev pub IsEntered : ℕ → Stage → Stage → Type 0
+IsEntered h r s = (e : Entry) × (hart_of e ≡ Some h) × (s.journal ≡ r.journal ++ e ∷ [])
+
+-- one move of hart h
+abbrev pub IsMove : ℕ → Stage → Stage → Type 0
+IsMove h r s = IsSilent h r s ⊎ (IsStep h r s ⊎ IsEntered h r s)
+
+-- what a turn of hart h does, in a session that goes on
 abbrev pub Turns : Turn → ℕ → Told → Told → Stage → Stage → Type 0
 Turns turn.Stood h t u r s = (u ≡ t) × (s ≡ r) × ((may_go r.opening r.state && moves_at r h) ≡ false)
-Turns turn.Moved h t u r s = Says t u r s true × (work_of s < work_of r)
-Turns turn.Unput h t u r s = Says t u r s false
-Turns turn.NoMemory h t u r s = Keeps t u r s
+Turns turn.Moved h t u r s = Says t u r s true × IsMove h r s
+Turns turn.Unput h t u r s = Says t u r s false × IsMove h r s
+Turns turn.NoMemory h t u r s = Keeps t u r s × ((s ≡ r) ⊎ IsMove h r s)
 
 -- No line came: the journal's cuts at its lines are as they were. It grew only where a hart ran.
 pub record Goes (r s : Stage) : Type 0 where
@@ -47,14 +76,14 @@ pub record Goes (r s : Stage) : Type 0 where
   pub until : (n : ℕ) → n < length (did r.journal) → until s.journal n ≡ until r.journal n
   pub ran : (s.journal ≡ r.journal) ⊎ (any_runs r.state.harts ≡ true)
 
--- whether the first of the lines may be done
-abbrev pub first_may : Stage → List (List ℕ) → Bool
-first_may r [] = false
-first_may r (line ∷ more) = may_do r.opening r.state line
+-- whether the first of the lines may be done: the command that waits may not while a hart runs
+abbrev pub may_take : Stage → List (List ℕ) → Bool
+may_take r [] = false
+may_take r (line ∷ more) = not (any_runs r.state.harts && is_wait line)
 
 -- whether a whole line stands in the rest, and may be done
 abbrev pub can_do : Stage → Bool → List ℕ → Bool
-can_do r ended rest = first_may r (lines rest ended)
+can_do r ended rest = may_take r (lines rest ended)
 
 -- a line of the rest was done
 pub record DoesLine (ended : Bool) (rest : List ℕ) (next : ℕ) (r s : Stage) : Type 0 where
@@ -62,22 +91,29 @@ pub record DoesLine (ended : Bool) (rest : List ℕ) (next : ℕ) (r s : Stage) 
   pub is_next : IsNext ended rest line next
   pub some : 0 < next
   pub within : next ≤ length rest
+  pub may : can_do r ended rest ≡ true
   pub journal : s.journal ≡ r.journal ++ Did line ∷ []
   pub did : did s.journal ≡ did r.journal ++ line ∷ []
 
+-- what the next line of the rest does, in a session that goes on
 abbrev pub Does : Done → Bool → List ℕ → Told → Told → Stage → Stage → Type 0
-Does done.Nothing ended rest t u r s = (u ≡ t) × (s ≡ r) × (can_do r ended rest ≡ false)
-Does done.Waits ended rest t u r s = (u ≡ t) × (s ≡ r) × (first_waits (lines rest ended) ≡ true) × (can_do r ended rest ≡ false)
-Does (done.Done next) ended rest t u r s = Says t u r s true × DoesLine ended rest next r s × (work_of s ≤ work_of r + 832)
+Does done.Nothing ended rest t u r s = (u ≡ t) × (s ≡ r) × (lines rest ended ≡ [])
+Does done.Waits ended rest t u r s = (u ≡ t) × (s ≡ r) × (first_waits (lines rest ended) ≡ true) × (any_runs r.state.harts ≡ true)
+Does (done.Done next) ended rest t u r s = Says t u r s true × DoesLine ended rest next r s
 Does (done.Unput next) ended rest t u r s = Says t u r s false × DoesLine ended rest next r s
 Does done.NoMemory ended rest t u r s = (u ≡ t) × (s ≡ r)
 Does (done.Unsaid next) ended rest t u r s = Keeps t u r s × DoesLine ended rest next r s
 
--- what a poll does to the world and the buffer
+-- a poll was made
+abbrev pub with_poll : Told → Told
+with_poll t = record t { polls = raised t.polls 1 }
+
+-- what a poll does to the world and the buffer; where there is no memory for a piece, none is made
 abbrev pub Inputs : Input → Bool → Told → Told → List ℕ → List ℕ → Type 0
 Inputs (input.Took n) wait t u old new =
-    (bytes : List ℕ) × (0 < n) × (length bytes ≡ n) × (n ≤ 4096) × (new ≡ old ++ bytes) × (u ≡ record t { polled = more t.polled bytes; asks = with_ask wait t })
-Inputs input.Nothing wait t u old new = (wait ≡ false) × (u ≡ t) × (new ≡ old)
-Inputs input.End wait t u old new = (u ≡ record t { poll_ended = true; asks = with_ask wait t }) × (new ≡ old)
-Inputs input.Failed wait t u old new = (faults : ℕ) × Rose t.poll_faults faults × (u ≡ record t { poll_faults = faults }) × (new ≡ old)
+    (bytes : List ℕ) × (0 < n) × (length bytes ≡ n) × (n ≤ 4096) × (new ≡ old ++ bytes)
+    × (u ≡ record (with_poll t) { polled = more t.polled bytes; input_length = raised t.input_length n; asks = with_ask wait t })
+Inputs input.Nothing wait t u old new = (wait ≡ false) × (u ≡ with_poll t) × (new ≡ old)
+Inputs input.End wait t u old new = (u ≡ record (with_poll t) { poll_ended = true; asks = with_ask wait t }) × (new ≡ old)
+Inputs input.Failed wait t u old new = (faults : ℕ) × Rose t.poll_faults faults × (u ≡ record (with_poll t) { poll_faults = faults }) × (new ≡ old)
 Inputs input.NoMemory wait t u old new = (u ≡ t) × (new ≡ old)

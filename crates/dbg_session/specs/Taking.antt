@@ -2,6 +2,8 @@
 use Rattle.std.specs.Prelude.{◌≡◌, ℕ, Bool, true, false, List, [], ◌∷◌, ◌++◌}
 use Rattle.mi_input.specs.Lines.{lines}
 use Rattle.dbg_model.specs.Reply.{is_wait}
+use Rattle.dbg_session.specs.declared.known.Known.{Known}
+use Rattle.dbg_session.specs.declared.known.Known.TheVariants as known
 
 -- What was polled gives these lines, and then those of the rest, however the input goes on.
 abbrev pub Gives : Bool → List ℕ → List (List ℕ) → List ℕ → Type 0
@@ -21,7 +23,8 @@ abbrev pub first_waits : List (List ℕ) → Bool
 first_waits [] = false
 first_waits (line ∷ more) = is_wait line
 
--- a session that waits has such a line
-abbrev pub WaitsFor : Bool → Bool → List ℕ → Type 0
-WaitsFor false ended rest = Unit {0}
-WaitsFor true ended rest = first_waits (lines rest ended) ≡ true
+-- what is known of the rest: that no whole line stands in it, or that its first line is the command that waits
+abbrev pub IsKnown : Known → Bool → List ℕ → Type 0
+IsKnown known.Open ended rest = Unit {0}
+IsKnown known.NoLine ended rest = lines rest ended ≡ []
+IsKnown known.Waits ended rest = first_waits (lines rest ended) ≡ true

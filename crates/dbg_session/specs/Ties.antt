@@ -13,7 +13,7 @@ use Rattle.dbg_session.specs.Taking.{Gives}
 use Rattle.dbg_session.specs.Steps.{said_by}
 use Rattle.dbg_session.specs.declared.status.Status.{Status}
 use Rattle.dbg_session.specs.declared.status.Status.TheVariants as status
-use Rattle.dbg_model.specs.declared.limits.TheConstants.{HISTORY, MOST_INPUT}
+use Rattle.dbg_model.specs.Limits as limits
 
 -- a session without its world
 abbrev pub IsCut : List ℕ → List ℕ → Type 0
@@ -37,19 +37,37 @@ pub record Taken : Type 0 where
   pub count : ℕ
   pub ended : Bool
 
+-- no limit is reached
+pub record IsBelow (r : Stage) (count : ℕ) : Type 0 where
+  pub budget : r.state.retired < r.opening.settings.budget
+  pub history : r.state.noted < limits.history
+  pub input : count < limits.input
+
+-- the session goes on: no limit is reached, and no line has ended it
+pub record GoesOn (r : Stage) (count : ℕ) : Type 0 where
+  pub below : IsBelow r count
+  pub open_ : r.state.exited ≡ false
+
 -- the input ended, each line of it was done, and no hart runs
 pub record AllDone (r : Stage) (i : Taken) : Type 0 where
   pub ended : i.ended ≡ true
   pub none : lines i.rest true ≡ []
-  pub below : (r.state.retired < r.opening.settings.budget) × (r.state.noted < HISTORY) × (i.count < MOST_INPUT)
   pub still : any_runs r.state.harts ≡ false
+
+-- why a session is over, where so much input was polled
+abbrev pub OverBy : Option Status → Stage → ℕ → Type 0
+OverBy None r count = GoesOn r count
+OverBy (Some status.Budget) r count = r.opening.settings.budget ≤ r.state.retired
+OverBy (Some status.History) r count = (r.state.retired < r.opening.settings.budget) × ((limits.history ≤ r.state.noted) ⊎ (limits.input ≤ count))
+OverBy (Some status.Done) r count = IsBelow r count × (r.state.exited ≡ true)
+OverBy (Some s) r count = ⊥
 
 -- why a session has its status
 abbrev pub Cause : Option Status → Told → Stage → Taken → Type 0
-Cause None t r i = Clean t
-Cause (Some status.Done) t r i = Clean t × AllDone r i
+Cause None t r i = Clean t × GoesOn r i.count
+Cause (Some status.Done) t r i = Clean t × IsBelow r i.count × (AllDone r i ⊎ (r.state.exited ≡ true))
 Cause (Some status.Budget) t r i = Clean t × (r.opening.settings.budget ≤ r.state.retired)
-Cause (Some status.History) t r i = Clean t × (r.state.retired < r.opening.settings.budget) × ((HISTORY ≤ r.state.noted) ⊎ (MOST_INPUT ≤ i.count))
+Cause (Some status.History) t r i = Clean t × (r.state.retired < r.opening.settings.budget) × ((limits.history ≤ r.state.noted) ⊎ (limits.input ≤ i.count))
 Cause (Some status.ReadFault) t r i = 0 < t.poll_faults
 Cause (Some status.WriteFault) t r i = 0 < t.put_faults
 Cause (Some status.NoMemory) t r i = Unit {0}
@@ -62,47 +80,47 @@ pub record Opened (t : Told) (o : Opening) : Type 0 where
   pub asked : served_words t.words ≡ Some (record { name = name; settings = o.settings })
   pub named : t.file_name ≡ Some name
   pub whole : IsWhole t
+  pub taken : IfSome t.file_taken (λ bytes. length bytes ≡ t.file_length)
   pub faults : t.file_faults ≡ 0
   pub image : IfSome t.file_taken (λ bytes. IsImage bytes o.image)
 
--- what the type of a session keeps
-pub record IsTied (s : Option Status) (t : Told) (r : Stage) (i : Taken) : Type 0 where
+-- what ties a session to its world, whatever its status
+pub record IsHeld (t : Told) (r : Stage) (i : Taken) : Type 0 where
   pub file : Opened t r.opening
   pub input : IfSome t.polled (λ bytes. Gives i.ended bytes (did r.journal) i.rest)
-  pub count : IfSome t.polled (λ bytes. length bytes ≡ i.count)
-  pub written : IfSome t.written (λ written. Written s written (said_by r))
+  pub polled : IfSome t.polled (λ bytes. length bytes ≡ i.count)
+  pub count : t.input_length ≡ i.count
   pub ended : t.poll_ended ≡ i.ended
   pub asks : ToldInTime r.opening r.journal t.polled t.asks
+
+-- what the type of a session keeps
+pub record IsTied (s : Option Status) (t : Told) (r : Stage) (i : Taken) : Type 0 where
+  pub held : IsHeld t r i
+  pub written : IfSome t.written (λ written. Written s written (said_by r))
   pub cause : Cause s t r i
 
 -- how much a session can still do
 abbrev pub session_work : Option Status → Stage → Taken → ℕ
 session_work (Some s) r i = 0
-session_work None r i = 1 + work_of r + 833 * length i.rest + 834 * (MOST_INPUT - i.count) + cond i.ended 0 1
-
--- why a session is over
-abbrev pub OverBy : Option Status → Stage → ℕ → Type 0
-OverBy None r count = (r.state.retired < r.opening.settings.budget) × (r.state.noted < HISTORY) × (count < MOST_INPUT)
-OverBy (Some status.Budget) r count = r.opening.settings.budget ≤ r.state.retired
-OverBy (Some status.History) r count = (r.state.retired < r.opening.settings.budget) × ((HISTORY ≤ r.state.noted) ⊎ (MOST_INPUT ≤ count))
-OverBy (Some s) r count = ⊥
+session_work None r i = 1 + work_of r + 833 * length i.rest + 834 * (limits.input - i.count) + cond i.ended 0 1
 
 -- A poll takes at most 4096 bytes, and none after the most.
 abbrev pub IsCounted : Option Status → ℕ → Type 0
-IsCounted None count = count < MOST_INPUT
-IsCounted (Some s) count = count < MOST_INPUT + 4097
+IsCounted None count = count < limits.input
+IsCounted (Some s) count = count < limits.input + 4097
 
 -- a list that is told is empty
-abbrev pub IsEmpty : Option (List ℕ) → Type 0
+abbrev pub IsEmpty : {A : Type 0} → Option (List A) → Type 0
 IsEmpty None = Unit {0}
-IsEmpty (Some bytes) = bytes ≡ []
+IsEmpty (Some xs) = xs ≡ []
 
 -- a session may begin
 pub record IsReady (t : Told) (r : Stage) : Type 0 where
   pub opened : Opened t r.opening
   pub clean : Clean t
   pub polled : IsEmpty t.polled
+  pub taken : t.input_length ≡ 0
   pub written : IsEmpty t.written
-  pub asks : (t.asks ≡ None) ⊎ (t.asks ≡ Some [])
+  pub asks : IsEmpty t.asks
   pub running : t.poll_ended ≡ false
   pub journal : r.journal ≡ []

@@ -3,7 +3,7 @@ ghost use Rattle.std.specs.Prelude.{◌≡◌, ◌<◌, ◌≤◌, ℕ, IfOk, If
 ghost use Rattle.dbg_traits.specs.Names.{IsNamed};
 ghost use Rattle.dbg_traits.specs.Settings.{AreSettings};
 ghost use Rattle.dbg_words.specs.Request.{asked};
-ghost use Rattle.dbg_session.specs.Words.{served, served_words, is_served, ReadsAll, ReadsSome};
+ghost use Rattle.dbg_session.specs.Words.{served, served_words, ReadsAll, ReadsSome};
 
 use dbg_traits::{ArgText, FileRead, NoMemory, Settings, World};
 use dbg_words::{Request, read_words};
@@ -26,13 +26,6 @@ pub struct Served {
     pub settings: Settings,
 }
 
-// There are no workers and slices yet.
-fn is_served(settings: Settings) -> bool
-    ensures { result ≡ is_served settings }
-{
-    settings.workers == 0 && settings.slice == 256
-}
-
 fn serve(alloc: Global, request: Request<'_>) -> Result<Option<Served>, NoMemory>
     ensures served { IfOk result (λ r. r ≡ served (Some (asked request.entry))) }
 {
@@ -42,7 +35,7 @@ fn serve(alloc: Global, request: Request<'_>) -> Result<Option<Served>, NoMemory
             settings,
             has_log,
         } => {
-            if !is_served(settings) || has_log {
+            if has_log {
                 return Ok(None);
             }
             let name = ArgText::of(String::from_str(alloc, file)?);
@@ -74,6 +67,7 @@ pub fn read_all<W: World>(
     requires known { IsNamed (W.told world.old).words name.now }
     requires fresh { (W.told world.old).file_name ≡ None }
     requires unread { (W.told world.old).file_ended ≡ false }
+    requires untaken { (W.told world.old).file_length ≡ 0 }
     ensures { MatchResult result (λ v. ReadsAll v.items name.now (W.told world.old) (W.told world.new)) (λ e. ReadsSome e name.now (W.told world.old) (W.told world.new)) }
 {
     let mut bytes = Vec::new(alloc);
@@ -82,7 +76,8 @@ pub fn read_all<W: World>(
         if bytes.reserve(4096).is_err() {
             return Err(FileError::NoMemory);
         }
-        match world.read_file(name, &mut piece) {
+        let room = (MOST_FILE - bytes.len()).min(4096);
+        match world.read_file(name, &mut piece[..room]) {
             FileRead::Took(n) => {
                 let _ = bytes.extend_from_slice(&piece[..n]);
             }

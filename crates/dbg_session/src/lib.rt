@@ -2,6 +2,7 @@
 #![tactic(auto)]
 
 mod file;
+mod known;
 mod puts;
 mod run;
 mod session;

@@ -1,12 +1,16 @@
 // A session, step by step.
-ghost use Rattle.std.specs.Prelude.{◌≡◌, ◌≢◌, ◌<◌, ◌≤◌, ◌↔◌, length, None, Some, if◌then◌else◌, IsTrue, IsSomeAnd};
+ghost use Rattle.std.specs.Prelude.{◌≡◌, ◌≢◌, ◌<◌, ◌≤◌, ◌↔◌, [], ℕ, length, false, None, Some, if◌then◌else◌, IsTrue, IfSome, IsSomeAnd};
 ghost use Rattle.std.specs.Bool.{OnFalse};
-ghost use Rattle.dbg_session.specs.Ties.{IsTied, OverBy};
-ghost use Rattle.dbg_session.specs.Seen.{GotOn, work, no_input, no_line, no_move, no_turn, is_open, Picks};
+ghost use Rattle.dbg_session.specs.Ties.{IsTied, OverBy, session_work};
+ghost use Rattle.dbg_session.specs.Seen.{GotOn, HasTurned, work, no_input, no_line, no_move, is_open, picked};
+ghost use Rattle.dbg_session.specs.Taking.{has_line};
+ghost use Rattle.dbg_session.specs.Round.{Takes, Lines, Moves, MovesOne, TurnsOne, Settles, Round, Rounds, moment};
+ghost use Rattle.dbg_engine.specs.Steps.{next_running};
 ghost use Rattle.dbg_session.specs.Left.{IsLeft};
-ghost use Rattle.dbg_session.specs.Stage.{stage_of};
+ghost use Rattle.dbg_session.specs.Stage.{stage_of, moves_at};
 
 use crate::Status;
+use crate::known::Known;
 use crate::puts::put_all;
 use crate::steps::{Done, Input, Turn, input_once, line_once, turn_once};
 use dbg_engine::{Closed, End, Engine};
@@ -25,8 +29,8 @@ pub struct Session<W: World> {
     start: usize,
     count: u64,
     ended: bool,
-    // Whether the next line is known to wait until no hart runs.
-    waits: bool,
+    // What is known of the rest of the input, which begins at `start`.
+    known: Known,
     // The hart after the one that was picked last.
     next: usize,
     status: Option<Status>,
@@ -36,7 +40,7 @@ impl<W: World> Model for Session<W> {
     ghost use Rattle.std.specs.Prelude.{◌≤◌, ◌<◌, ◌^◌, length, drop, vec_len};
     ghost use Rattle.dbg_session.specs.Seen.{Seen};
     ghost use Rattle.dbg_session.specs.Ties.{IsTied, IsCounted};
-    ghost use Rattle.dbg_session.specs.Taking.{WaitsFor};
+    ghost use Rattle.dbg_session.specs.Taking.{IsKnown};
     ghost use Rattle.dbg_session.specs.Stage.{stage_of};
     ghost use Rattle.std.specs.Coded.{codes};
 
@@ -52,7 +56,7 @@ impl<W: World> Model for Session<W> {
 
     ghost view = { seen_of };
 
-    ghost invariant = { λ s. IsTied s.status (W.told s.world) (stage_of s.engine) (taken_of s) × (s.start ≤ vec_len s.buffer) × IsCounted s.status s.count × WaitsFor s.waits s.ended (drop s.start s.buffer.items) };
+    ghost invariant = { λ s. IsTied s.status (W.told s.world) (stage_of s.engine) (taken_of s) × (s.start ≤ vec_len s.buffer) × IsCounted s.status s.count × IsKnown s.known s.ended (drop s.start s.buffer.items) };
 }
 
 // The status after a put.
@@ -69,11 +73,9 @@ fn over(engine: &Engine, count: u64) -> Option<Status>
     match engine.over() {
         Some(End::Budget) => Some(Status::Budget),
         Some(End::History) => Some(Status::History),
-        None => if count >= MOST_INPUT {
-            Some(Status::History)
-        } else {
-            None
-        },
+        _ if count >= MOST_INPUT => Some(Status::History),
+        Some(End::Exit) => Some(Status::Done),
+        None => None,
     }
 }
 
@@ -81,11 +83,18 @@ impl<W: World> Session<W> {
     ghost use Rattle.dbg_session.specs.Ties.{IsReady};
     ghost use Rattle.dbg_session.specs.Stage.{stage_of};
     ghost use Rattle.mi_reports.specs.Text.{opening_text};
+    ghost use Rattle.dbg_session.specs.Puts.{PutsAll};
+    ghost use Rattle.std.specs.Prelude.{is_none};
 
     /// A session over an engine, with its opening lines.
     pub fn open(alloc: Global, world: W, engine: Engine, opening: &[u8]) -> Session<W>
         requires ready { IsReady (W.told world) (stage_of engine) }
         requires text { opening.now ≡ opening_text engine.opening.settings.harts }
+        ensures run { result.run ≡ stage_of engine }
+        ensures input { result.input ≡ record { rest = []; count = 0; ended = false } }
+        ensures next { result.next ≡ 0 }
+        ensures puts { PutsAll (is_none result.status) opening.now (W.told world) (W.told result.world) }
+        ensures status { result.status ≡ (if is_none result.status then None else Some Status.WriteFault) }
     {
         let mut world = world;
         let status = status_of(put_all(&mut world, opening));
@@ -97,34 +106,44 @@ impl<W: World> Session<W> {
             start: 0,
             count: 0,
             ended: false,
-            waits: false,
+            known: Known::Open,
             next: 0,
             status,
         }
     }
 
-    /// Takes input, where no whole line is kept and the input has not ended. True where it got on.
+    // Whether a whole line stands in the rest of the input.
+    fn has_line(&self) -> bool
+        ensures { result ≡ has_line self.now.input.ended self.now.input.rest }
+    {
+        match self.known {
+            Known::Open => next_line(&self.buffer[self.start..], self.ended).is_some(),
+            Known::NoLine => false,
+            Known::Waits => true,
+        }
+    }
+
+    // Takes input, where no whole line is kept and the input has not ended. True where it got on.
     fn take_input(&mut self) -> bool
         requires { self.old.status ≡ None }
-        ensures { GotOn result self.old self.new (no_input self.old) }
+        ensures takes { Takes (moment W.told self.old) (moment W.told self.new) }
+        ensures less { GotOn result self.old self.new (no_input self.old) }
     {
         self.engine.keep();
-        if self.ended {
+        if self.ended || self.has_line() {
             return false;
         }
-        if next_line(&self.buffer[self.start..], false).is_some() {
-            return false;
-        }
-        self.waits = false;
         let wait = !self.engine.any_running();
         match input_once(&mut self.world, &mut self.buffer, wait) {
             Input::Took(n) => {
+                self.known = Known::Open;
                 self.count += n as u64;
                 self.status = over(&self.engine, self.count);
                 true
             }
             Input::Nothing => false,
             Input::End => {
+                self.known = Known::Open;
                 self.ended = true;
                 true
             }
@@ -139,29 +158,36 @@ impl<W: World> Session<W> {
         }
     }
 
-    /// Does the next line that is kept. True where it got on.
+    // Does the next line that is kept, unless it waits while a hart runs. True where it got on.
     fn do_line(&mut self) -> bool
         requires { self.old.status ≡ None }
-        ensures { GotOn result self.old self.new (no_line self.old) }
+        ensures lines { Lines (moment W.told self.old) (moment W.told self.new) }
+        ensures less { GotOn result self.old self.new (no_line self.old) }
     {
-        if self.waits && self.engine.any_running() {
+        self.engine.keep();
+        if self.known == Known::NoLine || self.known == Known::Waits && self.engine.any_running() {
             return false;
         }
-        self.waits = false;
-        match line_once(
+        let done = line_once(
             self.alloc,
             &mut self.world,
             &mut self.engine,
             &self.buffer[self.start..],
             self.ended,
-        ) {
-            Done::Nothing => false,
+        );
+        self.known = Known::Open;
+        match done {
+            Done::Nothing => {
+                self.known = Known::NoLine;
+                false
+            }
             Done::Waits => {
-                self.waits = true;
+                self.known = Known::Waits;
                 false
             }
             Done::Done(next) => {
                 self.start += next;
+                self.status = over(&self.engine, self.count);
                 true
             }
             Done::Unput(next) => {
@@ -181,18 +207,23 @@ impl<W: World> Session<W> {
         }
     }
 
-    /// Turns a hart once. True where it got on.
+    // Turns a hart once. True where it moved, or a status was set.
     fn move_hart(&mut self, hart: u32) -> bool
-        requires { self.old.status ≡ None }
-        ensures { GotOn result self.old self.new (no_turn hart self.old) }
+        requires going { self.old.status ≡ None }
+        requires known { hart < length self.old.run.minds }
+        ensures next { self.new.next ≡ self.old.next }
+        ensures same { length self.new.run.minds ≡ length self.old.run.minds }
+        ensures moves { IsTrue result → TurnsOne hart (moment W.told self.old) (moment W.told self.new) }
+        ensures stands { OnFalse result ((self.new ≡ self.old) × (moves_at self.old.run hart ≡ false)) }
+        ensures less { IsTrue result → session_work self.new.status self.new.run self.new.input < session_work self.old.status self.old.run self.old.input }
     {
         self.engine.keep();
-        if hart as usize >= self.engine.harts() {
-            return false;
-        }
         match turn_once(self.alloc, &mut self.world, &mut self.engine, hart) {
             Turn::Stood => false,
-            Turn::Moved => true,
+            Turn::Moved => {
+                self.status = over(&self.engine, self.count);
+                true
+            }
             Turn::Unput => {
                 self.status = Some(Status::WriteFault);
                 true
@@ -204,93 +235,105 @@ impl<W: World> Session<W> {
         }
     }
 
-    // The next hart that can be moved: the one for which a patch is lifted; else, where all slots are out, one that has
-    // a slot; else the next that runs.
+    // The next hart that runs, in rising order round the harts from the one after that picked last.
     fn pick(&mut self) -> Option<u32>
-        ensures same { self.new ≡ self.old }
-        ensures picks { Picks result self.old.run }
+        ensures picks { result ≡ next_running self.old.run.minds self.old.next }
+        ensures next { self.new ≡ record self.old { next = picked result self.old.next } }
+        ensures known { IfSome result (λ h. h < length self.old.run.minds) }
     {
         self.engine.keep();
-        match self.engine.next_mover(self.next) {
-            None => None,
-            Some(hart) => {
-                self.next = hart as usize + 1;
-                Some(hart)
+        let picked = self.engine.next_running(self.next);
+        if let Some(hart) = picked {
+            self.next = hart as usize + 1;
+        }
+        picked
+    }
+
+    // Turns a hart while it moves, at most 64 times.
+    fn turn_hart(&mut self, hart: u32)
+        requires going { self.old.status ≡ None }
+        requires known { hart < length self.old.run.minds }
+        ensures moves { MovesOne hart (moment W.told self.old) (moment W.told self.new) }
+        ensures less { HasTurned hart self.old self.new }
+    {
+        for _ in 0..64 {
+            if self.status.is_some() || !self.move_hart(hart) {
+                return;
             }
         }
     }
 
-    /// Picks the next hart that can be moved, and turns it while it moves, at most 64 times. True where it got on.
+    // Picks the next hart that runs, and turns it. True where one runs.
     fn move_on(&mut self) -> bool
         requires { self.old.status ≡ None }
-        ensures { GotOn result self.old self.new (no_move self.old) }
+        ensures moves { Moves (moment W.told self.old) (moment W.told self.new) }
+        ensures less { GotOn result self.old self.new (no_move self.old) }
     {
-        let Some(hart) = self.pick() else {
-            return false;
-        };
-        if !self.move_hart(hart) {
-            return false;
-        }
-        for _ in 1..64 {
-            if self.status.is_some() || !self.move_hart(hart) {
-                return true;
+        match self.pick() {
+            None => false,
+            Some(hart) => {
+                self.turn_hart(hart);
+                true
             }
         }
-        true
     }
 
-    /// Sets the status where the session is over.
+    // The session is done where the input ended, no line is left and no hart runs. True where it is.
     fn settle(&mut self) -> bool
         requires { self.old.status ≡ None }
-        ensures { GotOn result self.old self.new (is_open self.old) }
+        ensures settles { Settles (moment W.told self.old) (moment W.told self.new) }
+        ensures less { GotOn result self.old self.new (is_open self.old) }
     {
-        if let Some(status) = over(&self.engine, self.count) {
-            self.status = Some(status);
-            return true;
-        }
-        if !self.ended {
-            return false;
-        }
-        if self.engine.any_running() {
-            return false;
-        }
-        if next_line(&self.buffer[self.start..], true).is_some() {
+        if !self.ended || self.engine.any_running() || self.has_line() {
             return false;
         }
         self.status = Some(Status::Done);
         true
     }
 
-    /// One duty. True where the status was set when it began.
+    // One round: input is taken, a line is done, a hart is moved.
+    fn go_round(&mut self)
+        requires { self.old.status ≡ None }
+        ensures round { Round (moment W.told self.old) (moment W.told self.new) }
+        ensures less { work self.new < work self.old }
+    {
+        self.take_input();
+        if self.status.is_some() {
+            return;
+        }
+        self.do_line();
+        if self.status.is_some() {
+            return;
+        }
+        self.move_on();
+        if self.status.is_some() {
+            return;
+        }
+        self.settle();
+    }
+
+    /// One duty: a round, where the status is not set. True where it was set when the duty began.
     pub fn duty(&mut self) -> bool
         ensures over { IsTrue result ↔ (self.old.status ≢ None) }
         ensures stays { IsTrue result → self.new ≡ self.old }
-        ensures again { OnFalse result (work self.new < work self.old) }
+        ensures round { OnFalse result (Round (moment W.told self.old) (moment W.told self.new)) }
     {
         if self.status.is_some() {
             return true;
         }
-        self.take_input();
-        if self.status.is_some() {
-            return false;
-        }
-        self.do_line();
-        if self.status.is_some() {
-            return false;
-        }
-        self.move_on();
-        if self.status.is_some() {
-            return false;
-        }
-        self.settle();
+        self.go_round();
         false
     }
 
-    /// Does duties until the session is over.
+    /// Does rounds until the status is set.
     pub fn run_serial(&mut self)
-        ensures { self.new.status ≢ None }
+        ensures over { self.new.status ≢ None }
+        ensures opening { self.new.run.opening ≡ self.old.run.opening }
+        ensures rounds { (n : ℕ) × Rounds n (moment W.told self.old) (moment W.told self.new) }
     {
-        while !self.duty() {}
+        while self.status.is_none() {
+            self.go_round();
+        }
     }
 
     /// Ends the session, whose status is set.
@@ -309,7 +352,7 @@ impl<W: World> Session<W> {
             start: _,
             count: _,
             ended: _,
-            waits: _,
+            known: _,
             next: _,
             status,
         } = self;

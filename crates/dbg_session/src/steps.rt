@@ -1,9 +1,13 @@
 // The steps of a session, over its parts.
-ghost use Rattle.std.specs.Prelude.{◌≡◌, ◌<◌, ◌≤◌, ◌&&◌, length, IfOk, true, false};
+ghost use Rattle.std.specs.Prelude.{◌≡◌, ◌<◌, ◌≤◌, ◌+◌, length, IfOk, true, false};
 ghost use Rattle.dbg_engine.specs.Steps.{IsTurned};
 ghost use Rattle.dbg_session.specs.Stage.{stage_of};
 ghost use Rattle.dbg_session.specs.Turned.{turned_text, wrote_text, last_lefts, has_moved};
 ghost use Rattle.dbg_session.specs.Steps.{Turns, Goes, Does, Inputs};
+ghost use Rattle.dbg_session.specs.Stage.{work_of};
+ghost use Rattle.dbg_model.specs.Lawful.{may_go};
+ghost use Rattle.dbg_session.specs.declared.steps.Turn.TheVariants as turn;
+ghost use Rattle.engine_facts.specs.Seen.{seen};
 
 use crate::puts::put_all;
 use dbg_engine::{Engine, SPARE, Turned};
@@ -123,6 +127,7 @@ pub fn turn_once<W: World>(alloc: Global, world: &mut W, engine: &mut Engine, ha
     requires { hart < length engine.old.minds }
     ensures opening { engine.new.opening ≡ engine.old.opening }
     ensures goes { Goes (stage_of engine.old) (stage_of engine.new) }
+    ensures less { result ≡ turn.Moved → work_of (stage_of engine.new) < work_of (stage_of engine.old) }
     ensures turns { Turns result hart (W.told world.old) (W.told world.new) (stage_of engine.old) (stage_of engine.new) }
 {
     engine.keep();
@@ -145,7 +150,7 @@ pub fn turn_once<W: World>(alloc: Global, world: &mut W, engine: &mut Engine, ha
     }
 }
 
-/// The next line of the rest of the input, with its reply.
+/// The next line of the rest of the input, with its reply, in a session that may go on.
 pub fn line_once<W: World>(
     alloc: Global,
     world: &mut W,
@@ -153,13 +158,12 @@ pub fn line_once<W: World>(
     rest: &[u8],
     ended: bool,
 ) -> Done
+    requires { may_go engine.old.opening (seen engine.old) ≡ true }
     ensures opening { engine.new.opening ≡ engine.old.opening }
+    ensures work { work_of (stage_of engine.new) ≤ work_of (stage_of engine.old) + 832 }
     ensures does { Does result ended rest.now (W.told world.old) (W.told world.new) (stage_of engine.old) (stage_of engine.new) }
 {
     engine.keep();
-    if !engine.may_go() {
-        return Done::Nothing;
-    }
     let Some((text, next)) = next_line(rest, ended) else {
         return Done::Nothing;
     };
