@@ -3,6 +3,7 @@ use Rattle.std.proofs.Common.{◌≡◌, ℕ, zero, suc, ◌+◌, ◌^◌, ◌-�
 use Rattle.std.specs.Prelude.{Option, Some, None, is_some, find, option_and_then, slice_get, ◌&&◌, ◌||◌, ◌==◌, not, nat_le}
 use Rattle.std.specs.List.{list_any}
 use Rattle.std.proofs.lemmas.Bool.Decides.{nat_tests}
+use Rattle.std.proofs.lemmas.List.{length-replicate}
 use Rattle.std.proofs.lemmas.Option.{slice_get_within}
 use Rattle.elf32_read.specs.Program.{Program, Text, text_word, in_words}
 use Rattle.text_words.specs.Words.{Words}
@@ -15,14 +16,14 @@ use Rattle.break_table.specs.Text.{is_instruction, is_place}
 use Rattle.break_table.specs.declared.bounds.TextBounds.{TextBounds}
 use Rattle.dbg_model.specs.declared.entry.Entry.{Entry}
 use Rattle.dbg_model.specs.declared.entry.Entry.TheVariants.{Did}
-use Rattle.dbg_model.specs.declared.limits.TheConstants.{HISTORY}
 use Rattle.dbg_model.specs.declared.opening.Opening.{Opening}
 use Rattle.dbg_model.specs.declared.reply.Content.{Content}
 use Rattle.dbg_model.specs.declared.reply.Content.TheVariants as content
 use Rattle.mi_commands.specs.declared.command.Displaced.{Displaced}
 use Rattle.step_over.specs.declared.phase.Phase.{Phase}
+use Rattle.dbg_model.specs.Limits.{history}
 use Rattle.dbg_model.specs.State.{Hart, State, any_runs, is_off}
-use Rattle.dbg_model.specs.Reply.{Change, stays, resumes, selects, inserts, deletes, enables, conditions, ignores, interrupts, displaces, implied, answer_of, changed_by, done_by, thread_hart, is_wait, going_on, asking, selected_after, displaced_after, sets_after, breaks_after, given_after}
+use Rattle.dbg_model.specs.Reply.{Change, stays, resumes, selects, inserts, deletes, enables, conditions, ignores, interrupts, displaces, exits, exited_after, implied, answer_of, changed_by, done_by, thread_hart, is_wait, going_on, asking, selected_after, displaced_after, sets_after, breaks_after, given_after}
 use Rattle.dbg_model.specs.Reply as model
 use Rattle.dbg_model.specs.Lawful.{enter, may_go, may_do}
 use Rattle.dbg_model.proofs.Founding.{IsFounded, IsThereOr, change_founded}
@@ -80,6 +81,7 @@ selected_within o p xs es selected (conditions n c) is len f = is
 selected_within o p xs es selected (ignores n k) is len f = is
 selected_within o p xs es selected (interrupts ts) is len f = is
 selected_within o p xs es selected (displaces value) is len f = is
+selected_within o p xs es selected exits is len f = is
 
 done_is : (o : Opening) (s : State) (line : List ℕ) (c : Change) → (answer_of o s line).outcome.change ≡ c → done_by o s line ≡ changed_by s c
 unfolding done_by
@@ -96,7 +98,7 @@ minds_after xs c = ask_threads (resume_threads xs (going_on c)) (asking c)
 -- the engine after such a line
 abbrev after_line : Run → List ℕ → Change → Words → ℕ → Run
 after_line r line c t spare =
-    lined r (Did line) (minds_after r.minds c) (selected_after r.selected c) (displaced_after r.displaced c) t (breaks_after r.breaks r.given c) (given_after r.given c) spare
+    lined r (Did line) (minds_after r.minds c) (selected_after r.selected c) (displaced_after r.displaced c) t (breaks_after r.breaks r.given c) (given_after r.given c) (exited_after r.exited c) spare
 
 pending_as : (d : Displaced) (q : Phase) (off lifted : Bool) → is_off d ≡ off → is_lifted q ≡ lifted → pending d q ≡ cond (not off && lifted) 1 0
 pending_as d q off lifted e f = ap (λ b. cond (not b && is_lifted q) 1 0) e ∙ ap (λ b. cond (not off && b) 1 0) f
@@ -122,6 +124,7 @@ sets_more d sets (conditions n c) q = omega arith
 sets_more d sets (ignores n k) q = omega arith
 sets_more d sets (interrupts ts) q = omega arith
 sets_more d sets (displaces value) q = sets_by_more d value q sets (is_off value) refl
+sets_more d sets exits q = omega arith
 
 lined_to : (r : Run) (line : List ℕ) (c : Change) (t : Words) (spare : ℕ) → Facts r → may_do r.opening (seen r) line ≡ true → Makes r line c → Planted r.opening.image t (breaks_after r.breaks r.given c) r.hold
     → AreInText r.opening.image (breaks_after r.breaks r.given c) → LinedTo r (after_line r line c t spare) line
@@ -141,7 +144,7 @@ lined_to r line c t spare f may is p texts =
     let len : length (seen r).harts ≡ r.opening.settings.harts = harts_length image r.machine.cores r.minds f.harts.len ∙ f.count in
     let resumed = harts_threads image r.machine.cores r.machine.slots r.minds r.hold ts f.harts in
     let e : Enters n s =
-    lines r (Did line) (minds_after r.minds c) (selected_after r.selected c) (displaced_after r.displaced c) t (breaks_after r.breaks r.given c) (given_after r.given c) spare s f refl (enter_did r.opening (seen r) line may ∙ ap Some done) same
+    lines r (Did line) (minds_after r.minds c) (selected_after r.selected c) (displaced_after r.displaced c) t (breaks_after r.breaks r.given c) (given_after r.given c) (exited_after r.exited c) spare s f refl (enter_did r.opening (seen r) line may ∙ ap Some done) same
     (ask_length xs us ∙ length_threads r.minds ts)
     (selected_within r.opening image (seen r).harts r.breaks r.selected c f.selected len founded)
     (ask_harts image r.machine.cores r.machine.slots xs r.hold us resumed)
@@ -178,15 +181,17 @@ quiet_change (content.Registers f rs) = quiet_stays
 quiet_change (content.Memory a ms) = quiet_stays
 quiet_change (content.Value n u) = quiet_stays
 quiet_change (content.Setting v) = quiet_stays
+quiet_change content.Exit = record { breaks = λ es k. refl; number = λ k. refl; asks = refl; setting = λ d. refl }
 quiet_change (content.Refused r) = quiet_stays
 
-pub noted : (r : Run) (spare : ℕ) (line : List ℕ) (c : Content) (j : List Entry) (xs : List Mind) (selected : ℕ) → Facts r → may_do r.opening (seen r) line ≡ true → Makes r line (implied c)
-    → j ≡ r.journal ++ Did line ∷ [] → xs ≡ resume_threads r.minds (going_on (implied c)) → selected ≡ selected_after r.selected (implied c)
-    → (let new : Run = record r { journal = j; spare = spare; minds = xs; selected = selected; noted = r.noted + 1 } in LinedTo r new line)
-noted r spare line c j xs selected f may is same minds chosen =
-    let N : List Entry → List Mind → ℕ → Displaced → List BreakEntry → ℕ → Run = λ es ys t v bs g. record r { journal = es; spare = spare; minds = ys; selected = t; displaced = v; breaks = bs; given = g; noted = r.noted + 1 } in
-    let P : List Entry → List Mind → ℕ → Displaced → List BreakEntry → ℕ → Type 0 = λ es ys t v bs g. LinedTo r (N es ys t v bs g) line in
+pub noted : (r : Run) (spare : ℕ) (line : List ℕ) (c : Content) (j : List Entry) (xs : List Mind) (selected : ℕ) (exited : Bool) → Facts r → may_do r.opening (seen r) line ≡ true → Makes r line (implied c)
+    → j ≡ r.journal ++ Did line ∷ [] → xs ≡ resume_threads r.minds (going_on (implied c)) → selected ≡ selected_after r.selected (implied c) → exited ≡ exited_after r.exited (implied c)
+    → (let new : Run = record r { journal = j; spare = spare; minds = xs; selected = selected; noted = r.noted + 1; exited = exited } in LinedTo r new line)
+noted r spare line c j xs selected exited f may is same minds chosen ended =
+    let N : List Entry → List Mind → ℕ → Displaced → List BreakEntry → ℕ → Bool → Run = λ es ys t v bs g x. record r { journal = es; spare = spare; minds = ys; selected = t; displaced = v; breaks = bs; given = g; noted = r.noted + 1; exited = x } in
     let d = implied c in
+    let P : List Entry → List Mind → ℕ → Displaced → List BreakEntry → ℕ → Type 0 = λ es ys t v bs g. LinedTo r (N es ys t v bs g (exited_after r.exited d)) line in
+    let E : Bool → Type 0 = λ x. LinedTo r (N j xs selected r.displaced r.breaks r.given x) line in
     let q = quiet_change c in
     let es = r.journal ++ Did line ∷ [] in
     let ys = resume_threads r.minds (going_on d) in
@@ -199,9 +204,10 @@ noted r spare line c j xs selected f may is same minds chosen =
     subst (λ (us : List ℕ). P es (ask_threads ys us) t (displaced_after r.displaced d) (breaks_after r.breaks r.given d) (given_after r.given d)) q.asks first in
     let set : P es ys t r.displaced (breaks_after r.breaks r.given d) (given_after r.given d) = subst (λ (v : Displaced). P es ys t v (breaks_after r.breaks r.given d) (given_after r.given d)) (q.setting r.displaced) unasked in
     let base : P es ys t r.displaced r.breaks r.given = subst (λ (g : ℕ). P es ys t r.displaced r.breaks g) (q.number r.given) (subst (λ (bs : List BreakEntry). P es ys t r.displaced bs (given_after r.given d)) none set) in
-    subst (λ (ls : List Entry). P ls xs selected r.displaced r.breaks r.given) (sym same)
+    subst E (sym ended)
+    (subst (λ (ls : List Entry). P ls xs selected r.displaced r.breaks r.given) (sym same)
     (subst (λ (zs : List Mind). P es zs selected r.displaced r.breaks r.given) (sym minds)
-    (subst (λ (u : ℕ). P es ys u r.displaced r.breaks r.given) (sym chosen) base))
+    (subst (λ (u : ℕ). P es ys u r.displaced r.breaks r.given) (sym chosen) base)))
 
 -- a line that asks an interrupt
 pub asked_line : (r : Run) (spare : ℕ) (line ts : List ℕ) (j : List Entry) (xs : List Mind) → Facts r → may_do r.opening (seen r) line ≡ true → Makes r line (interrupts ts) → j ≡ r.journal ++ Did line ∷ [] → xs ≡ ask_threads r.minds ts
@@ -248,6 +254,13 @@ none_displaces d (change.Enable ns e) = refl
 none_displaces d (change.Condition n c) = refl
 none_displaces d (change.After n k) = refl
 
+none_exits : (x : Bool) (b : BreakChange) → exited_after x (break_change b) ≡ x
+none_exits x (change.Insert spec) = refl
+none_exits x (change.Delete ns) = refl
+none_exits x (change.Enable ns e) = refl
+none_exits x (change.Condition n c) = refl
+none_exits x (change.After n k) = refl
+
 pub changed : (r : Run) (spare : ℕ) (line : List ℕ) (b : BreakChange) (j : List Entry) (m : Patched) (old new : Table) → Facts r → may_do r.opening (seen r) line ≡ true → Makes r line (break_change b)
     → r.breaks ≡ old.entries → r.given ≡ old.given → r.bounds ≡ old.text → r.waits ≡ old.waits
     → j ≡ r.journal ++ Did line ∷ [] → new ≡ changed_table old (break_change b) → Retabled r.machine m new.entries r.hold
@@ -259,7 +272,8 @@ changed r spare line b j m old new f may is breaks given bounds waits same table
     let ts : new.text ≡ r.bounds = ap (λ (t : Table). t.text) table ∙ sym bounds in
     let ws : new.waits ≡ r.waits = ap (λ (t : Table). t.waits) table ∙ sym waits in
     let again = planted_again r m.text (breaks_after r.breaks r.given d) f w.words (subst (λ (es : List BreakEntry). ArePlanted m.text es r.hold) bs w.planted) in
-    let first = lined_to r line d m.text spare f may is again.0 again.1 in
+    let ended : Bool → Type 0 = λ x. LinedTo r (lined r (Did line) (minds_after r.minds d) (selected_after r.selected d) (displaced_after r.displaced d) m.text (breaks_after r.breaks r.given d) (given_after r.given d) x spare) line in
+    let first = subst ended (none_exits r.exited b) (lined_to r line d m.text spare f may is again.0 again.1) in
     let N : List Entry → Patched → List Mind → ℕ → Displaced → List BreakEntry → ℕ → List TextBounds → List (Option ℕ) → Run =
     λ es n ys t v cs g us vs. record r { journal = es; spare = spare; machine = n; minds = ys; selected = t; displaced = v; breaks = cs; given = g; bounds = us; waits = vs; noted = r.noted + 1 } in
     let D : Displaced → Type 0 = λ v. LinedTo r (N (r.journal ++ Did line ∷ []) (record r.machine { text = m.text }) (minds_after r.minds d) (selected_after r.selected d) v (breaks_after r.breaks r.given d) (given_after r.given d) r.bounds r.waits) line in
@@ -325,7 +339,7 @@ applies r line (change.Insert s) t f breaks bounds waits is =
     let place : is_place t.text s.address ≡ true = ap (λ us. is_place us s.address) (sym bounds) ∙ (f.places s.address ∙ word_place r.opening.image s.address k.0) in
     let len : length (seen r).harts ≡ r.opening.settings.harts = harts_length r.opening.image r.machine.cores r.minds f.harts.len ∙ f.count in
     let full : nat_le 128 (length t.entries) ≡ false = ap (λ es. nat_le 128 (length es)) (sym breaks) ∙ not_full (length r.breaks) k.1 in
-    let known : is_thread (length t.waits) s.thread ≡ true = ap (λ vs. is_thread (length vs) s.thread) (sym waits) ∙ thread_known r.opening (seen r).harts (length r.waits) s.thread len (f.waits ∙ f.count) k.2 in
+    let known : is_thread (length t.waits) s.thread ≡ true = ap (λ vs. is_thread (length vs) s.thread) (sym waits) ∙ thread_known r.opening (seen r).harts (length r.waits) s.thread len (ap length f.waits ∙ length-replicate {A = Option ℕ} r.opening.settings.harts None) k.2 in
     let free : insert_fault t (asked_of s) ≡ None = rw (place, full, known) refl in
     (free, λ low. text_shown r.opening.image r.machine.text r.breaks r.hold s.address f.planted (text_in r.opening.image s.address low k.0))
 applies r line (change.Delete ns) t f breaks bounds waits is = tt
@@ -334,11 +348,11 @@ applies r line (change.Condition n c) t f breaks bounds waits is = tt
 applies r line (change.After n k) t f breaks bounds waits is = tt
 
 -- the numbers have room
-pub numbers_room : (r : Run) → Facts r → r.noted < HISTORY → r.given < 2 ^ 32 - 1
+pub numbers_room : (r : Run) → Facts r → r.noted < history → r.given < 2 ^ 32 - 1
 numbers_room r f low = omega (arith, given_within r.opening r.journal (seen r) f.leaves)
 
 -- a line that may be done is not beyond the last
-pub noted_low : (r : Run) (line : List ℕ) → may_do r.opening (seen r) line ≡ true → r.noted < HISTORY
+pub noted_low : (r : Run) (line : List ℕ) → may_do r.opening (seen r) line ≡ true → r.noted < history
 noted_low r line may =
     let s = seen r in
     (below r (both_true (may_go r.opening s) (not (any_runs s.harts && is_wait line)) may).0).1

@@ -3,9 +3,6 @@ use Rattle.std.proofs.Common.{◌≡◌, ℕ, zero, suc, ◌+◌, ◌-◌, ◌%�
 use Rattle.std.specs.Prelude.{Option, Some, None, Ok, Err, is_some, slice_get}
 use Rattle.std.specs.Option.{option_map}
 use Rattle.elf_symbols.specs.Entries.{names_of}
-use Rattle.scratch_slots.specs.declared.slots.SlotUse.{SlotUse}
-use Rattle.scratch_slots.specs.Table.{slot_address, use_at, least_free, AllOut}
-use Rattle.step_over.specs.declared.phase.Phase.{Phase}
 use Rattle.rv_exec.specs.Registers.{Registers}
 use Rattle.rv_exec.specs.Memory.{Memory}
 use Rattle.elf32_read.specs.Program.{Program}
@@ -22,20 +19,11 @@ use Rattle.dbg_model.specs.State.{Hart}
 use Rattle.dbg_model.specs.Views.{shown_byte}
 use Rattle.dbg_model.specs.Reply.{Outcome, Answer, refusing, valued, numbers_below, shown_range, and_byte, thread_hart, answer_of, outcome_at, fault_outcome, is_wait, waits}
 use Rattle.dbg_model.proofs.Replying.{reply_long, reply_malformed, reply_cli, reply_answers, wait_answers, wait_long, wait_none, wait_cli}
-use Rattle.engine_facts.specs.declared.mind.Hold.{Hold}
 use Rattle.engine_facts.specs.declared.mind.Mind.{Mind}
-use Rattle.step_over.specs.declared.phase.Phase.TheVariants as phase
-use Rattle.engine_facts.specs.Minds.{runs, lifted_of, slot_of}
 use Rattle.engine_facts.specs.Seen.{Run, seen, seen_harts}
-use Rattle.engine_facts.specs.Facts.{Facts, held_by, other_holder}
-use Rattle.engine_facts.proofs.Updating.{equals}
-use Rattle.engine_facts.proofs.Holding.{core_at}
-use Rattle.engine_facts.proofs.Stepping.{fact_of}
+use Rattle.engine_facts.specs.Facts.{Facts}
 use Rattle.hart_machine.proofs.Places.{same_some}
 use Rattle.dbg_engine.specs.Answering.{is_memory, own_hart, own_harts}
-use Rattle.dbg_engine.specs.Steps.{next_running, is_slotted, slotted_from}
-use Rattle.dbg_engine.specs.Calls.{Moves, NextMoves}
-use Rattle.dbg_engine.proofs.Seeing.{next_runs, none_runs, slot_found, no_slot}
 use Rattle.dbg_engine.proofs.Alike.{own_alike, outcome_alike, fault_alike}
 
 -- ---- threads
@@ -151,103 +139,3 @@ wait_refused line (Faulty token f) h e = sym (wait_answers line token (Err f) h.
 
 pub wait_read : (line token : List ℕ) (cmd : Command) (b : Bool) → (length line ≤ 4096) × HasAnswer line token (Ok cmd) → b ≡ waits (Ok cmd) → b ≡ is_wait line
 wait_read line token cmd b h e = e ∙ sym (wait_answers line token (Ok cmd) h.0 h.1)
-
--- ---- the hart to move next
-
-get_within : {A : Type 0} (xs : List A) (h : ℕ) → h < length xs → (x : A) × (slice_get xs h ≡ Some x)
-get_within [] h low = absurd (omega arith)
-get_within (x ∷ xs) zero low = (x, refl)
-get_within (x ∷ xs) (suc h) low = get_within xs h (omega arith)
-
-lifted_runs : (x : Mind) (home : ℕ) (b : Bool) → runs x ≡ b → (runs x ≡ false → x.phase ≡ phase.Idle) → lifted_of x.phase ≡ Some home → runs x ≡ true
-lifted_runs x home true is idle held = is
-lifted_runs x home false is idle held = let none : lifted_of x.phase ≡ None = ap lifted_of (idle is) in absurd cc
-
--- a hart with its patch lifted isn't one that steps over nothing
-lifted_not : {A : Type 0} (q : Phase) (home : ℕ) → lifted_of q ≡ Some home → q ≡ phase.Idle → A
-lifted_not q home held idle = let none : None ≡ Some home = ap lifted_of (sym idle) ∙ held in cc
-
-pub holder_moves : (r : Run) (d : Hold) → Facts r → r.hold ≡ Some d → Moves r d.hart
-holder_moves r d f is =
-    let low = f.harts.holder d is in
-    let x = get_within r.minds d.hart low in
-    let c = get_within r.machine.cores d.hart (omega (arith, f.harts.len)) in
-    let fact = f.harts.each d.hart c.0 x.0 c.1 x.1 in
-    let own : held_by (Some d) d.hart ≡ Some d.home = rw (equals d.hart) refl in
-    let held : lifted_of x.0.phase ≡ Some d.home = fact.held ∙ (ap (λ h. held_by h d.hart) is ∙ own) in
-    let free : other_holder (Some d) d.hart ≡ None = rw (equals d.hart) refl in
-    record {
-      mind = x.0;
-      at = x.1;
-      runs = lifted_runs x.0 d.home (runs x.0) refl fact.idle held;
-      free = ap (λ h. other_holder h d.hart) is ∙ free;
-      room = λ idle some out. lifted_not x.0.phase d.home held idle;
-    }
-
-pub next_moves : (r : Run) (from : ℕ) (found : Option ℕ) → r.hold ≡ None → found ≡ next_running r.minds from → (0 < length r.machine.slots → AllOut r.machine.slots → ⊥) → NextMoves found r
-next_moves r from None free is room = none_runs r.minds from (sym is)
-next_moves r from (Some h) free is room =
-    let d = next_runs r.minds from h (sym is) in
-    let place : h ≡ d.place = omega (arith, d.number) in
-    record { mind = d.mind; at = ap (slice_get r.minds) place ∙ d.at; runs = d.runs; free = ap (λ t. other_holder t h) free; room = λ idle some out. room some out }
-
--- ---- where all slots are out
-
-slotted_not : {A : Type 0} (q : Phase) → is_some (slot_of q) ≡ true → q ≡ phase.Idle → A
-slotted_not q has idle = let none : false ≡ true = ap (λ p. is_some (slot_of p)) (sym idle) ∙ has in cc
-
-slotted_runs : (x : Mind) (b : Bool) → runs x ≡ b → (runs x ≡ false → x.phase ≡ phase.Idle) → is_slotted x ≡ true → runs x ≡ true
-slotted_runs x true is idle has = is
-slotted_runs x false is idle has = slotted_not x.phase has (idle is)
-
--- a hart that has a slot moves
-pub slotted_moves : (r : Run) (h : ℕ) → Facts r → r.hold ≡ None → slotted_from 0 r.minds ≡ Some h → Moves r h
-slotted_moves r h f free is =
-    let d = slot_found 0 r.minds h is in
-    let place : h ≡ d.place = omega (arith, d.number) in
-    let at : slice_get r.minds h ≡ Some d.mind = ap (slice_get r.minds) place ∙ d.at in
-    let k = core_at r h d.mind f at in
-    let fact = fact_of r h k.0 d.mind f k.1 in
-    record {
-      mind = d.mind;
-      at = at;
-      runs = slotted_runs d.mind (runs d.mind) refl fact.idle d.slotted;
-      free = ap (λ t. other_holder t h) free;
-      room = λ idle some out. slotted_not d.mind.phase d.slotted idle;
-    }
-
-first_use : (slots : List (Option SlotUse)) → 0 < length slots → AllOut slots → (u : SlotUse) × (slice_get slots 0 ≡ Some (Some u))
-first_use [] some out = absurd (omega arith)
-first_use (None ∷ slots) some out = absurd (out 0 refl)
-first_use (Some u ∷ slots) some out = (u, refl)
-
-first_at : (slots : List (Option SlotUse)) (u : SlotUse) → slice_get slots 0 ≡ Some (Some u) → use_at slots (slot_address 0) ≡ Some u
-first_at [] u e = cc
-first_at (v ∷ slots) u e = same_some v (Some u) e
-
--- where all slots are out, a hart has one
-pub some_slotted : (r : Run) → Facts r → 0 < length r.machine.slots → AllOut r.machine.slots → slotted_from 0 r.minds ≡ None → ⊥
-some_slotted r f some out none =
-    let u = first_use r.machine.slots some out in
-    let has = f.harts.used (slot_address 0) u.0 (first_at r.machine.slots u.0 u.1) in
-    let off : is_slotted has.mind ≡ false = no_slot 0 r.minds u.0.hart has.mind none has.at in
-    let on : is_slotted has.mind ≡ true = ap is_some has.has in
-    let clash : true ≡ false = sym on ∙ off in
-    cc
-
-least_more : (u : SlotUse) (slots : List (Option SlotUse)) (k : ℕ) (o : Option ℕ) → least_free slots ≡ o → option_map suc o ≡ Some k → ((j : ℕ) → least_free slots ≡ Some j → slice_get slots j ≡ Some None) → slice_get (Some u ∷ slots) k ≡ Some None
-least_more u slots k None is e ih = cc
-least_more u slots k (Some j) is e ih = let z : suc j ≡ k = same_some (suc j) k e in ap (slice_get (Some u ∷ slots)) (sym z) ∙ ih j is
-
-least_none : (slots : List (Option SlotUse)) (k : ℕ) → least_free slots ≡ Some k → slice_get slots k ≡ Some None
-least_none [] k e = cc
-least_none (None ∷ slots) k e = let z : 0 ≡ k = same_some 0 k e in ap (slice_get (None ∷ slots)) (sym z)
-least_none (Some u ∷ slots) k e = least_more u slots k (least_free slots) refl e (λ j f. least_none slots j f)
-
-room_by : (slots : List (Option SlotUse)) (o : Option ℕ) → least_free slots ≡ o → is_some o ≡ true → AllOut slots → ⊥
-room_by slots None e some out = absurd cc
-room_by slots (Some k) e some out = out k (least_none slots k e)
-
--- where one is free not all are out
-pub has_room : (slots : List (Option SlotUse)) → is_some (least_free slots) ≡ true → AllOut slots → ⊥
-has_room slots some out = room_by slots (least_free slots) refl some out

@@ -10,13 +10,12 @@ use Rattle.step_over.specs.declared.phase.Phase.{Phase}
 use Rattle.step_over.specs.declared.phase.Phase.TheVariants as phase
 use Rattle.hart_machine.specs.Patched.{Patched}
 use Rattle.text_words.specs.Words.{is_planted}
-use Rattle.std.specs.List.{list_any}
 use Rattle.dbg_model.specs.declared.reply.Reply.{Reply}
 use Rattle.break_table.specs.declared.due.Due.{Due}
 use Rattle.dbg_model.specs.declared.entry.Entry.TheVariants.{Counted, Stopped, Did}
 use Rattle.dbg_model.specs.declared.entry.Why.{Why}
 use Rattle.dbg_model.specs.declared.entry.Why.TheVariants.{Break, Interrupted, Fault}
-use Rattle.dbg_model.specs.declared.limits.TheConstants.{HISTORY}
+use Rattle.dbg_model.specs.Limits.{history}
 use Rattle.dbg_model.specs.Breaks.{is_temporary}
 use Rattle.dbg_model.specs.State.{Hart, State, any_leaves, due, is_due, is_off}
 use Rattle.dbg_model.specs.Reply.{reply_of, done_by}
@@ -222,23 +221,12 @@ pub record Lines (old new : Run) (line : List ℕ) : Type 0 where
   pub seen : seen new ≡ done_by old.opening (seen old) line
   pub opening : new.opening ≡ old.opening
 
--- the hart that can be moved next: the one for which a patch is lifted; else, where all slots are out, one that has a slot; else one that runs
-pub record Moves (r : Run) (h : ℕ) : Type 0 where
-  pub mind : Mind
-  pub at : slice_get r.minds h ≡ Some mind
-  pub runs : runs mind ≡ true
-  pub free : other_holder r.hold h ≡ None
-  pub room : mind.phase ≡ phase.Idle → 0 < length r.machine.slots → AllOut r.machine.slots → ⊥
-
-abbrev pub NextMoves : Option ℕ → Run → Type 0
-NextMoves None r = list_any runs r.minds ≡ false
-NextMoves (Some h) r = Moves r h
-
--- why an engine is over
+-- why an engine is over: the first of these that holds
 abbrev pub OverBy : Option End → Run → Type 0
-OverBy None r = (r.retired < r.opening.settings.budget) × (r.noted < HISTORY)
+OverBy None r = (r.retired < r.opening.settings.budget) × (r.noted < history) × (r.exited ≡ false)
 OverBy (Some end.Budget) r = r.opening.settings.budget ≤ r.retired
-OverBy (Some end.History) r = (r.retired < r.opening.settings.budget) × (HISTORY ≤ r.noted)
+OverBy (Some end.History) r = (r.retired < r.opening.settings.budget) × (history ≤ r.noted)
+OverBy (Some end.Exit) r = (r.retired < r.opening.settings.budget) × (r.noted < history) × (r.exited ≡ true)
 
 -- what is left at the end: each hart is home, no slot is out and no patch is lifted
 pub record Closes (r : Run) (m : Patched) : Type 0 where

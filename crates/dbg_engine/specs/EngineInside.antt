@@ -21,6 +21,7 @@ run_of e = record {
   displaced = e.displaced;
   retired = e.retired;
   noted = e.noted;
+  exited = e.exited;
 }
 
 pub record Keeps (e : Inside) : Type 0 where

@@ -1,12 +1,12 @@
 -- What a step of the machine does to the journal and to what is kept of the harts, and which hart is next.
-use Rattle.std.specs.Prelude.{ℕ, ◌+◌, ◌<◌, Bool, true, false, List, [], ◌∷◌, ◌++◌, length, drop, min, map, slice_set, Option, Some, None, is_some, if◌then◌else◌}
+use Rattle.std.specs.Prelude.{ℕ, ◌+◌, ◌<◌, Bool, true, false, List, [], ◌∷◌, ◌++◌, length, find, nat_le, map, slice_set, Option, Some, None, if◌then◌else◌}
 use Rattle.rv_exec.specs.declared.effect.Stepped.{Stepped}
 use Rattle.rv_exec.specs.declared.effect.Stepped.TheVariants as stepped
 use Rattle.dbg_model.specs.declared.entry.Entry.{Entry}
 use Rattle.dbg_model.specs.declared.entry.Entry.TheVariants.{Left}
 use Rattle.dbg_model.specs.Journals.{lengthened}
 use Rattle.engine_facts.specs.declared.mind.Mind.{Mind}
-use Rattle.engine_facts.specs.Minds.{runs, slot_of, ran_mind, exited_mind, gone_mind, lefts_live}
+use Rattle.engine_facts.specs.Minds.{runs, ran_mind, exited_mind, gone_mind, lefts_live}
 use Rattle.dbg_engine.specs.declared.moving.Turned.{Turned}
 use Rattle.dbg_engine.specs.declared.moving.Turned.TheVariants as turned
 
@@ -38,27 +38,22 @@ turned_of (stepped.AllExit code) h x xs = turned.AllLeft code (length (lefts_liv
 turned_of stepped.Hit h x xs = turned.NotRunning
 turned_of (stepped.Trap cause) h x xs = turned.Stopped cause
 
--- the first hart of the list that runs, where the first of the list has the number k
-abbrev pub running_from : ℕ → List Mind → Option ℕ
-running_from k [] = None
-running_from k (x ∷ xs) = if runs x then Some k else running_from (k + 1) xs
+-- the harts that run, in rising order, where the first of the list has the number k
+abbrev pub running_harts : ℕ → List Mind → List ℕ
+running_harts k [] = []
+running_harts k (x ∷ xs) = if runs x then k ∷ running_harts (k + 1) xs else running_harts (k + 1) xs
+
+-- the least running hart at or above a number
+abbrev pub least_running : List Mind → ℕ → Option ℕ
+least_running xs from = find (nat_le from) (running_harts 0 xs)
 
 abbrev pub some_or : Option ℕ → Option ℕ → Option ℕ
 some_or None other = other
 some_or (Some k) other = Some k
 
--- whether a hart has a slot
-abbrev pub is_slotted : Mind → Bool
-is_slotted x = is_some (slot_of x.phase)
-
--- the first hart of the list that has a slot, where the first of the list has the number k
-abbrev pub slotted_from : ℕ → List Mind → Option ℕ
-slotted_from k [] = None
-slotted_from k (x ∷ xs) = if is_slotted x then Some k else slotted_from (k + 1) xs
-
--- the next hart that runs, in rising order round the harts
+-- the next running hart round the harts: the least at or above the number, else the least of all
 abbrev pub next_running : List Mind → ℕ → Option ℕ
-next_running xs from = some_or (running_from (min from (length xs)) (drop (min from (length xs)) xs)) (running_from 0 xs)
+next_running xs from = some_or (least_running xs from) (least_running xs 0)
 
 -- the code of an exit is a byte
 abbrev pub IsTurned : Turned → Type 0

@@ -7,7 +7,7 @@ ghost use Rattle.break_table.specs.Table.{has_number};
 ghost use Rattle.dbg_model.specs.Breaks.{missing_number};
 ghost use Rattle.dbg_model.specs.Conditions.{parsed};
 ghost use Rattle.dbg_model.specs.Views.{register, shown_byte};
-ghost use Rattle.dbg_model.specs.Reply.{content_of, continued, threads_of, thread_hart, of_stopped, of_live, running, selecting, one_shown, registers_of, thread_number, valued, numbers_below, shown_thread, live_threads, stopped_threads, running_threads, interrupts, interrupted, interrupted_at, setting_value, shown_range, memory_of, hindered, unknown_thread, name_of, condition_text, listed, evaluated, worth_of, unless_missing, changing, refusing, conditioned, conditioned_as, set_by, set_as, setting, asked_at, placed, inserted_at, inserted_by, named_at, outcome_at, fault_outcome, is_wait, waits, implied, going_on, selected_after, deletes, enables, ignores};
+ghost use Rattle.dbg_model.specs.Reply.{content_of, continued, threads_of, thread_hart, of_stopped, of_live, running, selecting, one_shown, registers_of, thread_number, valued, numbers_below, shown_thread, live_threads, stopped_threads, running_threads, interrupts, interrupted, interrupted_at, setting_value, shown_range, memory_of, hindered, unknown_thread, name_of, condition_text, listed, evaluated, worth_of, unless_missing, changing, refusing, conditioned, conditioned_as, set_by, set_as, setting, asked_at, placed, inserted_at, inserted_by, named_at, outcome_at, fault_outcome, is_wait, waits, implied, going_on, selected_after, exited_after, deletes, enables, ignores};
 ghost use Rattle.dbg_engine.specs.declared.answering.ReadError.TheVariants.{NoMemory};
 ghost use Rattle.dbg_engine.specs.Changing.{break_change};
 ghost use Rattle.dbg_engine.specs.Answering.{own_hart, own_harts, found_hart, seen_response, ReadsAs, IsStopped, IsLive, Reads, option_list, is_memory};
@@ -868,6 +868,16 @@ pub fn selected_after(selected: u32, content: &Content) -> u32
     }
 }
 
+/// Whether the session is ended after an answer.
+pub fn exited_after(exited: bool, content: &Content) -> bool
+    ensures { result ≡ exited_after exited (implied content.now) }
+{
+    match content {
+        Content::Exit => true,
+        _ => exited,
+    }
+}
+
 // The value of a setting.
 fn setting_value(displaced: Displaced, setting: Setting) -> Displaced
     ensures { result ≡ setting_value displaced setting }
@@ -1010,6 +1020,7 @@ fn answer_content(
         }
         Command::SetNonStop | Command::SetMiAsync => Ok(Content::Done),
         Command::Show(setting) => Ok(Content::Setting(setting_value(displaced, *setting))),
+        Command::Exit => Ok(Content::Exit),
         _ => Ok(Content::Refused(Refused::NotBuilt)),
     }
 }

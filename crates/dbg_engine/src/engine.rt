@@ -1,4 +1,4 @@
-ghost use Rattle.std.specs.Prelude.{◌≡◌, ◌&&◌, ◌<◌, ◌≤◌, ◌-◌, ◌+◌, ◌^◌, [], length, slice_get, Some, None, replicate, IfOk, IfErr, IfSome, IfNone, OnOk, OnErr, MatchResult, Err, IsTrue, IsSome, ◌↔◌, map, true, false, ℕ};
+ghost use Rattle.std.specs.Prelude.{◌≡◌, ◌&&◌, ◌<◌, ◌≤◌, ◌-◌, ◌+◌, ◌^◌, [], length, slice_get, Some, None, replicate, IfOk, IfErr, IfSome, IfNone, OnOk, OnErr, MatchResult, Err, IsTrue, IsSome, ◌↔◌, map, true, false, ℕ, find, nat_le};
 ghost use Rattle.dbg_traits.specs.Settings.{AreSettings};
 ghost use Rattle.data_memory.specs.Ranges.{bytes_at, range_at};
 ghost use Rattle.text_words.specs.Words.{shown, is_planted};
@@ -12,15 +12,16 @@ ghost use Rattle.dbg_model.specs.Reply.{answer_of, implied, interrupts, displace
 ghost use Rattle.engine_facts.specs.Minds.{first_mind, counted_mind, runs, has_gone, is_before, slot_of, with_phase};
 ghost use Rattle.engine_facts.specs.Facts.{other_holder, InText, OneLifted};
 ghost use Rattle.engine_facts.specs.Seen.{seen};
-ghost use Rattle.dbg_engine.specs.Steps.{running_from, next_running, is_slotted, slotted_from, IsTurned};
+ghost use Rattle.dbg_engine.specs.Steps.{running_harts, next_running, IsTurned};
 ghost use Rattle.dbg_engine.specs.Answering.{seen_response, Makes};
+ghost use Rattle.dbg_model.specs.Limits.{history};
 ghost use Rattle.dbg_engine.specs.Changing.{break_change};
 ghost use Rattle.hart_machine.specs.declared.hart.Core.{Core};
 ghost use Rattle.std.specs.List.{list_any, list_all};
 
 use crate::Turned;
 use crate::answering::{
-    LineChange, Response, answer, going_on, is_wait, refusal, refuse, selected_after,
+    LineChange, Response, answer, exited_after, going_on, is_wait, refusal, refuse, selected_after,
 };
 use crate::breaking::{BreakChange, change_table, due_at, is_temporary, settle};
 use crate::homing::{go_home, go_home_at_exit, go_home_each, landed_pc};
@@ -50,6 +51,8 @@ pub enum End {
     Budget,
     /// The journal has the most entries other than `Ran`.
     History,
+    /// A line ended it.
+    Exit,
 }
 
 /// Several harts of a machine, and the journal of what was done with them.
@@ -67,6 +70,7 @@ pub struct Engine {
     displaced: Displaced,
     retired: u64,
     noted: u64,
+    exited: bool,
 }
 
 impl Model for Engine {
@@ -137,39 +141,18 @@ fn all_gone(minds: &[Mind]) -> bool
     }
 }
 
-fn is_slotted(mind: &Mind) -> bool
-    ensures { result ≡ is_slotted mind.now }
-{
-    matches!(mind.phase, Phase::Copied { .. } | Phase::Landed { .. })
-}
-
-// The first hart that has a slot; the first of the list has the number `hart`.
-fn find_slotted(minds: &[Mind], hart: u32) -> Option<u32>
+// The first hart at or above `from` that runs; the first of the list has the number `hart`.
+fn find_running(minds: &[Mind], hart: u32, from: usize) -> Option<u32>
     requires { hart + length minds.now ≤ 16 }
-    ensures { result ≡ slotted_from hart minds.now }
+    ensures { result ≡ find (nat_le from) (running_harts hart minds.now) }
 {
     match minds {
         [] => None,
         [first, rest @ ..] => {
-            if is_slotted(first) {
+            if is_running(first) && from <= hart as usize {
                 return Some(hart);
             }
-            find_slotted(rest, hart + 1)
-        }
-    }
-}
-
-fn find_running(minds: &[Mind], hart: u32) -> Option<u32>
-    requires { hart + length minds.now ≤ 16 }
-    ensures { result ≡ running_from hart minds.now }
-{
-    match minds {
-        [] => None,
-        [first, rest @ ..] => {
-            if is_running(first) {
-                return Some(hart);
-            }
-            find_running(rest, hart + 1)
+            find_running(rest, hart + 1, from)
         }
     }
 }
@@ -227,7 +210,7 @@ fn with_phase(mind: Mind, phase: Phase) -> Mind
 
 impl Engine {
     ghost use Rattle.engine_facts.specs.Facts.{Facts};
-    ghost use Rattle.dbg_engine.specs.Calls.{Of, AtPlanted, Rephases, Lifts, Copies, Halts, Interrupts, Counts, DueIs, Undue, Turns, TrapsAt, Executes, Does, Lines, NextMoves, OverBy, Closes};
+    ghost use Rattle.dbg_engine.specs.Calls.{Of, AtPlanted, Rephases, Lifts, Copies, Halts, Interrupts, Counts, DueIs, Undue, Turns, TrapsAt, Executes, Does, Lines, OverBy, Closes};
 
     /// An engine before its first move: each hart is stopped at the entry.
     pub fn load(alloc: Global, opening: Opening) -> Result<Engine, NoMemory>
@@ -253,6 +236,7 @@ impl Engine {
             displaced: Displaced::Auto,
             retired: 0,
             noted: 0,
+            exited: false,
         })
     }
 
@@ -273,7 +257,7 @@ impl Engine {
         Ok(())
     }
 
-    /// Why the session is over, if it is.
+    /// Why the session is over, if it is: the first cause that holds, in the order of `End`.
     pub fn over(&self) -> Option<End>
         ensures { OverBy result self.now }
     {
@@ -282,6 +266,9 @@ impl Engine {
         }
         if self.noted >= HISTORY {
             return Some(End::History);
+        }
+        if self.exited {
+            return Some(End::Exit);
         }
         None
     }
@@ -308,41 +295,15 @@ impl Engine {
         any_running(self.minds.as_slice())
     }
 
-    /// The next hart that runs, in rising order round the harts from this one on.
+    /// The next running hart round the harts: the least at or above the number, else the least of all.
     pub fn next_running(&self, from: usize) -> Option<u32>
         ensures { result ≡ next_running self.now.minds from }
     {
         let minds = self.minds.as_slice();
-        let from = from.min(minds.len());
-        match find_running(&minds[from..], from as u32) {
+        match find_running(minds, 0, from) {
             Some(hart) => Some(hart),
-            None => find_running(minds, 0),
+            None => find_running(minds, 0, 0),
         }
-    }
-
-    // Where there are slots and all are out, a hart that has one.
-    fn slot_holder(&self) -> Option<u32>
-        ensures some { IfSome result (λ h. slotted_from 0 self.now.minds ≡ Some h) }
-        ensures none { IfNone result (0 < length self.now.machine.slots → AllOut self.now.machine.slots → ⊥) }
-    {
-        if self.machine.has_room() {
-            return None;
-        }
-        find_slotted(self.minds.as_slice(), 0)
-    }
-
-    /// The hart to move next: the one for which a patch is lifted, since all others stand held; else, where all slots
-    /// are out, one that has a slot; else the next that runs, in rising order round the harts from this one on.
-    pub fn next_mover(&self, from: usize) -> Option<u32>
-        ensures { NextMoves result self.now }
-    {
-        if let Some(hold) = self.hold {
-            return Some(hold.hart);
-        }
-        if let Some(hart) = self.slot_holder() {
-            return Some(hart);
-        }
-        self.next_running(from)
     }
 
     /// Whether no hart is live.
@@ -827,7 +788,7 @@ impl Engine {
 
     // What is answered to a line, with its token, and what it changes.
     fn respond(&self, line: &[u8]) -> Result<(Token, Response), NoMemory>
-        requires { self.now.noted < HISTORY }
+        requires { self.now.noted < history }
         ensures { IfOk result (λ r. record { token = r.0; outcome = seen_response r.1 } ≡ answer_of self.now.opening (seen self.now) line.now) }
     {
         match command_of(self.alloc, line) {
@@ -891,6 +852,7 @@ impl Engine {
         );
         resume_threads(&mut self.minds, going_on(content));
         self.selected = selected_after(self.selected, content);
+        self.exited = exited_after(self.exited, content);
         self.noted += 1;
         Ok(())
     }
@@ -979,6 +941,7 @@ impl Engine {
             displaced: _,
             retired: _,
             noted: _,
+            exited: _,
         } = self;
         let mut machine = machine;
         go_home_each(&mut machine, minds.as_slice(), 0);

@@ -6,8 +6,8 @@ use Rattle.std.proofs.lemmas.Bool.Decides.{nat_tests}
 use Rattle.plain_machine.specs.Plain.{plain}
 use Rattle.dbg_model.specs.declared.entry.Entry.{Entry}
 use Rattle.dbg_model.specs.declared.entry.Entry.TheVariants.{Ran, Counted, Stopped, Left, Did}
-use Rattle.dbg_model.specs.declared.limits.TheConstants.{HISTORY}
 use Rattle.dbg_model.specs.declared.opening.Opening.{Opening}
+use Rattle.dbg_model.specs.Limits.{history}
 use Rattle.dbg_model.specs.State.{Hart, State, any_leaves, is_running, due, is_due}
 use Rattle.dbg_model.specs.Lawful.{enter, one, one_by, ran, may_run, may_move, may_go, stepped_by}
 use Rattle.dbg_model.specs.Journals.{Place, come, follows, ran_hart, replay_from, replay, first_place, Leaves}
@@ -16,8 +16,8 @@ use Rattle.dbg_model.proofs.Counting.{enter_adds, one_adds, Adds}
 
 go_below : (o : Opening) (s : State) → may_go o s ≡ true → s.retired < o.settings.budget
 go_below o s may =
-    let b = both_true (not (any_leaves s.harts)) (nat_lt s.retired o.settings.budget && nat_lt s.noted HISTORY) may in
-    let n = both_true (nat_lt s.retired o.settings.budget) (nat_lt s.noted HISTORY) b.1 in
+    let b = both_true (not (any_leaves s.harts)) (nat_lt s.retired o.settings.budget && (nat_lt s.noted history && not s.exited)) may in
+    let n = both_true (nat_lt s.retired o.settings.budget) (nat_lt s.noted history && not s.exited) b.1 in
     let first = n.0 in
     grind (arith, nat_tests)
 

@@ -1,6 +1,6 @@
 -- The numbers of a state are those of its journal.
 use Rattle.std.proofs.Common.{◌≡◌, ℕ, zero, suc, ◌+◌, ◌≤◌, Bool, true, false, cond, List, [], ◌∷◌, ◌++◌, length, replicate, refl, sym, ap, ◌∙◌, arith, append_assoc}
-use Rattle.std.specs.Prelude.{Option, Some, None, ◌==◌, ◌&&◌, nat_lt, slice_get, slice_set}
+use Rattle.std.specs.Prelude.{Option, Some, None, ◌==◌, ◌&&◌, not, nat_lt, slice_get, slice_set}
 use Rattle.std.specs.Option.{option_map}
 use Rattle.std.proofs.lemmas.Bool.Decides.{nat_tests}
 use Rattle.plain_machine.specs.Environment.{Answer, Traps, Goes}
@@ -79,7 +79,7 @@ left_adds : (s t : State) (h code : ℕ) (r : Option (ℕ × ℕ)) → left_by s
 left_adds s t h code None is = cc
 left_adds s t h code (Some leaver) is =
     let u : State = record s { harts = exited_at s.harts h (slice_get s.harts h); noted = s.noted + 1 } in
-    is_more s t u 0 1 (same_some u t (guard_some ((leaver.0 == h) && (leaver.1 == code)) (Some u) t is).1) (record { retired = omega arith; noted = refl })
+    is_more s t u 0 1 (same_some u t (guard_some (not s.exited && ((leaver.0 == h) && (leaver.1 == code))) (Some u) t is).1) (record { retired = omega arith; noted = refl })
 
 pub length-replicated : {A : Type 0} (n : ℕ) (x : A) → length (replicate n x) ≡ n
 length-replicated zero x = refl

@@ -22,7 +22,7 @@ use Rattle.mi_commands.specs.declared.refusal.Fault.{Fault}
 use Rattle.mi_commands.specs.declared.refusal.Fault.TheVariants as fault
 use Rattle.dbg_model.specs.declared.entry.Mode.{Mode}
 use Rattle.dbg_model.specs.declared.entry.Mode.TheVariants as mode
-use Rattle.dbg_model.specs.declared.limits.TheConstants.{MOST_BREAKPOINTS}
+use Rattle.dbg_model.specs.Limits.{breakpoints}
 use Rattle.dbg_model.specs.declared.opening.Opening.{Opening}
 use Rattle.dbg_model.specs.declared.reply.Content.{Content}
 use Rattle.dbg_model.specs.declared.reply.Content.TheVariants as content
@@ -81,6 +81,7 @@ quiet_founded p xs es (content.Registers f rs) q = tt
 quiet_founded p xs es (content.Memory a bs) q = tt
 quiet_founded p xs es (content.Value n u) q = tt
 quiet_founded p xs es (content.Setting v) q = tt
+quiet_founded p xs es content.Exit q = tt
 quiet_founded p xs es (content.Refused r) q = tt
 
 stopped_by : (t : ℕ) (f : Hart → Content) (x : Hart) (m : Mode) → Quiet (f x) → Quiet (when_stopped t f x m)
@@ -174,7 +175,7 @@ set_by_founded : (p : Program) (names : Names) (xs : List Hart) (es : List Entry
 set_by_founded p names xs es given addr i None at low there = (at, low, there)
 set_by_founded p names xs es given addr i (Some text) at low there = set_founded p names xs es given addr i text (parsed names text) at low there
 
-placed_founded : (p : Program) (names : Names) (xs : List Hart) (es : List Entry) (given : ℕ) (i : Insertion) (addr : ℕ) (a b : Bool) → is_some (text_word p addr) ≡ a → nat_lt (length es) MOST_BREAKPOINTS ≡ b → IsThereOr xs i.thread
+placed_founded : (p : Program) (names : Names) (xs : List Hart) (es : List Entry) (given : ℕ) (i : Insertion) (addr : ℕ) (a b : Bool) → is_some (text_word p addr) ≡ a → nat_lt (length es) breakpoints ≡ b → IsThereOr xs i.thread
     → IsFounded p xs es (placed p names es given i addr).change
 placed_founded p names xs es given i addr true true e f there = rw (e, f) (set_by_founded p names xs es given addr i i.condition e (room (length es) f) there)
 placed_founded p names xs es given i addr true false e f there = rw (e, f) tt
@@ -182,10 +183,10 @@ placed_founded p names xs es given i addr false b e f there = rw e tt
 
 named_founded : (p : Program) (names : Names) (xs : List Hart) (es : List Entry) (given : ℕ) (i : Insertion) (name : List ℕ) (r : Option Symbol) → IsThereOr xs i.thread → IsFounded p xs es (named_at p names es given i name r).change
 named_founded p names xs es given i name None there = tt
-named_founded p names xs es given i name (Some s) there = placed_founded p names xs es given i s.address (is_some (text_word p s.address)) (nat_lt (length es) MOST_BREAKPOINTS) refl refl there
+named_founded p names xs es given i name (Some s) there = placed_founded p names xs es given i s.address (is_some (text_word p s.address)) (nat_lt (length es) breakpoints) refl refl there
 
 inserted_founded : (p : Program) (names : Names) (xs : List Hart) (es : List Entry) (given : ℕ) (i : Insertion) (l : Location) → IsThereOr xs i.thread → IsFounded p xs es (inserted_at p names es given i l).change
-inserted_founded p names xs es given i (location.Address addr) there = placed_founded p names xs es given i addr (is_some (text_word p addr)) (nat_lt (length es) MOST_BREAKPOINTS) refl refl there
+inserted_founded p names xs es given i (location.Address addr) there = placed_founded p names xs es given i addr (is_some (text_word p addr)) (nat_lt (length es) breakpoints) refl refl there
 inserted_founded p names xs es given i (location.Name name) there = named_founded p names xs es given i name (address_of names name) there
 inserted_founded p names xs es given i (location.Line file line) there = tt
 

@@ -8,3 +8,4 @@ pub mod Numbering
 pub mod Replying
 pub mod Founding
 pub mod Parsing
+pub mod Ending

@@ -1,6 +1,6 @@
 -- The numbers that were given to breakpoints.
 use Rattle.std.proofs.Common.{◌≡◌, ℕ, zero, suc, ◌+◌, ◌≤◌, List, [], ◌∷◌, ◌++◌, refl, sym, ap, ◌∙◌, arith}
-use Rattle.std.specs.Prelude.{Option, Some, None, ◌==◌, ◌&&◌, nat_lt, slice_get, slice_set}
+use Rattle.std.specs.Prelude.{Option, Some, None, ◌==◌, ◌&&◌, not, nat_lt, slice_get, slice_set}
 use Rattle.std.specs.Option.{option_map}
 use Rattle.rv_exec.specs.declared.effect.Cause.{Cause}
 use Rattle.rv_exec.specs.Causes.{cause_number}
@@ -13,7 +13,7 @@ use Rattle.dbg_model.specs.declared.entry.Entry.TheVariants.{Ran, Counted, Stopp
 use Rattle.dbg_model.specs.declared.opening.Opening.{Opening}
 use Rattle.dbg_model.specs.Breaks.{is_stop}
 use Rattle.dbg_model.specs.State.{Hart, State, due, is_counted, arrived}
-use Rattle.dbg_model.specs.Reply.{Change, stays, resumes, selects, inserts, deletes, enables, conditions, ignores, interrupts, displaces, done_by, answer_of, given_after}
+use Rattle.dbg_model.specs.Reply.{Change, stays, resumes, selects, inserts, deletes, enables, conditions, ignores, interrupts, displaces, exits, done_by, answer_of, given_after}
 use Rattle.dbg_model.specs.Lawful.{enter, one, one_by, ran, may_run, may_move, may_do, stepped_by, stepped, with_leavers, with_stop, faulted_by, stopped_by, counted_by, with_count, left_by, leaver_from, exited_at, with_step}
 use Rattle.dbg_model.specs.Journals.{Place, come, follows, ran_hart, replay_from, replay, first_place, Leaves, noted_one}
 use Rattle.dbg_model.proofs.Options.{map_some, bind_some, guard_some, same_some}
@@ -69,7 +69,7 @@ left_given : (s t : State) (h code : ℕ) (r : Option (ℕ × ℕ)) → left_by 
 left_given s t h code None is = cc
 left_given s t h code (Some leaver) is =
     let u : State = record s { harts = exited_at s.harts h (slice_get s.harts h); noted = s.noted + 1 } in
-    same_given s t u (same_some u t (guard_some ((leaver.0 == h) && (leaver.1 == code)) (Some u) t is).1) refl
+    same_given s t u (same_some u t (guard_some (not s.exited && ((leaver.0 == h) && (leaver.1 == code))) (Some u) t is).1) refl
 
 given_more : (n : ℕ) (c : Change) → given_after n c ≤ n + 1
 given_more n stays = omega arith
@@ -82,6 +82,7 @@ given_more n (conditions k c) = omega arith
 given_more n (ignores k m) = omega arith
 given_more n (interrupts ts) = omega arith
 given_more n (displaces v) = omega arith
+given_more n exits = omega arith
 
 done_given : (o : Opening) (s : State) (line : List ℕ) → (done_by o s line).given ≤ s.given + 1
 unfolding done_by

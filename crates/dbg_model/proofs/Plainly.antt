@@ -206,8 +206,8 @@ left_plain : (s t : State) (h code : ℕ) (r : Option (ℕ × ℕ)) → leaver_f
 left_plain s t h code None from is = cc
 left_plain s t h code (Some p) from is =
     let u : State = record s { harts = exited_at s.harts h (slice_get s.harts h); noted = s.noted + 1 } in
-    let g = guard_some ((p.0 == h) && (p.1 == code)) (Some u) t is in
-    let b = both_true (p.0 == h) (p.1 == code) g.0 in
+    let g = guard_some (not s.exited && ((p.0 == h) && (p.1 == code))) (Some u) t is in
+    let b = both_true (p.0 == h) (p.1 == code) (both_true (not s.exited) ((p.0 == h) && (p.1 == code)) g.0).1 in
     let l = leaver_found s.harts 0 p from in
     let place : p.0 ≡ h = grind (arith, nat_tests) in
     let where_at : l.place ≡ h = omega (arith, l.number) in

@@ -12,16 +12,16 @@ use Rattle.dbg_model.specs.declared.entry.Why.{Why}
 use Rattle.dbg_model.specs.declared.entry.Why.TheVariants.{Break, Interrupted, Fault}
 use Rattle.dbg_model.specs.declared.entry.Entry.{Entry}
 use Rattle.dbg_model.specs.declared.entry.Entry.TheVariants.{Ran, Counted, Stopped, Left, Did}
-use Rattle.dbg_model.specs.declared.limits.TheConstants.{HISTORY}
 use Rattle.dbg_model.specs.declared.opening.Opening.{Opening}
+use Rattle.dbg_model.specs.Limits.{history}
 use Rattle.dbg_model.specs.Breaks.{is_stop}
 use Rattle.break_table.specs.Table.{stands}
 use Rattle.dbg_model.specs.State.{Hart, State, is_running, has_exited, is_off, any_runs, any_leaves, due, is_due, is_counted, arrived}
 use Rattle.dbg_model.specs.Reply.{done_by, is_wait}
 
--- no exit is still to be reported, and neither the budget nor the history is used up
+-- no exit is still to be reported, neither the budget nor the history is used up, and no `-gdb-exit` was done
 abbrev pub may_go : Opening → State → Bool
-may_go o s = not (any_leaves s.harts) && (nat_lt s.retired o.settings.budget && nat_lt s.noted HISTORY)
+may_go o s = not (any_leaves s.harts) && (nat_lt s.retired o.settings.budget && (nat_lt s.noted history && not s.exited))
 
 -- a line may be done; one that waits only where no hart runs
 abbrev pub may_do : Opening → State → List ℕ → Bool
@@ -136,10 +136,11 @@ abbrev pub exited_at : List Hart → ℕ → Option Hart → List Hart
 exited_at xs h None = xs
 exited_at xs h (Some x) = slice_set xs h (exited x)
 
+-- the least hart that leaves exits with its code; none after a `-gdb-exit`
 abbrev pub left_by : State → ℕ → ℕ → Option (ℕ × ℕ) → Option State
 left_by s h code None = None
 left_by s h code (Some leaver) =
-    if (leaver.0 == h) && (leaver.1 == code) then Some (record s { harts = exited_at s.harts h (slice_get s.harts h); noted = s.noted + 1 }) else None
+    if not s.exited && ((leaver.0 == h) && (leaver.1 == code)) then Some (record s { harts = exited_at s.harts h (slice_get s.harts h); noted = s.noted + 1 }) else None
 
 -- the state after an entry, where it may come
 unfoldable pub enter : Opening → State → Entry → Option State

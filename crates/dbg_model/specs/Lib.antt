@@ -1,3 +1,4 @@
+pub mod Limits
 pub mod Breaks
 pub mod Conditions
 pub mod Views

@@ -32,7 +32,6 @@ use Rattle.mi_commands.specs.declared.command.Target.TheVariants as target
 use Rattle.mi_commands.specs.declared.refusal.Fault.{Fault}
 use Rattle.mi_commands.specs.declared.refusal.Fault.TheVariants as fault
 use Rattle.dbg_model.specs.declared.breakpoint.Breakpoint.{Breakpoint}
-use Rattle.dbg_model.specs.declared.limits.TheConstants.{MOST_BREAKPOINTS}
 use Rattle.dbg_model.specs.declared.reply.Obstacle.{Obstacle}
 use Rattle.dbg_model.specs.declared.reply.Obstacle.TheVariants.{UnknownThread, HasExited, IsRunning, NotRunning, NoBreakpoint, NoInstruction, TooManyBreakpoints, Expression, DivisionByZero, Unreadable}
 use Rattle.dbg_model.specs.declared.reply.Refused.TheVariants as refused
@@ -46,6 +45,7 @@ use Rattle.dbg_model.specs.declared.entry.Mode.TheVariants as mode
 use Rattle.dbg_model.specs.declared.opening.Opening.{Opening}
 use Rattle.dbg_model.specs.Breaks.{missing_number, without, enabling}
 use Rattle.dbg_model.specs.Conditions.{parsed}
+use Rattle.dbg_model.specs.Limits.{breakpoints}
 use Rattle.dbg_model.specs.Views.{register, shown_byte}
 use Rattle.dbg_model.specs.State.{Hart, State, is_off}
 
@@ -244,6 +244,7 @@ content_of p names xs m es selected d (command.Evaluate thread text) = of_stoppe
 content_of p names xs m es selected d command.SetNonStop = content.Done
 content_of p names xs m es selected d command.SetMiAsync = content.Done
 content_of p names xs m es selected d (command.Show s) = content.Setting (setting_value d s)
+content_of p names xs m es selected d command.Exit = content.Exit
 content_of p names xs m es selected d c = not_built
 
 -- ---- changes
@@ -268,6 +269,8 @@ pub data Change : Type 0 where
   interrupts : List ℕ → Change
   -- displaced stepping is set
   displaces : Displaced → Change
+  -- the session ends
+  exits : Change
 
 -- what is answered to a line, and what it changes
 pub record Outcome : Type 0 where
@@ -278,6 +281,7 @@ pub record Outcome : Type 0 where
 abbrev pub implied : Content → Change
 implied (content.Running threads) = resumes threads
 implied (content.Selected thread) = selects thread
+implied content.Exit = exits
 implied c = stays
 
 abbrev pub answered : Content → Outcome
@@ -330,7 +334,7 @@ set_by names given addr i (Some text) = set_as names given addr i text (parsed n
 abbrev pub placed : Program → Names → List Entry → ℕ → Insertion → ℕ → Outcome
 placed p names es given i addr =
     if is_some (text_word p addr)
-    then (if nat_lt (length es) MOST_BREAKPOINTS then set_by names given addr i i.condition else refusing (hindered TooManyBreakpoints))
+    then (if nat_lt (length es) breakpoints then set_by names given addr i i.condition else refusing (hindered TooManyBreakpoints))
     else refusing (hindered (NoInstruction addr))
 
 abbrev pub named_at : Program → Names → List Entry → ℕ → Insertion → List ℕ → Option Symbol → Outcome
@@ -509,6 +513,11 @@ abbrev pub given_after : ℕ → Change → ℕ
 given_after given (inserts a) = given + 1
 given_after given c = given
 
+-- whether the session was ended after a change
+abbrev pub exited_after : Bool → Change → Bool
+exited_after exited exits = true
+exited_after exited c = exited
+
 -- the state after a line that makes this change
 abbrev pub changed_by : State → Change → State
 changed_by s c = record s {
@@ -519,6 +528,7 @@ changed_by s c = record s {
   displaced = displaced_after s.displaced c;
   sets = sets_after s.sets c;
   noted = s.noted + 1;
+  exited = exited_after s.exited c;
 }
 
 -- the state after a line

@@ -46,6 +46,8 @@ pub record State : Type 0 where
   pub retired : ℕ
   -- how many entries other than `Ran` there are
   pub noted : ℕ
+  -- whether `-gdb-exit` was done
+  pub exited : Bool
 
 abbrev pub is_running : Mode → Bool
 is_running mode.Stopped = false
@@ -125,4 +127,5 @@ first_state o = record {
   passed = replicate o.settings.harts 0;
   retired = 0;
   noted = 0;
+  exited = false;
 }

@@ -171,6 +171,8 @@ pub enum Content {
     },
     /// The value of a setting.
     Setting(Displaced),
+    /// The session ends.
+    Exit,
     /// The line is refused.
     Refused(Refused),
 }

@@ -49,6 +49,7 @@ run_at o spare j m xs t ns =
       displaced = displaced.Auto;
       retired = 0;
       noted = 0;
+      exited = false;
     }
 
 abbrev pub first_run : Opening → ℕ → Run
@@ -143,7 +144,7 @@ begins o spare s places =
       planted = record { words = refl; patches = λ a. contains-empty nat_cmp a };
       texts = λ k b at. no_break k b at;
       places = places;
-      waits = length-replicate {A = Option ℕ} o.settings.harts None ∙ sym harts;
+      waits = refl;
       names = refl;
       retired = λ h c at. none_yet o.image.entry o.settings.harts o.settings.harts h c at;
       copied = λ some h c x ec ex. first_copied o spare h c x (replicated o.settings.harts h x ex);

@@ -4,7 +4,7 @@ use Rattle.std.specs.Prelude.{Some, ◌==◌, ◌&&◌, slice_get}
 use Rattle.std.proofs.lemmas.Bool.Decides.{nat_tests}
 use Rattle.plain_machine.specs.PlainRun.{Item, Step}
 use Rattle.hart_machine.specs.declared.hart.Core.{Core}
-use Rattle.dbg_model.specs.declared.limits.TheConstants.{HISTORY}
+use Rattle.dbg_model.specs.Limits.{history}
 use Rattle.dbg_model.specs.State.{any_leaves}
 use Rattle.dbg_model.specs.Lawful.{may_go}
 use Rattle.dbg_model.specs.Journals.{last_count}
@@ -33,8 +33,8 @@ steps_most : (k : ℕ) (is : List Item) → steps_of k is ≤ length is
 steps_most k [] = omega arith
 steps_most k (i ∷ is) = let ih = steps_most k is in let o = step_most k i in omega arith
 
-small : (r : Run) → Facts r → r.retired < r.opening.settings.budget → r.noted < HISTORY → Small r
-small r f budget history =
+small : (r : Run) → Facts r → r.retired < r.opening.settings.budget → r.noted < history → Small r
+small r f budget low =
     let n = counted r.opening r.journal (seen r) f.leaves in
     let least = last_count-le r.journal in
     let most = f.settings.budget.1 in
@@ -48,22 +48,22 @@ small r f budget history =
     }
 
 -- neither the budget nor the history is used up
-pub below : (r : Run) → may_go r.opening (seen r) ≡ true → (r.retired < r.opening.settings.budget) × (r.noted < HISTORY)
+pub below : (r : Run) → may_go r.opening (seen r) ≡ true → (r.retired < r.opening.settings.budget) × (r.noted < history)
 below r may =
-    let b = both_true (not (any_leaves (seen r).harts)) (nat_lt r.retired r.opening.settings.budget && nat_lt r.noted HISTORY) may in
-    let n = both_true (nat_lt r.retired r.opening.settings.budget) (nat_lt r.noted HISTORY) b.1 in
+    let b = both_true (not (any_leaves (seen r).harts)) (nat_lt r.retired r.opening.settings.budget && (nat_lt r.noted history && not r.exited)) may in
+    let n = both_true (nat_lt r.retired r.opening.settings.budget) (nat_lt r.noted history && not r.exited) b.1 in
     let first = n.0 in
-    let second = n.1 in (grind (arith, nat_tests), grind (arith, nat_tests))
+    let second = (both_true (nat_lt r.noted history) (not r.exited) n.1).0 in (grind (arith, nat_tests), grind (arith, nat_tests))
 
 pub small_at : (r : Run) → Facts r → may_go r.opening (seen r) ≡ true → Small r
 small_at r f may = let b = below r may in small r f b.0 b.1
 
--- an engine may go where neither is
-pub may_go_by : (r : Run) → r.retired < r.opening.settings.budget → r.noted < HISTORY → may_go r.opening (seen r) ≡ true
-may_go_by r b n =
+-- an engine may go where neither is, and no line ended it
+pub may_go_by : (r : Run) → r.retired < r.opening.settings.budget → r.noted < history → r.exited ≡ false → may_go r.opening (seen r) ≡ true
+may_go_by r b n open =
     let budget : nat_lt r.retired r.opening.settings.budget ≡ true = grind (arith, nat_tests) in
-    let history : nat_lt r.noted HISTORY ≡ true = grind (arith, nat_tests) in
-    rw (seen_quiet r.opening.image r.machine.cores r.minds, budget, history) refl
+    let low : nat_lt r.noted history ≡ true = grind (arith, nat_tests) in
+    rw (seen_quiet r.opening.image r.machine.cores r.minds, budget, low, open) refl
 
 and_false : (b : Bool) → (b && false) ≡ false
 and_false true = refl
@@ -74,7 +74,10 @@ may_not_budget r o =
     let budget : nat_lt r.retired r.opening.settings.budget ≡ false = grind (arith, nat_tests) in
     rw (seen_quiet r.opening.image r.machine.cores r.minds, budget) refl
 
-pub may_not_history : (r : Run) → HISTORY ≤ r.noted → may_go r.opening (seen r) ≡ false
+pub may_not_history : (r : Run) → history ≤ r.noted → may_go r.opening (seen r) ≡ false
 may_not_history r n =
-    let history : nat_lt r.noted HISTORY ≡ false = grind (arith, nat_tests) in
-    rw (seen_quiet r.opening.image r.machine.cores r.minds, history, and_false (nat_lt r.retired r.opening.settings.budget)) refl
+    let high : nat_lt r.noted history ≡ false = grind (arith, nat_tests) in
+    rw (seen_quiet r.opening.image r.machine.cores r.minds, high, and_false (nat_lt r.retired r.opening.settings.budget)) refl
+
+pub may_not_exited : (r : Run) → r.exited ≡ true → may_go r.opening (seen r) ≡ false
+may_not_exited r ended = rw (seen_quiet r.opening.image r.machine.cores r.minds, ended, and_false (nat_lt r.noted history), and_false (nat_lt r.retired r.opening.settings.budget)) refl

@@ -22,6 +22,7 @@ use Rattle.dbg_model.specs.Lawful as lawful
 use Rattle.dbg_model.specs.Leaving.{lefts_from, gone, LeaveWith}
 use Rattle.dbg_model.specs.Journals.{Leaves, lengthened}
 use Rattle.dbg_model.proofs.Adding.{lengthens}
+use Rattle.dbg_model.proofs.Ending.{one_open}
 use Rattle.dbg_model.proofs.Leaving.{drains}
 use Rattle.engine_facts.specs.declared.mind.Activity.TheVariants as activity
 use Rattle.engine_facts.specs.declared.mind.Mind.{Mind}
@@ -48,10 +49,10 @@ pub record Departs (r n : Run) (h code : ℕ) (lefts : List Entry) : Type 0 wher
   pub harts : (seen n).harts ≡ map gone between.harts
 
 -- the state after the entries of the harts that leave
-drained : (r n : Run) (h : ℕ) (t : State) (lefts : List Entry) → Facts r → n.opening ≡ r.opening → n.journal ≡ lengthened r.journal h ++ lefts → Leaves r.opening (lengthened r.journal h) t → lefts_from 0 t.harts ≡ lefts
+drained : (r n : Run) (h : ℕ) (t : State) (lefts : List Entry) → Facts r → n.opening ≡ r.opening → n.journal ≡ lengthened r.journal h ++ lefts → Leaves r.opening (lengthened r.journal h) t → t.exited ≡ false → lefts_from 0 t.harts ≡ lefts
     → Leaves n.opening n.journal (record t { harts = map gone t.harts; noted = t.noted + length lefts })
-drained r n h t lefts f same journal l is =
-    let d = drains r.opening (lengthened r.journal h) t [] t.harts t.noted refl l in
+drained r n h t lefts f same journal l open is =
+    let d = drains r.opening (lengthened r.journal h) t [] t.harts t.noted open refl l in
     let P : List Entry → Type 0 = λ es. Leaves r.opening (lengthened r.journal h ++ es) (record t { harts = map gone t.harts; noted = t.noted + length es }) in
     rw (same, journal) (subst P is d)
 
@@ -92,7 +93,7 @@ departs_alone r h spare code c d x mem t slots f m runs before none may is more 
     let e = idle_pending r.displaced in
     omega (arith, b, e)
     in
-    let e = entered n u f.settings (drained r n h s es f refl refl l lefts) (ap (λ hs. let v : State = record u { harts = hs } in v) after)
+    let e = entered n u f.settings (drained r n h s es f refl refl l (one_open r.opening h (seen r) s goes.one) lefts) (ap (λ hs. let v : State = record u { harts = hs } in v) after)
     (record {
       count = length-set r.minds h x' ∙ f.count;
       selected = f.selected;
@@ -102,7 +103,7 @@ departs_alone r h spare code c d x mem t slots f m runs before none may is more 
       planted = p;
       texts = f.texts;
       places = f.places;
-      waits = f.waits ∙ sym (length-set r.minds h x');
+      waits = f.waits;
       names = f.names;
       retired = retired_quiet cs (lengthened r.journal h) es (λ i. refl) (retired_ran r.machine.cores h c d r.journal m.core more f.retired);
       copied = copied_more r.opening.settings.slots r.machine.cores r.minds h c d x x' r.displaced (seen r).passed (seen r).sets (passes (seen r) y) m.core m.mind idle_bal f.copied;
@@ -164,7 +165,7 @@ departs_all r h spare code c c' x ds mem t slots f m runs before none may is mor
     let gone_len : length (map gone_mind xs) ≡ length xs = simp length-map in
     let counted = copied_more r.opening.settings.slots r.machine.cores r.minds h c c' x (ran_mind x) r.displaced (seen r).passed (seen r).sets (passes (seen r) y) m.core m.mind
     (balances r.opening.settings.slots r.displaced c c' x.phase (stands y.regs.pc r.breaks) before copied (here_none r c x none runs)) f.copied in
-    let e = entered n u f.settings (drained r n h s es f refl refl l lefts) (ap (λ hs. let v : State = record u { harts = hs } in v) after)
+    let e = entered n u f.settings (drained r n h s es f refl refl l (one_open r.opening h (seen r) s goes.one) lefts) (ap (λ hs. let v : State = record u { harts = hs } in v) after)
     (record {
       count = gone_len ∙ (minds ∙ f.count);
       selected = f.selected;
@@ -173,7 +174,7 @@ departs_all r h spare code c c' x ds mem t slots f m runs before none may is mor
       planted = p;
       texts = f.texts;
       places = f.places;
-      waits = f.waits ∙ sym (gone_len ∙ minds);
+      waits = f.waits;
       names = f.names;
       retired = retired_quiet ds (lengthened r.journal h) es (quiet_lefts_live code 0 xs) (retired_home image cs xs ds (lengthened r.journal h) home (retired_ran r.machine.cores h c c' r.journal m.core more f.retired));
       copied = copied_gone image r.opening.settings.slots cs xs ds r.displaced (one_more_at (seen r).passed h (passes (seen r) y)) (seen r).sets home counted;

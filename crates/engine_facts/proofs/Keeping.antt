@@ -1,6 +1,6 @@
 -- What each kind of move keeps.
-use Rattle.std.proofs.Common.{◌≡◌, ◌<◌, ◌≤◌, ℕ, List, length, refl, sym, ap, ◌∙◌, subst, length-set}
-use Rattle.std.specs.Prelude.{Option, Some, slice_get, slice_set}
+use Rattle.std.proofs.Common.{◌≡◌, ◌<◌, ◌≤◌, ℕ, List, length, replicate, refl, sym, ap, ◌∙◌, subst, length-set}
+use Rattle.std.specs.Prelude.{Option, Some, None, slice_get, slice_set}
 use Rattle.dbg_traits.specs.Settings.{AreSettings}
 use Rattle.text_words.specs.Words.{Words}
 use Rattle.elf_symbols.specs.Entries.{names_of}
@@ -43,7 +43,7 @@ pub record Stands (r : Run) (told : Told) : Type 0 where
   pub planted : Planted r.opening.image r.machine.text r.breaks r.hold
   pub texts : AreInText r.opening.image r.breaks
   pub places : (a : ℕ) → is_place r.bounds a ≡ is_instruction r.opening.image a
-  pub waits : length r.waits ≡ length r.minds
+  pub waits : r.waits ≡ replicate r.opening.settings.harts None
   pub names : r.names ≡ names_of r.opening.image
   pub retired : Retired r.machine.cores r.journal
   pub copied : AreCopied r.opening.settings.slots r.machine.cores r.minds r.displaced told.passed told.sets
@@ -103,7 +103,7 @@ silent_home r h c c' x x' t slots hold f m same ch len n p =
         planted = p;
         texts = f.texts;
         places = f.places;
-        waits = f.waits ∙ sym (length-set r.minds h x');
+        waits = f.waits;
         names = f.names;
         retired = retired_same r.machine.cores h c c' r.journal m.core n.retired f.retired;
         copied = copied_same r.opening.settings.slots r.machine.cores r.minds h c c' x x' r.displaced (seen r).passed (seen r).sets m.core m.mind n.copied n.pending f.copied;

@@ -13,3 +13,4 @@ pub mod Arriving
 pub mod Stopping
 pub mod Breaking
 pub mod Beginning
+pub mod Movers

@@ -76,7 +76,7 @@ halts r e h spare c x x' t bs f m fact rests quiet comes p texts =
       planted = p;
       texts = texts;
       places = f.places;
-      waits = f.waits ∙ sym (length-set r.minds h x');
+      waits = f.waits;
       names = f.names;
       retired = retired_noted r.machine.cores r.journal e quiet f.retired;
       copied = copied_mind r.opening.settings.slots r.machine.cores r.minds h c x x' r.displaced (seen r).passed (seen r).sets m.core m.mind rests.pending f.copied;
@@ -270,11 +270,11 @@ copied_line r xs d s f l some h c x ec ex =
     omega (arith, had, same, more, passed)
 
 -- a line is done that changes harts, the selected thread, the setting and the breakpoints
-pub lines : (r : Run) (e : Entry) (xs : List Mind) (selected : ℕ) (d : Displaced) (t : Words) (bs : List BreakEntry) (given spare : ℕ) (s : State) → Facts r → ran_hart e ≡ None → enter r.opening (seen r) e ≡ Some s
-    → s ≡ seen_with (lined r e xs selected d t bs given spare) (told_of s) → length xs ≡ length r.minds → IsThread r.opening selected → Harts r.opening.image r.machine.cores r.machine.slots xs r.hold → Resets r xs d s
-    → Planted r.opening.image t bs r.hold → AreInText r.opening.image bs → Enters (lined r e xs selected d t bs given spare) s
-lines r e xs selected d t bs given spare s f quiet comes same len thread hs l p texts =
-    entered (lined r e xs selected d t bs given spare) s f.settings (added r.opening r.journal (seen r) s e f.leaves quiet comes) same
+pub lines : (r : Run) (e : Entry) (xs : List Mind) (selected : ℕ) (d : Displaced) (t : Words) (bs : List BreakEntry) (given : ℕ) (exited : Bool) (spare : ℕ) (s : State) → Facts r → ran_hart e ≡ None → enter r.opening (seen r) e ≡ Some s
+    → s ≡ seen_with (lined r e xs selected d t bs given exited spare) (told_of s) → length xs ≡ length r.minds → IsThread r.opening selected → Harts r.opening.image r.machine.cores r.machine.slots xs r.hold → Resets r xs d s
+    → Planted r.opening.image t bs r.hold → AreInText r.opening.image bs → Enters (lined r e xs selected d t bs given exited spare) s
+lines r e xs selected d t bs given exited spare s f quiet comes same len thread hs l p texts =
+    entered (lined r e xs selected d t bs given exited spare) s f.settings (added r.opening r.journal (seen r) s e f.leaves quiet comes) same
     (record {
       count = len ∙ f.count;
       selected = thread;
@@ -283,7 +283,7 @@ lines r e xs selected d t bs given spare s f quiet comes same len thread hs l p 
       planted = p;
       texts = texts;
       places = f.places;
-      waits = f.waits ∙ sym len;
+      waits = f.waits;
       names = f.names;
       retired = retired_noted r.machine.cores r.journal e quiet f.retired;
       copied = copied_line r xs d s f l;

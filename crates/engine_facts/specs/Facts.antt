@@ -1,5 +1,5 @@
 -- What the type of an engine keeps.
-use Rattle.std.specs.Prelude.{◌≡◌, ◌<◌, ◌≤◌, ◌+◌, ℕ, Bool, false, ◌&&◌, ◌==◌, not, List, length, Option, Some, None, IsSome, slice_get, slice_index, if◌then◌else◌}
+use Rattle.std.specs.Prelude.{◌≡◌, ◌<◌, ◌≤◌, ◌+◌, ℕ, Bool, false, ◌&&◌, ◌==◌, not, List, length, replicate, Option, Some, None, IsSome, slice_get, slice_index, if◌then◌else◌}
 use Rattle.dbg_traits.specs.Settings.{AreSettings}
 use Rattle.rv_decode.specs.Decode.{decode}
 use Rattle.elf32_read.specs.Program.{Program, text_word}
@@ -140,7 +140,8 @@ pub record Facts (r : Run) : Type 0 where
   pub texts : AreInText r.opening.image r.breaks
   -- the table of breakpoints knows where text stands, and the harts
   pub places : (a : ℕ) → is_place r.bounds a ≡ is_instruction r.opening.image a
-  pub waits : length r.waits ≡ length r.minds
+  -- no hart waits at an address
+  pub waits : r.waits ≡ replicate r.opening.settings.harts None
   pub names : r.names ≡ names_of r.opening.image
   pub retired : Retired r.machine.cores r.journal
   pub copied : AreCopied r.opening.settings.slots r.machine.cores r.minds r.displaced (seen r).passed (seen r).sets

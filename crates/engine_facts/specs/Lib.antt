@@ -4,3 +4,4 @@ pub mod Facts
 pub mod Moves
 pub mod Homing
 pub mod Tables
+pub mod Movers

@@ -107,9 +107,9 @@ halted r e h x t bs spare =
       noted = r.noted + 1;
     }
 
--- a line was done, after which these are the harts, the selected thread, the setting, the patches and the breakpoints
-abbrev pub lined : Run → Entry → List Mind → ℕ → Displaced → Words → List BreakEntry → ℕ → ℕ → Run
-lined r e xs selected d t bs given spare =
+-- a line was done, after which these are the harts, the selected thread, the setting, the patches and the breakpoints, and whether the session was ended
+abbrev pub lined : Run → Entry → List Mind → ℕ → Displaced → Words → List BreakEntry → ℕ → Bool → ℕ → Run
+lined r e xs selected d t bs given exited spare =
     record r {
       journal = r.journal ++ e ∷ [];
       spare = spare;
@@ -120,4 +120,5 @@ lined r e xs selected d t bs given spare =
       selected = selected;
       displaced = d;
       noted = r.noted + 1;
+      exited = exited;
     }

@@ -1,5 +1,5 @@
 -- An engine as one value, and the state that it shows.
-use Rattle.std.specs.Prelude.{ℕ, List, [], ◌∷◌, Option, Some, None, true}
+use Rattle.std.specs.Prelude.{ℕ, Bool, List, [], ◌∷◌, Option, Some, None, true}
 use Rattle.std.specs.Option.{option_map_or}
 use Rattle.rv_exec.specs.Registers.{Registers, set_pc}
 use Rattle.elf32_read.specs.Program.{Program, text_word}
@@ -41,6 +41,8 @@ pub record Run : Type 0 where
   pub displaced : Displaced
   pub retired : ℕ
   pub noted : ℕ
+  -- whether `-gdb-exit` was done
+  pub exited : Bool
 
 -- the registers at home of a hart that has executed a copy of this word
 abbrev pub landed_regs : Option ℕ → ℕ → ℕ → Registers → Registers
@@ -95,6 +97,7 @@ seen_with r told = record {
   passed = told.passed;
   retired = r.retired;
   noted = r.noted;
+  exited = r.exited;
 }
 
 -- the state that an engine shows

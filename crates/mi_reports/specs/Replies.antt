@@ -69,7 +69,7 @@ setting_text displaced.Auto = text.AUTO.now
 
 -- ---- the reply
 
--- behind the token
+-- behind the token; no prompt follows an exit, after which no line is read
 abbrev pub content_text : Content → List ℕ
 content_text content.Blank = PROMPT.now
 content_text content.Done = text.DONE.now ++ text.END.now
@@ -86,6 +86,7 @@ content_text (content.Registers format registers) = text.REGISTERS_HEAD.now ++ j
 content_text (content.Memory addr bytes) = memory_text addr bytes
 content_text (content.Value word unsigned) = text.EVALUATED_HEAD.now ++ worth_text word unsigned ++ text.QUOTED_END.now
 content_text (content.Setting value) = text.EVALUATED_HEAD.now ++ setting_text value ++ text.QUOTED_END.now
+content_text content.Exit = text.EXIT.now
 content_text (content.Refused r) = refused_text r
 
 -- the lines of a reply

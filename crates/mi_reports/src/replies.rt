@@ -333,6 +333,7 @@ fn push_content(alloc: Global, into: &mut Vec<u8>, content: &Content) -> Result<
         Content::Memory { address, bytes } => push_memory(alloc, into, *address, bytes.as_slice()),
         Content::Value { word, unsigned } => push_evaluated(into, *word, *unsigned),
         Content::Setting(value) => push_setting(into, *value),
+        Content::Exit => push(into, text::EXIT),
         Content::Refused(refused) => push_error(alloc, into, refused),
     }
 }

@@ -3,6 +3,8 @@ pub const DONE: &str = "^done";
 
 pub const DONE_RUNNING: &str = "^running\n";
 
+pub const EXIT: &str = "^exit\n";
+
 pub const RUNNING_HEAD: &str = "*running,thread-id=\"";
 
 pub const LINE_END: &str = "\"\n";

@@ -17,7 +17,7 @@ use Rattle.dbg_engine.proofs.engine.Engine.note_line.Goals as goal
 use Rattle.dbg_engine.proofs.engine.Engine.note_line.Goals.{After-self-3-1}
 
 abbrev new_run : After-self-3-1 → List Mind → Run
-new_run c xs = record (run_of c.self.inside) { journal = c.note.new.entries.items; spare = vec_capacity c.note.new.entries - vec_len c.note.new.entries; minds = xs; selected = c.selected_after-self-inside.result; noted = (run_of c.self.inside).noted + 1 }
+new_run c xs = record (run_of c.self.inside) { journal = c.note.new.entries.items; spare = vec_capacity c.note.new.entries - vec_len c.note.new.entries; minds = xs; selected = c.selected_after-self-inside.result; noted = (run_of c.self.inside).noted + 1; exited = c.exited_after-self-inside.result }
 
 done : (c : After-self-3-1) → LinedTo (run_of c.self.inside) (new_run c c.resume_threads.new.minds) c.args.line.now
 done c =
@@ -25,8 +25,8 @@ done c =
     let P : Run → Type 0 = λ q. Makes q c.args.line.now (implied c.args.content.now) in
     let journal = c.note.ensures.entries ∙ (ap (λ t. t ++ Did c.of.result ∷ []) c.reserve.ensures.items ∙ ap (λ l. c.self.inside.entries.items ++ Did l ∷ []) (c.of.ensures ∙ c.in_ok-copy.ensures.items_if_clones_equal (λ x y e. e))) in
     let minds = c.resume_threads.ensures ∙ (ap (λ xs. resume_threads xs c.going_on.result.now) c.deref_mut.ensures.value ∙ ap (resume_threads r.minds) c.going_on.ensures) in
-    noted r (vec_capacity c.note.new.entries - vec_len c.note.new.entries) c.args.line.now c.args.content.now c.note.new.entries.items c.resume_threads.new.minds c.selected_after-self-inside.result c.self.invariant.facts
-    (ap (λ (q : Run). may_do q.opening (seen q) c.args.line.now) c.self.view_is ∙ c.requires.may) (subst P (sym c.self.view_is) c.requires.makes) journal minds c.selected_after-self-inside.ensures
+    noted r (vec_capacity c.note.new.entries - vec_len c.note.new.entries) c.args.line.now c.args.content.now c.note.new.entries.items c.resume_threads.new.minds c.selected_after-self-inside.result c.exited_after-self-inside.result c.self.invariant.facts
+    (ap (λ (q : Run). may_do q.opening (seen q) c.args.line.now) c.self.view_is ∙ c.requires.may) (subst P (sym c.self.view_is) c.requires.makes) journal minds c.selected_after-self-inside.ensures c.exited_after-self-inside.ensures
 
 -- the minds, written back
 minds_are : (c : After-self-3-1) → c.resume_threads.new.minds ≡ (with_items c.self.inside.minds c.resume_threads.new.minds).items

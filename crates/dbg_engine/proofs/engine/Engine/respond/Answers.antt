@@ -3,7 +3,7 @@ use Rattle.std.specs.Prelude.{Err}
 use Rattle.mi_commands.specs.Gives.{Commands}
 use Rattle.mi_commands.specs.declared.refusal.Refusal.{Refusal}
 use Rattle.mi_commands.specs.declared.refusal.Refusal.TheVariants.{Faulty}
-use Rattle.dbg_model.specs.declared.limits.TheConstants.{HISTORY}
+use Rattle.dbg_model.specs.Limits.{history}
 use Rattle.dbg_model.specs.Reply.{answer_of, outcome_at, fault_outcome}
 use Rattle.engine_facts.specs.Seen.{Run, seen}
 use Rattle.dbg_engine.specs.Answering.{seen_response, own_harts}
@@ -15,7 +15,7 @@ use Rattle.dbg_engine.proofs.engine.Engine.respond.Goals as goal
 pub answer-requires-clause-given : goal.answer-requires-clause-given
 answer-requires-clause-given c =
     let r = run_of c.self.inside in
-    numbers_room r c.self.invariant.facts (subst (λ (q : Run). q.noted < HISTORY) (sym c.self.view_is) c.requires)
+    numbers_room r c.self.invariant.facts (subst (λ (q : Run). q.noted < history) (sym c.self.view_is) c.requires)
 
 pub returns-in_ok-response-in-Ok : goal.returns-in_ok-response-in-Ok
 returns-in_ok-response-in-Ok c =

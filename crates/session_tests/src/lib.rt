@@ -1,0 +1,11 @@
+//! Tests of whole sessions over a world in memory: what the sessions stored in `tests/` can't bring about or see.
+#![tactic(auto)]
+
+#[cfg(test)]
+mod failures;
+#[cfg(test)]
+mod limits;
+#[cfg(test)]
+mod order;
+#[cfg(test)]
+mod worlds;
