@@ -1,13 +1,48 @@
 -- A hart that is picked in vain brings the next that can be moved nearer.
-use Rattle.std.proofs.Common.{◌≡◌, ◌<◌, ◌≤◌, ℕ, zero, suc, ◌+◌, ◌-◌, ◌*◌, min, Bool, true, false, List, [], ◌∷◌, length, drop, get_or, refl, sym, ap, ◌∙◌, arith, subst, length-drop}
-use Rattle.std.specs.Prelude.{Option, Some, None, ◌||◌, ◌&&◌, slice_get, if◌then◌else◌}
+use Rattle.std.proofs.Common.{◌≡◌, ◌<◌, ◌≤◌, ℕ, zero, suc, ◌+◌, ◌-◌, ◌*◌, Bool, true, false, List, [], ◌∷◌, length, drop, get_or, refl, sym, ap, ◌∙◌, arith, subst, length-drop}
+use Rattle.std.specs.Prelude.{Option, Some, None, ◌||◌, ◌&&◌, slice_get, find, nat_le, if◌then◌else◌}
+use Rattle.std.specs.List.{list_any}
+use Rattle.std.proofs.lemmas.Bool.Decides.{nat_tests}
 use Rattle.std.proofs.lemmas.List.{drop-drop, get_or-drop}
 use Rattle.engine_facts.specs.declared.mind.Mind.{Mind}
 use Rattle.engine_facts.specs.Minds.{runs}
 use Rattle.dbg_model.proofs.Options.{same_some}
-use Rattle.dbg_engine.specs.Steps.{running_from, some_or, next_running}
+use Rattle.dbg_engine.specs.Steps.{running_harts, least_running, some_or, next_running}
 use Rattle.dbg_session.specs.Stage.{Stage, moves_at}
 use Rattle.dbg_session.specs.Seen.{movers_from, movers, any_of, gap, ahead}
+
+-- the first hart of the list that runs, where the first of the list has the number k
+abbrev running_from : ℕ → List Mind → Option ℕ
+running_from k [] = None
+running_from k (x ∷ xs) = if runs x then Some k else running_from (k + 1) xs
+
+above : (f k : ℕ) → f ≤ k → nat_le f k ≡ true
+above f k le = grind (arith, nat_tests)
+
+not_above : (f k : ℕ) → k < f → nat_le f k ≡ false
+not_above f k lt = grind (arith, nat_tests)
+
+head_above : (b : Bool) (f k : ℕ) (ks : List ℕ) (o : Option ℕ) → nat_le f k ≡ true → find (nat_le f) ks ≡ o → find (nat_le f) (if b then k ∷ ks else ks) ≡ (if b then Some k else o)
+head_above true f k ks o is rest = rw is refl
+head_above false f k ks o is rest = rest
+
+-- where all are at the number or above it
+least_all : (f k : ℕ) (xs : List Mind) → f ≤ k → find (nat_le f) (running_harts k xs) ≡ running_from k xs
+least_all f k [] le = refl
+least_all f k (x ∷ xs) le = head_above (runs x) f k (running_harts (k + 1) xs) (running_from (k + 1) xs) (above f k le) (least_all f (k + 1) xs (omega arith))
+
+head_below : (b : Bool) (f k : ℕ) (ks : List ℕ) → nat_le f k ≡ false → find (nat_le f) (if b then k ∷ ks else ks) ≡ find (nat_le f) ks
+head_below true f k ks is = rw is refl
+head_below false f k ks is = refl
+
+-- those below the number are passed over
+least_from : (d f k : ℕ) (xs : List Mind) → f ≡ k + d → find (nat_le f) (running_harts k xs) ≡ running_from f (drop d xs)
+least_from zero f k xs is = least_all f k xs (omega arith) ∙ ap (λ n. running_from n xs) (let e : k ≡ f = omega arith in e)
+least_from (suc d) f k [] is = refl
+least_from (suc d) f k (x ∷ xs) is = head_below (runs x) f k (running_harts (k + 1) xs) (not_above f k (omega arith)) ∙ least_from d f (k + 1) xs (omega arith)
+
+next_is : (xs : List Mind) (from : ℕ) → next_running xs from ≡ some_or (running_from from (drop from xs)) (running_from 0 xs)
+next_is xs from = ap (λ o. some_or o (least_running xs 0)) (least_from from from 0 xs (omega arith)) ∙ ap (some_or (running_from from (drop from xs))) (least_from 0 0 0 xs refl)
 
 -- of these harts only those that run can be moved
 abbrev pub AreBelow : List Bool → List Mind → Type 0
@@ -45,8 +80,8 @@ record Vain (ms : List Bool) (k h : ℕ) : Type 0 where
   place : ℕ
   is : h ≡ k + place
   within : place < length ms
-  some : any_of ms ≡ true → (any_of (drop (place + 1) ms) ≡ true) × (gap ms ≡ place + 1 + gap (drop (place + 1) ms))
-  none : any_of ms ≡ false → any_of (drop (place + 1) ms) ≡ false
+  some : any_of ms ≡ true → (any_of (drop (suc place) ms) ≡ true) × (gap ms ≡ suc place + gap (drop (suc place) ms))
+  none : any_of ms ≡ false → any_of (drop (suc place) ms) ≡ false
 
 vain_first : (m : Bool) (ms : List Bool) (k : ℕ) → m ≡ false → Vain (m ∷ ms) k k
 vain_first true ms k is = cc
@@ -55,7 +90,7 @@ vain_first false ms k is = record { place = 0; is = omega arith; within = omega 
 vain_later : (m : Bool) (ms : List Bool) (k h : ℕ) → m ≡ false → Vain ms (k + 1) h → Vain (m ∷ ms) k h
 vain_later true ms k h is v = cc
 vain_later false ms k h is v = let e = v.is in let w = v.within in record {
-  place = v.place + 1;
+  place = suc v.place;
   is = omega arith;
   within = omega arith;
   some = λ any. let s = v.some any in let g = s.1 in (s.0, omega arith);
@@ -108,15 +143,15 @@ ahead_most ms next = ahead_by (any_of (drop next ms)) ms next refl
 fewer_behind : (b : Bool) (ms : List Bool) (next h : ℕ) → any_of (drop next ms) ≡ b → next ≤ length ms → Vain (drop next ms) next h → ahead ms (h + 1) < ahead ms next
 fewer_behind true ms next h is le v =
     let s = v.some is in
-    let at : drop (v.place + 1) (drop next ms) ≡ drop (h + 1) ms = drop-drop (v.place + 1) next ms ∙ ap (λ n. drop n ms) (let e = v.is in let k : next + (v.place + 1) ≡ h + 1 = omega arith in k) in
+    let at : drop (suc v.place) (drop next ms) ≡ drop (h + 1) ms = drop-drop (suc v.place) next ms ∙ ap (λ n. drop n ms) (let e = v.is in let k : next + suc v.place ≡ h + 1 = omega arith in k) in
     let some = subst (λ (xs : List Bool). any_of xs ≡ true) at s.0 in
-    let less = subst (λ (xs : List Bool). gap (drop next ms) ≡ v.place + 1 + gap xs) at s.1 in
+    let less = subst (λ (xs : List Bool). gap (drop next ms) ≡ suc v.place + gap xs) at s.1 in
     let e = ahead_some ms next is in
     let f = ahead_some ms (h + 1) some in
     omega arith
 fewer_behind false ms next h is le v =
     let none = v.none is in
-    let at : drop (v.place + 1) (drop next ms) ≡ drop (h + 1) ms = drop-drop (v.place + 1) next ms ∙ ap (λ n. drop n ms) (let e = v.is in let k : next + (v.place + 1) ≡ h + 1 = omega arith in k) in
+    let at : drop (suc v.place) (drop next ms) ≡ drop (h + 1) ms = drop-drop (suc v.place) next ms ∙ ap (λ n. drop n ms) (let e = v.is in let k : next + suc v.place ≡ h + 1 = omega arith in k) in
     let gone = subst (λ (xs : List Bool). any_of xs ≡ false) at none in
     let e = ahead_none ms next is in
     let f = ahead_none ms (h + 1) gone in
@@ -130,8 +165,9 @@ fewer_round : (ms : List Bool) (next h : ℕ) → any_of (drop next ms) ≡ fals
 fewer_round ms next h none some v =
     let s = v.some some in
     let i : v.place ≡ h = let e = v.is in omega arith in
-    let any = subst (λ n. any_of (drop (n + 1) ms) ≡ true) i s.0 in
-    let less = subst (λ n. gap ms ≡ n + 1 + gap (drop (n + 1) ms)) i s.1 in
+    let j : suc v.place ≡ h + 1 = omega (arith, i) in
+    let any = subst (λ n. any_of (drop n ms) ≡ true) j s.0 in
+    let less = subst (λ n. gap ms ≡ n + gap (drop n ms)) j s.1 in
     let e = ahead_none ms next none in
     let f = ahead_some ms (h + 1) any in
     omega arith
@@ -139,31 +175,43 @@ fewer_round ms next h none some v =
 rests_drop : (n h : ℕ) (ms : List Bool) → get_or ms h false ≡ false → Rests (drop n ms) n h
 rests_drop n h ms rests = λ j e. get_or-drop n ms j false ∙ (ap (λ i. get_or ms i false) (sym e) ∙ rests)
 
--- either way
-fewer_by : (f next h : ℕ) (ms : List Bool) (xs : List Mind) (first : Option ℕ) → f ≤ length ms → drop f ms ≡ drop next ms → length ms - f ≡ length ms - next → AreBelow ms xs → running_from f (drop f xs) ≡ first → some_or first (running_from 0 xs) ≡ Some h → get_or ms h false ≡ false → any_of ms ≡ true
-    → ahead ms (h + 1) < ahead ms next
-fewer_by f next h ms xs (Some k) le same long below found is rests some =
-    let e : k ≡ h = same_number k h is in
-    let v = vain f h (drop f ms) (drop f xs) (below_drop f ms xs below) (found ∙ is) (rests_drop f h ms rests) in
-    let less = fewer_behind (any_of (drop f ms)) ms f h refl le v in
-    let at : ahead ms f ≡ ahead ms next = ap (λ ys. if any_of ys then gap ys else ((length ms - f) + 1 + gap ms)) same ∙ ap (λ n. if any_of (drop next ms) then gap (drop next ms) else (n + 1 + gap ms)) long in
-    omega arith
-fewer_by f next h ms xs None le same long below found is rests some =
-    let none = none_moves f (drop f ms) (drop f xs) (below_drop f ms xs below) found in
-    let gone : any_of (drop next ms) ≡ false = ap any_of (sym same) ∙ none in
-    fewer_round ms next h gone some (vain 0 h ms xs below is (rests_drop 0 h ms rests))
+-- nothing of a list is left behind its end
+none_within : (xs : List Mind) (k h : ℕ) → running_from k xs ≡ Some h → 0 < length xs
+none_within [] k h is = cc
+none_within (x ∷ xs) k h is = omega arith
 
-cut_same : (next : ℕ) (ms : List Bool) → drop (min next (length ms)) ms ≡ drop next ms
-cut_same zero ms = refl
-cut_same (suc n) [] = refl
-cut_same (suc n) (m ∷ ms) = let e : min (suc n) (suc (length ms)) ≡ suc (min n (length ms)) = omega arith in ap (λ k. drop k (m ∷ ms)) e ∙ cut_same n ms
+-- either way
+fewer_by : (next h : ℕ) (ms : List Bool) (xs : List Mind) (first : Option ℕ) → length ms ≡ length xs → AreBelow ms xs → running_from next (drop next xs) ≡ first → some_or first (running_from 0 xs) ≡ Some h → get_or ms h false ≡ false → any_of ms ≡ true
+    → ahead ms (h + 1) < ahead ms next
+fewer_by next h ms xs (Some k) len below found is rests some =
+    let there = found ∙ is in
+    let some_left = none_within (drop next xs) next h there in
+    let l = length-drop next xs in
+    let v = vain next h (drop next ms) (drop next xs) (below_drop next ms xs below) there (rests_drop next h ms rests) in
+    fewer_behind (any_of (drop next ms)) ms next h refl (omega arith) v
+fewer_by next h ms xs None len below found is rests some =
+    let none = none_moves next (drop next ms) (drop next xs) (below_drop next ms xs below) found in
+    fewer_round ms next h none some (vain 0 h ms xs below is (rests_drop 0 h ms rests))
 
 -- the next that runs can't be moved, and another can: after it fewer are picked in vain
 pub fewer : (next h : ℕ) (ms : List Bool) (xs : List Mind) → AreBelow ms xs → length ms ≡ length xs → next_running xs next ≡ Some h → get_or ms h false ≡ false → any_of ms ≡ true → ahead ms (h + 1) < ahead ms next
-fewer next h ms xs below len is rests some =
-    let f = min next (length xs) in
-    let same : drop f ms ≡ drop next ms = ap (λ n. drop (min next n) ms) (sym len) ∙ cut_same next ms in
-    fewer_by f next h ms xs (running_from f (drop f xs)) (omega (arith, len)) same (omega (arith, len)) below refl is rests some
+fewer next h ms xs below len is rests some = fewer_by next h ms xs (running_from next (drop next xs)) len below refl (sym (next_is xs next) ∙ is) rests some
+
+none_here : (b rest : Bool) (k : ℕ) (o : Option ℕ) → (if b then Some k else o) ≡ None → (o ≡ None → rest ≡ false) → (b || rest) ≡ false
+none_here true rest k o is more = cc
+none_here false rest k o is more = more is
+
+-- where none is next, none runs
+from_none : (k : ℕ) (xs : List Mind) → running_from k xs ≡ None → list_any runs xs ≡ false
+from_none k [] is = refl
+from_none k (x ∷ xs) is = none_here (runs x) (list_any runs xs) k (running_from (k + 1) xs) is (from_none (k + 1) xs)
+
+or_none : (a b : Option ℕ) → some_or a b ≡ None → b ≡ None
+or_none None b is = is
+or_none (Some k) b is = cc
+
+pub none_runs : (xs : List Mind) (next : ℕ) → next_running xs next ≡ None → list_any runs xs ≡ false
+none_runs xs next is = from_none 0 xs (or_none (running_from next (drop next xs)) (running_from 0 xs) (sym (next_is xs next) ∙ is))
 
 -- ---- the movers of an engine
 
@@ -183,7 +231,7 @@ some_of (false ∷ ms) zero is = cc
 some_of (false ∷ ms) (suc j) is = some_of ms j is
 
 pub some_mover : (r : Stage) (m : ℕ) → m < length r.minds → moves_at r m ≡ true → any_of (movers r) ≡ true
-some_mover r m low is = some_of (movers r) m (mover_at r 0 (length r.minds) m low ∙ is)
+some_mover r m low is = some_of (movers r) m (mover_at r 0 (length r.minds) m low ∙ (ap (moves_at r) (let e : 0 + m ≡ m = omega arith in e) ∙ is))
 
 pub movers_below : (r : Stage) (k : ℕ) (xs : List Mind) → ((j : ℕ) (x : Mind) → slice_get xs j ≡ Some x → moves_at r (k + j) ≡ true → runs x ≡ true) → AreBelow (movers_from r k (length xs)) xs
 movers_below r k [] run = tt

@@ -6,38 +6,21 @@ use Rattle.std.specs.Option.{option_map}
 use Rattle.elf32_read.specs.Program.{Program}
 use Rattle.scratch_slots.specs.declared.slots.SlotUse.{SlotUse}
 use Rattle.scratch_slots.specs.Table.{least_free, AllOut}
-use Rattle.step_over.specs.declared.phase.Phase.{Phase}
-use Rattle.step_over.specs.declared.phase.Phase.TheVariants as phase
 use Rattle.hart_machine.specs.declared.hart.Core.{Core}
-use Rattle.hart_machine.proofs.Places.{same_some}
 use Rattle.mi_input.specs.Lines.{IsNext, lines}
-use Rattle.dbg_model.specs.State.{is_running}
 use Rattle.dbg_model.proofs.Options.{both_true}
-use Rattle.engine_facts.specs.declared.mind.Activity.{Activity}
-use Rattle.engine_facts.specs.declared.mind.Activity.TheVariants as activity
 use Rattle.engine_facts.specs.declared.mind.Mind.{Mind}
 use Rattle.dbg_engine.specs.declared.engine.Closed.{Closed}
 use Rattle.engine_facts.specs.Minds.{mode_of, is_active, runs}
 use Rattle.engine_facts.specs.Seen.{Run, seen, seen_regs, seen_harts}
 use Rattle.engine_facts.specs.Moves.{AreHome}
 use Rattle.engine_facts.specs.Facts.{Facts}
-use Rattle.engine_facts.proofs.Seeing.{any_seen}
 use Rattle.dbg_engine.specs.Calls.{Closes}
-use Rattle.dbg_session.specs.Stage.{stage_of, runs_at, is_free, is_idle, idle_as, are_out, waits_for_slot, moves_at}
+use Rattle.engine_facts.specs.Movers.{runs_at, is_free, is_idle, idle_as, are_out, waits_for_slot}
+use Rattle.engine_facts.proofs.Movers.{runs_mind}
+use Rattle.dbg_session.specs.Stage.{stage_of, moves_at}
 use Rattle.dbg_session.specs.Taking.{has_line, is_some_line}
 use Rattle.dbg_session.specs.Left.{IsLeft, core_registers, hart_registers}
-
-active_runs : (a : Activity) → is_running (mode_of a) ≡ is_active a
-active_runs activity.Stopped = refl
-active_runs activity.Running = refl
-active_runs activity.Exited = refl
-
-runs_mind : (p : Program) (cs : List Core) (xs : List Mind) (h : ℕ) (x : Mind) → length cs ≡ length xs → slice_get xs h ≡ Some x → runs_at (seen_harts p cs xs) h ≡ runs x
-runs_mind p [] [] h x len at = cc
-runs_mind p [] (y ∷ ys) h x len at = absurd (omega arith)
-runs_mind p (c ∷ cs) [] h x len at = cc
-runs_mind p (c ∷ cs) (y ∷ ys) zero x len at = active_runs y.activity ∙ ap runs (same_some y x at)
-runs_mind p (c ∷ cs) (y ∷ ys) (suc h) x len at = let l : length cs ≡ length ys = omega arith in runs_mind p cs ys h x l at
 
 pub and_false : (b : Bool) → (b && false) ≡ false
 and_false true = refl
@@ -54,27 +37,9 @@ none_least [] out = refl
 none_least (None ∷ slots) out = absurd (out 0 refl)
 none_least (Some u ∷ slots) out = ap (option_map suc) (none_least slots (λ k at. out (suc k) at))
 
-none_next : (o : Option ℕ) → option_map suc o ≡ None → o ≡ None
-none_next None e = refl
-none_next (Some k) e = cc
-
-none_there : (slots : List (Option SlotUse)) (k : ℕ) → least_free slots ≡ None → slice_get slots k ≡ Some None → ⊥
-none_there [] k e at = cc
-none_there (None ∷ slots) k e at = cc
-none_there (Some u ∷ slots) zero e at = cc
-none_there (Some u ∷ slots) (suc k) e at = none_there slots k (none_next (least_free slots) e) at
-
-none_so : (o : Option ℕ) → is_none o ≡ true → o ≡ None
-none_so None e = refl
-none_so (Some k) e = cc
-
 pub out_so : (slots : List (Option SlotUse)) → 0 < length slots → AllOut slots → are_out slots ≡ true
 out_so [] some out = absurd (omega arith)
 out_so (u ∷ slots) some out = ap is_none (none_least (u ∷ slots) out)
-
-out_is : (slots : List (Option SlotUse)) → are_out slots ≡ true → (0 < length slots) × AllOut slots
-out_is [] is = cc
-out_is (u ∷ slots) is = let none = none_so (least_free (u ∷ slots)) is in (omega arith, λ k at. none_there (u ∷ slots) k none at)
 
 -- a whole line stands in a rest whose next line is found
 pub next_stands : (ended : Bool) (rest line : List ℕ) (next : ℕ) → IsNext ended rest line next → has_line ended rest ≡ true

@@ -16,6 +16,7 @@ use Rattle.dbg_model.specs.Lawful.{one}
 use Rattle.dbg_model.specs.Leaving.{lefts_from, gone}
 use Rattle.dbg_model.specs.Journals.{lengthened, did}
 use Rattle.dbg_model.proofs.Adding.{lengthens}
+use Rattle.dbg_model.proofs.Ending.{one_open}
 use Rattle.mi_reports.specs.Text.{stream_text, stop_text, interrupt_text, break_text, lefts_text}
 use Rattle.mi_reports.specs.Replies.{reply_text}
 use Rattle.mi_reports.specs.Said.{said, hart_pc}
@@ -33,7 +34,8 @@ use Rattle.engine_facts.specs.Minds.{mode_of, is_active, with_phase, counted_min
 use Rattle.engine_facts.proofs.Seeing.{seen_at}
 use Rattle.dbg_engine.specs.Calls.{Of, Turns, Runs, Exits, Halts, Counts, Rephases, Does}
 use Rattle.break_table.specs.declared.due.CondError.{CondError}
-use Rattle.dbg_session.specs.Stage.{stage_of, work_of, running, moves, moves_of, moves_left, runs_at, runs_as, is_free, is_idle, idle_as, waits_for_slot, moves_at}
+use Rattle.engine_facts.specs.Movers.{runs_at, runs_as, is_free, is_idle, idle_as, waits_for_slot}
+use Rattle.dbg_session.specs.Stage.{stage_of, work_of, running, moves, moves_of, moves_left, moves_at}
 use Rattle.dbg_model.specs.State.{is_running}
 use Rattle.dbg_model.specs.Lawful.{may_go}
 use Rattle.engine_facts.specs.declared.mind.Activity.{Activity}
@@ -121,7 +123,7 @@ exits_say t r s h pc count code f g m text =
     let lefts = lefts_from 0 m.between.harts in
     let l = lengthens r.opening r.journal h (seen r) m.between f.leaves m.one in
     let first : said r.opening j ≡ said r.opening r.journal = said_lengthened r.opening r.journal h (seen r) f.leaves ∙ (ap (λ u. said r.opening r.journal ++ u) (ap stream_text m.wrote ∙ nothing_written) ∙ append-nil (said r.opening r.journal)) in
-    let exits = said_exits r.opening j m.between code l m.codes m.some in
+    let exits = said_exits r.opening j m.between code l (one_open r.opening h (seen r) m.between m.one) m.codes m.some in
     let last : lefts_text lefts (all_gone (map gone m.between.harts)) code ≡ last_lefts s count code =
     ap (λ es. lefts_text es (all_gone (map gone m.between.harts)) code) (sym (last_are s.journal j lefts count m.journal m.counted)) ∙ ap (λ xs. lefts_text (drop (length s.journal - count) s.journal) (all_gone xs) code) (sym m.harts) in
     record {

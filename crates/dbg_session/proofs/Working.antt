@@ -12,7 +12,7 @@ use Rattle.dbg_model.specs.declared.entry.Why.{Why}
 use Rattle.dbg_model.specs.declared.entry.Why.TheVariants.{Break, Interrupted, Fault}
 use Rattle.dbg_model.specs.Breaks.{is_stop}
 use Rattle.dbg_model.specs.declared.entry.Entry.TheVariants.{Counted, Stopped}
-use Rattle.dbg_model.specs.declared.limits.TheConstants.{HISTORY}
+use Rattle.dbg_model.specs.Limits.{history}
 use Rattle.dbg_model.specs.declared.opening.Opening.{Opening}
 use Rattle.dbg_model.specs.State.{Hart, State, hart_runs, any_runs, any_leaves, is_running, due, is_due, is_counted, arrived}
 use Rattle.dbg_model.specs.Reply.{done_by}
@@ -22,7 +22,8 @@ use Rattle.dbg_model.proofs.Options.{guard_some, same_some, both_true}
 use Rattle.engine_facts.specs.declared.mind.Mind.{Mind}
 use Rattle.step_over.specs.declared.phase.Phase.{Phase}
 use Rattle.step_over.specs.declared.phase.Phase.TheVariants as phase
-use Rattle.dbg_session.specs.Stage.{running, moves, moves_of, moves_left, runs_at, runs_as}
+use Rattle.engine_facts.specs.Movers.{runs_at, runs_as}
+use Rattle.dbg_session.specs.Stage.{running, moves, moves_of, moves_left}
 
 abbrev one_if : Bool → ℕ
 one_if b = cond b 1 0
@@ -80,8 +81,8 @@ answer_works o (Goes r m out leave) s t h x at below is =
 
 go_below : (o : Opening) (s : State) → may_go o s ≡ true → s.retired < o.settings.budget
 go_below o s may =
-    let b = both_true (not (any_leaves s.harts)) (nat_lt s.retired o.settings.budget && nat_lt s.noted HISTORY) may in
-    let n = both_true (nat_lt s.retired o.settings.budget) (nat_lt s.noted HISTORY) b.1 in
+    let b = both_true (not (any_leaves s.harts)) (nat_lt s.retired o.settings.budget && (nat_lt s.noted history && not s.exited)) may in
+    let n = both_true (nat_lt s.retired o.settings.budget) (nat_lt s.noted history && not s.exited) b.1 in
     let first = n.0 in
     grind (arith, nat_tests)
 

@@ -1,7 +1,6 @@
 -- What a session's engine is seen as.
-use Rattle.std.specs.Prelude.{ℕ, ◌+◌, ◌-◌, ◌*◌, ◌&&◌, Bool, true, false, not, cond, List, [], ◌∷◌, Option, Some, None, is_none, slice_get}
+use Rattle.std.specs.Prelude.{ℕ, ◌+◌, ◌-◌, ◌*◌, Bool, true, false, cond, List, [], ◌∷◌, Option}
 use Rattle.scratch_slots.specs.declared.slots.SlotUse.{SlotUse}
-use Rattle.scratch_slots.specs.Table.{least_free}
 use Rattle.dbg_model.specs.declared.entry.Entry.{Entry}
 use Rattle.dbg_model.specs.declared.opening.Opening.{Opening}
 use Rattle.dbg_model.specs.State.{Hart, State, hart_runs}
@@ -9,7 +8,7 @@ use Rattle.engine_facts.specs.declared.mind.Hold.{Hold}
 use Rattle.engine_facts.specs.declared.mind.Mind.{Mind}
 use Rattle.step_over.specs.declared.phase.Phase.{Phase}
 use Rattle.step_over.specs.declared.phase.Phase.TheVariants as phase
-use Rattle.engine_facts.specs.Facts.{other_holder}
+use Rattle.engine_facts.specs.Movers.{moves_in}
 use Rattle.engine_facts.specs.Seen.{Run, seen}
 
 -- how the session began, its journal, the state that the journal leaves, where its harts are in steps over breakpoints, and who has which scratch slot
@@ -48,38 +47,6 @@ moves (x ∷ xs) = moves_left x + moves xs
 abbrev pub work_of : Stage → ℕ
 work_of r = 49 * (r.opening.settings.budget - r.state.retired) + (49 * running r.state.harts + moves r.minds)
 
-abbrev pub runs_as : Option Hart → Bool
-runs_as None = false
-runs_as (Some x) = hart_runs x
-
--- whether a hart runs
-abbrev pub runs_at : List Hart → ℕ → Bool
-runs_at xs h = runs_as (slice_get xs h)
-
--- whether no other hart is stepping over a breakpoint
-abbrev pub is_free : Option Hold → ℕ → Bool
-is_free hold h = is_none (other_holder hold h)
-
-abbrev pub is_idle : Phase → Bool
-is_idle phase.Idle = true
-is_idle (phase.Copied slot home) = false
-is_idle (phase.Landed slot home) = false
-is_idle (phase.Lifted home) = false
-is_idle (phase.Ran home) = false
-
-abbrev pub idle_as : Option Mind → Bool
-idle_as None = false
-idle_as (Some x) = is_idle x.phase
-
--- there are slots, and all are out
-abbrev pub are_out : List (Option SlotUse) → Bool
-are_out [] = false
-are_out (u ∷ slots) = is_none (least_free (u ∷ slots))
-
--- whether a hart that steps over nothing may have to wait for a slot
-abbrev pub waits_for_slot : List (Option SlotUse) → List Mind → ℕ → Bool
-waits_for_slot slots minds h = are_out slots && idle_as (slice_get minds h)
-
 -- whether a hart can be moved, whatever stands at its pc
 abbrev pub moves_at : Stage → ℕ → Bool
-moves_at r h = (runs_at r.state.harts h && is_free r.hold h) && not (waits_for_slot r.slots r.minds h)
+moves_at r h = moves_in r.state.harts r.hold r.slots r.minds h
