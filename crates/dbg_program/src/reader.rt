@@ -68,8 +68,8 @@ impl Shared {
             self.feed.lock(rt)
         };
         let n = feed.take(into);
-        self.left.notify_all();
         if n > 0 {
+            self.left.notify_all();
             return Polled::Took(n);
         }
         match feed.source {
