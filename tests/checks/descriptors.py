@@ -39,19 +39,21 @@ def check_long_input(rig):
     rig.row("4,194,304 empty lines: output", output == OPENING + b"(gdb)\n" * 4_194_304, True)
 
 
-def small_memory(bytes):
-    """What has a new process take at most so much memory."""
-    return lambda: resource.setrlimit(resource.RLIMIT_AS, (bytes, bytes))
-
-
 def check_memory(rig):
     """Where memory is short the program ends with 7, or does all that it does with more; it never does half of it."""
     whole = (0, OPENING + RUNNING + EXITED)
-    found = [rig.run(["--workers", "0", "exit"], CONTINUE, preexec_fn=small_memory(size << 20)) for size in range(3, 40)]
-    ends = [it[0] for it in found]
-    rig.row("short memory: statuses", sorted({it for it in ends if it >= 0} - {0, 7}), [])
-    rig.row("short memory: some run ends with 7", 7 in ends, True)
+    found = [with_memory(rig, megabytes) for megabytes in range(3, 40)]
+    # (below some size the system can't load the program at all, which is 127)
+    rig.row("short memory: statuses", sorted({status for status, _ in found} - {0, 7, 127}), [])
+    rig.row("short memory: some run ends with 7", 7 in [status for status, _ in found], True)
     rig.row("short memory: whole where it ends with 0", all(it == whole for it in found if it[0] == 0), True)
+
+
+def with_memory(rig, megabytes):
+    """A short session in a process that may have so much memory."""
+    bytes = megabytes << 20
+    limits = lambda: resource.setrlimit(resource.RLIMIT_AS, (bytes, bytes))
+    return rig.run(["--workers", "0", "exit"], CONTINUE, preexec_fn=limits, stderr=subprocess.DEVNULL)
 
 
 def check_input_that_fails(rig):
@@ -184,7 +186,7 @@ def processor_time(number):
 
 def check_stop_signals(rig):
     """A program that is stopped and continued while it waits for input, and while its hart runs, goes on."""
-    with Talk(rig, ["--workers", "0", "--budget", "30000000", "loop"]) as talk:
+    with Talk(rig, ["--workers", "0", "--budget", "3000000", "loop"]) as talk:
         rig.row("stop signals: the opening", talk.hear(OPENING), True)
         for text in (b"-thread-list-ids\n", CONTINUE):
             talk.process.send_signal(signal.SIGSTOP)
@@ -214,12 +216,4 @@ def check_descriptors(rig):
         check_not_ready,
         check_stop_signals,
     ):
-        guarded(rig, check)
-
-
-def guarded(rig, check):
-    """Runs a check; one that breaks off is a row that failed."""
-    try:
-        check(rig)
-    except (OSError, subprocess.SubprocessError) as error:
-        rig.row(check.__name__, repr(error), "no error")
+        rig.guarded(check.__name__, lambda: check(rig))

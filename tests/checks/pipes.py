@@ -3,7 +3,7 @@
 import os
 import time
 
-from checks.descriptors import CONTINUE, guarded
+from checks.descriptors import CONTINUE
 from checks.programs import EXIT, LOOP, plain
 from checks.rig import EXITED, OPENING, RUNNING, Talk
 
@@ -76,4 +76,4 @@ def check_pipes(rig):
     rig.put("loop", plain(LOOP))
     rig.put("writer", plain(WRITER, b"hi\n"))
     for check in (check_interrupt, check_exit, check_silence, check_answers_while_running, check_link):
-        guarded(rig, check)
+        rig.guarded(check.__name__, lambda: check(rig))

@@ -35,6 +35,13 @@ class Rig:
         self.failed += 1
         print("outside: FAILED: %s\n  found:  %s\n  wanted: %s" % (name, shown(found), shown(wanted)), flush=True)
 
+    def guarded(self, name, check):
+        """Does a check; one that breaks off is a row that failed."""
+        try:
+            check()
+        except (OSError, subprocess.SubprocessError) as error:
+            self.row(name, repr(error), "no error")
+
     def run(self, words, input=b"", **how):
         """Runs the program to its end, and gives its status and what it wrote."""
         how.setdefault("stdout", subprocess.PIPE)

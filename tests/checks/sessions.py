@@ -35,4 +35,4 @@ def check_sessions(rig, top, euclid):
     for name in sorted(os.listdir(top)):
         folder = os.path.join(top, name)
         if os.path.isdir(folder):
-            check_session(rig, folder, name, euclid)
+            rig.guarded(name, lambda: check_session(rig, folder, name, euclid))
