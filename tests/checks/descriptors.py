@@ -6,6 +6,7 @@ import random
 import resource
 import signal
 import subprocess
+import threading
 import time
 
 from checks.programs import EXIT, LOOP, plain
@@ -121,22 +122,18 @@ def check_large_input(rig):
     reply = b'%d^done,thread-ids={thread-id="1"},current-thread-id="1",number-of-threads="1"\n(gdb)\n'
     wanted = OPENING + b"".join(reply % number for number in range(1, count + 1))
     with Talk(rig, ["--workers", "0", "exit"]) as talk:
-        writer = os.fork()
-        if writer == 0:
-            write_in_pieces(talk.process.stdin.fileno(), lines, dice)
-            os._exit(0)
-        talk.process.stdin.close()
-        talk.process.stdin = None
+        threading.Thread(target=write_in_pieces, args=(talk.process.stdin, lines, dice), daemon=True).start()
         rig.row("%d lines in pieces: output" % count, talk.rest() == wanted, True)
         rig.row("%d lines in pieces: status" % count, talk.status(), 0)
-        os.waitpid(writer, 0)
+        talk.process.stdin = None
 
 
-def write_in_pieces(descriptor, bytes, dice):
-    """Writes all of it, in pieces of random lengths."""
+def write_in_pieces(pipe, bytes, dice):
+    """Writes all of it, in pieces of random lengths, and closes the pipe."""
     at = 0
-    while at < len(bytes):
-        at += os.write(descriptor, bytes[at : at + dice.choice([1, 7, 100, 4096, 4097, 70_000])])
+    with pipe:
+        while at < len(bytes):
+            at += pipe.write(bytes[at : at + dice.choice([1, 7, 100, 4096, 4097, 70_000])])
 
 
 def never_waits(descriptor):

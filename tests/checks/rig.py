@@ -64,7 +64,7 @@ class Talk:
         how.setdefault("stdin", subprocess.PIPE)
         how.setdefault("stdout", subprocess.PIPE)
         self.process = subprocess.Popen([program or rig.program, *words], cwd=rig.folder, bufsize=0, **how)
-        self.heard = b""
+        self.heard = bytearray()
 
     def __enter__(self):
         return self
@@ -81,23 +81,34 @@ class Talk:
         """Writes to the program's input."""
         self.process.stdin.write(text)
 
+    def more(self, ends):
+        """Reads a piece of the output, and says whether one came before that time."""
+        left = ends - time.monotonic()
+        if left <= 0 or not select.select([self.process.stdout], [], [], left)[0]:
+            return False
+        piece = os.read(self.process.stdout.fileno(), 65536)
+        self.heard += piece
+        return len(piece) > 0
+
     def hear(self, text, count=1):
         """Reads until the text was written so often, and says whether it came in time."""
-        ends = time.monotonic() + PATIENCE
-        while self.heard.count(text) < count:
-            left = ends - time.monotonic()
-            if left <= 0 or not select.select([self.process.stdout], [], [], left)[0]:
+        ends, found, at = time.monotonic() + PATIENCE, 0, 0
+        while found < count:
+            place = self.heard.find(text, at)
+            if place >= 0:
+                found, at = found + 1, place + len(text)
+                continue
+            at = max(at, len(self.heard) - len(text) + 1)
+            if not self.more(ends):
                 return False
-            piece = os.read(self.process.stdout.fileno(), 65536)
-            if not piece:
-                return False
-            self.heard += piece
         return True
 
     def rest(self):
-        """Reads to the end of the output."""
-        self.hear(b"\0 no output has this")
-        return self.heard
+        """Reads to the end of the output, and gives all of it."""
+        ends = time.monotonic() + PATIENCE
+        while self.more(ends):
+            pass
+        return bytes(self.heard)
 
     def status(self):
         """The exit status, or None where the program doesn't end; its input stays open meanwhile."""
