@@ -1,5 +1,5 @@
 -- What a step of the machine does to the journal and to what is kept of the harts, and which hart is next.
-use Rattle.std.specs.Prelude.{ℕ, ◌+◌, ◌<◌, Bool, true, false, List, [], ◌∷◌, ◌++◌, length, find, nat_le, map, slice_set, Option, Some, None, if◌then◌else◌}
+use Rattle.std.specs.Prelude.{ℕ, ◌+◌, ◌<◌, List, [], ◌∷◌, ◌++◌, length, find, nat_le, map, slice_set, Option, Some, None, if◌then◌else◌}
 use Rattle.rv_exec.specs.declared.effect.Stepped.{Stepped}
 use Rattle.rv_exec.specs.declared.effect.Stepped.TheVariants as stepped
 use Rattle.dbg_model.specs.declared.entry.Entry.{Entry}

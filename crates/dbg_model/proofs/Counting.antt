@@ -1,6 +1,6 @@
 -- The numbers of a state are those of its journal.
 use Rattle.std.proofs.Common.{◌≡◌, ℕ, zero, suc, ◌+◌, ◌≤◌, Bool, true, false, cond, List, [], ◌∷◌, ◌++◌, length, replicate, refl, sym, ap, ◌∙◌, arith, append_assoc}
-use Rattle.std.specs.Prelude.{Option, Some, None, ◌==◌, ◌&&◌, not, nat_lt, slice_get, slice_set}
+use Rattle.std.specs.Prelude.{Option, Some, None, ◌==◌, ◌&&◌, not, nat_lt, slice_get}
 use Rattle.std.specs.Option.{option_map}
 use Rattle.std.proofs.lemmas.Bool.Decides.{nat_tests}
 use Rattle.plain_machine.specs.Environment.{Answer, Traps, Goes}
@@ -16,7 +16,7 @@ use Rattle.dbg_model.specs.declared.opening.Opening.{Opening}
 use Rattle.dbg_model.specs.Breaks.{is_stop}
 use Rattle.dbg_model.specs.State.{Hart, State, due, is_counted, arrived}
 use Rattle.dbg_model.specs.Reply.{done_by}
-use Rattle.dbg_model.specs.Lawful.{enter, one, one_by, ran, may_run, may_move, may_do, stepped_by, stepped, with_leavers, with_stop, faulted_by, stopped_by, counted_by, with_count, left_by, leaver_from, exited_at, with_step}
+use Rattle.dbg_model.specs.Lawful.{enter, one, one_by, ran, may_run, may_move, may_do, stepped_by, with_stop, faulted_by, stopped_by, counted_by, with_count, left_by, leaver_from, exited_at, with_step}
 use Rattle.dbg_model.specs.Journals.{Place, come, follows, ran_hart, replay_from, replay, first_place, Leaves, lengthened, one_more_by, count_of, last_count, noted, noted_one}
 use Rattle.dbg_model.specs.Erase.{erase, erase_one, steps_of}
 use Rattle.dbg_model.proofs.Options.{map_some, bind_some, guard_some, same_some}

@@ -20,8 +20,8 @@ go_open o s may =
     not_true s.exited (both_true (nat_lt s.noted history) (not s.exited) n.1).1
 
 step_open : (a : Answer) (s t : State) (h : ℕ) (x : Hart) → s.exited ≡ false → stepped_by a s h x ≡ Some t → t.exited ≡ false
-step_open (Traps cause) s t h x open is = cc
-step_open (Goes r m out leave) s t h x open is = ap (λ (u : State). u.exited) (sym (same_some (with_step s h x r m out leave) t is)) ∙ open
+step_open (Traps cause) s t h x still is = cc
+step_open (Goes r m out leave) s t h x still is = ap (λ (u : State). u.exited) (sym (same_some (with_step s h x r m out leave) t is)) ∙ still
 
 one_by_open : (o : Opening) (s t : State) (h : ℕ) (r : Option Hart) → one_by o s h r ≡ Some t → t.exited ≡ false
 one_by_open o s t h None is = cc

@@ -56,12 +56,12 @@ placed s harts noted = record s { harts = harts; noted = noted }
 pub leaves_next : (o : Opening) (s : State) (front : List Hart) (x : Hart) (xs : List Hart) (code noted : ℕ) → s.exited ≡ false → any_leaves front ≡ false → x.mode ≡ mode.Leaving code
     → enter o (placed s (front ++ x ∷ xs) noted) (Left (length front) code) ≡ Some (placed s (front ++ exited x ∷ xs) (noted + 1))
 unfolding enter
-leaves_next o s front x xs code noted open quiet is =
+leaves_next o s front x xs code noted still quiet is =
     let here : leaver_from (0 + length front) (x ∷ xs) ≡ Some (0 + length front, code) = rw is refl in
     let none : 0 + length front ≡ length front = omega arith in
     let P : ℕ → Type 0 = λ i. leaver_from i (x ∷ xs) ≡ Some (i, code) in
     let found : leaver_from 0 (front ++ x ∷ xs) ≡ Some (length front, code) = leaver_behind 0 front (x ∷ xs) quiet ∙ (ap (λ i. leaver_from i (x ∷ xs)) none ∙ subst P none here) in
-    rw (open, found, equals (length front), equals code, at_end front x xs, set_end front x (exited x) xs) refl
+    rw (still, found, equals (length front), equals code, at_end front x xs, set_end front x (exited x) xs) refl
 
 -- what is left after the harts of a list have left
 abbrev pub LeftAll : Opening → List Entry → State → List Hart → List Hart → ℕ → Type 0
@@ -84,28 +84,28 @@ next_left o j s front x y xs e noted lefts is h =
 drains_by : (o : Opening) (j : List Entry) (s : State) (front : List Hart) (x : Hart) (xs : List Hart) (noted : ℕ) (m : Mode) → x.mode ≡ m → s.exited ≡ false → any_leaves front ≡ false → Leaves o j (placed s (front ++ x ∷ xs) noted)
     → ((k : List Entry) (y : Hart) (n : ℕ) → is_leaving y.mode ≡ false → Leaves o k (placed s ((front ++ y ∷ []) ++ xs) n) → LeftAll o k s (front ++ y ∷ []) xs n)
     → LeftAll o j s front (x ∷ xs) noted
-drains_by o j s front x xs noted mode.Stopped is open quiet l ih =
+drains_by o j s front x xs noted mode.Stopped is still quiet l ih =
     let none : noted + 0 ≡ noted = omega arith in
     next_left o j s front x x xs [] noted (ap (left_one (length front)) is) (ap (λ m. gone_by m x) is)
     (rw (append-nil j, none) (ih j x noted (ap is_leaving is) (rw (append_assoc front (x ∷ []) xs) l)))
-drains_by o j s front x xs noted mode.Running is open quiet l ih =
+drains_by o j s front x xs noted mode.Running is still quiet l ih =
     let none : noted + 0 ≡ noted = omega arith in
     next_left o j s front x x xs [] noted (ap (left_one (length front)) is) (ap (λ m. gone_by m x) is)
     (rw (append-nil j, none) (ih j x noted (ap is_leaving is) (rw (append_assoc front (x ∷ []) xs) l)))
-drains_by o j s front x xs noted mode.Exited is open quiet l ih =
+drains_by o j s front x xs noted mode.Exited is still quiet l ih =
     let none : noted + 0 ≡ noted = omega arith in
     next_left o j s front x x xs [] noted (ap (left_one (length front)) is) (ap (λ m. gone_by m x) is)
     (rw (append-nil j, none) (ih j x noted (ap is_leaving is) (rw (append_assoc front (x ∷ []) xs) l)))
-drains_by o j s front x xs noted (mode.Leaving code) is open quiet l ih =
+drains_by o j s front x xs noted (mode.Leaving code) is still quiet l ih =
     let e : Entry = Left (length front) code in
     let goes : Leaves o (j ++ e ∷ []) (placed s (front ++ exited x ∷ xs) (noted + 1)) =
-    added o j (placed s (front ++ x ∷ xs) noted) (placed s (front ++ exited x ∷ xs) (noted + 1)) e l refl (leaves_next o s front x xs code noted open quiet is) in
+    added o j (placed s (front ++ x ∷ xs) noted) (placed s (front ++ exited x ∷ xs) (noted + 1)) e l refl (leaves_next o s front x xs code noted still quiet is) in
     next_left o j s front x (exited x) xs (e ∷ []) noted (ap (left_one (length front)) is) (ap (λ m. gone_by m x) is)
     (ih (j ++ e ∷ []) (exited x) (noted + 1) refl (rw (append_assoc front (exited x ∷ []) xs) goes))
 
 -- each hart of the list that leaves is reported, and has exited
 pub drains : (o : Opening) (j : List Entry) (s : State) (front xs : List Hart) (noted : ℕ) → s.exited ≡ false → any_leaves front ≡ false → Leaves o j (placed s (front ++ xs) noted) → LeftAll o j s front xs noted
-drains o j s front [] noted open quiet l = let none : noted + 0 ≡ noted = omega arith in rw (append-nil j, none) l
-drains o j s front (x ∷ xs) noted open quiet l =
-    drains_by o j s front x xs noted x.mode refl open quiet l
-    (λ k y n stays l'. drains o k s (front ++ y ∷ []) xs n open (any_append front (y ∷ []) quiet (rw stays refl)) l')
+drains o j s front [] noted still quiet l = let none : noted + 0 ≡ noted = omega arith in rw (append-nil j, none) l
+drains o j s front (x ∷ xs) noted still quiet l =
+    drains_by o j s front x xs noted x.mode refl still quiet l
+    (λ k y n stays l'. drains o k s (front ++ y ∷ []) xs n still (any_append front (y ∷ []) quiet (rw stays refl)) l')

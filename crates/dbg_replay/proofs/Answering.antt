@@ -24,7 +24,7 @@ use Rattle.break_table.specs.Text.{is_instruction, is_place}
 use Rattle.dbg_model.specs.declared.opening.Opening.{Opening}
 use Rattle.dbg_model.specs.Conditions.{parsed}
 use Rattle.dbg_model.specs.State.{Hart, State, is_off}
-use Rattle.dbg_model.specs.Reply.{Answer, Change, Outcome, stays, resumes, selects, interrupts, displaces, inserts, deletes, enables, conditions, ignores, answer_of, asked_at, changed_by, done_by, fault_outcome, for_thread, given_after, ask_at, ask_thread, ask_threads, asked, asking, sets_after, going_on, is_wait, outcome_at, resumed, resumed_at, resumed_thread, resumed_threads, set_as, set_by, setting, thread_hart, unknown_thread, waits}
+use Rattle.dbg_model.specs.Reply.{Answer, Change, Outcome, stays, resumes, selects, interrupts, displaces, inserts, deletes, enables, conditions, ignores, exits, answer_of, asked_at, changed_by, done_by, fault_outcome, for_thread, given_after, ask_at, ask_thread, ask_threads, asked, asking, sets_after, going_on, is_wait, outcome_at, resumed, resumed_at, resumed_thread, resumed_threads, set_as, set_by, setting, thread_hart, unknown_thread, waits}
 use Rattle.dbg_model.proofs.Founding.{IsFounded, IsThereOr, change_founded}
 use Rattle.dbg_model.proofs.Replying.{reply_long, reply_malformed, reply_cli, reply_answers, wait_answers, wait_long, wait_none, wait_cli}
 use Rattle.dbg_replay.specs.declared.changes.LineChange.{LineChange}
@@ -142,6 +142,7 @@ can_by o p (change.Delete numbers) kept f = tt
 can_by o p (change.Enable numbers enabled) kept f = tt
 can_by o p (change.Condition number condition) kept f = tt
 can_by o p (change.After number count) kept f = tt
+can_by o p change.Exit kept f = tt
 
 -- the change of a line can be made
 pub can_be_made : (o : Opening) (p : Parts) (line : List ℕ) (x : LineChange) → Kept o p → change_of x ≡ (answer_of o (shown p) line).outcome.change → CanBeMade p.table x
@@ -188,6 +189,7 @@ given_more n (conditions k c) = omega arith
 given_more n (ignores k m) = omega arith
 given_more n (interrupts ts) = omega arith
 given_more n (displaces d) = omega arith
+given_more n exits = omega arith
 
 sets_by_more : (n : ℕ) (b : Bool) → cond b n (n + 1) ≤ n + 1
 sets_by_more n true = omega arith
@@ -204,6 +206,7 @@ sets_more n (conditions k c) = omega arith
 sets_more n (ignores k m) = omega arith
 sets_more n (interrupts ts) = omega arith
 sets_more n (displaces d) = sets_by_more n (is_off d)
+sets_more n exits = omega arith
 
 still_kept : (o : Opening) (old new : Parts) (c : Change) → Kept o old → shown new ≡ changed_by (shown old) c → new.table ≡ changed_table old.table c → Kept o new
 still_kept o old new c kept state table =

@@ -11,7 +11,7 @@ use Rattle.cond_expr.specs.Term.{Term}
 use Rattle.cond_expr.specs.Condition.{text_of, tree_of}
 use Rattle.break_table.specs.Entry.{asked_of, condition_of}
 use Rattle.break_table.specs.Table.{Table, insert_fault}
-use Rattle.dbg_model.specs.Reply.{Change, stays, resumes, selects, interrupts, displaces, inserts, deletes, enables, conditions, ignores, breaks_after, given_after}
+use Rattle.dbg_model.specs.Reply.{Change, stays, resumes, selects, interrupts, displaces, inserts, deletes, enables, conditions, ignores, exits, breaks_after, given_after}
 use Rattle.dbg_replay.specs.declared.changes.LineChange.{LineChange}
 use Rattle.dbg_replay.specs.declared.changes.LineChange.TheVariants as change
 
@@ -26,6 +26,7 @@ change_of (change.Delete numbers) = deletes numbers
 change_of (change.Enable numbers enabled) = enables enabled numbers
 change_of (change.Condition number condition) = conditions number (option_map condition_of condition)
 change_of (change.After number count) = ignores number count
+change_of change.Exit = exits
 
 -- the table after a change
 abbrev pub changed_table : Table → Change → Table
@@ -43,6 +44,7 @@ CanBeMade t (change.Delete numbers) = Unit {0}
 CanBeMade t (change.Enable numbers enabled) = Unit {0}
 CanBeMade t (change.Condition number condition) = Unit {0}
 CanBeMade t (change.After number count) = Unit {0}
+CanBeMade t change.Exit = Unit {0}
 
 -- the tree that was read, with its text, or the fault
 abbrev pub ReadsAs : Result Expr ParseError → Result Term ExprFault → List ℕ → Type 0

@@ -8,8 +8,8 @@ use Rattle.plain_machine.specs.Environment.{Answer, Traps, Goes}
 use Rattle.break_table.specs.Text.{is_instruction, is_place}
 use Rattle.dbg_model.specs.declared.entry.Mode.{Mode}
 use Rattle.dbg_model.specs.declared.entry.Mode.TheVariants as mode
-use Rattle.dbg_model.specs.declared.limits.TheConstants.{HISTORY}
 use Rattle.dbg_model.specs.declared.opening.Opening.{Opening}
+use Rattle.dbg_model.specs.Limits.{history}
 use Rattle.dbg_model.specs.State.{Hart, State}
 use Rattle.dbg_model.specs.Lawful.{with_leavers}
 use Rattle.dbg_model.specs.Journals.{Place}
@@ -27,7 +27,7 @@ is_stopped mode.Exited = false
 
 -- neither the budget nor the history is used up
 abbrev pub HasRoom : Opening → Parts → Type 0
-HasRoom o p = (p.retired < o.settings.budget) × (p.noted < HISTORY)
+HasRoom o p = (p.retired < o.settings.budget) × (p.noted < history)
 
 -- the hart of a number, where it may do so
 abbrev pub Chosen : Result Hart Halt → List Hart → ℕ → (Hart → Bool) → Type 0

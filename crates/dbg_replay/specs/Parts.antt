@@ -15,4 +15,5 @@ shown p = record {
   passed = p.passed.items;
   retired = p.retired;
   noted = p.noted;
+  exited = p.exited;
 }

@@ -42,6 +42,8 @@ pub enum LineChange {
         number: u32,
         count: u32,
     },
+    /// The session ends.
+    Exit,
 }
 
 // A thread goes on where it is stopped. Threads are counted from 1.
@@ -176,7 +178,8 @@ fn change_table(table: &mut BreakTable, change: LineChange)
         | LineChange::Resume(_)
         | LineChange::Interrupt(_)
         | LineChange::Displace(_)
-        | LineChange::Select(_) => {}
+        | LineChange::Select(_)
+        | LineChange::Exit => {}
         LineChange::Insert(spec) => insert(table, spec),
         LineChange::Delete(numbers) => delete_each(table, numbers.as_slice()),
         LineChange::Enable { numbers, enabled } => enable_each(table, numbers.as_slice(), enabled),
@@ -206,6 +209,7 @@ pub fn make(parts: &mut Parts, change: LineChange)
             parts.displaced = *displaced;
         }
         LineChange::Select(thread) => parts.selected = *thread,
+        LineChange::Exit => parts.exited = true,
         _ => {}
     }
     change_table(&mut parts.table, change);

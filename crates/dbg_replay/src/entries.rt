@@ -143,7 +143,7 @@ fn stop_by(opening: &Opening, parts: &mut Parts, h: u32, cause: Cause) -> Result
     Ok(())
 }
 
-// The least hart that leaves is reported.
+// The least hart that leaves is reported; none after a `-gdb-exit`.
 fn leave(opening: &Opening, parts: &mut Parts, h: u32, code: u32) -> Result<(), Halt>
     requires kept { Kept opening.now parts.old }
     requires room { parts.old.noted < 2 ^ 64 - 1 }
@@ -152,7 +152,7 @@ fn leave(opening: &Opening, parts: &mut Parts, h: u32, code: u32) -> Result<(), 
     let Some((hart, with)) = leaver_from(0, parts.harts.as_slice()) else {
         return Err(Halt::Unlawful);
     };
-    if hart != h || with != code {
+    if parts.exited || hart != h || with != code {
         return Err(Halt::Unlawful);
     }
     if let Some(leaver) = find(parts.harts.as_slice(), h) {

@@ -418,6 +418,7 @@ fn command_change(
         Command::Interrupt(target) => Ok(interrupted(alloc, harts, parts.selected, target)?),
         Command::SetDisplaced(displaced) => Ok(LineChange::Displace(displaced)),
         Command::ThreadSelect { thread } => Ok(select(thread, thread_hart(harts, thread))),
+        Command::Exit => Ok(LineChange::Exit),
         _ => Ok(LineChange::Nothing),
     }
 }

@@ -19,7 +19,7 @@ const NOTHING_DUE: Due = Due {
     counts: false,
 };
 
-/// Whether no exit is still to be reported, and neither the budget nor the history is used up.
+/// Whether no exit is still to be reported, neither the budget nor the history is used up, and no `-gdb-exit` was done.
 pub fn may_go(opening: &Opening, parts: &Parts) -> bool
     ensures value { result ≡ may_go opening.now (shown parts.now) }
     ensures room { IsTrue result → HasRoom opening.now parts.now }
@@ -27,6 +27,7 @@ pub fn may_go(opening: &Opening, parts: &Parts) -> bool
     !any_leaves(parts.harts.as_slice())
         && parts.retired < opening.settings.budget
         && parts.noted < HISTORY
+        && !parts.exited
 }
 
 /// The hart of a number, where it may move.

@@ -64,6 +64,7 @@ fn first_parts(alloc: Global, opening: &Opening) -> Result<Parts, NoMemory>
         passed: no_counts(alloc, harts as usize)?,
         retired: 0,
         noted: 0,
+        exited: false,
     })
 }
 

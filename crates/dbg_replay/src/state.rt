@@ -30,6 +30,8 @@ pub struct Parts {
     pub retired: u64,
     /// How many entries other than `Ran` there are.
     pub noted: u64,
+    /// Whether `-gdb-exit` was done.
+    pub exited: bool,
 }
 
 /// The state that a lawful journal leaves, which contracts see as the model's `State`.

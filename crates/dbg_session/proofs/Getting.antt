@@ -1,5 +1,5 @@
 -- A round gets on.
-use Rattle.std.proofs.Common.{◌≡◌, ◌<◌, ◌≤◌, ℕ, ◌+◌, ◌*◌, min, Bool, true, false, List, [], ◌∷◌, length, get_or, refl, sym, ap, arith, not}
+use Rattle.std.proofs.Common.{◌≡◌, ◌<◌, ◌≤◌, ℕ, ◌+◌, ◌*◌, min, Bool, true, false, List, [], ◌∷◌, length, get_or, refl, sym, ap, ◌∙◌, arith, not}
 use Rattle.std.specs.Prelude.{◌||◌, ◌&&◌, ◌⊎◌, Option, Some, None, is_some}
 use mathlib.Core.Logic.{inl, inr}
 use Rattle.dbg_model.specs.State.{any_runs}

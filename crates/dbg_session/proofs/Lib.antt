@@ -1,4 +1,5 @@
 pub mod Putting
+pub mod Reading
 pub mod Working
 pub mod Timing
 pub mod Saying

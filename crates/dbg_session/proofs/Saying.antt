@@ -218,7 +218,7 @@ quiets_say t r s h pc x p hold m at less text =
       opening = m.opening;
       said = said_is r s r.journal (turned_text s t h pc) m.opening m.journal (sym (append-nil (said r.opening r.journal)) ∙ ap (λ u. said r.opening r.journal ++ u) text);
       goes = goes_by r s (grown_same r.journal s.journal m.journal) (inl m.journal);
-      move = inl (m.journal, with_phase x p, m.minds);
+      move = inl (m.journal, (with_phase x p, m.minds));
       work = omega (arith, shown);
     }
 

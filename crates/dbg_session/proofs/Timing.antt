@@ -18,6 +18,7 @@ use Rattle.dbg_model.specs.Leaving.{lefts_from, left_one}
 use Rattle.mi_reports.specs.Said.{said, said_from, entry_text}
 use Rattle.mi_reports.specs.Text.{opening_text}
 use Rattle.hart_machine.proofs.Places.{same_some}
+use Rattle.dbg_session.specs.Ties.{IsEmpty}
 use Rattle.dbg_session.specs.Stage.{Stage}
 use Rattle.dbg_session.specs.Steps.{Goes}
 use Rattle.dbg_session.specs.Taking.{Gives}

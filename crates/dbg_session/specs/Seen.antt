@@ -74,4 +74,4 @@ picked (Some h) next = h + 1
 
 -- A hart was turned: less is left to do; or it couldn't be moved, and all is as it was.
 abbrev pub HasTurned : {W : Type 0} → ℕ → Seen W → Seen W → Type 0
-HasTurned h old new = (session_work new.status new.run new.input < session_work old.status old.run old.input) ⊎ ((new ≡ old) × (moves_at old.run h ≡ false))
+HasTurned h old new = (session_work new.status new.run new.input < session_work old.status old.run old.input) ⊎ (Same old new × (moves_at old.run h ≡ false))

@@ -96,6 +96,7 @@ impl<W: World> Session<W> {
         ensures puts { PutsAll (is_none result.status) opening.now (W.told world) (W.told result.world) }
         ensures status { result.status ≡ (if is_none result.status then None else Some Status.WriteFault) }
     {
+        engine.keep();
         let mut world = world;
         let status = status_of(put_all(&mut world, opening));
         Session {
@@ -130,7 +131,10 @@ impl<W: World> Session<W> {
         ensures less { GotOn result self.old self.new (no_input self.old) }
     {
         self.engine.keep();
-        if self.ended || self.has_line() {
+        if self.ended {
+            return false;
+        }
+        if self.has_line() {
             return false;
         }
         let wait = !self.engine.any_running();
@@ -165,8 +169,14 @@ impl<W: World> Session<W> {
         ensures less { GotOn result self.old self.new (no_line self.old) }
     {
         self.engine.keep();
-        if self.known == Known::NoLine || self.known == Known::Waits && self.engine.any_running() {
-            return false;
+        match self.known {
+            Known::Open => {}
+            Known::NoLine => return false,
+            Known::Waits => {
+                if self.engine.any_running() {
+                    return false;
+                }
+            }
         }
         let done = line_once(
             self.alloc,
@@ -214,7 +224,7 @@ impl<W: World> Session<W> {
         ensures next { self.new.next ≡ self.old.next }
         ensures same { length self.new.run.minds ≡ length self.old.run.minds }
         ensures moves { IsTrue result → TurnsOne hart (moment W.told self.old) (moment W.told self.new) }
-        ensures stands { OnFalse result ((self.new ≡ self.old) × (moves_at self.old.run hart ≡ false)) }
+        ensures stands { OnFalse result ((moment W.told self.new ≡ moment W.told self.old) × (moves_at self.old.run hart ≡ false)) }
         ensures less { IsTrue result → session_work self.new.status self.new.run self.new.input < session_work self.old.status self.old.run self.old.input }
     {
         self.engine.keep();
@@ -256,10 +266,12 @@ impl<W: World> Session<W> {
         ensures moves { MovesOne hart (moment W.told self.old) (moment W.told self.new) }
         ensures less { HasTurned hart self.old self.new }
     {
-        for _ in 0..64 {
-            if self.status.is_some() || !self.move_hart(hart) {
+        let mut count = 0;
+        while count < 64 && self.status.is_none() {
+            if !self.move_hart(hart) {
                 return;
             }
+            count += 1;
         }
     }
 
@@ -269,6 +281,7 @@ impl<W: World> Session<W> {
         ensures moves { Moves (moment W.told self.old) (moment W.told self.new) }
         ensures less { GotOn result self.old self.new (no_move self.old) }
     {
+        self.engine.keep();
         match self.pick() {
             None => false,
             Some(hart) => {
@@ -284,7 +297,13 @@ impl<W: World> Session<W> {
         ensures settles { Settles (moment W.told self.old) (moment W.told self.new) }
         ensures less { GotOn result self.old self.new (is_open self.old) }
     {
-        if !self.ended || self.engine.any_running() || self.has_line() {
+        if !self.ended {
+            return false;
+        }
+        if self.engine.any_running() {
+            return false;
+        }
+        if self.has_line() {
             return false;
         }
         self.status = Some(Status::Done);

@@ -60,10 +60,10 @@ small_at r f may = let b = below r may in small r f b.0 b.1
 
 -- an engine may go where neither is, and no line ended it
 pub may_go_by : (r : Run) → r.retired < r.opening.settings.budget → r.noted < history → r.exited ≡ false → may_go r.opening (seen r) ≡ true
-may_go_by r b n open =
+may_go_by r b n still =
     let budget : nat_lt r.retired r.opening.settings.budget ≡ true = grind (arith, nat_tests) in
     let low : nat_lt r.noted history ≡ true = grind (arith, nat_tests) in
-    rw (seen_quiet r.opening.image r.machine.cores r.minds, budget, low, open) refl
+    rw (seen_quiet r.opening.image r.machine.cores r.minds, budget, low, still) refl
 
 and_false : (b : Bool) → (b && false) ≡ false
 and_false true = refl

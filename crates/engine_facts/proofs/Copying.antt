@@ -1,13 +1,11 @@
 -- A hart at a planted word enters a slot with a copy of it.
-use Rattle.std.proofs.Common.{◌≡◌, ◌<◌, ◌≤◌, ℕ, Bool, false, cond, List, length, refl, sym, ap, ◌∙◌, subst, not, arith, inl}
-use Rattle.std.specs.Prelude.{Option, Some, None, ◌&&◌}
+use Rattle.std.proofs.Common.{◌≡◌, ℕ, cond, List, refl, sym, ap, ◌∙◌, not, arith, inl}
+use Rattle.std.specs.Prelude.{Option, Some}
 use Rattle.rv_exec.specs.Registers.{Registers, set_pc}
 use Rattle.elf32_read.specs.Program.{Program, text_word}
 use Rattle.displaced_fix.specs.Fix.{IsWordAddress}
 use Rattle.scratch_slots.specs.declared.slots.SlotUse.{SlotUse}
-use Rattle.scratch_slots.specs.Table.{use_at}
 use Rattle.mi_commands.specs.declared.command.Displaced.{Displaced}
-use Rattle.step_over.specs.declared.phase.Phase.{Phase}
 use Rattle.step_over.specs.declared.phase.Phase.TheVariants as phase
 use Rattle.hart_machine.specs.declared.hart.Core.{Core}
 use Rattle.hart_machine.specs.Copying.{entered_core}
@@ -15,7 +13,7 @@ use Rattle.dbg_model.specs.State.{is_off}
 use Rattle.engine_facts.specs.declared.mind.Activity.TheVariants as activity
 use Rattle.engine_facts.specs.declared.mind.Mind.{Mind}
 use Rattle.engine_facts.specs.Minds.{lifted_of, slot_of, with_phase}
-use Rattle.engine_facts.specs.Seen.{Run, seen_regs, running_regs}
+use Rattle.engine_facts.specs.Seen.{Run, running_regs}
 use Rattle.engine_facts.specs.Facts.{Facts, pending}
 use Rattle.engine_facts.specs.Moves.{Takes, rehomed}
 use Rattle.engine_facts.proofs.Updating.{slots_taken}

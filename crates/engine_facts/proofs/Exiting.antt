@@ -51,8 +51,8 @@ pub record Departs (r n : Run) (h code : ℕ) (lefts : List Entry) : Type 0 wher
 -- the state after the entries of the harts that leave
 drained : (r n : Run) (h : ℕ) (t : State) (lefts : List Entry) → Facts r → n.opening ≡ r.opening → n.journal ≡ lengthened r.journal h ++ lefts → Leaves r.opening (lengthened r.journal h) t → t.exited ≡ false → lefts_from 0 t.harts ≡ lefts
     → Leaves n.opening n.journal (record t { harts = map gone t.harts; noted = t.noted + length lefts })
-drained r n h t lefts f same journal l open is =
-    let d = drains r.opening (lengthened r.journal h) t [] t.harts t.noted open refl l in
+drained r n h t lefts f same journal l still is =
+    let d = drains r.opening (lengthened r.journal h) t [] t.harts t.noted still refl l in
     let P : List Entry → Type 0 = λ es. Leaves r.opening (lengthened r.journal h ++ es) (record t { harts = map gone t.harts; noted = t.noted + length es }) in
     rw (same, journal) (subst P is d)
 

@@ -1,8 +1,8 @@
 -- Harts come home from their slots: one of them, and all.
-use Rattle.std.proofs.Common.{◌≡◌, ◌<◌, ◌≤◌, ℕ, zero, suc, ◌+◌, ◌⊎◌, Bool, true, false, List, [], ◌∷◌, length, refl, sym, ap, ◌∙◌, subst, arith, inl, inr, length-set}
-use Rattle.std.specs.Prelude.{Option, Some, None, IsSome, slice_get, slice_set}
+use Rattle.std.proofs.Common.{◌≡◌, ◌<◌, ℕ, zero, suc, ◌+◌, ◌⊎◌, Bool, true, false, List, [], ◌∷◌, length, refl, sym, ap, ◌∙◌, subst, arith, inl, inr, length-set}
+use Rattle.std.specs.Prelude.{Option, Some, None, slice_get, slice_set}
 use Rattle.std.proofs.lemmas.Option.{slice_get_within}
-use Rattle.elf32_read.specs.Program.{Program, text_word}
+use Rattle.elf32_read.specs.Program.{Program}
 use Rattle.text_words.specs.Words.{Words}
 use Rattle.scratch_slots.specs.declared.slots.SlotUse.{SlotUse}
 use Rattle.scratch_slots.specs.Table.{use_at}
@@ -10,7 +10,6 @@ use Rattle.step_over.specs.declared.phase.Phase.{Phase}
 use Rattle.step_over.specs.declared.phase.Phase.TheVariants as phase
 use Rattle.hart_machine.specs.declared.hart.Core.{Core}
 use Rattle.hart_machine.specs.Patched.{Patched}
-use Rattle.hart_machine.specs.Copying.{settled_core}
 use Rattle.hart_machine.proofs.Places.{same_some, same_place, set_known, get-set_same, get-set_other}
 use Rattle.engine_facts.specs.declared.mind.Activity.{Activity}
 use Rattle.engine_facts.specs.declared.mind.Activity.TheVariants as activity
@@ -18,9 +17,9 @@ use Rattle.engine_facts.specs.declared.mind.Hold.{Hold}
 use Rattle.engine_facts.specs.declared.mind.Mind.{Mind}
 use Rattle.engine_facts.specs.Minds.{is_active, runs, lifted_of, slot_of, with_phase}
 use Rattle.engine_facts.specs.Seen.{Run, seen_regs, running_regs}
-use Rattle.engine_facts.specs.Facts.{Facts, Harts, HasSlot, Slotted, Executed, Placed, other_holder, held_by}
-use Rattle.engine_facts.specs.Moves.{IsHome, AreHome, Frees, OneSlot, Released, rehomed}
-use Rattle.engine_facts.specs.Homing.{Owns, OwnsRun, IsSlotted, settled_by, home_core, Leaves, GoesHome, AllGoHome}
+use Rattle.engine_facts.specs.Facts.{Facts, Harts, HasSlot, Placed, other_holder}
+use Rattle.engine_facts.specs.Moves.{IsHome, AreHome, Frees, OneSlot, Released}
+use Rattle.engine_facts.specs.Homing.{Owns, IsSlotted, settled_by, home_core, Leaves, GoesHome, AllGoHome}
 use Rattle.engine_facts.proofs.Updating.{AllFree, SlotChange, slots_same, slots_freed}
 use Rattle.engine_facts.proofs.Keeping.{Mover, StaysSeen}
 use Rattle.engine_facts.proofs.Stepping.{fact_of}

@@ -1,12 +1,11 @@
 -- Where a hart runs, one can be moved.
-use Rattle.std.proofs.Common.{◌≡◌, ◌<◌, ℕ, zero, suc, Bool, true, false, List, [], ◌∷◌, length, refl, sym, ap, ◌∙◌, arith, not}
-use Rattle.std.specs.Prelude.{Option, Some, None, is_some, is_none, ◌&&◌, ◌||◌, ◌==◌, slice_get}
-use Rattle.std.specs.Option.{option_map}
+use Rattle.std.proofs.Common.{◌≡◌, ◌<◌, ℕ, zero, suc, Bool, true, false, List, [], ◌∷◌, length, refl, sym, ap, ◌∙◌, arith}
+use Rattle.std.specs.Prelude.{Option, Some, None, ◌&&◌, ◌||◌, ◌==◌, slice_get}
 use Rattle.std.proofs.lemmas.Bool.Decides.{nat_tests}
 use Rattle.std.proofs.lemmas.Option.{slice_get_within}
 use Rattle.elf32_read.specs.Program.{Program}
 use Rattle.scratch_slots.specs.declared.slots.SlotUse.{SlotUse}
-use Rattle.scratch_slots.specs.Table.{use_at, slot_address, least_free}
+use Rattle.scratch_slots.specs.Table.{use_at, slot_address}
 use Rattle.step_over.specs.declared.phase.Phase.{Phase}
 use Rattle.step_over.specs.declared.phase.Phase.TheVariants as phase
 use Rattle.hart_machine.specs.declared.hart.Core.{Core}
@@ -18,8 +17,8 @@ use Rattle.engine_facts.specs.declared.mind.Hold.{Hold}
 use Rattle.engine_facts.specs.declared.mind.Mind.{Mind}
 use Rattle.engine_facts.specs.Minds.{mode_of, is_active, runs, lifted_of, slot_of}
 use Rattle.engine_facts.specs.Seen.{Run, seen, seen_harts}
-use Rattle.engine_facts.specs.Facts.{Facts, HartFact, held_by, other_holder}
-use Rattle.engine_facts.specs.Movers.{runs_at, runs_as, is_free, is_idle, idle_as, are_out, waits_for_slot, moves_at}
+use Rattle.engine_facts.specs.Facts.{Facts, held_by}
+use Rattle.engine_facts.specs.Movers.{runs_at, is_free, is_idle, idle_as, are_out, waits_for_slot, moves_at}
 
 -- a hart that can be moved, whatever stands at its pc
 pub record SomeMover (r : Run) : Type 0 where

@@ -1,5 +1,5 @@
 -- A hart stops, by a fault or at a breakpoint, or is counted by breakpoints, or goes on by a line.
-use Rattle.std.proofs.Common.{◌≡◌, ◌<◌, ◌≤◌, ℕ, zero, suc, ◌+◌, true, false, List, [], ◌∷◌, length, refl, sym, ap, ◌∙◌, subst, not, arith, inl, length-set}
+use Rattle.std.proofs.Common.{Bool, ◌≡◌, ◌<◌, ◌≤◌, ℕ, zero, suc, ◌+◌, true, false, List, [], ◌∷◌, length, refl, sym, ap, ◌∙◌, subst, not, arith, inl, length-set}
 use Rattle.std.specs.Prelude.{Option, Some, None, map, slice_get, slice_index, slice_set, ◌&&◌}
 use Rattle.rv_exec.specs.declared.effect.Cause.{Cause}
 use Rattle.rv_exec.specs.Causes.{cause_number}

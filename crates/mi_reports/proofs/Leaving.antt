@@ -75,36 +75,36 @@ left_says o s front x xs code noted =
 says_by : (o : Opening) (j : List Entry) (s : State) (front : List Hart) (x : Hart) (xs : List Hart) (noted : ℕ) (m : Mode) → x.mode ≡ m → s.exited ≡ false → any_leaves front ≡ false → Leaves o j (placed s (front ++ x ∷ xs) noted)
     → ((k : List Entry) (y : Hart) (n : ℕ) → is_leaving y.mode ≡ false → Leaves o k (placed s ((front ++ y ∷ []) ++ xs) n) → Says o k (front ++ y ∷ []) xs)
     → Says o j front (x ∷ xs)
-says_by o j s front x xs noted mode.Stopped is open quiet l ih =
+says_by o j s front x xs noted mode.Stopped is still quiet l ih =
     let same : gone x ≡ x = ap (λ m. gone_by m x) is in
     let rest : Says o j (front ++ x ∷ []) xs = ih j x noted (ap is_leaving is) (rw (append_assoc front (x ∷ []) xs) l) in
     next_says o j front x xs [] [] (ap (left_one (length front)) is) (ap (λ m. left_text (all_gone front) (length front) m xs) is) (quiet_said o j)
     (rw (append-nil j, same) rest)
-says_by o j s front x xs noted mode.Running is open quiet l ih =
+says_by o j s front x xs noted mode.Running is still quiet l ih =
     let same : gone x ≡ x = ap (λ m. gone_by m x) is in
     let rest : Says o j (front ++ x ∷ []) xs = ih j x noted (ap is_leaving is) (rw (append_assoc front (x ∷ []) xs) l) in
     next_says o j front x xs [] [] (ap (left_one (length front)) is) (ap (λ m. left_text (all_gone front) (length front) m xs) is) (quiet_said o j)
     (rw (append-nil j, same) rest)
-says_by o j s front x xs noted mode.Exited is open quiet l ih =
+says_by o j s front x xs noted mode.Exited is still quiet l ih =
     let same : gone x ≡ x = ap (λ m. gone_by m x) is in
     let rest : Says o j (front ++ x ∷ []) xs = ih j x noted (ap is_leaving is) (rw (append_assoc front (x ∷ []) xs) l) in
     next_says o j front x xs [] [] (ap (left_one (length front)) is) (ap (λ m. left_text (all_gone front) (length front) m xs) is) (quiet_said o j)
     (rw (append-nil j, same) rest)
-says_by o j s front x xs noted (mode.Leaving code) is open quiet l ih =
+says_by o j s front x xs noted (mode.Leaving code) is still quiet l ih =
     let same : gone x ≡ exited x = ap (λ m. gone_by m x) is in
     let e : Entry = Left (length front) code in
     let goes : Leaves o (j ++ e ∷ []) (placed s (front ++ exited x ∷ xs) (noted + 1)) =
-    added o j (placed s (front ++ x ∷ xs) noted) (placed s (front ++ exited x ∷ xs) (noted + 1)) e l refl (leaves_next o s front x xs code noted open quiet is) in
+    added o j (placed s (front ++ x ∷ xs) noted) (placed s (front ++ exited x ∷ xs) (noted + 1)) e l refl (leaves_next o s front x xs code noted still quiet is) in
     let rest : Says o (j ++ e ∷ []) (front ++ exited x ∷ []) xs = ih (j ++ e ∷ []) (exited x) (noted + 1) refl (rw (append_assoc front (exited x ∷ []) xs) goes) in
     next_says o j front x xs (e ∷ []) (gone_text (length front) ++ last_text (all_gone front && all_gone xs) code) (ap (left_one (length front)) is) (ap (λ m. left_text (all_gone front) (length front) m xs) is)
     (said_added o j (placed s (front ++ x ∷ xs) noted) e l ∙ ap (λ t. said o j ++ t) (left_says o s front x xs code noted))
     (rw same rest)
 
 says : (o : Opening) (j : List Entry) (s : State) (front xs : List Hart) (noted : ℕ) → s.exited ≡ false → any_leaves front ≡ false → Leaves o j (placed s (front ++ xs) noted) → Says o j front xs
-says o j s front [] noted open quiet l = quiet_said o j
-says o j s front (x ∷ xs) noted open quiet l =
-    says_by o j s front x xs noted x.mode refl open quiet l
-    (λ k y n stays l'. says o k s (front ++ y ∷ []) xs n open (any_append front (y ∷ []) quiet (rw stays refl)) l')
+says o j s front [] noted still quiet l = quiet_said o j
+says o j s front (x ∷ xs) noted still quiet l =
+    says_by o j s front x xs noted x.mode refl still quiet l
+    (λ k y n stays l'. says o k s (front ++ y ∷ []) xs n still (any_append front (y ∷ []) quiet (rw stays refl)) l')
 
 or_false : (a b : Bool) → (a || b) ≡ false → (a ≡ false) × (b ≡ false)
 or_false true b h = cc
@@ -192,6 +192,6 @@ ends g k (x ∷ xs) code w = ends_by g k x xs code x.mode refl w.0 (λ h. ends h
 -- harts that leave with one code
 pub said_exits : (o : Opening) (j : List Entry) (s : State) (code : ℕ) → Leaves o j s → s.exited ≡ false → LeaveWith code s.harts → any_leaves s.harts ≡ true
     → said o (j ++ lefts_from 0 s.harts) ≡ said o j ++ lefts_text (lefts_from 0 s.harts) (all_gone (map gone s.harts)) code
-said_exits o j s code l open w some =
-    says o j s [] s.harts s.noted open refl l
+said_exits o j s code l still w some =
+    says o j s [] s.harts s.noted still refl l
     ∙ ap (λ t. said o j ++ t) (ends true 0 s.harts code w ∙ ap (λ b. gone_texts (lefts_from 0 s.harts) ++ last_text b code) (ap (λ b. all_gone (map gone s.harts) && b) some ∙ and_true (all_gone (map gone s.harts))))

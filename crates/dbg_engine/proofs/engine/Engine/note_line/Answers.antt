@@ -14,12 +14,12 @@ use Rattle.dbg_engine.specs.Resuming.{resume_threads}
 use Rattle.dbg_engine.specs.EngineInside.{run_of}
 use Rattle.dbg_engine.proofs.Commanding.{LinedTo, noted}
 use Rattle.dbg_engine.proofs.engine.Engine.note_line.Goals as goal
-use Rattle.dbg_engine.proofs.engine.Engine.note_line.Goals.{After-self-3-1}
+use Rattle.dbg_engine.proofs.engine.Engine.note_line.Goals.{After-self-4-1}
 
-abbrev new_run : After-self-3-1 → List Mind → Run
+abbrev new_run : After-self-4-1 → List Mind → Run
 new_run c xs = record (run_of c.self.inside) { journal = c.note.new.entries.items; spare = vec_capacity c.note.new.entries - vec_len c.note.new.entries; minds = xs; selected = c.selected_after-self-inside.result; noted = (run_of c.self.inside).noted + 1; exited = c.exited_after-self-inside.result }
 
-done : (c : After-self-3-1) → LinedTo (run_of c.self.inside) (new_run c c.resume_threads.new.minds) c.args.line.now
+done : (c : After-self-4-1) → LinedTo (run_of c.self.inside) (new_run c c.resume_threads.new.minds) c.args.line.now
 done c =
     let r = run_of c.self.inside in
     let P : Run → Type 0 = λ q. Makes q c.args.line.now (implied c.args.content.now) in
@@ -29,7 +29,7 @@ done c =
     (ap (λ (q : Run). may_do q.opening (seen q) c.args.line.now) c.self.view_is ∙ c.requires.may) (subst P (sym c.self.view_is) c.requires.makes) journal minds c.selected_after-self-inside.ensures c.exited_after-self-inside.ensures
 
 -- the minds, written back
-minds_are : (c : After-self-3-1) → c.resume_threads.new.minds ≡ (with_items c.self.inside.minds c.resume_threads.new.minds).items
+minds_are : (c : After-self-4-1) → c.resume_threads.new.minds ≡ (with_items c.self.inside.minds c.resume_threads.new.minds).items
 minds_are c =
     let a = c.resume_threads.auto.minds in
     let b = c.deref_mut.ensures in

@@ -1,4 +1,4 @@
-use crate::{End, Engine, Phase, Turned};
+use dbg_engine::{End, Engine, Phase, Turned};
 use dbg_model::{Content, Opening};
 use dbg_traits::Settings;
 use elf_gen::plain;
@@ -12,6 +12,12 @@ use std::test::Fail;
 enum Step {
     // A line, which is answered without an error.
     Line(&'static str),
+    // A line, which is refused.
+    Refused(&'static str),
+    // Why the session is over.
+    Over(Option<End>),
+    // The next hart that runs, from a number on.
+    Next(usize, Option<u32>),
     // A turn of a hart, and what it did.
     Turn(u32, Turned),
     // Where a hart shows its pc, and in which step over a breakpoint it is.
@@ -20,9 +26,9 @@ enum Step {
     Planted(u32, bool),
 }
 
-use Step::{At, Line, Planted, Turn};
+use Step::{At, Line, Next, Over, Planted, Refused, Turn};
 use Turned::{
-    AllLeft, Arrived, Copied, Fixed, Held, Interrupted, Left, Lifted, NoSlot, NotRunning, Over, Ran,
+    AllLeft, Arrived, Copied, Fixed, Held, Interrupted, Left, Lifted, NoSlot, NotRunning, Ran,
 };
 
 // addi a7,zero,93; addi a0,zero,322; ecall. 322 modulo 256 is 66.
@@ -82,24 +88,27 @@ fn engine_of(
     Engine::load(alloc, opening).map_err(|_| Fail::new("out of memory"))
 }
 
-// Whether a line is answered, and not refused.
-fn is_done(engine: &mut Engine, line: &str) -> bool {
+// Whether a line is answered, and whether it is refused; none where it can't be done.
+fn refuses(engine: &mut Engine, line: &str) -> Option<bool> {
     if !engine.may_go() {
-        return false;
+        return None;
     }
     let Ok(false) = engine.must_wait(line.as_bytes()) else {
-        return false;
+        return None;
     };
     match engine.command(line.as_bytes()) {
-        Ok(reply) => !matches!(&reply.content, Content::Refused(_)),
-        Err(_) => false,
+        Ok(reply) => Some(matches!(&reply.content, Content::Refused(_))),
+        Err(_) => None,
     }
 }
 
 // Whether a step is as it says.
 fn is_as_said(engine: &mut Engine, step: Step) -> bool {
     match step {
-        Line(line) => is_done(engine, line),
+        Line(line) => refuses(engine, line) == Some(false),
+        Refused(line) => refuses(engine, line) == Some(true),
+        Over(end) => engine.over() == end,
+        Next(from, hart) => engine.next_running(from) == hart,
         Turn(hart, turned) => {
             engine.reserve_journal(32).is_ok()
                 && (hart as usize) < engine.harts()
@@ -248,7 +257,41 @@ const EXITS_BY_ITS_BUDGET: [Step; 6] = [
     Turn(0, Ran),
     Turn(0, Ran),
     Turn(0, Left { code: 66 }),
-    Turn(0, Over),
+    Turn(0, Turned::Over),
+];
+
+// A line ends the session while harts run; one with parameters doesn't.
+const ENDS: [Step; 11] = [
+    CONTINUE,
+    Turn(0, Ran),
+    Refused("3-gdb-exit x"),
+    Over(None),
+    Turn(1, Ran),
+    Line("3-gdb-exit"),
+    Over(Some(End::Exit)),
+    Turn(0, Turned::Over),
+    Turn(1, Turned::Over),
+    Next(0, Some(0)),
+    Over(Some(End::Exit)),
+];
+
+// The budget, which is 1, comes before a line that would end the session.
+const BUDGET_FIRST: [Step; 3] = [CONTINUE, Turn(0, Ran), Over(Some(End::Budget))];
+
+// The harts are picked in turn, of those that run.
+const PICKS: [Step; 12] = [
+    Next(0, None),
+    Line("-exec-continue --thread 2"),
+    Next(0, Some(1)),
+    Next(1, Some(1)),
+    Next(2, Some(1)),
+    Line("-exec-continue --thread 4"),
+    Next(0, Some(1)),
+    Next(2, Some(3)),
+    Next(3, Some(3)),
+    Next(4, Some(1)),
+    Next(usize::MAX, Some(1)),
+    Turn(1, Ran),
 ];
 
 #[test]
@@ -264,6 +307,9 @@ fn harts_move_as_they_must(rt: HostRuntime) -> Result<(), Fail> {
         (&EXITS_ALL[..], 4, 3, 100, &ALL_LEAVE[..]),
         (&JUMPS_AWAY[..], 2, 2, 100, &JUMPS_INTO_A_SLOT[..]),
         (&EXITS[..], 2, 0, 3, &EXITS_BY_ITS_BUDGET[..]),
+        (&LOOPS[..], 2, 0, 100, &ENDS[..]),
+        (&LOOPS[..], 2, 0, 1, &BUDGET_FIRST[..]),
+        (&LOOPS[..], 4, 0, 100, &PICKS[..]),
     ];
     for (case, (words, harts, slots, budget, steps)) in cases.into_iter().enumerate() {
         let mut engine = engine_of(alloc, words, harts, slots, budget)?;

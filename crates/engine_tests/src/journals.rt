@@ -1,8 +1,8 @@
 ghost use Rattle.std.specs.Prelude.{◌≤◌, IfOk};
 ghost use Rattle.dbg_traits.specs.Settings.{AreSettings};
 
-use crate::replay;
 use dbg_model::{Entry, Journal, Mode, Opening, Why};
+use dbg_replay::replay;
 use dbg_traits::{NoMemory, Settings};
 use elf32_read::read_image;
 use mi_commands::ByteList;
@@ -135,43 +135,66 @@ fn is_lawful(alloc: Global, budget: u64, told: &[Told]) -> Result<bool, Fail>
     }
 }
 
+const GO: Told = Did("-exec-continue");
+
+const SET: Told = Did("-break-insert *0x10078");
+
+const COUNTING: Told = Did("-break-insert -i 1 *0x10078");
+
+const EXIT: Told = Did("7-gdb-exit");
+
 #[test]
 fn lawful_journals_are_gone_through(rt: HostRuntime) -> Result<(), Fail> {
     let alloc = rt.alloc();
-    let go = Did("-exec-continue");
-    let set = Did("-break-insert *0x10078");
-    let counting = Did("-break-insert -i 1 *0x10078");
-    let stop = Did("-exec-interrupt");
-    assert!(rt; is_lawful(alloc, 9, &[])?);
-    assert!(rt; is_lawful(alloc, 9, &[go, Ran(0, 2)])?);
-    assert!(rt; is_lawful(alloc, 9, &[set, go, Ran(0, 1), Stopped(0, 1)])?);
-    assert!(rt; is_lawful(alloc, 9, &[counting, go, Ran(0, 1), Counted(0), Ran(0, 1)])?);
-    assert!(rt; is_lawful(alloc, 9, &[go, Ran(0, 1), stop, Interrupted(0)])?);
+    let cases: [&[Told]; 7] = [
+        &[],
+        &[GO, Ran(0, 2)],
+        &[SET, GO, Ran(0, 1), Stopped(0, 1)],
+        &[COUNTING, GO, Ran(0, 1), Counted(0), Ran(0, 1)],
+        &[GO, Ran(0, 1), Did("-exec-interrupt"), Interrupted(0)],
+        &[GO, Ran(0, 1), EXIT],
+        &[Did("-gdb-exit x"), GO, Ran(0, 1)],
+    ];
+    for (case, told) in cases.into_iter().enumerate() {
+        assert!(rt; is_lawful(alloc, 9, told)?, "case {case}");
+    }
     Ok(())
 }
 
 #[test]
 fn no_other_journals_are_gone_through(rt: HostRuntime) -> Result<(), Fail> {
     let alloc = rt.alloc();
-    let go = Did("-exec-continue");
-    let set = Did("-break-insert *0x10078");
-    // No instruction, neighbours of one hart, a stopped hart, no such hart.
-    assert!(rt; !is_lawful(alloc, 9, &[go, Ran(0, 0)])?);
-    assert!(rt; !is_lawful(alloc, 9, &[go, Ran(0, 1), Ran(0, 1)])?);
-    assert!(rt; !is_lawful(alloc, 9, &[Ran(0, 1)])?);
-    assert!(rt; !is_lawful(alloc, 9, &[go, Ran(1, 1)])?);
-    // Past a breakpoint, a stop as a count, a stop by another number, a stop where none is due.
-    assert!(rt; !is_lawful(alloc, 9, &[set, go, Ran(0, 2)])?);
-    assert!(rt; !is_lawful(alloc, 9, &[set, go, Ran(0, 1), Counted(0)])?);
-    assert!(rt; !is_lawful(alloc, 9, &[set, go, Ran(0, 1), Stopped(0, 2)])?);
-    assert!(rt; !is_lawful(alloc, 9, &[go, Ran(0, 1), Stopped(0, 1)])?);
-    // No trap, no exit, another code, no interrupt that was asked.
-    assert!(rt; !is_lawful(alloc, 9, &[go, Faulted(0)])?);
-    assert!(rt; !is_lawful(alloc, 9, &[go, Left(0, 2)])?);
-    assert!(rt; !is_lawful(alloc, 9, &[go, Ran(0, 4), Left(0, 3)])?);
-    assert!(rt; !is_lawful(alloc, 9, &[go, Ran(0, 1), Interrupted(0)])?);
-    // A wait while a hart runs, a line after the budget.
-    assert!(rt; !is_lawful(alloc, 9, &[go, Did("-exec-wait")])?);
-    assert!(rt; !is_lawful(alloc, 2, &[go, Ran(0, 2), Did("-thread-list-ids")])?);
+    // With their budgets.
+    let cases: [(u64, &[Told]); 18] = [
+        // No instruction, neighbours of one hart, a stopped hart, no such hart.
+        (9, &[GO, Ran(0, 0)]),
+        (9, &[GO, Ran(0, 1), Ran(0, 1)]),
+        (9, &[Ran(0, 1)]),
+        (9, &[GO, Ran(1, 1)]),
+        // Past a breakpoint, a stop as a count, a stop by another number, a stop where none is due.
+        (9, &[SET, GO, Ran(0, 2)]),
+        (9, &[SET, GO, Ran(0, 1), Counted(0)]),
+        (9, &[SET, GO, Ran(0, 1), Stopped(0, 2)]),
+        (9, &[GO, Ran(0, 1), Stopped(0, 1)]),
+        // No trap, no exit, another code, no interrupt that was asked.
+        (9, &[GO, Faulted(0)]),
+        (9, &[GO, Left(0, 2)]),
+        (9, &[GO, Ran(0, 4), Left(0, 3)]),
+        (9, &[GO, Ran(0, 1), Interrupted(0)]),
+        // A wait while a hart runs, a line after the budget.
+        (9, &[GO, Did("-exec-wait")]),
+        (2, &[GO, Ran(0, 2), Did("-thread-list-ids")]),
+        // An instruction, a line, a stop and an exit after the line that ended the session.
+        (9, &[GO, EXIT, Ran(0, 1)]),
+        (9, &[EXIT, EXIT]),
+        (9, &[SET, GO, Ran(0, 1), EXIT, Stopped(0, 1)]),
+        (9, &[GO, EXIT, Left(0, 2)]),
+    ];
+    for (case, (budget, told)) in cases.into_iter().enumerate() {
+        assert!(rt;
+            budget >= 1 && budget <= 9 && !is_lawful(alloc, budget, told)?,
+            "case {case}"
+        );
+    }
     Ok(())
 }

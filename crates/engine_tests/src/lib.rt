@@ -1,0 +1,7 @@
+//! Tests of the engine's moves, and of journals that are gone through.
+#![tactic(auto)]
+
+#[cfg(test)]
+mod engine_moves;
+#[cfg(test)]
+mod journals;
