@@ -117,7 +117,7 @@ def check_single_bytes(rig):
 
 def check_large_input(rig):
     """Thousands of lines, written in random pieces: each is answered once, in its order."""
-    count, dice = 20_000, random.Random(7)
+    count, dice = 5_000, random.Random(7)
     lines = b"".join(b"%d-thread-list-ids\n" % number for number in range(1, count + 1))
     reply = b'%d^done,thread-ids={thread-id="1"},current-thread-id="1",number-of-threads="1"\n(gdb)\n'
     wanted = OPENING + b"".join(reply % number for number in range(1, count + 1))
