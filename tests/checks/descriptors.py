@@ -46,15 +46,16 @@ def check_memory(rig):
     found = [with_memory(rig, megabytes) for megabytes in range(3, 40)]
     # (below some size the system can't load the program at all, which is 127)
     rig.row("short memory: statuses", sorted({status for status, _ in found} - {0, 7, 127}), [])
-    rig.row("short memory: some run ends with 7", 7 in [status for status, _ in found], True)
+    os.truncate(os.path.join(rig.folder, rig.put("large", b"")), 30 << 20)
+    rig.row("a file of 30 MB in 24 MB", with_memory(rig, 24, "large"), (7, b""))
     rig.row("short memory: whole where it ends with 0", all(it == whole for it in found if it[0] == 0), True)
 
 
-def with_memory(rig, megabytes):
+def with_memory(rig, megabytes, file="exit"):
     """A short session in a process that may have so much memory."""
     bytes = megabytes << 20
     limits = lambda: resource.setrlimit(resource.RLIMIT_AS, (bytes, bytes))
-    return rig.run(["--workers", "0", "exit"], CONTINUE, preexec_fn=limits, stderr=subprocess.DEVNULL)
+    return rig.run(["--workers", "0", file], CONTINUE, preexec_fn=limits, stderr=subprocess.DEVNULL)
 
 
 def check_input_that_fails(rig):
