@@ -1,15 +1,17 @@
 //! The debugger: it runs one program by lines from standard input, and writes records to standard output.
 #![tactic(auto)]
 
-#[cfg(test)]
-mod tests;
+mod again;
+mod feed;
+mod reader;
 mod world;
 
 use dbg_session::{Ended, Status, debug_run};
 use dbg_traits::{ArgText, NoMemory, OpenGate};
+use reader::{Shared, pump};
 use std::io::ErrorKind;
 use std::process::ExitCode;
-use std::{env, io};
+use std::{env, fs, thread};
 use world::RealWorld;
 
 // The words of the command line, without the program's name. Where one isn't UTF-8 there are none, which is refused.
@@ -31,33 +33,31 @@ fn words(rt: &(impl env::Env + Alloc<A = std::alloc::Global>)) -> Result<Vec<Arg
     Ok(words)
 }
 
-// The exit status of the program.
-fn number(status: Status) -> u8 {
-    match status {
-        Status::Done => 0,
-        Status::Words => 1,
-        Status::File(_) => 2,
-        Status::Budget => 3,
-        Status::History => 4,
-        Status::ReadFault => 5,
-        Status::WriteFault => 6,
-        Status::NoMemory => 7,
-    }
-}
-
 fn main(rt: HostRuntime) -> ExitCode {
+    // A folder can be neither read nor written as a file. So it stands in for a standard descriptor that was closed.
+    let _held = [fs::open(&rt, "/"), fs::open(&rt, "/"), fs::open(&rt, "/")];
     let Ok(words) = words(&rt) else {
-        return ExitCode::from(number(Status::NoMemory));
+        return ExitCode::from(Status::NoMemory.number());
     };
     let Ok(handle) = rt.clone() else {
-        return ExitCode::from(number(Status::NoMemory));
+        return ExitCode::from(Status::NoMemory.number());
+    };
+    let Ok(its) = rt.clone() else {
+        return ExitCode::from(Status::NoMemory.number());
     };
     let alloc = rt.alloc();
-    let world = RealWorld::new(handle, words);
+    // Nobody joins the reader: it may stand in a read when the program ends. Without one, polls read by themselves.
+    let input = match Shared::pair(alloc) {
+        Ok((mine, theirs)) => thread::spawn(&rt, move || pump(&its, &theirs))
+            .ok()
+            .map(|_| mine),
+        Err(_) => None,
+    };
+    let world = RealWorld::new(handle, words, input);
     let Ended {
         status,
         world: _,
         closed: _,
     } = debug_run(&rt, alloc, world, &OpenGate);
-    ExitCode::from(number(status))
+    ExitCode::from(status.number())
 }
