@@ -25,11 +25,11 @@ const BROKE: &str = "\
 
 const OPENING: &str = "=thread-created,id=\"1\",group-id=\"i1\"\n(gdb)\n";
 
-// At most 7 bytes a put: 65 puts in the whole run.
+// At most 7 bytes a put, and no line end but at its end: 72 puts in the whole run.
 #[test]
 fn each_put_fails_in_turn(rt: HostRuntime) -> Result<(), Fail> {
     let alloc = rt.alloc();
-    for failing_put in 1..67 {
+    for failing_put in 1..74 {
         let sizes = Sizes {
             put: 7,
             failing_put,
@@ -42,13 +42,16 @@ fn each_put_fails_in_turn(rt: HostRuntime) -> Result<(), Fail> {
             world,
             closed: _,
         } = debug_run(&rt, alloc, world, &OpenGate);
-        let expected = if failing_put < 66 {
+        let expected = if failing_put < 73 {
             Status::WriteFault
         } else {
             Status::Done
         };
         assert_eq!(rt; status, expected, "{failing_put}");
-        assert!(rt; BROKE.as_bytes().starts_with(world.output()), "{failing_put}");
+        assert!(rt;
+            BROKE.as_bytes().starts_with(world.output()),
+            "{failing_put}"
+        );
         assert!(rt; (status == Status::Done) == (world.output() == BROKE.as_bytes()));
     }
     Ok(())
@@ -63,43 +66,139 @@ type Case<'a> = (
     (Status, &'a str, &'a str, Option<(u32, u64, u64)>),
 );
 
+// At most 64 bytes a read and 10 a put.
+const SHORT: Sizes = Sizes {
+    read: 64,
+    poll: 4096,
+    put: 10,
+    failing_read: 0,
+    failing_put: 0,
+};
+
+const READ_1_FAILS: Sizes = Sizes {
+    failing_read: 1,
+    ..SHORT
+};
+
+const READ_5_FAILS: Sizes = Sizes {
+    failing_read: 5,
+    ..SHORT
+};
+
+const READ_6_FAILS: Sizes = Sizes {
+    failing_read: 6,
+    ..SHORT
+};
+
+const READ_7_FAILS: Sizes = Sizes {
+    failing_read: 7,
+    ..SHORT
+};
+
+const PUT_1_FAILS: Sizes = Sizes {
+    failing_put: 1,
+    ..SHORT
+};
+
+const PUT_3_FAILS: Sizes = Sizes {
+    failing_put: 3,
+    ..SHORT
+};
+
+const LINE_8_FAILS: Sizes = Sizes {
+    failing_put: 8,
+    ..LARGE
+};
+
+const NOTHING: (Status, &str, &str, Option<(u32, u64, u64)>) = (Status::ReadFault, "", "", None);
+
+const CASES: [Case<'static>; 9] = [
+    // The file of four words and four bytes has 319 bytes, and its end is found by the sixth read.
+    (
+        &RETURNS_TWO,
+        &[],
+        &["-exec-continue\n"],
+        READ_1_FAILS,
+        NOTHING,
+    ),
+    (
+        &RETURNS_TWO,
+        &[],
+        &["-exec-continue\n"],
+        READ_5_FAILS,
+        NOTHING,
+    ),
+    (
+        &RETURNS_TWO,
+        &[],
+        &["-exec-continue\n"],
+        READ_6_FAILS,
+        NOTHING,
+    ),
+    (
+        &RETURNS_TWO,
+        &[],
+        &[],
+        READ_7_FAILS,
+        (Status::Done, OPENING, "", Some((0x1_0074, 0, 0))),
+    ),
+    (
+        &RETURNS_TWO,
+        &[],
+        &[],
+        PUT_3_FAILS,
+        (
+            Status::WriteFault,
+            "=thread-created,id=\"",
+            "",
+            Some((0x1_0074, 0, 0)),
+        ),
+    ),
+    (
+        &RETURNS_TWO,
+        &["--harts", "0"],
+        &[],
+        PUT_1_FAILS,
+        (Status::Words, "", "", None),
+    ),
+    (
+        &RETURNS_TWO,
+        &[],
+        &["!"],
+        LARGE,
+        (Status::ReadFault, OPENING, "", Some((0x1_0074, 0, 0))),
+    ),
+    (
+        &COUNTS,
+        &[],
+        &["-exec-continue\n", "-", "!"],
+        LARGE,
+        (
+            Status::ReadFault,
+            "(gdb)\n",
+            "D 0:128 ",
+            Some((0x1_0074, 128, 0)),
+        ),
+    ),
+    // The eighth line is the reply to the third line of the input: the hart is at its copy then, and is taken home.
+    (
+        &COUNTS,
+        &["--slice", "0"],
+        &["-break-insert -i 2 -c \"1 == 2\" *0x10078\n-exec-continue\n-thread-list-ids\n"],
+        LINE_8_FAILS,
+        (
+            Status::WriteFault,
+            "*running,thread-id=\"1\"\n(gdb)\n",
+            "D D 0:1 C 0:2 C 0:28 D ",
+            Some((0x1_0078, 31, 15)),
+        ),
+    ),
+];
+
 #[test]
 fn a_failure_ends_a_run_with_its_status(rt: HostRuntime) -> Result<(), Fail> {
     let alloc = rt.alloc();
-    let short = Sizes {
-        read: 64,
-        put: 10,
-        ..LARGE
-    };
-    let read_fails = |number| Sizes {
-        failing_read: number,
-        ..short
-    };
-    let put_fails = |number| Sizes {
-        failing_put: number,
-        ..short
-    };
-    let nothing = (Status::ReadFault, "", "", None);
-    let cases: [Case<'_>; 9] = [
-        // The file of four words and four bytes has 319 bytes, and its end is found by the sixth read.
-        (&RETURNS_TWO, &[], &["-exec-continue\n"], read_fails(1), nothing),
-        (&RETURNS_TWO, &[], &["-exec-continue\n"], read_fails(5), nothing),
-        (&RETURNS_TWO, &[], &["-exec-continue\n"], read_fails(6), nothing),
-        (&RETURNS_TWO, &[], &[], read_fails(7), (Status::Done, OPENING, "", Some((0x1_0074, 0, 0)))),
-        (&RETURNS_TWO, &[], &[], put_fails(3), (Status::WriteFault, "=thread-created,id=\"", "", Some((0x1_0074, 0, 0)))),
-        (&RETURNS_TWO, &["--harts", "0"], &[], put_fails(1), (Status::Words, "", "", None)),
-        (&RETURNS_TWO, &[], &["!"], LARGE, (Status::ReadFault, OPENING, "", Some((0x1_0074, 0, 0)))),
-        (&COUNTS, &[], &["-exec-continue\n", "-", "!"], LARGE, (Status::ReadFault, "(gdb)\n", "D 0:128 ", Some((0x1_0074, 128, 0)))),
-        // The eighth line is the reply to the third line of the input: the hart is at its copy then, and is taken home.
-        (
-            &COUNTS,
-            &["--slice", "0"],
-            &["-break-insert -i 2 -c \"1 == 2\" *0x10078\n-exec-continue\n-thread-list-ids\n"],
-            Sizes { failing_put: 8, ..LARGE },
-            (Status::WriteFault, "*running,thread-id=\"1\"\n(gdb)\n", "D D 0:1 C 0:2 C 0:28 D ", Some((0x1_0078, 31, 15))),
-        ),
-    ];
-    for (words, options, cues, sizes, (expected, output, journal, first)) in cases {
+    for (words, options, cues, sizes, (expected, output, journal, first)) in CASES {
         assert!(rt; !words.is_empty() && words.len() < 16);
         let file = plain(alloc, words, &[0; 4])?;
         let world = world_of(alloc, options, file, cues, sizes)?;

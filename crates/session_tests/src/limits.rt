@@ -2,8 +2,8 @@
 use crate::worlds::{LARGE, scripted};
 use dbg_session::{Ended, Status, debug_run};
 use dbg_traits::{Cue, OpenGate};
-use elf32_read::{ElfFault, ElfKind};
 use elf_gen::plain;
+use elf32_read::{ElfFault, ElfKind};
 use std::alloc::Global;
 use std::test::Fail;
 
@@ -36,22 +36,23 @@ fn blank_lines(alloc: Global, blanks: usize, count: usize, last: usize) -> Resul
     Ok(input)
 }
 
+// The file's length; the blanks of a line, the number of lines, and the blanks of one more; the status, and how many
+// bytes are written. The opening has 43 bytes, and each answer 6; a refused file is told in 57.
+const CASES: [(usize, (usize, usize, usize), Status, usize); 7] = [
+    (33_554_432, (0, 0, 0), Status::Done, 49),
+    (33_554_433, (0, 0, 0), LARGE_FILE, 57),
+    (40_000_000, (0, 0, 0), LARGE_FILE, 57),
+    (315, (0, 4_194_302, 0), Status::Done, 25_165_861),
+    (315, (0, 4_194_303, 0), Status::History, 25_165_867),
+    // Each poll takes a line; one that reaches the limit ends the session, and its line isn't done.
+    (315, (4_095, 16_383, 4_094), Status::Done, 98_347),
+    (315, (4_095, 16_383, 4_095), Status::History, 98_341),
+];
+
 #[test]
 fn limits_are_met_exactly(rt: HostRuntime) -> Result<(), Fail> {
     let alloc = rt.alloc();
-    // The file's length; the blanks of a line, the number of lines, and the blanks of one more; the status, and how many
-    // bytes are written. The opening has 43 bytes, and each answer 6; a refused file is told in 57.
-    let cases = [
-        (33_554_432, (0, 0, 0), Status::Done, 49),
-        (33_554_433, (0, 0, 0), LARGE_FILE, 57),
-        (40_000_000, (0, 0, 0), LARGE_FILE, 57),
-        (315, (0, 4_194_302, 0), Status::Done, 25_165_861),
-        (315, (0, 4_194_303, 0), Status::History, 25_165_867),
-        // Each poll takes a line; one that reaches the limit ends the session, and its line isn't done.
-        (315, (4_095, 16_383, 4_094), Status::Done, 98_347),
-        (315, (4_095, 16_383, 4_095), Status::History, 98_341),
-    ];
-    for (length, (blanks, count, last), expected, written) in cases {
+    for (length, (blanks, count, last), expected, written) in CASES {
         let mut script = Vec::new(alloc);
         script.push(Cue::Piece(blank_lines(alloc, blanks, count, last)?))?;
         let world = scripted(alloc, &[], file_of(alloc, length)?, script, LARGE)?;
