@@ -230,6 +230,7 @@ fn content(alloc: Global, name: &str) -> Result<Content, Fail> {
     Ok(match name {
         "blank" => Content::Blank,
         "done" => Content::Done,
+        "exit" => Content::Exit,
         "running" => Content::Running(numbers(alloc, &[1, 3])?),
         "none running" => Content::Running(numbers(alloc, &[])?),
         "selected" => Content::Selected(16),
@@ -273,9 +274,10 @@ fn content(alloc: Global, name: &str) -> Result<Content, Fail> {
 }
 
 /// The lines of each reply.
-const REPLIES: [(&str, &str); 17] = [
+const REPLIES: [(&str, &str); 18] = [
     ("blank", "(gdb)\n"),
     ("done", "^done\n(gdb)\n"),
+    ("exit", "^exit\n"),
     (
         "running",
         "^running\n*running,thread-id=\"1\"\n*running,thread-id=\"3\"\n(gdb)\n",
