@@ -1,7 +1,6 @@
 //! Reads, polls and puts that fail, one at a time.
-use crate::worlds::{LARGE, Sizes, first_hart, shape, world_of};
-use dbg_session::{Ended, Status, debug_run};
-use dbg_traits::OpenGate;
+use crate::worlds::{LARGE, Sizes, first_hart, run, shape, world_of};
+use dbg_session::Status;
 use elf_gen::plain;
 use std::test::Fail;
 
@@ -37,11 +36,7 @@ fn each_put_fails_in_turn(rt: HostRuntime) -> Result<(), Fail> {
         };
         let file = plain(alloc, &RETURNS_TWO, &[0; 4])?;
         let world = world_of(alloc, &[], file, &[BREAKS], sizes)?;
-        let Ended {
-            status,
-            world,
-            closed: _,
-        } = debug_run(&rt, alloc, world, &OpenGate);
+        let (status, world, _) = run(&rt, alloc, world);
         let expected = if failing_put < 73 {
             Status::WriteFault
         } else {
@@ -202,11 +197,7 @@ fn a_failure_ends_a_run_with_its_status(rt: HostRuntime) -> Result<(), Fail> {
         assert!(rt; !words.is_empty() && words.len() < 16);
         let file = plain(alloc, words, &[0; 4])?;
         let world = world_of(alloc, options, file, cues, sizes)?;
-        let Ended {
-            status,
-            world,
-            closed,
-        } = debug_run(&rt, alloc, world, &OpenGate);
+        let (status, world, closed) = run(&rt, alloc, world);
         assert_eq!(rt; status, expected, "{journal}");
         assert!(rt; world.output().ends_with(output.as_bytes()), "{journal}");
         assert_eq!(rt; shape(alloc, &closed)?.as_str(), journal);

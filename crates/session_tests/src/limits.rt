@@ -1,7 +1,7 @@
 //! The limits of a session: of its file, of its input and of its history.
-use crate::worlds::{LARGE, scripted};
-use dbg_session::{Ended, Status, debug_run};
-use dbg_traits::{Cue, OpenGate};
+use crate::worlds::{LARGE, run, scripted};
+use dbg_session::Status;
+use dbg_traits::Cue;
 use elf_gen::plain;
 use elf32_read::{ElfFault, ElfKind};
 use std::alloc::Global;
@@ -56,11 +56,7 @@ fn limits_are_met_exactly(rt: HostRuntime) -> Result<(), Fail> {
         let mut script = Vec::new(alloc);
         script.push(Cue::Piece(blank_lines(alloc, blanks, count, last)?))?;
         let world = scripted(alloc, &[], file_of(alloc, length)?, script, LARGE)?;
-        let Ended {
-            status,
-            world,
-            closed: _,
-        } = debug_run(&rt, alloc, world, &OpenGate);
+        let (status, world, _) = run(&rt, alloc, world);
         assert_eq!(rt; status, expected, "{length} {blanks} {count}");
         assert_eq!(rt; world.output().len(), written, "{length} {blanks} {count}");
     }

@@ -1,7 +1,6 @@
 //! In which order lines are done and harts are moved, by the shapes of journals.
-use crate::worlds::{LARGE, Sizes, first_hart, shape, world_of};
-use dbg_session::{Ended, Status, debug_run};
-use dbg_traits::OpenGate;
+use crate::worlds::{LARGE, first_hart, run, shape, world_of};
+use dbg_session::Status;
 use elf_gen::plain;
 use std::test::Fail;
 
@@ -204,11 +203,7 @@ fn lines_are_done_and_harts_moved_in_this_order(rt: HostRuntime) -> Result<(), F
         assert!(rt; !words.is_empty() && words.len() < 16);
         let file = plain(alloc, words, &[0; 4])?;
         let world = world_of(alloc, options, file, cues, LARGE)?;
-        let Ended {
-            status,
-            world: _,
-            closed,
-        } = debug_run(&rt, alloc, world, &OpenGate);
+        let (status, _, closed) = run(&rt, alloc, world);
         assert_eq!(rt; status, expected, "{cues:?}");
         assert_eq!(rt; shape(alloc, &closed)?.as_str(), journal, "{cues:?}");
         assert_eq!(rt; first_hart(&closed), Some(first), "{cues:?}");

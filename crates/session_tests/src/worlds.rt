@@ -4,10 +4,12 @@ ghost use Rattle.dbg_traits.specs.Told.{IsFresh};
 ghost use Rattle.dbg_traits.specs.MemWorld.{told_of};
 
 use dbg_model::Entry;
-use dbg_session::Closed;
-use dbg_traits::{ArgText, Cue, Limits, MemWorld};
+use dbg_session::{Closed, Ended, Status, debug_run};
+use dbg_traits::{ArgText, Cue, Limits, MemWorld, OpenGate};
 use std::alloc::Global;
+use std::sync::Wait;
 use std::test::Fail;
+use std::thread::Threads;
 
 /// The greatest lengths of one read, one poll and one put, and the numbers of the read and of the put that fail; 0 fails none.
 #[derive(Clone, Copy)]
@@ -118,4 +120,20 @@ pub fn first_hart(closed: &Option<Closed>) -> Option<(u32, u64, u64)> {
         )),
         _ => None,
     }
+}
+
+/// Runs a session over a world, and hands back its status, the world, and what is left of it.
+pub fn run<R: Threads + Wait + Sync>(
+    rt: &R,
+    alloc: Global,
+    world: MemWorld,
+) -> (Status, MemWorld, Option<Closed>)
+    requires { IsFresh (told_of world) }
+{
+    let Ended {
+        status,
+        world,
+        closed,
+    } = debug_run(rt, alloc, world, &OpenGate);
+    (status, world, closed)
 }
