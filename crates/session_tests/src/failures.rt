@@ -1,7 +1,6 @@
 //! Reads, polls and puts that fail, one at a time.
-use crate::worlds::{LARGE, Sizes, first_hart, run, shape, world_of};
+use crate::worlds::{LARGE, Sizes, first_hart, program, run, shape, world_of};
 use dbg_session::Status;
-use elf_gen::plain;
 use std::test::Fail;
 
 // Text begins at 0x00010074.
@@ -34,7 +33,7 @@ fn each_put_fails_in_turn(rt: HostRuntime) -> Result<(), Fail> {
             failing_put,
             ..LARGE
         };
-        let file = plain(alloc, &RETURNS_TWO, &[0; 4])?;
+        let file = program(&rt, alloc, &RETURNS_TWO)?;
         let world = world_of(alloc, &[], file, &[BREAKS], sizes)?;
         let (status, world, _) = run(&rt, alloc, world);
         let expected = if failing_put < 73 {
@@ -194,8 +193,7 @@ const CASES: [Case<'static>; 9] = [
 fn a_failure_ends_a_run_with_its_status(rt: HostRuntime) -> Result<(), Fail> {
     let alloc = rt.alloc();
     for (words, options, cues, sizes, (expected, output, journal, first)) in CASES {
-        assert!(rt; !words.is_empty() && words.len() < 16);
-        let file = plain(alloc, words, &[0; 4])?;
+        let file = program(&rt, alloc, words)?;
         let world = world_of(alloc, options, file, cues, sizes)?;
         let (status, world, closed) = run(&rt, alloc, world);
         assert_eq!(rt; status, expected, "{journal}");

@@ -1,7 +1,6 @@
 //! In which order lines are done and harts are moved, by the shapes of journals.
-use crate::worlds::{LARGE, first_hart, run, shape, world_of};
+use crate::worlds::{LARGE, first_hart, program, run, shape, world_of};
 use dbg_session::Status;
-use elf_gen::plain;
 use std::test::Fail;
 
 // Text begins at 0x00010074, data at 0x00020000.
@@ -200,8 +199,7 @@ const CASES: [Case<'static>; 16] = [
 fn lines_are_done_and_harts_moved_in_this_order(rt: HostRuntime) -> Result<(), Fail> {
     let alloc = rt.alloc();
     for (words, options, cues, expected, journal, first) in CASES {
-        assert!(rt; !words.is_empty() && words.len() < 16);
-        let file = plain(alloc, words, &[0; 4])?;
+        let file = program(&rt, alloc, words)?;
         let world = world_of(alloc, options, file, cues, LARGE)?;
         let (status, _, closed) = run(&rt, alloc, world);
         assert_eq!(rt; status, expected, "{cues:?}");

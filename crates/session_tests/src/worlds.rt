@@ -6,7 +6,9 @@ ghost use Rattle.dbg_traits.specs.MemWorld.{told_of};
 use dbg_model::Entry;
 use dbg_session::{Closed, Ended, Status, debug_run};
 use dbg_traits::{ArgText, Cue, Limits, MemWorld, OpenGate};
+use elf_gen::plain;
 use std::alloc::Global;
+use std::process::Abort;
 use std::sync::Wait;
 use std::test::Fail;
 use std::thread::Threads;
@@ -120,6 +122,12 @@ pub fn first_hart(closed: &Option<Closed>) -> Option<(u32, u64, u64)> {
         )),
         _ => None,
     }
+}
+
+/// A program of one to fifteen words and four zero bytes of data.
+pub fn program(rt: &impl Abort, alloc: Global, words: &[u32]) -> Result<Vec<u8>, Fail> {
+    assert!(rt; !words.is_empty() && words.len() < 16);
+    Ok(plain(alloc, words, &[0; 4])?)
 }
 
 /// Runs a session over a world, and hands back its status, the world, and what is left of it.
