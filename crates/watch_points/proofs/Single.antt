@@ -7,7 +7,7 @@ use Rattle.cond_expr.specs.Term.{Term, leaf, prefix, binary}
 use Rattle.watch_points.specs.declared.watch.Watched.{Watched}
 use Rattle.watch_points.specs.declared.fault.WatchFault.{WatchFault}
 use Rattle.watch_points.specs.declared.fault.WatchFault.TheVariants.{Expr, Form, Value}
-use Rattle.watch_points.specs.Watching.{IsReadOf, IsWatch, IsWatchable, HasNoAddress, Suits}
+use Rattle.watch_points.specs.Watching.{IsReadOf, IsWatch, HasNoAddress, Suits}
 
 abbrev made : ℕ → ℕ → Bool → Watched
 made address size signed = record { address = address; size = size; signed = signed }

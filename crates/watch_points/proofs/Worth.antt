@@ -1,5 +1,5 @@
 -- The value of a constant tree: the same over all registers and bytes, and never an address that isn't mapped.
-use Rattle.std.proofs.Common.{◌≡◌, ℕ, Bool, true, false, Option, None, Some, refl, sym, ap, subst, ◌∙◌}
+use Rattle.std.proofs.Common.{◌≡◌, ℕ, Bool, true, false, Option, None, Some, refl, ap, subst, ◌∙◌}
 use Rattle.std.specs.Prelude.{◌==◌, ◌||◌, if◌then◌else◌}
 use Rattle.cond_expr.specs.declared.token.Binary.{Binary}
 use Rattle.cond_expr.specs.declared.token.Binary.TheVariants.{OrElse, AndThen, Or, Xor, And, Equal, NotEqual, Less, LessEqual, Greater, GreaterEqual, ShiftLeft, ShiftRight, Add, Subtract, Multiply, Divide, Remainder}
@@ -9,9 +9,8 @@ use Rattle.cond_expr.specs.declared.token.Leaf.TheVariants.{Number, Register, Ad
 use Rattle.cond_expr.specs.declared.evaluating.Value.{Value}
 use Rattle.cond_expr.specs.declared.evaluating.Value.TheVariants.{Word, DivZero, Unread}
 use Rattle.cond_expr.specs.Term.{Term, leaf, prefix, binary}
-use Rattle.cond_expr.specs.Value.{flag, with_word, prefix_value, divided_by, divided, words_value, decided, or_look, binary_value, value_of}
-use Rattle.watch_points.specs.Constant.{Within, whole, behind, left, right, IsConstant, IsWorth}
-use Rattle.watch_points.specs.declared.watch.Watched.{Watched}
+use Rattle.cond_expr.specs.Value.{flag, with_word, prefix_value, divided_by, words_value, decided, or_look, binary_value, value_of}
+use Rattle.watch_points.specs.Constant.{whole, behind, left, right, IsConstant, IsWorth}
 use Rattle.watch_points.specs.Watching.{size_of, is_signed, IsReadOf}
 
 same : (registers others : ℕ → ℕ) (bytes more : ℕ → Option ℕ) (e : Term) → IsConstant e → value_of registers bytes e ≡ value_of others more e

@@ -12,11 +12,11 @@ pub returns-in_err-tree_watch : goal.returns-in_err-tree_watch
 returns-in_err-tree_watch c =
     let p = err_from_is_err_and c.from_residual-in_err-tree_watch.result c.from_residual-in_err-tree_watch.ensures.1 in
     let x = refused c.args.text.now c.args.symbols.now _ c.in_ok-e.ensures.found c.in_ok-e.ensures.only (c.in_ok-e.ensures.fault c.in_ok-e.ensures.found.0) _ c.root.ensures c.tree_watch.result c.tree_watch.ensures
-        _ p.0 c.from_residual-in_err-tree_watch.result c.in_err-tree_watch.was p.1 p.2 in
+    _ p.0 c.from_residual-in_err-tree_watch.result c.in_err-tree_watch.was p.1 p.2 in
     record { watched = x.watched; expr = x.expr; form = x.form; value = x.value }
 
 pub returns : goal.returns
 returns c =
     let x = took c.args.text.now c.args.symbols.now _ c.in_ok-e.ensures.found c.in_ok-e.ensures.only (c.in_ok-e.ensures.fault c.in_ok-e.ensures.found.0) _ c.root.ensures c.tree_watch.result c.tree_watch.ensures
-        _ c.in_ok-tree_watch.was in
+    _ c.in_ok-tree_watch.was in
     record { watched = x.watched; expr = x.expr; form = x.form; value = x.value }
