@@ -1,0 +1,4 @@
+pub mod Inside
+pub mod Worth
+pub mod Single
+pub mod Exact

@@ -1,0 +1,5 @@
+//! Tests of what can be watched.
+#![tactic(auto)]
+
+#[cfg(test)]
+mod watches;
