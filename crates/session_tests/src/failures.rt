@@ -57,7 +57,10 @@ type Case<'a> = (
     &'a [&'a str],
     &'a [&'a str],
     Sizes,
-    (Status, &'a str, &'a str, Option<(u32, u64, u64)>),
+    Status,
+    &'a str,
+    &'a str,
+    Option<(u32, u64, u64)>,
 );
 
 // At most 64 bytes a read and 10 a put.
@@ -104,8 +107,6 @@ const LINE_8_FAILS: Sizes = Sizes {
     ..LARGE
 };
 
-const NOTHING: (Status, &str, &str, Option<(u32, u64, u64)>) = (Status::ReadFault, "", "", None);
-
 const CASES: [Case<'static>; 9] = [
     // The file of four words and four bytes has 319 bytes, and its end is found by the sixth read.
     (
@@ -113,66 +114,80 @@ const CASES: [Case<'static>; 9] = [
         &[],
         &["-exec-continue\n"],
         READ_1_FAILS,
-        NOTHING,
+        Status::ReadFault,
+        "",
+        "",
+        None,
     ),
     (
         &RETURNS_TWO,
         &[],
         &["-exec-continue\n"],
         READ_5_FAILS,
-        NOTHING,
+        Status::ReadFault,
+        "",
+        "",
+        None,
     ),
     (
         &RETURNS_TWO,
         &[],
         &["-exec-continue\n"],
         READ_6_FAILS,
-        NOTHING,
+        Status::ReadFault,
+        "",
+        "",
+        None,
     ),
     (
         &RETURNS_TWO,
         &[],
         &[],
         READ_7_FAILS,
-        (Status::Done, OPENING, "", Some((0x1_0074, 0, 0))),
+        Status::Done,
+        OPENING,
+        "",
+        Some((0x1_0074, 0, 0)),
     ),
     (
         &RETURNS_TWO,
         &[],
         &[],
         PUT_3_FAILS,
-        (
-            Status::WriteFault,
-            "=thread-created,id=\"",
-            "",
-            Some((0x1_0074, 0, 0)),
-        ),
+        Status::WriteFault,
+        "=thread-created,id=\"",
+        "",
+        Some((0x1_0074, 0, 0)),
     ),
     (
         &RETURNS_TWO,
         &["--harts", "0"],
         &[],
         PUT_1_FAILS,
-        (Status::Words, "", "", None),
+        Status::Words,
+        "",
+        "",
+        None,
     ),
     (
         &RETURNS_TWO,
         &[],
         &["!"],
         LARGE,
-        (Status::ReadFault, OPENING, "", Some((0x1_0074, 0, 0))),
+        Status::ReadFault,
+        OPENING,
+        "",
+        Some((0x1_0074, 0, 0)),
     ),
     (
         &COUNTS,
         &[],
         &["-exec-continue\n", "-", "!"],
         LARGE,
-        (
-            Status::ReadFault,
-            "(gdb)\n",
-            "D 0:128 ",
-            Some((0x1_0074, 128, 0)),
-        ),
+        Status::ReadFault,
+        "(gdb)\n",
+        "D 0:128 ",
+        Some((0x1_0074, 128, 0)),
     ),
     // The eighth line is the reply to the third line of the input: the hart is at its copy then, and is taken home.
     (
@@ -180,26 +195,24 @@ const CASES: [Case<'static>; 9] = [
         &["--slice", "0"],
         &["-break-insert -i 2 -c \"1 == 2\" *0x10078\n-exec-continue\n-thread-list-ids\n"],
         LINE_8_FAILS,
-        (
-            Status::WriteFault,
-            "*running,thread-id=\"1\"\n(gdb)\n",
-            "D D 0:1 C 0:2 C 0:28 D ",
-            Some((0x1_0078, 31, 15)),
-        ),
+        Status::WriteFault,
+        "*running,thread-id=\"1\"\n(gdb)\n",
+        "D D 0:1 C 0:2 C 0:28 D ",
+        Some((0x1_0078, 31, 15)),
     ),
 ];
 
 #[test]
 fn a_failure_ends_a_run_with_its_status(rt: HostRuntime) -> Result<(), Fail> {
     let alloc = rt.alloc();
-    for (words, options, cues, sizes, (expected, output, journal, first)) in CASES {
+    for (words, options, cues, sizes, expected, output, journal, first) in CASES {
         let file = program(&rt, alloc, words)?;
         let world = world_of(alloc, options, file, cues, sizes)?;
         let (status, world, closed) = run(&rt, alloc, world);
-        assert_eq!(rt; status, expected, "{journal}");
-        assert!(rt; world.output().ends_with(output.as_bytes()), "{journal}");
-        assert_eq!(rt; shape(alloc, &closed)?.as_str(), journal);
-        assert_eq!(rt; first_hart(&closed), first, "{journal}");
+        assert_eq!(rt; status, expected, "{cues:?}");
+        assert!(rt; world.output().ends_with(output.as_bytes()), "{cues:?}");
+        assert_eq!(rt; shape(alloc, &closed)?.as_str(), journal, "{cues:?}");
+        assert_eq!(rt; first_hart(&closed), first, "{cues:?}");
     }
     Ok(())
 }
