@@ -1,5 +1,6 @@
 use mi_commands::{ByteList, Command, Fault, Insertion, Location, Refusal, command_of};
 use std::alloc::Global;
+use std::process::Abort;
 use std::test::Fail;
 
 fn text_of(bytes: &[u8]) -> &str {
@@ -76,7 +77,17 @@ fn shown(alloc: Global, line: &[u8]) -> Result<String, Fail> {
     Ok(format!(in alloc; "{}:{text}", text_of(token.as_bytes()))?)
 }
 
-const LINES: [(&str, &str); 73] = [
+// Compares what lines are with what is written beside them.
+fn check(rt: &impl Abort, alloc: Global, rows: &[(&str, &str)]) -> Result<(), Fail> {
+    for (line, expected) in rows {
+        let text = shown(alloc, line.as_bytes())?;
+        assert_eq!(rt; text.as_str(), *expected, "at {line}");
+    }
+    Ok(())
+}
+
+/// Commands of breakpoints.
+const BREAKPOINTS: [(&str, &str); 12] = [
     ("", ":Blank"),
     (
         "7-break-insert main",
@@ -113,6 +124,15 @@ const LINES: [(&str, &str); 73] = [
         ":BreakAfter { number: 3, count: 2147483647 }",
     ),
     ("-break-list", ":BreakList"),
+];
+
+#[test]
+fn commands_of_breakpoints_are_read(rt: HostRuntime) -> Result<(), Fail> {
+    check(&rt, rt.alloc(), &BREAKPOINTS)
+}
+
+/// Commands that run harts, or tell of them.
+const RUNS: [(&str, &str); 17] = [
     ("-exec-continue", ":Continue(Selected)"),
     ("-exec-continue --all", ":Continue(All)"),
     ("-exec-interrupt --thread 3", ":Interrupt(Thread(3))"),
@@ -139,6 +159,15 @@ const LINES: [(&str, &str); 73] = [
     ),
     ("-stack-info-frame", ":FrameInfo { thread: None }"),
     ("-data-list-register-names", ":RegisterNames"),
+];
+
+#[test]
+fn commands_that_run_and_show_are_read(rt: HostRuntime) -> Result<(), Fail> {
+    check(&rt, rt.alloc(), &RUNS)
+}
+
+/// Commands of values and settings.
+const VALUES: [(&str, &str); 14] = [
     (
         "-data-list-register-values --thread 1 x",
         ":RegisterValues { thread: Some(1), format: Hexadecimal, numbers: NumberList { numbers: [] } }",
@@ -165,7 +194,15 @@ const LINES: [(&str, &str); 73] = [
     ("-gdb-show mi-async", ":Show(MiAsync)"),
     ("-gdb-show displaced-stepping", ":Show(DisplacedStepping)"),
     ("-gdb-exit", ":Exit"),
-    // Lines that are no commands, by the numbers of their messages.
+];
+
+#[test]
+fn commands_of_values_and_settings_are_read(rt: HostRuntime) -> Result<(), Fail> {
+    check(&rt, rt.alloc(), &VALUES)
+}
+
+/// Lines that are no commands, by the numbers of their messages.
+const FORMS: [(&str, &str); 14] = [
     ("-a \"", "Syntax"),
     ("5 info", "5:3"),
     ("9--foo", "9:4 None -foo"),
@@ -183,6 +220,15 @@ const LINES: [(&str, &str); 73] = [
     ),
     ("-gdb-set non-stop", ":5 None gdb-set"),
     ("-break-insert -p y -i x *z", ":6 None y"),
+];
+
+#[test]
+fn lines_of_another_form_are_refused(rt: HostRuntime) -> Result<(), Fail> {
+    check(&rt, rt.alloc(), &FORMS)
+}
+
+/// Lines of which a word is faulty.
+const WORDS: [(&str, &str); 16] = [
     ("-break-insert -i -- main", ":6 None --"),
     ("-break-insert -i 0x80000000 main", ":6 None 0x80000000"),
     ("-break-delete 4294967296", ":6 None 4294967296"),
@@ -202,10 +248,6 @@ const LINES: [(&str, &str); 73] = [
 ];
 
 #[test]
-fn lines_are_commands_or_refused(rt: HostRuntime) -> Result<(), Fail> {
-    for (line, expected) in LINES {
-        let text = shown(rt.alloc(), line.as_bytes())?;
-        assert_eq!(rt; text.as_str(), expected, "at {line}");
-    }
-    Ok(())
+fn lines_with_faulty_words_are_refused(rt: HostRuntime) -> Result<(), Fail> {
+    check(&rt, rt.alloc(), &WORDS)
 }
