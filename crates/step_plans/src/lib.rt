@@ -2,8 +2,10 @@
 #![tactic(auto)]
 
 mod arrival;
+mod laws;
 mod plan;
 mod verdicts;
 
+pub use laws::{inner_returns_go_on, lines_end_at_rows, plans_keep_their_line};
 pub use plan::{After, Plan, Verdict};
 pub use verdicts::arrive;

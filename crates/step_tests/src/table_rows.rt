@@ -283,64 +283,48 @@ fn of_back(back: Back, plan: Plan, another: Verdict, rest: Verdict) -> Verdict {
     }
 }
 
+fn to_return(ret: u32, after: After) -> Plan {
+    Plan::ToReturn { ret, sp: SP, after }
+}
+
+fn line_after(line: u32, into: bool) -> After {
+    After::Line {
+        file: 0,
+        line,
+        into,
+    }
+}
+
 /// The plans that wait for this return, with what becomes of them where the hart is back: where another line begins, and else.
 fn waiting(ret: u32, line: u32) -> [(Plan, Verdict, Verdict); 5] {
-    let sp = SP;
-    let file = 0;
-    let next = After::Line {
-        file,
-        line,
-        into: false,
-    };
-    let step = After::Line {
-        file,
-        line,
-        into: true,
-    };
+    let next = of_line(OnLine::Same, 0, line, false);
+    let step = of_line(OnLine::Same, 0, line, true);
     let body = Plan::ToBody {
         at: 0x100B0,
         ret,
-        sp,
-        file,
+        sp: SP,
+        file: 0,
         line,
     };
-    let nexti = Plan::ToReturn {
-        ret,
-        sp,
-        after: After::Stop,
-    };
-    let on_next = Plan::ToReturn {
-        ret,
-        sp,
-        after: next,
-    };
-    let on_step = Plan::ToReturn {
-        ret,
-        sp,
-        after: step,
-    };
+    let finish = Plan::Finish { ret, sp: SP };
     [
-        (nexti, Verdict::Stepped, Verdict::Stepped),
         (
-            on_next,
+            to_return(ret, After::Stop),
             Verdict::Stepped,
-            of_line(OnLine::Same, file, line, false),
-        ),
-        (
-            on_step,
             Verdict::Stepped,
-            of_line(OnLine::Same, file, line, true),
         ),
         (
-            body,
+            to_return(ret, line_after(line, false)),
             Verdict::Stepped,
-            of_line(OnLine::Same, file, line, true),
+            next,
         ),
         (
-            Plan::Finish { ret, sp },
-            Verdict::Finished,
-            Verdict::Finished,
+            to_return(ret, line_after(line, true)),
+            Verdict::Stepped,
+            step,
         ),
+        (body, Verdict::Stepped, step),
+        (finish, Verdict::Finished, Verdict::Finished),
     ]
 }
 

@@ -1,0 +1,101 @@
+-- The laws, case by case of the table.
+use Rattle.std.proofs.Common.{◌≡◌, ℕ, ◌<◌, Bool, true, false, Option, None, Some, refl, arith}
+use Rattle.elf_symbols.specs.Names.{Names, Symbol, function_at}
+use Rattle.line_rows.specs.declared.row.Row.{Row}
+use Rattle.line_index.specs.Lines.{Lines, body_of, row_at}
+use Rattle.std.specs.Prelude.{if◌then◌else◌, ◌==◌, ◌&&◌}
+use Rattle.step_plans.specs.Arrivals.{arrival_of, is_back, is_call}
+use Rattle.step_plans.specs.Laws.{EndsAt, GoesOnIn, KeepsLine, LinesEndAtRows, InnerReturnsGoOn, line_after, line_of}
+use Rattle.step_plans.specs.Verdicts.{begins_another, entered_by, judged, on_line, returned}
+use Rattle.step_plans.specs.declared.arrival.Arrival.{Arrival}
+use Rattle.step_plans.specs.declared.arrival.Jump.{Jump}
+use Rattle.step_plans.specs.declared.arrival.Jump.TheVariants.{Call, Return, Other}
+use Rattle.step_plans.specs.declared.plan.After.{After}
+use Rattle.step_plans.specs.declared.plan.After.TheVariants as afters
+use Rattle.step_plans.specs.declared.plan.Plan.{Plan}
+use Rattle.step_plans.specs.declared.plan.Plan.TheVariants as plans
+use Rattle.step_plans.specs.declared.plan.Verdict.{Verdict}
+use Rattle.step_plans.specs.declared.plan.Verdict.TheVariants.{Go, Stepped, Finished}
+
+-- what holds of both verdicts holds of the one that is chosen
+either : (P : Verdict → Type 0) (b : Bool) (x y : Verdict) → P x → P y → P (if b then x else y)
+either P true x y p q = p
+either P false x y p q = q
+
+keeps_entered :
+    (file line : ℕ) (a : Arrival) (lines : Lines) (f : Option Symbol) →
+    GoesOnIn (Some (file, line)) (entered_by file line a lines f)
+keeps_entered file line a lines None = tt
+keeps_entered file line a lines (Some f) =
+    either (GoesOnIn (Some (file, line))) (a.pc == body_of lines f) Stepped (Go (plans.ToBody (body_of lines f) a.behind a.sp file line)) tt refl
+
+keeps_on_line :
+    (jump : Jump) (into : Bool) (row : Option Row) (file line : ℕ) (a : Arrival) (lines : Lines) (names : Names) →
+    GoesOnIn (Some (file, line)) (on_line jump into row file line a lines names)
+keeps_on_line Call true (Some r) file line a lines names = keeps_entered file line a lines (function_at names a.pc)
+keeps_on_line Call true None file line a lines names = refl
+keeps_on_line Call false row file line a lines names = refl
+keeps_on_line Return into None file line a lines names = refl
+keeps_on_line Return into (Some r) file line a lines names = tt
+keeps_on_line Other into None file line a lines names = refl
+keeps_on_line Other into (Some r) file line a lines names =
+    either (GoesOnIn (Some (file, line))) (begins_another file line a lines) Stepped (Go (plans.Line file line into)) tt refl
+
+keeps_returned : (after : After) (a : Arrival) (lines : Lines) → GoesOnIn (line_after after) (returned after a lines)
+keeps_returned afters.Stop a lines = tt
+keeps_returned (afters.Line file line into) a lines =
+    either (GoesOnIn (Some (file, line))) (begins_another file line a lines) Stepped (Go (plans.Line file line into)) tt refl
+
+keeps_judged :
+    (plan : Plan) (a : Arrival) (lines : Lines) (names : Names) → GoesOnIn (line_of plan) (judged plan a lines names)
+keeps_judged plans.Free a lines names = refl
+keeps_judged (plans.One over) a lines names =
+    either (GoesOnIn None) (over && is_call a.jump) (Go (plans.ToReturn a.behind a.sp afters.Stop)) Stepped refl tt
+keeps_judged (plans.Line file line into) a lines names =
+    keeps_on_line a.jump into (row_at lines a.pc) file line a lines names
+keeps_judged (plans.ToReturn ret sp after) a lines names =
+    either (GoesOnIn (line_after after)) (is_back ret sp a) (returned after a lines) (Go (plans.ToReturn ret sp after)) (keeps_returned after a lines) refl
+keeps_judged (plans.ToBody at ret sp file line) a lines names =
+    either (GoesOnIn (Some (file, line))) (a.pc == at) Stepped
+    (if is_back ret sp a then returned (afters.Line file line true) a lines else Go (plans.ToBody at ret sp file line)) tt
+    (either (GoesOnIn (Some (file, line))) (is_back ret sp a) (returned (afters.Line file line true) a lines) (Go (plans.ToBody at ret sp file line))
+    (keeps_returned (afters.Line file line true) a lines) refl)
+keeps_judged (plans.Finish ret sp) a lines names =
+    either (GoesOnIn None) (is_back ret sp a) Finished (Go (plans.Finish ret sp)) tt refl
+
+pub keeps_line : KeepsLine
+keeps_line plan last last_pc registers lines names = keeps_judged plan (arrival_of last last_pc registers) lines names
+
+ends_entered :
+    (r : Row) (file line : ℕ) (a : Arrival) (lines : Lines) (f : Option Symbol) →
+    EndsAt (Some r) (entered_by file line a lines f)
+ends_entered r file line a lines None = refl
+ends_entered r file line a lines (Some f) =
+    either (EndsAt (Some r)) (a.pc == body_of lines f) Stepped (Go (plans.ToBody (body_of lines f) a.behind a.sp file line)) refl tt
+
+ends_on_line :
+    (jump : Jump) (into : Bool) (row : Option Row) (file line : ℕ) (a : Arrival) (lines : Lines) (names : Names) →
+    EndsAt row (on_line jump into row file line a lines names)
+ends_on_line Call true (Some r) file line a lines names = ends_entered r file line a lines (function_at names a.pc)
+ends_on_line Call true None file line a lines names = tt
+ends_on_line Call false row file line a lines names = tt
+ends_on_line Return into None file line a lines names = tt
+ends_on_line Return into (Some r) file line a lines names = refl
+ends_on_line Other into None file line a lines names = tt
+ends_on_line Other into (Some r) file line a lines names =
+    either (EndsAt (Some r)) (begins_another file line a lines) Stepped (Go (plans.Line file line into)) refl tt
+
+pub lines_end : LinesEndAtRows
+lines_end file line into last last_pc registers lines names =
+    let a : Arrival = arrival_of last last_pc registers in
+    ends_on_line a.jump into (row_at lines (registers 32)) file line a lines names
+
+-- a stack pointer below the least isn't back
+away : (ret sp : ℕ) (a : Arrival) → a.sp < sp → is_back ret sp a ≡ false
+away ret sp a h = grind arith
+
+pub inner_returns : InnerReturnsGoOn
+inner_returns ret sp after last last_pc registers lines names h =
+    let a : Arrival = arrival_of last last_pc registers in
+    let e : is_back ret sp a ≡ false = away ret sp a h in
+    (rw e refl, rw e refl)

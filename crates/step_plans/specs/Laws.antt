@@ -1,0 +1,56 @@
+-- What holds of every verdict.
+use Rattle.std.specs.Prelude.{◌≡◌, ℕ, ◌<◌, Bool, true, Option, None, Some, is_some}
+use Rattle.rv_decode.specs.declared.instr.Instr.{Instr}
+use Rattle.elf_symbols.specs.Names.{Names}
+use Rattle.line_rows.specs.declared.row.Row.{Row}
+use Rattle.line_index.specs.Lines.{Lines, row_at}
+use Rattle.step_plans.specs.Verdicts.{verdict}
+use Rattle.step_plans.specs.declared.plan.After.{After}
+use Rattle.step_plans.specs.declared.plan.After.TheVariants as afters
+use Rattle.step_plans.specs.declared.plan.Plan.{Plan}
+use Rattle.step_plans.specs.declared.plan.Plan.TheVariants as plans
+use Rattle.step_plans.specs.declared.plan.Verdict.{Verdict}
+use Rattle.step_plans.specs.declared.plan.Verdict.TheVariants.{Go, Stepped, Finished}
+
+abbrev pub line_after : After → Option (ℕ × ℕ)
+line_after afters.Stop = None
+line_after (afters.Line file line into) = Some (file, line)
+
+-- the file and line that a plan began in, where it is one of lines
+abbrev pub line_of : Plan → Option (ℕ × ℕ)
+line_of plans.Free = None
+line_of (plans.One over) = None
+line_of (plans.Line file line into) = Some (file, line)
+line_of (plans.ToReturn ret sp after) = line_after after
+line_of (plans.ToBody at ret sp file line) = Some (file, line)
+line_of (plans.Finish ret sp) = None
+
+abbrev pub GoesOnIn : Option (ℕ × ℕ) → Verdict → Type 0
+GoesOnIn place (Go plan) = line_of plan ≡ place
+GoesOnIn place Stepped = Unit {0}
+GoesOnIn place Finished = Unit {0}
+
+-- a plan that goes on keeps its line
+abbrev pub KeepsLine : Type 0
+KeepsLine =
+    (plan : Plan) (last : Instr) (last_pc : ℕ) (registers : ℕ → ℕ) (lines : Lines) (names : Names) →
+    GoesOnIn (line_of plan) (verdict plan last last_pc registers lines names)
+
+abbrev pub EndsAt : Option Row → Verdict → Type 0
+EndsAt row (Go plan) = Unit {0}
+EndsAt row Stepped = is_some row ≡ true
+EndsAt row Finished = ⊥
+
+-- the plan of a line ends only where pc belongs to a row
+abbrev pub LinesEndAtRows : Type 0
+LinesEndAtRows =
+    (file line : ℕ) (into : Bool) (last : Instr) (last_pc : ℕ) (registers : ℕ → ℕ) (lines : Lines) (names : Names) →
+    EndsAt (row_at lines (registers 32)) (verdict (plans.Line file line into) last last_pc registers lines names)
+
+-- below the stack pointer of the call no wait for its return ends
+abbrev pub InnerReturnsGoOn : Type 0
+InnerReturnsGoOn =
+    (ret sp : ℕ) (after : After) (last : Instr) (last_pc : ℕ) (registers : ℕ → ℕ) (lines : Lines) (names : Names) →
+    registers 2 < sp →
+    (verdict (plans.ToReturn ret sp after) last last_pc registers lines names ≡ Go (plans.ToReturn ret sp after)) ×
+    (verdict (plans.Finish ret sp) last last_pc registers lines names ≡ Go (plans.Finish ret sp))

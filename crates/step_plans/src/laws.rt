@@ -1,0 +1,16 @@
+ghost use Rattle.step_plans.specs.Laws.{InnerReturnsGoOn, KeepsLine, LinesEndAtRows};
+
+/// A law: a plan that goes on keeps its line.
+pub fn plans_keep_their_line()
+    ensures { KeepsLine }
+{}
+
+/// A law: the plan of a line ends only where pc belongs to a row.
+pub fn lines_end_at_rows()
+    ensures { LinesEndAtRows }
+{}
+
+/// A law: a return at a lower stack pointer, which is that of an inner call, ends no wait for a return.
+pub fn inner_returns_go_on()
+    ensures { InnerReturnsGoOn }
+{}
