@@ -100,14 +100,12 @@ const CASES: [Case<'static>; 16] = [
         &["--workers", "2"],
         &[
             "-exec-continue\n",
-            "-",
-            "-",
-            "-",
+            "hundred -",
             "-exec-interrupt\n-exec-wait\n",
         ],
         Status::Done,
-        "D 0:256 D S D ",
-        (0x1_0074, 256, 0),
+        "D 0:6464 D S D ",
+        (0x1_0074, 6464, 0),
     ),
     // Nothing is polled behind a line that waits, and what stands behind it is done when the hart has stopped.
     (

@@ -42,15 +42,20 @@ fn limits_of(alloc: Global, sizes: Sizes) -> Result<Limits, Fail> {
     })
 }
 
-// `-` is a quiet time, `!` a poll that fails, and any other text a piece of the input.
+// `-` is a quiet time, `hundred -` a hundred of them, `!` a poll that fails, and any other text a piece of the input.
 fn script_of(alloc: Global, cues: &[&str]) -> Result<Vec<Cue>, Fail> {
     let mut script = Vec::new(alloc);
     for cue in cues {
-        script.push(match *cue {
-            "-" => Cue::Quiet,
-            "!" => Cue::Fault,
-            text => Cue::Piece(text.as_bytes().to_vec(alloc)?),
-        })?;
+        match *cue {
+            "hundred -" => {
+                for _ in 0..100 {
+                    script.push(Cue::Quiet)?;
+                }
+            }
+            "-" => script.push(Cue::Quiet)?,
+            "!" => script.push(Cue::Fault)?,
+            text => script.push(Cue::Piece(text.as_bytes().to_vec(alloc)?))?,
+        }
     }
     Ok(script)
 }
