@@ -280,10 +280,7 @@ fn address<'a>(symbols: &Symbols, end: u32, at: u32, bytes: &'a [u8]) -> (Token,
 fn begins_with(byte: u8, bytes: &[u8]) -> bool
     ensures { result ≡ begins_with byte bytes.now }
 {
-    match bytes {
-        [first, ..] => *first == byte,
-        [] => false,
-    }
+    matches!(bytes, [first, ..] if *first == byte)
 }
 
 /// The token that begins with this byte, with its place, and what stands behind it.

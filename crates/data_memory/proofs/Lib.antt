@@ -1,6 +1,8 @@
 pub mod Maps
+pub mod Blocked
+pub mod Bytes
 pub mod Pages
 pub mod Along
-pub mod Frames
+pub mod Filled
 pub mod Begun
 pub mod RangesRead

@@ -1,5 +1,5 @@
 -- Finite maps of bytes, made from a function of the address.
-use Rattle.std.specs.Prelude.{ℕ, zero, suc, ◌+◌, List, [], ◌∷◌, Bool, Option, Some, None, refl}
+use Rattle.std.specs.Prelude.{ℕ, zero, suc, Bool, Option, Some, None, refl}
 use Rattle.std.specs.Coded.{Coded, code_by, coded×, coded_ℕ, coded_bool}
 use Rattle.std.specs.FinMap as map
 use Rattle.rv_exec.specs.Memory.{Memory, Byte}

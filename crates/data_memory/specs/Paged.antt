@@ -1,57 +1,94 @@
 -- Bytes kept in pages.
-use Rattle.std.specs.Prelude.{◌≡◌, ℕ, zero, suc, ◌+◌, ◌*◌, ◌/◌, ◌%◌, ◌^◌, ◌<◌, ◌≤◌, ◌⊎◌, Bool, true, false, ◌&&◌, List, length, slice_index, slice_index_or, slice_set, Option, Some, None, ◌==◌, if◌then◌else◌}
+use Rattle.std.specs.Prelude.{◌≡◌, ℕ, zero, suc, ◌+◌, ◌*◌, ◌/◌, ◌%◌, ◌^◌, ◌<◌, Bool, true, false, ◌&&◌, List, [], ◌∷◌, ◌++◌, length, slice_index, slice_index_or, slice_set, Option, Some, None, ◌==◌, if◌then◌else◌}
 use Rattle.rv_exec.specs.Memory.{Memory, Byte, with_byte, is_writable}
 use Rattle.elf32_read.specs.Fields.{spans}
+use Rattle.data_memory.specs.Blocks.{spot, IsBlocked}
 use Rattle.data_memory.specs.Maps.{memory_below}
-use Rattle.data_memory.specs.declared.paged.Cell.{Cell}
-use Rattle.data_memory.specs.declared.paged.Cell.TheVariants.{Absent, ReadOnly, Writable}
+use Rattle.data_memory.specs.declared.access.Access.{Access}
+use Rattle.data_memory.specs.declared.access.Access.TheVariants.{Absent, ReadOnly, Writable}
 
--- what a cell holds
-abbrev pub byte_of : Cell → Option Byte
-byte_of Absent = None
-byte_of (ReadOnly v) = Some (record { value = v; is_writable = false })
-byte_of (Writable v) = Some (record { value = v; is_writable = true })
+-- a byte, by how it may be accessed
+abbrev pub byte_of : Access → ℕ → Option Byte
+byte_of Absent v = None
+byte_of ReadOnly v = Some (record { value = v; is_writable = false })
+byte_of Writable v = Some (record { value = v; is_writable = true })
 
-abbrev pub cell : List Cell → ℕ → Cell
-cell cells i = slice_index_or cells i Absent
+-- the bytes that have these accesses and values
+unfoldable pub bytes_of : List Access → List ℕ → List (Option Byte)
+bytes_of [] vs = []
+bytes_of (a ∷ accesses) [] = []
+bytes_of (a ∷ accesses) (v ∷ vs) = byte_of a v ∷ bytes_of accesses vs
 
--- where the cell of an address is: in the frame that its page has
-unfoldable pub spot : List ℕ → ℕ → ℕ
-spot pages addr = slice_index pages (addr / 512) * 512 + addr % 512
+abbrev pub byte : List (Option Byte) → ℕ → Option Byte
+byte bytes i = slice_index_or bytes i None
 
-abbrev pub byte_at : List ℕ → List Cell → ℕ → Option Byte
-byte_at pages cells addr = byte_of (cell cells (spot pages addr))
+abbrev pub byte_at : List ℕ → List (Option Byte) → ℕ → Option Byte
+byte_at pages bytes addr = byte bytes (spot pages addr)
 
-abbrev pub paged : List ℕ → List Cell → Memory
-paged pages cells = memory_below (byte_at pages cells) (2 ^ 32)
+abbrev pub paged : List ℕ → List (Option Byte) → Memory
+paged pages bytes = memory_below (byte_at pages bytes) (2 ^ 32)
 
--- each page has a frame, and only the first frame, of absent cells, is that of several pages
-pub record IsPaged (pages : List ℕ) (cells : List Cell) : Type 0 where
-  pub size : length pages ≡ 8388608
-  pub whole : length cells % 512 ≡ 0
-  pub framed : (p : ℕ) → p < 8388608 → slice_index pages p * 512 + 512 ≤ length cells
-  pub absent : (i : ℕ) → i < 512 → cell cells i ≡ Absent
-  pub apart : (p q : ℕ) → p < 8388608 → q < 8388608 → slice_index pages p ≡ slice_index pages q → (slice_index pages p ≡ 0) ⊎ (p ≡ q)
+-- each page has a frame, and only the first frame, of absent bytes, is that of several pages
+abbrev pub IsPaged : List ℕ → List (Option Byte) → Type 0
+IsPaged pages bytes = IsBlocked None 8388608 pages bytes
 
--- the number that n cells from place i spell, lowest first, where none is absent
-abbrev pub spelled : List Cell → ℕ → ℕ → Option ℕ
-spelled cells i zero = Some 0
-spelled cells i (suc n) = with_byte (byte_of (cell cells i)) (spelled cells (i + 1) n)
-
--- whether the n cells from place i are writable
-abbrev pub are_writable : List Cell → ℕ → ℕ → Bool
-are_writable cells i zero = true
-are_writable cells i (suc n) = is_writable (byte_of (cell cells i)) && are_writable cells (i + 1) n
+-- the number that n values from place i spell, lowest first
+abbrev pub number_of : List ℕ → ℕ → ℕ → ℕ
+number_of values i zero = 0
+number_of values i (suc n) = slice_index values i + 256 * number_of values (i + 1) n
 
 -- the low n bytes of v from place i on
-abbrev pub with_number_at : List Cell → ℕ → ℕ → ℕ → List Cell
-with_number_at cells i zero v = cells
-with_number_at cells i (suc n) v = slice_set (with_number_at cells (i + 1) n (v / 256)) i (Writable (v % 256))
+abbrev pub with_values : List ℕ → ℕ → ℕ → ℕ → List ℕ
+with_values values i zero v = values
+with_values values i (suc n) v = slice_set (with_values values (i + 1) n (v / 256)) i (v % 256)
 
--- cells in pages that hold what the function gives at each address
-pub record Holds (pages : List ℕ) (cells : List Cell) (f : ℕ → Option Byte) : Type 0 where
-  pub kept : IsPaged pages cells
-  pub each : (q : ℕ) → q < 2 ^ 32 → byte_at pages cells q ≡ f q
+-- the number that n bytes from place i spell, lowest first, where none is absent
+abbrev pub spelled : List (Option Byte) → ℕ → ℕ → Option ℕ
+spelled bytes i zero = Some 0
+spelled bytes i (suc n) = with_byte (byte bytes i) (spelled bytes (i + 1) n)
+
+-- whether the n bytes from place i are writable
+abbrev pub are_writable : List (Option Byte) → ℕ → ℕ → Bool
+are_writable bytes i zero = true
+are_writable bytes i (suc n) = is_writable (byte bytes i) && are_writable bytes (i + 1) n
+
+-- the low n bytes of v from place i on
+abbrev pub with_number_at : List (Option Byte) → ℕ → ℕ → ℕ → List (Option Byte)
+with_number_at bytes i zero v = bytes
+with_number_at bytes i (suc n) v = slice_set (with_number_at bytes (i + 1) n (v / 256)) i (Some (record { value = v % 256; is_writable = true }))
+
+-- whether the n accesses from place i all are of a kind
+abbrev pub all_are : (Access → Bool) → List Access → ℕ → ℕ → Bool
+all_are test accesses i zero = true
+all_are test accesses i (suc n) = test (slice_index_or accesses i Absent) && all_are test accesses (i + 1) n
+
+abbrev pub may_load : Access → Bool
+may_load Absent = false
+may_load ReadOnly = true
+may_load Writable = true
+
+abbrev pub may_store : Access → Bool
+may_store Absent = false
+may_store ReadOnly = false
+may_store Writable = true
+
+-- accesses are numbered, so that those of four bytes can be compared as one word
+abbrev pub code : Access → ℕ
+code Absent = 0
+code ReadOnly = 1
+code Writable = 2
+
+-- 512 absent bytes behind the others
+pub record GrowsByFrame (old new : List (Option Byte)) : Type 0 where
+  pub more : List (Option Byte)
+  pub is : new ≡ old ++ more
+  pub size : length more ≡ 512
+  pub absent : (j : ℕ) → byte more j ≡ None
+
+-- bytes in pages that hold what the function gives at each address
+pub record Holds (pages : List ℕ) (bytes : List (Option Byte)) (f : ℕ → Option Byte) : Type 0 where
+  pub kept : IsPaged pages bytes
+  pub each : (q : ℕ) → q < 2 ^ 32 → byte_at pages bytes q ≡ f q
 
 -- one byte changed
 abbrev pub changed : (ℕ → Option Byte) → ℕ → Option Byte → ℕ → Option Byte

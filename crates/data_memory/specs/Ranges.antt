@@ -1,9 +1,10 @@
--- Ranges of memory. Their addresses go on modulo 2 ^ 32.
+-- Ranges of memory. Their addresses go on modulo 2 ^ 32 (RISC-V Unprivileged ISA, "Memory": the address
+-- space is circular).
 use Rattle.std.specs.Prelude.{ℕ, zero, suc, ◌+◌, ◌%◌, ◌^◌, List, [], ◌∷◌, Option, Some, None, Result, Ok, Err}
 use Rattle.std.specs.Option.{option_map}
 use Rattle.std.specs.Result.{result_ok}
 use Rattle.std.specs.FinMap as map
-use Rattle.rv_exec.specs.Memory.{Memory, Byte}
+use Rattle.rv_exec.specs.Memory.{Memory}
 
 -- the value of the byte at an address, if it is mapped
 abbrev pub value_at : Memory → ℕ → Option ℕ

@@ -1,4 +1,5 @@
--- What memory holds before the first instruction.
+-- What memory holds before the first instruction: the segments of a file (gABI, "Program Loading"), and stacks, whose
+-- places are this project's own.
 use Rattle.std.specs.Prelude.{ℕ, zero, suc, ◌-◌, ◌*◌, ◌^◌, ◌||◌, Bool, true, false, List, find, Option, Some, None, if◌then◌else◌}
 use Rattle.std.specs.Option.{option_map}
 use Rattle.rv_exec.specs.Memory.{Memory, Byte}

@@ -1,37 +1,44 @@
 // Pages that are given frames, and ranges of addresses that are filled.
-ghost use Rattle.std.specs.Prelude.{◌≡◌, ◌≢◌, ◌<◌, ◌-◌, ◌≤◌, ◌+◌, ◌/◌, ◌^◌, OnOk, slice_index, Some, SomeIff};
+ghost use Rattle.std.specs.Prelude.{◌≡◌, ◌≢◌, ◌<◌, ◌-◌, ◌+◌, ◌/◌, ◌^◌, ℕ, OnOk, slice_index, Some, SomeIff};
 ghost use Rattle.data_memory.specs.Paged.{IsPaged, Holds, byte_of, byte_at, changed, replaced};
 
-use crate::paged::{Cell, spot};
+use crate::access::Access;
+use crate::frames::Frames;
+use crate::page_table::{BLOCK, PageTable};
+use crate::paged::spot;
 use std::alloc::AllocError;
 
-const PAGE: usize = 512;
-
 /// Gives the page of the address a frame, if it has none.
-fn frame(pages: &mut [u32], cells: &mut Vec<Cell>, addr: u32) -> Result<(), AllocError>
-    requires { IsPaged pages.old cells.old.items }
-    ensures same { OnOk result (Holds pages.new cells.new.items (byte_at pages.old cells.old.items)) }
+fn add_page(pages: &mut PageTable, frames: &mut Frames, addr: u32) -> Result<(), AllocError>
+    requires { IsPaged pages.old frames.old }
+    ensures same { OnOk result (Holds pages.new frames.new (byte_at pages.old frames.old)) }
     ensures framed { OnOk result (slice_index pages.new (addr / 512) ≢ 0) }
 {
-    let page = (addr / 512) as usize;
-    if pages[page] == 0 {
-        let Ok(number) = u32::try_from(cells.len() / PAGE) else {
+    let page = addr / BLOCK as u32;
+    if pages.frame(page) == 0 {
+        let Ok(number) = u32::try_from(frames.len() / BLOCK) else {
             return Err(AllocError);
         };
-        cells.resize(cells.len() + PAGE, Cell::Absent)?;
-        pages[page] = number;
+        frames.add()?;
+        pages.set_frame(page, number)?;
     }
     Ok(())
 }
 
-/// Puts a cell at an address.
-fn place(pages: &mut [u32], cells: &mut Vec<Cell>, addr: u32, cell: Cell) -> Result<(), AllocError>
-    requires { IsPaged pages.old cells.old.items }
-    ensures { OnOk result (Holds pages.new cells.new.items (changed (byte_at pages.old cells.old.items) addr (byte_of cell))) }
+/// Puts a byte at an address.
+fn place(
+    pages: &mut PageTable,
+    frames: &mut Frames,
+    addr: u32,
+    access: Access,
+    value: u8,
+) -> Result<(), AllocError>
+    requires { IsPaged pages.old frames.old }
+    ensures { OnOk result (Holds pages.new frames.new (changed (byte_at pages.old frames.old) addr (byte_of access value))) }
 {
-    frame(pages, cells, addr)?;
+    add_page(pages, frames, addr)?;
     let at = spot(pages, addr);
-    cells[at] = cell;
+    frames.set(at, access, value);
     Ok(())
 }
 
@@ -45,36 +52,37 @@ fn above(start: u32, i: u64) -> Option<u32>
     }
 }
 
-/// Puts a cell `i` bytes above the start; nothing past the last address.
+/// Puts a byte `i` bytes above the start; nothing past the last address.
 fn place_above(
-    pages: &mut [u32],
-    cells: &mut Vec<Cell>,
+    pages: &mut PageTable,
+    frames: &mut Frames,
     start: u32,
     i: u64,
-    cell: Cell,
+    access: Access,
+    value: u8,
 ) -> Result<(), AllocError>
-    requires { IsPaged pages.old cells.old.items }
-    ensures { OnOk result (Holds pages.new cells.new.items (changed (byte_at pages.old cells.old.items) (start + i) (byte_of cell))) }
+    requires { IsPaged pages.old frames.old }
+    ensures { OnOk result (Holds pages.new frames.new (changed (byte_at pages.old frames.old) (start + i) (byte_of access value))) }
 {
     match above(start, i) {
-        Some(addr) => place(pages, cells, addr, cell),
+        Some(addr) => place(pages, frames, addr, access, value),
         None => Ok(()),
     }
 }
 
-/// Puts one cell at each address of a range.
+/// Puts zeros at each address of a range.
 pub fn fill(
-    pages: &mut [u32],
-    cells: &mut Vec<Cell>,
+    pages: &mut PageTable,
+    frames: &mut Frames,
     start: u32,
     size: u64,
-    cell: Cell,
+    access: Access,
 ) -> Result<(), AllocError>
-    requires { IsPaged pages.old cells.old.items }
-    ensures { OnOk result (Holds pages.new cells.new.items (replaced (byte_at pages.old cells.old.items) start size (λ q. byte_of cell))) }
+    requires { IsPaged pages.old frames.old }
+    ensures { OnOk result (Holds pages.new frames.new (replaced (byte_at pages.old frames.old) start size (λ q. byte_of access 0))) }
 {
     for i in 0..size {
-        place_above(pages, cells, start, i, cell)?;
+        place_above(pages, frames, start, i, access, 0)?;
     }
     Ok(())
 }
@@ -90,36 +98,32 @@ fn byte_or_zero(bytes: &[u8], i: u64) -> u8
     }
 }
 
-fn data_cell(value: u8, is_writable: bool) -> Cell
-    ensures { byte_of result ≡ Some (record { value = value; is_writable = is_writable }) }
+/// How the bytes of a segment may be accessed.
+fn data_access(is_writable: bool) -> Access
+    ensures { (v : ℕ) → byte_of result v ≡ Some (record { value = v; is_writable = is_writable }) }
 {
     if is_writable {
-        Cell::Writable(value)
+        Access::Writable
     } else {
-        Cell::ReadOnly(value)
+        Access::ReadOnly
     }
 }
 
 /// Puts the bytes from the start on, and zero past their end.
 pub fn fill_data(
-    pages: &mut [u32],
-    cells: &mut Vec<Cell>,
+    pages: &mut PageTable,
+    frames: &mut Frames,
     start: u32,
     size: u64,
     bytes: &[u8],
     is_writable: bool,
 ) -> Result<(), AllocError>
-    requires { IsPaged pages.old cells.old.items }
-    ensures { OnOk result (Holds pages.new cells.new.items (replaced (byte_at pages.old cells.old.items) start size (λ q. Some (record { value = slice_index bytes.now (q - start); is_writable = is_writable })))) }
+    requires { IsPaged pages.old frames.old }
+    ensures { OnOk result (Holds pages.new frames.new (replaced (byte_at pages.old frames.old) start size (λ q. Some (record { value = slice_index bytes.now (q - start); is_writable = is_writable })))) }
 {
+    let access = data_access(is_writable);
     for i in 0..size {
-        place_above(
-            pages,
-            cells,
-            start,
-            i,
-            data_cell(byte_or_zero(bytes, i), is_writable),
-        )?;
+        place_above(pages, frames, start, i, access, byte_or_zero(bytes, i))?;
     }
     Ok(())
 }

@@ -1,12 +1,14 @@
-// The cells that an image and a number of harts begin with.
-ghost use Rattle.std.specs.Prelude.{◌≡◌, ◌≤◌, OnOk, IfOk, None};
-ghost use Rattle.data_memory.specs.Paged.{IsPaged, Holds};
-ghost use Rattle.data_memory.specs.Start.{data_byte, image_byte, start_byte};
+// The bytes that an image and a number of harts begin with.
+ghost use Rattle.std.specs.Prelude.{◌≡◌, ◌<◌, ◌≤◌, OnOk, None};
+ghost use Rattle.data_memory.specs.Paged.{Holds};
+ghost use Rattle.data_memory.specs.Start.{data_byte, image_byte, stack_top, start_byte};
 
+use crate::access::Access;
 use crate::filling::{fill, fill_data};
-use crate::paged::Cell;
+use crate::frames::Frames;
+use crate::page_table::PageTable;
 use elf32_read::Image;
-use std::alloc::{AllocError, Global};
+use std::alloc::AllocError;
 
 /// The flag of a segment that may be written (gABI, `PF_W`).
 const WRITABLE: u32 = 2;
@@ -18,24 +20,22 @@ const STACK_STEP: u32 = 0x0002_0000;
 
 const STACK_SIZE: u32 = 0x0001_0000;
 
-/// The number of pages, and the bytes in each.
-const PAGES: usize = 0x0080_0000;
-
-const PAGE: usize = 512;
-
-/// Pages without frames of their own.
-pub fn no_pages(alloc: Global) -> Result<(Vec<u32>, Vec<Cell>), AllocError>
-    ensures { IfOk result (λ r. Holds r.0.items r.1.items (λ q. None)) }
+/// The address above a hart's stack.
+pub fn stack_top(hart: u32) -> u32
+    requires { hart < 16 }
+    ensures { result ≡ stack_top hart }
 {
-    let pages = Vec::from_elem(alloc, 0, PAGES)?;
-    let cells = Vec::from_elem(alloc, Cell::Absent, PAGE)?;
-    Ok((pages, cells))
+    STACK_TOP - hart * STACK_STEP
 }
 
 /// Puts the segments; of two at one address the first stays.
-fn load_segments(pages: &mut [u32], cells: &mut Vec<Cell>, image: &Image) -> Result<(), AllocError>
-    requires { Holds pages.old cells.old.items (λ q. None) }
-    ensures { OnOk result (Holds pages.new cells.new.items (data_byte image.now.segments)) }
+fn load_segments(
+    pages: &mut PageTable,
+    frames: &mut Frames,
+    image: &Image,
+) -> Result<(), AllocError>
+    requires { Holds pages.old frames.old (λ q. None) }
+    ensures { OnOk result (Holds pages.new frames.new (data_byte image.now.segments)) }
 {
     let mut k = image.segment_count();
     while k > 0 {
@@ -44,7 +44,7 @@ fn load_segments(pages: &mut [u32], cells: &mut Vec<Cell>, image: &Image) -> Res
         let is_writable = segment.flags & WRITABLE == WRITABLE;
         fill_data(
             pages,
-            cells,
+            frames,
             segment.address,
             u64::from(segment.size),
             segment.bytes,
@@ -55,39 +55,39 @@ fn load_segments(pages: &mut [u32], cells: &mut Vec<Cell>, image: &Image) -> Res
 }
 
 /// Takes the bytes of the text away.
-fn hide_text(pages: &mut [u32], cells: &mut Vec<Cell>, image: &Image) -> Result<(), AllocError>
-    requires { Holds pages.old cells.old.items (data_byte image.now.segments) }
-    ensures { OnOk result (Holds pages.new cells.new.items (image_byte image.now)) }
+fn hide_text(pages: &mut PageTable, frames: &mut Frames, image: &Image) -> Result<(), AllocError>
+    requires { Holds pages.old frames.old (data_byte image.now.segments) }
+    ensures { OnOk result (Holds pages.new frames.new (image_byte image.now)) }
 {
     let mut k = image.text_count();
     while k > 0 {
         k -= 1;
         let text = image.text(k);
         let size = text.bytes.len() as u64 / 4 * 4;
-        fill(pages, cells, text.address, size, Cell::Absent)?;
+        fill(pages, frames, text.address, size, Access::Absent)?;
     }
     Ok(())
 }
 
 /// Puts the stacks of the first harts.
 fn add_stacks(
-    pages: &mut [u32],
-    cells: &mut Vec<Cell>,
+    pages: &mut PageTable,
+    frames: &mut Frames,
     image: &Image,
     harts: u32,
 ) -> Result<(), AllocError>
     requires few { harts ≤ 16 }
-    requires data { Holds pages.old cells.old.items (image_byte image.now) }
-    ensures { OnOk result (Holds pages.new cells.new.items (start_byte image.now harts)) }
+    requires data { Holds pages.old frames.old (image_byte image.now) }
+    ensures { OnOk result (Holds pages.new frames.new (start_byte image.now harts)) }
 {
     for hart in 0..harts {
-        let bottom = STACK_TOP - hart * STACK_STEP - STACK_SIZE;
+        let bottom = stack_top(hart) - STACK_SIZE;
         fill(
             pages,
-            cells,
+            frames,
             bottom,
             u64::from(STACK_SIZE),
-            Cell::Writable(0),
+            Access::Writable,
         )?;
     }
     Ok(())
@@ -95,16 +95,16 @@ fn add_stacks(
 
 /// Puts the data of the image and the stacks of the first harts.
 pub fn begin(
-    pages: &mut [u32],
-    cells: &mut Vec<Cell>,
+    pages: &mut PageTable,
+    frames: &mut Frames,
     image: &Image,
     harts: u32,
 ) -> Result<(), AllocError>
     requires few { harts ≤ 16 }
-    requires none { Holds pages.old cells.old.items (λ q. None) }
-    ensures { OnOk result (Holds pages.new cells.new.items (start_byte image.now harts)) }
+    requires none { Holds pages.old frames.old (λ q. None) }
+    ensures { OnOk result (Holds pages.new frames.new (start_byte image.now harts)) }
 {
-    load_segments(pages, cells, image)?;
-    hide_text(pages, cells, image)?;
-    add_stacks(pages, cells, image, harts)
+    load_segments(pages, frames, image)?;
+    hide_text(pages, frames, image)?;
+    add_stacks(pages, frames, image, harts)
 }

@@ -1,20 +1,22 @@
 ghost use Rattle.std.specs.Prelude.{◌≡◌};
 
 use crate::accesses::{amo_at, load_at, store_at};
-use crate::loading::{begin, no_pages};
-use crate::paged::Cell;
-use crate::reading::{byte_in, read_into, writable_in};
+use crate::frames::Frames;
+use crate::loading::begin;
+use crate::page_table::PageTable;
+use crate::reading::{are_mapped, byte_in, read_into, writable_in};
+use dbg_traits::NoMemory;
 use elf32_read::Image;
 use rv_exec::{AmoOp, Cause, DataPort};
-use std::alloc::{AllocError, Global};
+use std::alloc::Global;
 use std::marker::Model;
 
 /// The bytes that the harts of a machine load and store: those of the image's segments but for its text, and a
 /// stack for each hart. Contracts see it as a `Memory`, the finite map from addresses to bytes.
 #[derive(Drop)]
 pub struct DataMemory {
-    pages: Vec<u32>,
-    cells: Vec<Cell>,
+    pages: PageTable,
+    frames: Frames,
 }
 
 impl Model for DataMemory {
@@ -26,36 +28,26 @@ impl Model for DataMemory {
 
     ghost coded = { memory_code };
 
-    ghost view = { λ s. paged s.pages.items s.cells.items };
+    ghost view = { λ s. paged s.pages s.frames };
 
-    ghost invariant = { λ s. IsPaged s.pages.items s.cells.items };
+    ghost invariant = { λ s. IsPaged s.pages s.frames };
 }
 
 impl DataPort for DataMemory {
     ghost memory = { λ m. m };
 
+    #[inline(always)]
     fn load(&self, addr: u32, len: u32) -> Result<u32, Cause> {
-        load_at(self.pages.as_slice(), self.cells.as_slice(), addr, len)
+        load_at(&self.pages, &self.frames, addr, len)
     }
 
+    #[inline(always)]
     fn store(&mut self, addr: u32, len: u32, value: u32) -> Result<(), Cause> {
-        store_at(
-            self.pages.as_slice(),
-            self.cells.as_mut_slice(),
-            addr,
-            len,
-            value,
-        )
+        store_at(&self.pages, &mut self.frames, addr, len, value)
     }
 
     fn amo(&mut self, op: AmoOp, addr: u32, value: u32) -> Result<u32, Cause> {
-        amo_at(
-            self.pages.as_slice(),
-            self.cells.as_mut_slice(),
-            op,
-            addr,
-            value,
-        )
+        amo_at(&self.pages, &mut self.frames, op, addr, value)
     }
 }
 
@@ -67,13 +59,14 @@ impl DataMemory {
     /// of each hart.
     ///
     /// Fails where memory runs out.
-    pub fn load(alloc: Global, image: &Image, harts: u32) -> Result<DataMemory, AllocError>
+    pub fn load(alloc: Global, image: &Image, harts: u32) -> Result<DataMemory, NoMemory>
         requires { harts ≤ 16 }
         ensures { IfOk result (λ m. m ≡ start_memory image.now harts) }
     {
-        let (mut pages, mut cells) = no_pages(alloc)?;
-        begin(pages.as_mut_slice(), &mut cells, image, harts)?;
-        Ok(DataMemory { pages, cells })
+        let mut pages = PageTable::new(alloc)?;
+        let mut frames = Frames::new(alloc)?;
+        begin(&mut pages, &mut frames, image, harts)?;
+        Ok(DataMemory { pages, frames })
     }
 }
 
@@ -81,20 +74,28 @@ impl DataMemory {
     ghost use Rattle.std.specs.Prelude.{◌≡◌, length, MatchResult, IfErr, Ok, Err};
     ghost use Rattle.std.specs.FinMap as map;
     ghost use Rattle.rv_exec.specs.Memory.{is_writable};
-    ghost use Rattle.data_memory.specs.Ranges.{value_at, range_at};
+    ghost use Rattle.std.specs.Option.{is_some};
+    ghost use Rattle.data_memory.specs.Ranges.{value_at, range_at, bytes_at};
 
     /// The byte at an address, if it is mapped.
     pub fn byte(&self, addr: u32) -> Option<u8>
         ensures { result ≡ value_at self.now addr }
     {
-        byte_in(self.pages.as_slice(), self.cells.as_slice(), addr)
+        byte_in(&self.pages, &self.frames, addr)
     }
 
     /// Whether the byte at an address is mapped and may be stored.
     pub fn writable(&self, addr: u32) -> bool
         ensures { result ≡ is_writable (map.get self.now addr) }
     {
-        writable_in(self.pages.as_slice(), self.cells.as_slice(), addr)
+        writable_in(&self.pages, &self.frames, addr)
+    }
+
+    /// Whether `len` bytes from an address on are mapped; addresses go on modulo 2^32.
+    pub fn are_mapped(&self, addr: u32, len: usize) -> bool
+        ensures { result ≡ is_some (bytes_at self.now addr len) }
+    {
+        are_mapped(&self.pages, &self.frames, addr, len)
     }
 
     /// Puts the bytes from `addr` on into a slice; addresses go on modulo 2^32.
@@ -104,6 +105,6 @@ impl DataMemory {
         ensures range { MatchResult result (λ _. range_at self.now addr (length into.old) ≡ Ok into.new) (λ at. range_at self.now addr (length into.old) ≡ Err at) }
         ensures kept { IfErr result (λ _. into.new ≡ into.old) }
     {
-        read_into(self.pages.as_slice(), self.cells.as_slice(), addr, into)
+        read_into(&self.pages, &self.frames, addr, into)
     }
 }

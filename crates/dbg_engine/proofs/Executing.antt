@@ -1,5 +1,5 @@
 -- An instruction of a running hart keeps what the type of an engine keeps.
-use Rattle.std.proofs.Common.{◌≡◌, ◌<◌, ◌≤◌, ℕ, ◌+◌, ◌++◌, Bool, true, false, cond, List, [], ◌∷◌, length, refl, sym, ap, ◌∙◌, subst, arith, length-set}
+use Rattle.std.proofs.Common.{◌≡◌, ◌<◌, ◌≤◌, ℕ, ◌+◌, ◌-◌, ◌^◌, ◌++◌, Bool, true, false, cond, List, [], ◌∷◌, length, refl, sym, ap, ◌∙◌, subst, arith, length-set}
 use Rattle.std.specs.Prelude.{Option, Some, None, map, slice_get, slice_set}
 use Rattle.std.proofs.lemmas.Option.{slice_get_within}
 use Rattle.rv_exec.specs.declared.effect.Cause.{Cause}
@@ -15,9 +15,11 @@ use Rattle.step_over.specs.declared.phase.Phase.{Phase}
 use Rattle.step_over.specs.declared.phase.Phase.TheVariants as phase
 use Rattle.hart_machine.specs.declared.hart.Core.{Core}
 use Rattle.hart_machine.specs.Patched.{Patched}
-use Rattle.hart_machine.specs.Stepping.{StepsTo, StepGives, has_run, is_at, is_in_slot}
+use Rattle.hart_machine.specs.Stepping.{Steps, StepsTo, StepGives, has_run, is_at, is_in_slot}
 use Rattle.hart_machine.specs.Stepping as machine
 use Rattle.hart_machine.proofs.Copying.{in_slot}
+use Rattle.hart_machine.specs.Stepping.{AreCounted}
+use Rattle.hart_machine.proofs.Counts.{counted_more}
 use Rattle.hart_machine.proofs.Stepping.{machine_same}
 use Rattle.hart_machine.proofs.Places.{same_some, set_twice, get-set_same}
 use Rattle.break_table.specs.Table.{stands}
@@ -44,7 +46,7 @@ use Rattle.engine_facts.proofs.Stepping.{after_regs, after_slot, executes, fact_
 use Rattle.engine_facts.proofs.Exiting.{Departs, departs_alone, departs_all}
 use Rattle.engine_facts.proofs.Stopping.{may_by}
 use Rattle.dbg_engine.specs.declared.moving.Turned.TheVariants as turned
-use Rattle.dbg_engine.specs.Steps.{Parts, applied, turned_of}
+use Rattle.dbg_engine.specs.Steps.{Parts, applied, turned_of, left_minds}
 use Rattle.dbg_engine.specs.Homing.{ComesHome, HomedBy}
 use Rattle.dbg_engine.specs.Calls.{Of, Undue, Executes, Runs, Exits, TrapsAt}
 
@@ -65,6 +67,9 @@ pub record Ready (r : Run) (h : ℕ) (c : Core) (x : Mind) : Type 0 where
   pub may : may_run r.opening (seen r) h (seen_hart r.opening.image c x) ≡ true
   -- where it steps over nothing, no breakpoint stands
   pub none : x.phase ≡ phase.Idle → stands c.regs.pc r.breaks ≡ false
+  -- its counts are below the end of their type
+  pub low : c.retired < 1000000000000
+  pub copies : is_copied x.phase ≡ true → c.copied ≤ c.retired
 
 -- a fact of what the hart shows
 pub of_hart : (r : Run) (h : ℕ) (c : Core) (x : Mind) (P : Hart → Type 0) → Mover r h c x → Of r h P → P (seen_hart r.opening.image c x)
@@ -77,9 +82,13 @@ moves_by r c x may runs = rw (may, runs) refl
 pub own_pc : (r : Run) (c : Core) (x : Mind) → x.phase ≡ phase.Idle → (seen_hart r.opening.image c x).regs.pc ≡ c.regs.pc
 own_pc r c x idle = ap (λ (q : Registers). q.pc) (own_seen r.opening.image c.regs x.activity x.phase (ap slot_of idle))
 
+-- a hart at a copy has executed at least as many instructions as copies
+abbrev pub Copies : Run → ℕ → Mind → Type 0
+Copies r h x = (c : Core) → slice_get r.machine.cores h ≡ Some c → is_copied x.phase ≡ true → c.copied ≤ c.retired
+
 pub ready : (r : Run) (h : ℕ) (x : Mind) (pc : ℕ) → Facts r → slice_get r.minds h ≡ Some x → is_before x.phase ≡ true → x.activity ≡ activity.Running → other_holder r.hold h ≡ None → Of r h (λ y. y.regs.pc ≡ pc)
-    → Undue r h → (x.phase ≡ phase.Idle → is_planted r.machine.text pc ≡ false) → may_go r.opening (seen r) ≡ true → (c : Core) × Ready r h c x
-ready r h x pc f at before runs free is none clear may =
+    → Undue r h → (x.phase ≡ phase.Idle → is_planted r.machine.text pc ≡ false) → may_go r.opening (seen r) ≡ true → Copies r h x → (c : Core) × Ready r h c x
+ready r h x pc f at before runs free is none clear may copies =
     let k = core_at r h x f at in
     let c = k.0 in
     let here = of_hart r h c x (λ y. y.regs.pc ≡ pc) k.1 is in
@@ -92,6 +101,8 @@ ready r h x pc f at before runs free is none clear may =
         before = before;
         free = free;
         may = may_by r.opening (seen r) h (seen_hart r.opening.image c x) (moves_by r c x may runs) undue;
+        low = (small_at r f may).each h c k.1.core;
+        copies = copies c k.1.core;
         none = λ idle. clear_stands r h c x f k.1 free idle (ap (is_planted r.machine.text) (sym (own_pc r c x idle) ∙ here) ∙ clear idle);
       },
     )
@@ -103,10 +114,11 @@ pub record Readied (r : Run) (h : ℕ) (x : Mind) : Type 0 where
   pub small : Small r
 
 pub readied : (r s : Run) (h pc : ℕ) (x : Mind) → r ≡ s → Facts r → slice_get s.minds h ≡ Some x → is_before x.phase ≡ true → x.activity ≡ activity.Running → other_holder s.hold h ≡ None → Of s h (λ y. y.regs.pc ≡ pc)
-    → Undue s h → (x.phase ≡ phase.Idle → is_planted s.machine.text pc ≡ false) → may_go s.opening (seen s) ≡ true → Readied r h x
-readied r s h pc x same f at before runs free is none clear may =
+    → Undue s h → (x.phase ≡ phase.Idle → is_planted s.machine.text pc ≡ false) → may_go s.opening (seen s) ≡ true → AreCounted r.machine.cores → Readied r h x
+readied r s h pc x same f at before runs free is none clear may counted =
     let g : Facts s = subst Facts same f in
-    let k = ready s h x pc g at before runs free is none clear may in
+    let all : AreCounted s.machine.cores = subst (λ (q : Run). AreCounted q.machine.cores) same counted in
+    let k = ready s h x pc g at before runs free is none clear may (λ c there _. all h c there) in
     subst (λ (q : Run). Readied q h x) (sym same) (record { core = k.0; ready = k.1; small = small_at s g may })
 
 -- the registers that a hart shows after a step
@@ -175,20 +187,17 @@ pub record Counted (s : Stepped) (r : Run) (c c' : Core) (x : Mind) : Type 0 whe
   pub copied : c'.copied ≡ c.copied + adds (is_copied x.phase)
   pub entered : c'.entered ≡ None
 
-counted_more : (s : Stepped) (n : ℕ) → has_run s ≡ true → machine.counted s n ≡ n + 1
-counted_more stepped.Ran n e = refl
-counted_more (stepped.Wrote addr len) n e = refl
-counted_more (stepped.HartExit code) n e = refl
-counted_more (stepped.AllExit code) n e = refl
-counted_more stepped.Hit n e = cc
-counted_more (stepped.Trap cause) n e = cc
+-- copies are counted in a slot alone
+copied_at : (s : Stepped) (b : Bool) (n : ℕ) → has_run s ≡ true → (b ≡ true → n < 2 ^ 64 - 1) → cond b (machine.counted s n) n ≡ cond b (n + 1) n
+copied_at s true n d low = counted_more s n d (low refl)
+copied_at s false n d low = refl
 
 pub counts : (s : Stepped) (r : Run) (h : ℕ) (c : Core) (x : Mind) (new : Patched) → has_run s ≡ true → Ready r h c x → (t : StepsTo s r.machine h c new) → Counted s r c t.core x
 counts s r h c x new d k t =
     let inside = in_slot_by r h c x x.phase refl k.facts k.mover k.before in
-    let more : cond (is_in_slot c) (machine.counted s c.copied) c.copied ≡ cond (is_in_slot c) (c.copied + 1) c.copied = ap (λ n. cond (is_in_slot c) n c.copied) (counted_more s c.copied d) in
+    let more = copied_at s (is_in_slot c) c.copied d (λ is. let e = k.copies (sym inside ∙ is) in omega (arith, k.low, e)) in
     record {
-      retired = t.steps.retired ∙ counted_more s c.retired d;
+      retired = t.steps.retired ∙ counted_more s c.retired d (omega (arith, k.low));
       copied = t.steps.copied ∙ (more ∙ (ap (λ b. cond b (c.copied + 1) c.copied) inside ∙ more_by (is_copied x.phase) c.copied));
       entered = t.steps.entered ∙ ap (λ b. cond b None c.entered) d;
     }
@@ -226,22 +235,46 @@ pub record Executed (s : Stepped) (r new : Run) (h : ℕ) (x : Mind) : Type 0 wh
 abbrev stepped_to : Run → ℕ → Core → Memory → Patched
 stepped_to r h c memory = record r.machine { cores = slice_set r.machine.cores h c; memory = memory }
 
+-- it is a step of the machine
+stepped_as : (s : Stepped) (r : Run) (h : ℕ) (c : Core) (x : Mind) (new : Patched) → Mover r h c x → (t : StepsTo s r.machine h c new) → Steps s r.machine h (stepped_to r h t.core t.memory)
+stepped_as s r h c x new m t d at =
+    let P : Core → Type 0 = λ e. StepsTo s r.machine h e (stepped_to r h t.core t.memory) in
+    subst P (same_some c d (sym m.core ∙ at)) (record { core = t.core; memory = t.memory; below = t.below; steps = t.steps; machine = refl })
+
 -- the instruction by which none exits
-pub record Ran (r new : Run) (h : ℕ) (out : List ℕ) : Type 0 where
+pub record Ran (s : Stepped) (r new : Run) (h : ℕ) (out : List ℕ) : Type 0 where
   pub facts : Facts new
-  pub runs : Runs r new h out
+  pub runs : Runs s r new h out
 
 ran_on : (r : Run) (h spare : ℕ) (c c' : Core) (x : Mind) (mem : Memory) (out : List ℕ) (s : Stepped) → Ready r h c x → Counted s r c c' x
-    → plain r.opening.image (seen_hart r.opening.image c x).regs r.machine.memory ≡ Goes (running_regs r.opening.image c'.regs (after_step x.phase)) mem out Stays → Ran r (executed r h c' (ran_mind x) mem spare) h out
-ran_on r h spare c c' x mem out s k n is =
+    → plain r.opening.image (seen_hart r.opening.image c x).regs r.machine.memory ≡ Goes (running_regs r.opening.image c'.regs (after_step x.phase)) mem out Stays → Steps s r.machine h (stepped_to r h c' mem)
+    → Ran s r (executed r h c' (ran_mind x) mem spare) h out
+ran_on r h spare c c' x mem out s k n is st =
     let e = executes r h spare c c' x mem out k.facts k.mover k.runs k.before k.none k.may is n.retired n.copied n.entered in
     let goes = one_seen r h c x (running_regs r.opening.image c'.regs (after_step x.phase)) mem out Stays k.mover k.may is in
-    record { facts = e.facts; runs = record { journal = refl; one = goes.one ∙ ap Some e.seen; wrote = goes.wrote; opening = refl } }
+    record { facts = e.facts; runs = record { mind = x; at = k.mover.mind; before = k.before; steps = st; minds = refl; hold = refl; journal = refl; one = goes.one ∙ ap Some e.seen; wrote = goes.wrote; opening = refl } }
 
-exits_as : (r : Run) (h code count spare : ℕ) (cs : List Core) (xs : List Mind) (mem : Memory) (t : Words) (slots : List (Option SlotUse)) (es : List Entry) → length es ≡ count
-    → Departs r (departed r h cs xs mem t slots es count spare) h code es → Exits r (departed r h cs xs mem t slots es count spare) h count code
-exits_as r h code count spare cs xs mem t slots es len d =
+-- what is known of the harts that left
+record Leaving (s : Stepped) (r : Run) (h : ℕ) (x : Mind) (m : Patched) (xs : List Mind) : Type 0 where
+  at : slice_get r.minds h ≡ Some x
+  before : is_before x.phase ≡ true
+  machine : Patched
+  steps : Steps s r.machine h machine
+  homed : HomedBy s machine m r.hold None r.breaks h x (slice_set r.minds h (ran_mind x))
+  minds : xs ≡ left_minds s h x r.minds
+
+exits_as : (s : Stepped) (r : Run) (h code count spare : ℕ) (x : Mind) (cs : List Core) (xs : List Mind) (mem : Memory) (t : Words) (slots : List (Option SlotUse)) (es : List Entry) → length es ≡ count
+    → Leaving s r h x (record { text = t; cores = cs; memory = mem; slots = slots }) xs
+    → Departs r (departed r h cs xs mem t slots es count spare) h code es → Exits s r (departed r h cs xs mem t slots es count spare) h count code
+exits_as s r h code count spare x cs xs mem t slots es len l d =
     record {
+      mind = x;
+      at = l.at;
+      before = l.before;
+      machine = l.machine;
+      steps = l.steps;
+      homed = l.homed;
+      minds = l.minds;
       between = d.between;
       codes = d.codes;
       some = d.some;
@@ -298,8 +331,12 @@ left_alone r h spare code c x new m hold k t rel =
     let is = plain_gives s r h c x new k t ∙ ap (λ u. Goes u t.memory [] (LeavesAlone code)) (home_is p r.machine.slots h t.core q fact.placed) in
     let e = departs_alone r h spare code c d x t.memory m.text g.slots k.facts k.mover k.runs k.before k.none k.may is (same.0 ∙ n.retired) (same.1 ∙ n.copied)
     (home_out p r.machine.slots h t.core q fact.placed (λ without. n.entered)) (unholds r.hold h k.free) free one.slots_len texts in
-    whole s r h spare x (record { text = m.text; cores = slice_set r.machine.cores h d; memory = t.memory; slots = g.slots }) m hold rel.none (parts_home mid g m (slice_set r.machine.cores h d) g.slots one.rest cores rel.rest)
-    (record { facts = e.facts; does = exits_as r h code 1 spare (slice_set r.machine.cores h d) (slice_set r.minds h (exited_mind x)) t.memory m.text g.slots (Left h code ∷ []) refl e })
+    let end : Patched = record { text = m.text; cores = slice_set r.machine.cores h d; memory = t.memory; slots = g.slots } in
+    let parts = parts_home mid g m (slice_set r.machine.cores h d) g.slots one.rest cores rel.rest in
+    let P : Patched → Option Hold → Type 0 = λ n o. ComesHome mid n r.hold o r.breaks (λ k. GoesHome mid k h q) in
+    let homed = subst (λ (o : Option Hold). P end o) rel.none (subst (λ (n : Patched). P n hold) parts rel) in
+    let l : Leaving s r h x end (slice_set r.minds h (exited_mind x)) = record { at = k.mover.mind; before = k.before; machine = mid; steps = stepped_as s r h c x new k.mover t; homed = homed; minds = refl } in
+    whole s r h spare x end m hold rel.none parts (record { facts = e.facts; does = exits_as s r h code 1 spare x (slice_set r.machine.cores h d) (slice_set r.minds h (exited_mind x)) t.memory m.text g.slots (Left h code ∷ []) refl l e })
 
 -- all harts left
 left_all : (r : Run) (h spare code : ℕ) (c : Core) (x : Mind) (new m : Patched) (hold : Option Hold) → Ready r h c x → (t : StepsTo (stepped.AllExit code) r.machine h c new)
@@ -319,18 +356,22 @@ left_all r h spare code c x new m hold k t rel =
     let texts = released p g.text m.text r.breaks r.hold (subst (λ (u : Words). Planted p u r.breaks r.hold) (ap (λ (u : Patched). u.text) (sym rel.home.rest)) k.facts.planted) rel.released in
     let es = lefts_live code 0 xs in
     let e = departs_all r h spare code c t.core x g.cores t.memory m.text g.slots k.facts k.mover k.runs k.before k.none k.may (plain_gives s r h c x new k t) n.retired n.copied home free rel.home.slots_len cores texts in
-    whole s r h spare x (record { text = m.text; cores = g.cores; memory = t.memory; slots = g.slots }) m hold rel.none (parts_home mid g m g.cores g.slots rel.home.rest refl rel.rest)
-    (record { facts = e.facts; does = exits_as r h code (length es) spare g.cores (map gone_mind xs) t.memory m.text g.slots es refl e })
+    let end : Patched = record { text = m.text; cores = g.cores; memory = t.memory; slots = g.slots } in
+    let parts = parts_home mid g m g.cores g.slots rel.home.rest refl rel.rest in
+    let P : Patched → Option Hold → Type 0 = λ n o. ComesHome mid n r.hold o r.breaks (λ k. AllGoHome mid k 0 xs) in
+    let homed = subst (λ (o : Option Hold). P end o) rel.none (subst (λ (n : Patched). P n hold) parts rel) in
+    let l : Leaving s r h x end (map gone_mind xs) = record { at = k.mover.mind; before = k.before; machine = mid; steps = stepped_as s r h c x new k.mover t; homed = homed; minds = refl } in
+    whole s r h spare x end m hold rel.none parts (record { facts = e.facts; does = exits_as s r h code (length es) spare x g.cores (map gone_mind xs) t.memory m.text g.slots es refl l e })
 
 executed_by : (s : Stepped) (r : Run) (h spare : ℕ) (c : Core) (x : Mind) (new m : Patched) (hold : Option Hold) → has_run s ≡ true → Ready r h c x → (t : StepsTo s r.machine h c new)
     → HomedBy s (stepped_to r h t.core t.memory) m r.hold hold r.breaks h x (slice_set r.minds h (ran_mind x)) → Executed s r (run_with r m (applied s h x (parts_of r)) hold spare) h x
 executed_by stepped.Ran r h spare c x new m hold d k t rel =
-    let g = ran_on r h spare c t.core x t.memory [] stepped.Ran k (counts stepped.Ran r h c x new d k t) (plain_gives stepped.Ran r h c x new k t) in
+    let g = ran_on r h spare c t.core x t.memory [] stepped.Ran k (counts stepped.Ran r h c x new d k t) (plain_gives stepped.Ran r h c x new k t) (stepped_as stepped.Ran r h c x new k.mover t) in
     kept_by stepped.Ran r h spare x (stepped_to r h t.core t.memory) m hold rel (record { facts = g.facts; does = g.runs })
 executed_by (stepped.Wrote addr len) r h spare c x new m hold d k t rel =
     let s = stepped.Wrote addr len in
     let p = plain_gives s r h c x new k t in
-    let g = ran_on r h spare c t.core x t.memory p.0 s k (counts s r h c x new d k t) p.3 in
+    let g = ran_on r h spare c t.core x t.memory p.0 s k (counts s r h c x new d k t) p.3 (stepped_as s r h c x new k.mover t) in
     kept_by s r h spare x (stepped_to r h t.core t.memory) m hold rel (record { facts = g.facts; does = (p.0, p.1, p.2, g.runs) })
 executed_by (stepped.HartExit code) r h spare c x new m hold d k t rel = left_alone r h spare code c x new m hold k t rel
 executed_by (stepped.AllExit code) r h spare c x new m hold d k t rel = left_all r h spare code c x new m hold k t rel

@@ -7,6 +7,10 @@ pub mod Marking
 pub mod Words
 pub mod Tabling
 pub mod Reading
+pub mod Lengths
+pub mod Rows
+pub mod Aheads
+pub mod Marks
 pub mod GoingOn
 pub mod Alike
 pub mod Replies

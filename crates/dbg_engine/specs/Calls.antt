@@ -1,6 +1,8 @@
 -- What the calls of an engine do.
 use Rattle.std.specs.Prelude.{◌≡◌, ◌<◌, ◌≤◌, ◌+◌, ℕ, true, false, List, [], ◌∷◌, ◌++◌, length, map, Option, Some, None, slice_get, slice_set}
 use Rattle.rv_exec.specs.declared.effect.Cause.{Cause}
+use Rattle.rv_exec.specs.declared.effect.Stepped.{Stepped}
+use Rattle.rv_exec.specs.declared.effect.Stepped.TheVariants as stepped
 use Rattle.data_memory.specs.Ranges.{bytes_at}
 use Rattle.plain_machine.specs.Environment.{Traps}
 use Rattle.plain_machine.specs.Plain.{plain}
@@ -9,6 +11,7 @@ use Rattle.scratch_slots.specs.Table.{use_at, AllOut}
 use Rattle.step_over.specs.declared.phase.Phase.{Phase}
 use Rattle.step_over.specs.declared.phase.Phase.TheVariants as phase
 use Rattle.hart_machine.specs.Patched.{Patched}
+use Rattle.hart_machine.specs.Stepping.{Steps}
 use Rattle.text_words.specs.Words.{is_planted}
 use Rattle.dbg_model.specs.declared.reply.Reply.{Reply}
 use Rattle.break_table.specs.declared.due.Due.{Due}
@@ -24,10 +27,13 @@ use Rattle.dbg_model.specs.Leaving.{lefts_from, gone, LeaveWith}
 use Rattle.dbg_model.specs.Journals.{lengthened}
 use Rattle.engine_facts.specs.declared.mind.Hold.{Hold}
 use Rattle.engine_facts.specs.declared.mind.Mind.{Mind}
-use Rattle.engine_facts.specs.Minds.{runs, with_phase, counted_mind}
+use Rattle.engine_facts.specs.Minds.{runs, is_before, with_phase, counted_mind, ran_mind, first_mind}
 use Rattle.engine_facts.specs.Seen.{Run, seen}
 use Rattle.engine_facts.specs.Facts.{other_holder, Planted, Retired, CopiedOver}
 use Rattle.engine_facts.specs.Moves.{AreHome}
+use Rattle.engine_facts.specs.declared.mind.Activity.TheVariants as activity
+use Rattle.dbg_engine.specs.Steps.{left_minds}
+use Rattle.dbg_engine.specs.Homing.{HomedBy}
 use Rattle.dbg_engine.specs.declared.moving.Turned.{Turned}
 use Rattle.dbg_engine.specs.declared.moving.Turned.TheVariants as turned
 use Rattle.dbg_engine.specs.declared.engine.End.{End}
@@ -44,6 +50,14 @@ DueIs r h d = Of r h (λ y. due r.opening.image (seen r) h y ≡ d)
 -- no breakpoint stops or counts a hart
 abbrev pub Undue : Run → ℕ → Type 0
 Undue r h = Of r h (λ y. is_due (due r.opening.image (seen r) h y) ≡ false)
+
+-- a running hart with no step over a breakpoint to finish, in a session that goes on, and no patch is lifted for another
+pub record Before (r : Run) (h : ℕ) (x : Mind) : Type 0 where
+  pub may : may_go r.opening (seen r) ≡ true
+  pub at : slice_get r.minds h ≡ Some x
+  pub runs : x.activity ≡ activity.Running
+  pub free : other_holder r.hold h ≡ None
+  pub before : is_before x.phase ≡ true
 
 -- one hart has another phase, and nothing changed that is seen
 pub record Rephases (old new : Run) (h : ℕ) (x : Mind) (p : Phase) (held : Option Hold) : Type 0 where
@@ -118,15 +132,29 @@ pub record Plants (old new : Run) (h : ℕ) : Type 0 where
   pub ran : mind.phase ≡ phase.Ran home
   pub rephases : Rephases old new h mind phase.Idle None
 
--- one instruction of a hart, which wrote these bytes
-pub record Runs (old new : Run) (h : ℕ) (out : List ℕ) : Type 0 where
+-- one instruction of a hart, which wrote these bytes: one step of the machine, after which nothing else has changed
+pub record Runs (s : Stepped) (old new : Run) (h : ℕ) (out : List ℕ) : Type 0 where
+  pub mind : Mind
+  pub at : slice_get old.minds h ≡ Some mind
+  pub before : is_before mind.phase ≡ true
+  pub steps : Steps s old.machine h new.machine
+  pub minds : new.minds ≡ slice_set old.minds h (ran_mind mind)
+  pub hold : new.hold ≡ old.hold
   pub journal : new.journal ≡ lengthened old.journal h
   pub one : one old.opening h (seen old) ≡ Some (seen new)
   pub wrote : one_out old.opening h (seen old) ≡ out
   pub opening : new.opening ≡ old.opening
 
--- one instruction of a hart by which so many harts left, with this code
-pub record Exits (old new : Run) (h count code : ℕ) : Type 0 where
+-- one instruction of a hart by which so many harts left, with this code: one step of the machine, after which those that
+-- leave came home
+pub record Exits (s : Stepped) (old new : Run) (h count code : ℕ) : Type 0 where
+  pub mind : Mind
+  pub at : slice_get old.minds h ≡ Some mind
+  pub before : is_before mind.phase ≡ true
+  pub machine : Patched
+  pub steps : Steps s old.machine h machine
+  pub homed : HomedBy s machine new.machine old.hold new.hold old.breaks h mind (slice_set old.minds h (ran_mind mind))
+  pub minds : new.minds ≡ left_minds s h mind old.minds
   pub between : State
   pub codes : LeaveWith code between.harts
   pub some : any_leaves between.harts ≡ true
@@ -138,8 +166,10 @@ pub record Exits (old new : Run) (h count code : ℕ) : Type 0 where
   pub retired : new.retired ≡ old.retired + 1
   pub opening : new.opening ≡ old.opening
 
--- a hart stopped
+-- a hart stopped: it steps over nothing any more, and no patch is lifted
 pub record Halts (old new : Run) (h : ℕ) (why : Why) : Type 0 where
+  pub minds : new.minds ≡ slice_set old.minds h first_mind
+  pub hold : new.hold ≡ None
   pub journal : new.journal ≡ old.journal ++ Stopped h why ∷ []
   pub enters : enter old.opening (seen old) (Stopped h why) ≡ Some (seen new)
   pub opening : new.opening ≡ old.opening
@@ -150,6 +180,7 @@ pub record Counts (old new : Run) (h : ℕ) : Type 0 where
   pub at : slice_get old.minds h ≡ Some mind
   pub fresh : mind.fresh ≡ true
   pub minds : new.minds ≡ slice_set old.minds h (counted_mind mind)
+  pub hold : new.hold ≡ old.hold
   pub journal : new.journal ≡ old.journal ++ Counted h ∷ []
   pub enters : enter old.opening (seen old) (Counted h) ≡ Some (seen new)
   pub opening : new.opening ≡ old.opening
@@ -176,10 +207,10 @@ Turns turned.Planted old new h = Plants old new h
 Turns turned.Copied old new h = Copies old new h
 Turns turned.NoSlot old new h = (new ≡ old) × FindsNone old h
 Turns turned.Lifted old new h = Lifts old new h
-Turns turned.Ran old new h = Runs old new h []
-Turns (turned.Wrote addr len) old new h = (out : List ℕ) × (0 < len) × (bytes_at new.machine.memory addr len ≡ Some out) × Runs old new h out
-Turns (turned.Left code) old new h = Exits old new h 1 code
-Turns (turned.AllLeft code count) old new h = Exits old new h count code
+Turns turned.Ran old new h = Runs stepped.Ran old new h []
+Turns (turned.Wrote addr len) old new h = (out : List ℕ) × (0 < len) × (bytes_at new.machine.memory addr len ≡ Some out) × Runs (stepped.Wrote addr len) old new h out
+Turns (turned.Left code) old new h = Exits (stepped.HartExit code) old new h 1 code
+Turns (turned.AllLeft code count) old new h = Exits (stepped.AllExit code) old new h count code
 Turns (turned.Stopped cause) old new h = Faults old new h cause
 Turns turned.Interrupted old new h = Interrupts old new h
 Turns turned.Counted old new h = Counts old new h

@@ -1,6 +1,9 @@
 pub mod Steps
 pub mod Changing
+pub mod Rows
 pub mod Calls
+pub mod Several
+pub mod Marks
 pub mod EngineInside
 pub mod Answering
 pub mod Resuming

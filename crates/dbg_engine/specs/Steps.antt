@@ -17,6 +17,15 @@ pub record Parts : Type 0 where
   pub retired : ℕ
   pub noted : ℕ
 
+-- what is kept of the harts after an instruction of hart h by which harts leave
+abbrev pub left_minds : Stepped → ℕ → Mind → List Mind → List Mind
+left_minds stepped.Ran h x xs = xs
+left_minds (stepped.Wrote addr len) h x xs = xs
+left_minds (stepped.HartExit code) h x xs = slice_set xs h (exited_mind x)
+left_minds (stepped.AllExit code) h x xs = map gone_mind (slice_set xs h (ran_mind x))
+left_minds stepped.Hit h x xs = xs
+left_minds (stepped.Trap cause) h x xs = xs
+
 -- the parts after an instruction of hart h, of which x was kept
 abbrev pub applied : Stepped → ℕ → Mind → Parts → Parts
 applied stepped.Ran h x p = record { journal = lengthened p.journal h; minds = slice_set p.minds h (ran_mind x); retired = p.retired + 1; noted = p.noted }

@@ -29,7 +29,7 @@ pub fn landed_pc(word: u32, slot: u32, home: u32, pc: u32) -> u32
 }
 
 /// Takes a hart home from the slot of its phase, if it has one.
-pub fn go_home(machine: &mut Machine, h: usize, phase: Phase)
+pub fn go_home(machine: &mut Machine, h: u32, phase: Phase)
     requires hart { h < length machine.old.cores }
     requires slot { IsSlotted machine.old h phase }
     ensures { GoesHome machine.old machine.new h phase }
@@ -48,7 +48,7 @@ pub fn go_home(machine: &mut Machine, h: usize, phase: Phase)
 }
 
 /// Takes each hart of the list home; the first of them has the number `h`.
-pub fn go_home_each(machine: &mut Machine, minds: &[Mind], h: usize)
+pub fn go_home_each(machine: &mut Machine, minds: &[Mind], h: u32)
     requires few { length machine.old.cores ≤ 16 }
     requires harts { h + length minds.now ≤ length machine.old.cores }
     requires slots { (j : ℕ) (x : Mind) → slice_get minds.now j ≡ Some x → IsSlotted machine.old (h + j) x.phase }
@@ -79,7 +79,7 @@ pub fn go_home_at_exit(
     machine: &mut Machine,
     hold: &mut Option<Hold>,
     table: &BreakTable,
-    h: usize,
+    h: u32,
     mind: Mind,
     minds: &[Mind],
 )

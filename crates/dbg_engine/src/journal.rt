@@ -1,6 +1,7 @@
 // The journal's last place.
 ghost use Rattle.std.specs.Prelude.{◌≡◌, ◌≤◌, ◌<◌, ◌+◌, ◌-◌, ◌^◌, ◌++◌, [], ◌∷◌, vec_len, vec_capacity, length};
-ghost use Rattle.dbg_model.specs.Journals.{lengthened, last_count, ran_count};
+ghost use Rattle.dbg_model.specs.Journals.{last_count, ran_count};
+ghost use Rattle.dbg_engine.specs.Several.{lengthened_by};
 ghost use Rattle.engine_facts.specs.Minds.{lefts_live};
 
 use dbg_model::Entry;
@@ -26,31 +27,25 @@ fn ran_count(entry: &Entry, hart: u32) -> Option<u64>
     }
 }
 
-/// Notes one more instruction of a hart, for which there is room.
-pub fn note_ran(entries: &mut Vec<Entry>, hart: u32)
+/// Notes so many more instructions of a hart, for which there is room.
+pub fn note_runs(entries: &mut Vec<Entry>, hart: u32, count: u64)
+    requires some { 0 < count }
     requires room { vec_len entries.old < vec_capacity entries.old }
-    requires count { last_count entries.old.items < 2 ^ 64 - 1 }
-    ensures entries { entries.new.items ≡ lengthened entries.old.items hart }
+    requires last { last_count entries.old.items + count < 2 ^ 64 }
+    ensures entries { entries.new.items ≡ lengthened_by count entries.old.items hart }
     ensures room { vec_len entries.new ≤ vec_len entries.old + 1 }
     ensures capacity { vec_capacity entries.old ≤ vec_capacity entries.new }
 {
-    let Some(entry) = entries.pop() else {
-        note(entries, Entry::Ran { hart, count: 1 });
-        return;
-    };
-    match ran_count(&entry, hart) {
-        Some(count) => note(
-            entries,
-            Entry::Ran {
+    if let Some(last) = entries.last_mut() {
+        if let Some(before) = ran_count(last, hart) {
+            *last = Entry::Ran {
                 hart,
-                count: count + 1,
-            },
-        ),
-        None => {
-            note(entries, entry);
-            note(entries, Entry::Ran { hart, count: 1 });
+                count: before + count,
+            };
+            return;
         }
     }
+    note(entries, Entry::Ran { hart, count });
 }
 
 /// Notes that each live hart of the list has exited, where there is room; the first of the list has the number `hart`.

@@ -6,6 +6,8 @@ mod breaking;
 mod engine;
 mod homing;
 mod journal;
+mod laws;
+mod minds;
 mod moving;
 mod patching;
 mod resuming;
@@ -13,5 +15,6 @@ mod view;
 
 pub use engine::{Closed, End, Engine, SPARE};
 pub use engine_facts::{Activity, Hold, Mind, Phase};
+pub use laws::{moves_mark, one_instruction_or_none};
 pub use moving::Turned;
 pub use view::ShownHart;

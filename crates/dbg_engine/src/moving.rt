@@ -5,7 +5,7 @@ ghost use Rattle.hart_machine.specs.Stepping.{IsByteCode, has_run};
 ghost use Rattle.engine_facts.specs.Minds.{gone_mind, ran_mind, after_step};
 ghost use Rattle.dbg_engine.specs.Steps.{applied, turned_of, IsTurned};
 
-use crate::journal::{note, note_lefts, note_ran};
+use crate::journal::{note, note_lefts, note_runs};
 use break_table::CondError;
 use dbg_model::Entry;
 use engine_facts::{Activity, Mind, Phase};
@@ -105,7 +105,7 @@ fn note_instruction(
     ensures room { vec_len entries.new ≤ vec_len entries.old + 1 }
     ensures capacity { vec_capacity entries.old ≤ vec_capacity entries.new }
 {
-    note_ran(entries, h);
+    note_runs(entries, h, 1);
     minds[h as usize] = mind;
     *retired += 1;
 }

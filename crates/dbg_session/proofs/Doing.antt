@@ -13,7 +13,7 @@ use Rattle.engine_facts.specs.Facts.{Facts}
 use Rattle.engine_facts.specs.Seen.{Run, seen}
 use Rattle.dbg_session.specs.Stage.{Stage, stage_of}
 use Rattle.dbg_session.specs.Puts.{PutsAll}
-use Rattle.dbg_session.specs.Steps.{said_by, Says, Keeps, DoesLine, may_take, can_do}
+use Rattle.dbg_session.specs.Steps.{said_by, Says, Keeps, DoesLine, may_take}
 use Rattle.dbg_session.specs.Taking.{first_waits, has_line, is_some_line}
 use Rattle.dbg_session.specs.Ties.{GoesOn}
 use Rattle.dbg_model.specs.Lawful.{may_go}

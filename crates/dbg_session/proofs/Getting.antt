@@ -1,12 +1,11 @@
 -- A round gets on.
-use Rattle.std.proofs.Common.{◌≡◌, ◌<◌, ◌≤◌, ℕ, ◌+◌, ◌*◌, min, Bool, true, false, List, [], ◌∷◌, length, get_or, refl, sym, ap, ◌∙◌, arith, not}
-use Rattle.std.specs.Prelude.{◌||◌, ◌&&◌, ◌⊎◌, Option, Some, None, is_some}
-use mathlib.Core.Logic.{inl, inr}
+use Rattle.std.proofs.Common.{◌≡◌, ◌<◌, ◌≤◌, ℕ, min, Bool, true, false, List, [], ◌∷◌, refl, sym, ap, ◌∙◌, arith, not}
+use Rattle.std.specs.Prelude.{◌||◌, ◌&&◌, Option, Some, None, is_some}
 use Rattle.dbg_model.specs.State.{any_runs}
 use Rattle.dbg_model.specs.Reply.{is_wait}
 use Rattle.mi_input.specs.Lines.{lines}
 use Rattle.dbg_session.specs.declared.status.Status.{Status}
-use Rattle.dbg_session.specs.Stage.{Stage, moves_at}
+use Rattle.dbg_session.specs.Stage.{Stage}
 use Rattle.dbg_session.specs.Steps.{can_do, may_take}
 use Rattle.dbg_session.specs.Taking.{has_line, is_some_line}
 use Rattle.dbg_session.specs.Ties.{session_work}

@@ -1,8 +1,8 @@
 -- How the steps of a round follow each other.
-use Rattle.std.proofs.Common.{◌≡◌, ◌<◌, ◌≤◌, ℕ, zero, suc, ◌+◌, Bool, true, false, List, [], ◌++◌, length, drop, refl, sym, ap, ◌∙◌, arith, subst, not}
-use Rattle.std.specs.Prelude.{Option, Some, None, ◌&&◌, ◌||◌, is_some}
+use Rattle.std.proofs.Common.{◌≡◌, ◌<◌, ◌≤◌, ℕ, ◌+◌, Bool, true, false, List, [], ◌++◌, length, drop, refl, ap, subst, not}
+use Rattle.std.specs.Prelude.{Option, Some, None, ◌&&◌, is_some}
 use Rattle.dbg_session.specs.declared.status.Status.{Status}
-use mathlib.Core.Logic.{inl, inr}
+use mathlib.Core.Logic.{inl}
 use Rattle.dbg_traits.specs.Told.{Told, more, raised, with_ask}
 use Rattle.mi_input.specs.Lines.{lines}
 use Rattle.dbg_model.specs.State.{any_runs}

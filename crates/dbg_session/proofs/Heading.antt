@@ -1,12 +1,11 @@
 -- The headline, from what the type of a session keeps.
-use Rattle.std.proofs.Common.{◌≡◌, ◌<◌, ◌≤◌, ℕ, Bool, true, false, List, [], ◌∷◌, ◌++◌, length, refl, sym, ap, ◌∙◌, arith, subst}
+use Rattle.std.proofs.Common.{◌≡◌, ◌≤◌, ℕ, Bool, true, false, List, [], ◌∷◌, ◌++◌, length, refl, sym, ap, ◌∙◌, arith, subst}
 use Rattle.std.specs.Prelude.{Option, Some, None, IfSome, IsSome, IsSomeAnd}
 use mathlib.Core.Logic.{inl, inr}
 use mathlib.Core.List.{append-nil}
 use Rattle.std.specs.Prelude.{map}
 use Rattle.dbg_traits.specs.Told.{Told}
 use Rattle.mi_input.specs.Lines.{lines}
-use Rattle.dbg_model.specs.Limits as limits
 use Rattle.dbg_model.specs.State.{Hart}
 use Rattle.dbg_model.specs.Journals.{did, noted}
 use Rattle.dbg_model.specs.Erase.{erase}

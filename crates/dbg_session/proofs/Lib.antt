@@ -9,6 +9,7 @@ pub mod Tying
 pub mod Opening
 pub mod Ahead
 pub mod Getting
+pub mod Several
 pub mod Going
 pub mod Passing
 pub mod Heading

@@ -1,8 +1,8 @@
 -- A session that may begin.
-use Rattle.std.proofs.Common.{◌≡◌, ◌<◌, ◌≤◌, ℕ, Bool, true, false, List, [], ◌∷◌, length, take, drop, refl, sym, ap, ◌∙◌, arith}
+use Rattle.std.proofs.Common.{◌≡◌, ◌<◌, ℕ, Bool, true, false, List, [], ◌∷◌, length, take, drop, refl, sym, ap, ◌∙◌, arith}
 use Rattle.std.proofs.lemmas.List.{take-append-drop}
 use mathlib.Core.List.{append-nil}
-use Rattle.std.specs.Prelude.{◌⊎◌, Option, Some, None, IfSome, IsSome}
+use Rattle.std.specs.Prelude.{◌⊎◌, Option, Some, None, IfSome}
 use mathlib.Core.Logic.{inl, inr}
 use Rattle.dbg_traits.specs.Told.{Told, more, IsFresh}
 use Rattle.elf32_read.specs.Reading.{IsImage, Refused}
@@ -10,14 +10,14 @@ use Rattle.elf32_read.specs.declared.fault.ElfFault.{ElfFault}
 use Rattle.dbg_model.specs.declared.opening.Opening.{Opening}
 use Rattle.dbg_session.specs.declared.file.Served.{Served}
 use Rattle.dbg_session.specs.Stage.{Stage}
-use Rattle.dbg_session.specs.Words.{served_words, IsWhole, most_file, ReadsAll, ReadsSome, named_of}
+use Rattle.dbg_session.specs.Words.{served_words, ReadsAll, ReadsSome, named_of}
 use Rattle.dbg_session.specs.declared.file.FileError.TheVariants as error
 use Rattle.dbg_session.specs.Ties.{IsReady, IsEmpty, IsCut}
 use Rattle.dbg_session.specs.Puts.{PutsAll}
 use Rattle.mi_reports.specs.Refusals.{bad_file}
 use Rattle.mi_reports.specs.declared.refusals.TheConstants.{USAGE}
 use Rattle.dbg_session.specs.declared.status.Status.TheVariants as status
-use Rattle.dbg_session.specs.Headline.{Early, Line, Silent, IsUnpolled, IsUnread, IsRead, IsReadIfAny, IsPart, HasFault}
+use Rattle.dbg_session.specs.Headline.{Early, Line, Silent, IsUnpolled, IsUnread, IsRead, IsReadIfAny, HasFault}
 
 empty : {A : Type 0} (o : Option (List A)) → (o ≡ None) ⊎ (o ≡ Some []) → IsEmpty o
 empty o (inl is) = rw is tt

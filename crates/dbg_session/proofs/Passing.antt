@@ -1,10 +1,8 @@
 -- A hart that is picked in vain, or none.
-use Rattle.std.proofs.Common.{◌≡◌, ◌<◌, ◌≤◌, ℕ, zero, suc, ◌+◌, ◌*◌, min, Bool, true, false, List, length, get_or, refl, sym, ap, ◌∙◌, arith, subst, not}
-use Rattle.std.specs.Prelude.{◌⊎◌, Option, Some, None, is_some, slice_get}
+use Rattle.std.proofs.Common.{◌≡◌, ◌<◌, ◌≤◌, ℕ, zero, suc, ◌+◌, ◌*◌, min, true, false, length, refl, sym, ap, ◌∙◌, arith, not}
+use Rattle.std.specs.Prelude.{Option, Some, None, is_some}
 use mathlib.Core.Logic.{inl, inr}
 use Rattle.dbg_model.specs.State.{any_runs}
-use Rattle.engine_facts.specs.declared.mind.Mind.{Mind}
-use Rattle.engine_facts.specs.Minds.{runs}
 use Rattle.engine_facts.specs.Seen.{Run, seen}
 use Rattle.engine_facts.specs.Facts.{Facts}
 use Rattle.engine_facts.proofs.Seeing.{any_seen}
@@ -13,7 +11,7 @@ use Rattle.dbg_engine.specs.Steps.{next_running}
 use Rattle.dbg_session.specs.declared.status.Status.{Status}
 use Rattle.dbg_session.specs.Stage.{Stage, stage_of, moves_at}
 use Rattle.dbg_session.specs.Ties.{session_work}
-use Rattle.dbg_session.specs.Seen.{Seen, Same, HasTurned, work, movers, any_of, ahead, picked}
+use Rattle.dbg_session.specs.Seen.{Seen, Same, HasTurned, work, movers, ahead, picked}
 use Rattle.dbg_session.proofs.Picking.{mover_runs}
 use Rattle.dbg_session.proofs.Getting.{less_work}
 use Rattle.dbg_session.proofs.Ahead.{fewer, ahead_most, movers_length, movers_below, mover_at, next_within, next_runs, none_runs}
@@ -79,3 +77,10 @@ left_of s = session_work s.status s.run s.input
 pub less_on : {W : Type 0} (n : ℕ) (s t u : Seen W) → (n ≡ 0 → t ≡ s) → (0 < n → left_of t < left_of s) → left_of u < left_of t → left_of u < left_of s
 less_on {W = W} zero s t u same less step = let e : left_of t ≡ left_of s = ap (λ (x : Seen W). left_of x) (same refl) in omega (arith, e, step)
 less_on {W = W} (suc n) s t u same less step = let l = less (omega arith) in omega (arith, l, step)
+
+-- after a run of turns behind others there is less to do than at first, if there was one
+pub less_two : {W : Type 0} (n a : ℕ) (s t m : Seen W) → (n ≡ 0 → t ≡ s) → (0 < n → left_of t < left_of s) → (a ≡ 0 → m ≡ t) → (0 < a → left_of m < left_of t) → 0 < n + a → left_of m < left_of s
+less_two {W = W} zero zero s t m p q r l some = absurd (omega arith)
+less_two {W = W} zero (suc a) s t m p q r l some = let e : left_of t ≡ left_of s = ap (λ (x : Seen W). left_of x) (p refl) in let k = l (omega arith) in omega (arith, e, k)
+less_two {W = W} (suc n) zero s t m p q r l some = let e : left_of m ≡ left_of t = ap (λ (x : Seen W). left_of x) (r refl) in let k = q (omega arith) in omega (arith, e, k)
+less_two {W = W} (suc n) (suc a) s t m p q r l some = let j = l (omega arith) in let k = q (omega arith) in omega (arith, j, k)

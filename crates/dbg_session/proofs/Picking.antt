@@ -1,5 +1,5 @@
 -- Which harts of an engine run, and what an engine leaves.
-use Rattle.std.proofs.Common.{◌≡◌, ◌<◌, ◌≤◌, ℕ, zero, suc, Bool, true, false, List, [], ◌∷◌, length, refl, sym, ap, ◌∙◌, arith, not}
+use Rattle.std.proofs.Common.{◌≡◌, ◌<◌, ℕ, suc, Bool, true, false, List, [], ◌∷◌, length, refl, sym, ap, ◌∙◌, arith, not}
 use Rattle.std.specs.Prelude.{Option, Some, None, IfSome, IfNone, is_some, is_none, ◌&&◌, ◌||◌, slice_get, take}
 use mathlib.Core.List.{append-nil}
 use Rattle.std.specs.Option.{option_map}
@@ -11,12 +11,12 @@ use Rattle.mi_input.specs.Lines.{IsNext, lines}
 use Rattle.dbg_model.proofs.Options.{both_true}
 use Rattle.engine_facts.specs.declared.mind.Mind.{Mind}
 use Rattle.dbg_engine.specs.declared.engine.Closed.{Closed}
-use Rattle.engine_facts.specs.Minds.{mode_of, is_active, runs}
+use Rattle.engine_facts.specs.Minds.{runs}
 use Rattle.engine_facts.specs.Seen.{Run, seen, seen_regs, seen_harts}
 use Rattle.engine_facts.specs.Moves.{AreHome}
 use Rattle.engine_facts.specs.Facts.{Facts}
 use Rattle.dbg_engine.specs.Calls.{Closes}
-use Rattle.engine_facts.specs.Movers.{runs_at, is_free, is_idle, idle_as, are_out, waits_for_slot}
+use Rattle.engine_facts.specs.Movers.{runs_at, is_free, are_out, waits_for_slot}
 use Rattle.engine_facts.proofs.Movers.{runs_mind}
 use Rattle.dbg_session.specs.Stage.{stage_of, moves_at}
 use Rattle.dbg_session.specs.Taking.{has_line, is_some_line}

@@ -4,6 +4,8 @@ use Rattle.std.specs.Prelude.{Option, Some, None, is_none, ◌&&◌, ◌⊎◌, 
 use mathlib.Core.Logic.{inl, inr}
 use mathlib.Core.List.{append-nil}
 use Rattle.rv_exec.specs.declared.effect.Cause.{Cause}
+use Rattle.rv_exec.specs.declared.effect.Stepped.{Stepped}
+use Rattle.rv_exec.specs.declared.effect.Stepped.TheVariants as stepped
 use Rattle.dbg_model.specs.declared.reply.Reply.{Reply}
 use Rattle.dbg_model.specs.declared.entry.Entry.{Entry}
 use Rattle.dbg_model.specs.declared.entry.Entry.TheVariants.{Counted, Stopped, Did}
@@ -91,8 +93,8 @@ ran_less r s h t is retired run opening g =
 said_is : (r s : Run) (j : List Entry) (text : List ℕ) → s.opening ≡ r.opening → s.journal ≡ j → said r.opening j ≡ said r.opening r.journal ++ text → said_by (stage_of s) ≡ said_by (stage_of r) ++ text
 said_is r s j text o is e = ap (λ p. said p s.journal) o ∙ (ap (said r.opening) is ∙ e)
 
-runs_say : (t : Turned) (r s : Run) (h pc : ℕ) (out : List ℕ) → Facts r → Facts s → Runs r s h out → stream_text out ≡ turned_text s t h pc → Said t r s h pc
-runs_say t r s h pc out f g m text =
+runs_say : (t : Turned) (v : Stepped) (r s : Run) (h pc : ℕ) (out : List ℕ) → Facts r → Facts s → Runs v r s h out → stream_text out ≡ turned_text s t h pc → Said t r s h pc
+runs_say t v r s h pc out f g m text =
     let l = said_lengthened r.opening r.journal h (seen r) f.leaves in
     record {
       opening = m.opening;
@@ -101,6 +103,10 @@ runs_say t r s h pc out f g m text =
       move = inr (inl ([], m.journal ∙ sym (append-nil (lengthened r.journal h))));
       work = ran_less r s h (seen s) m.one refl (let z : running (seen s).harts ≤ running (seen s).harts = omega arith in z) m.opening g;
     }
+
+-- an instruction that wrote nothing, whatever pc its hart was at
+pub ran_says : (r s : Run) (h : ℕ) → Facts r → Facts s → Turns turned.Ran r s h → Said turned.Ran r s h 0
+ran_says r s h f g m = runs_say turned.Ran stepped.Ran r s h 0 [] f g m nothing_written
 
 drop_behind : {A : Type 0} (xs ys : List A) → drop (length xs) (xs ++ ys) ≡ ys
 drop_behind [] ys = refl
@@ -117,8 +123,8 @@ last_are j xs ys n is len =
     let front : length j - n ≡ length xs = let m = ap length is in omega arith in
     ap (λ k. drop k j) front ∙ (ap (drop (length xs)) is ∙ drop_behind xs ys)
 
-exits_say : (t : Turned) (r s : Run) (h pc count code : ℕ) → Facts r → Facts s → Exits r s h count code → last_lefts s count code ≡ turned_text s t h pc → Said t r s h pc
-exits_say t r s h pc count code f g m text =
+exits_say : (t : Turned) (v : Stepped) (r s : Run) (h pc count code : ℕ) → Facts r → Facts s → Exits v r s h count code → last_lefts s count code ≡ turned_text s t h pc → Said t r s h pc
+exits_say t v r s h pc count code f g m text =
     let j = lengthened r.journal h in
     let lefts = lefts_from 0 m.between.harts in
     let l = lengthens r.opening r.journal h (seen r) m.between f.leaves m.one in
@@ -253,10 +259,10 @@ says turned.Planted r s h pc f g low is moved m =
     quiets_say turned.Planted r s h pc m.mind phase.Idle None m.rephases m.at (let e = ap moves_of m.ran in omega arith) refl
 says turned.Lifted r s h pc f g low is moved m =
     quiets_say turned.Lifted r s h pc m.mind (phase.Lifted m.home) (Some (record { hart = h; home = m.home })) m.rephases m.before.at (let e = ap moves_of m.before.idle in omega arith) refl
-says turned.Ran r s h pc f g low is moved m = runs_say turned.Ran r s h pc [] f g m nothing_written
-says (turned.Wrote addr len) r s h pc f g low is moved m = runs_say (turned.Wrote addr len) r s h pc m.0 f g m.3 (ap stream_of (sym m.2))
-says (turned.Left code) r s h pc f g low is moved m = exits_say (turned.Left code) r s h pc 1 code f g m refl
-says (turned.AllLeft code count) r s h pc f g low is moved m = exits_say (turned.AllLeft code count) r s h pc count code f g m refl
+says turned.Ran r s h pc f g low is moved m = runs_say turned.Ran stepped.Ran r s h pc [] f g m nothing_written
+says (turned.Wrote addr len) r s h pc f g low is moved m = runs_say (turned.Wrote addr len) (stepped.Wrote addr len) r s h pc m.0 f g m.3 (ap stream_of (sym m.2))
+says (turned.Left code) r s h pc f g low is moved m = exits_say (turned.Left code) (stepped.HartExit code) r s h pc 1 code f g m refl
+says (turned.AllLeft code count) r s h pc f g low is moved m = exits_say (turned.AllLeft code count) (stepped.AllExit code) r s h pc count code f g m refl
 says (turned.Stopped cause) r s h pc f g low is moved m = faults_say r s h pc cause f g low is m
 says turned.Interrupted r s h pc f g low is moved m = interrupts_say r s h pc f g low is m.halts
 says turned.Counted r s h pc f g low is moved m = counts_say r s h pc f g m

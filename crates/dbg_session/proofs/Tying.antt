@@ -1,7 +1,7 @@
 -- The steps of a session keep what ties it to its world.
 use Rattle.std.proofs.Common.{◌≡◌, ◌<◌, ◌≤◌, ℕ, zero, suc, not, ◌+◌, ◌-◌, Bool, true, false, cond, List, [], ◌∷◌, ◌++◌, length, take, drop, refl, sym, ap, ◌∙◌, append_assoc, arith, subst, length-append, length-drop}
-use Rattle.std.specs.Prelude.{Option, Some, None, IfSome, IfNone, is_some}
-use mathlib.Core.Logic.{inl, inr}
+use Rattle.std.specs.Prelude.{Option, Some, None, IfSome}
+use mathlib.Core.Logic.{inr}
 use Rattle.dbg_traits.specs.Causes.{Rose}
 use mathlib.Core.List.{append-nil}
 use Rattle.std.proofs.lemmas.List.{take-append-drop, take_all}

@@ -1,5 +1,5 @@
 -- What the steps of a session do to the world and to what is said.
-use Rattle.std.specs.Prelude.{◌≡◌, ◌⊎◌, ◌<◌, ◌≤◌, ℕ, ◌&&◌, not, Bool, true, false, List, [], ◌∷◌, ◌++◌, length, drop, slice_set, Option, Some, None}
+use Rattle.std.specs.Prelude.{◌≡◌, ◌⊎◌, ◌<◌, ◌≤◌, ℕ, ◌&&◌, not, Bool, true, false, List, [], ◌∷◌, ◌++◌, length, slice_set, Option, Some, None}
 use Rattle.dbg_traits.specs.Told.{Told, more, raised, with_ask}
 use Rattle.dbg_traits.specs.Causes.{Rose}
 use Rattle.dbg_session.specs.Puts.{PutsAll}

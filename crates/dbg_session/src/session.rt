@@ -2,9 +2,9 @@
 ghost use Rattle.std.specs.Prelude.{◌≡◌, ◌≢◌, ◌<◌, ◌≤◌, ◌↔◌, [], ℕ, length, false, None, Some, if◌then◌else◌, IsTrue, IfSome, IsSomeAnd};
 ghost use Rattle.std.specs.Bool.{OnFalse};
 ghost use Rattle.dbg_session.specs.Ties.{IsTied, OverBy, session_work};
-ghost use Rattle.dbg_session.specs.Seen.{GotOn, HasTurned, work, no_input, no_line, no_move, is_open, picked};
+ghost use Rattle.dbg_session.specs.Seen.{GotOn, HasTurned, work, no_input, no_line, no_move, is_open};
 ghost use Rattle.dbg_session.specs.Taking.{has_line};
-ghost use Rattle.dbg_session.specs.Round.{Takes, Lines, Moves, MovesOne, TurnsOne, Settles, Round, Rounds, moment};
+ghost use Rattle.dbg_session.specs.Round.{Takes, Lines, Moves, MovesOne, TurnsOne, Settles, Round, Rounds, Moved, moment};
 ghost use Rattle.dbg_engine.specs.Steps.{next_running};
 ghost use Rattle.dbg_session.specs.Left.{IsLeft};
 ghost use Rattle.dbg_session.specs.Stage.{stage_of, moves_at};
@@ -12,8 +12,8 @@ ghost use Rattle.dbg_session.specs.Stage.{stage_of, moves_at};
 use crate::Status;
 use crate::known::Known;
 use crate::puts::put_all;
-use crate::steps::{Done, Input, Turn, input_once, line_once, turn_once};
-use dbg_engine::{Closed, End, Engine};
+use crate::steps::{Done, Input, PIECE, Turn, input_once, line_once, turn_once};
+use dbg_engine::{Closed, End, Engine, SPARE};
 use dbg_model::MOST_INPUT;
 use dbg_traits::World;
 use mi_input::next_line;
@@ -25,6 +25,8 @@ pub struct Session<W: World> {
     alloc: Global,
     world: W,
     engine: Engine,
+    // Where a poll puts its bytes.
+    piece: [u8; PIECE],
     buffer: Vec<u8>,
     start: usize,
     count: u64,
@@ -56,7 +58,9 @@ impl<W: World> Model for Session<W> {
 
     ghost view = { seen_of };
 
-    ghost invariant = { λ s. IsTied s.status (W.told s.world) (stage_of s.engine) (taken_of s) × (s.start ≤ vec_len s.buffer) × IsCounted s.status s.count × IsKnown s.known s.ended (drop s.start s.buffer.items) };
+    ghost use Rattle.engine_facts.specs.Facts.{Facts};
+
+    ghost invariant = { λ s. IsTied s.status (W.told s.world) (stage_of s.engine) (taken_of s) × (s.start ≤ vec_len s.buffer) × IsCounted s.status s.count × IsKnown s.known s.ended (drop s.start s.buffer.items) × Facts s.engine };
 }
 
 // The status after a put.
@@ -85,24 +89,26 @@ impl<W: World> Session<W> {
     ghost use Rattle.mi_reports.specs.Text.{opening_text};
     ghost use Rattle.dbg_session.specs.Puts.{PutsAll};
     ghost use Rattle.std.specs.Prelude.{is_none};
+    ghost use Rattle.engine_facts.specs.Facts.{Facts};
 
     /// A session over an engine, with its opening lines.
     pub fn open(alloc: Global, world: W, engine: Engine, opening: &[u8]) -> Session<W>
         requires ready { IsReady (W.told world) (stage_of engine) }
         requires text { opening.now ≡ opening_text engine.opening.settings.harts }
+        requires facts { Facts engine }
         ensures run { result.run ≡ stage_of engine }
         ensures input { result.input ≡ record { rest = []; count = 0; ended = false } }
         ensures next { result.next ≡ 0 }
         ensures puts { PutsAll (is_none result.status) opening.now (W.told world) (W.told result.world) }
         ensures status { result.status ≡ (if is_none result.status then None else Some Status.WriteFault) }
     {
-        engine.keep();
         let mut world = world;
         let status = status_of(put_all(&mut world, opening));
         Session {
             alloc,
             world,
             engine,
+            piece: [0u8; PIECE],
             buffer: Vec::new(alloc),
             start: 0,
             count: 0,
@@ -131,7 +137,6 @@ impl<W: World> Session<W> {
         ensures takes { Takes (moment W.told self.old) (moment W.told self.new) }
         ensures less { GotOn result self.old self.new (no_input self.old) }
     {
-        self.engine.keep();
         if self.ended {
             return false;
         }
@@ -139,7 +144,7 @@ impl<W: World> Session<W> {
             return false;
         }
         let wait = !self.engine.any_running();
-        match input_once(&mut self.world, &mut self.buffer, wait) {
+        match input_once(&mut self.world, &mut self.buffer, &mut self.piece, wait) {
             Input::Took(n) => {
                 self.known = Known::Open;
                 self.count += n as u64;
@@ -170,7 +175,6 @@ impl<W: World> Session<W> {
         ensures lines { Lines (moment W.told self.old) (moment W.told self.new) }
         ensures less { GotOn result self.old self.new (no_line self.old) }
     {
-        self.engine.keep();
         match self.known {
             Known::Open => {}
             Known::NoLine => return false,
@@ -230,9 +234,7 @@ impl<W: World> Session<W> {
         ensures stands { OnFalse result ((moment W.told self.new ≡ moment W.told self.old) × (moves_at self.old.run hart ≡ false)) }
         ensures less { IsTrue result → session_work self.new.status self.new.run self.new.input < session_work self.old.status self.old.run self.old.input }
     {
-        self.engine.keep();
         let turn = turn_once(self.alloc, &mut self.world, &mut self.engine, hart);
-        self.engine.keep();
         match turn {
             Turn::Stood => false,
             Turn::Moved => {
@@ -250,18 +252,27 @@ impl<W: World> Session<W> {
         }
     }
 
-    // The next hart that runs, in rising order round the harts from the one after that picked last.
-    fn pick(&mut self) -> Option<u32>
-        ensures picks { result ≡ next_running self.old.run.minds self.old.next }
-        ensures next { self.new ≡ record self.old { next = picked result self.old.next } }
-        ensures known { IfSome result (λ h. h < length self.old.run.minds) }
+    // Executes instructions of a hart that say nothing, in one call: at most `limit`, and how many. None where another
+    // turn is next.
+    fn run_hart(&mut self, hart: u32, limit: u32) -> u32
+        requires going { self.old.status ≡ None }
+        requires known { hart < length self.old.run.minds }
+        ensures limit { result ≤ limit }
+        ensures next { self.new.next ≡ self.old.next }
+        ensures same { length self.new.run.minds ≡ length self.old.run.minds }
+        ensures opening { self.new.run.opening ≡ self.old.run.opening }
+        ensures moved { Moved result hart (moment W.told self.old) (moment W.told self.new) }
+        ensures none { result ≡ 0 → self.new ≡ self.old }
+        ensures less { 0 < result → session_work self.new.status self.new.run self.new.input < session_work self.old.status self.old.run self.old.input }
     {
-        self.engine.keep();
-        let picked = self.engine.next_running(self.next);
-        if let Some(hart) = picked {
-            self.next = hart as usize + 1;
+        if self.engine.reserve_journal(SPARE).is_err() {
+            return 0;
         }
-        picked
+        let count = self.engine.run(hart, limit);
+        if count > 0 {
+            self.status = over(&self.engine, self.count);
+        }
+        count
     }
 
     // Turns a hart while it moves, at most 64 times.
@@ -272,8 +283,13 @@ impl<W: World> Session<W> {
         ensures moves { MovesOne hart (moment W.told self.old) (moment W.told self.new) }
         ensures less { HasTurned hart self.old self.new }
     {
-        let mut count = 0usize;
+        let mut count = 0u32;
         while count < 64 && self.status.is_none() {
+            let ran = self.run_hart(hart, 64 - count);
+            if ran > 0 {
+                count += ran;
+                continue;
+            }
             if !self.move_hart(hart) {
                 return;
             }
@@ -281,21 +297,20 @@ impl<W: World> Session<W> {
         }
     }
 
-    // Picks the next hart that runs, and turns it. True where one runs.
+    // Turns the next hart that runs, in rising order round the harts from the one after that turned last. True where one
+    // runs.
     fn move_on(&mut self) -> bool
         requires { self.old.status ≡ None }
         ensures opening { self.new.run.opening ≡ self.old.run.opening }
         ensures moves { Moves (moment W.told self.old) (moment W.told self.new) }
         ensures less { GotOn result self.old self.new (no_move self.old) }
     {
-        self.engine.keep();
-        match self.pick() {
-            None => false,
-            Some(hart) => {
-                self.turn_hart(hart);
-                true
-            }
-        }
+        let Some(hart) = self.engine.next_running(self.next) else {
+            return false;
+        };
+        self.next = hart as usize + 1;
+        self.turn_hart(hart);
+        true
     }
 
     // The session is done where the input ended, no line is left and no hart runs. True where it is.
@@ -376,6 +391,7 @@ impl<W: World> Session<W> {
             alloc: _,
             world,
             engine,
+            piece: _,
             buffer: _,
             start: _,
             count: _,

@@ -8,6 +8,7 @@ ghost use Rattle.dbg_session.specs.Stage.{work_of};
 ghost use Rattle.dbg_model.specs.Lawful.{may_go};
 ghost use Rattle.dbg_session.specs.declared.steps.Turn.TheVariants as turn;
 ghost use Rattle.engine_facts.specs.Seen.{seen};
+ghost use Rattle.engine_facts.specs.Facts.{Facts};
 
 use crate::puts::put_all;
 use dbg_engine::{Engine, SPARE, Turned};
@@ -15,6 +16,9 @@ use dbg_traits::{NoMemory, Polled, World};
 use mi_input::next_line;
 use mi_reports::{break_text, interrupt_text, lefts_text, reply_text, stop_text, stream_text};
 use std::alloc::{AllocError, Global};
+
+/// The most bytes of one poll.
+pub const PIECE: usize = 4096;
 
 /// What one turn did.
 #[derive(Clone, Copy, Debug, PartialEq, Eq)]
@@ -124,19 +128,19 @@ fn has_moved(turned: Turned) -> bool
 
 /// One turn of a hart, with its lines.
 pub fn turn_once<W: World>(alloc: Global, world: &mut W, engine: &mut Engine, hart: u32) -> Turn
-    requires { hart < length engine.old.minds }
+    requires hart { hart < length engine.old.minds }
+    requires facts { Facts engine.old }
+    ensures facts { Facts engine.new }
     ensures opening { engine.new.opening ≡ engine.old.opening }
     ensures goes { Goes (stage_of engine.old) (stage_of engine.new) }
     ensures less { result ≡ turn.Moved → work_of (stage_of engine.new) < work_of (stage_of engine.old) }
     ensures turns { Turns result hart (W.told world.old) (W.told world.new) (stage_of engine.old) (stage_of engine.new) }
 {
-    engine.keep();
     if engine.reserve_journal(SPARE).is_err() {
         return Turn::NoMemory;
     }
     let pc = engine.pc(hart);
     let turned = engine.turn(hart);
-    engine.keep();
     if !has_moved(turned) {
         return Turn::Stood;
     }
@@ -158,12 +162,13 @@ pub fn line_once<W: World>(
     rest: &[u8],
     ended: bool,
 ) -> Done
-    requires { may_go engine.old.opening (seen engine.old) ≡ true }
+    requires may { may_go engine.old.opening (seen engine.old) ≡ true }
+    requires facts { Facts engine.old }
+    ensures facts { Facts engine.new }
     ensures opening { engine.new.opening ≡ engine.old.opening }
     ensures work { work_of (stage_of engine.new) ≤ work_of (stage_of engine.old) + 832 }
     ensures does { Does result ended rest.now (W.told world.old) (W.told world.new) (stage_of engine.old) (stage_of engine.new) }
 {
-    engine.keep();
     let Some((text, next)) = next_line(rest, ended) else {
         return Done::Nothing;
     };
@@ -176,7 +181,6 @@ pub fn line_once<W: World>(
     let Ok(reply) = engine.command(line) else {
         return Done::NoMemory;
     };
-    engine.keep();
     let Ok(lines) = reply_text(alloc, &reply) else {
         return Done::Unsaid(next);
     };
@@ -187,16 +191,20 @@ pub fn line_once<W: World>(
     }
 }
 
-/// One poll, into the buffer.
-pub fn input_once<W: World>(world: &mut W, buffer: &mut Vec<u8>, wait: bool) -> Input
+/// One poll, by way of the piece into the buffer.
+pub fn input_once<W: World>(
+    world: &mut W,
+    buffer: &mut Vec<u8>,
+    piece: &mut [u8; PIECE],
+    wait: bool,
+) -> Input
     requires { (W.told world.old).poll_ended ≡ false }
     ensures { Inputs result wait (W.told world.old) (W.told world.new) buffer.old.items buffer.new.items }
 {
-    let mut piece = [0u8; 4096];
-    if buffer.reserve(4096).is_err() {
+    if buffer.reserve(PIECE).is_err() {
         return Input::NoMemory;
     }
-    match world.poll(wait, &mut piece) {
+    match world.poll(wait, &mut piece[..]) {
         Polled::Took(n) => {
             let _ = buffer.extend_from_slice(&piece[..n]);
             Input::Took(n)

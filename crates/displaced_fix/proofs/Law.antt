@@ -8,7 +8,7 @@ use Rattle.rv_exec.specs.declared.effect.Cause.{Cause}
 use Rattle.rv_exec.specs.declared.effect.Cause.TheVariants.{FetchAlign}
 use Rattle.rv_exec.specs.Registers.{Registers, get, set, set_pc, plus, next}
 use Rattle.rv_exec.specs.Memory.{Memory, load, store, amo}
-use Rattle.rv_exec.specs.Step.{Done, Call, Trap, step, go, load_len, store_len, on_load, on_store, on_amo}
+use Rattle.rv_exec.specs.Step.{Done, Call, Trap, step, jump_to, load_len, store_len, on_load, on_store, on_amo}
 use Rattle.rv_exec.specs.Arithmetic.{is_taken}
 use Rattle.displaced_fix.specs.Fix.{distance, moved_register, moved_pc, fix, outcome_at_home, IsWordAddress, CopiedStepIsHome}
 
@@ -114,8 +114,8 @@ module _ (slot home : ℕ) (at_slot : IsWordAddress slot) (at_home : IsWordAddre
       let t : ℕ = plus (get r rs1) imm in
       either (Jalr rd rs1 imm) slot home ((t - t % 2) % 4 == 0) _ _ m FetchAlign (linked r rd 4 (t - t % 2))
   alike (Branch op rs1 rs2 imm) r m =
-      elim (is_taken op (get r rs1) (get r rs2)) as (λ b. outcome_at_home (Branch op rs1 rs2 imm) slot home (if b then go (plus slot imm) (set_pc r slot) m else Done (next (set_pc r slot)) m)
-      ≡ (if b then go (plus home imm) (set_pc r home) m else Done (next (set_pc r home)) m)) [
+      elim (is_taken op (get r rs1) (get r rs2)) as (λ b. outcome_at_home (Branch op rs1 rs2 imm) slot home (if b then jump_to (plus slot imm) (set_pc r slot) m else Done (next (set_pc r slot)) m)
+      ≡ (if b then jump_to (plus home imm) (set_pc r home) m else Done (next (set_pc r home)) m)) [
         | true ↦ rw (aligned_alike slot home imm at_slot.aligned at_home.aligned)
             (either (Branch op rs1 rs2 imm) slot home (plus home imm % 4 == 0) _ _ m FetchAlign (ap (set_pc r) (counted slot home imm at_slot.fits at_home.fits)))
         | false ↦ ap (λ q. Done q m) (on r)

@@ -33,37 +33,37 @@ entries_from (suc most) section at =
 unfoldable pub entries : List ℕ → Entries
 entries section = entries_from (length section) section 0
 
--- a frame description entry (FDE)
-pub record Description : Type 0 where
-  -- the place of its common entry
-  pub common : ℕ
-  pub first : ℕ
-  pub range : ℕ
+-- a frame description entry (FDE): the code that it covers, and the program of its rules
+pub record Fde : Type 0 where
+  -- the place of its CIE
+  pub cie_pointer : ℕ
+  pub initial_location : ℕ
+  pub address_range : ℕ
   pub program : List ℕ
 
--- the description that an entry is, or none for a common entry (CIE)
-unfoldable pub description_of : List ℕ → Result (Option Description) FrameFault
-description_of body = do
+-- the FDE that an entry is, or none for a common information entry (CIE)
+unfoldable pub fde_of : List ℕ → Result (Option Fde) FrameFault
+fde_of body = do
   id ← read (number_at 4 body 0)
   if id.0 == 0xFFFFFFFF then Ok None
       else (do
         first ← read (number_at 4 body id.1)
         range ← read (number_at 4 body first.1)
-        Ok (Some (record { common = id.0; first = first.0; range = range.0; program = drop range.1 body })))
+        Ok (Some (record { cie_pointer = id.0; initial_location = first.0; address_range = range.0; program = drop range.1 body })))
 
-abbrev pub covers : Description → ℕ → Bool
-covers d pc = nat_le d.first pc && nat_lt pc (d.first + d.range)
+abbrev pub covers : Fde → ℕ → Bool
+covers d pc = nat_le d.initial_location pc && nat_lt pc (d.initial_location + d.address_range)
 
-abbrev pub is_covering : ℕ → Option Description → Bool
+abbrev pub is_covering : ℕ → Option Fde → Bool
 is_covering pc None = false
 is_covering pc (Some d) = covers d pc
 
--- the first description in the section's order that covers pc
-abbrev pub covering : ℕ → Entries → Result (Option Description) FrameFault
+-- the first FDE in the section's order that covers pc
+abbrev pub covering : ℕ → Entries → Result (Option Fde) FrameFault
 covering pc Ends = Ok None
 covering pc (Breaks e) = Err e
 covering pc (Then at body rest) = do
-  d ← description_of body
+  d ← fde_of body
   if is_covering pc d then Ok d else covering pc rest
 
 -- the bytes of the entry that begins at a place
@@ -72,8 +72,8 @@ entry_of place Ends = Err Short
 entry_of place (Breaks e) = Err e
 entry_of place (Then at body rest) = if at == place then Ok body else entry_of place rest
 
--- what a common entry says
-pub record Common : Type 0 where
+-- what a common information entry (CIE) says for the FDEs that name it
+pub record Cie : Type 0 where
   pub factors : Factors
   pub return_column : ℕ
   pub program : List ℕ
@@ -104,7 +104,7 @@ return_column_at version bytes at =
     else register_at bytes at
 
 -- the fields behind the augmentation
-unfoldable pub fields_of : ℕ → List ℕ → ℕ → Result Common FrameFault
+unfoldable pub fields_of : ℕ → List ℕ → ℕ → Result Cie FrameFault
 fields_of version body at = do
   behind ← sizes_at version body at
   code ← unsigned_at body behind
@@ -113,14 +113,14 @@ fields_of version body at = do
   Ok (record { factors = record { code_alignment = code.0; data_alignment = offset.0 }; return_column = column.0; program = drop column.1 body })
 
 -- the fields behind the version
-unfoldable pub versioned_of : ℕ → List ℕ → ℕ → Result Common FrameFault
+unfoldable pub versioned_of : ℕ → List ℕ → ℕ → Result Cie FrameFault
 versioned_of version body at = do
   augmentation ← read (text_at body at)
   if nat_lt 0 (length augmentation.0) then Err Augmentation else fields_of version body augmentation.1
 
--- the common entry that an entry is
-unfoldable pub common_of : List ℕ → Result Common FrameFault
-common_of body = do
+-- the CIE that an entry is
+unfoldable pub cie_of : List ℕ → Result Cie FrameFault
+cie_of body = do
   id ← read (number_at 4 body 0)
   if id.0 == 0xFFFFFFFF then (do
     version ← read (number_at 1 body id.1)

@@ -1,4 +1,4 @@
--- Steps of reading, each of which may meet a fault: the first that is met is the answer.
+-- Steps of reading, each of which may meet a fault: the first that is met is the answer (numbers: DWARF 5, section 7.6).
 use Rattle.std.specs.Prelude.{ℕ, pos, ◌%◌, ◌^◌, List, Result, Ok, Err, nat_lt, if◌then◌else◌}
 use Rattle.std.specs.Int.{int_rem_euclid}
 use Rattle.std.specs.Int.RustNames.{unsigned_abs}

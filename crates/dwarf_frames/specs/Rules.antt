@@ -1,30 +1,29 @@
--- The rules of a place, from the bytes of a section.
+-- The rules of a place, from the bytes of a section (DWARF 5, section 6.4.3, "Call Frame Instruction Usage").
 use Rattle.std.specs.Prelude.{ℕ, List, [], Option, Some, None, Result, Ok}
 use Rattle.dwarf_frames.specs.Reading.{◌>>=◌}
 use Rattle.dwarf_frames.specs.Operations.{operations}
 use Rattle.dwarf_frames.specs.Table.{first_rules, fold_operations, operations_until}
-use Rattle.dwarf_frames.specs.Entries.{Description, Common, covering, entries, entry_of, common_of}
+use Rattle.dwarf_frames.specs.Entries.{Fde, Cie, covering, entries, entry_of, cie_of}
 use Rattle.dwarf_frames.specs.declared.fault.FrameFault.{FrameFault}
 use Rattle.dwarf_frames.specs.declared.rules.Rules.{Rules}
 
--- all operations of the common entry, in which the location doesn't move, and those of the description whose location
--- isn't above pc
-unfoldable pub rules_by : Common → Description → ℕ → Result Rules FrameFault
+-- all operations of the CIE, in which the location doesn't move, and those of the FDE whose location isn't above pc
+unfoldable pub rules_by : Cie → Fde → ℕ → Result Rules FrameFault
 rules_by c d pc = do
   s ← fold_operations (first_rules c.return_column) (record { rules = first_rules c.return_column; remembered = [] }) (operations c.factors c.program)
-  t ← fold_operations s.rules s (operations_until pc d.first (operations c.factors d.program))
+  t ← fold_operations s.rules s (operations_until pc d.initial_location (operations c.factors d.program))
   Ok t.rules
 
--- by the description and the common entry that it names
-abbrev pub described : List ℕ → ℕ → Option Description → Result (Option Rules) FrameFault
+-- by the FDE and the CIE that it names
+abbrev pub described : List ℕ → ℕ → Option Fde → Result (Option Rules) FrameFault
 described section pc None = Ok None
 described section pc (Some d) = do
-  body ← entry_of d.common (entries section)
-  c ← common_of body
+  body ← entry_of d.cie_pointer (entries section)
+  c ← cie_of body
   rules ← rules_by c d pc
   Ok (Some rules)
 
--- the rules at pc, or none where no description covers it
+-- the rules at pc, or none where no FDE covers it
 unfoldable pub rules_of : List ℕ → ℕ → Result (Option Rules) FrameFault
 rules_of section pc = do
   d ← covering pc (entries section)

@@ -55,7 +55,7 @@ recall s =
     let others = length s.remembered - 1 in
     recalled (slice_get s.remembered others) (take others s.remembered)
 
--- an operation under the rules that the common entry gives
+-- an operation under the rules that the CIE gives
 abbrev pub apply : Rules → State → Operation → Result State FrameFault
 apply initial s Nop = Ok s
 apply initial s (Advance delta) = Ok s

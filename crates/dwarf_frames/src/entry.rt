@@ -1,9 +1,9 @@
 //! The entries of a section (DWARF 5, sections 6.4.1 and 7.24).
 
 ghost use Rattle.std.specs.Prelude.{◌≡◌, ◌<◌, ◌≤◌, IfOk, length};
-ghost use Rattle.dwarf_frames.specs.Gives.{GivesBytes, GivesCommon, GivesDescription, GivesEntry, seen_description};
+ghost use Rattle.dwarf_frames.specs.Gives.{GivesBytes, GivesCie, GivesFde, GivesEntry, seen_fde};
 ghost use Rattle.leb_read.specs.Leb.{IsBehind};
-ghost use Rattle.dwarf_frames.specs.Entries.{common_of, covering, covers, is_version, description_of, entries, entry_at, entry_of, fields_of, return_column_at, size_at, sizes_at, versioned_of};
+ghost use Rattle.dwarf_frames.specs.Entries.{cie_of, covering, covers, is_version, fde_of, entries, entry_at, entry_of, fields_of, return_column_at, size_at, sizes_at, versioned_of};
 
 use crate::fault::FrameFault;
 use crate::operand::{REGISTERS, register_at, signed_at, unsigned_at};
@@ -13,24 +13,24 @@ use leb_read::{text_at, u8_at, u32_at, uleb};
 /// Lengths from this one on are reserved, or those of the format of 64 bits.
 const RESERVED: u32 = 0xFFFF_FFF0;
 
-/// In the place of a description's common entry: the entry is a common one.
-const IS_COMMON: u32 = 0xFFFF_FFFF;
+/// In the place of an FDE's pointer to its CIE: the entry is a CIE itself.
+const CIE_ID: u32 = 0xFFFF_FFFF;
 
-/// A description: the range of code that an entry covers, and the program of its table.
+/// A frame description entry (FDE): the code that it covers, and the program of its rules.
 #[derive(Clone, Copy)]
-pub struct Description<'a> {
-    /// The place of the common entry.
-    pub common: u32,
-    /// The least address.
-    pub first: u32,
-    /// How many addresses there are.
-    pub range: u32,
+pub struct Fde<'a> {
+    /// Where its CIE begins, in bytes from the start of the section.
+    pub cie_pointer: u32,
+    /// The least address that it covers.
+    pub initial_location: u32,
+    /// How many addresses it covers.
+    pub address_range: u32,
     pub program: &'a [u8],
 }
 
-/// What a common entry says for the descriptions that name it.
+/// A common information entry (CIE): what it says for the FDEs that name it.
 #[derive(Clone, Copy)]
-pub struct Common<'a> {
+pub struct Cie<'a> {
     pub factors: Factors,
     /// Below 32.
     pub return_column: u8,
@@ -51,30 +51,30 @@ fn entry_at(section: &[u8], at: usize) -> Result<(&[u8], usize), FrameFault>
     Ok((&section[start..next], next))
 }
 
-// The description that an entry is, or none for a common entry.
-#[tactic(auto, unfolding(crate::specs::Entries::description_of))]
-fn description_of(body: &[u8]) -> Result<Option<Description<'_>>, FrameFault>
-    ensures { GivesDescription result (description_of body.now) }
+// The FDE that an entry is, or none for a CIE.
+#[tactic(auto, unfolding(crate::specs::Entries::fde_of))]
+fn fde_of(body: &[u8]) -> Result<Option<Fde<'_>>, FrameFault>
+    ensures { GivesFde result (fde_of body.now) }
 {
-    let (common, at) = u32_at(body, 0)?;
-    if common == IS_COMMON {
+    let (id, at) = u32_at(body, 0)?;
+    if id == CIE_ID {
         return Ok(None);
     }
-    let (first, at) = u32_at(body, at)?;
-    let (range, at) = u32_at(body, at)?;
-    Ok(Some(Description {
-        common,
-        first,
-        range,
+    let (initial_location, at) = u32_at(body, at)?;
+    let (address_range, at) = u32_at(body, at)?;
+    Ok(Some(Fde {
+        cie_pointer: id,
+        initial_location,
+        address_range,
         program: &body[at..],
     }))
 }
 
-impl Description<'_> {
+impl Fde<'_> {
     fn covers(&self, pc: u32) -> bool
-        ensures { result ≡ covers (seen_description self.now) pc }
+        ensures { result ≡ covers (seen_fde self.now) pc }
     {
-        self.first <= pc && pc - self.first < self.range
+        self.initial_location <= pc && pc - self.initial_location < self.address_range
     }
 }
 
@@ -128,15 +128,15 @@ fn return_column_at(version: u8, bytes: &[u8], at: usize) -> Result<(u8, usize),
 
 // The fields behind the augmentation.
 #[tactic(auto, unfolding(crate::specs::Entries::fields_of))]
-fn fields_of(version: u8, body: &[u8], at: usize) -> Result<Common<'_>, FrameFault>
-    ensures value { GivesCommon result (fields_of version body.now at) }
+fn fields_of(version: u8, body: &[u8], at: usize) -> Result<Cie<'_>, FrameFault>
+    ensures value { GivesCie result (fields_of version body.now at) }
     ensures register { IfOk result (λ c. c.return_column < 32) }
 {
     let at = sizes_at(version, body, at)?;
     let (code_alignment, at) = unsigned_at(body, at)?;
     let (data_alignment, at) = signed_at(body, at)?;
     let (return_column, at) = return_column_at(version, body, at)?;
-    Ok(Common {
+    Ok(Cie {
         factors: Factors {
             code_alignment,
             data_alignment,
@@ -148,8 +148,8 @@ fn fields_of(version: u8, body: &[u8], at: usize) -> Result<Common<'_>, FrameFau
 
 // The fields behind the version.
 #[tactic(auto, unfolding(crate::specs::Entries::versioned_of))]
-fn versioned_of(version: u8, body: &[u8], at: usize) -> Result<Common<'_>, FrameFault>
-    ensures value { GivesCommon result (versioned_of version body.now at) }
+fn versioned_of(version: u8, body: &[u8], at: usize) -> Result<Cie<'_>, FrameFault>
+    ensures value { GivesCie result (versioned_of version body.now at) }
     ensures register { IfOk result (λ c. c.return_column < 32) }
 {
     let (augmentation, at) = text_at(body, at)?;
@@ -159,14 +159,14 @@ fn versioned_of(version: u8, body: &[u8], at: usize) -> Result<Common<'_>, Frame
     fields_of(version, body, at)
 }
 
-/// The common entry that an entry is.
-#[tactic(auto, unfolding(crate::specs::Entries::common_of))]
-pub fn common_of(body: &[u8]) -> Result<Common<'_>, FrameFault>
-    ensures value { GivesCommon result (common_of body.now) }
+/// The CIE that an entry is.
+#[tactic(auto, unfolding(crate::specs::Entries::cie_of))]
+pub fn cie_of(body: &[u8]) -> Result<Cie<'_>, FrameFault>
+    ensures value { GivesCie result (cie_of body.now) }
     ensures register { IfOk result (λ c. c.return_column < 32) }
 {
     let (id, at) = u32_at(body, 0)?;
-    if id != IS_COMMON {
+    if id != CIE_ID {
         return Err(FrameFault::Short);
     }
     let (version, at) = u8_at(body, at)?;
@@ -176,16 +176,16 @@ pub fn common_of(body: &[u8]) -> Result<Common<'_>, FrameFault>
     versioned_of(version, body, at)
 }
 
-/// The first description in the section's order that covers pc.
-pub fn covering(section: &[u8], pc: u32) -> Result<Option<Description<'_>>, FrameFault>
-    ensures { GivesDescription result (covering pc (entries section.now)) }
+/// The first FDE in the section's order that covers pc.
+pub fn covering(section: &[u8], pc: u32) -> Result<Option<Fde<'_>>, FrameFault>
+    ensures { GivesFde result (covering pc (entries section.now)) }
 {
     let mut at = 0;
     while at < section.len() {
         let (body, next) = entry_at(section, at)?;
-        if let Some(description) = description_of(body)? {
-            if description.covers(pc) {
-                return Ok(Some(description));
+        if let Some(fde) = fde_of(body)? {
+            if fde.covers(pc) {
+                return Ok(Some(fde));
             }
         }
         at = next;

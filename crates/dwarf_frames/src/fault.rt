@@ -9,7 +9,7 @@ use thiserror::Error;
 /// What is wrong with a section. Of several faults the first that is met in reading is told.
 #[derive(Clone, Copy, Debug, PartialEq, Eq, Error)]
 pub enum FrameFault {
-    /// The bytes end too early, or an entry names a common entry that isn't there.
+    /// The bytes end too early, or an FDE names a CIE that isn't there.
     #[error("the bytes end too early")]
     Short,
     /// A version other than 1, 3 and 4, or sizes other than those of addresses of 32 bits.

@@ -10,7 +10,7 @@ use crate::operand::{REGISTERS, register_at, scaled, signed_at, unsigned_at};
 use crate::rules::{CfaRule, RegisterRule};
 use leb_read::{u8_at, u16_at, u32_at, uleb};
 
-/// What a common entry's numbers are multiplied by.
+/// What the numbers of a CIE's and an FDE's program are multiplied by.
 #[derive(Clone, Copy)]
 pub struct Factors {
     /// For advances of the location, modulo 2^32.
@@ -29,7 +29,7 @@ pub enum Operation {
     SetLocation(u32),
     /// A register gets a rule.
     SetRule(u64, RegisterRule),
-    /// A register gets the rule that the common entry gives it.
+    /// A register gets the rule that the CIE gives it.
     Restore(u64),
     RememberState,
     RestoreState,

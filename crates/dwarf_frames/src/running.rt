@@ -1,14 +1,14 @@
 //! The program of a table, run up to a place in the code.
 
 ghost use Rattle.std.specs.Prelude.{◌≡◌, ◌<◌, IfOk};
-ghost use Rattle.dwarf_frames.specs.Gives.{seen_common, seen_description};
+ghost use Rattle.dwarf_frames.specs.Gives.{seen_cie, seen_fde};
 ghost use Rattle.dwarf_frames.specs.Operations.{operations};
 ghost use Rattle.dwarf_frames.specs.Rules.{rules_by};
 ghost use Rattle.dwarf_frames.specs.States.{AreAllWithin, Leaves, seen};
 ghost use Rattle.dwarf_frames.specs.Table.{fold_operations, operations_until};
 ghost use Rattle.dwarf_frames.specs.Within.{AreWithin};
 
-use crate::entry::{Common, Description};
+use crate::entry::{Cie, Fde};
 use crate::fault::FrameFault;
 use crate::operation::{Factors, operation_at};
 use crate::rules::Rules;
@@ -60,27 +60,23 @@ fn run_until(
     Ok(())
 }
 
-/// The rules at pc of a description and its common entry.
+/// The rules at pc of an FDE and its CIE.
 #[tactic(auto, unfolding(crate::specs::Rules::rules_by))]
-pub fn rules_by(
-    common: &Common<'_>,
-    description: &Description<'_>,
-    pc: u32,
-) -> Result<Rules, FrameFault>
-    requires { common.now.return_column < 32 }
-    ensures value { result ≡ rules_by (seen_common common.now) (seen_description description.now) pc }
+pub fn rules_by(cie: &Cie<'_>, fde: &Fde<'_>, pc: u32) -> Result<Rules, FrameFault>
+    requires { cie.now.return_column < 32 }
+    ensures value { result ≡ rules_by (seen_cie cie.now) (seen_fde fde.now) pc }
     ensures within { IfOk result AreWithin }
 {
-    let first = Rules::new(common.return_column);
+    let first = Rules::new(cie.return_column);
     let mut state = State::new(first);
-    run(&first, common.factors, common.program, &mut state)?;
+    run(&first, cie.factors, cie.program, &mut state)?;
     let restored = state.rules;
     run_until(
         pc,
-        description.first,
+        fde.initial_location,
         &restored,
-        common.factors,
-        description.program,
+        cie.factors,
+        fde.program,
         &mut state,
     )?;
     Ok(state.rules)

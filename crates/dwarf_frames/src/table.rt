@@ -83,7 +83,7 @@ fn recall(state: &mut State) -> Result<(), FrameFault>
     Ok(())
 }
 
-/// One operation, under the rules that the common entry gives.
+/// One operation, under the rules that the CIE gives.
 pub fn apply(initial: &Rules, state: &mut State, operation: Operation) -> Result<(), FrameFault>
     requires initial { AreWithin initial.now }
     requires state { AreAllWithin (seen state.old) }

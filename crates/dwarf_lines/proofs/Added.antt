@@ -3,17 +3,18 @@ use Rattle.std.proofs.Common.{◌≡◌, ℕ, zero, suc, ◌-◌, ◌<◌, Bool,
 use Rattle.std.specs.Prelude.{slice_get, slice_set, nat_lt, ◌==◌, if◌then◌else◌}
 use Rattle.std.specs.List.{slice_index_or}
 use Rattle.std.proofs.lemmas.Bool.Decides.{nat_tests}
-use Rattle.line_rows.specs.RowList.{RowList}
+use Rattle.line_rows.specs.RowList.{Building}
+use Rattle.line_rows.specs.Sections.{Sections}
 use Rattle.line_rows.specs.declared.row.Row.{Row}
-use Rattle.dwarf_lines.specs.Adding.{Adds, AreKept, FindsNumber, named, remembered}
+use Rattle.dwarf_lines.specs.Adding.{Adds, AreKept, FindsNumber, add_row, named, remembered}
 use Rattle.file_names.specs.Numbers.{is_known, number_of, place_of, with_name}
 use Rattle.dwarf_lines.specs.declared.numbers.NameNumbers.{NameNumbers}
-use Rattle.dwarf_lines.specs.Numbers.{UnitRows, add_row, file_name}
+use Rattle.dwarf_lines.specs.Numbers.{UnitRows, file_name}
 use Rattle.file_names.proofs.Known.{first_of, known_name, known_push, last_by, new_push}
 use Rattle.dwarf_lines.specs.Numbering.{AreKnown, IsNumbered}
 
 -- what was remembered holds with one name more
-known_by : (names : List (List ℕ)) (q name : List ℕ) (n : ℕ) (b : Bool) → is_known names name ≡ b → place_of names q ≡ Some n → place_of (if b then names else names ++ name ∷ []) q ≡ Some n
+pub known_by : (names : List (List ℕ)) (q name : List ℕ) (n : ℕ) (b : Bool) → is_known names name ≡ b → place_of names q ≡ Some n → place_of (if b then names else names ++ name ∷ []) q ≡ Some n
 known_by names q name n true e h = h
 known_by names q name n false e h = known_push names q name n h
 
@@ -21,14 +22,14 @@ still_known : (files : List (List ℕ)) (known : List (Option ℕ)) (names : Lis
 still_known files known names name h k n there = known_by names (slice_index_or files k []) name n (is_known names name) refl (h k n there)
 
 -- a numbered name stands at its number
-place_by : (names : List (List ℕ)) (name : List ℕ) (b : Bool) → is_known names name ≡ b → place_of (if b then names else names ++ name ∷ []) name ≡ Some (number_of names name)
+pub place_by : (names : List (List ℕ)) (name : List ℕ) (b : Bool) → is_known names name ≡ b → place_of (if b then names else names ++ name ∷ []) name ≡ Some (number_of names name)
 place_by names name true e = rw e refl
 place_by names name false e =
     let absent : place_of names name ≡ None = rw e refl in
     new_push names name absent ∙ ap (λ (k : ℕ). Some k) (sym (last_by _ _ (first_of names name) e))
 
-numbered_place : (line_str strs : List ℕ) (old new : NameNumbers) (name : List ℕ) (n : ℕ) → IsNumbered line_str strs old new name n → place_of new.names.names name ≡ Some n
-numbered_place line_str strs old new name n h =
+numbered_place : (s : Sections) (old new : NameNumbers) (name : List ℕ) (n : ℕ) → IsNumbered s old new name n → place_of new.names.names name ≡ Some n
+numbered_place s old new name n h =
     ap (λ (l : List (List ℕ)). place_of l name) h.names ∙ place_by old.names.names name (is_known old.names.names name) refl ∙ ap (λ (k : ℕ). Some k) (sym h.is)
 
 get_here : {X : Type 0} (xs : List X) (k : ℕ) (d : X) → k < length xs → slice_get xs k ≡ Some (get_or xs k d)
@@ -65,10 +66,10 @@ remembered_by files known names k n h here true within =
 remembered_by files known names k n h here false past = h
 
 -- a file whose number is remembered
-pub found_known : (line_str strs : List ℕ) (unit : UnitRows) (file k : ℕ) (known : List (Option ℕ)) (numbers : NameNumbers) (n : ℕ)
-    → AreKept line_str strs unit.names known numbers → k ≡ file - unit.first → slice_get known k ≡ Some (Some n)
-    → FindsNumber line_str strs unit file numbers numbers known n
-found_known line_str strs unit file k known numbers n kept is there =
+pub found_known : (s : Sections) (unit : UnitRows) (file k : ℕ) (known : List (Option ℕ)) (numbers : NameNumbers) (n : ℕ)
+    → AreKept s unit known numbers → k ≡ file - unit.first → slice_get known k ≡ Some (Some n)
+    → FindsNumber s unit file numbers numbers known n
+found_known s unit file k known numbers n kept is there =
     let here : place_of numbers.names.names (file_name unit file) ≡ Some n = subst (λ (i : ℕ). place_of numbers.names.names (slice_index_or unit.names i []) ≡ Some n) is (kept.files_known k n there) in
     let f = known_name numbers.names.names (file_name unit file) n here in
     record {
@@ -77,27 +78,27 @@ found_known line_str strs unit file k known numbers n kept is there =
     }
 
 -- a file whose number is found by its name
-pub found_new : (line_str strs : List ℕ) (unit : UnitRows) (file k : ℕ) (known after : List (Option ℕ)) (old new : NameNumbers) (n : ℕ)
-    → AreKept line_str strs unit.names known old → k ≡ file - unit.first
-    → IsNumbered line_str strs old new (slice_index_or unit.names k []) n → after ≡ remembered known k n
-    → FindsNumber line_str strs unit file old new after n
-found_new line_str strs unit file k known after old new n kept is numbered kept_at =
-    let here : place_of new.names.names (slice_index_or unit.names k []) ≡ Some n = numbered_place line_str strs old new (slice_index_or unit.names k []) n numbered in
+pub found_new : (s : Sections) (unit : UnitRows) (file k : ℕ) (known after : List (Option ℕ)) (old new : NameNumbers) (n : ℕ)
+    → AreKept s unit known old → k ≡ file - unit.first
+    → IsNumbered s old new (slice_index_or unit.names k []) n → after ≡ remembered known k n
+    → FindsNumber s unit file old new after n
+found_new s unit file k known after old new n kept is numbered kept_at =
+    let here : place_of new.names.names (slice_index_or unit.names k []) ≡ Some n = numbered_place s old new (slice_index_or unit.names k []) n numbered in
     let stay : AreKnown unit.names known new.names.names =
     subst (λ (l : List (List ℕ)). AreKnown unit.names known l) (sym numbered.names) (still_known unit.names known old.names.names (slice_index_or unit.names k []) kept.files_known) in
     record {
-      numbered = subst (λ (i : ℕ). IsNumbered line_str strs old new (slice_index_or unit.names i []) n) is numbered;
+      numbered = subst (λ (i : ℕ). IsNumbered s old new (slice_index_or unit.names i []) n) is numbered;
       files_known = subst (λ (l : List (Option ℕ)). AreKnown unit.names l new.names.names) (sym kept_at) (remembered_by unit.names known new.names.names k n stay here (nat_lt k (length known)) refl);
     }
 
 -- a row more, with its number
-pub row_added : (line_str strs : List ℕ) (unit : UnitRows) (known : List (Option ℕ)) (before numbers : NameNumbers) (old new : RowList) (row : Row) (n : ℕ)
-    → FindsNumber line_str strs unit row.file before numbers known n
+pub row_added : (s : Sections) (unit : UnitRows) (known : List (Option ℕ)) (before numbers : NameNumbers) (old new : Building) (row : Row) (n : ℕ)
+    → FindsNumber s unit row.file before numbers known n
     → new ≡ record old { pending = old.pending ++ record row { file = n } ∷ [] }
-    → Adds (add_row unit (named old before) row) line_str strs unit.names known numbers new
-row_added line_str strs unit known before numbers old new row n found pushed =
+    → Adds (add_row unit (named old before) row) s unit known numbers new
+row_added s unit known before numbers old new row n found pushed =
     let same : named new numbers ≡ add_row unit (named old before) row =
-    ap (λ (r : RowList). named r numbers) pushed
+    ap (λ (r : Building). named r numbers) pushed
     ∙ ap (λ (k : ℕ). record old { names = numbers.names.names; pending = old.pending ++ record row { file = k } ∷ [] }) found.numbered.is
     ∙ ap (λ (l : List (List ℕ)). record old { names = l; pending = old.pending ++ record row { file = number_of before.names.names (file_name unit row.file) } ∷ [] }) found.numbered.names in
     record {

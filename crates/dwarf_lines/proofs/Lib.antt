@@ -3,3 +3,4 @@ pub mod Known
 pub mod Programs
 pub mod Added
 pub mod Sections
+pub mod Declared

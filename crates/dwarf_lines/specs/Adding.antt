@@ -1,62 +1,93 @@
--- What the steps of the reading give.
-use Rattle.std.specs.Prelude.{◌≡◌, ℕ, List, [], ◌++◌, length, map, nat_lt, slice_set, Option, Some, Result, Ok, Err, if◌then◌else◌}
-use Rattle.line_headers.specs.declared.fault.HeaderError.{HeaderError}
-use Rattle.line_headers.specs.declared.fault.HeaderError.TheVariants as error
-use Rattle.line_rows.specs.RowList.{RowList, Sequence}
+-- The rows of the units one after another, as they are added, and what the steps of that give.
+use Rattle.std.specs.Prelude.{◌≡◌, ⊤, ℕ, List, [], ◌∷◌, ◌++◌, length, map, fold, nat_lt, slice_set, Option, Some, Result, Ok, Err, if◌then◌else◌}
+use Rattle.line_rows.specs.RowList.{Building, Sequence, ended_with, nothing_built}
+use Rattle.line_rows.specs.Sections.{Sections, sections_shown}
+use Rattle.line_rows.specs.declared.row.Row.{Row}
 use Rattle.line_rows.specs.declared.fault.LineFault.{LineFault}
+use Rattle.line_rows.specs.declared.fault.LineError.{LineError}
+use Rattle.line_rows.specs.declared.fault.LineError.TheVariants as error
+use Rattle.line_rows.specs.declared.line_sections.LineSections.{LineSections}
+use Rattle.file_names.specs.Numbers.{number_of, with_name}
 use Rattle.dwarf_lines.specs.Names.{name_in}
 use Rattle.dwarf_lines.specs.Numbers.{UnitRows, file_name}
 use Rattle.dwarf_lines.specs.Numbering.{AreKnown, AreNumbers, IsNumbered}
+use Rattle.dwarf_lines.specs.Rows.{unit_of}
+use Rattle.dwarf_lines.specs.Units.{Unit, units_of}
 use Rattle.dwarf_lines.specs.declared.numbers.NameNumbers.{NameNumbers}
 use Rattle.dwarf_lines.specs.declared.unit.UnitFound.{UnitFound}
 
--- the rows of a program, or the fault; want of memory may come
-abbrev pub GivesProgram : Result RowList HeaderError → Result RowList LineFault → Type 0
-GivesProgram (Ok rows) want = want ≡ Ok rows
-GivesProgram (Err (error.Fault fault)) want = want ≡ Err fault
-GivesProgram (Err error.Memory) want = Unit {0}
+-- a row more, whose file is the number of its name so far
+abbrev pub add_row : UnitRows → Building → Row → Building
+add_row unit rows row =
+    record rows {
+      names = with_name rows.names (file_name unit row.file);
+      pending = rows.pending ++ record row { file = number_of rows.names (file_name unit row.file) } ∷ [];
+    }
 
-abbrev pub shown : List ℕ → List ℕ → List ℕ → UnitFound → UnitRows
-shown bytes line_str strs unit =
+abbrev pub end_sequence : ℕ → Building → Building
+end_sequence end rows = record rows { sequences = ended_with rows.sequences rows.pending end; pending = [] }
+
+abbrev pub add_sequence : UnitRows → Building → Sequence → Building
+add_sequence unit rows sequence = end_sequence sequence.end (fold (add_row unit) rows sequence.rows)
+
+unfoldable pub add_unit : UnitRows → Building → Building
+add_unit unit rows = fold (add_sequence unit) rows unit.sequences
+
+abbrev pub add_result : ℕ → Building → Result UnitRows LineFault → Building
+add_result place rows (Ok unit) = add_unit unit rows
+add_result place rows (Err e) = record rows { faults = rows.faults ++ record { offset = place; fault = e } ∷ [] }
+
+abbrev pub add_unit_of : Sections → Building → Unit → Building
+add_unit_of s rows unit = add_result unit.place rows (unit_of s unit)
+
+-- all units; `rows_of` says the same of them at once
+unfoldable pub added : Sections → Building
+added s = fold (add_unit_of s) nothing_built (units_of s.line)
+
+abbrev pub shown : Sections → UnitFound → UnitRows
+shown s unit =
     record {
-      names = map (name_in bytes line_str strs) unit.files.items ++ unit.rows.names;
+      names = map (name_in s) unit.files.items ++ unit.rows.names;
       first = unit.first_file;
       sequences = unit.rows.sequences;
     }
 
+abbrev pub shown_in : LineSections → UnitFound → UnitRows
+shown_in sections unit = shown (sections_shown sections) unit
+
 -- what a unit gives, or the fault; want of memory may come
-abbrev pub GivesUnit : List ℕ → List ℕ → List ℕ → Result UnitFound HeaderError → Result UnitRows LineFault → Type 0
-GivesUnit bytes line_str strs (Ok unit) want = want ≡ Ok (shown bytes line_str strs unit)
-GivesUnit bytes line_str strs (Err (error.Fault fault)) want = want ≡ Err fault
-GivesUnit bytes line_str strs (Err error.Memory) want = Unit {0}
+abbrev pub GivesUnit : Sections → Result UnitFound LineError → Result UnitRows LineFault → Type 0
+GivesUnit s (Ok unit) want = want ≡ Ok (shown s unit)
+GivesUnit s (Err (error.Fault fault)) want = want ≡ Err fault
+GivesUnit s (Err error.NoMemory) want = ⊤
 
 -- the rows with the names that their files are numbers of
-abbrev pub named : RowList → NameNumbers → RowList
+abbrev pub named : Building → NameNumbers → Building
 named rows numbers = record rows { names = numbers.names.names }
 
 -- the numbers of names are those of the list, and of a unit's files some are remembered
-pub record AreKept (line_str strs : List ℕ) (files : List (List ℕ)) (known : List (Option ℕ)) (numbers : NameNumbers) : Type 0 where
-  pub table : AreNumbers line_str strs numbers
-  pub files_known : AreKnown files known numbers.names.names
+pub record AreKept (s : Sections) (unit : UnitRows) (known : List (Option ℕ)) (numbers : NameNumbers) : Type 0 where
+  pub table : AreNumbers s numbers
+  pub files_known : AreKnown unit.names known numbers.names.names
 
 -- some rows more, and the numbers that go with them
-pub record Adds (want : RowList) (line_str strs : List ℕ) (files : List (List ℕ)) (known : List (Option ℕ)) (numbers : NameNumbers) (rows : RowList) : Type 0 where
+pub record Adds (want : Building) (s : Sections) (unit : UnitRows) (known : List (Option ℕ)) (numbers : NameNumbers) (rows : Building) : Type 0 where
   pub same : named rows numbers ≡ want
-  pub kept : AreKept line_str strs files known numbers
+  pub kept : AreKept s unit known numbers
 
 -- the number of a file at its place, where there is room
 abbrev pub remembered : List (Option ℕ) → ℕ → ℕ → List (Option ℕ)
 remembered known k number = if nat_lt k (length known) then slice_set known k (Some number) else known
 
 -- the number of a file, and what goes with it
-pub record FindsNumber (line_str strs : List ℕ) (unit : UnitRows) (file : ℕ) (old new : NameNumbers) (known : List (Option ℕ)) (number : ℕ) : Type 0 where
-  pub numbered : IsNumbered line_str strs old new (file_name unit file) number
+pub record FindsNumber (s : Sections) (unit : UnitRows) (file : ℕ) (old new : NameNumbers) (known : List (Option ℕ)) (number : ℕ) : Type 0 where
+  pub numbered : IsNumbered s old new (file_name unit file) number
   pub files_known : AreKnown unit.names known new.names.names
 
 abbrev pub no_sequence : Sequence
 no_sequence = record { rows = []; end = 0 }
 
 -- what a unit gives is added
-pub record AddsUnit (want : RowList) (line_str strs : List ℕ) (numbers : NameNumbers) (rows : RowList) : Type 0 where
+pub record AddsUnit (want : Building) (s : Sections) (numbers : NameNumbers) (rows : Building) : Type 0 where
   pub same : named rows numbers ≡ want
-  pub table : AreNumbers line_str strs numbers
+  pub table : AreNumbers s numbers

@@ -1,18 +1,18 @@
-//! The rows of a unit, added to those of the units before.
+//! The rows of a unit, added to those of the units before. Of the sections `.debug_line` is the front up to the unit's end.
 
 ghost use Rattle.std.specs.Prelude.{◌≡◌, ◌+◌, ◌-◌, ◌<◌, ◌≤◌, ◌++◌, [], IfOk, OnOk, length, map, fold, slice_get, Some};
 ghost use Rattle.std.specs.List.{slice_index_or};
-ghost use Rattle.dwarf_lines.specs.Adding.{Adds, AddsUnit, AreKept, FindsNumber, named, no_sequence, remembered, shown};
+ghost use Rattle.line_rows.specs.Sections.{sections_shown};
 ghost use Rattle.line_headers.specs.Texts.{texts_before};
+ghost use Rattle.dwarf_lines.specs.Adding.{Adds, AddsUnit, AreKept, FindsNumber, add_result, add_row, add_sequence, add_unit, named, no_sequence, remembered, shown_in};
 ghost use Rattle.dwarf_lines.specs.Numbering.{AreNumbers};
-ghost use Rattle.dwarf_lines.specs.Rows.{add_result, rows_in};
-ghost use Rattle.dwarf_lines.specs.Numbers.{add_row, add_sequence, add_unit};
+ghost use Rattle.dwarf_lines.specs.Rows.{rows_in};
 
 use crate::numbers::{NameNumbers, number_of_file};
 use crate::unit::{UnitFound, read_unit};
 use dbg_traits::NoMemory;
-use line_headers::{HeaderError, TextEnds};
-use line_rows::{Row, Rows, UnitFault};
+use line_headers::TextEnds;
+use line_rows::{LineError, LineSections, Row, RowsBuilder, UnitFault};
 use std::alloc::Global;
 
 // Remembers the number of a file that is in the table.
@@ -28,31 +28,20 @@ fn remember(known: &mut [Option<u32>], k: usize, number: u32)
 #[tactic(auto, using(crate::proofs::Added::found_known, crate::proofs::Added::found_new))]
 fn file_number(
     alloc: Global,
-    line: &[u8],
-    line_str: &[u8],
-    strs: &[u8],
+    sections: &LineSections<'_>,
     unit: &UnitFound,
     file: u32,
     known: &mut [Option<u32>],
     numbers: &mut NameNumbers,
 ) -> Result<u32, NoMemory>
-    requires { AreKept line_str.now strs.now (shown line.now line_str.now strs.now unit.now).names known.old numbers.old }
-    ensures { IfOk result (FindsNumber line_str.now strs.now (shown line.now line_str.now strs.now unit.now) file numbers.old numbers.new known.new) }
+    requires { AreKept (sections_shown sections.now) (shown_in sections.now unit.now) known.old numbers.old }
+    ensures { IfOk result (FindsNumber (sections_shown sections.now) (shown_in sections.now unit.now) file numbers.old numbers.new known.new) }
 {
     let k = file.saturating_sub(unit.first_file) as usize;
     if let Some(Some(number)) = known.get(k) {
         return Ok(*number);
     }
-    let number = number_of_file(
-        alloc,
-        line,
-        line_str,
-        strs,
-        &unit.files,
-        &unit.rows,
-        k,
-        numbers,
-    )?;
+    let number = number_of_file(alloc, sections, &unit.files, &unit.rows, k, numbers)?;
     remember(known, k, number);
     Ok(number)
 }
@@ -61,89 +50,77 @@ fn file_number(
 #[tactic(auto, using(crate::proofs::Added::row_added))]
 fn add_row(
     alloc: Global,
-    line: &[u8],
-    line_str: &[u8],
-    strs: &[u8],
+    sections: &LineSections<'_>,
     unit: &UnitFound,
     row: Row,
     known: &mut [Option<u32>],
     numbers: &mut NameNumbers,
-    rows: &mut Rows,
+    rows: &mut RowsBuilder,
 ) -> Result<(), NoMemory>
-    requires { AreKept line_str.now strs.now (shown line.now line_str.now strs.now unit.now).names known.old numbers.old }
-    ensures { OnOk result (Adds (add_row (shown line.now line_str.now strs.now unit.now) (named rows.old numbers.old) row) line_str.now strs.now (shown line.now line_str.now strs.now unit.now).names known.new numbers.new rows.new) }
+    requires { AreKept (sections_shown sections.now) (shown_in sections.now unit.now) known.old numbers.old }
+    ensures { OnOk result (Adds (add_row (shown_in sections.now unit.now) (named rows.old numbers.old) row) (sections_shown sections.now) (shown_in sections.now unit.now) known.new numbers.new rows.new) }
 {
-    let file = file_number(alloc, line, line_str, strs, unit, row.file, known, numbers)?;
+    let file = file_number(alloc, sections, unit, row.file, known, numbers)?;
     rows.push_row(Row { file, ..row })
 }
 
 // Adds a sequence by its number in the unit.
 fn add_sequence(
     alloc: Global,
-    line: &[u8],
-    line_str: &[u8],
-    strs: &[u8],
+    sections: &LineSections<'_>,
     unit: &UnitFound,
     k: usize,
     known: &mut [Option<u32>],
     numbers: &mut NameNumbers,
-    rows: &mut Rows,
+    rows: &mut RowsBuilder,
 ) -> Result<(), NoMemory>
     requires within { k < length unit.now.rows.sequences }
-    requires kept { AreKept line_str.now strs.now (shown line.now line_str.now strs.now unit.now).names known.old numbers.old }
-    ensures { OnOk result (Adds (add_sequence (shown line.now line_str.now strs.now unit.now) (named rows.old numbers.old) (slice_index_or unit.now.rows.sequences k no_sequence)) line_str.now strs.now (shown line.now line_str.now strs.now unit.now).names known.new numbers.new rows.new) }
+    requires kept { AreKept (sections_shown sections.now) (shown_in sections.now unit.now) known.old numbers.old }
+    ensures { OnOk result (Adds (add_sequence (shown_in sections.now unit.now) (named rows.old numbers.old) (slice_index_or unit.now.rows.sequences k no_sequence)) (sections_shown sections.now) (shown_in sections.now unit.now) known.new numbers.new rows.new) }
 {
     let sequence = unit.rows.sequence(k);
     for row in sequence.rows {
-        add_row(
-            alloc, line, line_str, strs, unit, *row, known, numbers, rows,
-        )?;
+        add_row(alloc, sections, unit, *row, known, numbers, rows)?;
     }
     rows.end_sequence(sequence.end)
 }
 
-/// Adds what a unit gives.
-#[tactic(auto, unfolding(crate::specs::Numbers::add_unit))]
+// Adds what a unit gives.
+#[tactic(auto, unfolding(crate::specs::Adding::add_unit))]
 fn add_unit(
     alloc: Global,
-    line: &[u8],
-    line_str: &[u8],
-    strs: &[u8],
+    sections: &LineSections<'_>,
     unit: &UnitFound,
     numbers: &mut NameNumbers,
-    rows: &mut Rows,
+    rows: &mut RowsBuilder,
 ) -> Result<(), NoMemory>
-    requires { AreNumbers line_str.now strs.now numbers.old }
-    ensures { OnOk result (AddsUnit (add_unit (shown line.now line_str.now strs.now unit.now) (named rows.old numbers.old)) line_str.now strs.now numbers.new rows.new) }
+    requires { AreNumbers (sections_shown sections.now) numbers.old }
+    ensures { OnOk result (AddsUnit (add_unit (shown_in sections.now unit.now) (named rows.old numbers.old)) (sections_shown sections.now) numbers.new rows.new) }
 {
     let count = unit.files.len().saturating_add(unit.rows.name_count());
     let mut known = vec![in alloc; None; count]?;
     for k in 0..unit.rows.sequence_count() {
-        add_sequence(
-            alloc, line, line_str, strs, unit, k, &mut known, numbers, rows,
-        )?;
+        add_sequence(alloc, sections, unit, k, &mut known, numbers, rows)?;
     }
     Ok(())
 }
 
-/// Adds what the unit at a place gives by the section's bytes up to its end, or its fault.
+/// Adds what the unit at a place gives, or its fault.
 pub fn add_at(
     alloc: Global,
-    bytes: &[u8],
+    sections: &LineSections<'_>,
     at: usize,
-    line_str: &[u8],
-    strs: &[u8],
     ends: TextEnds,
     numbers: &mut NameNumbers,
-    rows: &mut Rows,
+    rows: &mut RowsBuilder,
 ) -> Result<(), NoMemory>
-    requires within { at + 4 ≤ length bytes.now }
-    requires numbers { AreNumbers line_str.now strs.now numbers.old }
-    ensures { OnOk result (AddsUnit (add_result at (named rows.old numbers.old) (rows_in (texts_before ends) bytes.now line_str.now strs.now (at + 4))) line_str.now strs.now numbers.new rows.new) }
+    requires within { at + 4 ≤ length sections.now.line.now }
+    requires numbers { AreNumbers (sections_shown sections.now) numbers.old }
+    ensures { OnOk result (AddsUnit (add_result at (named rows.old numbers.old) (rows_in (texts_before ends) (sections_shown sections.now) (at + 4))) (sections_shown sections.now) numbers.new rows.new) }
 {
-    match read_unit(alloc, bytes, at + 4, line_str, strs, ends) {
-        Ok(unit) => add_unit(alloc, bytes, line_str, strs, &unit, numbers, rows),
-        Err(HeaderError::Fault(fault)) => rows.push_fault(UnitFault { offset: at, fault }),
-        Err(HeaderError::Memory) => Err(NoMemory),
+    match read_unit(alloc, sections, at + 4, ends) {
+        Ok(unit) => add_unit(alloc, sections, &unit, numbers, rows),
+        Err(LineError::Fault(fault)) => rows.push_fault(UnitFault { offset: at, fault }),
+        Err(LineError::NoMemory) => Err(NoMemory),
     }
 }

@@ -2,6 +2,7 @@
 
 ghost use Rattle.std.specs.Prelude.{◌≡◌, ◌++◌, [], IfOk, map};
 ghost use Rattle.std.specs.List.{slice_index_or};
+ghost use Rattle.line_rows.specs.Sections.{sections_shown};
 ghost use Rattle.dwarf_lines.specs.Names.{name_in};
 ghost use Rattle.dwarf_lines.specs.Numbering.{AreNumbers, IsNumbered};
 
@@ -9,7 +10,7 @@ use crate::files::{defined_name, text_from};
 use dbg_traits::NoMemory;
 use file_names::{Classes, SectionTexts, number_in, number_of};
 use line_headers::NamePlace;
-use line_rows::{FileNames, Rows};
+use line_rows::{FileNames, LineSections, Rows};
 use std::alloc::Global;
 
 /// The names that rows have, and what their numbers are found by.
@@ -23,8 +24,8 @@ pub struct NameNumbers {
 
 /// No names yet.
 #[tactic(auto, using(crate::proofs::Known::none_numbered))]
-pub fn no_numbers(alloc: Global, line_str: &[u8], strs: &[u8]) -> Result<NameNumbers, NoMemory>
-    ensures table { IfOk result (λ numbers. AreNumbers line_str.now strs.now numbers) }
+pub fn no_numbers(alloc: Global, sections: &LineSections<'_>) -> Result<NameNumbers, NoMemory>
+    ensures table { IfOk result (λ numbers. AreNumbers (sections_shown sections.now) numbers) }
     ensures names { IfOk result (λ numbers. numbers.names.names ≡ []) }
 {
     Ok(NameNumbers {
@@ -38,28 +39,26 @@ pub fn no_numbers(alloc: Global, line_str: &[u8], strs: &[u8]) -> Result<NameNum
 // The number of the name at a place.
 fn number_at(
     alloc: Global,
-    line: &[u8],
-    line_str: &[u8],
-    strs: &[u8],
+    sections: &LineSections<'_>,
     place: NamePlace,
     numbers: &mut NameNumbers,
 ) -> Result<u32, NoMemory>
-    requires { AreNumbers line_str.now strs.now numbers.old }
-    ensures { IfOk result (λ n. IsNumbered line_str.now strs.now numbers.old numbers.new (name_in line.now line_str.now strs.now place) n) }
+    requires { AreNumbers (sections_shown sections.now) numbers.old }
+    ensures { IfOk result (λ n. IsNumbered (sections_shown sections.now) numbers.old numbers.new (name_in (sections_shown sections.now) place) n) }
 {
     match place {
         NamePlace::Empty => number_of(&mut numbers.classes, &mut numbers.names, &[]),
         NamePlace::Line(at) => number_of(
             &mut numbers.classes,
             &mut numbers.names,
-            text_from(line, at),
+            text_from(sections.line, at),
         ),
         NamePlace::LineStr(at) => number_in(
             alloc,
             &mut numbers.classes,
             &mut numbers.names,
             &mut numbers.line_str,
-            line_str,
+            sections.line_str,
             at,
         ),
         NamePlace::Str(at) => number_in(
@@ -67,7 +66,7 @@ fn number_at(
             &mut numbers.classes,
             &mut numbers.names,
             &mut numbers.strs,
-            strs,
+            sections.strs,
             at,
         ),
     }
@@ -78,19 +77,17 @@ fn number_at(
 #[tactic(auto, using(crate::proofs::Known::header_name))]
 pub fn number_of_file(
     alloc: Global,
-    line: &[u8],
-    line_str: &[u8],
-    strs: &[u8],
+    sections: &LineSections<'_>,
     files: &[NamePlace],
     defined: &Rows,
     k: usize,
     numbers: &mut NameNumbers,
 ) -> Result<u32, NoMemory>
-    requires { AreNumbers line_str.now strs.now numbers.old }
-    ensures { IfOk result (λ n. IsNumbered line_str.now strs.now numbers.old numbers.new (slice_index_or (map (name_in line.now line_str.now strs.now) files.now ++ defined.now.names) k []) n) }
+    requires { AreNumbers (sections_shown sections.now) numbers.old }
+    ensures { IfOk result (λ n. IsNumbered (sections_shown sections.now) numbers.old numbers.new (slice_index_or (map (name_in (sections_shown sections.now)) files.now ++ defined.now.names) k []) n) }
 {
     if k < files.len() {
-        return number_at(alloc, line, line_str, strs, files[k], numbers);
+        return number_at(alloc, sections, files[k], numbers);
     }
     let name = defined_name(defined, k - files.len());
     number_of(&mut numbers.classes, &mut numbers.names, name)

@@ -1,48 +1,55 @@
-ghost use Rattle.std.specs.Prelude.{◌≡◌, IfOk};
-ghost use Rattle.dwarf_lines.specs.Rows.{rows_of};
+ghost use Rattle.std.specs.Prelude.{◌≡◌, ◌≤◌, IfOk, length};
+ghost use Rattle.line_rows.specs.Sections.{sections_shown};
+ghost use Rattle.dwarf_lines.specs.Rows.{rows_of, up_to};
 
 use crate::adding::add_at;
 use crate::numbers::no_numbers;
 use crate::units::unit_end;
 use dbg_traits::NoMemory;
 use line_headers::text_ends;
-use line_rows::{Rows, UnitFault};
+use line_rows::{LineSections, Rows, RowsBuilder, UnitFault};
 use std::alloc::Global;
 
-/// The rows of a section of line tables, with the bytes of `.debug_line_str` and `.debug_str`, empty where there is none.
+// The sections as a unit that ends there sees them.
+fn up_to<'a>(sections: &LineSections<'a>, end: usize) -> LineSections<'a>
+    requires { end ≤ length sections.now.line.now }
+    ensures { sections_shown result ≡ up_to end (sections_shown sections.now) }
+{
+    LineSections {
+        line: &sections.line[..end],
+        ..*sections
+    }
+}
+
+/// The rows of the line tables of a program's sections.
 ///
 /// A unit with a fault gives no rows and stands in the list with the first fault that is met when its bytes are read in
-/// order. Behind a unit whose end can't be told nothing is read. A row's file is the number of a name, and equal names
-/// have equal numbers over all units.
-pub fn rows(alloc: Global, section: &[u8], line_str: &[u8], strs: &[u8]) -> Result<Rows, NoMemory>
-    ensures { IfOk result (λ r. r ≡ rows_of section.now line_str.now strs.now) }
+/// order. Behind a unit whose end can't be told nothing is read. A row's file is the number of a name: the names that
+/// rows have are numbered from 0, each once, in the order of the rows.
+///
+/// # Errors
+/// No memory for the rows and their names. No bytes of the sections are an error.
+pub fn rows(alloc: Global, sections: &LineSections<'_>) -> Result<Rows, NoMemory>
+    ensures { IfOk result (λ r. r ≡ rows_of (sections_shown sections.now)) }
 {
-    let ends = text_ends(line_str, strs);
-    let mut numbers = no_numbers(alloc, line_str, strs)?;
-    let mut rows = Rows::new(alloc);
+    let ends = text_ends(sections);
+    let mut numbers = no_numbers(alloc, sections)?;
+    let mut rows = RowsBuilder::new(alloc);
     let mut at = 0;
-    while at < section.len() {
-        match unit_end(section, at) {
+    while at < sections.line.len() {
+        match unit_end(sections.line, at) {
             Ok(end) => {
-                add_at(
-                    alloc,
-                    &section[..end],
-                    at,
-                    line_str,
-                    strs,
-                    ends,
-                    &mut numbers,
-                    &mut rows,
-                )?;
+                let unit = up_to(sections, end);
+                add_at(alloc, &unit, at, ends, &mut numbers, &mut rows)?;
                 at = end;
             }
             Err(fault) => {
                 rows.push_fault(UnitFault { offset: at, fault })?;
                 rows.set_names(numbers.names);
-                return Ok(rows);
+                return Ok(rows.finish());
             }
         }
     }
     rows.set_names(numbers.names);
-    Ok(rows)
+    Ok(rows.finish())
 }

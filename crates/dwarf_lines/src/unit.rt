@@ -1,14 +1,16 @@
 //! One unit: its header and its program.
 
 ghost use Rattle.std.specs.Prelude.{◌≡◌};
+ghost use Rattle.line_rows.specs.Sections.{sections_shown};
 ghost use Rattle.line_headers.specs.Texts.{texts_before};
 ghost use Rattle.line_headers.specs.Header.{IsWithin};
-ghost use Rattle.dwarf_lines.specs.Adding.{GivesProgram, GivesUnit};
+ghost use Rattle.line_programs.specs.Machine.{GivesRows};
+ghost use Rattle.dwarf_lines.specs.Adding.{GivesUnit};
 ghost use Rattle.dwarf_lines.specs.Rows.{program_in, rows_in};
 
-use line_headers::{Header, HeaderError, NamePlace, TextEnds, read_header};
-use line_programs::{Parameters, ProgramError, program_rows};
-use line_rows::Rows;
+use line_headers::{Header, NamePlace, TextEnds, read_header};
+use line_programs::{Parameters, program_rows};
+use line_rows::{LineError, LineSections, Rows};
 use std::alloc::Global;
 
 /// What a unit gives. The files of its rows are numbers in the unit's own table.
@@ -27,9 +29,9 @@ fn program_in(
     header: Header,
     file_count: usize,
     bytes: &[u8],
-) -> Result<Rows, HeaderError>
+) -> Result<Rows, LineError>
     requires { IsWithin bytes.now header }
-    ensures { GivesProgram result (program_in header file_count bytes.now) }
+    ensures { GivesRows result (program_in header file_count bytes.now) }
 {
     let parameters = Parameters {
         minimum_instruction_length: header.lines.minimum_length,
@@ -42,27 +44,21 @@ fn program_in(
     };
     let front = &bytes[header.opcodes.lengths..];
     let lengths = &front[..header.opcodes.base.saturating_sub(1) as usize];
-    match program_rows(alloc, &parameters, lengths, bytes, header.program) {
-        Ok(rows) => Ok(rows),
-        Err(ProgramError::Fault(fault)) => Err(HeaderError::Fault(fault)),
-        Err(ProgramError::Memory) => Err(HeaderError::Memory),
-    }
+    program_rows(alloc, &parameters, lengths, bytes, header.program)
 }
 
-/// What a unit gives whose version stands at a place, in the section's bytes up to the unit's end.
+/// What a unit gives whose version stands at a place. Of the sections `.debug_line` is the front up to the unit's end.
 #[tactic(auto, unfolding(crate::specs::Rows::rows_in))]
 pub fn read_unit(
     alloc: Global,
-    bytes: &[u8],
+    sections: &LineSections<'_>,
     at: usize,
-    line_str: &[u8],
-    strs: &[u8],
     ends: TextEnds,
-) -> Result<UnitFound, HeaderError>
-    ensures { GivesUnit bytes.now line_str.now strs.now result (rows_in (texts_before ends) bytes.now line_str.now strs.now at) }
+) -> Result<UnitFound, LineError>
+    ensures { GivesUnit (sections_shown sections.now) result (rows_in (texts_before ends) (sections_shown sections.now) at) }
 {
-    let (header, files) = read_header(alloc, bytes, at, ends)?;
-    let rows = program_in(alloc, header, files.len(), bytes)?;
+    let (header, files) = read_header(alloc, sections.line, at, ends)?;
+    let rows = program_in(alloc, header, files.len(), sections.line)?;
     Ok(UnitFound {
         first_file: header.first_file,
         files,

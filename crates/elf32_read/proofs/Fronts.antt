@@ -10,7 +10,7 @@ use Rattle.elf32_read.specs.Fields.{overlap}
 use Rattle.elf32_read.specs.Spans.{Apart, IsApartFront, IsSpanTable, IsRising, numbered}
 use Rattle.elf32_read.specs.declared.spans.Span.{Span}
 use Rattle.elf32_read.specs.declared.spans.SpanTable.{SpanTable}
-use Rattle.std.proofs.lemmas.List.{take_more}
+use Rattle.std.proofs.lemmas.List.{take_all, take_more}
 use Rattle.elf32_read.proofs.Rising.{get_or_any, rise_from, pairs-permutation}
 
 abbrev pub span : ℕ → ℕ → ℕ → Span
@@ -123,18 +123,12 @@ numbered-more start size xs k d lt =
     ap (numbered start size 0) (take_more xs k d lt) ∙ numbered-push start size 0 (take k xs) (get_or xs k d)
     ∙ ap (λ (m : ℕ). numbered start size 0 (take k xs) ++ span (start (get_or xs k d)) (size (get_or xs k d)) m ∷ []) len
 
-take_all : {X : Type 0} (xs : List X) (n : ℕ) → length xs ≤ n → take n xs ≡ xs
-take_all [] zero h = refl
-take_all [] (suc n) h = refl
-take_all (x ∷ xs) zero h = absurd (omega arith)
-take_all (x ∷ xs) (suc n) h = ap (λ (ys : List _). x ∷ ys) (take_all xs n (omega arith))
-
 -- a table whose entries are all apart
 pub table_rises : {X : Type 0} (start size : X → ℕ) (xs : List X) (t : SpanTable) → IsSpanTable (numbered start size 0 xs) t → length xs ≤ t.apart
     → IsRising start size xs t.sorted.items
 table_rises start size xs t h all =
     let ss = numbered start size 0 xs in
     let len = length-numbered start size 0 xs in
-    let whole : take t.apart ss ≡ ss = take_all ss t.apart (omega arith) in
+    let whole : take t.apart ss ≡ ss = take_all t.apart ss (omega arith) in
     let apart = rw whole at h.front.apart in
     record { same = h.same; rise = rise_from t.sorted.items h.ordered (pairs-permutation ss t.sorted.items h.same apart) }

@@ -7,3 +7,5 @@ pub mod Kept
 pub mod Rising
 pub mod Fronts
 pub mod Found
+pub mod Alike
+pub mod Linked

@@ -1,6 +1,7 @@
 -- The checks of a file, in their order.
 use Rattle.std.specs.Prelude.{ℕ, ◌+◌, ◌*◌, ◌%◌, ◌==◌, nat_le, nat_lt, ◌&&◌, ◌||◌, not, Bool, List, [], ◌∷◌, ◌++◌, length, bit_and, map, Option, Some, None, is_some, if◌then◌else◌, slice_index}
 use Rattle.std.specs.List.{list_any}
+use Rattle.elf32_read.specs.Abi.{ELFCLASS32, ELFDATA2LSB, ET_EXEC, EM_RISCV, RVC_OR_RVE, SHT_NULL, SHT_NOBITS, SHF_COMPRESSED}
 use Rattle.elf32_read.specs.Fields.{name_at, spans, overlap}
 use Rattle.elf32_read.specs.Headers.{file_header, loaded, text_headers, section_headers, names_header, names, holds_text}
 use Rattle.elf32_read.specs.declared.fault.ElfKind.{ElfKind}
@@ -35,16 +36,16 @@ size_checks bytes =
     ∷ check (nat_le 52 (length bytes)) kind.Short (length bytes)
     ∷ []
 
--- magic, ELFCLASS32, ELFDATA2LSB, ET_EXEC, EM_RISCV, neither EF_RISCV_RVC nor EF_RISCV_RVE, and the headers' sizes
+-- the file's header: magic, class, order of bytes, type, machine, flags, and the headers' sizes (gABI, ELF Header)
 abbrev pub header_checks : List ℕ → List Check
 header_checks bytes =
     let h = file_header bytes in
     check (is_magic bytes) kind.Magic 0
-    ∷ check (slice_index bytes 4 == 1) kind.Class 4
-    ∷ check (slice_index bytes 5 == 1) kind.Order 5
-    ∷ check (h.kind == 2) kind.Kind 16
-    ∷ check (h.machine == 243) kind.Machine 18
-    ∷ check (bit_and h.flags 9 == 0) kind.Flags 36
+    ∷ check (slice_index bytes 4 == ELFCLASS32) kind.Class 4
+    ∷ check (slice_index bytes 5 == ELFDATA2LSB) kind.Order 5
+    ∷ check (h.kind == ET_EXEC) kind.Kind 16
+    ∷ check (h.machine == EM_RISCV) kind.Machine 18
+    ∷ check (bit_and h.flags RVC_OR_RVE == 0) kind.Flags 36
     ∷ check ((h.program_header_count == 0) || (h.program_header_size == 32)) kind.Segment 42
     ∷ check ((h.section_header_count == 0) || (h.section_header_size == 40)) kind.Section 46
     ∷ check (nat_le (h.program_headers + 32 * h.program_header_count) (length bytes)) kind.Short h.program_headers
@@ -73,13 +74,13 @@ memory_checks sum [] = []
 memory_checks sum (h ∷ hs) =
     check (nat_le (sum + h.memory_size) 16777216) kind.Large h.place ∷ memory_checks (sum + h.memory_size) hs
 
--- SHT_NULL (0) and SHT_NOBITS (8) have no part of the file
+-- two types have no part of the file (gABI, Section Header)
 abbrev pub has_file_part : SectionHeader → Bool
-has_file_part h = not ((h.kind == 0) || (h.kind == 8))
+has_file_part h = not ((h.kind == SHT_NULL) || (h.kind == SHT_NOBITS))
 
--- a section's part is in the file, and isn't compressed (SHF_COMPRESSED, 0x800)
+-- a section's part is in the file, and isn't compressed
 abbrev pub section_fits : ℕ → SectionHeader → Bool
-section_fits size h = not (has_file_part h) || (nat_le (h.offset + h.size) size && (bit_and h.flags 0x800 == 0))
+section_fits size h = not (has_file_part h) || (nat_le (h.offset + h.size) size && (bit_and h.flags SHF_COMPRESSED == 0))
 
 abbrev pub section_check : ℕ → SectionHeader → Check
 section_check size h = check (section_fits size h) kind.Section h.place
@@ -92,13 +93,13 @@ abbrev pub name_checks : List ℕ → List Check
 name_checks bytes =
     if (file_header bytes).section_names == 0
     then []
-    else (check (not ((names_header bytes).kind == 8)) kind.Section (names_header bytes).place
+    else (check (not ((names_header bytes).kind == SHT_NOBITS)) kind.Section (names_header bytes).place
     ∷ map (name_check (names bytes)) (section_headers bytes))
 
 -- whole words in the file part of one executable segment
 abbrev pub text_fits : List ProgramHeader → SectionHeader → Bool
 text_fits segments h =
-    ((h.address % 4 == 0) && (h.size % 4 == 0)) && (not (h.kind == 8) && list_any (holds_text h) segments)
+    ((h.address % 4 == 0) && (h.size % 4 == 0)) && (not (h.kind == SHT_NOBITS) && list_any (holds_text h) segments)
 
 abbrev pub sections_overlap : SectionHeader → SectionHeader → Bool
 sections_overlap h other = overlap h.address h.size other.address other.size

@@ -1,5 +1,5 @@
 -- Numbers, names and tables in a file's bytes. A byte past the end counts as 0.
-use Rattle.std.specs.Prelude.{ℕ, zero, suc, ◌+◌, ◌*◌, ◌==◌, nat_le, nat_lt, ◌&&◌, Bool, List, [], ◌∷◌, ◌++◌, drop, Option, None, Some, if◌then◌else◌}
+use Rattle.std.specs.Prelude.{◌≡◌, ℕ, zero, suc, ◌<◌, ◌≤◌, length, slice_index, ◌+◌, ◌*◌, ◌==◌, nat_le, nat_lt, ◌&&◌, Bool, List, [], ◌∷◌, ◌++◌, drop, Option, None, Some, if◌then◌else◌}
 use Rattle.std.specs.Option.{option_map}
 use Rattle.byteorder.specs.Endian.{little_number}
 
@@ -24,6 +24,13 @@ name_at table at = name_from (drop at table)
 abbrev pub zero_end : List ℕ → ℕ
 zero_end [] = 0
 zero_end (b ∷ bs) = if nat_lt 0 (zero_end bs) then zero_end bs + 1 else (if b == 0 then 1 else 0)
+
+-- the first n bytes of both are the same, and none is zero
+pub record IsAlike (n : ℕ) (left right : List ℕ) : Type 0 where
+  pub within : n ≤ length left
+  pub also : n ≤ length right
+  pub same : (k : ℕ) → k < n → slice_index left k ≡ slice_index right k
+  pub some : (k : ℕ) → k < n → 0 < slice_index left k
 
 -- the entries of a table: what stands at the first place, and at each further one, a step apart
 abbrev pub entries : {A : Type 0} → (ℕ → A) → ℕ → ℕ → ℕ → List A

@@ -1,6 +1,7 @@
 -- The headers of a file (gABI, ELF Header, Program Header, Section Header).
 use Rattle.std.specs.Prelude.{ℕ, ◌+◌, ◌*◌, ◌-◌, ◌/◌, ◌==◌, nat_le, nat_lt, ◌&&◌, ◌||◌, Bool, List, [], length, take, drop, bit_and, filter, find, map, Option, None, if◌then◌else◌}
 use Rattle.std.specs.Option.{option_map_or}
+use Rattle.elf32_read.specs.Abi.{PT_LOAD, PF_X, SHT_NOBITS, ALLOC_AND_EXECINSTR}
 use Rattle.elf32_read.specs.Fields.{u16_at, u32_at, name_at, entries}
 use Rattle.elf32_read.specs.Program.{Segment, Text, Section, Program}
 use Rattle.elf32_read.specs.declared.header.FileHeader.{FileHeader}
@@ -56,24 +57,24 @@ abbrev pub section_headers : List ℕ → List SectionHeader
 section_headers bytes =
     entries (section_header bytes) (file_header bytes).section_headers 40 (file_header bytes).section_header_count
 
--- PT_LOAD with a size in memory
+-- a segment to be loaded, with a size in memory
 abbrev pub is_loaded : ProgramHeader → Bool
-is_loaded h = (h.kind == 1) && nat_lt 0 h.memory_size
+is_loaded h = (h.kind == PT_LOAD) && nat_lt 0 h.memory_size
 
 abbrev pub loaded : List ℕ → List ProgramHeader
 loaded bytes = filter is_loaded (program_headers bytes)
 
--- SHF_ALLOC and SHF_EXECINSTR, with a size
+-- allocated and executable, with a size
 abbrev pub is_text : SectionHeader → Bool
-is_text h = (bit_and h.flags 6 == 6) && nat_lt 0 h.size
+is_text h = (bit_and h.flags ALLOC_AND_EXECINSTR == ALLOC_AND_EXECINSTR) && nat_lt 0 h.size
 
 abbrev pub text_headers : List ℕ → List SectionHeader
 text_headers bytes = filter is_text (section_headers bytes)
 
--- what stands in the file of a section: nothing for SHT_NOBITS (8), and for a part that isn't in the file
+-- what stands in the file of a section: nothing for SHT_NOBITS, and for a part that isn't in the file
 abbrev pub section_bytes : List ℕ → SectionHeader → List ℕ
 section_bytes bytes h =
-    if (h.kind == 8) || nat_lt (length bytes) (h.offset + h.size) then [] else take h.size (drop h.offset bytes)
+    if (h.kind == SHT_NOBITS) || nat_lt (length bytes) (h.offset + h.size) then [] else take h.size (drop h.offset bytes)
 
 -- the header of the section that has the names
 abbrev pub names_header : List ℕ → SectionHeader
@@ -97,10 +98,10 @@ segment_of bytes h =
       bytes = take h.file_size (drop h.offset bytes);
     }
 
--- whether a section lies wholly in the file part of an executable segment (PF_X)
+-- whether a section lies wholly in the file part of an executable segment
 abbrev pub holds_text : SectionHeader → ProgramHeader → Bool
 holds_text h s =
-    (bit_and s.flags 1 == 1) && (nat_le s.address h.address && nat_le (h.address + h.size) (s.address + s.file_size))
+    (bit_and s.flags PF_X == PF_X) && (nat_le s.address h.address && nat_le (h.address + h.size) (s.address + s.file_size))
 
 -- a segment's bytes from the section's address on
 abbrev pub bytes_from : List ℕ → ℕ → ProgramHeader → List ℕ

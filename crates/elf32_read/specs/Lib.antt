@@ -1,3 +1,4 @@
+pub mod Abi
 pub mod Fields
 pub mod Program
 pub mod Headers

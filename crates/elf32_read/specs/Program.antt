@@ -3,6 +3,7 @@ use Rattle.std.specs.Prelude.{◌≡◌, ℕ, ◌+◌, ◌-◌, ◌*◌, ◌/◌
 use Rattle.std.specs.List.{list_any}
 use Rattle.std.specs.Option.{option_map, option_map_or}
 use Rattle.std.specs.Str.{bytes_eq}
+use Rattle.elf32_read.specs.Abi.{PF_W}
 use Rattle.elf32_read.specs.Fields.{spans, overlap}
 
 -- a loadable segment (gABI, Program Header, PT_LOAD)
@@ -59,9 +60,9 @@ in_text p addr = list_any (in_words addr) p.text
 abbrev pub text_word : Program → ℕ → Option ℕ
 text_word p addr = if addr % 4 == 0 then option_and_then (λ t. slice_get t.words ((addr - t.address) / 4)) (find (in_words addr) p.text) else None
 
--- the flag PF_W
+-- by its flags
 abbrev pub is_writable : Segment → Bool
-is_writable s = bit_and s.flags 2 == 2
+is_writable s = bit_and s.flags PF_W == PF_W
 
 -- whether the program may write the byte at an address: it isn't text, and its segment is writable
 abbrev pub writable : Program → ℕ → Bool

@@ -2,6 +2,7 @@
 use Rattle.std.specs.Prelude.{◌≡◌, ℕ, ◌+◌, ◌-◌, ◌%◌, ◌≤◌, ◌==◌, Bool, true, false, List, length, find, bit_and}
 use Rattle.std.specs.Option.{option_map_or}
 use Rattle.std.specs.Str.{bytes_eq}
+use Rattle.elf32_read.specs.Abi.{PF_W}
 use Rattle.elf32_read.specs.Fields.{spans, name_at}
 use Rattle.elf32_read.specs.Checks.{segment_fits}
 use Rattle.elf32_read.specs.Headers.{loaded, holds_text}
@@ -29,7 +30,7 @@ abbrev pub in_loaded : ℕ → ProgramHeader → Bool
 in_loaded addr h = spans h.address h.memory_size addr
 
 abbrev pub is_writable_header : ProgramHeader → Bool
-is_writable_header h = bit_and h.flags 2 == 2
+is_writable_header h = bit_and h.flags PF_W == PF_W
 
 abbrev pub in_range : ℕ → TextRange → Bool
 in_range addr t = spans t.address t.size addr

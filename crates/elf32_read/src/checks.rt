@@ -7,13 +7,18 @@ ghost use Rattle.elf32_read.specs.Checks.{segments_overlap, sections_overlap, ch
 ghost use Rattle.elf32_read.specs.Stages.{table_fault};
 ghost use Rattle.elf32_read.specs.Spans.{AreFilled, AreSegments, AreSome, IsApartFront, IsSpanTable, section_spans, segment_spans};
 
+use crate::abi::{
+    EF_RISCV_RVC, EF_RISCV_RVE, EI_CLASS, EI_DATA, ELFCLASS32, ELFDATA2LSB, EM_RISCV, ET_EXEC,
+    FILE_HEADER_SIZE, PF_X, SHF_COMPRESSED, SHT_NOBITS, SHT_NULL,
+};
 use crate::fault::{ElfFault, ElfKind};
 use crate::fields::zero_end;
-use crate::header::{
-    FILE_HEADER_SIZE, FILE_LIMIT, FileHeader, ProgramHeader, SectionHeader, section_bytes,
-};
+use crate::header::{FILE_LIMIT, FileHeader, ProgramHeader, SectionHeader, section_bytes};
 use crate::lookup::holder;
 use crate::spans::{Span, SpanTable};
+
+/// Of `e_flags`, what no accepted file has: its instructions are of 4 bytes, over 32 registers.
+const REFUSED_FLAGS: u32 = EF_RISCV_RVC | EF_RISCV_RVE;
 
 /// The greatest sum of the segments' sizes in memory.
 const MEMORY_LIMIT: u64 = 16_777_216;
@@ -31,6 +36,7 @@ pub fn check(holds: bool, kind: ElfKind, place: u32) -> Result<(), ElfFault>
     }
 }
 
+/// The file's size.
 pub fn check_size(bytes: &[u8]) -> Result<(), ElfFault>
     ensures checks { result_err result ≡ first_fault (size_checks bytes.now) }
     ensures least { IfOk result (λ _. FILE_HEADER_SIZE ≤ length bytes.now) }
@@ -51,6 +57,7 @@ fn is_magic(bytes: &[u8]) -> bool
     bytes[0] == 0x7F && (bytes[1] == 0x45 && (bytes[2] == 0x4C && bytes[3] == 0x46))
 }
 
+/// What the file's header says, and the sizes of the tables that it names.
 pub fn check_header(bytes: &[u8], header: &FileHeader) -> Result<(), ElfFault>
     requires header { header.now ≡ file_header bytes.now }
     requires least { FILE_HEADER_SIZE ≤ length bytes.now }
@@ -58,21 +65,25 @@ pub fn check_header(bytes: &[u8], header: &FileHeader) -> Result<(), ElfFault>
     ensures programs { IfOk result (λ _. header.now.program_headers + 32 * header.now.program_header_count ≤ length bytes.now) }
     ensures sections { IfOk result (λ _. header.now.section_headers + 40 * header.now.section_header_count ≤ length bytes.now) }
 {
-    let programs_end = header.program_headers as usize + 32 * header.program_header_count as usize;
-    let sections_end = header.section_headers as usize + 40 * header.section_header_count as usize;
+    let programs_end = header.program_headers as usize
+        + ProgramHeader::SIZE * header.program_header_count as usize;
+    let sections_end = header.section_headers as usize
+        + SectionHeader::SIZE * header.section_header_count as usize;
     check(is_magic(bytes), ElfKind::Magic, 0)?;
-    check(bytes[4] == 1, ElfKind::Class, 4)?;
-    check(bytes[5] == 1, ElfKind::Order, 5)?;
-    check(header.kind == 2, ElfKind::Kind, 16)?;
-    check(header.machine == 243, ElfKind::Machine, 18)?;
-    check(header.flags & 9 == 0, ElfKind::Flags, 36)?;
+    check(bytes[EI_CLASS] == ELFCLASS32, ElfKind::Class, 4)?;
+    check(bytes[EI_DATA] == ELFDATA2LSB, ElfKind::Order, 5)?;
+    check(header.kind == ET_EXEC, ElfKind::Kind, 16)?;
+    check(header.machine == EM_RISCV, ElfKind::Machine, 18)?;
+    check(header.flags & REFUSED_FLAGS == 0, ElfKind::Flags, 36)?;
     check(
-        header.program_header_count == 0 || header.program_header_size == 32,
+        header.program_header_count == 0
+            || header.program_header_size as usize == ProgramHeader::SIZE,
         ElfKind::Segment,
         42,
     )?;
     check(
-        header.section_header_count == 0 || header.section_header_size == 40,
+        header.section_header_count == 0
+            || header.section_header_size as usize == SectionHeader::SIZE,
         ElfKind::Section,
         46,
     )?;
@@ -122,6 +133,7 @@ pub fn check_segments(size: usize, segments: &[ProgramHeader], apart: usize) -> 
     Ok(())
 }
 
+/// The sum of the sizes in memory.
 pub fn check_memory(segments: &[ProgramHeader]) -> Result<(), ElfFault>
     ensures { result_err result ≡ first_fault (memory_checks 0 segments.now) }
 {
@@ -136,10 +148,12 @@ pub fn check_memory(segments: &[ProgramHeader]) -> Result<(), ElfFault>
 fn section_fits(size: usize, h: &SectionHeader) -> bool
     ensures { result ≡ section_fits size h.now }
 {
-    let has_file_part = !(h.kind == 0 || h.kind == 8);
-    !has_file_part || (h.offset as u64 + h.size as u64 <= size as u64 && h.flags & 0x800 == 0)
+    let has_file_part = !(h.kind == SHT_NULL || h.kind == SHT_NOBITS);
+    !has_file_part
+        || (h.offset as u64 + h.size as u64 <= size as u64 && h.flags & SHF_COMPRESSED == 0)
 }
 
+/// Each section's part is in the file, and isn't compressed.
 pub fn check_sections(size: usize, sections: &[SectionHeader]) -> Result<(), ElfFault>
     ensures { result_err result ≡ first_fault (map (section_check size) sections.now) }
 {
@@ -149,6 +163,7 @@ pub fn check_sections(size: usize, sections: &[SectionHeader]) -> Result<(), Elf
     Ok(())
 }
 
+/// Each section's name ends in the table, which is where it begins before the table's last zero byte.
 fn check_name_ends(table: &[u8], sections: &[SectionHeader]) -> Result<(), ElfFault>
     ensures { result_err result ≡ first_fault (map (name_check table.now) sections.now) }
 {
@@ -159,6 +174,7 @@ fn check_name_ends(table: &[u8], sections: &[SectionHeader]) -> Result<(), ElfFa
     Ok(())
 }
 
+/// The section of names stands in the file, and each section's name ends in it.
 pub fn check_names(
     bytes: &[u8],
     header: &FileHeader,
@@ -176,7 +192,7 @@ pub fn check_names(
     }
     let at = header.section_headers + 40 * header.section_names as u32;
     let names = SectionHeader::read(bytes, at);
-    check(names.kind != 8, ElfKind::Section, at)?;
+    check(names.kind != SHT_NOBITS, ElfKind::Section, at)?;
     check_name_ends(section_bytes(bytes, &names), sections)
 }
 
@@ -193,14 +209,14 @@ fn text_fits(segments: &[ProgramHeader], sorted: &[Span], h: &SectionHeader) -> 
     requires some { 0 < h.now.size }
     ensures { result ≡ text_fits segments.now h.now }
 {
-    is_whole(h) && (h.kind != 8 && holder(segments, sorted, h).is_some())
+    is_whole(h) && (h.kind != SHT_NOBITS && holder(segments, sorted, h).is_some())
 }
 
 /// Whether a section lies wholly in the file part of an executable segment.
 pub fn holds_text(h: &SectionHeader, s: &ProgramHeader) -> bool
     ensures { result ≡ holds_text h.now s.now }
 {
-    s.flags & 1 == 1
+    s.flags & PF_X == PF_X
         && (s.address <= h.address
             && h.address as u64 + h.size as u64 <= s.address as u64 + s.file_size as u64)
 }
@@ -255,6 +271,7 @@ fn enters(entry: u32, texts: &[SectionHeader]) -> bool
     texts.iter().any(|h| in_section(entry, h))
 }
 
+/// There is text, and the entry is a multiple of 4 in it.
 pub fn check_entry(header: &FileHeader, texts: &[SectionHeader]) -> Result<(), ElfFault>
     ensures { result_err result ≡ first_fault (entry_checks header.now texts.now) }
 {

@@ -1,9 +1,10 @@
 //! Numbers and names in the bytes of an ELF file.
 
 ghost use Rattle.std.specs.Prelude.{◌≡◌, ◌+◌, ◌≤◌, length, false};
+ghost use Rattle.std.specs.Bool.{OnTrue};
 ghost use Rattle.std.specs.Option.{option_map_or};
 ghost use Rattle.std.specs.Str.{bytes_eq};
-ghost use Rattle.elf32_read.specs.Fields.{u16_at, u32_at, name_from, zero_end};
+ghost use Rattle.elf32_read.specs.Fields.{IsAlike, u16_at, u32_at, name_from, zero_end};
 
 use byteorder::{ByteOrder, LittleEndian};
 
@@ -37,8 +38,50 @@ pub fn zero_end(table: &[u8]) -> usize
     end
 }
 
-/// Whether the bytes up to the first zero byte, which must be there, are this name.
+/// How many bytes are compared at once.
+const STRIDE: usize = 32;
+
+/// Whether both begin with the same bytes, as many as are compared at once, and none of them is zero. No byte ends the
+/// loop, so that they can be compared side by side.
+fn begin_alike(left: &[u8], right: &[u8]) -> bool
+    requires left { STRIDE ≤ length left.now }
+    requires right { STRIDE ≤ length right.now }
+    ensures { OnTrue result (IsAlike STRIDE left.now right.now) }
+{
+    let mut alike = true;
+    for k in 0..STRIDE {
+        if left[k] != right[k] || left[k] == 0 {
+            alike = false;
+        }
+    }
+    alike
+}
+
+/// How many bytes at the front are the same and not zero; it may leave out up to 31 of them.
+pub fn alike_front(left: &[u8], right: &[u8]) -> usize
+    ensures { IsAlike result left.now right.now }
+{
+    let mut front = 0;
+    while STRIDE <= left.len() - front
+        && STRIDE <= right.len() - front
+        && begin_alike(&left[front..], &right[front..])
+    {
+        front += STRIDE;
+    }
+    front
+}
+
+/// Whether the bytes up to the first zero byte, which must be there, are this name. Long ones are compared many bytes
+/// at a time.
 pub fn begins_with_name(bytes: &[u8], name: &[u8]) -> bool
+    ensures { result ≡ option_map_or (bytes_eq name.now) (name_from bytes.now) false }
+{
+    let front = alike_front(bytes, name);
+    is_name(&bytes[front..], &name[front..])
+}
+
+/// The same, byte by byte.
+fn is_name(bytes: &[u8], name: &[u8]) -> bool
     ensures { result ≡ option_map_or (bytes_eq name.now) (name_from bytes.now) false }
 {
     let mut rest = bytes;

@@ -1,53 +1,80 @@
 ghost use Rattle.std.specs.Prelude.{◌≡◌, ◌+◌, ◌*◌, ◌≤◌, length, IfOk, filter};
 ghost use Rattle.elf32_read.specs.Headers.{file_header, program_header, section_header, is_loaded, is_text, loaded, names, section_bytes, section_headers};
 
+use crate::abi::{FILE_HEADER_SIZE, PT_LOAD, SHF_ALLOC, SHF_EXECINSTR, SHT_NOBITS};
 use crate::fields::{u16_at, u32_at};
 use std::alloc::{AllocError, Global};
-
-/// The size of the file's header.
-pub const FILE_HEADER_SIZE: usize = 52;
 
 /// The greatest size of a file.
 pub const FILE_LIMIT: usize = 33_554_432;
 
+/// What `sh_flags` has of a text section.
+const TEXT_FLAGS: u32 = SHF_ALLOC | SHF_EXECINSTR;
+
 /// The file's header (gABI, ELF Header), as far as it is used.
 #[derive(Clone, Copy, Debug)]
 pub struct FileHeader {
+    /// `e_type`.
     pub kind: u16,
+    /// `e_machine`.
     pub machine: u16,
+    /// `e_entry`: the address of the first instruction.
     pub entry: u32,
+    /// `e_phoff`: the place of the program headers, in bytes from the file's start.
     pub program_headers: u32,
+    /// `e_shoff`: the place of the section headers.
     pub section_headers: u32,
+    /// `e_flags`.
     pub flags: u32,
+    /// `e_phentsize`, in bytes.
     pub program_header_size: u16,
+    /// `e_phnum`.
     pub program_header_count: u16,
+    /// `e_shentsize`, in bytes.
     pub section_header_size: u16,
+    /// `e_shnum`.
     pub section_header_count: u16,
+    /// `e_shstrndx`: the number of the section that has the sections' names; 0 says that there are none.
     pub section_names: u16,
 }
 
 /// A program header (gABI, Program Header), and its place in the file.
 #[derive(Clone, Copy, Debug)]
 pub struct ProgramHeader {
+    /// Where the header itself stands, in bytes from the file's start.
     pub place: u32,
+    /// `p_type`.
     pub kind: u32,
+    /// `p_offset`: the place of the file part.
     pub offset: u32,
+    /// `p_vaddr`.
     pub address: u32,
+    /// `p_filesz`, in bytes.
     pub file_size: u32,
+    /// `p_memsz`, in bytes.
     pub memory_size: u32,
+    /// `p_flags`.
     pub flags: u32,
 }
 
 /// A section header (gABI, Section Header), and its place in the file.
 #[derive(Clone, Copy, Debug)]
 pub struct SectionHeader {
+    /// Where the header itself stands, in bytes from the file's start.
     pub place: u32,
+    /// `sh_name`: where the name begins in the section of names.
     pub name: u32,
+    /// `sh_type`.
     pub kind: u32,
+    /// `sh_flags`.
     pub flags: u32,
+    /// `sh_addr`.
     pub address: u32,
+    /// `sh_offset`: the place of its part of the file.
     pub offset: u32,
+    /// `sh_size`, in bytes.
     pub size: u32,
+    /// `sh_link`: the number of another section.
     pub link: u32,
 }
 
@@ -95,7 +122,7 @@ impl ProgramHeader {
     pub fn is_loaded(&self) -> bool
         ensures { result ≡ is_loaded self.now }
     {
-        self.kind == 1 && self.memory_size > 0
+        self.kind == PT_LOAD && self.memory_size > 0
     }
 }
 
@@ -123,7 +150,7 @@ impl SectionHeader {
     pub fn is_text(&self) -> bool
         ensures { result ≡ is_text self.now }
     {
-        self.flags & 6 == 6 && self.size > 0
+        self.flags & TEXT_FLAGS == TEXT_FLAGS && self.size > 0
     }
 }
 
@@ -133,7 +160,7 @@ pub fn section_bytes<'a>(bytes: &'a [u8], h: &SectionHeader) -> &'a [u8]
 {
     let start = h.offset as usize;
     let end = start + h.size as usize;
-    if h.kind == 8 || bytes.len() < end {
+    if h.kind == SHT_NOBITS || bytes.len() < end {
         return &[];
     }
     &bytes[start..end]

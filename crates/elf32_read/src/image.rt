@@ -129,7 +129,8 @@ impl Image {
         )
     }
 
-    /// What stands in the file of the first section of a name.
+    /// What stands in the file of the first section of a name: nothing of one that has no part there (`SHT_NOBITS`).
+    /// None where no section has the name, or the file names no sections (`e_shstrndx` is 0).
     pub fn section(&self, name: &[u8]) -> Option<&[u8]>
         ensures { option_copied result ≡ section self.now name.now }
     {
@@ -144,6 +145,7 @@ impl Image {
         )
     }
 
+    /// How many segments are loaded: program headers `PT_LOAD` with a size in memory.
     pub fn segment_count(&self) -> usize
         ensures { result ≡ length self.now.segments }
     {
@@ -158,6 +160,7 @@ impl Image {
         segment_in(&self.file, &self.segments, k)
     }
 
+    /// How many text sections there are: allocated, executable and not empty.
     pub fn text_count(&self) -> usize
         ensures { result ≡ length self.now.text }
     {
@@ -172,6 +175,7 @@ impl Image {
         text_in(&self.file, &self.text, k)
     }
 
+    /// How many section headers the file has, the first one without a section among them.
     pub fn section_count(&self) -> usize
         ensures { result ≡ length self.now.sections }
     {

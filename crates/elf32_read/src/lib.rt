@@ -1,6 +1,7 @@
 //! Reads an ELF32 executable for RISC-V: the image of its bytes, or the first check that they fail.
 #![tactic(auto)]
 
+mod abi;
 mod checks;
 mod fault;
 pub mod fields;

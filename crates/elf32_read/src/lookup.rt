@@ -8,6 +8,7 @@ ghost use Rattle.elf32_read.specs.Views.{range_shown, section_shown, segment_sho
 ghost use Rattle.elf32_read.specs.Ranges.{IsRange, IsWithin, in_loaded, in_range, is_called, is_writable_header};
 ghost use Rattle.elf32_read.specs.Spans.{AreFilled, AreSegments, AreTexts};
 
+use crate::abi::PF_W;
 use crate::checks::holds_text;
 use crate::fields::{begins_with_name, u32_at};
 use crate::header::{ProgramHeader, SectionHeader, section_bytes};
@@ -91,7 +92,7 @@ fn in_writable(segments: &[ProgramHeader], sorted: &[Span], addr: u32) -> bool
     ensures { result ≡ option_map_or is_writable_header (find (in_loaded addr) segments.now) false }
 {
     match segment_at(segments, sorted, addr) {
-        Some(h) => h.flags & 2 == 2,
+        Some(h) => h.flags & PF_W == PF_W,
         None => false,
     }
 }

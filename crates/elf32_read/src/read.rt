@@ -2,6 +2,7 @@ ghost use Rattle.std.specs.Prelude.{◌≡◌, ◌<◌, IfOk, find, map};
 ghost use Rattle.std.specs.Option.{option_map_or};
 ghost use Rattle.elf32_read.specs.Headers.{holds_text};
 ghost use Rattle.elf32_read.specs.Ranges.{offset_of, range_in};
+ghost use Rattle.elf32_read.specs.Program.{IsLinked};
 ghost use Rattle.elf32_read.specs.Reading.{Reads};
 ghost use Rattle.elf32_read.specs.Spans.{AreFilled, AreSegments, AreSome};
 
@@ -58,10 +59,12 @@ fn text_ranges(
     Ok(ranges)
 }
 
-/// The image of a file's bytes, or the first check that they fail, or want of memory.
+/// The image of a file's bytes, or the first check that they fail, or want of memory. No byte of the image's program
+/// is in two segments, and its entry is a word of text.
 #[tactic(auto, using(crate::proofs::Stages::stages))]
 pub fn read_image(alloc: Global, bytes: &[u8]) -> Result<Image, ElfReadError>
-    ensures { Reads bytes.now result }
+    ensures read { Reads bytes.now result }
+    ensures linked { IfOk result (λ program. IsLinked program) }
 {
     check_size(bytes)?;
     let header = FileHeader::read(bytes);

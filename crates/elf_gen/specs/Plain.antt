@@ -1,5 +1,5 @@
 -- A file of words of text and bytes of data alone.
-use Rattle.std.specs.Prelude.{ℕ, ◌+◌, ◌*◌, nat_lt, List, [], ◌∷◌, ◌++◌, length, codes, Some, if◌then◌else◌}
+use Rattle.std.specs.Prelude.{ℕ, ◌+◌, ◌*◌, ◌<◌, ◌≤◌, nat_lt, List, [], ◌∷◌, ◌++◌, length, codes, Some, if◌then◌else◌}
 use Rattle.elf32_read.specs.Program.{Program, Section}
 use Rattle.elf_gen.specs.Layout.{words_of, string_table, elf_header, segment_headers}
 
@@ -31,6 +31,12 @@ plain_file words bytes =
 abbrev pub section : List ℕ → ℕ → ℕ → ℕ → List ℕ → Section
 section name kind flags address bytes =
     record { name = Some name; kind = kind; flags = flags; address = address; link = 0; bytes = bytes }
+
+-- words and bytes of a program: there is a word, the text ends by 0x20000, and both fit the 16 MiB of a program
+pub record IsPlain (words bytes : List ℕ) : Type 0 where
+  pub some : 0 < length words
+  pub below : 116 + 4 * length words ≤ 0x10000
+  pub memory : 116 + 4 * length words + length bytes ≤ 16777216
 
 -- the program that it is: its words begin behind the headers, and the segment of its data is there where it has a byte
 abbrev pub plain_program : List ℕ → List ℕ → Program

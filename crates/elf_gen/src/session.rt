@@ -14,7 +14,8 @@ const BEFORE: &[u8] = b"-break-insert count.c:12\n-exec-continue --thread 1\n-ex
 const AFTER: &[u8] = b"\" count.c:13\n-exec-continue --all\n-exec-wait\n-thread-info\n\
     -exec-continue --all\n-exec-wait\n";
 
-/// The lines of a session of two harts over the file of `generate`, which stops once both have added `number`.
+/// The lines of a session of two harts over the file of `generate`, which stops once both have added `number`. The one
+/// error is want of memory.
 pub fn script(alloc: Global, number: u32) -> Result<Vec<u8>, NoMemory>
     ensures { IfOk result (λ text. text.items ≡ script_text number) }
 {

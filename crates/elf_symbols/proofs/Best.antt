@@ -6,9 +6,10 @@ use Rattle.std.specs.Str.{bytes_eq}
 use Rattle.std.specs.BTreeMap.{BTreeMap}
 use Rattle.std.specs.Global.{Vec}
 use Rattle.elf32_read.specs.Fields.{name_at}
-use Rattle.elf_symbols.specs.Names.{Symbol, Names, better, best, is_preferred, is_nearer, address_of, function_at, covering}
+use Rattle.elf_symbols.specs.Names.{Symbol, Names, better, best, foremost, is_preferred, is_nearer, address_of, function_at, covering}
 use Rattle.elf_symbols.specs.Entries.{symbol_of, entry_preferred, entry_nearer, entry_named, begins_by}
 use Rattle.elf_symbols.specs.Lookups.{at_name, IsNameTable}
+use Rattle.elf_symbols.proofs.Foremost.{foremost_is, nearer_order, preferred_order}
 use Rattle.elf_symbols.specs.declared.entry.SymbolEntry.{SymbolEntry}
 
 better_map : {X Y : Type 0} (before : Y → Y → Bool) (f : X → Y) (o : Option X) (x : X)
@@ -52,7 +53,8 @@ pub entry_address : (strings name : List ℕ) (symbols : List SymbolEntry) (name
 entry_address strings [] symbols names some e = cc
 entry_address strings (b ∷ bs) symbols names some e =
     sym (best_map is_preferred (symbol_of strings) (λ s. bytes_eq (b ∷ bs) s.name) (entry_named strings (b ∷ bs)) symbols (λ x. same_name b bs (name_at strings x.name)))
-    ∙ ap (λ (xs : List Symbol). best is_preferred (filter (λ s. bytes_eq (b ∷ bs) s.name) xs)) e
+    ∙ foremost_is is_preferred preferred_order (filter (λ s. bytes_eq (b ∷ bs) s.name) (map (symbol_of strings) symbols))
+    ∙ ap (λ (xs : List Symbol). foremost is_preferred (filter (λ s. bytes_eq (b ∷ bs) s.name) xs)) e
 
 -- the symbol of a name of at most 256 bytes, by their table
 pub found_address : (strings name : List ℕ) (symbols : List SymbolEntry) (names : Names) (table : BTreeMap (Vec ℕ) SymbolEntry)
@@ -68,7 +70,8 @@ pub entry_function : (strings : List ℕ) (functions : List SymbolEntry) (names 
 entry_function strings functions names addr e =
     ap (option_and_then (covering addr))
     (sym (best_map is_nearer (symbol_of strings) (λ s. nat_le s.address addr) (begins_by addr) functions (λ x. refl))
-    ∙ ap (λ (xs : List Symbol). best is_nearer (filter (λ s. nat_le s.address addr) xs)) e)
+    ∙ foremost_is is_nearer nearer_order (filter (λ s. nat_le s.address addr) (map (symbol_of strings) functions))
+    ∙ ap (λ (xs : List Symbol). foremost is_nearer (filter (λ s. nat_le s.address addr) xs)) e)
 
 pub no_address : (names : Names) (name : List ℕ) → (length name == 0) ≡ true → address_of names name ≡ None
 no_address names [] e = refl

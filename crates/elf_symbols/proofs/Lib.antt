@@ -1,4 +1,5 @@
 pub mod Proper
+pub mod Foremost
 pub mod Best
 pub mod Tables
 pub mod Puts

@@ -1,11 +1,12 @@
 -- The order of names, by what stands from the start of each on.
-use Rattle.std.proofs.Common.{◌≡◌, ◌≢◌, ℕ, ◌<◌, ◌≤◌, Bool, true, false, cond, List, [], ◌∷◌, Option, None, Some, drop, take, ◌-◌, length, length-drop, refl, sym, ◌∙◌, ap, arith, get_or}
+use Rattle.std.proofs.Common.{◌≡◌, ◌≢◌, ℕ, zero, suc, ◌<◌, ◌≤◌, Bool, true, false, List, [], ◌∷◌, Option, None, Some, drop, take, ◌-◌, length, length-drop, refl, sym, ◌∙◌, ap, arith, get_or}
 use Rattle.std.specs.Prelude.{◌==◌, ◌&&◌, ◌||◌, if◌then◌else◌, is_some, nat_lt, not, unwrap_or}
 use Rattle.std.specs.Option.{option_map}
 use Rattle.std.proofs.lemmas.Grind.{common_steps}
 use Rattle.std.proofs.lemmas.List.{take_all}
 use Rattle.std.proofs.lemmas.Bool.Decides.{nat_tests}
-use Rattle.elf32_read.specs.Fields.{name_at, name_from, zero_end}
+use Rattle.elf32_read.specs.Fields.{IsAlike, name_at, name_from, zero_end}
+use Rattle.elf32_read.proofs.Alike.{alike_tail}
 use Rattle.elf32_read.proofs.Names.{name_ends}
 use Rattle.elf_symbols.specs.Names.{bytes_before}
 
@@ -117,3 +118,30 @@ pub empty_before : (strings : List ℕ) (at end : ℕ) → end ≡ zero_end stri
 unfolding name_at
 empty_before strings at end e lt =
     empty_head (drop at strings) (has_name strings at end e lt) ∙ ap (λ (x : ℕ). not (x == 0)) (get_or-drop_zero strings at)
+
+pub alike-sym : (n : ℕ) (left right : List ℕ) → IsAlike n left right → IsAlike n right left
+alike-sym n left right a =
+    record { within = a.also; also = a.within; same = λ k lt. sym (a.same k lt); some = λ k lt. omega (arith, a.same k lt, a.some k lt) }
+
+-- past bytes that are alike
+pub has_behind : (n : ℕ) (left right : List ℕ) → IsAlike n left right → is_some (name_from left) ≡ true → is_some (name_from (drop n left)) ≡ true
+has_behind zero left right a h = h
+has_behind (suc n) [] right a h = absurd (omega (arith, a.within))
+has_behind (suc n) (x ∷ xs) [] a h = absurd (omega (arith, a.also))
+has_behind (suc n) (x ∷ xs) (y ∷ ys) a h =
+    let some : 0 < x = a.some 0 (omega arith) in
+    let apart : x ≢ 0 = omega (arith, some) in
+    has_behind n xs ys (alike_tail n x y xs ys a) (has_rest x xs h apart)
+
+pub before_behind : (n : ℕ) (left right : List ℕ) → IsAlike n left right → is_some (name_from left) ≡ true → is_some (name_from right) ≡ true
+    → bytes_before (named left) (named right) ≡ bytes_before (named (drop n left)) (named (drop n right))
+before_behind zero left right a h k = refl
+before_behind (suc n) [] right a h k = absurd (omega (arith, a.within))
+before_behind (suc n) (x ∷ xs) [] a h k = absurd (omega (arith, a.also))
+before_behind (suc n) (x ∷ xs) (y ∷ ys) a h k =
+    let some : 0 < x = a.some 0 (omega arith) in
+    let same : x ≡ y = a.same 0 (omega arith) in
+    let apart : x ≢ 0 = omega (arith, some) in
+    let apart' : y ≢ 0 = omega (arith, some, same) in
+    same_byte x y xs ys h k apart same
+    ∙ before_behind n xs ys (alike_tail n x y xs ys a) (has_rest x xs h apart) (has_rest y ys k apart')

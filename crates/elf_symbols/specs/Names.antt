@@ -1,5 +1,6 @@
 -- The symbols of a program, and what their look-ups answer.
-use Rattle.std.specs.Prelude.{ℕ, ◌+◌, ◌==◌, nat_le, nat_lt, ◌&&◌, ◌||◌, not, Bool, true, false, List, [], ◌∷◌, Option, None, Some, filter, fold, if◌then◌else◌, option_and_then}
+use Rattle.std.specs.Prelude.{ℕ, ◌+◌, ◌==◌, nat_le, nat_lt, ◌&&◌, ◌||◌, not, Bool, true, false, List, [], ◌∷◌, Option, None, Some, filter, find, fold, if◌then◌else◌, option_and_then}
+use Rattle.std.specs.List.{list_any}
 use Rattle.std.specs.Str.{bytes_eq}
 
 -- a named symbol (gABI, Symbol Table)
@@ -22,11 +23,16 @@ bytes_before [] (y ∷ ys) = true
 bytes_before (x ∷ xs) [] = false
 bytes_before (x ∷ xs) (y ∷ ys) = nat_lt x y || ((x == y) && bytes_before xs ys)
 
+-- the first element that no other comes before
+abbrev pub foremost : {A : Type 0} → (A → A → Bool) → List A → Option A
+foremost before xs = find (λ x. not (list_any (λ y. before y x) xs)) xs
+
+-- one more element takes the place of the best so far where it comes before it
 abbrev pub better : {A : Type 0} → (A → A → Bool) → Option A → A → Option A
 better before None x = Some x
 better before (Some best) x = if before x best then Some x else Some best
 
--- the first element that no other comes before
+-- the best of a list, one element after the other; by an order it is the foremost
 abbrev pub best : {A : Type 0} → (A → A → Bool) → List A → Option A
 best before xs = fold (better before) None xs
 
@@ -38,7 +44,7 @@ is_preferred a b =
 -- the symbol of a name, which is not empty
 abbrev pub address_of : Names → List ℕ → Option Symbol
 address_of names [] = None
-address_of names (b ∷ bs) = best is_preferred (filter (λ s. bytes_eq (b ∷ bs) s.name) names.symbols)
+address_of names (b ∷ bs) = foremost is_preferred (filter (λ s. bytes_eq (b ∷ bs) s.name) names.symbols)
 
 -- the greater address, and of equal ones the lesser name
 abbrev pub is_nearer : Symbol → Symbol → Bool
@@ -51,4 +57,4 @@ covering addr s = if nat_lt 0 s.size && nat_le (s.address + s.size) addr then No
 
 -- the function that an address lies in
 abbrev pub function_at : Names → ℕ → Option Symbol
-function_at names addr = option_and_then (covering addr) (best is_nearer (filter (λ s. nat_le s.address addr) names.functions))
+function_at names addr = option_and_then (covering addr) (foremost is_nearer (filter (λ s. nat_le s.address addr) names.functions))

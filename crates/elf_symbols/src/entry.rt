@@ -8,15 +8,25 @@ use std::alloc::{AllocError, Global};
 /// The size of an entry of a symbol table.
 pub const ENTRY_SIZE: usize = 16;
 
+/// The type of a function in `st_info`, and the greatest of the types that count: nothing said, an object, a function
+/// (gABI, Symbol Table).
+pub const STT_FUNC: u8 = 2;
+
+/// The number of no section, in `st_shndx`.
+const SHN_UNDEF: u16 = 0;
+
 /// An entry of a symbol table (gABI, Symbol Table).
 #[derive(Clone, Copy, Debug)]
 pub struct SymbolEntry {
-    /// Where the name begins in the string table.
+    /// `st_name`: where the name begins in the string table.
     pub name: u32,
+    /// `st_value`.
     pub address: u32,
+    /// `st_size`, in bytes.
     pub size: u32,
-    /// 0 nothing said, 1 an object, 2 a function.
+    /// The type in `st_info`: 0 nothing said, 1 an object, 2 a function.
     pub kind: u8,
+    /// `st_shndx`: the number of its section; 0 is none.
     pub section: u16,
 }
 
@@ -53,7 +63,7 @@ fn is_counted(strings: &[u8], end: usize, entry: &SymbolEntry) -> bool
     requires { end ≡ zero_end strings.now }
     ensures { result ≡ is_counted strings.now entry.now }
 {
-    (entry.kind <= 2 && entry.section != 0) && is_proper(strings, end, entry.name)
+    (entry.kind <= STT_FUNC && entry.section != SHN_UNDEF) && is_proper(strings, end, entry.name)
 }
 
 /// The entries of a table that count, in its order.

@@ -6,8 +6,8 @@ ghost use Rattle.elf_symbols.specs.Lookups.{FindsBefore, IsAddressTable, IsLong,
 ghost use Rattle.elf_symbols.specs.Names.{address_of, best, bytes_before, covering, function_at};
 ghost use Rattle.elf_symbols.specs.Views.{symbol_shown};
 
-use crate::entry::SymbolEntry;
-use elf32_read::fields::begins_with_name;
+use crate::entry::{STT_FUNC, SymbolEntry};
+use elf32_read::fields::{alike_front, begins_with_name};
 use std::alloc::{AllocError, Global};
 use std::collections::BTreeMap;
 use std::marker::Model;
@@ -18,10 +18,13 @@ pub const MOST_KEPT: usize = 256;
 /// A symbol that was found.
 #[derive(Clone, Copy, Debug)]
 pub struct Named<'a> {
+    /// Without its zero byte.
     pub name: &'a [u8],
+    /// `st_value`.
     pub address: u32,
-    /// In bytes; 0 says nothing.
+    /// `st_size`, in bytes; 0 says nothing.
     pub size: u32,
+    /// Whether its type is `STT_FUNC`.
     pub is_function: bool,
 }
 
@@ -107,8 +110,18 @@ pub fn symbol_name<'a>(strings: &'a [u8], entry: &SymbolEntry) -> &'a [u8]
 }
 
 /// Whether a name comes before another in the order of their bytes, by what stands from the start of each on. It
-/// reads no further than the first byte that differs.
+/// reads little further than the first byte that differs, and what is alike many bytes at a time.
 fn name_before(left: &[u8], right: &[u8]) -> bool
+    requires left { is_some (name_from left.now) ≡ true }
+    requires right { is_some (name_from right.now) ≡ true }
+    ensures { result ≡ bytes_before (unwrap_or (name_from left.now) []) (unwrap_or (name_from right.now) []) }
+{
+    let front = alike_front(left, right);
+    differs_before(&left[front..], &right[front..])
+}
+
+/// The same, byte by byte.
+fn differs_before(left: &[u8], right: &[u8]) -> bool
     requires left { is_some (name_from left.now) ≡ true }
     requires right { is_some (name_from right.now) ≡ true }
     ensures { result ≡ bytes_before (unwrap_or (name_from left.now) []) (unwrap_or (name_from right.now) []) }
@@ -157,7 +170,8 @@ fn place_before(strings: &[u8], end: usize, a: usize, b: usize) -> bool
 pub fn is_preferred(a: &SymbolEntry, b: &SymbolEntry) -> bool
     ensures { result ≡ entry_preferred a.now b.now }
 {
-    a.address < b.address || (a.address == b.address && (a.kind == 2 && !(b.kind == 2)))
+    a.address < b.address
+        || (a.address == b.address && (a.kind == STT_FUNC && !(b.kind == STT_FUNC)))
 }
 
 pub fn is_nearer(strings: &[u8], end: usize, a: &SymbolEntry, b: &SymbolEntry) -> bool
@@ -209,7 +223,7 @@ fn shown<'a>(strings: &'a [u8], entry: &SymbolEntry) -> Named<'a>
         name: symbol_name(strings, entry),
         address: entry.address,
         size: entry.size,
-        is_function: entry.kind == 2,
+        is_function: entry.kind == STT_FUNC,
     }
 }
 
@@ -290,7 +304,7 @@ impl Symbols {
         }
     }
 
-    /// Where the functions in text begin, in the symbol table's order.
+    /// Where the functions in text begin, in the symbol table's order. Its one error is want of memory.
     pub fn function_addresses(&self, alloc: Global) -> Result<Vec<u32>, AllocError>
         ensures { IfOk result (λ v. v.items ≡ map (λ s. s.address) self.now.functions) }
     {

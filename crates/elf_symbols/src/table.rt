@@ -3,7 +3,7 @@ ghost use Rattle.std.specs.Option.{option_map, option_map_or};
 ghost use Rattle.elf32_read.specs.Views.{section_shown, unnamed};
 ghost use Rattle.elf_symbols.specs.Entries.{is_code, names_of, strings_of, symbol_bytes, symbol_names, symbol_table};
 
-use crate::entry::{SymbolEntry, counted_entries};
+use crate::entry::{STT_FUNC, SymbolEntry, counted_entries};
 use crate::lookups::{address_table, name_table};
 use crate::names::Symbols;
 use dbg_traits::NoMemory;
@@ -11,13 +11,18 @@ use elf32_read::fields::zero_end;
 use elf32_read::{Image, SectionView};
 use std::alloc::{AllocError, Global};
 
+/// `sh_type` of a symbol table and of a string table (gABI, Section Header).
+const SHT_SYMTAB: u32 = 2;
+
+const SHT_STRTAB: u32 = 3;
+
 /// The first symbol table of an image.
 fn table_of(image: &Image) -> Option<SectionView<'_>>
     ensures { option_map section_shown result ≡ option_map unnamed (symbol_table image.now) }
 {
     for k in 0..image.section_count() {
         let section = image.section_at(k);
-        if section.kind == 2 {
+        if section.kind == SHT_SYMTAB {
             return Some(section);
         }
     }
@@ -33,7 +38,7 @@ fn strings_at(image: &Image, number: u32) -> &[u8]
         return &[];
     }
     let section = image.section_at(k);
-    if section.kind == 3 {
+    if section.kind == SHT_STRTAB {
         section.bytes
     } else {
         &[]
@@ -76,10 +81,11 @@ fn code_entries(
 fn is_code(image: &Image, entry: &SymbolEntry) -> bool
     ensures { result ≡ is_code image.now entry.now }
 {
-    entry.kind == 2 && image.in_text(entry.address)
+    entry.kind == STT_FUNC && image.in_text(entry.address)
 }
 
-/// The symbols of an image: those of its first symbol table that have a section and a name.
+/// The symbols of an image: those of its first symbol table that have a section and a name, and none without a table.
+/// Its one error is want of memory.
 pub fn symbols(alloc: Global, image: &Image) -> Result<Symbols, NoMemory>
     ensures { IfOk result (λ s. s ≡ names_of image.now) }
 {

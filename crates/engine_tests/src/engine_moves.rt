@@ -20,13 +20,15 @@ enum Step {
     Next(usize, Option<u32>),
     // A turn of a hart, and what it did.
     Turn(u32, Turned),
+    // Instructions of a hart in one call: at most so many, and how many there were.
+    Run(u32, u32, u32),
     // Where a hart shows its pc, and in which step over a breakpoint it is.
     At(u32, u32, Phase),
     // Whether the word at an address is planted.
     Planted(u32, bool),
 }
 
-use Step::{At, Line, Next, Over, Planted, Refused, Turn};
+use Step::{At, Line, Next, Over, Planted, Refused, Run, Turn};
 use Turned::{
     AllLeft, Arrived, Copied, Fixed, Held, Interrupted, Left, Lifted, NoSlot, NotRunning, Ran,
 };
@@ -113,6 +115,11 @@ fn is_as_said(engine: &mut Engine, step: Step) -> bool {
             engine.reserve_journal(32).is_ok()
                 && (hart as usize) < engine.harts()
                 && engine.turn(hart) == turned
+        }
+        Run(hart, limit, count) => {
+            engine.reserve_journal(32).is_ok()
+                && (hart as usize) < engine.harts()
+                && engine.run(hart, limit) == count
         }
         At(hart, pc, phase) => {
             (hart as usize) < engine.harts() && engine.pc(hart) == pc && engine.phase(hart) == phase
@@ -278,6 +285,42 @@ const ENDS: [Step; 11] = [
 // The budget, which is 1, comes before a line that would end the session.
 const BUDGET_FIRST: [Step; 3] = [CONTINUE, Turn(0, Ran), Over(Some(End::Budget))];
 
+// In one call a hart goes on up to the limit, a planted word, an interrupt or an ECALL, and none that doesn't run.
+const RUNS: [Step; 16] = [
+    Run(0, 10, 0),
+    CONTINUE,
+    Run(0, 5, 5),
+    At(0, 0x1_0078, Phase::Idle),
+    PASSED,
+    Run(0, 5, 0),
+    Turn(0, Copied),
+    Run(0, 5, 0),
+    Turn(0, Ran),
+    Run(0, 5, 0),
+    Turn(0, Fixed),
+    Run(0, 5, 1),
+    Line("-exec-interrupt --thread 2"),
+    Run(1, 5, 0),
+    Turn(1, Interrupted),
+    Run(1, 5, 0),
+];
+
+// The budget is 7.
+const RUNS_ITS_BUDGET: [Step; 5] = [
+    CONTINUE,
+    Run(0, 4, 4),
+    Run(1, 64, 3),
+    Over(Some(End::Budget)),
+    Run(0, 64, 0),
+];
+
+const RUNS_TO_A_CALL: [Step; 4] = [
+    CONTINUE,
+    Run(0, 64, 2),
+    Run(0, 64, 0),
+    Turn(0, Left { code: 66 }),
+];
+
 // The harts are picked in turn, of those that run.
 const PICKS: [Step; 12] = [
     Next(0, None),
@@ -310,6 +353,9 @@ fn harts_move_as_they_must(rt: HostRuntime) -> Result<(), Fail> {
         (&LOOPS[..], 2, 0, 100, &ENDS[..]),
         (&LOOPS[..], 2, 0, 1, &BUDGET_FIRST[..]),
         (&LOOPS[..], 4, 0, 100, &PICKS[..]),
+        (&LOOPS[..], 2, 2, 100, &RUNS[..]),
+        (&LOOPS[..], 2, 0, 7, &RUNS_ITS_BUDGET[..]),
+        (&EXITS[..], 1, 0, 100, &RUNS_TO_A_CALL[..]),
     ];
     for (case, (words, harts, slots, budget, steps)) in cases.into_iter().enumerate() {
         let mut engine = engine_of(alloc, words, harts, slots, budget)?;

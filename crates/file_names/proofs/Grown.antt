@@ -1,6 +1,6 @@
 -- Steps from text to text.
 use Rattle.std.proofs.Common.{◌≡◌, ℕ, zero, suc, ◌+◌, ◌-◌, ◌*◌, ◌≤◌, ◌<◌, Bool, true, false, List, [], ◌∷◌, ◌++◌, Option, None, Some, length, drop, take, refl, arith, ◌∙◌, ap, sym, subst, get_or, eqb-true}
-use Rattle.std.specs.Prelude.{nat_lt, ◌==◌, slice_get, slice_set, slice_range, if◌then◌else◌}
+use Rattle.std.specs.Prelude.{OnErr, Result, Ok, Err, nat_lt, ◌==◌, slice_get, slice_set, slice_range, if◌then◌else◌}
 use Rattle.std.specs.List.{take_while}
 use Rattle.std.specs.BTreeMap.{BTreeMap}
 use Rattle.std.specs.BTreeMap as tree
@@ -165,3 +165,8 @@ get_here (x ∷ xs) (suc k) d h = get_here xs k d (omega arith)
 -- what is kept at a place
 pub got : (known : List (Option Met)) (k : ℕ) (met : Met) (o : Option Met) → k < length known → o ≡ get_or known k None → o ≡ Some met → slice_get known k ≡ Some (Some met)
 got known k met o within at is = get_here known k None within ∙ ap (λ (x : Option Met). Some x) (sym at ∙ is)
+
+-- where a call fails, what holds of all that it may leave
+pub on_err : {T E P : Type 0} (r : Result T E) → P → OnErr r P
+on_err (Ok x) p = tt
+on_err (Err e) p = p

@@ -11,7 +11,7 @@ use Rattle.file_names.specs.declared.sections.SectionTexts.{SectionTexts}
 use Rattle.line_rows.specs.RowList.{NameList}
 use Rattle.file_names.specs.Links.{AreLinks, AreNumbers, class_of, number_by}
 use Rattle.file_names.specs.Numbers.{place_of}
-use Rattle.file_names.specs.Tables.{GoesOn, Grows, HasNumbers, IsSection, Keeps, Numbers, NumbersIn, Opens, Sets, StandsAt}
+use Rattle.file_names.specs.Tables.{GoesOn, Grows, HasNumbers, IsSection, Keeps, Numbers, NumbersIn, Opens, Sets, StandsAt, StaysIn}
 use Rattle.file_names.specs.Texts.{AreMet, text_from}
 use Rattle.file_names.specs.declared.classes.Classes.{Classes}
 use Rattle.file_names.proofs.Known.{known_name, new_name, set_numbers}
@@ -204,4 +204,24 @@ no_section links texts section table start known =
     record {
       met = λ at met there. let none : slice_get [] at ≡ Some (Some met) = ap (λ (l : List (Option Met)). slice_get l at) (sym known) ∙ there in absurd (cc);
       kept = λ other there. let none : None ≡ Some other = sym start ∙ there in absurd (cc);
+    }
+
+numbers_grow : (old new : Classes) (names : List (List ℕ)) → HasNumbers old names → Grows old new → HasNumbers new names
+numbers_grow old new names h g = record { classes = g.classes; numbers = λ name. g.numbers name ∙ h.numbers name }
+
+-- no name came from a section, which may be kept
+pub stays_in : (old new : Classes) (before opened_names after : NameList) (section : List ℕ) (known : List (Option Met)) (opened table : SectionTexts) (start : ℕ)
+    → HasNumbers old before.names → Opens old.links before opened_names section opened start → Grows old new → AreMet new.links section known → after ≡ opened_names
+    → table.start ≡ opened.start → table.known.items ≡ known → StaysIn old new before after section table
+stays_in old new before opened_names after section known opened table start h o g are same begin items =
+    let names : after.names ≡ before.names = ap (λ (l : NameList). l.names) same ∙ o.names in
+    let texts : after.texts ≡ opened_names.texts = ap (λ (l : NameList). l.texts) same in
+    record {
+      stays = record {
+        names = names;
+        table = subst (λ (l : List (List ℕ)). HasNumbers new l) (sym names) (numbers_grow old new before.names h g);
+        stays = g.stays;
+        texts = (o.texts.0, texts ∙ o.texts.1);
+      };
+      in_section = grown_section old new after.texts section opened known (subst (λ (l : List ℕ). IsSection old.links l section opened) (sym texts) o.is_section) are table begin items;
     }

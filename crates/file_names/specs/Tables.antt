@@ -71,6 +71,13 @@ pub record Numbers (old new : Classes) (before after : NameList) (name : List �
   pub stays : (text : List ℕ) (c : ℕ) → class_of old.links text ≡ Some c → class_of new.links text ≡ Some c
   pub texts : GoesOn before.texts after.texts
 
+-- no name came, and each has its number as before
+pub record Stays (old new : Classes) (before after : NameList) : Type 0 where
+  pub names : after.names ≡ before.names
+  pub table : HasNumbers new after.names
+  pub stays : (text : List ℕ) (c : ℕ) → class_of old.links text ≡ Some c → class_of new.links text ≡ Some c
+  pub texts : GoesOn before.texts after.texts
+
 -- a section stands at a place of what is kept
 pub record StandsAt (texts section : List ℕ) (start : ℕ) : Type 0 where
   pub within : start + length section ≤ length texts
@@ -93,4 +100,15 @@ pub record Opens (links : BTreeMap ℕ ℕ) (before after : NameList) (section :
 -- the same for a name in a section
 pub record NumbersIn (old new : Classes) (before after : NameList) (section : List ℕ) (at : ℕ) (table : SectionTexts) (number : ℕ) : Type 0 where
   pub numbers : Numbers old new before after (text_from section at) number
+  pub in_section : IsSection new.links after.texts section table
+
+-- a section may be kept, and none of its texts is met
+pub record IsShut (links : BTreeMap ℕ ℕ) (before after : NameList) (section : List ℕ) (table : SectionTexts) : Type 0 where
+  pub names : after.names ≡ before.names
+  pub texts : GoesOn before.texts after.texts
+  pub is_section : IsSection links after.texts section table
+
+-- no name came from a section
+pub record StaysIn (old new : Classes) (before after : NameList) (section : List ℕ) (table : SectionTexts) : Type 0 where
+  pub stays : Stays old new before after
   pub in_section : IsSection new.links after.texts section table

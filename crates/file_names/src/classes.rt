@@ -1,7 +1,7 @@
 //! Classes of texts: equal texts have one class.
 
-ghost use Rattle.std.specs.Prelude.{◌≡◌, ◌+◌, ◌*◌, ◌<◌, [], IfOk, length};
-ghost use Rattle.file_names.specs.Tables.{AreClasses, Classed, HasNumbers, Links};
+ghost use Rattle.std.specs.Prelude.{◌≡◌, ◌+◌, ◌*◌, ◌<◌, [], IfOk, OnErr, length};
+ghost use Rattle.file_names.specs.Tables.{AreClasses, Classed, Grows, HasNumbers, Links};
 
 use dbg_traits::NoMemory;
 use std::alloc::Global;
@@ -47,27 +47,31 @@ pub fn next_number(count: usize) -> Result<u32, NoMemory>
     Ok(count as u32)
 }
 
-/// The class of a text by the class of what is behind its first byte.
+/// The class of a text by the class of what is behind its first byte. Without memory classes may have come to be, and no
+/// number.
 #[tactic(auto, using(crate::proofs::Grown::link_known))]
 pub fn longer(classes: &mut Classes, class: u32, byte: u8) -> Result<u32, NoMemory>
     requires classes { AreClasses classes.old }
     requires below { class < length classes.old.numbers.items }
-    ensures { IfOk result (λ next. Links classes.old classes.new class byte next) }
+    ensures link { IfOk result (λ next. Links classes.old classes.new class byte next) }
+    ensures err { OnErr result (Grows classes.old classes.new) }
 {
     let key = key_of(class, byte);
     if let Some(next) = classes.links.get(&key) {
         return Ok(*next);
     }
     let next = next_number(classes.numbers.len())?;
+    classes.numbers.reserve(1)?;
     classes.links.insert(key, next)?;
     classes.numbers.push(None)?;
     Ok(next)
 }
 
-/// The class of a text.
+/// The class of a text. Without memory classes may have come to be, and no number.
 pub fn class_of(classes: &mut Classes, text: &[u8]) -> Result<u32, NoMemory>
     requires { AreClasses classes.old }
-    ensures { IfOk result (λ c. Classed classes.old classes.new text.now c) }
+    ensures classed { IfOk result (λ c. Classed classes.old classes.new text.now c) }
+    ensures err { OnErr result (Grows classes.old classes.new) }
 {
     let mut class = 0;
     let mut start = text.len();

@@ -1,7 +1,7 @@
 //! The numbers of names.
 
-ghost use Rattle.std.specs.Prelude.{◌≡◌, ◌+◌, ◌<◌, ◌≤◌, IfOk, None, Some, length, replicate, slice_index_or};
-ghost use Rattle.file_names.specs.Tables.{HasNumbers, IsSection, Numbers, NumbersIn, Opens, Sets};
+ghost use Rattle.std.specs.Prelude.{◌≡◌, ◌+◌, ◌<◌, ◌≤◌, IfOk, OnErr, None, Some, length, replicate, slice_index_or};
+ghost use Rattle.file_names.specs.Tables.{HasNumbers, IsSection, IsShut, Numbers, NumbersIn, Opens, Sets, Stays, StaysIn};
 ghost use Rattle.file_names.specs.Texts.{text_from};
 
 use crate::classes::{Classes, class_of, next_number};
@@ -25,10 +25,12 @@ fn set_number(classes: &mut Classes, class: u32, number: u32)
     classes.numbers[class as usize] = Some(number);
 }
 
-/// The number of a name, which is the next one where the list had no such name.
+/// The number of a name, which is the next one where the list had no such name. Without memory the names stay as they
+/// were, with their numbers.
 pub fn number_of(classes: &mut Classes, names: &mut FileNames, name: &[u8]) -> Result<u32, NoMemory>
     requires { HasNumbers classes.old names.old.names }
-    ensures { IfOk result (λ n. Numbers classes.old classes.new names.old names.new name.now n) }
+    ensures number { IfOk result (λ n. Numbers classes.old classes.new names.old names.new name.now n) }
+    ensures err { OnErr result (Stays classes.old classes.new names.old names.new) }
 {
     let class = class_of(classes, name)?;
     if let Some(number) = number_by(classes, class) {
@@ -55,7 +57,8 @@ fn kept_at(
     section: &[u8],
 ) -> Result<usize, NoMemory>
     requires { IsSection classes.now.links names.old.texts section.now table.old }
-    ensures { IfOk result (λ start. Opens classes.now.links names.old names.new section.now table.new start) }
+    ensures opens { IfOk result (λ start. Opens classes.now.links names.old names.new section.now table.new start) }
+    ensures err { OnErr result (IsShut classes.now.links names.old names.new section.now table.new) }
 {
     if let Some(start) = table.start {
         return Ok(start);
@@ -81,7 +84,8 @@ fn within(section: &[u8], at: usize) -> usize
     at
 }
 
-/// The number of the name that begins at a place of a section and ends before a zero byte, as `number_of`.
+/// The number of the name that begins at a place of a section and ends before a zero byte, as `number_of`. Without memory
+/// the names stay as they were, with their numbers; the section may have been kept.
 pub fn number_in(
     alloc: Global,
     classes: &mut Classes,
@@ -92,7 +96,8 @@ pub fn number_in(
 ) -> Result<u32, NoMemory>
     requires numbers { HasNumbers classes.old names.old.names }
     requires kept { IsSection classes.old.links names.old.texts section.now table.old }
-    ensures { IfOk result (λ n. NumbersIn classes.old classes.new names.old names.new section.now at table.new n) }
+    ensures number { IfOk result (λ n. NumbersIn classes.old classes.new names.old names.new section.now at table.new n) }
+    ensures err { OnErr result (StaysIn classes.old classes.new names.old names.new section.now table.new) }
 {
     let start = kept_at(alloc, classes, names, table, section)?;
     let at = next_number(within(section, at))?;

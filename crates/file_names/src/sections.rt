@@ -13,6 +13,7 @@ pub struct SectionTexts {
 }
 
 impl SectionTexts {
+    /// None was asked for yet.
     pub fn new(alloc: Global) -> SectionTexts
         ensures start { result.start ≡ None }
         ensures known { result.known.items ≡ [] }

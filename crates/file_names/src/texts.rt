@@ -1,7 +1,7 @@
 //! Texts in a section, which can overlap.
 
-ghost use Rattle.std.specs.Prelude.{◌≡◌, ◌+◌, ◌^◌, ◌<◌, ◌≤◌, IfOk, IfSome, length};
-ghost use Rattle.file_names.specs.Tables.{AreClasses, Finds, Keeps, Meets, remembered};
+ghost use Rattle.std.specs.Prelude.{◌≡◌, ◌+◌, ◌^◌, ◌<◌, ◌≤◌, IfOk, IfSome, OnErr, length};
+ghost use Rattle.file_names.specs.Tables.{AreClasses, Finds, Grows, Keeps, Meets, remembered};
 ghost use Rattle.file_names.specs.Texts.{AreMet, IsMet};
 
 use crate::classes::{Classes, longer};
@@ -31,7 +31,8 @@ pub fn met_before(
     requires classes { AreClasses classes.old }
     requires within { at < length section.now }
     requires met { IsMet classes.old.links section.now (at + 1) behind }
-    ensures { IfOk result (λ met. Meets classes.old classes.new section.now at met) }
+    ensures meets { IfOk result (λ met. Meets classes.old classes.new section.now at met) }
+    ensures err { OnErr result (Grows classes.old classes.new) }
 {
     let byte = section[at as usize];
     if byte == 0 {
@@ -102,7 +103,8 @@ pub fn met_at(
     requires within { at ≤ length section.now }
     requires fits { length section.now < 2 ^ 32 }
     requires known { AreMet classes.old.links section.now known.old }
-    ensures { IfOk result (λ met. Keeps classes.old classes.new section.now known.new at met) }
+    ensures keeps { IfOk result (λ met. Keeps classes.old classes.new section.now known.new at met) }
+    ensures err { OnErr result (Grows classes.old classes.new × AreMet classes.new.links section.now known.new) }
 {
     let found = first_met(classes, known, section, at);
     let mut place = found.at;

@@ -10,7 +10,7 @@ use Rattle.dwarf_frames.specs.declared.rules.RegisterRule.TheVariants.{Unspecifi
 use Rattle.dwarf_frames.specs.declared.fault.FrameFault.{FrameFault}
 use Rattle.frame_walk.specs.declared.context.Context.{Context}
 use Rattle.dwarf_frames.specs.Within.{AreWithin}
-use Rattle.frame_walk.specs.Memory.{word_at}
+use Rattle.frame_walk.specs.Memory.{data_bytes, word_at}
 
 -- the value of a CFA rule over x0 to x31
 abbrev pub cfa_value : List ℕ → CfaRule → ℕ
@@ -84,7 +84,7 @@ caller_by image bytes frame (Ok None) =
     else None
 caller_by image bytes frame (Ok (Some rules)) =
     if is_above frame.inner_cfa (cfa_value frame.registers rules.cfa)
-    then option_and_then (returned_by image (cfa_value frame.registers rules.cfa) rules) (caller_registers bytes frame.registers (cfa_value frame.registers rules.cfa) rules)
+    then option_and_then (returned_by image (cfa_value frame.registers rules.cfa) rules) (caller_registers (data_bytes image bytes) frame.registers (cfa_value frame.registers rules.cfa) rules)
     else None
 
 -- the rules that cover a frame, if there are any, speak of x0 to x31 alone

@@ -2,6 +2,7 @@
 
 ghost use Rattle.std.specs.Prelude.{◌≡◌, ◌<◌};
 ghost use Rattle.dwarf_frames.specs.Within.{AreWithin, NamesRegister};
+ghost use Rattle.frame_walk.specs.Memory.{data_bytes};
 ghost use Rattle.frame_walk.specs.Caller.{AreCovered, caller_by, caller_registers, cfa_by, cfa_value, is_above, is_undefined, returned, returned_by, value_by};
 
 use crate::context::Context;
@@ -37,6 +38,7 @@ pub fn cfa_by(registers: &[u32; 32], found: &Result<Option<Rules>, FrameFault>) 
 
 /// The value that the register of number `n` has in the caller; none where it stands in a word that can't be read.
 fn value_by<V: View>(
+    image: &Image,
     view: &V,
     registers: &[u32; 32],
     cfa: u32,
@@ -45,14 +47,14 @@ fn value_by<V: View>(
 ) -> Option<u32>
     requires within { n < 32 }
     requires named { NamesRegister rule }
-    ensures { result ≡ value_by (V.bytes view.now) registers.now cfa n rule }
+    ensures { result ≡ value_by (data_bytes image.now (V.bytes view.now)) registers.now cfa n rule }
 {
     match rule {
         RegisterRule::Unspecified if n == STACK_POINTER => Some(cfa),
         RegisterRule::Unspecified | RegisterRule::Undefined | RegisterRule::SameValue => {
             Some(registers[n])
         }
-        RegisterRule::Offset(offset) => word_at(view, cfa.wrapping_add(offset)),
+        RegisterRule::Offset(offset) => word_at(image, view, cfa.wrapping_add(offset)),
         RegisterRule::ValOffset(offset) => Some(cfa.wrapping_add(offset)),
         RegisterRule::Register(source) => Some(registers[source as usize]),
     }
@@ -60,17 +62,18 @@ fn value_by<V: View>(
 
 /// x0 to x31 in the caller, where each word that the rules name can be read.
 fn caller_registers<V: View>(
+    image: &Image,
     view: &V,
     registers: &[u32; 32],
     cfa: u32,
     rules: &Rules,
 ) -> Option<[u32; 32]>
     requires { AreWithin rules.now }
-    ensures { result ≡ caller_registers (V.bytes view.now) registers.now cfa rules.now }
+    ensures { result ≡ caller_registers (data_bytes image.now (V.bytes view.now)) registers.now cfa rules.now }
 {
     let mut values = [0; 32];
     for n in 0..32 {
-        values[n] = value_by(view, registers, cfa, n, rules.registers[n])?;
+        values[n] = value_by(image, view, registers, cfa, n, rules.registers[n])?;
     }
     Some(values)
 }
@@ -139,7 +142,7 @@ pub fn caller_by<V: View>(
             frame.registers[RETURN_ADDRESS],
         ),
         Ok(Some(rules)) => {
-            let registers = caller_registers(view, &frame.registers, cfa, rules)?;
+            let registers = caller_registers(image, view, &frame.registers, cfa, rules)?;
             returned_by(image, cfa, rules, &registers)
         }
     }

@@ -1,5 +1,5 @@
--- Each copy was counted as an instruction too.
-use Rattle.std.proofs.Common.{◌≡◌, ℕ, zero, suc, ◌≤◌, Bool, true, false, List, [], ◌∷◌, ◌++◌, subst, arith, inl, inr}
+-- What a step counts, and that each copy was counted as an instruction too.
+use Rattle.std.proofs.Common.{◌≡◌, ℕ, zero, suc, ◌+◌, ◌-◌, ◌^◌, ◌<◌, ◌≤◌, Bool, true, false, List, [], ◌∷◌, ◌++◌, refl, subst, arith, inl, inr}
 use Rattle.std.specs.Prelude.{Some, None, slice_get, slice_set, if◌then◌else◌, ◌⊎◌}
 use Rattle.rv_exec.specs.Memory.{Memory}
 use Rattle.rv_exec.specs.declared.effect.Stepped.{Stepped}
@@ -7,7 +7,7 @@ use Rattle.rv_exec.specs.declared.effect.Stepped.TheVariants as stepped
 use Rattle.text_words.specs.declared.fetch.Fetch.{Fetch}
 use Rattle.plain_machine.specs.Plain.{first_registers}
 use Rattle.hart_machine.specs.declared.hart.Core.{Core}
-use Rattle.hart_machine.specs.Stepping.{CoreSteps, AreCounted, counted, first_cores, is_in_slot}
+use Rattle.hart_machine.specs.Stepping.{AreCounted, CoreSteps, counted, first_cores, has_run, is_in_slot}
 use Rattle.hart_machine.proofs.Places.{same_some, at_set}
 
 -- what is in a list that got one more
@@ -25,22 +25,37 @@ first_counted entry harts (suc n) h c at =
       | inr before ↦ first_counted entry harts n h c before
     ]
 
-both_counted : (s : Stepped) (b : Bool) (copied retired : ℕ) → copied ≤ retired → (if b then counted s copied else copied) ≤ counted s retired
-both_counted stepped.Ran true n k h = omega arith
-both_counted stepped.Ran false n k h = omega arith
-both_counted (stepped.Wrote addr len) true n k h = omega arith
-both_counted (stepped.Wrote addr len) false n k h = omega arith
-both_counted (stepped.HartExit code) true n k h = omega arith
-both_counted (stepped.HartExit code) false n k h = omega arith
-both_counted (stepped.AllExit code) true n k h = omega arith
-both_counted (stepped.AllExit code) false n k h = omega arith
-both_counted stepped.Hit true n k h = h
-both_counted stepped.Hit false n k h = h
-both_counted (stepped.Trap cause) true n k h = h
-both_counted (stepped.Trap cause) false n k h = h
+-- an executed step counts one more, below the end of the type
+pub counted_more : (s : Stepped) (n : ℕ) → has_run s ≡ true → n < 2 ^ 64 - 1 → counted s n ≡ n + 1
+counted_more stepped.Ran n e low = omega arith
+counted_more (stepped.Wrote addr len) n e low = omega arith
+counted_more (stepped.HartExit code) n e low = omega arith
+counted_more (stepped.AllExit code) n e low = omega arith
+counted_more stepped.Hit n e low = cc
+counted_more (stepped.Trap cause) n e low = cc
 
-pub step_counted : (s : Stepped) (f : Fetch) (c c' : Core) (m m' : Memory) → CoreSteps s f c c' m m' → c.copied ≤ c.retired → c'.copied ≤ c'.retired
-step_counted s f c c' m m' k h = rw (k.copied, k.retired) (both_counted s (is_in_slot c) c.copied c.retired h)
+-- and one more copy, where it was one
+pub copied_more : (s : Stepped) (b : Bool) (n : ℕ) → has_run s ≡ true → n < 2 ^ 64 - 1 → (if b then counted s n else n) ≡ (if b then n + 1 else n)
+copied_more s true n e low = counted_more s n e low
+copied_more s false n e low = refl
+
+within_counted : (s : Stepped) (b : Bool) (copied retired : ℕ) → retired < 2 ^ 64 → copied ≤ retired → (if b then counted s copied else copied) ≤ counted s retired
+within_counted stepped.Ran true n k l h = omega arith
+within_counted stepped.Ran false n k l h = omega arith
+within_counted (stepped.Wrote addr len) true n k l h = omega arith
+within_counted (stepped.Wrote addr len) false n k l h = omega arith
+within_counted (stepped.HartExit code) true n k l h = omega arith
+within_counted (stepped.HartExit code) false n k l h = omega arith
+within_counted (stepped.AllExit code) true n k l h = omega arith
+within_counted (stepped.AllExit code) false n k l h = omega arith
+within_counted stepped.Hit true n k l h = h
+within_counted stepped.Hit false n k l h = h
+within_counted (stepped.Trap cause) true n k l h = h
+within_counted (stepped.Trap cause) false n k l h = h
+
+-- a step keeps that no hart copied more than it executed
+pub step_counted : (s : Stepped) (f : Fetch) (c c' : Core) (m m' : Memory) → CoreSteps s f c c' m m' → c.retired < 2 ^ 64 → c.copied ≤ c.retired → c'.copied ≤ c'.retired
+step_counted s f c c' m m' k low h = rw (k.copied, k.retired) (within_counted s (is_in_slot c) c.copied c.retired low h)
 
 pub set_counted : (cores : List Core) (h : ℕ) (c : Core) → AreCounted cores → c.copied ≤ c.retired → AreCounted (slice_set cores h c)
 set_counted cores h c all this k d at =

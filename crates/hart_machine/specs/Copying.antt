@@ -9,7 +9,7 @@ use Rattle.rv_exec.specs.Memory.{Memory}
 use Rattle.rv_exec.specs.declared.effect.Stepped.{Stepped}
 use Rattle.displaced_fix.specs.Fix.{fix, IsWordAddress}
 use Rattle.scratch_slots.specs.declared.slots.SlotUse.{SlotUse}
-use Rattle.scratch_slots.specs.Table.{use_at}
+use Rattle.scratch_slots.specs.Table.{slot_number, least_free, with_use, use_at}
 use Rattle.plain_machine.specs.Plain.{on_word}
 use Rattle.hart_machine.specs.declared.hart.Core.{Core}
 use Rattle.hart_machine.specs.Patched.{Patched}
@@ -47,6 +47,19 @@ Settles old h slot home ran new =
     (c : Core) (u : SlotUse) →
     slice_get old.cores h ≡ Some c → use_at old.slots slot ≡ Some u →
     new ≡ with_core old h (settled_core u.word slot home c ran)
+
+-- hart h has the least free slot with this word, and is at it, and nothing else changes
+abbrev pub Begins : Patched → ℕ → ℕ → ℕ → Patched → Type 0
+Begins old h word slot new =
+    (c : Core) → slice_get old.cores h ≡ Some c →
+    new ≡ record (with_core old h (entered_core c slot)) { slots = with_use old.slots (least_free old.slots) (record { hart = h; word = word }) }
+
+-- hart h is home from the slot, which is free, and nothing else changes
+abbrev pub Finishes : Patched → ℕ → ℕ → ℕ → Bool → Patched → Type 0
+Finishes old h slot home ran new =
+    (c : Core) (u : SlotUse) →
+    slice_get old.cores h ≡ Some c → use_at old.slots slot ≡ Some u →
+    new ≡ record (with_core old h (settled_core u.word slot home c ran)) { slots = slice_set old.slots (slot_number slot) None }
 
 -- a step in a slot, once it is settled, is the plain step at home of the word w that the slot holds
 pub record IsStepAtHome (s : Stepped) (w slot home : ℕ) (c c' : Core) (m m' : Memory) : Type 0 where

@@ -1,5 +1,5 @@
 -- What a step of a hart does.
-use Rattle.std.specs.Prelude.{◌≡◌, ◌<◌, ◌≤◌, ℕ, zero, suc, ◌+◌, ◌^◌, ◌==◌, Bool, true, false, List, [], ◌∷◌, ◌++◌, replicate, Option, Some, None, slice_get, slice_set, if◌then◌else◌}
+use Rattle.std.specs.Prelude.{◌≡◌, ◌<◌, ◌≤◌, ℕ, zero, suc, ◌+◌, ◌-◌, ◌^◌, min, ◌==◌, Bool, true, false, List, [], ◌∷◌, ◌++◌, replicate, Option, Some, None, slice_get, slice_set, if◌then◌else◌}
 use Rattle.rv_decode.specs.Decode.{decode}
 use Rattle.rv_decode.specs.declared.instr.Instr.{Instr}
 use Rattle.rv_exec.specs.declared.effect.Cause.TheVariants.{FetchFault, Illegal}
@@ -59,12 +59,12 @@ has_run (stepped.AllExit code) = true
 has_run stepped.Hit = false
 has_run (stepped.Trap cause) = false
 
--- an instruction that was executed is counted
+-- an instruction that was executed is counted; a count stands still at the greatest of its type
 abbrev pub counted : Stepped → ℕ → ℕ
-counted stepped.Ran n = n + 1
-counted (stepped.Wrote addr len) n = n + 1
-counted (stepped.HartExit code) n = n + 1
-counted (stepped.AllExit code) n = n + 1
+counted stepped.Ran n = min (n + 1) (2 ^ 64 - 1)
+counted (stepped.Wrote addr len) n = min (n + 1) (2 ^ 64 - 1)
+counted (stepped.HartExit code) n = min (n + 1) (2 ^ 64 - 1)
+counted (stepped.AllExit code) n = min (n + 1) (2 ^ 64 - 1)
 counted stepped.Hit n = n
 counted (stepped.Trap cause) n = n
 

@@ -1,7 +1,11 @@
 // One hart, and one step of it.
-ghost use Rattle.std.specs.Prelude.{◌≡◌, ◌<◌, ◌≤◌, ◌-◌, ◌^◌, None, Some};
+ghost use Rattle.std.specs.Prelude.{◌≡◌, ◌<◌, ◌≤◌, ◌^◌, List, Option, None, Some, true, false, length};
 ghost use Rattle.hart_machine.specs.Copying.{entered_core, settled_core};
 ghost use Rattle.hart_machine.specs.Stepping.{CoreSteps, FetchGives, InstructionGives, IsByteCode, copy_fetched, counted, fetched_by, has_run};
+ghost use Rattle.rv_exec.specs.declared.effect.Stepped.TheVariants as stepped;
+ghost use Rattle.scratch_slots.specs.declared.slots.SlotUse as uses;
+ghost use Rattle.text_words.specs.Words.{Words};
+ghost use Rattle.text_words.specs.Fronts.{IsFront};
 ghost use Rattle.plain_machine.specs.Plain.{on_instruction};
 
 use data_memory::DataMemory;
@@ -10,7 +14,7 @@ use plain_machine::call;
 use rv_decode::{Instr, decode};
 use rv_exec::{Cause, Effect, Regs, Stepped, execute};
 use scratch_slots::{SlotUse, Slots};
-use text_words::{Fetch, TextWords};
+use text_words::{Fetch, Front, TextWords};
 
 /// One hart: its registers, how many instructions it has executed, and the scratch slot that it is in.
 #[derive(Drop)]
@@ -73,16 +77,17 @@ fn fetch_copy(slot_use: Option<SlotUse>) -> Fetch
 
 // Executes what was fetched at pc, and counts it where it was executed.
 fn step_fetched(fetched: Fetch, core: &mut Core, memory: &mut DataMemory) -> Stepped
-    requires { core.old.retired < 2 ^ 64 - 1 }
+    requires { core.old.copied ≤ core.old.retired }
     ensures code { IsByteCode result }
     ensures gives { FetchGives result fetched core.old.regs core.new.regs memory.old memory.new }
     ensures retired { core.new.retired ≡ counted result core.old.retired }
     ensures copied { core.new.copied ≡ core.old.copied }
+    ensures copies { core.new.copied ≤ core.new.retired }
     ensures entered { core.new.entered ≡ core.old.entered }
 {
     let stepped = execute_fetched(fetched, &mut core.regs, memory);
     if has_run(stepped) {
-        core.retired += 1;
+        core.retired = core.retired.saturating_add(1);
     }
     stepped
 }
@@ -95,11 +100,11 @@ fn step_entered(
     core: &mut Core,
     memory: &mut DataMemory,
 ) -> Stepped
-    requires count { core.old.retired < 2 ^ 64 - 1 }
     requires copies { core.old.copied ≤ core.old.retired }
     requires entered { core.old.entered ≡ Some slot }
     ensures pc { core.old.regs.pc < 2 ^ 32 }
     ensures code { IsByteCode result }
+    ensures copies { core.new.copied ≤ core.new.retired }
     ensures step { CoreSteps result (fetched_by text.now slots.now core.old) core.old core.new memory.old memory.new }
 {
     let pc = core.regs.pc();
@@ -111,28 +116,71 @@ fn step_entered(
     };
     let stepped = step_fetched(fetched, core, memory);
     if has_run(stepped) {
-        core.copied += u64::from(is_copy);
+        core.copied = core.copied.saturating_add(u64::from(is_copy));
         core.entered = None;
     }
     stepped
 }
 
 /// One step of a hart: the stored word at its pc, or the word of the slot that it entered.
+#[cold]
+#[inline(never)]
 pub fn step_core(
     text: &TextWords,
     slots: &Slots,
     core: &mut Core,
     memory: &mut DataMemory,
 ) -> Stepped
-    requires count { core.old.retired < 2 ^ 64 - 1 }
-    requires copies { core.old.copied ≤ core.old.retired }
+    requires { core.old.copied ≤ core.old.retired }
     ensures pc { core.old.regs.pc < 2 ^ 32 }
     ensures code { IsByteCode result }
+    ensures copies { core.new.copied ≤ core.new.retired }
     ensures step { CoreSteps result (fetched_by text.now slots.now core.old) core.old core.new memory.old memory.new }
 {
     match core.entered {
         None => step_fetched(text.fetch(core.regs.pc()), core, memory),
         Some(slot) => step_entered(slot, text, slots, core, memory),
+    }
+}
+
+// Executes one instruction, and counts it. False where it asks the environment or traps; then nothing has changed.
+#[inline(always)]
+fn execute_alone(instruction: Instr, core: &mut Core, memory: &mut DataMemory) -> bool
+    requires { core.old.copied ≤ core.old.retired }
+    ensures ran { result ≡ true → InstructionGives stepped.Ran instruction core.old.regs core.new.regs memory.old memory.new }
+    ensures retired { result ≡ true → core.new.retired ≡ counted stepped.Ran core.old.retired }
+    ensures copied { core.new.copied ≡ core.old.copied }
+    ensures copies { core.new.copied ≤ core.new.retired }
+    ensures entered { core.new.entered ≡ core.old.entered }
+    ensures kept { result ≡ false → (core.new ≡ core.old) × (memory.new ≡ memory.old) }
+{
+    match execute(instruction, &mut core.regs, memory) {
+        Effect::Done => {
+            core.retired = core.retired.saturating_add(1);
+            true
+        }
+        Effect::Call | Effect::Trap(_) => false,
+    }
+}
+
+/// A step that answers `Ran`, by an instruction of the first section. False where another step is next; then nothing
+/// has changed.
+#[inline(always)]
+pub fn step_front(front: &Front<'_>, core: &mut Core, memory: &mut DataMemory) -> bool
+    requires within { front.now.count ≤ length front.now.code.now }
+    requires copies { core.old.copied ≤ core.old.retired }
+    ensures pc { core.old.regs.pc < 2 ^ 32 }
+    ensures copies { core.new.copied ≤ core.new.retired }
+    ensures ran { (t : Words) (slots : List (Option uses.SlotUse)) → IsFront t front.now.address front.now.count front.now.code.now → result ≡ true → CoreSteps stepped.Ran (fetched_by t slots core.old) core.old core.new memory.old memory.new }
+    ensures kept { result ≡ false → (core.new ≡ core.old) × (memory.new ≡ memory.old) }
+{
+    let pc = core.regs.pc();
+    if core.entered.is_some() {
+        return false;
+    }
+    match front.instruction(pc) {
+        Some(instruction) => execute_alone(instruction, core, memory),
+        None => false,
     }
 }
 

@@ -4,6 +4,7 @@
 mod hart;
 mod laws;
 mod machine;
+mod running;
 mod view;
 
 pub use hart::Core;

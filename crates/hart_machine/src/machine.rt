@@ -1,4 +1,4 @@
-ghost use Rattle.std.specs.Prelude.{◌≡◌, ◌≢◌, ◌<◌, ◌≤◌, ◌-◌, ◌^◌, ℕ, [], length, IfOk, IfErr, IfSome, IfNone, MatchResult, Err, Some, None, is_some, IsSome, true, false, slice_get, slice_set};
+ghost use Rattle.std.specs.Prelude.{◌≡◌, ◌≢◌, ◌<◌, ◌≤◌, ℕ, [], length, IfOk, IfErr, IfSome, IfNone, MatchResult, Err, Some, None, is_some, IsSome, true, false, slice_get, slice_set};
 ghost use Rattle.std.specs.Option.{option_map};
 ghost use Rattle.std.specs.FinSet as set;
 ghost use Rattle.text_words.specs.Words as text;
@@ -8,12 +8,14 @@ ghost use Rattle.dbg_traits.specs.Settings.{AreSettings, AreHarts};
 ghost use Rattle.rv_decode.specs.Decode.{decode};
 ghost use Rattle.scratch_slots.specs.Table.{slot_address, slot_number, use_at, least_free, with_use, AllOut};
 ghost use Rattle.scratch_slots.specs.declared.slots.SlotUse.{SlotUse};
-ghost use Rattle.hart_machine.specs.Copying.{Enters, Settles, owner};
-ghost use Rattle.hart_machine.specs.Stepping.{Steps, IsByteCode, first_cores, has_run, loaded};
+ghost use Rattle.hart_machine.specs.Copying.{Begins, Enters, Finishes, Settles, owner};
+ghost use Rattle.hart_machine.specs.Stepping.{AreCounted, Steps, IsByteCode, first_cores, has_run, loaded};
+ghost use Rattle.hart_machine.specs.Running.{AllRan};
 ghost use Rattle.hart_machine.specs.declared.hart.Core.{Core};
 
 use crate::Core;
 use crate::hart::{enter_core, settle_core, step_core};
+use crate::running::run_core;
 use crate::view::HartView;
 use data_memory::DataMemory;
 use dbg_traits::{NoMemory, Settings};
@@ -102,38 +104,38 @@ impl Machine {
     }
 
     /// Where a hart is.
-    pub fn pc(&self, h: usize) -> u32
+    pub fn pc(&self, h: u32) -> u32
         requires { h < length self.now.cores }
         ensures { (c : Core) → slice_get self.now.cores h ≡ Some c → result ≡ c.regs.pc }
     {
-        self.cores[h].regs.pc()
+        self.cores[h as usize].regs.pc()
     }
 
     /// How many instructions a hart has executed.
-    pub fn retired(&self, h: usize) -> u64
+    pub fn retired(&self, h: u32) -> u64
         requires { h < length self.now.cores }
         ensures { (c : Core) → slice_get self.now.cores h ≡ Some c → result ≡ c.retired }
     {
-        self.cores[h].retired
+        self.cores[h as usize].retired
     }
 
     /// How many of these it has executed in scratch slots.
-    pub fn copied(&self, h: usize) -> u64
+    pub fn copied(&self, h: u32) -> u64
         requires { h < length self.now.cores }
         ensures { (c : Core) → slice_get self.now.cores h ≡ Some c → result ≡ c.copied }
     {
-        self.cores[h].copied
+        self.cores[h as usize].copied
     }
 
     /// What a reader sees of a hart: its registers, and the bytes of data and of the program's text.
-    pub fn view(&self, h: usize) -> HartView<'_>
+    pub fn view(&self, h: u32) -> HartView<'_>
         requires { h < length self.now.cores }
         ensures registers { (c : Core) → slice_get self.now.cores h ≡ Some c → result.regs.now ≡ c.regs }
         ensures memory { result.memory.now ≡ self.now.memory }
         ensures text { result.text.now ≡ self.now.text }
     {
         HartView {
-            regs: &self.cores[h].regs,
+            regs: &self.cores[h as usize].regs,
             memory: &self.memory,
             text: &self.text,
         }
@@ -229,41 +231,90 @@ impl Machine {
     }
 
     /// Puts a hart at a slot that it has claimed: its next step executes the slot's word.
-    pub fn enter(&mut self, h: usize, slot: u32)
+    pub fn enter(&mut self, h: u32, slot: u32)
         requires hart { h < length self.old.cores }
         requires claimed { owner self.old.slots slot ≡ Some h }
         ensures { Enters self.old h slot self.new }
     {
-        enter_core(&mut self.cores[h], slot);
+        enter_core(&mut self.cores[h as usize], slot);
     }
 
     /// Takes a hart home from a slot that it has claimed: makes of its registers those that the slot's word leaves at
     /// `home`. Where the word didn't run, or is no instruction, pc alone goes to `home`. The slot stays claimed.
-    pub fn settle(&mut self, h: usize, slot: u32, home: u32, ran: bool)
+    pub fn settle(&mut self, h: u32, slot: u32, home: u32, ran: bool)
         requires hart { h < length self.old.cores }
         requires claimed { owner self.old.slots slot ≡ Some h }
         requires word { (u : SlotUse) → use_at self.old.slots slot ≡ Some u → ran ≡ true → IsSome (decode u.word) }
         ensures { Settles self.old h slot home ran self.new }
     {
         if let Some(found) = self.slots.at(slot) {
-            settle_core(&mut self.cores[h], found.word, slot, home, ran);
+            settle_core(&mut self.cores[h as usize], found.word, slot, home, ran);
+        }
+    }
+
+    /// Gives a hart the least free slot for a copy of the word, and puts it there: its next step executes the word. None
+    /// exactly where all are out, and then nothing has changed.
+    pub fn begin_copy(&mut self, h: u32, word: u32) -> Option<u32>
+        requires { h < length self.old.cores }
+        ensures slot { result ≡ option_map slot_address (least_free self.old.slots) }
+        ensures begun { IfSome result (λ slot. Begins self.old h word slot self.new) }
+        ensures kept { IfNone result (self.new ≡ self.old) }
+        ensures was_free { IfSome result (λ slot. use_at self.old.slots slot ≡ None) }
+        ensures taken { IfSome result (λ slot. use_at self.new.slots slot ≡ Some (record { hart = h; word = word })) }
+        ensures others { (other : ℕ) → result ≢ Some other → use_at self.new.slots other ≡ use_at self.old.slots other }
+        ensures full { IfNone result (AllOut self.old.slots) }
+    {
+        let slot = self.slots.claim(h, word)?;
+        enter_core(&mut self.cores[h as usize], slot);
+        Some(slot)
+    }
+
+    /// Takes a hart home from a slot that it has claimed, and the slot back: `settle`, then `free`.
+    pub fn finish_copy(&mut self, h: u32, slot: u32, home: u32, ran: bool)
+        requires hart { h < length self.old.cores }
+        requires claimed { owner self.old.slots slot ≡ Some h }
+        requires word { (u : SlotUse) → use_at self.old.slots slot ≡ Some u → ran ≡ true → IsSome (decode u.word) }
+        ensures finished { Finishes self.old h slot home ran self.new }
+        ensures freed { use_at self.new.slots slot ≡ None }
+        ensures others { (other : ℕ) → other ≢ slot → use_at self.new.slots other ≡ use_at self.old.slots other }
+    {
+        if let Some(found) = self.slots.at(slot) {
+            settle_core(&mut self.cores[h as usize], found.word, slot, home, ran);
+            self.slots.free(slot);
         }
     }
 
     /// One instruction of a hart: the stored word at its pc, or the word of the slot that it entered. Nothing changes
     /// at a breakpoint, and where the instruction traps.
-    pub fn step(&mut self, h: usize) -> Stepped
+    pub fn step(&mut self, h: u32) -> Stepped
         requires hart { h < length self.old.cores }
-        requires count { (c : Core) → slice_get self.old.cores h ≡ Some c → c.retired < 2 ^ 64 - 1 }
         ensures code { IsByteCode result }
+        ensures counts { AreCounted self.old.cores }
         ensures step { Steps result self.old h self.new }
         ensures stopped { has_run result ≡ false → self.new ≡ self.old }
     {
         step_core(
             &self.text,
             &self.slots,
-            &mut self.cores[h],
+            &mut self.cores[h as usize],
             &mut self.memory,
+        )
+    }
+
+    /// Steps a hart at most `limit` times while each step answers `Ran`, and answers how many there were. It may stop
+    /// before a step that would answer otherwise, as at an ECALL or a breakpoint, and before one outside the first text
+    /// section or in a slot.
+    pub fn run(&mut self, h: u32, limit: u32) -> u32
+        requires { h < length self.old.cores }
+        ensures limit { result ≤ limit }
+        ensures counts { AreCounted self.old.cores }
+        ensures runs { AllRan result self.old h self.new }
+    {
+        run_core(
+            &self.text,
+            &mut self.cores[h as usize],
+            &mut self.memory,
+            limit,
         )
     }
 }

@@ -8,6 +8,7 @@ use Rattle.std.proofs.lemmas.List.{take_more, length-take}
 use Rattle.std.proofs.lemmas.List.Sums.{take_while-cons}
 use Rattle.leb_read.specs.Leb.{found, is_text_byte, text_at}
 use Rattle.leb_read.specs.declared.fault.Leb.TheVariants.{Short}
+use Rattle.line_rows.specs.Sections.{Sections}
 use Rattle.line_headers.specs.Texts.{text_end, texts_before, texts_in}
 use Rattle.line_headers.specs.declared.texts.TextEnds.{TextEnds}
 
@@ -79,9 +80,8 @@ text_end-take bytes n some within =
 pub ruleset last_zero = (text_end-take, length-take)
 
 -- the texts of two sections by their ends
-pub ends_tell : (line_str strs : List ℕ) (ends : TextEnds) → ends.line_str ≡ text_end line_str → ends.strs ≡ text_end strs
-    → texts_before ends ≡ texts_in line_str strs
-ends_tell line_str strs ends e f =
-    let in_line_str : (at : ℕ) → nat_lt at ends.line_str ≡ is_ok (text_at line_str at) = λ at. ap (λ (k : ℕ). nat_lt at k) e ∙ sym (text_stands line_str at) in
-    let in_str : (at : ℕ) → nat_lt at ends.strs ≡ is_ok (text_at strs at) = λ at. ap (λ (k : ℕ). nat_lt at k) f ∙ sym (text_stands strs at) in
+pub ends_tell : (s : Sections) (ends : TextEnds) → ends.line_str ≡ text_end s.line_str → ends.strs ≡ text_end s.strs → texts_before ends ≡ texts_in s
+ends_tell s ends e f =
+    let in_line_str : (at : ℕ) → nat_lt at ends.line_str ≡ is_ok (text_at s.line_str at) = λ at. ap (λ (k : ℕ). nat_lt at k) e ∙ sym (text_stands s.line_str at) in
+    let in_str : (at : ℕ) → nat_lt at ends.strs ≡ is_ok (text_at s.strs at) = λ at. ap (λ (k : ℕ). nat_lt at k) f ∙ sym (text_stands s.strs at) in
     λ i. record { in_line_str = λ at. in_line_str at i; in_str = λ at. in_str at i }

@@ -9,8 +9,8 @@ use Rattle.line_headers.specs.Entries.{entry_tables_at}
 use Rattle.line_headers.specs.Parameters.{version_at, sizes_at, program_at, lines_at, opcodes_at, AreWithin}
 use Rattle.line_headers.specs.declared.places.NamePlace.{NamePlace}
 use Rattle.line_headers.specs.declared.header.Header.{Header}
-use Rattle.line_headers.specs.declared.fault.HeaderError.{HeaderError}
-use Rattle.line_headers.specs.declared.fault.HeaderError.TheVariants as error
+use Rattle.line_rows.specs.declared.fault.LineError.{LineError}
+use Rattle.line_rows.specs.declared.fault.LineError.TheVariants as error
 
 -- files are numbered from 1, from version 5 on from 0
 abbrev pub first_file : ℕ → ℕ
@@ -36,10 +36,10 @@ IsHeader header files (Ok r) = (header, files) ≡ r.0
 IsHeader header files (Err fault) = ⊥
 
 -- the header and the files that are read, or the fault; want of memory may come
-abbrev pub GivesHeader : Result (Header × Vec NamePlace) HeaderError → Reading (Header × List NamePlace) → Type 0
+abbrev pub GivesHeader : Result (Header × Vec NamePlace) LineError → Reading (Header × List NamePlace) → Type 0
 GivesHeader (Ok r) read = IsHeader r.0 r.1.items read
 GivesHeader (Err (error.Fault fault)) read = read ≡ Err fault
-GivesHeader (Err error.Memory) read = Unit {0}
+GivesHeader (Err error.NoMemory) read = Unit {0}
 
 -- what the header names stands in the bytes
 pub record IsWithin (bytes : List ℕ) (header : Header) : Type 0 where

@@ -6,12 +6,11 @@ ghost use Rattle.line_headers.specs.Texts.{texts_before};
 ghost use Rattle.line_headers.specs.Gives.{Gives};
 ghost use Rattle.line_headers.specs.Entries.{counted_at, entries_at, entry_at, entry_tables_at, table_at, text_named, value_at};
 
-use crate::fault::HeaderError;
 use crate::fields::{run_at, text_length_at};
 use crate::formats::{Field, Form, format_at};
 use crate::places::NamePlace;
 use crate::texts::TextEnds;
-use line_rows::{LineFault, unsigned_at, word_at};
+use line_rows::{LineError, LineFault, unsigned_at, word_at};
 use std::alloc::Global;
 
 // The name at an offset, which is looked up for a path alone.
@@ -108,7 +107,7 @@ fn entries_at(
     fields: &[Field],
     count: u64,
     ends: TextEnds,
-) -> Result<(Vec<NamePlace>, usize), HeaderError>
+) -> Result<(Vec<NamePlace>, usize), LineError>
     ensures { Gives result (entries_at (texts_before ends) fields.now count bytes.now at) }
 {
     let mut names = Vec::new(alloc);
@@ -129,11 +128,11 @@ fn counted_at(
     fields: &[Field],
     count: u64,
     ends: TextEnds,
-) -> Result<(Vec<NamePlace>, usize), HeaderError>
+) -> Result<(Vec<NamePlace>, usize), LineError>
     ensures { Gives result (counted_at (texts_before ends) fields.now count bytes.now at) }
 {
     if fields.is_empty() && count > 0 {
-        return Err(HeaderError::Fault(LineFault::Header));
+        return Err(LineError::Fault(LineFault::Header));
     }
     entries_at(alloc, bytes, at, fields, count, ends)
 }
@@ -144,7 +143,7 @@ fn table_at(
     bytes: &[u8],
     at: usize,
     ends: TextEnds,
-) -> Result<(Vec<NamePlace>, usize), HeaderError>
+) -> Result<(Vec<NamePlace>, usize), LineError>
     ensures { Gives result (table_at (texts_before ends) bytes.now at) }
 {
     let (fields, next) = format_at(alloc, bytes, at)?;
@@ -159,7 +158,7 @@ pub fn entry_tables_at(
     bytes: &[u8],
     at: usize,
     ends: TextEnds,
-) -> Result<(Vec<NamePlace>, usize), HeaderError>
+) -> Result<(Vec<NamePlace>, usize), LineError>
     ensures { Gives result (entry_tables_at (texts_before ends) bytes.now at) }
 {
     let (_, next) = table_at(alloc, bytes, at, ends)?;

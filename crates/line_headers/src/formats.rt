@@ -5,8 +5,7 @@ ghost use Rattle.leb_read.specs.Leb.{IsBehind};
 ghost use Rattle.line_headers.specs.Gives.{Gives};
 ghost use Rattle.line_headers.specs.Entries.{field_at, field_of, fields_at, form_of, format_at, is_text_form};
 
-use crate::fault::HeaderError;
-use line_rows::{LineFault, byte_at, unsigned_at};
+use line_rows::{LineError, LineFault, byte_at, unsigned_at};
 use std::alloc::Global;
 
 /// How a value is written.
@@ -90,7 +89,7 @@ fn fields_at(
     bytes: &[u8],
     at: usize,
     count: u8,
-) -> Result<(Vec<Field>, usize), HeaderError>
+) -> Result<(Vec<Field>, usize), LineError>
     ensures { Gives result (fields_at count bytes.now at) }
 {
     let mut fields = Vec::new(alloc);
@@ -105,7 +104,7 @@ fn fields_at(
 
 /// The values that each entry of a table has, and the place behind the format.
 #[tactic(auto, unfolding(crate::specs::Entries::format_at))]
-pub fn format_at(alloc: Global, bytes: &[u8], at: usize) -> Result<(Vec<Field>, usize), HeaderError>
+pub fn format_at(alloc: Global, bytes: &[u8], at: usize) -> Result<(Vec<Field>, usize), LineError>
     ensures { Gives result (format_at bytes.now at) }
 {
     let (count, next) = byte_at(bytes, at)?;

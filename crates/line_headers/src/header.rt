@@ -4,11 +4,11 @@ ghost use Rattle.line_headers.specs.Gives.{Gives};
 ghost use Rattle.line_headers.specs.Header.{GivesHeader, IsWithin, first_file, header_at, tables_at};
 
 use crate::entries::entry_tables_at;
-use crate::fault::HeaderError;
 use crate::names::name_tables_at;
 use crate::parameters::{Lines, Opcodes, lines_at, opcodes_at, program_at, sizes_at, version_at};
 use crate::places::NamePlace;
 use crate::texts::TextEnds;
+use line_rows::LineError;
 use std::alloc::Global;
 
 /// The header of a unit, without its table of files.
@@ -16,7 +16,7 @@ use std::alloc::Global;
 pub struct Header {
     pub lines: Lines,
     pub opcodes: Opcodes,
-    /// Where the program begins.
+    /// Where the program begins, in bytes from the start of the section.
     pub program: usize,
     /// The number of the first file.
     pub first_file: u32,
@@ -35,7 +35,7 @@ fn tables_at(
     at: usize,
     version: u16,
     ends: TextEnds,
-) -> Result<(Vec<NamePlace>, usize), HeaderError>
+) -> Result<(Vec<NamePlace>, usize), LineError>
     ensures { Gives result (tables_at (texts_before ends) version bytes.now at) }
 {
     if version == 5 {
@@ -48,13 +48,16 @@ fn tables_at(
 /// The header of a unit and where the names of its files stand, or the first fault that is met when it is read in order.
 ///
 /// The bytes are those of the section up to the unit's end, and `at` is the place of the version, behind the unit's length.
+///
+/// # Errors
+/// The fault, of those in the order of reading the first, or no memory for the table of files.
 #[tactic(auto, unfolding(crate::specs::Header::header_at))]
 pub fn read_header(
     alloc: Global,
     bytes: &[u8],
     at: usize,
     ends: TextEnds,
-) -> Result<(Header, Vec<NamePlace>), HeaderError>
+) -> Result<(Header, Vec<NamePlace>), LineError>
     ensures value { GivesHeader result (header_at (texts_before ends) bytes.now at) }
     ensures within { IfOk result (λ r. IsWithin bytes.now r.0) }
 {

@@ -2,7 +2,6 @@
 #![tactic(auto)]
 
 mod entries;
-mod fault;
 mod fields;
 mod formats;
 mod header;
@@ -11,7 +10,6 @@ mod parameters;
 mod places;
 mod texts;
 
-pub use fault::HeaderError;
 pub use header::{Header, read_header};
 pub use parameters::{Lines, Opcodes};
 pub use places::NamePlace;

@@ -5,10 +5,9 @@ ghost use Rattle.leb_read.specs.Leb.{IsBehind};
 ghost use Rattle.line_headers.specs.Gives.{Gives};
 ghost use Rattle.line_headers.specs.Names.{entry_at, name_tables_at, names_at, numbers_at};
 
-use crate::fault::HeaderError;
 use crate::fields::text_length_at;
 use crate::places::NamePlace;
-use line_rows::{LineFault, unsigned_at};
+use line_rows::{LineError, LineFault, unsigned_at};
 use std::alloc::Global;
 
 // A file's directory, time and length are passed over.
@@ -46,7 +45,7 @@ fn names_at(
     bytes: &[u8],
     at: usize,
     is_file: bool,
-) -> Result<(Vec<NamePlace>, usize), HeaderError>
+) -> Result<(Vec<NamePlace>, usize), LineError>
     ensures { Gives result (names_at is_file (length bytes.now + 1) bytes.now at) }
 {
     let mut names = Vec::new(alloc);
@@ -67,7 +66,7 @@ pub fn name_tables_at(
     alloc: Global,
     bytes: &[u8],
     at: usize,
-) -> Result<(Vec<NamePlace>, usize), HeaderError>
+) -> Result<(Vec<NamePlace>, usize), LineError>
     ensures { Gives result (name_tables_at bytes.now at) }
 {
     let (_, next) = names_at(alloc, bytes, at, false)?;

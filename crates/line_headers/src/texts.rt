@@ -1,10 +1,15 @@
 ghost use Rattle.std.specs.Prelude.{◌≡◌, ◌+◌, ◌≤◌, length};
+ghost use Rattle.line_rows.specs.Sections.{sections_shown};
 ghost use Rattle.line_headers.specs.Texts.{text_end, texts_before, texts_in};
+
+use line_rows::LineSections;
 
 /// How far texts stand in `.debug_line_str` and `.debug_str`: each place before has a zero byte at or behind it.
 #[derive(Clone, Copy, Debug, PartialEq, Eq)]
 pub struct TextEnds {
+    /// In bytes from the start of `.debug_line_str`.
     pub line_str: usize,
+    /// In bytes from the start of `.debug_str`.
     pub strs: usize,
 }
 
@@ -21,11 +26,11 @@ fn text_end(section: &[u8]) -> usize
 }
 
 /// How far texts stand in the two sections. Found once, it tells of each offset whether a text stands there.
-pub fn text_ends(line_str: &[u8], strs: &[u8]) -> TextEnds
-    ensures { texts_before result ≡ texts_in line_str.now strs.now }
+pub fn text_ends(sections: &LineSections<'_>) -> TextEnds
+    ensures { texts_before result ≡ texts_in (sections_shown sections.now) }
 {
     TextEnds {
-        line_str: text_end(line_str),
-        strs: text_end(strs),
+        line_str: text_end(sections.line_str),
+        strs: text_end(sections.strs),
     }
 }

@@ -5,5 +5,7 @@ pub mod Tables
 pub mod Indexes
 pub mod LastPart
 pub mod Halves
-pub mod FunctionBody
 pub mod Ordered
+pub mod Bounds
+pub mod Least
+pub mod FunctionBody

@@ -1,6 +1,7 @@
--- How line tables are kept for look-ups: beside the rows, those that count, and the row of each address.
+-- How line tables are kept for look-ups: beside the rows, tables in the order of addresses.
 use Rattle.std.specs.Prelude.{◌≡◌}
-use Rattle.line_index.specs.Lines.{Lines, rows_of, row_at}
+use Rattle.line_index.specs.Lines.{Lines, addresses, rows_of, row_at}
+use Rattle.line_index.specs.Order.{IsInOrder}
 use Rattle.line_index.specs.Steps.{IsTable}
 use Rattle.line_index.specs.declared.index.LineIndex.TheInside.{Inside}
 
@@ -8,5 +9,8 @@ abbrev pub seen : Inside → Lines
 seen i = record { rows = i.rows; functions = i.functions.items; text = i.text.items }
 
 pub record IsKept (i : Inside) : Type 0 where
+  pub starts : IsInOrder i.functions.items i.starts.items
   pub kept : i.kept.items ≡ rows_of (seen i)
+  pub prologues : IsInOrder (addresses (λ r. r.prologue_end) (rows_of (seen i))) i.prologues.items
+  pub statements : IsInOrder (addresses (λ r. r.is_stmt) (rows_of (seen i))) i.statements.items
   pub steps : IsTable i.steps.items (row_at (seen i))

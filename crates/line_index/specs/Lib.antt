@@ -1,4 +1,5 @@
 pub mod Lines
 pub mod Text
+pub mod Order
 pub mod Steps
 pub mod Inside

@@ -1,4 +1,5 @@
--- What look-ups in line tables answer (DWARF 5, section 6.2).
+-- What look-ups in line tables answer. The rows are those of DWARF 5, section 6.2; which of them a look-up takes is this
+-- program's own rule.
 use Rattle.std.specs.Prelude.{ℕ, ◌+◌, ◌==◌, nat_le, nat_lt, ◌&&◌, ◌||◌, not, Bool, false, List, [], ◌∷◌, Option, None, Some, map, filter, find, flat_map, min, slice_get, unwrap_or, option_and_then, if◌then◌else◌}
 use Rattle.std.specs.List.{list_any}
 use Rattle.std.specs.Option.{option_map, option_map_or}
@@ -88,36 +89,32 @@ is_sooner row other = nat_lt row.line other.line || ((row.line == other.line) &&
 abbrev pub address_of : Lines → List ℕ → ℕ → Option ℕ
 address_of lines file line = option_map (λ r. r.address) (best is_sooner (filter (is_candidate lines.rows.names file line) (rows_of lines)))
 
--- the least number above another
-abbrev pub next_above : ℕ → List ℕ → Option ℕ
-next_above start addresses = best nat_lt (filter (nat_lt start) addresses)
+-- the least of some numbers from one on
+abbrev pub least_from : ℕ → List ℕ → Option ℕ
+least_from start ns = best nat_lt (filter (nat_le start) ns)
 
 -- where a function ends; one without a size at the next function or at the end of its text section
-abbrev pub function_end : List ℕ → Symbol → ℕ → ℕ
-function_end functions f text_end =
-    if f.size == 0 then option_map_or (min text_end) (next_above f.address functions) text_end else f.address + f.size
+abbrev pub function_end : Symbol → ℕ → Option ℕ → ℕ
+function_end f text_end next = if f.size == 0 then option_map_or (min text_end) next text_end else f.address + f.size
 
-abbrev pub is_lower : Row → Row → Bool
-is_lower row other = nat_lt row.address other.address
+-- the addresses of the rows that pass a test
+abbrev pub addresses : (Row → Bool) → List Row → List ℕ
+addresses test rows = map (λ r. r.address) (filter test rows)
 
--- the least address of the rows that pass a test
-abbrev pub least_address : (Row → Bool) → List Row → Option ℕ
-least_address test rows = option_map (λ r. r.address) (best is_lower (filter test rows))
+-- a number, if it is below an end
+abbrev pub below : ℕ → Option ℕ → Option ℕ
+below end o = option_and_then (λ n. if nat_lt n end then Some n else None) o
 
--- whether a row ends the prologue of a function, which is a range of addresses
-abbrev pub ends_prologue : ℕ → ℕ → Row → Bool
-ends_prologue start end r = r.prologue_end && (nat_le start r.address && nat_lt r.address end)
+-- where a breakpoint on the body of a range stands: at the first address that ends a prologue, or at the first statement
+-- above the start, or at the start
+abbrev pub body_among : List ℕ → List ℕ → ℕ → ℕ → ℕ
+body_among prologues statements start end =
+    unwrap_or (below end (least_from start prologues)) (unwrap_or (below end (least_from (start + 1) statements)) start)
 
--- whether a row begins a statement within a function, above its start
-abbrev pub begins_within : ℕ → ℕ → Row → Bool
-begins_within start end r = r.is_stmt && (nat_lt start r.address && nat_lt r.address end)
-
--- where a breakpoint on the body of a range stands
 abbrev pub body_in : List Row → ℕ → ℕ → ℕ
-body_in rows start end =
-    option_map_or (λ a. a) (least_address (ends_prologue start end) rows) (unwrap_or (least_address (begins_within start end) rows) start)
+body_in rows start end = body_among (addresses (λ r. r.prologue_end) rows) (addresses (λ r. r.is_stmt) rows) start end
 
 -- where a breakpoint on a function stands; at its start where that isn't in text
 abbrev pub body_of : Lines → Symbol → ℕ
 body_of lines f =
-    option_map_or (λ text_end. body_in (rows_of lines) f.address (function_end lines.functions f text_end)) (section_end lines.text f.address) f.address
+    option_map_or (λ text_end. body_in (rows_of lines) f.address (function_end f text_end (least_from (f.address + 1) lines.functions))) (section_end lines.text f.address) f.address

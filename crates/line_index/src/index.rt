@@ -3,7 +3,8 @@ ghost use Rattle.elf_symbols.specs.Views.{symbol_shown};
 ghost use Rattle.line_index.specs.Lines.{Lines, address_of, begins, body_of, file_name, kept, lines_of, row_among, row_at, rows_of, starts};
 ghost use Rattle.line_index.specs.Steps.{IsTable};
 
-use crate::body::{body_in, function_end};
+use crate::addresses::{in_order, least_from, prologues, statements};
+use crate::body::{body_among, function_end};
 use crate::files::{name_of, soonest};
 use crate::steps::{Step, row_of};
 use crate::table::{kept_rows, table_of};
@@ -19,10 +20,17 @@ use std::marker::Model;
 #[derive(Drop)]
 pub struct LineIndex {
     rows: Rows,
+    /// Where the functions in text begin, in the symbol table's order, as contracts see them.
     functions: Vec<u32>,
+    /// The same in the order of the addresses.
+    starts: Vec<u32>,
     text: Vec<TextBounds>,
     /// The rows of the sequences whose first row is in text.
     kept: Vec<Row>,
+    /// Where prologues end, in order.
+    prologues: Vec<u32>,
+    /// Where statements begin, in order.
+    statements: Vec<u32>,
     /// The row of each address, in the order of the addresses at which it changes.
     steps: Vec<Step>,
 }
@@ -40,7 +48,10 @@ impl Model for LineIndex {
 }
 
 impl LineIndex {
-    /// The look-ups of the rows of a program. They take n log n time and some 70 bytes a row.
+    /// The look-ups of the rows of a program. They take n log n time and some 80 bytes a row.
+    ///
+    /// # Errors
+    /// No memory for the tables.
     pub fn build(
         alloc: Global,
         rows: Rows,
@@ -50,26 +61,34 @@ impl LineIndex {
         ensures { IfOk result (λ index. index ≡ lines_of rows symbols.now image.now) }
     {
         let functions = symbols.function_addresses(alloc)?;
+        let starts = in_order(alloc, &functions)?;
         let text = text_bounds(alloc, image)?;
-        let kept = kept_rows(alloc, &rows, &text)?;
-        let steps = table_of(alloc, &rows, &text, 0, rows.sequence_count())?;
+        let kept = kept_rows(alloc, &rows, image)?;
+        let prologues = prologues(alloc, &kept)?;
+        let statements = statements(alloc, &kept)?;
+        let steps = table_of(alloc, &rows, image, 0, rows.sequence_count())?;
         Ok(LineIndex {
             rows,
             functions,
+            starts,
             text,
             kept,
+            prologues,
+            statements,
             steps,
         })
     }
 
-    /// The row that the instruction at an address belongs to.
+    /// The row that the instruction at an address belongs to, by a binary search. None where no sequence whose first row
+    /// is in text covers the address.
     pub fn row_at(&self, pc: u32) -> Option<Row>
         ensures { result ≡ row_at self.now pc }
     {
         row_of(&self.steps, pc)
     }
 
-    /// The row of a statement that begins at an address.
+    /// The row of a statement that begins at an address, by a binary search. None where the address has no row, or one
+    /// that begins before it or is no statement.
     pub fn starts(&self, pc: u32) -> Option<Row>
         ensures { result ≡ starts self.now pc }
     {
@@ -80,27 +99,29 @@ impl LineIndex {
     }
 
     /// Where the least line of a file that isn't below another has its least address. The file is told by its name or
-    /// by the part of its name after the last `/`.
+    /// by the part of its name after the last `/`. None where the file has no statement at the line or above it.
     pub fn address_of(&self, file: &[u8], line: u32) -> Option<u32>
         ensures { result ≡ address_of self.now file.now line }
     {
         soonest(&self.rows, &self.kept, file, line).map(|row| row.address)
     }
 
-    /// Where a breakpoint on a function stands: behind its prologue, or at its start where no row tells that.
+    /// Where a breakpoint on a function stands: behind its prologue, or at its start where no row tells that. It takes
+    /// binary searches, and for the end of the text section a walk over the text sections.
     pub fn body_of(&self, function: &Named<'_>) -> u32
         ensures { result ≡ body_of self.now (symbol_shown function.now) }
     {
         match section_end(&self.text, function.address) {
             Some(text_end) => {
-                let end = function_end(&self.functions, function, text_end);
-                body_in(&self.kept, function.address, end)
+                let next = least_from(&self.starts, u64::from(function.address) + 1);
+                let end = function_end(function, text_end, next);
+                body_among(&self.prologues, &self.statements, function.address, end)
             }
             None => function.address,
         }
     }
 
-    /// A file name by the number that a row has.
+    /// A file name by the number that a row has; empty for a number that no name has.
     pub fn file_name(&self, file: u32) -> &[u8]
         ensures { result.now ≡ file_name self.now.rows.names file }
     {

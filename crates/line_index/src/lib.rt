@@ -1,6 +1,7 @@
 //! Look-ups in line tables: the row of an address, the address of a line, and the body of a function.
 #![tactic(auto)]
 
+mod addresses;
 mod body;
 mod files;
 mod index;

@@ -40,10 +40,11 @@ fn in_bounds(addr: u32, bounds: &TextBounds) -> bool
     bounds.address <= addr && ((addr - bounds.address) as usize) < bounds.size
 }
 
-pub fn in_text(text: &[TextBounds], addr: u32) -> bool
-    ensures { result ≡ in_text text.now addr }
+/// Whether an address is in text, by the image's own search.
+pub fn in_text(image: &Image, addr: u32) -> bool
+    ensures { result ≡ in_text (text_bounds image.now) addr }
 {
-    text.iter().any(|bounds| in_bounds(addr, bounds))
+    image.in_text(addr)
 }
 
 /// The end of the text section that an address is in.

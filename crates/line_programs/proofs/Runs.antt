@@ -1,11 +1,10 @@
 -- One operation of a program, and its end.
-use Rattle.std.proofs.Common.{◌≡◌, ◌<◌, ◌≤◌, ◌+◌, ◌-◌, ℕ, suc, zero, List, [], ◌∷◌, length, take, Result, Ok, Err, Option, Some, None, refl, sym, ap, ◌∙◌, arith}
+use Rattle.std.proofs.Common.{◌≡◌, ◌<◌, ◌≤◌, ◌+◌, ◌-◌, ℕ, suc, zero, List, [], ◌∷◌, length, Result, Ok, Err, Option, Some, None, refl, sym, ap, ◌∙◌, arith}
 use Rattle.std.proofs.lemmas.Bool.{lt-leb, le-leb}
-use Rattle.std.proofs.lemmas.List.{take_all}
-use Rattle.line_rows.specs.RowList.{RowList}
+use Rattle.line_rows.specs.RowList.{Building, RowList}
 use Rattle.line_rows.specs.declared.fault.LineFault.{LineFault}
-use Rattle.line_programs.specs.declared.fault.ProgramError.{ProgramError}
-use Rattle.line_programs.specs.declared.fault.ProgramError.TheVariants.{Fault, Memory}
+use Rattle.line_rows.specs.declared.fault.LineError.{LineError}
+use Rattle.line_rows.specs.declared.fault.LineError.TheVariants.{Fault, NoMemory}
 use Rattle.line_programs.specs.declared.operation.Operation.{Operation}
 use Rattle.line_programs.specs.declared.parameters.Parameters.{Parameters}
 use Rattle.line_programs.specs.Operations.{Operations, and_behind, no_operations, operation_at, operations_from}
@@ -70,14 +69,8 @@ settles n p lengths bytes at s total h so_far =
     sym so_far ∙ ap (λ (o : Operations). ran p bytes o s) (past_end n p lengths bytes at h) ∙ none p bytes None s
 
 -- a step that fails ends the program with its fault
-pub failed : (e : ProgramError) (n : ℕ) (p : Parameters) (lengths bytes : List ℕ) (at next : ℕ) (operation : Operation) (s : State) (rows : RowList) (total : Result RowList LineFault)
+pub failed : (e : LineError) (n : ℕ) (p : Parameters) (lengths bytes : List ℕ) (at next : ℕ) (operation : Operation) (s : State) (rows : Building) (total : Result RowList LineFault)
     → at < length bytes → length bytes ≤ n + at → Ok (operation, next) ≡ operation_at p lengths bytes at → Steps (Err e) (stepped p bytes operation s) rows
     → ran p bytes (operations_from n p lengths bytes at) s ≡ total → GivesRows (Err e) total
 failed (Fault f) n p lengths bytes at next operation s rows total h m read step so_far = step_fails n p lengths bytes at next operation s f total h m read step so_far
-failed Memory n p lengths bytes at next operation s rows total h m read step so_far = tt
-
--- all sequences are kept, and the one that isn't ended is dropped
-pub kept : (s : State) (last : RowList) (count : ℕ) → count ≡ length s.rows.sequences → last ≡ record s.rows { sequences = take count s.rows.sequences; pending = [] } → settled None s ≡ Ok last
-kept s last count all e =
-    let k : take count s.rows.sequences ≡ s.rows.sequences = take_all count s.rows.sequences (omega arith) in
-    rw (e, k) refl
+failed NoMemory n p lengths bytes at next operation s rows total h m read step so_far = tt

@@ -2,21 +2,21 @@
 use Rattle.std.specs.Prelude.{◌≡◌, ℕ, ◌+◌, ◌-◌, ◌*◌, ◌/◌, ◌%◌, ◌^◌, Bool, true, false, not, ◌&&◌, nat_le, nat_lt, ℤ, pos, ◌+ℤ◌, List, [], ◌∷◌, ◌++◌, length, Result, Ok, Err, Option, Some, None, if◌then◌else◌}
 use Rattle.leb_read.specs.Leb.{text_at}
 use Rattle.line_rows.specs.Reading.{in_unit}
-use Rattle.line_rows.specs.RowList.{RowList, ended_with, no_rows}
+use Rattle.line_rows.specs.RowList.{Building, RowList, ended_with, finished, nothing_built}
 use Rattle.line_rows.specs.declared.row.Row.{Row}
 use Rattle.line_rows.specs.declared.fault.LineFault.{LineFault}
 use Rattle.line_rows.specs.declared.fault.LineFault.TheVariants.{File, Falls}
 use Rattle.line_programs.specs.declared.operation.Operation.{Operation}
-use Rattle.line_programs.specs.declared.operation.Operation.TheVariants.{Special, Copy, AdvancePc, AdvanceLine, SetFile, NegateStmt, ConstAddPc, FixedAdvancePc, SetPrologueEnd, EndSequence, SetAddress, DefineFile, Pass}
+use Rattle.line_programs.specs.declared.operation.Operation.TheVariants.{Special, Copy, AdvancePc, AdvanceLine, SetFile, NegateStmt, ConstAddPc, FixedAdvancePc, SetPrologueEnd, EndSequence, SetAddress, DefineFile, Ignored}
 use Rattle.line_programs.specs.declared.parameters.Parameters.{Parameters}
-use Rattle.line_programs.specs.declared.fault.ProgramError.{ProgramError}
-use Rattle.line_programs.specs.declared.fault.ProgramError.TheVariants as error
+use Rattle.line_rows.specs.declared.fault.LineError.{LineError}
+use Rattle.line_rows.specs.declared.fault.LineError.TheVariants as error
 use Rattle.line_programs.specs.declared.registers.Registers.{Registers}
 use Rattle.line_programs.specs.Operations.{◌>>=◌, Operations, operations_of, residue}
 
 -- how a sequence begins
 abbrev pub initial : Parameters → Registers
-initial p = record { address = 0; file = 1; line = 1; is_stmt = p.default_is_stmt; prologue_end = false; reached = 0 }
+initial p = record { address = 0; file = 1; line = 1; is_stmt = p.default_is_stmt; prologue_end = false; previous_address = 0 }
 
 -- so many instructions of the least length behind an address
 abbrev pub advanced : Parameters → ℕ → ℕ → ℕ
@@ -39,13 +39,13 @@ moved p SetPrologueEnd r = record r { prologue_end = true }
 moved p EndSequence r = r
 moved p (SetAddress n) r = record r { address = n }
 moved p (DefineFile at) r = r
-moved p Pass r = r
+moved p Ignored r = r
 
 -- what is there when some operations are done
 pub record State : Type 0 where
   pub registers : Registers
   -- with the names that the program defined
-  pub rows : RowList
+  pub rows : Building
 
 -- the file is one of the header's or of those that were defined; its number has 32 bits
 abbrev pub is_file : Parameters → ℕ → ℕ → Bool
@@ -57,17 +57,17 @@ shown r = record { address = r.address; file = r.file; line = r.line; is_stmt = 
 -- the row of the registers, unless its file isn't in the table or its address is below that of the row before
 abbrev pub row_of : Parameters → ℕ → Registers → Result Row LineFault
 row_of p defined r =
-    if is_file p defined r.file then (if nat_lt r.address r.reached then Err Falls else Ok (shown r)) else Err File
+    if is_file p defined r.file then (if nat_lt r.address r.previous_address then Err Falls else Ok (shown r)) else Err File
 
 -- the row is appended to the sequence
-abbrev pub appended : Parameters → Registers → RowList → Result State LineFault
+abbrev pub appended : Parameters → Registers → Building → Result State LineFault
 appended p r rows = row_of p (length rows.names) r >>= (λ row. Ok (record {
-  registers = record r { prologue_end = false; reached = r.address };
+  registers = record r { prologue_end = false; previous_address = r.address };
   rows = record rows { pending = rows.pending ++ row ∷ [] };
 }))
 
 -- the row ends the sequence
-abbrev pub ended : Parameters → Registers → RowList → Result State LineFault
+abbrev pub ended : Parameters → Registers → Building → Result State LineFault
 ended p r rows = row_of p (length rows.names) r >>= (λ row. Ok (record {
   registers = initial p;
   rows = record rows { sequences = ended_with rows.sequences rows.pending row.address; pending = [] };
@@ -91,7 +91,7 @@ run p bytes (operation ∷ rest) s = stepped p bytes operation s >>= run p bytes
 
 -- the rows of the sequences that are ended, unless the reading came to a fault
 abbrev pub settled : Option LineFault → State → Result RowList LineFault
-settled None s = Ok (record s.rows { pending = [] })
+settled None s = Ok (finished s.rows)
 settled (Some f) s = Err f
 
 abbrev pub ran : Parameters → List ℕ → Operations → State → Result RowList LineFault
@@ -99,16 +99,16 @@ ran p bytes operations s = run p bytes operations.list s >>= settled operations.
 
 -- the sequences of a unit's program, which begins at a place in the unit's bytes, with the names that it defines
 unfoldable pub program_of : Parameters → List ℕ → List ℕ → ℕ → Result RowList LineFault
-program_of p lengths bytes at = ran p bytes (operations_of p lengths bytes at) (record { registers = initial p; rows = no_rows })
+program_of p lengths bytes at = ran p bytes (operations_of p lengths bytes at) (record { registers = initial p; rows = nothing_built })
 
 -- what a step gives, and the rows behind it
-abbrev pub Steps : Result Registers ProgramError → Result State LineFault → RowList → Type 0
+abbrev pub Steps : Result Registers LineError → Result State LineFault → Building → Type 0
 Steps (Ok r) want rows = want ≡ Ok (record { registers = r; rows = rows })
 Steps (Err (error.Fault f)) want rows = want ≡ Err f
-Steps (Err error.Memory) want rows = Unit {0}
+Steps (Err error.NoMemory) want rows = Unit {0}
 
 -- what a program gives
-abbrev pub GivesRows : Result RowList ProgramError → Result RowList LineFault → Type 0
+abbrev pub GivesRows : Result RowList LineError → Result RowList LineFault → Type 0
 GivesRows (Ok rows) want = want ≡ Ok rows
 GivesRows (Err (error.Fault f)) want = want ≡ Err f
-GivesRows (Err error.Memory) want = Unit {0}
+GivesRows (Err error.NoMemory) want = Unit {0}

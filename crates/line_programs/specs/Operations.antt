@@ -6,7 +6,7 @@ use Rattle.line_rows.specs.Reading.{Reading, fixed_at, in_unit, unsigned_at}
 use Rattle.line_rows.specs.declared.fault.LineFault.{LineFault}
 use Rattle.line_rows.specs.declared.fault.LineFault.TheVariants as fault
 use Rattle.line_programs.specs.declared.operation.Operation.{Operation}
-use Rattle.line_programs.specs.declared.operation.Operation.TheVariants.{Special, Copy, AdvancePc, AdvanceLine, SetFile, NegateStmt, ConstAddPc, FixedAdvancePc, SetPrologueEnd, EndSequence, SetAddress, DefineFile, Pass}
+use Rattle.line_programs.specs.declared.operation.Operation.TheVariants.{Special, Copy, AdvancePc, AdvanceLine, SetFile, NegateStmt, ConstAddPc, FixedAdvancePc, SetPrologueEnd, EndSequence, SetAddress, DefineFile, Ignored}
 use Rattle.line_programs.specs.declared.parameters.Parameters.{Parameters}
 
 infixl 10 ◌>>=◌
@@ -50,7 +50,7 @@ behind_numbers (suc n) bytes at = unsigned_at bytes at >>= (λ r. behind_numbers
 
 -- so many operands that are passed over
 abbrev pub passed_over : ℕ → List ℕ → ℕ → Decoded
-passed_over n bytes at = behind_numbers n bytes at >>= (λ next. Ok (Pass, next))
+passed_over n bytes at = behind_numbers n bytes at >>= (λ next. Ok (Ignored, next))
 
 -- a standard opcode, whose operands stand at this place; an unknown one has so many as the header says.
 -- No row shows what set_column (5), set_basic_block (7), set_epilogue_begin (11) and set_isa (12) change.
@@ -60,14 +60,14 @@ standard_at lengths opcode bytes at =
     else (if opcode == 2 then with_operand AdvancePc (unsigned_at bytes at)
     else (if opcode == 3 then with_operand (λ n. AdvanceLine (residue n)) (signed_at bytes at)
     else (if opcode == 4 then with_operand SetFile (unsigned_at bytes at)
-    else (if opcode == 5 then with_operand (λ _. Pass) (unsigned_at bytes at)
+    else (if opcode == 5 then with_operand (λ _. Ignored) (unsigned_at bytes at)
     else (if opcode == 6 then Ok (NegateStmt, at)
-    else (if opcode == 7 then Ok (Pass, at)
+    else (if opcode == 7 then Ok (Ignored, at)
     else (if opcode == 8 then Ok (ConstAddPc, at)
     else (if opcode == 9 then with_operand FixedAdvancePc (fixed_at 2 bytes at)
     else (if opcode == 10 then Ok (SetPrologueEnd, at)
-    else (if opcode == 11 then Ok (Pass, at)
-    else (if opcode == 12 then with_operand (λ _. Pass) (unsigned_at bytes at)
+    else (if opcode == 11 then Ok (Ignored, at)
+    else (if opcode == 12 then with_operand (λ _. Ignored) (unsigned_at bytes at)
     else passed_over (slice_index lengths (opcode - 1)) bytes at)))))))))))
 
 -- a file's name, and behind it its directory, time and length
@@ -77,7 +77,7 @@ file_at bytes at =
 
 -- an unknown extended opcode at a place is passed over by its length
 abbrev pub passed_by_length : ℕ → List ℕ → ℕ → Decoded
-passed_by_length n bytes at = if nat_le (at + n) (length bytes) then Ok (Pass, at + n) else Err fault.Short
+passed_by_length n bytes at = if nat_le (at + n) (length bytes) then Ok (Ignored, at + n) else Err fault.Short
 
 -- an extended opcode, whose length stands at this place: end_sequence, set_address, define_file and set_discriminator are
 -- read by their operands, whatever their length says
@@ -87,7 +87,7 @@ extended_at bytes at =
     if opcode.0 == 1 then Ok (EndSequence, opcode.1)
     else (if opcode.0 == 2 then with_operand SetAddress (fixed_at 4 bytes opcode.1)
     else (if opcode.0 == 3 then file_at bytes opcode.1
-    else (if opcode.0 == 4 then with_operand (λ _. Pass) (unsigned_at bytes opcode.1)
+    else (if opcode.0 == 4 then with_operand (λ _. Ignored) (unsigned_at bytes opcode.1)
     else passed_by_length size.0 bytes size.1)))))
 
 -- by the opcode in front of this place

@@ -88,11 +88,11 @@ fn set_address(unit: &[u8], at: usize) -> Result<(Operation, usize), LineFault>
 
 /// An operation whose one operand no row shows.
 fn passed_operand(unit: &[u8], at: usize) -> Result<(Operation, usize), LineFault>
-    ensures value { result ≡ with_operand (λ _. op.Pass) (unsigned_at unit.now at) }
+    ensures value { result ≡ with_operand (λ _. op.Ignored) (unsigned_at unit.now at) }
     ensures within { IfOk result (λ r. IsFrom unit.now at r.1) }
 {
     let (_, next) = unsigned_at(unit, at)?;
-    Ok((Operation::Pass, next))
+    Ok((Operation::Ignored, next))
 }
 
 fn passed_over(count: u8, unit: &[u8], at: usize) -> Result<(Operation, usize), LineFault>
@@ -101,7 +101,7 @@ fn passed_over(count: u8, unit: &[u8], at: usize) -> Result<(Operation, usize), 
     ensures within { IfOk result (λ r. IsFrom unit.now at r.1) }
 {
     let next = behind_numbers(unit, at, count)?;
-    Ok((Operation::Pass, next))
+    Ok((Operation::Ignored, next))
 }
 
 /// The standard opcode whose operands stand at a place.
@@ -124,11 +124,11 @@ fn standard_at(
         SET_FILE => set_file(unit, at),
         SET_COLUMN => passed_operand(unit, at),
         NEGATE_STMT => Ok((Operation::NegateStmt, at)),
-        SET_BASIC_BLOCK => Ok((Operation::Pass, at)),
+        SET_BASIC_BLOCK => Ok((Operation::Ignored, at)),
         CONST_ADD_PC => Ok((Operation::ConstAddPc, at)),
         FIXED_ADVANCE_PC => fixed_advance_pc(unit, at),
         SET_PROLOGUE_END => Ok((Operation::SetPrologueEnd, at)),
-        SET_EPILOGUE_BEGIN => Ok((Operation::Pass, at)),
+        SET_EPILOGUE_BEGIN => Ok((Operation::Ignored, at)),
         SET_ISA => passed_operand(unit, at),
         _ => passed_over(operand_count(lengths, opcode), unit, at),
     }
@@ -163,7 +163,7 @@ fn passed_by_length(size: u64, unit: &[u8], at: usize) -> Result<(Operation, usi
     ensures within { IfOk result (λ r. IsFrom unit.now at r.1) }
 {
     if size <= (unit.len() - at) as u64 {
-        Ok((Operation::Pass, at + size as usize))
+        Ok((Operation::Ignored, at + size as usize))
     } else {
         Err(LineFault::Short)
     }

@@ -2,7 +2,6 @@
 #![tactic(auto)]
 
 mod decoding;
-mod fault;
 mod machine;
 mod operation;
 mod parameters;
@@ -11,7 +10,6 @@ mod reading;
 mod registers;
 
 pub use decoding::operation_at;
-pub use fault::ProgramError;
 pub use operation::Operation;
 pub use parameters::Parameters;
 pub use program::program_rows;

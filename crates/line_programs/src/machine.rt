@@ -1,6 +1,6 @@
 //! The state machine: what an operation does to the registers, and the row that they show.
 
-ghost use Rattle.std.specs.Prelude.{◌≡◌, ◌-◌, ◌/◌, true, false, MatchOption};
+ghost use Rattle.std.specs.Prelude.{◌≡◌, ◌-◌, ◌/◌, ◌<◌, true, false, MatchOption};
 ghost use Rattle.line_programs.specs.Machine.{advanced, initial, is_file, moved, row_of, special_line};
 
 use crate::operation::Operation;
@@ -18,7 +18,7 @@ pub fn initial(parameters: &Parameters) -> Registers
         line: 1,
         is_stmt: parameters.default_is_stmt,
         prologue_end: false,
-        reached: 0,
+        previous_address: 0,
     }
 }
 
@@ -31,6 +31,7 @@ fn advanced(parameters: &Parameters, address: u32, count: u64) -> u32
 }
 
 fn special_line(parameters: &Parameters, line: u32, adjusted: u8) -> u32
+    requires { 0 < parameters.now.line_range }
     ensures { result ≡ special_line parameters.now line adjusted }
 {
     let step = i64::from(adjusted % parameters.line_range);
@@ -39,6 +40,7 @@ fn special_line(parameters: &Parameters, line: u32, adjusted: u8) -> u32
 
 /// The address behind a special opcode, by how far it is above the first one.
 fn special_address(parameters: &Parameters, address: u32, adjusted: u8) -> u32
+    requires { 0 < parameters.now.line_range }
     ensures { result ≡ advanced parameters.now address (adjusted / parameters.now.line_range) }
 {
     advanced(
@@ -50,6 +52,7 @@ fn special_address(parameters: &Parameters, address: u32, adjusted: u8) -> u32
 
 /// The address behind `DW_LNS_const_add_pc`.
 fn constant_address(parameters: &Parameters, address: u32) -> u32
+    requires { 0 < parameters.now.line_range }
     ensures { result ≡ advanced parameters.now address ((255 - parameters.now.opcode_base) / parameters.now.line_range) }
 {
     special_address(parameters, address, u8::MAX - parameters.opcode_base)
@@ -57,6 +60,7 @@ fn constant_address(parameters: &Parameters, address: u32) -> u32
 
 /// The registers behind an operation, before it appends a row.
 pub fn moved(parameters: &Parameters, operation: Operation, registers: Registers) -> Registers
+    requires { 0 < parameters.now.line_range }
     ensures { result ≡ moved parameters.now operation registers }
 {
     let Registers { address, line, .. } = registers;
@@ -95,7 +99,7 @@ pub fn moved(parameters: &Parameters, operation: Operation, registers: Registers
             address,
             ..registers
         },
-        Operation::Copy | Operation::EndSequence | Operation::DefineFile(_) | Operation::Pass =>
+        Operation::Copy | Operation::EndSequence | Operation::DefineFile(_) | Operation::Ignored =>
             registers,
     }
 }
@@ -126,7 +130,7 @@ pub fn row_of(
     let Some(file) = file_number(parameters, defined, registers.file) else {
         return Err(LineFault::File);
     };
-    if registers.address < registers.reached {
+    if registers.address < registers.previous_address {
         return Err(LineFault::Falls);
     }
     Ok(Row {

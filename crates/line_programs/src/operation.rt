@@ -26,5 +26,5 @@ pub enum Operation {
     /// `DW_LNE_define_file`: a file more in the table, whose name begins at this place of the unit.
     DefineFile(usize),
     /// An operation that changes nothing that a row shows.
-    Pass,
+    Ignored,
 }

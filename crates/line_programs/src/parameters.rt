@@ -1,5 +1,3 @@
-ghost use Rattle.std.specs.Prelude.{◌<◌};
-
 /// What a unit's header says of its program (DWARF 5, section 6.2.4). The lengths of the standard opcodes stand apart.
 #[derive(Clone, Copy, Debug)]
 pub struct Parameters {
@@ -9,7 +7,7 @@ pub struct Parameters {
     pub default_is_stmt: bool,
     /// The least line advance of a special opcode.
     pub line_base: i8,
-    /// How many line advances the special opcodes have.
+    /// How many line advances the special opcodes have, never 0 where rows are asked for.
     pub line_range: u8,
     /// The first special opcode.
     pub opcode_base: u8,
@@ -17,5 +15,4 @@ pub struct Parameters {
     pub first_file: u32,
     /// How many files the header's table has.
     pub file_count: usize,
-    ghost ranged: { 0 < line_range },
 }

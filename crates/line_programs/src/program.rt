@@ -1,29 +1,29 @@
 //! The rows of a unit's program.
 
+ghost use Rattle.std.specs.Prelude.{◌<◌};
 ghost use Rattle.line_programs.specs.Machine.{GivesRows, Steps, appended, defined, ended, program_of, stepped};
 
 use crate::decoding::operation_at;
-use crate::fault::ProgramError;
 use crate::machine::{initial, moved, row_of};
 use crate::operation::Operation;
 use crate::parameters::Parameters;
 use crate::reading::name_at;
 use crate::registers::Registers;
-use line_rows::Rows;
+use line_rows::{LineError, Rows, RowsBuilder};
 use std::alloc::Global;
 
 /// Appends the row that the registers show.
 fn append(
     parameters: &Parameters,
     registers: Registers,
-    rows: &mut Rows,
-) -> Result<Registers, ProgramError>
+    rows: &mut RowsBuilder,
+) -> Result<Registers, LineError>
     ensures { Steps result (appended parameters.now registers rows.old) rows.new }
 {
     rows.push_row(row_of(parameters, rows.name_count(), registers)?)?;
     Ok(Registers {
         prologue_end: false,
-        reached: registers.address,
+        previous_address: registers.address,
         ..registers
     })
 }
@@ -32,8 +32,8 @@ fn append(
 fn end(
     parameters: &Parameters,
     registers: Registers,
-    rows: &mut Rows,
-) -> Result<Registers, ProgramError>
+    rows: &mut RowsBuilder,
+) -> Result<Registers, LineError>
     ensures { Steps result (ended parameters.now registers rows.old) rows.new }
 {
     let row = row_of(parameters, rows.name_count(), registers)?;
@@ -46,8 +46,8 @@ fn define(
     unit: &[u8],
     at: usize,
     registers: Registers,
-    rows: &mut Rows,
-) -> Result<Registers, ProgramError>
+    rows: &mut RowsBuilder,
+) -> Result<Registers, LineError>
     ensures { Steps result (defined unit.now at (record { registers = registers; rows = rows.old })) rows.new }
 {
     let (name, _) = name_at(unit, at)?;
@@ -60,8 +60,9 @@ fn step(
     unit: &[u8],
     operation: Operation,
     registers: Registers,
-    rows: &mut Rows,
-) -> Result<Registers, ProgramError>
+    rows: &mut RowsBuilder,
+) -> Result<Registers, LineError>
+    requires { 0 < parameters.now.line_range }
     ensures { Steps result (stepped parameters.now unit.now operation (record { registers = registers; rows = rows.old })) rows.new }
 {
     let moved = moved(parameters, operation, registers);
@@ -76,16 +77,20 @@ fn step(
 /// The sequences of the program that begins at a place of a unit's bytes, in order, with the names of the files that it
 /// defines. The lengths are those of the standard opcodes, from opcode 1 on. The files of the rows are numbers in the
 /// unit's own table. A sequence that isn't ended gives no rows, nor does one without rows.
+///
+/// # Errors
+/// The first fault that is met when the operations are read and done in order, or no memory for the rows.
 pub fn program_rows(
     alloc: Global,
     parameters: &Parameters,
     lengths: &[u8],
     unit: &[u8],
     at: usize,
-) -> Result<Rows, ProgramError>
+) -> Result<Rows, LineError>
+    requires { 0 < parameters.now.line_range }
     ensures { GivesRows result (program_of parameters.now lengths.now unit.now at) }
 {
-    let mut rows = Rows::new(alloc);
+    let mut rows = RowsBuilder::new(alloc);
     let mut registers = initial(parameters);
     let mut place = at;
     'operations: while place < unit.len() {
@@ -93,7 +98,5 @@ pub fn program_rows(
         registers = step(parameters, unit, operation, registers, &mut rows)?;
         place = next;
     }
-    let count = rows.sequence_count();
-    rows.keep_sequences(count);
-    Ok(rows)
+    Ok(rows.finish())
 }

@@ -13,7 +13,7 @@ pub struct Registers {
     pub is_stmt: bool,
     pub prologue_end: bool,
     /// The address of the row before in the sequence, or 0 where there is none.
-    pub reached: u32,
+    pub previous_address: u32,
 }
 
 /// A number modulo 2^32.

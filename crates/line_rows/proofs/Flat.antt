@@ -1,12 +1,12 @@
 -- Parts of a list that grows at its end.
-use Rattle.std.proofs.Common.{◌≡◌, ℕ, zero, suc, ◌+◌, ◌-◌, ◌≤◌, List, [], ◌∷◌, ◌++◌, length, take, drop, refl, ap, ◌∙◌, sym, arith, length-drop}
+use Rattle.std.proofs.Common.{◌≡◌, ℕ, ◌+◌, ◌-◌, ◌≤◌, List, [], ◌∷◌, ◌++◌, length, take, drop, refl, ap, ◌∙◌, arith, length-drop}
 use Rattle.std.specs.Prelude.{slice_range, All}
-use Rattle.std.proofs.lemmas.List.{take-append-le, drop-append-le, take-append-drop, map-append, take-map, length-take}
+use Rattle.std.proofs.lemmas.List.{take-append-le, drop-append-le, map-append}
 use Rattle.std.proofs.lemmas.List.Elements.{All-head, All-tail}
 use Rattle.std.proofs.Math.Seq.{drop-append_seam, take-length}
 use Rattle.line_rows.specs.RowList.{NameList, SequenceList}
 use Rattle.line_rows.specs.KeptNames.{name_in, names_in, IsNameRange}
-use Rattle.line_rows.specs.KeptSequences.{sequence_in, sequences_in, IsRowRange}
+use Rattle.line_rows.specs.KeptSequences.{sequences_in, IsRowRange}
 use Rattle.line_rows.specs.declared.names.NameRange.{NameRange}
 use Rattle.line_rows.specs.declared.row.Row.{Row}
 use Rattle.line_rows.specs.declared.sequences.RowRange.{RowRange}
@@ -58,18 +58,3 @@ sequences_push rows row pending ranges p h =
     let ended = sequences_in-append rows (row ∷ []) pending ranges p h in
     let open_rows = drop-append-le pending rows (row ∷ []) p in
     rw (ended, open_rows) refl
-
--- the sequences of the first ranges, without the pending rows
-pub sequences_take : (rows : List Row) (pending count : ℕ) (ranges : List RowRange) → pending ≤ length rows → All (IsRowRange pending) ranges → sequences_in (take pending rows) (take count ranges) ≡ take count (sequences_in rows ranges)
-sequences_take rows pending count ranges p h =
-    let front = take pending rows in
-    let same : sequences_in rows ranges ≡ sequences_in front ranges =
-    ap (λ (rs : List Row). sequences_in rs ranges) (sym (take-append-drop pending rows))
-    ∙ sequences_in-append front (drop pending rows) pending ranges (simp length-take (omega arith)) h
-    in
-    sym (take-map (sequence_in front) count ranges) ∙ ap (take count) (sym same)
-
-pub drop-take : {A : Type 0} (n : ℕ) (xs : List A) → drop n (take n xs) ≡ []
-drop-take zero xs = refl
-drop-take (suc n) [] = refl
-drop-take (suc n) (x ∷ xs) = drop-take n xs

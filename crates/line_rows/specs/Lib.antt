@@ -1,3 +1,4 @@
+pub mod Sections
 pub mod RowList
 pub mod KeptNames
 pub mod KeptSequences

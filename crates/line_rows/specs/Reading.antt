@@ -1,4 +1,5 @@
--- Numbers in a unit, read in order: a value and the place behind it, or the first fault that is met.
+-- Numbers in a unit (DWARF 5, sections 6.2.4 and 7.6), read in order: a value and the place behind it, or the first fault
+-- that is met.
 use Rattle.std.specs.Prelude.{ℕ, Result, Ok, Err, List}
 use Rattle.leb_read.specs.Leb.{Read, number_at, uleb_at}
 use Rattle.leb_read.specs.declared.fault.Leb.{Leb}

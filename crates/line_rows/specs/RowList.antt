@@ -17,12 +17,21 @@ pub record SequenceList : Type 0 where
 -- what the units of a section give, in its order
 pub record RowList : Type 0 where
   pub sequences : List Sequence
-  -- the rows of a sequence that isn't ended yet, which count for nothing
-  pub pending : List Row
   -- the file names by their numbers
   pub names : List (List ℕ)
   -- the units that give no rows
   pub faults : List UnitFault
+
+-- the same while it is put together, with the rows of a sequence that isn't ended yet
+pub record Building : Type 0 where
+  pub sequences : List Sequence
+  pub pending : List Row
+  pub names : List (List ℕ)
+  pub faults : List UnitFault
+
+-- a sequence that isn't ended counts for nothing
+abbrev pub finished : Building → RowList
+finished b = record { sequences = b.sequences; names = b.names; faults = b.faults }
 
 -- texts that are kept, and file names by their numbers, which are parts of them
 pub record NameList : Type 0 where
@@ -33,7 +42,10 @@ abbrev pub no_names : NameList
 no_names = record { texts = []; names = [] }
 
 abbrev pub no_rows : RowList
-no_rows = record { sequences = []; pending = []; names = []; faults = [] }
+no_rows = record { sequences = []; names = []; faults = [] }
+
+abbrev pub nothing_built : Building
+nothing_built = record { sequences = []; pending = []; names = []; faults = [] }
 
 abbrev pub sequence_shown : SequenceView → Sequence
 sequence_shown v = record { rows = v.rows.now; end = v.end }

@@ -1,3 +1,8 @@
+ghost use Rattle.std.specs.Prelude.{◌≡◌};
+ghost use Rattle.line_rows.specs.declared.fault.LineError.TheVariants as error;
+
+use dbg_traits::NoMemory;
+use std::alloc::{AllocError, AllocFailed};
 use thiserror::Error;
 
 /// Why a unit of a line table gives no rows.
@@ -26,8 +31,52 @@ pub enum LineFault {
     Form,
 }
 
-/// The first fault of a unit.
-#[derive(Clone, Copy, Debug, PartialEq, Eq)]
+/// Why a unit wasn't read.
+#[derive(Clone, Copy, Debug, PartialEq, Eq, Error)]
+pub enum LineError {
+    /// The unit has a fault.
+    #[error(transparent)]
+    Fault(LineFault),
+    /// There is no memory for what it gives.
+    #[error("out of memory")]
+    NoMemory,
+}
+
+impl From<LineFault> for LineError {
+    ghost from_gives = { λ fault e. e ≡ error.Fault fault };
+
+    fn from(fault: LineFault) -> Self {
+        LineError::Fault(fault)
+    }
+}
+
+impl From<NoMemory> for LineError {
+    ghost from_gives = { λ _ e. e ≡ error.NoMemory };
+
+    fn from(_: NoMemory) -> Self {
+        LineError::NoMemory
+    }
+}
+
+impl From<AllocError> for LineError {
+    ghost from_gives = { λ _ e. e ≡ error.NoMemory };
+
+    fn from(_: AllocError) -> Self {
+        LineError::NoMemory
+    }
+}
+
+impl<T: Drop> From<AllocFailed<T>> for LineError {
+    ghost from_gives = { λ _ e. e ≡ error.NoMemory };
+
+    fn from(_: AllocFailed<T>) -> Self {
+        LineError::NoMemory
+    }
+}
+
+/// The first fault of a unit that is met in reading it.
+#[derive(Clone, Copy, Debug, PartialEq, Eq, Error)]
+#[error("unit at {offset}: {fault}")]
 pub struct UnitFault {
     /// Where the unit begins, in bytes from the start of the section.
     pub offset: usize,

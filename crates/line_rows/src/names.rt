@@ -32,6 +32,7 @@ impl Model for FileNames {
 }
 
 impl FileNames {
+    /// No text and no name.
     pub fn new(alloc: Global) -> FileNames
         ensures { result ≡ no_names }
     {
@@ -48,19 +49,21 @@ impl FileNames {
         self.bytes.len()
     }
 
-    /// Keeps a text more, of which names can be parts.
+    /// Keeps a text more, of which names can be parts. Without memory all stays as it was.
     pub fn keep(&mut self, text: &[u8]) -> Result<(), NoMemory>
-        ensures { OnOk result (self.new ≡ record self.old { texts = self.old.texts ++ text.now }) }
+        ensures ok { OnOk result (self.new ≡ record self.old { texts = self.old.texts ++ text.now }) }
+        ensures err { OnErr result (self.new ≡ self.old) }
     {
         self.bytes.extend_from_slice(text)?;
         Ok(())
     }
 
-    /// A name more, whose text is kept with it.
+    /// A name more, whose text is kept with it. Without memory all stays as it was.
     pub fn push(&mut self, name: &[u8]) -> Result<(), NoMemory>
         ensures ok { OnOk result (self.new ≡ record { texts = self.old.texts ++ name.now; names = self.old.names ++ name.now ∷ [] }) }
-        ensures err { OnErr result (self.new.names ≡ self.old.names) }
+        ensures err { OnErr result (self.new ≡ self.old) }
     {
+        self.ranges.reserve(1)?;
         let start = self.bytes.len();
         self.bytes.extend_from_slice(name)?;
         let past = self.bytes.len();
@@ -68,22 +71,25 @@ impl FileNames {
         Ok(())
     }
 
-    /// A name more that is a part of the texts.
+    /// A name more that is a part of the texts: the bytes from `start` up to `past`. Without memory all stays as it was.
     pub fn push_part(&mut self, start: usize, past: usize) -> Result<(), NoMemory>
         requires ordered { start ≤ past }
         requires within { past ≤ length self.old.texts }
-        ensures { OnOk result (self.new ≡ record self.old { names = self.old.names ++ slice_range self.old.texts start past ∷ [] }) }
+        ensures ok { OnOk result (self.new ≡ record self.old { names = self.old.names ++ slice_range self.old.texts start past ∷ [] }) }
+        ensures err { OnErr result (self.new ≡ self.old) }
     {
         self.ranges.push(NameRange { start, past })?;
         Ok(())
     }
 
+    /// How many names there are.
     pub fn count(&self) -> usize
         ensures { result ≡ length self.now.names }
     {
         self.ranges.len()
     }
 
+    /// A name by its number, which must be below the count.
     pub fn name(&self, number: usize) -> &[u8]
         requires { number < length self.now.names }
         ensures { slice_get self.now.names number ≡ Some result.now }

@@ -1,6 +1,7 @@
 /// A row: the place in the source of the instructions from its address on.
 #[derive(Clone, Copy, Debug, PartialEq, Eq)]
 pub struct Row {
+    /// Of the first instruction.
     pub address: u32,
     /// The number of a file name; equal names have equal numbers.
     pub file: u32,
@@ -8,7 +9,7 @@ pub struct Row {
     pub line: u32,
     /// Whether the address is a good place for a breakpoint at the line.
     pub is_stmt: bool,
-    /// Whether a breakpoint on the function's body stands here.
+    /// Whether a breakpoint at the entry of a function can stand here, behind its prologue. Several rows of one may be so marked.
     pub prologue_end: bool,
 }
 

@@ -1,5 +1,7 @@
-ghost use Rattle.std.specs.Prelude.{◌≡◌, ◌+◌, ◌<◌, [], ◌∷◌, ◌++◌, Some, length, take, OnOk, OnErr, slice_get};
-ghost use Rattle.line_rows.specs.RowList.{ended_with, no_rows, sequence_shown};
+//! The rows of a section, and how they are put together.
+
+ghost use Rattle.std.specs.Prelude.{◌≡◌, ◌+◌, ◌<◌, [], ◌∷◌, ◌++◌, Some, length, OnOk, OnErr, slice_get};
+ghost use Rattle.line_rows.specs.RowList.{ended_with, finished, no_rows, nothing_built, sequence_shown};
 
 use crate::fault::UnitFault;
 use crate::names::FileNames;
@@ -10,7 +12,7 @@ use std::alloc::Global;
 use std::marker::Model;
 
 /// What the units of a section of line tables give. Contracts see it as a `RowList`: the sequences in the section's
-/// order, the rows of one that isn't ended yet, the file names by their numbers, and the units that have a fault.
+/// order, the file names by their numbers, and the units that have a fault.
 #[derive(Drop)]
 pub struct Rows {
     sequences: Sequences,
@@ -23,10 +25,11 @@ impl Model for Rows {
 
     ghost Value = { RowList };
 
-    ghost view = { λ i. record { sequences = i.sequences.ended; pending = i.sequences.pending; names = i.names.names; faults = i.faults.items } };
+    ghost view = { λ i. record { sequences = i.sequences.ended; names = i.names.names; faults = i.faults.items } };
 }
 
 impl Rows {
+    /// No sequence, no name and no fault.
     pub fn new(alloc: Global) -> Rows
         ensures { result ≡ no_rows }
     {
@@ -37,53 +40,7 @@ impl Rows {
         }
     }
 
-    /// A row more in the sequence that isn't ended yet.
-    pub fn push_row(&mut self, row: Row) -> Result<(), NoMemory>
-        ensures ok { OnOk result (self.new ≡ record self.old { pending = self.old.pending ++ row ∷ [] }) }
-        ensures err { OnErr result (self.new ≡ self.old) }
-    {
-        self.sequences.push(row)
-    }
-
-    /// Ends the sequence of the rows that were pushed, at the address behind its last instruction. Without rows there is none.
-    pub fn end_sequence(&mut self, end: u32) -> Result<(), NoMemory>
-        ensures ok { OnOk result (self.new ≡ record self.old { sequences = ended_with self.old.sequences self.old.pending end; pending = [] }) }
-        ensures err { OnErr result (self.new ≡ self.old) }
-    {
-        self.sequences.end(end)
-    }
-
-    /// Keeps the first `count` sequences, and drops the one that isn't ended.
-    pub fn keep_sequences(&mut self, count: usize)
-        ensures { self.new ≡ record self.old { sequences = take count self.old.sequences; pending = [] } }
-    {
-        self.sequences.truncate(count);
-    }
-
-    /// A file name more, whose number is the count of names before.
-    pub fn push_name(&mut self, name: &[u8]) -> Result<(), NoMemory>
-        ensures ok { OnOk result (self.new ≡ record self.old { names = self.old.names ++ name.now ∷ [] }) }
-        ensures err { OnErr result (self.new ≡ self.old) }
-    {
-        self.names.push(name)
-    }
-
-    /// Has these file names in place of its own.
-    pub fn set_names(&mut self, names: FileNames)
-        ensures { self.new ≡ record self.old { names = names.names } }
-    {
-        self.names = names;
-    }
-
-    /// A unit with a fault more.
-    pub fn push_fault(&mut self, fault: UnitFault) -> Result<(), NoMemory>
-        ensures ok { OnOk result (self.new ≡ record self.old { faults = self.old.faults ++ fault ∷ [] }) }
-        ensures err { OnErr result (self.new ≡ self.old) }
-    {
-        self.faults.push(fault)?;
-        Ok(())
-    }
-
+    /// How many sequences there are.
     pub fn sequence_count(&self) -> usize
         ensures { result ≡ length self.now.sequences }
     {
@@ -98,13 +55,14 @@ impl Rows {
         self.sequences.sequence(k)
     }
 
+    /// How many file names there are.
     pub fn name_count(&self) -> usize
         ensures { result ≡ length self.now.names }
     {
         self.names.count()
     }
 
-    /// A file name by its number.
+    /// A file name by its number, which must be below the count.
     pub fn name(&self, number: usize) -> &[u8]
         requires { number < length self.now.names }
         ensures { slice_get self.now.names number ≡ Some result.now }
@@ -117,5 +75,101 @@ impl Rows {
         ensures { result.now ≡ self.now.faults }
     {
         &self.faults
+    }
+}
+
+/// Rows while they are put together. Contracts see them as `Building`: a `RowList` and the rows of the sequence that
+/// isn't ended yet.
+#[derive(Drop)]
+pub struct RowsBuilder {
+    sequences: Sequences,
+    names: FileNames,
+    faults: Vec<UnitFault>,
+}
+
+impl Model for RowsBuilder {
+    ghost use Rattle.line_rows.specs.RowList.{Building};
+
+    ghost Value = { Building };
+
+    ghost view = { λ i. record { sequences = i.sequences.ended; pending = i.sequences.pending; names = i.names.names; faults = i.faults.items } };
+}
+
+impl RowsBuilder {
+    /// Nothing yet.
+    pub fn new(alloc: Global) -> RowsBuilder
+        ensures { result ≡ nothing_built }
+    {
+        RowsBuilder {
+            sequences: Sequences::new(alloc),
+            names: FileNames::new(alloc),
+            faults: Vec::new(alloc),
+        }
+    }
+
+    /// A row more in the sequence that isn't ended yet. Without memory all stays as it was.
+    pub fn push_row(&mut self, row: Row) -> Result<(), NoMemory>
+        ensures ok { OnOk result (self.new ≡ record self.old { pending = self.old.pending ++ row ∷ [] }) }
+        ensures err { OnErr result (self.new ≡ self.old) }
+    {
+        self.sequences.push(row)
+    }
+
+    /// Ends the sequence of the rows that were pushed, at the address behind its last instruction. Without rows there is
+    /// none. Without memory all stays as it was.
+    pub fn end_sequence(&mut self, end: u32) -> Result<(), NoMemory>
+        ensures ok { OnOk result (self.new ≡ record self.old { sequences = ended_with self.old.sequences self.old.pending end; pending = [] }) }
+        ensures err { OnErr result (self.new ≡ self.old) }
+    {
+        self.sequences.end(end)
+    }
+
+    /// A file name more, whose number is the count of names before. Without memory all stays as it was.
+    pub fn push_name(&mut self, name: &[u8]) -> Result<(), NoMemory>
+        ensures ok { OnOk result (self.new ≡ record self.old { names = self.old.names ++ name.now ∷ [] }) }
+        ensures err { OnErr result (self.new ≡ self.old) }
+    {
+        self.names.push(name)
+    }
+
+    /// Has these file names in place of its own.
+    pub fn set_names(&mut self, names: FileNames)
+        ensures { self.new ≡ record self.old { names = names.names } }
+    {
+        self.names = names;
+    }
+
+    /// A unit with a fault more. Without memory all stays as it was.
+    pub fn push_fault(&mut self, fault: UnitFault) -> Result<(), NoMemory>
+        ensures ok { OnOk result (self.new ≡ record self.old { faults = self.old.faults ++ fault ∷ [] }) }
+        ensures err { OnErr result (self.new ≡ self.old) }
+    {
+        self.faults.push(fault)?;
+        Ok(())
+    }
+
+    /// How many sequences are ended.
+    pub fn sequence_count(&self) -> usize
+        ensures { result ≡ length self.now.sequences }
+    {
+        self.sequences.count()
+    }
+
+    /// How many file names there are.
+    pub fn name_count(&self) -> usize
+        ensures { result ≡ length self.now.names }
+    {
+        self.names.count()
+    }
+
+    /// The rows of the sequences that are ended, with the names and the faults. A sequence that isn't ended is dropped.
+    pub fn finish(self) -> Rows
+        ensures { result ≡ finished self }
+    {
+        Rows {
+            sequences: self.sequences,
+            names: self.names,
+            faults: self.faults,
+        }
     }
 }

@@ -1,4 +1,4 @@
-ghost use Rattle.std.specs.Prelude.{◌≡◌, ◌+◌, ◌<◌, [], ◌∷◌, ◌++◌, Some, length, take, OnOk, OnErr, slice_get};
+ghost use Rattle.std.specs.Prelude.{◌≡◌, ◌+◌, ◌<◌, [], ◌∷◌, ◌++◌, Some, length, OnOk, OnErr, slice_get};
 ghost use Rattle.line_rows.specs.RowList.{ended_with, sequence_shown};
 
 use crate::row::{Row, SequenceView};
@@ -36,6 +36,7 @@ impl Model for Sequences {
 }
 
 impl Sequences {
+    /// No rows.
     pub fn new(alloc: Global) -> Sequences
         ensures { result ≡ record { ended = []; pending = [] } }
     {
@@ -46,6 +47,7 @@ impl Sequences {
         }
     }
 
+    /// A row more in the sequence that isn't ended. Without memory all stays as it was.
     pub fn push(&mut self, row: Row) -> Result<(), NoMemory>
         ensures ok { OnOk result (self.new ≡ record self.old { pending = self.old.pending ++ row ∷ [] }) }
         ensures err { OnErr result (self.new ≡ self.old) }
@@ -54,6 +56,7 @@ impl Sequences {
         Ok(())
     }
 
+    /// Ends the sequence, which is none where it has no rows. Without memory all stays as it was.
     pub fn end(&mut self, end: u32) -> Result<(), NoMemory>
         ensures ok { OnOk result (self.new ≡ record { ended = ended_with self.old.ended self.old.pending end; pending = [] }) }
         ensures err { OnErr result (self.new ≡ self.old) }
@@ -67,19 +70,14 @@ impl Sequences {
         Ok(())
     }
 
-    pub fn truncate(&mut self, count: usize)
-        ensures { self.new ≡ record { ended = take count self.old.ended; pending = [] } }
-    {
-        self.ranges.truncate(count);
-        self.rows.truncate(self.pending);
-    }
-
+    /// How many sequences are ended.
     pub fn count(&self) -> usize
         ensures { result ≡ length self.now.ended }
     {
         self.ranges.len()
     }
 
+    /// An ended sequence by its number, which must be below the count.
     pub fn sequence(&self, k: usize) -> SequenceView<'_>
         requires { k < length self.now.ended }
         ensures { slice_get self.now.ended k ≡ Some (sequence_shown result) }

@@ -5,13 +5,13 @@ use elf_gen::generate;
 use elf_symbols::{Named, symbols};
 use elf32_read::{Image, read_image};
 use line_index::LineIndex;
-use line_rows::{Row, Rows};
+use line_rows::{LineSections, Row, Rows, RowsBuilder};
 use std::alloc::Global;
 use std::test::Fail;
 
 /// A sequence of rows: address, file, line, whether a statement, whether the prologue ends.
 fn push_sequence(
-    rows: &mut Rows,
+    rows: &mut RowsBuilder,
     sequence: &[(u32, u32, u32, bool, bool)],
     end: u32,
 ) -> Result<(), NoMemory> {
@@ -29,7 +29,7 @@ fn push_sequence(
 
 /// Several rows at one address, rows out of order, and sequences that overlap or begin out of text.
 fn index_of(alloc: Global, image: &Image) -> Result<LineIndex, NoMemory> {
-    let mut rows = Rows::new(alloc);
+    let mut rows = RowsBuilder::new(alloc);
     rows.push_name(b"src/b.c")?;
     rows.push_name(b"b.h")?;
     push_sequence(&mut rows, &[(0, 0, 3, true, false)], 0x10080)?;
@@ -42,7 +42,7 @@ fn index_of(alloc: Global, image: &Image) -> Result<LineIndex, NoMemory> {
     ];
     push_sequence(&mut rows, &first, 0x10080)?;
     push_sequence(&mut rows, &[(0x10078, 0, 20, true, false)], 0x10084)?;
-    LineIndex::build(alloc, rows, &symbols(alloc, image)?, image)
+    LineIndex::build(alloc, rows.finish(), &symbols(alloc, image)?, image)
 }
 
 #[test]
@@ -113,7 +113,12 @@ fn an_index_is_built_of_a_section_and_of_nothing(rt: HostRuntime) -> Result<(), 
     let image = read_image(rt.alloc(), &generate(rt.alloc(), 1)?)?;
     let names = symbols(rt.alloc(), &image)?;
     let section = image.section(b".debug_line").ok_or("no section")?;
-    let read = rows(rt.alloc(), section, b"", b"")?;
+    let sections = LineSections {
+        line: section,
+        line_str: b"",
+        strs: b"",
+    };
+    let read = rows(rt.alloc(), &sections)?;
     let index = LineIndex::build(rt.alloc(), read, &names, &image)?;
     for (address, line) in COUNT {
         assert_eq!(rt; index.starts(address).map(|row| row.line), Some(line));

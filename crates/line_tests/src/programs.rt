@@ -1,5 +1,7 @@
-use line_programs::{Parameters, ProgramError, program_rows};
-use line_rows::{LineFault, Row, Rows};
+ghost use Rattle.std.specs.Prelude.{◌<◌};
+
+use line_programs::{Parameters, program_rows};
+use line_rows::{LineError, LineFault, Row, Rows};
 use std::alloc::Global;
 use std::test::Fail;
 
@@ -16,7 +18,9 @@ const CLANG: &[u8] =
     \x00\x01\x09\x04\x00\x00\x01\x01";
 
 /// What assemblers write mostly, with one file.
-fn usual() -> Parameters {
+fn usual() -> Parameters
+    ensures { 0 < result.line_range }
+{
     Parameters {
         minimum_instruction_length: 1,
         default_is_stmt: true,
@@ -121,7 +125,7 @@ fn the_first_fault_is_told(rt: HostRuntime) {
     ];
     for (unit, want) in cases {
         let fault = program_rows(rt.alloc(), &usual(), LENGTHS, unit, 0).err();
-        assert_eq!(rt; fault, Some(ProgramError::Fault(want)), "at {unit:?}");
+        assert_eq!(rt; fault, Some(LineError::Fault(want)), "at {unit:?}");
     }
 }
 
@@ -194,6 +198,6 @@ fn the_header_rules_the_program(rt: HostRuntime) -> Result<(), Fail> {
     let want: &[(u32, u32)] = &[(0x14, 1), (0x106, 1), (0x106, 0)];
     assert_eq!(rt; places(rt.alloc(), &rows)?.as_slice(), want);
     let fault = program_rows(rt.alloc(), &wide, lengths, &[1], 0).err();
-    assert_eq!(rt; fault, Some(ProgramError::Fault(LineFault::File)));
+    assert_eq!(rt; fault, Some(LineError::Fault(LineFault::File)));
     Ok(())
 }

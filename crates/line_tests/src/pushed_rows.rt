@@ -1,5 +1,5 @@
 use dbg_traits::NoMemory;
-use line_rows::{LineFault, Row, Rows, UnitFault};
+use line_rows::{LineFault, Row, Rows, RowsBuilder, UnitFault};
 use std::alloc::Global;
 use std::test::Fail;
 
@@ -13,18 +13,14 @@ fn row(line: u8) -> Row {
     }
 }
 
-/// Two sequences, one that was dropped between them, and one that isn't ended.
+/// Two sequences, an end without rows between them, and a sequence that isn't ended.
 fn pushed(alloc: Global) -> Result<Rows, NoMemory> {
-    let mut rows = Rows::new(alloc);
+    let mut rows = RowsBuilder::new(alloc);
     rows.push_name(b"a.c")?;
     rows.push_name(b"src/b.c")?;
     rows.push_row(row(3))?;
     rows.push_row(row(5))?;
     rows.end_sequence(24)?;
-    rows.push_row(row(7))?;
-    rows.end_sequence(32)?;
-    rows.push_row(row(8))?;
-    rows.keep_sequences(1);
     rows.end_sequence(36)?;
     rows.push_fault(UnitFault {
         offset: 52,
@@ -33,7 +29,7 @@ fn pushed(alloc: Global) -> Result<Rows, NoMemory> {
     rows.push_row(row(9))?;
     rows.end_sequence(40)?;
     rows.push_row(row(10))?;
-    Ok(rows)
+    Ok(rows.finish())
 }
 
 #[test]

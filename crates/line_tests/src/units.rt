@@ -2,7 +2,7 @@ use crate::vectors::{
     CLANG_2, CLANG_5, CLANG_5_NAMES, CLANG_ROWS, GCC_3, GCC_4, GCC_5, GCC_5_NAMES, GCC_ROWS,
 };
 use dwarf_lines::rows;
-use line_rows::{LineFault, Row, Rows};
+use line_rows::{LineFault, LineSections, Row, Rows};
 use std::alloc::{AllocError, Global};
 use std::process::Abort;
 use std::test::Fail;
@@ -74,7 +74,12 @@ fn expect(
     fault: Option<(usize, LineFault)>,
     want: &str,
 ) -> Result<(), Fail> {
-    let read = rows(alloc, section, names, b"")?;
+    let sections = LineSections {
+        line: section,
+        line_str: names,
+        strs: b"",
+    };
+    let read = rows(alloc, &sections)?;
     assert_eq!(rt; first_fault(&read), fault);
     assert_eq!(rt; printed(alloc, &read)?.as_str(), want);
     Ok(())
@@ -160,7 +165,12 @@ fn units_are_read_one_after_another(rt: HostRuntime) -> Result<(), Fail> {
     let mut section = decoded(rt.alloc(), TWO_ROWS)?;
     section.extend_from_slice(&decoded(rt.alloc(), TWO_ROWS_5)?)?;
     section.extend_from_slice(&decoded(rt.alloc(), "F0FFFFFF 050000")?)?;
-    let read = rows(rt.alloc(), &section, b"a.c\0", b"")?;
+    let sections = LineSections {
+        line: &section,
+        line_str: b"a.c\0",
+        strs: b"",
+    };
+    let read = rows(rt.alloc(), &sections)?;
     assert_eq!(rt; first_fault(&read), Some((122, LineFault::Header)));
     assert_eq!(rt; read.sequence_count(), 2);
     assert_eq!(rt; read.name_count(), 1);
@@ -221,7 +231,12 @@ fn names_that_overlap_have_equal_numbers_where_they_are_equal(rt: HostRuntime) -
     for (form, offset) in [(0x1F, 2), (0x0E, 4), (0x1F, 3), (0x1F, 2), (0x1F, 0)] {
         section.extend_from_slice(&named_by_offset(&rt, rt.alloc(), form, offset)?)?;
     }
-    let read = rows(rt.alloc(), &section, b"b/a.c\0", b"src/a.c\0")?;
+    let sections = LineSections {
+        line: &section,
+        line_str: b"b/a.c\0",
+        strs: b"src/a.c\0",
+    };
+    let read = rows(rt.alloc(), &sections)?;
     assert_eq!(rt; first_fault(&read), None);
     let want = "\
 a.c 10 0x10074 x\na.c 11 0x10078 x\nend 0x10080\n\

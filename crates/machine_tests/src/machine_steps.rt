@@ -15,9 +15,11 @@ const BYTES: [u8; 8] = [1, 2, 3, 4, 5, 6, 7, 0x88];
 #[derive(Clone, Copy)]
 enum Act {
     /// A step of a hart, and its answer.
-    Step(usize, Stepped),
+    Step(u32, Stepped),
+    /// A hart runs on, so many steps at most, and takes so many.
+    Run(u32, u32, u32),
     /// The pc, ra and a0 of a hart, how many instructions it has executed, and how many of them in scratch slots.
-    Hart(usize, [u32; 3], u64, u64),
+    Hart(u32, [u32; 3], u64, u64),
     /// The byte that a reader sees at an address.
     Byte(u32, Option<u8>),
     /// Whether the two bytes from an address on are read as 0; else the first address that can't be read.
@@ -34,13 +36,20 @@ enum Act {
     Enter,
     /// Hart 1 goes home from the first slot, whose word has run or hasn't, and keeps the slot.
     Settle(bool),
+    /// Hart 1 begins a copy of a word in the first slot.
+    Begin(u32),
+    /// It finishes the copy in the first slot, which has run or hasn't.
+    Finish(bool),
     /// The use of a slot.
     Slot(u32, Option<SlotUse>),
     /// A slot is free again.
     Free(u32),
 }
 
-use Act::{Byte, Claim, Enter, Free, Hart, Lift, Plant, Settle, Slot, Step, Word, Zeros};
+use Act::{
+    Begin, Byte, Claim, Enter, Finish, Free, Hart, Lift, Plant, Run, Settle, Slot, Step, Word,
+    Zeros,
+};
 
 /// ADDI a7, x0, 93; ADDI a0, x0, 322; ECALL. 322 modulo 256 is 66.
 const EXITS: &[u32] = &[0x05D0_0893, 0x1420_0513, 0x0000_0073];
@@ -48,8 +57,63 @@ const EXITS: &[u32] = &[0x05D0_0893, 0x1420_0513, 0x0000_0073];
 /// LUI a5, 0xFFFFF; JALR x0, 0(a5), a jump to the first slot.
 const JUMPS: &[u32] = &[0xFFFF_F7B7, 0x0007_8067];
 
+/// ADDI a0, a0, 1; JAL x0, -4.
+const COUNTS: &[u32] = &[0x0015_0513, 0xFFDF_F06F];
+
 /// A program, and what is done with it in turn.
-const SCRIPTS: [(&[u32], &[Act]); 5] = [
+const SCRIPTS: [(&[u32], &[Act]); 9] = [
+    // a hart runs as far as it may
+    (
+        COUNTS,
+        &[
+            Run(0, 0, 0),
+            Run(0, 5, 5),
+            Hart(0, [ONWARD, 0, 3], 5, 0),
+            Run(0, 1, 1),
+            Hart(0, [HOME, 0, 3], 6, 0),
+            Hart(1, [HOME, 0, 1], 0, 0),
+        ],
+    ),
+    // it stops before a call and before a fault
+    (
+        EXITS,
+        &[
+            Run(0, 10, 2),
+            Hart(0, [0x0001_007C, 0, 322], 2, 0),
+            Run(0, 10, 0),
+            Step(0, Stepped::HartExit(66)),
+            Run(0, 10, 0),
+            Hart(0, [0x0001_0080, 0, 322], 3, 0),
+        ],
+    ),
+    // before a planted word
+    (
+        EXITS,
+        &[
+            Plant(ONWARD),
+            Run(0, 10, 1),
+            Run(0, 10, 0),
+            Step(0, Stepped::Hit),
+            Hart(0, [ONWARD, 0, 0], 1, 0),
+            Lift(ONWARD),
+            Run(0, 10, 1),
+        ],
+    ),
+    // and in a slot, which is free once the copy is finished
+    (
+        COUNTS,
+        &[
+            Begin(0x0015_0513),
+            Run(1, 10, 0),
+            Hart(1, [SLOT, 0, 1], 0, 0),
+            Step(1, Stepped::Ran),
+            Finish(true),
+            Hart(1, [ONWARD, 0, 2], 1, 1),
+            Slot(SLOT, None),
+            Run(1, 2, 2),
+            Hart(1, [ONWARD, 0, 3], 3, 1),
+        ],
+    ),
     // harts step to their own exits
     (
         EXITS,
@@ -377,19 +441,35 @@ const RUNS: [([u32; 8], u64, Stepped, u64, u32, [u32; 4]); 16] = [
 ];
 
 // A step of a hart, which is there.
-fn step_hart(rt: &impl Abort, machine: &mut Machine, h: usize) -> Stepped {
-    assert!(rt; h < machine.harts());
-    assert!(rt; machine.retired(h) < 100);
+fn step_hart(rt: &impl Abort, machine: &mut Machine, h: u32) -> Stepped {
+    assert!(rt; (h as usize) < machine.harts());
     machine.step(h)
 }
 
+fn run_hart(rt: &impl Abort, machine: &mut Machine, h: u32, limit: u32) -> u32 {
+    assert!(rt; (h as usize) < machine.harts());
+    machine.run(h, limit)
+}
+
 // The pc, ra and a0 of a hart, and its two counts.
-fn seen(rt: &impl Abort, machine: &Machine, h: usize) -> ([u32; 3], u64, u64) {
-    assert!(rt; h < machine.harts());
+fn seen(rt: &impl Abort, machine: &Machine, h: u32) -> ([u32; 3], u64, u64) {
+    assert!(rt; (h as usize) < machine.harts());
     let view = machine.view(h);
     assert_eq!(rt; view.reg(32), machine.pc(h));
     let registers = [view.reg(32), view.reg(1), view.reg(10)];
     (registers, machine.retired(h), machine.copied(h))
+}
+
+// Hart 1 finishes the copy in the first slot.
+fn finish(rt: &impl Abort, machine: &mut Machine, ran: bool) {
+    let Some(found) = machine.slot(SLOT) else {
+        assert!(rt; false, "the slot is free");
+        return;
+    };
+    assert!(rt; found.hart == 1);
+    assert!(rt; 1 < machine.harts());
+    assert!(rt; !ran || decode(found.word).is_some());
+    machine.finish_copy(1, SLOT, HOME, ran);
 }
 
 // Hart 1 enters the first slot, or goes home from it.
@@ -424,6 +504,11 @@ fn change(rt: &impl Abort, machine: &mut Machine, act: Act) {
             machine.lift(addr);
         }
         Claim(hart, word, slot) => assert_eq!(rt; machine.claim(hart, word), slot),
+        Begin(word) => {
+            assert!(rt; 1 < machine.harts());
+            assert_eq!(rt; machine.begin_copy(1, word), Some(SLOT));
+        }
+        Finish(ran) => finish(rt, machine, ran),
         Free(slot) => {
             assert!(rt; machine.slot(slot).is_some());
             machine.free(slot);
@@ -435,6 +520,9 @@ fn change(rt: &impl Abort, machine: &mut Machine, act: Act) {
 fn perform(rt: &impl Abort, machine: &mut Machine, act: Act) {
     match act {
         Step(h, answer) => assert_eq!(rt; step_hart(rt, machine, h), answer, "hart {h}"),
+        Run(h, limit, count) => {
+            assert_eq!(rt; run_hart(rt, machine, h, limit), count, "hart {h}");
+        }
         Hart(h, registers, retired, copied) => {
             assert_eq!(rt;
                 seen(rt, machine, h),
@@ -480,12 +568,12 @@ fn a_settled_copy_leaves_what_the_word_leaves_at_home(rt: HostRuntime) -> Result
         let image = image_of(rt.alloc(), &[*word], &BYTES)?;
         let mut machine = Machine::load(rt.alloc(), &image, SETTINGS)?;
         let acts = [
-            Claim(1, *word, Some(SLOT)),
-            Enter,
+            Begin(*word),
             Step(1, *answer),
             Hart(1, *there, *count, *count),
-            Settle(*count == 1),
+            Finish(*count == 1),
             Hart(1, *home, *count, *count),
+            Slot(SLOT, None),
         ];
         for act in acts {
             perform(&rt, &mut machine, act);
@@ -496,10 +584,10 @@ fn a_settled_copy_leaves_what_the_word_leaves_at_home(rt: HostRuntime) -> Result
 
 // The registers of both harts and the data are the same.
 fn assert_same(rt: &impl Abort, machine: &Machine, plain: &Plain<'_>) {
-    for h in 0..2 {
-        assert!(rt; h < machine.harts());
-        assert!(rt; h < plain.harts());
-        assert_eq!(rt; plain.registers(h), *machine.view(h).regs);
+    for h in 0..2u32 {
+        assert!(rt; (h as usize) < machine.harts());
+        assert!(rt; (h as usize) < plain.harts());
+        assert_eq!(rt; plain.registers(h as usize), *machine.view(h).regs);
     }
     let mut bytes = [0u8; 8];
     let mut others = [1u8; 8];
@@ -511,7 +599,6 @@ fn assert_same(rt: &impl Abort, machine: &Machine, plain: &Plain<'_>) {
 // One step of hart 1 on both machines.
 fn step_both(rt: &impl Abort, machine: &mut Machine, plain: &mut Plain<'_>) -> Stepped {
     assert!(rt; 1 < machine.harts());
-    assert!(rt; machine.retired(1) < 100);
     assert!(rt; 1 < plain.harts());
     let answer = machine.step(1);
     assert_eq!(rt; plain.step(1), answer);

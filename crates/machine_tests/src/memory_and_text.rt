@@ -49,6 +49,17 @@ fn data_and_stacks_are_read_and_text_is_not(rt: HostRuntime) -> Result<(), Fail>
         assert_eq!(rt; memory.byte(addr), byte, "at {addr}");
         assert_eq!(rt; memory.writable(addr), writable, "at {addr}");
     }
+    let ranges = [
+        (0x0002_0004, 4, true),
+        (0x0002_000A, 4, false),
+        (0x0002_000C, 0, true),
+        (0xFFFF_FFFF, 1, false),
+        (0xEFFF_0000, 0x0001_0000, true),
+        (0xEFFF_0000, 0x0001_0001, false),
+    ];
+    for (addr, len, is_mapped) in ranges {
+        assert_eq!(rt; memory.are_mapped(addr, len), is_mapped, "at {addr}");
+    }
     let mut into = [9; 4];
     assert_eq!(rt; memory.read_range(0x0002_000A, &mut into), Err(0x0002_000C));
     assert_eq!(rt; memory.read_range(0x0001_0092, &mut into), Err(0x0001_0094));
@@ -139,6 +150,11 @@ fn words_of_text_are_shown_and_a_planted_one_is_ebreak(rt: HostRuntime) -> Resul
         assert_eq!(rt; text.shown(addr), word, "at {addr}");
         assert!(rt; !text.planted(addr), "at {addr}");
         assert_eq!(rt; text.fetch(addr), fetch, "at {addr}");
+        let there = match fetch {
+            Fetch::Instruction(instruction) => Some(instruction),
+            _ => None,
+        };
+        assert_eq!(rt; text.front().instruction(addr), there, "at {addr}");
     }
     assert!(rt; text.shown(0x0001_0098).is_some());
     assert!(rt; !text.planted(0x0001_0098));
@@ -148,6 +164,10 @@ fn words_of_text_are_shown_and_a_planted_one_is_ebreak(rt: HostRuntime) -> Resul
     assert_eq!(rt; text.fetch(0x0001_0098), Fetch::Planted);
     assert_eq!(rt; text.word(0x0001_0094), Some(0x05D0_0893));
     assert_eq!(rt; text.word(0x0001_009C), Some(0x0000_0073));
+    assert!(rt; text.shown(0x0001_009C).is_some());
+    assert!(rt; !text.planted(0x0001_009C));
+    text.plant(0x0001_009C);
+    assert_eq!(rt; text.front().instruction(0x0001_009C), None);
     assert!(rt; text.planted(0x0001_0098));
     text.lift(0x0001_0098);
     assert_eq!(rt; text.word(0x0001_0098), Some(0xFFFF_FFFF));

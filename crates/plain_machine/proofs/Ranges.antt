@@ -1,5 +1,5 @@
 -- The bytes of a range are as many as it has.
-use Rattle.std.proofs.Common.{◌≡◌, ℕ, zero, suc, ◌+◌, ◌%◌, ◌^◌, List, [], ◌∷◌, ◌≤◌, take, length, length-take, refl, sym, ap, ◌∙◌, arith}
+use Rattle.std.proofs.Common.{◌≡◌, ℕ, zero, suc, ◌+◌, ◌%◌, ◌^◌, List, [], ◌∷◌, length, refl, sym, ap, ◌∙◌, arith}
 use Rattle.std.specs.Prelude.{Option, Some, None, Result, Ok, Err}
 use Rattle.std.specs.Result.{result_ok}
 use Rattle.rv_exec.specs.Registers.{Registers}
@@ -36,9 +36,3 @@ wrote_none r m addr n bytes is none =
     wrote_some r m addr n bytes is ∙ ap (λ bs. Goes (answered r n) m bs Stays) (none_left bytes (bytes_length m addr n bytes is ∙ none))
 
 pub ruleset written = (wrote_some, wrote_none)
-
--- a range that is as long as a front of a list
-pub bytes_of_front : (m : Memory) (addr n k : ℕ) (xs bytes : List ℕ) → length xs ≡ k → n ≤ k → bytes_at m addr (length (take n xs)) ≡ Some bytes → bytes_at m addr n ≡ Some bytes
-bytes_of_front m addr n k xs bytes len le is =
-    let same : length (take n xs) ≡ n = simp length-take (omega arith) in
-    ap (bytes_at m addr) (sym same) ∙ is

@@ -1,16 +1,12 @@
--- What the answer of a step says of the instruction.
-use Rattle.std.specs.Prelude.{◌≡◌, ◌<◌, ℕ, Bool, true, false, List, [], Some, None}
+-- What the answer of a step says of the instruction: this project's own relation between the code's answers and the
+-- definition of a step.
+use Rattle.std.specs.Prelude.{◌≡◌, ◌<◌, ℕ, List, [], Some}
 use Rattle.rv_exec.specs.declared.effect.Stepped.{Stepped}
 use Rattle.rv_exec.specs.declared.effect.Stepped.TheVariants as stepped
 use Rattle.rv_exec.specs.Registers.{Registers}
 use Rattle.rv_exec.specs.Memory.{Memory}
 use Rattle.data_memory.specs.Ranges.{bytes_at}
 use Rattle.plain_machine.specs.Environment.{Answer, Traps, Goes, Stays, LeavesAlone, LeavesAll}
-
--- all of a range can be read
-abbrev pub IsReadable : Bool → Memory → ℕ → ℕ → Type 0
-IsReadable true m addr len = (bytes : List ℕ) × (bytes_at m addr len ≡ Some bytes)
-IsReadable false m addr len = bytes_at m addr len ≡ None
 
 -- the answer of a step says what the instruction did
 abbrev pub StepGives : Stepped → Answer → Registers → Registers → Memory → Memory → Type 0

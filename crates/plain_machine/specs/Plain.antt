@@ -1,5 +1,6 @@
--- One instruction of the unpatched text, and where the harts start.
-use Rattle.std.specs.Prelude.{ℕ, ◌-◌, ◌*◌, [], replicate, Option, Some, None}
+-- One instruction of the unpatched text, and where the harts start. An instruction is that of the RISC-V Unprivileged ISA;
+-- the registers at the start are this project's own.
+use Rattle.std.specs.Prelude.{ℕ, [], replicate, Option, Some, None}
 use Rattle.rv_decode.specs.declared.instr.Instr.{Instr}
 use Rattle.rv_decode.specs.Decode.{decode}
 use Rattle.rv_exec.specs.declared.effect.Cause.TheVariants.{FetchFault, Illegal}
@@ -7,6 +8,7 @@ use Rattle.rv_exec.specs.Registers.{Registers, set}
 use Rattle.rv_exec.specs.Memory.{Memory}
 use Rattle.rv_exec.specs.Step.{Outcome, Done, Call, Trap, step}
 use Rattle.elf32_read.specs.Program.{Program, text_word}
+use Rattle.data_memory.specs.Start.{stack_top}
 use Rattle.plain_machine.specs.Environment.{Answer, Traps, Goes, Stays, call}
 
 -- an ECALL goes to the environment
@@ -30,4 +32,4 @@ plain p r m = on_word r m (text_word p r.pc)
 -- a0 is the hart's number, a1 the number of harts, and sp lies above the hart's own stack
 abbrev pub first_registers : ℕ → ℕ → ℕ → Registers
 first_registers entry harts h =
-    set (set (set (record { x = replicate 32 0; pc = entry }) 10 h) 11 harts) 2 (0xF0000000 - h * 0x20000)
+    set (set (set (record { x = replicate 32 0; pc = entry }) 10 h) 11 harts) 2 (stack_top h)

@@ -1,4 +1,5 @@
--- A run of the unpatched program, in the order in which its harts execute.
+-- A run of the unpatched program, in the order in which its harts execute. That a machine's harts take turns is this
+-- project's own.
 use Rattle.std.specs.Prelude.{ℕ, zero, suc, Bool, true, false, List, [], ◌∷◌, ◌++◌, map, Option, Some, None, option_and_then, if◌then◌else◌, slice_get, slice_set}
 use Rattle.rv_exec.specs.Registers.{Registers}
 use Rattle.rv_exec.specs.Memory.{Memory}

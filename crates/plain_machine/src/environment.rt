@@ -3,7 +3,7 @@ ghost use Rattle.std.specs.Prelude.{◌≡◌, ◌≤◌, Some, None};
 ghost use Rattle.data_memory.specs.Ranges.{bytes_at};
 ghost use Rattle.plain_machine.specs.Environment.{call, write, wrote, answered, is_output};
 ghost use Rattle.rv_exec.specs.Registers.{next};
-ghost use Rattle.plain_machine.specs.Answers.{StepGives, IsReadable, IsByteCode};
+ghost use Rattle.plain_machine.specs.Answers.{StepGives, IsByteCode};
 
 use data_memory::DataMemory;
 use rv_exec::{Regs, Stepped};
@@ -37,18 +37,6 @@ fn answer(regs: &mut Regs, value: u32)
     go_on(regs);
 }
 
-// Whether all of the range can be read.
-fn is_readable(memory: &DataMemory, addr: u32, len: u32) -> bool
-    requires { len ≤ 4096 }
-    ensures { IsReadable result memory.now addr len }
-{
-    let mut piece = [0u8; 4096];
-    match memory.read_range(addr, &mut piece[..len as usize]) {
-        Ok(()) => true,
-        Err(_) => false,
-    }
-}
-
 fn is_output(file: u32) -> bool
     ensures { result ≡ is_output file }
 {
@@ -62,7 +50,7 @@ fn write_range(regs: &mut Regs, memory: &DataMemory, addr: u32, len: u32) -> Ste
     ensures code { IsByteCode result }
     ensures step { StepGives result (wrote regs.old memory.now (bytes_at memory.now addr len)) regs.old regs.new memory.now memory.now }
 {
-    if !is_readable(memory, addr, len) {
+    if !memory.are_mapped(addr, len as usize) {
         answer(regs, BAD_ADDRESS);
         return Stepped::Ran;
     }
@@ -86,7 +74,7 @@ fn write(regs: &mut Regs, memory: &DataMemory) -> Stepped
     write_range(regs, memory, regs.get(11), len)
 }
 
-/// An ECALL.
+/// What the environment does at an ECALL: a7 is the number of the call, a0 to a2 are its operands, a0 gets its answer.
 #[tactic(auto, unfolding(crate::specs::Environment::call))]
 pub fn call(regs: &mut Regs, memory: &DataMemory) -> Stepped
     ensures code { IsByteCode result }

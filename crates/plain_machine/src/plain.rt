@@ -7,7 +7,7 @@ ghost use Rattle.plain_machine.specs.PlainRun.{first_harts};
 ghost use Rattle.plain_machine.specs.Unpatched.{GoesOn, PlainSteps, registers_of, started};
 
 use crate::environment::call;
-use data_memory::DataMemory;
+use data_memory::{DataMemory, stack_top};
 use dbg_traits::{NoMemory, Settings};
 use elf32_read::Image;
 use rv_decode::decode;
@@ -44,7 +44,7 @@ pub fn first_registers(entry: u32, harts: u32, hart: u32) -> Regs
     let mut regs = Regs::new(entry);
     regs.set(10, hart);
     regs.set(11, harts);
-    regs.set(2, 0xF000_0000 - hart * 0x2_0000);
+    regs.set(2, stack_top(hart));
     regs
 }
 

@@ -1,4 +1,5 @@
--- Runs of instructions that touch registers alone.
+-- Runs of instructions that touch registers alone: this project's own notion. Which ones do is read off the RISC-V
+-- Unprivileged ISA: all of RV32IM but loads, stores, ECALL and EBREAK, and no AMO.
 use Rattle.std.specs.Prelude.{ℕ, suc, zero, ◌-◌, ◌/◌, ◌%◌, ◌≡◌, Bool, true, false, ◌&&◌, ◌==◌, nat_le, List, slice_get, Option, Some, None, if◌then◌else◌}
 use Rattle.std.specs.Option.{option_and_then}
 use Rattle.rv_decode.specs.declared.instr.Instr.{Instr}

@@ -6,8 +6,7 @@ use Rattle.rv_decode.specs.declared.instr.AmoOp.{AmoOp}
 use Rattle.rv_exec.specs.declared.effect.Cause.{Cause}
 use Rattle.rv_exec.specs.declared.effect.Cause.TheVariants.{StoreFault, LoadAlign, StoreAlign}
 use Rattle.rv_exec.specs.Causes.{cause_number}
-use Rattle.rv_exec.specs.Arithmetic.{amo_value}
-use Rattle.rv_exec.specs.Memory.{Memory, load, store, amo, number_at, all_writable, with_number, number_or_0, or_fault, old_word, without_memory}
+use Rattle.rv_exec.specs.Memory.{Memory, load, store, amo, number_at, all_writable, with_number, swapped, or_fault, old_word, without_memory}
 
 abbrev IsOwn : Cause → Type 0
 IsOwn c = cause_number c ≤ 6
@@ -22,10 +21,11 @@ of_store true true m = tt
 of_store true false m = omega arith
 of_store false d m = omega arith
 
-of_amo : (b d : Bool) (p : ℕ × Memory) → IfErr (old_word (if b then (if d then Ok p else Err StoreFault) else Err StoreAlign)) IsOwn
-of_amo true true p = tt
-of_amo true false p = omega arith
-of_amo false d p = omega arith
+of_amo : (b d : Bool) (m : Memory) (op : AmoOp) (addr value : ℕ) (n : Option ℕ) → IfErr (old_word (if b then (if d then swapped m op addr value n else Err StoreFault) else Err StoreAlign)) IsOwn
+of_amo true true m op addr value (Some n) = tt
+of_amo true true m op addr value None = omega arith
+of_amo true false m op addr value n = omega arith
+of_amo false d m op addr value n = omega arith
 
 pub refused_load : (m : Memory) (addr len : ℕ) (c : Cause) → load m addr len ≡ Err c → cause_number c ≤ 6
 unfolding load
@@ -37,6 +37,4 @@ refused_store m addr len value c h = IfErr-at_err IsOwn h (of_store (addr % len 
 
 pub refused_amo : (m : Memory) (op : AmoOp) (addr value : ℕ) (c : Cause) → old_word (amo m op addr value) ≡ Err c → cause_number c ≤ 6
 unfolding amo
-refused_amo m op addr value c h =
-    let old : ℕ = number_or_0 (number_at m addr 4) in
-    IfErr-at_err IsOwn h (of_amo (addr % 4 == 0) (all_writable m addr 4) (old, with_number m addr 4 (amo_value op old value)))
+refused_amo m op addr value c h = IfErr-at_err IsOwn h (of_amo (addr % 4 == 0) (all_writable m addr 4) m op addr value (number_at m addr 4))

@@ -22,6 +22,7 @@ word z = unsigned_abs (int_rem_euclid z (pos (2 ^ 32)))
 abbrev pub flag : Bool → ℕ
 flag b = if b then 1 else 0
 
+-- OP and OP-IMM; a shift takes the low 5 bits of its amount
 abbrev pub alu_value : AluOp → ℕ → ℕ → ℕ
 alu_value ops.Add a b = (a + b) % 2 ^ 32
 alu_value ops.Sub a b = (a + (2 ^ 32 - b)) % 2 ^ 32
@@ -39,6 +40,7 @@ alu_value ops.And a b = bit_and a b
 abbrev pub upper : ℤ → ℕ
 upper z = word (int_shr z 32)
 
+-- the M extension; int_div rounds toward zero, and int_rem has the dividend's sign
 abbrev pub mul_value : MulOp → ℕ → ℕ → ℕ
 mul_value Mul a b = a * b % 2 ^ 32
 mul_value Mulh a b = upper (signed a *ℤ signed b)
@@ -49,6 +51,8 @@ mul_value Divu a b = if b == 0 then 2 ^ 32 - 1 else a / b
 mul_value Rem a b = if b == 0 then a else word (int_rem (signed a) (signed b))
 mul_value Remu a b = if b == 0 then a else a % b
 
+-- what an AMO puts in place of the old word a ("Atomic Memory Operations"): MIN and MAX compare signed words, MINU and
+-- MAXU unsigned ones
 abbrev pub amo_value : AmoOp → ℕ → ℕ → ℕ
 amo_value amos.Add a b = (a + b) % 2 ^ 32
 amo_value amos.Swap a b = b
@@ -60,6 +64,7 @@ amo_value amos.Max a b = if int_lt (signed a) (signed b) then b else a
 amo_value amos.Minu a b = min a b
 amo_value amos.Maxu a b = max a b
 
+-- whether a branch is taken ("Conditional Branches")
 abbrev pub is_taken : BranchOp → ℕ → ℕ → Bool
 is_taken Beq a b = a == b
 is_taken Bne a b = not (a == b)

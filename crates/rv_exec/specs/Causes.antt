@@ -1,4 +1,4 @@
--- The numbers of the causes.
+-- The numbers of the causes. They are this project's own, not the codes of the mcause register.
 use Rattle.std.specs.Prelude.{ℕ, ◌≤◌}
 use Rattle.rv_exec.specs.declared.effect.Cause.{Cause}
 use Rattle.rv_exec.specs.declared.effect.Cause.TheVariants.{FetchAlign, LoadFault, StoreFault, LoadAlign, StoreAlign, Break, Illegal, FetchFault}

@@ -59,18 +59,15 @@ unfoldable pub store : Memory → ℕ → ℕ → ℕ → Result Memory Cause
 store m addr len value =
     if addr % len == 0 then (if all_writable m addr len then Ok (with_number m addr len value) else Err StoreFault) else Err StoreAlign
 
-abbrev pub number_or_0 : Option ℕ → ℕ
-number_or_0 None = 0
-number_or_0 (Some n) = n
+-- a word that was read, and memory with what the operation makes of it
+abbrev pub swapped : Memory → AmoOp → ℕ → ℕ → Option ℕ → Result (ℕ × Memory) Cause
+swapped m op addr value None = Err StoreFault
+swapped m op addr value (Some old) = Ok (old, with_number m addr 4 (amo_value op old value))
 
--- the old word, and memory with what the operation makes of it
+-- an AMO: the old word, and memory with the new one in its place
 unfoldable pub amo : Memory → AmoOp → ℕ → ℕ → Result (ℕ × Memory) Cause
 amo m op addr value =
-    if addr % 4 == 0 then
-    (if all_writable m addr 4 then
-    (let old : ℕ = number_or_0 (number_at m addr 4) in Ok (old, with_number m addr 4 (amo_value op old value)))
-    else Err StoreFault)
-    else Err StoreAlign
+    if addr % 4 == 0 then (if all_writable m addr 4 then swapped m op addr value (number_at m addr 4) else Err StoreFault) else Err StoreAlign
 
 abbrev pub old_word : Result (ℕ × Memory) Cause → Result ℕ Cause
 old_word (Ok p) = Ok p.0

@@ -5,6 +5,7 @@ ghost use Rattle.rv_exec.specs.Arithmetic.{alu_value, mul_value, amo_value, is_t
 use rv_decode::{AluOp, AmoOp, BranchOp, MulOp};
 
 /// What an operation of the base instructions makes of two words.
+#[inline(always)]
 pub fn alu(op: AluOp, a: u32, b: u32) -> u32
     ensures { result ≡ alu_value op a b }
 {
@@ -23,6 +24,7 @@ pub fn alu(op: AluOp, a: u32, b: u32) -> u32
 }
 
 /// The upper 32 bits of a product of 64.
+#[inline]
 fn upper_half(product: i64) -> u32
     ensures { result ≡ upper product }
 {
@@ -30,6 +32,7 @@ fn upper_half(product: i64) -> u32
 }
 
 /// What an operation of the M extension makes of two words.
+#[inline]
 pub fn multiply(op: MulOp, a: u32, b: u32) -> u32
     ensures { result ≡ mul_value op a b }
 {
@@ -46,6 +49,7 @@ pub fn multiply(op: MulOp, a: u32, b: u32) -> u32
 }
 
 /// The signed quotient, rounded toward zero.
+#[inline]
 fn divide(a: u32, b: u32) -> u32
     ensures { result ≡ mul_value MulOp.Div a b }
 {
@@ -58,6 +62,7 @@ fn divide(a: u32, b: u32) -> u32
 }
 
 /// The remainder of the signed quotient; it has the dividend's sign.
+#[inline]
 fn remainder(a: u32, b: u32) -> u32
     ensures { result ≡ mul_value MulOp.Rem a b }
 {
@@ -69,32 +74,33 @@ fn remainder(a: u32, b: u32) -> u32
         .cast_unsigned()
 }
 
-/// What an AMO puts in memory in place of the word `a`.
-pub fn amo(op: AmoOp, a: u32, b: u32) -> u32
-    ensures { result ≡ amo_value op a b }
+/// What an AMO puts in memory in place of the word `old`.
+pub fn amo_value(op: AmoOp, old: u32, value: u32) -> u32
+    ensures { result ≡ amo_value op old value }
 {
     match op {
-        AmoOp::Add => a.wrapping_add(b),
-        AmoOp::Swap => b,
-        AmoOp::Xor => a ^ b,
-        AmoOp::Or => a | b,
-        AmoOp::And => a & b,
-        AmoOp::Min => if b.cast_signed() < a.cast_signed() {
-            b
+        AmoOp::Add => old.wrapping_add(value),
+        AmoOp::Swap => value,
+        AmoOp::Xor => old ^ value,
+        AmoOp::Or => old | value,
+        AmoOp::And => old & value,
+        AmoOp::Min => if value.cast_signed() < old.cast_signed() {
+            value
         } else {
-            a
+            old
         },
-        AmoOp::Max => if a.cast_signed() < b.cast_signed() {
-            b
+        AmoOp::Max => if old.cast_signed() < value.cast_signed() {
+            value
         } else {
-            a
+            old
         },
-        AmoOp::Minu => a.min(b),
-        AmoOp::Maxu => a.max(b),
+        AmoOp::Minu => old.min(value),
+        AmoOp::Maxu => old.max(value),
     }
 }
 
 /// Whether a branch is taken.
+#[inline(always)]
 pub fn taken(op: BranchOp, a: u32, b: u32) -> bool
     ensures { result ≡ is_taken op a b }
 {

@@ -2,7 +2,7 @@
 ghost use Rattle.std.specs.Prelude.{◌≡◌, ◌<◌, ◌*◌, ◌^◌};
 ghost use Rattle.rv_exec.specs.Registers.{set_pc, next, set, plus};
 ghost use Rattle.rv_exec.specs.Causes.{HasOwnCause};
-ghost use Rattle.rv_exec.specs.Step.{step, outcome, load_value, load_len, store_len, go, OnStop};
+ghost use Rattle.rv_exec.specs.Step.{step, outcome, load_value, load_len, store_len, jump_to, OnStop};
 
 use crate::alu::{alu, multiply, taken};
 use crate::effect::{Cause, Effect};
@@ -14,6 +14,7 @@ use rv_decode::{Instr, LoadOp, StoreOp};
 ///
 /// The answer is `Call` for ECALL, and `Trap` with a cause 1 to 6 where the instruction can't be executed. Unless
 /// it is `Done`, nothing has changed.
+#[inline(always)]
 pub fn execute<P: DataPort>(i: Instr, regs: &mut Regs, port: &mut P) -> Effect
     ensures step { outcome result regs.new (P.memory port.new) ≡ step i regs.old (P.memory port.old) }
     ensures kept { OnStop result ((regs.new ≡ regs.old) × (P.memory port.new ≡ P.memory port.old)) }
@@ -21,8 +22,8 @@ pub fn execute<P: DataPort>(i: Instr, regs: &mut Regs, port: &mut P) -> Effect
 {
     let pc = regs.pc();
     match i {
-        Instr::Lui { rd, imm } => give(regs, rd.number(), imm),
-        Instr::Auipc { rd, imm } => give(regs, rd.number(), pc.wrapping_add(imm)),
+        Instr::Lui { rd, imm } => write_rd(regs, rd.number(), imm),
+        Instr::Auipc { rd, imm } => write_rd(regs, rd.number(), pc.wrapping_add(imm)),
         Instr::Jal { rd, imm } => jump(regs, rd.number(), pc.wrapping_add(imm)),
         Instr::Jalr { rd, rs1, imm } => {
             let target = regs.get(rs1.number()).wrapping_add(imm);
@@ -38,7 +39,7 @@ pub fn execute<P: DataPort>(i: Instr, regs: &mut Regs, port: &mut P) -> Effect
         Instr::Load { op, rd, rs1, imm } => {
             let addr = regs.get(rs1.number()).wrapping_add(imm);
             match port.load(addr, length_of_load(op)) {
-                Ok(n) => give(regs, rd.number(), loaded_value(op, n)),
+                Ok(n) => write_rd(regs, rd.number(), loaded_value(op, n)),
                 Err(cause) => Effect::Trap(cause),
             }
         }
@@ -51,19 +52,19 @@ pub fn execute<P: DataPort>(i: Instr, regs: &mut Regs, port: &mut P) -> Effect
         }
         Instr::OpImm { op, rd, rs1, imm } => {
             let value = alu(op, regs.get(rs1.number()), imm);
-            give(regs, rd.number(), value)
+            write_rd(regs, rd.number(), value)
         }
         Instr::Op { op, rd, rs1, rs2 } => {
             let value = alu(op, regs.get(rs1.number()), regs.get(rs2.number()));
-            give(regs, rd.number(), value)
+            write_rd(regs, rd.number(), value)
         }
         Instr::MulDiv { op, rd, rs1, rs2 } => {
             let value = multiply(op, regs.get(rs1.number()), regs.get(rs2.number()));
-            give(regs, rd.number(), value)
+            write_rd(regs, rd.number(), value)
         }
         Instr::Amo { op, rd, rs1, rs2 } => {
             match port.amo(op, regs.get(rs1.number()), regs.get(rs2.number())) {
-                Ok(old) => give(regs, rd.number(), old),
+                Ok(old) => write_rd(regs, rd.number(), old),
                 Err(cause) => Effect::Trap(cause),
             }
         }
@@ -74,6 +75,7 @@ pub fn execute<P: DataPort>(i: Instr, regs: &mut Regs, port: &mut P) -> Effect
 }
 
 /// pc goes on by one word.
+#[inline(always)]
 fn go_on(regs: &mut Regs) -> Effect
     ensures effect { result ≡ Effect.Done }
     ensures registers { regs.new ≡ next regs.old }
@@ -83,7 +85,8 @@ fn go_on(regs: &mut Regs) -> Effect
 }
 
 /// The register x`rd` gets the value, and pc goes on.
-fn give(regs: &mut Regs, rd: u32, value: u32) -> Effect
+#[inline(always)]
+fn write_rd(regs: &mut Regs, rd: u32, value: u32) -> Effect
     requires { rd < 32 }
     ensures effect { result ≡ Effect.Done }
     ensures registers { regs.new ≡ next (set regs.old rd value) }
@@ -93,9 +96,10 @@ fn give(regs: &mut Regs, rd: u32, value: u32) -> Effect
 }
 
 /// The register x`rd` gets the address of the next word, and pc the target, where that is a multiple of 4.
+#[inline(always)]
 fn jump(regs: &mut Regs, rd: u32, target: u32) -> Effect
     requires { rd < 32 }
-    ensures outcome { (m : _) → outcome result regs.new m ≡ go target (set regs.old rd (plus regs.old.pc 4)) m }
+    ensures outcome { (m : _) → outcome result regs.new m ≡ jump_to target (set regs.old rd (plus regs.old.pc 4)) m }
     ensures kept { OnStop result (regs.new ≡ regs.old) }
     ensures cause { HasOwnCause result }
 {
@@ -108,6 +112,7 @@ fn jump(regs: &mut Regs, rd: u32, target: u32) -> Effect
 }
 
 /// How many bytes it reads.
+#[inline(always)]
 fn length_of_load(op: LoadOp) -> u32
     ensures { result ≡ load_len op }
 {
@@ -119,6 +124,7 @@ fn length_of_load(op: LoadOp) -> u32
 }
 
 /// How many bytes it writes.
+#[inline(always)]
 fn length_of_store(op: StoreOp) -> u32
     ensures { result ≡ store_len op }
 {
@@ -130,6 +136,7 @@ fn length_of_store(op: StoreOp) -> u32
 }
 
 /// The value of a register after a load that read n.
+#[inline(always)]
 fn loaded_value(op: LoadOp, n: u32) -> u32
     requires { n < 2 ^ (8 * load_len op) }
     ensures { result ≡ load_value op n }

@@ -8,6 +8,7 @@ mod no_bytes;
 mod port;
 mod regs;
 
+pub use alu::amo_value;
 pub use effect::{Cause, Effect, Stepped};
 pub use executing::execute;
 pub use no_bytes::NoBytes;

@@ -1,4 +1,4 @@
--- Groups of 64 bits, as one row of bits.
+-- Groups of 64 bits, as one row of bits: this project's own index of free slots.
 use Rattle.std.specs.Prelude.{ℕ, ◌/◌, ◌%◌, ◌<◌, ◌≡◌, ◌==◌, List, slice_index, if◌then◌else◌}
 use Rattle.std.specs.Int.{bit_at}
 

@@ -1,4 +1,5 @@
--- The slots as a list: for each, who has it with which word, or nobody.
+-- The slots as a list: for each, who has it with which word, or nobody. A slot is a place for the copy of an instruction
+-- that is stepped out of line (GDB manual, "Displaced stepping"); where the slots are is this project's own.
 use Rattle.std.specs.Prelude.{ℕ, Bool, suc, ◌+◌, ◌-◌, ◌*◌, ◌/◌, ◌%◌, ◌<◌, ◌≡◌, ◌==◌, ◌&&◌, nat_le, List, [], ◌∷◌, slice_get, slice_set, Option, Some, None, if◌then◌else◌}
 use Rattle.std.specs.Option.{option_map, option_and_then}
 use Rattle.scratch_slots.specs.declared.slots.SlotUse.{SlotUse}

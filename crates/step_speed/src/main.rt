@@ -1,31 +1,39 @@
 //! How many instructions a second the machine's instruction path executes: fetch of a decoded instruction by pc,
-//! and `execute`. With the argument N it runs N instructions of a loop of arithmetic, a product, a store, a load
-//! and a branch; what it computed goes to standard output, and how long it took to standard error.
+//! and `execute` over the data memory of a machine. With the argument N it runs N instructions of a loop of arithmetic,
+//! a product, a store, a load and a branch; what it computed goes to standard output, and how long it took to standard error.
 #![tactic(auto)]
 
 ghost use Rattle.std.specs.Prelude.{◌≤◌};
 
-mod operation;
-mod ram;
-
-use ram::Ram;
+use data_memory::DataMemory;
+use elf_gen::plain;
+use elf32_read::read_image;
 use rv_decode::{Instr, decode};
 use rv_exec::{DataPort, Effect, Regs, execute};
+use std::alloc::Global;
 use std::time::Instant;
 use std::{env, io};
 
-/// lui x2, 0xfffff; then in a loop: addi x1, x1, 1; xor x3, x3, x1; sw x3, 16(x0); lw x4, 16(x0);
+/// lui x2, 0xfffff; lui x6, 0x20; then in a loop: addi x1, x1, 1; xor x3, x3, x1; sw x3, 0(x6); lw x4, 0(x6);
 /// mul x5, x2, x1; add x3, x3, x5; bne x1, x2, -24.
-const LOOP: [u32; 8] = [
+const LOOP: [u32; 9] = [
     0xFFFF_F137,
+    0x0002_0337,
     0x0010_8093,
     0x0011_C1B3,
-    0x0030_2823,
-    0x0100_2203,
+    0x0033_2023,
+    0x0003_2203,
     0x0211_02B3,
     0x0051_81B3,
     0xFE20_94E3,
 ];
+
+/// The memory of a program with that loop and 64 bytes of data; none where memory runs out.
+fn memory_of_loop(alloc: Global) -> Option<DataMemory> {
+    let file = plain(alloc, &LOOP, &[0; 64]).ok()?;
+    let image = read_image(alloc, &file).ok()?;
+    DataMemory::load(alloc, &image, 1).ok()
+}
 
 /// The number of instructions that were executed, at most `limit`.
 fn run<P: DataPort>(text: &[Instr], regs: &mut Regs, port: &mut P, limit: u64) -> u64
@@ -55,7 +63,9 @@ fn main(rt: HostRuntime) -> io::Result<()> {
             text.push(i)?;
         }
     }
-    let mut port = Ram::new(0, vec![in rt.alloc(); 0; 4096]?);
+    let Some(mut port) = memory_of_loop(rt.alloc()) else {
+        return eprintln!(rt; "out of memory");
+    };
     let mut regs = Regs::new(0);
     let limit = limit_of(env::args(&rt)?.nth(1));
     let start = Instant::now(&rt)?;

@@ -7,7 +7,7 @@ use elf_gen::generate;
 use elf_symbols::{Symbols, symbols};
 use elf32_read::{Image, read_image};
 use line_index::LineIndex;
-use line_rows::{Row, Rows};
+use line_rows::{LineSections, Row, RowsBuilder};
 use rv_decode::{Instr, decode};
 use std::alloc::Global;
 use std::test::Fail;
@@ -48,7 +48,7 @@ pub struct Program {
 
 /// A sequence of rows: address, file, line, whether a statement.
 fn push_sequence(
-    rows: &mut Rows,
+    rows: &mut RowsBuilder,
     sequence: &[(u32, u32, u32, bool)],
     end: u32,
 ) -> Result<(), Fail> {
@@ -84,12 +84,12 @@ const WORK: [(u32, u32, u32, bool); 3] = [
 pub fn with_rows(alloc: Global) -> Result<Program, Fail> {
     let image = read_image(alloc, &generate(alloc, 1)?)?;
     let names = symbols(alloc, &image)?;
-    let mut rows = Rows::new(alloc);
+    let mut rows = RowsBuilder::new(alloc);
     rows.push_name(b"a.c")?;
     rows.push_name(b"b.c")?;
     push_sequence(&mut rows, &START, 0x10088)?;
     push_sequence(&mut rows, &WORK, 0x100C0)?;
-    let lines = LineIndex::build(alloc, rows, &names, &image)?;
+    let lines = LineIndex::build(alloc, rows.finish(), &names, &image)?;
     Ok(Program {
         image,
         names,
@@ -103,7 +103,12 @@ pub fn as_generated(alloc: Global) -> Result<Program, Fail> {
     let image = read_image(alloc, &generate(alloc, 2)?)?;
     let names = symbols(alloc, &image)?;
     let section = image.section(b".debug_line").ok_or("no section")?;
-    let read = rows(alloc, section, b"", b"")?;
+    let sections = LineSections {
+        line: section,
+        line_str: b"",
+        strs: b"",
+    };
+    let read = rows(alloc, &sections)?;
     let lines = LineIndex::build(alloc, read, &names, &image)?;
     Ok(Program {
         image,

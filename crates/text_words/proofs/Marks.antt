@@ -1,19 +1,22 @@
 -- Words, marks and instructions at the places of addresses.
-use Rattle.std.proofs.Common.{◌≡◌, ◌≢◌, ℕ, suc, zero, ◌%◌, ◌^◌, ◌<◌, List, [], ◌∷◌, length, map, refl, ap, sym, ◌∙◌, arith, Bool, true, false, cond, Some, None, Option, ◌&&◌, get_or, get_or-set_same, get_or-set_other, replicate}
-use Rattle.std.specs.Prelude.{IfSome, slice_index, slice_index_or, slice_set, is_some, IsSome, ◌==◌}
+use Rattle.std.proofs.Common.{◌≡◌, ◌≢◌, ℕ, suc, zero, ◌%◌, ◌/◌, ◌*◌, ◌+◌, ◌-◌, ◌≤◌, ◌^◌, ◌<◌, List, [], ◌∷◌, length, map, subst, refl, ap, sym, ◌∙◌, arith, Bool, true, false, cond, Some, None, Option, ◌&&◌, get_or-set_same, get_or-set_other, inl, inr}
+use Rattle.std.specs.Prelude.{IfSome, slice_get, slice_index, slice_index_or, slice_set, is_some, IsSome, ◌==◌, ◌⊎◌}
 use Rattle.std.specs.Option.{option_map, option_map_or}
 use Rattle.std.specs.FinSet as set
 use Rattle.std.proofs.lemmas.Bool.Decides.{nat_tests}
 use Rattle.rv_decode.specs.declared.instr.Instr.{Instr}
 use Rattle.rv_decode.specs.Decode.{decode}
+use Rattle.elf32_read.specs.Fields.{spans}
 use Rattle.elf32_read.specs.Program.{Program, text_word}
 use Rattle.text_words.specs.declared.layout.Section.{Section}
 use Rattle.text_words.specs.declared.text.TextWords.TheInside.{Inside}
+use Rattle.text_words.specs.declared.fetch.Fetch.{Fetch}
+use Rattle.text_words.specs.declared.fetch.Fetch.TheVariants.{Absent}
 use Rattle.text_words.specs.Tables.{words_below, set_below}
-use Rattle.text_words.specs.Words.{Words, shown, is_planted, fetched, fetched_as, unpatched}
-use Rattle.text_words.specs.Layout.{Laid, place, index, word_at, flag_at, seen, sections_from, all_words}
+use Rattle.text_words.specs.Words.{Words, shown, is_planted, fetched, fetched_as, decoded_as, unpatched}
+use Rattle.text_words.specs.Layout.{Laid, IsLaid, AreEntries, place, index, word_at, entry_at, mark_at, is_mark, seen, sections_from, all_words}
 use Rattle.text_words.proofs.Below.{word_below, in_below, inserted, removed, same_words, none_in}
-use Rattle.text_words.proofs.Places.{place_range, one_place, begun_word}
+use Rattle.text_words.proofs.Places.{place_range, one_place, begun_word, found_place}
 
 and_true : (b : Bool) → b ≡ (b && true)
 and_true true = refl
@@ -34,6 +37,27 @@ some_of_test false o i e = absurd (cc)
 zero_test : (a : ℕ) → (a == 0) ≡ true → a ≡ 0
 zero_test a e = grind (arith, nat_tests)
 
+yes_zero : (a : ℕ) → a ≡ 0 → (a == 0) ≡ true
+yes_zero a e = grind (arith, nat_tests)
+
+same_some : (a b : Section) → Some a ≡ Some b → a ≡ b
+same_some a b e = cc
+
+spanning : (start count addr : ℕ) → start ≤ addr → (addr - start) / 4 < count → spans start (4 * count) addr ≡ true
+spanning start count addr low within = grind (arith, nat_tests)
+
+-- the first section's words come first
+pub first_index : (ss : List Section) (s : Section) (addr : ℕ) → slice_get ss 0 ≡ Some s → addr % 4 ≡ 0 → s.address ≤ addr → (addr - s.address) / 4 < s.count
+    → index ss addr ≡ Some (s.first + (addr - s.address) / 4)
+unfolding index
+first_index [] s addr e a low within = absurd (cc)
+first_index (t ∷ ss) s addr e a low within =
+    let same : t ≡ s = same_some t s e in
+    let yes : spans s.address (4 * s.count) addr ≡ true = spanning s.address s.count addr low within in
+    ap (λ b. cond b (place (t ∷ ss) addr) None) (yes_zero (addr % 4) a)
+    ∙ ap (λ (u : Section). place (u ∷ ss) addr) same
+    ∙ found_place s ss addr yes
+
 pub index_range : (ss : List Section) (end addr i : ℕ) → Laid 0 ss end → index ss addr ≡ Some i → i < end
 unfolding index
 index_range ss end addr i h e = (place_range ss 0 end addr i h (some_of_test (addr % 4 == 0) (place ss addr) i e).1).1
@@ -49,63 +73,115 @@ one_index ss end a b i h ea eb =
     let tb : ((b % 4 == 0) ≡ true) × (place ss b ≡ Some i) = some_of_test (b % 4 == 0) (place ss b) i eb in
     one_place ss 0 end a b i h (zero_test (a % 4) ta.0) (zero_test (b % 4) tb.0) ta.1 tb.1
 
-pub marked_here : (ss : List Section) (flags : List Bool) (addr i : ℕ) (flag : Bool) → Laid 0 ss (length flags) → index ss addr ≡ Some i → flag_at ss (slice_set flags i flag) addr ≡ (flag && is_some (index ss addr))
-marked_here ss flags addr i flag h e =
-    ap (λ o. option_map_or (λ j. slice_index_or (slice_set flags i flag) j false) o false) e
-    ∙ get_or-set_same flags i flag false (index_range ss (length flags) addr i h e)
-    ∙ and_true flag ∙ sym (ap (λ o. flag && is_some o) e)
+-- the mark of an entry that was made is the one that was wanted
+mark_of_decoded : (o : Option Instr) → is_mark (decoded_as o) ≡ false
+mark_of_decoded None = refl
+mark_of_decoded (Some i) = refl
 
-marked_other : (ss : List Section) (flags : List Bool) (addr i q : ℕ) (flag : Bool) (o : Option ℕ) → Laid 0 ss (length flags) → index ss addr ≡ Some i → q ≢ addr → index ss q ≡ o
-    → option_map_or (λ j. slice_index_or (slice_set flags i flag) j false) o false ≡ option_map_or (λ j. slice_index_or flags j false) o false
-marked_other ss flags addr i q flag None h e d w = refl
-marked_other ss flags addr i q flag (Some j) h e d w =
-    get_or-set_other flags i j flag false (λ s. d (one_index ss (length flags) q addr i h (w ∙ ap Some s) e))
+pub mark_of : (w : ℕ) (planted : Bool) → is_mark (fetched_as (Some w) planted) ≡ planted
+mark_of w true = refl
+mark_of w false = mark_of_decoded (decode w)
 
-pub marked_others : (ss : List Section) (flags : List Bool) (addr i : ℕ) (flag : Bool) → Laid 0 ss (length flags) → index ss addr ≡ Some i
-    → (q : ℕ) → q ≢ addr → flag_at ss (slice_set flags i flag) q ≡ flag_at ss flags q
-marked_others ss flags addr i flag h e q d = marked_other ss flags addr i q flag (index ss q) h e d refl
+entry_here : (ss : List Section) (code : List Fetch) (addr i : ℕ) (f : Fetch) → Laid 0 ss (length code) → index ss addr ≡ Some i → entry_at ss (slice_set code i f) addr ≡ f
+entry_here ss code addr i f h e =
+    ap (λ o. option_map_or (λ j. slice_index_or (slice_set code i f) j Absent) o Absent) e ∙ get_or-set_same code i f Absent (index_range ss (length code) addr i h e)
 
-pub unmarked_here : (ss : List Section) (flags : List Bool) (addr : ℕ) (flag : Bool) → index ss addr ≡ None → flag_at ss flags addr ≡ (flag && is_some (index ss addr))
-unmarked_here ss flags addr flag e = ap (λ o. option_map_or (λ j. slice_index_or flags j false) o false) e ∙ sym (and_false flag) ∙ sym (ap (λ o. flag && is_some o) e)
+pub marked_here : (ss : List Section) (code : List Fetch) (addr i w : ℕ) (f : Fetch) (planted : Bool) → Laid 0 ss (length code) → index ss addr ≡ Some i → f ≡ fetched_as (Some w) planted
+    → mark_at ss (slice_set code i f) addr ≡ (planted && is_some (index ss addr))
+marked_here ss code addr i w f planted h e is =
+    ap is_mark (entry_here ss code addr i f h e ∙ is) ∙ mark_of w planted ∙ and_true planted ∙ sym (ap (λ o. planted && is_some o) e)
 
-pub mapped_at : (words : List ℕ) (i : ℕ) (d : Option Instr) → i < length words → get_or (map decode words) i d ≡ decode (slice_index words i)
-mapped_at [] i d l = absurd (omega arith)
-mapped_at (w ∷ ws) zero d l = refl
-mapped_at (w ∷ ws) (suc i) d l = mapped_at ws i d (omega arith)
+entry_other : (ss : List Section) (code : List Fetch) (addr i q : ℕ) (f : Fetch) (o : Option ℕ) → Laid 0 ss (length code) → index ss addr ≡ Some i → q ≢ addr → index ss q ≡ o
+    → option_map_or (λ j. slice_index_or (slice_set code i f) j Absent) o Absent ≡ option_map_or (λ j. slice_index_or code j Absent) o Absent
+entry_other ss code addr i q f None h e d w = refl
+entry_other ss code addr i q f (Some j) h e d w =
+    get_or-set_other code i j f Absent (λ s. d (one_index ss (length code) q addr i h (w ∙ ap Some s) e))
+
+pub marked_others : (ss : List Section) (code : List Fetch) (addr i : ℕ) (f : Fetch) → Laid 0 ss (length code) → index ss addr ≡ Some i
+    → (q : ℕ) → q ≢ addr → mark_at ss (slice_set code i f) q ≡ mark_at ss code q
+marked_others ss code addr i f h e q d = ap is_mark (entry_other ss code addr i q f (index ss q) h e d refl)
+
+pub unmarked_here : (ss : List Section) (code : List Fetch) (addr : ℕ) (planted : Bool) → index ss addr ≡ None → mark_at ss code addr ≡ (planted && is_some (index ss addr))
+unmarked_here ss code addr planted e = ap (λ o. is_mark (option_map_or (λ j. slice_index_or code j Absent) o Absent)) e ∙ sym (and_false planted) ∙ sym (ap (λ o. planted && is_some o) e)
+
+same_place : (h k : ℕ) → (h ≡ k) ⊎ (h ≡ k → ⊥)
+same_place zero zero = inl refl
+same_place zero (suc k) = inr (λ e. absurd (omega arith))
+same_place (suc h) zero = inr (λ e. absurd (omega arith))
+same_place (suc h) (suc k) = elim (same_place h k) [ inl e ↦ inl (ap suc e) | inr n ↦ inr (λ e. n (omega arith)) ]
+
+-- each entry stays its word's
+abbrev IsEntry : ℕ → Fetch → Type 0
+IsEntry w f = f ≡ fetched_as (Some w) (is_mark f)
+
+made : (w : ℕ) (planted : Bool) → IsEntry w (fetched_as (Some w) planted)
+made w planted = ap (fetched_as (Some w)) (sym (mark_of w planted))
+
+pub entries_kept : (words : List ℕ) (code : List Fetch) (i : ℕ) (f : Fetch) (planted : Bool) → length code ≡ length words → i < length code → f ≡ fetched_as (Some (slice_index words i)) planted
+    → AreEntries words code → AreEntries words (slice_set code i f)
+entries_kept words code i f planted whole low is all k within =
+    elim (same_place i k) [
+      | inl e ↦
+          subst (IsEntry (slice_index words k)) (sym (ap (λ j. slice_index_or (slice_set code i f) j Absent) (sym e) ∙ get_or-set_same code i f Absent low ∙ is ∙ ap (λ j. fetched_as (Some (slice_index words j)) planted) e))
+          (made (slice_index words k) planted)
+      | inr d ↦ subst (IsEntry (slice_index words k)) (sym (get_or-set_other code i k f Absent (λ e. d (sym e)))) (all k within)
+    ]
+
+-- the entries as they are made
+abbrev pub unmarked : List ℕ → List Fetch
+unmarked words = map (λ w. decoded_as (decode w)) words
+
+pub unmarked_length : (words : List ℕ) → length (unmarked words) ≡ length words
+unmarked_length [] = refl
+unmarked_length (w ∷ ws) = ap suc (unmarked_length ws)
+
+pub unmarked_entries : (words : List ℕ) → AreEntries words (unmarked words)
+unmarked_entries [] k l = absurd (omega arith)
+unmarked_entries (w ∷ ws) zero l = made w false
+unmarked_entries (w ∷ ws) (suc k) l = unmarked_entries ws k (omega arith)
+
+all_unmarked : (words : List ℕ) (i : ℕ) → is_mark (slice_index_or (unmarked words) i Absent) ≡ false
+all_unmarked [] i = refl
+all_unmarked (w ∷ ws) zero = mark_of w false
+all_unmarked (w ∷ ws) (suc i) = all_unmarked ws i
+
+blank : (words : List ℕ) (o : Option ℕ) → is_mark (option_map_or (λ i. slice_index_or (unmarked words) i Absent) o Absent) ≡ false
+blank words None = refl
+blank words (Some i) = all_unmarked words i
 
 pub shown_is : (t : Inside) (addr : ℕ) → addr < 2 ^ 32 → shown (seen t) addr ≡ word_at t.sections.items t.words.items addr
 shown_is t addr l = word_below (word_at t.sections.items t.words.items) (2 ^ 32) addr l
 
-pub planted_is : (t : Inside) (addr : ℕ) → addr < 2 ^ 32 → is_planted (seen t) addr ≡ flag_at t.sections.items t.planted.items addr
-planted_is t addr l = in_below (flag_at t.sections.items t.planted.items) (2 ^ 32) addr l
+pub planted_is : (t : Inside) (addr : ℕ) → addr < 2 ^ 32 → is_planted (seen t) addr ≡ mark_at t.sections.items t.code.items addr
+planted_is t addr l = in_below (mark_at t.sections.items t.code.items) (2 ^ 32) addr l
 
-pub fetched_is : (t : Inside) (addr : ℕ) → addr < 2 ^ 32 → fetched (seen t) addr ≡ fetched_as (word_at t.sections.items t.words.items addr) (flag_at t.sections.items t.planted.items addr)
-fetched_is t addr l = ap (λ o. fetched_as o (is_planted (seen t) addr)) (shown_is t addr l) ∙ ap (fetched_as (word_at t.sections.items t.words.items addr)) (planted_is t addr l)
+by_entry : (words : List ℕ) (code : List Fetch) (o : Option ℕ) → AreEntries words code → IfSome o (λ i. i < length words)
+    → fetched_as (option_map (slice_index words) o) (is_mark (option_map_or (λ i. slice_index_or code i Absent) o Absent)) ≡ option_map_or (λ i. slice_index_or code i Absent) o Absent
+by_entry words code None all within = refl
+by_entry words code (Some i) all within = sym (all i within)
+
+-- what a hart finds is the entry
+pub fetched_is : (t : Inside) (addr : ℕ) → IsLaid t → addr < 2 ^ 32 → fetched (seen t) addr ≡ entry_at t.sections.items t.code.items addr
+fetched_is t addr laid l =
+    ap (λ o. fetched_as o (is_planted (seen t) addr)) (shown_is t addr l)
+    ∙ ap (fetched_as (word_at t.sections.items t.words.items addr)) (planted_is t addr l)
+    ∙ by_entry t.words.items t.code.items (index t.sections.items addr) laid.entries (range_of t.sections.items (length t.words.items) addr (index t.sections.items addr) laid.laid refl)
 
 pub placed_in : (ss : List Section) (words : List ℕ) (addr : ℕ) → IsSome (word_at ss words addr) → is_some (index ss addr) ≡ true
 placed_in ss words addr s = some_mapped (index ss addr) words s
 
-pub plant_set : (ss : List Section) (flags flags' : List Bool) (addr : ℕ) → addr < 2 ^ 32 → flag_at ss flags' addr ≡ true → ((q : ℕ) → q ≢ addr → flag_at ss flags' q ≡ flag_at ss flags q)
-    → set_below (flag_at ss flags') (2 ^ 32) ≡ set.insert (set_below (flag_at ss flags) (2 ^ 32)) addr
-plant_set ss flags flags' addr l here others = inserted (flag_at ss flags) (flag_at ss flags') (2 ^ 32) addr l here (λ r s d. others r d)
+pub plant_set : (ss : List Section) (code code' : List Fetch) (addr : ℕ) → addr < 2 ^ 32 → mark_at ss code' addr ≡ true → ((q : ℕ) → q ≢ addr → mark_at ss code' q ≡ mark_at ss code q)
+    → set_below (mark_at ss code') (2 ^ 32) ≡ set.insert (set_below (mark_at ss code) (2 ^ 32)) addr
+plant_set ss code code' addr l here others = inserted (mark_at ss code) (mark_at ss code') (2 ^ 32) addr l here (λ r s d. others r d)
 
-pub lift_set : (ss : List Section) (flags flags' : List Bool) (addr : ℕ) → addr < 2 ^ 32 → flag_at ss flags' addr ≡ false → ((q : ℕ) → q ≢ addr → flag_at ss flags' q ≡ flag_at ss flags q)
-    → set_below (flag_at ss flags') (2 ^ 32) ≡ set.remove (set_below (flag_at ss flags) (2 ^ 32)) addr
-lift_set ss flags flags' addr l here others = removed (flag_at ss flags) (flag_at ss flags') (2 ^ 32) addr l here (λ r s d. others r d)
+pub lift_set : (ss : List Section) (code code' : List Fetch) (addr : ℕ) → addr < 2 ^ 32 → mark_at ss code' addr ≡ false → ((q : ℕ) → q ≢ addr → mark_at ss code' q ≡ mark_at ss code q)
+    → set_below (mark_at ss code') (2 ^ 32) ≡ set.remove (set_below (mark_at ss code) (2 ^ 32)) addr
+lift_set ss code code' addr l here others = removed (mark_at ss code) (mark_at ss code') (2 ^ 32) addr l here (λ r s d. others r d)
 
-all_false : (n i : ℕ) → slice_index_or (replicate n false) i false ≡ false
-all_false zero i = refl
-all_false (suc n) zero = refl
-all_false (suc n) (suc i) = all_false n i
-
-blank : (n : ℕ) (o : Option ℕ) → option_map_or (λ i. slice_index_or (replicate n false) i false) o false ≡ false
-blank n None = refl
-blank n (Some i) = all_false n i
-
-pub begun : (p : Program) (ss : List Section) (ws : List ℕ) (fs : List Bool) (n : ℕ) → ss ≡ sections_from 0 p.text → ws ≡ all_words p.text → fs ≡ replicate n false
-    → ◌≡◌ {A = Words} (record { words = words_below (word_at ss ws) (2 ^ 32); planted = set_below (flag_at ss fs) (2 ^ 32) }) (unpatched p)
-begun p ss ws fs n es ew ef =
-    ap (λ m. record { words = m; planted = set_below (flag_at ss fs) (2 ^ 32) })
+pub begun : (p : Program) (ss : List Section) (ws us : List ℕ) (code : List Fetch) → ss ≡ sections_from 0 p.text → ws ≡ all_words p.text → code ≡ unmarked us
+    → ◌≡◌ {A = Words} (record { words = words_below (word_at ss ws) (2 ^ 32); planted = set_below (mark_at ss code) (2 ^ 32) }) (unpatched p)
+begun p ss ws us code es ew ec =
+    ap (λ m. record { words = m; planted = set_below (mark_at ss code) (2 ^ 32) })
     (same_words (word_at ss ws) (text_word p) (2 ^ 32) (λ q l. ap (λ xs. word_at xs ws q) es ∙ ap (λ xs. word_at (sections_from 0 p.text) xs q) ew ∙ begun_word p q))
     ∙ ap (λ s. record { words = words_below (text_word p) (2 ^ 32); planted = s })
-    (none_in (flag_at ss fs) (2 ^ 32) (λ q l. ap (λ xs. flag_at ss xs q) ef ∙ blank n (index ss q)))
+    (none_in (mark_at ss code) (2 ^ 32) (λ q l. ap (λ xs. mark_at ss xs q) ec ∙ blank us (index ss q)))

@@ -1,11 +1,12 @@
 -- Text sections side by side in one list of words.
-use Rattle.std.specs.Prelude.{◌≡◌, ◌<◌, ℕ, ◌+◌, ◌-◌, ◌*◌, ◌/◌, ◌%◌, ◌^◌, ◌==◌, Bool, false, List, [], ◌∷◌, ◌++◌, length, map, slice_index, slice_index_or, Option, Some, None, if◌then◌else◌}
+use Rattle.std.specs.Prelude.{◌≡◌, ◌<◌, ℕ, ◌+◌, ◌-◌, ◌*◌, ◌/◌, ◌%◌, ◌^◌, ◌==◌, Bool, true, false, List, [], ◌∷◌, ◌++◌, length, slice_index, slice_index_or, Option, Some, None, if◌then◌else◌}
 use Rattle.std.specs.Option.{option_map, option_map_or}
 use Rattle.elf32_read.specs.Fields.{spans}
 use Rattle.elf32_read.specs.Program.{Text}
-use Rattle.rv_decode.specs.Decode.{decode}
 use Rattle.text_words.specs.Tables.{words_below, set_below}
-use Rattle.text_words.specs.Words.{Words}
+use Rattle.text_words.specs.Words.{Words, fetched_as}
+use Rattle.text_words.specs.declared.fetch.Fetch.{Fetch}
+use Rattle.text_words.specs.declared.fetch.Fetch.TheVariants.{Absent, Planted, Illegal, Instruction}
 use Rattle.text_words.specs.declared.layout.Section.{Section}
 use Rattle.text_words.specs.declared.layout.Table.{Table}
 use Rattle.text_words.specs.declared.text.TextWords.TheInside.{Inside}
@@ -26,11 +27,26 @@ Laid from (s ∷ ss) end = (s.first ≡ from) × Laid (from + s.count) ss end
 abbrev pub word_at : List Section → List ℕ → ℕ → Option ℕ
 word_at sections words addr = option_map (slice_index words) (index sections addr)
 
-abbrev pub flag_at : List Section → List Bool → ℕ → Bool
-flag_at sections flags addr = option_map_or (λ i. slice_index_or flags i false) (index sections addr) false
+-- what stands at an address, by the entry at its place
+abbrev pub entry_at : List Section → List Fetch → ℕ → Fetch
+entry_at sections code addr = option_map_or (λ i. slice_index_or code i Absent) (index sections addr) Absent
+
+abbrev pub is_mark : Fetch → Bool
+is_mark Planted = true
+is_mark Absent = false
+is_mark Illegal = false
+is_mark (Instruction i) = false
+
+-- whether a breakpoint stands there
+abbrev pub mark_at : List Section → List Fetch → ℕ → Bool
+mark_at sections code addr = is_mark (entry_at sections code addr)
 
 abbrev pub seen : Inside → Words
-seen t = record { words = words_below (word_at t.sections.items t.words.items) (2 ^ 32); planted = set_below (flag_at t.sections.items t.planted.items) (2 ^ 32) }
+seen t = record { words = words_below (word_at t.sections.items t.words.items) (2 ^ 32); planted = set_below (mark_at t.sections.items t.code.items) (2 ^ 32) }
+
+-- the entry of each word is a breakpoint, or the word decoded
+abbrev pub AreEntries : List ℕ → List Fetch → Type 0
+AreEntries words code = (k : ℕ) → k < length words → slice_index_or code k Absent ≡ fetched_as (Some (slice_index words k)) (is_mark (slice_index_or code k Absent))
 
 -- a table has the places of the words from its base on
 pub record IsTable (sections : List Section) (t : Table) : Type 0 where
@@ -40,8 +56,8 @@ pub record IsTable (sections : List Section) (t : Table) : Type 0 where
 pub record IsLaid (t : Inside) : Type 0 where
   pub laid : Laid 0 t.sections.items (length t.words.items)
   pub table : IsTable t.sections.items t.table
-  pub decoded : t.instructions.items ≡ map decode t.words.items
-  pub flags : length t.planted.items ≡ length t.words.items
+  pub whole : length t.code.items ≡ length t.words.items
+  pub entries : AreEntries t.words.items t.code.items
 
 -- the layout of text sections, from a place on
 abbrev pub sections_from : ℕ → List Text → List Section

@@ -2,12 +2,12 @@
 ghost use Rattle.std.specs.Prelude.{ℕ, ◌<◌, ◌%◌, ◌^◌, IfSome, ◌≢◌, ◌&&◌, is_some, ◌≡◌, ◌≤◌, ◌+◌, ◌*◌, ◌/◌, ◌++◌, ◌∷◌, [], length, map, OnOk, IfOk};
 ghost use Rattle.rv_decode.specs.Decode.{decode};
 ghost use Rattle.elf32_read.specs.Fields.{u32_at, entries};
-ghost use Rattle.text_words.specs.Words.{fetched_as, decoded_as};
-ghost use Rattle.text_words.specs.Layout.{Laid, IsTable, index, word_at, flag_at, sections_from, all_words};
+ghost use Rattle.text_words.specs.Words.{decoded_as};
+ghost use Rattle.text_words.specs.Layout.{Laid, IsTable, AreEntries, index, word_at, entry_at, mark_at, sections_from, all_words};
 
 use crate::fetch::Fetch;
-use byteorder::{ByteOrder, LittleEndian};
 use elf32_read::Image;
+use elf32_read::fields::u32_at;
 use rv_decode::{Instr, decode};
 use std::alloc::{AllocError, Global};
 
@@ -31,6 +31,7 @@ pub struct Table {
 
 // The place of the word at an address, by a search through the sections.
 #[tactic(auto, using(crate::proofs::Places::laid_at), unfolding(crate::specs::Layout::index))]
+#[inline(never)]
 fn search(sections: &[Section], addr: u32, len: usize) -> Option<usize>
     requires { Laid 0 sections.now len }
     ensures value { result ≡ index sections.now addr }
@@ -50,8 +51,29 @@ fn search(sections: &[Section], addr: u32, len: usize) -> Option<usize>
     None
 }
 
-/// The place of the word at an address.
+/// The place of the word at an address. The first section is where most programs have all their text.
+#[inline(always)]
 pub fn place_of(sections: &[Section], table: &Table, addr: u32, len: usize) -> Option<usize>
+    requires laid { Laid 0 sections.now len }
+    requires table { IsTable sections.now table.now }
+    ensures value { result ≡ index sections.now addr }
+    ensures range { IfSome result (λ i. i < len) }
+{
+    if let Some(section) = sections.first() {
+        if addr % 4 == 0 && addr >= section.address {
+            let i = ((addr - section.address) / 4) as usize;
+            if i < section.count {
+                return Some(section.first + i);
+            }
+        }
+    }
+    place_elsewhere(sections, table, addr, len)
+}
+
+// The place of the word at an address, by the table or a search.
+#[cold]
+#[inline(never)]
+fn place_elsewhere(sections: &[Section], table: &Table, addr: u32, len: usize) -> Option<usize>
     requires laid { Laid 0 sections.now len }
     requires table { IsTable sections.now table.now }
     ensures value { result ≡ index sections.now addr }
@@ -78,43 +100,26 @@ pub fn shown_in(sections: &[Section], table: &Table, words: &[u32], addr: u32) -
     }
 }
 
-/// Whether the word at an address is marked.
-pub fn planted_in(sections: &[Section], table: &Table, flags: &[bool], addr: u32) -> bool
-    requires laid { Laid 0 sections.now (length flags.now) }
+/// What stands at an address for a hart.
+#[inline(always)]
+pub fn fetch_in(sections: &[Section], table: &Table, code: &[Fetch], addr: u32) -> Fetch
+    requires laid { Laid 0 sections.now (length code.now) }
     requires table { IsTable sections.now table.now }
-    ensures { result ≡ flag_at sections.now flags.now addr }
+    ensures { result ≡ entry_at sections.now code.now addr }
 {
-    match place_of(sections, table, addr, flags.len()) {
-        Some(i) => flags[i],
-        None => false,
+    match place_of(sections, table, addr, code.len()) {
+        Some(i) => code[i],
+        None => Fetch::Absent,
     }
 }
 
-/// What stands at an address for a hart.
-pub fn fetch_in(
-    sections: &[Section],
-    table: &Table,
-    words: &[u32],
-    instructions: &[Option<Instr>],
-    flags: &[bool],
-    addr: u32,
-) -> Fetch
-    requires laid { Laid 0 sections.now (length words.now) }
+/// Whether a breakpoint stands at an address.
+pub fn planted_in(sections: &[Section], table: &Table, code: &[Fetch], addr: u32) -> bool
+    requires laid { Laid 0 sections.now (length code.now) }
     requires table { IsTable sections.now table.now }
-    requires decoded { instructions.now ≡ map decode words.now }
-    requires flags { length flags.now ≡ length words.now }
-    ensures { result ≡ fetched_as (word_at sections.now words.now addr) (flag_at sections.now flags.now addr) }
+    ensures { result ≡ mark_at sections.now code.now addr }
 {
-    match place_of(sections, table, addr, words.len()) {
-        Some(i) => {
-            if flags[i] {
-                Fetch::Planted
-            } else {
-                instruction_or_illegal(instructions[i])
-            }
-        }
-        None => Fetch::Absent,
-    }
+    matches!(fetch_in(sections, table, code, addr), Fetch::Planted)
 }
 
 fn instruction_or_illegal(instruction: Option<Instr>) -> Fetch
@@ -126,24 +131,29 @@ fn instruction_or_illegal(instruction: Option<Instr>) -> Fetch
     }
 }
 
-/// Marks the word at an address, or takes its mark away; nothing where no word of text is.
-pub fn mark(sections: &[Section], table: &Table, flags: &mut [bool], addr: u32, flag: bool)
-    requires laid { Laid 0 sections.now (length flags.old) }
+/// Plants a breakpoint at the word at an address, or lifts it; nothing where no word of text is.
+pub fn mark(
+    sections: &[Section],
+    table: &Table,
+    words: &[u32],
+    code: &mut [Fetch],
+    addr: u32,
+    planted: bool,
+)
+    requires laid { Laid 0 sections.now (length code.old) }
     requires table { IsTable sections.now table.now }
-    ensures here { flag_at sections.now flags.new addr ≡ (flag && is_some (index sections.now addr)) }
-    ensures others { (q : ℕ) → q ≢ addr → flag_at sections.now flags.new q ≡ flag_at sections.now flags.old q }
+    requires whole { length code.old ≡ length words.now }
+    ensures here { mark_at sections.now code.new addr ≡ (planted && is_some (index sections.now addr)) }
+    ensures others { (q : ℕ) → q ≢ addr → mark_at sections.now code.new q ≡ mark_at sections.now code.old q }
+    ensures entries { AreEntries words.now code.old → AreEntries words.now code.new }
 {
-    if let Some(i) = place_of(sections, table, addr, flags.len()) {
-        flags[i] = flag;
+    if let Some(i) = place_of(sections, table, addr, code.len()) {
+        code[i] = if planted {
+            Fetch::Planted
+        } else {
+            instruction_or_illegal(decode(words[i]))
+        };
     }
-}
-
-#[tactic(auto, unfolding(elf32_read::specs::Fields::u32_at))]
-fn word_from(bytes: &[u8], at: usize) -> u32
-    requires { at + 4 ≤ length bytes.now }
-    ensures { result ≡ u32_at bytes.now at }
-{
-    LittleEndian::read_u32(&bytes[at..])
 }
 
 /// Appends the words that the bytes spell, lowest byte first.
@@ -151,7 +161,7 @@ fn add_words(words: &mut Vec<u32>, bytes: &[u8]) -> Result<(), AllocError>
     ensures { OnOk result (words.new.items ≡ words.old.items ++ entries (u32_at bytes.now) 0 4 (length bytes.now / 4)) }
 {
     for i in 0..bytes.len() / 4 {
-        words.push(word_from(bytes, 4 * i))?;
+        words.push(u32_at(bytes, 4 * i))?;
     }
     Ok(())
 }
@@ -238,13 +248,13 @@ pub fn table_of(alloc: Global, sections: &[Section], len: usize) -> Result<Table
     Ok(Table { base, places })
 }
 
-/// The instruction of each word.
-pub fn decode_all(alloc: Global, words: &[u32]) -> Result<Vec<Option<Instr>>, AllocError>
-    ensures { IfOk result (λ v. v.items ≡ map decode words.now) }
+/// The entry of each word, with no breakpoint.
+pub fn decode_all(alloc: Global, words: &[u32]) -> Result<Vec<Fetch>, AllocError>
+    ensures { IfOk result (λ v. v.items ≡ map (λ w. decoded_as (decode w)) words.now) }
 {
-    let mut instructions = Vec::with_capacity(alloc, words.len())?;
+    let mut code = Vec::with_capacity(alloc, words.len())?;
     for word in words {
-        instructions.push(decode(*word))?;
+        code.push(instruction_or_illegal(decode(*word)))?;
     }
-    Ok(instructions)
+    Ok(code)
 }

@@ -2,8 +2,10 @@
 #![tactic(auto)]
 
 mod fetch;
+mod front;
 mod layout;
 mod text;
 
 pub use fetch::Fetch;
+pub use front::Front;
 pub use text::TextWords;

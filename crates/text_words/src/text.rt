@@ -1,14 +1,16 @@
 ghost use Rattle.std.specs.Prelude.{◌≡◌, true, false, IfOk, IsSome};
 ghost use Rattle.std.specs.FinSet as set;
 ghost use Rattle.text_words.specs.Words.{unpatched, shown, stored, is_planted, fetched};
+ghost use Rattle.text_words.specs.Fronts.{IsFront};
 
 use crate::fetch::Fetch;
+use crate::front::{Front, front_of};
 use crate::layout::{
     Section, Table, collect, decode_all, fetch_in, mark, planted_in, shown_in, table_of,
 };
+use dbg_traits::NoMemory;
 use elf32_read::Image;
-use rv_decode::Instr;
-use std::alloc::{AllocError, Global};
+use std::alloc::Global;
 use std::marker::Model;
 
 /// EBREAK.
@@ -21,8 +23,8 @@ pub struct TextWords {
     sections: Vec<Section>,
     table: Table,
     words: Vec<u32>,
-    instructions: Vec<Option<Instr>>,
-    planted: Vec<bool>,
+    // What stands at each word, the patch in its place.
+    code: Vec<Fetch>,
 }
 
 impl Model for TextWords {
@@ -43,21 +45,19 @@ impl TextWords {
     /// The text of an image, with no breakpoint. It has room for one at each word.
     ///
     /// Fails where memory runs out.
-    pub fn load(alloc: Global, image: &Image) -> Result<TextWords, AllocError>
+    pub fn load(alloc: Global, image: &Image) -> Result<TextWords, NoMemory>
         ensures { IfOk result (λ t. t ≡ unpatched image.now) }
     {
         let mut sections = Vec::new(alloc);
         let mut words = Vec::new(alloc);
         collect(image, &mut sections, &mut words)?;
         let table = table_of(alloc, sections.as_slice(), words.len())?;
-        let instructions = decode_all(alloc, words.as_slice())?;
-        let planted = Vec::from_elem(alloc, false, words.len())?;
+        let code = decode_all(alloc, words.as_slice())?;
         Ok(TextWords {
             sections,
             table,
             words,
-            instructions,
-            planted,
+            code,
         })
     }
 
@@ -90,23 +90,30 @@ impl TextWords {
         planted_in(
             self.sections.as_slice(),
             &self.table,
-            self.planted.as_slice(),
+            self.code.as_slice(),
             addr,
         )
     }
 
     /// What stands at an address for a hart that executes it. The words were decoded when they were loaded.
+    #[inline(always)]
     pub fn fetch(&self, addr: u32) -> Fetch
         ensures { result ≡ fetched self.now addr }
     {
         fetch_in(
             self.sections.as_slice(),
             &self.table,
-            self.words.as_slice(),
-            self.instructions.as_slice(),
-            self.planted.as_slice(),
+            self.code.as_slice(),
             addr,
         )
+    }
+
+    /// The first text section, laid open for a hart that runs in it.
+    #[inline(always)]
+    pub fn front(&self) -> Front<'_>
+        ensures { IsFront self.now result.address result.count result.code.now }
+    {
+        front_of(self.sections.as_slice(), self.code.as_slice())
     }
 
     /// Plants a breakpoint at a word of text that has none.
@@ -118,7 +125,8 @@ impl TextWords {
         mark(
             self.sections.as_slice(),
             &self.table,
-            self.planted.as_mut_slice(),
+            self.words.as_slice(),
+            self.code.as_mut_slice(),
             addr,
             true,
         );
@@ -132,7 +140,8 @@ impl TextWords {
         mark(
             self.sections.as_slice(),
             &self.table,
-            self.planted.as_mut_slice(),
+            self.words.as_slice(),
+            self.code.as_mut_slice(),
             addr,
             false,
         );

@@ -5,4 +5,4 @@ use Rattle.data_memory.proofs.filling.fill_data.Given as goal
 
 abbrev pub invariant-loop-i : goal.invariant-loop-i
 invariant-loop-i l =
-    Holds l.pages l.cells.items (replaced (byte_at l.initial.pages l.initial.cells.items) l.start l.i (λ q. Some (record { value = slice_index l.bytes (q - l.start); is_writable = l.is_writable })))
+    Holds l.pages l.frames (replaced (byte_at l.initial.pages l.initial.frames) l.start l.i (λ q. Some (record { value = slice_index l.bytes (q - l.start); is_writable = l.is_writable })))

@@ -10,7 +10,7 @@ use Rattle.dbg_session.proofs.run.load.Goals as goal
 pub open-requires-clause-ready : goal.open-requires-clause-ready
 open-requires-clause-ready g c =
     let told = g.W.World.told in
-    let image = rw c.as_slice.ensures.value at c.in-Ok-read_image.ensures in
+    let image = rw c.as_slice.ensures.value at c.in-Ok-read_image.ensures.read in
     ready (told c.args.world) (told c.read_all.new.world) c.words.result.now c.in-Ok-Some.served c.in-Ok.bytes.items (record { image = c.in-Ok-read_image.image; settings = c.in-Ok-Some.served.settings }) (stage_of c.in-Ok-load.engine)
     c.requires c.words.ensures (rw (← c.in-Ok-Some.field-0-is) c.in-Ok-Some.ensures.served) c.in-Ok.ensures image refl c.in-Ok-load.ensures.opening c.in-Ok-load.ensures.journal
 
@@ -28,7 +28,7 @@ returns-in-Err-Fault g c =
     let is : Some c.in-Ok-Some.served ≡ served_words c.words.result.now = rw (← c.in-Ok-Some.field-0-is) c.in-Ok-Some.ensures.served in
     let P : ElfReadError → Type 0 = λ x. Reads c.in-Ok.bytes.items (Err x) in
     let Q : List ℕ → Type 0 = λ b. Reads b (Err c.in-Err-Fault.field-0) in
-    let reads = subst Q c.as_slice.ensures.value c.in-Err-Fault.ensures in
+    let reads = subst Q c.as_slice.ensures.value c.in-Err-Fault.ensures.read in
     let refused = subst P c.in-Err-Fault.field-0-is reads in (
       e.closed,
       rw (e.status, e.world) (early_file c.put_all-in-Err-Fault.result (told c.args.world) (told c.read_all.new.world) (told c.put_all-in-Err-Fault.new.world) c.words.result.now c.in-Ok-Some.served c.in-Ok.bytes.items c.in-Err-Fault.fault c.as_slice-in-Err-Fault.result.now

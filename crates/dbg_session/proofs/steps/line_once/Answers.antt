@@ -17,7 +17,7 @@ returns-in_default-reply_text-clause-does g c =
     let e = c.args.engine.now in
     let s = c.command.new.self in
     let line = take c.in-Some.text c.args.rest.now in
-    let d = does_say e s line c.in-Ok.reply c.keep.ensures c.keep-2.ensures c.in-Ok.ensures in
+    let d = does_say e s line c.in-Ok.reply c.requires.facts c.in-Ok.ensures.facts c.in-Ok.ensures.does in
     let n = c.in-Some.ensures in (
       keeps (g.W.World.told c.args.world.now) (stage_of e) (stage_of s) (reply_text c.in-Ok.reply) d.said,
       does_line c.args.ended c.args.rest.now line c.in-Some.next e s c.in-Ok.reply n.next n.takes n.within (sym c.in-Ok-false.field-0-test ∙ c.in-Ok-false.ensures) d,
@@ -29,7 +29,7 @@ returns-then-put_all-clause-does g c =
     let e = c.args.engine.now in
     let s = c.command.new.self in
     let line = take c.in-Some.text c.args.rest.now in
-    let d = does_say e s line c.in-Ok.reply c.keep.ensures c.keep-2.ensures c.in-Ok.ensures in
+    let d = does_say e s line c.in-Ok.reply c.requires.facts c.in-Ok.ensures.facts c.in-Ok.ensures.does in
     let n = c.in-Some.ensures in (
       says_as true (told c.args.world.now) (told c.put_all.new.world) (stage_of e) (stage_of s) (reply_text c.in-Ok.reply) c.as_slice.result.now (c.as_slice.ensures.value ∙ c.in-Ok-reply_text.ensures) d.said c.if-put_all.ensures,
       does_line c.args.ended c.args.rest.now line c.in-Some.next e s c.in-Ok.reply n.next n.takes n.within (sym c.in-Ok-false.field-0-test ∙ c.in-Ok-false.ensures) d,
@@ -41,20 +41,20 @@ returns-clause-does g c =
     let e = c.args.engine.now in
     let s = c.command.new.self in
     let line = take c.in-Some.text c.args.rest.now in
-    let d = does_say e s line c.in-Ok.reply c.keep.ensures c.keep-2.ensures c.in-Ok.ensures in
+    let d = does_say e s line c.in-Ok.reply c.requires.facts c.in-Ok.ensures.facts c.in-Ok.ensures.does in
     let n = c.in-Some.ensures in (
       says_as false (told c.args.world.now) (told c.put_all.new.world) (stage_of e) (stage_of s) (reply_text c.in-Ok.reply) c.as_slice.result.now (c.as_slice.ensures.value ∙ c.in-Ok-reply_text.ensures) d.said c.if-put_all.ensures,
       does_line c.args.ended c.args.rest.now line c.in-Some.next e s c.in-Ok.reply n.next n.takes n.within (sym c.in-Ok-false.field-0-test ∙ c.in-Ok-false.ensures) d,
     )
 
 pub returns-in_default-reply_text-clause-work : goal.returns-in_default-reply_text-clause-work
-returns-in_default-reply_text-clause-work g c = (does_say c.args.engine.now c.command.new.self (take c.in-Some.text c.args.rest.now) c.in-Ok.reply c.keep.ensures c.keep-2.ensures c.in-Ok.ensures).work
+returns-in_default-reply_text-clause-work g c = (does_say c.args.engine.now c.command.new.self (take c.in-Some.text c.args.rest.now) c.in-Ok.reply c.requires.facts c.in-Ok.ensures.facts c.in-Ok.ensures.does).work
 
 pub returns-then-put_all-clause-work : goal.returns-then-put_all-clause-work
-returns-then-put_all-clause-work g c = (does_say c.args.engine.now c.command.new.self (take c.in-Some.text c.args.rest.now) c.in-Ok.reply c.keep.ensures c.keep-2.ensures c.in-Ok.ensures).work
+returns-then-put_all-clause-work g c = (does_say c.args.engine.now c.command.new.self (take c.in-Some.text c.args.rest.now) c.in-Ok.reply c.requires.facts c.in-Ok.ensures.facts c.in-Ok.ensures.does).work
 
 pub returns-clause-work : goal.returns-clause-work
-returns-clause-work g c = (does_say c.args.engine.now c.command.new.self (take c.in-Some.text c.args.rest.now) c.in-Ok.reply c.keep.ensures c.keep-2.ensures c.in-Ok.ensures).work
+returns-clause-work g c = (does_say c.args.engine.now c.command.new.self (take c.in-Some.text c.args.rest.now) c.in-Ok.reply c.requires.facts c.in-Ok.ensures.facts c.in-Ok.ensures.does).work
 
 pub returns-in-Err-clause-does : goal.returns-in-Err-clause-does
 returns-in-Err-clause-does g c = (refl, refl, stands c.args.ended c.args.rest.now (take c.in-Some.text c.args.rest.now) c.in-Some.next c.in-Some.ensures.next)

@@ -1,4 +1,5 @@
 use Rattle.std.proofs.Common.{IfOk, ◌≤◌, ◌∙◌, length, List, ℕ, refl, subst, sym, arith}
+use Rattle.line_rows.specs.Sections.{sections_shown}
 use Rattle.dwarf_lines.specs.Numbering.{IsNumbered}
 use Rattle.dwarf_lines.specs.declared.numbers.NameNumbers.{NameNumbers}
 use Rattle.dwarf_lines.proofs.Known.{behind_name, if_ok, name_numbered}
@@ -8,6 +9,6 @@ pub returns : goal.returns
 returns c =
     let new : NameNumbers = record { classes = c.number_of.new.classes; line_str = c.args.numbers.now.line_str; strs = c.args.numbers.now.strs; names = c.number_of.new.names } in
     let past : length c.args.files.now ≤ c.args.k = let far = c.if-k-files.false in omega arith in
-    subst (λ (t : List ℕ). IfOk c.number_of.result (λ n. IsNumbered c.args.line_str.now c.args.strs.now c.args.numbers.now new t n))
-    (c.defined_name-name.ensures ∙ sym (behind_name c.args.line.now c.args.line_str.now c.args.strs.now c.args.files.now c.args.defined.now.names c.args.k past))
-    (if_ok c.number_of.result (λ n h. name_numbered c.args.line_str.now c.args.strs.now c.args.numbers.now new c.defined_name-name.result.now n c.requires h refl refl) c.number_of.ensures)
+    subst (λ (t : List ℕ). IfOk c.number_of.result (λ n. IsNumbered (sections_shown c.args.sections.now) c.args.numbers.now new t n))
+    (c.defined_name-name.ensures ∙ sym (behind_name (sections_shown c.args.sections.now) c.args.files.now c.args.defined.now.names c.args.k past))
+    (if_ok c.number_of.result (λ n h. name_numbered (sections_shown c.args.sections.now) c.args.numbers.now new c.defined_name-name.result.now n c.requires h refl refl) c.number_of.ensures.number)

@@ -1,17 +1,17 @@
-use Rattle.std.proofs.Common.{◌≡◌, ◌-◌, ◌≤◌, length, fold}
-use Rattle.dwarf_lines.specs.Adding.{named}
+use Rattle.std.proofs.Common.{◌≡◌, ◌-◌, ◌≤◌, length}
+use Rattle.line_rows.specs.Sections.{sections_shown}
+use Rattle.dwarf_lines.specs.Adding.{added, named}
 use Rattle.dwarf_lines.specs.Numbering.{AreNumbers}
-use Rattle.dwarf_lines.specs.Rows.{add_unit_of, rows_of}
-use Rattle.dwarf_lines.specs.Units.{units_from}
+use Rattle.dwarf_lines.proofs.Sections.{behind}
 use Rattle.dwarf_lines.proofs.section.rows.Given as goal
 
 abbrev pub invariant-loop-at : goal.invariant-loop-at
 invariant-loop-at l =
     record {
-      same : rows_of l.section l.line_str l.strs ≡ fold (add_unit_of l.section l.line_str l.strs) (named l.rows l.numbers) (units_from (length l.section - l.at) l.section l.at);
-      table : AreNumbers l.line_str l.strs l.numbers;
-      within : l.at ≤ length l.section;
+      same : added (sections_shown l.sections) ≡ behind (sections_shown l.sections) (named l.rows l.numbers) l.at;
+      table : AreNumbers (sections_shown l.sections) l.numbers;
+      within : l.at ≤ length l.sections.line.now;
     }
 
 abbrev pub decreases-loop-at : goal.decreases-loop-at
-decreases-loop-at l = length l.section - l.at
+decreases-loop-at l = length l.sections.line.now - l.at

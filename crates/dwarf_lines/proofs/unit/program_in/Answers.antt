@@ -1,14 +1,14 @@
-use Rattle.std.proofs.Common.{rules, w8, SFits}
+use Rattle.std.proofs.Common.{rules, w8, SFits, subst}
+use Rattle.std.specs.Prelude.{Result}
 use Rattle.std.proofs.lemmas.Int.{to_z-of_z}
-use Rattle.dwarf_lines.proofs.Programs.{gives_fault, program_found}
+use Rattle.line_rows.specs.RowList.{RowList}
+use Rattle.line_rows.specs.declared.fault.LineFault.{LineFault}
+use Rattle.line_programs.specs.Machine.{GivesRows}
+use Rattle.dwarf_lines.proofs.Programs.{program_same}
 use Rattle.dwarf_lines.proofs.unit.program_in.Goals as goal
 
-pub returns-in-Ok : goal.returns-in-Ok
-returns-in-Ok c =
-    program_found c.args.header c.args.file_count c.args.bytes.now _ _ _ _ (let fits : SFits w8 c.args.header.lines.line_base = search rules in to_z-of_z w8 _ fits)
-    c.saturating_sub.ensures c.in-Ok.ensures
-
-pub returns-in-Err-Fault : goal.returns-in-Err-Fault
-returns-in-Err-Fault c =
-    program_found c.args.header c.args.file_count c.args.bytes.now _ _ _ _ (let fits : SFits w8 c.args.header.lines.line_base = search rules in to_z-of_z w8 _ fits)
-    c.saturating_sub.ensures (gives_fault _ _ _ c.in-Err-Fault.field-0-is c.in-Err-Fault.ensures)
+pub returns : goal.returns
+returns c =
+    subst (λ (want : Result RowList LineFault). GivesRows c.program_rows.result want)
+    (program_same c.args.header c.args.file_count c.args.bytes.now _ _ (let fits : SFits w8 c.args.header.lines.line_base = search rules in to_z-of_z w8 _ fits) c.saturating_sub.ensures)
+    c.program_rows.ensures

@@ -2,6 +2,6 @@ use Rattle.std.proofs.Common.{◌∙◌, sym}
 use Rattle.elf32_read.proofs.Found.{fits_by}
 use Rattle.elf32_read.proofs.checks.text_fits.Goals as goal
 
-pub returns-then-h-ne8 : goal.returns-then-h-ne8
-returns-then-h-ne8 c =
-    c.is_some.ensures ∙ rw c.holder.ensures (sym (fits_by c.args.segments.now c.args.h.now c.if-is_whole.ensures c.if-h-ne8.true))
+pub returns-then-h-ne-SHT_NOBITS : goal.returns-then-h-ne-SHT_NOBITS
+returns-then-h-ne-SHT_NOBITS c =
+    c.is_some.ensures ∙ rw c.holder.ensures (sym (fits_by c.args.segments.now c.args.h.now c.if-is_whole.ensures c.if-h-ne-SHT_NOBITS.true))

@@ -1,9 +1,11 @@
 use Rattle.std.proofs.Common.{◌≡◌, ◌∙◌, ap, filter}
+use Rattle.std.proofs.Math.Facts.{Fits-lt-pow}
 use Rattle.elf32_read.specs.Headers.{is_text, loaded, text_headers}
 use Rattle.elf32_read.specs.declared.header.ProgramHeader.{ProgramHeader}
 use Rattle.elf32_read.specs.declared.header.SectionHeader.{SectionHeader}
 use Rattle.elf32_read.proofs.Found.{some_texts, texts_rise}
 use Rattle.elf32_read.proofs.Fronts.{table_rises}
+use Rattle.elf32_read.proofs.Linked.{linked_by}
 use Rattle.elf32_read.proofs.Tables.{ranged}
 use Rattle.elf32_read.proofs.read.read_image.Goals as goal
 
@@ -33,3 +35,8 @@ of-requires-clause-text c =
     let t : c.deref-9.result.now ≡ text_headers c.args.bytes.now =
     c.deref-9.ensures.value ∙ c.in_ok-texts.ensures ∙ ap (filter is_text) (c.deref.ensures.value ∙ c.in_ok-sections.ensures) in
     ranged _ _ _ _ _ c.in_ok-text.ensures s t c.in_ok-from_slice.ensures.items
+
+pub returns-clause-linked : goal.returns-clause-linked
+returns-clause-linked c =
+    let file = c.in_ok-from_slice.field-0.items in
+    linked_by file c.args.bytes.now c.of.result c.in_ok-from_slice.ensures.items c.of.ensures (λ k. Fits-lt-pow (c.type_inv.bytes k)) c.in_ok-check_size.ensures.checks c.in_ok-check_header.ensures.checks c.in_ok-check_tables.ensures.checks

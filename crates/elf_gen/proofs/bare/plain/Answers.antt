@@ -7,9 +7,9 @@ use Rattle.elf_gen.proofs.Shown.{plain_image, AreWords}
 use Rattle.elf_gen.proofs.bare.plain.Goals as goal
 
 pub returns-clause-image : goal.returns-clause-image
-returns-clause-image c =
+returns-clause-image c = λ plain.
     let words = c.args.words.now in
     let data_bytes = c.args.bytes.now in
     let P : List ℕ → Type 0 = λ file. IsImage file (plain_program words data_bytes) in
     let fit : AreWords words = λ k. Fits-lt-pow (c.type_inv.words k) in
-    subst P (sym c.in_ok-laid_out.ensures) (plain_image words data_bytes c.requires.some c.requires.below c.requires.memory fit)
+    subst P (sym c.in_ok-laid_out.ensures) (plain_image words data_bytes plain.some plain.below plain.memory fit)

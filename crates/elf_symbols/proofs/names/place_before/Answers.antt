@@ -1,7 +1,6 @@
-use Rattle.std.proofs.Common.{◌≡◌, ◌<◌, ◌≤◌, sym, ◌∙◌, ap, arith, length, []}
+use Rattle.std.proofs.Common.{sym, arith, []}
 use Rattle.std.specs.Prelude.{unwrap_or}
 use Rattle.elf32_read.specs.Fields.{name_at}
-use Rattle.elf_symbols.specs.Names.{bytes_before}
 use Rattle.elf_symbols.proofs.Proper.{zero_end-le}
 use Rattle.elf_symbols.proofs.Order.{empty_before, has_name_from, no_name, not_before_itself, nothing_before}
 use Rattle.elf_symbols.proofs.names.place_before.Goals as goal

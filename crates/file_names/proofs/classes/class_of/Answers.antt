@@ -15,7 +15,7 @@ loop-start-preserved c =
     let same : class_of c.loop-start.classes.links (drop (c.loop-start.start - 1 + 1) c.args.text.now) ≡ Some c.loop-start.class =
     subst (λ (n : ℕ). class_of c.loop-start.classes.links (drop n c.args.text.now) ≡ Some c.loop-start.class) back c.loop-start.invariant.same in
     record {
-      grows = grows_twice c.args.classes.now c.loop-start.classes c.longer.new.classes c.loop-start.invariant.grows c.in_ok-class.ensures.grows;
-      same = class_more c.args.classes.now c.loop-start.classes c.longer.new.classes c.args.text.now (c.loop-start.start - 1) c.loop-start.class _ c.in_ok-class.class low c.loop-start.invariant.grows same refl (omega (arith, c.type_inv.text (c.loop-start.start - 1))) c.in_ok-class.ensures;
+      grows = grows_twice c.args.classes.now c.loop-start.classes c.longer.new.classes c.loop-start.invariant.grows c.in_ok-class.ensures.link.grows;
+      same = class_more c.args.classes.now c.loop-start.classes c.longer.new.classes c.args.text.now (c.loop-start.start - 1) c.loop-start.class _ c.in_ok-class.class low c.loop-start.invariant.grows same refl (omega (arith, c.type_inv.text (c.loop-start.start - 1))) c.in_ok-class.ensures.link;
       within = omega arith;
     }

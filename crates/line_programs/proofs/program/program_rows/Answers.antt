@@ -1,7 +1,8 @@
-use Rattle.std.proofs.Common.{◌∙◌, ◌-◌, length, refl, arith}
+use Rattle.std.proofs.Common.{◌∙◌, ◌-◌, length, refl, arith, ap, sym, Ok}
+use Rattle.line_rows.specs.RowList.{RowList}
 use Rattle.std.proofs.lemmas.Result.{err_from_is_err_and}
 use Rattle.line_programs.specs.Machine.{program_of}
-use Rattle.line_programs.proofs.Runs.{failed, goes_on, kept, reading_fails, settles}
+use Rattle.line_programs.proofs.Runs.{failed, goes_on, reading_fails, settles}
 use Rattle.line_programs.proofs.program.program_rows.Goals as goal
 
 pub operations-init : goal.operations-init
@@ -28,4 +29,4 @@ operations-preserved c =
 pub returns : goal.returns
 returns c =
     let i = c.operations.invariant in
-    settles i.0 _ _ _ c.operations.place _ _ c.operations-test.false i.2 ∙ kept (record { registers = c.operations.registers; rows = c.operations.rows }) _ _ c.sequence_count-count.ensures c.keep_sequences.ensures
+    settles i.0 _ _ _ c.operations.place _ _ c.operations-test.false i.2 ∙ ap (λ (r : RowList). Ok r) (sym c.finish.ensures)

@@ -5,7 +5,7 @@ use Rattle.rv_exec.specs.declared.effect.Cause.{Cause}
 use Rattle.rv_exec.specs.declared.effect.Cause.TheVariants.{FetchAlign}
 use Rattle.rv_exec.specs.Memory.{Memory}
 use Rattle.rv_exec.specs.Registers.{Registers, get, plus, next}
-use Rattle.rv_exec.specs.Step.{Done, Trap, go}
+use Rattle.rv_exec.specs.Step.{Done, Trap, jump_to}
 use Rattle.rv_exec.specs.Arithmetic.{is_taken}
 use Rattle.reg_slices.specs.Slices.{with_memory, TouchesRegistersAlone}
 use Rattle.reg_slices.proofs.slice.registers_alone.Goals as goal
@@ -20,7 +20,7 @@ alone (Auipc rd imm) r m n h = refl
 alone (Jal rd imm) r m n h = either (plus r.pc imm % 4 == 0) _ FetchAlign m n
 alone (Jalr rd rs1 imm) r m n h = let t : ℕ = plus (get r rs1) imm in either ((t - t % 2) % 4 == 0) _ FetchAlign m n
 alone (Branch op rs1 rs2 imm) r m n h =
-    elim (is_taken op (get r rs1) (get r rs2)) as (λ b. (if b then go (plus r.pc imm) r m else Done (next r) m) ≡ with_memory m (if b then go (plus r.pc imm) r n else Done (next r) n)) [
+    elim (is_taken op (get r rs1) (get r rs2)) as (λ b. (if b then jump_to (plus r.pc imm) r m else Done (next r) m) ≡ with_memory m (if b then jump_to (plus r.pc imm) r n else Done (next r) n)) [
       | true ↦ either (plus r.pc imm % 4 == 0) _ FetchAlign m n
       | false ↦ refl
     ]

@@ -39,5 +39,8 @@ move c =
 pub invariant_of-self-2 : goal.invariant_of-self-2
 invariant_of-self-2 c = record { facts = (move c).facts }
 
-pub returns : goal.returns
-returns c = rw (← c.self.view_is) (move c).lines
+pub returns-clause-lines : goal.returns-clause-lines
+returns-clause-lines c = rw (← c.self.view_is) (move c).lines
+
+pub returns-clause-facts : goal.returns-clause-facts
+returns-clause-facts c = (move c).facts

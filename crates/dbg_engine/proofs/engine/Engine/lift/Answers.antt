@@ -27,5 +27,8 @@ move c =
 pub invariant_of-self : goal.invariant_of-self
 invariant_of-self c = record { facts = (move c).facts }
 
-pub returns : goal.returns
-returns c = rw (← c.self.view_is) (move c).does
+pub returns-clause-lifts : goal.returns-clause-lifts
+returns-clause-lifts c = rw (← c.self.view_is) (move c).does
+
+pub returns-clause-facts : goal.returns-clause-facts
+returns-clause-facts c = (move c).facts

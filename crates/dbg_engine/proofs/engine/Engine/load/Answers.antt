@@ -14,3 +14,6 @@ invariant_of-result c = record { facts = (begun c).facts }
 
 pub returns-clause-state : goal.returns-clause-state
 returns-clause-state c = (begun c).state
+
+pub returns-clause-facts : goal.returns-clause-facts
+returns-clause-facts c = (begun c).facts

@@ -21,13 +21,13 @@ count_due d is = count_by (is_some d.stop) d.counts is
 pub settle-requires : goal.settle-requires
 settle-requires c =
     let r = run_of c.self.inside in
-    let mind : slice_get r.minds c.args.h ≡ Some c.args.mind = ap (λ (q : Run). slice_get q.minds c.args.h) c.self.view_is ∙ c.requires.mind in
+    let mind : slice_get r.minds c.args.h ≡ Some c.args.mind = ap (λ (q : Run). slice_get q.minds c.args.h) c.self.view_is ∙ c.requires.before.at in
     omega (arith, slice_get_within r.minds c.args.h c.args.mind mind, c.self.invariant.facts.harts.len)
 
 pub repatch-requires : goal.repatch-requires
 repatch-requires c =
     let r = run_of c.self.inside in
-    let mind : slice_get r.minds c.args.h ≡ Some c.args.mind = ap (λ (q : Run). slice_get q.minds c.args.h) c.self.view_is ∙ c.requires.mind in
+    let mind : slice_get r.minds c.args.h ≡ Some c.args.mind = ap (λ (q : Run). slice_get q.minds c.args.h) c.self.view_is ∙ c.requires.before.at in
     let P : Run → Type 0 = λ q. DueIs q c.args.h c.args.due in
     let Q : Run → Type 0 = λ q. Of q c.args.h (λ y. y.regs.pc ≡ c.args.pc) in
     due_text r c.args.h c.args.pc c.args.due c.args.mind c.self.invariant.facts mind (subst Q (sym c.self.view_is) c.requires.pc) (subst P (sym c.self.view_is) c.requires.due) (count_due c.args.due c.requires.counts)
@@ -49,18 +49,21 @@ new_run c t =
 move : (c : goal.After-self-2-1) → Moved (new_run c c.settle.new.table) (Counts (run_of c.self.inside) (new_run c c.settle.new.table) c.args.h)
 move c =
     let r = run_of c.self.inside in
-    let mind : slice_get r.minds c.args.h ≡ Some c.args.mind = ap (λ (q : Run). slice_get q.minds c.args.h) c.self.view_is ∙ c.requires.mind in
+    let mind : slice_get r.minds c.args.h ≡ Some c.args.mind = ap (λ (q : Run). slice_get q.minds c.args.h) c.self.view_is ∙ c.requires.before.at in
     let P : Run → Type 0 = λ q. DueIs q c.args.h c.args.due in
     let Q : Run → Type 0 = λ q. Of q c.args.h (λ y. y.regs.pc ≡ c.args.pc) in
     let settles : Settles r c.args.h c.args.pc c.settle.new.table.entries = λ k at. c.settle.ensures.entries k at in
     let M : Table → Type 0 = λ t. Moved (new_run c t) (Counts r (new_run c t) c.args.h) in
     subst M (sym c.settle.ensures.rest)
     (counted r c.args.h c.args.pc (vec_capacity c.note.new.entries - vec_len c.note.new.entries) c.args.due c.args.mind c.counted_mind.result c.note.new.entries.items c.repatch.new.machine c.settle.new.table.entries c.wants-wants.result c.self.invariant.facts mind
-    c.requires.before c.requires.runs (subst Q (sym c.self.view_is) c.requires.pc) (subst P (sym c.self.view_is) c.requires.due) c.requires.counts (ap (λ (q : Run). may_go q.opening (seen q)) c.self.view_is ∙ c.requires.may)
+    c.requires.before.before c.requires.before.runs (subst Q (sym c.self.view_is) c.requires.pc) (subst P (sym c.self.view_is) c.requires.due) c.requires.counts (ap (λ (q : Run). may_go q.opening (seen q)) c.self.view_is ∙ c.requires.before.may)
     c.note.ensures.entries settles c.wants-wants.ensures c.repatch.ensures.text c.repatch.ensures.rest c.counted_mind.ensures c.requires.fresh)
 
 pub invariant_of-self : goal.invariant_of-self
 invariant_of-self c = record { facts = (move c).facts }
 
-pub returns : goal.returns
-returns c = rw (← c.self.view_is) (move c).does
+pub returns-clause-counts : goal.returns-clause-counts
+returns-clause-counts c = rw (← c.self.view_is) (move c).does
+
+pub returns-clause-facts : goal.returns-clause-facts
+returns-clause-facts c = (move c).facts

@@ -4,6 +4,7 @@ use Rattle.dbg_model.specs.declared.entry.Why.TheVariants.{Fault}
 use Rattle.dbg_model.specs.Lawful.{may_go}
 use Rattle.engine_facts.specs.Minds.{first_mind}
 use Rattle.engine_facts.specs.Seen.{Run, seen}
+use Rattle.engine_facts.specs.Facts.{other_holder}
 use Rattle.dbg_engine.specs.Calls.{Halts, Undue, TrapsAt}
 use Rattle.dbg_engine.specs.EngineInside.{run_of}
 use Rattle.dbg_engine.proofs.Holds.{Moved, faulted}
@@ -12,14 +13,17 @@ use Rattle.dbg_engine.proofs.engine.Engine.note_fault.Goals as goal
 move : (c : goal.After-self-2-1) → (let r = run_of c.self.inside in let new : Run = record r { journal = c.note.new.entries.items; spare = vec_capacity c.note.new.entries - vec_len c.note.new.entries; minds = slice_set r.minds c.args.h first_mind; noted = r.noted + 1 } in Moved new (Halts r new c.args.h (Fault c.args.cause)))
 move c =
     let r = run_of c.self.inside in
-    let mind : slice_get r.minds c.args.h ≡ Some c.args.mind = ap (λ (q : Run). slice_get q.minds c.args.h) c.self.view_is ∙ c.requires.mind in
+    let mind : slice_get r.minds c.args.h ≡ Some c.args.mind = ap (λ (q : Run). slice_get q.minds c.args.h) c.self.view_is ∙ c.requires.before.at in
     let P : Run → Type 0 = λ q. Undue q c.args.h in
     let Q : Run → Type 0 = λ q. TrapsAt q c.args.h c.args.cause in
-    faulted r c.args.h (vec_capacity c.note.new.entries - vec_len c.note.new.entries) c.args.mind c.args.cause c.note.new.entries.items c.self.invariant.facts mind c.requires.idle c.requires.runs
-    (subst P (sym c.self.view_is) c.requires.due) (subst Q (sym c.self.view_is) c.requires.traps) (ap (λ (q : Run). may_go q.opening (seen q)) c.self.view_is ∙ c.requires.may) c.note.ensures.entries
+    faulted r c.args.h (vec_capacity c.note.new.entries - vec_len c.note.new.entries) c.args.mind c.args.cause c.note.new.entries.items c.self.invariant.facts mind c.requires.idle c.requires.before.runs (ap (λ (q : Run). other_holder q.hold c.args.h) c.self.view_is ∙ c.requires.before.free)
+    (subst P (sym c.self.view_is) c.requires.due) (subst Q (sym c.self.view_is) c.requires.traps) (ap (λ (q : Run). may_go q.opening (seen q)) c.self.view_is ∙ c.requires.before.may) c.note.ensures.entries
 
 pub invariant_of-self : goal.invariant_of-self
 invariant_of-self c = record { facts = (move c).facts }
 
-pub returns : goal.returns
-returns c = rw (← c.self.view_is) (move c).does
+pub returns-clause-halts : goal.returns-clause-halts
+returns-clause-halts c = rw (← c.self.view_is) (move c).does
+
+pub returns-clause-facts : goal.returns-clause-facts
+returns-clause-facts c = (move c).facts

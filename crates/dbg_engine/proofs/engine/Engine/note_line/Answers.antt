@@ -40,8 +40,13 @@ invariant_of-self-2 c =
     let P : List Mind → Type 0 = λ xs. Facts (new_run c xs) in
     record { facts = subst P (minds_are c) (done c).facts }
 
-pub returns : goal.returns
-returns c =
+pub returns-clause-lines : goal.returns-clause-lines
+returns-clause-lines c =
     let P : List Mind → Type 0 = λ xs. Lines c.args.self.now (new_run c xs) c.args.line.now in
     let Q : Run → Type 0 = λ q. Lines q (new_run c c.resume_threads.new.minds) c.args.line.now in
     subst P (minds_are c) (subst Q c.self.view_is (done c).lines)
+
+pub returns-clause-facts : goal.returns-clause-facts
+returns-clause-facts c =
+    let P : List Mind → Type 0 = λ xs. Facts (new_run c xs) in
+    subst P (minds_are c) (done c).facts

@@ -13,8 +13,8 @@ use Rattle.dbg_session.proofs.Going.{does}
 use Rattle.dbg_session.proofs.Tying.{line_done, line_unput, line_unsaid, slice_from, counted_same}
 use Rattle.dbg_session.proofs.session.Session.do_line.Goals as goal
 
-pub line_once-done-requires : goal.line_once-done-requires
-line_once-done-requires g c =
+pub line_once-done-requires-clause-may : goal.line_once-done-requires-clause-may
+line_once-done-requires-clause-may g c =
     let none : c.self.inside.status ≡ None = ap (λ (s : Seen g.row.W.Denot). s.status) c.self.view_is ∙ c.requires in
     let h : IsTied None (g.W.World.told c.self.inside.world) (stage_of c.self.inside.engine) (taken_of c.self.inside) = rw (← none) c.self.invariant.0 in
     may c.self.inside.engine c.self.inside.count h.cause.1
@@ -37,6 +37,7 @@ invariant_of-self-in-Done g c =
       let w = does.1.within in let l = length-drop start items in omega (arith, c.self.invariant.1, c.self.inside.buffer.ok.0, w),
       counted_same c.over-self-inside.result (stage_of c.line_once-done.new.engine) c.self.inside.count few over,
       tt,
+      c.line_once-done.ensures.facts,
     )
 
 pub invariant_of-self-in-Unput : goal.invariant_of-self-in-Unput
@@ -56,6 +57,7 @@ invariant_of-self-in-Unput g c =
       let w = does.1.within in let l = length-drop start items in omega (arith, c.self.invariant.1, c.self.inside.buffer.ok.0, w),
       omega (arith, few),
       tt,
+      c.line_once-done.ensures.facts,
     )
 
 pub invariant_of-self-in-Unsaid : goal.invariant_of-self-in-Unsaid
@@ -75,6 +77,7 @@ invariant_of-self-in-Unsaid g c =
       let w = does.1.within in let l = length-drop start items in omega (arith, c.self.invariant.1, c.self.inside.buffer.ok.0, w),
       omega (arith, few),
       tt,
+      c.line_once-done.ensures.facts,
     )
 
 pub returns-in-Done-clause-lines : goal.returns-in-Done-clause-lines

@@ -1,6 +1,5 @@
-use Rattle.std.proofs.Common.{◌≡◌, ◌∙◌, length, subst, refl, ap, sym, arith}
+use Rattle.std.proofs.Common.{◌≡◌, ◌∙◌, length, subst, refl, ap, arith}
 use Rattle.std.specs.Prelude.{None, Some, false}
-use Rattle.dbg_model.specs.declared.opening.Opening.{Opening}
 use Rattle.dbg_model.specs.Lawful.{may_go}
 use Rattle.engine_facts.specs.Seen.{seen}
 use Rattle.dbg_session.specs.declared.status.Status.TheVariants as status
@@ -22,10 +21,11 @@ invariant_of-self-in-Moved g c =
     let h : IsTied None (told c.self.inside.world) (stage_of c.self.inside.engine) (taken_of c.self.inside) = rw (← none) c.self.invariant.0 in
     let few = rw none at c.self.invariant.2 in
     let over = c.over-self-inside.ensures in (
-      turn_put c.over-self-inside.result (told c.self.inside.world) (told c.turn_once-turn.new.world) (stage_of c.self.inside.engine) (stage_of c.turn_once-turn.new.engine) (taken_of c.self.inside) h c.in-Moved.ensures.opening c.keep.ensures.leaves c.in-Moved.ensures.turns.0 c.in-Moved.ensures.goes over,
+      turn_put c.over-self-inside.result (told c.self.inside.world) (told c.turn_once-turn.new.world) (stage_of c.self.inside.engine) (stage_of c.turn_once-turn.new.engine) (taken_of c.self.inside) h c.in-Moved.ensures.opening c.self.invariant.4.leaves c.in-Moved.ensures.turns.0 c.in-Moved.ensures.goes over,
       c.self.invariant.1,
       counted_same c.over-self-inside.result (stage_of c.turn_once-turn.new.engine) c.self.inside.count few over,
       c.self.invariant.3,
+      c.turn_once-turn.ensures.facts,
     )
 
 pub invariant_of-self-in-Unput : goal.invariant_of-self-in-Unput
@@ -34,10 +34,11 @@ invariant_of-self-in-Unput g c =
     let none : c.self.inside.status ≡ None = ap (λ (s : Seen g.row.W.Denot). s.status) c.self.view_is ∙ c.requires.going in
     let h : IsTied None (told c.self.inside.world) (stage_of c.self.inside.engine) (taken_of c.self.inside) = rw (← none) c.self.invariant.0 in
     let few = rw none at c.self.invariant.2 in (
-      turn_unput (told c.self.inside.world) (told c.turn_once-turn.new.world) (stage_of c.self.inside.engine) (stage_of c.turn_once-turn.new.engine) (taken_of c.self.inside) h c.in-Unput.ensures.opening c.keep.ensures.leaves c.in-Unput.ensures.turns.0 c.in-Unput.ensures.goes,
+      turn_unput (told c.self.inside.world) (told c.turn_once-turn.new.world) (stage_of c.self.inside.engine) (stage_of c.turn_once-turn.new.engine) (taken_of c.self.inside) h c.in-Unput.ensures.opening c.self.invariant.4.leaves c.in-Unput.ensures.turns.0 c.in-Unput.ensures.goes,
       c.self.invariant.1,
       omega (arith, few),
       c.self.invariant.3,
+      c.turn_once-turn.ensures.facts,
     )
 
 pub invariant_of-self-in-NoMemory : goal.invariant_of-self-in-NoMemory
@@ -46,16 +47,17 @@ invariant_of-self-in-NoMemory g c =
     let none : c.self.inside.status ≡ None = ap (λ (s : Seen g.row.W.Denot). s.status) c.self.view_is ∙ c.requires.going in
     let h : IsTied None (told c.self.inside.world) (stage_of c.self.inside.engine) (taken_of c.self.inside) = rw (← none) c.self.invariant.0 in
     let few = rw none at c.self.invariant.2 in (
-      turn_unsaid (told c.self.inside.world) (told c.turn_once-turn.new.world) (stage_of c.self.inside.engine) (stage_of c.turn_once-turn.new.engine) (taken_of c.self.inside) h c.in-NoMemory.ensures.opening c.keep.ensures.leaves c.in-NoMemory.ensures.turns.0 c.in-NoMemory.ensures.goes,
+      turn_unsaid (told c.self.inside.world) (told c.turn_once-turn.new.world) (stage_of c.self.inside.engine) (stage_of c.turn_once-turn.new.engine) (taken_of c.self.inside) h c.in-NoMemory.ensures.opening c.self.invariant.4.leaves c.in-NoMemory.ensures.turns.0 c.in-NoMemory.ensures.goes,
       c.self.invariant.1,
       omega (arith, few),
       c.self.invariant.3,
+      c.turn_once-turn.ensures.facts,
     )
 
 pub returns-in-Moved-clause-same : goal.returns-in-Moved-clause-same
 returns-in-Moved-clause-same g c =
     let P : Seen g.row.W.Denot → Type 0 = λ s. length c.turn_once-turn.new.engine.minds ≡ length s.run.minds in
-    subst P c.self.view_is (minds_same c.self.inside.engine c.turn_once-turn.new.engine c.keep.ensures c.keep-2.ensures c.in-Moved.ensures.opening)
+    subst P c.self.view_is (minds_same c.self.inside.engine c.turn_once-turn.new.engine c.self.invariant.4 c.turn_once-turn.ensures.facts c.in-Moved.ensures.opening)
 
 pub returns-in-Moved-clause-moves : goal.returns-in-Moved-clause-moves
 returns-in-Moved-clause-moves g c =
@@ -67,7 +69,7 @@ returns-in-Moved-clause-moves g c =
 pub returns-in-Unput-clause-same : goal.returns-in-Unput-clause-same
 returns-in-Unput-clause-same g c =
     let P : Seen g.row.W.Denot → Type 0 = λ s. length c.turn_once-turn.new.engine.minds ≡ length s.run.minds in
-    subst P c.self.view_is (minds_same c.self.inside.engine c.turn_once-turn.new.engine c.keep.ensures c.keep-2.ensures c.in-Unput.ensures.opening)
+    subst P c.self.view_is (minds_same c.self.inside.engine c.turn_once-turn.new.engine c.self.invariant.4 c.turn_once-turn.ensures.facts c.in-Unput.ensures.opening)
 
 pub returns-in-Unput-clause-moves : goal.returns-in-Unput-clause-moves
 returns-in-Unput-clause-moves g c =
@@ -79,7 +81,7 @@ returns-in-Unput-clause-moves g c =
 pub returns-in-NoMemory-clause-same : goal.returns-in-NoMemory-clause-same
 returns-in-NoMemory-clause-same g c =
     let P : Seen g.row.W.Denot → Type 0 = λ s. length c.turn_once-turn.new.engine.minds ≡ length s.run.minds in
-    subst P c.self.view_is (minds_same c.self.inside.engine c.turn_once-turn.new.engine c.keep.ensures c.keep-2.ensures c.in-NoMemory.ensures.opening)
+    subst P c.self.view_is (minds_same c.self.inside.engine c.turn_once-turn.new.engine c.self.invariant.4 c.turn_once-turn.ensures.facts c.in-NoMemory.ensures.opening)
 
 pub returns-in-NoMemory-clause-moves : goal.returns-in-NoMemory-clause-moves
 returns-in-NoMemory-clause-moves g c =

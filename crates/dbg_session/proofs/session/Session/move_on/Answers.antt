@@ -1,19 +1,27 @@
-use Rattle.std.proofs.Common.{◌≡◌, ◌<◌, subst, sym, ap, true}
+use Rattle.std.proofs.Common.{◌≡◌, ◌+◌, ◌∙◌, refl, sym, ap, subst, true}
 use Rattle.std.specs.Prelude.{None, Some}
 use Rattle.dbg_engine.specs.Steps.{next_running}
-use Rattle.dbg_session.specs.Stage.{Stage}
 use Rattle.dbg_session.specs.Seen.{Seen, no_move}
-use Rattle.dbg_session.proofs.Passing.{still, same_none, turned_less}
+use Rattle.dbg_session.specs.SessionInside.{seen_of}
+use Rattle.dbg_session.proofs.Ahead.{next_within}
+use Rattle.dbg_session.proofs.Passing.{still, turned_less}
 use Rattle.dbg_session.proofs.session.Session.move_on.Goals as goal
 
-pub returns-in-None-clause-less : goal.returns-in-None-clause-less
-returns-in-None-clause-less g c =
-    let P : Seen g.row.W.Denot → Type 0 = λ s. None ≡ next_running s.run.minds s.next in
+pub turn_hart-requires-clause-known : goal.turn_hart-requires-clause-known
+turn_hart-requires-clause-known g c = next_within c.self.inside.engine.minds c.self.inside.next c.in-Some.hart (sym c.next_running.ensures ∙ c.in-Some.is)
+
+pub returns-in_default-clause-less : goal.returns-in_default-clause-less
+returns-in_default-clause-less g c =
     let Q : Seen g.row.W.Denot → Type 0 = λ s. no_move s ≡ true in
     let e = c.self.inside.engine in
-    let is = subst P (sym c.self.view_is) c.in-None.ensures.picks in
-    (same_none c.args.self.now c.pick.new.self c.in-None.ensures.next, subst Q c.self.view_is (still e c.self.inside.next c.keep.ensures is))
+    let is : None ≡ next_running e.minds c.self.inside.next = sym c.in_default.is ∙ c.next_running.ensures in
+    (record { run = refl; input = refl; status = refl; next = refl }, subst Q c.self.view_is (still e c.self.inside.next c.self.invariant.4 is))
 
-pub returns-in-Some-clause-less : goal.returns-in-Some-clause-less
-returns-in-Some-clause-less g c =
-    turned_less c.self.inside.engine c.args.self.now c.pick.new.self c.turn_hart.new.self c.in-Some.hart c.keep.ensures (ap (λ (s : Seen g.row.W.Denot). s.run) c.self.view_is) c.in-Some.ensures.picks c.in-Some.ensures.next c.turn_hart.ensures.less
+pub returns-clause-less : goal.returns-clause-less
+returns-clause-less g c =
+    let e = c.self.inside.engine in
+    let h = c.in-Some.hart in
+    let there : Some h ≡ next_running e.minds c.self.inside.next = sym c.in-Some.is ∙ c.next_running.ensures in
+    let P : Seen g.row.W.Denot → Type 0 = λ s. Some h ≡ next_running s.run.minds s.next in
+    turned_less e c.args.self.now (seen_of (record c.self.inside { next = h + 1 })) c.turn_hart.new.self h c.self.invariant.4 (ap (λ (s : Seen g.row.W.Denot). s.run) c.self.view_is) (subst P c.self.view_is there)
+    (ap (λ (s : Seen g.row.W.Denot). record s { next = h + 1 }) c.self.view_is) c.turn_hart.ensures.less

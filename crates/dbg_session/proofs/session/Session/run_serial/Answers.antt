@@ -1,4 +1,4 @@
-use Rattle.std.proofs.Common.{◌≡◌, ◌∙◌, suc}
+use Rattle.std.proofs.Common.{◌∙◌, suc}
 use Rattle.dbg_session.specs.Round.{moment}
 use Rattle.dbg_session.specs.SessionInside.{seen_of}
 use Rattle.dbg_session.proofs.Passing.{unset}

@@ -1,10 +1,11 @@
-use Rattle.std.proofs.Common.{◌≡◌, ◌<◌, length, refl, ap, sym, ◌∙◌, arith}
+use Rattle.std.proofs.Common.{◌≡◌, ◌<◌, length, refl, ap, sym, ◌∙◌, subst, arith}
 use Rattle.std.specs.Prelude.{slice_get, Some}
 use Rattle.std.proofs.lemmas.Option.{get_or_from_slice_get, slice_get_read}
 use Rattle.hart_machine.specs.contracts.machine.Machine.{the_view}
 use Rattle.hart_machine.specs.declared.hart.Core.{Core}
 use Rattle.hart_machine.specs.Patched.{Patched}
-use Rattle.hart_machine.proofs.Counts.{step_counted, set_counted}
+use Rattle.hart_machine.specs.Stepping.{AreCounted}
+use Rattle.hart_machine.proofs.Counts.{set_counted}
 use Rattle.hart_machine.proofs.Stepping.{steps_to, machine_same}
 use Rattle.hart_machine.proofs.machine.Machine.step.Goals as goal
 
@@ -13,11 +14,13 @@ core_in c =
     let inside : c.args.h < length c.self.inside.cores.items = omega (arith, c.requires.hart, ap (λ (m : Patched). length m.cores) c.self.view_is) in
     slice_get_read c.self.inside.cores.items _ c.args.h c.index_mut.result.now refl inside c.index_mut.ensures.value
 
+pub returns-clause-counts : goal.returns-clause-counts
+returns-clause-counts c = subst (λ (m : Patched). AreCounted m.cores) c.self.view_is c.self.invariant
+
 pub invariant_of-self : goal.invariant_of-self
 invariant_of-self c =
     set_counted c.self.inside.cores.items c.args.h c.step_core.new.core c.self.invariant
-    (step_counted c.step_core.result _ c.index_mut.result.now c.step_core.new.core _ c.step_core.new.memory c.step_core.ensures.step
-    (c.self.invariant c.args.h c.index_mut.result.now (core_in c)))
+    c.step_core.ensures.copies
 
 pub returns-clause-step : goal.returns-clause-step
 returns-clause-step c =

@@ -1,15 +1,18 @@
-use Rattle.std.proofs.Common.{◌∙◌, ap}
+use Rattle.std.proofs.Common.{◌∙◌, ◌+◌, ℕ, ap}
 use Rattle.elf_symbols.specs.Views.{symbol_shown}
-use Rattle.line_index.specs.Lines.{Lines, rows_of}
+use Rattle.line_index.specs.Inside.{seen}
+use Rattle.line_index.specs.Lines.{Lines, body_of, least_from}
 use Rattle.line_index.proofs.FunctionBody.{body-found}
 use Rattle.line_index.proofs.index.LineIndex.body_of.Goals as goal
 
 pub returns-in-Some : goal.returns-in-Some
 returns-in-Some c =
-    c.body_in.ensures
-    ∙ body-found c.args.self.now (symbol_shown c.args.function.now) c.deref-in-Some-2.result.now c.deref-in-Some.result.now c.deref.result.now c.in-Some.text_end c.function_end-end.result
-    (c.deref-in-Some-2.ensures.value ∙ c.self.invariant.kept ∙ ap rows_of c.self.view_is)
-    (c.deref-in-Some.ensures.value ∙ ap (λ (lines : Lines). lines.functions) c.self.view_is)
-    (c.deref.ensures.value ∙ ap (λ (lines : Lines). lines.text) c.self.view_is)
-    c.in-Some.ensures
-    c.function_end-end.ensures
+    let i = c.self.inside in
+    let f = symbol_shown c.args.function.now in
+    c.body_among.ensures
+    ∙ body-found (seen i) f i.starts.items i.prologues.items i.statements.items c.deref-in-Some.result.now c.deref-in-Some-2.result.now c.deref-in-Some-3.result.now c.deref.result.now
+    c.in-Some.text_end c.function_end-end.result c.least_from-next.result
+    c.self.invariant.starts c.self.invariant.prologues c.self.invariant.statements
+    c.deref-in-Some.ensures.value c.deref-in-Some-2.ensures.value c.deref-in-Some-3.ensures.value c.deref.ensures.value
+    c.in-Some.ensures (c.least_from-next.ensures ∙ ap (λ (n : ℕ). least_from (n + 1) c.deref-in-Some.result.now) c.from.ensures) c.function_end-end.ensures
+    ∙ ap (λ (lines : Lines). body_of lines f) c.self.view_is

@@ -1,0 +1,107 @@
+// What the journal notes of a hart that stops or is counted.
+ghost use Rattle.std.specs.Prelude.{◌≡◌, ◌≤◌, Some, true};
+ghost use Rattle.dbg_model.specs.State.{is_counted};
+
+use super::Engine;
+use crate::breaking::settle;
+use crate::journal::note;
+use crate::minds::{STOPPED, counted_mind};
+use crate::patching::{repatch, wants};
+use break_table::Due;
+use dbg_model::{Entry, Why};
+use engine_facts::{Mind, Phase};
+use rv_exec::Cause;
+
+impl Engine {
+    ghost use Rattle.engine_facts.specs.Facts.{Facts};
+    ghost use Rattle.dbg_engine.specs.Calls.{Of, Before, Halts, Interrupts, Counts, DueIs, Undue, TrapsAt};
+
+    // A hart that steps over nothing stops by a fault.
+    pub(crate) fn note_fault(&mut self, h: u32, mind: Mind, cause: Cause)
+        requires before { Before self.old h mind }
+        requires idle { mind.phase ≡ Phase.Idle }
+        requires due { Undue self.old h }
+        requires traps { TrapsAt self.old h cause }
+        requires spare { 32 ≤ self.old.spare }
+        ensures halts { Halts self.old self.new h (Why.Fault cause) }
+        ensures facts { Facts self.new }
+    {
+        note(
+            &mut self.entries,
+            Entry::Stopped {
+                hart: h,
+                why: Why::Fault(cause),
+            },
+        );
+        self.minds[h as usize] = STOPPED;
+        self.noted += 1;
+    }
+
+    // A hart that steps over nothing stops by an interrupt.
+    pub(crate) fn note_interrupt(&mut self, h: u32, mind: Mind)
+        requires before { Before self.old h mind }
+        requires idle { mind.phase ≡ Phase.Idle }
+        requires asked { mind.asked ≡ true }
+        requires due { Undue self.old h }
+        requires spare { 32 ≤ self.old.spare }
+        ensures interrupts { Interrupts self.old self.new h }
+        ensures facts { Facts self.new }
+    {
+        note(
+            &mut self.entries,
+            Entry::Stopped {
+                hart: h,
+                why: Why::Interrupted,
+            },
+        );
+        self.minds[h as usize] = STOPPED;
+        self.noted += 1;
+    }
+
+    // A hart that steps over nothing stops at a breakpoint.
+    pub(crate) fn note_arrival(&mut self, h: u32, mind: Mind, number: u32, due: Due, pc: u32)
+        requires before { Before self.old h mind }
+        requires idle { mind.phase ≡ Phase.Idle }
+        requires pc { Of self.old h (λ y. y.regs.pc ≡ pc) }
+        requires due { DueIs self.old h due }
+        requires stops { due.stop ≡ Some number }
+        requires spare { 32 ≤ self.old.spare }
+        ensures halts { Halts self.old self.new h (Why.Break number due.error) }
+        ensures facts { Facts self.new }
+    {
+        note(
+            &mut self.entries,
+            Entry::Stopped {
+                hart: h,
+                why: Why::Break {
+                    number,
+                    error: due.error,
+                },
+            },
+        );
+        settle(&mut self.table, &self.opening.image, &self.machine, h, pc);
+        let wants = wants(&self.table, self.hold, pc);
+        repatch(&mut self.machine, pc, wants);
+        self.minds[h as usize] = STOPPED;
+        self.noted += 1;
+    }
+
+    // Breakpoints count a hart, which goes on.
+    pub(crate) fn note_count(&mut self, h: u32, mind: Mind, due: Due, pc: u32)
+        requires before { Before self.old h mind }
+        requires pc { Of self.old h (λ y. y.regs.pc ≡ pc) }
+        requires due { DueIs self.old h due }
+        requires counts { is_counted due ≡ true }
+        requires fresh { mind.fresh ≡ true }
+        requires spare { 32 ≤ self.old.spare }
+        ensures counts { Counts self.old self.new h }
+        ensures facts { Facts self.new }
+    {
+        note(&mut self.entries, Entry::Counted { hart: h });
+        settle(&mut self.table, &self.opening.image, &self.machine, h, pc);
+        let wants = wants(&self.table, self.hold, pc);
+        repatch(&mut self.machine, pc, wants);
+        self.minds[h as usize] = counted_mind(mind);
+        self.noted += 1;
+    }
+}

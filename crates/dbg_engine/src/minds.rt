@@ -1,0 +1,116 @@
+// What is kept of the harts.
+ghost use Rattle.std.specs.Prelude.{◌≡◌, ◌≤◌, ◌+◌, length, replicate, IfOk, find, nat_le};
+ghost use Rattle.std.specs.List.{list_any, list_all};
+ghost use Rattle.engine_facts.specs.Minds.{first_mind, counted_mind, runs, has_gone, with_phase};
+ghost use Rattle.engine_facts.specs.Facts.{other_holder};
+ghost use Rattle.dbg_engine.specs.Steps.{running_harts};
+
+use engine_facts::{Activity, Hold, Mind, Phase};
+use std::alloc::{AllocError, Global};
+
+/// What is kept of so many harts before the first move.
+pub fn first_minds(alloc: Global, count: u32) -> Result<Vec<Mind>, AllocError>
+    ensures { IfOk result (λ v. v.items ≡ replicate count first_mind) }
+{
+    let mut minds = Vec::new(alloc);
+    for hart in 0..count {
+        minds.push(Mind {
+            activity: Activity::Stopped,
+            fresh: false,
+            asked: false,
+            phase: Phase::Idle,
+        })?;
+    }
+    Ok(minds)
+}
+
+/// Whether a hart runs.
+pub fn is_running(mind: &Mind) -> bool
+    ensures { result ≡ runs mind.now }
+{
+    mind.activity == Activity::Running
+}
+
+/// Whether any hart runs.
+pub fn any_running(minds: &[Mind]) -> bool
+    ensures { result ≡ list_any runs minds.now }
+{
+    match minds {
+        [] => false,
+        [first, rest @ ..] => is_running(first) || any_running(rest),
+    }
+}
+
+/// Whether no hart is live.
+pub fn all_gone(minds: &[Mind]) -> bool
+    ensures { result ≡ list_all has_gone minds.now }
+{
+    match minds {
+        [] => true,
+        [first, rest @ ..] => first.activity == Activity::Exited && all_gone(rest),
+    }
+}
+
+/// The first hart at or above `from` that runs; the first of the list has the number `hart`.
+pub fn find_running(minds: &[Mind], hart: u32, from: usize) -> Option<u32>
+    requires { hart + length minds.now ≤ 16 }
+    ensures { result ≡ find (nat_le from) (running_harts hart minds.now) }
+{
+    match minds {
+        [] => None,
+        [first, rest @ ..] => {
+            if is_running(first) && from <= hart as usize {
+                return Some(hart);
+            }
+            find_running(rest, hart + 1, from)
+        }
+    }
+}
+
+/// What is kept of a hart that breakpoints have counted.
+pub fn counted_mind(mind: Mind) -> Mind
+    ensures { result ≡ counted_mind mind }
+{
+    Mind {
+        activity: mind.activity,
+        fresh: false,
+        asked: mind.asked,
+        phase: mind.phase,
+    }
+}
+
+/// What is kept of a hart that stopped.
+pub const STOPPED: Mind = Mind {
+    activity: Activity::Stopped,
+    fresh: false,
+    asked: false,
+    phase: Phase::Idle,
+};
+
+/// The hart for which a patch is lifted, where that is another one than h.
+pub fn other_holder(hold: Option<Hold>, h: u32) -> Option<u32>
+    ensures { result ≡ other_holder hold h }
+{
+    match hold {
+        None => None,
+        Some(hold) => {
+            if hold.hart == h {
+                None
+            } else {
+                Some(hold.hart)
+            }
+        }
+    }
+}
+
+/// The same in another phase.
+pub fn with_phase(mind: Mind, phase: Phase) -> Mind
+    ensures { result ≡ with_phase mind phase }
+{
+    Mind {
+        activity: mind.activity,
+        fresh: mind.fresh,
+        asked: mind.asked,
+        phase,
+    }
+}

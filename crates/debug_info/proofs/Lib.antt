@@ -1,0 +1,13 @@
+pub mod Turns
+pub mod Declared
+pub mod Specified
+pub mod Ends
+pub mod Joined
+pub mod Orders
+pub mod Merge
+pub mod Lookups
+pub mod Halves
+pub mod Listed
+pub mod Links
+pub mod Levels
+pub mod Rising

@@ -1,0 +1,121 @@
+-- The loops over attributes and entries.
+use Rattle.std.proofs.Common.{◌≡◌, ◌<◌, ◌≤◌, ◌+◌, ◌++◌, ℕ, zero, suc, Bool, true, false, List, [], length, Option, None, Some, Result, Ok, Err, refl, arith, sym, ◌∙◌, ap, append-nil, append_assoc}
+use Rattle.std.specs.Prelude.{nat_le, if◌then◌else◌}
+use Rattle.std.proofs.lemmas.Bool.Decides.{nat_tests}
+use Rattle.debug_info.specs.Reading.{◌>>=◌, Read, found}
+use Rattle.debug_info.specs.Abbreviations.{specification_at}
+use Rattle.debug_info.specs.Attributes.{attributes_from, with_specified, with_value}
+use Rattle.debug_info.specs.Entries.{entries_from, entry_at, entry_list, in_front, level_behind, with_others}
+use Rattle.debug_info.specs.Forms.{value_at}
+use Rattle.debug_info.specs.declared.abbreviation.Specification.{Specification}
+use Rattle.debug_info.specs.declared.entry.Attributes.{Attributes}
+use Rattle.debug_info.specs.declared.entry.Entry.{Entry}
+use Rattle.debug_info.specs.declared.fault.InfoFault.{InfoFault}
+use Rattle.debug_info.specs.declared.form.Value.{Value}
+use Rattle.debug_info.proofs.Turns.{Reaches, turn, turned}
+
+abbrev pub reads : List ℕ → List ℕ → List ℕ → Attributes → ℕ → ℕ → ℕ → Read Attributes
+reads abbrevs strs info attributes at most specified = attributes_from most abbrevs strs info specified attributes at
+
+pub specified_fault : (answer : Read Attributes) (abbrevs strs info : List ℕ) (a : Attributes) (specified at : ℕ) (e : InfoFault) → specification_at abbrevs specified ≡ Err e
+    → Reaches answer (reads abbrevs strs info a at) abbrevs specified → answer ≡ Err e
+specified_fault answer abbrevs strs info a specified at e read r =
+    let t = turn answer (reads abbrevs strs info a at) abbrevs specified r in
+    t.same ∙ ap (λ x. x >>= with_specified strs info (attributes_from t.more abbrevs strs info) a at) read
+
+pub specified_done : (answer : Read Attributes) (abbrevs strs info : List ℕ) (a : Attributes) (specified at behind : ℕ) → specification_at abbrevs specified ≡ found None behind
+    → Reaches answer (reads abbrevs strs info a at) abbrevs specified → answer ≡ found a at
+specified_done answer abbrevs strs info a specified at behind read r =
+    let t = turn answer (reads abbrevs strs info a at) abbrevs specified r in
+    t.same ∙ ap (λ x. x >>= with_specified strs info (attributes_from t.more abbrevs strs info) a at) read
+
+pub value_fault : (answer : Read Attributes) (abbrevs strs info : List ℕ) (a : Attributes) (specified at behind : ℕ) (s : Specification) (e : InfoFault) → specification_at abbrevs specified ≡ found (Some s) behind
+    → value_at s.form strs info at ≡ Err e → Reaches answer (reads abbrevs strs info a at) abbrevs specified → answer ≡ Err e
+value_fault answer abbrevs strs info a specified at behind s e read value r =
+    let t = turn answer (reads abbrevs strs info a at) abbrevs specified r in
+    t.same ∙ ap (λ x. x >>= with_specified strs info (attributes_from t.more abbrevs strs info) a at) read
+    ∙ ap (λ (x : Read Value). x >>= (λ v. attributes_from t.more abbrevs strs info behind (with_value a s.name v.0) v.1)) value
+
+pub value_next : (answer : Read Attributes) (abbrevs strs info : List ℕ) (a : Attributes) (specified at behind next : ℕ) (s : Specification) (v : Value) → specification_at abbrevs specified ≡ found (Some s) behind
+    → value_at s.form strs info at ≡ found v next → specified < behind → behind ≤ length abbrevs
+    → Reaches answer (reads abbrevs strs info a at) abbrevs specified → Reaches answer (reads abbrevs strs info (with_value a s.name v) next) abbrevs behind
+value_next answer abbrevs strs info a specified at behind next s v read value h k r =
+    let t = turn answer (reads abbrevs strs info a at) abbrevs specified r in
+    turned answer (reads abbrevs strs info a at) (reads abbrevs strs info (with_value a s.name v) next) abbrevs specified behind t h k
+    (ap (λ x. x >>= with_specified strs info (attributes_from t.more abbrevs strs info) a at) read
+    ∙ ap (λ (x : Read Value). x >>= (λ v. attributes_from t.more abbrevs strs info behind (with_value a s.name v.0) v.1)) value)
+
+-- the entries that were read stand in front of those that are left
+pub record Reading (whole : Result (List Entry) InfoFault) (abbrevs strs info : List ℕ) (table unit : ℕ) (entries : List Entry) (level at : ℕ) : Type 0 where
+  pub most : ℕ
+  pub enough : length info < at + most
+  pub within : at ≤ length info
+  pub same : whole ≡ in_front entries (entries_from most abbrevs strs info table unit level at)
+
+nothing_in_front : (others : Result (List Entry) InfoFault) → others ≡ in_front [] others
+nothing_in_front (Ok es) = refl
+nothing_in_front (Err e) = refl
+
+pub reading_start : (abbrevs strs info : List ℕ) (table unit at : ℕ) → at ≤ length info
+    → Reading (entries_from (length info + 1) abbrevs strs info table unit 0 at) abbrevs strs info table unit [] 0 at
+reading_start abbrevs strs info table unit at h = record {
+  most = length info + 1;
+  enough = omega arith;
+  within = h;
+  same = nothing_in_front (entries_from (length info + 1) abbrevs strs info table unit 0 at);
+}
+
+from_end : (most : ℕ) (abbrevs strs info : List ℕ) (table unit level at : ℕ) → length info ≤ at → entries_from most abbrevs strs info table unit level at ≡ Ok []
+from_end zero abbrevs strs info table unit level at h = refl
+from_end (suc most) abbrevs strs info table unit level at h = let past : nat_le (length info) at ≡ true = grind (arith, nat_tests) in rw past refl
+
+pub reading_end : (whole : Result (List Entry) InfoFault) (abbrevs strs info : List ℕ) (table unit : ℕ) (entries : List Entry) (level at : ℕ) → length info ≤ at
+    → Reading whole abbrevs strs info table unit entries level at → whole ≡ Ok entries
+reading_end whole abbrevs strs info table unit entries level at h r =
+    r.same ∙ ap (in_front entries) (from_end r.most abbrevs strs info table unit level at h) ∙ ap (λ (es : List Entry). Ok es) (append-nil entries)
+
+record Step (whole : Result (List Entry) InfoFault) (abbrevs strs info : List ℕ) (table unit : ℕ) (entries : List Entry) (level at : ℕ) : Type 0 where
+  more : ℕ
+  enough : length info ≤ at + more
+  same : whole ≡ in_front entries (entry_at abbrevs strs info table unit level at >>= with_others level (entries_from more abbrevs strs info table unit))
+
+step_from : (whole : Result (List Entry) InfoFault) (abbrevs strs info : List ℕ) (table unit : ℕ) (entries : List Entry) (level at most : ℕ) → at < length info → length info < at + most
+    → whole ≡ in_front entries (entries_from most abbrevs strs info table unit level at) → Step whole abbrevs strs info table unit entries level at
+step_from whole abbrevs strs info table unit entries level at zero h enough same = absurd (omega arith)
+step_from whole abbrevs strs info table unit entries level at (suc most) h enough same =
+    let within : nat_le (length info) at ≡ false = grind (arith, nat_tests) in
+    record {
+      more = most;
+      enough = omega arith;
+      same = same ∙ ap (λ (b : Bool). in_front entries (if b then Ok [] else (entry_at abbrevs strs info table unit level at >>= with_others level (entries_from most abbrevs strs info table unit)))) within;
+    }
+
+step : (whole : Result (List Entry) InfoFault) (abbrevs strs info : List ℕ) (table unit : ℕ) (entries : List Entry) (level at : ℕ) → at < length info
+    → Reading whole abbrevs strs info table unit entries level at → Step whole abbrevs strs info table unit entries level at
+step whole abbrevs strs info table unit entries level at h r = step_from whole abbrevs strs info table unit entries level at r.most h r.enough r.same
+
+pub reading_fault : (whole : Result (List Entry) InfoFault) (abbrevs strs info : List ℕ) (table unit : ℕ) (entries : List Entry) (level at : ℕ) (e : InfoFault) → at < length info
+    → entry_at abbrevs strs info table unit level at ≡ Err e → Reading whole abbrevs strs info table unit entries level at → whole ≡ Err e
+reading_fault whole abbrevs strs info table unit entries level at e h read r =
+    let s = step whole abbrevs strs info table unit entries level at h r in
+    s.same ∙ ap (λ x. in_front entries (x >>= with_others level (entries_from s.more abbrevs strs info table unit))) read
+
+further : (front : List Entry) (list : List Entry) (others : Result (List Entry) InfoFault) → in_front front (in_front list others) ≡ in_front (front ++ list) others
+further front list (Ok es) = ap (λ (xs : List Entry). Ok xs) (sym (append_assoc front list es))
+further front list (Err e) = refl
+
+pub reading_next : (whole : Result (List Entry) InfoFault) (abbrevs strs info : List ℕ) (table unit : ℕ) (entries pushed : List Entry) (level at behind next : ℕ) (entry : Option Entry) → at < length info
+    → entry_at abbrevs strs info table unit level at ≡ found entry next → at < next → next ≤ length info → behind ≡ level_behind level entry → pushed ≡ entries ++ entry_list entry
+    → Reading whole abbrevs strs info table unit entries level at → Reading whole abbrevs strs info table unit pushed behind next
+reading_next whole abbrevs strs info table unit entries pushed level at behind next entry h read later within deep is r =
+    let s = step whole abbrevs strs info table unit entries level at h r in
+    record {
+      most = s.more;
+      enough = (let x = s.enough in omega arith);
+      within = within;
+      same = s.same
+          ∙ ap (λ x. in_front entries (x >>= with_others level (entries_from s.more abbrevs strs info table unit))) read
+          ∙ further entries (entry_list entry) (entries_from s.more abbrevs strs info table unit (level_behind level entry) next)
+          ∙ ap (λ (xs : List Entry). in_front xs (entries_from s.more abbrevs strs info table unit (level_behind level entry) next)) (sym is)
+          ∙ ap (λ (n : ℕ). in_front pushed (entries_from s.more abbrevs strs info table unit n next)) (sym deep);
+    }

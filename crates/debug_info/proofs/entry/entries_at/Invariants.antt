@@ -1,0 +1,17 @@
+use Rattle.std.proofs.Common.{length, ◌-◌, ◌≤◌, ◌+◌}
+use Rattle.debug_info.specs.Entries.{entries_from}
+use Rattle.debug_info.proofs.Rising.{RisesTo}
+use Rattle.debug_info.proofs.Specified.{Reading}
+use Rattle.debug_info.proofs.entry.entries_at.Given as goal
+
+abbrev pub invariant-entries : goal.invariant-entries
+invariant-entries l =
+    record {
+      read : Reading (entries_from (length l.sections.info.now + 1) l.sections.abbrevs.now l.sections.strs.now l.sections.info.now l.table.at l.unit 0 l.at) l.sections.abbrevs.now l.sections.strs.now l.sections.info.now l.table.at l.unit l.entries.items l.level l.place;
+      rising : RisesTo 0 l.entries.items (l.place - l.unit);
+      level : l.level ≤ 64;
+      unit : l.unit ≤ l.place;
+    }
+
+abbrev pub decreases-entries : goal.decreases-entries
+decreases-entries l = length l.sections.info.now - l.place

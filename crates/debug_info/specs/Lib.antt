@@ -1,0 +1,16 @@
+pub mod Reading
+pub mod Forms
+pub mod Expressions
+pub mod Abbreviations
+pub mod Tables
+pub mod Attributes
+pub mod Entries
+pub mod Units
+pub mod Contents
+pub mod Functions
+pub mod Steps
+pub mod Scope
+pub mod Shown
+pub mod Info
+pub mod Kept
+pub mod Rising

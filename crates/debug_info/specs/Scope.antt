@@ -1,0 +1,138 @@
+-- The variables that can be seen at an address (DWARF 4, sections 2.3, 3.3 to 3.5, 4.1 and 5.1 to 5.3).
+use Rattle.std.specs.Prelude.{ℕ, zero, suc, ◌+◌, ◌-◌, ◌==◌, nat_le, nat_lt, ◌&&◌, ◌||◌, Bool, true, false, not, List, [], ◌∷◌, ◌++◌, map, filter, drop, find, slice_get, unwrap_or, Option, None, Some, take_while, is_some, if◌then◌else◌}
+use Rattle.leb_read.specs.Leb.{is_text_byte}
+use Rattle.debug_info.specs.declared.entry.Entry.{Entry}
+use Rattle.debug_info.specs.declared.entry.Kind.{Kind}
+use Rattle.debug_info.specs.declared.entry.Kind.TheVariants as kind
+use Rattle.debug_info.specs.declared.entry.Range.{Range}
+use Rattle.debug_info.specs.declared.entry.Tag.{Tag}
+use Rattle.debug_info.specs.declared.entry.Tag.TheVariants as tag
+use Rattle.debug_info.specs.declared.expression.Base.{Base}
+use Rattle.debug_info.specs.declared.expression.Base.TheVariants as base
+use Rattle.debug_info.specs.declared.expression.Place.{Place}
+use Rattle.debug_info.specs.declared.expression.Place.TheVariants as place
+use Rattle.debug_info.specs.declared.form.TextPlace.{TextPlace}
+use Rattle.debug_info.specs.declared.form.TextPlace.TheVariants as text
+use Rattle.debug_info.specs.declared.table.Function.{Function}
+
+-- a variable, its name as bytes
+pub record Variable : Type 0 where
+  pub name : List ℕ
+  pub kind : Kind
+  pub place : Place
+  pub base : Base
+  pub argument : Bool
+  pub listed : Bool
+
+-- the sections that names stand in
+pub record Texts : Type 0 where
+  pub info : List ℕ
+  pub strs : List ℕ
+
+-- the bytes up to the first zero byte
+abbrev pub text_from : List ℕ → ℕ → List ℕ
+text_from section at = take_while is_text_byte (drop at section)
+
+abbrev pub name_of : Texts → Option TextPlace → List ℕ
+name_of texts None = []
+name_of texts (Some (text.Inline p)) = text_from texts.info p.at
+name_of texts (Some (text.Shared p)) = text_from texts.strs p.at
+
+-- the entry of a type
+abbrev pub type_entry : List Entry → Option ℕ → Option Entry
+type_entry entries None = None
+type_entry entries (Some offset) = find (λ e. e.offset == offset) entries
+
+abbrev pub is_modifier : Tag → Bool
+is_modifier tag.Typedef = true
+is_modifier tag.Const = true
+is_modifier tag.Volatile = true
+is_modifier _ = false
+
+abbrev pub own_kind : Tag → Kind → Kind
+own_kind tag.BaseType basic = basic
+own_kind tag.Pointer basic = kind.Pointer
+own_kind _ basic = kind.Other
+
+-- the kind of a type behind at most so many typedefs, consts and volatiles
+abbrev pub kind_of : ℕ → List Entry → Option Entry → Kind
+kind_of links entries None = kind.Other
+kind_of zero entries (Some e) = own_kind e.tag e.basic
+kind_of (suc links) entries (Some e) =
+    if is_modifier e.tag then kind_of links entries (type_entry entries e.type_of) else own_kind e.tag e.basic
+
+-- without a frame base, a place in the frame isn't known
+abbrev pub place_in : Base → Place → Place
+place_in base.Other (place.Frame offset) = place.Absent
+place_in _ p = p
+
+abbrev pub is_parameter : Tag → Bool
+is_parameter tag.Parameter = true
+is_parameter _ = false
+
+abbrev pub is_variable : Tag → Bool
+is_variable tag.Variable = true
+is_variable _ = false
+
+abbrev pub is_block : Tag → Bool
+is_block tag.Block = true
+is_block _ = false
+
+abbrev pub is_fixed : Place → Bool
+is_fixed (place.Fixed address) = true
+is_fixed _ = false
+
+abbrev pub variable_of : Texts → List Entry → Base → Bool → Entry → Variable
+variable_of texts entries base listed e = record {
+  name = name_of texts e.name;
+  kind = kind_of 16 entries (type_entry entries e.type_of);
+  place = place_in base e.place;
+  base = base;
+  argument = is_parameter e.tag;
+  listed = listed;
+}
+
+-- a parameter or a variable that has a name
+abbrev pub is_named : Entry → Bool
+is_named e = is_some e.name && (is_parameter e.tag || is_variable e.tag)
+
+abbrev pub is_within : ℕ → Option Range → Bool
+is_within pc None = false
+is_within pc (Some range) = nat_le range.low pc && nat_lt pc range.end
+
+-- a block that covers pc
+abbrev pub is_entered : ℕ → Entry → Bool
+is_entered pc e = is_block e.tag && is_within pc e.range
+
+abbrev pub is_own : ℕ → Entry → Bool
+is_own pc e = not (is_entered pc e) && is_named e
+
+-- An entry one level below the innermost open one is its child, and a deeper one stands in what isn't entered. Of the entries behind
+-- a function's, up to the first that isn't below it, those are its own and its blocks' that cover pc.
+abbrev pub own_entries : ℕ → ℕ → ℕ → List Entry → List Entry
+own_entries pc function innermost [] = []
+own_entries pc function innermost (e ∷ es) =
+    if nat_le e.level function then []
+    else (if nat_lt (innermost + 1) e.level then own_entries pc function innermost es
+    else filter (is_own pc) (e ∷ []) ++ own_entries pc function (if is_entered pc e then e.level else e.level - 1) es)
+
+-- those of the levels from one down, deeper ones first
+abbrev pub by_depth : ℕ → List Entry → List Entry
+by_depth zero es = []
+by_depth (suc level) es = filter (λ e. e.level == suc level) es ++ by_depth level es
+
+-- the unit's own variables with a fixed place
+abbrev pub is_unit_variable : Entry → Bool
+is_unit_variable e = (e.level == 2) && ((is_some e.name && is_variable e.tag) && is_fixed e.place)
+
+-- the variables at pc by the unit's entries and those from the function's on
+abbrev pub variables_in : Texts → ℕ → List Entry → List Entry → List Variable
+variables_in texts pc entries [] = []
+variables_in texts pc entries (f ∷ behind) =
+    map (variable_of texts entries f.base true) (by_depth 64 (own_entries pc f.level f.level behind))
+    ++ map (variable_of texts entries f.base false) (filter is_unit_variable entries)
+
+abbrev pub variables_by : Texts → List (List Entry) → ℕ → Option Function → List Variable
+variables_by texts units pc None = []
+variables_by texts units pc (Some f) =
+    variables_in texts pc (unwrap_or (slice_get units f.unit) []) (drop f.entry (unwrap_or (slice_get units f.unit) []))

@@ -1,0 +1,358 @@
+//! The entries of a unit (DWARF 4, sections 2.1 to 2.3 and 7.5.2).
+
+ghost use Rattle.std.specs.Prelude.{◌≡◌, ◌<◌, ◌≤◌, ◌+◌, ◌-◌, IfOk, IfSome, OnOk, length, ◌++◌};
+ghost use Rattle.debug_info.specs.Forms.{IsReadTo};
+ghost use Rattle.debug_info.specs.Attributes.{attributes_at, basic_kind, constant_of, entry_of, expression_of, no_attributes, or_first, range_of, reference_of, tag_of, text_of, with_value};
+ghost use Rattle.debug_info.specs.Entries.{Gives, IsLevel, entries_from, entry_at, entry_list, level_behind};
+ghost use Rattle.debug_info.specs.Rising.{RisesFrom};
+ghost use Rattle.debug_info.specs.Tables.{IsTable};
+
+use crate::abbreviation::{Declaration, Table, specification_at};
+use crate::expression::{Base, Operation, Place, base_of, place_of};
+use crate::fault::{InfoError, InfoFault};
+use crate::form::{TextPlace, Value, value_at};
+use crate::offset::Sections;
+use dbg_traits::NoMemory;
+use leb_read::uleb;
+use std::alloc::Global;
+
+/// What an entry stands for.
+#[derive(Clone, Copy, Debug, PartialEq, Eq)]
+pub enum Tag {
+    Parameter,
+    Block,
+    Pointer,
+    Typedef,
+    BaseType,
+    Const,
+    Subprogram,
+    Variable,
+    Volatile,
+    /// Anything else, the unit's own entry too.
+    Other,
+}
+
+/// What a variable's bytes are.
+#[derive(Clone, Copy, Debug, PartialEq, Eq)]
+pub enum Kind {
+    /// A signed number of 1, 2 or 4 bytes.
+    Signed(u8),
+    /// An unsigned number of 1, 2 or 4 bytes.
+    Unsigned(u8),
+    Pointer,
+    Other,
+}
+
+/// The addresses of a function or a block.
+#[derive(Clone, Copy, Debug, PartialEq, Eq)]
+pub struct Range {
+    pub low: u32,
+    /// Behind the last one, at most 2^32.
+    pub end: u64,
+}
+
+/// The values of an entry's attributes.
+#[derive(Clone, Copy, Debug, PartialEq, Eq)]
+pub struct Attributes {
+    pub location: Option<Value>,
+    pub name: Option<Value>,
+    pub byte_size: Option<Value>,
+    pub low_pc: Option<Value>,
+    pub high_pc: Option<Value>,
+    pub encoding: Option<Value>,
+    pub frame_base: Option<Value>,
+    pub type_of: Option<Value>,
+}
+
+/// An entry of a unit.
+#[derive(Clone, Copy, Debug, PartialEq, Eq)]
+pub struct Entry {
+    /// From the unit's beginning.
+    pub offset: usize,
+    /// How deep it stands: the unit's own entry at 1, and each child one deeper.
+    pub level: u8,
+    pub has_children: bool,
+    pub tag: Tag,
+    pub name: Option<TextPlace>,
+    pub range: Option<Range>,
+    pub place: Place,
+    pub base: Base,
+    /// The kind of a base type.
+    pub basic: Kind,
+    /// The offset of its type's entry, from the unit's beginning.
+    pub type_of: Option<u64>,
+}
+
+/// Most levels.
+const LEVELS: u8 = 64;
+
+fn tag_of(code: u64) -> Tag
+    ensures { result ≡ tag_of code }
+{
+    match code {
+        0x05 => Tag::Parameter,
+        0x0B => Tag::Block,
+        0x0F => Tag::Pointer,
+        0x16 => Tag::Typedef,
+        0x24 => Tag::BaseType,
+        0x26 => Tag::Const,
+        0x2E => Tag::Subprogram,
+        0x34 => Tag::Variable,
+        0x35 => Tag::Volatile,
+        _ => Tag::Other,
+    }
+}
+
+fn no_attributes() -> Attributes
+    ensures { result ≡ no_attributes }
+{
+    Attributes {
+        location: None,
+        name: None,
+        byte_size: None,
+        low_pc: None,
+        high_pc: None,
+        encoding: None,
+        frame_base: None,
+        type_of: None,
+    }
+}
+
+fn or_first(first: Option<Value>, value: Value) -> Option<Value>
+    ensures { result ≡ or_first first value }
+{
+    match first {
+        Some(_) => first,
+        None => Some(value),
+    }
+}
+
+// The attributes with one more; of those of a name the first counts.
+fn with_value(attributes: Attributes, name: u64, value: Value) -> Attributes
+    ensures { result ≡ with_value attributes name value }
+{
+    match name {
+        0x02 => Attributes {
+            location: or_first(attributes.location, value),
+            ..attributes
+        },
+        0x03 => Attributes {
+            name: or_first(attributes.name, value),
+            ..attributes
+        },
+        0x0B => Attributes {
+            byte_size: or_first(attributes.byte_size, value),
+            ..attributes
+        },
+        0x11 => Attributes {
+            low_pc: or_first(attributes.low_pc, value),
+            ..attributes
+        },
+        0x12 => Attributes {
+            high_pc: or_first(attributes.high_pc, value),
+            ..attributes
+        },
+        0x3E => Attributes {
+            encoding: or_first(attributes.encoding, value),
+            ..attributes
+        },
+        0x40 => Attributes {
+            frame_base: or_first(attributes.frame_base, value),
+            ..attributes
+        },
+        0x49 => Attributes {
+            type_of: or_first(attributes.type_of, value),
+            ..attributes
+        },
+        _ => attributes,
+    }
+}
+
+// The attributes whose specifications stand at a place of the abbreviations.
+fn attributes_at(
+    sections: &Sections<'_>,
+    specifications: usize,
+    at: usize,
+) -> Result<(Attributes, usize), InfoFault>
+    requires { at ≤ length sections.now.info.now }
+    ensures value { result ≡ attributes_at sections.now.abbrevs.now sections.now.strs.now sections.now.info.now specifications at }
+    ensures within { IfOk result (λ r. IsReadTo sections.now.info.now at r.1) }
+{
+    let mut attributes = no_attributes();
+    let mut specified = specifications;
+    let mut place = at;
+    'attributes: loop {
+        let (specification, behind) = specification_at(sections.abbrevs, specified)?;
+        let Some(specification) = specification else {
+            return Ok((attributes, place));
+        };
+        let (value, next) = value_at(specification.form, sections.strs, sections.info, place)?;
+        attributes = with_value(attributes, specification.name, value);
+        specified = behind;
+        place = next;
+    }
+}
+
+fn text_of(value: Option<Value>) -> Option<TextPlace>
+    ensures { result ≡ text_of value }
+{
+    match value {
+        Some(Value::Text(place)) => Some(place),
+        _ => None,
+    }
+}
+
+fn constant_of(value: Option<Value>) -> Option<u64>
+    ensures { result ≡ constant_of value }
+{
+    match value {
+        Some(Value::Constant(number)) => Some(number),
+        _ => None,
+    }
+}
+
+fn reference_of(value: Option<Value>) -> Option<u64>
+    ensures { result ≡ reference_of value }
+{
+    match value {
+        Some(Value::Reference(offset)) => Some(offset),
+        _ => None,
+    }
+}
+
+fn expression_of(value: Option<Value>) -> Option<Operation>
+    ensures { result ≡ expression_of value }
+{
+    match value {
+        Some(Value::Block(operation)) => operation,
+        _ => None,
+    }
+}
+
+// The range from a low address up to a high one, or of a length.
+fn range_of(low: Option<Value>, high: Option<Value>) -> Option<Range>
+    ensures { result ≡ range_of low high }
+{
+    match (low, high) {
+        (Some(Value::Address(low)), Some(Value::Address(high))) => Some(Range {
+            low,
+            end: u64::from(high),
+        }),
+        (Some(Value::Address(low)), Some(Value::Constant(length))) => Some(Range {
+            low,
+            end: u64::from(low).saturating_add(length).min(1 << 32),
+        }),
+        _ => None,
+    }
+}
+
+// The kind of a base type, by its encoding and its size.
+fn basic_kind(encoding: Option<u64>, size: Option<u64>) -> Kind
+    ensures { result ≡ basic_kind encoding size }
+{
+    match (encoding, size) {
+        (Some(5 | 6), Some(n @ (1 | 2 | 4))) => Kind::Signed(n as u8),
+        (Some(2 | 7 | 8), Some(n @ (1 | 2 | 4))) => Kind::Unsigned(n as u8),
+        _ => Kind::Other,
+    }
+}
+
+fn entry_of(offset: usize, level: u8, declaration: Declaration, attributes: Attributes) -> Entry
+    ensures { result ≡ entry_of offset level declaration attributes }
+{
+    Entry {
+        offset,
+        level,
+        has_children: declaration.has_children,
+        tag: tag_of(declaration.tag),
+        name: text_of(attributes.name),
+        range: range_of(attributes.low_pc, attributes.high_pc),
+        place: place_of(expression_of(attributes.location)),
+        base: base_of(expression_of(attributes.frame_base)),
+        basic: basic_kind(
+            constant_of(attributes.encoding),
+            constant_of(attributes.byte_size),
+        ),
+        type_of: reference_of(attributes.type_of),
+    }
+}
+
+// The entry at a place of a unit below so many levels, or none where children end, and the next place.
+#[tactic(auto, unfolding(crate::specs::Entries::entry_at))]
+fn entry_at(
+    sections: &Sections<'_>,
+    table: &Table,
+    unit: usize,
+    level: u8,
+    at: usize,
+) -> Result<(Option<Entry>, usize), InfoFault>
+    requires table { IsTable sections.now.abbrevs.now table.now }
+    requires level { level ≤ 64 }
+    requires unit { unit ≤ at }
+    ensures value { result ≡ entry_at sections.now.abbrevs.now sections.now.strs.now sections.now.info.now table.now.at unit level at }
+    ensures behind { IfOk result (λ r. at < r.1) }
+    ensures within { IfOk result (λ r. r.1 ≤ length sections.now.info.now) }
+    ensures deep { IfOk result (λ r. IfSome r.0 IsLevel) }
+    ensures offset { IfOk result (λ r. IfSome r.0 (λ e. e.offset ≡ at - unit)) }
+{
+    let (code, next) = uleb(sections.info, at)?;
+    if code == 0 {
+        return Ok((None, next));
+    }
+    let declaration = table.find(sections.abbrevs, code)?;
+    if level == LEVELS {
+        return Err(InfoFault::Deep);
+    }
+    let (attributes, next) = attributes_at(sections, declaration.attributes, next)?;
+    let entry = entry_of(at - unit, level + 1, declaration, attributes);
+    Ok((Some(entry), next))
+}
+
+// The levels above what stands behind an entry, or behind an end of children.
+fn level_behind(level: u8, entry: &Option<Entry>) -> u8
+    requires level { level ≤ 64 }
+    requires entry { IfSome entry.now IsLevel }
+    ensures value { result ≡ level_behind level entry.now }
+    ensures range { result ≤ 64 }
+{
+    match entry {
+        None => level.saturating_sub(1),
+        Some(entry) if entry.has_children => entry.level,
+        Some(entry) => entry.level - 1,
+    }
+}
+
+fn push_entry(entries: &mut Vec<Entry>, entry: Option<Entry>) -> Result<(), NoMemory>
+    ensures { OnOk result (entries.new.items ≡ entries.old.items ++ entry_list entry) }
+{
+    if let Some(entry) = entry {
+        entries.push(entry)?;
+    }
+    Ok(())
+}
+
+/// The entries of a unit, whose bytes end with the section's, from a place on.
+pub fn entries_at(
+    alloc: Global,
+    sections: &Sections<'_>,
+    table: &Table,
+    unit: usize,
+    at: usize,
+) -> Result<Vec<Entry>, InfoError>
+    requires table { IsTable sections.now.abbrevs.now table.now }
+    requires unit { unit ≤ at }
+    requires within { at ≤ length sections.now.info.now }
+    ensures rising { IfOk result (λ v. RisesFrom 0 v.items) }
+    ensures value { Gives result (entries_from (length sections.now.info.now + 1) sections.now.abbrevs.now sections.now.strs.now sections.now.info.now table.now.at unit 0 at) }
+{
+    let mut entries = Vec::new(alloc);
+    let mut level = 0;
+    let mut place = at;
+    'entries: while place < sections.info.len() {
+        let (entry, next) = entry_at(sections, table, unit, level, place)?;
+        level = level_behind(level, &entry);
+        push_entry(&mut entries, entry)?;
+        place = next;
+    }
+    Ok(entries)
+}

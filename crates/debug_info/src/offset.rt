@@ -1,0 +1,30 @@
+//! Places in the three sections, each with a type of its own.
+
+/// An offset into `.debug_info`.
+#[derive(Clone, Copy, Debug, PartialEq, Eq)]
+pub struct InfoOffset {
+    pub at: usize,
+}
+
+/// An offset into `.debug_abbrev`.
+#[derive(Clone, Copy, Debug, PartialEq, Eq)]
+pub struct AbbrevOffset {
+    pub at: usize,
+}
+
+/// An offset into `.debug_str`.
+#[derive(Clone, Copy, Debug, PartialEq, Eq)]
+pub struct StrOffset {
+    pub at: usize,
+}
+
+/// The three sections, each empty where there is none.
+#[derive(Clone, Copy, Debug)]
+pub struct Sections<'a> {
+    /// `.debug_info`
+    pub info: &'a [u8],
+    /// `.debug_abbrev`
+    pub abbrevs: &'a [u8],
+    /// `.debug_str`
+    pub strs: &'a [u8],
+}

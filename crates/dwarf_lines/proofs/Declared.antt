@@ -1,0 +1,126 @@
+-- The rows of all units, added one after another, are those that `rows_of` says at once.
+use Rattle.std.proofs.Common.{◌≡◌, ℕ, List, [], ◌∷◌, ◌++◌, Some, map, fold, refl, ◌∙◌, ap, sym, append_assoc, append-nil}
+use Rattle.std.specs.Prelude.{flat_map, Result, Ok, Err}
+use Rattle.std.proofs.lemmas.List.Sums.{fold-append}
+use Rattle.line_rows.specs.RowList.{Building, Sequence, ended_with, finished}
+use Rattle.line_rows.specs.Sections.{Sections}
+use Rattle.line_rows.specs.declared.row.Row.{Row}
+use Rattle.line_rows.specs.declared.fault.LineFault.{LineFault}
+use Rattle.line_rows.specs.declared.fault.UnitFault.{UnitFault}
+use Rattle.file_names.specs.Numbers.{is_known, number_of, place_of, with_name}
+use Rattle.file_names.proofs.Known.{known_name}
+use Rattle.dwarf_lines.proofs.Added.{known_by, place_by}
+use Rattle.dwarf_lines.specs.Adding.{add_result, add_row, add_sequence, add_unit, add_unit_of, added}
+use Rattle.dwarf_lines.specs.Numbers.{UnitRows, file_name, names_of, names_used, numbered, numbered_sequence, numbered_sequences}
+use Rattle.dwarf_lines.specs.Rows.{fault_given, rows_given, rows_of, unit_of}
+use Rattle.dwarf_lines.specs.Units.{Unit, units_of}
+
+-- the names with some more
+abbrev with_all : List (List ℕ) → List (List ℕ) → List (List ℕ)
+with_all names more = fold with_name names more
+
+-- a name keeps its place where others come
+place_stays : (names more : List (List ℕ)) (name : List ℕ) (n : ℕ) → place_of names name ≡ Some n → place_of (with_all names more) name ≡ Some n
+place_stays names [] name n h = h
+place_stays names (m ∷ more) name n h = place_stays (with_name names m) more name n (known_by names name m n (is_known names m) refl h)
+
+-- a row's number so far is that among all names
+number_stays : (names more : List (List ℕ)) (name : List ℕ) → number_of names name ≡ number_of (with_all (with_name names name) more) name
+number_stays names more name =
+    let here = place_stays (with_name names name) more name (number_of names name) (place_by names name (is_known names name) refl) in
+    (known_name (with_all (with_name names name) more) name (number_of names name) here).0
+
+-- rows more, where the names of all are those of these rows and some more
+rows_added : (unit : UnitRows) (b : Building) (rs : List Row) (all more : List (List ℕ)) → all ≡ with_all (with_all b.names (map (λ r. file_name unit r.file) rs)) more
+    → fold (add_row unit) b rs ≡ record b { names = with_all b.names (map (λ r. file_name unit r.file) rs); pending = b.pending ++ map (numbered all unit) rs }
+rows_added unit b [] all more e = ap (λ (l : List Row). record b { pending = l }) (sym (append-nil b.pending))
+rows_added unit b (r ∷ rs) all more e =
+    let name = file_name unit r.file in
+    let names = map (λ (x : Row). file_name unit x.file) rs in
+    let number : number_of b.names name ≡ number_of all name =
+    number_stays b.names (names ++ more) name ∙ ap (λ (l : List (List ℕ)). number_of l name) (fold-append with_name (with_name b.names name) names more ∙ sym e) in
+    rows_added unit (add_row unit b r) rs all more e
+    ∙ ap (λ (l : List Row). record b { names = with_all (with_name b.names name) names; pending = l })
+    (append_assoc b.pending (record r { file = number_of b.names name } ∷ []) (map (numbered all unit) rs)
+    ∙ ap (λ (k : ℕ). b.pending ++ record r { file = k } ∷ map (numbered all unit) rs) number)
+
+ended_behind : (sequences : List Sequence) (rows : List Row) (end : ℕ) → ended_with sequences rows end ≡ sequences ++ ended_with [] rows end
+ended_behind sequences [] end = sym (append-nil sequences)
+ended_behind sequences (r ∷ rows) end = refl
+
+-- what is built where no sequence is open
+abbrev closed : List Sequence → List (List ℕ) → List UnitFault → Building
+closed sequences names faults = record { sequences = sequences; pending = []; names = names; faults = faults }
+
+sequence_added : (unit : UnitRows) (done : List Sequence) (names : List (List ℕ)) (faults : List UnitFault) (s : Sequence) (all more : List (List ℕ)) → all ≡ with_all (with_all names (names_used unit s)) more
+    → add_sequence unit (closed done names faults) s ≡ closed (done ++ numbered_sequence all unit s) (with_all names (names_used unit s)) faults
+sequence_added unit done names faults s all more e =
+    ap (λ (b : Building). record b { sequences = ended_with b.sequences b.pending s.end; pending = [] }) (rows_added unit (closed done names faults) s.rows all more e)
+    ∙ ap (λ (l : List Sequence). closed l (with_all names (names_used unit s)) faults) (ended_behind done (map (numbered all unit) s.rows) s.end)
+
+sequences_added : (unit : UnitRows) (done : List Sequence) (names : List (List ℕ)) (faults : List UnitFault) (ss : List Sequence) (all more : List (List ℕ)) → all ≡ with_all (with_all names (flat_map (names_used unit) ss)) more
+    → fold (add_sequence unit) (closed done names faults) ss ≡ closed (done ++ flat_map (numbered_sequence all unit) ss) (with_all names (flat_map (names_used unit) ss)) faults
+sequences_added unit done names faults [] all more e = ap (λ (l : List Sequence). closed l names faults) (sym (append-nil done))
+sequences_added unit done names faults (s ∷ ss) all more e =
+    let used = names_used unit s in
+    let later = flat_map (names_used unit) ss in
+    let split : with_all names (used ++ later) ≡ with_all (with_all names used) later = fold-append with_name names used later in
+    let whole : all ≡ with_all (with_all (with_all names used) later) more = e ∙ ap (λ (l : List (List ℕ)). with_all l more) split in
+    let first : all ≡ with_all (with_all names used) (later ++ more) = whole ∙ sym (fold-append with_name (with_all names used) later more) in
+    ap (λ (b : Building). fold (add_sequence unit) b ss) (sequence_added unit done names faults s all (later ++ more) first)
+    ∙ sequences_added unit (done ++ numbered_sequence all unit s) (with_all names used) faults ss all more whole
+    ∙ ap (λ (l : List Sequence). closed l (with_all (with_all names used) later) faults) (append_assoc done (numbered_sequence all unit s) (flat_map (numbered_sequence all unit) ss))
+    ∙ ap (λ (l : List (List ℕ)). closed (done ++ flat_map (numbered_sequence all unit) (s ∷ ss)) l faults) (sym split)
+
+unit_added : (unit : UnitRows) (done : List Sequence) (names : List (List ℕ)) (faults : List UnitFault) (all more : List (List ℕ)) → all ≡ with_all (with_all names (names_of unit)) more
+    → add_unit unit (closed done names faults) ≡ closed (done ++ numbered_sequences all unit) (with_all names (names_of unit)) faults
+unfolding add_unit
+unit_added unit done names faults all more e = sequences_added unit done names faults unit.sequences all more e
+
+-- what one result adds, with the names of those behind it still to come
+result_added : (place : ℕ) (done : List Sequence) (names : List (List ℕ)) (faults : List UnitFault) (result : Result UnitRows LineFault) (all more : List (List ℕ)) → all ≡ with_all (with_all names (flat_map names_of (rows_given result))) more
+    → add_result place (closed done names faults) result
+    ≡ closed (done ++ flat_map (numbered_sequences all) (rows_given result)) (with_all names (flat_map names_of (rows_given result))) (faults ++ fault_given place result)
+result_added place done names faults (Ok unit) all more e =
+    let used : names_of unit ≡ names_of unit ++ [] = sym (append-nil (names_of unit)) in
+    let sequences : numbered_sequences all unit ≡ numbered_sequences all unit ++ [] = sym (append-nil (numbered_sequences all unit)) in
+    unit_added unit done names faults all more (e ∙ ap (λ (l : List (List ℕ)). with_all (with_all names l) more) (sym used))
+    ∙ ap (λ (l : List Sequence). closed (done ++ l) (with_all names (names_of unit)) faults) sequences
+    ∙ ap (λ (l : List (List ℕ)). closed (done ++ (numbered_sequences all unit ++ [])) (with_all names l) faults) used
+    ∙ ap (λ (l : List UnitFault). closed (done ++ (numbered_sequences all unit ++ [])) (with_all names (names_of unit ++ [])) l) (sym (append-nil faults))
+result_added place done names faults (Err f) all more e =
+    ap (λ (l : List Sequence). closed l names (faults ++ record { offset = place; fault = f } ∷ [])) (sym (append-nil done))
+
+flat_append : {A B : Type 0} (f : A → List B) (xs ys : List A) → flat_map f (xs ++ ys) ≡ flat_map f xs ++ flat_map f ys
+flat_append f [] ys = refl
+flat_append f (x ∷ xs) ys = ap (λ (l : List _). f x ++ l) (flat_append f xs ys) ∙ sym (append_assoc (f x) (flat_map f xs) (flat_map f ys))
+
+-- what some units give
+abbrev given : Sections → List Unit → List UnitRows
+given s units = flat_map (λ u. rows_given (unit_of s u)) units
+
+abbrev blamed : Sections → List Unit → List UnitFault
+blamed s units = flat_map (λ u. fault_given u.place (unit_of s u)) units
+
+units_added : (s : Sections) (done : List Sequence) (names : List (List ℕ)) (faults : List UnitFault) (units : List Unit) (all : List (List ℕ)) → all ≡ with_all names (flat_map names_of (given s units))
+    → fold (add_unit_of s) (closed done names faults) units ≡ closed (done ++ flat_map (numbered_sequences all) (given s units)) all (faults ++ blamed s units)
+units_added s done names faults [] all e =
+    ap (λ (l : List Sequence). closed l names faults) (sym (append-nil done))
+    ∙ ap (λ (l : List UnitFault). closed (done ++ []) names l) (sym (append-nil faults))
+    ∙ ap (λ (l : List (List ℕ)). closed (done ++ []) l (faults ++ [])) (sym e)
+units_added s done names faults (u ∷ units) all e =
+    let result = unit_of s u in
+    let mine = rows_given result in
+    let used = flat_map names_of mine in
+    let later = flat_map names_of (given s units) in
+    let whole : all ≡ with_all (with_all names used) later = e ∙ ap (with_all names) (flat_append names_of mine (given s units)) ∙ fold-append with_name names used later in
+    ap (λ (b : Building). fold (add_unit_of s) b units) (result_added u.place done names faults result all later whole)
+    ∙ units_added s (done ++ flat_map (numbered_sequences all) mine) (with_all names used) (faults ++ fault_given u.place result) units all whole
+    ∙ ap (λ (l : List Sequence). closed l all (faults ++ fault_given u.place result ++ blamed s units))
+    (append_assoc done (flat_map (numbered_sequences all) mine) (flat_map (numbered_sequences all) (given s units))
+    ∙ ap (λ (l : List Sequence). done ++ l) (sym (flat_append (numbered_sequences all) mine (given s units))))
+    ∙ ap (λ (l : List UnitFault). closed (done ++ flat_map (numbered_sequences all) (given s (u ∷ units))) all l) (append_assoc faults (fault_given u.place result) (blamed s units))
+
+pub declared : (s : Sections) → finished (added s) ≡ rows_of s
+unfolding added rows_of
+declared s = ap finished (units_added s [] [] [] (units_of s.line) (with_all [] (flat_map names_of (given s (units_of s.line)))) refl)

@@ -1,0 +1,34 @@
+-- What several steps of one hart do.
+use Rattle.std.specs.Prelude.{◌≡◌, ◌<◌, ℕ, zero, suc, ◌^◌, List, Option}
+use Rattle.rv_exec.specs.declared.effect.Stepped.{Stepped}
+use Rattle.rv_exec.specs.declared.effect.Stepped.TheVariants as stepped
+use Rattle.rv_exec.specs.Memory.{Memory}
+use Rattle.text_words.specs.Words.{Words}
+use Rattle.scratch_slots.specs.declared.slots.SlotUse.{SlotUse}
+use Rattle.hart_machine.specs.declared.hart.Core.{Core}
+use Rattle.hart_machine.specs.Patched.{Patched}
+use Rattle.hart_machine.specs.Stepping.{CoreSteps, Steps, fetched_by}
+
+-- a step of hart h from a machine of which P holds
+pub record ThenSteps (P : Patched → Type 0) (s : Stepped) (h : ℕ) (new : Patched) : Type 0 where
+  pub machine : Patched
+  pub before : P machine
+  pub step : Steps s machine h new
+
+-- n steps of hart h, each of which answered `Ran`
+abbrev pub AllRan : ℕ → Patched → ℕ → Patched → Type 0
+AllRan zero old h new = new ≡ old
+AllRan (suc n) old h new = ThenSteps (λ m. AllRan n old h m) stepped.Ran h new
+
+-- the same of a hart and the memory alone, over text and slots that stay
+pub record ThenCoreSteps (P : Core → Memory → Type 0) (s : Stepped) (t : Words) (slots : List (Option SlotUse)) (new : Core) (m : Memory) : Type 0 where
+  pub core : Core
+  pub memory : Memory
+  pub before : P core memory
+  -- pc is a word
+  pub below : core.regs.pc < 2 ^ 32
+  pub step : CoreSteps s (fetched_by t slots core) core new memory m
+
+abbrev pub CoreAllRan : ℕ → Words → List (Option SlotUse) → Core → Memory → Core → Memory → Type 0
+CoreAllRan zero t slots old m new m' = (new ≡ old) × (m' ≡ m)
+CoreAllRan (suc n) t slots old m new m' = ThenCoreSteps (λ c q. CoreAllRan n t slots old m c q) stepped.Ran t slots new m'
