@@ -1,0 +1,4 @@
+pub mod Orders
+pub mod TwoTables
+pub mod Lookups
+pub mod Halves
