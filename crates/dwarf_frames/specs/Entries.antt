@@ -126,3 +126,15 @@ cie_of body = do
     version ← read (number_at 1 body id.1)
     if is_version version.0 then versioned_of version.0 body version.1 else Err Version)
       else Err Short
+
+-- the FDE that begins at a place, or none for a CIE
+unfoldable pub fde_at : List ℕ → ℕ → Result (Option Fde) FrameFault
+fde_at section place = do
+  entry ← entry_at section place
+  fde_of entry.0
+
+-- the CIE that begins at a place
+unfoldable pub cie_at : List ℕ → ℕ → Result Cie FrameFault
+cie_at section place = do
+  entry ← entry_at section place
+  cie_of entry.0

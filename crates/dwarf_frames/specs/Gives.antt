@@ -11,10 +11,6 @@ abbrev pub GivesEntry : Result (Bor (List ℕ) × ℕ) FrameFault → Read (List
 GivesEntry (Ok r) read = read ≡ found r.0.now r.1
 GivesEntry (Err e) read = read ≡ Err e
 
-abbrev pub GivesBytes : Result (Bor (List ℕ)) FrameFault → Result (List ℕ) FrameFault → Type 0
-GivesBytes (Ok r) read = read ≡ Ok r.now
-GivesBytes (Err e) read = read ≡ Err e
-
 abbrev pub seen_fde : Fde → entries.Fde
 seen_fde d = record { cie_pointer = d.cie_pointer; initial_location = d.initial_location; address_range = d.address_range; program = d.program.now }
 

@@ -6,3 +6,5 @@ pub mod Entries
 pub mod Rules
 pub mod Gives
 pub mod States
+pub mod Index
+pub mod Kept

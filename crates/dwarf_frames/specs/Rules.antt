@@ -14,12 +14,17 @@ rules_by c d pc = do
   t ← fold_operations s.rules s (operations_until pc d.initial_location (operations c.factors d.program))
   Ok t.rules
 
+-- the CIE among the entries that begins at a place
+unfoldable pub named_cie : List ℕ → ℕ → Result Cie FrameFault
+named_cie section place = do
+  body ← entry_of place (entries section)
+  cie_of body
+
 -- by the FDE and the CIE that it names
 abbrev pub described : List ℕ → ℕ → Option Fde → Result (Option Rules) FrameFault
 described section pc None = Ok None
 described section pc (Some d) = do
-  body ← entry_of d.cie_pointer (entries section)
-  c ← cie_of body
+  c ← named_cie section d.cie_pointer
   rules ← rules_by c d pc
   Ok (Some rules)
 

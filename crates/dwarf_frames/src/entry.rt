@@ -1,9 +1,10 @@
 //! The entries of a section (DWARF 5, sections 6.4.1 and 7.24).
 
-ghost use Rattle.std.specs.Prelude.{◌≡◌, ◌<◌, ◌≤◌, IfOk, length};
-ghost use Rattle.dwarf_frames.specs.Gives.{GivesBytes, GivesCie, GivesFde, GivesEntry, seen_fde};
+ghost use Rattle.std.specs.Prelude.{◌≡◌, ◌<◌, IfOk};
+ghost use Rattle.dwarf_frames.specs.Gives.{GivesCie, GivesEntry, GivesFde};
 ghost use Rattle.leb_read.specs.Leb.{IsBehind};
-ghost use Rattle.dwarf_frames.specs.Entries.{cie_of, covering, covers, is_version, fde_of, entries, entry_at, entry_of, fields_of, return_column_at, size_at, sizes_at, versioned_of};
+ghost use Rattle.dwarf_frames.specs.Entries.{cie_at, cie_of, is_version, fde_at, fde_of, entry_at, fields_of, return_column_at, size_at, sizes_at, versioned_of};
+ghost use Rattle.dwarf_frames.specs.Index.{is_cie};
 
 use crate::fault::FrameFault;
 use crate::operand::{REGISTERS, register_at, signed_at, unsigned_at};
@@ -37,9 +38,9 @@ pub struct Cie<'a> {
     pub program: &'a [u8],
 }
 
-// The bytes of the entry at a place, behind its length, and the next entry's place.
+/// The bytes of the entry at a place, behind its length, and the next entry's place.
 #[tactic(auto, unfolding(crate::specs::Entries::entry_at))]
-fn entry_at(section: &[u8], at: usize) -> Result<(&[u8], usize), FrameFault>
+pub fn entry_at(section: &[u8], at: usize) -> Result<(&[u8], usize), FrameFault>
     ensures value { GivesEntry result (entry_at section.now at) }
     ensures within { IfOk result (λ r. IsBehind section.now at r.1) }
 {
@@ -51,9 +52,9 @@ fn entry_at(section: &[u8], at: usize) -> Result<(&[u8], usize), FrameFault>
     Ok((&section[start..next], next))
 }
 
-// The FDE that an entry is, or none for a CIE.
+/// The FDE that an entry is, or none for a CIE.
 #[tactic(auto, unfolding(crate::specs::Entries::fde_of))]
-fn fde_of(body: &[u8]) -> Result<Option<Fde<'_>>, FrameFault>
+pub fn fde_of(body: &[u8]) -> Result<Option<Fde<'_>>, FrameFault>
     ensures { GivesFde result (fde_of body.now) }
 {
     let (id, at) = u32_at(body, 0)?;
@@ -68,14 +69,6 @@ fn fde_of(body: &[u8]) -> Result<Option<Fde<'_>>, FrameFault>
         address_range,
         program: &body[at..],
     }))
-}
-
-impl Fde<'_> {
-    fn covers(&self, pc: u32) -> bool
-        ensures { result ≡ covers (seen_fde self.now) pc }
-    {
-        self.initial_location <= pc && pc - self.initial_location < self.address_range
-    }
 }
 
 fn is_version(version: u8) -> bool
@@ -159,9 +152,9 @@ fn versioned_of(version: u8, body: &[u8], at: usize) -> Result<Cie<'_>, FrameFau
     fields_of(version, body, at)
 }
 
-/// The CIE that an entry is.
+// The CIE that an entry is.
 #[tactic(auto, unfolding(crate::specs::Entries::cie_of))]
-pub fn cie_of(body: &[u8]) -> Result<Cie<'_>, FrameFault>
+fn cie_of(body: &[u8]) -> Result<Cie<'_>, FrameFault>
     ensures value { GivesCie result (cie_of body.now) }
     ensures register { IfOk result (λ c. c.return_column < 32) }
 {
@@ -176,34 +169,29 @@ pub fn cie_of(body: &[u8]) -> Result<Cie<'_>, FrameFault>
     versioned_of(version, body, at)
 }
 
-/// The first FDE in the section's order that covers pc.
-pub fn covering(section: &[u8], pc: u32) -> Result<Option<Fde<'_>>, FrameFault>
-    ensures { GivesFde result (covering pc (entries section.now)) }
+/// The FDE that begins at a place, or none for a CIE.
+#[tactic(auto, unfolding(crate::specs::Entries::fde_at))]
+pub fn fde_at(section: &[u8], place: usize) -> Result<Option<Fde<'_>>, FrameFault>
+    ensures { GivesFde result (fde_at section.now place) }
 {
-    let mut at = 0;
-    while at < section.len() {
-        let (body, next) = entry_at(section, at)?;
-        if let Some(fde) = fde_of(body)? {
-            if fde.covers(pc) {
-                return Ok(Some(fde));
-            }
-        }
-        at = next;
-    }
-    Ok(None)
+    let (body, _) = entry_at(section, place)?;
+    fde_of(body)
 }
 
-/// The bytes of the entry that begins at a place.
-pub fn entry_of(section: &[u8], place: u32) -> Result<&[u8], FrameFault>
-    ensures { GivesBytes result (entry_of place (entries section.now)) }
+/// The CIE that begins at a place.
+#[tactic(auto, unfolding(crate::specs::Entries::cie_at))]
+pub fn cie_at(section: &[u8], place: usize) -> Result<Cie<'_>, FrameFault>
+    ensures value { GivesCie result (cie_at section.now place) }
+    ensures register { IfOk result (λ c. c.return_column < 32) }
 {
-    let mut at = 0;
-    while at < section.len() {
-        let (body, next) = entry_at(section, at)?;
-        if at == place as usize {
-            return Ok(body);
-        }
-        at = next;
-    }
-    Err(FrameFault::Short)
+    let (body, _) = entry_at(section, place)?;
+    cie_of(body)
+}
+
+/// Whether an entry begins as a CIE does.
+#[tactic(auto, unfolding(leb_read::specs::Leb::number_at))]
+pub fn is_cie(body: &[u8]) -> bool
+    ensures { result ≡ is_cie body.now }
+{
+    matches!(u32_at(body, 0), Ok((CIE_ID, _)))
 }

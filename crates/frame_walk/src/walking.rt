@@ -11,7 +11,7 @@ use crate::unwinding::{caller_by, cfa_by};
 use crate::{Caller, Frame};
 use arrayvec::ArrayVec;
 use dbg_traits::View;
-use dwarf_frames::{FrameFault, Rules, rules_at};
+use dwarf_frames::{FrameFault, FrameIndex, Rules};
 use elf32_read::Image;
 
 /// The number of pc among the registers of a view.
@@ -56,23 +56,23 @@ fn told(frame: &Context, found: &Result<Option<Rules>, FrameFault>) -> Frame
     }
 }
 
-/// The CFA of the frame that a hart is in, by the bytes of a section `.debug_frame`; none exactly where its rules have a fault.
+/// The CFA of the frame that a hart is in, by the index of a section `.debug_frame`; none exactly where its rules have a fault.
 #[tactic(auto, unfolding(crate::specs::Frames::frame_of))]
-pub fn cfa<V: View>(section: &[u8], _image: &Image, view: &V) -> Option<u32>
-    ensures value { result ≡ own_cfa section.now (V.registers view.now) }
-    ensures some { is_some result ≡ is_ok (rules_of section.now (V.registers view.now 32)) }
+pub fn cfa<V: View>(index: &FrameIndex, _image: &Image, view: &V) -> Option<u32>
+    ensures value { result ≡ own_cfa index.now (V.registers view.now) }
+    ensures some { is_some result ≡ is_ok (rules_of index.now (V.registers view.now 32)) }
 {
-    cfa_by(&integer_registers(view), &rules_at(section, view.reg(PC)))
+    cfa_by(&integer_registers(view), &index.rules_at(view.reg(PC)))
 }
 
-/// Where the frame that a hart is in goes on, by the bytes of a section `.debug_frame`; none exactly where no other frame is above it.
+/// Where the frame that a hart is in goes on, by the index of a section `.debug_frame`; none exactly where no other frame is above it.
 #[tactic(auto, unfolding(crate::specs::Frames::own_caller, crate::specs::Frames::caller_of, crate::specs::Frames::frame_of))]
-pub fn caller<V: View>(section: &[u8], image: &Image, view: &V) -> Option<Caller>
-    ensures value { result ≡ own_caller section.now image.now (V.registers view.now) (V.bytes view.now) }
-    ensures some { is_some result ≡ is_some (slice_get (frames_of section.now image.now (V.registers view.now) (V.bytes view.now)) 1) }
+pub fn caller<V: View>(index: &FrameIndex, image: &Image, view: &V) -> Option<Caller>
+    ensures value { result ≡ own_caller index.now image.now (V.registers view.now) (V.bytes view.now) }
+    ensures some { is_some result ≡ is_some (slice_get (frames_of index.now image.now (V.registers view.now) (V.bytes view.now)) 1) }
 {
     let frame = innermost(view);
-    let found = rules_at(section, frame.lookup);
+    let found = index.rules_at(frame.lookup);
     let outer = caller_by(image, view, &frame, &found)?;
     Some(Caller {
         cfa: cfa_by(&frame.registers, &found)?,
@@ -80,22 +80,22 @@ pub fn caller<V: View>(section: &[u8], image: &Image, view: &V) -> Option<Caller
     })
 }
 
-/// Fills an empty list with the frames of a hart, by the bytes of a section `.debug_frame`: the hart's own first, each other one
+/// Fills an empty list with the frames of a hart, by the index of a section `.debug_frame`: the hart's own first, each other one
 /// after the one that it called, and 64 at most.
-pub fn walk<V: View>(section: &[u8], image: &Image, view: &V, into: &mut ArrayVec<Frame, 64>)
+pub fn walk<V: View>(index: &FrameIndex, image: &Image, view: &V, into: &mut ArrayVec<Frame, 64>)
     requires { array_vec_len into.old ≡ 0 }
-    ensures frames { Frames section.now image.now (V.registers view.now) (V.bytes view.now) into.new.items }
-    ensures value { into.new.items ≡ frames_of section.now image.now (V.registers view.now) (V.bytes view.now) }
+    ensures frames { Frames index.now image.now (V.registers view.now) (V.bytes view.now) into.new.items }
+    ensures value { into.new.items ≡ frames_of index.now image.now (V.registers view.now) (V.bytes view.now) }
 {
     let mut frame = innermost(view);
     for _number in 0..MOST_OUTER {
-        let found = rules_at(section, frame.lookup);
+        let found = index.rules_at(frame.lookup);
         into.push(told(&frame, &found));
         match caller_by(image, view, &frame, &found) {
             Some(outer) => frame = outer,
             None => return,
         }
     }
-    let found = rules_at(section, frame.lookup);
+    let found = index.rules_at(frame.lookup);
     into.push(told(&frame, &found));
 }

@@ -1,5 +1,0 @@
-use Rattle.dwarf_frames.proofs.Walk.{reaches_start}
-use Rattle.dwarf_frames.proofs.entry.covering.Goals as goal
-
-pub loop-at-init : goal.loop-at-init
-loop-at-init c = reaches_start _ _
