@@ -8,7 +8,7 @@ use Rattle.std.proofs.lemmas.List.Sorted.{All-permutation, Contains-permutation}
 use Rattle.elf_symbols.specs.Names.{better}
 use Rattle.line_index.specs.Lines.{least_from}
 use Rattle.line_index.specs.Order.{IsInOrder}
-use Rattle.line_index.proofs.Orders.{yes-le, no-le, yes-lt, no-lt}
+use Rattle.address_tables.proofs.Orders.{yes-le, no-le, yes-lt, no-lt}
 
 -- there is a number, and it isn't above another
 abbrev Under : Option ℕ → ℕ → Type 0

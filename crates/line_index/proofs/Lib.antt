@@ -1,7 +1,5 @@
-pub mod Orders
-pub mod Merge
 pub mod Rows
-pub mod Tables
+pub mod Spans
 pub mod Indexes
 pub mod LastPart
 pub mod Halves

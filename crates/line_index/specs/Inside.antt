@@ -1,8 +1,8 @@
 -- How line tables are kept for look-ups: beside the rows, tables in the order of addresses.
 use Rattle.std.specs.Prelude.{◌≡◌}
+use Rattle.address_tables.specs.Tables.{IsTable}
 use Rattle.line_index.specs.Lines.{Lines, addresses, rows_of, row_at}
 use Rattle.line_index.specs.Order.{IsInOrder}
-use Rattle.line_index.specs.Steps.{IsTable}
 use Rattle.line_index.specs.declared.index.LineIndex.TheInside.{Inside}
 
 abbrev pub seen : Inside → Lines
@@ -13,4 +13,4 @@ pub record IsKept (i : Inside) : Type 0 where
   pub kept : i.kept.items ≡ rows_of (seen i)
   pub prologues : IsInOrder (addresses (λ r. r.prologue_end) (rows_of (seen i))) i.prologues.items
   pub statements : IsInOrder (addresses (λ r. r.is_stmt) (rows_of (seen i))) i.statements.items
-  pub steps : IsTable i.steps.items (row_at (seen i))
+  pub entries : IsTable i.entries.items (row_at (seen i))

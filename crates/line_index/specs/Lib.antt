@@ -1,5 +1,5 @@
 pub mod Lines
 pub mod Text
 pub mod Order
-pub mod Steps
+pub mod RowTables
 pub mod Inside

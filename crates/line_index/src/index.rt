@@ -1,14 +1,13 @@
 ghost use Rattle.std.specs.Prelude.{◌≡◌, IfOk};
 ghost use Rattle.elf_symbols.specs.Views.{symbol_shown};
 ghost use Rattle.line_index.specs.Lines.{Lines, address_of, begins, body_of, file_name, kept, lines_of, row_among, row_at, rows_of, starts};
-ghost use Rattle.line_index.specs.Steps.{IsTable};
 
 use crate::addresses::{in_order, least_from, prologues, statements};
 use crate::body::{body_among, function_end};
 use crate::files::{name_of, soonest};
-use crate::steps::{Step, row_of};
 use crate::table::{kept_rows, table_of};
 use crate::text::{TextBounds, section_end, text_bounds};
+use address_tables::{Entry, value_at};
 use dbg_traits::NoMemory;
 use elf_symbols::{Named, Symbols};
 use elf32_read::Image;
@@ -31,8 +30,8 @@ pub struct LineIndex {
     prologues: Vec<u32>,
     /// Where statements begin, in order.
     statements: Vec<u32>,
-    /// The row of each address, in the order of the addresses at which it changes.
-    steps: Vec<Step>,
+    /// The row of each address.
+    entries: Vec<Entry<Row>>,
 }
 
 impl Model for LineIndex {
@@ -66,7 +65,7 @@ impl LineIndex {
         let kept = kept_rows(alloc, &rows, image)?;
         let prologues = prologues(alloc, &kept)?;
         let statements = statements(alloc, &kept)?;
-        let steps = table_of(alloc, &rows, image, 0, rows.sequence_count())?;
+        let entries = table_of(alloc, &rows, image, 0, rows.sequence_count())?;
         Ok(LineIndex {
             rows,
             functions,
@@ -75,7 +74,7 @@ impl LineIndex {
             kept,
             prologues,
             statements,
-            steps,
+            entries,
         })
     }
 
@@ -84,7 +83,7 @@ impl LineIndex {
     pub fn row_at(&self, pc: u32) -> Option<Row>
         ensures { result ≡ row_at self.now pc }
     {
-        row_of(&self.steps, pc)
+        value_at(&self.entries, u64::from(pc))
     }
 
     /// The row of a statement that begins at an address, by a binary search. None where the address has no row, or one

@@ -5,7 +5,8 @@ mod addresses;
 mod body;
 mod files;
 mod index;
-mod steps;
+mod joins;
+mod sequence;
 mod table;
 mod text;
 

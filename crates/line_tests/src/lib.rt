@@ -1,16 +1,10 @@
-//! Tests of what is read of `.debug_line` and `.debug_frame`, and of the look-ups and walks over it.
+//! Tests of what is read of `.debug_line`, and of the look-ups in it.
 #![tactic(auto)]
 
-#[cfg(test)]
-mod frame_chains;
-#[cfg(test)]
-mod frame_rules;
 #[cfg(test)]
 mod images;
 #[cfg(test)]
 mod look_ups;
-#[cfg(test)]
-mod numbers;
 #[cfg(test)]
 mod programs;
 #[cfg(test)]

@@ -1,5 +1,5 @@
 use dwarf_frames::RegisterRule::{Offset, Register, SameValue, Undefined, Unspecified, ValOffset};
-use dwarf_frames::{FrameFault, RegisterRule, rules_at};
+use dwarf_frames::{FrameFault, FrameIndex, RegisterRule};
 use std::alloc::Global;
 use std::test::Fail;
 
@@ -58,8 +58,8 @@ const BEHIND: [u8; 60] = [
 // The CFA's register and offset, and the rule of a register, where an entry covers pc.
 type Seen = Result<Option<(u8, u32, RegisterRule)>, FrameFault>;
 
-fn seen(section: &[u8], pc: u32, register: usize) -> Seen {
-    match rules_at(section, pc)? {
+fn seen(index: &FrameIndex, pc: u32, register: usize) -> Seen {
+    match index.rules_at(pc)? {
         Some(rules) => Ok(Some((
             rules.cfa.register,
             rules.cfa.offset,
@@ -124,10 +124,12 @@ const ROWS: [(&[u8], u32, usize, Seen); 42] = [
 ];
 
 #[test]
-fn sections_have_the_rows_of_readelf(rt: HostRuntime) {
+fn sections_have_the_rows_of_readelf(rt: HostRuntime) -> Result<(), Fail> {
     for (section, pc, register, want) in ROWS {
-        assert_eq!(rt; seen(section, pc, register), want, "x{register} at {pc}");
+        let index = FrameIndex::build(rt.alloc(), section)?;
+        assert_eq!(rt; seen(&index, pc, register), want, "x{register} at {pc}");
     }
+    Ok(())
 }
 
 // A section with one byte in place of others.
@@ -191,7 +193,8 @@ const FAULTS: [(&[u8], usize, usize, u8, u32, Result<bool, FrameFault>); 28] = [
 fn the_first_fault_is_told(rt: HostRuntime) -> Result<(), Fail> {
     for (section, from, to, byte, pc, want) in FAULTS {
         let changed = filled(rt.alloc(), section, from, to, byte)?;
-        let found = rules_at(&changed, pc).map(|rules| rules.is_some());
+        let index = FrameIndex::build(rt.alloc(), &changed)?;
+        let found = index.rules_at(pc).map(|rules| rules.is_some());
         assert_eq!(rt; found, want, "{byte} from {from} to {to}, at {pc}");
     }
     Ok(())

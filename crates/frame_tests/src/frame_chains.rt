@@ -3,8 +3,10 @@ ghost use Rattle.std.specs.Prelude.{◌%◌, ◌&&◌, ◌==◌, None, Some, nat
 use crate::images::program_of;
 use arrayvec::ArrayVec;
 use dbg_traits::View;
+use dwarf_frames::FrameIndex;
 use elf32_read::Image;
 use frame_walk::{Frame, caller, cfa, walk};
+use std::alloc::Global;
 use std::process::Abort;
 use std::test::Fail;
 
@@ -69,29 +71,35 @@ fn in_work(saved: u32) -> Stopped {
     }
 }
 
+fn index_of(alloc: Global, section: &str) -> Result<FrameIndex, Fail> {
+    Ok(FrameIndex::build(alloc, &hex::decode(alloc, section)?)?)
+}
+
 /// Compares the frames, each with its pc, the address at which it is looked up, and its CFA.
 fn check(
     rt: &impl Abort,
     image: &Image,
-    section: &[u8],
+    index: &FrameIndex,
     hart: &Stopped,
     frames: &[(u32, u32, Option<u32>)],
 ) {
     let mut walked = ArrayVec::new();
-    walk(section, image, hart, &mut walked);
+    walk(index, image, hart, &mut walked);
     assert_eq!(rt; walked.len(), frames.len());
     for (frame, (pc, lookup, cfa)) in walked.as_slice().iter().zip(frames) {
         assert_eq!(rt; (frame.pc, frame.lookup, frame.cfa), (*pc, *lookup, *cfa));
     }
-    assert_eq!(rt; caller(section, image, hart).is_some(), 1 < frames.len());
+    assert_eq!(rt; caller(index, image, hart).is_some(), 1 < frames.len());
 }
 
 #[test]
 fn frames_follow_the_rules_at_the_calls(rt: HostRuntime) -> Result<(), Fail> {
     let alloc = rt.alloc();
     let image = program_of(alloc, 16)?;
-    let by_sp = hex::decode(alloc, BY_STACK_POINTER)?;
-    let by_s0 = hex::decode(alloc, BY_FRAME_POINTER)?;
+    let by_sp = index_of(alloc, BY_STACK_POINTER)?;
+    let by_s0 = index_of(alloc, BY_FRAME_POINTER)?;
+    let empty = FrameIndex::build(alloc, &[])?;
+    let faulty = FrameIndex::build(alloc, &CUT_SHORT)?;
 
     let own = (0x1009C, 0x1009C, Some(0xEFFF_0010));
     // No rules cover the caller, and its CFA doesn't rise.
@@ -110,15 +118,21 @@ fn frames_follow_the_rules_at_the_calls(rt: HostRuntime) -> Result<(), Fail> {
     // The saved frame pointer is that of the caller, and leads to text, which isn't read.
     let own_by_s0 = (0x1009C, 0x1009C, Some(0x1000));
     let outer_by_s0 = (0x10090, 0x1008F, Some(0x10090));
-    check(&rt, &image, &by_s0, &in_work(0x10090), &[own_by_s0, outer_by_s0]);
-    // A section without rules, and a section with a fault.
-    let bare = (0x1009C, 0x1009C, Some(0xEFFF_0000));
-    let bare_outer = (0x10080, 0x1007F, Some(0xEFFF_0000));
-    check(&rt, &image, &[], &in_work(0), &[bare, bare_outer]);
     check(
         &rt,
         &image,
-        &CUT_SHORT,
+        &by_s0,
+        &in_work(0x10090),
+        &[own_by_s0, outer_by_s0],
+    );
+    // A section without rules, and a section with a fault.
+    let bare = (0x1009C, 0x1009C, Some(0xEFFF_0000));
+    let bare_outer = (0x10080, 0x1007F, Some(0xEFFF_0000));
+    check(&rt, &image, &empty, &in_work(0), &[bare, bare_outer]);
+    check(
+        &rt,
+        &image,
+        &faulty,
         &in_work(0x10080),
         &[(0x1009C, 0x1009C, None)],
     );
@@ -129,16 +143,17 @@ fn frames_follow_the_rules_at_the_calls(rt: HostRuntime) -> Result<(), Fail> {
 fn the_innermost_frame_alone_and_the_longest_walk(rt: HostRuntime) -> Result<(), Fail> {
     let alloc = rt.alloc();
     let image = program_of(alloc, 16)?;
-    let section = hex::decode(alloc, BY_STACK_POINTER)?;
+    let index = index_of(alloc, BY_STACK_POINTER)?;
+    let faulty = FrameIndex::build(alloc, &CUT_SHORT)?;
 
     let hart = in_work(0x100A0);
-    assert_eq!(rt; cfa(&section, &image, &hart), Some(0xEFFF_0010));
-    assert_eq!(rt; cfa(&CUT_SHORT, &image, &hart), None);
-    let found = caller(&section, &image, &hart).map(|c| (c.cfa, c.return_address));
+    assert_eq!(rt; cfa(&index, &image, &hart), Some(0xEFFF_0010));
+    assert_eq!(rt; cfa(&faulty, &image, &hart), None);
+    let found = caller(&index, &image, &hart).map(|c| (c.cfa, c.return_address));
     assert_eq!(rt; found, Some((0xEFFF_0010, 0x100A0)));
 
     let mut walked = ArrayVec::new();
-    walk(&section, &image, &hart, &mut walked);
+    walk(&index, &image, &hart, &mut walked);
     let last = Frame {
         pc: 0x100A0,
         lookup: 0x1009F,

@@ -1,0 +1,68 @@
+//! Which row counts where two tables have one.
+
+ghost use Rattle.std.specs.Prelude.{◌≡◌};
+ghost use Rattle.line_index.specs.Lines.{is_later};
+ghost use Rattle.line_index.specs.RowTables.{later_of, within};
+
+use address_tables::Join;
+use line_rows::Row;
+
+fn is_later(row: &Row, other: &Row) -> bool
+    ensures { result ≡ is_later row.now other.now }
+{
+    if row.is_stmt || !other.is_stmt {
+        other.address <= row.address
+    } else {
+        other.address < row.address
+    }
+}
+
+/// The row of the greater address, and of equal ones the later statement.
+pub fn later_of(a: Option<Row>, b: Option<Row>) -> Option<Row>
+    ensures { result ≡ later_of a b }
+{
+    match (a, b) {
+        (Some(other), Some(row)) if !is_later(&row, &other) => a,
+        (_, Some(_)) => b,
+        (_, None) => a,
+    }
+}
+
+/// The row of the greater address, and of equal ones the later statement.
+#[derive(Clone, Copy, Debug)]
+pub struct Later;
+
+impl Join<Row> for Later {
+    ghost use Rattle.std.specs.Prelude.{refl};
+
+    ghost joined = { later_of };
+
+    ghost nothing = { refl };
+
+    fn joined(a: Option<Row>, b: Option<Row>) -> Option<Row>
+        ensures { result ≡ later_of a b }
+    {
+        later_of(a, b)
+    }
+}
+
+/// The first one's row where the second has one.
+#[derive(Clone, Copy, Debug)]
+pub struct Within;
+
+impl Join<Row> for Within {
+    ghost use Rattle.std.specs.Prelude.{refl};
+
+    ghost joined = { within };
+
+    ghost nothing = { refl };
+
+    fn joined(a: Option<Row>, b: Option<Row>) -> Option<Row>
+        ensures { result ≡ within a b }
+    {
+        match b {
+            None => None,
+            Some(_) => a,
+        }
+    }
+}
