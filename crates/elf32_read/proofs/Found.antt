@@ -8,13 +8,14 @@ use Rattle.std.proofs.lemmas.List.{drop_all}
 use Rattle.std.proofs.lemmas.List.Elements.{All-nil, All-cons, All-head, All-tail, All-weaker, filter_passes}
 use Rattle.std.proofs.lemmas.List.Sorted.{IsPermutation-sym, All-permutation, Contains-permutation}
 use Rattle.elf32_read.specs.Fields.{spans, overlap}
-use Rattle.elf32_read.specs.Checks.{first_fault, segment_checks, text_fits}
+use Rattle.elf32_read.specs.Checks.{by_earlier, first_fault, segment_check, text_fits}
 use Rattle.elf32_read.specs.Headers.{holds_text, is_text, text_headers, section_headers}
 use Rattle.elf32_read.specs.Ranges.{in_loaded, range_in}
 use Rattle.elf32_read.specs.Spans.{AreFilled, AreSegments, AreSome, AreTexts, IsRising, covers, numbered}
 use Rattle.elf32_read.specs.declared.header.ProgramHeader.{ProgramHeader}
-use Rattle.elf32_read.specs.declared.image.TextRange.{TextRange}
+use Rattle.elf32_read.specs.declared.tables.TextRange.{TextRange}
 use Rattle.elf32_read.specs.declared.header.SectionHeader.{SectionHeader}
+use Rattle.elf32_read.proofs.Earlier.{from}
 use Rattle.elf32_read.proofs.Accepted.{both, fits, holds_sizes, within_sizes}
 use Rattle.elf32_read.specs.declared.spans.Span.{Span}
 use Rattle.elf32_read.proofs.Rising.{find_none, find_first, get_or_any, pairs_from, pairs-permutation}
@@ -197,10 +198,10 @@ holder_found h segments ss some r filled =
 
 -- segments that a loop has checked to the end
 pub checked_all : (size k : ℕ) (segments : List ProgramHeader) → length segments ≤ k
-    → first_fault (segment_checks size [] segments) ≡ first_fault (segment_checks size (take k segments) (drop k segments)) → AreFilled segments
+    → first_fault (by_earlier (segment_check size) segments) ≡ first_fault (from (segment_check size) (take k segments) (drop k segments)) → AreFilled segments
 checked_all size k segments past same =
-    let none : first_fault (segment_checks size [] segments) ≡ None = same ∙ rw (drop_all k segments past) refl in
-    let all = fits size [] segments none in
+    let none : first_fault (by_earlier (segment_check size) segments) ≡ None = same ∙ rw (drop_all k segments past) refl in
+    let all = fits size segments none in
     λ i d lt. (within_sizes size (get_or segments i d) (all i d lt)).0
 
 -- text sections are not empty

@@ -13,7 +13,7 @@ use Rattle.elf32_read.specs.Checks.{text_fits}
 use Rattle.elf32_read.specs.Ranges.{offset_of, text_range, in_range, IsWithin, IsRange}
 use Rattle.elf32_read.specs.Views.{range_shown}
 use Rattle.elf32_read.proofs.Accepted.{both, Holder, holder, holds_sizes, is_range, TextFit, text_parts}
-use Rattle.elf32_read.specs.declared.image.TextRange.{TextRange}
+use Rattle.elf32_read.specs.declared.tables.TextRange.{TextRange}
 use Rattle.elf32_read.specs.declared.header.ProgramHeader.{ProgramHeader}
 use Rattle.elf32_read.specs.declared.header.SectionHeader.{SectionHeader}
 

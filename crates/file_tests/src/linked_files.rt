@@ -296,7 +296,7 @@ fn assert_names(
 }
 
 fn assert_linked(rt: &impl Abort, alloc: Global, file: &str, linked: &Linked) -> Result<(), Fail> {
-    let image = read_image(alloc, &hex::decode(alloc, file)?)?;
+    let image = read_image(alloc, hex::decode(alloc, file)?)?;
     assert_loaded(rt, &image, linked);
     assert_sections(rt, &image, linked.sections);
     assert_eq!(rt; image.section(b".rodata"), Some(b"hi\0".as_slice()));
@@ -315,11 +315,11 @@ fn files_of_two_linkers_are_read_as_readelf_shows_them(rt: HostRuntime) -> Resul
 
 #[test]
 fn made_files_show_what_they_were_made_of(rt: HostRuntime) -> Result<(), Fail> {
-    let image = read_image(rt.alloc(), &generate(rt.alloc(), 3)?)?;
+    let image = read_image(rt.alloc(), generate(rt.alloc(), 3)?)?;
     assert_loaded(&rt, &image, &GENERATED);
     assert_names(&rt, rt.alloc(), &image, &GENERATED)?;
     let file = plain(rt.alloc(), &[0x0015_0513, 0xfe00_0ee3], b"hi")?;
-    let image = read_image(rt.alloc(), &file)?;
+    let image = read_image(rt.alloc(), file)?;
     assert_loaded(&rt, &image, &PLAIN);
     assert_sections(&rt, &image, PLAIN.sections);
     assert_eq!(rt; image.section(b".data"), Some(b"hi".as_slice()));

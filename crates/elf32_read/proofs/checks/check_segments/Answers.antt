@@ -1,6 +1,12 @@
+use Rattle.std.proofs.Common.{ap, arith}
+use Rattle.elf32_read.specs.Checks.{first_fault, segment_check}
+use Rattle.elf32_read.proofs.Earlier.{by_earlier-from}
 use Rattle.elf32_read.proofs.Found.{checked_all}
 use Rattle.elf32_read.proofs.Rising.{get_or_any}
 use Rattle.elf32_read.proofs.checks.check_segments.Goals as goal
+
+pub loop-k-init : goal.loop-k-init
+loop-k-init c = record { before = omega arith; same = ap first_fault (by_earlier-from (segment_check c.args.size) c.args.segments.now) }
 
 pub is_segment_apart-is_apart-requires-clause-is : goal.is_segment_apart-is_apart-requires-clause-is
 is_segment_apart-is_apart-requires-clause-is c = get_or_any c.args.segments.now c.loop-k.k _ _ c.loop-k-test.true
