@@ -4,6 +4,7 @@ use Rattle.std.specs.Prelude.{◌==◌, ◌&&◌, ◌||◌, ◌⊎◌, not, nat_
 use Rattle.std.specs.List.{list_any}
 use Rattle.std.specs.Option.{option_map_or}
 use Rattle.std.proofs.lemmas.List.Elements.{All-nil, All-cons, All-head, All-tail, All-map}
+use Rattle.std.proofs.lemmas.Bool.{and_parts}
 use Rattle.elf32_read.specs.Headers.{file_header, loaded, text_headers, holds_text}
 use Rattle.elf32_read.specs.Checks.{Check, check, first_fault, fault_of, size_checks, header_checks, by_earlier, segment_check, memory_check, text_check, entry_checks, segment_fits, text_fits}
 use Rattle.elf32_read.specs.Ranges.{range_in, text_range, offset_of, IsWithin, IsRange}
@@ -25,10 +26,6 @@ holds_first false f o h = cc
 -- the first of some checks holds, and the others have no fault
 pub passed_first : (c : Check) (cs : List Check) → first_fault (c ∷ cs) ≡ None → (c.holds ≡ true) × (first_fault cs ≡ None)
 passed_first c cs h = holds_first c.holds c.fault (first_fault cs) h
-
-pub both : (a b : Bool) → (a && b) ≡ true → (a ≡ true) × (b ≡ true)
-both true b h = (refl, h)
-both false b h = cc
 
 -- no stage has a fault
 pub record Passed (bytes : List ℕ) : Type 0 where
@@ -57,7 +54,7 @@ fits_from : (size : ℕ) (earlier hs : List ProgramHeader) → first_fault (from
 fits_from size earlier [] e = All-nil (λ h. segment_fits size h ≡ true)
 fits_from size earlier (h ∷ hs) e =
     let p = passed_first (segment_check size earlier h) (from (segment_check size) (earlier ++ h ∷ []) hs) e in
-    All-cons (λ h. segment_fits size h ≡ true) h hs (both _ _ p.0).0 (fits_from size (earlier ++ h ∷ []) hs p.1)
+    All-cons (λ h. segment_fits size h ≡ true) h hs (and_parts _ _ p.0).0 (fits_from size (earlier ++ h ∷ []) hs p.1)
 
 pub fits : (size : ℕ) (hs : List ProgramHeader) → first_fault (by_earlier (segment_check size) hs) ≡ None → All (λ h. segment_fits size h ≡ true) hs
 fits size hs e = fits_from size [] hs (ap first_fault (sym (by_earlier-from (segment_check size) hs)) ∙ e)
@@ -67,7 +64,7 @@ text_fit_from : (segments : List ProgramHeader) (earlier hs : List SectionHeader
 text_fit_from segments earlier [] e = All-nil (λ h. text_fits segments h ≡ true)
 text_fit_from segments earlier (h ∷ hs) e =
     let p = passed_first (text_check segments earlier h) (from (text_check segments) (earlier ++ h ∷ []) hs) e in
-    All-cons (λ h. text_fits segments h ≡ true) h hs (both _ _ p.0).0 (text_fit_from segments (earlier ++ h ∷ []) hs p.1)
+    All-cons (λ h. text_fits segments h ≡ true) h hs (and_parts _ _ p.0).0 (text_fit_from segments (earlier ++ h ∷ []) hs p.1)
 
 pub text_fit : (segments : List ProgramHeader) (hs : List SectionHeader) → first_fault (by_earlier (text_check segments) hs) ≡ None
     → All (λ h. text_fits segments h ≡ true) hs
@@ -96,16 +93,16 @@ holder file (s ∷ ss) h any all =
 pub within_sizes : (size : ℕ) (s : ProgramHeader) → segment_fits size s ≡ true
     → (s.file_size ≤ s.memory_size) × (s.offset + s.file_size ≤ size) × (s.address + s.memory_size ≤ 0xE0000000)
 within_sizes size s e =
-    let a = both _ _ e in
-    let b = both _ _ a.1 in
+    let a = and_parts _ _ e in
+    let b = and_parts _ _ a.1 in
     (leb-true _ _ a.0, leb-true _ _ b.0, leb-true _ _ b.1)
 
 -- what it says that a segment holds a section
 pub holds_sizes : (h : SectionHeader) (s : ProgramHeader) → holds_text h s ≡ true
     → (s.address ≤ h.address) × (h.address + h.size ≤ s.address + s.file_size)
 holds_sizes h s e =
-    let a = both _ _ e in
-    let b = both _ _ a.1 in
+    let a = and_parts _ _ e in
+    let b = and_parts _ _ a.1 in
     (leb-true _ _ b.0, leb-true _ _ b.1)
 
 -- what a text section's fit says
@@ -116,9 +113,9 @@ pub record TextFit (segments : List ProgramHeader) (h : SectionHeader) : Type 0 
 
 pub text_parts : (segments : List ProgramHeader) (h : SectionHeader) → text_fits segments h ≡ true → TextFit segments h
 text_parts segments h e =
-    let a = both ((h.address % 4 == 0) && (h.size % 4 == 0)) (not (h.kind == 8) && list_any (holds_text h) segments) e in
-    let b = both (h.address % 4 == 0) (h.size % 4 == 0) a.0 in
-    let c = both (not (h.kind == 8)) (list_any (holds_text h) segments) a.1 in
+    let a = and_parts ((h.address % 4 == 0) && (h.size % 4 == 0)) (not (h.kind == 8) && list_any (holds_text h) segments) e in
+    let b = and_parts (h.address % 4 == 0) (h.size % 4 == 0) a.0 in
+    let c = and_parts (not (h.kind == 8)) (list_any (holds_text h) segments) a.1 in
     record { aligned = eqb-true _ _ b.0; whole = eqb-true _ _ b.1; held = c.1 }
 
 range_held : (file : List ℕ) (segments : List ProgramHeader) (h : SectionHeader) → TextFit segments h → Holder file segments h → IsRange file (range_in segments h)

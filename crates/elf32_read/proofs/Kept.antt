@@ -1,8 +1,9 @@
 -- What the tables that an image keeps say of its program.
-use Rattle.std.proofs.Common.{◌≡◌, ◌≢◌, ℕ, zero, suc, ◌%◌, Bool, true, false, List, [], ◌∷◌, length, map, find, None, refl, sym, ◌∙◌, ap, eq-eqb, ne_eqb}
-use Rattle.std.specs.Prelude.{◌==◌, ◌&&◌, not, slice_get, option_and_then}
+use Rattle.std.proofs.Common.{◌≡◌, ◌≢◌, ℕ, ◌%◌, Bool, true, false, List, [], ◌∷◌, length, map, find, None, refl, sym, ◌∙◌, ap, eq-eqb, ne_eqb}
+use Rattle.std.specs.Prelude.{◌==◌, ◌&&◌, not, option_and_then}
 use Rattle.std.specs.List.{list_any}
 use Rattle.std.specs.Option.{option_map, option_map_or}
+use Rattle.std.proofs.lemmas.List.{length-map}
 use Rattle.elf32_read.specs.Program.{Program, Section, Segment, in_segment, in_words, is_writable, byte_of, mapped, in_text, text_word, writable, section, is_named}
 use Rattle.elf32_read.specs.Headers.{file_header, loaded, text_headers, section_headers, names, section_bytes, segment_of, text_of, section_of, program_of}
 use Rattle.elf32_read.specs.Checks.{fault_of}
@@ -106,17 +107,13 @@ pub kept_segments : (i : Inside) (p : Program) → IsKept i → seen i ≡ p →
 unfolding program_of
 kept_segments i p k v = rw k.tables.segments refl ∙ ap (λ (q : Program). q.segments) v
 
-length-map_of : {X Y : Type 0} (f : X → Y) (xs : List X) → length (map f xs) ≡ length xs
-length-map_of f [] = refl
-length-map_of f (x ∷ xs) = ap suc (length-map_of f xs)
-
 pub segments_counted : (i : Inside) (p : Program) → IsKept i → seen i ≡ p → length i.tables.segments.items ≡ length p.segments
 segments_counted i p k v =
-    sym (length-map_of (segment_of i.file.items) i.tables.segments.items) ∙ ap (λ (xs : List Segment). length xs) (kept_segments i p k v)
+    sym (length-map i.tables.segments.items (segment_of i.file.items)) ∙ ap (λ (xs : List Segment). length xs) (kept_segments i p k v)
 
 headers_counted : (file : List ℕ) → length (map (text_range file) (text_headers file)) ≡ length (program_of file).text
 unfolding program_of
-headers_counted file = length-map_of (text_range file) (text_headers file) ∙ sym (length-map_of (text_of file) (text_headers file))
+headers_counted file = length-map (text_headers file) (text_range file) ∙ sym (length-map (text_headers file) (text_of file))
 
 pub texts_counted : (i : Inside) (p : Program) → IsKept i → seen i ≡ p → length i.tables.text.items ≡ length p.text
 texts_counted i p k v = rw k.tables.text (headers_counted i.file.items) ∙ ap (λ (q : Program). length q.text) v
@@ -135,14 +132,9 @@ kept_sections i p k v = rw k.tables.sections (sections_are i.file.items) ∙ ap 
 
 pub sections_counted : (i : Inside) (p : Program) → IsKept i → seen i ≡ p → length i.tables.sections.items ≡ length p.sections
 sections_counted i p k v =
-    sym (length-map_of (λ h. unnamed (section_of i.file.items h)) i.tables.sections.items)
+    sym (length-map i.tables.sections.items (λ h. unnamed (section_of i.file.items h)))
     ∙ ap (λ (xs : List Section). length xs) (kept_sections i p k v)
-    ∙ length-map_of unnamed p.sections
-
-pub get-map_of : {X Y : Type 0} (f : X → Y) (xs : List X) (k : ℕ) → slice_get (map f xs) k ≡ option_map f (slice_get xs k)
-get-map_of f [] k = refl
-get-map_of f (x ∷ xs) zero = refl
-get-map_of f (x ∷ xs) (suc k) = get-map_of f xs k
+    ∙ length-map p.sections unnamed
 
 texts_are : (file : List ℕ) → fault_of file ≡ None → map (range_shown file) (map (text_range file) (text_headers file)) ≡ (program_of file).text
 unfolding program_of

@@ -4,16 +4,13 @@ use Rattle.std.specs.Prelude.{◌==◌, nat_lt}
 use Rattle.std.specs.Option.{option_map}
 use Rattle.std.proofs.lemmas.Grind.{common_steps}
 use Rattle.std.proofs.lemmas.Bool.Decides.{nat_tests}
+use Rattle.std.proofs.lemmas.Bool.{false_from_ne_true}
 use Rattle.memchr.specs.Find.{IsFirstByte, IsLastByte, is_byte}
 use Rattle.elf32_read.specs.Fields.{name_from, zero_end}
 
 -- the byte at each place isn't zero
 abbrev NoZero : List ℕ → Type 0
 NoZero bytes = (k : ℕ) → k < length bytes → (get_or bytes k 0 == 0) ≡ false
-
-not_true : (b : Bool) → (b ≡ true → ⊥) → b ≡ false
-not_true true h = absurd (h refl)
-not_true false h = refl
 
 no_end : (bytes : List ℕ) → NoZero bytes → zero_end bytes ≡ 0
 no_end [] h = refl
@@ -34,11 +31,11 @@ end_of (b ∷ bs) (suc k) lt is after =
     rw (rest, some) (omega arith)
 
 pub end_of_none : (bytes : List ℕ) → IsLastByte (is_byte 0) bytes None → zero_end bytes ≡ 0
-end_of_none bytes h = no_end bytes (λ k lt. not_true _ (h k (omega arith) lt))
+end_of_none bytes h = no_end bytes (λ k lt. false_from_ne_true _ (h k (omega arith) lt))
 
 pub end_after : (bytes : List ℕ) (k : ℕ) → IsLastByte (is_byte 0) bytes (Some k) → zero_end bytes ≡ k + 1
 end_after bytes k h =
-    end_of bytes k h.0.high h.1 (λ j up lt. not_true _ (h.0.after j (omega (arith, up)) lt))
+    end_of bytes k h.0.high h.1 (λ j up lt. false_from_ne_true _ (h.0.after j (omega (arith, up)) lt))
 
 no_name : (bytes : List ℕ) → NoZero bytes → name_from bytes ≡ None
 no_name [] h = refl
@@ -58,11 +55,11 @@ name_of (b ∷ bs) (suc k) lt is before =
 
 -- where the first zero byte stands, a name ends
 pub name_of_none : (bytes : List ℕ) → IsFirstByte (is_byte 0) bytes None → name_from bytes ≡ None
-name_of_none bytes h = no_name bytes (λ k lt. not_true _ (h k (omega arith) lt))
+name_of_none bytes h = no_name bytes (λ k lt. false_from_ne_true _ (h k (omega arith) lt))
 
 pub name_before : (bytes : List ℕ) (k : ℕ) → IsFirstByte (is_byte 0) bytes (Some k) → name_from bytes ≡ Some (take k bytes)
 name_before bytes k h =
-    name_of bytes k h.0.high h.1 (λ j lt. not_true _ (h.0.before j (omega arith) lt))
+    name_of bytes k h.0.high h.1 (λ j lt. false_from_ne_true _ (h.0.before j (omega arith) lt))
 
 get_front : (n : ℕ) (bytes : List ℕ) (j : ℕ) → j < n → j < length bytes → get_or (take n bytes) j 0 ≡ get_or bytes j 0
 get_front n bytes j a b = grind (arith, common_steps)
@@ -81,7 +78,7 @@ pub name_in_front : (n : ℕ) (bytes : List ℕ) (k : ℕ) → IsFirstByte (is_b
 name_in_front n bytes k h =
     let at = length_front n bytes k h.0.high in
     name_of bytes k at.1 (zero_of (take n bytes) bytes k true (get_front n bytes k at.0 at.1) h.1)
-    (λ j lt. zero_of (take n bytes) bytes j false (get_front n bytes j (omega (arith, lt, at.0)) (omega (arith, lt, at.1))) (not_true _ (h.0.before j (omega arith) lt)))
+    (λ j lt. zero_of (take n bytes) bytes j false (get_front n bytes j (omega (arith, lt, at.0)) (omega (arith, lt, at.1))) (false_from_ne_true _ (h.0.before j (omega arith) lt)))
 
 -- a name of so many bytes, or none
 abbrev pub AtLeast : ℕ → Option (List ℕ) → Type 0
@@ -104,4 +101,4 @@ at_least (suc n) (b ∷ bs) h =
     rw first (at_least_more n b (name_from bs) (at_least n bs (λ k lt. h (suc k) (omega (arith, lt)))))
 
 pub none_in_front : (n : ℕ) (bytes : List ℕ) → IsFirstByte (is_byte 0) (take n bytes) None → AtLeast n (name_from bytes)
-none_in_front n bytes h = at_least n bytes (λ k lt. not_true _ (h k (omega arith) lt))
+none_in_front n bytes h = at_least n bytes (λ k lt. false_from_ne_true _ (h k (omega arith) lt))

@@ -8,12 +8,14 @@ ghost use Rattle.elf32_read.specs.Spans.{Apart, IsApartFront, IsSpanTable, Rise,
 use crate::header::{ProgramHeader, SectionHeader};
 use std::alloc::{AllocError, Global};
 
-/// The addresses of an entry of a table, and the entry's number.
+/// The addresses of an entry of a table, as of a text section.
 #[derive(Clone, Copy, Debug)]
 pub struct Span {
+    /// The first address.
     pub start: u32,
     /// In bytes.
     pub size: u32,
+    /// The entry's number in its table, from 0 on.
     pub number: usize,
 }
 

@@ -10,7 +10,7 @@ pub struct TextRange {
     pub offset: usize,
 }
 
-/// What stands in a file that fails no check, by its headers. Contracts of `specs/Inside.antt` tie it to the file.
+/// What stands in a file that fails no check, by its headers. `specs/Tables.antt` ties it to the file.
 #[derive(Drop)]
 pub struct Tables {
     pub header: FileHeader,
