@@ -1,3 +1,4 @@
+pub mod BareTurns
 pub mod Climb
 pub mod Scan
 pub mod Steps

@@ -6,5 +6,6 @@ pub mod Fault
 pub mod Stops
 pub mod Gives
 pub mod Lex
+pub mod Bare
 pub mod Value
 pub mod Condition

@@ -242,7 +242,7 @@ fn is_digit(b: u8) -> bool
 }
 
 /// The token that begins with this byte, and what stands behind it.
-fn token(end: u32, first: u8, rest: &[u8]) -> (Token, &[u8])
+pub fn token(end: u32, first: u8, rest: &[u8]) -> (Token, &[u8])
     requires { length rest.now ≤ end }
     ensures sees { Sees result (token_at end first rest.now) }
     ensures shorter { length result.1.now ≤ length rest.now }
@@ -277,7 +277,7 @@ fn address<'a>(symbols: &Symbols, end: u32, at: u32, bytes: &'a [u8]) -> (Token,
     (token, at, behind)
 }
 
-fn begins_with(byte: u8, bytes: &[u8]) -> bool
+pub fn begins_with(byte: u8, bytes: &[u8]) -> bool
     ensures { result ≡ begins_with byte bytes.now }
 {
     matches!(bytes, [first, ..] if *first == byte)

@@ -1,6 +1,7 @@
 //! Conditions of breakpoints: the tree that a text spells, and its value over one hart's registers and memory.
 #![tactic(auto)]
 
+mod bare;
 mod climbing;
 mod evaluating;
 mod expr;
@@ -11,6 +12,7 @@ mod token;
 mod tree;
 mod word;
 
+pub use bare::{BareName, bare_names};
 pub use climbing::accepted_is_tree;
 pub use evaluating::{Value, node_value};
 pub use expr::{Expr, parse, value};

@@ -1,0 +1,102 @@
+//! The text that stands for a variable.
+
+ghost use Rattle.std.specs.Prelude.{◌≡◌, ◌<◌, ◌++◌, IfOk, OnOk, decimal};
+ghost use Rattle.std.specs.Option.{option_map};
+ghost use Rattle.debug_info.specs.Shown.{shown_variable};
+ghost use Rattle.var_expr.specs.Stands.{address_text, around_address, around_register, around_shown, bytes_of, memory_text, register_text, stands};
+
+use crate::holder::{Holder, holder_of};
+use dbg_traits::{NoMemory, View};
+use debug_info::{Kind, Var};
+use itoa::Buffer;
+use std::alloc::Global;
+
+/// What stands before and behind an address or the number of a register.
+#[derive(Clone, Copy)]
+struct Around {
+    front: &'static str,
+    behind: &'static str,
+}
+
+// The read of a kind, without its address; `char` is unsigned.
+fn around_address(kind: Kind) -> Option<Around>
+    ensures { option_map around_shown result ≡ around_address kind }
+{
+    let (front, behind) = match kind {
+        Kind::Signed(4) => ("({int} ", ")"),
+        Kind::Unsigned(4) | Kind::Pointer => ("({unsigned int} ", ")"),
+        Kind::Signed(2) => ("({short} ", ")"),
+        Kind::Unsigned(2) => ("({unsigned short} ", ")"),
+        Kind::Signed(1) => ("(({char} ", " ^ 128) - 128)"),
+        Kind::Unsigned(1) => ("({char} ", ")"),
+        _ => return None,
+    };
+    Some(Around { front, behind })
+}
+
+// The read of a register as a kind, without its number; an operation with a number from 2^31 on is unsigned.
+fn around_register(kind: Kind) -> Option<Around>
+    ensures { option_map around_shown result ≡ around_register kind }
+{
+    let (front, behind) = match kind {
+        Kind::Signed(4) => ("($x", ")"),
+        Kind::Unsigned(4) | Kind::Pointer => ("(($x", " ^ 4294967295) ^ 4294967295)"),
+        _ => return None,
+    };
+    Some(Around { front, behind })
+}
+
+// `0x` and eight digits.
+fn push_address(into: &mut Vec<u8>, address: u32) -> Result<(), NoMemory>
+    ensures { OnOk result (into.new.items ≡ into.old.items ++ address_text address) }
+{
+    let mut digits = [0; 8];
+    let _ = hex::encode_to_slice(address.to_be_bytes(), &mut digits);
+    into.extend_from_slice(b"0x")?;
+    into.extend_from_slice(&digits)?;
+    Ok(())
+}
+
+// The text of a variable at an address.
+fn memory_text(alloc: Global, kind: Kind, address: u32) -> Result<Option<Vec<u8>>, NoMemory>
+    ensures { IfOk result (λ text. option_map bytes_of text ≡ memory_text kind address) }
+{
+    let Some(around) = around_address(kind) else {
+        return Ok(None);
+    };
+    let mut text = Vec::from_slice(alloc, around.front.as_bytes())?;
+    push_address(&mut text, address)?;
+    text.extend_from_slice(around.behind.as_bytes())?;
+    Ok(Some(text))
+}
+
+// The text of a variable in a register.
+fn register_text(alloc: Global, kind: Kind, n: u8) -> Result<Option<Vec<u8>>, NoMemory>
+    ensures { IfOk result (λ text. option_map bytes_of text ≡ register_text kind n) }
+{
+    let Some(around) = around_register(kind) else {
+        return Ok(None);
+    };
+    let mut digits = Buffer::new();
+    let mut text = Vec::from_slice(alloc, around.front.as_bytes())?;
+    text.extend_from_slice(digits.format(n).as_bytes())?;
+    text.extend_from_slice(around.behind.as_bytes())?;
+    Ok(Some(text))
+}
+
+/// The text that reads a variable over the registers of a view and the CFA of its frame, or none where the variable
+/// isn't known to be anywhere, where its type isn't read, and where one of less than four bytes is in a register.
+pub fn stands<V: View>(
+    alloc: Global,
+    var: &Var<'_>,
+    view: &V,
+    cfa: Option<u32>,
+) -> Result<Option<Vec<u8>>, NoMemory>
+    ensures { IfOk result (λ text. option_map bytes_of text ≡ stands (V.registers view.now) cfa (shown_variable var.now)) }
+{
+    match holder_of(var, view, cfa) {
+        None => Ok(None),
+        Some(Holder::Memory(address)) => memory_text(alloc, var.kind, address),
+        Some(Holder::Register(n)) => register_text(alloc, var.kind, n),
+    }
+}
