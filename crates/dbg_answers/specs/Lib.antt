@@ -1,0 +1,4 @@
+pub mod Debuggee
+pub mod Answer
+pub mod Reading
+pub mod Each
