@@ -3,3 +3,4 @@ pub mod Judging
 pub mod Reading
 pub mod Ranges
 pub mod Lines
+pub mod Tables

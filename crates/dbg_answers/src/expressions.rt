@@ -2,7 +2,6 @@ ghost use Rattle.std.specs.Prelude.{◌≡◌};
 ghost use Rattle.std.specs.Option.{option_map};
 ghost use Rattle.break_table.specs.Entry.{condition_of};
 ghost use Rattle.dbg_model.specs.Conditions.{parsed};
-ghost use Rattle.dbg_model.specs.Views.{register, shown_byte};
 ghost use Rattle.dbg_model.specs.Breakpoints.{condition, expression};
 ghost use Rattle.dbg_model.specs.Data.{evaluate, worth_as};
 ghost use Rattle.dbg_answers.specs.Debuggee.{seen};
@@ -11,16 +10,11 @@ ghost use Rattle.dbg_answers.specs.Reading.{ReadsAs};
 
 use crate::answer::{Answer, Failure, showing};
 use crate::debuggee::Debuggee;
-use crate::memory::shown_byte;
-use crate::registers::register;
+use crate::view::SeenHart;
 use cond_expr::{Expr, ParseError, Value, parse, value};
-use data_memory::DataMemory;
 use dbg_model::{Content, Obstacle, Refused};
-use dbg_traits::View;
 use elf_symbols::Symbols;
-use elf32_read::Image;
 use mi_commands::ByteList;
-use rv_exec::Regs;
 use std::alloc::Global;
 
 fn read_text(alloc: Global, symbols: &Symbols, text: &[u8]) -> Result<Expr, ParseError>
@@ -56,28 +50,6 @@ pub fn condition(
     }
 }
 
-/// A stopped hart, over the data and the program's text.
-#[derive(Clone, Copy)]
-struct StoppedHart<'a> {
-    regs: &'a Regs,
-    image: &'a Image,
-    memory: &'a DataMemory,
-}
-
-impl<'a> View for StoppedHart<'a> {
-    ghost registers = { λ v n. register v.regs.now n };
-
-    ghost bytes = { λ v addr. shown_byte v.image.now v.memory.now addr };
-
-    fn reg(&self, n: u32) -> u32 {
-        register(self.regs, n)
-    }
-
-    fn byte(&self, addr: u32) -> Option<u8> {
-        shown_byte(self.image, self.memory, addr)
-    }
-}
-
 fn worth(value: Value) -> Result<Content, Refused>
     ensures { result ≡ worth_as value }
 {
@@ -99,7 +71,7 @@ pub fn evaluate(
 {
     let regs = debuggee.stopped(thread.unwrap_or(debuggee.selected))?;
     let expression = read(alloc, debuggee.symbols, text.as_slice())?;
-    let view = StoppedHart {
+    let view = SeenHart {
         regs: &regs,
         image: debuggee.image,
         memory: debuggee.memory,

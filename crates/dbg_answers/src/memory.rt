@@ -1,27 +1,14 @@
 ghost use Rattle.std.specs.Prelude.{◌≡◌, ◌++◌, ◌∷◌, [], OnOk};
-ghost use Rattle.dbg_model.specs.Views.{shown_byte};
 ghost use Rattle.dbg_model.specs.Data.{bytes_at, read_memory};
 ghost use Rattle.dbg_answers.specs.Debuggee.{seen};
 ghost use Rattle.dbg_answers.specs.Answer.{Gives, GivesAs};
 
 use crate::answer::{Answer, Failure, showing};
 use crate::debuggee::Debuggee;
-use data_memory::DataMemory;
+use crate::view::shown_byte;
 use dbg_model::{Content, Obstacle, Refused};
-use elf32_read::Image;
 use mi_commands::ByteList;
 use std::alloc::{AllocError, Global};
-
-/// A byte as it is shown: text as the file has it, and data as it is now.
-pub fn shown_byte(image: &Image, memory: &DataMemory, addr: u32) -> Option<u8>
-    ensures { result ≡ shown_byte image.now memory.now addr }
-{
-    if image.in_text(addr) {
-        image.mapped(addr)
-    } else {
-        memory.byte(addr)
-    }
-}
 
 fn push_byte(into: &mut Vec<u8>, byte: u8) -> Result<(), AllocError>
     ensures { OnOk result (into.new.items ≡ into.old.items ++ byte ∷ []) }

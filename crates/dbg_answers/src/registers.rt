@@ -1,12 +1,12 @@
 ghost use Rattle.std.specs.Prelude.{◌≡◌, IfOk, map};
 ghost use Rattle.dbg_model.specs.Sight.{thread_or};
-ghost use Rattle.dbg_model.specs.Views.{register};
 ghost use Rattle.dbg_model.specs.Data.{asked_registers, register_values, valued};
 ghost use Rattle.dbg_answers.specs.Debuggee.{seen};
 ghost use Rattle.dbg_answers.specs.Answer.{Gives};
 
 use crate::answer::{Answer, Failure, showing};
 use crate::debuggee::Debuggee;
+use crate::view::register;
 use dbg_model::{Content, Register, RegisterList};
 use mi_commands::{Format, NumberList};
 use rv_exec::Regs;
@@ -17,17 +17,6 @@ const ALL: [u32; 33] = [
     0, 1, 2, 3, 4, 5, 6, 7, 8, 9, 10, 11, 12, 13, 14, 15, 16, 17, 18, 19, 20, 21, 22, 23, 24, 25,
     26, 27, 28, 29, 30, 31, 32,
 ];
-
-/// A register by its number; 32 is pc.
-pub fn register(regs: &Regs, number: u32) -> u32
-    ensures { result ≡ register regs.now number }
-{
-    if number < 32 {
-        regs.get(number)
-    } else {
-        regs.pc()
-    }
-}
 
 // The registers of these numbers.
 fn valued(alloc: Global, regs: &Regs, numbers: &[u32]) -> Result<Vec<Register>, AllocError>

@@ -1,7 +1,7 @@
 use Rattle.std.proofs.Common.{◌≡◌, true, false, Bool, sym, subst}
 use Rattle.break_table.specs.Table.{changed, with_enabled}
-use Rattle.dbg_replay.proofs.Tables.{either_changed}
-use Rattle.dbg_replay.proofs.changes.enable.Goals as goal
+use Rattle.dbg_answers.proofs.Tables.{either_changed}
+use Rattle.dbg_answers.proofs.table.enable_entry.Goals as goal
 
 pub returns-then-enabled : goal.returns-then-enabled
 returns-then-enabled c =

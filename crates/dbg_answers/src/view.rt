@@ -1,4 +1,3 @@
-// One hart as conditions see it.
 ghost use Rattle.std.specs.Prelude.{◌≡◌};
 ghost use Rattle.dbg_model.specs.Views.{register, shown_byte};
 
@@ -7,7 +6,7 @@ use dbg_traits::View;
 use elf32_read::Image;
 use rv_exec::Regs;
 
-/// One hart's registers, over the data and the program's text.
+/// One hart as expressions see it: its registers, over the data and the program's text.
 #[derive(Clone, Copy)]
 pub struct SeenHart<'a> {
     pub regs: &'a Regs,
@@ -15,14 +14,15 @@ pub struct SeenHart<'a> {
     pub memory: &'a DataMemory,
 }
 
-fn register(regs: &Regs, n: u32) -> u32
+/// A register by its number; 32 is pc.
+pub fn register(regs: &Regs, n: u32) -> u32
     ensures { result ≡ register regs.now n }
 {
     if n < 32 { regs.get(n) } else { regs.pc() }
 }
 
-// A byte as it is shown: text as the file has it, and data as it is now.
-fn shown_byte(image: &Image, memory: &DataMemory, addr: u32) -> Option<u8>
+/// A byte as it is shown: text as the file has it, and data as it is now.
+pub fn shown_byte(image: &Image, memory: &DataMemory, addr: u32) -> Option<u8>
     ensures { result ≡ shown_byte image.now memory.now addr }
 {
     if image.in_text(addr) {
