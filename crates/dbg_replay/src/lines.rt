@@ -1,0 +1,116 @@
+// Lines: whether each may be done, and what it changes.
+ghost use Rattle.std.specs.Prelude.{◌≡◌, ◌≤◌, ◌<◌, ◌-◌, ◌^◌, ℕ, List, IfOk, None, Some, if◌then◌else◌, length, map};
+ghost use Rattle.mi_commands.specs.Gives.{Commands};
+ghost use Rattle.elf_symbols.specs.Entries.{names_of};
+ghost use Rattle.dbg_model.specs.Lawful.{may_do};
+ghost use Rattle.dbg_model.specs.Reply.{answer_of, done_by};
+ghost use Rattle.dbg_model.specs.Sight.{view_of};
+ghost use Rattle.dbg_answers.specs.Answer.{change_of};
+ghost use Rattle.dbg_answers.specs.Reading.{IsRead};
+ghost use Rattle.dbg_replay.specs.Parts.{shown};
+ghost use Rattle.dbg_replay.specs.Going.{Comes, Kept};
+
+use crate::ModelHart;
+use crate::changes::make;
+use crate::halt::Halt;
+use crate::modes::any_runs;
+use crate::movers::may_go;
+use crate::state::Parts;
+use dbg_answers::{Debuggee, Effect, answer_line, waits};
+use dbg_model::{Mode, Opening, ThreadView};
+use dbg_traits::NoMemory;
+use elf_symbols::Symbols;
+use mi_commands::{CommandLine, Refusal, command_of};
+use std::alloc::{AllocError, Global};
+
+fn view(hart: ModelHart) -> ThreadView
+    ensures { result ≡ view_of hart }
+{
+    match hart.mode() {
+        Mode::Stopped => ThreadView::Stopped(hart.regs()),
+        Mode::Running => ThreadView::Running,
+        Mode::Leaving(_) | Mode::Exited => ThreadView::Exited,
+    }
+}
+
+// What a command may see of the harts.
+fn views(alloc: Global, harts: &[ModelHart]) -> Result<Vec<ThreadView>, AllocError>
+    ensures { IfOk result (λ v. v.items ≡ map view_of harts.now) }
+{
+    let mut views = Vec::new(alloc);
+    for hart in harts {
+        views.push(view(*hart))?;
+    }
+    Ok(views)
+}
+
+// What a line is, once it is read.
+fn read_line(alloc: Global, line: &[u8]) -> Result<Result<CommandLine, Refusal>, NoMemory>
+    ensures commands { IfOk result (λ read. Commands line.now read) }
+    ensures read { IfOk result (λ read. IsRead read) }
+{
+    match command_of(alloc, line) {
+        Ok(command) => Ok(Ok(command)),
+        Err(Refusal::NoMemory) => Err(NoMemory),
+        Err(refusal) => Ok(Err(refusal)),
+    }
+}
+
+// Whether a line may be done; one that waits only where no hart runs.
+fn may_do(opening: &Opening, parts: &Parts, read: &Result<CommandLine, Refusal>) -> bool
+    requires { IsRead read.now }
+    ensures { (line : List ℕ) → Commands line read.now → result ≡ may_do opening.now (shown parts.now) line }
+{
+    let must_wait = any_runs(parts.harts.as_slice()) && waits(read);
+    may_go(opening, parts) && !must_wait
+}
+
+// What a line changes.
+fn effect_of<'a>(
+    alloc: Global,
+    opening: &'a Opening,
+    symbols: &'a Symbols,
+    parts: &'a Parts,
+    read: Result<CommandLine, Refusal>,
+) -> Result<Effect, NoMemory>
+    requires few { length parts.now.harts.items ≤ 16 }
+    requires given { parts.now.table.given < 2 ^ 32 - 1 }
+    requires names { symbols.now ≡ names_of opening.now.image }
+    ensures { (line : List ℕ) → Commands line read → IfOk result (λ e. change_of e ≡ (answer_of opening.now (shown parts.now) line).outcome.change) }
+{
+    let threads = views(alloc, parts.harts.as_slice())?;
+    let debuggee = Debuggee {
+        image: &opening.image,
+        symbols,
+        memory: &parts.memory,
+        threads: threads.as_slice(),
+        table: &parts.table,
+        selected: parts.selected,
+        displaced: parts.displaced,
+    };
+    let told = answer_line(alloc, &debuggee, read)?;
+    let answer = told.answer;
+    Ok(answer.effect)
+}
+
+/// A line of the input.
+pub fn do_line(
+    alloc: Global,
+    opening: &Opening,
+    symbols: &Symbols,
+    parts: &mut Parts,
+    line: &[u8],
+) -> Result<(), Halt>
+    requires kept { Kept opening.now parts.old }
+    requires names { symbols.now ≡ names_of opening.now.image }
+    requires room { parts.old.noted < 2 ^ 64 - 1 }
+    ensures { Comes opening.now result (if may_do opening.now (shown parts.old) line.now then Some (done_by opening.now (shown parts.old) line.now) else None) parts.new }
+{
+    let read = read_line(alloc, line)?;
+    if !may_do(opening, parts, &read) {
+        return Err(Halt::Unlawful);
+    }
+    let effect = effect_of(alloc, opening, symbols, parts, read)?;
+    make(parts, effect);
+    Ok(())
+}
