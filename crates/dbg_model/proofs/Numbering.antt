@@ -13,7 +13,8 @@ use Rattle.dbg_model.specs.declared.entry.Entry.TheVariants.{Ran, Counted, Stopp
 use Rattle.dbg_model.specs.declared.opening.Opening.{Opening}
 use Rattle.dbg_model.specs.Breaks.{is_stop}
 use Rattle.dbg_model.specs.State.{Hart, State, due, is_counted, arrived}
-use Rattle.dbg_model.specs.Reply.{Change, stays, resumes, selects, inserts, deletes, enables, conditions, ignores, interrupts, displaces, exits, done_by, answer_of, given_after}
+use Rattle.dbg_model.specs.Outcome.{Change, stays, resumes, selects, inserts, deletes, enables, conditions, ignores, interrupts, displaces, exits}
+use Rattle.dbg_model.specs.Reply.{done_by, answer_of, given_after}
 use Rattle.dbg_model.specs.Lawful.{enter, one, one_by, ran, may_run, may_move, may_do, stepped_by, with_stop, faulted_by, stopped_by, counted_by, with_count, left_by, leaver_from, exited_at, with_step}
 use Rattle.dbg_model.specs.Journals.{Place, come, follows, ran_hart, replay_from, replay, first_place, Leaves, noted_one}
 use Rattle.dbg_model.proofs.Options.{map_some, bind_some, guard_some, same_some}

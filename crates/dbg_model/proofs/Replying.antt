@@ -1,6 +1,6 @@
 -- The answer to a line, from what reading it gives.
 use Rattle.std.proofs.Common.{◌≡◌, ◌<◌, ◌≤◌, ℕ, true, false, List, [], length, refl, arith, nat_lt}
-use Rattle.std.specs.Prelude.{Option, Some, None, Result}
+use Rattle.std.specs.Prelude.{Option, Some, None, Result, Err}
 use Rattle.std.proofs.lemmas.Bool.Decides.{nat_tests}
 use Rattle.mi_input.specs.Parts.{PartsView, is_cli, after_blanks, token_of}
 use Rattle.mi_input.specs.Split.{HasNoParts}
@@ -9,11 +9,10 @@ use Rattle.mi_input.proofs.Reading.{parts_sound, parts_complete, no_cli}
 use Rattle.mi_commands.specs.Gives.{HasAnswer}
 use Rattle.mi_commands.specs.declared.command.Command.{Command}
 use Rattle.mi_commands.specs.declared.refusal.Fault.{Fault}
-use Rattle.dbg_model.specs.declared.opening.Opening.{Opening}
-use Rattle.dbg_model.specs.declared.reply.Content.TheVariants as content
 use Rattle.dbg_model.specs.declared.reply.Refused.TheVariants as refused
-use Rattle.dbg_model.specs.State.{State}
-use Rattle.dbg_model.specs.Reply.{answer_of, asked_outcome, refusing, is_wait, waits}
+use Rattle.dbg_model.specs.Sight.{Sight}
+use Rattle.dbg_model.specs.Command.{asked_reply}
+use Rattle.dbg_model.specs.Reply.{answer_to, answering, is_wait, waits}
 
 short : (line : List ℕ) → length line ≤ 4096 → nat_lt 4096 (length line) ≡ false
 short line le = grind (arith, nat_tests)
@@ -25,24 +24,24 @@ none_read : (line : List ℕ) (r : Option PartsView) → parts_read line ≡ r �
 none_read line None is no_parts = is
 none_read line (Some p) is no_parts = absurd (no_parts p (parts_sound line p is))
 
-pub reply_long : (o : Opening) (s : State) (line : List ℕ) → 4096 < length line → answer_of o s line ≡ record { token = []; outcome = refusing (content.Refused refused.Long) }
-unfolding answer_of
-reply_long o s line lt = rw (long line lt) refl
+pub reply_long : (s : Sight) (line : List ℕ) → 4096 < length line → answer_to s line ≡ answering [] (Err refused.Long)
+unfolding answer_to
+reply_long s line lt = rw (long line lt) refl
 
-pub reply_malformed : (o : Opening) (s : State) (line : List ℕ) → length line ≤ 4096 → HasNoParts line → is_cli (after_blanks line) ≡ false → answer_of o s line ≡ record { token = []; outcome = refusing (content.Refused refused.Syntax) }
-unfolding answer_of
-reply_malformed o s line le no_parts cli = rw (short line le, none_read line (parts_read line) refl no_parts, cli) refl
+pub reply_malformed : (s : Sight) (line : List ℕ) → length line ≤ 4096 → HasNoParts line → is_cli (after_blanks line) ≡ false → answer_to s line ≡ answering [] (Err refused.Syntax)
+unfolding answer_to
+reply_malformed s line le no_parts cli = rw (short line le, none_read line (parts_read line) refl no_parts, cli) refl
 
 cli_none : (line : List ℕ) → is_cli (after_blanks line) ≡ true → HasNoParts line
 cli_none line cli = λ p h. no_cli line p cli h
 
-pub reply_cli : (o : Opening) (s : State) (line token : List ℕ) → length line ≤ 4096 → is_cli (after_blanks line) ≡ true → token ≡ token_of (after_blanks line) → answer_of o s line ≡ record { token = token; outcome = refusing (content.Refused refused.Cli) }
-unfolding answer_of
-reply_cli o s line token le cli is = rw (short line le, none_read line (parts_read line) refl (cli_none line cli), cli, is) refl
+pub reply_cli : (s : Sight) (line token : List ℕ) → length line ≤ 4096 → is_cli (after_blanks line) ≡ true → token ≡ token_of (after_blanks line) → answer_to s line ≡ answering token (Err refused.Cli)
+unfolding answer_to
+reply_cli s line token le cli is = rw (short line le, none_read line (parts_read line) refl (cli_none line cli), cli, is) refl
 
-pub reply_answers : (o : Opening) (s : State) (line token : List ℕ) (a : Result Command Fault) → length line ≤ 4096 → HasAnswer line token a → answer_of o s line ≡ record { token = token; outcome = asked_outcome o s a }
-unfolding answer_of
-reply_answers o s line token a le h = rw (short line le, parts_complete line h.parts h.are_parts, h.token_is, h.answer_is) refl
+pub reply_answers : (s : Sight) (line token : List ℕ) (a : Result Command Fault) → length line ≤ 4096 → HasAnswer line token a → answer_to s line ≡ answering token (asked_reply s a)
+unfolding answer_to
+reply_answers s line token a le h = rw (short line le, parts_complete line h.parts h.are_parts, h.token_is, h.answer_is) refl
 
 pub wait_answers : (line token : List ℕ) (a : Result Command Fault) → length line ≤ 4096 → HasAnswer line token a → is_wait line ≡ waits a
 unfolding is_wait

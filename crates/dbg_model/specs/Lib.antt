@@ -3,6 +3,13 @@ pub mod Breaks
 pub mod Conditions
 pub mod Views
 pub mod State
+pub mod Sight
+pub mod Outcome
+pub mod Threads
+pub mod Breakpoints
+pub mod Data
+pub mod Command
+pub mod Refusals
 pub mod Reply
 pub mod Lawful
 pub mod Journals

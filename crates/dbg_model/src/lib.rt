@@ -6,9 +6,11 @@ mod entry;
 mod limits;
 mod opening;
 mod reply;
+mod thread_view;
 
 pub use breakpoint::{Breakpoint, BreakpointList};
 pub use entry::{Entry, Journal, Mode, Why};
 pub use limits::{HISTORY, MOST_BREAKPOINTS, MOST_INPUT};
 pub use opening::Opening;
 pub use reply::{Content, Obstacle, Refused, Register, RegisterList, Reply, Thread, ThreadList};
+pub use thread_view::ThreadView;

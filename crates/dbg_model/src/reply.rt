@@ -1,8 +1,9 @@
 // What is answered to a line.
 ghost use Rattle.std.specs.Prelude.{◌≡◌};
+ghost use Rattle.dbg_model.specs.Refusals.{kind_number, number, obstacle_number, refused_number};
 
 use crate::{Breakpoint, BreakpointList};
-use cond_expr::ExprFault;
+use cond_expr::{ExprFault, FaultKind};
 use mi_commands::{ByteList, Displaced, Fault, Format, NumberList};
 use mi_values::Token;
 use std::marker::Model;
@@ -49,6 +50,59 @@ pub enum Refused {
     UnknownName(ByteList),
     /// The command isn't built yet.
     NotBuilt,
+    /// A location by a line of a source file, which isn't built yet.
+    LineNotBuilt,
+}
+
+// The number of the message of an expression's fault.
+fn kind_number(kind: FaultKind) -> u32
+    ensures { result ≡ kind_number kind }
+{
+    match kind {
+        FaultKind::Long => 18,
+        FaultKind::Text => 19,
+        FaultKind::Number => 20,
+        FaultKind::Deep => 21,
+        FaultKind::Name => 22,
+    }
+}
+
+impl Obstacle {
+    /// The number of the error's message: 8 to 12 or 16 to 24.
+    pub fn number(self) -> u32
+        ensures { result ≡ obstacle_number self }
+    {
+        match self {
+            Obstacle::UnknownThread(_) => 8,
+            Obstacle::HasExited(_) => 9,
+            Obstacle::IsRunning(_) => 10,
+            Obstacle::NotRunning(_) => 11,
+            Obstacle::NoBreakpoint(_) => 12,
+            Obstacle::NoInstruction(_) => 16,
+            Obstacle::TooManyBreakpoints => 17,
+            Obstacle::Expression(fault) => kind_number(fault.kind),
+            Obstacle::DivisionByZero => 23,
+            Obstacle::Unreadable(_) => 24,
+        }
+    }
+}
+
+impl Refused {
+    /// The number of the error's message, 0 to 24; of several errors the one with the least is answered.
+    pub fn number(&self) -> u32
+        ensures { result ≡ number self.now }
+    {
+        match self {
+            Refused::NotBuilt => 0,
+            Refused::Long => 1,
+            Refused::Syntax => 2,
+            Refused::Cli => 3,
+            Refused::Faulty(fault) => fault.number(),
+            Refused::Hindered(obstacle) => obstacle.number(),
+            Refused::UnknownName(_) => 14,
+            Refused::LineNotBuilt => 15,
+        }
+    }
 }
 
 /// A register and its value; 32 is pc.
@@ -183,4 +237,16 @@ pub struct Reply {
     /// The line's token; a line without parts has none, but for one that is no command of the machine interface.
     pub token: Token,
     pub content: Content,
+}
+
+impl Reply {
+    /// The number of the error that is answered; none where the line was done.
+    pub fn refused(&self) -> Option<u32>
+        ensures { result ≡ refused_number self.now.content }
+    {
+        match &self.content {
+            Content::Refused(refused) => Some(refused.number()),
+            _ => None,
+        }
+    }
 }

@@ -1,92 +1,42 @@
--- What lines change.
-use Rattle.std.proofs.Common.{◌≡◌, ◌≤◌, ◌<◌, ◌+◌, ◌-◌, ◌/◌, ◌%◌, ℕ, zero, suc, Bool, true, false, cond, List, [], ◌∷◌, length, refl, sym, ap, ◌∙◌, subst, arith, length-set}
-use Rattle.std.specs.Prelude.{Option, Some, None, Result, Ok, Err, is_some, find, option_and_then, slice_get, slice_index, ◌&&◌, ◌||◌, ◌==◌, nat_le}
+-- What lines effect.
+use Rattle.std.proofs.Common.{◌≡◌, ◌≤◌, ◌<◌, ◌+◌, ◌-◌, ◌^◌, ◌/◌, ◌%◌, ℕ, zero, suc, Bool, true, false, cond, List, [], ◌∷◌, length, refl, sym, ap, ◌∙◌, subst, arith, length-set}
+use Rattle.std.specs.Prelude.{Option, Some, None, is_some, find, not, nat_lt, option_and_then, slice_get, slice_index, ◌&&◌, ◌||◌, ◌==◌, nat_le}
 use Rattle.std.specs.List.{list_any}
 use Rattle.std.proofs.lemmas.Bool.Decides.{nat_tests}
 use Rattle.std.proofs.lemmas.Option.{slice_get_within}
 use Rattle.elf32_read.specs.Program.{Program, Text, text_word, in_words}
-use Rattle.mi_commands.specs.Gives.{Commands, HasAnswer}
-use Rattle.mi_commands.specs.declared.command.Command.{Command}
-use Rattle.mi_commands.specs.declared.command.Insertion.{Insertion}
-use Rattle.mi_commands.specs.declared.refusal.Fault.{Fault}
-use Rattle.mi_commands.specs.declared.refusal.Fault.TheVariants as fault
-use Rattle.mi_commands.specs.declared.refusal.Refusal.{Refusal}
-use Rattle.mi_commands.specs.declared.refusal.Refusal.TheVariants.{NoMemory, Long, Syntax, Cli, Faulty}
-use Rattle.elf_symbols.specs.Names.{Names}
-use Rattle.elf_symbols.specs.Entries.{names_of}
-use Rattle.cond_expr.specs.declared.expr.Expr.{Expr}
-use Rattle.cond_expr.specs.declared.fault.ExprFault.{ExprFault}
-use Rattle.cond_expr.specs.Condition.{text_of, tree_of}
-use Rattle.cond_expr.specs.Term.{Term}
-use Rattle.break_table.specs.Entry.{Condition, condition_of}
 use Rattle.break_table.specs.Table.{Table, is_thread}
 use Rattle.break_table.specs.Text.{is_instruction, is_place}
 use Rattle.dbg_model.specs.declared.opening.Opening.{Opening}
-use Rattle.dbg_model.specs.Conditions.{parsed}
-use Rattle.dbg_model.specs.State.{Hart, State, is_off}
-use Rattle.dbg_model.specs.Reply.{Answer, Change, Outcome, stays, resumes, selects, interrupts, displaces, inserts, deletes, enables, conditions, ignores, exits, answer_of, asked_at, changed_by, done_by, fault_outcome, for_thread, given_after, ask_at, ask_thread, ask_threads, asked, asking, sets_after, going_on, is_wait, outcome_at, resumed, resumed_at, resumed_thread, resumed_threads, set_as, set_by, setting, thread_hart, unknown_thread, waits}
+use Rattle.dbg_model.specs.Limits.{history}
+use Rattle.dbg_model.specs.State.{Hart, State, any_leaves, is_off}
+use Rattle.dbg_model.specs.Lawful.{may_do, may_go}
+use Rattle.dbg_model.specs.Sight.{thread_at}
+use Rattle.dbg_model.specs.Outcome.{Change, stays, resumes, selects, interrupts, displaces, inserts, deletes, enables, conditions, ignores, exits}
+use Rattle.dbg_model.specs.Reply.{answer_of, changed_by, done_by, given_after, ask_at, ask_thread, ask_threads, asked, asking, sets_after, going_on, resumed, resumed_at, resumed_thread, resumed_threads}
+use Rattle.dbg_model.proofs.Options.{both_true}
 use Rattle.dbg_model.proofs.Founding.{IsFounded, IsThereOr, change_founded}
-use Rattle.dbg_model.proofs.Replying.{reply_long, reply_malformed, reply_cli, reply_answers, wait_answers, wait_long, wait_none, wait_cli}
-use Rattle.dbg_replay.specs.declared.changes.LineChange.{LineChange}
-use Rattle.dbg_replay.specs.declared.changes.LineChange.TheVariants as change
+use Rattle.dbg_answers.specs.declared.answer.Effect.{Effect}
+use Rattle.dbg_answers.specs.declared.answer.Effect.TheVariants as effect
+use Rattle.dbg_answers.specs.Answer.{change_of}
+use Rattle.dbg_answers.specs.Table.{CanBeMade, changed_table}
 use Rattle.dbg_replay.specs.declared.state.Parts.{Parts}
 use Rattle.dbg_replay.specs.Parts.{shown}
 use Rattle.dbg_replay.specs.Going.{Kept}
-use Rattle.dbg_replay.specs.Changes.{change_of, changed_table, is_memory, CanBeMade}
 
--- ---- waiting
+-- ---- a line may be done
 
-pub wait_refused : (line : List ℕ) (f : Refusal) → Commands line (Err f) → is_memory f ≡ false → false ≡ is_wait line
-wait_refused line NoMemory h e = absurd cc
-wait_refused line Long h e = sym (wait_long line h)
-wait_refused line Syntax h e = sym (wait_none line h.0 h.1)
-wait_refused line (Cli token) h e = sym (wait_cli line h.0 h.1)
-wait_refused line (Faulty token f) h e = sym (wait_answers line token (Err f) h.0 h.1)
-
-pub wait_read : (line token : List ℕ) (cmd : Command) (b : Bool) → (length line ≤ 4096) × HasAnswer line token (Ok cmd) → b ≡ waits (Ok cmd) → b ≡ is_wait line
-wait_read line token cmd b h e = e ∙ sym (wait_answers line token (Ok cmd) h.0 h.1)
-
--- ---- a new breakpoint
-
-pub set_none : (names : Names) (given addr : ℕ) (i : Insertion) (c : Option (List ℕ)) (x : LineChange) → c ≡ None → change_of x ≡ (setting names given (asked_at addr i None)).change → change_of x ≡ (set_by names given addr i c).change
-set_none names given addr i c x is e = e ∙ ap (λ t. (set_by names given addr i t).change) (sym is)
-
-abbrev set_with : Names → ℕ → ℕ → Insertion → Condition → Change
-set_with names given addr i c = (setting names given (asked_at addr i (Some c))).change
-
-pub set_some : (names : Names) (given addr : ℕ) (i : Insertion) (c : Option (List ℕ)) (text read : List ℕ) (e : Expr) (x : LineChange) → c ≡ Some text → read ≡ text → parsed names read ≡ Ok (tree_of e) → text_of e ≡ read
-    → change_of x ≡ set_with names given addr i (condition_of e) → change_of x ≡ (set_by names given addr i c).change
-set_some names given addr i c text read e x is same spelled told made =
-    let tree : parsed names text ≡ Ok (tree_of e) = ap (parsed names) (sym same) ∙ spelled in
-    let words : condition_of e ≡ record { text = text; tree = tree_of e } = ap (λ t. let d : Condition = record { text = t; tree = tree_of e } in d) (told ∙ same) in
-    made ∙ (ap (set_with names given addr i) words ∙ (sym (ap (λ (r : Result Term ExprFault). (set_as names given addr i text r).change) tree) ∙ ap (λ t. (set_by names given addr i t).change) (sym is)))
-
--- ---- what is answered
-
--- a line of a command makes the command's change
-pub line_made : (o : Opening) (s : State) (line token : List ℕ) (names : Names) (cmd : Command) → (length line ≤ 4096) × HasAnswer line token (Ok cmd) → names ≡ names_of o.image
-    → (outcome_at o.image names s.harts s.memory s.breaks s.given s.selected s.displaced cmd).change ≡ (answer_of o s line).outcome.change
-line_made o s line token names cmd h is =
-    ap (λ ns. (outcome_at o.image ns s.harts s.memory s.breaks s.given s.selected s.displaced cmd).change) is ∙ sym (ap (λ (a : Answer). a.outcome.change) (reply_answers o s line token (Ok cmd) h.0 h.1))
-
-for_nothing : (t : Option ℕ) (r : Outcome) → r.change ≡ stays → (for_thread t r).change ≡ stays
-for_nothing None r is = is
-for_nothing (Some t) r is = refl
-
-fault_nothing : (xs : List Hart) (f : Fault) → (fault_outcome xs f).change ≡ stays
-fault_nothing xs (fault.Undefined name) = refl
-fault_nothing xs (fault.Parameters name) = refl
-fault_nothing xs (fault.Number word) = refl
-fault_nothing xs fault.Setting = refl
-fault_nothing xs (fault.Location word thread) = for_nothing (unknown_thread xs thread) _ refl
-
--- a line that is refused changes nothing
-pub line_refused : (o : Opening) (s : State) (line : List ℕ) (f : Refusal) → Commands line (Err f) → is_memory f ≡ false → stays ≡ (answer_of o s line).outcome.change
-line_refused o s line NoMemory h e = absurd cc
-line_refused o s line Long h e = sym (ap (λ (a : Answer). a.outcome.change) (reply_long o s line h))
-line_refused o s line Syntax h e = sym (ap (λ (a : Answer). a.outcome.change) (reply_malformed o s line h.0 h.1 h.2))
-line_refused o s line (Cli token) h e = sym (ap (λ (a : Answer). a.outcome.change) (reply_cli o s line token h.0 h.1 h.2))
-line_refused o s line (Faulty token f) h e = sym (ap (λ (a : Answer). a.outcome.change) (reply_answers o s line token (Err f) h.0 h.1) ∙ fault_nothing s.harts f)
+-- where one may be done there is room for a number more
+pub numbers_low : (o : Opening) (p : Parts) (line : List ℕ) → Kept o p → may_do o (shown p) line ≡ true → p.table.given < 2 ^ 32 - 1
+numbers_low o p line kept may =
+    let goes = (both_true (may_go o (shown p)) _ may).0 in
+    let behind = (both_true (not (any_leaves p.harts.items)) _ goes).1 in
+    let second = (both_true (nat_lt p.retired o.settings.budget) _ behind).1 in
+    let low = (both_true (nat_lt p.noted history) _ second).0 in
+    below p.table.given p.noted kept.given low
+  where
+    below : (given noted : ℕ) → given ≤ noted → nat_lt noted history ≡ true → given < 2 ^ 32 - 1
+    below given noted le low = grind (arith, nat_tests)
 
 -- ---- a change can be made
 
@@ -111,7 +61,7 @@ there : (r : Option Hart) → is_some r ≡ true → (x : Hart) × (r ≡ Some x
 there None e = cc
 there (Some x) e = (x, refl)
 
-thread_by : (xs : List Hart) (n t : ℕ) → length xs ≡ n → is_some (thread_hart xs t) ≡ true → (nat_le 1 t && nat_le t n) ≡ true
+thread_by : (xs : List Hart) (n t : ℕ) → length xs ≡ n → is_some (thread_at xs t) ≡ true → (nat_le 1 t && nat_le t n) ≡ true
 thread_by xs n zero len e = cc
 thread_by xs n (suc h) len e =
     let x = there (slice_get xs h) e in
@@ -127,25 +77,16 @@ thread_known xs n (Some t) len is = thread_by xs n t len is
 not_full : (n : ℕ) → n < 128 → nat_le 128 n ≡ false
 not_full n low = grind (arith, nat_tests)
 
-can_by : (o : Opening) (p : Parts) (x : LineChange) → Kept o p → IsFounded o.image p.harts.items p.table.entries (change_of x) → CanBeMade p.table x
-can_by o p change.Nothing kept f = tt
-can_by o p (change.Resume threads) kept f = tt
-can_by o p (change.Select thread) kept f = tt
-can_by o p (change.Interrupt threads) kept f = tt
-can_by o p (change.Displace displaced) kept f = tt
-can_by o p (change.Insert spec) kept f =
+can_by : (o : Opening) (p : Parts) (x : Effect) → Kept o p → IsFounded o.image p.harts.items p.table.entries (change_of x) → CanBeMade p.table x
+can_by o p (effect.Insert spec) kept f =
     let place : is_place p.table.text spec.address ≡ true = kept.places spec.address ∙ word_place o.image spec.address f.0 in
     let full : nat_le 128 (length p.table.entries) ≡ false = not_full (length p.table.entries) f.1 in
     let known : is_thread (length p.table.waits) spec.thread ≡ true = thread_known p.harts.items (length p.table.waits) spec.thread (kept.harts ∙ sym kept.waits) f.2 in
     rw (place, full, known) refl
-can_by o p (change.Delete numbers) kept f = tt
-can_by o p (change.Enable numbers enabled) kept f = tt
-can_by o p (change.Condition number condition) kept f = tt
-can_by o p (change.After number count) kept f = tt
-can_by o p change.Exit kept f = tt
+can_by o p _ kept f = tt
 
 -- the change of a line can be made
-pub can_be_made : (o : Opening) (p : Parts) (line : List ℕ) (x : LineChange) → Kept o p → change_of x ≡ (answer_of o (shown p) line).outcome.change → CanBeMade p.table x
+pub can_be_made : (o : Opening) (p : Parts) (line : List ℕ) (x : Effect) → Kept o p → change_of x ≡ (answer_of o (shown p) line).outcome.change → CanBeMade p.table x
 can_be_made o p line x kept is = can_by o p x kept (subst (IsFounded o.image p.harts.items p.table.entries) (sym is) (change_founded o (shown p) line))
 
 -- ---- the state after a line
@@ -230,7 +171,7 @@ still_kept o old new c kept state table =
     }
 
 -- a line came
-pub line_comes : (o : Opening) (old new : Parts) (line : List ℕ) (x : LineChange) (b : Bool) → Kept o old → b ≡ true → change_of x ≡ (answer_of o (shown old) line).outcome.change → shown new ≡ changed_by (shown old) (change_of x) → new.table ≡ changed_table old.table (change_of x)
+pub line_comes : (o : Opening) (old new : Parts) (line : List ℕ) (x : Effect) (b : Bool) → Kept o old → b ≡ true → change_of x ≡ (answer_of o (shown old) line).outcome.change → shown new ≡ changed_by (shown old) (change_of x) → new.table ≡ changed_table old.table (change_of x)
     → (cond b (Some (done_by o (shown old) line)) None ≡ Some (shown new)) × Kept o new
 line_comes o old new line x b kept may is state table =
     (rw may (ap Some (sym (state ∙ done_is o (shown old) line (change_of x) is))), still_kept o old new (change_of x) kept state table)

@@ -1,6 +1,4 @@
 pub mod Marking
-pub mod Tables
-pub mod Reading
 pub mod Answering
 pub mod Arriving
 pub mod Running

@@ -6,8 +6,6 @@ use Rattle.rv_exec.specs.declared.effect.Stepped.TheVariants as stepped
 use Rattle.rv_exec.specs.Causes.{cause_number}
 use Rattle.plain_machine.specs.Environment.{Answer, Traps, Goes}
 use Rattle.break_table.specs.Text.{is_instruction, is_place}
-use Rattle.dbg_model.specs.declared.entry.Mode.{Mode}
-use Rattle.dbg_model.specs.declared.entry.Mode.TheVariants as mode
 use Rattle.dbg_model.specs.declared.opening.Opening.{Opening}
 use Rattle.dbg_model.specs.Limits.{history}
 use Rattle.dbg_model.specs.State.{Hart, State}
@@ -17,13 +15,6 @@ use Rattle.dbg_replay.specs.declared.halt.Halt.{Halt}
 use Rattle.dbg_replay.specs.declared.halt.Halt.TheVariants.{NoMemory, Unlawful}
 use Rattle.dbg_replay.specs.declared.state.Parts.{Parts}
 use Rattle.dbg_replay.specs.Parts.{shown}
-
--- a hart at this mode is stopped
-abbrev pub is_stopped : Mode → Bool
-is_stopped mode.Stopped = true
-is_stopped mode.Running = false
-is_stopped (mode.Leaving code) = false
-is_stopped mode.Exited = false
 
 -- neither the budget nor the history is used up
 abbrev pub HasRoom : Opening → Parts → Type 0
@@ -64,12 +55,8 @@ Finishes (Err NoMemory) a old h new = Unit {0}
 
 -- an instruction trapped with this cause
 abbrev pub traps_with : Stepped → Cause → Bool
-traps_with stepped.Ran cause = false
-traps_with (stepped.Wrote addr len) cause = false
-traps_with (stepped.HartExit code) cause = false
-traps_with (stepped.AllExit code) cause = false
-traps_with stepped.Hit cause = false
 traps_with (stepped.Trap met) cause = cause_number met == cause_number cause
+traps_with _ cause = false
 
 abbrev pub state_of : Place → State
 state_of p = p.state

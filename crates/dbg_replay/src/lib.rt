@@ -12,7 +12,6 @@ mod movers;
 mod replaying;
 mod state;
 mod stepping;
-mod view;
 
 pub use hart::ModelHart;
 pub use replaying::replay;

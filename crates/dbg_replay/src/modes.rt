@@ -3,7 +3,6 @@ ghost use Rattle.std.specs.Prelude.{◌≡◌, ◌+◌, ◌≤◌, length, map, 
 ghost use Rattle.dbg_model.specs.State.{any_runs, any_leaves, is_running, is_leaving};
 ghost use Rattle.dbg_model.specs.Lawful.{leaver_from, leaving, exited, counted, stopped};
 ghost use Rattle.dbg_model.specs.Reply.{asked, resumed};
-ghost use Rattle.dbg_replay.specs.Going.{is_stopped};
 
 use crate::ModelHart;
 use dbg_model::Mode;
@@ -24,12 +23,6 @@ pub fn is_running(mode: Mode) -> bool
     ensures { result ≡ is_running mode }
 {
     matches!(mode, Mode::Running)
-}
-
-pub fn is_stopped(mode: Mode) -> bool
-    ensures { result ≡ is_stopped mode }
-{
-    matches!(mode, Mode::Stopped)
 }
 
 fn is_leaving(mode: Mode) -> bool

@@ -9,8 +9,8 @@ use crate::ModelHart;
 use crate::halt::Halt;
 use crate::modes::{any_leaves, find, is_running};
 use crate::state::Parts;
-use crate::view::SeenHart;
 use break_table::Due;
+use dbg_answers::SeenHart;
 use dbg_model::{HISTORY, Opening};
 
 const NOTHING_DUE: Due = Due {

@@ -48,6 +48,7 @@ message (refused.Faulty f) = fault_message f
 message (refused.Hindered o) = obstacle_message o
 message (refused.UnknownName name) = text.FUNCTION.now ++ name ++ text.NOT_DEFINED.now
 message refused.NotBuilt = text.NOT_BUILT.now
+message refused.LineNotBuilt = text.NOT_BUILT.now
 
 -- what stands behind the text of an error
 abbrev pub error_tail : Refused → List ℕ

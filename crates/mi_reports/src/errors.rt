@@ -98,7 +98,7 @@ fn push_message(into: &mut Vec<u8>, refused: &Refused) -> Result<(), AllocError>
             into.extend_from_slice(name.as_slice())?;
             push(into, text::NOT_DEFINED)
         }
-        Refused::NotBuilt => push(into, text::NOT_BUILT),
+        Refused::NotBuilt | Refused::LineNotBuilt => push(into, text::NOT_BUILT),
     }
 }
 

@@ -64,7 +64,7 @@ fn obstacle(number: u32) -> Obstacle {
     }
 }
 
-// Why a line is refused, by the number of its message; 0 is that of commands that aren't built.
+// Why a line is refused, by the number of its message; 0 is that of commands and 15 that of locations that aren't built.
 fn refused(number: u32, word: ByteList) -> Refused {
     match number {
         0 => Refused::NotBuilt,
@@ -77,12 +77,13 @@ fn refused(number: u32, word: ByteList) -> Refused {
         7 => Refused::Faulty(Fault::Setting),
         13 => Refused::Faulty(Fault::Location { word, thread: None }),
         14 => Refused::UnknownName(word),
+        15 => Refused::LineNotBuilt,
         _ => Refused::Hindered(obstacle(number)),
     }
 }
 
 /// The number of each error, the word that it repeats, and its line behind the token.
-const ERRORS: [(u32, &str, &str); 26] = [
+const ERRORS: [(u32, &str, &str); 27] = [
     (0, "", "^error,msg=\"Not built yet\"\n"),
     (1, "", "^error,msg=\"Line is longer than 4096 bytes\"\n"),
     (2, "", "^error,msg=\"Malformed MI line\"\n"),
@@ -137,12 +138,15 @@ const ERRORS: [(u32, &str, &str); 26] = [
         "^error,msg=\"Cannot access memory at address 0xfffffffe\"\n",
     ),
     (14, "", "^error,msg=\"Function  not defined\"\n"),
+    (15, "", "^error,msg=\"Not built yet\"\n"),
 ];
 
 #[test]
-fn each_error_has_its_text(rt: HostRuntime) -> Result<(), Fail> {
+fn each_error_has_its_number_and_text(rt: HostRuntime) -> Result<(), Fail> {
     for (number, word, line) in ERRORS {
-        let content = Content::Refused(refused(number, bytes(rt.alloc(), word)?));
+        let refused = refused(number, bytes(rt.alloc(), word)?);
+        assert_eq!(rt; refused.number(), number);
+        let content = Content::Refused(refused);
         let want = format!(in rt.alloc(); "17{line}(gdb)\n")?;
         check(&rt, rt.alloc(), "17", content, want.as_str())?;
     }

@@ -1,0 +1,267 @@
+-- Of all that stands against a command the least number is answered.
+use Rattle.std.proofs.Common.{◌≡◌, ℕ, zero, suc, ◌≤◌, List, [], ◌∷◌, ◌++◌, refl, ap, ◌∙◌, arith}
+use Rattle.std.specs.Prelude.{Bool, true, false, not, Option, Some, None, Result, Ok, Err, is_some, length, nat_lt}
+use Rattle.elf32_read.specs.Program.{text_word}
+use Rattle.elf_symbols.specs.Names.{Names, Symbol, address_of}
+use Rattle.cond_expr.specs.declared.evaluating.Value.{Value}
+use Rattle.cond_expr.specs.declared.evaluating.Value.TheVariants as worth
+use Rattle.cond_expr.specs.declared.fault.ExprFault.{ExprFault}
+use Rattle.cond_expr.specs.declared.fault.FaultKind.{FaultKind}
+use Rattle.cond_expr.specs.declared.fault.FaultKind.TheVariants as kind
+use Rattle.cond_expr.specs.Term.{Term}
+use Rattle.cond_expr.specs.Value.{value_of}
+use Rattle.rv_exec.specs.Registers.{Registers}
+use Rattle.break_table.specs.Entry.{Condition}
+use Rattle.break_table.specs.Table.{has_number}
+use Rattle.mi_commands.specs.declared.command.Command.{Command}
+use Rattle.mi_commands.specs.declared.command.Command.TheVariants as command
+use Rattle.mi_commands.specs.declared.command.Insertion.{Insertion}
+use Rattle.mi_commands.specs.declared.command.Location.{Location}
+use Rattle.mi_commands.specs.declared.command.Location.TheVariants as location
+use Rattle.mi_commands.specs.declared.command.Target.{Target}
+use Rattle.mi_commands.specs.declared.command.Target.TheVariants as target
+use Rattle.mi_commands.specs.declared.refusal.Fault.{Fault}
+use Rattle.mi_commands.specs.declared.refusal.Fault.TheVariants as fault
+use Rattle.dbg_model.specs.declared.reply.Obstacle.TheVariants.{UnknownThread, HasExited, IsRunning, NotRunning, NoBreakpoint, NoInstruction, TooManyBreakpoints, Unreadable}
+use Rattle.dbg_model.specs.declared.reply.Refused.{Refused}
+use Rattle.dbg_model.specs.declared.reply.Refused.TheVariants as refused
+use Rattle.dbg_model.specs.declared.thread_view.ThreadView.{ThreadView}
+use Rattle.dbg_model.specs.declared.thread_view.ThreadView.TheVariants as view
+use Rattle.dbg_model.specs.Breaks.{missing_number}
+use Rattle.dbg_model.specs.Conditions.{parsed}
+use Rattle.dbg_model.specs.Limits.{breakpoints}
+use Rattle.dbg_model.specs.Views.{register, shown_byte}
+use Rattle.dbg_model.specs.Sight.{Sight, thread_at, live, live_as, running, running_as, stopped, stopped_as, thread_or}
+use Rattle.dbg_model.specs.Outcome.{and_then}
+use Rattle.dbg_model.specs.Threads.{go_on, interrupt, thread_info}
+use Rattle.dbg_model.specs.Breakpoints.{condition, expression, expression_as, insert, known, known_thread, named, none_missing, place, placed, room}
+use Rattle.dbg_model.specs.Data.{address_at, byte_at, bytes_at, evaluate, shown_at, worth_as, worth_of}
+use Rattle.dbg_model.specs.Command.{asked_reply, reply}
+use Rattle.dbg_model.specs.Refusals.{Judges, absent, against, against_asked, against_evaluate, against_insert, against_live, against_named, against_running, against_stopped, against_target, failed, has_exited, is_stopped, kind_number, no_text, no_value, number, runs, unknown, unreadable, when}
+use Rattle.dbg_answers.proofs.Tests.{From, UpTo, alone, both_from, chain, ensured_judged, ensured_up, failed_judged, first, less_from, none_from, one_from, then_done, up_then, when_from}
+
+-- ---- threads
+
+live_by : (t : ℕ) (x : Option ThreadView) → Judges (live_as t x) (when (not (is_some x)) (UnknownThread t) ++ when (has_exited x) (HasExited t))
+live_by t None = alone _
+live_by t (Some (view.Stopped r)) = refl
+live_by t (Some view.Running) = refl
+live_by t (Some view.Exited) = alone _
+
+live_judged : (s : Sight) (t : ℕ) → Judges (live s t) (against_live s t)
+live_judged s t = live_by t (thread_at s.threads t)
+
+stopped_by : (t : ℕ) (x : Option ThreadView) → Judges (stopped_as t x) ((when (not (is_some x)) (UnknownThread t) ++ when (has_exited x) (HasExited t)) ++ when (runs x) (IsRunning t))
+stopped_by t None = alone _
+stopped_by t (Some (view.Stopped r)) = refl
+stopped_by t (Some view.Running) = alone _
+stopped_by t (Some view.Exited) = alone _
+
+stopped_judged : (s : Sight) (t : ℕ) → Judges (stopped s t) (against_stopped s t)
+stopped_judged s t = stopped_by t (thread_at s.threads t)
+
+running_by : (t : ℕ) (x : Option ThreadView) → Judges (running_as t x) ((when (not (is_some x)) (UnknownThread t) ++ when (has_exited x) (HasExited t)) ++ when (is_stopped x) (NotRunning t))
+running_by t None = alone _
+running_by t (Some (view.Stopped r)) = alone _
+running_by t (Some view.Running) = refl
+running_by t (Some view.Exited) = alone _
+
+running_judged : (s : Sight) (t : ℕ) → Judges (running s t) (against_running s t)
+running_judged s t = running_by t (thread_at s.threads t)
+
+stopped_up : (t : ℕ) (x : Option ThreadView) → UpTo 10 (stopped_as t x)
+stopped_up t None = omega arith
+stopped_up t (Some (view.Stopped r)) = tt
+stopped_up t (Some view.Running) = omega arith
+stopped_up t (Some view.Exited) = omega arith
+
+go_on_judged : (s : Sight) (t : Target) → Judges (go_on s t) (against_target (against_stopped s) s t)
+go_on_judged s target.Selected = then_done (stopped s s.selected) _ (against_stopped s s.selected) (stopped_judged s s.selected)
+go_on_judged s (target.Thread t) = then_done (stopped s t) _ (against_stopped s t) (stopped_judged s t)
+go_on_judged s target.All = refl
+
+interrupt_judged : (s : Sight) (t : Target) → Judges (interrupt s t) (against_target (against_running s) s t)
+interrupt_judged s target.Selected = then_done (running s s.selected) _ (against_running s s.selected) (running_judged s s.selected)
+interrupt_judged s (target.Thread t) = then_done (running s t) _ (against_running s t) (running_judged s t)
+interrupt_judged s target.All = refl
+
+info_judged : (s : Sight) (t : Option ℕ) → Judges (thread_info s t) (against_named (against_live s) t)
+info_judged s None = refl
+info_judged s (Some t) = then_done (live s t) _ (against_live s t) (live_judged s t)
+
+named_judged : (s : Sight) (t : Option ℕ) → Judges (known_thread s t) (against_named (unknown s) t)
+named_judged s None = refl
+named_judged s (Some t) = ensured_judged (is_some (thread_at s.threads t)) (UnknownThread t)
+
+named_up : (s : Sight) (t : Option ℕ) → UpTo 8 (known_thread s t)
+named_up s None = tt
+named_up s (Some t) = ensured_up 8 (is_some (thread_at s.threads t)) (UnknownThread t) (omega arith)
+
+-- ---- numbers of breakpoints
+
+absent_from : (s : Sight) (ns : List ℕ) → From 12 (absent s ns)
+absent_from s [] = none_from 12
+absent_from s (n ∷ ns) = both_from 12 (when (not (has_number n s.breaks)) (NoBreakpoint n)) (absent s ns) (when_from 12 (not (has_number n s.breaks)) (NoBreakpoint n) (omega arith)) (absent_from s ns)
+
+known_by : (s : Sight) (n : ℕ) (ns : List ℕ) (b : Bool) → has_number n s.breaks ≡ b → Judges (known s ns) (absent s ns) → Judges (known s (n ∷ ns)) (absent s (n ∷ ns))
+known_by s n ns true is rest = rw is rest
+known_by s n ns false is rest = rw is (first (refused.Hindered (NoBreakpoint n)) (absent s ns) (absent_from s ns))
+
+known_judged : (s : Sight) (ns : List ℕ) → Judges (known s ns) (absent s ns)
+known_judged s [] = refl
+known_judged s (n ∷ ns) = known_by s n ns (has_number n s.breaks) refl (known_judged s ns)
+
+missing_up : (m : Option ℕ) → UpTo 12 (none_missing m)
+missing_up None = tt
+missing_up (Some n) = omega arith
+
+known_up : (s : Sight) (ns : List ℕ) → UpTo 12 (known s ns)
+known_up s ns = missing_up (missing_number s.breaks ns)
+
+-- ---- expressions
+
+kind_within : (k : FaultKind) → (18 ≤ kind_number k) × (kind_number k ≤ 22)
+kind_within kind.Long = (omega arith, omega arith)
+kind_within kind.Text = (omega arith, omega arith)
+kind_within kind.Number = (omega arith, omega arith)
+kind_within kind.Deep = (omega arith, omega arith)
+kind_within kind.Name = (omega arith, omega arith)
+
+expression_by : (text : List ℕ) (r : Result Term ExprFault) → From 18 (failed (expression_as text r)) × UpTo 22 (expression_as text r)
+expression_by text (Ok t) = (none_from 18, tt)
+expression_by text (Err f) = (one_from 18 _ (kind_within f.kind).0, (kind_within f.kind).1)
+
+then_failed : {A B : Type 0} (a : Result A Refused) (done : A → B) (k : ℕ) → From k (failed a) → From k (failed (and_then a (λ x. Ok (done x))))
+then_failed (Ok x) done k f = none_from k
+then_failed (Err r) done k f = f
+
+condition_from : (names : Names) (text : Option (List ℕ)) → From 18 (failed (condition names text))
+condition_from names None = none_from 18
+condition_from names (Some text) = then_failed (expression names text) _ 18 (expression_by text (parsed names text)).0
+
+condition_judged : (s : Sight) (n : ℕ) (text : Option (List ℕ)) → Judges (reply s (command.BreakCondition n text)) (absent s (n ∷ []) ++ failed (condition s.names text))
+unfolding reply
+condition_judged s n text =
+    let bad = failed (condition s.names text) in
+    chain 12 (known s (n ∷ [])) _ (absent s (n ∷ [])) bad (known_up s (n ∷ [])) (less_from 12 18 bad (omega arith) (condition_from s.names text)) (known_judged s (n ∷ [])) (λ u is.
+    then_done (condition s.names text) _ bad (failed_judged (condition s.names text)))
+
+worth_from : (v : Value) → From 22 (failed (worth_as v))
+worth_from (worth.Word n unsigned) = none_from 22
+worth_from worth.DivZero = one_from 22 _ (omega arith)
+worth_from (worth.Unread addr) = one_from 22 _ (omega arith)
+
+value_from : (s : Sight) (a : Result Registers Refused) (b : Result Condition Refused) → From 22 (no_value s a b)
+value_from s (Ok r) (Ok c) = worth_from (value_of (register r) (shown_byte s.image s.memory) c.tree)
+value_from s (Ok r) (Err f) = none_from 22
+value_from s (Err f) (Ok c) = none_from 22
+value_from s (Err f) (Err g) = none_from 22
+
+evaluate_judged : (s : Sight) (thread : Option ℕ) (text : List ℕ) → Judges (evaluate s thread text) (against_evaluate s (thread_or s.selected thread) text)
+evaluate_judged s thread text =
+    let t = thread_or s.selected thread in
+    let e = expression s.names text in
+    let none = no_value s (stopped s t) e in
+    let by = expression_by text (parsed s.names text) in
+    let behind : From 10 (failed e ++ none) = both_from 10 (failed e) none (less_from 10 18 (failed e) (omega arith) by.0) (less_from 10 22 none (omega arith) (value_from s (stopped s t) e)) in
+    chain 10 (stopped s t) _ (against_stopped s t) (failed e ++ none) (stopped_up t (thread_at s.threads t)) behind (stopped_judged s t) (λ r at.
+    chain 22 e _ (failed e) none by.1 (value_from s (stopped s t) e) (failed_judged e) (λ c is.
+    let here : none ≡ failed (worth_of s r c.tree) = ap (λ a. no_value s a e) at ∙ ap (no_value s (Ok r)) is in
+    rw here (then_done (worth_of s r c.tree) _ (failed (worth_of s r c.tree)) (failed_judged (worth_of s r c.tree)))))
+
+-- ---- memory
+
+byte_judged : (addr : ℕ) (b : Option ℕ) → Judges (byte_at addr b) (when (not (is_some b)) (Unreadable addr))
+byte_judged addr None = alone _
+byte_judged addr (Some b) = refl
+
+byte_up : (addr : ℕ) (b : Option ℕ) → UpTo 24 (byte_at addr b)
+byte_up addr None = omega arith
+byte_up addr (Some b) = tt
+
+bytes_up : (s : Sight) (addr n : ℕ) → UpTo 24 (bytes_at s addr n)
+bytes_up s addr zero = tt
+bytes_up s addr (suc n) =
+    let at = address_at addr n in
+    up_then 24 (bytes_at s addr n) _ (bytes_up s addr n) (λ bytes.
+    up_then 24 (shown_at s at) _ (byte_up at (shown_byte s.image s.memory at)) (λ b. tt))
+
+bytes_judged : (s : Sight) (addr n : ℕ) → Judges (bytes_at s addr n) (unreadable s addr n)
+bytes_judged s addr zero = refl
+bytes_judged s addr (suc n) =
+    let at = address_at addr n in
+    let b = shown_byte s.image s.memory at in
+    let here = when (not (is_some b)) (Unreadable at) in
+    chain 24 (bytes_at s addr n) _ (unreadable s addr n) here (bytes_up s addr n) (when_from 24 (not (is_some b)) (Unreadable at) (omega arith)) (bytes_judged s addr n) (λ bytes is.
+    then_done (shown_at s at) _ here (byte_judged at b))
+
+-- ---- a new breakpoint
+
+place_by : (name : List ℕ) (f : Option Symbol) → UpTo 15 (named name f) × From 8 (failed (named name f))
+place_by name None = (omega arith, one_from 8 _ (omega arith))
+place_by name (Some s) = (tt, none_from 8)
+
+place_within : (names : Names) (l : Location) → UpTo 15 (place names l) × From 8 (failed (place names l))
+place_within names (location.Address addr) = (tt, none_from 8)
+place_within names (location.Name name) = place_by name (address_of names name)
+place_within names (location.Line file line) = (omega arith, one_from 8 _ (omega arith))
+
+text_from : (s : Sight) (p : Result ℕ Refused) → From 16 (no_text s p)
+text_from s (Ok addr) = when_from 16 (not (is_some (text_word s.image addr))) (NoInstruction addr) (omega arith)
+text_from s (Err r) = none_from 16
+
+insert_judged : (s : Sight) (i : Insertion) → Judges (insert s i) (against_insert s i)
+insert_judged s i =
+    let p = place s.names i.location in
+    let texts = no_text s p in
+    let low = nat_lt (length s.breaks) breakpoints in
+    let full = when (not low) TooManyBreakpoints in
+    let bad = failed (condition s.names i.condition) in
+    let bad_from = condition_from s.names i.condition in
+    let full_from : From 17 full = when_from 17 (not low) TooManyBreakpoints (omega arith) in
+    let behind_text : From 17 (full ++ bad) = both_from 17 full bad full_from (less_from 17 18 bad (omega arith) bad_from) in
+    let behind_place : From 16 (texts ++ (full ++ bad)) = both_from 16 texts (full ++ bad) (text_from s p) (less_from 16 17 (full ++ bad) (omega arith) behind_text) in
+    let within = place_within s.names i.location in
+    let behind_thread : From 8 (failed p ++ (texts ++ (full ++ bad))) = both_from 8 (failed p) (texts ++ (full ++ bad)) within.1 (less_from 8 16 (texts ++ (full ++ bad)) (omega arith) behind_place) in
+    chain 8 (known_thread s i.thread) _ (against_named (unknown s) i.thread) (failed p ++ (texts ++ (full ++ bad))) (named_up s i.thread) behind_thread (named_judged s i.thread) (λ u e.
+    chain 15 p _ (failed p) (texts ++ (full ++ bad)) within.0 (less_from 15 16 (texts ++ (full ++ bad)) (omega arith) behind_place) (failed_judged p) (λ addr at.
+    let word = is_some (text_word s.image addr) in
+    let here : texts ≡ when (not word) (NoInstruction addr) = ap (no_text s) at in
+    chain 16 (placed s addr) _ texts (full ++ bad) (ensured_up 16 word (NoInstruction addr) (omega arith)) (less_from 16 17 (full ++ bad) (omega arith) behind_text) (rw here (ensured_judged word (NoInstruction addr))) (λ v e.
+    chain 17 (room s) _ full bad (ensured_up 17 low TooManyBreakpoints (omega arith)) (less_from 17 18 bad (omega arith) bad_from) (ensured_judged low TooManyBreakpoints) (λ w e.
+    then_done (condition s.names i.condition) _ bad (failed_judged (condition s.names i.condition))))))
+
+-- ---- all commands
+
+pub reply_judged : (s : Sight) (c : Command) → Judges (reply s c) (against s c)
+unfolding reply against
+reply_judged s (command.BreakInsert i) = insert_judged s i
+reply_judged s (command.BreakDelete ns) = then_done (known s ns) _ (absent s ns) (known_judged s ns)
+reply_judged s (command.BreakEnable ns) = then_done (known s ns) _ (absent s ns) (known_judged s ns)
+reply_judged s (command.BreakDisable ns) = then_done (known s ns) _ (absent s ns) (known_judged s ns)
+reply_judged s (command.BreakCondition n text) = condition_judged s n text
+reply_judged s (command.BreakAfter n k) = then_done (known s (n ∷ [])) _ (absent s (n ∷ [])) (known_judged s (n ∷ []))
+reply_judged s (command.Continue t) = go_on_judged s t
+reply_judged s (command.Interrupt t) = interrupt_judged s t
+reply_judged s (command.ThreadInfo t) = info_judged s t
+reply_judged s (command.ThreadSelect t) = then_done (live s t) _ (against_live s t) (live_judged s t)
+reply_judged s (command.RegisterValues t f ns) = then_done (stopped s (thread_or s.selected t)) _ (against_stopped s (thread_or s.selected t)) (stopped_judged s (thread_or s.selected t))
+reply_judged s (command.ReadMemory addr n) = then_done (bytes_at s addr n) _ (unreadable s addr n) (bytes_judged s addr n)
+reply_judged s (command.Evaluate t text) = evaluate_judged s t text
+reply_judged s (command.Step t) = alone _
+reply_judged s (command.Next t) = alone _
+reply_judged s (command.StepInstruction t) = alone _
+reply_judged s (command.NextInstruction t) = alone _
+reply_judged s (command.Finish t) = alone _
+reply_judged s (command.FrameList t) = alone _
+reply_judged s (command.FrameDepth t) = alone _
+reply_judged s (command.FrameInfo t) = alone _
+reply_judged s _ = refl
+
+pub asked_judged : (s : Sight) (r : Result Command Fault) → Judges (asked_reply s r) (against_asked s r)
+unfolding asked_reply against_asked
+asked_judged s (Ok c) = reply_judged s c
+asked_judged s (Err (fault.Location word t)) =
+    let f = refused.Faulty (fault.Location word t) in
+    chain 8 (known_thread s t) _ (against_named (unknown s) t) (f ∷ []) (named_up s t) (one_from 8 f (omega arith)) (named_judged s t) (λ u is. alone f)
+asked_judged s (Err _) = alone _

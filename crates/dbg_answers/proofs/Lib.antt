@@ -1,0 +1,6 @@
+pub mod Tests
+pub mod Judging
+pub mod Reading
+pub mod Ranges
+pub mod Lines
+pub mod Tables

@@ -1,0 +1,5 @@
+pub mod Debuggee
+pub mod Answer
+pub mod Reading
+pub mod Each
+pub mod Table

@@ -1,0 +1,113 @@
+ghost use Rattle.std.specs.Prelude.{◌≡◌};
+ghost use Rattle.std.specs.Prelude.{Result, IfOk};
+ghost use Rattle.dbg_model.specs.declared.reply.Refused.{Refused};
+ghost use Rattle.dbg_model.specs.Outcome.{Outcome, doing, showing, told};
+ghost use Rattle.dbg_answers.specs.Answer.{Gives, change_of, outcome_of};
+ghost use Rattle.dbg_answers.specs.declared.answer.Failure.TheVariants as failure;
+
+use break_table::Spec;
+use cond_expr::Expr;
+use dbg_model::{Content, Refused};
+use dbg_traits::NoMemory;
+use mi_commands::{Displaced, NumberList};
+use std::alloc::{AllocError, AllocFailed};
+
+/// What a command changes.
+#[derive(Drop)]
+pub enum Effect {
+    Nothing,
+    /// These threads go on.
+    Resume(NumberList),
+    /// An interrupt is asked of these threads.
+    Interrupt(NumberList),
+    /// This thread is selected.
+    Select(u32),
+    /// Displaced stepping is set.
+    Displace(Displaced),
+    /// A breakpoint is set.
+    Insert(Spec),
+    Delete(NumberList),
+    Enable {
+        numbers: NumberList,
+        enabled: bool,
+    },
+    Condition {
+        number: u32,
+        condition: Option<Expr>,
+    },
+    After {
+        number: u32,
+        count: u32,
+    },
+    /// The session ends.
+    Exit,
+}
+
+/// What is answered to a command, and what it changes.
+#[derive(Drop)]
+pub struct Answer {
+    pub content: Content,
+    pub effect: Effect,
+}
+
+/// An answer that changes nothing.
+pub fn showing(content: Content) -> Answer
+    ensures { outcome_of result ≡ showing content }
+{
+    Answer {
+        content,
+        effect: Effect::Nothing,
+    }
+}
+
+/// Done, with nothing to show.
+pub fn doing(effect: Effect) -> Answer
+    ensures { outcome_of result ≡ doing (change_of effect) }
+{
+    Answer {
+        content: Content::Done,
+        effect,
+    }
+}
+
+/// Why a command isn't done.
+#[derive(Drop)]
+pub enum Failure {
+    NoMemory,
+    Refused(Refused),
+}
+
+impl From<AllocError> for Failure {
+    ghost from_gives = { λ _ f. f ≡ failure.NoMemory };
+
+    fn from(_: AllocError) -> Failure {
+        Failure::NoMemory
+    }
+}
+
+impl<T: Drop> From<AllocFailed<T>> for Failure {
+    ghost from_gives = { λ _ f. f ≡ failure.NoMemory };
+
+    fn from(_: AllocFailed<T>) -> Failure {
+        Failure::NoMemory
+    }
+}
+
+impl From<Refused> for Failure {
+    ghost from_gives = { λ r f. f ≡ failure.Refused r };
+
+    fn from(refused: Refused) -> Failure {
+        Failure::Refused(refused)
+    }
+}
+
+/// What comes of a command in the end; one that is refused changes nothing.
+pub fn told(done: Result<Answer, Failure>) -> Result<Answer, NoMemory>
+    ensures { (r : Result Outcome Refused) → Gives done r → IfOk result (λ a. outcome_of a ≡ told r) }
+{
+    match done {
+        Ok(answer) => Ok(answer),
+        Err(Failure::Refused(refused)) => Ok(showing(Content::Refused(refused))),
+        Err(Failure::NoMemory) => Err(NoMemory),
+    }
+}

@@ -1,0 +1,256 @@
+ghost use Rattle.std.specs.Prelude.{◌≡◌, ◌<◌, ◌-◌, ◌^◌, ◌∷◌, [], IfOk, map, Ok};
+ghost use Rattle.std.specs.Option.{option_map};
+ghost use Rattle.elf_symbols.specs.Names.{function_at};
+ghost use Rattle.break_table.specs.Entry.{condition_of, entry_of};
+ghost use Rattle.break_table.specs.Table.{has_number};
+ghost use Rattle.dbg_model.specs.Breaks.{missing_number};
+ghost use Rattle.dbg_model.specs.Breakpoints.{after, asked_at, change_condition, condition_text, delete, enable, insert, inserting, known, known_thread, list, listed, name_of, place, placed, room};
+ghost use Rattle.dbg_answers.specs.Debuggee.{seen};
+ghost use Rattle.dbg_answers.specs.Answer.{Gives, GivesAs, outcome_of};
+
+use crate::answer::{Answer, Effect, Failure, doing, showing};
+use crate::debuggee::Debuggee;
+use crate::expressions::condition;
+use break_table::{BreakEntry, Location as PlaceText, Spec};
+use cond_expr::Expr;
+use dbg_model::{Breakpoint, BreakpointList, Content, MOST_BREAKPOINTS, Obstacle, Refused};
+use elf_symbols::Symbols;
+use mi_commands::{ByteList, Insertion, Location, NumberList};
+use std::alloc::{AllocError, Global};
+
+fn has_number(entries: &[BreakEntry], number: u32) -> bool
+    ensures { result ≡ has_number number (map entry_of entries.now) }
+{
+    match entries {
+        [] => false,
+        [first, rest @ ..] => first.number == number || has_number(rest, number),
+    }
+}
+
+// The first of the numbers that no breakpoint has.
+fn missing(entries: &[BreakEntry], numbers: &[u32]) -> Option<u32>
+    ensures { result ≡ missing_number (map entry_of entries.now) numbers.now }
+{
+    match numbers {
+        [] => None,
+        [first, rest @ ..] => {
+            if has_number(entries, *first) {
+                missing(entries, rest)
+            } else {
+                Some(*first)
+            }
+        }
+    }
+}
+
+// Each of the numbers has to be a breakpoint's.
+fn known(debuggee: &Debuggee<'_>, numbers: &[u32]) -> Result<(), Refused>
+    ensures { result ≡ known (seen debuggee.now) numbers.now }
+{
+    match missing(debuggee.table.entries(), numbers) {
+        None => Ok(()),
+        Some(number) => Err(Refused::Hindered(Obstacle::NoBreakpoint(number))),
+    }
+}
+
+/// `-break-delete N..`.
+pub fn delete(debuggee: &Debuggee<'_>, numbers: NumberList) -> Result<Answer, Failure>
+    ensures { Gives result (delete (seen debuggee.now) numbers) }
+{
+    known(debuggee, numbers.as_slice())?;
+    Ok(doing(Effect::Delete(numbers)))
+}
+
+/// `-break-enable N..` and `-break-disable N..`.
+pub fn enable(
+    debuggee: &Debuggee<'_>,
+    numbers: NumberList,
+    enabled: bool,
+) -> Result<Answer, Failure>
+    ensures { Gives result (enable (seen debuggee.now) enabled numbers) }
+{
+    known(debuggee, numbers.as_slice())?;
+    Ok(doing(Effect::Enable { numbers, enabled }))
+}
+
+/// `-break-after N COUNT`.
+pub fn after(debuggee: &Debuggee<'_>, number: u32, count: u32) -> Result<Answer, Failure>
+    ensures { Gives result (after (seen debuggee.now) number count) }
+{
+    known(debuggee, &[number])?;
+    Ok(doing(Effect::After { number, count }))
+}
+
+/// `-break-condition N [EXPR]`.
+pub fn change_condition(
+    alloc: Global,
+    debuggee: &Debuggee<'_>,
+    number: u32,
+    text: &Option<ByteList>,
+) -> Result<Answer, Failure>
+    ensures { Gives result (change_condition (seen debuggee.now) number text.now) }
+{
+    known(debuggee, &[number])?;
+    let condition = condition(alloc, debuggee.symbols, text)?;
+    Ok(doing(Effect::Condition { number, condition }))
+}
+
+// ---- breakpoints as they are listed
+
+fn bytes_of(alloc: Global, bytes: &[u8]) -> Result<ByteList, AllocError>
+    ensures { IfOk result (λ b. b ≡ bytes.now) }
+{
+    Ok(ByteList::of(Vec::from_slice(alloc, bytes)?))
+}
+
+// The name of the function at an address.
+fn function_at(alloc: Global, symbols: &Symbols, addr: u32) -> Result<Option<ByteList>, AllocError>
+    ensures { IfOk result (λ f. f ≡ option_map name_of (function_at symbols.now addr)) }
+{
+    match symbols.function_at(addr) {
+        None => Ok(None),
+        Some(named) => Ok(Some(bytes_of(alloc, named.name)?)),
+    }
+}
+
+fn condition_text(alloc: Global, condition: &Option<Expr>) -> Result<Option<ByteList>, AllocError>
+    ensures { IfOk result (λ t. t ≡ option_map condition_text (option_map condition_of condition.now)) }
+{
+    match condition {
+        None => Ok(None),
+        Some(expression) => Ok(Some(bytes_of(alloc, expression.text())?)),
+    }
+}
+
+fn listed(alloc: Global, symbols: &Symbols, entry: &BreakEntry) -> Result<Breakpoint, AllocError>
+    ensures { IfOk result (λ b. b ≡ listed symbols.now (entry_of entry.now)) }
+{
+    Ok(Breakpoint {
+        number: entry.number,
+        address: entry.address,
+        function: function_at(alloc, symbols, entry.address)?,
+        location: bytes_of(alloc, entry.location.as_slice())?,
+        temporary: entry.temporary,
+        enabled: entry.enabled,
+        ignore: entry.ignore,
+        condition: condition_text(alloc, &entry.condition)?,
+        thread: entry.thread,
+        times: entry.times,
+    })
+}
+
+/// `-break-list`.
+pub fn list(alloc: Global, debuggee: &Debuggee<'_>) -> Result<Answer, AllocError>
+    ensures { IfOk result (λ a. Ok (outcome_of a) ≡ list (seen debuggee.now)) }
+{
+    let entries = debuggee.table.entries();
+    let mut breakpoints = Vec::new(alloc);
+    for entry in entries {
+        breakpoints.push(listed(alloc, debuggee.symbols, entry)?)?;
+    }
+    Ok(showing(Content::Breakpoints(BreakpointList::of(breakpoints))))
+}
+
+// ---- a new breakpoint
+
+/// A thread that is named has to be there.
+pub fn known_thread(debuggee: &Debuggee<'_>, thread: Option<u32>) -> Result<(), Refused>
+    ensures { result ≡ known_thread (seen debuggee.now) thread }
+{
+    let Some(thread) = thread else {
+        return Ok(());
+    };
+    match debuggee.hart(thread) {
+        Some(_) => Ok(()),
+        None => Err(Refused::Hindered(Obstacle::UnknownThread(thread))),
+    }
+}
+
+// Where a location leads.
+fn place(alloc: Global, symbols: &Symbols, location: &Location) -> Result<u32, Failure>
+    ensures { GivesAs (λ a. a) result (place symbols.now location.now) }
+{
+    match location {
+        Location::Address(address) => Ok(*address),
+        Location::Name(name) => match symbols.address_of(name.as_slice()) {
+            Some(named) => Ok(named.address),
+            None => Err(Failure::Refused(Refused::UnknownName(bytes_of(alloc, name.as_slice())?))),
+        },
+        Location::Line { .. } => Err(Failure::Refused(Refused::LineNotBuilt)),
+    }
+}
+
+// A word of text has to be there.
+fn placed(debuggee: &Debuggee<'_>, address: u32) -> Result<(), Refused>
+    ensures { result ≡ placed (seen debuggee.now) address }
+{
+    match debuggee.image.text_word(address) {
+        Some(_) => Ok(()),
+        None => Err(Refused::Hindered(Obstacle::NoInstruction(address))),
+    }
+}
+
+fn room(debuggee: &Debuggee<'_>) -> Result<(), Refused>
+    ensures { result ≡ room (seen debuggee.now) }
+{
+    if debuggee.table.entries().len() < MOST_BREAKPOINTS {
+        Ok(())
+    } else {
+        Err(Refused::Hindered(Obstacle::TooManyBreakpoints))
+    }
+}
+
+// The breakpoint that is asked for at an address.
+fn inserting(
+    alloc: Global,
+    debuggee: &Debuggee<'_>,
+    address: u32,
+    insertion: &Insertion,
+    condition: Option<Expr>,
+) -> Result<Answer, AllocError>
+    requires { debuggee.now.table.now.given < 2 ^ 32 - 1 }
+    ensures { IfOk result (λ a. outcome_of a ≡ inserting (seen debuggee.now) (asked_at address insertion.now (option_map condition_of condition))) }
+{
+    let content = Content::Inserted(Breakpoint {
+        number: debuggee.table.given() + 1,
+        address,
+        function: function_at(alloc, debuggee.symbols, address)?,
+        location: bytes_of(alloc, insertion.text.as_slice())?,
+        temporary: insertion.temporary,
+        enabled: !insertion.disabled,
+        ignore: insertion.ignore,
+        condition: condition_text(alloc, &condition)?,
+        thread: insertion.thread,
+        times: 0,
+    });
+    let location = PlaceText::of(Vec::from_slice(alloc, insertion.text.as_slice())?);
+    Ok(Answer {
+        content,
+        effect: Effect::Insert(Spec {
+            address,
+            location,
+            temporary: insertion.temporary,
+            enabled: !insertion.disabled,
+            ignore: insertion.ignore,
+            condition,
+            thread: insertion.thread,
+        }),
+    })
+}
+
+/// `-break-insert`.
+pub fn insert(
+    alloc: Global,
+    debuggee: &Debuggee<'_>,
+    insertion: &Insertion,
+) -> Result<Answer, Failure>
+    requires { debuggee.now.table.now.given < 2 ^ 32 - 1 }
+    ensures { Gives result (insert (seen debuggee.now) insertion.now) }
+{
+    known_thread(debuggee, insertion.thread)?;
+    let address = place(alloc, debuggee.symbols, &insertion.location)?;
+    placed(debuggee, address)?;
+    room(debuggee)?;
+    let condition = condition(alloc, debuggee.symbols, &insertion.condition)?;
+    Ok(inserting(alloc, debuggee, address, insertion, condition)?)
+}

@@ -1,0 +1,78 @@
+ghost use Rattle.std.specs.Prelude.{◌≡◌, ◌<◌, ◌≤◌, ◌-◌, ◌^◌, IfOk, length};
+ghost use Rattle.dbg_model.specs.Outcome.{told};
+ghost use Rattle.dbg_model.specs.Command.{reply};
+ghost use Rattle.dbg_model.specs.Refusals.{Judges, against};
+ghost use Rattle.dbg_answers.specs.Debuggee.{seen};
+ghost use Rattle.dbg_answers.specs.Answer.{Gives, outcome_of};
+
+use crate::answer::{Answer, Effect, Failure, doing, showing, told};
+use crate::breakpoints::{after, change_condition, delete, enable, insert, list};
+use crate::debuggee::Debuggee;
+use crate::expressions::evaluate;
+use crate::memory::read_memory;
+use crate::registers::register_values;
+use crate::resuming::{go_on, interrupt};
+use crate::settings::setting_value;
+use crate::threads::{thread_info, thread_list, thread_select};
+use dbg_model::{Content, Refused};
+use dbg_traits::NoMemory;
+use mi_commands::Command;
+use std::alloc::Global;
+
+#[tactic(auto, unfolding(dbg_model::specs::Command::reply))]
+fn reply(alloc: Global, debuggee: &Debuggee<'_>, command: Command) -> Result<Answer, Failure>
+    requires few { length debuggee.now.threads.now ≤ 16 }
+    requires given { debuggee.now.table.now.given < 2 ^ 32 - 1 }
+    ensures { Gives result (reply (seen debuggee.now) command) }
+{
+    match command {
+        Command::Blank => Ok(showing(Content::Blank)),
+        Command::BreakInsert(insertion) => insert(alloc, debuggee, &insertion),
+        Command::BreakDelete(numbers) => delete(debuggee, numbers),
+        Command::BreakEnable(numbers) => enable(debuggee, numbers, true),
+        Command::BreakDisable(numbers) => enable(debuggee, numbers, false),
+        Command::BreakCondition { number, condition } => change_condition(
+            alloc, debuggee, number, &condition,
+        ),
+        Command::BreakAfter { number, count } => after(debuggee, number, count),
+        Command::BreakList => Ok(list(alloc, debuggee)?),
+        Command::Continue(target) => go_on(alloc, debuggee, target),
+        Command::Interrupt(target) => interrupt(alloc, debuggee, target),
+        Command::ThreadInfo { thread } => thread_info(alloc, debuggee, thread),
+        Command::ThreadSelect { thread } => thread_select(debuggee, thread),
+        Command::ThreadList => Ok(thread_list(alloc, debuggee)?),
+        Command::RegisterNames => Ok(showing(Content::RegisterNames)),
+        Command::RegisterValues {
+            thread,
+            format,
+            numbers,
+        } => register_values(alloc, debuggee, thread, format, &numbers),
+        Command::ReadMemory { address, count } => read_memory(alloc, debuggee, address, count),
+        Command::Evaluate { thread, expression } => evaluate(alloc, debuggee, thread, &expression),
+        Command::Wait | Command::SetNonStop | Command::SetMiAsync => Ok(doing(Effect::Nothing)),
+        Command::SetDisplaced(value) => Ok(doing(Effect::Displace(value))),
+        Command::Show(setting) => Ok(showing(Content::Setting(setting_value(
+            debuggee.displaced,
+            setting,
+        )))),
+        Command::Exit => Ok(Answer {
+            content: Content::Exit,
+            effect: Effect::Exit,
+        }),
+        _ => Err(Failure::Refused(Refused::NotBuilt)),
+    }
+}
+
+/// What is answered to a command, and what it changes.
+pub fn answer_command(
+    alloc: Global,
+    debuggee: &Debuggee<'_>,
+    command: Command,
+) -> Result<Answer, NoMemory>
+    requires few { length debuggee.now.threads.now ≤ 16 }
+    requires given { debuggee.now.table.now.given < 2 ^ 32 - 1 }
+    ensures gives { IfOk result (λ a. outcome_of a ≡ told (reply (seen debuggee.now) command)) }
+    ensures least { Judges (reply (seen debuggee.now) command) (against (seen debuggee.now) command) }
+{
+    told(reply(alloc, debuggee, command))
+}

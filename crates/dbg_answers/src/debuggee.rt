@@ -1,0 +1,98 @@
+ghost use Rattle.std.specs.Prelude.{◌≡◌};
+ghost use Rattle.dbg_model.specs.Sight.{thread_at, live, running, shown, stopped};
+ghost use Rattle.dbg_answers.specs.Debuggee.{seen};
+
+use break_table::BreakTable;
+use data_memory::DataMemory;
+use dbg_model::{Obstacle, Refused, Thread, ThreadView};
+use elf_symbols::Symbols;
+use elf32_read::Image;
+use mi_commands::Displaced;
+use rv_exec::Regs;
+
+/// What a command may see.
+#[derive(Clone, Copy)]
+pub struct Debuggee<'a> {
+    pub image: &'a Image,
+    pub symbols: &'a Symbols,
+    pub memory: &'a DataMemory,
+    /// Thread 1 is the first.
+    pub threads: &'a [ThreadView],
+    /// The breakpoints that the user set, and how many numbers were given to breakpoints.
+    pub table: &'a BreakTable,
+    /// The selected thread.
+    pub selected: u32,
+    pub displaced: Displaced,
+}
+
+/// A live thread; none where it has exited.
+pub fn show(thread: u32, hart: ThreadView) -> Option<Thread>
+    ensures { result ≡ shown thread hart }
+{
+    match hart {
+        ThreadView::Stopped(regs) => Some(Thread {
+            number: thread,
+            stopped_at: Some(regs.pc()),
+        }),
+        ThreadView::Running => Some(Thread {
+            number: thread,
+            stopped_at: None,
+        }),
+        ThreadView::Exited => None,
+    }
+}
+
+impl<'a> Debuggee<'a> {
+    /// The hart of a thread.
+    pub fn hart(&self, thread: u32) -> Option<ThreadView>
+        ensures { result ≡ thread_at (seen self.now).threads thread }
+    {
+        if thread == 0 {
+            return None;
+        }
+        let h = thread as usize - 1;
+        if h < self.threads.len() {
+            Some(self.threads[h])
+        } else {
+            None
+        }
+    }
+
+    /// The registers of a thread that has to be stopped.
+    pub fn stopped(&self, thread: u32) -> Result<Regs, Refused>
+        ensures { result ≡ stopped (seen self.now) thread }
+    {
+        let hart = self
+            .hart(thread)
+            .ok_or(Refused::Hindered(Obstacle::UnknownThread(thread)))?;
+        match hart {
+            ThreadView::Stopped(regs) => Ok(regs),
+            ThreadView::Running => Err(Refused::Hindered(Obstacle::IsRunning(thread))),
+            ThreadView::Exited => Err(Refused::Hindered(Obstacle::HasExited(thread))),
+        }
+    }
+
+    /// A thread that has to run.
+    pub fn running(&self, thread: u32) -> Result<(), Refused>
+        ensures { result ≡ running (seen self.now) thread }
+    {
+        let hart = self
+            .hart(thread)
+            .ok_or(Refused::Hindered(Obstacle::UnknownThread(thread)))?;
+        match hart {
+            ThreadView::Stopped(_) => Err(Refused::Hindered(Obstacle::NotRunning(thread))),
+            ThreadView::Running => Ok(()),
+            ThreadView::Exited => Err(Refused::Hindered(Obstacle::HasExited(thread))),
+        }
+    }
+
+    /// A thread that has to be live.
+    pub fn live(&self, thread: u32) -> Result<Thread, Refused>
+        ensures { result ≡ live (seen self.now) thread }
+    {
+        let hart = self
+            .hart(thread)
+            .ok_or(Refused::Hindered(Obstacle::UnknownThread(thread)))?;
+        show(thread, hart).ok_or(Refused::Hindered(Obstacle::HasExited(thread)))
+    }
+}

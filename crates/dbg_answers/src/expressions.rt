@@ -1,0 +1,80 @@
+ghost use Rattle.std.specs.Prelude.{◌≡◌};
+ghost use Rattle.std.specs.Option.{option_map};
+ghost use Rattle.break_table.specs.Entry.{condition_of};
+ghost use Rattle.dbg_model.specs.Conditions.{parsed};
+ghost use Rattle.dbg_model.specs.Breakpoints.{condition, expression};
+ghost use Rattle.dbg_model.specs.Data.{evaluate, worth_as};
+ghost use Rattle.dbg_answers.specs.Debuggee.{seen};
+ghost use Rattle.dbg_answers.specs.Answer.{Gives, GivesAs};
+ghost use Rattle.dbg_answers.specs.Reading.{ReadsAs};
+
+use crate::answer::{Answer, Failure, showing};
+use crate::debuggee::Debuggee;
+use crate::view::SeenHart;
+use cond_expr::{Expr, ParseError, Value, parse, value};
+use dbg_model::{Content, Obstacle, Refused};
+use elf_symbols::Symbols;
+use mi_commands::ByteList;
+use std::alloc::Global;
+
+fn read_text(alloc: Global, symbols: &Symbols, text: &[u8]) -> Result<Expr, ParseError>
+    ensures { ReadsAs result (parsed symbols.now text.now) text.now }
+{
+    parse(alloc, text, symbols)
+}
+
+/// The expression that a text spells.
+pub fn read(alloc: Global, symbols: &Symbols, text: &[u8]) -> Result<Expr, Failure>
+    ensures { GivesAs condition_of result (expression symbols.now text.now) }
+{
+    match read_text(alloc, symbols, text) {
+        Ok(expression) => Ok(expression),
+        Err(ParseError::Fault(fault)) => Err(Failure::Refused(Refused::Hindered(
+            Obstacle::Expression(fault),
+        ))),
+        Err(ParseError::NoMemory) => Err(Failure::NoMemory),
+    }
+}
+
+/// The condition that a text spells, if there is one.
+pub fn condition(
+    alloc: Global,
+    symbols: &Symbols,
+    text: &Option<ByteList>,
+) -> Result<Option<Expr>, Failure>
+    ensures { GivesAs (option_map condition_of) result (condition symbols.now text.now) }
+{
+    match text {
+        None => Ok(None),
+        Some(text) => Ok(Some(read(alloc, symbols, text.as_slice())?)),
+    }
+}
+
+fn worth(value: Value) -> Result<Content, Refused>
+    ensures { result ≡ worth_as value }
+{
+    match value {
+        Value::Word(word, unsigned) => Ok(Content::Value { word, unsigned }),
+        Value::DivZero => Err(Refused::Hindered(Obstacle::DivisionByZero)),
+        Value::Unread(addr) => Err(Refused::Hindered(Obstacle::Unreadable(addr))),
+    }
+}
+
+/// `-data-evaluate-expression [--thread N] EXPR`.
+pub fn evaluate(
+    alloc: Global,
+    debuggee: &Debuggee<'_>,
+    thread: Option<u32>,
+    text: &ByteList,
+) -> Result<Answer, Failure>
+    ensures { Gives result (evaluate (seen debuggee.now) thread text.now) }
+{
+    let regs = debuggee.stopped(thread.unwrap_or(debuggee.selected))?;
+    let expression = read(alloc, debuggee.symbols, text.as_slice())?;
+    let view = SeenHart {
+        regs: &regs,
+        image: debuggee.image,
+        memory: debuggee.memory,
+    };
+    Ok(showing(worth(value(&expression, &view))?))
+}

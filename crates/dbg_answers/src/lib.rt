@@ -1,0 +1,26 @@
+//! What is answered to a command and what it changes, over what a command may see.
+#![tactic(auto)]
+
+mod answer;
+mod breakpoints;
+mod command;
+mod debuggee;
+mod each;
+mod expressions;
+mod line;
+mod memory;
+mod registers;
+mod resuming;
+mod settings;
+mod table;
+mod threads;
+mod view;
+
+pub use answer::{Answer, Effect};
+pub use command::answer_command;
+pub use debuggee::Debuggee;
+pub use line::{LineAnswer, answer_fault, answer_line, waits};
+pub use table::{
+    change_table, delete_entry, enable_entry, insert_entry, set_condition, set_ignore,
+};
+pub use view::SeenHart;

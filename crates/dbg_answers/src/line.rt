@@ -1,0 +1,110 @@
+ghost use Rattle.std.specs.Prelude.{◌≡◌, ◌<◌, ◌≤◌, ◌-◌, ◌^◌, ℕ, List, IfOk, Ok, Err, length};
+ghost use Rattle.mi_commands.specs.Gives.{Commands};
+ghost use Rattle.dbg_model.specs.Outcome.{told};
+ghost use Rattle.dbg_model.specs.Command.{asked_reply};
+ghost use Rattle.dbg_model.specs.Refusals.{Judges, against_asked};
+ghost use Rattle.dbg_model.specs.Reply.{answer_to, answering, is_wait, waits};
+ghost use Rattle.dbg_answers.specs.Debuggee.{seen};
+ghost use Rattle.dbg_answers.specs.Answer.{Gives, line_answer_of, outcome_of};
+ghost use Rattle.dbg_answers.specs.Reading.{AnswersRead, IsRead};
+
+use crate::answer::{Answer, Failure, showing, told};
+use crate::breakpoints::known_thread;
+use crate::command::answer_command;
+use crate::debuggee::Debuggee;
+use dbg_model::{Content, Refused};
+use dbg_traits::NoMemory;
+use mi_commands::{Command, CommandLine, Fault, Refusal};
+use mi_values::Token;
+use std::alloc::Global;
+
+/// What is answered to a line, with its token, and what it changes.
+#[derive(Drop)]
+pub struct LineAnswer {
+    pub token: Token,
+    pub answer: Answer,
+}
+
+fn refusing(token: Token, refused: Refused) -> LineAnswer
+    ensures { line_answer_of result ≡ answering token (Err refused) }
+{
+    LineAnswer {
+        token,
+        answer: showing(Content::Refused(refused)),
+    }
+}
+
+// An unknown thread comes before a bad location.
+#[tactic(auto, unfolding(dbg_model::specs::Command::asked_reply))]
+fn refuse(debuggee: &Debuggee<'_>, fault: Fault) -> Result<Answer, Failure>
+    ensures { Gives result (asked_reply (seen debuggee.now) (Err fault)) }
+{
+    if let Fault::Location { word: _, thread } = &fault {
+        known_thread(debuggee, *thread)?;
+    }
+    Err(Failure::Refused(Refused::Faulty(fault)))
+}
+
+/// What is answered to a line that has parts and a fault. Of several errors the one with the least number is answered.
+pub fn answer_fault(debuggee: &Debuggee<'_>, fault: Fault) -> Result<Answer, NoMemory>
+    ensures gives { IfOk result (λ a. outcome_of a ≡ told (asked_reply (seen debuggee.now) (Err fault))) }
+    ensures least { Judges (asked_reply (seen debuggee.now) (Err fault)) (against_asked (seen debuggee.now) (Err fault)) }
+{
+    told(refuse(debuggee, fault))
+}
+
+#[tactic(auto, unfolding(dbg_model::specs::Command::asked_reply))]
+fn answer_read(
+    alloc: Global,
+    debuggee: &Debuggee<'_>,
+    read: Result<CommandLine, Refusal>,
+) -> Result<LineAnswer, NoMemory>
+    requires few { length debuggee.now.threads.now ≤ 16 }
+    requires given { debuggee.now.table.now.given < 2 ^ 32 - 1 }
+    ensures { IfOk result (λ a. AnswersRead (seen debuggee.now) read (line_answer_of a)) }
+{
+    match read {
+        Ok(line) => Ok(LineAnswer {
+            token: line.token,
+            answer: answer_command(alloc, debuggee, line.command)?,
+        }),
+        Err(Refusal::NoMemory) => Err(NoMemory),
+        Err(Refusal::Long) => Ok(refusing(Token::none(alloc), Refused::Long)),
+        Err(Refusal::Syntax) => Ok(refusing(Token::none(alloc), Refused::Syntax)),
+        Err(Refusal::Cli(token)) => Ok(refusing(token, Refused::Cli)),
+        Err(Refusal::Faulty { token, fault }) => Ok(LineAnswer {
+            token,
+            answer: answer_fault(debuggee, fault)?,
+        }),
+    }
+}
+
+/// What is answered to a line and what it changes, from what was read of it.
+pub fn answer_line(
+    alloc: Global,
+    debuggee: &Debuggee<'_>,
+    read: Result<CommandLine, Refusal>,
+) -> Result<LineAnswer, NoMemory>
+    requires few { length debuggee.now.threads.now ≤ 16 }
+    requires given { debuggee.now.table.now.given < 2 ^ 32 - 1 }
+    ensures { (line : List ℕ) → Commands line read → IfOk result (λ a. line_answer_of a ≡ answer_to (seen debuggee.now) line) }
+{
+    answer_read(alloc, debuggee, read)
+}
+
+fn is_wait(command: &Command) -> bool
+    ensures { result ≡ waits (Ok command.now) }
+{
+    matches!(command, Command::Wait)
+}
+
+/// Whether a line is the command that waits until no hart runs, from what was read of it.
+pub fn waits(read: &Result<CommandLine, Refusal>) -> bool
+    requires { IsRead read.now }
+    ensures { (line : List ℕ) → Commands line read.now → result ≡ is_wait line }
+{
+    match read {
+        Ok(line) => is_wait(&line.command),
+        Err(_refusal) => false,
+    }
+}

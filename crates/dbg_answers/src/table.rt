@@ -1,0 +1,94 @@
+// What an effect makes of the table of breakpoints. A number that is given twice is met once.
+ghost use Rattle.std.specs.Prelude.{◌≡◌, ◌-◌, ◌^◌, ◌<◌, None};
+ghost use Rattle.std.specs.Option.{option_map};
+ghost use Rattle.break_table.specs.Entry.{asked_of, condition_of};
+ghost use Rattle.break_table.specs.Table.{changed, deleted, insert_fault, inserted, with_condition, with_enabled, with_ignore};
+ghost use Rattle.dbg_model.specs.Breaks.{enabling, without};
+ghost use Rattle.dbg_answers.specs.Answer.{change_of};
+ghost use Rattle.dbg_answers.specs.Table.{CanBeMade, changed_table};
+
+use crate::answer::Effect;
+use break_table::{BreakTable, Spec};
+use cond_expr::Expr;
+
+/// A new breakpoint.
+pub fn insert_entry(table: &mut BreakTable, spec: Spec)
+    requires given { table.old.given < 2 ^ 32 - 1 }
+    requires may { insert_fault table.old (asked_of spec) ≡ None }
+    ensures { table.new ≡ inserted table.old (asked_of spec) }
+{
+    let _ = table.insert(spec);
+}
+
+/// The breakpoint of a number goes, if there is one.
+pub fn delete_entry(table: &mut BreakTable, number: u32)
+    ensures { table.new ≡ deleted number table.old }
+{
+    let _ = table.delete(number);
+}
+
+/// The breakpoint of a number is enabled, or disabled, if there is one.
+pub fn enable_entry(table: &mut BreakTable, number: u32, enabled: bool)
+    ensures { table.new ≡ changed (with_enabled enabled) number table.old }
+{
+    let _ = if enabled {
+        table.enable(number)
+    } else {
+        table.disable(number)
+    };
+}
+
+/// The breakpoint of a number gets another condition or none, if there is one.
+pub fn set_condition(table: &mut BreakTable, number: u32, condition: Option<Expr>)
+    ensures { table.new ≡ changed (with_condition (option_map condition_of condition)) number table.old }
+{
+    let _ = table.condition(number, condition);
+}
+
+/// So many arrivals at the breakpoint of a number are only counted, if there is one.
+pub fn set_ignore(table: &mut BreakTable, number: u32, count: u32)
+    ensures { table.new ≡ changed (with_ignore count) number table.old }
+{
+    let _ = table.after(number, count);
+}
+
+fn delete_each(table: &mut BreakTable, numbers: &[u32])
+    ensures { table.new ≡ record table.old { entries = without numbers.now table.old.entries } }
+{
+    let [number, rest @ ..] = numbers else {
+        return;
+    };
+    delete_entry(table, *number);
+    delete_each(table, rest);
+}
+
+fn enable_each(table: &mut BreakTable, numbers: &[u32], enabled: bool)
+    ensures { table.new ≡ record table.old { entries = enabling enabled numbers.now table.old.entries } }
+{
+    let [number, rest @ ..] = numbers else {
+        return;
+    };
+    enable_entry(table, *number, enabled);
+    enable_each(table, rest, enabled);
+}
+
+/// Makes an effect of a command in the table.
+pub fn change_table(table: &mut BreakTable, effect: Effect)
+    requires given { table.old.given < 2 ^ 32 - 1 }
+    requires may { CanBeMade table.old effect }
+    ensures { table.new ≡ changed_table table.old (change_of effect) }
+{
+    match effect {
+        Effect::Insert(spec) => insert_entry(table, spec),
+        Effect::Delete(numbers) => delete_each(table, numbers.as_slice()),
+        Effect::Enable { numbers, enabled } => enable_each(table, numbers.as_slice(), enabled),
+        Effect::Condition { number, condition } => set_condition(table, number, condition),
+        Effect::After { number, count } => set_ignore(table, number, count),
+        Effect::Nothing
+        | Effect::Resume(_)
+        | Effect::Interrupt(_)
+        | Effect::Select(_)
+        | Effect::Displace(_)
+        | Effect::Exit => {}
+    }
+}

@@ -1,0 +1,63 @@
+ghost use Rattle.std.specs.Prelude.{◌≡◌, ◌≤◌, IfOk, Ok, length};
+ghost use Rattle.dbg_model.specs.Sight.{live_number};
+ghost use Rattle.dbg_model.specs.Threads.{thread_info, thread_list, thread_select};
+ghost use Rattle.dbg_answers.specs.Debuggee.{seen};
+ghost use Rattle.dbg_answers.specs.Answer.{Gives, outcome_of};
+
+use crate::answer::{Answer, Effect, Failure, showing};
+use crate::debuggee::{Debuggee, show};
+use crate::each::each;
+use dbg_model::{Content, ThreadList, ThreadView};
+use mi_commands::NumberList;
+use std::alloc::{AllocError, Global};
+
+/// `-thread-info [N]`.
+pub fn thread_info(
+    alloc: Global,
+    debuggee: &Debuggee<'_>,
+    thread: Option<u32>,
+) -> Result<Answer, Failure>
+    requires { length debuggee.now.threads.now ≤ 16 }
+    ensures { Gives result (thread_info (seen debuggee.now) thread) }
+{
+    let threads = match thread {
+        None => each(alloc, debuggee.threads, show)?,
+        Some(thread) => vec![in alloc; debuggee.live(thread)?]?,
+    };
+    Ok(showing(Content::Threads {
+        threads: ThreadList::of(threads),
+        selected: debuggee.selected,
+    }))
+}
+
+/// `-thread-select N`.
+pub fn thread_select(debuggee: &Debuggee<'_>, thread: u32) -> Result<Answer, Failure>
+    ensures { Gives result (thread_select (seen debuggee.now) thread) }
+{
+    debuggee.live(thread)?;
+    Ok(Answer {
+        content: Content::Selected(thread),
+        effect: Effect::Select(thread),
+    })
+}
+
+fn live_number(thread: u32, hart: ThreadView) -> Option<u32>
+    ensures { result ≡ live_number thread hart }
+{
+    match hart {
+        ThreadView::Stopped(_) | ThreadView::Running => Some(thread),
+        ThreadView::Exited => None,
+    }
+}
+
+/// `-thread-list-ids`.
+pub fn thread_list(alloc: Global, debuggee: &Debuggee<'_>) -> Result<Answer, AllocError>
+    requires { length debuggee.now.threads.now ≤ 16 }
+    ensures { IfOk result (λ a. Ok (outcome_of a) ≡ thread_list (seen debuggee.now)) }
+{
+    let numbers = each(alloc, debuggee.threads, live_number)?;
+    Ok(showing(Content::ThreadNumbers {
+        numbers: NumberList::of(numbers),
+        selected: debuggee.selected,
+    }))
+}

@@ -1,0 +1,191 @@
+-- Why a command is refused: the number of each error, all that stands against a command, and which of it is answered.
+use Rattle.std.specs.Prelude.{ℕ, zero, suc, ◌≡◌, ◌≤◌, ◌<◌, Bool, true, false, not, List, [], ◌∷◌, ◌++◌, length, Option, Some, None, Result, Ok, Err, is_some, if◌then◌else◌, nat_lt, All}
+use Rattle.rv_exec.specs.Registers.{Registers}
+use Rattle.elf32_read.specs.Program.{text_word}
+use Rattle.cond_expr.specs.declared.fault.FaultKind.{FaultKind}
+use Rattle.cond_expr.specs.declared.fault.FaultKind.TheVariants as kind
+use Rattle.mi_commands.specs.declared.command.Command.{Command}
+use Rattle.mi_commands.specs.declared.command.Command.TheVariants as command
+use Rattle.mi_commands.specs.declared.command.Insertion.{Insertion}
+use Rattle.mi_commands.specs.declared.command.Target.{Target}
+use Rattle.mi_commands.specs.declared.command.Target.TheVariants as target
+use Rattle.mi_commands.specs.declared.refusal.Fault.{Fault}
+use Rattle.mi_commands.specs.declared.refusal.Fault.TheVariants as fault
+use Rattle.mi_commands.specs.Faults.{fault_number}
+use Rattle.break_table.specs.Entry.{Condition}
+use Rattle.break_table.specs.Table.{has_number}
+use Rattle.dbg_model.specs.declared.thread_view.ThreadView.{ThreadView}
+use Rattle.dbg_model.specs.declared.thread_view.ThreadView.TheVariants as view
+use Rattle.dbg_model.specs.declared.reply.Content.{Content}
+use Rattle.dbg_model.specs.declared.reply.Content.TheVariants as content
+use Rattle.dbg_model.specs.declared.reply.Obstacle.{Obstacle}
+use Rattle.dbg_model.specs.declared.reply.Obstacle.TheVariants.{UnknownThread, HasExited, IsRunning, NotRunning, NoBreakpoint, NoInstruction, TooManyBreakpoints, Expression, DivisionByZero, Unreadable}
+use Rattle.dbg_model.specs.declared.reply.Refused.{Refused}
+use Rattle.dbg_model.specs.declared.reply.Refused.TheVariants as refused
+use Rattle.dbg_model.specs.Limits.{breakpoints}
+use Rattle.dbg_model.specs.Views.{shown_byte}
+use Rattle.dbg_model.specs.Sight.{Sight, thread_at, stopped, thread_or}
+use Rattle.dbg_model.specs.Outcome.{and_then}
+use Rattle.dbg_model.specs.Breakpoints.{condition, expression, place}
+use Rattle.dbg_model.specs.Data.{address_at, worth_of}
+
+-- ---- numbers
+
+abbrev pub kind_number : FaultKind → ℕ
+kind_number kind.Long = 18
+kind_number kind.Text = 19
+kind_number kind.Number = 20
+kind_number kind.Deep = 21
+kind_number kind.Name = 22
+
+abbrev pub obstacle_number : Obstacle → ℕ
+obstacle_number (UnknownThread thread) = 8
+obstacle_number (HasExited thread) = 9
+obstacle_number (IsRunning thread) = 10
+obstacle_number (NotRunning thread) = 11
+obstacle_number (NoBreakpoint number) = 12
+obstacle_number (NoInstruction addr) = 16
+obstacle_number TooManyBreakpoints = 17
+obstacle_number (Expression f) = kind_number f.kind
+obstacle_number DivisionByZero = 23
+obstacle_number (Unreadable addr) = 24
+
+-- the number of an error, by which it is chosen of several
+abbrev pub number : Refused → ℕ
+number refused.NotBuilt = 0
+number refused.Long = 1
+number refused.Syntax = 2
+number refused.Cli = 3
+number (refused.Faulty f) = fault_number f
+number (refused.Hindered o) = obstacle_number o
+number (refused.UnknownName name) = 14
+number refused.LineNotBuilt = 15
+
+-- the number of the error that is answered, if one is
+abbrev pub refused_number : Content → Option ℕ
+refused_number (content.Refused r) = Some (number r)
+refused_number _ = None
+
+-- ---- what stands against a command: each error where it holds, whatever else does
+
+abbrev pub when : Bool → Obstacle → List Refused
+when b o = if b then refused.Hindered o ∷ [] else []
+
+abbrev pub failed : {A : Type 0} → Result A Refused → List Refused
+failed (Ok x) = []
+failed (Err r) = r ∷ []
+
+abbrev pub has_exited : Option ThreadView → Bool
+has_exited (Some view.Exited) = true
+has_exited _ = false
+
+abbrev pub runs : Option ThreadView → Bool
+runs (Some view.Running) = true
+runs _ = false
+
+abbrev pub is_stopped : Option ThreadView → Bool
+is_stopped (Some (view.Stopped r)) = true
+is_stopped _ = false
+
+abbrev pub unknown : Sight → ℕ → List Refused
+unknown s thread = when (not (is_some (thread_at s.threads thread))) (UnknownThread thread)
+
+-- against a thread that has to be live
+abbrev pub against_live : Sight → ℕ → List Refused
+against_live s thread = unknown s thread ++ when (has_exited (thread_at s.threads thread)) (HasExited thread)
+
+-- against a thread that has to be stopped
+abbrev pub against_stopped : Sight → ℕ → List Refused
+against_stopped s thread = against_live s thread ++ when (runs (thread_at s.threads thread)) (IsRunning thread)
+
+-- against a thread that has to run
+abbrev pub against_running : Sight → ℕ → List Refused
+against_running s thread = against_live s thread ++ when (is_stopped (thread_at s.threads thread)) (NotRunning thread)
+
+-- against the threads of a target
+abbrev pub against_target : (ℕ → List Refused) → Sight → Target → List Refused
+against_target against_one s target.Selected = against_one s.selected
+against_target against_one s (target.Thread thread) = against_one thread
+against_target against_one s target.All = []
+
+abbrev pub against_named : (ℕ → List Refused) → Option ℕ → List Refused
+against_named against_one None = []
+against_named against_one (Some thread) = against_one thread
+
+-- each of the numbers that no breakpoint has
+abbrev pub absent : Sight → List ℕ → List Refused
+absent s [] = []
+absent s (n ∷ ns) = when (not (has_number n s.breaks)) (NoBreakpoint n) ++ absent s ns
+
+abbrev pub no_text : Sight → Result ℕ Refused → List Refused
+no_text s (Ok addr) = when (not (is_some (text_word s.image addr))) (NoInstruction addr)
+no_text s (Err r) = []
+
+abbrev pub against_insert : Sight → Insertion → List Refused
+against_insert s i =
+    against_named (unknown s) i.thread
+    ++ (failed (place s.names i.location)
+    ++ (no_text s (place s.names i.location)
+    ++ (when (not (nat_lt (length s.breaks) breakpoints)) TooManyBreakpoints
+    ++ failed (condition s.names i.condition))))
+
+-- each address of a range that has no byte
+abbrev pub unreadable : Sight → ℕ → ℕ → List Refused
+unreadable s addr zero = []
+unreadable s addr (suc n) = unreadable s addr n ++ when (not (is_some (shown_byte s.image s.memory (address_at addr n)))) (Unreadable (address_at addr n))
+
+-- against the value of an expression, which there is only of a stopped thread and of a text without fault
+abbrev pub no_value : Sight → Result Registers Refused → Result Condition Refused → List Refused
+no_value s (Ok r) (Ok c) = failed (worth_of s r c.tree)
+no_value s _ _ = []
+
+abbrev pub against_evaluate : Sight → ℕ → List ℕ → List Refused
+against_evaluate s thread text =
+    against_stopped s thread
+    ++ (failed (expression s.names text)
+    ++ no_value s (stopped s thread) (expression s.names text))
+
+unfoldable pub against : Sight → Command → List Refused
+against s (command.BreakInsert i) = against_insert s i
+against s (command.BreakDelete ns) = absent s ns
+against s (command.BreakEnable ns) = absent s ns
+against s (command.BreakDisable ns) = absent s ns
+against s (command.BreakCondition n text) = absent s (n ∷ []) ++ failed (condition s.names text)
+against s (command.BreakAfter n count) = absent s (n ∷ [])
+against s (command.Continue target) = against_target (against_stopped s) s target
+against s (command.Interrupt target) = against_target (against_running s) s target
+against s (command.ThreadInfo thread) = against_named (against_live s) thread
+against s (command.ThreadSelect thread) = against_live s thread
+against s (command.RegisterValues thread format numbers) = against_stopped s (thread_or s.selected thread)
+against s (command.ReadMemory addr count) = unreadable s addr count
+against s (command.Evaluate thread text) = against_evaluate s (thread_or s.selected thread) text
+against s (command.Step thread) = refused.NotBuilt ∷ []
+against s (command.Next thread) = refused.NotBuilt ∷ []
+against s (command.StepInstruction thread) = refused.NotBuilt ∷ []
+against s (command.NextInstruction thread) = refused.NotBuilt ∷ []
+against s (command.Finish thread) = refused.NotBuilt ∷ []
+against s (command.FrameList thread) = refused.NotBuilt ∷ []
+against s (command.FrameDepth thread) = refused.NotBuilt ∷ []
+against s (command.FrameInfo thread) = refused.NotBuilt ∷ []
+against s _ = []
+
+-- against a line that has parts; of a bad location only an unknown thread has a lesser number
+unfoldable pub against_asked : Sight → Result Command Fault → List Refused
+against_asked s (Ok c) = against s c
+against_asked s (Err (fault.Location word thread)) = against_named (unknown s) thread ++ refused.Faulty (fault.Location word thread) ∷ []
+against_asked s (Err f) = refused.Faulty f ∷ []
+
+-- ---- which of them is answered
+
+-- the first of those that have the least number
+pub record IsLeast (r : Refused) (rs : List Refused) : Type 0 where
+  pub before : List Refused
+  pub behind : List Refused
+  pub stands : rs ≡ before ++ r ∷ behind
+  pub above : All (λ x. number r < number x) before
+  pub least : All (λ x. number r ≤ number x) behind
+
+-- it is refused exactly where something stands against it, and then with the least number of all that does
+abbrev pub Judges : {A : Type 0} → Result A Refused → List Refused → Type 0
+Judges (Ok x) rs = rs ≡ []
+Judges (Err r) rs = IsLeast r rs
