@@ -1,20 +1,42 @@
--- Several turns of a hart, each of which executes one instruction.
-use Rattle.std.specs.Prelude.{◌≡◌, ℕ, zero, suc, List}
+-- Several turns of a hart of which nothing is said.
+use Rattle.std.specs.Prelude.{◌≡◌, ℕ, zero, suc, Bool, true, false, List}
 use Rattle.dbg_model.specs.declared.entry.Entry.{Entry}
 use Rattle.dbg_model.specs.Journals.{lengthened}
 use Rattle.engine_facts.specs.Seen.{Run}
 use Rattle.engine_facts.specs.Facts.{Facts}
+use Rattle.dbg_engine.specs.declared.moving.Turned.{Turned}
 use Rattle.dbg_engine.specs.declared.moving.Turned.TheVariants as turned
-use Rattle.dbg_engine.specs.Rows.{Executes, row_at}
+use Rattle.dbg_engine.specs.Rows.{row_at, row_of}
 use Rattle.dbg_engine.specs.Calls.{Turns}
 
--- a turn of hart h that answers `Ran`, the first move that fits, from an engine of which P holds
+-- the answers of which nothing is said, and nothing but an instruction is noted
+abbrev pub is_quiet : Turned → Bool
+is_quiet turned.Ran = true
+is_quiet turned.Copied = true
+is_quiet turned.Fixed = true
+is_quiet turned.Lifted = true
+is_quiet turned.Planted = true
+is_quiet turned.Over = false
+is_quiet turned.NotRunning = false
+is_quiet (turned.Held by) = false
+is_quiet turned.NoSlot = false
+is_quiet (turned.Wrote addr len) = false
+is_quiet (turned.Left code) = false
+is_quiet (turned.AllLeft code count) = false
+is_quiet (turned.Stopped cause) = false
+is_quiet turned.Interrupted = false
+is_quiet turned.Counted = false
+is_quiet (turned.Arrived number temporary error) = false
+
+-- a turn of hart h with such an answer, the first move that fits, from an engine of which P holds
 pub record ThenTurns (P : Run → Type 0) (new : Run) (h : ℕ) : Type 0 where
   pub run : Run
   pub before : P run
   pub facts : Facts run
-  pub first : row_at run h ≡ Executes
-  pub turn : Turns turned.Ran run new h
+  pub answer : Turned
+  pub quiet : is_quiet answer ≡ true
+  pub first : row_at run h ≡ row_of answer
+  pub turn : Turns answer run new h
 
 -- n such turns
 abbrev pub AllTurned : ℕ → Run → Run → ℕ → Type 0

@@ -3,9 +3,11 @@ ghost use Rattle.std.specs.Prelude.{◌≡◌, ◌<◌, ◌≤◌, None, length,
 ghost use Rattle.dbg_engine.specs.Several.{AllTurned};
 
 use super::Engine;
+use crate::going::{Course, go};
 use crate::journal::note_runs;
 use crate::moving::ran_mind;
 use engine_facts::{Activity, Hold, Mind, Phase};
+use mi_commands::Displaced;
 
 // Whether a hart runs, steps over nothing and isn't interrupted, and no patch is lifted.
 fn is_alone(mind: Mind, hold: Option<Hold>) -> bool
@@ -23,8 +25,8 @@ fn is_alone(mind: Mind, hold: Option<Hold>) -> bool
 impl Engine {
     ghost use Rattle.engine_facts.specs.Facts.{Facts};
 
-    /// Executes instructions of a hart in one call, each of which is a turn that answers `Ran`: at most `limit`, and how
-    /// many. Where another turn is next it is none.
+    /// Takes a hart on by turns of which nothing is said, in one call: at most `limit`, and how many. Each is a turn that
+    /// answers `Ran`, or is of a step over a breakpoint at which nothing is due. Where another turn is next it is none.
     pub fn run(&mut self, h: u32, limit: u32) -> u32
         requires hart { h < length self.old.minds }
         requires spare { 32 ≤ self.old.spare }
@@ -40,13 +42,20 @@ impl Engine {
             return 0;
         }
         let most = (self.opening.settings.budget - self.retired).min(u64::from(limit));
-        let count = self.machine.run(h, most as u32);
-        if count == 0 {
+        let course = Course {
+            hart: h,
+            table: &self.table,
+            image: &self.opening.image,
+            copies: self.displaced != Displaced::Off,
+        };
+        let progress = go(&mut self.machine, &course, limit, most as u32);
+        if progress.instructions == 0 {
             return 0;
         }
-        note_runs(&mut self.entries, h, u64::from(count));
+        let count = u64::from(progress.instructions);
+        note_runs(&mut self.entries, h, count);
         self.minds[h as usize] = ran_mind(mind);
-        self.retired += u64::from(count);
-        count
+        self.retired += count;
+        progress.turns
     }
 }
