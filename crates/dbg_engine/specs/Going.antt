@@ -1,5 +1,5 @@
 -- How a hart goes on by itself: it executes instructions, and steps over planted words at which nothing is due.
-use Rattle.std.specs.Prelude.{◌≡◌, ◌<◌, ◌^◌, ℕ, suc, true, false, List, [], ◌∷◌, length, Some, slice_get}
+use Rattle.std.specs.Prelude.{◌≡◌, ◌<◌, ◌^◌, ℕ, suc, Bool, true, false, List, [], ◌∷◌, length, Some, slice_get}
 use Rattle.rv_exec.specs.Registers.{set_pc}
 use Rattle.rv_exec.specs.declared.effect.Stepped.TheVariants as stepped
 use Rattle.elf32_read.specs.Program.{Program}
@@ -24,8 +24,10 @@ turns_of [] = 0
 turns_of (InPlace ∷ ws) = suc (turns_of ws)
 turns_of (ByCopy ∷ ws) = suc (suc (suc (turns_of ws)))
 
--- hart h is at a planted word at which these breakpoints neither stop nor count it, and stepped over it by a copy
-pub record Passes (p : Program) (bs : List BreakEntry) (h : ℕ) (old new : Patched) : Type 0 where
+-- hart h is at a planted word at which these breakpoints neither stop nor count it, and stepped over it by a copy, where
+-- that is on
+pub record Passes (p : Program) (bs : List BreakEntry) (h : ℕ) (on : Bool) (old new : Patched) : Type 0 where
+  pub is_on : on ≡ true
   pub core : Core
   pub word : ℕ
   pub at : slice_get old.cores h ≡ Some core
@@ -44,14 +46,14 @@ pub record ThenGoes (P Step : Patched → Type 0) : Type 0 where
 
 -- Hart h went these ways, of which the last comes first, while it had executed fewer than `most` instructions; a copy's own
 -- isn't the last of them, since its step is finished by a turn of its own.
-abbrev pub GoesBy : Program → List BreakEntry → ℕ → ℕ → List Way → Patched → Patched → Type 0
-GoesBy p bs h most [] old new = new ≡ old
-GoesBy p bs h most (InPlace ∷ ws) old new = (length ws < most) × ThenGoes (λ m. GoesBy p bs h most ws old m) (λ m. Steps stepped.Ran m h new)
-GoesBy p bs h most (ByCopy ∷ ws) old new = (suc (length ws) < most) × ThenGoes (λ m. GoesBy p bs h most ws old m) (λ m. Passes p bs h m new)
+abbrev pub GoesBy : Program → List BreakEntry → ℕ → Bool → ℕ → List Way → Patched → Patched → Type 0
+GoesBy p bs h on most [] old new = new ≡ old
+GoesBy p bs h on most (InPlace ∷ ws) old new = (length ws < most) × ThenGoes (λ m. GoesBy p bs h on most ws old m) (λ m. Steps stepped.Ran m h new)
+GoesBy p bs h on most (ByCopy ∷ ws) old new = (suc (length ws) < most) × ThenGoes (λ m. GoesBy p bs h on most ws old m) (λ m. Passes p bs h on m new)
 
 -- so many turns, with so many instructions
-pub record Goes (p : Program) (bs : List BreakEntry) (h most turns instructions : ℕ) (old new : Patched) : Type 0 where
+pub record Goes (p : Program) (bs : List BreakEntry) (h : ℕ) (on : Bool) (most turns instructions : ℕ) (old new : Patched) : Type 0 where
   pub ways : List Way
   pub turns_are : turns ≡ turns_of ways
   pub instructions_are : instructions ≡ length ways
-  pub goes : GoesBy p bs h most ways old new
+  pub goes : GoesBy p bs h on most ways old new

@@ -1,8 +1,14 @@
 -- Several turns of a hart of which nothing is said.
-use Rattle.std.specs.Prelude.{◌≡◌, ℕ, zero, suc, Bool, true, false, List}
+use Rattle.std.specs.Prelude.{◌≡◌, ◌⊎◌, ◌&&◌, not, ℕ, zero, suc, Bool, true, false, List, Option, Some, is_none, slice_get}
+use Rattle.hart_machine.specs.Running.{HasStopped}
 use Rattle.dbg_model.specs.declared.entry.Entry.{Entry}
 use Rattle.dbg_model.specs.Journals.{lengthened}
-use Rattle.engine_facts.specs.Seen.{Run}
+use Rattle.dbg_model.specs.Lawful.{may_go}
+use Rattle.engine_facts.specs.declared.mind.Hold.{Hold}
+use Rattle.engine_facts.specs.declared.mind.Mind.{Mind}
+use Rattle.engine_facts.specs.Minds.{runs}
+use Rattle.engine_facts.specs.Movers.{is_idle}
+use Rattle.engine_facts.specs.Seen.{Run, seen}
 use Rattle.engine_facts.specs.Facts.{Facts}
 use Rattle.dbg_engine.specs.declared.moving.Turned.{Turned}
 use Rattle.dbg_engine.specs.declared.moving.Turned.TheVariants as turned
@@ -42,6 +48,14 @@ pub record ThenTurns (P : Run → Type 0) (new : Run) (h : ℕ) : Type 0 where
 abbrev pub AllTurned : ℕ → Run → Run → ℕ → Type 0
 AllTurned zero old new h = new ≡ old
 AllTurned (suc n) old new h = ThenTurns (λ r. AllTurned n old r h) new h
+
+-- a hart that runs, steps over nothing and isn't interrupted, and no patch is lifted
+abbrev pub is_alone : Mind → Option Hold → Bool
+is_alone x hold = ((runs x && is_idle x.phase) && not x.asked) && is_none hold
+
+-- Hart h goes no further by such turns in one call: the session is over, the hart isn't alone, or it stops at its pc.
+abbrev pub Rests : Run → ℕ → Type 0
+Rests r h = (may_go r.opening (seen r) ≡ false) ⊎ (((x : Mind) → slice_get r.minds h ≡ Some x → is_alone x r.hold ≡ false) ⊎ HasStopped r.machine h)
 
 -- the journal after n more instructions of a hart
 abbrev pub lengthened_by : ℕ → List Entry → ℕ → List Entry
