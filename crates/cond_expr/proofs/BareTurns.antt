@@ -2,7 +2,6 @@
 use Rattle.std.proofs.Common.{◌≡◌, ℕ, zero, suc, ◌+◌, ◌-◌, ◌≤◌, List, [], ◌∷◌, ◌++◌, length, Bool, true, false, refl, sym, ap, ◌∙◌, append_assoc, arith, if◌then◌else◌}
 use Rattle.std.proofs.lemmas.List.{append-nil}
 use Rattle.cond_expr.specs.declared.bare.BareName.{BareName}
-use Rattle.cond_expr.specs.declared.token.Spot.{Spot}
 use Rattle.cond_expr.specs.Token.{wants_behind}
 use Rattle.cond_expr.specs.Lex.{is_blank, is_name_start, spot_at}
 use Rattle.cond_expr.specs.Bare.{bare_at, bare_from, name_of, no_names, IsRow}

@@ -3,7 +3,6 @@
 use Rattle.std.specs.Prelude.{ℕ, zero, suc, ◌+◌, ◌-◌, ◌≤◌, List, [], ◌∷◌, ◌++◌, length, Bool, true, if◌then◌else◌}
 use Rattle.elf_symbols.specs.Names.{Names}
 use Rattle.cond_expr.specs.declared.bare.BareName.{BareName}
-use Rattle.cond_expr.specs.declared.token.Spot.{Spot}
 use Rattle.cond_expr.specs.Lex.{is_blank, is_name_start, spot_at}
 use Rattle.cond_expr.specs.Token.{wants_behind}
 

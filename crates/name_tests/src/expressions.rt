@@ -112,7 +112,11 @@ fn faults_by_the_places_of_the_given_text(rt: HostRuntime) -> Result<(), Fail> {
     let symbols = generated_symbols(rt.alloc())?;
     for (text, kind, at) in FAULTS {
         let found = parsed(rt.alloc(), &symbols, text).err();
-        assert_eq!(rt; found, Some(ParseError::Fault(ExprFault { kind, at })), "of {text}");
+        assert_eq!(rt;
+            found,
+            Some(ParseError::Fault(ExprFault { kind, at })),
+            "of {text}"
+        );
     }
     for text in LONG {
         let fault = ExprFault {
