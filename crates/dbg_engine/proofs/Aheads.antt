@@ -11,7 +11,6 @@ use Rattle.step_over.specs.declared.phase.Phase.TheVariants as phase
 use Rattle.hart_machine.specs.declared.hart.Core.{Core}
 use Rattle.hart_machine.specs.Patched.{Patched}
 use Rattle.hart_machine.specs.Stepping.{FetchGives, StepsTo}
-use Rattle.hart_machine.specs.Running.{AllRan}
 use Rattle.dbg_model.specs.Lawful.{may_go}
 use Rattle.hart_machine.proofs.Copying.{fetch_text}
 use Rattle.hart_machine.proofs.Places.{same_some, set_twice, get-set_same}

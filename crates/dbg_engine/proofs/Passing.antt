@@ -1,5 +1,5 @@
 -- A step over a planted word by a copy, in one call, is three turns.
-use Rattle.std.proofs.Common.{◌≡◌, ◌<◌, ◌≤◌, ℕ, suc, ◌+◌, Bool, true, false, List, refl, sym, ap, ◌∙◌, subst, arith}
+use Rattle.std.proofs.Common.{◌≡◌, ◌<◌, ◌≤◌, ℕ, suc, ◌+◌, Bool, true, false, List, refl, sym, ap, ◌∙◌, subst}
 use Rattle.std.specs.Prelude.{Option, Some, None, length, slice_get, slice_set}
 use Rattle.std.proofs.lemmas.Option.{slice_get_within}
 use Rattle.rv_exec.specs.Registers.{set_pc}
@@ -29,9 +29,9 @@ use Rattle.engine_facts.proofs.Keeping.{Mover}
 use Rattle.engine_facts.proofs.Holding.{core_at}
 use Rattle.engine_facts.proofs.Homing.{is_slotted}
 use Rattle.engine_facts.proofs.Bounding.{may_go_by}
-use Rattle.dbg_engine.specs.Calls.{Of, Before, Undue, DueIs, AtPlanted, Turns}
+use Rattle.dbg_engine.specs.Calls.{Of, Undue, DueIs, AtPlanted, Turns}
 use Rattle.dbg_engine.specs.Going.{Passes}
-use Rattle.dbg_engine.specs.Rows.{Begins, Executes, Finishes as FINISHES, row_at, row_idle}
+use Rattle.dbg_engine.specs.Rows.{Begins, row_at, row_idle}
 use Rattle.dbg_engine.specs.Several.{AllTurned}
 use Rattle.dbg_engine.specs.Steps.{applied}
 use Rattle.dbg_engine.specs.declared.moving.Turned.TheVariants as turned

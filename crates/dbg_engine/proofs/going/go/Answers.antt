@@ -1,4 +1,4 @@
-use Rattle.std.proofs.Common.{◌≡◌, ◌+◌, refl, sym, subst, arith}
+use Rattle.std.proofs.Common.{◌+◌, refl, sym, subst, arith}
 use Rattle.hart_machine.specs.Patched.{Patched}
 use Rattle.dbg_engine.specs.Going.{Goes}
 use Rattle.dbg_engine.proofs.Gone.{ran_more, passed_more}

@@ -1,4 +1,4 @@
-use Rattle.std.proofs.Common.{◌≡◌, ◌<◌, ◌≤◌, ◌-◌, length}
+use Rattle.std.proofs.Common.{◌<◌, ◌≤◌, ◌-◌, length}
 use Rattle.dbg_engine.specs.Going.{Goes}
 use Rattle.dbg_engine.proofs.going.go.Given as goal
 

@@ -1,5 +1,4 @@
-use Rattle.std.proofs.Common.{◌≡◌, true, false, refl, sym, ap, ◌∙◌, arith, rules}
-use Rattle.break_table.specs.declared.due.Due.{Due}
+use Rattle.std.proofs.Common.{◌≡◌, true, false, sym, ap, ◌∙◌, arith, rules}
 use Rattle.dbg_model.specs.State.{is_due}
 use Rattle.engine_facts.proofs.Holding.{get_within}
 use Rattle.dbg_engine.proofs.Gone.{passes_at}
