@@ -6,7 +6,6 @@ pub mod Commanding
 pub mod Marking
 pub mod Words
 pub mod Tabling
-pub mod Reading
 pub mod Lengths
 pub mod Rows
 pub mod Gone
@@ -14,5 +13,5 @@ pub mod Passing
 pub mod Aheads
 pub mod Marks
 pub mod GoingOn
-pub mod Alike
-pub mod Replies
+pub mod Viewing
+pub mod Reading

@@ -6,6 +6,6 @@ pub mod Several
 pub mod Going
 pub mod Marks
 pub mod EngineInside
-pub mod Answering
+pub mod Viewing
 pub mod Resuming
 pub mod Homing
