@@ -1,6 +1,6 @@
 -- Instructions of a hart that the machine executed in one call are turns of the engine, one after the other.
-use Rattle.std.proofs.Common.{◌≡◌, ◌<◌, ◌≤◌, ℕ, zero, suc, ◌+◌, Bool, true, false, List, refl, sym, ap, ◌∙◌, subst, arith}
-use Rattle.std.specs.Prelude.{Option, Some, None, slice_get, slice_set}
+use Rattle.std.proofs.Common.{◌≡◌, ◌<◌, ◌≤◌, ℕ, zero, suc, ◌+◌, Bool, true, false, List, [], ◌∷◌, length, refl, sym, ap, ◌∙◌, subst, arith}
+use Rattle.std.specs.Prelude.{Option, Some, None, ◌&&◌, not, is_none, slice_get, slice_set}
 use Rattle.rv_exec.specs.Registers.{Registers}
 use Rattle.rv_exec.specs.Memory.{Memory}
 use Rattle.rv_exec.specs.declared.effect.Stepped.TheVariants as stepped
@@ -11,7 +11,6 @@ use Rattle.step_over.specs.declared.phase.Phase.TheVariants as phase
 use Rattle.hart_machine.specs.declared.hart.Core.{Core}
 use Rattle.hart_machine.specs.Patched.{Patched}
 use Rattle.hart_machine.specs.Stepping.{FetchGives, StepsTo}
-use Rattle.hart_machine.specs.Running.{AllRan}
 use Rattle.dbg_model.specs.Lawful.{may_go}
 use Rattle.hart_machine.proofs.Copying.{fetch_text}
 use Rattle.hart_machine.proofs.Places.{same_some, set_twice, get-set_same}
@@ -21,20 +20,28 @@ use Rattle.dbg_model.specs.State.{Hart}
 use Rattle.engine_facts.specs.declared.mind.Activity.TheVariants as activity
 use Rattle.engine_facts.specs.declared.mind.Hold.{Hold}
 use Rattle.engine_facts.specs.declared.mind.Mind.{Mind}
-use Rattle.engine_facts.specs.Minds.{after_step, entered_of, is_before, is_copied, ran_mind}
+use Rattle.engine_facts.specs.Minds.{after_step, entered_of, is_active, is_before, is_copied, ran_mind, runs}
+use Rattle.engine_facts.specs.Movers.{is_idle}
+use Rattle.engine_facts.specs.declared.mind.Activity.{Activity}
+use Rattle.dbg_model.proofs.Options.{both_true}
 use Rattle.engine_facts.specs.Seen.{Run, seen, seen_hart}
 use Rattle.engine_facts.specs.Facts.{Facts, other_holder}
 use Rattle.engine_facts.proofs.Keeping.{hart_at}
 use Rattle.engine_facts.proofs.Holding.{core_at}
-use Rattle.engine_facts.proofs.Bounding.{Small, may_go_by, small_at}
+use Rattle.engine_facts.proofs.Bounding.{Small, below, may_go_by, small_at}
 use Rattle.engine_facts.proofs.Stepping.{fact_of}
-use Rattle.dbg_engine.specs.Several.{AllTurned, lengthened_by}
+use Rattle.elf32_read.specs.Program.{Program}
+use Rattle.break_table.specs.Entry.{Entry as BreakEntry}
+use Rattle.dbg_model.specs.State.{is_off}
+use Rattle.dbg_engine.specs.Going.{Way, InPlace, ByCopy, Goes, GoesBy, Passes, turns_of}
+use Rattle.dbg_engine.specs.Several.{AllTurned, is_alone, lengthened_by}
 use Rattle.dbg_engine.specs.Steps.{applied}
-use Rattle.dbg_engine.specs.Calls.{Of, OverBy, Turns}
+use Rattle.dbg_engine.specs.Calls.{Of, Turns}
 use Rattle.dbg_engine.specs.Rows.{Executes, row_at}
 use Rattle.dbg_engine.specs.declared.moving.Turned.TheVariants as turned
 use Rattle.dbg_engine.proofs.Holds.{clear}
-use Rattle.dbg_engine.proofs.Rows.{row_executes}
+use Rattle.dbg_engine.proofs.Passing.{Ahead, Alone, Going, passed}
+use Rattle.dbg_engine.proofs.Rows.{row_executes, not_so, open_by}
 use Rattle.dbg_engine.proofs.Executing.{Executed, executed_to, own_pc, parts_of, ready, run_with}
 
 -- where a step answered `Ran`, the word isn't planted
@@ -66,18 +73,6 @@ run_after n r h x m spare = record r {
   minds = minds_after n r.minds h x;
   retired = r.retired + n;
 }
-
--- what a hart keeps while it runs ahead
-pub record Alone (x : Mind) : Type 0 where
-  pub idle : x.phase ≡ phase.Idle
-  pub runs : x.activity ≡ activity.Running
-  pub asked : x.asked ≡ false
-
--- an engine that isn't over
-pub record Going (r : Run) : Type 0 where
-  pub budget : r.retired < r.opening.settings.budget
-  pub history : r.noted < history
-  pub going : r.exited ≡ false
 
 after_twice : (x : Mind) → x.phase ≡ phase.Idle → ran_mind (ran_mind x) ≡ ran_mind x
 after_twice x idle = ap (λ q. let y : Mind = record { activity = activity.Running; fresh = true; asked = x.asked; phase = after_step (after_step q) } in y) idle
@@ -133,26 +128,35 @@ one_turn q h spare x m f at a none going steps =
       first = row_executes q h c.regs.pc x f (record { may = may; at = at; runs = a.runs; free = free; before = ap is_before a.idle }) undue pc a.idle a.asked unplanted;
     }
 
--- n instructions that the machine executed in one call, as n turns
-pub record Ahead (n : ℕ) (r new : Run) (h : ℕ) : Type 0 where
-  pub facts : Facts new
-  pub turns : AllTurned n r new h
+turned_on : {p : Program} {bs : List BreakEntry} {h : ℕ} {on : Bool} {m n : Patched} → Passes p bs h on m n → Passes p bs h true m n
+turned_on s = record { is_on = refl; core = s.core; word = s.word; at = s.at; low = s.low; planted = s.planted; word_is = s.word_is; undue = s.undue; counted = s.counted; steps = s.steps }
 
-pub ahead : (n : ℕ) (r : Run) (h spare : ℕ) (x : Mind) (m : Patched) → Facts r → slice_get r.minds h ≡ Some x → Alone x → r.hold ≡ None → r.retired + n ≤ r.opening.settings.budget → r.noted < history → r.exited ≡ false
-    → AllRan n r.machine h m → Ahead n r (run_after n r h x m spare) h
-ahead zero r h spare x m f at a none budget low still ran =
-    let same : run_after zero r h x m spare ≡ r = ap (λ (u : Patched). let q : Run = record r { machine = u; retired = r.retired + 0 } in q) ran ∙ ap (λ (k : ℕ). let q : Run = record r { retired = k } in q) (omega arith) in
+-- what a hart did in one call, as turns
+pub ahead : (ws : List Way) (r : Run) (h spare most : ℕ) (copies : Bool) (x : Mind) (m : Patched) → Facts r → slice_get r.minds h ≡ Some x → Alone x → r.hold ≡ None → r.retired + most ≤ r.opening.settings.budget → r.noted < history → r.exited ≡ false
+    → (copies ≡ true → is_off r.displaced ≡ false)
+    → GoesBy r.opening.image r.breaks h copies most ws r.machine m → Ahead (turns_of ws) r (run_after (length ws) r h x m spare) h
+ahead [] r h spare most copies x m f at a none budget low still on went =
+    let same : run_after zero r h x m spare ≡ r = ap (λ (u : Patched). let q : Run = record r { machine = u; retired = r.retired + 0 } in q) went ∙ ap (λ (k : ℕ). let q : Run = record r { retired = k } in q) (omega arith) in
     record { facts = subst Facts (sym same) f; turns = same }
-ahead (suc n) r h spare x m f at a none budget low still ran =
-    let q = run_after n r h x ran.machine spare in
-    let before = ahead n r h spare x ran.machine f at a none (omega arith) low still ran.before in
-    let e = one_turn q h spare (mind_after n x) m before.facts (at_after n r.minds h x at) (alone_after n x a) none (record { budget = omega arith; history = low; going = still }) ran.step in
-    let next = run_next n r h x ran.machine m spare a.idle in
+ahead (InPlace ∷ ws) r h spare most copies x m f at a none budget low still on went =
+    let n = length ws in
+    let q = run_after n r h x went.1.machine spare in
+    let before = ahead ws r h spare most copies x went.1.machine f at a none budget low still on went.1.before in
+    let e = one_turn q h spare (mind_after n x) m before.facts (at_after n r.minds h x at) (alone_after n x a) none (record { budget = omega (arith, went.0); history = low; going = still }) went.1.step in
+    let next = run_next n r h x went.1.machine m spare a.idle in
     let P : Run → Type 0 = λ u. Turns turned.Ran q u h in
     record {
       facts = subst Facts next e.executed.facts;
-      turns = record { run = q; before = before.turns; facts = before.facts; first = e.first; turn = subst P next e.executed.does };
+      turns = record { run = q; before = before.turns; facts = before.facts; answer = turned.Ran; quiet = refl; first = e.first; turn = subst P next e.executed.does };
     }
+ahead (ByCopy ∷ ws) r h spare most copies x m f at a none budget low still on went =
+    let n = length ws in
+    let q = run_after n r h x went.1.machine spare in
+    let before = ahead ws r h spare most copies x went.1.machine f at a none budget low still on went.1.before in
+    let e = passed (turns_of ws) r q h spare (mind_after n x) m before.turns before.facts (at_after n r.minds h x at) (alone_after n x a) none (record { budget = omega (arith, went.0); history = low; going = still }) (omega (arith, went.0)) (on went.1.step.is_on) (turned_on went.1.step) in
+    let next = run_next n r h x went.1.machine m spare a.idle in
+    let P : Run → Type 0 = λ u. Ahead (suc (suc (suc (turns_of ws)))) r u h in
+    subst P next e
 
 -- the engine after n instructions, by its parts
 after_is : (n : ℕ) (r : Run) (h spare : ℕ) (x y : Mind) (m : Patched) (j : List Entry) (k : ℕ) → 0 < n → j ≡ lengthened_by n r.journal h → y ≡ ran_mind x → k ≡ n
@@ -163,19 +167,64 @@ after_is (suc n) r h spare x y m j k some ej ey ek =
     ∙ (ap (λ (z : Mind). let q : Run = record r { journal = j; spare = spare; machine = m; minds = slice_set r.minds h z; retired = r.retired + suc n } in q) (sym ey)
     ∙ ap (λ (i : ℕ). let q : Run = record r { journal = j; spare = spare; machine = m; minds = slice_set r.minds h y; retired = r.retired + i } in q) (sym ek))
 
-pub ahead_to : (n : ℕ) (r s : Run) (h spare : ℕ) (x y : Mind) (m : Patched) (j : List Entry) (k : ℕ) → r ≡ s → 0 < n → Facts r → slice_get s.minds h ≡ Some x → x.phase ≡ phase.Idle → x.activity ≡ activity.Running → x.asked ≡ false → r.hold ≡ None
-    → r.retired + n ≤ r.opening.settings.budget → r.noted < history → r.exited ≡ false → AllRan n r.machine h m → j ≡ lengthened_by n r.journal h → y ≡ ran_mind x → k ≡ n
-    → Ahead n r (record r { journal = j; spare = spare; machine = m; minds = slice_set r.minds h y; retired = r.retired + k }) h
-ahead_to n r s h spare x y m j k same some f at idle runs unasked none budget low still ran ej ey ek =
-    subst (λ (q : Run). Ahead n r q h) (after_is n r h spare x y m j k some ej ey ek)
-    (ahead n r h spare x m f (ap (λ (q : Run). slice_get q.minds h) same ∙ at) (record { idle = idle; runs = runs; asked = unasked }) none budget low still ran)
+pub ahead_to : (r s : Run) (h spare most turns n : ℕ) (copies : Bool) (x y : Mind) (m : Patched) (j : List Entry) (k : ℕ) → r ≡ s → 0 < n → Facts r → slice_get s.minds h ≡ Some x → x.phase ≡ phase.Idle → x.activity ≡ activity.Running → x.asked ≡ false → r.hold ≡ None
+    → r.retired + most ≤ r.opening.settings.budget → r.noted < history → r.exited ≡ false → (copies ≡ true → is_off r.displaced ≡ false) → Goes r.opening.image r.breaks h copies most turns n r.machine m → j ≡ lengthened_by n r.journal h → y ≡ ran_mind x → k ≡ n
+    → Ahead turns r (record r { journal = j; spare = spare; machine = m; minds = slice_set r.minds h y; retired = r.retired + k }) h
+ahead_to r s h spare most turns n copies x y m j k same some f at idle runs unasked none budget low still on went ej ey ek =
+    let ws = went.ways in
+    let base = ahead ws r h spare most copies x m f (ap (λ (q : Run). slice_get q.minds h) same ∙ at) (record { idle = idle; runs = runs; asked = unasked }) none budget low still on went.goes in
+    let is = ap (λ (i : ℕ). run_after i r h x m spare) (sym went.instructions_are) ∙ after_is n r h spare x y m j k some ej ey ek in
+    let T : ℕ → Type 0 = λ t. Ahead t r (record r { journal = j; spare = spare; machine = m; minds = slice_set r.minds h y; retired = r.retired + k }) h in
+    subst T (sym went.turns_are) (subst (λ (q : Run). Ahead (turns_of ws) r q h) is base)
 
--- an engine that isn't over
-pub going_of : (r s : Run) → r ≡ s → OverBy None s → Going r
-going_of r s same b = subst Going (sym same) (record { budget = b.0; history = b.1; going = b.2 })
+none_by : (p : Program) (bs : List BreakEntry) (h most : ℕ) (copies : Bool) (ws : List Way) (old new : Patched) → length ws ≡ 0 → GoesBy p bs h copies most ws old new → new ≡ old
+none_by p bs h most copies [] old new none went = went
+none_by p bs h most copies (InPlace ∷ ws) old new none went = absurd (omega arith)
+none_by p bs h most copies (ByCopy ∷ ws) old new none went = absurd (omega arith)
 
-pub small_of : (r s : Run) → r ≡ s → Facts r → OverBy None s → Small r
-small_of r s same f b = let k = going_of r s same b in small_at r f (may_go_by r k.budget k.history k.going)
+-- where no instruction was executed, nothing has changed
+pub none_gone : (p : Program) (bs : List BreakEntry) (h most turns n : ℕ) (copies : Bool) (old new : Patched) → n ≡ 0 → Goes p bs h copies most turns n old new → new ≡ old
+none_gone p bs h most turns n copies old new none went = none_by p bs h most copies went.ways old new (sym went.instructions_are ∙ none) went.goes
+
+running_so : (a : Activity) → is_active a ≡ true → a ≡ activity.Running
+running_so activity.Stopped e = cc
+running_so activity.Running e = refl
+running_so activity.Exited e = cc
+
+idle_so : (q : Phase) → is_idle q ≡ true → q ≡ phase.Idle
+idle_so phase.Idle e = refl
+idle_so (phase.Copied slot home) e = cc
+idle_so (phase.Landed slot home) e = cc
+idle_so (phase.Lifted home) e = cc
+idle_so (phase.Ran home) e = cc
+
+none_so : (o : Option Hold) → is_none o ≡ true → o ≡ None
+none_so None e = refl
+none_so (Some d) e = cc
+
+-- a hart that is alone
+record IsAlone (x : Mind) (hold : Option Hold) : Type 0 where
+  alone : Alone x
+  none : hold ≡ None
+
+alone_so : (x : Mind) (hold : Option Hold) → is_alone x hold ≡ true → IsAlone x hold
+alone_so x hold is =
+    let a = both_true ((runs x && is_idle x.phase) && not x.asked) (is_none hold) is in
+    let b = both_true (runs x && is_idle x.phase) (not x.asked) a.0 in
+    let c = both_true (runs x) (is_idle x.phase) b.0 in
+    record { alone = record { idle = idle_so x.phase c.1; runs = running_so x.activity c.0; asked = not_so x.asked b.1 }; none = none_so hold a.1 }
+
+-- the engine after a call, by its parts
+pub gone_to : (r s : Run) (h spare most turns n : ℕ) (copies : Bool) (x y : Mind) (m : Patched) (j : List Entry) (k : ℕ) → r ≡ s → 0 < n → Facts r → may_go s.opening (seen s) ≡ true → slice_get s.minds h ≡ Some x → is_alone x r.hold ≡ true
+    → r.retired + most ≤ r.opening.settings.budget → (copies ≡ true → is_off r.displaced ≡ false) → Goes r.opening.image r.breaks h copies most turns n r.machine m → j ≡ lengthened_by n r.journal h → y ≡ ran_mind x → k ≡ n
+    → Ahead turns r (record r { journal = j; spare = spare; machine = m; minds = slice_set r.minds h y; retired = r.retired + k }) h
+gone_to r s h spare most turns n copies x y m j k same some f may at alone budget on went ej ey ek =
+    let go : may_go r.opening (seen r) ≡ true = ap (λ (q : Run). may_go q.opening (seen q)) same ∙ may in
+    let a = alone_so x r.hold alone in
+    ahead_to r s h spare most turns n copies x y m j k same some f at a.alone.idle a.alone.runs a.alone.asked a.none budget (below r go).1 (open_by r go) on went ej ey ek
+
+pub small_of : (r s : Run) → r ≡ s → Facts r → may_go s.opening (seen s) ≡ true → Small r
+small_of r s same f may = small_at r f (ap (λ (q : Run). may_go q.opening (seen q)) same ∙ may)
 
 -- the same from an engine known by another name
 pub turned_at : (n : ℕ) (r s new : Run) (h : ℕ) → r ≡ s → AllTurned n r new h → AllTurned n s new h

@@ -9,6 +9,8 @@ pub mod Tabling
 pub mod Reading
 pub mod Lengths
 pub mod Rows
+pub mod Gone
+pub mod Passing
 pub mod Aheads
 pub mod Marks
 pub mod GoingOn

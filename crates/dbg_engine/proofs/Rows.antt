@@ -20,7 +20,10 @@ use Rattle.engine_facts.specs.Seen.{Run, seen, seen_hart}
 use Rattle.engine_facts.specs.Facts.{Facts, other_holder}
 use Rattle.engine_facts.proofs.Keeping.{hart_at}
 use Rattle.engine_facts.proofs.Holding.{core_at}
-use Rattle.dbg_engine.specs.Rows.{Row, Over, Rests, Waits, Finishes, Executes, row_at, row_hart, row_running, row_before, row_due, row_idle}
+use Rattle.dbg_engine.specs.Several.{is_quiet}
+use Rattle.dbg_engine.specs.declared.moving.Turned.{Turned}
+use Rattle.dbg_engine.specs.declared.moving.Turned.TheVariants as turned
+use Rattle.dbg_engine.specs.Rows.{Row, Over, Rests, Waits, Finishes, Executes, row_at, row_of, row_hart, row_running, row_before, row_due, row_idle}
 use Rattle.dbg_engine.specs.Calls.{Of, Before, DueIs, Undue, Rephases, Halts}
 use Rattle.dbg_engine.proofs.Executing.{of_hart}
 
@@ -120,6 +123,15 @@ row_executes r h pc x f b none here idle unasked unplanted =
     ∙ (ap (λ q. cond (is_idle q) (row_idle x.asked (is_planted r.machine.text pc)) Executes) idle
     ∙ (ap (λ a. row_idle a (is_planted r.machine.text pc)) unasked ∙ ap (row_idle false) unplanted)))
 
+-- and one at a copy
+pub row_at_copy : (r : Run) (h pc : ℕ) (x : Mind) → Facts r → Before r h x → Undue r h → Of r h (λ y. y.regs.pc ≡ pc) → (x.phase ≡ phase.Idle → ⊥) → row_at r h ≡ Executes
+row_at_copy r h pc x f b none here steps =
+    let k = core_at r h x f b.at in
+    let y = seen_hart r.opening.image k.0 x in
+    let d = due r.opening.image (seen r) h y in
+    let is : DueIs r h d = λ z at. ap (due r.opening.image (seen r) h) (same_seen r h z y at (hart_at r h k.0 x k.1)) in
+    row_steps r h pc x d f b is here (of_hart r h k.0 x (λ z. is_due (due r.opening.image (seen r) h z) ≡ false) k.1 none) steps
+
 -- what is known of a hart before still is once it steps over nothing
 pub unwound_before : (r m : Run) (h : ℕ) (x y : Mind) → Before r h x → Rephases r m h x phase.Idle None → y ≡ with_phase x phase.Idle → Before m h y
 unwound_before r m h x y b u is =
@@ -147,21 +159,41 @@ pub record Goes (r : Run) : Type 0 where
   pub may : may_go r.opening (seen r) ≡ true
   pub going : r.exited ≡ false
 
-not_so : (b : Bool) → not b ≡ true → b ≡ false
+pub not_so : (b : Bool) → not b ≡ true → b ≡ false
 not_so true e = cc
 not_so false e = refl
 
-open_by : (r : Run) → may_go r.opening (seen r) ≡ true → r.exited ≡ false
+pub open_by : (r : Run) → may_go r.opening (seen r) ≡ true → r.exited ≡ false
 open_by r may =
     let a = both_true (not (any_leaves (seen r).harts)) (nat_lt r.retired r.opening.settings.budget && (nat_lt r.noted history && not r.exited)) may in
     let b = both_true (nat_lt r.retired r.opening.settings.budget) (nat_lt r.noted history && not r.exited) a.1 in
     not_so r.exited (both_true (nat_lt r.noted history) (not r.exited) b.1).1
 
-executes_by : (b : Bool) (other : Row) → cond b other Over ≡ Executes → b ≡ true
-executes_by true other e = refl
-executes_by false other e = cc
+-- no quiet answer is that of a session that is over
+not_over : (t : Turned) → is_quiet t ≡ true → row_of t ≡ Over → ⊥
+not_over turned.Ran quiet e = cc
+not_over turned.Copied quiet e = cc
+not_over turned.Fixed quiet e = cc
+not_over turned.Lifted quiet e = cc
+not_over turned.Planted quiet e = cc
+not_over turned.Over quiet e = cc
+not_over turned.NotRunning quiet e = cc
+not_over (turned.Held by) quiet e = cc
+not_over turned.NoSlot quiet e = cc
+not_over (turned.Wrote addr len) quiet e = cc
+not_over (turned.Left code) quiet e = cc
+not_over (turned.AllLeft code count) quiet e = cc
+not_over (turned.Stopped cause) quiet e = cc
+not_over turned.Interrupted quiet e = cc
+not_over turned.Counted quiet e = cc
+not_over (turned.Arrived number temporary error) quiet e = cc
 
-pub executes_may : (r : Run) (h : ℕ) → row_at r h ≡ Executes → Goes r
-executes_may r h first =
-    let may = executes_by (may_go r.opening (seen r)) (row_hart r h (slice_get r.minds h) (slice_get (seen r).harts h)) first in
+moves_by : (b : Bool) (other row : Row) → (row ≡ Over → ⊥) → cond b other Over ≡ row → b ≡ true
+moves_by true other row n e = refl
+moves_by false other row n e = absurd (n (sym e))
+
+-- before a turn of which nothing is said a session isn't over
+pub quiet_may : (r : Run) (h : ℕ) (t : Turned) → is_quiet t ≡ true → row_at r h ≡ row_of t → Goes r
+quiet_may r h t quiet first =
+    let may = moves_by (may_go r.opening (seen r)) (row_hart r h (slice_get r.minds h) (slice_get (seen r).harts h)) (row_of t) (not_over t quiet) first in
     record { may = may; going = open_by r may }

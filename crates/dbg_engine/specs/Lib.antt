@@ -3,6 +3,7 @@ pub mod Changing
 pub mod Rows
 pub mod Calls
 pub mod Several
+pub mod Going
 pub mod Marks
 pub mod EngineInside
 pub mod Answering

@@ -1,25 +1,61 @@
--- Several turns of a hart, each of which executes one instruction.
-use Rattle.std.specs.Prelude.{◌≡◌, ℕ, zero, suc, List}
+-- Several turns of a hart of which nothing is said.
+use Rattle.std.specs.Prelude.{◌≡◌, ◌⊎◌, ◌&&◌, not, ℕ, zero, suc, Bool, true, false, List, Option, Some, is_none, slice_get}
+use Rattle.hart_machine.specs.Running.{HasStopped}
 use Rattle.dbg_model.specs.declared.entry.Entry.{Entry}
 use Rattle.dbg_model.specs.Journals.{lengthened}
-use Rattle.engine_facts.specs.Seen.{Run}
+use Rattle.dbg_model.specs.Lawful.{may_go}
+use Rattle.engine_facts.specs.declared.mind.Hold.{Hold}
+use Rattle.engine_facts.specs.declared.mind.Mind.{Mind}
+use Rattle.engine_facts.specs.Minds.{runs}
+use Rattle.engine_facts.specs.Movers.{is_idle}
+use Rattle.engine_facts.specs.Seen.{Run, seen}
 use Rattle.engine_facts.specs.Facts.{Facts}
+use Rattle.dbg_engine.specs.declared.moving.Turned.{Turned}
 use Rattle.dbg_engine.specs.declared.moving.Turned.TheVariants as turned
-use Rattle.dbg_engine.specs.Rows.{Executes, row_at}
+use Rattle.dbg_engine.specs.Rows.{row_at, row_of}
 use Rattle.dbg_engine.specs.Calls.{Turns}
 
--- a turn of hart h that answers `Ran`, the first move that fits, from an engine of which P holds
+-- the answers of which nothing is said, and nothing but an instruction is noted
+abbrev pub is_quiet : Turned → Bool
+is_quiet turned.Ran = true
+is_quiet turned.Copied = true
+is_quiet turned.Fixed = true
+is_quiet turned.Lifted = true
+is_quiet turned.Planted = true
+is_quiet turned.Over = false
+is_quiet turned.NotRunning = false
+is_quiet (turned.Held by) = false
+is_quiet turned.NoSlot = false
+is_quiet (turned.Wrote addr len) = false
+is_quiet (turned.Left code) = false
+is_quiet (turned.AllLeft code count) = false
+is_quiet (turned.Stopped cause) = false
+is_quiet turned.Interrupted = false
+is_quiet turned.Counted = false
+is_quiet (turned.Arrived number temporary error) = false
+
+-- a turn of hart h with such an answer, the first move that fits, from an engine of which P holds
 pub record ThenTurns (P : Run → Type 0) (new : Run) (h : ℕ) : Type 0 where
   pub run : Run
   pub before : P run
   pub facts : Facts run
-  pub first : row_at run h ≡ Executes
-  pub turn : Turns turned.Ran run new h
+  pub answer : Turned
+  pub quiet : is_quiet answer ≡ true
+  pub first : row_at run h ≡ row_of answer
+  pub turn : Turns answer run new h
 
 -- n such turns
 abbrev pub AllTurned : ℕ → Run → Run → ℕ → Type 0
 AllTurned zero old new h = new ≡ old
 AllTurned (suc n) old new h = ThenTurns (λ r. AllTurned n old r h) new h
+
+-- a hart that runs, steps over nothing and isn't interrupted, and no patch is lifted
+abbrev pub is_alone : Mind → Option Hold → Bool
+is_alone x hold = ((runs x && is_idle x.phase) && not x.asked) && is_none hold
+
+-- Hart h goes no further by such turns in one call: the session is over, the hart isn't alone, or it stops at its pc.
+abbrev pub Rests : Run → ℕ → Type 0
+Rests r h = (may_go r.opening (seen r) ≡ false) ⊎ (((x : Mind) → slice_get r.minds h ≡ Some x → is_alone x r.hold ≡ false) ⊎ HasStopped r.machine h)
 
 -- the journal after n more instructions of a hart
 abbrev pub lengthened_by : ℕ → List Entry → ℕ → List Entry

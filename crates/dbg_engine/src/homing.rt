@@ -36,12 +36,10 @@ pub fn go_home(machine: &mut Machine, h: u32, phase: Phase)
 {
     match phase {
         Phase::Copied { slot, home } => {
-            machine.settle(h, slot, home, false);
-            machine.free(slot);
+            machine.finish_copy(h, slot, home, false);
         }
         Phase::Landed { slot, home } => {
-            machine.settle(h, slot, home, true);
-            machine.free(slot);
+            machine.finish_copy(h, slot, home, true);
         }
         Phase::Idle | Phase::Lifted { .. } | Phase::Ran { .. } => {}
     }

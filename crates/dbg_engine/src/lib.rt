@@ -4,6 +4,7 @@
 mod answering;
 mod breaking;
 mod engine;
+mod going;
 mod homing;
 mod journal;
 mod laws;

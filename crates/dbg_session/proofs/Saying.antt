@@ -34,6 +34,7 @@ use Rattle.engine_facts.specs.Seen.{Run, seen, seen_hart}
 use Rattle.engine_facts.specs.Facts.{Facts}
 use Rattle.engine_facts.specs.Minds.{mode_of, is_active, with_phase, counted_mind}
 use Rattle.engine_facts.proofs.Seeing.{seen_at}
+use Rattle.dbg_engine.specs.Several.{is_quiet}
 use Rattle.dbg_engine.specs.Calls.{Of, Turns, Runs, Exits, Halts, Counts, Rephases, Does}
 use Rattle.break_table.specs.declared.due.CondError.{CondError}
 use Rattle.engine_facts.specs.Movers.{runs_at, runs_as, is_free, is_idle, idle_as, waits_for_slot}
@@ -103,10 +104,6 @@ runs_say t v r s h pc out f g m text =
       move = inr (inl ([], m.journal ∙ sym (append-nil (lengthened r.journal h))));
       work = ran_less r s h (seen s) m.one refl (let z : running (seen s).harts ≤ running (seen s).harts = omega arith in z) m.opening g;
     }
-
--- an instruction that wrote nothing, whatever pc its hart was at
-pub ran_says : (r s : Run) (h : ℕ) → Facts r → Facts s → Turns turned.Ran r s h → Said turned.Ran r s h 0
-ran_says r s h f g m = runs_say turned.Ran stepped.Ran r s h 0 [] f g m nothing_written
 
 drop_behind : {A : Type 0} (xs ys : List A) → drop (length xs) (xs ++ ys) ≡ ys
 drop_behind [] ys = refl
@@ -227,6 +224,25 @@ quiets_say t r s h pc x p hold m at less text =
       move = inl (m.journal, (with_phase x p, m.minds));
       work = omega (arith, shown);
     }
+
+-- a turn of which nothing is said, whatever pc its hart was at
+pub quiet_says : (t : Turned) (r s : Run) (h : ℕ) → is_quiet t ≡ true → Facts r → Facts s → Turns t r s h → Said turned.Ran r s h 0
+quiet_says turned.Ran r s h quiet f g m = runs_say turned.Ran stepped.Ran r s h 0 [] f g m nothing_written
+quiet_says turned.Copied r s h quiet f g m = quiets_say turned.Ran r s h 0 m.mind (phase.Copied m.slot m.home) None m.rephases m.before.at (let e = ap moves_of m.before.idle in omega arith) refl
+quiet_says turned.Fixed r s h quiet f g m = quiets_say turned.Ran r s h 0 m.mind phase.Idle None m.rephases m.at (let e = ap moves_of m.landed in omega arith) refl
+quiet_says turned.Lifted r s h quiet f g m = quiets_say turned.Ran r s h 0 m.mind (phase.Lifted m.home) (Some (record { hart = h; home = m.home })) m.rephases m.before.at (let e = ap moves_of m.before.idle in omega arith) refl
+quiet_says turned.Planted r s h quiet f g m = quiets_say turned.Ran r s h 0 m.mind phase.Idle None m.rephases m.at (let e = ap moves_of m.ran in omega arith) refl
+quiet_says turned.Over r s h quiet f g m = cc
+quiet_says turned.NotRunning r s h quiet f g m = cc
+quiet_says (turned.Held by) r s h quiet f g m = cc
+quiet_says turned.NoSlot r s h quiet f g m = cc
+quiet_says (turned.Wrote addr len) r s h quiet f g m = cc
+quiet_says (turned.Left code) r s h quiet f g m = cc
+quiet_says (turned.AllLeft code count) r s h quiet f g m = cc
+quiet_says (turned.Stopped cause) r s h quiet f g m = cc
+quiet_says turned.Interrupted r s h quiet f g m = cc
+quiet_says turned.Counted r s h quiet f g m = cc
+quiet_says (turned.Arrived number temporary error) r s h quiet f g m = cc
 
 abbrev pub HasMoved : Turned → Type 0
 HasMoved turned.Over = ⊥

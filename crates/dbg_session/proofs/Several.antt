@@ -1,4 +1,4 @@
--- Instructions that the engine executed in one call are as many moves of the session.
+-- Turns that the engine made in one call are as many moves of the session.
 use Rattle.std.proofs.Common.{◌≡◌, ◌<◌, ℕ, zero, suc, ◌+◌, true, false, List, [], refl, sym, ap, ◌∙◌, arith, subst}
 use Rattle.std.specs.Prelude.{Option, Some, None}
 use mathlib.Core.List.{append-nil}
@@ -10,7 +10,7 @@ use Rattle.engine_facts.proofs.Bounding.{below}
 use Rattle.dbg_engine.specs.declared.moving.Turned.TheVariants as turned
 use Rattle.dbg_engine.specs.Several.{AllTurned}
 use Rattle.dbg_engine.specs.Calls.{Turns as EngineTurns}
-use Rattle.dbg_engine.proofs.Rows.{executes_may}
+use Rattle.dbg_engine.proofs.Rows.{quiet_may}
 use Rattle.dbg_session.specs.declared.status.Status.{Status}
 use Rattle.dbg_session.specs.declared.steps.Turn.TheVariants as turn
 use Rattle.dbg_session.specs.Puts.{with_text}
@@ -18,7 +18,7 @@ use Rattle.dbg_session.specs.Stage.{stage_of, work_of}
 use Rattle.dbg_session.specs.Steps.{Says}
 use Rattle.dbg_session.specs.Ties.{IsTied, GoesOn, OverBy, session_work}
 use Rattle.dbg_session.specs.Round.{Moment, Moved, TurnsOne}
-use Rattle.dbg_session.proofs.Saying.{Said, ran_says, made_room}
+use Rattle.dbg_session.proofs.Saying.{Said, quiet_says, made_room}
 use Rattle.dbg_session.proofs.Tying.{turn_put}
 
 -- nothing was put
@@ -29,7 +29,7 @@ more_none (Some xs) = ap Some (sym (append-nil xs))
 none_put : (t : Told) → t ≡ with_text t []
 none_put t = ap (λ o. record t { written = o }) (more_none t.written)
 
--- a turn that executed an instruction says nothing
+-- a turn of which nothing is said
 silent : (t : Told) (r s : Run) (h : ℕ) → Said turned.Ran r s h 0 → Says t t (stage_of r) (stage_of s) true
 silent t r s h d = record { text = []; said = d.said; puts = none_put t }
 
@@ -48,7 +48,7 @@ pub record Holds (p : Moment) (r : Run) (o : Option Status) : Type 0 where
 one_holds : (p : Moment) (r s : Run) (h : ℕ) (o : Option Status) → Facts r → Holds p r None → Said turned.Ran r s h 0 → OverBy o (stage_of s) p.input.count → Holds p s o
 one_holds p r s h o f k d over = record { tied = turn_put o p.told p.told (stage_of r) (stage_of s) p.input k.tied d.opening f.leaves (silent p.told r s h d) d.goes over }
 
--- a session goes on before each instruction
+-- a session goes on before each turn
 going : (p : Moment) (r s : Run) → may_go s.opening (seen s) ≡ true → GoesOn (stage_of r) p.input.count → s.exited ≡ false → GoesOn (stage_of s) p.input.count
 going p r s may k open_ = let b = below s may in record { below = record { budget = b.0; history = b.1; input = k.below.input }; open_ = open_ }
 
@@ -59,7 +59,7 @@ less_by : (o : Option Status) (p : Moment) (r s : Run) → work_of (stage_of s) 
 less_by None p r s less = omega arith
 less_by (Some o) p r s less = omega arith
 
--- n + 1 instructions, behind which the session is over or goes on
+-- n + 1 turns, behind which the session is over or goes on
 pub record Gone (n : ℕ) (p : Moment) (r s : Run) (h : ℕ) (o : Option Status) : Type 0 where
   pub moved : Moved n h (standing p r None) (standing p s o)
   pub holds : Holds p s o
@@ -68,15 +68,15 @@ pub record Gone (n : ℕ) (p : Moment) (r s : Run) (h : ℕ) (o : Option Status)
 
 pub gone : (n : ℕ) (p : Moment) (r s : Run) (h : ℕ) (o : Option Status) → Facts r → Facts s → Holds p r None → AllTurned (suc n) r s h → OverBy o (stage_of s) p.input.count → Gone (suc n) p r s h o
 gone zero p r s h o f g k turns over =
-    let P : Run → Type 0 = λ q. EngineTurns turned.Ran q s h in
-    let d = ran_says r s h f g (subst P turns.before turns.turn) in
+    let P : Run → Type 0 = λ q. EngineTurns turns.answer q s h in
+    let d = quiet_says turns.answer r s h turns.quiet f g (subst P turns.before turns.turn) in
     record { moved = (standing p r None, refl, refl, one_move p r s h o d over); holds = one_holds p r s h o f k d over; opening = d.opening; less = less_by o p r s d.work }
 gone (suc n) p r s h o f g k turns over =
     let q = turns.run in
-    let may = executes_may q h turns.first in
+    let may = quiet_may q h turns.answer turns.quiet turns.first in
     let ends = k.tied.cause.1 in
     let mid = gone n p r q h None f turns.facts k turns.before (going p r q may.may ends may.going) in
-    let d = ran_says q s h turns.facts g turns.turn in
+    let d = quiet_says turns.answer q s h turns.quiet turns.facts g turns.turn in
     record {
       moved = (standing p q None, mid.moved, refl, one_move p q s h o d over);
       holds = one_holds p q s h o turns.facts mid.holds d over;
@@ -92,7 +92,7 @@ some_gone : (n : ℕ) (p : Moment) (r s : Run) (h : ℕ) (o : Option Status) →
 some_gone zero p r s h o some f g k turns over = absurd (omega arith)
 some_gone (suc n) p r s h o some f g k turns over = gone n p r s h o f g k turns over
 
--- a call of the engine for several instructions, in a session that goes on
+-- a call of the engine for several turns, in a session that goes on
 pub ran_on : (n : ℕ) (p : Moment) (e r s : Run) (h : ℕ) (o : Option Status) → r ≡ record e { spare = r.spare } → 0 < n → Facts e → Facts s → Holds p e None → AllTurned n r s h → OverBy o (stage_of s) p.input.count → Gone n p e s h o
 ran_on n p e r s h o is some f g k turns over =
     let q : Run = record e { spare = r.spare } in

@@ -252,8 +252,8 @@ impl<W: World> Session<W> {
         }
     }
 
-    // Executes instructions of a hart that say nothing, in one call: at most `limit`, and how many. None where another
-    // turn is next.
+    // Makes turns of a hart of which nothing is said, in one call: at most `limit`, and how many. None where another turn is
+    // next.
     fn run_hart(&mut self, hart: u32, limit: u32) -> u32
         requires going { self.old.status ≡ None }
         requires known { hart < length self.old.run.minds }

@@ -62,6 +62,12 @@ const STOPPED: Turned = Arrived {
     error: None,
 };
 
+const STOPPED_BY_THE_SECOND: Turned = Arrived {
+    number: 2,
+    temporary: false,
+    error: None,
+};
+
 fn engine_of(
     alloc: Global,
     words: &[u32],
@@ -285,24 +291,32 @@ const ENDS: [Step; 11] = [
 // The budget, which is 1, comes before a line that would end the session.
 const BUDGET_FIRST: [Step; 3] = [CONTINUE, Turn(0, Ran), Over(Some(End::Budget))];
 
-// In one call a hart goes on up to the limit, a planted word, an interrupt or an ECALL, and none that doesn't run.
-const RUNS: [Step; 16] = [
+// In one call a hart goes on up to the limit, a breakpoint that stops it, an interrupt or an ECALL, and none that doesn't
+// run. A planted word at which nothing is due is passed in three turns.
+const RUNS: [Step; 23] = [
     Run(0, 10, 0),
     CONTINUE,
     Run(0, 5, 5),
     At(0, 0x1_0078, Phase::Idle),
     PASSED,
-    Run(0, 5, 0),
+    Run(0, 5, 4),
+    At(0, 0x1_0078, Phase::Idle),
+    Planted(0x1_0078, true),
+    Run(0, 2, 0),
     Turn(0, Copied),
     Run(0, 5, 0),
     Turn(0, Ran),
     Run(0, 5, 0),
     Turn(0, Fixed),
-    Run(0, 5, 1),
+    Run(0, 5, 5),
     Line("-exec-interrupt --thread 2"),
     Run(1, 5, 0),
     Turn(1, Interrupted),
     Run(1, 5, 0),
+    BREAK,
+    Run(0, 9, 0),
+    Turn(0, STOPPED_BY_THE_SECOND),
+    Run(0, 9, 0),
 ];
 
 // The budget is 7.

@@ -1,19 +1,20 @@
 -- How a hart goes to a scratch slot, and comes home from it: a copy of an instruction is executed there in place of the
 -- one at a breakpoint ("displaced stepping" in GDB's manual).
-use Rattle.std.specs.Prelude.{◌≡◌, ℕ, Bool, List, Option, Some, None, slice_get, slice_set, if◌then◌else◌}
+use Rattle.std.specs.Prelude.{◌≡◌, ◌≢◌, ℕ, Bool, true, List, Option, Some, None, IsSome, slice_get, slice_set, if◌then◌else◌}
 use Rattle.std.specs.Option.{option_map}
 use Rattle.rv_decode.specs.declared.instr.Instr.{Instr}
 use Rattle.rv_decode.specs.Decode.{decode}
 use Rattle.rv_exec.specs.Registers.{Registers, set_pc}
 use Rattle.rv_exec.specs.Memory.{Memory}
 use Rattle.rv_exec.specs.declared.effect.Stepped.{Stepped}
+use Rattle.rv_exec.specs.declared.effect.Stepped.TheVariants as stepped
 use Rattle.displaced_fix.specs.Fix.{fix, IsWordAddress}
 use Rattle.scratch_slots.specs.declared.slots.SlotUse.{SlotUse}
-use Rattle.scratch_slots.specs.Table.{slot_number, least_free, with_use, use_at}
+use Rattle.scratch_slots.specs.Table.{slot_address, slot_number, least_free, with_use, use_at}
 use Rattle.plain_machine.specs.Plain.{on_word}
 use Rattle.hart_machine.specs.declared.hart.Core.{Core}
 use Rattle.hart_machine.specs.Patched.{Patched}
-use Rattle.hart_machine.specs.Stepping.{StepGives, StepsTo, counted, has_run}
+use Rattle.hart_machine.specs.Stepping.{InstructionGives, StepGives, Steps, StepsTo, counted, has_run}
 
 -- the hart that has a slot
 abbrev pub owner : List (Option SlotUse) → ℕ → Option ℕ
@@ -60,6 +61,32 @@ Finishes old h slot home ran new =
     (c : Core) (u : SlotUse) →
     slice_get old.cores h ≡ Some c → use_at old.slots slot ≡ Some u →
     new ≡ record (with_core old h (settled_core u.word slot home c ran)) { slots = slice_set old.slots (slot_number slot) None }
+
+-- a hart executed a copy of the instruction at the slot, and is home
+pub record CopiesCore (i : Instr) (slot : ℕ) (old new : Core) (m m' : Memory) : Type 0 where
+  pub regs : Registers
+  pub out : old.entered ≡ None
+  pub gives : InstructionGives stepped.Ran i (set_pc old.regs slot) regs m m'
+  pub core : new ≡ record { regs = fix i slot old.regs.pc regs true; retired = counted stepped.Ran old.retired; copied = counted stepped.Ran old.copied; entered = None }
+
+-- Hart h stepped over the word at its pc: it had the least free slot with the word, executed it there, and is home from the
+-- slot, which is free.
+pub record StepsByCopy (old : Patched) (h word : ℕ) (new : Patched) : Type 0 where
+  pub slot : ℕ
+  pub home : ℕ
+  pub begun : Patched
+  pub ran : Patched
+  pub here : (c : Core) → slice_get old.cores h ≡ Some c → (c.regs.pc ≡ home) × (c.entered ≡ None)
+  pub least : Some slot ≡ option_map slot_address (least_free old.slots)
+  pub was_free : use_at old.slots slot ≡ None
+  pub taken : use_at begun.slots slot ≡ Some (record { hart = h; word = word })
+  pub begun_others : (other : ℕ) → other ≢ slot → use_at begun.slots other ≡ use_at old.slots other
+  pub begins : Begins old h word slot begun
+  pub decodes : IsSome (decode word)
+  pub steps : Steps stepped.Ran begun h ran
+  pub finishes : Finishes ran h slot home true new
+  pub freed : use_at new.slots slot ≡ None
+  pub others : (other : ℕ) → other ≢ slot → use_at new.slots other ≡ use_at ran.slots other
 
 -- a step in a slot, once it is settled, is the plain step at home of the word w that the slot holds
 pub record IsStepAtHome (s : Stepped) (w slot home : ℕ) (c c' : Core) (m m' : Memory) : Type 0 where

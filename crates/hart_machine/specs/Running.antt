@@ -1,9 +1,13 @@
 -- What several steps of one hart do.
-use Rattle.std.specs.Prelude.{◌≡◌, ◌<◌, ℕ, zero, suc, ◌^◌, List, Option}
+use Rattle.std.specs.Prelude.{◌≡◌, ◌≢◌, ◌<◌, ◌⊎◌, ℕ, zero, suc, ◌^◌, List, Option, Some, None, slice_get}
+use Rattle.rv_exec.specs.Registers.{Registers}
+use Rattle.rv_exec.specs.Step.{Outcome, Done, Call, Trap, step}
+use Rattle.text_words.specs.declared.fetch.Fetch.{Fetch}
+use Rattle.text_words.specs.declared.fetch.Fetch.TheVariants as fetch
 use Rattle.rv_exec.specs.declared.effect.Stepped.{Stepped}
 use Rattle.rv_exec.specs.declared.effect.Stepped.TheVariants as stepped
 use Rattle.rv_exec.specs.Memory.{Memory}
-use Rattle.text_words.specs.Words.{Words}
+use Rattle.text_words.specs.Words.{Words, fetched}
 use Rattle.scratch_slots.specs.declared.slots.SlotUse.{SlotUse}
 use Rattle.hart_machine.specs.declared.hart.Core.{Core}
 use Rattle.hart_machine.specs.Patched.{Patched}
@@ -32,3 +36,23 @@ pub record ThenCoreSteps (P : Core → Memory → Type 0) (s : Stepped) (t : Wor
 abbrev pub CoreAllRan : ℕ → Words → List (Option SlotUse) → Core → Memory → Core → Memory → Type 0
 CoreAllRan zero t slots old m new m' = (new ≡ old) × (m' ≡ m)
 CoreAllRan (suc n) t slots old m new m' = ThenCoreSteps (λ c q. CoreAllRan n t slots old m c q) stepped.Ran t slots new m'
+
+-- an instruction asks the environment, or traps
+abbrev pub IsStop : Outcome → Type 0
+IsStop (Done r m) = ⊥
+IsStop Call = Unit {0}
+IsStop (Trap cause) = Unit {0}
+
+-- no instruction is at pc, a breakpoint is planted there, or the instruction asks the environment or traps
+abbrev pub StopsAt : Fetch → Registers → Memory → Type 0
+StopsAt fetch.Absent r m = Unit {0}
+StopsAt fetch.Planted r m = Unit {0}
+StopsAt fetch.Illegal r m = Unit {0}
+StopsAt (fetch.Instruction i) r m = IsStop (step i r m)
+
+-- a hart that goes no further by itself: it is in a slot, or stops at its pc
+abbrev pub Stops : Words → Core → Memory → Type 0
+Stops t c m = (c.entered ≢ None) ⊎ StopsAt (fetched t c.regs.pc) c.regs m
+
+abbrev pub HasStopped : Patched → ℕ → Type 0
+HasStopped m h = (c : Core) → slice_get m.cores h ≡ Some c → Stops m.text c m.memory

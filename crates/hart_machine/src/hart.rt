@@ -1,10 +1,12 @@
 // One hart, and one step of it.
 ghost use Rattle.std.specs.Prelude.{◌≡◌, ◌<◌, ◌≤◌, ◌^◌, List, Option, None, Some, true, false, length};
-ghost use Rattle.hart_machine.specs.Copying.{entered_core, settled_core};
+ghost use Rattle.hart_machine.specs.Copying.{entered_core, settled_core, CopiesCore};
+ghost use Rattle.hart_machine.specs.Running.{IsStop, Stops};
 ghost use Rattle.hart_machine.specs.Stepping.{CoreSteps, FetchGives, InstructionGives, IsByteCode, copy_fetched, counted, fetched_by, has_run};
 ghost use Rattle.rv_exec.specs.declared.effect.Stepped.TheVariants as stepped;
 ghost use Rattle.scratch_slots.specs.declared.slots.SlotUse as uses;
-ghost use Rattle.text_words.specs.Words.{Words};
+ghost use Rattle.rv_exec.specs.Step.{step};
+ghost use Rattle.text_words.specs.Words.{Words, fetched};
 ghost use Rattle.text_words.specs.Fronts.{IsFront};
 ghost use Rattle.plain_machine.specs.Plain.{on_instruction};
 
@@ -153,6 +155,7 @@ fn execute_alone(instruction: Instr, core: &mut Core, memory: &mut DataMemory) -
     ensures copies { core.new.copied ≤ core.new.retired }
     ensures entered { core.new.entered ≡ core.old.entered }
     ensures kept { result ≡ false → (core.new ≡ core.old) × (memory.new ≡ memory.old) }
+    ensures stops { result ≡ false → IsStop (step instruction core.old.regs memory.old) }
 {
     match execute(instruction, &mut core.regs, memory) {
         Effect::Done => {
@@ -166,7 +169,7 @@ fn execute_alone(instruction: Instr, core: &mut Core, memory: &mut DataMemory) -
 /// A step that answers `Ran`, by an instruction of the first section. False where another step is next; then nothing
 /// has changed.
 #[inline(always)]
-pub fn step_front(front: &Front<'_>, core: &mut Core, memory: &mut DataMemory) -> bool
+fn step_front(front: &Front<'_>, core: &mut Core, memory: &mut DataMemory) -> bool
     requires within { front.now.count ≤ length front.now.code.now }
     requires copies { core.old.copied ≤ core.old.retired }
     ensures pc { core.old.regs.pc < 2 ^ 32 }
@@ -182,6 +185,74 @@ pub fn step_front(front: &Front<'_>, core: &mut Core, memory: &mut DataMemory) -
         Some(instruction) => execute_alone(instruction, core, memory),
         None => false,
     }
+}
+
+/// A step that answers `Ran`, by an instruction of any section. False where another step is next; then nothing has
+/// changed.
+#[cold]
+#[inline(never)]
+fn step_text(text: &TextWords, core: &mut Core, memory: &mut DataMemory) -> bool
+    requires { core.old.copied ≤ core.old.retired }
+    ensures pc { core.old.regs.pc < 2 ^ 32 }
+    ensures copies { core.new.copied ≤ core.new.retired }
+    ensures ran { (slots : List (Option uses.SlotUse)) → result ≡ true → CoreSteps stepped.Ran (fetched_by text.now slots core.old) core.old core.new memory.old memory.new }
+    ensures kept { result ≡ false → (core.new ≡ core.old) × (memory.new ≡ memory.old) }
+    ensures stops { result ≡ false → Stops text.now core.old memory.old }
+{
+    let pc = core.regs.pc();
+    if core.entered.is_some() {
+        return false;
+    }
+    match text.fetch(pc) {
+        Fetch::Instruction(instruction) => execute_alone(instruction, core, memory),
+        Fetch::Absent | Fetch::Planted | Fetch::Illegal => false,
+    }
+}
+
+/// A step that answers `Ran`. False where the hart is in a slot, or stops at its pc; then nothing has changed.
+#[inline(always)]
+pub fn step_ran(
+    front: &Front<'_>,
+    text: &TextWords,
+    core: &mut Core,
+    memory: &mut DataMemory,
+) -> bool
+    requires front { IsFront text.now front.now.address front.now.count front.now.code.now }
+    requires copies { core.old.copied ≤ core.old.retired }
+    ensures pc { core.old.regs.pc < 2 ^ 32 }
+    ensures copies { core.new.copied ≤ core.new.retired }
+    ensures ran { (slots : List (Option uses.SlotUse)) → result ≡ true → CoreSteps stepped.Ran (fetched_by text.now slots core.old) core.old core.new memory.old memory.new }
+    ensures kept { result ≡ false → (core.new ≡ core.old) × (memory.new ≡ memory.old) }
+    ensures stops { result ≡ false → Stops text.now core.old memory.old }
+{
+    if step_front(front, core, memory) {
+        return true;
+    }
+    step_text(text, core, memory)
+}
+
+/// Steps a hart by a copy of the instruction at a slot, and takes it home from there. False where it is in a slot, and
+/// where the instruction asks the environment or traps; then nothing has changed.
+#[inline(never)]
+pub fn copy_core(instruction: &Instr, slot: u32, core: &mut Core, memory: &mut DataMemory) -> bool
+    requires { core.old.copied ≤ core.old.retired }
+    ensures pc { core.old.regs.pc < 2 ^ 32 }
+    ensures copies { core.new.copied ≤ core.new.retired }
+    ensures ran { result ≡ true → CopiesCore instruction.now slot core.old core.new memory.old memory.new }
+    ensures kept { result ≡ false → (core.new ≡ core.old) × (memory.new ≡ memory.old) }
+{
+    let home = core.regs.pc();
+    if core.entered.is_some() {
+        return false;
+    }
+    core.regs.set_pc(slot);
+    if !execute_alone(*instruction, core, memory) {
+        core.regs.set_pc(home);
+        return false;
+    }
+    core.copied = core.copied.saturating_add(1);
+    fix(*instruction, slot, home, &mut core.regs, true);
+    true
 }
 
 /// Puts a hart at a slot.

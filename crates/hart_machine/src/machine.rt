@@ -8,19 +8,20 @@ ghost use Rattle.dbg_traits.specs.Settings.{AreSettings, AreHarts};
 ghost use Rattle.rv_decode.specs.Decode.{decode};
 ghost use Rattle.scratch_slots.specs.Table.{slot_address, slot_number, use_at, least_free, with_use, AllOut};
 ghost use Rattle.scratch_slots.specs.declared.slots.SlotUse.{SlotUse};
-ghost use Rattle.hart_machine.specs.Copying.{Begins, Enters, Finishes, Settles, owner};
+ghost use Rattle.hart_machine.specs.Copying.{Begins, Enters, Finishes, Settles, StepsByCopy, owner};
 ghost use Rattle.hart_machine.specs.Stepping.{AreCounted, Steps, IsByteCode, first_cores, has_run, loaded};
-ghost use Rattle.hart_machine.specs.Running.{AllRan};
+ghost use Rattle.hart_machine.specs.Running.{AllRan, HasStopped};
 ghost use Rattle.hart_machine.specs.declared.hart.Core.{Core};
 
 use crate::Core;
-use crate::hart::{enter_core, settle_core, step_core};
+use crate::hart::{copy_core, enter_core, settle_core, step_core};
 use crate::running::run_core;
 use crate::view::HartView;
 use data_memory::DataMemory;
 use dbg_traits::{NoMemory, Settings};
 use elf32_read::Image;
 use plain_machine::first_registers;
+use rv_decode::decode;
 use rv_exec::Stepped;
 use scratch_slots::{SlotUse, Slots};
 use std::alloc::{AllocError, Global};
@@ -284,6 +285,32 @@ impl Machine {
         }
     }
 
+    /// Steps a hart over a word by a copy in the least free slot, in one call: `begin_copy`, a step that answers `Ran`, and
+    /// `finish_copy`. False where all slots are out, the hart is in one, or the word is no instruction, asks the
+    /// environment or traps; then nothing has changed.
+    pub fn step_copy(&mut self, h: u32, word: u32) -> bool
+        requires { h < length self.old.cores }
+        ensures counts { result ≡ true → AreCounted self.old.cores }
+        ensures steps { result ≡ true → StepsByCopy self.old h word self.new }
+        ensures kept { result ≡ false → self.new ≡ self.old }
+        ensures harts { length self.new.cores ≡ length self.old.cores }
+    {
+        let Some(instruction) = decode(word) else {
+            return false;
+        };
+        let Some(slot) = self.slots.claim(h, word) else {
+            return false;
+        };
+        let copied = copy_core(
+            &instruction,
+            slot,
+            &mut self.cores[h as usize],
+            &mut self.memory,
+        );
+        self.slots.free(slot);
+        copied
+    }
+
     /// One instruction of a hart: the stored word at its pc, or the word of the slot that it entered. Nothing changes
     /// at a breakpoint, and where the instruction traps.
     pub fn step(&mut self, h: u32) -> Stepped
@@ -301,14 +328,16 @@ impl Machine {
         )
     }
 
-    /// Steps a hart at most `limit` times while each step answers `Ran`, and answers how many there were. It may stop
-    /// before a step that would answer otherwise, as at an ECALL or a breakpoint, and before one outside the first text
-    /// section or in a slot.
+    /// Steps a hart at most `limit` times while each step answers `Ran`, and answers how many there were. It ends early only
+    /// where the hart is in a slot, no instruction is at its pc, a breakpoint is planted there, or the instruction asks the
+    /// environment or traps.
     pub fn run(&mut self, h: u32, limit: u32) -> u32
         requires { h < length self.old.cores }
         ensures limit { result ≤ limit }
         ensures counts { AreCounted self.old.cores }
         ensures runs { AllRan result self.old h self.new }
+        ensures far { result < limit → HasStopped self.new h }
+        ensures harts { length self.new.cores ≡ length self.old.cores }
     {
         run_core(
             &self.text,

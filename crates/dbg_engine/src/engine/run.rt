@@ -1,38 +1,52 @@
 // Many instructions of a hart in one call.
-ghost use Rattle.std.specs.Prelude.{◌≡◌, ◌<◌, ◌≤◌, None, length, true, false};
-ghost use Rattle.dbg_engine.specs.Several.{AllTurned};
+ghost use Rattle.std.specs.Prelude.{◌≡◌, ◌<◌, ◌≤◌, length, not};
+ghost use Rattle.dbg_model.specs.State.{is_off};
+ghost use Rattle.engine_facts.specs.Movers.{is_idle};
+ghost use Rattle.dbg_engine.specs.Several.{AllTurned, Rests, is_alone};
 
 use super::Engine;
+use crate::going::{Course, go};
 use crate::journal::note_runs;
+use crate::minds::is_running;
 use crate::moving::ran_mind;
-use engine_facts::{Activity, Hold, Mind, Phase};
+use engine_facts::{Hold, Mind, Phase};
+use mi_commands::Displaced;
+
+fn is_idle(phase: Phase) -> bool
+    ensures { result ≡ is_idle phase }
+{
+    matches!(phase, Phase::Idle)
+}
 
 // Whether a hart runs, steps over nothing and isn't interrupted, and no patch is lifted.
 fn is_alone(mind: Mind, hold: Option<Hold>) -> bool
-    ensures runs { result ≡ true → mind.activity ≡ Activity.Running }
-    ensures idle { result ≡ true → mind.phase ≡ Phase.Idle }
-    ensures asked { result ≡ true → mind.asked ≡ false }
-    ensures none { result ≡ true → hold ≡ None }
+    ensures { result ≡ is_alone mind hold }
 {
-    match (mind.activity, mind.phase, hold) {
-        (Activity::Running, Phase::Idle, None) => !mind.asked,
-        _ => false,
-    }
+    is_running(&mind) && is_idle(mind.phase) && !mind.asked && hold.is_none()
+}
+
+// Whether planted words are stepped over by copies, where there are slots.
+fn is_on(displaced: Displaced) -> bool
+    ensures { result ≡ not (is_off displaced) }
+{
+    !matches!(displaced, Displaced::Off)
 }
 
 impl Engine {
     ghost use Rattle.engine_facts.specs.Facts.{Facts};
 
-    /// Executes instructions of a hart in one call, each of which is a turn that answers `Ran`: at most `limit`, and how
-    /// many. Where another turn is next it is none.
+    /// Takes a hart on by turns of which nothing is said, in one call: at most `limit`, and how many. Each is a turn that
+    /// answers `Ran`, or is of a step over a breakpoint at which nothing is due. They are fewer only where the session is
+    /// over, the hart isn't alone, or it has come to where it doesn't go on by itself, as at an ECALL or a breakpoint.
     pub fn run(&mut self, h: u32, limit: u32) -> u32
         requires hart { h < length self.old.minds }
         requires spare { 32 ≤ self.old.spare }
         ensures limit { result ≤ limit }
         ensures turns { AllTurned result self.old self.new h }
+        ensures far { result < limit → Rests self.new h }
         ensures facts { Facts self.new }
     {
-        if let Some(_end) = self.over() {
+        if !self.may_go() {
             return 0;
         }
         let mind = self.mind(h);
@@ -40,13 +54,20 @@ impl Engine {
             return 0;
         }
         let most = (self.opening.settings.budget - self.retired).min(u64::from(limit));
-        let count = self.machine.run(h, most as u32);
-        if count == 0 {
+        let course = Course {
+            hart: h,
+            table: &self.table,
+            image: &self.opening.image,
+            copies: is_on(self.displaced),
+        };
+        let progress = go(&mut self.machine, &course, limit, most as u32);
+        if progress.instructions == 0 {
             return 0;
         }
-        note_runs(&mut self.entries, h, u64::from(count));
+        let count = u64::from(progress.instructions);
+        note_runs(&mut self.entries, h, count);
         self.minds[h as usize] = ran_mind(mind);
-        self.retired += u64::from(count);
-        count
+        self.retired += count;
+        progress.turns
     }
 }

@@ -60,10 +60,9 @@ impl Engine {
         let Some(word) = self.machine.shown(pc) else {
             unreachable!()
         };
-        let Some(slot) = self.machine.claim(h, word) else {
+        let Some(slot) = self.machine.begin_copy(h, word) else {
             return false;
         };
-        self.machine.enter(h, slot);
         self.minds[h as usize] = with_phase(mind, Phase::Copied { slot, home: pc });
         true
     }

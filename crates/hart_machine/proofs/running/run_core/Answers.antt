@@ -4,8 +4,8 @@ use Rattle.hart_machine.proofs.running.run_core.Goals as goal
 
 pub loop-count-preserved : goal.loop-count-preserved
 loop-count-preserved c = record {
-  copies = c.step_front.ensures.copies;
+  copies = c.step_ran.ensures.copies;
   runs = λ slots.
-      one_more c.loop-count.count _ slots _ c.loop-count.core c.step_front.new.core _ c.loop-count.memory _ (c.loop-count.invariant.runs slots) c.step_front.ensures.pc
-      (c.if-not-step_front.ensures.ran c.args.text.now slots c.front-front.ensures refl);
+      one_more c.loop-count.count _ slots _ c.loop-count.core c.step_ran.new.core _ c.loop-count.memory _ (c.loop-count.invariant.runs slots) c.step_ran.ensures.pc
+      (c.if-not-step_ran.ensures.ran slots refl);
 }

@@ -1,0 +1,67 @@
+-- The ways that a hart went, with those that it went before.
+use Rattle.std.proofs.Common.{◌≡◌, ◌<◌, ◌≤◌, ℕ, zero, suc, ◌+◌, Bool, List, [], ◌∷◌, length, refl, sym, ap, ◌∙◌, subst, arith}
+use Rattle.std.specs.Prelude.{◌^◌, true, false, Some, slice_get}
+use Rattle.rv_exec.specs.Registers.{set_pc}
+use Rattle.elf32_read.specs.Program.{Program}
+use Rattle.text_words.specs.Words.{shown, is_planted}
+use Rattle.hart_machine.specs.declared.hart.Core.{Core}
+use Rattle.hart_machine.specs.Copying.{StepsByCopy}
+use Rattle.hart_machine.specs.Stepping.{AreCounted}
+use Rattle.break_table.specs.Arrival.{due_of}
+use Rattle.dbg_model.specs.Views.{register, shown_byte}
+use Rattle.dbg_model.specs.State.{is_due}
+use Rattle.hart_machine.specs.Patched.{Patched}
+use Rattle.hart_machine.specs.Running.{AllRan}
+use Rattle.break_table.specs.Entry.{Entry as BreakEntry}
+use Rattle.dbg_engine.specs.Going.{Way, InPlace, ByCopy, Goes, GoesBy, Passes, turns_of}
+
+abbrev in_place : ℕ → List Way → List Way
+in_place zero ws = ws
+in_place (suc n) ws = InPlace ∷ in_place n ws
+
+length_more : (n : ℕ) (ws : List Way) → length (in_place n ws) ≡ length ws + n
+length_more zero ws = omega arith
+length_more (suc n) ws = let ih = length_more n ws in omega arith
+
+turns_more : (n : ℕ) (ws : List Way) → turns_of (in_place n ws) ≡ turns_of ws + n
+turns_more zero ws = omega arith
+turns_more (suc n) ws = let ih = turns_more n ws in omega arith
+
+module _ (p : Program) (bs : List BreakEntry) (h most : ℕ) (on : Bool) (old : Patched) where
+  more_by : (n : ℕ) (ws : List Way) (mid new : Patched) → length ws + n ≤ most → GoesBy p bs h on most ws old mid → AllRan n mid h new → GoesBy p bs h on most (in_place n ws) old new
+  more_by zero ws mid new room went ran = subst (λ (m : Patched). GoesBy p bs h on most ws old m) (sym ran) went
+  more_by (suc n) ws mid new room went ran = (let len = length_more n ws in omega arith, record { machine = ran.machine; before = more_by n ws mid ran.machine (omega arith) went ran.before; step = ran.step })
+
+  -- n more instructions in their places
+  pub ran_more : (t i n : ℕ) (mid new : Patched) → i + n ≤ most → Goes p bs h on most t i old mid → AllRan n mid h new → Goes p bs h on most (t + n) (i + n) old new
+  ran_more t i n mid new room went ran =
+      let ws = went.ways in
+      record {
+        ways = in_place n ws;
+        turns_are = ap (λ k. k + n) went.turns_are ∙ sym (turns_more n ws);
+        instructions_are = ap (λ k. k + n) went.instructions_are ∙ sym (length_more n ws);
+        goes = more_by n ws mid new (let e = went.instructions_are in omega arith) went.goes ran;
+      }
+
+  -- and one by a copy
+  pub passed_more : (t i : ℕ) (mid new : Patched) → i + 1 < most → Goes p bs h on most t i old mid → Passes p bs h on mid new → Goes p bs h on most (t + 3) (i + 1) old new
+  passed_more t i mid new room went passes =
+      record {
+        ways = ByCopy ∷ went.ways;
+        turns_are = let e = went.turns_are in omega arith;
+        instructions_are = let e = went.instructions_are in omega arith;
+        goes = (let e = went.instructions_are in omega arith, record { machine = mid; before = went.goes; step = passes });
+      }
+
+  pub none_yet : Goes p bs h on most 0 0 old old
+  none_yet = record { ways = []; turns_are = refl; instructions_are = refl; goes = refl }
+
+-- a planted word that was passed, by the pc of its hart
+pub passes_at : (p : Program) (bs : List BreakEntry) (h : ℕ) (on : Bool) (m new : Patched) (pc word : ℕ) (k : Core) → slice_get m.cores h ≡ Some k → pc ≡ k.regs.pc → pc < 2 ^ 32 → on ≡ true → is_planted m.text pc ≡ true → Some word ≡ shown m.text pc
+    → is_due (due_of h (register (set_pc k.regs pc)) (shown_byte p m.memory) bs) ≡ false → AreCounted m.cores → StepsByCopy m h word new → Passes p bs h on m new
+passes_at p bs h on m new pc word k at is low is_on planted found undue counted steps =
+    let A : ℕ → Type 0 = λ a. a < 2 ^ 32 in
+    let B : ℕ → Type 0 = λ a. is_planted m.text a ≡ true in
+    let C : ℕ → Type 0 = λ a. Some word ≡ shown m.text a in
+    let D : ℕ → Type 0 = λ a. is_due (due_of h (register (set_pc k.regs a)) (shown_byte p m.memory) bs) ≡ false in
+    record { is_on = is_on; core = k; word = word; at = at; low = subst A is low; planted = subst B is planted; word_is = subst C is found; undue = subst D is undue; counted = counted; steps = steps }

@@ -1,0 +1,59 @@
+-- How a hart goes on by itself: it executes instructions, and steps over planted words at which nothing is due.
+use Rattle.std.specs.Prelude.{◌≡◌, ◌<◌, ◌^◌, ℕ, suc, Bool, true, false, List, [], ◌∷◌, length, Some, slice_get}
+use Rattle.rv_exec.specs.Registers.{set_pc}
+use Rattle.rv_exec.specs.declared.effect.Stepped.TheVariants as stepped
+use Rattle.elf32_read.specs.Program.{Program}
+use Rattle.text_words.specs.Words.{shown, is_planted}
+use Rattle.hart_machine.specs.declared.hart.Core.{Core}
+use Rattle.hart_machine.specs.Patched.{Patched}
+use Rattle.hart_machine.specs.Stepping.{AreCounted, Steps}
+use Rattle.hart_machine.specs.Copying.{StepsByCopy}
+use Rattle.break_table.specs.Entry.{Entry as BreakEntry}
+use Rattle.break_table.specs.Arrival.{due_of}
+use Rattle.dbg_model.specs.Views.{register, shown_byte}
+use Rattle.dbg_model.specs.State.{is_due}
+
+-- an instruction in its place, or over a planted word by a copy
+pub data Way : Type 0 where
+  InPlace : Way
+  ByCopy : Way
+
+-- how many turns they are: a step over a word is one to begin it, one to execute and one to finish it
+abbrev pub turns_of : List Way → ℕ
+turns_of [] = 0
+turns_of (InPlace ∷ ws) = suc (turns_of ws)
+turns_of (ByCopy ∷ ws) = suc (suc (suc (turns_of ws)))
+
+-- hart h is at a planted word at which these breakpoints neither stop nor count it, and stepped over it by a copy, where
+-- that is on
+pub record Passes (p : Program) (bs : List BreakEntry) (h : ℕ) (on : Bool) (old new : Patched) : Type 0 where
+  pub is_on : on ≡ true
+  pub core : Core
+  pub word : ℕ
+  pub at : slice_get old.cores h ≡ Some core
+  pub low : core.regs.pc < 2 ^ 32
+  pub planted : is_planted old.text core.regs.pc ≡ true
+  pub word_is : Some word ≡ shown old.text core.regs.pc
+  pub undue : is_due (due_of h (register (set_pc core.regs core.regs.pc)) (shown_byte p old.memory) bs) ≡ false
+  pub counted : AreCounted old.cores
+  pub steps : StepsByCopy old h word new
+
+-- a step from a machine of which P holds
+pub record ThenGoes (P Step : Patched → Type 0) : Type 0 where
+  pub machine : Patched
+  pub before : P machine
+  pub step : Step machine
+
+-- Hart h went these ways, of which the last comes first, while it had executed fewer than `most` instructions; a copy's own
+-- isn't the last of them, since its step is finished by a turn of its own.
+abbrev pub GoesBy : Program → List BreakEntry → ℕ → Bool → ℕ → List Way → Patched → Patched → Type 0
+GoesBy p bs h on most [] old new = new ≡ old
+GoesBy p bs h on most (InPlace ∷ ws) old new = (length ws < most) × ThenGoes (λ m. GoesBy p bs h on most ws old m) (λ m. Steps stepped.Ran m h new)
+GoesBy p bs h on most (ByCopy ∷ ws) old new = (suc (length ws) < most) × ThenGoes (λ m. GoesBy p bs h on most ws old m) (λ m. Passes p bs h on m new)
+
+-- so many turns, with so many instructions
+pub record Goes (p : Program) (bs : List BreakEntry) (h : ℕ) (on : Bool) (most turns instructions : ℕ) (old new : Patched) : Type 0 where
+  pub ways : List Way
+  pub turns_are : turns ≡ turns_of ways
+  pub instructions_are : instructions ≡ length ways
+  pub goes : GoesBy p bs h on most ways old new

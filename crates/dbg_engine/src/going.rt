@@ -1,0 +1,90 @@
+// A hart that goes on by itself, over the parts of an engine.
+ghost use Rattle.std.specs.Prelude.{◌≡◌, ◌<◌, ◌≤◌, length, true, false};
+ghost use Rattle.hart_machine.specs.Running.{HasStopped};
+ghost use Rattle.dbg_engine.specs.Going.{Goes, Passes};
+
+use crate::breaking::due_at;
+use break_table::BreakTable;
+use elf32_read::Image;
+use hart_machine::Machine;
+
+/// What a hart meets that goes on.
+#[derive(Clone, Copy)]
+pub struct Course<'a> {
+    pub hart: u32,
+    pub table: &'a BreakTable,
+    /// What conditions read of the text.
+    pub image: &'a Image,
+    /// Whether planted words are stepped over by copies.
+    pub copies: bool,
+}
+
+/// How far a hart went.
+#[derive(Clone, Copy)]
+pub struct Progress {
+    pub turns: u32,
+    pub instructions: u32,
+}
+
+// Steps over the planted word at a hart's pc, where the breakpoints there neither stop nor count it. False where it isn't
+// stepped over; then nothing has changed.
+fn pass(machine: &mut Machine, course: &Course<'_>) -> bool
+    requires { course.now.hart < length machine.old.cores }
+    ensures passes { result ≡ true → Passes course.now.image.now course.now.table.now.entries course.now.hart course.now.copies machine.old machine.new }
+    ensures kept { result ≡ false → machine.new ≡ machine.old }
+    ensures harts { length machine.new.cores ≡ length machine.old.cores }
+{
+    if !course.copies {
+        return false;
+    }
+    let pc = machine.pc(course.hart);
+    if !machine.planted(pc) {
+        return false;
+    }
+    let due = due_at(course.table, course.image, machine, course.hart, pc);
+    if due.counts || due.stop.is_some() {
+        return false;
+    }
+    let Some(word) = machine.shown(pc) else {
+        return false;
+    };
+    machine.step_copy(course.hart, word)
+}
+
+/// Takes a hart at most `limit` turns on, in which it executes at most `most` instructions. Where neither is reached, it has
+/// come to where it doesn't go on by itself.
+pub fn go(machine: &mut Machine, course: &Course<'_>, limit: u32, most: u32) -> Progress
+    requires { course.now.hart < length machine.old.cores }
+    ensures limit { result.turns ≤ limit }
+    ensures most { result.instructions ≤ most }
+    ensures fewer { result.instructions ≤ result.turns }
+    ensures goes { Goes course.now.image.now course.now.table.now.entries course.now.hart course.now.copies most result.turns result.instructions machine.old machine.new }
+    ensures far { result.turns < limit → result.instructions < most → HasStopped machine.new course.now.hart }
+{
+    let mut turns = 0;
+    let mut instructions = 0;
+    while turns < limit && instructions < most {
+        let left = (limit - turns).min(most - instructions);
+        let count = machine.run(course.hart, left);
+        turns += count;
+        instructions += count;
+        if limit - turns < 3 || most - instructions < 2 {
+            return Progress {
+                turns,
+                instructions,
+            };
+        }
+        if !pass(machine, course) {
+            return Progress {
+                turns,
+                instructions,
+            };
+        }
+        turns += 3;
+        instructions += 1;
+    }
+    Progress {
+        turns,
+        instructions,
+    }
+}
