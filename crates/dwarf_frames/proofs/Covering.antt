@@ -53,7 +53,7 @@ pub told_by : (pc number : ℕ) (lent kept shown : List ℕ) (table fdes : List 
     → table ≡ fdes → number ≡ pc → place ≡ value_from None table number → told lent place fault ≡ covering pc (entries shown)
 told_by pc number lent kept shown table fdes fault place l k t f e n v =
     let at : place ≡ value_among (fde_ranges (entries kept)) pc =
-        v ∙ ap (λ (rows : List (Entry ℕ)). value_from None rows number) e ∙ ap (value_from None fdes) n ∙ t.value pc in
+    v ∙ ap (λ (rows : List (Entry ℕ)). value_from None rows number) e ∙ ap (value_from None fdes) n ∙ t.value pc in
     ap (λ (bytes : List ℕ). told bytes place fault) l
     ∙ ap (λ (o : Option ℕ). told kept o fault) at
     ∙ ap (told kept (value_among (fde_ranges (entries kept)) pc)) f

@@ -79,7 +79,7 @@ named_here section body at next place others h e =
     elim (is_cie body) as (λ v. is_cie body ≡ v → cie_of body ≡ cie_if section place (is_among place (cond v (at ∷ []) [] ++ others))) [
       | true ↦ λ f. here ∙ ap (λ (b : Bool). cie_if section place (b || is_among place others)) (sym e)
       | false ↦ λ f. (let short = not_cie body f in
-        elim (is_among place others) as (λ b. cie_of body ≡ cie_if section place b) [ true ↦ here | false ↦ short ])
+          elim (is_among place others) as (λ b. cie_of body ≡ cie_if section place b) [ true ↦ here | false ↦ short ])
     ] refl
 
 -- at another place
