@@ -1,11 +1,6 @@
 -- Lists of which a function or a test sees each element.
-use Rattle.std.proofs.Common.{◌≡◌, ℕ, zero, suc, ◌+◌, ap, refl, add-one, cond, Bool, true, false, List, [], ◌∷◌, ◌++◌, map, filter, take, slice_get, Some, Result, Ok, Err, IsOk, is_ok, if◌then◌else◌, ◌||◌, not}
+use Rattle.std.proofs.Common.{◌≡◌, ap, refl, cond, Bool, true, false, List, [], ◌∷◌, map, filter, Result, Ok, Err, IsOk, is_ok, if◌then◌else◌, ◌||◌, not}
 use Rattle.std.specs.List.{list_any}
-
-pub map-take-more : {A B : Type 0} (f : A → B) (xs : List A) (k : ℕ) (x : A) → slice_get xs k ≡ Some x → map f (take (k + 1) xs) ≡ map f (take k xs) ++ f x ∷ []
-map-take-more f [] k x h = cc
-map-take-more f (y ∷ ys) zero x h = let e : y ≡ x = cc in ap (λ z. f z ∷ []) e
-map-take-more f (y ∷ ys) (suc k) x h = rw add-one (ap (λ zs. f y ∷ zs) (rw add-one at (map-take-more f ys k x h)))
 
 pub filter-map : {A B : Type 0} (f : A → B) (p : B → Bool) (xs : List A) → map f (filter (λ x. p (f x)) xs) ≡ filter p (map f xs)
 filter-map f p [] = refl
@@ -37,7 +32,3 @@ filter-kept p (x ∷ xs) h =
 pub if-ok : {T E A : Type 0} (r : Result T E) (x a b : A) → IsOk r → x ≡ (if is_ok r then a else b) → x ≡ a
 if-ok (Ok v) x a b h is = is
 if-ok (Err e) x a b h is = cc
-
-pub list_any-map : {A B : Type 0} (p : B → Bool) (g : A → B) (xs : List A) → list_any p (map g xs) ≡ list_any (λ x. p (g x)) xs
-list_any-map p g [] = refl
-list_any-map p g (x ∷ xs) = ap (λ b. p (g x) || b) (list_any-map p g xs)

@@ -1,13 +1,10 @@
--- Text sections and where they stand.
-use Rattle.std.proofs.Common.{◌≡◌, ℕ, zero, suc, ◌+◌, ◌*◌, refl, arith, [], ◌∷◌, length, length-append}
-use Rattle.elf32_read.specs.Fields.{entries}
+-- Where text stands, by the program and by the ranges of its sections.
+use Rattle.std.proofs.Common.{◌≡◌, ℕ, ◌%◌, Bool, ap}
+use Rattle.std.specs.Prelude.{◌==◌, ◌&&◌}
 use Rattle.elf32_read.specs.Program.{Program}
-use Rattle.break_table.specs.Text.{bounds_of, in_bounds, is_instruction, is_place, text_bounds}
-use Rattle.break_table.proofs.Lists.{list_any-map}
+use Rattle.elf32_read.specs.TextSpans.{text_spans}
+use Rattle.elf32_read.proofs.Ordered.{any_text_span}
+use Rattle.break_table.specs.Text.{is_instruction, is_place}
 
-pub length-entries : {A : Type 0} (at : ℕ → A) (start step n : ℕ) → length (entries at start step n) ≡ n
-length-entries at start step zero = refl
-length-entries at start step (suc n) = omega (arith, length-append (entries at start step n) (at (start + step * n) ∷ []), length-entries at start step n)
-
-pub is_place-text_bounds : (p : Program) (addr : ℕ) → is_place (text_bounds p) addr ≡ is_instruction p addr
-is_place-text_bounds p addr = rw (list_any-map (in_bounds addr) bounds_of p.text) refl
+pub is_place-text_spans : (p : Program) (addr : ℕ) → is_place (text_spans p) addr ≡ is_instruction p addr
+is_place-text_spans p addr = ap (λ (inside : Bool). (addr % 4 == 0) && inside) (any_text_span p addr)

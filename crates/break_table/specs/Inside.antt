@@ -6,7 +6,7 @@ use Rattle.break_table.specs.Places.{ArePlaced}
 use Rattle.break_table.specs.declared.table.BreakTable.TheInside.{Inside}
 
 abbrev pub seen : Inside → Table
-seen t = record { entries = map entry_of t.entries.items; given = t.given; text = t.text.items; waits = t.waits.items }
+seen t = record { entries = map entry_of t.entries.items; given = t.given; text = t.text; waits = t.waits.items }
 
 pub record IsKept (t : Inside) : Type 0 where
   pub rising : IsRising 0 (map entry_of t.entries.items) t.given

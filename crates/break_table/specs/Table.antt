@@ -3,8 +3,9 @@ use Rattle.std.specs.Prelude.{◌≡◌, ℕ, ◌+◌, ◌<◌, ◌≤◌, Bool,
 use Rattle.std.specs.List.{list_any}
 use Rattle.elf32_read.specs.Program.{Program}
 use Rattle.break_table.specs.Entry.{Condition, Entry, Asked, new_entry}
-use Rattle.break_table.specs.Text.{text_bounds, is_place}
-use Rattle.break_table.specs.declared.bounds.TextBounds.{TextBounds}
+use Rattle.elf32_read.specs.TextSpans.{text_spans}
+use Rattle.elf32_read.specs.declared.spans.Span.{Span}
+use Rattle.break_table.specs.Text.{is_place}
 use Rattle.break_table.specs.declared.fault.BreakFault.{BreakFault}
 use Rattle.break_table.specs.declared.fault.BreakFault.TheVariants.{NoNumber, Place, Full, Thread}
 
@@ -14,12 +15,12 @@ pub record Table : Type 0 where
   -- how many numbers were given, from 1 on
   pub given : ℕ
   -- where text stands
-  pub text : List TextBounds
+  pub text : List Span
   -- for each hart the address at which it waits, if it waits
   pub waits : List (Option ℕ)
 
 abbrev pub first_table : Program → ℕ → Table
-first_table p harts = record { entries = []; given = 0; text = text_bounds p; waits = replicate harts None }
+first_table p harts = record { entries = []; given = 0; text = text_spans p; waits = replicate harts None }
 
 -- numbers rise from above one to at most another
 abbrev pub IsRising : ℕ → List Entry → ℕ → Type 0

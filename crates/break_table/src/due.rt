@@ -11,13 +11,16 @@ use crate::entry::BreakEntry;
 use crate::places::{Place, entry_at};
 use cond_expr::{Expr, Value, value};
 use dbg_traits::View;
+use thiserror::Error;
 
 /// Why the value of a condition can't be had.
-#[derive(Clone, Copy, Debug, PartialEq, Eq)]
+#[derive(Clone, Copy, Debug, PartialEq, Eq, Error)]
 pub enum CondError {
     /// A divisor was 0.
+    #[error("division by zero")]
     DivZero,
     /// No byte is mapped at this address.
+    #[error("no byte is mapped at {0:#x}")]
     Unread(u32),
 }
 

@@ -1,7 +1,6 @@
 //! Breakpoints: the list of user entries, which of them count or stop at an arrival, and where harts wait for a return.
 #![tactic(auto)]
 
-mod bounds;
 mod change;
 mod due;
 mod entry;
@@ -12,7 +11,6 @@ mod places;
 mod settle;
 mod table;
 
-pub use bounds::TextBounds;
 pub use due::{CondError, Due};
 pub use entry::{BreakEntry, Spec};
 pub use fault::BreakFault;

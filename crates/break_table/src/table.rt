@@ -7,7 +7,6 @@ ghost use Rattle.break_table.specs.Arrival.{due_of, settled, stays};
 ghost use Rattle.break_table.specs.Text.{is_instruction, is_place};
 ghost use Rattle.break_table.specs.Table.{changed, deleted, drawn, first_table, insert_fault, inserted, missing, stands, waits, with_condition, with_enabled, with_ignore, with_wait, Answers, IsRising};
 
-use crate::bounds::{TextBounds, is_place, text_bounds};
 use crate::change::{Change, change_entry, remove};
 use crate::due::{Due, due_among};
 use crate::entry::{BreakEntry, Spec};
@@ -17,7 +16,7 @@ use crate::places::{Place, add_place, place_all, run_at};
 use crate::settle::{retain_staying, settle_each, some_leaves};
 use cond_expr::Expr;
 use dbg_traits::{NoMemory, View};
-use elf32_read::Image;
+use elf32_read::{Image, TextSpans};
 use std::alloc::{AllocError, Global};
 use std::marker::Model;
 
@@ -34,7 +33,7 @@ pub struct BreakTable {
     /// The place of each entry, sorted by address.
     places: Vec<Place>,
     given: u32,
-    text: Vec<TextBounds>,
+    text: TextSpans,
     waits: Vec<Option<u32>>,
 }
 
@@ -63,6 +62,13 @@ fn no_waits(alloc: Global, harts: usize) -> Result<Vec<Option<u32>>, AllocError>
     Ok(waits)
 }
 
+/// Whether an address is a multiple of 4 in text.
+fn is_place(text: &TextSpans, addr: u32) -> bool
+    ensures { result ≡ is_place text.now addr }
+{
+    addr % 4 == 0 && text.contains(addr)
+}
+
 impl BreakTable {
     /// A table without breakpoints, for the text of a program and so many harts.
     pub fn new(alloc: Global, image: &Image, harts: u32) -> Result<BreakTable, NoMemory>
@@ -73,7 +79,7 @@ impl BreakTable {
             entries: Vec::with_capacity(alloc, MOST)?,
             places: Vec::with_capacity(alloc, MOST)?,
             given: 0,
-            text: text_bounds(alloc, image)?,
+            text: image.text_spans(alloc)?,
             waits: no_waits(alloc, harts as usize)?,
         })
     }

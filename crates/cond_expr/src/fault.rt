@@ -4,6 +4,7 @@ ghost use Rattle.std.specs.Prelude.{◌≡◌};
 ghost use Rattle.cond_expr.specs.declared.fault.ParseError.TheVariants.{NoMemory};
 
 use std::alloc::{AllocError, AllocFailed};
+use thiserror::Error;
 
 /// What is wrong with a text. Of several faults at one place the first of these is told.
 #[derive(Clone, Copy, Debug, PartialEq, Eq)]
@@ -21,16 +22,20 @@ pub enum FaultKind {
 }
 
 /// A fault and its place.
-#[derive(Clone, Copy, Debug, PartialEq, Eq)]
+#[derive(Clone, Copy, Debug, PartialEq, Eq, Error)]
+#[error("faulty expression: {kind:?} at {at}")]
 pub struct ExprFault {
     pub kind: FaultKind,
     /// The bytes of the text before it.
     pub at: u32,
 }
 
-#[derive(Clone, Copy, Debug, PartialEq, Eq)]
+/// Why a text gives no tree.
+#[derive(Clone, Copy, Debug, PartialEq, Eq, Error)]
 pub enum ParseError {
+    #[error("out of memory")]
     NoMemory,
+    #[error(transparent)]
     Fault(ExprFault),
 }
 

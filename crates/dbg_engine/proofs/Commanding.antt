@@ -13,7 +13,7 @@ use Rattle.hart_machine.specs.Patched.{Patched}
 use Rattle.break_table.specs.Entry.{Entry as BreakEntry, asked_of}
 use Rattle.break_table.specs.Table.{Table, insert_fault, is_thread}
 use Rattle.break_table.specs.Text.{is_instruction, is_place}
-use Rattle.break_table.specs.declared.bounds.TextBounds.{TextBounds}
+use Rattle.elf32_read.specs.declared.spans.Span.{Span}
 use Rattle.dbg_model.specs.declared.entry.Entry.{Entry}
 use Rattle.dbg_model.specs.declared.entry.Entry.TheVariants.{Did}
 use Rattle.dbg_model.specs.declared.opening.Opening.{Opening}
@@ -274,10 +274,10 @@ changed r spare line b j m old new f may is breaks given bounds waits same table
     let again = planted_again r m.text (breaks_after r.breaks r.given d) f w.words (subst (λ (es : List BreakEntry). ArePlanted m.text es r.hold) bs w.planted) in
     let ended : Bool → Type 0 = λ x. LinedTo r (lined r (Did line) (minds_after r.minds d) (selected_after r.selected d) (displaced_after r.displaced d) m.text (breaks_after r.breaks r.given d) (given_after r.given d) x spare) line in
     let first = subst ended (none_exits r.exited b) (lined_to r line d m.text spare f may is again.0 again.1) in
-    let N : List Entry → Patched → List Mind → ℕ → Displaced → List BreakEntry → ℕ → List TextBounds → List (Option ℕ) → Run =
+    let N : List Entry → Patched → List Mind → ℕ → Displaced → List BreakEntry → ℕ → List Span → List (Option ℕ) → Run =
     λ es n ys t v cs g us vs. record r { journal = es; spare = spare; machine = n; minds = ys; selected = t; displaced = v; breaks = cs; given = g; bounds = us; waits = vs; noted = r.noted + 1 } in
     let D : Displaced → Type 0 = λ v. LinedTo r (N (r.journal ++ Did line ∷ []) (record r.machine { text = m.text }) (minds_after r.minds d) (selected_after r.selected d) v (breaks_after r.breaks r.given d) (given_after r.given d) r.bounds r.waits) line in
-    let P : List Entry → Patched → List Mind → ℕ → List BreakEntry → ℕ → List TextBounds → List (Option ℕ) → Type 0 = λ es n ys t cs g us vs. LinedTo r (N es n ys t r.displaced cs g us vs) line in
+    let P : List Entry → Patched → List Mind → ℕ → List BreakEntry → ℕ → List Span → List (Option ℕ) → Type 0 = λ es n ys t cs g us vs. LinedTo r (N es n ys t r.displaced cs g us vs) line in
     let m' : Patched = record r.machine { text = m.text } in
     let es = r.journal ++ Did line ∷ [] in
     let cs = breaks_after r.breaks r.given d in
@@ -291,7 +291,7 @@ changed r spare line b j m old new f may is breaks given bounds waits same table
     (subst (λ (n : Patched). P es n r.minds r.selected new.entries new.given new.text new.waits) (sym w.rest)
     (subst (λ (ds : List BreakEntry). P es m' r.minds r.selected ds new.given new.text new.waits) (sym bs)
     (subst (λ (k : ℕ). P es m' r.minds r.selected cs k new.text new.waits) (sym gs)
-    (subst (λ (us : List TextBounds). P es m' r.minds r.selected cs g us new.waits) (sym ts)
+    (subst (λ (us : List Span). P es m' r.minds r.selected cs g us new.waits) (sym ts)
     (subst (λ (vs : List (Option ℕ)). P es m' r.minds r.selected cs g r.bounds vs) (sym ws) still)))))
 
 -- ---- what a new breakpoint rests on

@@ -49,7 +49,7 @@ fn load<W: World>(alloc: Global, world: W) -> Result<Session<W>, Ended<W>>
         Err(FileError::Failed) => return Err(early(Status::ReadFault, world)),
         Err(FileError::NoMemory) => return Err(early(Status::NoMemory, world)),
     };
-    let image = match read_image(alloc, bytes.as_slice()) {
+    let image = match read_image(alloc, bytes) {
         Ok(image) => image,
         Err(ElfReadError::Fault(fault)) => {
             let Ok(text) = bad_file(alloc, fault) else {

@@ -1,14 +1,15 @@
 -- What holds of a file that fails no check.
-use Rattle.std.proofs.Common.{◌≡◌, ℕ, zero, suc, get_or, ◌+◌, ◌*◌, ◌%◌, ◌≤◌, ◌<◌, Bool, true, false, List, [], ◌∷◌, ◌++◌, length, map, find, Option, None, Some, refl, sym, ◌∙◌, arith, leb-true, ltb-true, eqb-true, inl, inr}
+use Rattle.std.proofs.Common.{◌≡◌, ℕ, zero, suc, get_or, ◌+◌, ◌*◌, ◌%◌, ◌≤◌, ◌<◌, Bool, true, false, List, [], ◌∷◌, ◌++◌, length, map, find, Option, None, Some, refl, sym, ◌∙◌, ap, arith, leb-true, ltb-true, eqb-true, inl, inr}
 use Rattle.std.specs.Prelude.{◌==◌, ◌&&◌, ◌||◌, ◌⊎◌, not, nat_lt, All, slice_get, if◌then◌else◌}
 use Rattle.std.specs.List.{list_any}
 use Rattle.std.specs.Option.{option_map_or}
 use Rattle.std.proofs.lemmas.List.Elements.{All-nil, All-cons, All-head, All-tail, All-map}
+use Rattle.std.proofs.lemmas.Bool.{and_parts}
 use Rattle.elf32_read.specs.Headers.{file_header, loaded, text_headers, holds_text}
-use Rattle.elf32_read.specs.Checks.{Check, check, first_fault, fault_of, size_checks, header_checks, segment_checks, memory_checks, text_checks, entry_checks, segment_fits, segments_overlap, text_fits, sections_overlap}
+use Rattle.elf32_read.specs.Checks.{Check, check, first_fault, fault_of, size_checks, header_checks, by_earlier, segment_check, memory_check, text_check, entry_checks, segment_fits, text_fits}
 use Rattle.elf32_read.specs.Ranges.{range_in, text_range, offset_of, IsWithin, IsRange}
-use Rattle.elf32_read.specs.Stages.{or_else}
-use Rattle.elf32_read.proofs.Stages.{fault_of-stages}
+use Rattle.elf32_read.proofs.Stages.{or_else, fault_of-stages}
+use Rattle.elf32_read.proofs.Earlier.{from, by_earlier-from}
 use Rattle.elf32_read.specs.declared.fault.ElfKind.TheVariants as kind
 use Rattle.elf32_read.specs.declared.fault.ElfFault.{ElfFault}
 use Rattle.elf32_read.specs.declared.header.ProgramHeader.{ProgramHeader}
@@ -26,18 +27,14 @@ holds_first false f o h = cc
 pub passed_first : (c : Check) (cs : List Check) → first_fault (c ∷ cs) ≡ None → (c.holds ≡ true) × (first_fault cs ≡ None)
 passed_first c cs h = holds_first c.holds c.fault (first_fault cs) h
 
-pub both : (a b : Bool) → (a && b) ≡ true → (a ≡ true) × (b ≡ true)
-both true b h = (refl, h)
-both false b h = cc
-
 -- no stage has a fault
 pub record Passed (bytes : List ℕ) : Type 0 where
   pub size : first_fault (size_checks bytes) ≡ None
   pub header : first_fault (header_checks bytes) ≡ None
-  pub segments : first_fault (segment_checks (length bytes) [] (loaded bytes)) ≡ None
-  pub memory : first_fault (memory_checks 0 (loaded bytes)) ≡ None
+  pub segments : first_fault (by_earlier (segment_check (length bytes)) (loaded bytes)) ≡ None
+  pub memory : first_fault (by_earlier memory_check (loaded bytes)) ≡ None
   pub named : first_fault (check (((file_header bytes).section_names == 0) || nat_lt (file_header bytes).section_names (file_header bytes).section_header_count) kind.Section 50 ∷ []) ≡ None
-  pub text : first_fault (text_checks (loaded bytes) [] (text_headers bytes)) ≡ None
+  pub text : first_fault (by_earlier (text_check (loaded bytes)) (text_headers bytes)) ≡ None
   pub entry : first_fault (entry_checks (file_header bytes) (text_headers bytes)) ≡ None
 
 pub passed : (bytes : List ℕ) → fault_of bytes ≡ None → Passed bytes
@@ -52,19 +49,26 @@ passed bytes h =
     let i = both_none _ _ g.1 in
     record { size = a.0; header = b.0; segments = c.0; memory = d.0; named = e.0; text = i.0; entry = i.1 }
 
-pub fits : (size : ℕ) (earlier hs : List ProgramHeader) → first_fault (segment_checks size earlier hs) ≡ None
+fits_from : (size : ℕ) (earlier hs : List ProgramHeader) → first_fault (from (segment_check size) earlier hs) ≡ None
     → All (λ h. segment_fits size h ≡ true) hs
-fits size earlier [] e = All-nil (λ h. segment_fits size h ≡ true)
-fits size earlier (h ∷ hs) e =
-    let p = passed_first (check (segment_fits size h && not (list_any (segments_overlap h) earlier)) kind.Segment h.place) (segment_checks size (earlier ++ h ∷ []) hs) e in
-    All-cons (λ h. segment_fits size h ≡ true) h hs (both _ _ p.0).0 (fits size (earlier ++ h ∷ []) hs p.1)
+fits_from size earlier [] e = All-nil (λ h. segment_fits size h ≡ true)
+fits_from size earlier (h ∷ hs) e =
+    let p = passed_first (segment_check size earlier h) (from (segment_check size) (earlier ++ h ∷ []) hs) e in
+    All-cons (λ h. segment_fits size h ≡ true) h hs (and_parts _ _ p.0).0 (fits_from size (earlier ++ h ∷ []) hs p.1)
 
-pub text_fit : (segments : List ProgramHeader) (earlier hs : List SectionHeader) → first_fault (text_checks segments earlier hs) ≡ None
+pub fits : (size : ℕ) (hs : List ProgramHeader) → first_fault (by_earlier (segment_check size) hs) ≡ None → All (λ h. segment_fits size h ≡ true) hs
+fits size hs e = fits_from size [] hs (ap first_fault (sym (by_earlier-from (segment_check size) hs)) ∙ e)
+
+text_fit_from : (segments : List ProgramHeader) (earlier hs : List SectionHeader) → first_fault (from (text_check segments) earlier hs) ≡ None
     → All (λ h. text_fits segments h ≡ true) hs
-text_fit segments earlier [] e = All-nil (λ h. text_fits segments h ≡ true)
-text_fit segments earlier (h ∷ hs) e =
-    let p = passed_first (check (text_fits segments h && not (list_any (sections_overlap h) earlier)) kind.Text h.place) (text_checks segments (earlier ++ h ∷ []) hs) e in
-    All-cons (λ h. text_fits segments h ≡ true) h hs (both _ _ p.0).0 (text_fit segments (earlier ++ h ∷ []) hs p.1)
+text_fit_from segments earlier [] e = All-nil (λ h. text_fits segments h ≡ true)
+text_fit_from segments earlier (h ∷ hs) e =
+    let p = passed_first (text_check segments earlier h) (from (text_check segments) (earlier ++ h ∷ []) hs) e in
+    All-cons (λ h. text_fits segments h ≡ true) h hs (and_parts _ _ p.0).0 (text_fit_from segments (earlier ++ h ∷ []) hs p.1)
+
+pub text_fit : (segments : List ProgramHeader) (hs : List SectionHeader) → first_fault (by_earlier (text_check segments) hs) ≡ None
+    → All (λ h. text_fits segments h ≡ true) hs
+text_fit segments hs e = text_fit_from segments [] hs (ap first_fault (sym (by_earlier-from (text_check segments) hs)) ∙ e)
 
 -- the first segment that holds a section
 pub record Holder (file : List ℕ) (segments : List ProgramHeader) (h : SectionHeader) : Type 0 where
@@ -89,16 +93,16 @@ holder file (s ∷ ss) h any all =
 pub within_sizes : (size : ℕ) (s : ProgramHeader) → segment_fits size s ≡ true
     → (s.file_size ≤ s.memory_size) × (s.offset + s.file_size ≤ size) × (s.address + s.memory_size ≤ 0xE0000000)
 within_sizes size s e =
-    let a = both _ _ e in
-    let b = both _ _ a.1 in
+    let a = and_parts _ _ e in
+    let b = and_parts _ _ a.1 in
     (leb-true _ _ a.0, leb-true _ _ b.0, leb-true _ _ b.1)
 
 -- what it says that a segment holds a section
 pub holds_sizes : (h : SectionHeader) (s : ProgramHeader) → holds_text h s ≡ true
     → (s.address ≤ h.address) × (h.address + h.size ≤ s.address + s.file_size)
 holds_sizes h s e =
-    let a = both _ _ e in
-    let b = both _ _ a.1 in
+    let a = and_parts _ _ e in
+    let b = and_parts _ _ a.1 in
     (leb-true _ _ b.0, leb-true _ _ b.1)
 
 -- what a text section's fit says
@@ -109,9 +113,9 @@ pub record TextFit (segments : List ProgramHeader) (h : SectionHeader) : Type 0 
 
 pub text_parts : (segments : List ProgramHeader) (h : SectionHeader) → text_fits segments h ≡ true → TextFit segments h
 text_parts segments h e =
-    let a = both ((h.address % 4 == 0) && (h.size % 4 == 0)) (not (h.kind == 8) && list_any (holds_text h) segments) e in
-    let b = both (h.address % 4 == 0) (h.size % 4 == 0) a.0 in
-    let c = both (not (h.kind == 8)) (list_any (holds_text h) segments) a.1 in
+    let a = and_parts ((h.address % 4 == 0) && (h.size % 4 == 0)) (not (h.kind == 8) && list_any (holds_text h) segments) e in
+    let b = and_parts (h.address % 4 == 0) (h.size % 4 == 0) a.0 in
+    let c = and_parts (not (h.kind == 8)) (list_any (holds_text h) segments) a.1 in
     record { aligned = eqb-true _ _ b.0; whole = eqb-true _ _ b.1; held = c.1 }
 
 range_held : (file : List ℕ) (segments : List ProgramHeader) (h : SectionHeader) → TextFit segments h → Holder file segments h → IsRange file (range_in segments h)
@@ -128,11 +132,11 @@ is_range file segments h e all =
     let fit = text_parts segments h e in range_held file segments h fit (holder file segments h fit.held all)
 
 pub are_within : (file : List ℕ) → fault_of file ≡ None → All (IsWithin file) (loaded file)
-are_within file h = fits (length file) [] (loaded file) (passed file h).segments
+are_within file h = fits (length file) (loaded file) (passed file h).segments
 
 pub are_ranges : (file : List ℕ) → fault_of file ≡ None → All (IsRange file) (map (text_range file) (text_headers file))
 are_ranges file h =
-    let fit = text_fit (loaded file) [] (text_headers file) (passed file h).text in
+    let fit = text_fit (loaded file) (text_headers file) (passed file h).text in
     All-map (IsRange file) (text_range file) (text_headers file)
     (λ k d lt. is_range file (loaded file) (get_or (text_headers file) k d) (fit k d lt) (are_within file h))
 

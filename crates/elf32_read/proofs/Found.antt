@@ -4,20 +4,22 @@ use Rattle.std.specs.Prelude.{◌&&◌, ◌==◌, nat_lt, bit_and, ◌||◌, All
 use Rattle.std.specs.List.{list_any}
 use Rattle.std.specs.Option.{option_map}
 use Rattle.std.proofs.lemmas.Bool.Decides.{nat_tests}
-use Rattle.std.proofs.lemmas.List.{drop_all}
+use Rattle.std.proofs.lemmas.List.{drop_all, get_or_default}
 use Rattle.std.proofs.lemmas.List.Elements.{All-nil, All-cons, All-head, All-tail, All-weaker, filter_passes}
 use Rattle.std.proofs.lemmas.List.Sorted.{IsPermutation-sym, All-permutation, Contains-permutation}
+use Rattle.std.proofs.lemmas.Bool.{and_parts, false_from_ne_true}
 use Rattle.elf32_read.specs.Fields.{spans, overlap}
-use Rattle.elf32_read.specs.Checks.{first_fault, segment_checks, text_fits}
+use Rattle.elf32_read.specs.Checks.{by_earlier, first_fault, segment_check, text_fits}
 use Rattle.elf32_read.specs.Headers.{holds_text, is_text, text_headers, section_headers}
 use Rattle.elf32_read.specs.Ranges.{in_loaded, range_in}
 use Rattle.elf32_read.specs.Spans.{AreFilled, AreSegments, AreSome, AreTexts, IsRising, covers, numbered}
 use Rattle.elf32_read.specs.declared.header.ProgramHeader.{ProgramHeader}
-use Rattle.elf32_read.specs.declared.image.TextRange.{TextRange}
+use Rattle.elf32_read.specs.declared.tables.TextRange.{TextRange}
 use Rattle.elf32_read.specs.declared.header.SectionHeader.{SectionHeader}
-use Rattle.elf32_read.proofs.Accepted.{both, fits, holds_sizes, within_sizes}
+use Rattle.elf32_read.proofs.Earlier.{from}
+use Rattle.elf32_read.proofs.Accepted.{fits, holds_sizes, within_sizes}
 use Rattle.elf32_read.specs.declared.spans.Span.{Span}
-use Rattle.elf32_read.proofs.Rising.{find_none, find_first, get_or_any, pairs_from, pairs-permutation}
+use Rattle.elf32_read.proofs.Rising.{find_none, find_first, pairs_from, pairs-permutation}
 use Rattle.elf32_read.proofs.Fronts.{span, length-numbered, get-numbered}
 
 -- where what is found stands
@@ -88,7 +90,7 @@ found_by start size xs ss addr s j d r here lt at =
     (rw (get-numbered start size 0 xs i s d (omega arith), get-numbered start size 0 xs j s d lt) at (pairs i j s low (omega arith))) inside in
     record {
       within = omega arith;
-      is = λ e. rw (number, get_or_any xs j e d lt) (find_first (has start size addr) xs j d lt inside before);
+      is = λ e. rw (number, get_or_default xs j e d lt) (find_first (has start size addr) xs j d lt inside before);
     }
 
 pub found : {X : Type 0} (start size : X → ℕ) (xs : List X) (ss : List Span) (addr : ℕ) (s : Span) → IsRising start size xs ss → find (covers addr) ss ≡ Some s
@@ -146,10 +148,6 @@ narrow_step p q x xs true false e f imp none rest = let wrong : false ≡ true =
 narrow_step p q x xs false true e f imp none rest = rw e (none f)
 narrow_step p q x xs false false e f imp none rest = rest
 
-not_true : (b : Bool) → (b ≡ true → ⊥) → b ≡ false
-not_true true h = absurd (h refl)
-not_true false h = refl
-
 pairs_tail : {X : Type 0} (R : X → X → Type 0) (x : X) (xs : List X) → AllPairs R (x ∷ xs) → AllPairs R xs
 pairs_tail R x xs h i j d lt within = h (suc i) (suc j) d (omega arith) (omega arith)
 
@@ -159,7 +157,7 @@ NotBoth q x y = q x ≡ true → q y ≡ true → ⊥
 
 none_later : {X : Type 0} (p q : X → Bool) (x : X) (xs : List X) → AllPairs (NotBoth q) (x ∷ xs) → All (λ y. p y ≡ true → q y ≡ true) xs → q x ≡ true → find p xs ≡ None
 none_later p q x xs once imp here =
-    find_none p xs (λ k d lt. not_true (p (get_or xs k d)) (λ (e : p (get_or xs k d) ≡ true). once 0 (suc k) d (omega arith) (omega arith) here (imp k d lt e)))
+    find_none p xs (λ k d lt. false_from_ne_true (p (get_or xs k d)) (λ (e : p (get_or xs k d) ≡ true). once 0 (suc k) d (omega arith) (omega arith) here (imp k d lt e)))
 
 pub narrow : {X : Type 0} (p q : X → Bool) (xs : List X) → AllPairs (NotBoth q) xs → All (λ x. p x ≡ true → q x ≡ true) xs
     → find p xs ≡ option_and_then (λ s. if p s then Some s else None) (find q xs)
@@ -197,15 +195,15 @@ holder_found h segments ss some r filled =
 
 -- segments that a loop has checked to the end
 pub checked_all : (size k : ℕ) (segments : List ProgramHeader) → length segments ≤ k
-    → first_fault (segment_checks size [] segments) ≡ first_fault (segment_checks size (take k segments) (drop k segments)) → AreFilled segments
+    → first_fault (by_earlier (segment_check size) segments) ≡ first_fault (from (segment_check size) (take k segments) (drop k segments)) → AreFilled segments
 checked_all size k segments past same =
-    let none : first_fault (segment_checks size [] segments) ≡ None = same ∙ rw (drop_all k segments past) refl in
-    let all = fits size [] segments none in
+    let none : first_fault (by_earlier (segment_check size) segments) ≡ None = same ∙ rw (drop_all k segments past) refl in
+    let all = fits size segments none in
     λ i d lt. (within_sizes size (get_or segments i d) (all i d lt)).0
 
 -- text sections are not empty
 some_text : (h : SectionHeader) → is_text h ≡ true → 0 < h.size
-some_text h e = ltb-true _ _ (both (bit_and h.flags 6 == 6) (nat_lt 0 h.size) e).1
+some_text h e = ltb-true _ _ (and_parts (bit_and h.flags 6 == 6) (nat_lt 0 h.size) e).1
 
 pub some_texts : (bytes : List ℕ) → AreSome (text_headers bytes)
 some_texts bytes = All-weaker (λ h. is_text h ≡ true) (λ h. 0 < h.size) some_text (text_headers bytes) (filter_passes is_text (section_headers bytes))

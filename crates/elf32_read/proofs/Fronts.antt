@@ -10,8 +10,8 @@ use Rattle.elf32_read.specs.Fields.{overlap}
 use Rattle.elf32_read.specs.Spans.{Apart, IsApartFront, IsSpanTable, IsRising, numbered}
 use Rattle.elf32_read.specs.declared.spans.Span.{Span}
 use Rattle.elf32_read.specs.declared.spans.SpanTable.{SpanTable}
-use Rattle.std.proofs.lemmas.List.{take_all, take_more}
-use Rattle.elf32_read.proofs.Rising.{get_or_any, rise_from, pairs-permutation}
+use Rattle.std.proofs.lemmas.List.{take_all, take_more, get_or_default, get_or-take}
+use Rattle.elf32_read.proofs.Rising.{rise_from, pairs-permutation}
 
 abbrev pub span : ℕ → ℕ → ℕ → Span
 span start size k = record { start = start; size = size; number = k }
@@ -39,23 +39,20 @@ meets-sym start size x y = grind (arith, nat_tests)
 abbrev pub FrontApart : {X : Type 0} → (X → ℕ) → (X → ℕ) → List X → ℕ → Type 0
 FrontApart {X} start size xs n = (i j : ℕ) (e : X) → i < j → j < n → meets start size (get_or xs i e) (get_or xs j e) ≡ false
 
-get_take : {X : Type 0} (xs : List X) (n i : ℕ) (d : X) → i < n → i < length xs → get_or (take n xs) i d ≡ get_or xs i d
-get_take xs n i d a b = grind (arith, common_steps)
-
 pub entries_apart : {X : Type 0} (start size : X → ℕ) (xs : List X) (n : ℕ) → n ≤ length xs → AllPairs Apart (take n (numbered start size 0 xs)) → FrontApart start size xs n
 entries_apart start size xs n le h i j e lt within =
     let ss = numbered start size 0 xs in
     let d : Span = span 0 0 0 in
     let len = length-numbered start size 0 xs in
     let b : j < length (take n ss) = grind (arith, common_steps) in
-    rw (get_take ss n i d (omega arith) (omega arith), get_take ss n j d within (omega arith), get-numbered start size 0 xs i d e (omega arith), get-numbered start size 0 xs j d e (omega arith)) at (h i j d lt b)
+    rw (get_or-take n ss i d (omega arith), get_or-take n ss j d within, get-numbered start size 0 xs i d e (omega arith), get-numbered start size 0 xs j d e (omega arith)) at (h i j d lt b)
 
 pub spans_apart : {X : Type 0} (start size : X → ℕ) (xs : List X) (n : ℕ) (e : X) → n ≤ length xs → FrontApart start size xs n → AllPairs Apart (take n (numbered start size 0 xs))
 spans_apart start size xs n e le h i j d lt within =
     let ss = numbered start size 0 xs in
     let len = length-numbered start size 0 xs in
     let most : j < n = grind (arith, common_steps) in
-    rw (get_take ss n i d (omega arith) (omega arith), get_take ss n j d most (omega arith), get-numbered start size 0 xs i d e (omega arith), get-numbered start size 0 xs j d e (omega arith)) (h i j e lt most)
+    rw (get_or-take n ss i d (omega arith), get_or-take n ss j d most, get-numbered start size 0 xs i d e (omega arith), get-numbered start size 0 xs j d e (omega arith)) (h i j e lt most)
 
 not_any : {X : Type 0} (p : X → Bool) (xs : List X) (i : ℕ) (d : X) (b : Bool) → i < length xs → list_any p xs ≡ false → p (get_or xs i d) ≡ b → b ≡ false
 not_any p xs i d false lt none e = refl
@@ -71,8 +68,8 @@ one_more start size xs n d lt h none i j e low within =
           let same : j ≡ n = omega arith in
           let inside : i < length (take n xs) = grind (arith, common_steps) in
           let test = not_any (meets start size (get_or xs n d)) (take n xs) i e (meets start size (get_or xs n d) (get_or (take n xs) i e)) inside none refl in
-          let test' = rw (get_take xs n i e (omega arith) (omega arith)) at test in
-          rw (same, get_or_any xs n e d lt) (meets-sym start size (get_or xs i e) (get_or xs n d) ∙ test'))
+          let test' = rw (get_or-take n xs i e (omega arith)) at test in
+          rw (same, get_or_default xs n e d lt) (meets-sym start size (get_or xs i e) (get_or xs n d) ∙ test'))
     ]
 
 front_by : {X : Type 0} (start size : X → ℕ) (xs : List X) (n : ℕ) (d : X) (b : Bool) → n < length xs → IsApartFront (numbered start size 0 xs) n
@@ -87,7 +84,7 @@ all_apart : {X : Type 0} (start size : X → ℕ) (xs : List X) (k n : ℕ) (d :
     → All (λ y. meets start size (get_or xs k d) y ≡ false) (take k xs)
 all_apart start size xs k n d lt le h i e within =
     let low : i < k = grind (arith, common_steps) in
-    rw (get_take xs k i e low (omega arith), get_or_any xs k d e (omega arith))
+    rw (get_or-take k xs i e low, get_or_default xs k d e (omega arith))
     (meets-sym start size (get_or xs k e) (get_or xs i e) ∙ h i k e low lt)
 
 -- an entry is before the end of the front exactly where it meets no earlier one

@@ -1,53 +1,56 @@
 -- What the tables that an image keeps say of its program.
-use Rattle.std.proofs.Common.{◌≡◌, ◌≢◌, ℕ, zero, suc, ◌%◌, Bool, true, false, List, [], ◌∷◌, length, map, find, None, refl, sym, ◌∙◌, ap, eq-eqb, ne_eqb}
-use Rattle.std.specs.Prelude.{◌==◌, ◌&&◌, not, slice_get, option_and_then}
+use Rattle.std.proofs.Common.{◌≡◌, ◌≢◌, ℕ, ◌%◌, Bool, true, false, List, [], ◌∷◌, length, map, find, None, refl, sym, ◌∙◌, ap, eq-eqb, ne_eqb}
+use Rattle.std.specs.Prelude.{◌==◌, ◌&&◌, not, option_and_then}
 use Rattle.std.specs.List.{list_any}
 use Rattle.std.specs.Option.{option_map, option_map_or}
+use Rattle.std.proofs.lemmas.List.{length-map}
 use Rattle.elf32_read.specs.Program.{Program, Section, Segment, in_segment, in_words, is_writable, byte_of, mapped, in_text, text_word, writable, section, is_named}
 use Rattle.elf32_read.specs.Headers.{file_header, loaded, text_headers, section_headers, names, section_bytes, segment_of, text_of, section_of, program_of}
 use Rattle.elf32_read.specs.Checks.{fault_of}
 use Rattle.elf32_read.specs.Ranges.{text_range, in_loaded, in_range, is_called, is_writable_header}
 use Rattle.elf32_read.specs.Views.{unnamed, range_shown}
 use Rattle.elf32_read.specs.Inside.{seen, IsKept}
+use Rattle.elf32_read.specs.TextSpans.{text_spans}
 use Rattle.elf32_read.specs.declared.image.Image.TheInside.{Inside}
 use Rattle.elf32_read.specs.declared.header.SectionHeader.{SectionHeader}
 use Rattle.elf32_read.proofs.Accepted.{passed, text_fit, are_within}
-use Rattle.elf32_read.proofs.Tables.{find-map, mapped-headers, writable-headers, option_map-twice}
+use Rattle.elf32_read.proofs.Ordered.{are_text_spans}
+use Rattle.elf32_read.proofs.ByHeaders.{find-map, mapped-headers, writable-headers, option_map-twice}
 use Rattle.elf32_read.proofs.Texts.{any_text, found_word, shown_texts, word_at, word_of}
 
-pub kept_entry : (i : Inside) (p : Program) → IsKept i → seen i ≡ p → i.header.entry ≡ p.entry
+pub kept_entry : (i : Inside) (p : Program) → IsKept i → seen i ≡ p → i.tables.header.entry ≡ p.entry
 unfolding program_of
-kept_entry i p k v = ap (λ (h : _). h.entry) k.header ∙ ap (λ (q : Program). q.entry) v
+kept_entry i p k v = ap (λ (h : _). h.entry) k.tables.header ∙ ap (λ (q : Program). q.entry) v
 
 pub kept_mapped : (i : Inside) (p : Program) (addr : ℕ) → IsKept i → seen i ≡ p
-    → option_map (λ h. byte_of addr (segment_of i.file.items h)) (find (in_loaded addr) i.segments.items) ≡ mapped p addr
-kept_mapped i p addr k v = rw k.segments (sym (mapped-headers i.file.items addr)) ∙ ap (λ (q : Program). mapped q addr) v
+    → option_map (λ h. byte_of addr (segment_of i.file.items h)) (find (in_loaded addr) i.tables.segments.items) ≡ mapped p addr
+kept_mapped i p addr k v = rw k.tables.segments (sym (mapped-headers i.file.items addr)) ∙ ap (λ (q : Program). mapped q addr) v
 
 headers_text : (file : List ℕ) (addr : ℕ) → fault_of file ≡ None
     → list_any (in_range addr) (map (text_range file) (text_headers file)) ≡ in_text (program_of file) addr
 unfolding program_of
 headers_text file addr h =
-    sym (any_text file (text_headers file) addr (text_fit (loaded file) [] (text_headers file) (passed file h).text) (are_within file h))
+    sym (any_text file (text_headers file) addr (text_fit (loaded file) (text_headers file) (passed file h).text) (are_within file h))
 
 pub kept_in_text : (i : Inside) (p : Program) (addr : ℕ) → IsKept i → seen i ≡ p
-    → list_any (in_range addr) i.text.items ≡ in_text p addr
-kept_in_text i p addr k v = rw k.text (headers_text i.file.items addr k.accepted) ∙ ap (λ (q : Program). in_text q addr) v
+    → list_any (in_range addr) i.tables.text.items ≡ in_text p addr
+kept_in_text i p addr k v = rw k.tables.text (headers_text i.file.items addr k.accepted) ∙ ap (λ (q : Program). in_text q addr) v
 
 headers_word : (file : List ℕ) (addr : ℕ) → fault_of file ≡ None → addr % 4 ≡ 0
     → option_map (word_at file addr) (find (in_range addr) (map (text_range file) (text_headers file)))
     ≡ option_and_then (word_of addr) (find (in_words addr) (program_of file).text)
 unfolding program_of
 headers_word file addr h four =
-    sym (found_word file (text_headers file) addr four (text_fit (loaded file) [] (text_headers file) (passed file h).text) (are_within file h))
+    sym (found_word file (text_headers file) addr four (text_fit (loaded file) (text_headers file) (passed file h).text) (are_within file h))
 
 aligned_word : (p : Program) (addr : ℕ) → addr % 4 ≡ 0 → option_and_then (word_of addr) (find (in_words addr) p.text) ≡ text_word p addr
 aligned_word p addr four =
     let e : (addr % 4 == 0) ≡ true = eq-eqb _ _ four in rw e refl
 
 pub kept_word : (i : Inside) (p : Program) (addr : ℕ) → IsKept i → seen i ≡ p → addr % 4 ≡ 0
-    → option_map (word_at i.file.items addr) (find (in_range addr) i.text.items) ≡ text_word p addr
+    → option_map (word_at i.file.items addr) (find (in_range addr) i.tables.text.items) ≡ text_word p addr
 kept_word i p addr k v four =
-    rw k.text (headers_word i.file.items addr k.accepted four)
+    rw k.tables.text (headers_word i.file.items addr k.accepted four)
     ∙ ap (λ (q : Program). option_and_then (word_of addr) (find (in_words addr) q.text)) v
     ∙ aligned_word p addr four
 
@@ -55,9 +58,9 @@ pub no_word : (p : Program) (addr : ℕ) → addr % 4 ≢ 0 → text_word p addr
 no_word p addr odd = let e : (addr % 4 == 0) ≡ false = ne_eqb _ _ odd in rw e refl
 
 pub kept_writable : (i : Inside) (p : Program) (addr : ℕ) → IsKept i → seen i ≡ p
-    → (option_map_or is_writable_header (find (in_loaded addr) i.segments.items) false && not (list_any (in_range addr) i.text.items)) ≡ writable p addr
+    → (option_map_or is_writable_header (find (in_loaded addr) i.tables.segments.items) false && not (list_any (in_range addr) i.tables.text.items)) ≡ writable p addr
 kept_writable i p addr k v =
-    rw (k.segments, kept_in_text i p addr k v)
+    rw (k.tables.segments, kept_in_text i p addr k v)
     (ap (λ (b : Bool). b && not (in_text p addr))
     (sym (writable-headers i.file.items addr) ∙ ap (λ (q : Program). option_map_or is_writable (find (in_segment addr) q.segments) false) v))
 
@@ -91,33 +94,29 @@ headers_no_section file name none =
     ap (option_map (λ (s : Section). s.bytes)) (find-map (is_named name) (section_of file) (section_headers file)
     ∙ ap (option_map (section_of file)) (find_none (λ h. is_named name (section_of file h)) (section_headers file) (λ h. unnamed_header file name h none)))
 
-pub kept_section : (i : Inside) (p : Program) (name : List ℕ) → IsKept i → seen i ≡ p → i.header.section_names ≢ 0
-    → option_map (section_bytes i.file.items) (find (is_called (names i.file.items) name) i.sections.items) ≡ section p name
+pub kept_section : (i : Inside) (p : Program) (name : List ℕ) → IsKept i → seen i ≡ p → i.tables.header.section_names ≢ 0
+    → option_map (section_bytes i.file.items) (find (is_called (names i.file.items) name) i.tables.sections.items) ≡ section p name
 kept_section i p name k v some =
-    rw k.sections (headers_section i.file.items name (rw k.header at some)) ∙ ap (λ (q : Program). section q name) v
+    rw k.tables.sections (headers_section i.file.items name (rw k.tables.header at some)) ∙ ap (λ (q : Program). section q name) v
 
-pub no_section : (i : Inside) (p : Program) (name : List ℕ) → IsKept i → seen i ≡ p → i.header.section_names ≡ 0 → section p name ≡ None
+pub no_section : (i : Inside) (p : Program) (name : List ℕ) → IsKept i → seen i ≡ p → i.tables.header.section_names ≡ 0 → section p name ≡ None
 no_section i p name k v none =
-    ap (λ (q : Program). section q name) (sym v) ∙ headers_no_section i.file.items name (rw k.header at none)
+    ap (λ (q : Program). section q name) (sym v) ∙ headers_no_section i.file.items name (rw k.tables.header at none)
 
-pub kept_segments : (i : Inside) (p : Program) → IsKept i → seen i ≡ p → map (segment_of i.file.items) i.segments.items ≡ p.segments
+pub kept_segments : (i : Inside) (p : Program) → IsKept i → seen i ≡ p → map (segment_of i.file.items) i.tables.segments.items ≡ p.segments
 unfolding program_of
-kept_segments i p k v = rw k.segments refl ∙ ap (λ (q : Program). q.segments) v
+kept_segments i p k v = rw k.tables.segments refl ∙ ap (λ (q : Program). q.segments) v
 
-length-map_of : {X Y : Type 0} (f : X → Y) (xs : List X) → length (map f xs) ≡ length xs
-length-map_of f [] = refl
-length-map_of f (x ∷ xs) = ap suc (length-map_of f xs)
-
-pub segments_counted : (i : Inside) (p : Program) → IsKept i → seen i ≡ p → length i.segments.items ≡ length p.segments
+pub segments_counted : (i : Inside) (p : Program) → IsKept i → seen i ≡ p → length i.tables.segments.items ≡ length p.segments
 segments_counted i p k v =
-    sym (length-map_of (segment_of i.file.items) i.segments.items) ∙ ap (λ (xs : List Segment). length xs) (kept_segments i p k v)
+    sym (length-map i.tables.segments.items (segment_of i.file.items)) ∙ ap (λ (xs : List Segment). length xs) (kept_segments i p k v)
 
 headers_counted : (file : List ℕ) → length (map (text_range file) (text_headers file)) ≡ length (program_of file).text
 unfolding program_of
-headers_counted file = length-map_of (text_range file) (text_headers file) ∙ sym (length-map_of (text_of file) (text_headers file))
+headers_counted file = length-map (text_headers file) (text_range file) ∙ sym (length-map (text_headers file) (text_of file))
 
-pub texts_counted : (i : Inside) (p : Program) → IsKept i → seen i ≡ p → length i.text.items ≡ length p.text
-texts_counted i p k v = rw k.text (headers_counted i.file.items) ∙ ap (λ (q : Program). length q.text) v
+pub texts_counted : (i : Inside) (p : Program) → IsKept i → seen i ≡ p → length i.tables.text.items ≡ length p.text
+texts_counted i p k v = rw k.tables.text (headers_counted i.file.items) ∙ ap (λ (q : Program). length q.text) v
 
 map-map_of : {X Y Z : Type 0} (g : Y → Z) (f : X → Y) (xs : List X) → map g (map f xs) ≡ map (λ x. g (f x)) xs
 map-map_of g f [] = refl
@@ -128,24 +127,23 @@ unfolding program_of
 sections_are file = sym (map-map_of unnamed (section_of file) (section_headers file))
 
 pub kept_sections : (i : Inside) (p : Program) → IsKept i → seen i ≡ p
-    → map (λ h. unnamed (section_of i.file.items h)) i.sections.items ≡ map unnamed p.sections
-kept_sections i p k v = rw k.sections (sections_are i.file.items) ∙ ap (λ (q : Program). map unnamed q.sections) v
+    → map (λ h. unnamed (section_of i.file.items h)) i.tables.sections.items ≡ map unnamed p.sections
+kept_sections i p k v = rw k.tables.sections (sections_are i.file.items) ∙ ap (λ (q : Program). map unnamed q.sections) v
 
-pub sections_counted : (i : Inside) (p : Program) → IsKept i → seen i ≡ p → length i.sections.items ≡ length p.sections
+pub sections_counted : (i : Inside) (p : Program) → IsKept i → seen i ≡ p → length i.tables.sections.items ≡ length p.sections
 sections_counted i p k v =
-    sym (length-map_of (λ h. unnamed (section_of i.file.items h)) i.sections.items)
+    sym (length-map i.tables.sections.items (λ h. unnamed (section_of i.file.items h)))
     ∙ ap (λ (xs : List Section). length xs) (kept_sections i p k v)
-    ∙ length-map_of unnamed p.sections
-
-pub get-map_of : {X Y : Type 0} (f : X → Y) (xs : List X) (k : ℕ) → slice_get (map f xs) k ≡ option_map f (slice_get xs k)
-get-map_of f [] k = refl
-get-map_of f (x ∷ xs) zero = refl
-get-map_of f (x ∷ xs) (suc k) = get-map_of f xs k
+    ∙ length-map p.sections unnamed
 
 texts_are : (file : List ℕ) → fault_of file ≡ None → map (range_shown file) (map (text_range file) (text_headers file)) ≡ (program_of file).text
 unfolding program_of
 texts_are file h =
-    shown_texts file (text_headers file) (text_fit (loaded file) [] (text_headers file) (passed file h).text) (are_within file h)
+    shown_texts file (text_headers file) (text_fit (loaded file) (text_headers file) (passed file h).text) (are_within file h)
 
-pub kept_texts : (i : Inside) (p : Program) → IsKept i → seen i ≡ p → map (range_shown i.file.items) i.text.items ≡ p.text
-kept_texts i p k v = rw k.text (texts_are i.file.items k.accepted) ∙ ap (λ (q : Program). q.text) v
+pub kept_texts : (i : Inside) (p : Program) → IsKept i → seen i ≡ p → map (range_shown i.file.items) i.tables.text.items ≡ p.text
+kept_texts i p k v = rw k.tables.text (texts_are i.file.items k.accepted) ∙ ap (λ (q : Program). q.text) v
+
+pub kept_text_spans : (i : Inside) (p : Program) → IsKept i → seen i ≡ p → i.tables.text_spans.items ≡ text_spans p
+kept_text_spans i p k v =
+    are_text_spans i.file.items i.tables.text.items i.tables.text_spans.items k.accepted k.tables.text k.tables.text_spans ∙ ap text_spans v

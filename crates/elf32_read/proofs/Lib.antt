@@ -1,6 +1,8 @@
 pub mod Names
+pub mod Zeros
 pub mod Stages
-pub mod Tables
+pub mod Earlier
+pub mod ByHeaders
 pub mod Accepted
 pub mod Texts
 pub mod Kept
@@ -9,3 +11,4 @@ pub mod Fronts
 pub mod Found
 pub mod Alike
 pub mod Linked
+pub mod Ordered

@@ -1,6 +1,6 @@
 -- The program of a file that fails no check is linked.
 use Rattle.std.proofs.Common.{◌≡◌, ℕ, zero, suc, get_or, ◌+◌, ◌*◌, ◌-◌, ◌/◌, ◌%◌, ◌≤◌, ◌<◌, ◌^◌, Bool, true, false, List, [], ◌∷◌, ◌++◌, length, take, drop, map, find, Option, None, Some, refl, sym, ◌∙◌, ap, arith, leb-true, ltb-true, eqb-true}
-use Rattle.std.specs.Prelude.{◌==◌, ◌&&◌, ◌||◌, not, nat_le, nat_lt, All, AllPairs, sum_by}
+use Rattle.std.specs.Prelude.{◌==◌, ◌||◌, nat_le, nat_lt, All, AllPairs, sum_by}
 use Rattle.std.specs.List.{list_any}
 use Rattle.std.specs.Option.{option_map_or}
 use Rattle.std.proofs.lemmas.Grind.{common_steps}
@@ -9,19 +9,19 @@ use Rattle.std.proofs.lemmas.List.Elements.{All-nil, All-cons, All-map, All-appe
 use Rattle.std.proofs.lemmas.List.Folds.{list_any-append}
 use Rattle.std.proofs.lemmas.List.Kept.{AllPairs-cons}
 use Rattle.std.proofs.lemmas.List.Sums.{sum_by-cons}
+use Rattle.std.proofs.lemmas.Bool.{and_parts, or_parts, not-true}
+use Rattle.std.proofs.lemmas.List.{get_or_default, length-map, get_or-map}
 use Rattle.byteorder.specs.Numbers.{little_from-lt}
 use Rattle.elf32_read.specs.Fields.{entries, overlap, u32_at}
-use Rattle.elf32_read.specs.Program.{Segment, Program, IsSegment, IsText, Apart, TextApart, IsLinked, in_words}
+use Rattle.elf32_read.specs.Program.{Segment, IsSegment, IsText, Apart, TextApart, IsLinked, in_words}
 use Rattle.elf32_read.specs.Headers.{file_header, loaded, program_headers, section_headers, text_headers, is_loaded, is_text, segment_of, text_of, holds_text, bytes_from, program_of}
-use Rattle.elf32_read.specs.Checks.{check, first_fault, fault_of, size_checks, header_checks, segment_checks, memory_checks, text_checks, entry_checks, segment_fits, segments_overlap, text_fits, sections_overlap, in_section}
+use Rattle.elf32_read.specs.Checks.{Check, check, first_fault, fault_of, by_earlier, segment_check, text_check, entry_checks, segments_overlap, text_fits, sections_overlap, in_section}
 use Rattle.elf32_read.specs.Ranges.{IsWithin, in_range, text_range}
 use Rattle.elf32_read.specs.declared.fault.ElfKind.TheVariants as kind
 use Rattle.elf32_read.specs.declared.header.ProgramHeader.{ProgramHeader}
 use Rattle.elf32_read.specs.declared.header.SectionHeader.{SectionHeader}
-use Rattle.elf32_read.proofs.Accepted.{both, passed, passed_first, passes_at, text_fit, are_within, within_sizes, holds_sizes, text_parts, holder, Holder}
-use Rattle.elf32_read.specs.Stages.{table_fault}
-use Rattle.elf32_read.proofs.Stages.{fault_of-stages}
-use Rattle.elf32_read.proofs.Rising.{get_or_any}
+use Rattle.elf32_read.proofs.Accepted.{passed, passed_first, passes_at, text_fit, are_within, within_sizes, holds_sizes, text_parts, holder, Holder}
+use Rattle.elf32_read.proofs.Earlier.{from, by_earlier-from, by_earlier-memory, memory_from}
 use Rattle.elf32_read.proofs.Texts.{Meets, meets, any_text}
 
 -- each is a byte, also past the end
@@ -40,7 +40,7 @@ bytes_take (suc n) (x ∷ xs) h zero = h zero
 bytes_take (suc n) (x ∷ xs) h (suc k) = bytes_take n xs (λ j. h (suc j)) k
 
 all_bytes : (xs : List ℕ) → AreBytes xs → All (λ b. b < 256) xs
-all_bytes xs h k d lt = let same = get_or_any xs k d 0 lt in rw same (h k)
+all_bytes xs h k d lt = let same = get_or_default xs k d 0 lt in rw same (h k)
 
 word_below : (xs : List ℕ) (at : ℕ) → AreBytes xs → u32_at xs at < 2 ^ 32
 unfolding u32_at
@@ -57,7 +57,7 @@ segment_linked file h bytes some within =
     let sizes = within_sizes (length file) h within in
     let part : length (take h.file_size (drop h.offset file)) ≤ h.file_size = grind (arith, common_steps) in
     record {
-      some = ltb-true _ _ (both (h.kind == 1) (nat_lt 0 h.memory_size) some).1;
+      some = ltb-true _ _ (and_parts (h.kind == 1) (nat_lt 0 h.memory_size) some).1;
       filled = omega (arith, part, sizes.0);
       below = sizes.2;
       bytes = all_bytes (take h.file_size (drop h.offset file)) (bytes_take h.file_size (drop h.offset file) (bytes_drop h.offset file bytes));
@@ -73,25 +73,20 @@ abbrev Clear : {X : Type 0} → (X → X → Bool) → List X → List X → Typ
 Clear meet earlier [] = Unit {0}
 Clear meet earlier (x ∷ xs) = (list_any (meet x) earlier ≡ false) × Clear meet (earlier ++ x ∷ []) xs
 
-not_false : (b : Bool) → not b ≡ true → b ≡ false
-not_false true e = cc
-not_false false e = refl
+from_none : {X : Type 0} (f : List X → X → Check) (xs : List X) → first_fault (by_earlier f xs) ≡ None → first_fault (from f [] xs) ≡ None
+from_none f xs e = ap first_fault (sym (by_earlier-from f xs)) ∙ e
 
-segments_clear : (size : ℕ) (earlier hs : List ProgramHeader) → first_fault (segment_checks size earlier hs) ≡ None → Clear segments_overlap earlier hs
+segments_clear : (size : ℕ) (earlier hs : List ProgramHeader) → first_fault (from (segment_check size) earlier hs) ≡ None → Clear segments_overlap earlier hs
 segments_clear size earlier [] e = tt
 segments_clear size earlier (h ∷ hs) e =
-    let p = passed_first (check (segment_fits size h && not (list_any (segments_overlap h) earlier)) kind.Segment h.place) (segment_checks size (earlier ++ h ∷ []) hs) e in
-    (not_false _ (both _ _ p.0).1, segments_clear size (earlier ++ h ∷ []) hs p.1)
+    let p = passed_first (segment_check size earlier h) (from (segment_check size) (earlier ++ h ∷ []) hs) e in
+    (not-true _ (and_parts _ _ p.0).1, segments_clear size (earlier ++ h ∷ []) hs p.1)
 
-texts_clear : (segments : List ProgramHeader) (earlier hs : List SectionHeader) → first_fault (text_checks segments earlier hs) ≡ None → Clear sections_overlap earlier hs
+texts_clear : (segments : List ProgramHeader) (earlier hs : List SectionHeader) → first_fault (from (text_check segments) earlier hs) ≡ None → Clear sections_overlap earlier hs
 texts_clear segments earlier [] e = tt
 texts_clear segments earlier (h ∷ hs) e =
-    let p = passed_first (check (text_fits segments h && not (list_any (sections_overlap h) earlier)) kind.Text h.place) (text_checks segments (earlier ++ h ∷ []) hs) e in
-    (not_false _ (both _ _ p.0).1, texts_clear segments (earlier ++ h ∷ []) hs p.1)
-
-or_none : (a b : Bool) → (a || b) ≡ false → (a ≡ false) × (b ≡ false)
-or_none true b e = cc
-or_none false b e = (refl, e)
+    let p = passed_first (text_check segments earlier h) (from (text_check segments) (earlier ++ h ∷ []) hs) e in
+    (not-true _ (and_parts _ _ p.0).1, texts_clear segments (earlier ++ h ∷ []) hs p.1)
 
 -- what entries that are clear say of each and each earlier one
 record AreClear {X : Type 0} (meet : X → X → Bool) (earlier xs : List X) : Type 0 where
@@ -102,9 +97,9 @@ clear_parts : {X : Type 0} (meet : X → X → Bool) (earlier : List X) (x : X) 
     → AreClear meet earlier (x ∷ xs)
 clear_parts {X} meet earlier x xs first rest =
     let parts : (k : ℕ) (d : X) → k < length xs → (list_any (meet (get_or xs k d)) earlier ≡ false) × (list_any (meet (get_or xs k d)) (x ∷ []) ≡ false) =
-    λ k d lt. or_none _ _ (sym (list_any-append (meet (get_or xs k d)) earlier (x ∷ [])) ∙ rest.none k d lt) in
+    λ k d lt. or_parts _ _ (sym (list_any-append (meet (get_or xs k d)) earlier (x ∷ [])) ∙ rest.none k d lt) in
     record {
-      pairs = AllPairs-cons (λ x y. meet y x ≡ false) x xs (λ k d lt. (or_none _ _ (parts k d lt).1).0) rest.pairs;
+      pairs = AllPairs-cons (λ x y. meet y x ≡ false) x xs (λ k d lt. (or_parts _ _ (parts k d lt).1).0) rest.pairs;
       none = All-cons (λ x. list_any (meet x) earlier ≡ false) x xs first (λ k d lt. (parts k d lt).0);
     }
 
@@ -115,21 +110,12 @@ are_clear meet earlier (x ∷ xs) c = clear_parts meet earlier x xs c.0 (are_cle
 overlap-sym : (a n b m : ℕ) → overlap a n b m ≡ false → overlap b m a n ≡ false
 overlap-sym a n b m e = grind (arith, nat_tests)
 
-get-map : {X Y : Type 0} (f : X → Y) (xs : List X) (k : ℕ) (d : Y) (e : X) → k < length xs → get_or (map f xs) k d ≡ f (get_or xs k e)
-get-map f [] k d e lt = absurd (omega arith)
-get-map f (x ∷ xs) zero d e lt = refl
-get-map f (x ∷ xs) (suc k) d e lt = get-map f xs k d e (omega arith)
-
-length-mapped : {X Y : Type 0} (f : X → Y) (xs : List X) → length (map f xs) ≡ length xs
-length-mapped f [] = refl
-length-mapped f (x ∷ xs) = ap suc (length-mapped f xs)
-
 -- pairs of what is made of a list that has an element
 pairs_made : {X Y : Type 0} (R : Y → Y → Type 0) (f : X → Y) (xs : List X) (e : X)
     → ((i j : ℕ) → i < j → j < length xs → R (f (get_or xs i e)) (f (get_or xs j e))) → AllPairs R (map f xs)
 pairs_made R f xs e h i j d lt within =
-    let len = length-mapped f xs in
-    rw (get-map f xs i d e (omega arith), get-map f xs j d e (omega arith)) (h i j lt (omega arith))
+    let len = length-map xs f in
+    rw (get_or-map f xs i e d (omega arith), get_or-map f xs j e d (omega arith)) (h i j lt (omega arith))
 
 meets_not : (g h : ProgramHeader) → segments_overlap g h ≡ false → segments_overlap h g ≡ false
 meets_not g h e = overlap-sym g.address g.memory_size h.address h.memory_size e
@@ -137,16 +123,16 @@ meets_not g h e = overlap-sym g.address g.memory_size h.address h.memory_size e
 segments_apart : (file : List ℕ) → fault_of file ≡ None → AllPairs Apart (map (segment_of file) (loaded file))
 segments_apart file h =
     let none : ProgramHeader = record { place = 0; kind = 0; offset = 0; address = 0; file_size = 0; memory_size = 0; flags = 0 } in
-    let clear = are_clear segments_overlap [] (loaded file) (segments_clear (length file) [] (loaded file) (passed file h).segments) in
+    let clear = are_clear segments_overlap [] (loaded file) (segments_clear (length file) [] (loaded file) (from_none (segment_check (length file)) (loaded file) (passed file h).segments)) in
     pairs_made Apart (segment_of file) (loaded file) none
     (λ i j lt within. meets_not (get_or (loaded file) j none) (get_or (loaded file) i none) (clear.pairs i j none lt within))
 
 -- the sum of the sizes
-sizes_below : (sum : ℕ) (file : List ℕ) (hs : List ProgramHeader) → first_fault (memory_checks sum hs) ≡ None → sum ≤ 16777216
+sizes_below : (sum : ℕ) (file : List ℕ) (hs : List ProgramHeader) → first_fault (memory_from sum hs) ≡ None → sum ≤ 16777216
     → sum + sum_by (λ s. s.size) (map (segment_of file) hs) ≤ 16777216
 sizes_below sum file [] e le = omega (arith, le)
 sizes_below sum file (h ∷ hs) e le =
-    let p = passed_first (check (nat_le (sum + h.memory_size) 16777216) kind.Large h.place) (memory_checks (sum + h.memory_size) hs) e in
+    let p = passed_first (check (nat_le (sum + h.memory_size) 16777216) kind.Large h.place) (memory_from (sum + h.memory_size) hs) e in
     let rest = sizes_below (sum + h.memory_size) file hs p.1 (leb-true _ _ p.0) in
     let all = sum_by-cons (λ (s : Segment). s.size) (segment_of file h) (map (segment_of file) hs) in
     omega (arith, rest, all)
@@ -171,14 +157,14 @@ text_by file h bytes some r m =
     }
 
 texts_fit : (file : List ℕ) → fault_of file ≡ None → All (λ h. text_fits (loaded file) h ≡ true) (text_headers file)
-texts_fit file h = text_fit (loaded file) [] (text_headers file) (passed file h).text
+texts_fit file h = text_fit (loaded file) (text_headers file) (passed file h).text
 
 met : (file : List ℕ) → fault_of file ≡ None → (k : ℕ) (d : SectionHeader) → k < length (text_headers file)
     → Meets file (text_of file (get_or (text_headers file) k d)) (text_range file (get_or (text_headers file) k d))
 met file h k d lt = meets file (get_or (text_headers file) k d) (texts_fit file h k d lt) (are_within file h)
 
 text_size : (h : SectionHeader) → is_text h ≡ true → 0 < h.size
-text_size h e = ltb-true _ _ (both _ (nat_lt 0 h.size) e).1
+text_size h e = ltb-true _ _ (and_parts _ (nat_lt 0 h.size) e).1
 
 texts_linked : (file : List ℕ) → AreBytes file → fault_of file ≡ None → All IsText (map (text_of file) (text_headers file))
 texts_linked file bytes h = All-map IsText (text_of file) (text_headers file) (λ k d lt. one k d lt)
@@ -195,7 +181,7 @@ sizes_apart a n b m n' m' e f h = rw (e, f) (overlap-sym b m a n h)
 texts_apart : (file : List ℕ) → fault_of file ≡ None → AllPairs TextApart (map (text_of file) (text_headers file))
 texts_apart file h =
     let none : SectionHeader = record { place = 0; name = 0; kind = 0; flags = 0; address = 0; offset = 0; size = 0; link = 0 } in
-    let clear = are_clear sections_overlap [] (text_headers file) (texts_clear (loaded file) [] (text_headers file) (passed file h).text) in
+    let clear = are_clear sections_overlap [] (text_headers file) (texts_clear (loaded file) [] (text_headers file) (from_none (text_check (loaded file)) (text_headers file) (passed file h).text)) in
     pairs_made TextApart (text_of file) (text_headers file) none
     (λ i j lt within. sizes_apart _ _ _ _ _ _ (met file h i none (omega (arith, lt, within))).size (met file h j none within).size (clear.pairs i j none lt within))
 
@@ -206,7 +192,7 @@ ranges_any file (h ∷ hs) addr = ap (λ (b : Bool). in_section addr h || b) (ra
 -- the entry is an instruction's address
 entry_parts : (file : List ℕ) → fault_of file ≡ None → ((file_header file).entry % 4 ≡ 0) × (list_any (in_section (file_header file).entry) (text_headers file) ≡ true)
 entry_parts file h =
-    let e = both _ _ (passes_at (entry_checks (file_header file) (text_headers file)) 1 (passed file h).entry) in
+    let e = and_parts _ _ (passes_at (entry_checks (file_header file) (text_headers file)) 1 (passed file h).entry) in
     (eqb-true _ _ e.0, e.1)
 
 entry_inside : (file : List ℕ) (addr : ℕ) → fault_of file ≡ None → list_any (in_section addr) (text_headers file) ≡ true
@@ -217,7 +203,7 @@ entry_inside file addr h any =
 pub linked : (file : List ℕ) → AreBytes file → fault_of file ≡ None → IsLinked (program_of file)
 unfolding program_of
 linked file bytes h =
-    let total = sizes_below 0 file (loaded file) (passed file h).memory (omega arith) in
+    let total = sizes_below 0 file (loaded file) (ap first_fault (sym (by_earlier-memory (loaded file))) ∙ (passed file h).memory) (omega arith) in
     record {
       segments = segments_linked file bytes h;
       apart = segments_apart file h;
@@ -227,10 +213,3 @@ linked file bytes h =
       aligned = (entry_parts file h).0;
       entered = entry_inside file (file_header file).entry h (entry_parts file h).1;
     }
-
--- the same by what the checks answered
-pub linked_by : (file bytes : List ℕ) (p : Program) → file ≡ bytes → p ≡ program_of file → AreBytes bytes
-    → None ≡ first_fault (size_checks bytes) → None ≡ first_fault (header_checks bytes) → None ≡ table_fault bytes → IsLinked p
-linked_by file bytes p same is fit size header table =
-    let accepted : fault_of bytes ≡ None = fault_of-stages bytes ∙ rw (← size, ← header, ← table) refl in
-    rw (is, same) (linked bytes fit accepted)

@@ -1,11 +1,9 @@
 -- Names in a string table.
-use Rattle.std.proofs.Common.{◌≡◌, ℕ, zero, suc, ◌+◌, ◌-◌, ◌<◌, ◌≤◌, Bool, true, false, cond, eqb, ltb, List, [], ◌∷◌, ◌++◌, length, take, drop, get_or, Option, None, Some, refl, arith, ◌∙◌, ap, map, subst}
+use Rattle.std.proofs.Common.{◌≡◌, ℕ, zero, suc, ◌+◌, Bool, true, false, List, [], ◌∷◌, drop, Option, None, Some, refl, arith, ◌∙◌, ap, map}
 use Rattle.std.specs.Prelude.{is_some, nat_lt, ◌==◌, if◌then◌else◌}
 use Rattle.std.specs.Option.{option_map, option_map_or}
 use Rattle.std.specs.Str.{bytes_eq}
-use Rattle.std.proofs.lemmas.Grind.{common_steps}
 use Rattle.std.proofs.lemmas.Bool.Decides.{nat_tests}
-use Rattle.std.proofs.lemmas.List.{take_more, length-take}
 use Rattle.elf32_read.specs.Checks.{Check, check, name_check}
 use Rattle.elf32_read.specs.declared.fault.ElfKind.TheVariants as kind
 use Rattle.elf32_read.specs.declared.header.SectionHeader.{SectionHeader}
@@ -55,33 +53,3 @@ ends-map table [] = refl
 ends-map table (h ∷ hs) =
     let head : name_check table h ≡ end_check (zero_end table) h = ap (λ (t : Bool). check t kind.Section h.place) (name_ends table h.name) in
     ap (λ (c : Check). c ∷ map (name_check table) hs) head ∙ ap (λ (cs : List Check). end_check (zero_end table) h ∷ cs) (ends-map table hs)
-
-push_step : (last first : Bool) (z z' len : ℕ) → z' ≡ (if last then len + 1 else z)
-    → (if nat_lt 0 z' then z' + 1 else (if first then 1 else 0)) ≡ (if last then suc len + 1 else (if nat_lt 0 z then z + 1 else (if first then 1 else 0)))
-push_step true first z z' len e = grind (arith, nat_tests)
-push_step false first z z' len e = rw e refl
-
--- one more byte at the end
-pub zero_end-push : (bytes : List ℕ) (b : ℕ) → zero_end (bytes ++ b ∷ []) ≡ (if b == 0 then length bytes + 1 else zero_end bytes)
-zero_end-push [] b = refl
-zero_end-push (x ∷ xs) b = push_step (b == 0) (x == 0) (zero_end xs) (zero_end (xs ++ b ∷ [])) (length xs) (zero_end-push xs b)
-
--- the last byte of the first n + 1
-zero_end-take_suc : (bytes : List ℕ) (n : ℕ) → n < length bytes
-    → zero_end (take (n + 1) bytes) ≡ (if get_or bytes n 0 == 0 then n + 1 else zero_end (take n bytes))
-zero_end-take_suc bytes n within =
-    let len : length (take n bytes) ≡ n = grind (arith, common_steps) in
-    ap zero_end (take_more bytes n 0 within) ∙ zero_end-push (take n bytes) (get_or bytes n 0)
-    ∙ ap (λ (k : ℕ). if get_or bytes n 0 == 0 then k + 1 else zero_end (take n bytes)) len
-
--- the last byte of the first n
-pub zero_end-take : (bytes : List ℕ) (n : ℕ) → 0 < n → n ≤ length bytes
-    → zero_end (take n bytes) ≡ (if get_or bytes (n - 1) 0 == 0 then n else zero_end (take (n - 1) bytes))
-zero_end-take bytes n some within =
-    let back : n - 1 + 1 ≡ n = omega arith in
-    let lt : n - 1 < length bytes = omega arith in
-    let P : ℕ → Type 0 = λ k. zero_end (take k bytes) ≡ (if get_or bytes (n - 1) 0 == 0 then k else zero_end (take (n - 1) bytes)) in
-    subst P back (zero_end-take_suc bytes (n - 1) lt)
-
--- a scan from the end
-pub ruleset last_zero = (zero_end-take, length-take)

@@ -11,6 +11,7 @@ use Rattle.std.specs.Bool.{MatchBool}
 use Rattle.std.specs.List.Sorted.{IsPartitionPoint}
 use Rattle.std.proofs.lemmas.List.Sorted.{IsPermutation-keeps, IsPermutation-sym}
 use Rattle.std.proofs.lemmas.List.Elements.{All-head, All-tail}
+use Rattle.std.proofs.lemmas.List.{get_or_default}
 use Rattle.elf32_read.specs.Fields.{overlap}
 use Rattle.elf32_read.specs.Spans.{Apart, Rise, covers, middle}
 use Rattle.elf32_read.specs.declared.spans.Span.{Span}
@@ -75,11 +76,6 @@ pub rise_from : (ss : List Span) → IsNonDecreasingBy middle ss → AllPairs Ap
 rise_from ss up h k d lt =
     by_middles (get_or ss k d) (get_or ss (k + 1) d) (h k (k + 1) d (omega arith) lt) (up k (k + 1) d (omega arith) lt)
 
-pub get_or_any : {X : Type 0} (xs : List X) (k : ℕ) (d e : X) → k < length xs → get_or xs k d ≡ get_or xs k e
-get_or_any [] k d e lt = absurd (omega arith)
-get_or_any (x ∷ xs) zero d e lt = refl
-get_or_any (x ∷ xs) (suc k) d e lt = get_or_any xs k d e (omega arith)
-
 -- one more range that begins where the one before it has ended
 pub rises_on : (ss : List Span) (k : ℕ) (b : Span) → 1 ≤ k → k < length ss
     → ((j : ℕ) (d : Span) → j + 1 < k → (get_or ss j d).start + (get_or ss j d).size ≤ (get_or ss (j + 1) d).start)
@@ -91,7 +87,7 @@ rises_on ss k b some lt before here j d at =
       | inr late ↦ (
           let same : j ≡ k - 1 = omega arith in
           let next : j + 1 ≡ k = omega arith in
-          rw (next, same, get_or_any ss (k - 1) d b (omega arith), get_or_any ss k d b lt) here)
+          rw (next, same, get_or_default ss (k - 1) d b (omega arith), get_or_default ss k d b lt) here)
     ]
 
 -- two neighbours by their middles of which the later begins before the other has ended
@@ -185,7 +181,7 @@ last_has_not ss addr i b up e some within le =
     (λ j d lt. elim (cases_lt j (i - 1)) [
       | inl early ↦ passed_by ss addr i d up e some within j early
       | inr late ↦ elim (cases_lt j i) [
-        | inl here ↦ (let same : j ≡ i - 1 = omega arith in rw same (outside addr (get_or ss (i - 1) d) (inr (rw (get_or_any ss (i - 1) d b (omega arith)) le))))
+        | inl here ↦ (let same : j ≡ i - 1 = omega arith in rw same (outside addr (get_or ss (i - 1) d) (inr (rw (get_or_default ss (i - 1) d b (omega arith)) le))))
         | inr out ↦ beyond ss addr i d e j out lt
       ]
     ])

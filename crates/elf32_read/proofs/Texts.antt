@@ -4,7 +4,7 @@ use Rattle.std.specs.Prelude.{◌||◌, All, slice_get, option_and_then}
 use Rattle.std.specs.List.{list_any}
 use Rattle.std.specs.Option.{option_map, option_map_or}
 use Rattle.std.proofs.lemmas.Grind.{common_steps}
-use Rattle.std.proofs.lemmas.Bool.{cases_lt}
+use Rattle.std.proofs.lemmas.Bool.{cases_lt, and_parts}
 use Rattle.std.proofs.lemmas.List.Elements.{All-head, All-tail}
 use Rattle.elf32_read.specs.Fields.{u32_at, entries, spans}
 use Rattle.elf32_read.specs.Program.{Text, in_words}
@@ -12,8 +12,8 @@ use Rattle.elf32_read.specs.Headers.{loaded, holds_text, bytes_from, text_of}
 use Rattle.elf32_read.specs.Checks.{text_fits}
 use Rattle.elf32_read.specs.Ranges.{offset_of, text_range, in_range, IsWithin, IsRange}
 use Rattle.elf32_read.specs.Views.{range_shown}
-use Rattle.elf32_read.proofs.Accepted.{both, Holder, holder, holds_sizes, is_range, TextFit, text_parts}
-use Rattle.elf32_read.specs.declared.image.TextRange.{TextRange}
+use Rattle.elf32_read.proofs.Accepted.{Holder, holder, holds_sizes, is_range, TextFit, text_parts}
+use Rattle.elf32_read.specs.declared.tables.TextRange.{TextRange}
 use Rattle.elf32_read.specs.declared.header.ProgramHeader.{ProgramHeader}
 use Rattle.elf32_read.specs.declared.header.SectionHeader.{SectionHeader}
 
@@ -130,7 +130,7 @@ abbrev pub word_at : List ℕ → ℕ → TextRange → ℕ
 word_at file addr r = u32_at file (r.offset + (addr - r.address))
 
 in_spans : (start size addr : ℕ) → spans start size addr ≡ true → (start ≤ addr) × (addr < start + size)
-in_spans start size addr e = let a = both _ _ e in (leb-true _ _ a.0, ltb-true _ _ a.1)
+in_spans start size addr e = let a = and_parts _ _ e in (leb-true _ _ a.0, ltb-true _ _ a.1)
 
 met_word : (file : List ℕ) (t : Text) (r : TextRange) (addr : ℕ) → Meets file t r → addr % 4 ≡ 0 → in_range addr r ≡ true
     → word_of addr t ≡ Some (word_at file addr r)

@@ -1,5 +1,5 @@
 -- The checks of a file, in their order.
-use Rattle.std.specs.Prelude.{ℕ, ◌+◌, ◌*◌, ◌%◌, ◌==◌, nat_le, nat_lt, ◌&&◌, ◌||◌, not, Bool, List, [], ◌∷◌, ◌++◌, length, bit_and, map, Option, Some, None, is_some, if◌then◌else◌, slice_index}
+use Rattle.std.specs.Prelude.{ℕ, ◌+◌, ◌*◌, ◌%◌, ◌==◌, nat_le, nat_lt, ◌&&◌, ◌||◌, not, Bool, List, [], ◌∷◌, ◌++◌, length, bit_and, map, sum_by, Option, Some, None, is_some, if◌then◌else◌, slice_index}
 use Rattle.std.specs.List.{list_any}
 use Rattle.elf32_read.specs.Abi.{ELFCLASS32, ELFDATA2LSB, ET_EXEC, EM_RISCV, RVC_OR_RVE, SHT_NULL, SHT_NOBITS, SHF_COMPRESSED}
 use Rattle.elf32_read.specs.Fields.{name_at, spans, overlap}
@@ -23,6 +23,11 @@ check holds kind place = record { holds = holds; fault = record { kind = kind; p
 abbrev pub first_fault : List Check → Option ElfFault
 first_fault [] = None
 first_fault (c ∷ cs) = if c.holds then first_fault cs else Some c.fault
+
+-- what each element gives, by those before it
+abbrev pub by_earlier : {X Y : Type 0} → (List X → X → Y) → List X → List Y
+by_earlier f [] = []
+by_earlier f (x ∷ xs) = f [] x ∷ by_earlier (λ earlier. f (x ∷ earlier)) xs
 
 -- whether the bytes begin with 7F 45 4C 46
 abbrev pub is_magic : List ℕ → Bool
@@ -61,18 +66,13 @@ segment_fits size h =
 abbrev pub segments_overlap : ProgramHeader → ProgramHeader → Bool
 segments_overlap h other = overlap h.address h.memory_size other.address other.memory_size
 
--- each segment fits, and has no byte in common with an earlier one
-abbrev pub segment_checks : ℕ → List ProgramHeader → List ProgramHeader → List Check
-segment_checks size earlier [] = []
-segment_checks size earlier (h ∷ hs) =
-    check (segment_fits size h && not (list_any (segments_overlap h) earlier)) kind.Segment h.place
-    ∷ segment_checks size (earlier ++ h ∷ []) hs
+-- a segment fits, and has no byte in common with an earlier one
+abbrev pub segment_check : ℕ → List ProgramHeader → ProgramHeader → Check
+segment_check size earlier h = check (segment_fits size h && not (list_any (segments_overlap h) earlier)) kind.Segment h.place
 
--- the sizes in memory of the segments up to each one, after those before, are at most 16,777,216
-abbrev pub memory_checks : ℕ → List ProgramHeader → List Check
-memory_checks sum [] = []
-memory_checks sum (h ∷ hs) =
-    check (nat_le (sum + h.memory_size) 16777216) kind.Large h.place ∷ memory_checks (sum + h.memory_size) hs
+-- the sizes in memory of the segments up to this one are at most 16,777,216 together
+abbrev pub memory_check : List ProgramHeader → ProgramHeader → Check
+memory_check earlier h = check (nat_le (sum_by (λ s. s.memory_size) earlier + h.memory_size) 16777216) kind.Large h.place
 
 -- two types have no part of the file (gABI, Section Header)
 abbrev pub has_file_part : SectionHeader → Bool
@@ -104,12 +104,9 @@ text_fits segments h =
 abbrev pub sections_overlap : SectionHeader → SectionHeader → Bool
 sections_overlap h other = overlap h.address h.size other.address other.size
 
--- each text section fits, and has no byte in common with an earlier one
-abbrev pub text_checks : List ProgramHeader → List SectionHeader → List SectionHeader → List Check
-text_checks segments earlier [] = []
-text_checks segments earlier (h ∷ hs) =
-    check (text_fits segments h && not (list_any (sections_overlap h) earlier)) kind.Text h.place
-    ∷ text_checks segments (earlier ++ h ∷ []) hs
+-- a text section fits, and has no byte in common with an earlier one
+abbrev pub text_check : List ProgramHeader → List SectionHeader → SectionHeader → Check
+text_check segments earlier h = check (text_fits segments h && not (list_any (sections_overlap h) earlier)) kind.Text h.place
 
 abbrev pub in_section : ℕ → SectionHeader → Bool
 in_section addr h = spans h.address h.size addr
@@ -125,12 +122,12 @@ entry_checks h texts =
 abbrev pub table_checks : List ℕ → List Check
 table_checks bytes =
     let h = file_header bytes in
-    segment_checks (length bytes) [] (loaded bytes)
-    ++ (memory_checks 0 (loaded bytes)
+    by_earlier (segment_check (length bytes)) (loaded bytes)
+    ++ (by_earlier memory_check (loaded bytes)
     ++ (check ((h.section_names == 0) || nat_lt h.section_names h.section_header_count) kind.Section 50
     ∷ map (section_check (length bytes)) (section_headers bytes)
     ++ (name_checks bytes
-    ++ (text_checks (loaded bytes) [] (text_headers bytes)
+    ++ (by_earlier (text_check (loaded bytes)) (text_headers bytes)
     ++ entry_checks h (text_headers bytes)))))
 
 -- all checks of a file, in their order

@@ -5,7 +5,8 @@ pub mod Headers
 pub mod Checks
 pub mod Reading
 pub mod Views
-pub mod Stages
 pub mod Ranges
 pub mod Spans
+pub mod TextSpans
+pub mod Tables
 pub mod Inside

@@ -6,7 +6,7 @@ use Rattle.elf32_read.specs.Abi.{PF_W}
 use Rattle.elf32_read.specs.Fields.{spans, name_at}
 use Rattle.elf32_read.specs.Checks.{segment_fits}
 use Rattle.elf32_read.specs.Headers.{loaded, holds_text}
-use Rattle.elf32_read.specs.declared.image.TextRange.{TextRange}
+use Rattle.elf32_read.specs.declared.tables.TextRange.{TextRange}
 use Rattle.elf32_read.specs.declared.header.ProgramHeader.{ProgramHeader}
 use Rattle.elf32_read.specs.declared.header.SectionHeader.{SectionHeader}
 

@@ -16,8 +16,12 @@ pub record IsImage (bytes : List ℕ) (program : Program) : Type 0 where
 abbrev pub Refused : List ℕ → ElfFault → Type 0
 Refused bytes fault = fault_of bytes ≡ Some fault
 
--- the program of the bytes, or their first fault, or want of memory
+-- the first fault of the bytes, or want of memory
+abbrev pub Fails : List ℕ → ElfReadError → Type 0
+Fails bytes (error.Fault fault) = Refused bytes fault
+Fails bytes error.Memory = Unit {0}
+
+-- the program of the bytes, or why they have none
 abbrev pub Reads : List ℕ → Result Program ElfReadError → Type 0
 Reads bytes (Ok program) = IsImage bytes program
-Reads bytes (Err (error.Fault fault)) = Refused bytes fault
-Reads bytes (Err error.Memory) = Unit {0}
+Reads bytes (Err e) = Fails bytes e

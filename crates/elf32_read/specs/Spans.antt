@@ -4,7 +4,7 @@ use Rattle.std.specs.List.Sorted.{IsPermutation, IsNonDecreasingBy}
 use Rattle.elf32_read.specs.Fields.{spans, overlap}
 use Rattle.elf32_read.specs.declared.header.ProgramHeader.{ProgramHeader}
 use Rattle.elf32_read.specs.declared.header.SectionHeader.{SectionHeader}
-use Rattle.elf32_read.specs.declared.image.TextRange.{TextRange}
+use Rattle.elf32_read.specs.declared.tables.TextRange.{TextRange}
 use Rattle.elf32_read.specs.declared.spans.Span.{Span}
 use Rattle.elf32_read.specs.declared.spans.SpanTable.{SpanTable}
 

@@ -2,7 +2,7 @@
 use Rattle.std.specs.Prelude.{ℕ, ◌/◌, List, None, length, take, drop}
 use Rattle.elf32_read.specs.Fields.{u32_at, entries}
 use Rattle.elf32_read.specs.Program.{Segment, Text, Section}
-use Rattle.elf32_read.specs.declared.image.TextRange.{TextRange}
+use Rattle.elf32_read.specs.declared.tables.TextRange.{TextRange}
 use Rattle.elf32_read.specs.declared.views.SegmentView.{SegmentView}
 use Rattle.elf32_read.specs.declared.views.TextView.{TextView}
 use Rattle.elf32_read.specs.declared.views.SectionView.{SectionView}

@@ -1,10 +1,9 @@
-ghost use Rattle.std.specs.Prelude.{◌≡◌, ◌+◌, ◌*◌, ◌%◌, ◌==◌, ◌&&◌, ◌≤◌, ◌<◌, ◌⊎◌, ◌∷◌, [], ℕ, length, not, take, IfOk, map, slice_index, slice_index_or};
+ghost use Rattle.std.specs.Prelude.{◌≡◌, ◌+◌, ◌*◌, ◌%◌, ◌==◌, ◌&&◌, ◌≤◌, ◌<◌, ◌⊎◌, ◌∷◌, [], length, not, take, IfOk, map, slice_index, slice_index_or};
 ghost use Rattle.std.specs.Bool.{OnTrue};
 ghost use Rattle.std.specs.List.{list_any};
 ghost use Rattle.std.specs.Result.{result_err};
 ghost use Rattle.elf32_read.specs.Headers.{file_header, loaded, text_headers, section_headers, holds_text, names, names_header};
-ghost use Rattle.elf32_read.specs.Checks.{segments_overlap, sections_overlap, check, first_fault, is_magic, size_checks, header_checks, segment_fits, segment_checks, memory_checks, section_fits, section_check, name_check, name_checks, entry_checks, text_fits, text_checks, in_section};
-ghost use Rattle.elf32_read.specs.Stages.{table_fault};
+ghost use Rattle.elf32_read.specs.Checks.{segments_overlap, sections_overlap, by_earlier, check, first_fault, is_magic, size_checks, header_checks, table_checks, segment_fits, segment_check, memory_check, section_fits, section_check, name_check, name_checks, entry_checks, text_fits, text_check, in_section};
 ghost use Rattle.elf32_read.specs.Spans.{AreFilled, AreSegments, AreSome, IsApartFront, IsSpanTable, section_spans, segment_spans};
 
 use crate::abi::{
@@ -122,7 +121,7 @@ fn is_segment_apart(segments: &[ProgramHeader], k: usize, h: &ProgramHeader, apa
 /// `apart` is how many segments there are before the first one that has an address in common with an earlier one.
 pub fn check_segments(size: usize, segments: &[ProgramHeader], apart: usize) -> Result<(), ElfFault>
     requires { IsApartFront (segment_spans segments.now) apart }
-    ensures checks { result_err result ≡ first_fault (segment_checks size [] segments.now) }
+    ensures checks { result_err result ≡ first_fault (by_earlier (segment_check size) segments.now) }
     ensures apart { IfOk result (λ _. length segments.now ≤ apart) }
     ensures filled { IfOk result (λ _. AreFilled segments.now) }
 {
@@ -135,7 +134,7 @@ pub fn check_segments(size: usize, segments: &[ProgramHeader], apart: usize) -> 
 
 /// The sum of the sizes in memory.
 pub fn check_memory(segments: &[ProgramHeader]) -> Result<(), ElfFault>
-    ensures { result_err result ≡ first_fault (memory_checks 0 segments.now) }
+    ensures { result_err result ≡ first_fault (by_earlier memory_check segments.now) }
 {
     let mut sum: u64 = 0;
     for h in segments {
@@ -245,7 +244,7 @@ pub fn check_text(
     requires filled { AreFilled segments.now }
     requires some { AreSome texts.now }
     requires front { IsApartFront (section_spans texts.now) apart }
-    ensures checks { result_err result ≡ first_fault (text_checks segments.now [] texts.now) }
+    ensures checks { result_err result ≡ first_fault (by_earlier (text_check segments.now) texts.now) }
     ensures apart { IfOk result (λ _. length texts.now ≤ apart) }
 {
     for (k, h) in texts.iter().enumerate() {
@@ -281,6 +280,7 @@ pub fn check_entry(header: &FileHeader, texts: &[SectionHeader]) -> Result<(), E
 }
 
 /// The checks of the tables, in their order.
+#[tactic(auto, using(crate::proofs::Stages::tables))]
 pub fn check_tables(
     bytes: &[u8],
     header: &FileHeader,
@@ -298,7 +298,7 @@ pub fn check_tables(
     requires text_table { IsSpanTable (section_spans texts.now) text_table.now }
     requires within { header.now.section_headers + 40 * header.now.section_header_count ≤ length bytes.now }
     requires limit { length bytes.now ≤ FILE_LIMIT }
-    ensures checks { result_err result ≡ table_fault bytes.now }
+    ensures checks { result_err result ≡ first_fault (table_checks bytes.now) }
     ensures segments { IfOk result (λ _. length segments.now ≤ segment_table.now.apart) }
     ensures filled { IfOk result (λ _. AreFilled segments.now) }
     ensures texts { IfOk result (λ _. length texts.now ≤ text_table.now.apart) }

@@ -7,6 +7,7 @@ ghost use Rattle.std.specs.Str.{bytes_eq};
 ghost use Rattle.elf32_read.specs.Fields.{IsAlike, u16_at, u32_at, name_from, zero_end};
 
 use byteorder::{ByteOrder, LittleEndian};
+use memchr::memrchr;
 
 /// The number in two bytes, the lowest first.
 #[tactic(auto, unfolding(crate::specs::Fields::u16_at))]
@@ -27,15 +28,13 @@ pub fn u32_at(bytes: &[u8], at: usize) -> u32
 }
 
 /// The place after the last zero byte, or 0 where there is none.
-#[tactic(auto, using(crate::proofs::Names::last_zero))]
 pub fn zero_end(table: &[u8]) -> usize
     ensures { result ≡ zero_end table.now }
 {
-    let mut end = table.len();
-    while end > 0 && table[end - 1] != 0 {
-        end -= 1;
+    match memrchr(0, table) {
+        Some(last) => last + 1,
+        None => 0,
     }
-    end
 }
 
 /// How many bytes are compared at once.

@@ -1,30 +1,20 @@
-ghost use Rattle.std.specs.Prelude.{◌≡◌, ◌<◌, None, Some, length, map, slice_get};
+ghost use Rattle.std.specs.Prelude.{◌≡◌, ◌<◌, IfOk, Some, length, slice_get};
 ghost use Rattle.std.specs.Option.{option_copied, option_map};
 ghost use Rattle.elf32_read.specs.Program.{in_text, mapped, section, text_word, writable};
-ghost use Rattle.elf32_read.specs.Checks.{fault_of};
-ghost use Rattle.elf32_read.specs.Headers.{file_header, loaded, program_of, section_headers, text_headers};
+ghost use Rattle.elf32_read.specs.Headers.{program_of};
+ghost use Rattle.elf32_read.specs.Tables.{AreRead};
+ghost use Rattle.elf32_read.specs.TextSpans.{text_spans};
 ghost use Rattle.elf32_read.specs.Views.{section_shown, segment_shown, text_shown, unnamed};
-ghost use Rattle.elf32_read.specs.Ranges.{text_range};
-ghost use Rattle.elf32_read.specs.Spans.{AreSegments, AreTexts};
 
-use crate::fault::ElfReadError;
-use crate::header::{FileHeader, ProgramHeader, SectionHeader, names_of};
+use crate::header::names_of;
 use crate::lookup::{
     in_ranges, loaded_byte, may_write, section_called, section_in, segment_in, text_in, word_in,
 };
-use crate::spans::Span;
+use crate::tables::Tables;
+use crate::text_spans::TextSpans;
 use crate::views::{SectionView, SegmentView, TextView};
-use std::alloc::Global;
+use std::alloc::{AllocError, Global};
 use std::marker::Model;
-
-/// Where the words of a text section stand in the file.
-#[derive(Clone, Copy, Debug)]
-pub struct TextRange {
-    pub address: u32,
-    /// In bytes.
-    pub size: u32,
-    pub offset: usize,
-}
 
 /// A linked program that was read. Contracts see it as a `Program`: its entry, segments, text and sections.
 ///
@@ -32,15 +22,7 @@ pub struct TextRange {
 #[derive(Drop)]
 pub struct Image {
     file: Vec<u8>,
-    header: FileHeader,
-    /// In the file's order, as `text` and `sections`.
-    segments: Vec<ProgramHeader>,
-    /// The segments' ranges in the order of their addresses.
-    segment_spans: Vec<Span>,
-    text: Vec<TextRange>,
-    /// The text sections' ranges in the order of their addresses.
-    text_spans: Vec<Span>,
-    sections: Vec<SectionHeader>,
+    tables: Tables,
 }
 
 impl Model for Image {
@@ -56,47 +38,25 @@ impl Model for Image {
 }
 
 impl Image {
-    pub(crate) fn of(
-        file: Vec<u8>,
-        header: FileHeader,
-        segments: Vec<ProgramHeader>,
-        segment_spans: Vec<Span>,
-        text: Vec<TextRange>,
-        text_spans: Vec<Span>,
-        sections: Vec<SectionHeader>,
-    ) -> Image
-        requires accepted { fault_of file.items ≡ None }
-        requires header { header ≡ file_header file.items }
-        requires segments { segments.items ≡ loaded file.items }
-        requires segment_spans { AreSegments segments.items segment_spans.items }
-        requires text { text.items ≡ map (text_range file.items) (text_headers file.items) }
-        requires text_spans { AreTexts text.items text_spans.items }
-        requires sections { sections.items ≡ section_headers file.items }
+    pub(crate) fn of(file: Vec<u8>, tables: Tables) -> Image
+        requires { AreRead file.items tables }
         ensures { result ≡ program_of file.items }
     {
-        Image {
-            file,
-            header,
-            segments,
-            segment_spans,
-            text,
-            text_spans,
-            sections,
-        }
+        Image { file, tables }
     }
 
     /// The address of the first instruction.
     pub fn entry(&self) -> u32
         ensures { result ≡ self.now.entry }
     {
-        self.header.entry
+        self.tables.header.entry
     }
 
     /// Whether an address is a byte of text: of an allocated, executable section.
     pub fn in_text(&self, addr: u32) -> bool
         ensures { result ≡ in_text self.now addr }
     {
-        in_ranges(&self.text, &self.text_spans, addr)
+        in_ranges(&self.tables.text, &self.tables.text_spans, addr)
     }
 
     /// The word of text at an address; none where the address isn't a multiple of 4 in text.
@@ -106,14 +66,19 @@ impl Image {
         if addr % 4 != 0 {
             return None;
         }
-        word_in(&self.file, &self.text, &self.text_spans, addr)
+        word_in(&self.file, &self.tables.text, &self.tables.text_spans, addr)
     }
 
     /// The byte that is loaded at an address, in text or data; none where no segment has it.
     pub fn mapped(&self, addr: u32) -> Option<u8>
         ensures { result ≡ mapped self.now addr }
     {
-        loaded_byte(&self.file, &self.segments, &self.segment_spans, addr)
+        loaded_byte(
+            &self.file,
+            &self.tables.segments,
+            &self.tables.segment_spans,
+            addr,
+        )
     }
 
     /// Whether the program may write at an address: its segment is writable, and it isn't text.
@@ -121,10 +86,10 @@ impl Image {
         ensures { result ≡ writable self.now addr }
     {
         may_write(
-            &self.segments,
-            &self.segment_spans,
-            &self.text,
-            &self.text_spans,
+            &self.tables.segments,
+            &self.tables.segment_spans,
+            &self.tables.text,
+            &self.tables.text_spans,
             addr,
         )
     }
@@ -134,13 +99,13 @@ impl Image {
     pub fn section(&self, name: &[u8]) -> Option<&[u8]>
         ensures { option_copied result ≡ section self.now name.now }
     {
-        if self.header.section_names == 0 {
+        if self.tables.header.section_names == 0 {
             return None;
         }
         section_called(
             &self.file,
-            names_of(&self.file, &self.header),
-            &self.sections,
+            names_of(&self.file, &self.tables.header),
+            &self.tables.sections,
             name,
         )
     }
@@ -149,7 +114,7 @@ impl Image {
     pub fn segment_count(&self) -> usize
         ensures { result ≡ length self.now.segments }
     {
-        self.segments.as_slice().len()
+        self.tables.segments.as_slice().len()
     }
 
     /// A segment by its number, in the file's order.
@@ -157,14 +122,21 @@ impl Image {
         requires { k < length self.now.segments }
         ensures { slice_get self.now.segments k ≡ Some (segment_shown result) }
     {
-        segment_in(&self.file, &self.segments, k)
+        segment_in(&self.file, &self.tables.segments, k)
     }
 
     /// How many text sections there are: allocated, executable and not empty.
     pub fn text_count(&self) -> usize
         ensures { result ≡ length self.now.text }
     {
-        self.text.as_slice().len()
+        self.tables.text.as_slice().len()
+    }
+
+    /// Where the text sections stand, as a value that is kept apart from the image. Its one error is want of memory.
+    pub fn text_spans(&self, alloc: Global) -> Result<TextSpans, AllocError>
+        ensures { IfOk result (λ spans. spans ≡ text_spans self.now) }
+    {
+        Ok(TextSpans::of(Vec::from_slice(alloc, &self.tables.text_spans)?))
     }
 
     /// A text section by its number, in the file's order.
@@ -172,14 +144,14 @@ impl Image {
         requires { k < length self.now.text }
         ensures { slice_get self.now.text k ≡ Some (text_shown result) }
     {
-        text_in(&self.file, &self.text, k)
+        text_in(&self.file, &self.tables.text, k)
     }
 
     /// How many section headers the file has, the first one without a section among them.
     pub fn section_count(&self) -> usize
         ensures { result ≡ length self.now.sections }
     {
-        self.sections.as_slice().len()
+        self.tables.sections.as_slice().len()
     }
 
     /// A section by its number.
@@ -187,6 +159,6 @@ impl Image {
         requires { k < length self.now.sections }
         ensures { option_map unnamed (slice_get self.now.sections k) ≡ Some (section_shown result) }
     {
-        section_in(&self.file, &self.sections, k)
+        section_in(&self.file, &self.tables.sections, k)
     }
 }

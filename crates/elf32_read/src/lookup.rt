@@ -12,8 +12,8 @@ use crate::abi::PF_W;
 use crate::checks::holds_text;
 use crate::fields::{begins_with_name, u32_at};
 use crate::header::{ProgramHeader, SectionHeader, section_bytes};
-use crate::image::TextRange;
 use crate::spans::{Span, number_at};
+use crate::tables::TextRange;
 use crate::views::{SectionView, SegmentView, TextView};
 
 /// The byte of a segment at an address, which is zero past the file part.

@@ -1,19 +1,21 @@
 ghost use Rattle.std.specs.Prelude.{◌≡◌, ◌<◌, IfOk, find, map};
 ghost use Rattle.std.specs.Option.{option_map_or};
-ghost use Rattle.elf32_read.specs.Headers.{holds_text};
+ghost use Rattle.elf32_read.specs.Headers.{holds_text, program_of};
 ghost use Rattle.elf32_read.specs.Ranges.{offset_of, range_in};
 ghost use Rattle.elf32_read.specs.Program.{IsLinked};
 ghost use Rattle.elf32_read.specs.Reading.{Reads};
 ghost use Rattle.elf32_read.specs.Spans.{AreFilled, AreSegments, AreSome};
+ghost use Rattle.elf32_read.specs.Tables.{ReadsTables};
 
 use crate::checks::{check_header, check_size, check_tables};
 use crate::fault::ElfReadError;
 use crate::header::{
     FileHeader, ProgramHeader, SectionHeader, loaded_headers, section_headers, text_headers,
 };
-use crate::image::{Image, TextRange};
+use crate::image::Image;
 use crate::lookup::holder;
 use crate::spans::{Span, section_table, segment_table};
+use crate::tables::{Tables, TextRange};
 use std::alloc::{AllocError, Global};
 
 fn text_offset(segments: &[ProgramHeader], sorted: &[Span], h: &SectionHeader) -> usize
@@ -59,12 +61,11 @@ fn text_ranges(
     Ok(ranges)
 }
 
-/// The image of a file's bytes, or the first check that they fail, or want of memory. No byte of the image's program
-/// is in two segments, and its entry is a word of text.
-#[tactic(auto, using(crate::proofs::Stages::stages))]
-pub fn read_image(alloc: Global, bytes: &[u8]) -> Result<Image, ElfReadError>
-    ensures read { Reads bytes.now result }
-    ensures linked { IfOk result (λ program. IsLinked program) }
+/// The tables of a file that fails no check.
+#[tactic(auto, using(crate::proofs::Stages::parts))]
+fn read_tables(alloc: Global, bytes: &[u8]) -> Result<Tables, ElfReadError>
+    ensures tables { ReadsTables bytes.now result }
+    ensures linked { IfOk result (λ _. IsLinked (program_of bytes.now)) }
 {
     check_size(bytes)?;
     let header = FileHeader::read(bytes);
@@ -84,13 +85,27 @@ pub fn read_image(alloc: Global, bytes: &[u8]) -> Result<Image, ElfReadError>
         &text_table,
     )?;
     let text = text_ranges(alloc, &segments, &segment_table.sorted, &texts)?;
-    Ok(Image::of(
-        Vec::from_slice(alloc, bytes)?,
+    Ok(Tables {
         header,
         segments,
-        segment_table.sorted,
+        segment_spans: segment_table.sorted,
         text,
-        text_table.sorted,
+        text_spans: text_table.sorted,
         sections,
-    ))
+    })
+}
+
+/// The image of a file's bytes, which it takes over. No byte of the image's program is in two segments, and its entry
+/// is a word of text.
+///
+/// # Errors
+///
+/// The first check that the bytes fail, or want of memory. The bytes are dropped then: a caller that needs them after
+/// a fault keeps a copy.
+pub fn read_image(alloc: Global, bytes: Vec<u8>) -> Result<Image, ElfReadError>
+    ensures read { Reads bytes.items result }
+    ensures linked { IfOk result (λ program. IsLinked program) }
+{
+    let tables = read_tables(alloc, &bytes)?;
+    Ok(Image::of(bytes, tables))
 }

@@ -8,12 +8,14 @@ ghost use Rattle.elf32_read.specs.Spans.{Apart, IsApartFront, IsSpanTable, Rise,
 use crate::header::{ProgramHeader, SectionHeader};
 use std::alloc::{AllocError, Global};
 
-/// The addresses of an entry of a table, and the entry's number.
+/// The addresses of an entry of a table, as of a text section.
 #[derive(Clone, Copy, Debug)]
 pub struct Span {
+    /// The first address.
     pub start: u32,
     /// In bytes.
     pub size: u32,
+    /// The entry's number in its table, from 0 on.
     pub number: usize,
 }
 
@@ -27,7 +29,8 @@ pub struct SpanTable {
 }
 
 impl Span {
-    fn end(&self) -> u64
+    /// The address behind the last one.
+    pub fn end(&self) -> u64
         ensures { result ≡ self.now.start + self.now.size }
     {
         self.start as u64 + self.size as u64
@@ -142,19 +145,30 @@ pub fn section_table(alloc: Global, sections: &[SectionHeader]) -> Result<SpanTa
     span_table(alloc, &section_spans(alloc, sections)?)
 }
 
-/// The number of the range that an address is in.
-pub fn number_at(sorted: &[Span], addr: u32) -> Option<usize>
+/// The range that an address is in.
+pub fn span_at(sorted: &[Span], addr: u32) -> Option<Span>
     requires { Rise sorted.now }
-    ensures { result ≡ option_map (λ s. s.number) (find (covers addr) sorted.now) }
+    ensures { result ≡ find (covers addr) sorted.now }
 {
     let after = sorted.partition_point(|s| s.start <= addr);
     if after == 0 {
         return None;
     }
-    let last = &sorted[after - 1];
+    let last = sorted[after - 1];
     if (addr as u64) < last.end() {
-        Some(last.number)
+        Some(last)
     } else {
         None
+    }
+}
+
+/// The number of the range that an address is in.
+pub fn number_at(sorted: &[Span], addr: u32) -> Option<usize>
+    requires { Rise sorted.now }
+    ensures { result ≡ option_map (λ s. s.number) (find (covers addr) sorted.now) }
+{
+    match span_at(sorted, addr) {
+        Some(span) => Some(span.number),
+        None => None,
     }
 }

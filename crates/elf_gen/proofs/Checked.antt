@@ -5,9 +5,9 @@ use Rattle.std.proofs.lemmas.Bool.{le-ltb}
 use Rattle.std.proofs.Math.Seq.{drop-append_seam, take-append_seam}
 use Rattle.elf32_read.specs.Fields.{u16_at, u32_at, name_at}
 use Rattle.elf32_read.specs.Headers.{file_header, section_headers, loaded, text_headers, names, names_header, section_bytes}
-use Rattle.elf32_read.specs.Checks.{Check, check, first_fault, fault_of, size_checks, header_checks, segment_checks, memory_checks, section_check, name_check, name_checks, text_checks, entry_checks, section_fits}
-use Rattle.elf32_read.specs.Stages.{or_else}
-use Rattle.elf32_read.proofs.Stages.{fault_of-stages}
+use Rattle.elf32_read.specs.Checks.{Check, check, first_fault, fault_of, size_checks, header_checks, by_earlier, segment_check, memory_check, section_check, name_check, name_checks, text_check, entry_checks, section_fits}
+use Rattle.elf32_read.proofs.Earlier.{by_earlier-memory, memory_from}
+use Rattle.elf32_read.proofs.Stages.{or_else, fault_of-stages}
 use Rattle.elf32_read.specs.declared.fault.ElfKind.TheVariants as kind
 use Rattle.elf32_read.specs.declared.fault.ElfFault.{ElfFault}
 use Rattle.elf32_read.specs.declared.header.FileHeader.{FileHeader}
@@ -47,7 +47,7 @@ header_passes t b text bytes s =
 
 -- the segments, of which the second may have no byte
 segments_by : (size t b : ℕ) (some : Bool) → nat_lt 0 b ≡ some → 116 + t + b ≤ size → 116 + t ≤ 65536 → 116 + t + b ≤ 16777216
-    → first_fault (segment_checks size [] (text_segment t ∷ (if some then data_segment t b ∷ [] else []))) ≡ None
+    → first_fault (by_earlier (segment_check size) (text_segment t ∷ (if some then data_segment t b ∷ [] else []))) ≡ None
 segments_by size t b false e within below memory =
     let same : nat_le (116 + t) (116 + t) ≡ true = le-leb _ _ (omega arith) in
     let part : nat_le (0 + (116 + t)) size ≡ true = le-leb _ _ (omega arith) in
@@ -64,16 +64,16 @@ segments_by size t b true e within below memory =
     rw (same, part, end, data_same, data_part, data_end, apart) refl
 
 segments_pass : (t b : ℕ) (text bytes : List ℕ) → Sizes t b text bytes
-    → first_fault (segment_checks (length (laid t b text bytes)) [] (loaded (laid t b text bytes))) ≡ None
+    → first_fault (by_earlier (segment_check (length (laid t b text bytes))) (loaded (laid t b text bytes))) ≡ None
 segments_pass t b text bytes s =
     let file = laid t b text bytes in
     let n = length-laid t b text bytes s in
-    let P : List ProgramHeader → Type 0 = λ hs. first_fault (segment_checks (length file) [] hs) ≡ None in
+    let P : List ProgramHeader → Type 0 = λ hs. first_fault (by_earlier (segment_check (length file)) hs) ≡ None in
     subst P (sym (loaded_are t b text bytes s))
     (segments_by (length file) t b (nat_lt 0 b) refl (omega (arith, n)) s.below s.memory)
 
 memory_by : (t b : ℕ) (some : Bool) → 116 + t + b ≤ 16777216
-    → first_fault (memory_checks 0 (text_segment t ∷ (if some then data_segment t b ∷ [] else []))) ≡ None
+    → first_fault (memory_from 0 (text_segment t ∷ (if some then data_segment t b ∷ [] else []))) ≡ None
 memory_by t b false memory =
     let text : nat_le (0 + (116 + t)) 16777216 ≡ true = le-leb _ _ (omega arith) in rw text refl
 memory_by t b true memory =
@@ -81,10 +81,11 @@ memory_by t b true memory =
     let data_fits : nat_le (0 + (116 + t) + b) 16777216 ≡ true = le-leb _ _ (omega arith) in
     rw (text, data_fits) refl
 
-memory_passes : (t b : ℕ) (text bytes : List ℕ) → Sizes t b text bytes → first_fault (memory_checks 0 (loaded (laid t b text bytes))) ≡ None
+memory_passes : (t b : ℕ) (text bytes : List ℕ) → Sizes t b text bytes → first_fault (by_earlier memory_check (loaded (laid t b text bytes))) ≡ None
 memory_passes t b text bytes s =
-    let P : List ProgramHeader → Type 0 = λ hs. first_fault (memory_checks 0 hs) ≡ None in
-    subst P (sym (loaded_are t b text bytes s)) (memory_by t b (nat_lt 0 b) s.memory)
+    let P : List ProgramHeader → Type 0 = λ hs. first_fault (memory_from 0 hs) ≡ None in
+    ap first_fault (by_earlier-memory (loaded (laid t b text bytes)))
+    ∙ subst P (sym (loaded_are t b text bytes s)) (memory_by t b (nat_lt 0 b) s.memory)
 
 pub sections_pass : (t b : ℕ) (text bytes : List ℕ) → Sizes t b text bytes
     → first_fault (map (section_check (length (laid t b text bytes))) (section_headers (laid t b text bytes))) ≡ None
@@ -168,14 +169,14 @@ text_headers_are t b text bytes s =
     let some : nat_lt 0 t ≡ true = lt-ltb 0 t s.some in rw (section_headers_are t b text bytes s, some) refl
 
 text_by : (t at : ℕ) (others : List ProgramHeader) → t % 4 ≡ 0
-    → first_fault (text_checks (text_segment t ∷ others) [] (text_section at t ∷ [])) ≡ None
+    → first_fault (by_earlier (text_check (text_segment t ∷ others)) (text_section at t ∷ [])) ≡ None
 text_by t at others whole =
     let four : (t % 4 == 0) ≡ true = eq-eqb _ _ whole in
     let held : nat_le (0x10074 + t) (0x10000 + (116 + t)) ≡ true = le-leb _ _ (omega arith) in
     rw (four, held) refl
 
 text_passes : (t b : ℕ) (text bytes : List ℕ) → Sizes t b text bytes
-    → first_fault (text_checks (loaded (laid t b text bytes)) [] (text_headers (laid t b text bytes))) ≡ None
+    → first_fault (by_earlier (text_check (loaded (laid t b text bytes))) (text_headers (laid t b text bytes))) ≡ None
 text_passes t b text bytes s =
     rw (loaded_are t b text bytes s, text_headers_are t b text bytes s) (text_by t (139 + t + b) (data_loaded t b) s.whole)
 

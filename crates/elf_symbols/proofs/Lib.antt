@@ -5,3 +5,4 @@ pub mod Tables
 pub mod Puts
 pub mod Nearest
 pub mod Order
+pub mod Short

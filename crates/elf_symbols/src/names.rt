@@ -8,6 +8,7 @@ ghost use Rattle.elf_symbols.specs.Views.{symbol_shown};
 
 use crate::entry::{STT_FUNC, SymbolEntry};
 use elf32_read::fields::{alike_front, begins_with_name};
+use memchr::memchr;
 use std::alloc::{AllocError, Global};
 use std::collections::BTreeMap;
 use std::marker::Model;
@@ -57,14 +58,9 @@ impl Model for Symbols {
 fn first_name(bytes: &[u8]) -> &[u8]
     ensures { result.now ≡ unwrap_or (name_from bytes.now) [] }
 {
-    let mut end = 0;
-    while end < bytes.len() && bytes[end] != 0 {
-        end += 1;
-    }
-    if end < bytes.len() {
-        &bytes[..end]
-    } else {
-        &[]
+    match memchr(0, bytes) {
+        Some(end) => &bytes[..end],
+        None => &[],
     }
 }
 
@@ -73,14 +69,10 @@ fn short_front(bytes: &[u8]) -> Option<&[u8]>
     ensures kept { IfSome result (λ name. name_from bytes.now ≡ Some name.now) }
     ensures passed { IfNone result (IsLong (name_from bytes.now)) }
 {
-    let mut end = 0;
-    while end < bytes.len() && end <= MOST_KEPT && bytes[end] != 0 {
-        end += 1;
-    }
-    if end < bytes.len() && end <= MOST_KEPT {
-        Some(&bytes[..end])
-    } else {
-        None
+    let searched = bytes.len().min(MOST_KEPT + 1);
+    match memchr(0, &bytes[..searched]) {
+        Some(end) => Some(&bytes[..end]),
+        None => None,
     }
 }
 

@@ -7,7 +7,7 @@ use Rattle.hart_machine.specs.declared.hart.Core.{Core}
 use Rattle.hart_machine.specs.Copying.{settled_regs}
 use Rattle.hart_machine.specs.Patched.{Patched}
 use Rattle.break_table.specs.Entry.{Entry as BreakEntry}
-use Rattle.break_table.specs.declared.bounds.TextBounds.{TextBounds}
+use Rattle.elf32_read.specs.declared.spans.Span.{Span}
 use Rattle.elf_symbols.specs.Names.{Names}
 use Rattle.mi_commands.specs.declared.command.Displaced.{Displaced}
 use Rattle.step_over.specs.declared.phase.Phase.{Phase}
@@ -33,7 +33,7 @@ pub record Run : Type 0 where
   -- the breakpoints, how many numbers were given to breakpoints, where text stands, and where each hart waits
   pub breaks : List BreakEntry
   pub given : ℕ
-  pub bounds : List TextBounds
+  pub bounds : List Span
   pub waits : List (Option ℕ)
   -- the program's symbols
   pub names : Names

@@ -84,7 +84,7 @@ fn engine_of(
         slice: 0,
     };
     let opening = Opening {
-        image: read_image(alloc, &file)?,
+        image: read_image(alloc, file)?,
         settings,
     };
     Engine::load(alloc, opening).map_err(|_| Fail::new("out of memory"))

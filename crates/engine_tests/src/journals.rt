@@ -83,7 +83,7 @@ fn opening(alloc: Global, budget: u64) -> Result<Opening, Fail>
         slice: 0,
     };
     Ok(Opening {
-        image: read_image(alloc, &file)?,
+        image: read_image(alloc, file)?,
         settings,
     })
 }

@@ -222,7 +222,7 @@ fn entries_of_an_address_are_found_after_each_change(rt: HostRuntime) -> Result<
 #[test]
 fn one_of_128_addresses_is_found(rt: HostRuntime) -> Result<(), Fail> {
     let alloc = rt.alloc();
-    let image = read_image(alloc, &plain(alloc, &[0x13; 128], b"")?)?;
+    let image = read_image(alloc, plain(alloc, &[0x13; 128], b"")?)?;
     let mut table = BreakTable::new(alloc, &image, 1)?;
     for back in 0..128 {
         let spec = asked(0x10270 - 4 * back, ' ', 0, None, None, Vec::new(alloc));

@@ -34,7 +34,7 @@ const BY_LINKER: &str = "\
     010000000000000011000000030000000000000000000000010300004600000000000000000000000100000000000000";
 
 pub fn program(alloc: Global) -> Result<Image, Fail> {
-    Ok(read_image(alloc, &hex::decode(alloc, BY_LINKER)?)?)
+    Ok(read_image(alloc, hex::decode(alloc, BY_LINKER)?)?)
 }
 
 pub fn program_symbols(alloc: Global) -> Result<Symbols, Fail> {

@@ -41,10 +41,11 @@ fn fault(kind: ElfKind, place: u32) -> Option<ElfReadError> {
 #[test]
 fn a_changed_or_short_file_names_the_check_it_breaks(rt: HostRuntime) -> Result<(), Fail> {
     let file = plain(rt.alloc(), &[0x05d0_0893, 0x0000_0513, 0x0000_0073], &[])?;
-    assert!(rt; read_image(rt.alloc(), &file).is_ok());
+    assert!(rt; read_image(rt.alloc(), file.clone()?).is_ok());
     for (length, place) in [(51, 51), (100, 52), (151, 151)] {
         assert!(rt; length <= file.len());
-        let answer = read_image(rt.alloc(), &file[..length]).err();
+        let short = Vec::from_slice(rt.alloc(), &file[..length])?;
+        let answer = read_image(rt.alloc(), short).err();
         assert_eq!(rt; answer, fault(ElfKind::Short, place), "of {length} bytes");
     }
     for (changes, kind, place) in &CHANGES {
@@ -53,7 +54,7 @@ fn a_changed_or_short_file_names_the_check_it_breaks(rt: HostRuntime) -> Result<
             assert!(rt; *at < changed.len());
             changed[*at] = *byte;
         }
-        let answer = read_image(rt.alloc(), &changed).err();
+        let answer = read_image(rt.alloc(), changed).err();
         assert_eq!(rt; answer, fault(*kind, *place), "{changes:?}");
     }
     Ok(())
@@ -101,7 +102,7 @@ fn the_first_segment_that_meets_an_earlier_one_is_named(rt: HostRuntime) -> Resu
         ),
     ];
     for (ranges, wanted) in cases {
-        let answer = read_image(rt.alloc(), &of_segments(rt.alloc(), &ranges)?).err();
+        let answer = read_image(rt.alloc(), of_segments(rt.alloc(), &ranges)?).err();
         assert_eq!(rt; answer, wanted);
     }
     Ok(())

@@ -256,6 +256,23 @@ fn assert_loaded(rt: &impl Abort, image: &Image, linked: &Linked) {
     }
 }
 
+fn assert_text_spans(
+    rt: &impl Abort,
+    alloc: Global,
+    image: &Image,
+    linked: &Linked,
+) -> Result<(), Fail> {
+    let spans = image.text_spans(alloc)?;
+    for (addr, _, in_text, _, _) in linked.places {
+        assert_eq!(rt; spans.contains(*addr), *in_text, "at {addr:#x}");
+    }
+    for (address, length) in linked.texts {
+        let end = u64::from(*address).saturating_add(*length as u64);
+        assert_eq!(rt; spans.end_at(*address), Some(end), "at {address:#x}");
+    }
+    Ok(())
+}
+
 fn assert_sections(rt: &impl Abort, image: &Image, sections: &[Section]) {
     assert_eq!(rt; image.section_count(), sections.len());
     for (k, (name, kind, flags, address, link, size)) in sections.iter().enumerate() {
@@ -296,8 +313,9 @@ fn assert_names(
 }
 
 fn assert_linked(rt: &impl Abort, alloc: Global, file: &str, linked: &Linked) -> Result<(), Fail> {
-    let image = read_image(alloc, &hex::decode(alloc, file)?)?;
+    let image = read_image(alloc, hex::decode(alloc, file)?)?;
     assert_loaded(rt, &image, linked);
+    assert_text_spans(rt, alloc, &image, linked)?;
     assert_sections(rt, &image, linked.sections);
     assert_eq!(rt; image.section(b".rodata"), Some(b"hi\0".as_slice()));
     assert_eq!(rt; image.section(b".data"), Some([3, 0, 0, 0].as_slice()));
@@ -315,11 +333,12 @@ fn files_of_two_linkers_are_read_as_readelf_shows_them(rt: HostRuntime) -> Resul
 
 #[test]
 fn made_files_show_what_they_were_made_of(rt: HostRuntime) -> Result<(), Fail> {
-    let image = read_image(rt.alloc(), &generate(rt.alloc(), 3)?)?;
+    let image = read_image(rt.alloc(), generate(rt.alloc(), 3)?)?;
     assert_loaded(&rt, &image, &GENERATED);
+    assert_text_spans(&rt, rt.alloc(), &image, &GENERATED)?;
     assert_names(&rt, rt.alloc(), &image, &GENERATED)?;
     let file = plain(rt.alloc(), &[0x0015_0513, 0xfe00_0ee3], b"hi")?;
-    let image = read_image(rt.alloc(), &file)?;
+    let image = read_image(rt.alloc(), file)?;
     assert_loaded(&rt, &image, &PLAIN);
     assert_sections(&rt, &image, PLAIN.sections);
     assert_eq!(rt; image.section(b".data"), Some(b"hi".as_slice()));

@@ -21,7 +21,7 @@ const LONG: &str = "\
 #[test]
 fn long_names_are_found_like_short_ones(rt: HostRuntime) -> Result<(), Fail> {
     let mut file = hex::decode(rt.alloc(), LONG)?;
-    let found = symbols(rt.alloc(), &read_image(rt.alloc(), &file)?)?;
+    let found = symbols(rt.alloc(), &read_image(rt.alloc(), file.clone()?)?)?;
     let name = vec![in rt.alloc(); b'a'; 259]?;
     let cases = [
         (254, None),
@@ -43,7 +43,7 @@ fn long_names_are_found_like_short_ones(rt: HostRuntime) -> Result<(), Fail> {
         file[at + 6] = 1;
         file[at + 12] = 0x12;
     }
-    let found = symbols(rt.alloc(), &read_image(rt.alloc(), &file)?)?;
+    let found = symbols(rt.alloc(), &read_image(rt.alloc(), file)?)?;
     let told = found.function_at(0x1_0054).map(|s| s.name.len());
     assert_eq!(rt; told, Some(255));
     Ok(())

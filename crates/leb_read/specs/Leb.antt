@@ -1,4 +1,5 @@
--- Numbers and texts at a place in the bytes of debugging information.
+-- Numbers and texts at a place in the bytes of debugging information (DWARF 5, sections 7.6, "Variable Length Data",
+-- 7.31, "Integer Representation Names", and 7.5.5, "Classes and Forms").
 use Rattle.std.specs.Prelude.{◌≡◌, ◌<◌, ◌≤◌, ℕ, ℤ, pos, ◌-ℤ◌, ◌+◌, ◌-◌, ◌*◌, ◌%◌, ◌^◌, ◌==◌, ◌&&◌, ◌||◌, true, false, nat_le, nat_lt, not, Bool, List, [], ◌∷◌, length, take, drop, take_while, slice_index, Result, Ok, Err, if◌then◌else◌}
 use Rattle.byteorder.specs.Endian.{little_number}
 use Rattle.leb_read.specs.declared.fault.Leb.{Leb}

@@ -1,6 +1,6 @@
 use thiserror::Error;
 
-/// Why no value stands at a place.
+/// Why no value stands at a place. Of both the first is told.
 #[derive(Clone, Copy, Debug, PartialEq, Eq, Error)]
 pub enum Leb {
     /// The bytes end before the value does.

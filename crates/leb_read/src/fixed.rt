@@ -1,13 +1,19 @@
-//! Numbers of a fixed width, and texts that a zero byte ends.
+//! Numbers of a fixed width (DWARF 5, section 7.31, "Integer Representation Names": `ubyte`, `uhalf` and `uword`), in the
+//! order of a RISC-V file's bytes, and texts that a zero byte ends (section 7.5.5, "Classes and Forms": `DW_FORM_string`).
 
-ghost use Rattle.std.specs.Prelude.{◌≡◌, ◌<◌, IfOk, length, take_while};
+ghost use Rattle.std.specs.Prelude.{◌≡◌, IfOk};
 ghost use Rattle.leb_read.specs.Gives.{GivesText};
-ghost use Rattle.leb_read.specs.Leb.{IsBehind, IsBehindText, is_text_byte, number_at, text_at};
+ghost use Rattle.leb_read.specs.Leb.{IsBehind, IsBehindText, number_at, text_at};
 
 use crate::fault::Leb;
 use byteorder::{ByteOrder, LittleEndian};
+use memchr::memchr;
 
-/// The byte at a place, and the next place.
+/// The byte at a place, and the place behind it. Places are counted in bytes from the front.
+///
+/// # Errors
+///
+/// `Short` where the bytes end before or at the place.
 #[tactic(auto, unfolding(crate::specs::Leb::number_at))]
 pub fn u8_at(bytes: &[u8], at: usize) -> Result<(u8, usize), Leb>
     ensures value { result ≡ number_at 1 bytes.now at }
@@ -19,7 +25,11 @@ pub fn u8_at(bytes: &[u8], at: usize) -> Result<(u8, usize), Leb>
     }
 }
 
-/// The number in the two bytes at a place, the lowest first, and the next place.
+/// The number in the two bytes at a place, the lowest first, and the place behind them.
+///
+/// # Errors
+///
+/// `Short` where fewer than two bytes stand from the place on.
 #[tactic(auto, unfolding(crate::specs::Leb::number_at))]
 pub fn u16_at(bytes: &[u8], at: usize) -> Result<(u16, usize), Leb>
     ensures value { result ≡ number_at 2 bytes.now at }
@@ -31,7 +41,11 @@ pub fn u16_at(bytes: &[u8], at: usize) -> Result<(u16, usize), Leb>
     Ok((LittleEndian::read_u16(&bytes[at..]), at + 2))
 }
 
-/// The number in the four bytes at a place, the lowest first, and the next place.
+/// The number in the four bytes at a place, the lowest first, and the place behind them.
+///
+/// # Errors
+///
+/// `Short` where fewer than four bytes stand from the place on.
 #[tactic(auto, unfolding(crate::specs::Leb::number_at))]
 pub fn u32_at(bytes: &[u8], at: usize) -> Result<(u32, usize), Leb>
     ensures value { result ≡ number_at 4 bytes.now at }
@@ -43,14 +57,11 @@ pub fn u32_at(bytes: &[u8], at: usize) -> Result<(u32, usize), Leb>
     Ok((LittleEndian::read_u32(&bytes[at..]), at + 4))
 }
 
-// How many bytes stand before the first zero byte.
-fn text_length(bytes: &[u8]) -> usize
-    ensures { result ≡ length (take_while is_text_byte bytes.now) }
-{
-    bytes.iter().take_while(|b| **b != 0).count()
-}
-
-/// The bytes from a place up to the first zero byte, and the place behind that.
+/// The bytes from a place up to the first zero byte, and the place behind that byte.
+///
+/// # Errors
+///
+/// `Short` where no zero byte stands from the place on.
 #[tactic(auto, unfolding(crate::specs::Leb::text_at))]
 pub fn text_at(bytes: &[u8], at: usize) -> Result<(&[u8], usize), Leb>
     ensures value { GivesText result (text_at bytes.now at) }
@@ -60,9 +71,8 @@ pub fn text_at(bytes: &[u8], at: usize) -> Result<(&[u8], usize), Leb>
         return Err(Leb::Short);
     }
     let front = &bytes[at..];
-    let length = text_length(front);
-    if length == front.len() {
-        return Err(Leb::Short);
+    match memchr(0, front) {
+        Some(length) => Ok((&front[..length], at + length + 1)),
+        None => Err(Leb::Short),
     }
-    Ok((&front[..length], at + length + 1))
 }

@@ -83,8 +83,13 @@ fn leb_bytes(bytes: &[u8], at: usize, is_signed: bool) -> Result<(&[u8], usize),
     Ok((number, at + length))
 }
 
+/// The unsigned number at a place (ULEB128), and the place behind it, in bytes from the front.
+///
+/// # Errors
+///
+/// `Short` where the bytes end before the number does, and `Wide` where it has ten bytes and more than 64 bits. `Short`
+/// is told before `Wide`. A number may have bytes that add nothing to it.
 #[tactic(auto, using(crate::proofs::Numbers::unsigned_fits), unfolding(crate::specs::Leb::uleb_at))]
-/// The unsigned number at a place, and the next place.
 pub fn uleb(bytes: &[u8], at: usize) -> Result<(u64, usize), Leb>
     ensures value { result ≡ uleb_at bytes.now at }
     ensures within { IfOk result (λ r. IsBehind bytes.now at r.1) }
@@ -93,8 +98,12 @@ pub fn uleb(bytes: &[u8], at: usize) -> Result<(u64, usize), Leb>
     Ok((spelled(number) as u64, next))
 }
 
+/// The signed number at a place (SLEB128), and the place behind it, in bytes from the front.
+///
+/// # Errors
+///
+/// As those of `uleb`, with 64 bits for the number in two's complement.
 #[tactic(auto, unfolding(crate::specs::Leb::sleb_at))]
-/// The signed number at a place, and the next place.
 pub fn sleb(bytes: &[u8], at: usize) -> Result<(i64, usize), Leb>
     ensures value { result ≡ sleb_at bytes.now at }
     ensures within { IfOk result (λ r. IsBehind bytes.now at r.1) }
@@ -110,11 +119,10 @@ fn power(bits: usize) -> u128
     1 << bits
 }
 
-#[tactic(auto, using(crate::proofs::Numbers::signed, crate::proofs::Numbers::bits), unfolding(crate::specs::Leb::spelled_signed))]
 // The same number, with bit 6 of the last byte for its sign.
+#[tactic(auto, using(crate::proofs::Numbers::signed, crate::proofs::Numbers::bits), unfolding(crate::specs::Leb::spelled_signed))]
 fn spelled_signed(bytes: &[u8]) -> i64
     requires { HasFit true bytes.now }
-
     ensures { result ≡ spelled_signed bytes.now }
 {
     let value = spelled(bytes) as i128;

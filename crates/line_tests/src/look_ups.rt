@@ -110,7 +110,7 @@ const COUNT: [(u32, u32); 5] = [
 /// With ample memory there is an index of each list of rows, an empty one too.
 #[test]
 fn an_index_is_built_of_a_section_and_of_nothing(rt: HostRuntime) -> Result<(), Fail> {
-    let image = read_image(rt.alloc(), &generate(rt.alloc(), 1)?)?;
+    let image = read_image(rt.alloc(), generate(rt.alloc(), 1)?)?;
     let names = symbols(rt.alloc(), &image)?;
     let section = image.section(b".debug_line").ok_or("no section")?;
     let sections = LineSections {

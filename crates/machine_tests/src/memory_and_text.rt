@@ -17,8 +17,7 @@ const IMAGE: &str = "\
     00000400000000000000";
 
 fn image(alloc: Global) -> Result<Image, Fail> {
-    let file = hex::decode(alloc, IMAGE)?;
-    Ok(read_image(alloc, &file)?)
+    Ok(read_image(alloc, hex::decode(alloc, IMAGE)?)?)
 }
 
 #[test]

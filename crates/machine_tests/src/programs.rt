@@ -31,6 +31,5 @@ pub fn image_of(alloc: Global, words: &[u32], data: &[u8; 8]) -> Result<Image, F
     if words.is_empty() || words.len() > 8 {
         return Err(Fail::new("one to eight words"));
     }
-    let file = plain(alloc, words, data.as_slice())?;
-    Ok(read_image(alloc, &file)?)
+    Ok(read_image(alloc, plain(alloc, words, data.as_slice())?)?)
 }

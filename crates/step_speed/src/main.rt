@@ -31,7 +31,7 @@ const LOOP: [u32; 9] = [
 /// The memory of a program with that loop and 64 bytes of data; none where memory runs out.
 fn memory_of_loop(alloc: Global) -> Option<DataMemory> {
     let file = plain(alloc, &LOOP, &[0; 64]).ok()?;
-    let image = read_image(alloc, &file).ok()?;
+    let image = read_image(alloc, file).ok()?;
     DataMemory::load(alloc, &image, 1).ok()
 }
 

@@ -82,7 +82,7 @@ const WORK: [(u32, u32, u32, bool); 3] = [
 
 /// The program with rows of its own: there are none from 0x10088 to 0x1008B.
 pub fn with_rows(alloc: Global) -> Result<Program, Fail> {
-    let image = read_image(alloc, &generate(alloc, 1)?)?;
+    let image = read_image(alloc, generate(alloc, 1)?)?;
     let names = symbols(alloc, &image)?;
     let mut rows = RowsBuilder::new(alloc);
     rows.push_name(b"a.c")?;
@@ -100,7 +100,7 @@ pub fn with_rows(alloc: Global) -> Result<Program, Fail> {
 /// The program with the rows of its file, which are those of `work`: lines 10 to 14, in 0x1008C, 0x10094, 0x1009C, 0x100A0 and
 /// 0x100A8.
 pub fn as_generated(alloc: Global) -> Result<Program, Fail> {
-    let image = read_image(alloc, &generate(alloc, 2)?)?;
+    let image = read_image(alloc, generate(alloc, 2)?)?;
     let names = symbols(alloc, &image)?;
     let section = image.section(b".debug_line").ok_or("no section")?;
     let sections = LineSections {

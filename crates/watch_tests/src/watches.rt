@@ -8,7 +8,7 @@ use watch_points::{WatchError, WatchFault, Watched, watch_of};
 
 /// The symbols of a generated file: `count` is at 0x20000 and `limit` at 0x20004.
 fn generated_symbols(alloc: Global) -> Result<Symbols, Fail> {
-    Ok(symbols(alloc, &read_image(alloc, &generate(alloc, 3)?)?)?)
+    Ok(symbols(alloc, &read_image(alloc, generate(alloc, 3)?)?)?)
 }
 
 /// A text, and the address, size and sign that it asks for.

@@ -1,4 +1,4 @@
-use Rattle.std.proofs.Common.{◌≡◌, ◌∙◌, None, Some, List, ℕ, refl, subst}
+use Rattle.std.proofs.Common.{◌≡◌, ◌∙◌, None, Some, refl, subst}
 use Rattle.std.specs.Prelude.{Err}
 use Rattle.elf32_read.specs.declared.fault.ElfReadError.{ElfReadError}
 use Rattle.elf32_read.specs.Reading.{Reads}
@@ -10,7 +10,7 @@ use Rattle.dbg_session.proofs.run.load.Goals as goal
 pub open-requires-clause-ready : goal.open-requires-clause-ready
 open-requires-clause-ready g c =
     let told = g.W.World.told in
-    let image = rw c.as_slice.ensures.value at c.in-Ok-read_image.ensures.read in
+    let image = c.in-Ok-read_image.ensures.read in
     ready (told c.args.world) (told c.read_all.new.world) c.words.result.now c.in-Ok-Some.served c.in-Ok.bytes.items (record { image = c.in-Ok-read_image.image; settings = c.in-Ok-Some.served.settings }) (stage_of c.in-Ok-load.engine)
     c.requires c.words.ensures (rw (← c.in-Ok-Some.field-0-is) c.in-Ok-Some.ensures.served) c.in-Ok.ensures image refl c.in-Ok-load.ensures.opening c.in-Ok-load.ensures.journal
 
@@ -27,10 +27,8 @@ returns-in-Err-Fault g c =
     let e = c.early-in-Err-Fault.ensures in
     let is : Some c.in-Ok-Some.served ≡ served_words c.words.result.now = rw (← c.in-Ok-Some.field-0-is) c.in-Ok-Some.ensures.served in
     let P : ElfReadError → Type 0 = λ x. Reads c.in-Ok.bytes.items (Err x) in
-    let Q : List ℕ → Type 0 = λ b. Reads b (Err c.in-Err-Fault.field-0) in
-    let reads = subst Q c.as_slice.ensures.value c.in-Err-Fault.ensures.read in
-    let refused = subst P c.in-Err-Fault.field-0-is reads in (
+    let refused = subst P c.in-Err-Fault.field-0-is c.in-Err-Fault.ensures.read in (
       e.closed,
-      rw (e.status, e.world) (early_file c.put_all-in-Err-Fault.result (told c.args.world) (told c.read_all.new.world) (told c.put_all-in-Err-Fault.new.world) c.words.result.now c.in-Ok-Some.served c.in-Ok.bytes.items c.in-Err-Fault.fault c.as_slice-in-Err-Fault.result.now
-          c.requires c.words.ensures is c.in-Ok.ensures refused (c.as_slice-in-Err-Fault.ensures.value ∙ c.in-Ok-bad_file.ensures) c.put_all-in-Err-Fault.ensures),
+      rw (e.status, e.world) (early_file c.put_all-in-Err-Fault.result (told c.args.world) (told c.read_all.new.world) (told c.put_all-in-Err-Fault.new.world) c.words.result.now c.in-Ok-Some.served c.in-Ok.bytes.items c.in-Err-Fault.fault c.as_slice.result.now
+          c.requires c.words.ensures is c.in-Ok.ensures refused (c.as_slice.ensures.value ∙ c.in-Ok-bad_file.ensures) c.put_all-in-Err-Fault.ensures),
     )

@@ -1,9 +1,10 @@
 use Rattle.std.proofs.Common.{◌≡◌, ◌≤◌, drop}
-use Rattle.elf32_read.specs.Checks.{first_fault, memory_checks}
+use Rattle.elf32_read.specs.Checks.{by_earlier, first_fault, memory_check}
+use Rattle.elf32_read.proofs.Earlier.{memory_from}
 use Rattle.elf32_read.proofs.checks.check_memory.Given as goal
 
 abbrev pub invariant-loop-h : goal.invariant-loop-h
 invariant-loop-h l = record {
   bound : l.sum ≤ 16777216;
-  same : first_fault (memory_checks 0 l.segments) ≡ first_fault (memory_checks l.sum (drop l.h-index l.segments));
+  same : first_fault (by_earlier memory_check l.segments) ≡ first_fault (memory_from l.sum (drop l.h-index l.segments));
 }

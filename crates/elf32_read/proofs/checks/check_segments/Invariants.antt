@@ -1,9 +1,10 @@
-use Rattle.std.proofs.Common.{◌≡◌, ◌≤◌, take, drop, []}
-use Rattle.elf32_read.specs.Checks.{first_fault, segment_checks}
+use Rattle.std.proofs.Common.{◌≡◌, ◌≤◌, take, drop}
+use Rattle.elf32_read.specs.Checks.{by_earlier, first_fault, segment_check}
+use Rattle.elf32_read.proofs.Earlier.{from}
 use Rattle.elf32_read.proofs.checks.check_segments.Given as goal
 
 abbrev pub invariant-loop-k : goal.invariant-loop-k
 invariant-loop-k l = record {
   before : l.k ≤ l.apart;
-  same : first_fault (segment_checks l.size [] l.segments) ≡ first_fault (segment_checks l.size (take l.k l.segments) (drop l.k l.segments));
+  same : first_fault (by_earlier (segment_check l.size) l.segments) ≡ first_fault (from (segment_check l.size) (take l.k l.segments) (drop l.k l.segments));
 }

@@ -1,5 +1,5 @@
 use Rattle.std.proofs.Common.{sym, rules, ◌<◌, length}
-use Rattle.elf32_read.specs.declared.image.TextRange.{TextRange}
+use Rattle.elf32_read.specs.declared.tables.TextRange.{TextRange}
 use Rattle.elf32_read.proofs.Found.{numbered_some, numbered_none}
 use Rattle.elf32_read.proofs.lookup.text_at.Goals as goal
 

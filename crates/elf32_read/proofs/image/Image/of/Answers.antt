@@ -4,18 +4,14 @@ use Rattle.elf32_read.proofs.image.Image.of.Goals as goal
 pub invariant_of-result : goal.invariant_of-result
 invariant_of-result c =
     let file = c.args.file.items in
-    let r = c.requires in
+    let accepted = c.requires.accepted in
+    let tables = c.requires.tables in
     record {
-      accepted = r.accepted;
-      header = r.header;
-      segments = r.segments;
-      text = r.text;
-      sections = r.sections;
-      segment_spans = r.segment_spans;
-      text_spans = r.text_spans;
-      fits = rw r.segments (are_within file r.accepted);
-      ranges = rw r.text (are_ranges file r.accepted);
-      limit = is_small file r.accepted;
-      within = rw r.header (has_sections file r.accepted);
-      named = rw r.header (has_names file r.accepted);
+      accepted = accepted;
+      tables = tables;
+      fits = rw tables.segments (are_within file accepted);
+      ranges = rw tables.text (are_ranges file accepted);
+      limit = is_small file accepted;
+      within = rw tables.header (has_sections file accepted);
+      named = rw tables.header (has_names file accepted);
     }
