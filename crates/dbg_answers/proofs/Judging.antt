@@ -37,7 +37,7 @@ use Rattle.dbg_model.specs.Threads.{go_on, interrupt, thread_info}
 use Rattle.dbg_model.specs.Breakpoints.{condition, expression, expression_as, insert, known, known_thread, named, none_missing, place, placed, room}
 use Rattle.dbg_model.specs.Data.{address_at, byte_at, bytes_at, evaluate, shown_at, worth_as, worth_of}
 use Rattle.dbg_model.specs.Command.{asked_reply, reply}
-use Rattle.dbg_model.specs.Refusals.{Judges, absent, against, against_asked, against_evaluate, against_insert, against_live, against_named, against_running, against_stopped, against_target, failed, has_exited, is_stopped, kind_number, no_text, no_value, number, runs, unknown, unreadable, when}
+use Rattle.dbg_model.specs.Refusals.{Judges, absent, against, against_asked, against_evaluate, against_insert, against_live, against_named, against_running, against_stopped, against_target, failed, has_exited, is_stopped, kind_number, no_text, no_value, runs, unknown, unreadable, when}
 use Rattle.dbg_answers.proofs.Tests.{From, UpTo, alone, both_from, chain, ensured_judged, ensured_up, failed_judged, first, less_from, none_from, one_from, then_done, up_then, when_from}
 
 -- ---- threads

@@ -1,6 +1,6 @@
 -- Bytes of a range, one after another.
 use Rattle.std.proofs.Common.{◌≡◌, ℕ, zero, suc, ◌+◌, ◌-◌, ◌<◌, ◌++◌, List, [], ◌∷◌, sym, ap, ◌∙◌, arith}
-use Rattle.std.specs.Prelude.{Option, Some, None, Ok, Err}
+use Rattle.std.specs.Prelude.{Some, None, Ok, Err}
 use Rattle.dbg_model.specs.declared.reply.Obstacle.TheVariants.{Unreadable}
 use Rattle.dbg_model.specs.declared.reply.Refused.{Refused}
 use Rattle.dbg_model.specs.declared.reply.Refused.TheVariants.{Hindered}

@@ -1,7 +1,6 @@
 -- What the changes of lines rest on.
-use Rattle.std.proofs.Common.{◌≡◌, ◌<◌, ℕ, zero, suc, Bool, true, false, List, length, map, refl, sym, ap, ◌∙◌, subst, nat_lt, arith}
+use Rattle.std.proofs.Common.{◌≡◌, ◌<◌, ℕ, zero, suc, Bool, true, false, List, length, map, refl, sym, ◌∙◌, nat_lt, arith}
 use Rattle.std.specs.Prelude.{[], ◌∷◌, Option, Some, None, Result, Ok, Err, is_some, slice_get}
-use Rattle.std.specs.Option.{option_map}
 use Rattle.std.proofs.lemmas.Bool.Decides.{nat_tests}
 use Rattle.elf32_read.specs.Program.{Program, text_word}
 use Rattle.break_table.specs.Entry.{Entry}
@@ -16,12 +15,10 @@ use Rattle.mi_commands.specs.declared.command.Target.TheVariants as target
 use Rattle.mi_commands.specs.declared.refusal.Fault.{Fault}
 use Rattle.mi_commands.specs.declared.refusal.Fault.TheVariants as fault
 use Rattle.dbg_model.specs.declared.thread_view.ThreadView.{ThreadView}
-use Rattle.dbg_model.specs.declared.thread_view.ThreadView.TheVariants as view
 use Rattle.dbg_model.specs.declared.opening.Opening.{Opening}
 use Rattle.dbg_model.specs.declared.reply.Obstacle.{Obstacle}
 use Rattle.dbg_model.specs.declared.reply.Obstacle.TheVariants.{UnknownThread}
 use Rattle.dbg_model.specs.declared.reply.Refused.{Refused}
-use Rattle.dbg_model.specs.declared.reply.Refused.TheVariants as refused
 use Rattle.dbg_model.specs.declared.reply.Thread.{Thread}
 use Rattle.dbg_model.specs.Limits.{breakpoints}
 use Rattle.dbg_model.specs.State.{Hart, State}
@@ -31,7 +28,7 @@ use Rattle.dbg_model.specs.Threads.{go_on, interrupt, thread_info}
 use Rattle.dbg_model.specs.Breakpoints.{condition, ensured, expression, insert, known, known_thread, place, placed, room}
 use Rattle.dbg_model.specs.Data.{bytes_at, worth_of}
 use Rattle.dbg_model.specs.Command.{asked_reply, reply}
-use Rattle.dbg_model.specs.Reply.{answer_by, answer_of, answer_to, answering, no_parts}
+use Rattle.dbg_model.specs.Reply.{answer_by, answer_of, answer_to, no_parts}
 
 -- a thread that is named is there
 abbrev pub IsThereOr : {A : Type 0} → List A → Option ℕ → Type 0

@@ -1,5 +1,5 @@
 -- What is answered to a command, and what it changes.
-use Rattle.std.specs.Prelude.{true, false, Option, Some, None, Result, Ok, Err}
+use Rattle.std.specs.Prelude.{true, false, Result, Ok, Err}
 use Rattle.mi_commands.specs.declared.command.Command.{Command}
 use Rattle.mi_commands.specs.declared.command.Command.TheVariants as command
 use Rattle.mi_commands.specs.declared.command.Displaced.{Displaced}

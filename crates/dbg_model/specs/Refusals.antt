@@ -25,7 +25,6 @@ use Rattle.dbg_model.specs.declared.reply.Refused.TheVariants as refused
 use Rattle.dbg_model.specs.Limits.{breakpoints}
 use Rattle.dbg_model.specs.Views.{shown_byte}
 use Rattle.dbg_model.specs.Sight.{Sight, thread_at, stopped, thread_or}
-use Rattle.dbg_model.specs.Outcome.{and_then}
 use Rattle.dbg_model.specs.Breakpoints.{condition, expression, place}
 use Rattle.dbg_model.specs.Data.{address_at, worth_of}
 

@@ -1,5 +1,4 @@
 use Rattle.std.specs.Prelude.{Err}
-use Rattle.dbg_model.specs.Command.{asked_reply}
 use Rattle.dbg_answers.specs.Debuggee.{seen}
 use Rattle.dbg_answers.proofs.Judging.{asked_judged}
 use Rattle.dbg_answers.proofs.line.answer_fault.Goals as goal
