@@ -17,13 +17,13 @@ use Rattle.break_table.specs.declared.bounds.TextBounds.{TextBounds}
 use Rattle.dbg_model.specs.declared.entry.Entry.{Entry}
 use Rattle.dbg_model.specs.declared.entry.Entry.TheVariants.{Did}
 use Rattle.dbg_model.specs.declared.opening.Opening.{Opening}
-use Rattle.dbg_model.specs.declared.reply.Content.{Content}
-use Rattle.dbg_model.specs.declared.reply.Content.TheVariants as content
 use Rattle.mi_commands.specs.declared.command.Displaced.{Displaced}
 use Rattle.step_over.specs.declared.phase.Phase.{Phase}
 use Rattle.dbg_model.specs.Limits.{history}
 use Rattle.dbg_model.specs.State.{Hart, State, any_runs, is_off}
-use Rattle.dbg_model.specs.Reply.{Change, stays, resumes, selects, inserts, deletes, enables, conditions, ignores, interrupts, displaces, exits, exited_after, implied, answer_of, changed_by, done_by, thread_hart, is_wait, going_on, asking, selected_after, displaced_after, sets_after, breaks_after, given_after}
+use Rattle.dbg_model.specs.Outcome.{Change, stays, resumes, selects, inserts, deletes, enables, conditions, ignores, interrupts, displaces, exits}
+use Rattle.dbg_model.specs.Sight.{thread_at}
+use Rattle.dbg_model.specs.Reply.{exited_after, answer_of, changed_by, done_by, is_wait, going_on, asking, selected_after, displaced_after, sets_after, breaks_after, given_after}
 use Rattle.dbg_model.specs.Reply as model
 use Rattle.dbg_model.specs.Lawful.{enter, may_go, may_do}
 use Rattle.dbg_model.proofs.Founding.{IsFounded, IsThereOr, change_founded}
@@ -40,13 +40,14 @@ use Rattle.engine_facts.proofs.Bounding.{below}
 use Rattle.engine_facts.proofs.Breaking.{planted_again}
 use Rattle.engine_facts.proofs.Planting.{text_shown}
 use Rattle.engine_facts.proofs.Keeping.{Enters}
-use Rattle.dbg_engine.specs.declared.breaking.BreakChange.{BreakChange}
-use Rattle.dbg_engine.specs.declared.breaking.BreakChange.TheVariants as change
-use Rattle.dbg_engine.specs.Answering.{Makes}
-use Rattle.dbg_engine.specs.Changing.{break_change, changed_table, Applies, Retabled}
+use Rattle.dbg_answers.specs.Answer.{change_of}
+use Rattle.dbg_answers.specs.declared.answer.Effect.{Effect}
+use Rattle.dbg_answers.specs.declared.answer.Effect.TheVariants as effect
+use Rattle.dbg_engine.specs.Changing.{Makes, Applies, Retabled}
+use Rattle.dbg_answers.specs.Table.{changed_table}
 use Rattle.dbg_engine.specs.Calls.{Lines}
-use Rattle.dbg_engine.specs.Resuming.{resume_threads, ask_threads}
-use Rattle.dbg_engine.proofs.GoingOn.{length_threads, seen_threads, harts_threads, phases_threads, ask_length, seen_asked, ask_harts, ask_phases}
+use Rattle.dbg_engine.specs.Resuming.{asked, gone_on, minds_after, on_threads}
+use Rattle.dbg_engine.proofs.GoingOn.{goes_on, harts_threads, is_asked, length_threads, phases_threads, seen_asked, seen_going}
 
 enter_did : (o : Opening) (s : State) (line : List ℕ) → may_do o s line ≡ true → enter o s (Did line) ≡ Some (done_by o s line)
 unfolding enter
@@ -63,7 +64,7 @@ there None e = cc
 there (Some x) e = (x, refl)
 
 -- a thread that is there has a number of one of the harts
-thread_within : (o : Opening) (xs : List Hart) (t : ℕ) → length xs ≡ o.settings.harts → is_some (thread_hart xs t) ≡ true → IsThread o t
+thread_within : (o : Opening) (xs : List Hart) (t : ℕ) → length xs ≡ o.settings.harts → is_some (thread_at xs t) ≡ true → IsThread o t
 thread_within o xs zero len e = absurd cc
 thread_within o xs (suc h) len e =
     let x = there (slice_get xs h) e in
@@ -90,10 +91,6 @@ done_is o s line c is = ap (changed_by s) is
 pub record LinedTo (r new : Run) (line : List ℕ) : Type 0 where
   pub facts : Facts new
   pub lines : Lines r new line
-
--- what is kept of the harts after a line that makes this change
-abbrev minds_after : List Mind → Change → List Mind
-minds_after xs c = ask_threads (resume_threads xs (going_on c)) (asking c)
 
 -- the engine after such a line
 abbrev after_line : Run → List ℕ → Change → Words → ℕ → Run
@@ -132,167 +129,62 @@ lined_to r line c t spare f may is p texts =
     let image = r.opening.image in
     let ts = going_on c in
     let us = asking c in
-    let xs = resume_threads r.minds ts in
+    let xs = on_threads gone_on r.minds ts in
     let n = after_line r line c t spare in
     let s = changed_by (seen r) c in
     let done = done_is r.opening (seen r) line c is in
-    let cores : length r.machine.cores ≡ length xs = f.harts.len ∙ sym (length_threads r.minds ts) in
+    let cores : length r.machine.cores ≡ length xs = f.harts.len ∙ sym (length_threads gone_on r.minds ts) in
     let harts : seen_harts image r.machine.cores (minds_after r.minds c) ≡ s.harts =
-    seen_asked image r.machine.cores xs us cores ∙ ap (λ ys. model.ask_threads ys us) (seen_threads image r.machine.cores r.minds ts f.harts.len) in
+    seen_asked image r.machine.cores xs us cores ∙ ap (λ ys. model.ask_threads ys us) (seen_going image r.machine.cores r.minds ts f.harts.len) in
     let same : s ≡ seen_with n (told_of s) = ap (λ ys. let u : State = record s { harts = ys } in u) (sym harts) in
     let founded = subst (IsFounded image (seen r).harts r.breaks) is (change_founded r.opening (seen r) line) in
     let len : length (seen r).harts ≡ r.opening.settings.harts = harts_length image r.machine.cores r.minds f.harts.len ∙ f.count in
-    let resumed = harts_threads image r.machine.cores r.machine.slots r.minds r.hold ts f.harts in
+    let resumed = harts_threads gone_on model.resumed goes_on image r.machine.cores r.machine.slots r.minds r.hold ts f.harts in
     let e : Enters n s =
     lines r (Did line) (minds_after r.minds c) (selected_after r.selected c) (displaced_after r.displaced c) t (breaks_after r.breaks r.given c) (given_after r.given c) (exited_after r.exited c) spare s f refl (enter_did r.opening (seen r) line may ∙ ap Some done) same
-    (ask_length xs us ∙ length_threads r.minds ts)
+    (length_threads asked xs us ∙ length_threads gone_on r.minds ts)
     (selected_within r.opening image (seen r).harts r.breaks r.selected c f.selected len founded)
-    (ask_harts image r.machine.cores r.machine.slots xs r.hold us resumed)
+    (harts_threads asked model.asked is_asked image r.machine.cores r.machine.slots xs r.hold us resumed)
     (record {
-      phases = ask_phases xs us ∙ phases_threads image r.machine.cores r.machine.slots r.minds r.hold ts f.harts;
+      phases = phases_threads asked model.asked is_asked image r.machine.cores r.machine.slots xs r.hold us resumed ∙ phases_threads gone_on model.resumed goes_on image r.machine.cores r.machine.slots r.minds r.hold ts f.harts;
       passed = refl;
       sets = λ q. sets_more r.displaced (seen r).sets c q;
     }) p texts in
     record { facts = e.facts; lines = record { journal = refl; seen = sym (done ∙ e.seen); opening = refl } }
 
--- ---- a line that changes no breakpoint
-
--- a change of no breakpoint, no setting, and by which no interrupt is asked
-record IsQuiet (c : Change) : Type 0 where
-  breaks : (es : List BreakEntry) (k : ℕ) → breaks_after es k c ≡ es
-  number : (k : ℕ) → given_after k c ≡ k
-  asks : asking c ≡ []
-  setting : (d : Displaced) → displaced_after d c ≡ d
-
-quiet_stays : IsQuiet stays
-quiet_stays = record { breaks = λ es k. refl; number = λ k. refl; asks = refl; setting = λ d. refl }
-
-quiet_change : (c : Content) → IsQuiet (implied c)
-quiet_change content.Blank = quiet_stays
-quiet_change content.Done = quiet_stays
-quiet_change (content.Inserted b) = quiet_stays
-quiet_change (content.Breakpoints bs) = quiet_stays
-quiet_change (content.Running ts) = record { breaks = λ es k. refl; number = λ k. refl; asks = refl; setting = λ d. refl }
-quiet_change (content.Selected t) = record { breaks = λ es k. refl; number = λ k. refl; asks = refl; setting = λ d. refl }
-quiet_change (content.Threads ts t) = quiet_stays
-quiet_change (content.ThreadNumbers ns t) = quiet_stays
-quiet_change content.RegisterNames = quiet_stays
-quiet_change (content.Registers f rs) = quiet_stays
-quiet_change (content.Memory a ms) = quiet_stays
-quiet_change (content.Value n u) = quiet_stays
-quiet_change (content.Setting v) = quiet_stays
-quiet_change content.Exit = record { breaks = λ es k. refl; number = λ k. refl; asks = refl; setting = λ d. refl }
-quiet_change (content.Refused r) = quiet_stays
-
-pub noted : (r : Run) (spare : ℕ) (line : List ℕ) (c : Content) (j : List Entry) (xs : List Mind) (selected : ℕ) (exited : Bool) → Facts r → may_do r.opening (seen r) line ≡ true → Makes r line (implied c)
-    → j ≡ r.journal ++ Did line ∷ [] → xs ≡ resume_threads r.minds (going_on (implied c)) → selected ≡ selected_after r.selected (implied c) → exited ≡ exited_after r.exited (implied c)
-    → (let new : Run = record r { journal = j; spare = spare; minds = xs; selected = selected; noted = r.noted + 1; exited = exited } in LinedTo r new line)
-noted r spare line c j xs selected exited f may is same minds chosen ended =
-    let N : List Entry → List Mind → ℕ → Displaced → List BreakEntry → ℕ → Bool → Run = λ es ys t v bs g x. record r { journal = es; spare = spare; minds = ys; selected = t; displaced = v; breaks = bs; given = g; noted = r.noted + 1; exited = x } in
-    let d = implied c in
-    let P : List Entry → List Mind → ℕ → Displaced → List BreakEntry → ℕ → Type 0 = λ es ys t v bs g. LinedTo r (N es ys t v bs g (exited_after r.exited d)) line in
-    let E : Bool → Type 0 = λ x. LinedTo r (N j xs selected r.displaced r.breaks r.given x) line in
-    let q = quiet_change c in
-    let es = r.journal ++ Did line ∷ [] in
-    let ys = resume_threads r.minds (going_on d) in
-    let t = selected_after r.selected d in
-    let none = q.breaks r.breaks r.given in
-    let texts = subst (AreInText r.opening.image) (sym none) f.texts in
-    let planted = subst (λ (bs : List BreakEntry). Planted r.opening.image r.machine.text bs r.hold) (sym none) f.planted in
-    let first : P es (ask_threads ys (asking d)) t (displaced_after r.displaced d) (breaks_after r.breaks r.given d) (given_after r.given d) = lined_to r line d r.machine.text spare f may is planted texts in
-    let unasked : P es ys t (displaced_after r.displaced d) (breaks_after r.breaks r.given d) (given_after r.given d) =
-    subst (λ (us : List ℕ). P es (ask_threads ys us) t (displaced_after r.displaced d) (breaks_after r.breaks r.given d) (given_after r.given d)) q.asks first in
-    let set : P es ys t r.displaced (breaks_after r.breaks r.given d) (given_after r.given d) = subst (λ (v : Displaced). P es ys t v (breaks_after r.breaks r.given d) (given_after r.given d)) (q.setting r.displaced) unasked in
-    let base : P es ys t r.displaced r.breaks r.given = subst (λ (g : ℕ). P es ys t r.displaced r.breaks g) (q.number r.given) (subst (λ (bs : List BreakEntry). P es ys t r.displaced bs (given_after r.given d)) none set) in
-    subst E (sym ended)
-    (subst (λ (ls : List Entry). P ls xs selected r.displaced r.breaks r.given) (sym same)
-    (subst (λ (zs : List Mind). P es zs selected r.displaced r.breaks r.given) (sym minds)
-    (subst (λ (u : ℕ). P es ys u r.displaced r.breaks r.given) (sym chosen) base)))
-
--- a line that asks an interrupt
-pub asked_line : (r : Run) (spare : ℕ) (line ts : List ℕ) (j : List Entry) (xs : List Mind) → Facts r → may_do r.opening (seen r) line ≡ true → Makes r line (interrupts ts) → j ≡ r.journal ++ Did line ∷ [] → xs ≡ ask_threads r.minds ts
-    → (let new : Run = record r { journal = j; spare = spare; minds = xs; noted = r.noted + 1 } in LinedTo r new line)
-asked_line r spare line ts j xs f may is same minds =
-    let N : List Entry → List Mind → Run = λ es ys. record r { journal = es; spare = spare; minds = ys; noted = r.noted + 1 } in
-    let first = lined_to r line (interrupts ts) r.machine.text spare f may is f.planted f.texts in
-    subst (λ (es : List Entry). LinedTo r (N es xs) line) (sym same) (subst (λ (ys : List Mind). LinedTo r (N (r.journal ++ Did line ∷ []) ys) line) (sym minds) first)
-
--- a line that sets displaced stepping
-pub displaced_line : (r : Run) (spare : ℕ) (line : List ℕ) (value : Displaced) (j : List Entry) → Facts r → may_do r.opening (seen r) line ≡ true → Makes r line (displaces value) → j ≡ r.journal ++ Did line ∷ []
-    → (let new : Run = record r { journal = j; spare = spare; displaced = value; noted = r.noted + 1 } in LinedTo r new line)
-displaced_line r spare line value j f may is same =
-    let N : List Entry → Run = λ es. record r { journal = es; spare = spare; displaced = value; noted = r.noted + 1 } in
-    subst (λ (es : List Entry). LinedTo r (N es) line) (sym same) (lined_to r line (displaces value) r.machine.text spare f may is f.planted f.texts)
-
--- ---- a line that changes breakpoints
-
-none_go : (b : BreakChange) → going_on (break_change b) ≡ []
-none_go (change.Insert spec) = refl
-none_go (change.Delete ns) = refl
-none_go (change.Enable ns e) = refl
-none_go (change.Condition n c) = refl
-none_go (change.After n k) = refl
-
-none_selects : (t : ℕ) (b : BreakChange) → selected_after t (break_change b) ≡ t
-none_selects t (change.Insert spec) = refl
-none_selects t (change.Delete ns) = refl
-none_selects t (change.Enable ns e) = refl
-none_selects t (change.Condition n c) = refl
-none_selects t (change.After n k) = refl
-
-none_asks : (b : BreakChange) → asking (break_change b) ≡ []
-none_asks (change.Insert spec) = refl
-none_asks (change.Delete ns) = refl
-none_asks (change.Enable ns e) = refl
-none_asks (change.Condition n c) = refl
-none_asks (change.After n k) = refl
-
-none_displaces : (d : Displaced) (b : BreakChange) → displaced_after d (break_change b) ≡ d
-none_displaces d (change.Insert spec) = refl
-none_displaces d (change.Delete ns) = refl
-none_displaces d (change.Enable ns e) = refl
-none_displaces d (change.Condition n c) = refl
-none_displaces d (change.After n k) = refl
-
-none_exits : (x : Bool) (b : BreakChange) → exited_after x (break_change b) ≡ x
-none_exits x (change.Insert spec) = refl
-none_exits x (change.Delete ns) = refl
-none_exits x (change.Enable ns e) = refl
-none_exits x (change.Condition n c) = refl
-none_exits x (change.After n k) = refl
-
-pub changed : (r : Run) (spare : ℕ) (line : List ℕ) (b : BreakChange) (j : List Entry) (m : Patched) (old new : Table) → Facts r → may_do r.opening (seen r) line ≡ true → Makes r line (break_change b)
+-- A line that makes a change was done: the journal, what is kept of the harts, the settings and the table are those after it.
+pub done_line : (r : Run) (spare : ℕ) (line : List ℕ) (c : Change) (j : List Entry) (m : Patched) (xs : List Mind) (selected : ℕ) (d : Displaced) (exited : Bool) (old new : Table) → Facts r → may_do r.opening (seen r) line ≡ true → Makes r line c
     → r.breaks ≡ old.entries → r.given ≡ old.given → r.bounds ≡ old.text → r.waits ≡ old.waits
-    → j ≡ r.journal ++ Did line ∷ [] → new ≡ changed_table old (break_change b) → Retabled r.machine m new.entries r.hold
-    → (let n : Run = record r { journal = j; spare = spare; machine = m; breaks = new.entries; given = new.given; bounds = new.text; waits = new.waits; noted = r.noted + 1 } in LinedTo r n line)
-changed r spare line b j m old new f may is breaks given bounds waits same table w =
-    let d = break_change b in
-    let bs : new.entries ≡ breaks_after r.breaks r.given d = ap (λ (t : Table). t.entries) table ∙ (ap (λ es. breaks_after es old.given d) (sym breaks) ∙ ap (λ g. breaks_after r.breaks g d) (sym given)) in
-    let gs : new.given ≡ given_after r.given d = ap (λ (t : Table). t.given) table ∙ ap (λ g. given_after g d) (sym given) in
+    → j ≡ r.journal ++ Did line ∷ [] → xs ≡ minds_after r.minds c → selected ≡ selected_after r.selected c → d ≡ displaced_after r.displaced c → exited ≡ exited_after r.exited c
+    → new ≡ changed_table old c → Retabled r.machine m new.entries r.hold
+    → LinedTo r (record r { journal = j; spare = spare; machine = m; minds = xs; breaks = new.entries; given = new.given; bounds = new.text; waits = new.waits; selected = selected; displaced = d; noted = r.noted + 1; exited = exited }) line
+done_line r spare line c j m xs selected d exited old new f may is breaks given bounds waits same minds chosen set ended table w =
+    let N : List Entry → Patched → List Mind → ℕ → Displaced → Bool → List BreakEntry → ℕ → List TextBounds → List (Option ℕ) → Type 0 =
+    λ es n ys t v x cs g us vs. LinedTo r (record r { journal = es; spare = spare; machine = n; minds = ys; selected = t; displaced = v; breaks = cs; given = g; bounds = us; waits = vs; noted = r.noted + 1; exited = x }) line in
+    let es = r.journal ++ Did line ∷ [] in
+    let m' : Patched = record r.machine { text = m.text } in
+    let ys = minds_after r.minds c in
+    let t = selected_after r.selected c in
+    let v = displaced_after r.displaced c in
+    let x = exited_after r.exited c in
+    let cs = breaks_after r.breaks r.given c in
+    let g = given_after r.given c in
+    let bs : new.entries ≡ cs = ap (λ (t : Table). t.entries) table ∙ (ap (λ es. breaks_after es old.given c) (sym breaks) ∙ ap (λ g. breaks_after r.breaks g c) (sym given)) in
+    let gs : new.given ≡ g = ap (λ (t : Table). t.given) table ∙ ap (λ g. given_after g c) (sym given) in
     let ts : new.text ≡ r.bounds = ap (λ (t : Table). t.text) table ∙ sym bounds in
     let ws : new.waits ≡ r.waits = ap (λ (t : Table). t.waits) table ∙ sym waits in
-    let again = planted_again r m.text (breaks_after r.breaks r.given d) f w.words (subst (λ (es : List BreakEntry). ArePlanted m.text es r.hold) bs w.planted) in
-    let ended : Bool → Type 0 = λ x. LinedTo r (lined r (Did line) (minds_after r.minds d) (selected_after r.selected d) (displaced_after r.displaced d) m.text (breaks_after r.breaks r.given d) (given_after r.given d) x spare) line in
-    let first = subst ended (none_exits r.exited b) (lined_to r line d m.text spare f may is again.0 again.1) in
-    let N : List Entry → Patched → List Mind → ℕ → Displaced → List BreakEntry → ℕ → List TextBounds → List (Option ℕ) → Run =
-    λ es n ys t v cs g us vs. record r { journal = es; spare = spare; machine = n; minds = ys; selected = t; displaced = v; breaks = cs; given = g; bounds = us; waits = vs; noted = r.noted + 1 } in
-    let D : Displaced → Type 0 = λ v. LinedTo r (N (r.journal ++ Did line ∷ []) (record r.machine { text = m.text }) (minds_after r.minds d) (selected_after r.selected d) v (breaks_after r.breaks r.given d) (given_after r.given d) r.bounds r.waits) line in
-    let P : List Entry → Patched → List Mind → ℕ → List BreakEntry → ℕ → List TextBounds → List (Option ℕ) → Type 0 = λ es n ys t cs g us vs. LinedTo r (N es n ys t r.displaced cs g us vs) line in
-    let m' : Patched = record r.machine { text = m.text } in
-    let es = r.journal ++ Did line ∷ [] in
-    let cs = breaks_after r.breaks r.given d in
-    let g = given_after r.given d in
-    let still : P es m' r.minds r.selected cs g r.bounds r.waits =
-    subst (λ (t : ℕ). P es m' r.minds t cs g r.bounds r.waits) (none_selects r.selected b)
-    (subst (λ (l : List ℕ). P es m' (ask_threads r.minds l) (selected_after r.selected d) cs g r.bounds r.waits) (none_asks b)
-    (subst (λ (l : List ℕ). P es m' (ask_threads (resume_threads r.minds l) (asking d)) (selected_after r.selected d) cs g r.bounds r.waits) (none_go b)
-    (subst D (none_displaces r.displaced b) first))) in
-    subst (λ (ls : List Entry). P ls m r.minds r.selected new.entries new.given new.text new.waits) (sym same)
-    (subst (λ (n : Patched). P es n r.minds r.selected new.entries new.given new.text new.waits) (sym w.rest)
-    (subst (λ (ds : List BreakEntry). P es m' r.minds r.selected ds new.given new.text new.waits) (sym bs)
-    (subst (λ (k : ℕ). P es m' r.minds r.selected cs k new.text new.waits) (sym gs)
-    (subst (λ (us : List TextBounds). P es m' r.minds r.selected cs g us new.waits) (sym ts)
-    (subst (λ (vs : List (Option ℕ)). P es m' r.minds r.selected cs g r.bounds vs) (sym ws) still)))))
+    let again = planted_again r m.text cs f w.words (subst (λ (es : List BreakEntry). ArePlanted m.text es r.hold) bs w.planted) in
+    let first : N es m' ys t v x cs g r.bounds r.waits = lined_to r line c m.text spare f may is again.0 again.1 in
+    subst (λ (ls : List Entry). N ls m xs selected d exited new.entries new.given new.text new.waits) (sym same)
+    (subst (λ (n : Patched). N es n xs selected d exited new.entries new.given new.text new.waits) (sym w.rest)
+    (subst (λ (zs : List Mind). N es m' zs selected d exited new.entries new.given new.text new.waits) (sym minds)
+    (subst (λ (u : ℕ). N es m' ys u d exited new.entries new.given new.text new.waits) (sym chosen)
+    (subst (λ (u : Displaced). N es m' ys t u exited new.entries new.given new.text new.waits) (sym set)
+    (subst (λ (u : Bool). N es m' ys t v u new.entries new.given new.text new.waits) (sym ended)
+    (subst (λ (ds : List BreakEntry). N es m' ys t v x ds new.given new.text new.waits) (sym bs)
+    (subst (λ (k : ℕ). N es m' ys t v x cs k new.text new.waits) (sym gs)
+    (subst (λ (us : List TextBounds). N es m' ys t v x cs g us new.waits) (sym ts)
+    (subst (λ (vs : List (Option ℕ)). N es m' ys t v x cs g r.bounds vs) (sym ws) first)))))))))
 
 -- ---- what a new breakpoint rests on
 
@@ -332,9 +224,9 @@ not_full n low = grind (arith, nat_tests)
 text_in : (p : Program) (a : ℕ) → a < 2 ^ 32 → is_some (text_word p a) ≡ true → InText p a
 text_in p a low is = ap is_some (word_below (text_word p) (2 ^ 32) a low) ∙ is
 
--- a change of breakpoints that a line makes can be made
-pub applies : (r : Run) (line : List ℕ) (b : BreakChange) (t : Table) → Facts r → r.breaks ≡ t.entries → r.bounds ≡ t.text → r.waits ≡ t.waits → Makes r line (break_change b) → Applies r.machine.text t b
-applies r line (change.Insert s) t f breaks bounds waits is =
+-- a change that a line makes can be made
+pub applies : (r : Run) (line : List ℕ) (e : Effect) (t : Table) → Facts r → r.breaks ≡ t.entries → r.bounds ≡ t.text → r.waits ≡ t.waits → Makes r line (change_of e) → Applies r.machine.text t e
+applies r line (effect.Insert s) t f breaks bounds waits is =
     let k = subst (IsFounded r.opening.image (seen r).harts r.breaks) is (change_founded r.opening (seen r) line) in
     let place : is_place t.text s.address ≡ true = ap (λ us. is_place us s.address) (sym bounds) ∙ (f.places s.address ∙ word_place r.opening.image s.address k.0) in
     let len : length (seen r).harts ≡ r.opening.settings.harts = harts_length r.opening.image r.machine.cores r.minds f.harts.len ∙ f.count in
@@ -342,10 +234,16 @@ applies r line (change.Insert s) t f breaks bounds waits is =
     let known : is_thread (length t.waits) s.thread ≡ true = ap (λ vs. is_thread (length vs) s.thread) (sym waits) ∙ thread_known r.opening (seen r).harts (length r.waits) s.thread len (ap length f.waits ∙ length-replicate {A = Option ℕ} r.opening.settings.harts None) k.2 in
     let free : insert_fault t (asked_of s) ≡ None = rw (place, full, known) refl in
     (free, λ low. text_shown r.opening.image r.machine.text r.breaks r.hold s.address f.planted (text_in r.opening.image s.address low k.0))
-applies r line (change.Delete ns) t f breaks bounds waits is = tt
-applies r line (change.Enable ns e) t f breaks bounds waits is = tt
-applies r line (change.Condition n c) t f breaks bounds waits is = tt
-applies r line (change.After n k) t f breaks bounds waits is = tt
+applies r line (effect.Delete ns) t f breaks bounds waits is = tt
+applies r line (effect.Enable ns e) t f breaks bounds waits is = tt
+applies r line (effect.Condition n c) t f breaks bounds waits is = tt
+applies r line (effect.After n k) t f breaks bounds waits is = tt
+applies r line effect.Nothing t f breaks bounds waits is = tt
+applies r line (effect.Resume ts) t f breaks bounds waits is = tt
+applies r line (effect.Interrupt ts) t f breaks bounds waits is = tt
+applies r line (effect.Select n) t f breaks bounds waits is = tt
+applies r line (effect.Displace v) t f breaks bounds waits is = tt
+applies r line effect.Exit t f breaks bounds waits is = tt
 
 -- the numbers have room
 pub numbers_room : (r : Run) → Facts r → r.noted < history → r.given < 2 ^ 32 - 1

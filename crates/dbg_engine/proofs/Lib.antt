@@ -6,11 +6,10 @@ pub mod Commanding
 pub mod Marking
 pub mod Words
 pub mod Tabling
-pub mod Reading
 pub mod Lengths
 pub mod Rows
 pub mod Aheads
 pub mod Marks
 pub mod GoingOn
-pub mod Alike
-pub mod Replies
+pub mod Viewing
+pub mod Reading

@@ -1,35 +1,40 @@
--- What a line changes of the breakpoints, as the code has it.
-use Rattle.std.specs.Prelude.{◌≡◌, ◌<◌, ◌^◌, List, Option, None, IsSome}
-use Rattle.std.specs.Option.{option_map}
+-- What a line is read as, and what it changes.
+use Rattle.std.specs.Prelude.{◌≡◌, ◌<◌, ◌^◌, Bool, true, false, ℕ, List, Option, IsSome, Result, Err}
 use Rattle.text_words.specs.Words.{Words, shown}
 use Rattle.hart_machine.specs.Patched.{Patched}
-use Rattle.break_table.specs.Entry.{Entry as BreakEntry, asked_of, condition_of}
-use Rattle.break_table.specs.Table.{Table, insert_fault}
-use Rattle.dbg_model.specs.Reply.{Change, inserts, deletes, enables, conditions, ignores, breaks_after, given_after}
+use Rattle.break_table.specs.Entry.{Entry as BreakEntry}
+use Rattle.break_table.specs.Table.{Table}
+use Rattle.mi_commands.specs.Gives.{Commands}
+use Rattle.mi_commands.specs.declared.command.CommandLine.{CommandLine}
+use Rattle.mi_commands.specs.declared.refusal.Refusal.{Refusal}
+use Rattle.mi_commands.specs.declared.refusal.Refusal.TheVariants as refusal
+use Rattle.dbg_model.specs.Outcome.{Change}
+use Rattle.dbg_model.specs.Reply.{answer_of}
+use Rattle.dbg_answers.specs.Reading.{IsRead}
+use Rattle.dbg_answers.specs.Table.{CanBeMade}
+use Rattle.dbg_answers.specs.declared.answer.Effect.{Effect}
+use Rattle.dbg_answers.specs.declared.answer.Effect.TheVariants as effect
 use Rattle.engine_facts.specs.declared.mind.Hold.{Hold}
+use Rattle.engine_facts.specs.Seen.{Run, seen}
 use Rattle.engine_facts.specs.Tables.{ArePlanted}
-use Rattle.dbg_engine.specs.declared.breaking.BreakChange.{BreakChange}
-use Rattle.dbg_engine.specs.declared.breaking.BreakChange.TheVariants as change
 
--- as the model has it
-abbrev pub break_change : BreakChange → Change
-break_change (change.Insert spec) = inserts (asked_of spec)
-break_change (change.Delete numbers) = deletes numbers
-break_change (change.Enable numbers enabled) = enables enabled numbers
-break_change (change.Condition number condition) = conditions number (option_map condition_of condition)
-break_change (change.After number count) = ignores number count
+-- memory was wanting when a line was read
+abbrev pub lacks_memory : Result CommandLine Refusal → Bool
+lacks_memory (Err refusal.NoMemory) = true
+lacks_memory _ = false
 
--- the table after a change
-abbrev pub changed_table : Table → Change → Table
-changed_table t c = record t { entries = breaks_after t.entries t.given c; given = given_after t.given c }
+-- what a line reads as, where memory was there to read it
+abbrev pub HasRead : List ℕ → Result CommandLine Refusal → Type 0
+HasRead line read = Commands line read × IsRead read
 
--- a new breakpoint has its word, room and thread
-abbrev pub Applies : Words → Table → BreakChange → Type 0
-Applies w t (change.Insert spec) = (insert_fault t (asked_of spec) ≡ None) × (spec.address < 2 ^ 32 → IsSome (shown w spec.address))
-Applies w t (change.Delete numbers) = Unit {0}
-Applies w t (change.Enable numbers enabled) = Unit {0}
-Applies w t (change.Condition number condition) = Unit {0}
-Applies w t (change.After number count) = Unit {0}
+-- the line makes this change
+abbrev pub Makes : Run → List ℕ → Change → Type 0
+Makes r line c = (answer_of r.opening (seen r) line).outcome.change ≡ c
+
+-- a change can be made: a new breakpoint has its word, room and thread
+abbrev pub Applies : Words → Table → Effect → Type 0
+Applies w t (effect.Insert spec) = CanBeMade t (effect.Insert spec) × (spec.address < 2 ^ 32 → IsSome (shown w spec.address))
+Applies w t _ = Unit {0}
 
 -- the machine's patches are those of these breakpoints now, and nothing else changed
 pub record Retabled (old new : Patched) (bs : List BreakEntry) (hold : Option Hold) : Type 0 where

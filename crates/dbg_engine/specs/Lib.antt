@@ -5,6 +5,6 @@ pub mod Calls
 pub mod Several
 pub mod Marks
 pub mod EngineInside
-pub mod Answering
+pub mod Viewing
 pub mod Resuming
 pub mod Homing

@@ -7,40 +7,22 @@ ghost use Rattle.hart_machine.specs.declared.hart.Core.{Core};
 ghost use Rattle.break_table.specs.Entry.{asked_of, condition_of, entry_of};
 ghost use Rattle.break_table.specs.Arrival.{due_of, settled};
 ghost use Rattle.break_table.specs.Table.{changed, deleted, insert_fault, inserted, with_condition, with_enabled, with_ignore};
+ghost use Rattle.dbg_answers.specs.Answer.{change_of};
 ghost use Rattle.dbg_model.specs.Breaks.{is_temporary, enabling, without};
 ghost use Rattle.dbg_model.specs.Views.{register, shown_byte};
 ghost use Rattle.engine_facts.specs.Facts.{wanted};
 ghost use Rattle.engine_facts.specs.Moves.{Repatched};
 ghost use Rattle.engine_facts.specs.Tables.{number_place, ArePlanted};
-ghost use Rattle.dbg_engine.specs.Changing.{break_change, changed_table, Applies, Retabled};
+ghost use Rattle.dbg_engine.specs.Changing.{Applies, Retabled};
+ghost use Rattle.dbg_answers.specs.Table.{changed_table};
 
 use crate::patching::{repatch, wants};
 use crate::view::ShownHart;
 use break_table::{BreakEntry, BreakTable, Due, Spec};
-use cond_expr::Expr;
+use dbg_answers::{Effect, delete_entry, enable_entry, insert_entry, set_condition, set_ignore};
 use elf32_read::Image;
 use engine_facts::Hold;
 use hart_machine::Machine;
-use mi_commands::NumberList;
-
-/// What a line changes of the breakpoints.
-#[derive(Drop)]
-pub enum BreakChange {
-    Insert(Spec),
-    Delete(NumberList),
-    Enable {
-        numbers: NumberList,
-        enabled: bool,
-    },
-    Condition {
-        number: u32,
-        condition: Option<Expr>,
-    },
-    After {
-        number: u32,
-        count: u32,
-    },
-}
 
 /// What the breakpoints do with a hart that has just arrived, and shows its pc there.
 pub fn due_at(table: &BreakTable, image: &Image, machine: &Machine, h: u32, pc: u32) -> Due
@@ -130,7 +112,7 @@ fn insert(machine: &mut Machine, table: &mut BreakTable, hold: Option<Hold>, spe
     ensures machine { Retabled machine.old machine.new table.new.entries hold }
 {
     let place = spec.address;
-    let _ = table.insert(spec);
+    insert_entry(table, spec);
     plant_as_wanted(machine, table, hold, place);
 }
 
@@ -143,19 +125,8 @@ fn delete(machine: &mut Machine, table: &mut BreakTable, hold: Option<Hold>, num
     let Some(place) = place_of(table.entries(), number) else {
         return;
     };
-    let _ = table.delete(number);
+    delete_entry(table, number);
     plant_as_wanted(machine, table, hold, place);
-}
-
-// The breakpoint of a number is enabled or disabled in the table, if there is one.
-fn set_enabled(table: &mut BreakTable, number: u32, enabled: bool)
-    ensures { table.new ≡ changed (with_enabled enabled) number table.old }
-{
-    let _ = if enabled {
-        table.enable(number)
-    } else {
-        table.disable(number)
-    };
 }
 
 // The breakpoint of a number is enabled, or disabled, if there is one.
@@ -173,7 +144,7 @@ fn enable(
     let Some(place) = place_of(table.entries(), number) else {
         return;
     };
-    set_enabled(table, number, enabled);
+    enable_entry(table, number, enabled);
     plant_as_wanted(machine, table, hold, place);
 }
 
@@ -207,44 +178,36 @@ fn enable_each(
     enable_each(machine, table, hold, rest, enabled);
 }
 
-// The breakpoint of a number gets another condition, if there is one.
-fn set_condition(table: &mut BreakTable, number: u32, condition: Option<Expr>)
-    ensures { table.new ≡ changed (with_condition (option_map condition_of condition)) number table.old }
-{
-    let _ = table.condition(number, condition);
-}
-
-// So many arrivals at the breakpoint of a number are only counted, if there is one.
-fn set_ignore(table: &mut BreakTable, number: u32, count: u32)
-    ensures { table.new ≡ changed (with_ignore count) number table.old }
-{
-    let _ = table.after(number, count);
-}
-
 /// Makes a change of breakpoints, with the words that are planted for them.
 pub fn change_table(
     machine: &mut Machine,
     table: &mut BreakTable,
     hold: Option<Hold>,
-    change: BreakChange,
+    effect: Effect,
 )
     requires planted { ArePlanted machine.old.text table.old.entries hold }
     requires given { table.old.given < 2 ^ 32 - 1 }
-    requires may { Applies machine.old.text table.old change }
-    ensures table { table.new ≡ changed_table table.old (break_change change) }
+    requires may { Applies machine.old.text table.old effect }
+    ensures table { table.new ≡ changed_table table.old (change_of effect) }
     ensures machine { Retabled machine.old machine.new table.new.entries hold }
 {
-    match change {
-        BreakChange::Insert(spec) => insert(machine, table, hold, spec),
-        BreakChange::Delete(numbers) => delete_each(machine, table, hold, numbers.as_slice()),
-        BreakChange::Enable { numbers, enabled } => enable_each(
+    match effect {
+        Effect::Insert(spec) => insert(machine, table, hold, spec),
+        Effect::Delete(numbers) => delete_each(machine, table, hold, numbers.as_slice()),
+        Effect::Enable { numbers, enabled } => enable_each(
             machine,
             table,
             hold,
             numbers.as_slice(),
             enabled,
         ),
-        BreakChange::Condition { number, condition } => set_condition(table, number, condition),
-        BreakChange::After { number, count } => set_ignore(table, number, count),
+        Effect::Condition { number, condition } => set_condition(table, number, condition),
+        Effect::After { number, count } => set_ignore(table, number, count),
+        Effect::Nothing
+        | Effect::Resume(_)
+        | Effect::Interrupt(_)
+        | Effect::Select(_)
+        | Effect::Displace(_)
+        | Effect::Exit => {}
     }
 }

@@ -21,6 +21,7 @@ use crate::homing::go_home_each;
 use crate::minds::{all_gone, any_running, find_running, first_minds, is_running};
 use crate::patching::release;
 use break_table::{BreakEntry, BreakTable};
+pub use command::read_line;
 use dbg_model::{Entry, HISTORY, Journal, Opening};
 use dbg_traits::NoMemory;
 use elf_symbols::{Symbols, symbols};

@@ -1,11 +1,14 @@
 // The journal's last place.
-ghost use Rattle.std.specs.Prelude.{◌≡◌, ◌≤◌, ◌<◌, ◌+◌, ◌-◌, ◌^◌, ◌++◌, [], ◌∷◌, vec_len, vec_capacity, length};
+ghost use Rattle.std.specs.Prelude.{◌≡◌, ◌≤◌, ◌<◌, ◌+◌, ◌-◌, ◌^◌, ◌++◌, [], ◌∷◌, vec_len, vec_capacity, length, OnErr, OnOk};
 ghost use Rattle.dbg_model.specs.Journals.{last_count, ran_count};
+ghost use Rattle.dbg_model.specs.declared.entry.Entry.TheVariants.{Did};
 ghost use Rattle.dbg_engine.specs.Several.{lengthened_by};
 ghost use Rattle.engine_facts.specs.Minds.{lefts_live};
 
 use dbg_model::Entry;
 use engine_facts::{Activity, Mind};
+use mi_commands::ByteList;
+use std::alloc::{AllocError, Global};
 
 /// Adds an entry, for which there is room.
 pub fn note(entries: &mut Vec<Entry>, entry: Entry)
@@ -15,6 +18,18 @@ pub fn note(entries: &mut Vec<Entry>, entry: Entry)
     ensures capacity { vec_capacity entries.old ≤ vec_capacity entries.new }
 {
     let _ = entries.push(entry);
+}
+
+/// Notes that a line was done.
+pub fn did(alloc: Global, entries: &mut Vec<Entry>, line: &[u8]) -> Result<(), AllocError>
+    ensures done { OnOk result (entries.new.items ≡ entries.old.items ++ Did line.now ∷ []) }
+    ensures items { OnErr result (entries.new.items ≡ entries.old.items) }
+    ensures capacity { OnErr result (vec_capacity entries.new ≡ vec_capacity entries.old) }
+{
+    let line = ByteList::of(line.to_vec(alloc)?);
+    entries.reserve(1)?;
+    note(entries, Entry::Did { line });
+    Ok(())
 }
 
 // How many instructions of the hart an entry has.

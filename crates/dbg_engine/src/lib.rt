@@ -1,7 +1,6 @@
 //! The engine: several harts of a machine, and the journal of what was done with them.
 #![tactic(auto)]
 
-mod answering;
 mod breaking;
 mod engine;
 mod homing;
@@ -12,8 +11,9 @@ mod moving;
 mod patching;
 mod resuming;
 mod view;
+mod views;
 
-pub use engine::{Closed, End, Engine, SPARE};
+pub use engine::{Closed, End, Engine, SPARE, read_line};
 pub use engine_facts::{Activity, Hold, Mind, Phase};
 pub use laws::{moves_mark, one_instruction_or_none};
 pub use moving::Turned;

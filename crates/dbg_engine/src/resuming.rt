@@ -1,8 +1,19 @@
 // Threads that go on, and threads that are interrupted.
 ghost use Rattle.std.specs.Prelude.{◌≡◌, slice_get};
-ghost use Rattle.dbg_engine.specs.Resuming.{asked, ask_at, ask_thread, ask_threads, gone_on, resume_at, resume_thread, resume_threads};
+ghost use Rattle.dbg_answers.specs.Answer.{change_of};
+ghost use Rattle.dbg_engine.specs.Resuming.{asked, at_place, gone_on, minds_after, on_thread, on_threads, ordered};
 
+use dbg_answers::Effect;
 use engine_facts::{Activity, Mind, Phase};
+
+/// What is to become of a thread.
+#[derive(Clone, Copy, Debug, PartialEq, Eq)]
+pub enum Order {
+    /// It goes on where it is stopped.
+    GoOn,
+    /// An interrupt is asked of it where it runs.
+    Interrupt,
+}
 
 // A stopped hart goes on.
 fn gone_on(mind: Mind) -> Mind
@@ -17,35 +28,6 @@ fn gone_on(mind: Mind) -> Mind
         },
         Activity::Running | Activity::Exited => mind,
     }
-}
-
-// The hart of a thread goes on where it is stopped.
-fn resume_at(minds: &mut [Mind], h: usize)
-    ensures { minds.new ≡ resume_at minds.old h (slice_get minds.old h) }
-{
-    if h < minds.len() {
-        minds[h] = gone_on(minds[h]);
-    }
-}
-
-// A thread goes on where it is stopped. Threads are counted from 1.
-fn resume_thread(minds: &mut [Mind], thread: u32)
-    ensures { minds.new ≡ resume_thread minds.old thread }
-{
-    if thread > 0 {
-        resume_at(minds, thread as usize - 1);
-    }
-}
-
-/// These threads go on where they are stopped.
-pub fn resume_threads(minds: &mut [Mind], threads: &[u32])
-    ensures { minds.new ≡ resume_threads minds.old threads.now }
-{
-    let [thread, rest @ ..] = threads else {
-        return;
-    };
-    resume_thread(minds, *thread);
-    resume_threads(minds, rest);
 }
 
 // An interrupt is asked of a hart that runs.
@@ -63,31 +45,51 @@ fn asked(mind: Mind) -> Mind
     }
 }
 
-// An interrupt is asked of the hart of a thread where it runs.
-fn ask_at(minds: &mut [Mind], h: usize)
-    ensures { minds.new ≡ ask_at minds.old h (slice_get minds.old h) }
+fn ordered(order: Order, mind: Mind) -> Mind
+    ensures { result ≡ ordered order mind }
+{
+    match order {
+        Order::GoOn => gone_on(mind),
+        Order::Interrupt => asked(mind),
+    }
+}
+
+// What becomes of the hart at a place, if there is one.
+fn at_place(minds: &mut [Mind], h: usize, order: Order)
+    ensures { minds.new ≡ at_place (ordered order) minds.old h (slice_get minds.old h) }
 {
     if h < minds.len() {
-        minds[h] = asked(minds[h]);
+        minds[h] = ordered(order, minds[h]);
     }
 }
 
-// An interrupt is asked of a thread where it runs. Threads are counted from 1.
-fn ask_thread(minds: &mut [Mind], thread: u32)
-    ensures { minds.new ≡ ask_thread minds.old thread }
+// What becomes of the hart of a thread, if there is one. Threads are counted from 1.
+fn on_thread(minds: &mut [Mind], thread: u32, order: Order)
+    ensures { minds.new ≡ on_thread (ordered order) minds.old thread }
 {
     if thread > 0 {
-        ask_at(minds, thread as usize - 1);
+        at_place(minds, thread as usize - 1, order);
     }
 }
 
-/// An interrupt is asked of these threads where they run.
-pub fn ask_threads(minds: &mut [Mind], threads: &[u32])
-    ensures { minds.new ≡ ask_threads minds.old threads.now }
+// What becomes of the harts of these threads.
+fn on_threads(minds: &mut [Mind], threads: &[u32], order: Order)
+    ensures { minds.new ≡ on_threads (ordered order) minds.old threads.now }
 {
     let [thread, rest @ ..] = threads else {
         return;
     };
-    ask_thread(minds, *thread);
-    ask_threads(minds, rest);
+    on_thread(minds, *thread, order);
+    on_threads(minds, rest, order);
+}
+
+/// The threads of a change go on where they are stopped, or an interrupt is asked of them where they run.
+pub fn change_threads(minds: &mut [Mind], effect: &Effect)
+    ensures { minds.new ≡ minds_after minds.old (change_of effect.now) }
+{
+    match effect {
+        Effect::Resume(threads) => on_threads(minds, threads.as_slice(), Order::GoOn),
+        Effect::Interrupt(threads) => on_threads(minds, threads.as_slice(), Order::Interrupt),
+        _ => {}
+    }
 }

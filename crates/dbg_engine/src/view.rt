@@ -18,15 +18,8 @@ pub struct ShownHart<'a> {
     pub machine: &'a Machine,
 }
 
-/// A register by its number; 32 is pc.
-pub fn register(regs: &Regs, n: u32) -> u32
-    ensures { result ≡ register regs.now n }
-{
-    if n < 32 { regs.get(n) } else { regs.pc() }
-}
-
-/// A byte as it is shown: text as the file has it, and data as it is now.
-pub fn shown_byte(image: &Image, machine: &Machine, addr: u32) -> Option<u8>
+// A byte as it is shown: text as the file has it, and data as it is now.
+fn shown_byte(image: &Image, machine: &Machine, addr: u32) -> Option<u8>
     ensures { result ≡ shown_byte image.now machine.now.memory addr }
 {
     if image.in_text(addr) {

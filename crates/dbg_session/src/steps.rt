@@ -11,7 +11,7 @@ ghost use Rattle.engine_facts.specs.Seen.{seen};
 ghost use Rattle.engine_facts.specs.Facts.{Facts};
 
 use crate::puts::put_all;
-use dbg_engine::{Engine, SPARE, Turned};
+use dbg_engine::{Engine, SPARE, Turned, read_line};
 use dbg_traits::{NoMemory, Polled, World};
 use mi_input::next_line;
 use mi_reports::{break_text, interrupt_text, lefts_text, reply_text, stop_text, stream_text};
@@ -173,12 +173,13 @@ pub fn line_once<W: World>(
         return Done::Nothing;
     };
     let line = &rest[..text];
-    match engine.must_wait(line) {
-        Ok(false) => {}
-        Ok(true) => return Done::Waits,
-        Err(_) => return Done::NoMemory,
+    let Ok(read) = read_line(alloc, line) else {
+        return Done::NoMemory;
+    };
+    if engine.must_wait(line, &read) {
+        return Done::Waits;
     }
-    let Ok(reply) = engine.command(line) else {
+    let Ok(reply) = engine.command(line, read) else {
         return Done::NoMemory;
     };
     let Ok(lines) = reply_text(alloc, &reply) else {

@@ -1,4 +1,4 @@
-use dbg_engine::{End, Engine, Phase, Turned};
+use dbg_engine::{End, Engine, Phase, Turned, read_line};
 use dbg_model::{Content, Opening};
 use dbg_traits::Settings;
 use elf_gen::plain;
@@ -91,24 +91,27 @@ fn engine_of(
 }
 
 // Whether a line is answered, and whether it is refused; none where it can't be done.
-fn refuses(engine: &mut Engine, line: &str) -> Option<bool> {
+fn refuses(alloc: Global, engine: &mut Engine, line: &str) -> Option<bool> {
     if !engine.may_go() {
         return None;
     }
-    let Ok(false) = engine.must_wait(line.as_bytes()) else {
+    let Ok(read) = read_line(alloc, line.as_bytes()) else {
         return None;
     };
-    match engine.command(line.as_bytes()) {
+    if engine.must_wait(line.as_bytes(), &read) {
+        return None;
+    }
+    match engine.command(line.as_bytes(), read) {
         Ok(reply) => Some(matches!(&reply.content, Content::Refused(_))),
         Err(_) => None,
     }
 }
 
 // Whether a step is as it says.
-fn is_as_said(engine: &mut Engine, step: Step) -> bool {
+fn is_as_said(alloc: Global, engine: &mut Engine, step: Step) -> bool {
     match step {
-        Line(line) => refuses(engine, line) == Some(false),
-        Refused(line) => refuses(engine, line) == Some(true),
+        Line(line) => refuses(alloc, engine, line) == Some(false),
+        Refused(line) => refuses(alloc, engine, line) == Some(true),
         Over(end) => engine.over() == end,
         Next(from, hart) => engine.next_running(from) == hart,
         Turn(hart, turned) => {
@@ -360,7 +363,10 @@ fn harts_move_as_they_must(rt: HostRuntime) -> Result<(), Fail> {
     for (case, (words, harts, slots, budget, steps)) in cases.into_iter().enumerate() {
         let mut engine = engine_of(alloc, words, harts, slots, budget)?;
         for (place, step) in steps.iter().enumerate() {
-            assert!(rt; is_as_said(&mut engine, *step), "case {case}, step {place}");
+            assert!(rt;
+                is_as_said(alloc, &mut engine, *step),
+                "case {case}, step {place}"
+            );
         }
     }
     Ok(())
@@ -368,9 +374,10 @@ fn harts_move_as_they_must(rt: HostRuntime) -> Result<(), Fail> {
 
 #[test]
 fn the_journal_grows_by_what_is_new(rt: HostRuntime) -> Result<(), Fail> {
-    let mut engine = engine_of(rt.alloc(), &EXITS, 2, 0, 3)?;
+    let alloc = rt.alloc();
+    let mut engine = engine_of(alloc, &EXITS, 2, 0, 3)?;
     for step in EXITS_BY_ITS_BUDGET {
-        assert!(rt; is_as_said(&mut engine, step));
+        assert!(rt; is_as_said(alloc, &mut engine, step));
     }
     assert_eq!(rt; engine.over(), Some(End::Budget));
     assert_eq!(rt; engine.entries().len(), 3);

@@ -127,6 +127,13 @@ impl Machine {
         self.cores[h as usize].copied
     }
 
+    /// The data that harts share.
+    pub fn data(&self) -> &DataMemory
+        ensures { result.now ≡ self.now.memory }
+    {
+        &self.memory
+    }
+
     /// What a reader sees of a hart: its registers, and the bytes of data and of the program's text.
     pub fn view(&self, h: u32) -> HartView<'_>
         requires { h < length self.now.cores }

@@ -1,166 +1,150 @@
 // A line of the user, done and answered.
 ghost use Rattle.std.specs.Prelude.{◌≡◌, ◌&&◌, ◌<◌, true, IfOk, OnOk, MatchResult};
+ghost use Rattle.mi_commands.specs.Gives.{Commands};
 ghost use Rattle.dbg_model.specs.Limits.{history};
 ghost use Rattle.dbg_model.specs.Lawful.{may_do};
 ghost use Rattle.dbg_model.specs.State.{any_runs};
-ghost use Rattle.dbg_model.specs.Reply.{answer_of, implied, interrupts, displaces, is_wait};
+ghost use Rattle.dbg_model.specs.Reply.{answer_of, displaced_after, exited_after, is_wait, selected_after};
+ghost use Rattle.dbg_answers.specs.Answer.{change_of, line_answer_of};
+ghost use Rattle.dbg_answers.specs.Reading.{IsRead};
 ghost use Rattle.engine_facts.specs.Seen.{seen};
-ghost use Rattle.dbg_engine.specs.Answering.{seen_response, Makes};
-ghost use Rattle.dbg_engine.specs.Changing.{break_change};
+ghost use Rattle.dbg_engine.specs.Changing.{lacks_memory, HasRead, Makes};
 
 use super::Engine;
-use crate::answering::{
-    LineChange, Response, answer, exited_after, going_on, is_wait, refusal, refuse, selected_after,
-};
-use crate::breaking::{BreakChange, change_table};
-use crate::journal::note;
-use crate::resuming::{ask_threads, resume_threads};
-use dbg_model::{Content, Entry, Refused, Reply};
+use crate::breaking::change_table;
+use crate::journal::did;
+use crate::resuming::change_threads;
+use crate::views::views;
+use dbg_answers::{Debuggee, Effect, LineAnswer, answer_line, waits};
+use dbg_model::Reply;
 use dbg_traits::NoMemory;
-use mi_commands::{ByteList, Displaced, Refusal, command_of};
-use mi_values::Token;
+use mi_commands::{CommandLine, Displaced, Refusal, command_of};
+use std::alloc::Global;
+
+// Whether memory was wanting when a line was read.
+fn lacks_memory(read: &Result<CommandLine, Refusal>) -> bool
+    ensures { result ≡ lacks_memory read.now }
+{
+    matches!(read, Err(Refusal::NoMemory))
+}
+
+/// Reads a line, once, for `Engine::must_wait` and `Engine::command`: the command that it asks for, or why it is refused.
+pub fn read_line(alloc: Global, line: &[u8]) -> Result<Result<CommandLine, Refusal>, NoMemory>
+    ensures { IfOk result (λ read. HasRead line.now read) }
+{
+    let read = command_of(alloc, line);
+    if lacks_memory(&read) {
+        return Err(NoMemory);
+    }
+    Ok(read)
+}
+
+// The selected thread after a change.
+fn selected_after(selected: u32, effect: &Effect) -> u32
+    ensures { result ≡ selected_after selected (change_of effect.now) }
+{
+    match effect {
+        Effect::Select(thread) => *thread,
+        _ => selected,
+    }
+}
+
+// The setting of displaced stepping after a change.
+fn displaced_after(displaced: Displaced, effect: &Effect) -> Displaced
+    ensures { result ≡ displaced_after displaced (change_of effect.now) }
+{
+    match effect {
+        Effect::Displace(value) => *value,
+        _ => displaced,
+    }
+}
+
+// Whether the session is ended after a change.
+fn exited_after(exited: bool, effect: &Effect) -> bool
+    ensures { result ≡ exited_after exited (change_of effect.now) }
+{
+    match effect {
+        Effect::Exit => true,
+        _ => exited,
+    }
+}
 
 impl Engine {
     ghost use Rattle.engine_facts.specs.Facts.{Facts};
     ghost use Rattle.dbg_engine.specs.Calls.{Does, Lines};
 
     // What is answered to a line, with its token, and what it changes.
-    fn respond(&self, line: &[u8]) -> Result<(Token, Response), NoMemory>
-        requires { self.now.noted < history }
-        ensures { IfOk result (λ r. record { token = r.0; outcome = seen_response r.1 } ≡ answer_of self.now.opening (seen self.now) line.now) }
+    fn answer_to(
+        &self,
+        line: &[u8],
+        read: Result<CommandLine, Refusal>,
+    ) -> Result<LineAnswer, NoMemory>
+        requires room { self.now.noted < history }
+        requires read { Commands line.now read }
+        ensures { IfOk result (λ a. line_answer_of a ≡ answer_of self.now.opening (seen self.now) line.now) }
     {
-        match command_of(self.alloc, line) {
-            Ok(read) => {
-                let response = answer(
-                    self.alloc,
-                    &self.opening.image,
-                    &self.symbols,
-                    &self.machine,
-                    self.minds.as_slice(),
-                    &self.table,
-                    self.selected,
-                    self.displaced,
-                    read.command,
-                )?;
-                Ok((read.token, response))
-            }
-            Err(Refusal::NoMemory) => Err(NoMemory),
-            Err(Refusal::Long) => Ok((Token::none(self.alloc), refusal(Refused::Long))),
-            Err(Refusal::Syntax) => Ok((Token::none(self.alloc), refusal(Refused::Syntax))),
-            Err(Refusal::Cli(token)) => Ok((token, refusal(Refused::Cli))),
-            Err(Refusal::Faulty { token, fault }) => Ok((
-                token,
-                refuse(self.machine.cores(), self.minds.as_slice(), fault),
-            )),
-        }
+        let threads = views(self.alloc, self.machine.cores(), self.minds.as_slice())?;
+        let debuggee = Debuggee {
+            image: &self.opening.image,
+            symbols: &self.symbols,
+            memory: self.machine.data(),
+            threads: threads.as_slice(),
+            table: &self.table,
+            selected: self.selected,
+            displaced: self.displaced,
+        };
+        answer_line(self.alloc, &debuggee, read)
     }
 
-    // Does a line that changes breakpoints.
-    fn change_breaks(&mut self, line: &[u8], change: BreakChange) -> Result<(), NoMemory>
+    // Does a line that makes this change.
+    fn do_line(&mut self, line: &[u8], effect: Effect) -> Result<(), NoMemory>
         requires may { may_do self.old.opening (seen self.old) line.now ≡ true }
-        requires makes { Makes self.old line.now (break_change change) }
+        requires makes { Makes self.old line.now (change_of effect) }
         ensures lines { MatchResult result (λ _. Lines self.old self.new line.now) (λ _. self.new ≡ self.old) }
         ensures facts { OnOk result (Facts self.new) }
     {
-        let copy = line.to_vec(self.alloc)?;
-        self.entries.reserve(1)?;
-        note(
-            &mut self.entries,
-            Entry::Did {
-                line: ByteList::of(copy),
-            },
-        );
-        change_table(&mut self.machine, &mut self.table, self.hold, change);
+        did(self.alloc, &mut self.entries, line)?;
+        change_threads(&mut self.minds, &effect);
+        self.selected = selected_after(self.selected, &effect);
+        self.displaced = displaced_after(self.displaced, &effect);
+        self.exited = exited_after(self.exited, &effect);
+        change_table(&mut self.machine, &mut self.table, self.hold, effect);
         self.noted += 1;
         Ok(())
     }
 
-    // Does a line that changes no breakpoint.
-    fn note_line(&mut self, line: &[u8], content: &Content) -> Result<(), NoMemory>
-        requires may { may_do self.old.opening (seen self.old) line.now ≡ true }
-        requires makes { Makes self.old line.now (implied content.now) }
-        ensures lines { MatchResult result (λ _. Lines self.old self.new line.now) (λ _. self.new ≡ self.old) }
-        ensures facts { OnOk result (Facts self.new) }
-    {
-        let copy = line.to_vec(self.alloc)?;
-        self.entries.reserve(1)?;
-        note(
-            &mut self.entries,
-            Entry::Did {
-                line: ByteList::of(copy),
-            },
-        );
-        resume_threads(&mut self.minds, going_on(content));
-        self.selected = selected_after(self.selected, content);
-        self.exited = exited_after(self.exited, content);
-        self.noted += 1;
-        Ok(())
-    }
-
-    // Does a line that asks an interrupt of these threads.
-    fn ask(&mut self, line: &[u8], threads: &[u32]) -> Result<(), NoMemory>
-        requires may { may_do self.old.opening (seen self.old) line.now ≡ true }
-        requires makes { Makes self.old line.now (interrupts threads.now) }
-        ensures lines { MatchResult result (λ _. Lines self.old self.new line.now) (λ _. self.new ≡ self.old) }
-        ensures facts { OnOk result (Facts self.new) }
-    {
-        let copy = line.to_vec(self.alloc)?;
-        self.entries.reserve(1)?;
-        note(
-            &mut self.entries,
-            Entry::Did {
-                line: ByteList::of(copy),
-            },
-        );
-        ask_threads(&mut self.minds, threads);
-        self.noted += 1;
-        Ok(())
-    }
-
-    // Does a line that sets displaced stepping.
-    fn displace(&mut self, line: &[u8], value: Displaced) -> Result<(), NoMemory>
-        requires may { may_do self.old.opening (seen self.old) line.now ≡ true }
-        requires makes { Makes self.old line.now (displaces value) }
-        ensures lines { MatchResult result (λ _. Lines self.old self.new line.now) (λ _. self.new ≡ self.old) }
-        ensures facts { OnOk result (Facts self.new) }
-    {
-        let copy = line.to_vec(self.alloc)?;
-        self.entries.reserve(1)?;
-        note(
-            &mut self.entries,
-            Entry::Did {
-                line: ByteList::of(copy),
-            },
-        );
-        self.displaced = value;
-        self.noted += 1;
-        Ok(())
-    }
-
-    /// Whether a line can't be done yet: it waits until no hart runs, and one does.
-    pub fn must_wait(&self, line: &[u8]) -> Result<bool, NoMemory>
-        ensures { IfOk result (λ b. b ≡ (any_runs (seen self.now).harts && is_wait line.now)) }
+    /// Whether a line can't be done yet: it waits until no hart runs, and one does. `read` is what `read_line` gives.
+    pub fn must_wait(&self, line: &[u8], read: &Result<CommandLine, Refusal>) -> bool
+        requires { HasRead line.now read.now }
+        ensures { result ≡ (any_runs (seen self.now).harts && is_wait line.now) }
     {
         if !self.any_running() {
-            return Ok(false);
+            return false;
         }
-        is_wait(self.alloc, line)
+        waits(read)
     }
 
-    /// Does one line, and answers it. A line that waits is done only where no hart runs.
-    pub fn command(&mut self, line: &[u8]) -> Result<Reply, NoMemory>
-        requires { may_do self.old.opening (seen self.old) line.now ≡ true }
+    /// Does one line, and answers it. A line that waits is done only where no hart runs. `read` is what `read_line`
+    /// gives.
+    ///
+    /// # Errors
+    ///
+    /// `NoMemory` where memory is wanting for the answer or for the journal; then nothing changed.
+    pub fn command(
+        &mut self,
+        line: &[u8],
+        read: Result<CommandLine, Refusal>,
+    ) -> Result<Reply, NoMemory>
+        requires may { may_do self.old.opening (seen self.old) line.now ≡ true }
+        requires read { HasRead line.now read }
         ensures does { MatchResult result (Does self.old self.new line.now) (λ _. self.new ≡ self.old) }
         ensures facts { OnOk result (Facts self.new) }
     {
-        let (token, response) = self.respond(line)?;
-        let Response { content, change } = response;
-        match change {
-            LineChange::Breaks(change) => self.change_breaks(line, change)?,
-            LineChange::Interrupts(threads) => self.ask(line, threads.as_slice())?,
-            LineChange::Displaces(value) => self.displace(line, value)?,
-            LineChange::Implied => self.note_line(line, &content)?,
-        }
-        Ok(Reply { token, content })
+        let LineAnswer { token, answer } = self.answer_to(line, read)?;
+        self.do_line(line, answer.effect)?;
+        Ok(Reply {
+            token,
+            content: answer.content,
+        })
     }
 }

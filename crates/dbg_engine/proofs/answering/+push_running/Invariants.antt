@@ -1,5 +1,0 @@
-use Rattle.std.proofs.Common.{length}
-use Rattle.dbg_engine.proofs.answering.+push_running.Given as goal
-
-abbrev pub decreases-push_running : goal.decreases-push_running
-decreases-push_running l = length l.minds.now

@@ -1,5 +1,0 @@
-use Rattle.std.proofs.Common.{length}
-use Rattle.dbg_engine.proofs.answering.+push_stopped.Given as goal
-
-abbrev pub decreases-push_stopped : goal.decreases-push_stopped
-decreases-push_stopped l = length l.minds.now

@@ -1,5 +1,0 @@
-use Rattle.dbg_engine.proofs.Reading.{reads_as}
-use Rattle.dbg_engine.proofs.answering.read_condition.Goals as goal
-
-pub returns : goal.returns
-returns c = reads_as c.args.symbols.now c.args.text.now c.parse.result c.parse.ensures.long c.parse.ensures.found c.parse.ensures.text c.parse.ensures.fault
