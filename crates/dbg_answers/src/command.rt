@@ -12,7 +12,7 @@ use crate::expressions::evaluate;
 use crate::memory::read_memory;
 use crate::registers::register_values;
 use crate::resuming::{go_on, interrupt};
-use crate::settings::setting_value;
+use crate::settings::{exit, show_setting};
 use crate::threads::{thread_info, thread_list, thread_select};
 use dbg_model::{Content, Refused};
 use dbg_traits::NoMemory;
@@ -51,14 +51,8 @@ fn reply(alloc: Global, debuggee: &Debuggee<'_>, command: Command) -> Result<Ans
         Command::Evaluate { thread, expression } => evaluate(alloc, debuggee, thread, &expression),
         Command::Wait | Command::SetNonStop | Command::SetMiAsync => Ok(doing(Effect::Nothing)),
         Command::SetDisplaced(value) => Ok(doing(Effect::Displace(value))),
-        Command::Show(setting) => Ok(showing(Content::Setting(setting_value(
-            debuggee.displaced,
-            setting,
-        )))),
-        Command::Exit => Ok(Answer {
-            content: Content::Exit,
-            effect: Effect::Exit,
-        }),
+        Command::Show(setting) => Ok(show_setting(debuggee, setting)),
+        Command::Exit => Ok(exit()),
         _ => Err(Failure::Refused(Refused::NotBuilt)),
     }
 }
