@@ -1,3 +1,6 @@
+ghost use Rattle.std.specs.Prelude.{IfOk};
+ghost use Rattle.dbg_traits.specs.Settings.{AreSettings};
+
 use dbg_engine::{End, Engine, Phase, Turned, read_line};
 use dbg_model::{Content, Opening};
 use dbg_traits::Settings;
@@ -7,24 +10,24 @@ use rv_exec::Cause;
 use std::alloc::Global;
 use std::test::Fail;
 
-// One thing that is done with an engine, or asked of it.
+/// One thing that is done with an engine, or asked of it.
 #[derive(Clone, Copy)]
-enum Step {
-    // A line, which is answered without an error.
+pub enum Step {
+    /// A line, which is answered without an error.
     Line(&'static str),
-    // A line, which is refused.
+    /// A line, which is refused.
     Refused(&'static str),
-    // Why the session is over.
+    /// Why the session is over.
     Over(Option<End>),
-    // The next hart that runs, from a number on.
+    /// The next hart that runs, from a number on.
     Next(usize, Option<u32>),
-    // A turn of a hart, and what it did.
+    /// A turn of a hart, and what it did.
     Turn(u32, Turned),
-    // Instructions of a hart in one call: at most so many, and how many there were.
+    /// Instructions of a hart in one call: at most so many, and how many there were.
     Run(u32, u32, u32),
-    // Where a hart shows its pc, and in which step over a breakpoint it is.
+    /// Where a hart shows its pc, and in which step over a breakpoint it is.
     At(u32, u32, Phase),
-    // Whether the word at an address is planted.
+    /// Whether the word at an address is planted.
     Planted(u32, bool),
 }
 
@@ -33,17 +36,17 @@ use Turned::{
     AllLeft, Arrived, Copied, Fixed, Held, Interrupted, Left, Lifted, NoSlot, NotRunning, Ran,
 };
 
-// addi a7,zero,93; addi a0,zero,322; ecall. 322 modulo 256 is 66.
-const EXITS: [u32; 3] = [0x05D0_0893, 0x1420_0513, 0x0000_0073];
+/// addi a7,zero,93; addi a0,zero,322; ecall. 322 modulo 256 is 66.
+pub const EXITS: [u32; 3] = [0x05D0_0893, 0x1420_0513, 0x0000_0073];
 
-// addi a0,a0,1, and a branch back to it.
-const LOOPS: [u32; 2] = [0x0015_0513, 0xFE00_0EE3];
+/// addi a0,a0,1, and a branch back to it.
+pub const LOOPS: [u32; 2] = [0x0015_0513, 0xFE00_0EE3];
 
 // lui a5,0xfffff; jalr zero,0(a5)
 const JUMPS_AWAY: [u32; 2] = [0xFFFF_F7B7, 0x0007_8067];
 
-// addi a7,zero,94; addi a0,zero,7; ecall
-const EXITS_ALL: [u32; 3] = [0x05E0_0893, 0x0070_0513, 0x0000_0073];
+/// addi a7,zero,94; addi a0,zero,7; ecall
+pub const EXITS_ALL: [u32; 3] = [0x05E0_0893, 0x0070_0513, 0x0000_0073];
 
 // In the first slot.
 const COPIED: Phase = Phase::Copied {
@@ -68,13 +71,16 @@ const STOPPED_BY_THE_SECOND: Turned = Arrived {
     error: None,
 };
 
-fn engine_of(
+/// An opening over a program of these words.
+pub fn opening_of(
     alloc: Global,
     words: &[u32],
     harts: u32,
     slots: u32,
     budget: u64,
-) -> Result<Engine, Fail> {
+) -> Result<Opening, Fail>
+    ensures { IfOk result (λ o. AreSettings o.settings) }
+{
     if words.is_empty() || words.len() > 16 {
         return Err(Fail::new("1 to 16 words"));
     }
@@ -89,10 +95,20 @@ fn engine_of(
         budget,
         slice: 0,
     };
-    let opening = Opening {
+    Ok(Opening {
         image: read_image(alloc, file)?,
         settings,
-    };
+    })
+}
+
+fn engine_of(
+    alloc: Global,
+    words: &[u32],
+    harts: u32,
+    slots: u32,
+    budget: u64,
+) -> Result<Engine, Fail> {
+    let opening = opening_of(alloc, words, harts, slots, budget)?;
     Engine::load(alloc, opening).map_err(|_| Fail::new("out of memory"))
 }
 
@@ -113,8 +129,8 @@ fn refuses(alloc: Global, engine: &mut Engine, line: &str) -> Option<bool> {
     }
 }
 
-// Whether a step is as it says.
-fn is_as_said(alloc: Global, engine: &mut Engine, step: Step) -> bool {
+/// Whether a step is as it says.
+pub fn is_as_said(alloc: Global, engine: &mut Engine, step: Step) -> bool {
     match step {
         Line(line) => refuses(alloc, engine, line) == Some(false),
         Refused(line) => refuses(alloc, engine, line) == Some(true),
@@ -137,15 +153,15 @@ fn is_as_said(alloc: Global, engine: &mut Engine, step: Step) -> bool {
     }
 }
 
-const CONTINUE: Step = Line("-exec-continue --all");
+pub const CONTINUE: Step = Line("-exec-continue --all");
 
 const BREAK: Step = Line("-break-insert *0x10078");
 
 // It never stops, and so each hart steps over it.
 const PASSED: Step = Line("-break-insert -c \"0 == 1\" *0x10078");
 
-// A hart stops at a branch, and steps over it by a copy.
-const ONE_COPIES: [Step; 16] = [
+/// A hart stops at a branch, and steps over it by a copy.
+pub const ONE_COPIES: [Step; 16] = [
     BREAK,
     CONTINUE,
     Turn(0, Ran),
@@ -182,8 +198,8 @@ const DELETES: [Step; 14] = [
     At(0, 0x1_0074, Phase::Idle),
 ];
 
-// An interrupt waits until the hart is home.
-const INTERRUPTS: [Step; 10] = [
+/// An interrupt waits until the hart is home.
+pub const INTERRUPTS: [Step; 10] = [
     PASSED,
     CONTINUE,
     Turn(0, Ran),
@@ -209,8 +225,8 @@ const WAITS_FOR_A_SLOT: [Step; 9] = [
     Turn(1, Copied),
 ];
 
-// Displaced stepping is switched off, and on again while a hart is lifted.
-const SWITCHES: [Step; 13] = [
+/// Displaced stepping is switched off, and on again while a hart is lifted.
+pub const SWITCHES: [Step; 13] = [
     PASSED,
     Line("-gdb-set displaced-stepping off"),
     CONTINUE,
@@ -226,8 +242,8 @@ const SWITCHES: [Step; 13] = [
     Turn(1, Copied),
 ];
 
-// The others are at their copies while one ends them all.
-const ALL_LEAVE: [Step; 16] = [
+/// The others are at their copies while one ends them all.
+pub const ALL_LEAVE: [Step; 16] = [
     PASSED,
     CONTINUE,
     Turn(0, Ran),
@@ -266,8 +282,8 @@ const JUMPS_INTO_A_SLOT: [Step; 12] = [
     Turn(0, Ran),
 ];
 
-// The budget is 3.
-const EXITS_BY_ITS_BUDGET: [Step; 6] = [
+/// The budget is 3.
+pub const EXITS_BY_ITS_BUDGET: [Step; 6] = [
     Line("-exec-continue"),
     Turn(1, NotRunning),
     Turn(0, Ran),
@@ -276,8 +292,8 @@ const EXITS_BY_ITS_BUDGET: [Step; 6] = [
     Turn(0, Turned::Over),
 ];
 
-// A line ends the session while harts run; one with parameters doesn't.
-const ENDS: [Step; 11] = [
+/// A line ends the session while harts run; one with parameters doesn't.
+pub const ENDS: [Step; 11] = [
     CONTINUE,
     Turn(0, Ran),
     Refused("3-gdb-exit x"),
