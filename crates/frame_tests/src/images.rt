@@ -12,5 +12,5 @@ pub fn program_of(alloc: Global, count: usize) -> Result<Image, Fail>
     requires most { count ≤ 16 }
 {
     let words = [0x13; 16];
-    Ok(read_image(alloc, &plain(alloc, &words[..count], b"")?)?)
+    Ok(read_image(alloc, plain(alloc, &words[..count], b"")?)?)
 }

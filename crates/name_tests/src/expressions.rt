@@ -24,7 +24,7 @@ const FILLING: &str = "\
 
 /// The symbols of a generated file, `count` among them.
 fn generated_symbols(alloc: Global) -> Result<Symbols, Fail> {
-    Ok(symbols(alloc, &read_image(alloc, &generate(alloc, 3)?)?)?)
+    Ok(symbols(alloc, &read_image(alloc, generate(alloc, 3)?)?)?)
 }
 
 fn parsed(alloc: Global, symbols: &Symbols, text: &str) -> Result<Expr, ParseError> {
