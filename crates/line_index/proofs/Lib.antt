@@ -7,3 +7,5 @@ pub mod Ordered
 pub mod Bounds
 pub mod Least
 pub mod FunctionBody
+pub mod Firsts
+pub mod FirstOfFile

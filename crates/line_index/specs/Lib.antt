@@ -1,5 +1,6 @@
 pub mod Lines
 pub mod Text
 pub mod Order
+pub mod Statements
 pub mod RowTables
 pub mod Inside

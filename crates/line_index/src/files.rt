@@ -1,10 +1,12 @@
 //! The address of a line of a file.
 
-ghost use Rattle.std.specs.Prelude.{◌≡◌, filter};
+ghost use Rattle.std.specs.Prelude.{◌≡◌, ◌≤◌, All, length};
+ghost use Rattle.std.specs.List.Sorted.{IsNonDecreasingBy};
 ghost use Rattle.std.specs.Str.{bytes_eq};
-ghost use Rattle.elf_symbols.specs.Names.{best, better};
-ghost use Rattle.line_index.specs.Lines.{file_name, is_called, is_candidate, is_sooner, last_part};
+ghost use Rattle.line_index.specs.Lines.{file_name, is_called, is_sooner, last_part};
+ghost use Rattle.line_index.specs.Statements.{IsFirst, IsNarrow, is_wanted, is_wanted_at, rank, sooner_of};
 
+use crate::statements::first_from;
 use line_rows::{Row, Rows};
 
 /// The part of a name after its last `/`.
@@ -41,13 +43,12 @@ fn is_called(file: &[u8], name: &[u8]) -> bool
     name == file || last_part(end_for(file, name)) == file
 }
 
-/// The name of a file by its number.
-pub fn name_of(rows: &Rows, file: u32) -> &[u8]
+/// The name of a file by its number; empty for a number that no name has.
+pub fn name_of(rows: &Rows, file: usize) -> &[u8]
     ensures { result.now ≡ file_name rows.now.names file }
 {
-    let number = file as usize;
-    if number < rows.name_count() {
-        rows.name(number)
+    if file < rows.name_count() {
+        rows.name(file)
     } else {
         &[]
     }
@@ -59,30 +60,41 @@ fn is_sooner(row: &Row, other: &Row) -> bool
     row.line < other.line || (row.line == other.line && row.address < other.address)
 }
 
-fn is_candidate(rows: &Rows, file: &[u8], line: u32, row: &Row) -> bool
-    ensures { result ≡ is_candidate rows.now.names file.now line row.now }
+fn sooner_of(a: Option<Row>, b: Option<Row>) -> Option<Row>
+    ensures { result ≡ sooner_of a b }
 {
-    (row.is_stmt && line <= row.line) && is_called(file, name_of(rows, row.file))
+    match (a, b) {
+        (Some(row), Some(other)) if !is_sooner(&other, &row) => a,
+        (_, Some(_)) => b,
+        (_, None) => a,
+    }
 }
 
-/// The statement of a file's least line that isn't below another, at its least address.
-pub fn soonest(rows: &Rows, kept: &[Row], file: &[u8], line: u32) -> Option<Row>
-    ensures { result ≡ best is_sooner (filter (is_candidate rows.now.names file.now line) kept.now) }
+/// The first statement of the file of a number that isn't below a line, where the file is called by this name.
+fn first_in(rows: &Rows, statements: &[Row], file: &[u8], line: u32, number: usize) -> Option<Row>
+    requires number { number ≤ length rows.now.names }
+    requires rise { IsNonDecreasingBy (rank (length rows.now.names)) statements.now }
+    requires narrow { All IsNarrow statements.now }
+    ensures { IsFirst (is_wanted_at rows.now.names file.now line number) statements.now result }
 {
-    let mut found: Option<Row> = None;
-    for row in kept {
-        if is_candidate(rows, file, line, row) {
-            found = sooner(found, row);
-        }
+    if is_called(file, name_of(rows, number)) {
+        first_from(statements, rows.name_count(), number, line)
+    } else {
+        None
     }
-    found
 }
 
-fn sooner(found: Option<Row>, row: &Row) -> Option<Row>
-    ensures { result ≡ better is_sooner found row.now }
+/// The statement of a file's least line that isn't below another, at its least address: a binary search for each file
+/// that is called by the name, and a walk over the names.
+pub fn soonest(rows: &Rows, statements: &[Row], file: &[u8], line: u32) -> Option<Row>
+    requires rise { IsNonDecreasingBy (rank (length rows.now.names)) statements.now }
+    requires narrow { All IsNarrow statements.now }
+    ensures { IsFirst (is_wanted rows.now.names file.now line) statements.now result }
 {
-    match found {
-        Some(other) if !is_sooner(row, &other) => found,
-        _ => Some(*row),
+    let names = rows.name_count();
+    let mut found = None;
+    for number in 0..names {
+        found = sooner_of(found, first_in(rows, statements, file, line, number));
     }
+    sooner_of(found, first_in(rows, statements, file, line, names))
 }

@@ -5,6 +5,7 @@ ghost use Rattle.line_index.specs.Lines.{Lines, address_of, begins, body_of, fil
 use crate::addresses::{in_order, least_from, prologues, statements};
 use crate::body::{body_among, function_end};
 use crate::files::{name_of, soonest};
+use crate::statements::ordered_statements;
 use crate::table::{kept_rows, table_of};
 use crate::text::{TextBounds, section_end, text_bounds};
 use address_tables::{Entry, value_at};
@@ -24,8 +25,8 @@ pub struct LineIndex {
     /// The same in the order of the addresses.
     starts: Vec<u32>,
     text: Vec<TextBounds>,
-    /// The rows of the sequences whose first row is in text.
-    kept: Vec<Row>,
+    /// The statements of the sequences whose first row is in text, in the order of files, lines and addresses.
+    lines: Vec<Row>,
     /// Where prologues end, in order.
     prologues: Vec<u32>,
     /// Where statements begin, in order.
@@ -65,13 +66,14 @@ impl LineIndex {
         let kept = kept_rows(alloc, &rows, image)?;
         let prologues = prologues(alloc, &kept)?;
         let statements = statements(alloc, &kept)?;
+        let lines = ordered_statements(alloc, rows.name_count(), &kept)?;
         let entries = table_of(alloc, &rows, image, 0, rows.sequence_count())?;
         Ok(LineIndex {
             rows,
             functions,
             starts,
             text,
-            kept,
+            lines,
             prologues,
             statements,
             entries,
@@ -98,11 +100,12 @@ impl LineIndex {
     }
 
     /// Where the least line of a file that isn't below another has its least address. The file is told by its name or
-    /// by the part of its name after the last `/`. None where the file has no statement at the line or above it.
+    /// by the part of its name after the last `/`. None where the file has no statement at the line or above it. It goes
+    /// over the names, and takes a binary search for each that fits.
     pub fn address_of(&self, file: &[u8], line: u32) -> Option<u32>
         ensures { result ≡ address_of self.now file.now line }
     {
-        soonest(&self.rows, &self.kept, file, line).map(|row| row.address)
+        soonest(&self.rows, &self.lines, file, line).map(|row| row.address)
     }
 
     /// Where a breakpoint on a function stands: behind its prologue, or at its start where no row tells that. It takes
@@ -124,6 +127,6 @@ impl LineIndex {
     pub fn file_name(&self, file: u32) -> &[u8]
         ensures { result.now ≡ file_name self.now.rows.names file }
     {
-        name_of(&self.rows, file)
+        name_of(&self.rows, file as usize)
     }
 }

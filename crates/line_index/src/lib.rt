@@ -7,6 +7,7 @@ mod files;
 mod index;
 mod joins;
 mod sequence;
+mod statements;
 mod table;
 mod text;
 
