@@ -76,10 +76,10 @@ is_live t (Some v) x is = refl
 insert_sound : (s : Sight) (i : Insertion) → IsSound s (insert s i)
 insert_sound s i =
     behind s (known_thread s i.thread) _ (λ u there.
-    behind s (place s.names i.location) _ (λ addr at.
+    behind s (place s.sources i.location) _ (λ addr at.
     behind s (placed s addr) _ (λ v text.
     behind s (room s) _ (λ w low.
-    behind s (condition s.names i.condition) _ (λ c is.
+    behind s (condition s.sources.names i.condition) _ (λ c is.
     (holds _ _ v text, has_room (length s.breaks) (holds _ _ w low), is_there s i.thread u there))))))
 
 known_sound : (s : Sight) (ns : List ℕ) (next : Unit {0} → Result Outcome Refused) → ((u : Unit {0}) → IsSound s (next u)) → IsSound s (and_then (known s ns) next)
@@ -99,8 +99,8 @@ info_sound : (s : Sight) (t : Option ℕ) → IsSound s (thread_info s t)
 info_sound s None = tt
 info_sound s (Some t) = behind s (live s t) _ (λ x is. tt)
 
-evaluate_sound : (s : Sight) (t : ℕ) (text : List ℕ) → IsSound s (and_then (stopped s t) (λ r. and_then (expression s.names text) (λ c. and_then (worth_of s r c.tree) (λ v. Ok (showing v)))))
-evaluate_sound s t text = behind s (stopped s t) _ (λ r at. behind s (expression s.names text) _ (λ c is. behind s (worth_of s r c.tree) _ (λ v had. tt)))
+evaluate_sound : (s : Sight) (t : ℕ) (text : List ℕ) → IsSound s (and_then (stopped s t) (λ r. and_then (expression s.sources.names text) (λ c. and_then (worth_of s r c.tree) (λ v. Ok (showing v)))))
+evaluate_sound s t text = behind s (stopped s t) _ (λ r at. behind s (expression s.sources.names text) _ (λ c is. behind s (worth_of s r c.tree) _ (λ v had. tt)))
 
 reply_sound : (s : Sight) (c : Command) → IsSound s (reply s c)
 unfolding reply
@@ -108,7 +108,7 @@ reply_sound s (command.BreakInsert i) = insert_sound s i
 reply_sound s (command.BreakDelete ns) = known_sound s ns _ (λ u. tt)
 reply_sound s (command.BreakEnable ns) = known_sound s ns _ (λ u. tt)
 reply_sound s (command.BreakDisable ns) = known_sound s ns _ (λ u. tt)
-reply_sound s (command.BreakCondition n text) = known_sound s (n ∷ []) _ (λ u. behind s (condition s.names text) _ (λ c is. tt))
+reply_sound s (command.BreakCondition n text) = known_sound s (n ∷ []) _ (λ u. behind s (condition s.sources.names text) _ (λ c is. tt))
 reply_sound s (command.BreakAfter n k) = known_sound s (n ∷ []) _ (λ u. tt)
 reply_sound s (command.Continue t) = go_on_sound s t
 reply_sound s (command.Interrupt t) = interrupt_sound s t

@@ -2,7 +2,10 @@
 use Rattle.std.specs.Prelude.{ℕ, ◌+◌, Bool, not, List, [], ◌∷◌, length, map, Option, Some, None, Result, Ok, Err, is_some, if◌then◌else◌, nat_lt}
 use Rattle.std.specs.Option.{option_map}
 use Rattle.elf32_read.specs.Program.{text_word}
-use Rattle.elf_symbols.specs.Names.{Names, Symbol, address_of, function_at}
+use Rattle.elf_symbols.specs.Names.{Names, Symbol}
+use Rattle.elf_symbols.specs.Names as symbols
+use Rattle.line_index.specs.Lines as tables
+use Rattle.source_index.specs.Sources.{Sources}
 use Rattle.cond_expr.specs.declared.fault.ExprFault.{ExprFault}
 use Rattle.cond_expr.specs.Term.{Term}
 use Rattle.break_table.specs.Entry.{Asked, Condition, Entry, new_entry}
@@ -14,11 +17,12 @@ use Rattle.dbg_model.specs.declared.reply.Content.TheVariants as content
 use Rattle.dbg_model.specs.declared.reply.Obstacle.{Obstacle}
 use Rattle.dbg_model.specs.declared.reply.Obstacle.TheVariants.{UnknownThread, NoBreakpoint, NoInstruction, TooManyBreakpoints, Expression}
 use Rattle.dbg_model.specs.declared.reply.Refused.{Refused}
-use Rattle.dbg_model.specs.declared.reply.Refused.TheVariants.{Hindered, UnknownName, LineNotBuilt}
+use Rattle.dbg_model.specs.declared.reply.Refused.TheVariants.{Hindered, UnknownName, UnknownLine}
 use Rattle.dbg_model.specs.Breaks.{missing_number}
 use Rattle.dbg_model.specs.Conditions.{parsed}
 use Rattle.dbg_model.specs.Limits.{breakpoints}
 use Rattle.dbg_model.specs.Sight.{Sight, thread_at}
+use Rattle.dbg_model.specs.Places.{function_name, source_line}
 use Rattle.dbg_model.specs.Outcome.{Change, Outcome, and_then, conditions, deletes, doing, enables, ignores, inserts, showing}
 
 -- this has to hold, or else that stands against it
@@ -27,17 +31,15 @@ ensured b o = if b then Ok tt else Err (Hindered o)
 
 -- ---- breakpoints as they are listed
 
-abbrev pub name_of : Symbol → List ℕ
-name_of s = s.name
-
 abbrev pub condition_text : Condition → List ℕ
 condition_text c = c.text
 
-abbrev pub listed : Names → Entry → Breakpoint
-listed names e = record {
+abbrev pub listed : Sources → Entry → Breakpoint
+listed sources e = record {
   number = e.number;
   address = e.address;
-  function = option_map name_of (function_at names e.address);
+  function = function_name sources e.address;
+  source = source_line sources e.address;
   location = e.location;
   temporary = e.temporary;
   enabled = e.enabled;
@@ -48,7 +50,7 @@ listed names e = record {
 }
 
 abbrev pub list : Sight → Result Outcome Refused
-list s = Ok (showing (content.Breakpoints (map (listed s.names) s.breaks)))
+list s = Ok (showing (content.Breakpoints (map (listed s.sources) s.breaks)))
 
 -- ---- breakpoints that have to be there
 
@@ -90,7 +92,7 @@ condition names (Some text) = and_then (expression names text) (λ c. Ok (Some c
 abbrev pub change_condition : Sight → ℕ → Option (List ℕ) → Result Outcome Refused
 change_condition s number text =
     and_then (known s (number ∷ [])) (λ u.
-    and_then (condition s.names text) (λ c.
+    and_then (condition s.sources.names text) (λ c.
     Ok (doing (conditions number c))))
 
 -- ---- a new breakpoint
@@ -100,15 +102,20 @@ abbrev pub known_thread : Sight → Option ℕ → Result Unit Refused
 known_thread s None = Ok tt
 known_thread s (Some thread) = ensured (is_some (thread_at s.threads thread)) (UnknownThread thread)
 
-abbrev pub named : List ℕ → Option Symbol → Result ℕ Refused
-named name None = Err (UnknownName name)
-named name (Some s) = Ok s.address
+-- a function gives its body, another symbol its address
+abbrev pub named : Sources → List ℕ → Option Symbol → Result ℕ Refused
+named sources name None = Err (UnknownName name)
+named sources name (Some s) = Ok (if s.is_function then tables.body_of sources.lines s else s.address)
+
+abbrev pub on_line : List ℕ → ℕ → Option ℕ → Result ℕ Refused
+on_line file line None = Err (UnknownLine file line)
+on_line file line (Some addr) = Ok addr
 
 -- where a location leads
-abbrev pub place : Names → Location → Result ℕ Refused
-place names (location.Address addr) = Ok addr
-place names (location.Name name) = named name (address_of names name)
-place names (location.Line file line) = Err LineNotBuilt
+abbrev pub place : Sources → Location → Result ℕ Refused
+place sources (location.Address addr) = Ok addr
+place sources (location.Name name) = named sources name (symbols.address_of sources.names name)
+place sources (location.Line file line) = on_line file line (tables.address_of sources.lines file line)
 
 -- a word of text has to be there
 abbrev pub placed : Sight → ℕ → Result Unit Refused
@@ -123,13 +130,13 @@ abbrev pub asked_at : ℕ → Insertion → Option Condition → Asked
 asked_at addr i c = record { address = addr; location = i.text; temporary = i.temporary; enabled = not i.disabled; ignore = i.ignore; condition = c; thread = i.thread }
 
 abbrev pub inserting : Sight → Asked → Outcome
-inserting s a = record { content = content.Inserted (listed s.names (new_entry (s.given + 1) a)); change = inserts a }
+inserting s a = record { content = content.Inserted (listed s.sources (new_entry (s.given + 1) a)); change = inserts a }
 
 abbrev pub insert : Sight → Insertion → Result Outcome Refused
 insert s i =
     and_then (known_thread s i.thread) (λ u.
-    and_then (place s.names i.location) (λ addr.
+    and_then (place s.sources i.location) (λ addr.
     and_then (placed s addr) (λ u.
     and_then (room s) (λ u.
-    and_then (condition s.names i.condition) (λ c.
+    and_then (condition s.sources.names i.condition) (λ c.
     Ok (inserting s (asked_at addr i c)))))))

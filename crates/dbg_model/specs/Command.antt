@@ -16,6 +16,7 @@ use Rattle.dbg_model.specs.Outcome.{Outcome, and_then, displaces, doing, exits, 
 use Rattle.dbg_model.specs.Threads.{go_on, interrupt, thread_info, thread_list, thread_select}
 use Rattle.dbg_model.specs.Breakpoints.{after, change_condition, delete, enable, insert, known_thread, list}
 use Rattle.dbg_model.specs.Data.{evaluate, read_memory, register_values}
+use Rattle.dbg_model.specs.Frames.{frame_depth, frame_info, frame_list}
 
 -- the value of a setting; the mode is always non-stop, and commands are always done while harts run
 abbrev pub setting_value : Displaced → Setting → Displaced
@@ -37,6 +38,9 @@ reply s command.Wait = Ok (doing stays)
 reply s (command.ThreadInfo thread) = thread_info s thread
 reply s (command.ThreadSelect thread) = thread_select s thread
 reply s command.ThreadList = thread_list s
+reply s (command.FrameList thread) = frame_list s thread
+reply s (command.FrameDepth thread) = frame_depth s thread
+reply s (command.FrameInfo thread) = frame_info s thread
 reply s command.RegisterNames = Ok (showing content.RegisterNames)
 reply s (command.RegisterValues thread format numbers) = register_values s thread format numbers
 reply s (command.ReadMemory addr count) = read_memory s addr count

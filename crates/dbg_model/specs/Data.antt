@@ -76,6 +76,6 @@ worth_of s r tree = worth_as (value_of (register r) (shown_byte s.image s.memory
 abbrev pub evaluate : Sight → Option ℕ → List ℕ → Result Outcome Refused
 evaluate s thread text =
     and_then (stopped s (thread_or s.selected thread)) (λ r.
-    and_then (expression s.names text) (λ c.
+    and_then (expression s.sources.names text) (λ c.
     and_then (worth_of s r c.tree) (λ v.
     Ok (showing v))))

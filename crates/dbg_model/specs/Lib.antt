@@ -3,11 +3,13 @@ pub mod Breaks
 pub mod Conditions
 pub mod Views
 pub mod State
+pub mod Places
 pub mod Sight
 pub mod Outcome
 pub mod Threads
 pub mod Breakpoints
 pub mod Data
+pub mod Frames
 pub mod Command
 pub mod Refusals
 pub mod Reply

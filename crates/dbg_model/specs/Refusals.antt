@@ -58,7 +58,7 @@ number refused.Cli = 3
 number (refused.Faulty f) = fault_number f
 number (refused.Hindered o) = obstacle_number o
 number (refused.UnknownName name) = 14
-number refused.LineNotBuilt = 15
+number (refused.UnknownLine file line) = 15
 
 -- the number of the error that is answered, if one is
 abbrev pub refused_number : Content → Option ℕ
@@ -123,10 +123,10 @@ no_text s (Err r) = []
 abbrev pub against_insert : Sight → Insertion → List Refused
 against_insert s i =
     against_named (unknown s) i.thread
-    ++ (failed (place s.names i.location)
-    ++ (no_text s (place s.names i.location)
+    ++ (failed (place s.sources i.location)
+    ++ (no_text s (place s.sources i.location)
     ++ (when (not (nat_lt (length s.breaks) breakpoints)) TooManyBreakpoints
-    ++ failed (condition s.names i.condition))))
+    ++ failed (condition s.sources.names i.condition))))
 
 -- each address of a range that has no byte
 abbrev pub unreadable : Sight → ℕ → ℕ → List Refused
@@ -141,21 +141,24 @@ no_value s _ _ = []
 abbrev pub against_evaluate : Sight → ℕ → List ℕ → List Refused
 against_evaluate s thread text =
     against_stopped s thread
-    ++ (failed (expression s.names text)
-    ++ no_value s (stopped s thread) (expression s.names text))
+    ++ (failed (expression s.sources.names text)
+    ++ no_value s (stopped s thread) (expression s.sources.names text))
 
 unfoldable pub against : Sight → Command → List Refused
 against s (command.BreakInsert i) = against_insert s i
 against s (command.BreakDelete ns) = absent s ns
 against s (command.BreakEnable ns) = absent s ns
 against s (command.BreakDisable ns) = absent s ns
-against s (command.BreakCondition n text) = absent s (n ∷ []) ++ failed (condition s.names text)
+against s (command.BreakCondition n text) = absent s (n ∷ []) ++ failed (condition s.sources.names text)
 against s (command.BreakAfter n count) = absent s (n ∷ [])
 against s (command.Continue target) = against_target (against_stopped s) s target
 against s (command.Interrupt target) = against_target (against_running s) s target
 against s (command.ThreadInfo thread) = against_named (against_live s) thread
 against s (command.ThreadSelect thread) = against_live s thread
 against s (command.RegisterValues thread format numbers) = against_stopped s (thread_or s.selected thread)
+against s (command.FrameList thread) = against_stopped s (thread_or s.selected thread)
+against s (command.FrameDepth thread) = against_stopped s (thread_or s.selected thread)
+against s (command.FrameInfo thread) = against_stopped s (thread_or s.selected thread)
 against s (command.ReadMemory addr count) = unreadable s addr count
 against s (command.Evaluate thread text) = against_evaluate s (thread_or s.selected thread) text
 against s (command.Step thread) = refused.NotBuilt ∷ []
@@ -163,9 +166,6 @@ against s (command.Next thread) = refused.NotBuilt ∷ []
 against s (command.StepInstruction thread) = refused.NotBuilt ∷ []
 against s (command.NextInstruction thread) = refused.NotBuilt ∷ []
 against s (command.Finish thread) = refused.NotBuilt ∷ []
-against s (command.FrameList thread) = refused.NotBuilt ∷ []
-against s (command.FrameDepth thread) = refused.NotBuilt ∷ []
-against s (command.FrameInfo thread) = refused.NotBuilt ∷ []
 against s _ = []
 
 -- against a line that has parts; of a bad location only an unknown thread has a lesser number

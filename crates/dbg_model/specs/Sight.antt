@@ -3,8 +3,7 @@ use Rattle.std.specs.Prelude.{ℕ, zero, suc, ◌+◌, List, [], ◌∷◌, ◌+
 use Rattle.rv_exec.specs.Registers.{Registers}
 use Rattle.rv_exec.specs.Memory.{Memory}
 use Rattle.elf32_read.specs.Program.{Program}
-use Rattle.elf_symbols.specs.Names.{Names}
-use Rattle.elf_symbols.specs.Entries.{names_of}
+use Rattle.source_index.specs.Sources.{Sources, sources_of}
 use Rattle.break_table.specs.Entry.{Entry}
 use Rattle.mi_commands.specs.declared.command.Displaced.{Displaced}
 use Rattle.dbg_model.specs.declared.entry.Mode.{Mode}
@@ -16,12 +15,13 @@ use Rattle.dbg_model.specs.declared.reply.Obstacle.TheVariants.{UnknownThread, H
 use Rattle.dbg_model.specs.declared.reply.Refused.{Refused}
 use Rattle.dbg_model.specs.declared.reply.Refused.TheVariants.{Hindered}
 use Rattle.dbg_model.specs.declared.reply.Thread.{Thread}
+use Rattle.dbg_model.specs.Places.{own_frame}
 use Rattle.dbg_model.specs.State.{Hart, State}
 
 pub record Sight : Type 0 where
   pub image : Program
-  -- the symbols of the program
-  pub names : Names
+  -- what the program's file tells of its source
+  pub sources : Sources
   pub memory : Memory
   -- thread 1 is the first
   pub threads : List ThreadView
@@ -46,7 +46,7 @@ view_of x = view_by x.regs x.mode
 abbrev pub sight_of : Opening → State → Sight
 sight_of o s = record {
   image = o.image;
-  names = names_of o.image;
+  sources = sources_of o.image;
   memory = s.memory;
   threads = map view_of s.harts;
   breaks = s.breaks;
@@ -87,15 +87,15 @@ running_as thread (Some view.Exited) = Err (Hindered (HasExited thread))
 abbrev pub running : Sight → ℕ → Result Unit Refused
 running s thread = running_as thread (thread_at s.threads thread)
 
-abbrev pub live_as : ℕ → Option ThreadView → Result Thread Refused
-live_as thread None = Err (Hindered (UnknownThread thread))
-live_as thread (Some (view.Stopped r)) = Ok (record { number = thread; stopped_at = Some r.pc })
-live_as thread (Some view.Running) = Ok (record { number = thread; stopped_at = None })
-live_as thread (Some view.Exited) = Err (Hindered (HasExited thread))
+abbrev pub live_as : Sources → ℕ → Option ThreadView → Result Thread Refused
+live_as sources thread None = Err (Hindered (UnknownThread thread))
+live_as sources thread (Some (view.Stopped r)) = Ok (record { number = thread; stopped_at = Some (own_frame sources r.pc) })
+live_as sources thread (Some view.Running) = Ok (record { number = thread; stopped_at = None })
+live_as sources thread (Some view.Exited) = Err (Hindered (HasExited thread))
 
 -- a thread that has to be live, as it is shown
 abbrev pub live : Sight → ℕ → Result Thread Refused
-live s thread = live_as thread (thread_at s.threads thread)
+live s thread = live_as s.sources thread (thread_at s.threads thread)
 
 -- ---- several threads
 
@@ -109,10 +109,10 @@ each f n [] = []
 each f n (x ∷ xs) = option_list (f n x) ++ each f (n + 1) xs
 
 -- a live thread as it is shown
-abbrev pub shown : ℕ → ThreadView → Option Thread
-shown thread (view.Stopped r) = Some (record { number = thread; stopped_at = Some r.pc })
-shown thread view.Running = Some (record { number = thread; stopped_at = None })
-shown thread view.Exited = None
+abbrev pub shown : Sources → ℕ → ThreadView → Option Thread
+shown sources thread (view.Stopped r) = Some (record { number = thread; stopped_at = Some (own_frame sources r.pc) })
+shown sources thread view.Running = Some (record { number = thread; stopped_at = None })
+shown sources thread view.Exited = None
 
 abbrev pub stopped_thread : ℕ → ThreadView → Option ℕ
 stopped_thread thread (view.Stopped r) = Some thread

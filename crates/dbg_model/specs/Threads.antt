@@ -13,7 +13,7 @@ threads_shown s threads = Ok (showing (content.Threads threads s.selected))
 
 -- the one thread that is asked for, else each live one
 abbrev pub thread_info : Sight → Option ℕ → Result Outcome Refused
-thread_info s None = threads_shown s (each shown 1 s.threads)
+thread_info s None = threads_shown s (each (shown s.sources) 1 s.threads)
 thread_info s (Some thread) = and_then (live s thread) (λ x. threads_shown s (x ∷ []))
 
 abbrev pub thread_select : Sight → ℕ → Result Outcome Refused

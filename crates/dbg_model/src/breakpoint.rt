@@ -1,6 +1,7 @@
 // Breakpoints as they are listed.
 ghost use Rattle.std.specs.Prelude.{◌≡◌};
 
+use crate::SourceLine;
 use mi_commands::ByteList;
 use std::marker::Model;
 
@@ -13,6 +14,8 @@ pub struct Breakpoint {
     pub address: u32,
     /// The name of the function that the address lies in.
     pub function: Option<ByteList>,
+    /// The line of the source that the address belongs to.
+    pub source: Option<SourceLine>,
     /// The text by which the address was given.
     pub location: ByteList,
     /// Whether it is deleted where it stops a hart.

@@ -3,6 +3,7 @@
 
 mod breakpoint;
 mod entry;
+mod frame;
 mod limits;
 mod opening;
 mod reply;
@@ -10,6 +11,7 @@ mod thread_view;
 
 pub use breakpoint::{Breakpoint, BreakpointList};
 pub use entry::{Entry, Journal, Mode, Why};
+pub use frame::{FrameList, ShownFrame, SourceLine};
 pub use limits::{HISTORY, MOST_BREAKPOINTS, MOST_INPUT};
 pub use opening::Opening;
 pub use reply::{Content, Obstacle, Refused, Register, RegisterList, Reply, Thread, ThreadList};

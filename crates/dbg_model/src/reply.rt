@@ -2,7 +2,7 @@
 ghost use Rattle.std.specs.Prelude.{◌≡◌};
 ghost use Rattle.dbg_model.specs.Refusals.{kind_number, number, obstacle_number, refused_number};
 
-use crate::{Breakpoint, BreakpointList};
+use crate::{Breakpoint, BreakpointList, FrameList, ShownFrame};
 use cond_expr::{ExprFault, FaultKind};
 use mi_commands::{ByteList, Displaced, Fault, Format, NumberList};
 use mi_values::Token;
@@ -50,8 +50,8 @@ pub enum Refused {
     UnknownName(ByteList),
     /// The command isn't built yet.
     NotBuilt,
-    /// A location by a line of a source file, which isn't built yet.
-    LineNotBuilt,
+    /// No line of the file has a statement at this line or behind it.
+    UnknownLine { file: ByteList, line: u32 },
 }
 
 // The number of the message of an expression's fault.
@@ -100,7 +100,7 @@ impl Refused {
             Refused::Faulty(fault) => fault.number(),
             Refused::Hindered(obstacle) => obstacle.number(),
             Refused::UnknownName(_) => 14,
-            Refused::LineNotBuilt => 15,
+            Refused::UnknownLine { .. } => 15,
         }
     }
 }
@@ -143,11 +143,11 @@ impl RegisterList {
     }
 }
 
-/// A live thread, and where it is stopped; none where it runs.
-#[derive(Clone, Copy, Debug, PartialEq, Eq)]
+/// A live thread, and the frame that it is stopped in; none where it runs.
+#[derive(Drop)]
 pub struct Thread {
     pub number: u32,
-    pub stopped_at: Option<u32>,
+    pub stopped_at: Option<ShownFrame>,
 }
 
 /// Threads that contracts see as a list.
@@ -206,6 +206,12 @@ pub enum Content {
         numbers: NumberList,
         selected: u32,
     },
+    /// The frames of a thread, the innermost first.
+    Frames(FrameList),
+    /// How many frames a thread has: 1 to 64.
+    Depth(u32),
+    /// The innermost frame of a thread.
+    Frame(ShownFrame),
     /// The names of all registers.
     RegisterNames,
     /// The registers that were asked for.
