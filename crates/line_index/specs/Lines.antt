@@ -5,28 +5,34 @@ use Rattle.std.specs.List.{list_any}
 use Rattle.std.specs.Option.{option_map, option_map_or}
 use Rattle.std.specs.Str.{bytes_eq}
 use Rattle.elf32_read.specs.Program.{Program}
+use Rattle.elf32_read.specs.Spans as spans
+use Rattle.elf32_read.specs.TextSpans.{text_spans}
+use Rattle.elf32_read.specs.declared.spans.Span.{Span}
 use Rattle.elf_symbols.specs.Names.{Names, Symbol, best}
 use Rattle.line_rows.specs.RowList.{RowList, Sequence}
 use Rattle.line_rows.specs.declared.row.Row.{Row}
-use Rattle.line_index.specs.Text.{text_bounds, in_text, section_end}
-use Rattle.line_index.specs.declared.text.TextBounds.{TextBounds}
 
 -- line tables, and where the functions and the text of their program stand
 pub record Lines : Type 0 where
   pub rows : RowList
   -- the addresses of the functions in text
   pub functions : List ℕ
-  pub text : List TextBounds
+  -- the ranges of the text sections, in the order of their addresses
+  pub text : List Span
 
 abbrev pub lines_of : RowList → Names → Program → Lines
-lines_of rows names p = record { rows = rows; functions = map (λ s. s.address) names.functions; text = text_bounds p }
+lines_of rows names p = record { rows = rows; functions = map (λ s. s.address) names.functions; text = text_spans p }
+
+-- the end of the text section that an address is in
+abbrev pub section_end : List Span → ℕ → Option ℕ
+section_end text addr = option_map (λ s. s.start + s.size) (find (spans.covers addr) text)
 
 -- whether the first row of a sequence is in text
-abbrev pub begins_in : List TextBounds → Sequence → Bool
-begins_in text s = option_map_or (λ r. in_text text r.address) (slice_get s.rows 0) false
+abbrev pub begins_in : List Span → Sequence → Bool
+begins_in text s = option_map_or (λ r. list_any (spans.covers r.address) text) (slice_get s.rows 0) false
 
 -- the sequences that count
-abbrev pub kept : List TextBounds → List Sequence → List Sequence
+abbrev pub kept : List Span → List Sequence → List Sequence
 kept text sequences = filter (begins_in text) sequences
 
 -- the rows that count
