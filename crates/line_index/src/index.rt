@@ -60,7 +60,7 @@ impl LineIndex {
         ensures { IfOk result (λ index. index ≡ lines_of rows symbols.now image.now) }
     {
         let functions = symbols.function_addresses(alloc)?;
-        let starts = in_order(alloc, &functions)?;
+        let starts = in_order(Vec::from_slice(alloc, &functions)?);
         let text = image.text_spans(alloc)?;
         let kept = kept_rows(alloc, &rows, &text)?;
         let prologues = prologues(alloc, &kept)?;
