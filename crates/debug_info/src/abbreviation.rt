@@ -1,6 +1,7 @@
 //! Tables of abbreviations (DWARF 4, section 7.5.3).
 
 ghost use Rattle.std.specs.Prelude.{◌≡◌, ◌<◌, ◌≤◌, ◌+◌, IfOk, OnOk, length};
+ghost use Rattle.std.specs.BTreeMap.{btree_map_len};
 ghost use Rattle.debug_info.specs.Forms.{IsReadTo};
 ghost use Rattle.leb_read.specs.Leb.{IsBehind};
 ghost use Rattle.debug_info.specs.Abbreviations.{declaration_at, specification_at, specifications_end};
@@ -141,6 +142,13 @@ pub fn table_at(alloc: Global, abbrevs: &[u8], at: usize) -> Result<Table, NoMem
 }
 
 impl Table {
+    /// How many codes are declared.
+    pub fn len(&self) -> usize
+        ensures { result ≡ btree_map_len self.now.declarations }
+    {
+        self.declarations.len()
+    }
+
     /// The declaration of a code.
     pub fn find(&self, abbrevs: &[u8], code: u64) -> Result<Declaration, InfoFault>
         requires { IsTable abbrevs.now self.now }

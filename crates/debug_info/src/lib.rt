@@ -12,6 +12,7 @@ mod info;
 mod offset;
 mod scope;
 mod table;
+mod tables;
 mod unit;
 
 pub use entry::{Kind, Range};
