@@ -16,7 +16,7 @@ use Rattle.dbg_model.specs.declared.reply.Obstacle.TheVariants.{UnknownThread, N
 use Rattle.dbg_model.specs.declared.reply.Refused.{Refused}
 use Rattle.dbg_model.specs.declared.reply.Refused.TheVariants.{Hindered, UnknownName, LineNotBuilt}
 use Rattle.dbg_model.specs.Breaks.{missing_number}
-use Rattle.dbg_model.specs.Conditions.{parsed}
+use Rattle.cond_expr.specs.Reader.{parsed}
 use Rattle.dbg_model.specs.Limits.{breakpoints}
 use Rattle.dbg_model.specs.Sight.{Sight, thread_at}
 use Rattle.dbg_model.specs.Outcome.{Change, Outcome, and_then, conditions, deletes, doing, enables, ignores, inserts, showing}
