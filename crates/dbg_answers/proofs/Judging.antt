@@ -28,7 +28,7 @@ use Rattle.dbg_model.specs.declared.reply.Refused.TheVariants as refused
 use Rattle.dbg_model.specs.declared.thread_view.ThreadView.{ThreadView}
 use Rattle.dbg_model.specs.declared.thread_view.ThreadView.TheVariants as view
 use Rattle.dbg_model.specs.Breaks.{missing_number}
-use Rattle.dbg_model.specs.Conditions.{parsed}
+use Rattle.cond_expr.specs.Reader.{parsed}
 use Rattle.dbg_model.specs.Limits.{breakpoints}
 use Rattle.dbg_model.specs.Views.{register, shown_byte}
 use Rattle.dbg_model.specs.Sight.{Sight, thread_at, live, live_as, running, running_as, stopped, stopped_as, thread_or}
