@@ -14,6 +14,7 @@ use Rattle.mi_commands.specs.declared.command.Target.{Target}
 use Rattle.mi_commands.specs.declared.command.Target.TheVariants as target
 use Rattle.mi_commands.specs.declared.refusal.Fault.{Fault}
 use Rattle.mi_commands.specs.declared.refusal.Fault.TheVariants as fault
+use Rattle.source_index.specs.Sources.{Sources}
 use Rattle.dbg_model.specs.declared.thread_view.ThreadView.{ThreadView}
 use Rattle.dbg_model.specs.declared.opening.Opening.{Opening}
 use Rattle.dbg_model.specs.declared.reply.Obstacle.{Obstacle}
@@ -69,9 +70,9 @@ is_there s (Some t) u is = holds (is_some (thread_at s.threads t)) (UnknownThrea
 has_room : (n : ℕ) → nat_lt n breakpoints ≡ true → n < breakpoints
 has_room n h = grind (arith, nat_tests)
 
-is_live : (t : ℕ) (r : Option ThreadView) (x : Thread) → live_as t r ≡ Ok x → is_some r ≡ true
-is_live t None x is = cc
-is_live t (Some v) x is = refl
+is_live : (sources : Sources) (t : ℕ) (r : Option ThreadView) (x : Thread) → live_as sources t r ≡ Ok x → is_some r ≡ true
+is_live sources t None x is = cc
+is_live sources t (Some v) x is = refl
 
 insert_sound : (s : Sight) (i : Insertion) → IsSound s (insert s i)
 insert_sound s i =
@@ -113,7 +114,10 @@ reply_sound s (command.BreakAfter n k) = known_sound s (n ∷ []) _ (λ u. tt)
 reply_sound s (command.Continue t) = go_on_sound s t
 reply_sound s (command.Interrupt t) = interrupt_sound s t
 reply_sound s (command.ThreadInfo t) = info_sound s t
-reply_sound s (command.ThreadSelect t) = behind s (live s t) _ (λ x is. is_live t (thread_at s.threads t) x is)
+reply_sound s (command.ThreadSelect t) = behind s (live s t) _ (λ x is. is_live s.sources t (thread_at s.threads t) x is)
+reply_sound s (command.FrameList t) = behind s (stopped s (thread_or s.selected t)) _ (λ r is. tt)
+reply_sound s (command.FrameDepth t) = behind s (stopped s (thread_or s.selected t)) _ (λ r is. tt)
+reply_sound s (command.FrameInfo t) = behind s (stopped s (thread_or s.selected t)) _ (λ r is. tt)
 reply_sound s (command.RegisterValues t f ns) = behind s (stopped s (thread_or s.selected t)) _ (λ r is. tt)
 reply_sound s (command.ReadMemory addr count) = behind s (bytes_at s addr count) _ (λ bytes is. tt)
 reply_sound s (command.Evaluate t text) = evaluate_sound s (thread_or s.selected t) text
