@@ -60,6 +60,8 @@ impl LineIndex {
     ) -> Result<LineIndex, NoMemory>
         ensures { IfOk result (λ index. index ≡ lines_of rows symbols.now image.now) }
     {
+        // First, since it takes the most memory while it is made.
+        let entries = table_of(alloc, &rows, image, 0, rows.sequence_count())?;
         let functions = symbols.function_addresses(alloc)?;
         let starts = in_order(alloc, &functions)?;
         let text = text_bounds(alloc, image)?;
@@ -67,7 +69,6 @@ impl LineIndex {
         let prologues = prologues(alloc, &kept)?;
         let statements = statements(alloc, &kept)?;
         let lines = ordered_statements(alloc, rows.name_count(), &kept)?;
-        let entries = table_of(alloc, &rows, image, 0, rows.sequence_count())?;
         Ok(LineIndex {
             rows,
             functions,
