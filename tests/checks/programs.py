@@ -1,21 +1,30 @@
-"""Programs for the debugger, made of words and bytes, so that no binary need stand in the repository."""
+"""Programs for the debugger, made of words, bytes and sections, so that few binaries stand in the repository."""
 
 import struct
 
 TEXT_BASE = 0x00010000
 TEXT_AT = 116
 DATA_BASE = 0x00020000
-NAMES = b"\0.text\0.data\0.shstrtab\0"
 
 EXIT = [0x05D00893, 0x00000513, 0x00000073]
 LOOP = [0x0000006F]
 
+PROGBITS, SYMTAB, STRTAB = 1, 2, 3
+FUNCTION, OBJECT = 0x12, 0x11
 
-def header(text_size, data_size):
-    """The ELF header of a file with that many bytes of text and data."""
+
+class Section:
+    """A section of debugging information or of symbols, which no segment loads."""
+
+    def __init__(self, name, content, kind=PROGBITS, link=0, info=0, alignment=1, entry=0):
+        self.name, self.content = name, content
+        self.kind, self.link, self.info, self.alignment, self.entry = kind, link, info, alignment, entry
+
+
+def header(table_at, count):
+    """The ELF header of a file with so many section headers at that place, of which the last is that of the names."""
     ident = b"\x7fELF\x01\x01\x01" + bytes(9)
-    section_headers = TEXT_AT + text_size + data_size + len(NAMES)
-    fields = (2, 243, 1, TEXT_BASE + TEXT_AT, 52, section_headers, 0, 52, 32, 2, 40, 4, 3)
+    fields = (2, 243, 1, TEXT_BASE + TEXT_AT, 52, table_at, 0, 52, 32, 2, 40, count, count - 1)
     return ident + struct.pack("<HHIIIIIHHHHHH", *fields)
 
 
@@ -29,45 +38,87 @@ def segments(text_size, data_size):
     return b"".join(struct.pack("<8I", *row) for row in rows)
 
 
-def sections(text_size, data_size):
-    """The four section headers: none, text, data and the names."""
+def section_headers(text_size, data_size, more, names):
+    """The section headers: none, text, data, more of them and the names."""
     data_at = TEXT_AT + text_size
     rows = [
         (0,) * 10,
-        (1, 1, 6, TEXT_BASE + TEXT_AT, TEXT_AT, text_size, 0, 0, 4, 0),
-        (7, 1, 3, DATA_BASE, data_at, data_size, 0, 0, 1, 0),
-        (13, 3, 0, 0, data_at + data_size, len(NAMES), 0, 0, 1, 0),
+        (names.index(b".text"), 1, 6, TEXT_BASE + TEXT_AT, TEXT_AT, text_size, 0, 0, 4, 0),
+        (names.index(b".data"), 1, 3, DATA_BASE, data_at, data_size, 0, 0, 1, 0),
     ]
+    at = data_at + data_size
+    for it in [*more, Section(b".shstrtab", names, STRTAB)]:
+        place = names.index(it.name + b"\0")
+        rows.append((place, it.kind, 0, 0, at, len(it.content), it.link, it.info, it.alignment, it.entry))
+        at += len(it.content)
     return b"".join(struct.pack("<10I", *row) for row in rows)
 
 
-def plain(words, data=b""):
-    """A file of these words, with text at 0x00010074 and these bytes at 0x00020000."""
+def plain(words, data=b"", more=()):
+    """A file of these words, with text at 0x00010074, these bytes at 0x00020000, and more sections."""
     text = struct.pack("<%dI" % len(words), *words)
-    parts = [header(len(text), len(data)), segments(len(text), len(data)), text, data, NAMES]
-    return b"".join(parts) + sections(len(text), len(data))
+    names = b"\0.text\0.data\0" + b"".join(it.name + b"\0" for it in more) + b".shstrtab\0"
+    body = text + data + b"".join(it.content for it in more) + names
+    table = section_headers(len(text), len(data), more, names)
+    return header(TEXT_AT + len(body), 4 + len(more)) + segments(len(text), len(data)) + body + table
+
+
+# `_start` and then `work`, which adds 1 to `count` as often as `limit` says.
+COUNTING = """
+    00020737 00472583 010000ef 05d00893 00000513 00000073
+    ff010113 00112623 00020637 00100693 00d6252f fff58593 fe059ce3 00c12083 01010113 00008067
+"""
+
+# Rows of count.c: 0x1008c line 10, 0x10094 line 11, 0x1009c line 12, 0x100a0 line 13, 0x100a8 line 14, end 0x100b4.
+COUNTING_LINES = """
+    38 00 00 00 04 00 1f 00 00 00 01 01 01 fb 0e 0d 00 01 01 01 01 00 00 00 01 00 00 01 00 63 6f 75 6e 74 2e 63 00 00 00
+    00 00 00 05 02 8c 00 01 00 03 09 01 83 83 4b 83 02 0c 00 01 01
+"""
+
+COUNTING_FRAMES = """
+    0c 00 00 00 ff ff ff ff 03 00 01 7c 01 0c 02 00
+    18 00 00 00 00 00 00 00 8c 00 01 00 28 00 00 00 44 0e 10 44 81 01 58 c1 44 0e 00 00
+"""
+
+
+def counting(number):
+    """A program whose harts each add 1 to a counter so often, with its symbols, lines and frames."""
+    symbols = [(1, 0x10074, 24, FUNCTION, 1), (8, 0x1008C, 40, FUNCTION, 1)]
+    symbols += [(13, 0x20000, 4, OBJECT, 2), (19, 0x20004, 4, OBJECT, 2)]
+    table = bytes(16) + b"".join(struct.pack("<IIIBBH", *it[:4], 0, it[4]) for it in symbols)
+    more = [
+        Section(b".symtab", table, SYMTAB, link=4, info=1, alignment=4, entry=16),
+        Section(b".strtab", b"\0_start\0work\0count\0limit\0", STRTAB),
+        Section(b".debug_line", bytes.fromhex(COUNTING_LINES)),
+        Section(b".debug_frame", bytes.fromhex(COUNTING_FRAMES)),
+    ]
+    return plain([int(word, 16) for word in COUNTING.split()], struct.pack("<II", 0, number), more)
 
 
 def read_program(text):
     """The file that a `program` text describes.
 
-    Its lines have words of eight hexadecimal digits and then bytes of two; `cut N` keeps the first N bytes of the
-    file, `set PLACE XX` puts a byte, and `#` begins a comment.
+    Its lines have words of eight hexadecimal digits and then bytes of two; `section NAME` and bytes make a section;
+    `counting N` alone is the program of `counting`; `cut N` keeps the first N bytes of the file, `set PLACE XX` puts a
+    byte, and `#` begins a comment.
     """
-    words, data, edits = [], [], []
+    words, data, more, edits, whole = [], [], [], [], None
     for line in text.splitlines():
         tokens = line.split("#")[0].split()
-        if tokens and tokens[0] in ("cut", "set"):
-            edits.append(tokens)
+        if not tokens:
             continue
-        for token in tokens:
-            if len(token) == 8:
-                words.append(int(token, 16))
-            elif len(token) == 2:
-                data.append(int(token, 16))
-            else:
-                raise ValueError("neither a word nor a byte: " + token)
-    return edited(bytearray(plain(words, bytes(data))), edits)
+        if tokens[0] in ("cut", "set"):
+            edits.append(tokens)
+        elif tokens[0] == "section":
+            more.append(Section(tokens[1].encode(), bytes.fromhex("".join(tokens[2:]))))
+        elif tokens[0] == "counting":
+            whole = counting(int(tokens[1]))
+        else:
+            words += [int(token, 16) for token in tokens if len(token) == 8]
+            data += [int(token, 16) for token in tokens if len(token) == 2]
+            if any(len(token) not in (8, 2) for token in tokens):
+                raise ValueError("neither words nor bytes: " + line)
+    return edited(bytearray(whole or plain(words, bytes(data), more)), edits)
 
 
 def edited(made, edits):

@@ -1,7 +1,8 @@
 """Stored sessions: each is a folder with the words, the input, the output and the status of one run.
 
 - `args`: the words, one a line; without it `--workers 0 FILE`. The word `FILE` is the session's program.
-- `program`: that program, as words and bytes (`programs.py`); without it the program of examples/euclid.
+- `program`: that program, as words, bytes and sections (`programs.py`); without it the program of examples/euclid.
+- `elf`: in place of it files of `tests/programs`, one a line; the session is run on each of them.
 - `input`, `output`: the bytes; without `input` there are none.
 - `status`: the exit status; without it 0.
 """
@@ -20,19 +21,28 @@ def content(folder, name, otherwise):
         return file.read()
 
 
-def check_session(rig, folder, name, euclid):
-    """Runs one stored session, and compares all of it."""
-    words = content(folder, "args", b"--workers 0 FILE".replace(b" ", b"\n")).decode().splitlines()
+def programs(folder, top, euclid):
+    """What the session is run on: the end of its name and the file's bytes, once or for each of several files."""
     text = content(folder, "program", None)
-    file = rig.put("program", euclid if text is None else read_program(text.decode()))
+    if text is not None:
+        return [("", read_program(text.decode()))]
+    names = content(folder, "elf", b"").decode().split()
+    return [(" on " + name, content(top, name, None)) for name in names] or [("", euclid)]
+
+
+def check_session(rig, folder, name, file):
+    """Runs one stored session on a program, and compares all of it."""
+    words = content(folder, "args", b"--workers 0 FILE".replace(b" ", b"\n")).decode().splitlines()
+    rig.put("program", file)
     status = int(content(folder, "status", b"0"))
-    found = rig.run([file if word == "FILE" else word for word in words], content(folder, "input", b""))
+    found = rig.run(["program" if word == "FILE" else word for word in words], content(folder, "input", b""))
     rig.row("session " + name, found, (status, content(folder, "output", b"")))
 
 
 def check_sessions(rig, top, euclid):
     """Runs the stored sessions in the order of their names."""
-    for name in sorted(os.listdir(top)):
-        folder = os.path.join(top, name)
+    for name in sorted(os.listdir(os.path.join(top, "sessions"))):
+        folder = os.path.join(top, "sessions", name)
         if os.path.isdir(folder):
-            rig.guarded(name, lambda: check_session(rig, folder, name, euclid))
+            for end, file in programs(folder, os.path.join(top, "programs"), euclid):
+                rig.guarded(name + end, lambda: check_session(rig, folder, name + end, file))

@@ -33,7 +33,7 @@ views_few (c ∷ cs) (x ∷ xs) (suc n) le = let l : length xs ≤ n = omega (ar
 abbrev pub shows : Run → Memory → List ThreadView → Sight
 shows r m views = record {
   image = r.opening.image;
-  names = r.names;
+  sources = r.sources;
   memory = m;
   threads = views;
   breaks = r.breaks;
@@ -46,4 +46,4 @@ pub sees : (r : Run) (m : Memory) (vs : List ThreadView) → Facts r → m ≡ r
 sees r m vs f same views =
     ap (λ m. shows r m vs) same
     ∙ (ap (shows r r.machine.memory) (views ∙ all_views r.opening.image r.machine.cores r.minds)
-    ∙ ap (λ ns. let s : Sight = record (sight_of r.opening (seen r)) { names = ns } in s) f.names)
+    ∙ ap (λ sources. let s : Sight = record (sight_of r.opening (seen r)) { sources = sources } in s) f.sources)

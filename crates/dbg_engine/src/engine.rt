@@ -4,6 +4,7 @@ ghost use Rattle.dbg_traits.specs.Settings.{AreSettings};
 ghost use Rattle.data_memory.specs.Ranges.{bytes_at, range_at};
 ghost use Rattle.text_words.specs.Words.{is_planted};
 ghost use Rattle.break_table.specs.Entry.{entry_of};
+ghost use Rattle.dbg_model.specs.Places.{own_frame};
 ghost use Rattle.dbg_model.specs.State.{first_state, any_runs, all_gone};
 ghost use Rattle.dbg_model.specs.Lawful.{may_go};
 ghost use Rattle.engine_facts.specs.Minds.{runs};
@@ -22,13 +23,14 @@ use crate::minds::{all_gone, any_running, find_running, first_minds, is_running}
 use crate::patching::release;
 use break_table::{BreakEntry, BreakTable};
 pub use command::read_line;
-use dbg_model::{Entry, HISTORY, Journal, Opening};
+use dbg_answers::shown_frame;
+use dbg_model::{Entry, HISTORY, Journal, Opening, ShownFrame};
 use dbg_traits::NoMemory;
-use elf_symbols::{Symbols, symbols};
 use engine_facts::{Activity, Hold, Mind, Phase};
 use hart_machine::Machine;
 use mi_commands::Displaced;
-use std::alloc::Global;
+use source_index::SourceIndex;
+use std::alloc::{AllocError, Global};
 use std::marker::Model;
 
 /// So many entries find room before a turn.
@@ -55,7 +57,7 @@ pub struct Engine {
     minds: Vec<Mind>,
     hold: Option<Hold>,
     table: BreakTable,
-    symbols: Symbols,
+    sources: SourceIndex,
     selected: u32,
     displaced: Displaced,
     retired: u64,
@@ -107,7 +109,7 @@ impl Engine {
         let machine = Machine::load(alloc, &opening.image, opening.settings)?;
         let minds = first_minds(alloc, opening.settings.harts)?;
         let table = BreakTable::new(alloc, &opening.image, opening.settings.harts)?;
-        let symbols = symbols(alloc, &opening.image)?;
+        let sources = SourceIndex::build(alloc, &opening.image)?;
         Ok(Engine {
             alloc,
             opening,
@@ -116,7 +118,7 @@ impl Engine {
             minds,
             hold: None,
             table,
-            symbols,
+            sources,
             selected: 1,
             displaced: Displaced::Auto,
             retired: 0,
@@ -218,6 +220,16 @@ impl Engine {
         }
     }
 
+    /// The frame of a hart that is at an address, with its place in the source as far as that is known.
+    ///
+    /// # Errors
+    /// No memory for the names.
+    pub fn frame(&self, pc: u32) -> Result<ShownFrame, AllocError>
+        ensures { IfOk result (λ f. f ≡ own_frame self.now.sources pc) }
+    {
+        shown_frame(self.alloc, &self.sources, pc, pc)
+    }
+
     /// The bytes from an address on; the first address that can't be read where there is one, and then nothing changed.
     pub fn read_range(&self, addr: u32, into: &mut [u8]) -> Result<(), u32>
         ensures bytes { MatchResult result (λ _. bytes_at self.now.machine.memory addr (length into.old) ≡ Some into.new) (λ a. (bytes_at self.now.machine.memory addr (length into.old) ≡ None) × (into.new ≡ into.old)) }
@@ -296,7 +308,7 @@ impl Engine {
             minds,
             hold,
             table,
-            symbols: _,
+            sources: _,
             selected: _,
             displaced: _,
             retired: _,

@@ -12,13 +12,16 @@ use Rattle.dbg_model.specs.declared.entry.Entry.TheVariants.{Counted, Stopped, D
 use Rattle.dbg_model.specs.declared.entry.Why.{Why}
 use Rattle.dbg_model.specs.declared.entry.Why.TheVariants.{Break, Interrupted, Fault}
 use Rattle.dbg_model.specs.declared.opening.Opening.{Opening}
+use Rattle.dbg_model.specs.declared.frame.ShownFrame.{ShownFrame}
 use Rattle.dbg_model.specs.Breaks.{is_temporary}
+use Rattle.dbg_model.specs.Places.{own_frame}
 use Rattle.dbg_model.specs.State.{State, all_gone, any_runs}
 use Rattle.dbg_model.specs.Lawful.{one}
 use Rattle.dbg_model.specs.Leaving.{lefts_from, gone}
 use Rattle.dbg_model.specs.Journals.{lengthened, did}
 use Rattle.dbg_model.proofs.Adding.{lengthens}
 use Rattle.dbg_model.proofs.Ending.{one_open}
+use Rattle.source_index.specs.Sources.{Sources, sources_of}
 use Rattle.mi_reports.specs.Text.{stream_text, stop_text, interrupt_text, break_text, lefts_text}
 use Rattle.mi_reports.specs.Replies.{reply_text}
 use Rattle.mi_reports.specs.Said.{said, hart_pc}
@@ -151,6 +154,12 @@ pc_seen r h pc f low is_pc =
     let at = seen_at r.opening.image r.machine.cores r.minds h c.0 x.0 c.1 x.1 in
     ap hart_pc at ∙ is_pc (seen_hart r.opening.image c.0 x.0) at
 
+-- the frame that a hart is seen in
+frame_seen : (r s : Run) (h pc : ℕ) → Facts r → Facts s → h < length r.minds → IsPc r h pc → s.opening ≡ r.opening → own_frame (sources_of r.opening.image) (hart_pc (slice_get (seen r).harts h)) ≡ own_frame s.sources pc
+frame_seen r s h pc f g low is_pc same =
+    ap (own_frame (sources_of r.opening.image)) (pc_seen r h pc f low is_pc)
+    ∙ ap (λ (sources : Sources). own_frame sources pc) (sym (g.sources ∙ ap (λ (o : Opening). sources_of o.image) same))
+
 halts_say : (t : Turned) (r s : Run) (h pc : ℕ) (why : Why) → Facts r → Facts s → Halts r s h why → said_by (stage_of s) ≡ said_by (stage_of r) ++ turned_text s t h pc → Said t r s h pc
 halts_say t r s h pc why f g m text =
     let e : Entry = Stopped h why in
@@ -171,21 +180,21 @@ faults_say : (r s : Run) (h pc : ℕ) (cause : Cause) → Facts r → Facts s �
 faults_say r s h pc cause f g low is_pc m =
     let e : Entry = Stopped h (Fault cause) in
     halts_say (turned.Stopped cause) r s h pc (Fault cause) f g m
-    (said_is r s (r.journal ++ e ∷ []) (stop_text cause h pc) m.opening m.journal (said_added r.opening r.journal (seen r) e f.leaves ∙ ap (λ p. said r.opening r.journal ++ stop_text cause h p) (pc_seen r h pc f low is_pc)))
+    (said_is r s (r.journal ++ e ∷ []) (stop_text cause h (own_frame s.sources pc)) m.opening m.journal (said_added r.opening r.journal (seen r) e f.leaves ∙ ap (λ (frame : ShownFrame). said r.opening r.journal ++ stop_text cause h frame) (frame_seen r s h pc f g low is_pc m.opening)))
 
 interrupts_say : (r s : Run) (h pc : ℕ) → Facts r → Facts s → h < length r.minds → IsPc r h pc → Halts r s h Interrupted → Said turned.Interrupted r s h pc
 interrupts_say r s h pc f g low is_pc m =
     let e : Entry = Stopped h Interrupted in
     halts_say turned.Interrupted r s h pc Interrupted f g m
-    (said_is r s (r.journal ++ e ∷ []) (interrupt_text h pc) m.opening m.journal (said_added r.opening r.journal (seen r) e f.leaves ∙ ap (λ p. said r.opening r.journal ++ interrupt_text h p) (pc_seen r h pc f low is_pc)))
+    (said_is r s (r.journal ++ e ∷ []) (interrupt_text h (own_frame s.sources pc)) m.opening m.journal (said_added r.opening r.journal (seen r) e f.leaves ∙ ap (λ (frame : ShownFrame). said r.opening r.journal ++ interrupt_text h frame) (frame_seen r s h pc f g low is_pc m.opening)))
 
 arrivals_say : (r s : Run) (h pc number : ℕ) (temporary : Bool) (error : Option CondError) → Facts r → Facts s → h < length r.minds → IsPc r h pc → Halts r s h (Break number error) → temporary ≡ is_temporary r.breaks number → Said (turned.Arrived number temporary error) r s h pc
 arrivals_say r s h pc number temporary error f g low is_pc m kind =
     let e : Entry = Stopped h (Break number error) in
     halts_say (turned.Arrived number temporary error) r s h pc (Break number error) f g m
-    (said_is r s (r.journal ++ e ∷ []) (break_text temporary number error h pc) m.opening m.journal
-    (said_added r.opening r.journal (seen r) e f.leaves ∙ (ap (λ p. said r.opening r.journal ++ break_text (is_temporary r.breaks number) number error h p) (pc_seen r h pc f low is_pc)
-    ∙ ap (λ b. said r.opening r.journal ++ break_text b number error h pc) (sym kind))))
+    (said_is r s (r.journal ++ e ∷ []) (break_text temporary number error h (own_frame s.sources pc)) m.opening m.journal
+    (said_added r.opening r.journal (seen r) e f.leaves ∙ (ap (λ (frame : ShownFrame). said r.opening r.journal ++ break_text (is_temporary r.breaks number) number error h frame) (frame_seen r s h pc f g low is_pc m.opening)
+    ∙ ap (λ b. said r.opening r.journal ++ break_text b number error h (own_frame s.sources pc)) (sym kind))))
 
 moves_fresh : (x : Mind) → x.fresh ≡ true → moves_left x ≡ moves_of x.phase + 1
 moves_fresh x fresh = ap (λ b. moves_of x.phase + cond b 1 0) fresh
@@ -335,7 +344,7 @@ has_moved_so turned.Counted is = tt
 has_moved_so (turned.Arrived number temporary error) is = tt
 
 spare_facts : (e : Run) (n : ℕ) → Facts e → Facts (record e { spare = n })
-spare_facts e n f = record { leaves = f.leaves; settings = f.settings; count = f.count; selected = f.selected; harts = f.harts; slots = f.slots; planted = f.planted; texts = f.texts; places = f.places; waits = f.waits; names = f.names; retired = f.retired; copied = f.copied }
+spare_facts e n f = record { leaves = f.leaves; settings = f.settings; count = f.count; selected = f.selected; harts = f.harts; slots = f.slots; planted = f.planted; texts = f.texts; places = f.places; waits = f.waits; sources = f.sources; retired = f.retired; copied = f.copied }
 
 pub made_room : (e r : Run) → r ≡ record e { spare = r.spare } → Facts e → Facts r
 made_room e r is f = subst Facts (sym is) (spare_facts e r.spare f)

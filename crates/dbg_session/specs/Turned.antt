@@ -1,6 +1,7 @@
 -- The lines of a turn.
 use Rattle.std.specs.Prelude.{ℕ, ◌-◌, Bool, true, false, List, [], length, drop, Option, Some, None}
 use Rattle.data_memory.specs.Ranges.{bytes_at}
+use Rattle.dbg_model.specs.Places.{own_frame}
 use Rattle.dbg_model.specs.State.{all_gone}
 use Rattle.dbg_engine.specs.declared.moving.Turned.{Turned}
 use Rattle.dbg_engine.specs.declared.moving.Turned.TheVariants as turned
@@ -19,7 +20,7 @@ wrote_text r addr len = stream_of (bytes_at r.machine.memory addr len)
 abbrev pub last_lefts : Run → ℕ → ℕ → List ℕ
 last_lefts r count code = lefts_text (drop (length r.journal - count) r.journal) (all_gone (seen r).harts) code
 
--- the lines of a turn of a hart that was at pc
+-- the lines of a turn of a hart that was at pc; those of a stop show the frame there
 abbrev pub turned_text : Run → Turned → ℕ → ℕ → List ℕ
 turned_text r turned.Over h pc = []
 turned_text r turned.NotRunning h pc = []
@@ -33,10 +34,10 @@ turned_text r turned.Ran h pc = []
 turned_text r (turned.Wrote addr len) h pc = wrote_text r addr len
 turned_text r (turned.Left code) h pc = last_lefts r 1 code
 turned_text r (turned.AllLeft code count) h pc = last_lefts r count code
-turned_text r (turned.Stopped cause) h pc = stop_text cause h pc
-turned_text r turned.Interrupted h pc = interrupt_text h pc
+turned_text r (turned.Stopped cause) h pc = stop_text cause h (own_frame r.sources pc)
+turned_text r turned.Interrupted h pc = interrupt_text h (own_frame r.sources pc)
 turned_text r turned.Counted h pc = []
-turned_text r (turned.Arrived number temporary error) h pc = break_text temporary number error h pc
+turned_text r (turned.Arrived number temporary error) h pc = break_text temporary number error h (own_frame r.sources pc)
 
 -- whether a turn moved its hart
 abbrev pub has_moved : Turned → Bool

@@ -107,13 +107,13 @@ fn turned_text(
         Turned::Wrote { addr, len } => wrote_text(alloc, engine, addr, len),
         Turned::Left { code } => last_lefts(alloc, engine, 1, code),
         Turned::AllLeft { code, count } => last_lefts(alloc, engine, count, code),
-        Turned::Stopped { cause } => stop_text(alloc, cause, hart, pc),
-        Turned::Interrupted => interrupt_text(alloc, hart, pc),
+        Turned::Stopped { cause } => stop_text(alloc, cause, hart, &engine.frame(pc)?),
+        Turned::Interrupted => interrupt_text(alloc, hart, &engine.frame(pc)?),
         Turned::Arrived {
             number,
             temporary,
             error,
-        } => break_text(alloc, temporary, number, error, hart, pc),
+        } => break_text(alloc, temporary, number, error, hart, &engine.frame(pc)?),
     }
 }
 

@@ -5,8 +5,7 @@ use Rattle.std.specs.Option.{option_and_then}
 use Rattle.scratch_slots.specs.declared.slots.SlotUse.{SlotUse}
 use Rattle.scratch_slots.specs.Table.{use_at, is_address, slot_number}
 use Rattle.mi_commands.specs.declared.command.Displaced.TheVariants as displaced
-use Rattle.elf_symbols.specs.Names.{Names}
-use Rattle.elf_symbols.specs.Entries.{names_of}
+use Rattle.source_index.specs.Sources.{Sources, sources_of}
 use Rattle.break_table.specs.Table.{Table, first_table}
 use Rattle.break_table.specs.Text.{is_instruction, is_place}
 use Rattle.std.proofs.lemmas.List.{length-replicate}
@@ -31,8 +30,8 @@ use Rattle.engine_facts.specs.Facts.{Facts, HartFact, pending}
 use Rattle.engine_facts.proofs.Updating.{none_some}
 use Rattle.engine_facts.proofs.Seeing.{first_seen, length_first, told_is}
 
-abbrev pub run_at : Opening → ℕ → List Entry → Patched → List Mind → Table → Names → Run
-run_at o spare j m xs t ns =
+abbrev pub run_at : Opening → ℕ → List Entry → Patched → List Mind → Table → Sources → Run
+run_at o spare j m xs t sources =
     record {
       opening = o;
       journal = j;
@@ -44,7 +43,7 @@ run_at o spare j m xs t ns =
       given = t.given;
       bounds = t.text;
       waits = t.waits;
-      names = ns;
+      sources = sources;
       selected = 1;
       displaced = displaced.Auto;
       retired = 0;
@@ -53,7 +52,7 @@ run_at o spare j m xs t ns =
     }
 
 abbrev pub first_run : Opening → ℕ → Run
-first_run o spare = run_at o spare [] (loaded o.image o.settings.harts o.settings.slots) (replicate o.settings.harts first_mind) (first_table o.image o.settings.harts) (names_of o.image)
+first_run o spare = run_at o spare [] (loaded o.image o.settings.harts o.settings.slots) (replicate o.settings.harts first_mind) (first_table o.image o.settings.harts) (sources_of o.image)
 
 last_or : {A : Type 0} (xs : List A) (x y : A) (h : ℕ) → slice_get (xs ++ x ∷ []) h ≡ Some y → (slice_get xs h ≡ Some y) ⊎ (x ≡ y)
 last_or [] x y zero is = inr (same_some x y is)
@@ -145,7 +144,7 @@ begins o spare s places =
       texts = λ k b at. no_break k b at;
       places = places;
       waits = refl;
-      names = refl;
+      sources = refl;
       retired = λ h c at. none_yet o.image.entry o.settings.harts o.settings.harts h c at;
       copied = λ some h c x ec ex. first_copied o spare h c x (replicated o.settings.harts h x ex);
     }
@@ -154,17 +153,17 @@ pub record Begins (o : Opening) (r : Run) : Type 0 where
   pub facts : Facts r
   pub state : seen r ≡ first_state o
 
-pub begins_at : (o : Opening) (spare : ℕ) (j : List Entry) (m : Patched) (xs : List Mind) (t : Table) (ns : Names) → AreSettings o.settings → j ≡ [] → m ≡ loaded o.image o.settings.harts o.settings.slots → xs ≡ replicate o.settings.harts first_mind
-    → t ≡ first_table o.image o.settings.harts → KnowsText o t → ns ≡ names_of o.image → Begins o (run_at o spare j m xs t ns)
-begins_at o spare j m xs t ns s none is are table places names =
-    let P : List Entry → Patched → List Mind → Table → Names → Type 0 = λ j m xs t ns. Begins o (run_at o spare j m xs t ns) in
+pub begins_at : (o : Opening) (spare : ℕ) (j : List Entry) (m : Patched) (xs : List Mind) (t : Table) (sources : Sources) → AreSettings o.settings → j ≡ [] → m ≡ loaded o.image o.settings.harts o.settings.slots → xs ≡ replicate o.settings.harts first_mind
+    → t ≡ first_table o.image o.settings.harts → KnowsText o t → sources ≡ sources_of o.image → Begins o (run_at o spare j m xs t sources)
+begins_at o spare j m xs t sources s none is are table places same =
+    let P : List Entry → Patched → List Mind → Table → Sources → Type 0 = λ j m xs t sources. Begins o (run_at o spare j m xs t sources) in
     let l = loaded o.image o.settings.harts o.settings.slots in
     let ys = replicate o.settings.harts first_mind in
     let u = first_table o.image o.settings.harts in
     let known : KnowsText o u = subst (KnowsText o) table places in
-    let first : P [] l ys u (names_of o.image) = record { facts = begins o spare s known; state = seen_begin o spare } in
-    subst (λ (k : List Entry). P k m xs t ns) (sym none)
-    (subst (λ (n : Patched). P [] n xs t ns) (sym is)
-    (subst (λ (zs : List Mind). P [] l zs t ns) (sym are)
-    (subst (λ (v : Table). P [] l ys v ns) (sym table)
-    (subst (λ (n : Names). P [] l ys u n) (sym names) first))))
+    let first : P [] l ys u (sources_of o.image) = record { facts = begins o spare s known; state = seen_begin o spare } in
+    subst (λ (k : List Entry). P k m xs t sources) (sym none)
+    (subst (λ (n : Patched). P [] n xs t sources) (sym is)
+    (subst (λ (zs : List Mind). P [] l zs t sources) (sym are)
+    (subst (λ (v : Table). P [] l ys v sources) (sym table)
+    (subst (λ (n : Sources). P [] l ys u n) (sym same) first))))

@@ -104,7 +104,7 @@ departs_alone r h spare code c d x mem t slots f m runs before none may is more 
       texts = f.texts;
       places = f.places;
       waits = f.waits;
-      names = f.names;
+      sources = f.sources;
       retired = retired_quiet cs (lengthened r.journal h) es (λ i. refl) (retired_ran r.machine.cores h c d r.journal m.core more f.retired);
       copied = copied_more r.opening.settings.slots r.machine.cores r.minds h c d x x' r.displaced (seen r).passed (seen r).sets (passes (seen r) y) m.core m.mind idle_bal f.copied;
     }) in
@@ -175,7 +175,7 @@ departs_all r h spare code c c' x ds mem t slots f m runs before none may is mor
       texts = f.texts;
       places = f.places;
       waits = f.waits;
-      names = f.names;
+      sources = f.sources;
       retired = retired_quiet ds (lengthened r.journal h) es (quiet_lefts_live code 0 xs) (retired_home image cs xs ds (lengthened r.journal h) home (retired_ran r.machine.cores h c c' r.journal m.core more f.retired));
       copied = copied_gone image r.opening.settings.slots cs xs ds r.displaced (one_more_at (seen r).passed h (passes (seen r) y)) (seen r).sets home counted;
     }) in

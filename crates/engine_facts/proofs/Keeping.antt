@@ -3,7 +3,7 @@ use Rattle.std.proofs.Common.{◌≡◌, ◌<◌, ◌≤◌, ℕ, List, length, 
 use Rattle.std.specs.Prelude.{Option, Some, None, slice_get, slice_set}
 use Rattle.dbg_traits.specs.Settings.{AreSettings}
 use Rattle.text_words.specs.Words.{Words}
-use Rattle.elf_symbols.specs.Entries.{names_of}
+use Rattle.source_index.specs.Sources.{sources_of}
 use Rattle.break_table.specs.Text.{is_instruction, is_place}
 use Rattle.scratch_slots.specs.declared.slots.SlotUse.{SlotUse}
 use Rattle.mi_commands.specs.declared.command.Displaced.{Displaced}
@@ -44,7 +44,7 @@ pub record Stands (r : Run) (told : Told) : Type 0 where
   pub texts : AreInText r.opening.image r.breaks
   pub places : (a : ℕ) → is_place r.bounds a ≡ is_instruction r.opening.image a
   pub waits : r.waits ≡ replicate r.opening.settings.harts None
-  pub names : r.names ≡ names_of r.opening.image
+  pub sources : r.sources ≡ sources_of r.opening.image
   pub retired : Retired r.machine.cores r.journal
   pub copied : AreCopied r.opening.settings.slots r.machine.cores r.minds r.displaced told.passed told.sets
 
@@ -68,7 +68,7 @@ entered r s settings l e f =
         texts = f.texts;
         places = f.places;
         waits = f.waits;
-        names = f.names;
+        sources = f.sources;
         retired = f.retired;
         copied = subst (λ (t : State). AreCopied r.opening.settings.slots r.machine.cores r.minds r.displaced t.passed t.sets) same f.copied;
       };
@@ -104,7 +104,7 @@ silent_home r h c c' x x' t slots hold f m same ch len n p =
         texts = f.texts;
         places = f.places;
         waits = f.waits;
-        names = f.names;
+        sources = f.sources;
         retired = retired_same r.machine.cores h c c' r.journal m.core n.retired f.retired;
         copied = copied_same r.opening.settings.slots r.machine.cores r.minds h c c' x x' r.displaced (seen r).passed (seen r).sets m.core m.mind n.copied n.pending f.copied;
       };

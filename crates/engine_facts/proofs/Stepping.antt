@@ -334,7 +334,7 @@ executes r h spare c c' x mem out f m runs before none may is more copied left =
       texts = f.texts;
       places = f.places;
       waits = f.waits;
-      names = f.names;
+      sources = f.sources;
       retired = retired_ran r.machine.cores h c c' r.journal m.core more f.retired;
       copied = copied_more r.opening.settings.slots r.machine.cores r.minds h c c' x x' r.displaced (seen r).passed (seen r).sets (passes (seen r) (seen_hart p c x)) m.core m.mind
           (balances r.opening.settings.slots r.displaced c c' x.phase (stands (seen_hart p c x).regs.pc r.breaks) before copied (here_none r c x none runs)) f.copied;

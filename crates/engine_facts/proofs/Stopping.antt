@@ -77,7 +77,7 @@ halts r e h spare c x x' t bs f m fact rests quiet comes p texts =
       texts = texts;
       places = f.places;
       waits = f.waits;
-      names = f.names;
+      sources = f.sources;
       retired = retired_noted r.machine.cores r.journal e quiet f.retired;
       copied = copied_mind r.opening.settings.slots r.machine.cores r.minds h c x x' r.displaced (seen r).passed (seen r).sets m.core m.mind rests.pending f.copied;
     }) in
@@ -284,7 +284,7 @@ lines r e xs selected d t bs given exited spare s f quiet comes same len thread 
       texts = texts;
       places = f.places;
       waits = f.waits;
-      names = f.names;
+      sources = f.sources;
       retired = retired_noted r.machine.cores r.journal e quiet f.retired;
       copied = copied_line r xs d s f l;
     })

@@ -11,7 +11,7 @@ use Rattle.text_words.specs.Words.{Words, shown, is_planted, unpatched}
 use Rattle.hart_machine.specs.declared.hart.Core.{Core}
 use Rattle.break_table.specs.Entry.{Entry as BreakEntry}
 use Rattle.break_table.specs.Text.{is_instruction, is_place}
-use Rattle.elf_symbols.specs.Entries.{names_of}
+use Rattle.source_index.specs.Sources.{sources_of}
 use Rattle.dbg_model.specs.declared.entry.Entry.{Entry}
 use Rattle.dbg_model.specs.declared.opening.Opening.{Opening}
 use Rattle.break_table.specs.Table.{stands}
@@ -142,6 +142,6 @@ pub record Facts (r : Run) : Type 0 where
   pub places : (a : ℕ) → is_place r.bounds a ≡ is_instruction r.opening.image a
   -- no hart waits at an address
   pub waits : r.waits ≡ replicate r.opening.settings.harts None
-  pub names : r.names ≡ names_of r.opening.image
+  pub sources : r.sources ≡ sources_of r.opening.image
   pub retired : Retired r.machine.cores r.journal
   pub copied : AreCopied r.opening.settings.slots r.machine.cores r.minds r.displaced (seen r).passed (seen r).sets

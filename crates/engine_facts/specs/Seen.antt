@@ -6,9 +6,9 @@ use Rattle.elf32_read.specs.Program.{Program, text_word}
 use Rattle.hart_machine.specs.declared.hart.Core.{Core}
 use Rattle.hart_machine.specs.Copying.{settled_regs}
 use Rattle.hart_machine.specs.Patched.{Patched}
+use Rattle.source_index.specs.Sources.{Sources}
 use Rattle.break_table.specs.Entry.{Entry as BreakEntry}
 use Rattle.elf32_read.specs.declared.spans.Span.{Span}
-use Rattle.elf_symbols.specs.Names.{Names}
 use Rattle.mi_commands.specs.declared.command.Displaced.{Displaced}
 use Rattle.step_over.specs.declared.phase.Phase.{Phase}
 use Rattle.step_over.specs.declared.phase.Phase.TheVariants as phase
@@ -35,8 +35,8 @@ pub record Run : Type 0 where
   pub given : ℕ
   pub bounds : List Span
   pub waits : List (Option ℕ)
-  -- the program's symbols
-  pub names : Names
+  -- what the program's file tells of its source
+  pub sources : Sources
   pub selected : ℕ
   pub displaced : Displaced
   pub retired : ℕ

@@ -59,14 +59,15 @@ impl LineIndex {
     ) -> Result<LineIndex, NoMemory>
         ensures { IfOk result (λ index. index ≡ lines_of rows symbols.now image.now) }
     {
+        let text = image.text_spans(alloc)?;
+        // First, since it takes the most memory while it is made.
+        let entries = table_of(alloc, &rows, &text, 0, rows.sequence_count())?;
         let functions = symbols.function_addresses(alloc)?;
         let starts = in_order(Vec::from_slice(alloc, &functions)?);
-        let text = image.text_spans(alloc)?;
         let kept = kept_rows(alloc, &rows, &text)?;
         let prologues = prologues(alloc, &kept)?;
         let statements = statements(alloc, &kept)?;
         let lines = ordered_statements(alloc, rows.name_count(), &kept)?;
-        let entries = table_of(alloc, &rows, &text, 0, rows.sequence_count())?;
         Ok(LineIndex {
             rows,
             functions,

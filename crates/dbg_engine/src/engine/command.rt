@@ -86,7 +86,7 @@ impl Engine {
         let threads = views(self.alloc, self.machine.cores(), self.minds.as_slice())?;
         let debuggee = Debuggee {
             image: &self.opening.image,
-            symbols: &self.symbols,
+            sources: &self.sources,
             memory: self.machine.data(),
             threads: threads.as_slice(),
             table: &self.table,

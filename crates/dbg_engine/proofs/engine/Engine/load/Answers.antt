@@ -4,10 +4,10 @@ use Rattle.engine_facts.proofs.Beginning.{Begins, begins_at, run_at}
 use Rattle.dbg_engine.proofs.engine.Engine.load.Goals as goal
 use Rattle.dbg_engine.proofs.engine.Engine.load.Goals.{After-new-2}
 
-begun : (c : After-new-2) → Begins c.args.opening (run_at c.args.opening (vec_capacity c.new-2.result - vec_len c.new-2.result) c.new-2.result.items c.in_ok-machine.machine c.in_ok-minds.minds.items c.in_ok-table.table c.in_ok-symbols.symbols)
+begun : (c : After-new-2) → Begins c.args.opening (run_at c.args.opening (vec_capacity c.new-2.result - vec_len c.new-2.result) c.new-2.result.items c.in_ok-machine.machine c.in_ok-minds.minds.items c.in_ok-table.table c.in_ok-sources.sources)
 begun c =
-    begins_at c.args.opening (vec_capacity c.new-2.result - vec_len c.new-2.result) c.new-2.result.items c.in_ok-machine.machine c.in_ok-minds.minds.items c.in_ok-table.table c.in_ok-symbols.symbols c.requires c.new-2.ensures.items c.in_ok-machine.ensures c.in_ok-minds.ensures
-    c.in_ok-table.ensures.table c.in_ok-table.ensures.places c.in_ok-symbols.ensures
+    begins_at c.args.opening (vec_capacity c.new-2.result - vec_len c.new-2.result) c.new-2.result.items c.in_ok-machine.machine c.in_ok-minds.minds.items c.in_ok-table.table c.in_ok-sources.sources c.requires c.new-2.ensures.items c.in_ok-machine.ensures c.in_ok-minds.ensures
+    c.in_ok-table.ensures.table c.in_ok-table.ensures.places c.in_ok-sources.ensures
 
 pub invariant_of-result : goal.invariant_of-result
 invariant_of-result c = record { facts = (begun c).facts }
