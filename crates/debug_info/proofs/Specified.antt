@@ -1,66 +1,29 @@
 -- The loops over attributes and entries.
-use Rattle.std.proofs.Common.{◌≡◌, ◌<◌, ◌≤◌, ◌+◌, ◌++◌, ℕ, zero, suc, Bool, true, false, List, [], ◌∷◌, length, Option, None, Some, Result, Ok, Err, refl, arith, sym, ◌∙◌, ap, append-nil, append_assoc}
+use Rattle.std.proofs.Common.{◌≡◌, ◌<◌, ◌≤◌, ◌+◌, ◌++◌, ℕ, zero, suc, Bool, true, false, List, [], ◌∷◌, length, drop, get_or, Option, Some, Result, Ok, Err, refl, arith, sym, ◌∙◌, ap, append-nil, append_assoc}
 use Rattle.std.specs.Prelude.{nat_le, ◌==◌, if◌then◌else◌}
 use Rattle.std.proofs.lemmas.Bool.Decides.{nat_tests}
 use Rattle.debug_info.specs.Reading.{◌>>=◌, Read, found}
-use Rattle.debug_info.specs.Abbreviations.{specification_at}
-use Rattle.debug_info.specs.Attributes.{attributes_at, attributes_by, attributes_of, first_of, or_named, value_behind, values_from, with_value}
+use Rattle.debug_info.specs.Attributes.{attributes_by, attributes_of, first_of, or_named, with_value}
 use Rattle.debug_info.specs.Entries.{entries_from, entry_at, entry_list, in_front, level_behind, with_others}
 use Rattle.debug_info.specs.Forms.{value_at}
+use Rattle.debug_info.specs.Tables.{values_by}
+use Rattle.std.proofs.Math.Seq.{drop-cons}
 use Rattle.debug_info.specs.declared.abbreviation.Specification.{Specification}
 use Rattle.debug_info.specs.declared.entry.Attributes.{Attributes}
 use Rattle.debug_info.specs.declared.entry.Entry.{Entry}
 use Rattle.debug_info.specs.declared.fault.InfoFault.{InfoFault}
 use Rattle.debug_info.specs.declared.form.Value.{Value}
-use Rattle.debug_info.proofs.Turns.{Reaches, turn, turned}
 
 -- the attributes by the values that were read, and by those that are left
 abbrev pub finish : List (ℕ × Value) → Read (List (ℕ × Value)) → Read Attributes
 finish done (Ok (vs, next)) = found (attributes_of (done ++ vs)) next
 finish done (Err e) = Err e
 
-abbrev pub reads : List ℕ → ℕ → List ℕ → List (ℕ × Value) → ℕ → ℕ → ℕ → Read Attributes
-reads abbrevs texts info done at most specified = finish done (values_from most abbrevs texts info specified at)
-
--- what the code has
-pub record Specifies (abbrevs : List ℕ) (texts : ℕ) (info : List ℕ) (start from : ℕ) (attributes : Attributes) (specified at : ℕ) : Type 0 where
-  pub done : List (ℕ × Value)
-  pub is : attributes ≡ attributes_of done
-  pub reaches : Reaches (attributes_at abbrevs texts info start from) (reads abbrevs texts info done at) abbrevs specified
-
-all_left : (r : Read (List (ℕ × Value))) → attributes_by r ≡ finish [] r
+pub all_left : (r : Read (List (ℕ × Value))) → attributes_by r ≡ finish [] r
 all_left (Ok (vs, next)) = refl
 all_left (Err e) = refl
 
-pub specifies_start : (abbrevs : List ℕ) (texts : ℕ) (info : List ℕ) (start from : ℕ) (attributes : Attributes) → attributes ≡ attributes_of [] → Specifies abbrevs texts info start from attributes start from
-specifies_start abbrevs texts info start from attributes is = record {
-  done = [];
-  is = is;
-  reaches = record { most = length abbrevs + 1; enough = omega arith; some = omega arith; same = all_left (values_from (length abbrevs + 1) abbrevs texts info start from) };
-}
-
-pub specified_fault : (abbrevs : List ℕ) (texts : ℕ) (info : List ℕ) (start from : ℕ) (a : Attributes) (specified at : ℕ) (e : InfoFault) → specification_at abbrevs specified ≡ Err e
-    → Specifies abbrevs texts info start from a specified at → attributes_at abbrevs texts info start from ≡ Err e
-specified_fault abbrevs texts info start from a specified at e read p =
-    let t = turn (attributes_at abbrevs texts info start from) (reads abbrevs texts info p.done at) abbrevs specified p.reaches in
-    t.same ∙ ap (λ x. finish p.done (x >>= value_behind texts info (values_from t.more abbrevs texts info) at)) read
-
-pub specified_done : (abbrevs : List ℕ) (texts : ℕ) (info : List ℕ) (start from : ℕ) (a : Attributes) (specified at behind : ℕ) → specification_at abbrevs specified ≡ found None behind
-    → Specifies abbrevs texts info start from a specified at → attributes_at abbrevs texts info start from ≡ found a at
-specified_done abbrevs texts info start from a specified at behind read p =
-    let t = turn (attributes_at abbrevs texts info start from) (reads abbrevs texts info p.done at) abbrevs specified p.reaches in
-    t.same ∙ ap (λ x. finish p.done (x >>= value_behind texts info (values_from t.more abbrevs texts info) at)) read
-    ∙ ap (λ (vs : List (ℕ × Value)). found (attributes_of vs) at) (append-nil p.done)
-    ∙ ap (λ (b : Attributes). found b at) (sym p.is)
-
-pub value_fault : (abbrevs : List ℕ) (texts : ℕ) (info : List ℕ) (start from : ℕ) (a : Attributes) (specified at behind : ℕ) (s : Specification) (e : InfoFault) → specification_at abbrevs specified ≡ found (Some s) behind
-    → value_at s.form texts info at ≡ Err e → Specifies abbrevs texts info start from a specified at → attributes_at abbrevs texts info start from ≡ Err e
-value_fault abbrevs texts info start from a specified at behind s e read value p =
-    let t = turn (attributes_at abbrevs texts info start from) (reads abbrevs texts info p.done at) abbrevs specified p.reaches in
-    t.same ∙ ap (λ x. finish p.done (x >>= value_behind texts info (values_from t.more abbrevs texts info) at)) read
-    ∙ ap (λ (x : Read Value). finish p.done (x >>= (λ v. values_from t.more abbrevs texts info behind v.1 >>= (λ others. found ((s.name, v.0) ∷ others.0) others.1)))) value
-
-one_more : (done : List (ℕ × Value)) (v : ℕ × Value) (r : Read (List (ℕ × Value))) → finish done (r >>= (λ others. found (v ∷ others.0) others.1)) ≡ finish (done ++ v ∷ []) r
+pub one_more : (done : List (ℕ × Value)) (v : ℕ × Value) (r : Read (List (ℕ × Value))) → finish done (r >>= (λ others. found (v ∷ others.0) others.1)) ≡ finish (done ++ v ∷ []) r
 one_more done v (Ok (vs, next)) = ap (λ (xs : List (ℕ × Value)). found (attributes_of xs) next) (sym (append_assoc done (v ∷ []) vs))
 one_more done v (Err e) = refl
 
@@ -72,7 +35,7 @@ first_more code (d ∷ ds) name v =
       | false ↦ first_more code ds name v
     ]
 
-with_more : (done : List (ℕ × Value)) (name : ℕ) (v : Value) → with_value (attributes_of done) name v ≡ attributes_of (done ++ (name, v) ∷ [])
+pub with_more : (done : List (ℕ × Value)) (name : ℕ) (v : Value) → with_value (attributes_of done) name v ≡ attributes_of (done ++ (name, v) ∷ [])
 with_more done name v =
     let a = first_more 0x02 done name v in
     let b = first_more 0x03 done name v in
@@ -84,19 +47,40 @@ with_more done name v =
     let h = first_more 0x49 done name v in
     cc
 
-pub value_next : (abbrevs : List ℕ) (texts : ℕ) (info : List ℕ) (start from : ℕ) (a more : Attributes) (specified at behind next : ℕ) (s : Specification) (v : Value) → specification_at abbrevs specified ≡ found (Some s) behind
-    → value_at s.form texts info at ≡ found v next → specified < behind → behind ≤ length abbrevs → more ≡ with_value a s.name v
-    → Specifies abbrevs texts info start from a specified at → Specifies abbrevs texts info start from more behind next
-value_next abbrevs texts info start from a more specified at behind next s v read value h k is p =
-    let answer = attributes_at abbrevs texts info start from in
-    let t = turn answer (reads abbrevs texts info p.done at) abbrevs specified p.reaches in
+-- what the code has
+pub record Specifies (texts : ℕ) (info : List ℕ) (used : List Specification) (from : ℕ) (attributes : Attributes) (left : List Specification) (at : ℕ) : Type 0 where
+  pub done : List (ℕ × Value)
+  pub is : attributes ≡ attributes_of done
+  pub same : attributes_by (values_by texts info used from) ≡ finish done (values_by texts info left at)
+
+pub specifies_start : (texts : ℕ) (info : List ℕ) (used : List Specification) (from : ℕ) (attributes : Attributes) → attributes ≡ attributes_of [] → Specifies texts info used from attributes used from
+specifies_start texts info used from attributes is = record { done = []; is = is; same = all_left (values_by texts info used from) }
+
+pub specifies_end : (texts : ℕ) (info : List ℕ) (used : List Specification) (from : ℕ) (attributes : Attributes) (left : List Specification) (at : ℕ) → left ≡ [] → Specifies texts info used from attributes left at
+    → found attributes at ≡ attributes_by (values_by texts info used from)
+specifies_end texts info used from attributes left at none p =
+    sym (p.same ∙ ap (λ (ss : List Specification). finish p.done (values_by texts info ss at)) none
+    ∙ ap (λ (vs : List (ℕ × Value)). found (attributes_of vs) at) (append-nil p.done)
+    ∙ ap (λ (b : Attributes). found b at) (sym p.is))
+
+pub value_fault : (texts : ℕ) (info : List ℕ) (used : List Specification) (from : ℕ) (attributes : Attributes) (left : List Specification) (at k : ℕ) (d : Specification) (e : InfoFault) → k < length left
+    → value_at (get_or left k d).form texts info at ≡ Err e → Specifies texts info used from attributes (drop k left) at → Err e ≡ attributes_by (values_by texts info used from)
+value_fault texts info used from attributes left at k d e h value p =
+    sym (p.same ∙ ap (λ (ss : List Specification). finish p.done (values_by texts info ss at)) (drop-cons left k d h)
+    ∙ ap (λ (x : Read Value). finish p.done (x >>= (λ v. values_by texts info (drop (suc k) left) v.1 >>= (λ others. found (((get_or left k d).name, v.0) ∷ others.0) others.1)))) value)
+
+pub value_next : (texts : ℕ) (info : List ℕ) (used : List Specification) (from : ℕ) (attributes more : Attributes) (left : List Specification) (at next k : ℕ) (d : Specification) (v : Value) → k < length left
+    → value_at (get_or left k d).form texts info at ≡ found v next → more ≡ with_value attributes (get_or left k d).name v → Specifies texts info used from attributes (drop k left) at
+    → Specifies texts info used from more (drop (k + 1) left) next
+value_next texts info used from attributes more left at next k d v h value is p =
+    let s = get_or left k d in
     record {
       done = p.done ++ (s.name, v) ∷ [];
       is = is ∙ ap (λ (b : Attributes). with_value b s.name v) p.is ∙ with_more p.done s.name v;
-      reaches = turned answer (reads abbrevs texts info p.done at) (reads abbrevs texts info (p.done ++ (s.name, v) ∷ []) next) abbrevs specified behind t h k
-          (ap (λ x. finish p.done (x >>= value_behind texts info (values_from t.more abbrevs texts info) at)) read
-          ∙ ap (λ (x : Read Value). finish p.done (x >>= (λ v. values_from t.more abbrevs texts info behind v.1 >>= (λ others. found ((s.name, v.0) ∷ others.0) others.1)))) value
-          ∙ one_more p.done (s.name, v) (values_from t.more abbrevs texts info behind next));
+      same = p.same ∙ ap (λ (ss : List Specification). finish p.done (values_by texts info ss at)) (drop-cons left k d h)
+          ∙ ap (λ (x : Read Value). finish p.done (x >>= (λ v. values_by texts info (drop (suc k) left) v.1 >>= (λ others. found ((s.name, v.0) ∷ others.0) others.1)))) value
+          ∙ one_more p.done (s.name, v) (values_by texts info (drop (suc k) left) next)
+          ∙ ap (λ (n : ℕ). finish (p.done ++ (s.name, v) ∷ []) (values_by texts info (drop n left) next)) (let one : suc k ≡ k + 1 = omega arith in one);
     }
 
 -- the entries that were read stand in front of those that are left

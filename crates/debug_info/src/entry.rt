@@ -2,12 +2,12 @@
 
 ghost use Rattle.std.specs.Prelude.{◌≡◌, ◌<◌, ◌≤◌, ◌+◌, ◌-◌, IfOk, IfSome, OnOk, length, [], ◌++◌};
 ghost use Rattle.debug_info.specs.Forms.{IsReadTo};
-ghost use Rattle.debug_info.specs.Attributes.{attributes_at, attributes_of, basic_kind, constant_of, entry_of, expression_of, or_named, range_of, reference_of, tag_of, text_of, with_value};
+ghost use Rattle.debug_info.specs.Attributes.{attributes_at, attributes_by, attributes_of, basic_kind, constant_of, entry_of, expression_of, or_named, range_of, reference_of, tag_of, text_of, with_value};
 ghost use Rattle.debug_info.specs.Entries.{Gives, IsLevel, entries_from, entry_at, entry_list, level_behind};
 ghost use Rattle.debug_info.specs.Rising.{RisesFrom};
-ghost use Rattle.debug_info.specs.Tables.{IsTable};
+ghost use Rattle.debug_info.specs.Tables.{IsTable, values_by};
 
-use crate::abbreviation::{Declaration, Table, specification_at};
+use crate::abbreviation::{Declaration, Specification, Table};
 use crate::expression::{Base, Operation, Place, base_of, place_of};
 use crate::fault::{InfoError, InfoFault};
 use crate::form::{TextPlace, Value, value_at};
@@ -103,7 +103,7 @@ fn tag_of(code: u64) -> Tag
     }
 }
 
-fn no_attributes() -> Attributes
+pub fn no_attributes() -> Attributes
     ensures { result ≡ attributes_of [] }
 {
     Attributes {
@@ -130,7 +130,7 @@ fn or_named(code: u64, first: Option<Value>, name: u64, value: Value) -> Option<
 }
 
 // The attributes with one more.
-fn with_value(attributes: Attributes, name: u64, value: Value) -> Attributes
+pub fn with_value(attributes: Attributes, name: u64, value: Value) -> Attributes
     ensures { result ≡ with_value attributes name value }
 {
     Attributes {
@@ -145,29 +145,24 @@ fn with_value(attributes: Attributes, name: u64, value: Value) -> Attributes
     }
 }
 
-// The attributes whose specifications stand at a place of the abbreviations.
-fn attributes_at(
+// The attributes at a place, by their specifications.
+fn attributes_by(
     source: &Source<'_>,
-    specifications: usize,
+    used: &[Specification],
     at: usize,
 ) -> Result<(Attributes, usize), InfoFault>
     requires { at ≤ length source.now.info.now }
-    ensures value { result ≡ attributes_at source.now.abbrevs.now source.now.texts_end source.now.info.now specifications at }
+    ensures value { result ≡ attributes_by (values_by source.now.texts_end source.now.info.now used.now at) }
     ensures within { IfOk result (λ r. IsReadTo source.now.info.now at r.1) }
 {
     let mut attributes = no_attributes();
-    let mut specified = specifications;
     let mut place = at;
-    'attributes: loop {
-        let (specification, behind) = specification_at(source.abbrevs, specified)?;
-        let Some(specification) = specification else {
-            return Ok((attributes, place));
-        };
+    for specification in used {
         let (value, next) = value_at(specification.form, source.texts_end, source.info, place)?;
         attributes = with_value(attributes, specification.name, value);
-        specified = behind;
         place = next;
     }
+    Ok((attributes, place))
 }
 
 fn text_of(value: Option<Value>) -> Option<TextPlace>
@@ -276,12 +271,12 @@ fn entry_at(
     if code == 0 {
         return Ok((None, next));
     }
-    let declaration = table.find(source.abbrevs, code)?;
+    let abbreviation = table.find(source.abbrevs, code)?;
     if level == LEVELS {
         return Err(InfoFault::Deep);
     }
-    let (attributes, next) = attributes_at(source, declaration.attributes, next)?;
-    let entry = entry_of(at - unit, level + 1, declaration, attributes);
+    let (attributes, next) = attributes_by(source, &abbreviation.used, next)?;
+    let entry = entry_of(at - unit, level + 1, abbreviation.declaration, attributes);
     Ok((Some(entry), next))
 }
 

@@ -14,6 +14,7 @@ mod scope;
 mod table;
 mod tables;
 mod unit;
+mod used;
 
 pub use entry::{Kind, Range};
 pub use expression::{Base, Place};

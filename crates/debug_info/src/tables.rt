@@ -12,8 +12,8 @@ use std::collections::BTreeMap;
 #[derive(Drop)]
 pub struct Tables {
     tables: BTreeMap<usize, Table>,
-    /// How many declarations they have, so that tables that overlap don't take more memory than others.
-    declarations: usize,
+    /// How many bytes they have, so that tables that overlap don't take more memory than others.
+    bytes: usize,
 }
 
 pub fn no_tables(alloc: Global, abbrevs: &[u8]) -> Tables
@@ -22,7 +22,7 @@ pub fn no_tables(alloc: Global, abbrevs: &[u8]) -> Tables
     let _abbrevs = abbrevs;
     Tables {
         tables: BTreeMap::new(alloc),
-        declarations: 0,
+        bytes: 0,
     }
 }
 
@@ -39,21 +39,21 @@ impl Tables {
             Some(table) => Ok(table),
             None => {
                 let table = table_at(alloc, abbrevs, offset)?;
-                self.count(alloc, abbrevs, table.len());
+                self.count(alloc, abbrevs, table.size);
                 Ok(table)
             }
         }
     }
 
-    // Counts the declarations of one more table. Where there are more than bytes, tables overlap, and the others are let go.
-    fn count(&mut self, alloc: Global, abbrevs: &[u8], declarations: usize)
+    // Counts the bytes of one more table. Where there are more than the section has, tables overlap, and the others are let go.
+    fn count(&mut self, alloc: Global, abbrevs: &[u8], bytes: usize)
         requires { AreTables abbrevs.now self.old }
         ensures { AreTables abbrevs.now self.new }
     {
-        self.declarations = self.declarations.saturating_add(declarations);
-        if abbrevs.len() < self.declarations {
+        self.bytes = self.bytes.saturating_add(bytes);
+        if abbrevs.len() < self.bytes {
             self.tables = BTreeMap::new(alloc);
-            self.declarations = declarations;
+            self.bytes = bytes;
         }
     }
 
