@@ -4,7 +4,7 @@ ghost use Rattle.dbg_model.specs.declared.entry.Why.TheVariants as reason;
 ghost use Rattle.dbg_model.specs.Breaks.{is_number, is_stop, same_error};
 ghost use Rattle.dbg_model.specs.State.{is_counted};
 ghost use Rattle.dbg_model.specs.Lawful.{counted_by, enter, left_by, leaver_from, ran, stopped_by};
-ghost use Rattle.elf_symbols.specs.Entries.{names_of};
+ghost use Rattle.source_index.specs.Sources.{sources_of};
 ghost use Rattle.dbg_replay.specs.Parts.{shown};
 ghost use Rattle.dbg_replay.specs.Going.{Comes, Kept, traps_with};
 
@@ -16,8 +16,8 @@ use crate::state::Parts;
 use crate::stepping::{execute_plain, step};
 use break_table::{CondError, Due};
 use dbg_model::{Entry, Opening, Why};
-use elf_symbols::Symbols;
 use rv_exec::{Cause, Stepped};
+use source_index::SourceIndex;
 use std::alloc::Global;
 
 // So many instructions of a hart, at least one.
@@ -167,12 +167,12 @@ fn leave(opening: &Opening, parts: &mut Parts, h: u32, code: u32) -> Result<(), 
 pub fn enter(
     alloc: Global,
     opening: &Opening,
-    symbols: &Symbols,
+    sources: &SourceIndex,
     parts: &mut Parts,
     entry: &Entry,
 ) -> Result<(), Halt>
     requires kept { Kept opening.now parts.old }
-    requires names { symbols.now ≡ names_of opening.now.image }
+    requires sources { sources.now ≡ sources_of opening.now.image }
     requires room { parts.old.noted < 2 ^ 64 - 1 }
     ensures { Comes opening.now result (enter opening.now (shown parts.old) entry.now) parts.new }
 {
@@ -185,6 +185,6 @@ pub fn enter(
             Why::Fault(cause) => stop_by(opening, parts, *hart, cause),
         },
         Entry::Left { hart, code } => leave(opening, parts, *hart, *code),
-        Entry::Did { line } => do_line(alloc, opening, symbols, parts, line.as_slice()),
+        Entry::Did { line } => do_line(alloc, opening, sources, parts, line.as_slice()),
     }
 }

@@ -1,7 +1,7 @@
 // Lines: whether each may be done, and what it changes.
 ghost use Rattle.std.specs.Prelude.{◌≡◌, ◌≤◌, ◌<◌, ◌-◌, ◌^◌, ℕ, List, IfOk, None, Some, if◌then◌else◌, length, map};
 ghost use Rattle.mi_commands.specs.Gives.{Commands};
-ghost use Rattle.elf_symbols.specs.Entries.{names_of};
+ghost use Rattle.source_index.specs.Sources.{sources_of};
 ghost use Rattle.dbg_model.specs.Lawful.{may_do};
 ghost use Rattle.dbg_model.specs.Reply.{answer_of, done_by};
 ghost use Rattle.dbg_model.specs.Sight.{view_of};
@@ -19,8 +19,8 @@ use crate::state::Parts;
 use dbg_answers::{Debuggee, Effect, answer_line, waits};
 use dbg_model::{Mode, Opening, ThreadView};
 use dbg_traits::NoMemory;
-use elf_symbols::Symbols;
 use mi_commands::{CommandLine, Refusal, command_of};
+use source_index::SourceIndex;
 use std::alloc::{AllocError, Global};
 
 fn view(hart: ModelHart) -> ThreadView
@@ -69,19 +69,19 @@ fn may_do(opening: &Opening, parts: &Parts, read: &Result<CommandLine, Refusal>)
 fn effect_of<'a>(
     alloc: Global,
     opening: &'a Opening,
-    symbols: &'a Symbols,
+    sources: &'a SourceIndex,
     parts: &'a Parts,
     read: Result<CommandLine, Refusal>,
 ) -> Result<Effect, NoMemory>
     requires few { length parts.now.harts.items ≤ 16 }
     requires given { parts.now.table.given < 2 ^ 32 - 1 }
-    requires names { symbols.now ≡ names_of opening.now.image }
+    requires sources { sources.now ≡ sources_of opening.now.image }
     ensures { (line : List ℕ) → Commands line read → IfOk result (λ e. change_of e ≡ (answer_of opening.now (shown parts.now) line).outcome.change) }
 {
     let threads = views(alloc, parts.harts.as_slice())?;
     let debuggee = Debuggee {
         image: &opening.image,
-        symbols,
+        sources,
         memory: &parts.memory,
         threads: threads.as_slice(),
         table: &parts.table,
@@ -97,12 +97,12 @@ fn effect_of<'a>(
 pub fn do_line(
     alloc: Global,
     opening: &Opening,
-    symbols: &Symbols,
+    sources: &SourceIndex,
     parts: &mut Parts,
     line: &[u8],
 ) -> Result<(), Halt>
     requires kept { Kept opening.now parts.old }
-    requires names { symbols.now ≡ names_of opening.now.image }
+    requires sources { sources.now ≡ sources_of opening.now.image }
     requires room { parts.old.noted < 2 ^ 64 - 1 }
     ensures { Comes opening.now result (if may_do opening.now (shown parts.old) line.now then Some (done_by opening.now (shown parts.old) line.now) else None) parts.new }
 {
@@ -110,7 +110,7 @@ pub fn do_line(
     if !may_do(opening, parts, &read) {
         return Err(Halt::Unlawful);
     }
-    let effect = effect_of(alloc, opening, symbols, parts, read)?;
+    let effect = effect_of(alloc, opening, sources, parts, read)?;
     make(parts, effect);
     Ok(())
 }

@@ -2,7 +2,7 @@
 ghost use Rattle.std.specs.Prelude.{◌≡◌, ◌≤◌, IfOk, replicate};
 ghost use Rattle.std.specs.Option.{option_map};
 ghost use Rattle.dbg_traits.specs.Settings.{AreSettings};
-ghost use Rattle.elf_symbols.specs.Entries.{names_of};
+ghost use Rattle.source_index.specs.Sources.{sources_of};
 ghost use Rattle.dbg_model.specs.State.{first_harts, first_state};
 ghost use Rattle.dbg_model.specs.Journals.{follows, ran_hart, replay};
 ghost use Rattle.dbg_replay.specs.Parts.{shown};
@@ -16,10 +16,10 @@ use break_table::BreakTable;
 use data_memory::DataMemory;
 use dbg_model::{Entry, Journal, Mode, Opening};
 use dbg_traits::NoMemory;
-use elf_symbols::{Symbols, symbols};
 use elf32_read::Image;
 use mi_commands::Displaced;
 use plain_machine::first_registers;
+use source_index::SourceIndex;
 use std::alloc::{AllocError, Global};
 
 fn first_harts(alloc: Global, image: &Image, harts: u32) -> Result<Vec<ModelHart>, AllocError>
@@ -94,13 +94,13 @@ fn ran_hart(entry: &Entry) -> Option<u32>
 fn go_through(
     alloc: Global,
     opening: &Opening,
-    symbols: &Symbols,
+    sources: &SourceIndex,
     parts: &mut Parts,
     entries: &[Entry],
 ) -> Result<(), Halt>
     requires first { shown parts.old ≡ first_state opening.now }
     requires kept { Kept opening.now parts.old }
-    requires names { symbols.now ≡ names_of opening.now.image }
+    requires sources { sources.now ≡ sources_of opening.now.image }
     ensures { Ends result (option_map state_of (replay opening.now entries.now)) parts.new }
 {
     let mut prev = None;
@@ -108,7 +108,7 @@ fn go_through(
         if !follows(prev, entry) {
             return Err(Halt::Unlawful);
         }
-        enter(alloc, opening, symbols, parts, entry)?;
+        enter(alloc, opening, sources, parts, entry)?;
         prev = ran_hart(entry);
     }
     Ok(())
@@ -126,8 +126,8 @@ pub fn replay(
     ensures { IfOk result (λ r. r ≡ option_map (λ p. p.state) (replay opening.now journal.now)) }
 {
     let mut parts = first_parts(alloc, opening)?;
-    let symbols = symbols(alloc, &opening.image)?;
-    match go_through(alloc, opening, &symbols, &mut parts, journal.entries()) {
+    let sources = SourceIndex::build(alloc, &opening.image)?;
+    match go_through(alloc, opening, &sources, &mut parts, journal.entries()) {
         Ok(()) => Ok(Some(ModelState::of(parts))),
         Err(Halt::Unlawful) => Ok(None),
         Err(Halt::NoMemory) => Err(NoMemory),
