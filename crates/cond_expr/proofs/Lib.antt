@@ -8,3 +8,4 @@ pub mod Only
 pub mod Total
 pub mod Turns
 pub mod Words
+pub mod Parsing

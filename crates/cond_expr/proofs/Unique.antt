@@ -34,7 +34,7 @@ stops_more least k (Joins op) le h = omega arith
 stops_more least k Closes le h = tt
 stops_more least k Neither le h = tt
 
-stops_up : (least k : ℕ) (rest : List Spot) → least ≤ k → Stops least rest → Stops k rest
+pub stops_up : (least k : ℕ) (rest : List Spot) → least ≤ k → Stops least rest → Stops k rest
 stops_up least k [] le h = tt
 stops_up least k (s ∷ rest) le h = stops_more least k (follow_of s.token) le h
 
@@ -67,7 +67,7 @@ stops_11 (s ∷ rest) = weak (follow_of s.token)
     weak Closes = tt
     weak Neither = tt
 
-closed : (k : ℕ) (f : Follow) → f ≡ Closes → IsWeaker k f
+pub closed : (k : ℕ) (f : Follow) → f ≡ Closes → IsWeaker k f
 closed k f e = rw e tt
 
 -- a tree is read by reading as far as it goes, if what goes on behind it is read so too

@@ -9,3 +9,4 @@ pub mod Lex
 pub mod Bare
 pub mod Value
 pub mod Condition
+pub mod Reader

@@ -1,10 +1,12 @@
 //! A condition: its text, and the tree that it spells.
 
-ghost use Rattle.std.specs.Prelude.{◌≡◌, ◌<◌, ◌≤◌, length, IfOk};
+ghost use Rattle.std.specs.Prelude.{◌≡◌, ℕ, ◌<◌, ◌≤◌, List, length, Some, Ok, Err, IfOk};
+ghost use Rattle.elf_symbols.specs.Names.{Names};
 ghost use Rattle.cond_expr.specs.Term.{Term, term_of};
 ghost use Rattle.cond_expr.specs.Fault.{first_fault, MeetsFault};
 ghost use Rattle.cond_expr.specs.Lex.{tokens_of};
 ghost use Rattle.cond_expr.specs.Condition.{Tree, GivesTerm, text_of, tree_of};
+ghost use Rattle.cond_expr.specs.Reader.{parsed};
 ghost use Rattle.cond_expr.specs.Value.{value_of};
 
 use crate::climbing::parse_tokens;
@@ -72,3 +74,10 @@ pub fn value<V: View>(e: &Expr, view: &V) -> Value
 {
     node_value(&e.root, view)
 }
+
+/// The reader by strengths gives the tree that a text spells, or the text's first fault.
+pub fn parsed_is_tree()
+    ensures tree { (names : Names) (text : List ℕ) (x : Term) → Tree text names x → parsed names text ≡ Ok x }
+    ensures fault { (names : Names) (text : List ℕ) (f : ExprFault) → length text ≤ 256 → first_fault (length text) (tokens_of names text) ≡ Some f → parsed names text ≡ Err f }
+    ensures long { (names : Names) (text : List ℕ) → 256 < length text → parsed names text ≡ Err (record { kind = FaultKind.Long; at = 256 }) }
+{}

@@ -15,7 +15,7 @@ mod word;
 pub use bare::{BareName, bare_names};
 pub use climbing::accepted_is_tree;
 pub use evaluating::{Value, node_value};
-pub use expr::{Expr, parse, value};
+pub use expr::{Expr, parse, parsed_is_tree, value};
 pub use fault::{ExprFault, FaultKind, ParseError};
 pub use register::Register;
 pub use token::{Binary, Leaf, Prefix, ReadType};

@@ -10,8 +10,8 @@ use Rattle.cond_expr.specs.declared.fault.ParseError.TheVariants as failures
 use Rattle.cond_expr.specs.Condition.{Tree, text_of, tree_of}
 use Rattle.cond_expr.specs.Fault.{first_fault, MeetsFault}
 use Rattle.cond_expr.specs.Lex.{tokens_of}
-use Rattle.dbg_model.specs.Conditions.{parsed}
-use Rattle.dbg_model.proofs.Parsing.{parsed_tree, parsed_fault, parsed_long}
+use Rattle.cond_expr.specs.Reader.{parsed}
+use Rattle.cond_expr.proofs.Parsing.{parsed_tree, parsed_fault, parsed_long}
 use Rattle.dbg_answers.specs.Reading.{ReadsAs}
 
 fits_or : (n : ℕ) → (256 < n) ⊎ (n ≤ 256)

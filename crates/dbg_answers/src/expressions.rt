@@ -1,7 +1,7 @@
 ghost use Rattle.std.specs.Prelude.{◌≡◌};
 ghost use Rattle.std.specs.Option.{option_map};
 ghost use Rattle.break_table.specs.Entry.{condition_of};
-ghost use Rattle.dbg_model.specs.Conditions.{parsed};
+ghost use Rattle.cond_expr.specs.Reader.{parsed};
 ghost use Rattle.dbg_model.specs.Breakpoints.{condition, expression};
 ghost use Rattle.dbg_model.specs.Data.{evaluate, worth_as};
 ghost use Rattle.dbg_answers.specs.Debuggee.{seen};
@@ -70,7 +70,7 @@ pub fn evaluate(
     ensures { Gives result (evaluate (seen debuggee.now) thread text.now) }
 {
     let regs = debuggee.stopped(thread.unwrap_or(debuggee.selected))?;
-    let expression = read(alloc, debuggee.symbols, text.as_slice())?;
+    let expression = read(alloc, debuggee.sources.symbols(), text.as_slice())?;
     let view = SeenHart {
         regs: &regs,
         image: debuggee.image,

@@ -7,5 +7,4 @@ pub mod Bounding
 pub mod Numbering
 pub mod Replying
 pub mod Founding
-pub mod Parsing
 pub mod Ending

@@ -19,7 +19,7 @@ use Rattle.dbg_model.specs.declared.reply.Obstacle.TheVariants.{UnknownThread, N
 use Rattle.dbg_model.specs.declared.reply.Refused.{Refused}
 use Rattle.dbg_model.specs.declared.reply.Refused.TheVariants.{Hindered, UnknownName, UnknownLine}
 use Rattle.dbg_model.specs.Breaks.{missing_number}
-use Rattle.dbg_model.specs.Conditions.{parsed}
+use Rattle.cond_expr.specs.Reader.{parsed}
 use Rattle.dbg_model.specs.Limits.{breakpoints}
 use Rattle.dbg_model.specs.Sight.{Sight, thread_at}
 use Rattle.dbg_model.specs.Places.{function_name, source_line}

@@ -1,6 +1,5 @@
 pub mod Limits
 pub mod Breaks
-pub mod Conditions
 pub mod Views
 pub mod State
 pub mod Places

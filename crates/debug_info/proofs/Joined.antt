@@ -19,64 +19,64 @@ joined_nothing a =
     ∙ ap (λ (fs : List UnitFault). record { units = a.units; faults = fs }) (append-nil a.faults)
 
 -- what was read, and what is left
-pub record Collects (abbrevs strs info : List ℕ) (contents : Contents) (at : ℕ) : Type 0 where
+pub record Collects (abbrevs : List ℕ) (texts : ℕ) (info : List ℕ) (contents : Contents) (at : ℕ) : Type 0 where
   pub most : ℕ
   pub enough : length info < at + most
   pub within : at ≤ length info
-  pub same : contents_of abbrevs strs info ≡ joined contents (contents_from most abbrevs strs info at)
+  pub same : contents_of abbrevs texts info ≡ joined contents (contents_from most abbrevs texts info at)
 
-pub collects_start : (abbrevs strs info : List ℕ) (contents : Contents) → contents ≡ no_units → Collects abbrevs strs info contents 0
+pub collects_start : (abbrevs : List ℕ) (texts : ℕ) (info : List ℕ) (contents : Contents) → contents ≡ no_units → Collects abbrevs texts info contents 0
 unfolding contents_of
-collects_start abbrevs strs info contents none = record {
+collects_start abbrevs texts info contents none = record {
   most = length info + 1;
   enough = omega arith;
   within = omega arith;
-  same = ap (λ (c : Contents). joined c (contents_from (length info + 1) abbrevs strs info 0)) (sym none);
+  same = ap (λ (c : Contents). joined c (contents_from (length info + 1) abbrevs texts info 0)) (sym none);
 }
 
-from_end : (most : ℕ) (abbrevs strs info : List ℕ) (at : ℕ) → length info ≤ at → contents_from most abbrevs strs info at ≡ no_units
-from_end zero abbrevs strs info at h = refl
-from_end (suc most) abbrevs strs info at h = let past : nat_le (length info) at ≡ true = grind (arith, nat_tests) in rw past refl
+from_end : (most : ℕ) (abbrevs : List ℕ) (texts : ℕ) (info : List ℕ) (at : ℕ) → length info ≤ at → contents_from most abbrevs texts info at ≡ no_units
+from_end zero abbrevs texts info at h = refl
+from_end (suc most) abbrevs texts info at h = let past : nat_le (length info) at ≡ true = grind (arith, nat_tests) in rw past refl
 
-pub collects_end : (abbrevs strs info : List ℕ) (contents : Contents) (at : ℕ) → length info ≤ at → Collects abbrevs strs info contents at → contents ≡ contents_of abbrevs strs info
-collects_end abbrevs strs info contents at h c =
-    sym (c.same ∙ ap (joined contents) (from_end c.most abbrevs strs info at h) ∙ joined_nothing contents)
+pub collects_end : (abbrevs : List ℕ) (texts : ℕ) (info : List ℕ) (contents : Contents) (at : ℕ) → length info ≤ at → Collects abbrevs texts info contents at → contents ≡ contents_of abbrevs texts info
+collects_end abbrevs texts info contents at h c =
+    sym (c.same ∙ ap (joined contents) (from_end c.most abbrevs texts info at h) ∙ joined_nothing contents)
 
-record Step (abbrevs strs info : List ℕ) (contents : Contents) (at : ℕ) : Type 0 where
+record Step (abbrevs : List ℕ) (texts : ℕ) (info : List ℕ) (contents : Contents) (at : ℕ) : Type 0 where
   more : ℕ
   enough : length info ≤ at + more
-  same : contents_of abbrevs strs info ≡ joined contents (and_behind abbrevs strs info at (contents_from more abbrevs strs info) (unit_end info at))
+  same : contents_of abbrevs texts info ≡ joined contents (and_behind abbrevs texts info at (contents_from more abbrevs texts info) (unit_end info at))
 
-step_from : (abbrevs strs info : List ℕ) (contents : Contents) (at most : ℕ) → at < length info → length info < at + most
-    → contents_of abbrevs strs info ≡ joined contents (contents_from most abbrevs strs info at) → Step abbrevs strs info contents at
-step_from abbrevs strs info contents at zero h enough same = absurd (omega arith)
-step_from abbrevs strs info contents at (suc most) h enough same =
+step_from : (abbrevs : List ℕ) (texts : ℕ) (info : List ℕ) (contents : Contents) (at most : ℕ) → at < length info → length info < at + most
+    → contents_of abbrevs texts info ≡ joined contents (contents_from most abbrevs texts info at) → Step abbrevs texts info contents at
+step_from abbrevs texts info contents at zero h enough same = absurd (omega arith)
+step_from abbrevs texts info contents at (suc most) h enough same =
     let within : nat_le (length info) at ≡ false = grind (arith, nat_tests) in
     record {
       more = most;
       enough = omega arith;
-      same = same ∙ ap (λ (b : Bool). joined contents (if b then no_units else and_behind abbrevs strs info at (contents_from most abbrevs strs info) (unit_end info at))) within;
+      same = same ∙ ap (λ (b : Bool). joined contents (if b then no_units else and_behind abbrevs texts info at (contents_from most abbrevs texts info) (unit_end info at))) within;
     }
 
-step : (abbrevs strs info : List ℕ) (contents : Contents) (at : ℕ) → at < length info → Collects abbrevs strs info contents at → Step abbrevs strs info contents at
-step abbrevs strs info contents at h c = step_from abbrevs strs info contents at c.most h c.enough c.same
+step : (abbrevs : List ℕ) (texts : ℕ) (info : List ℕ) (contents : Contents) (at : ℕ) → at < length info → Collects abbrevs texts info contents at → Step abbrevs texts info contents at
+step abbrevs texts info contents at h c = step_from abbrevs texts info contents at c.most h c.enough c.same
 
-pub collects_last : (abbrevs strs info : List ℕ) (contents new : Contents) (at : ℕ) (e : InfoFault) → at < length info → unit_end info at ≡ Err e → new ≡ joined contents (one_unit at (Err e))
-    → Collects abbrevs strs info contents at → new ≡ contents_of abbrevs strs info
-collects_last abbrevs strs info contents new at e h end is c =
-    let s = step abbrevs strs info contents at h c in
-    is ∙ sym (s.same ∙ ap (λ (r : Result ℕ InfoFault). joined contents (and_behind abbrevs strs info at (contents_from s.more abbrevs strs info) r)) end)
+pub collects_last : (abbrevs : List ℕ) (texts : ℕ) (info : List ℕ) (contents new : Contents) (at : ℕ) (e : InfoFault) → at < length info → unit_end info at ≡ Err e → new ≡ joined contents (one_unit at (Err e))
+    → Collects abbrevs texts info contents at → new ≡ contents_of abbrevs texts info
+collects_last abbrevs texts info contents new at e h end is c =
+    let s = step abbrevs texts info contents at h c in
+    is ∙ sym (s.same ∙ ap (λ (r : Result ℕ InfoFault). joined contents (and_behind abbrevs texts info at (contents_from s.more abbrevs texts info) r)) end)
 
-pub collects_next : (abbrevs strs info : List ℕ) (contents new : Contents) (at end : ℕ) → at < length info → unit_end info at ≡ Ok end → at < end → end ≤ length info
-    → new ≡ joined contents (one_unit at (unit_entries abbrevs strs (take end info) at)) → Collects abbrevs strs info contents at → Collects abbrevs strs info new end
-collects_next abbrevs strs info contents new at end h read later within is c =
-    let s = step abbrevs strs info contents at h c in
+pub collects_next : (abbrevs : List ℕ) (texts : ℕ) (info : List ℕ) (contents new : Contents) (at end : ℕ) → at < length info → unit_end info at ≡ Ok end → at < end → end ≤ length info
+    → new ≡ joined contents (one_unit at (unit_entries abbrevs texts (take end info) at)) → Collects abbrevs texts info contents at → Collects abbrevs texts info new end
+collects_next abbrevs texts info contents new at end h read later within is c =
+    let s = step abbrevs texts info contents at h c in
     record {
       most = s.more;
       enough = (let x = s.enough in omega arith);
       within = within;
       same = s.same
-          ∙ ap (λ (r : Result ℕ InfoFault). joined contents (and_behind abbrevs strs info at (contents_from s.more abbrevs strs info) r)) read
-          ∙ joined_assoc contents (one_unit at (unit_entries abbrevs strs (take end info) at)) (contents_from s.more abbrevs strs info end)
-          ∙ ap (λ (d : Contents). joined d (contents_from s.more abbrevs strs info end)) (sym is);
+          ∙ ap (λ (r : Result ℕ InfoFault). joined contents (and_behind abbrevs texts info at (contents_from s.more abbrevs texts info) r)) read
+          ∙ joined_assoc contents (one_unit at (unit_entries abbrevs texts (take end info) at)) (contents_from s.more abbrevs texts info end)
+          ∙ ap (λ (d : Contents). joined d (contents_from s.more abbrevs texts info end)) (sym is);
     }

@@ -3,6 +3,9 @@ pub mod Declared
 pub mod Specified
 pub mod Ends
 pub mod Joined
+pub mod Dropped
+pub mod Opened
+pub mod Texts
 pub mod Orders
 pub mod Merge
 pub mod Lookups

@@ -1,5 +1,5 @@
 -- The attributes of entries, and what they say (DWARF 4, sections 2.2, 2.5.5, 2.6, 2.17, 3.3, 5.1, 7.5.4 and 7.8).
-use Rattle.std.specs.Prelude.{ℕ, zero, suc, ◌+◌, ◌^◌, ◌==◌, ◌||◌, Bool, List, length, min, Option, None, Some, Err, if◌then◌else◌}
+use Rattle.std.specs.Prelude.{ℕ, zero, suc, ◌+◌, ◌^◌, ◌==◌, ◌||◌, Bool, List, [], ◌∷◌, length, min, Option, None, Some, Ok, Err, if◌then◌else◌}
 use Rattle.debug_info.specs.Reading.{◌>>=◌, Read, found}
 use Rattle.debug_info.specs.Abbreviations.{specification_at}
 use Rattle.debug_info.specs.Expressions.{base_of, place_of}
@@ -32,42 +32,61 @@ tag_of code =
     else (if code == 0x35 then tag.Volatile
     else tag.Other))))))))
 
-abbrev pub no_attributes : Attributes
-no_attributes = record { location = None; name = None; byte_size = None; low_pc = None; high_pc = None; encoding = None; frame_base = None; type_of = None }
+-- the values of an entry's attributes, each with its name, by their specifications in order
+abbrev pub value_behind : ℕ → List ℕ → (ℕ → ℕ → Read (List (ℕ × Value))) → ℕ → Option Specification × ℕ → Read (List (ℕ × Value))
+value_behind texts info rest at (None, behind) = found [] at
+value_behind texts info rest at (Some s, behind) = do
+  v ← value_at s.form texts info at
+  others ← rest behind v.1
+  found ((s.name, v.0) ∷ others.0) others.1
 
-abbrev pub or_first : Option Value → Value → Option Value
-or_first None v = Some v
-or_first (Some first) v = Some first
+-- by the specifications from one on, of which there are no more than bytes
+abbrev pub values_from : ℕ → List ℕ → ℕ → List ℕ → ℕ → ℕ → Read (List (ℕ × Value))
+values_from zero abbrevs texts info specified at = Err fault.Short
+values_from (suc most) abbrevs texts info specified at = specification_at abbrevs specified >>= value_behind texts info (values_from most abbrevs texts info) at
 
--- DW_AT_location, name, byte_size, low_pc, high_pc, encoding, frame_base and type; of those of a name the first counts
-abbrev pub with_value : Attributes → ℕ → Value → Attributes
-with_value a name v =
-    if name == 0x02 then record a { location = or_first a.location v }
-    else (if name == 0x03 then record a { name = or_first a.name v }
-    else (if name == 0x0B then record a { byte_size = or_first a.byte_size v }
-    else (if name == 0x11 then record a { low_pc = or_first a.low_pc v }
-    else (if name == 0x12 then record a { high_pc = or_first a.high_pc v }
-    else (if name == 0x3E then record a { encoding = or_first a.encoding v }
-    else (if name == 0x40 then record a { frame_base = or_first a.frame_base v }
-    else (if name == 0x49 then record a { type_of = or_first a.type_of v }
-    else a)))))))
+-- the value of a name: of several the first
+abbrev pub first_of : ℕ → List (ℕ × Value) → Option Value
+first_of name [] = None
+first_of name (v ∷ vs) = if v.0 == name then Some v.1 else first_of name vs
 
--- a value by a specification, and the others behind it
-abbrev pub with_specified : List ℕ → List ℕ → (ℕ → Attributes → ℕ → Read Attributes) → Attributes → ℕ → Option Specification × ℕ → Read Attributes
-with_specified strs info rest attributes at (None, behind) = found attributes at
-with_specified strs info rest attributes at (Some s, behind) = do
-  v ← value_at s.form strs info at
-  rest behind (with_value attributes s.name v.0) v.1
+-- DW_AT_location, name, byte_size, low_pc, high_pc, encoding, frame_base and type
+abbrev pub attributes_of : List (ℕ × Value) → Attributes
+attributes_of vs = record {
+  location = first_of 0x02 vs;
+  name = first_of 0x03 vs;
+  byte_size = first_of 0x0B vs;
+  low_pc = first_of 0x11 vs;
+  high_pc = first_of 0x12 vs;
+  encoding = first_of 0x3E vs;
+  frame_base = first_of 0x40 vs;
+  type_of = first_of 0x49 vs;
+}
 
--- beside those before, the attributes by the specifications from one on, of which there are no more than bytes
-abbrev pub attributes_from : ℕ → List ℕ → List ℕ → List ℕ → ℕ → Attributes → ℕ → Read Attributes
-attributes_from zero abbrevs strs info specified attributes at = Err fault.Short
-attributes_from (suc most) abbrevs strs info specified attributes at =
-    specification_at abbrevs specified >>= with_specified strs info (attributes_from most abbrevs strs info) attributes at
+abbrev pub attributes_by : Read (List (ℕ × Value)) → Read Attributes
+attributes_by (Ok (vs, next)) = found (attributes_of vs) next
+attributes_by (Err e) = Err e
 
 -- the attributes at a place whose specifications stand at another
-abbrev pub attributes_at : List ℕ → List ℕ → List ℕ → ℕ → ℕ → Read Attributes
-attributes_at abbrevs strs info specifications at = attributes_from (length abbrevs + 1) abbrevs strs info specifications no_attributes at
+abbrev pub attributes_at : List ℕ → ℕ → List ℕ → ℕ → ℕ → Read Attributes
+attributes_at abbrevs texts info specifications at = attributes_by (values_from (length abbrevs + 1) abbrevs texts info specifications at)
+
+-- one value more
+abbrev pub or_named : ℕ → Option Value → ℕ → Value → Option Value
+or_named code (Some first) name v = Some first
+or_named code None name v = if name == code then Some v else None
+
+abbrev pub with_value : Attributes → ℕ → Value → Attributes
+with_value a name v = record {
+  location = or_named 0x02 a.location name v;
+  name = or_named 0x03 a.name name v;
+  byte_size = or_named 0x0B a.byte_size name v;
+  low_pc = or_named 0x11 a.low_pc name v;
+  high_pc = or_named 0x12 a.high_pc name v;
+  encoding = or_named 0x3E a.encoding name v;
+  frame_base = or_named 0x40 a.frame_base name v;
+  type_of = or_named 0x49 a.type_of name v;
+}
 
 abbrev pub text_of : Option Value → Option TextPlace
 text_of (Some (value.Text place)) = Some place

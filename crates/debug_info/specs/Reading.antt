@@ -1,5 +1,5 @@
 -- Steps of reading, each of which may meet a fault: the first that is met is the answer.
-use Rattle.std.specs.Prelude.{ℕ, ◌+◌, nat_le, List, length, Result, Ok, Err, if◌then◌else◌}
+use Rattle.std.specs.Prelude.{ℕ, ◌+◌, ◌-◌, nat_le, List, length, Result, Ok, Err, if◌then◌else◌}
 use Rattle.leb_read.specs.declared.fault.Leb.{Leb}
 use Rattle.leb_read.specs.declared.fault.Leb.TheVariants as leb
 use Rattle.debug_info.specs.declared.fault.InfoFault.{InfoFault}
@@ -27,6 +27,6 @@ Read A = Result (A × ℕ) InfoFault
 abbrev pub found : {A : Type 0} → A → ℕ → Read A
 found value next = Ok (value, next)
 
--- the place behind n bytes
+-- the place behind n bytes, where so many are left
 unfoldable pub behind_run : ℕ → List ℕ → ℕ → Result ℕ InfoFault
-behind_run n bytes at = if nat_le (at + n) (length bytes) then Ok (at + n) else Err fault.Short
+behind_run n bytes at = if nat_le n (length bytes - at) then Ok (at + n) else Err fault.Short

@@ -1,5 +1,5 @@
 -- The variables that can be seen at an address (DWARF 4, sections 2.3, 3.3 to 3.5, 4.1 and 5.1 to 5.3).
-use Rattle.std.specs.Prelude.{ℕ, zero, suc, ◌+◌, ◌-◌, ◌==◌, nat_le, nat_lt, ◌&&◌, ◌||◌, Bool, true, false, not, List, [], ◌∷◌, ◌++◌, map, filter, drop, find, slice_get, unwrap_or, Option, None, Some, take_while, is_some, if◌then◌else◌}
+use Rattle.std.specs.Prelude.{ℕ, zero, suc, ◌==◌, nat_le, nat_lt, ◌&&◌, ◌||◌, Bool, true, false, not, List, [], ◌∷◌, ◌++◌, map, filter, drop, find, slice_get, unwrap_or, Option, None, Some, take_while, is_some, if◌then◌else◌}
 use Rattle.leb_read.specs.Leb.{is_text_byte}
 use Rattle.debug_info.specs.declared.entry.Entry.{Entry}
 use Rattle.debug_info.specs.declared.entry.Kind.{Kind}
@@ -107,14 +107,23 @@ is_entered pc e = is_block e.tag && is_within pc e.range
 abbrev pub is_own : ℕ → Entry → Bool
 is_own pc e = not (is_entered pc e) && is_named e
 
--- An entry one level below the innermost open one is its child, and a deeper one stands in what isn't entered. Of the entries behind
--- a function's, up to the first that isn't below it, those are its own and its blocks' that cover pc.
-abbrev pub own_entries : ℕ → ℕ → ℕ → List Entry → List Entry
-own_entries pc function innermost [] = []
-own_entries pc function innermost (e ∷ es) =
-    if nat_le e.level function then []
-    else (if nat_lt (innermost + 1) e.level then own_entries pc function innermost es
-    else filter (is_own pc) (e ∷ []) ++ own_entries pc function (if is_entered pc e then e.level else e.level - 1) es)
+-- The parent of an entry is the nearest before it that is less deep. Of an entry behind a function's, with those between them,
+-- the nearest first: each that it stands in is a block that covers pc, up to the function.
+abbrev pub is_open : ℕ → List Entry → ℕ → Bool
+is_open pc [] level = true
+is_open pc (e ∷ before) level = if nat_lt e.level level then is_entered pc e && is_open pc before e.level else is_open pc before level
+
+abbrev pub own_among : ℕ → List Entry → List Entry → List Entry
+own_among pc before [] = []
+own_among pc before (e ∷ es) = filter (λ x. is_open pc before x.level && is_own pc x) (e ∷ []) ++ own_among pc (e ∷ before) es
+
+-- the entries that stand in a function, of those behind it
+abbrev pub inner : ℕ → List Entry → List Entry
+inner function behind = take_while (λ e. nat_lt function e.level) behind
+
+-- the named parameters and variables of a function, and of its blocks that cover pc
+abbrev pub own_entries : ℕ → ℕ → List Entry → List Entry
+own_entries pc function behind = own_among pc [] (inner function behind)
 
 -- those of the levels from one down, deeper ones first
 abbrev pub by_depth : ℕ → List Entry → List Entry
@@ -129,7 +138,7 @@ is_unit_variable e = (e.level == 2) && ((is_some e.name && is_variable e.tag) &&
 abbrev pub variables_in : Texts → ℕ → List Entry → List Entry → List Variable
 variables_in texts pc entries [] = []
 variables_in texts pc entries (f ∷ behind) =
-    map (variable_of texts entries f.base true) (by_depth 64 (own_entries pc f.level f.level behind))
+    map (variable_of texts entries f.base true) (by_depth 64 (own_entries pc f.level behind))
     ++ map (variable_of texts entries f.base false) (filter is_unit_variable entries)
 
 abbrev pub variables_by : Texts → List (List Entry) → ℕ → Option Function → List Variable

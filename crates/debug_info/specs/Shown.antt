@@ -1,5 +1,5 @@
--- How the code keeps variables and texts.
-use Rattle.std.specs.Prelude.{◌≡◌, List, [], ◌∷◌, map, Option, None, Some}
+-- How the code keeps variables, texts and where it stands.
+use Rattle.std.specs.Prelude.{◌≡◌, ℕ, Bool, false, nat_lt, List, [], ◌∷◌, map, Option, None, Some, if◌then◌else◌}
 use Rattle.std.specs.Borrow.{Bor}
 use Rattle.debug_info.specs.Scope as scope
 use Rattle.debug_info.specs.declared.entry.Entry.{Entry}
@@ -19,3 +19,11 @@ shown_variables vs = map shown_variable vs
 abbrev pub IsEntrySplit : List Entry → Option (Entry × Bor (List Entry)) → Type 0
 IsEntrySplit entries None = entries ≡ []
 IsEntrySplit entries (Some p) = entries ≡ p.0 ∷ p.1.now
+
+-- what the code keeps of the entries before: the level of one that isn't entered and that an entry may stand in
+abbrev pub is_below : Option ℕ → ℕ → Bool
+is_below None level = false
+is_below (Some shut) level = nat_lt shut level
+
+abbrev pub shut_by : ℕ → Entry → Option ℕ
+shut_by pc e = if scope.is_entered pc e then None else Some e.level

@@ -1,13 +1,14 @@
 //! Tables of abbreviations (DWARF 4, section 7.5.3).
 
-ghost use Rattle.std.specs.Prelude.{◌≡◌, ◌<◌, ◌≤◌, ◌+◌, IfOk, OnOk, length};
+ghost use Rattle.std.specs.Prelude.{◌≡◌, ◌<◌, ◌≤◌, ◌+◌, IfOk, IfSome, OnOk, length};
 ghost use Rattle.debug_info.specs.Forms.{IsReadTo};
 ghost use Rattle.leb_read.specs.Leb.{IsBehind};
 ghost use Rattle.debug_info.specs.Abbreviations.{declaration_at, specification_at, specifications_end};
-ghost use Rattle.debug_info.specs.Tables.{IsPut, IsTable, looked_up};
+ghost use Rattle.debug_info.specs.Tables.{AreServed, Finds, IsEnded, IsPut, IsTable, looked_up};
 ghost use Rattle.debug_info.specs.Abbreviations.{abbreviation_of};
 
 use crate::fault::InfoFault;
+use crate::used::used_at;
 use dbg_traits::NoMemory;
 use leb_read::{u8_at, uleb};
 use std::alloc::Global;
@@ -29,12 +30,22 @@ pub struct Specification {
     pub form: u64,
 }
 
+/// A declaration, with the specifications of its attributes.
+#[derive(Drop)]
+pub struct Abbreviation {
+    pub declaration: Declaration,
+    /// Without those that have no bytes in an entry and give it nothing.
+    pub used: Vec<Specification>,
+}
+
 /// A table of abbreviations, by their codes.
 #[derive(Drop)]
 pub struct Table {
     /// Where it begins.
     pub at: usize,
-    declarations: BTreeMap<u64, Declaration>,
+    /// How many bytes were read up to its end.
+    pub size: usize,
+    declarations: BTreeMap<u64, Abbreviation>,
     /// Why another code isn't found.
     end: InfoFault,
 }
@@ -81,6 +92,7 @@ fn declaration_at(
 ) -> Result<(Option<(u64, Declaration)>, usize), InfoFault>
     ensures value { result ≡ declaration_at abbrevs.now at }
     ensures within { IfOk result (λ r. IsBehind abbrevs.now at r.1) }
+    ensures ends { IfOk result (λ r. IfSome r.0 (λ d. IsEnded abbrevs.now d.1.attributes)) }
 {
     let (code, next) = uleb(abbrevs, at)?;
     if code == 0 {
@@ -99,16 +111,22 @@ fn declaration_at(
 
 // Puts a declaration at its code, unless there is one.
 fn put(
-    declarations: &mut BTreeMap<u64, Declaration>,
+    alloc: Global,
+    abbrevs: &[u8],
+    declarations: &mut BTreeMap<u64, Abbreviation>,
     code: u64,
     declaration: Declaration,
 ) -> Result<(), NoMemory>
-    ensures { OnOk result (IsPut declarations.old declarations.new code declaration) }
+    requires ends { IsEnded abbrevs.now declaration.attributes }
+    requires served { AreServed abbrevs.now declarations.old }
+    ensures served { OnOk result (AreServed abbrevs.now declarations.new) }
+    ensures put { OnOk result (IsPut declarations.old declarations.new code declaration) }
 {
     match declarations.get(&code) {
         Some(_) => Ok(()),
         None => {
-            declarations.insert(code, declaration)?;
+            let used = used_at(alloc, abbrevs, declaration.attributes)?;
+            declarations.insert(code, Abbreviation { declaration, used })?;
             Ok(())
         }
     }
@@ -125,7 +143,7 @@ pub fn table_at(alloc: Global, abbrevs: &[u8], at: usize) -> Result<Table, NoMem
     'declarations: loop {
         let end = match declaration_at(abbrevs, place) {
             Ok((Some((code, declaration)), next)) => {
-                put(&mut declarations, code, declaration)?;
+                put(alloc, abbrevs, &mut declarations, code, declaration)?;
                 place = next;
                 continue;
             }
@@ -134,6 +152,7 @@ pub fn table_at(alloc: Global, abbrevs: &[u8], at: usize) -> Result<Table, NoMem
         };
         return Ok(Table {
             at,
+            size: place.saturating_sub(at),
             declarations,
             end,
         });
@@ -141,13 +160,13 @@ pub fn table_at(alloc: Global, abbrevs: &[u8], at: usize) -> Result<Table, NoMem
 }
 
 impl Table {
-    /// The declaration of a code.
-    pub fn find(&self, abbrevs: &[u8], code: u64) -> Result<Declaration, InfoFault>
+    /// The abbreviation of a code.
+    pub fn find(&self, abbrevs: &[u8], code: u64) -> Result<&Abbreviation, InfoFault>
         requires { IsTable abbrevs.now self.now }
-        ensures { result ≡ abbreviation_of (length abbrevs.now + 1) abbrevs.now code self.now.at }
+        ensures { Finds abbrevs.now result (abbreviation_of (length abbrevs.now + 1) abbrevs.now code self.now.at) }
     {
         match self.declarations.get(&code) {
-            Some(declaration) => Ok(*declaration),
+            Some(abbreviation) => Ok(abbreviation),
             None => Err(self.end),
         }
     }

@@ -1,17 +1,17 @@
-//! The entries of a unit (DWARF 4, sections 2.1 to 2.3 and 7.5.2).
+//! The entries of a unit (DWARF 4, source 2.1 to 2.3 and 7.5.2).
 
-ghost use Rattle.std.specs.Prelude.{◌≡◌, ◌<◌, ◌≤◌, ◌+◌, ◌-◌, IfOk, IfSome, OnOk, length, ◌++◌};
+ghost use Rattle.std.specs.Prelude.{◌≡◌, ◌<◌, ◌≤◌, ◌+◌, ◌-◌, IfOk, IfSome, OnOk, length, [], ◌++◌};
 ghost use Rattle.debug_info.specs.Forms.{IsReadTo};
-ghost use Rattle.debug_info.specs.Attributes.{attributes_at, basic_kind, constant_of, entry_of, expression_of, no_attributes, or_first, range_of, reference_of, tag_of, text_of, with_value};
+ghost use Rattle.debug_info.specs.Attributes.{attributes_at, attributes_by, attributes_of, basic_kind, constant_of, entry_of, expression_of, or_named, range_of, reference_of, tag_of, text_of, with_value};
 ghost use Rattle.debug_info.specs.Entries.{Gives, IsLevel, entries_from, entry_at, entry_list, level_behind};
 ghost use Rattle.debug_info.specs.Rising.{RisesFrom};
-ghost use Rattle.debug_info.specs.Tables.{IsTable};
+ghost use Rattle.debug_info.specs.Tables.{IsTable, values_by};
 
-use crate::abbreviation::{Declaration, Table, specification_at};
+use crate::abbreviation::{Declaration, Specification, Table};
 use crate::expression::{Base, Operation, Place, base_of, place_of};
 use crate::fault::{InfoError, InfoFault};
 use crate::form::{TextPlace, Value, value_at};
-use crate::offset::Sections;
+use crate::offset::Source;
 use dbg_traits::NoMemory;
 use leb_read::uleb;
 use std::alloc::Global;
@@ -103,8 +103,8 @@ fn tag_of(code: u64) -> Tag
     }
 }
 
-fn no_attributes() -> Attributes
-    ensures { result ≡ no_attributes }
+pub fn no_attributes() -> Attributes
+    ensures { result ≡ attributes_of [] }
 {
     Attributes {
         location: None,
@@ -118,79 +118,51 @@ fn no_attributes() -> Attributes
     }
 }
 
-fn or_first(first: Option<Value>, value: Value) -> Option<Value>
-    ensures { result ≡ or_first first value }
+// The value of a name: the first, or this one if it has the name.
+fn or_named(code: u64, first: Option<Value>, name: u64, value: Value) -> Option<Value>
+    ensures { result ≡ or_named code first name value }
 {
     match first {
         Some(_) => first,
-        None => Some(value),
+        None if name == code => Some(value),
+        None => None,
     }
 }
 
-// The attributes with one more; of those of a name the first counts.
-fn with_value(attributes: Attributes, name: u64, value: Value) -> Attributes
+// The attributes with one more.
+pub fn with_value(attributes: Attributes, name: u64, value: Value) -> Attributes
     ensures { result ≡ with_value attributes name value }
 {
-    match name {
-        0x02 => Attributes {
-            location: or_first(attributes.location, value),
-            ..attributes
-        },
-        0x03 => Attributes {
-            name: or_first(attributes.name, value),
-            ..attributes
-        },
-        0x0B => Attributes {
-            byte_size: or_first(attributes.byte_size, value),
-            ..attributes
-        },
-        0x11 => Attributes {
-            low_pc: or_first(attributes.low_pc, value),
-            ..attributes
-        },
-        0x12 => Attributes {
-            high_pc: or_first(attributes.high_pc, value),
-            ..attributes
-        },
-        0x3E => Attributes {
-            encoding: or_first(attributes.encoding, value),
-            ..attributes
-        },
-        0x40 => Attributes {
-            frame_base: or_first(attributes.frame_base, value),
-            ..attributes
-        },
-        0x49 => Attributes {
-            type_of: or_first(attributes.type_of, value),
-            ..attributes
-        },
-        _ => attributes,
+    Attributes {
+        location: or_named(0x02, attributes.location, name, value),
+        name: or_named(0x03, attributes.name, name, value),
+        byte_size: or_named(0x0B, attributes.byte_size, name, value),
+        low_pc: or_named(0x11, attributes.low_pc, name, value),
+        high_pc: or_named(0x12, attributes.high_pc, name, value),
+        encoding: or_named(0x3E, attributes.encoding, name, value),
+        frame_base: or_named(0x40, attributes.frame_base, name, value),
+        type_of: or_named(0x49, attributes.type_of, name, value),
     }
 }
 
-// The attributes whose specifications stand at a place of the abbreviations.
-fn attributes_at(
-    sections: &Sections<'_>,
-    specifications: usize,
+// The attributes at a place, by their specifications.
+fn attributes_by(
+    source: &Source<'_>,
+    used: &[Specification],
     at: usize,
 ) -> Result<(Attributes, usize), InfoFault>
-    requires { at ≤ length sections.now.info.now }
-    ensures value { result ≡ attributes_at sections.now.abbrevs.now sections.now.strs.now sections.now.info.now specifications at }
-    ensures within { IfOk result (λ r. IsReadTo sections.now.info.now at r.1) }
+    requires { at ≤ length source.now.info.now }
+    ensures value { result ≡ attributes_by (values_by source.now.texts_end source.now.info.now used.now at) }
+    ensures within { IfOk result (λ r. IsReadTo source.now.info.now at r.1) }
 {
     let mut attributes = no_attributes();
-    let mut specified = specifications;
     let mut place = at;
-    'attributes: loop {
-        let (specification, behind) = specification_at(sections.abbrevs, specified)?;
-        let Some(specification) = specification else {
-            return Ok((attributes, place));
-        };
-        let (value, next) = value_at(specification.form, sections.strs, sections.info, place)?;
+    for specification in used {
+        let (value, next) = value_at(specification.form, source.texts_end, source.info, place)?;
         attributes = with_value(attributes, specification.name, value);
-        specified = behind;
         place = next;
     }
+    Ok((attributes, place))
 }
 
 fn text_of(value: Option<Value>) -> Option<TextPlace>
@@ -280,31 +252,31 @@ fn entry_of(offset: usize, level: u8, declaration: Declaration, attributes: Attr
 // The entry at a place of a unit below so many levels, or none where children end, and the next place.
 #[tactic(auto, unfolding(crate::specs::Entries::entry_at))]
 fn entry_at(
-    sections: &Sections<'_>,
+    source: &Source<'_>,
     table: &Table,
     unit: usize,
     level: u8,
     at: usize,
 ) -> Result<(Option<Entry>, usize), InfoFault>
-    requires table { IsTable sections.now.abbrevs.now table.now }
+    requires table { IsTable source.now.abbrevs.now table.now }
     requires level { level ≤ 64 }
     requires unit { unit ≤ at }
-    ensures value { result ≡ entry_at sections.now.abbrevs.now sections.now.strs.now sections.now.info.now table.now.at unit level at }
+    ensures value { result ≡ entry_at source.now.abbrevs.now source.now.texts_end source.now.info.now table.now.at unit level at }
     ensures behind { IfOk result (λ r. at < r.1) }
-    ensures within { IfOk result (λ r. r.1 ≤ length sections.now.info.now) }
+    ensures within { IfOk result (λ r. r.1 ≤ length source.now.info.now) }
     ensures deep { IfOk result (λ r. IfSome r.0 IsLevel) }
     ensures offset { IfOk result (λ r. IfSome r.0 (λ e. e.offset ≡ at - unit)) }
 {
-    let (code, next) = uleb(sections.info, at)?;
+    let (code, next) = uleb(source.info, at)?;
     if code == 0 {
         return Ok((None, next));
     }
-    let declaration = table.find(sections.abbrevs, code)?;
+    let abbreviation = table.find(source.abbrevs, code)?;
     if level == LEVELS {
         return Err(InfoFault::Deep);
     }
-    let (attributes, next) = attributes_at(sections, declaration.attributes, next)?;
-    let entry = entry_of(at - unit, level + 1, declaration, attributes);
+    let (attributes, next) = attributes_by(source, &abbreviation.used, next)?;
+    let entry = entry_of(at - unit, level + 1, abbreviation.declaration, attributes);
     Ok((Some(entry), next))
 }
 
@@ -334,22 +306,22 @@ fn push_entry(entries: &mut Vec<Entry>, entry: Option<Entry>) -> Result<(), NoMe
 /// The entries of a unit, whose bytes end with the section's, from a place on.
 pub fn entries_at(
     alloc: Global,
-    sections: &Sections<'_>,
+    source: &Source<'_>,
     table: &Table,
     unit: usize,
     at: usize,
 ) -> Result<Vec<Entry>, InfoError>
-    requires table { IsTable sections.now.abbrevs.now table.now }
+    requires table { IsTable source.now.abbrevs.now table.now }
     requires unit { unit ≤ at }
-    requires within { at ≤ length sections.now.info.now }
+    requires within { at ≤ length source.now.info.now }
     ensures rising { IfOk result (λ v. RisesFrom 0 v.items) }
-    ensures value { Gives result (entries_from (length sections.now.info.now + 1) sections.now.abbrevs.now sections.now.strs.now sections.now.info.now table.now.at unit 0 at) }
+    ensures value { Gives result (entries_from (length source.now.info.now + 1) source.now.abbrevs.now source.now.texts_end source.now.info.now table.now.at unit 0 at) }
 {
     let mut entries = Vec::new(alloc);
     let mut level = 0;
     let mut place = at;
-    'entries: while place < sections.info.len() {
-        let (entry, next) = entry_at(sections, table, unit, level, place)?;
+    'entries: while place < source.info.len() {
+        let (entry, next) = entry_at(source, table, unit, level, place)?;
         level = level_behind(level, &entry);
         push_entry(&mut entries, entry)?;
         place = next;

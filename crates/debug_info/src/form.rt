@@ -3,7 +3,7 @@
 ghost use Rattle.std.specs.Prelude.{◌≡◌, ◌<◌, ◌≤◌, IfOk, length};
 ghost use Rattle.leb_read.specs.Leb.{IsBehind, number_at};
 ghost use Rattle.debug_info.specs.Reading.{behind_run};
-ghost use Rattle.debug_info.specs.Forms.{IsReadTo, block_at, form_of, number_by, shared_at, signed_constant, value_at, value_by};
+ghost use Rattle.debug_info.specs.Forms.{IsReadTo, block_at, form_of, number_by, shared_at, signed_constant, texts_end, value_at, value_by};
 
 use crate::expression::{Operation, only_operation};
 use crate::fault::InfoFault;
@@ -150,19 +150,31 @@ fn block_at(width: Width, bytes: &[u8], at: usize) -> Result<(Value, usize), Inf
     Ok((Value::Block(only_operation(&bytes[start..past])), past))
 }
 
+/// The place behind the last zero byte of `.debug_str`.
+pub fn texts_end(strs: &[u8]) -> usize
+    ensures { result ≡ texts_end strs.now }
+{
+    let mut end = strs.len();
+    'bytes: while end > 0 && strs[end - 1] != 0 {
+        end -= 1;
+    }
+    end
+}
+
 // A text of `.debug_str`, by its offset.
 #[tactic(auto, unfolding(crate::specs::Forms::shared_at))]
-fn shared_at(strs: &[u8], bytes: &[u8], at: usize) -> Result<(Value, usize), InfoFault>
-    ensures value { result ≡ shared_at strs.now bytes.now at }
+fn shared_at(texts_end: usize, bytes: &[u8], at: usize) -> Result<(Value, usize), InfoFault>
+    ensures value { result ≡ shared_at texts_end bytes.now at }
     ensures within { IfOk result (λ r. IsReadTo bytes.now at r.1) }
 {
     let (offset, next) = u32_at(bytes, at)?;
-    let place = offset as usize;
-    text_at(strs, place)?;
-    Ok((
-        Value::Text(TextPlace::Shared(StrOffset { at: place })),
-        next,
-    ))
+    let place = StrOffset {
+        at: offset as usize,
+    };
+    if texts_end <= place.at {
+        return Err(InfoFault::Short);
+    }
+    Ok((Value::Text(TextPlace::Shared(place)), next))
 }
 
 fn signed_constant(number: i64) -> Value
@@ -176,9 +188,14 @@ fn signed_constant(number: i64) -> Value
 
 // The value of a form at a place, and the next place.
 #[tactic(auto, unfolding(crate::specs::Forms::value_by))]
-fn value_by(form: Form, strs: &[u8], bytes: &[u8], at: usize) -> Result<(Value, usize), InfoFault>
+fn value_by(
+    form: Form,
+    texts_end: usize,
+    bytes: &[u8],
+    at: usize,
+) -> Result<(Value, usize), InfoFault>
     requires { at ≤ length bytes.now }
-    ensures value { result ≡ value_by form strs.now bytes.now at }
+    ensures value { result ≡ value_by form texts_end bytes.now at }
     ensures within { IfOk result (λ r. IsReadTo bytes.now at r.1) }
 {
     match form {
@@ -199,7 +216,7 @@ fn value_by(form: Form, strs: &[u8], bytes: &[u8], at: usize) -> Result<(Value, 
             let (_, next) = text_at(bytes, at)?;
             Ok((Value::Text(TextPlace::Inline(InfoOffset { at })), next))
         }
-        Form::Shared => shared_at(strs, bytes, at),
+        Form::Shared => shared_at(texts_end, bytes, at),
         Form::Reference(width) => {
             let (offset, next) = number_by(width, bytes, at)?;
             Ok((Value::Reference(offset), next))
@@ -215,16 +232,16 @@ fn value_by(form: Form, strs: &[u8], bytes: &[u8], at: usize) -> Result<(Value, 
 #[tactic(auto, unfolding(crate::specs::Forms::value_at))]
 pub fn value_at(
     code: u64,
-    strs: &[u8],
+    texts_end: usize,
     bytes: &[u8],
     at: usize,
 ) -> Result<(Value, usize), InfoFault>
     requires { at ≤ length bytes.now }
-    ensures value { result ≡ value_at code strs.now bytes.now at }
+    ensures value { result ≡ value_at code texts_end bytes.now at }
     ensures within { IfOk result (λ r. IsReadTo bytes.now at r.1) }
 {
     match form_of(code) {
-        Some(form) => value_by(form, strs, bytes, at),
+        Some(form) => value_by(form, texts_end, bytes, at),
         None => Err(InfoFault::Form),
     }
 }

@@ -6,7 +6,8 @@ ghost use Rattle.debug_info.specs.Shown.{shown_variables};
 
 use crate::entry::Entry;
 use crate::fault::UnitFault;
-use crate::offset::Sections;
+use crate::form::texts_end;
+use crate::offset::{Sections, Source};
 use crate::scope::{Texts, Var, variables_in};
 use crate::table::{Step, function_at, functions_of, table_of};
 use crate::unit::{Contents, Unit, contents_of};
@@ -44,7 +45,12 @@ impl Model for Info {
 pub fn read_info(alloc: Global, sections: &Sections<'_>) -> Result<Info, NoMemory>
     ensures { IfOk result (λ info. info ≡ info_of sections.now.abbrevs.now sections.now.strs.now sections.now.info.now) }
 {
-    let contents = contents_of(alloc, sections)?;
+    let source = Source {
+        info: sections.info,
+        abbrevs: sections.abbrevs,
+        texts_end: texts_end(sections.strs),
+    };
+    let contents = contents_of(alloc, &source)?;
     let functions = functions_of(alloc, &contents.units)?;
     let steps = table_of(alloc, &functions)?;
     Ok(Info {

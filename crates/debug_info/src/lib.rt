@@ -12,7 +12,9 @@ mod info;
 mod offset;
 mod scope;
 mod table;
+mod tables;
 mod unit;
+mod used;
 
 pub use entry::{Kind, Range};
 pub use expression::{Base, Place};

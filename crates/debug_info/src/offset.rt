@@ -28,3 +28,14 @@ pub struct Sections<'a> {
     /// `.debug_str`
     pub strs: &'a [u8],
 }
+
+/// What entries are read of.
+#[derive(Clone, Copy, Debug)]
+pub struct Source<'a> {
+    /// `.debug_info`, or its bytes up to a unit's end
+    pub info: &'a [u8],
+    /// `.debug_abbrev`
+    pub abbrevs: &'a [u8],
+    /// Behind the last zero byte of `.debug_str`.
+    pub texts_end: usize,
+}

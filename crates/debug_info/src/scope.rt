@@ -4,7 +4,7 @@ ghost use Rattle.std.specs.Prelude.{◌≡◌, ◌==◌, ◌++◌, ◌∷◌, []
 ghost use Rattle.leb_read.specs.Leb.{is_text_byte};
 ghost use Rattle.debug_info.specs.Rising.{RisesFrom};
 ghost use Rattle.debug_info.specs.Scope.{by_depth, is_entered, is_modifier, is_named, is_own, is_unit_variable, is_within, kind_of, name_of, own_entries, own_kind, place_in, text_from, type_entry, variable_of, variables_in};
-ghost use Rattle.debug_info.specs.Shown.{IsEntrySplit, seen_texts, shown_variable, shown_variables};
+ghost use Rattle.debug_info.specs.Shown.{IsEntrySplit, is_below, seen_texts, shown_variable, shown_variables, shut_by};
 
 use crate::entry::{Entry, Kind, Range, Tag};
 use crate::expression::{Base, Place};
@@ -198,24 +198,41 @@ fn own_entries(
     function: u8,
     behind: &[Entry],
 ) -> Result<Vec<Entry>, NoMemory>
-    ensures { IfOk result (λ found. found.items ≡ own_entries pc function function behind.now) }
+    ensures { IfOk result (λ found. found.items ≡ own_entries pc function behind.now) }
 {
     let mut found = Vec::new(alloc);
-    let mut innermost = function;
+    let mut shut = None;
     for entry in behind {
         if entry.level <= function {
             return Ok(found);
         }
-        if entry.level - 1 <= innermost {
-            innermost = if is_entered(pc, entry) {
-                entry.level
-            } else {
-                entry.level - 1
-            };
+        if !is_below(shut, entry.level) {
+            shut = shut_by(pc, entry);
             push_named(&mut found, pc, entry)?;
         }
     }
     Ok(found)
+}
+
+// Whether what stands at a level is in the entry that is shut, if there is one.
+fn is_below(shut: Option<u8>, level: u8) -> bool
+    ensures { result ≡ is_below shut level }
+{
+    match shut {
+        None => false,
+        Some(shut) => shut < level,
+    }
+}
+
+// The level of an entry that isn't entered.
+fn shut_by(pc: u32, entry: &Entry) -> Option<u8>
+    ensures { result ≡ shut_by pc entry.now }
+{
+    if is_entered(pc, entry) {
+        None
+    } else {
+        Some(entry.level)
+    }
 }
 
 // Adds a parameter or variable that has a name.

@@ -1,17 +1,17 @@
 //! The units of a section (DWARF 4, section 7.5.1.1).
 
-ghost use Rattle.std.specs.Prelude.{◌≡◌, ◌<◌, ◌≤◌, ◌+◌, All, IfOk, IfSome, OnOk, Err, length};
+ghost use Rattle.std.specs.Prelude.{◌≡◌, ◌<◌, ◌≤◌, ◌+◌, All, IfOk, OnOk, Err, length};
 ghost use Rattle.debug_info.specs.Contents.{contents_of, joined, one_unit, shown};
-ghost use Rattle.debug_info.specs.Entries.{Gives};
+ghost use Rattle.debug_info.specs.Entries.{Gives, IfRead};
 ghost use Rattle.debug_info.specs.Rising.{IsRising, RisesFrom};
-ghost use Rattle.debug_info.specs.Tables.{IsTable};
+ghost use Rattle.debug_info.specs.Tables.{AreTables};
 ghost use Rattle.debug_info.specs.Units.{header_at, unit_end, unit_entries};
 
-use crate::abbreviation::{Table, table_at};
 use crate::entry::{Entry, entries_at};
 use crate::fault::{InfoError, InfoFault, UnitFault};
 use crate::form::behind_run;
-use crate::offset::{InfoOffset, Sections};
+use crate::offset::{InfoOffset, Source};
+use crate::tables::{Tables, no_tables};
 use dbg_traits::NoMemory;
 use leb_read::{u8_at, u16_at, u32_at};
 use std::alloc::Global;
@@ -64,63 +64,43 @@ fn header_at(abbrevs: &[u8], info: &[u8], at: usize) -> Result<(usize, usize), I
     }
 }
 
-// The table of abbreviations at an offset, which is the last unit's if that has the same.
-fn table_for(
-    alloc: Global,
-    abbrevs: &[u8],
-    offset: usize,
-    last: Option<Table>,
-) -> Result<Table, NoMemory>
-    requires last { IfSome last (IsTable abbrevs.now) }
-    requires within { offset ≤ length abbrevs.now }
-    ensures table { IfOk result (IsTable abbrevs.now) }
-    ensures place { IfOk result (λ table. table.at ≡ offset) }
-{
-    if let Some(table) = last {
-        if table.at == offset {
-            return Ok(table);
-        }
-    }
-    table_at(alloc, abbrevs, offset)
-}
-
 // The entries of the unit at a place, whose bytes end with the section's. Its table of abbreviations is kept.
 #[tactic(auto, unfolding(crate::specs::Units::unit_entries))]
 fn unit_entries(
     alloc: Global,
-    sections: &Sections<'_>,
+    source: &Source<'_>,
     at: usize,
-    last: &mut Option<Table>,
+    tables: &mut Tables,
 ) -> Result<Vec<Entry>, InfoError>
-    requires within { at + 4 ≤ length sections.now.info.now }
-    requires last { IfSome last.old (IsTable sections.now.abbrevs.now) }
-    ensures last { IfSome last.new (IsTable sections.now.abbrevs.now) }
+    requires within { at + 4 ≤ length source.now.info.now }
+    requires tables { AreTables source.now.abbrevs.now tables.old }
+    ensures tables { IfRead result (AreTables source.now.abbrevs.now tables.new) }
     ensures rising { IfOk result (λ v. RisesFrom 0 v.items) }
-    ensures value { Gives result (unit_entries sections.now.abbrevs.now sections.now.strs.now sections.now.info.now at) }
+    ensures value { Gives result (unit_entries source.now.abbrevs.now source.now.texts_end source.now.info.now at) }
 {
-    let (offset, next) = header_at(sections.abbrevs, sections.info, at + 4)?;
-    let table = table_for(alloc, sections.abbrevs, offset, last.take())?;
-    let entries = entries_at(alloc, sections, &table, at, next);
-    *last = Some(table);
+    let (offset, next) = header_at(source.abbrevs, source.info, at + 4)?;
+    let table = tables.take(alloc, source.abbrevs, offset)?;
+    let entries = entries_at(alloc, source, &table, at, next);
+    tables.keep(source.abbrevs, table)?;
     entries
 }
 
 // Adds what the unit at a place gives, whose bytes end with the section's.
 fn add_unit(
     alloc: Global,
-    sections: &Sections<'_>,
+    source: &Source<'_>,
     at: usize,
-    last: &mut Option<Table>,
+    tables: &mut Tables,
     contents: &mut Contents,
 ) -> Result<(), NoMemory>
-    requires within { at + 4 ≤ length sections.now.info.now }
-    requires last { IfSome last.old (IsTable sections.now.abbrevs.now) }
+    requires within { at + 4 ≤ length source.now.info.now }
+    requires tables { AreTables source.now.abbrevs.now tables.old }
     requires rising { All IsRising contents.old.units.items }
-    ensures last { IfSome last.new (IsTable sections.now.abbrevs.now) }
+    ensures tables { OnOk result (AreTables source.now.abbrevs.now tables.new) }
     ensures rising { OnOk result (All IsRising contents.new.units.items) }
-    ensures value { OnOk result (shown contents.new ≡ joined (shown contents.old) (one_unit at (unit_entries sections.now.abbrevs.now sections.now.strs.now sections.now.info.now at))) }
+    ensures value { OnOk result (shown contents.new ≡ joined (shown contents.old) (one_unit at (unit_entries source.now.abbrevs.now source.now.texts_end source.now.info.now at))) }
 {
-    match unit_entries(alloc, sections, at, last) {
+    match unit_entries(alloc, source, at, tables) {
         Ok(entries) => {
             contents.units.push(Unit { entries })?;
             Ok(())
@@ -141,24 +121,24 @@ fn add_fault(at: usize, fault: InfoFault, contents: &mut Contents) -> Result<(),
 }
 
 /// What the units of the section give.
-pub fn contents_of(alloc: Global, sections: &Sections<'_>) -> Result<Contents, NoMemory>
+pub fn contents_of(alloc: Global, source: &Source<'_>) -> Result<Contents, NoMemory>
     ensures rising { IfOk result (λ contents. All IsRising contents.units.items) }
-    ensures value { IfOk result (λ contents. shown contents ≡ contents_of sections.now.abbrevs.now sections.now.strs.now sections.now.info.now) }
+    ensures value { IfOk result (λ contents. shown contents ≡ contents_of source.now.abbrevs.now source.now.texts_end source.now.info.now) }
 {
     let mut contents = Contents {
         units: Vec::new(alloc),
         faults: Vec::new(alloc),
     };
-    let mut last = None;
+    let mut tables = no_tables(alloc, source.abbrevs);
     let mut at = 0;
-    'units: while at < sections.info.len() {
-        match unit_end(sections.info, at) {
+    'units: while at < source.info.len() {
+        match unit_end(source.info, at) {
             Ok(end) => {
-                let unit = Sections {
-                    info: &sections.info[..end],
-                    ..*sections
+                let unit = Source {
+                    info: &source.info[..end],
+                    ..*source
                 };
-                add_unit(alloc, &unit, at, &mut last, &mut contents)?;
+                add_unit(alloc, &unit, at, &mut tables, &mut contents)?;
                 at = end;
             }
             Err(fault) => {

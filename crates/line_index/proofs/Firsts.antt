@@ -6,7 +6,8 @@ use Rattle.std.specs.List.Sorted.{IsPermutation}
 use Rattle.std.specs.Option.{option_map}
 use Rattle.std.proofs.lemmas.Bool.Decides.{nat_tests}
 use Rattle.std.proofs.lemmas.List.Sorted.{Contains-permutation, IsPermutation-sym}
-use Rattle.elf_symbols.specs.Names.{best, better}
+use Rattle.elf_symbols.specs.Names.{best, better, foremost}
+use Rattle.elf_symbols.proofs.Foremost.{IsOrder, foremost_is}
 use Rattle.line_rows.specs.declared.row.Row.{Row}
 use Rattle.line_index.specs.Lines.{is_called, is_candidate, is_sooner, file_name}
 use Rattle.line_index.specs.Statements.{IsFirst, IsUnder, is_wanted, sooner_of}
@@ -23,6 +24,19 @@ opposite l a m b h = grind (arith, nat_tests)
 
 same_address : (l a m b : ℕ) → (nat_lt l m || ((l == m) && nat_lt a b)) ≡ false → (nat_lt m l || ((m == l) && nat_lt b a)) ≡ false → a ≡ b
 same_address l a m b h k = grind (arith, nat_tests)
+
+sooner_along : (l a m b n c : ℕ) → (nat_lt l m || ((l == m) && nat_lt a b)) ≡ true → (nat_lt m n || ((m == n) && nat_lt b c)) ≡ true → (nat_lt l n || ((l == n) && nat_lt a c)) ≡ true
+sooner_along l a m b n c h k = grind (arith, nat_tests)
+
+sooner_between : (l a m b n c : ℕ) → (nat_lt l n || ((l == n) && nat_lt a c)) ≡ true → (nat_lt m n || ((m == n) && nat_lt b c)) ≡ false → (nat_lt l m || ((l == m) && nat_lt a b)) ≡ true
+sooner_between l a m b n c h k = grind (arith, nat_tests)
+
+sooner_order : IsOrder is_sooner
+sooner_order = record {
+  itself = λ x. itself_not x.line x.address;
+  along = λ x y z h k. sooner_along x.line x.address y.line y.address z.line z.address h k;
+  between = λ x y z h k. sooner_between x.line x.address y.line y.address z.line z.address h k;
+}
 
 -- what isn't sooner than a row isn't sooner than one that isn't later
 under_along : (o : Option Row) (b r : Row) → IsUnder o b → is_sooner r b ≡ false → IsUnder o r
@@ -175,10 +189,13 @@ found w acc (r ∷ rows) =
       | false ↦ λ e. passed w acc r rows (fold (better is_sooner) acc (filter w rows)) e (found w acc rows)
     ] refl
 
-pub best_first : (w : Row → Bool) (rows : List Row) → IsFirst w rows (best is_sooner (filter w rows))
+best_first : (w : Row → Bool) (rows : List Row) → IsFirst w rows (best is_sooner (filter w rows))
 best_first w rows =
     let f = found w None rows in
     record { under = f.under; one = λ r e. ⊎_elim (λ (x : None ≡ Some r). absurd (cc)) (λ (x : Contains rows r × (w r ≡ true)). x) (f.one r e) }
+
+foremost_first : (w : Row → Bool) (rows : List Row) → IsFirst w rows (foremost is_sooner (filter w rows))
+foremost_first w rows = subst (IsFirst w rows) (foremost_is is_sooner sooner_order (filter w rows)) (best_first w rows)
 
 -- the statements that are wanted
 pub candidates : (names : List (List ℕ)) (file : List ℕ) (line : ℕ) (rows : List Row) → filter (is_candidate names file line) rows ≡ filter (is_wanted names file line) (filter (λ r. r.is_stmt) rows)
@@ -192,8 +209,8 @@ candidates names file line (r ∷ rows) =
 
 -- the address of a line, by the soonest of the statements in order
 pub address_found : (names : List (List ℕ)) (file : List ℕ) (line : ℕ) (rows ordered : List Row) (o : Option Row) → IsPermutation (filter (λ r. r.is_stmt) rows) ordered → IsFirst (is_wanted names file line) ordered o
-    → option_map (λ r. r.address) o ≡ option_map (λ r. r.address) (best is_sooner (filter (is_candidate names file line) rows))
+    → option_map (λ r. r.address) o ≡ option_map (λ r. r.address) (foremost is_sooner (filter (is_candidate names file line) rows))
 address_found names file line rows ordered o p f =
     let statements = filter (λ r. r.is_stmt) rows in
-    one_address (is_wanted names file line) statements o (best is_sooner (filter (is_wanted names file line) statements)) (first_permuted (is_wanted names file line) statements ordered o p f) (best_first (is_wanted names file line) statements)
-    ∙ ap (λ (xs : List Row). option_map (λ (r : Row). r.address) (best is_sooner xs)) (sym (candidates names file line rows))
+    one_address (is_wanted names file line) statements o (foremost is_sooner (filter (is_wanted names file line) statements)) (first_permuted (is_wanted names file line) statements ordered o p f) (foremost_first (is_wanted names file line) statements)
+    ∙ ap (λ (xs : List Row). option_map (λ (r : Row). r.address) (foremost is_sooner xs)) (sym (candidates names file line rows))

@@ -5,7 +5,9 @@ use Rattle.std.specs.List.{All, Contains}
 use Rattle.std.specs.List.Sorted.{IsNonDecreasing, IsPartitionPoint}
 use Rattle.std.proofs.lemmas.List.Elements.{All-nil, All-cons, All-contains, Contains-get_or}
 use Rattle.std.proofs.lemmas.List.Sorted.{All-permutation, Contains-permutation}
+use Rattle.std.proofs.lemmas.Bool.Decides.{nat_tests}
 use Rattle.elf_symbols.specs.Names.{better}
+use Rattle.elf_symbols.proofs.Foremost.{IsOrder, foremost_is}
 use Rattle.line_index.specs.Lines.{least_from}
 use Rattle.line_index.specs.Order.{IsInOrder}
 use Rattle.address_tables.proofs.Orders.{yes-le, no-le, yes-lt, no-lt}
@@ -84,10 +86,23 @@ found start acc (n ∷ ns) =
       | false ↦ λ e. passed start acc n ns (fold (better nat_lt) acc (filter (nat_le start) ns)) (no-le start n e) (found start acc ns)
     ] refl
 
+less_itself : (a : ℕ) → nat_lt a a ≡ false
+less_itself a = grind (arith, nat_tests)
+
+less_along : (a b c : ℕ) → nat_lt a b ≡ true → nat_lt b c ≡ true → nat_lt a c ≡ true
+less_along a b c h k = grind (arith, nat_tests)
+
+less_between : (a b c : ℕ) → nat_lt a c ≡ true → nat_lt b c ≡ false → nat_lt a b ≡ true
+less_between a b c h k = grind (arith, nat_tests)
+
+less_order : IsOrder nat_lt
+less_order = record { itself = less_itself; along = less_along; between = less_between }
+
 is-least : (start : ℕ) (ns : List ℕ) → IsLeast start ns (least_from start ns)
 is-least start ns =
     let f = found start None ns in
-    record { under = f.under; one = λ b e. ⊎_elim (λ (h : None ≡ Some b). absurd (cc)) (λ (h : Contains ns b × (start ≤ b)). h) (f.one b e) }
+    subst (IsLeast start ns) (foremost_is nat_lt less_order (filter (nat_le start) ns))
+    (record { under = f.under; one = λ b e. ⊎_elim (λ (h : None ≡ Some b). absurd (cc)) (λ (h : Contains ns b × (start ≤ b)). h) (f.one b e) })
 
 -- there is one least
 same-least : (start : ℕ) (ns : List ℕ) (o p : Option ℕ) → IsLeast start ns o → IsLeast start ns p → o ≡ p

@@ -4,7 +4,6 @@ pub mod Indexes
 pub mod LastPart
 pub mod Halves
 pub mod Ordered
-pub mod Bounds
 pub mod Least
 pub mod FunctionBody
 pub mod Firsts

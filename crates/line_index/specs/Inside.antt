@@ -7,7 +7,7 @@ use Rattle.line_index.specs.Statements.{AreOrdered}
 use Rattle.line_index.specs.declared.index.LineIndex.TheInside.{Inside}
 
 abbrev pub seen : Inside → Lines
-seen i = record { rows = i.rows; functions = i.functions.items; text = i.text.items }
+seen i = record { rows = i.rows; functions = i.functions.items; text = i.text }
 
 pub record IsKept (i : Inside) : Type 0 where
   pub starts : IsInOrder i.functions.items i.starts.items

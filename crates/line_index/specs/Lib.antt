@@ -1,5 +1,4 @@
 pub mod Lines
-pub mod Text
 pub mod Order
 pub mod Statements
 pub mod RowTables

@@ -1,32 +1,38 @@
 -- What look-ups in line tables answer. The rows are those of DWARF 5, section 6.2; which of them a look-up takes is this
 -- program's own rule.
-use Rattle.std.specs.Prelude.{ℕ, ◌+◌, ◌==◌, nat_le, nat_lt, ◌&&◌, ◌||◌, not, Bool, false, List, [], ◌∷◌, Option, None, Some, map, filter, find, flat_map, min, slice_get, unwrap_or, option_and_then, if◌then◌else◌}
+use Rattle.std.specs.Prelude.{ℕ, ◌+◌, ◌==◌, nat_le, nat_lt, ◌&&◌, ◌||◌, not, Bool, false, List, [], ◌∷◌, Option, None, Some, map, filter, find, flat_map, min, reverse, slice_get, unwrap_or, option_and_then, if◌then◌else◌}
 use Rattle.std.specs.List.{list_any}
 use Rattle.std.specs.Option.{option_map, option_map_or}
 use Rattle.std.specs.Str.{bytes_eq}
 use Rattle.elf32_read.specs.Program.{Program}
-use Rattle.elf_symbols.specs.Names.{Names, Symbol, best}
+use Rattle.elf32_read.specs.Spans as spans
+use Rattle.elf32_read.specs.TextSpans.{text_spans}
+use Rattle.elf32_read.specs.declared.spans.Span.{Span}
+use Rattle.elf_symbols.specs.Names.{Names, Symbol, foremost}
 use Rattle.line_rows.specs.RowList.{RowList, Sequence}
 use Rattle.line_rows.specs.declared.row.Row.{Row}
-use Rattle.line_index.specs.Text.{text_bounds, in_text, section_end}
-use Rattle.line_index.specs.declared.text.TextBounds.{TextBounds}
 
 -- line tables, and where the functions and the text of their program stand
 pub record Lines : Type 0 where
   pub rows : RowList
   -- the addresses of the functions in text
   pub functions : List ℕ
-  pub text : List TextBounds
+  -- the ranges of the text sections, in the order of their addresses
+  pub text : List Span
 
 abbrev pub lines_of : RowList → Names → Program → Lines
-lines_of rows names p = record { rows = rows; functions = map (λ s. s.address) names.functions; text = text_bounds p }
+lines_of rows names p = record { rows = rows; functions = map (λ s. s.address) names.functions; text = text_spans p }
+
+-- the end of the text section that an address is in
+abbrev pub section_end : List Span → ℕ → Option ℕ
+section_end text addr = option_map (λ s. s.start + s.size) (find (spans.covers addr) text)
 
 -- whether the first row of a sequence is in text
-abbrev pub begins_in : List TextBounds → Sequence → Bool
-begins_in text s = option_map_or (λ r. in_text text r.address) (slice_get s.rows 0) false
+abbrev pub begins_in : List Span → Sequence → Bool
+begins_in text s = option_map_or (λ r. list_any (spans.covers r.address) text) (slice_get s.rows 0) false
 
 -- the sequences that count
-abbrev pub kept : List TextBounds → List Sequence → List Sequence
+abbrev pub kept : List Span → List Sequence → List Sequence
 kept text sequences = filter (begins_in text) sequences
 
 -- the rows that count
@@ -37,14 +43,13 @@ rows_of lines = flat_map (λ s. s.rows) (kept lines.text lines.rows.sequences)
 abbrev pub covers : ℕ → Sequence → Bool
 covers pc s = option_map_or (λ r. nat_le r.address pc) (slice_get s.rows 0) false && nat_lt pc s.end
 
--- whether a row of a sequence is taken in place of one before it: the greater address, and of equal ones the later row
--- unless only the other is a statement
-abbrev pub is_later : Row → Row → Bool
-is_later row other = if row.is_stmt || not other.is_stmt then nat_le other.address row.address else nat_lt other.address row.address
+-- the greater address, and of equal ones a statement
+abbrev pub is_ahead : Row → Row → Bool
+is_ahead row other = nat_lt other.address row.address || ((row.address == other.address) && (row.is_stmt && not other.is_stmt))
 
--- the row that an address belongs to
+-- the row that an address belongs to: of those that don't begin above it the last one that no other is ahead of
 abbrev pub row_in : ℕ → List Row → Option Row
-row_in pc rows = best is_later (filter (λ r. nat_le r.address pc) rows)
+row_in pc rows = foremost is_ahead (reverse (filter (λ r. nat_le r.address pc) rows))
 
 -- the row of an address, in the first of the sequences that has it
 abbrev pub row_among : ℕ → List Sequence → Option Row
@@ -87,11 +92,11 @@ is_sooner row other = nat_lt row.line other.line || ((row.line == other.line) &&
 
 -- where the least line of a file that isn't below another has its least address
 abbrev pub address_of : Lines → List ℕ → ℕ → Option ℕ
-address_of lines file line = option_map (λ r. r.address) (best is_sooner (filter (is_candidate lines.rows.names file line) (rows_of lines)))
+address_of lines file line = option_map (λ r. r.address) (foremost is_sooner (filter (is_candidate lines.rows.names file line) (rows_of lines)))
 
 -- the least of some numbers from one on
 abbrev pub least_from : ℕ → List ℕ → Option ℕ
-least_from start ns = best nat_lt (filter (nat_le start) ns)
+least_from start ns = foremost nat_lt (filter (nat_le start) ns)
 
 -- where a function ends; one without a size at the next function or at the end of its text section
 abbrev pub function_end : Symbol → ℕ → Option ℕ → ℕ

@@ -8,20 +8,12 @@ ghost use Rattle.line_index.specs.Order.{IsInOrder};
 use line_rows::Row;
 use std::alloc::{AllocError, Global};
 
-/// Puts addresses in order.
-pub fn sort(addresses: &mut [u32])
-    ensures { IsInOrder addresses.old addresses.new }
+/// The same addresses in order.
+pub fn in_order(mut addresses: Vec<u32>) -> Vec<u32>
+    ensures { IsInOrder addresses.items result.items }
 {
     addresses.sort_unstable();
-}
-
-/// A copy of addresses, in order.
-pub fn in_order(alloc: Global, addresses: &[u32]) -> Result<Vec<u32>, AllocError>
-    ensures { IfOk result (λ v. IsInOrder addresses.now v.items) }
-{
-    let mut sorted = Vec::from_slice(alloc, addresses)?;
-    sort(&mut sorted);
-    Ok(sorted)
+    addresses
 }
 
 /// The addresses at which prologues end, in order.
@@ -34,8 +26,7 @@ pub fn prologues(alloc: Global, rows: &[Row]) -> Result<Vec<u32>, AllocError>
             found.push(row.address)?;
         }
     }
-    sort(&mut found);
-    Ok(found)
+    Ok(in_order(found))
 }
 
 /// The addresses at which statements begin, in order.
@@ -48,8 +39,7 @@ pub fn statements(alloc: Global, rows: &[Row]) -> Result<Vec<u32>, AllocError>
             found.push(row.address)?;
         }
     }
-    sort(&mut found);
-    Ok(found)
+    Ok(in_order(found))
 }
 
 /// The least address from one on, by a binary search.

@@ -9,30 +9,30 @@ use crate::addresses::least_from;
 use elf_symbols::Named;
 
 /// Where a function ends; one without a size at the next function or at the end of its text section.
-pub fn function_end(function: &Named<'_>, text_end: u128, next: Option<u32>) -> u128
+pub fn function_end(function: &Named<'_>, text_end: u64, next: Option<u32>) -> u64
     ensures { result ≡ function_end (symbol_shown function.now) text_end next }
 {
     if function.size != 0 {
-        return function.address as u128 + function.size as u128;
+        return u64::from(function.address) + u64::from(function.size);
     }
     match next {
-        Some(next) => text_end.min(next as u128),
+        Some(next) => text_end.min(u64::from(next)),
         None => text_end,
     }
 }
 
-fn below(end: u128, address: Option<u32>) -> Option<u32>
+fn below(end: u64, address: Option<u32>) -> Option<u32>
     ensures { result ≡ below end address }
 {
     match address {
-        Some(address) if (address as u128) < end => Some(address),
+        Some(address) if u64::from(address) < end => Some(address),
         _ => None,
     }
 }
 
 /// Where a breakpoint on the body of a range stands, by the addresses in order at which prologues end and
 /// statements begin.
-pub fn body_among(prologues: &[u32], statements: &[u32], start: u32, end: u128) -> u32
+pub fn body_among(prologues: &[u32], statements: &[u32], start: u32, end: u64) -> u32
     requires prologues { IsNonDecreasing prologues.now }
     requires statements { IsNonDecreasing statements.now }
     ensures { result ≡ body_among prologues.now statements.now start end }

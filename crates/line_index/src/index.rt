@@ -7,11 +7,10 @@ use crate::body::{body_among, function_end};
 use crate::files::{name_of, soonest};
 use crate::statements::ordered_statements;
 use crate::table::{kept_rows, table_of};
-use crate::text::{TextBounds, section_end, text_bounds};
 use address_tables::{Entry, value_at};
 use dbg_traits::NoMemory;
 use elf_symbols::{Named, Symbols};
-use elf32_read::Image;
+use elf32_read::{Image, TextSpans};
 use line_rows::{Row, Rows};
 use std::alloc::Global;
 use std::marker::Model;
@@ -24,7 +23,7 @@ pub struct LineIndex {
     functions: Vec<u32>,
     /// The same in the order of the addresses.
     starts: Vec<u32>,
-    text: Vec<TextBounds>,
+    text: TextSpans,
     /// The statements of the sequences whose first row is in text, in the order of files, lines and addresses.
     lines: Vec<Row>,
     /// Where prologues end, in order.
@@ -60,12 +59,12 @@ impl LineIndex {
     ) -> Result<LineIndex, NoMemory>
         ensures { IfOk result (λ index. index ≡ lines_of rows symbols.now image.now) }
     {
+        let text = image.text_spans(alloc)?;
         // First, since it takes the most memory while it is made.
-        let entries = table_of(alloc, &rows, image, 0, rows.sequence_count())?;
+        let entries = table_of(alloc, &rows, &text, 0, rows.sequence_count())?;
         let functions = symbols.function_addresses(alloc)?;
-        let starts = in_order(alloc, &functions)?;
-        let text = text_bounds(alloc, image)?;
-        let kept = kept_rows(alloc, &rows, image)?;
+        let starts = in_order(Vec::from_slice(alloc, &functions)?);
+        let kept = kept_rows(alloc, &rows, &text)?;
         let prologues = prologues(alloc, &kept)?;
         let statements = statements(alloc, &kept)?;
         let lines = ordered_statements(alloc, rows.name_count(), &kept)?;
@@ -110,11 +109,11 @@ impl LineIndex {
     }
 
     /// Where a breakpoint on a function stands: behind its prologue, or at its start where no row tells that. It takes
-    /// binary searches, and for the end of the text section a walk over the text sections.
+    /// binary searches.
     pub fn body_of(&self, function: &Named<'_>) -> u32
         ensures { result ≡ body_of self.now (symbol_shown function.now) }
     {
-        match section_end(&self.text, function.address) {
+        match self.text.end_at(function.address) {
             Some(text_end) => {
                 let next = least_from(&self.starts, u64::from(function.address) + 1);
                 let end = function_end(function, text_end, next);

@@ -1,34 +1,30 @@
 //! Which row counts where two tables have one.
 
 ghost use Rattle.std.specs.Prelude.{◌≡◌};
-ghost use Rattle.line_index.specs.Lines.{is_later};
+ghost use Rattle.line_index.specs.Lines.{is_ahead};
 ghost use Rattle.line_index.specs.RowTables.{later_of, within};
 
 use address_tables::Join;
 use line_rows::Row;
 
-fn is_later(row: &Row, other: &Row) -> bool
-    ensures { result ≡ is_later row.now other.now }
+fn is_ahead(row: &Row, other: &Row) -> bool
+    ensures { result ≡ is_ahead row.now other.now }
 {
-    if row.is_stmt || !other.is_stmt {
-        other.address <= row.address
-    } else {
-        other.address < row.address
-    }
+    other.address < row.address || (row.address == other.address && (row.is_stmt && !other.is_stmt))
 }
 
-/// The row of the greater address, and of equal ones the later statement.
+/// The later row, unless the other is ahead of it: at a greater address, or the one statement at the same.
 pub fn later_of(a: Option<Row>, b: Option<Row>) -> Option<Row>
     ensures { result ≡ later_of a b }
 {
     match (a, b) {
-        (Some(other), Some(row)) if !is_later(&row, &other) => a,
+        (Some(row), Some(other)) if is_ahead(&row, &other) => a,
         (_, Some(_)) => b,
         (_, None) => a,
     }
 }
 
-/// The row of the greater address, and of equal ones the later statement.
+/// The later row, unless the other is ahead of it.
 #[derive(Clone, Copy, Debug)]
 pub struct Later;
 

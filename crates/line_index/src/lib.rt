@@ -9,6 +9,5 @@ mod joins;
 mod sequence;
 mod statements;
 mod table;
-mod text;
 
 pub use index::LineIndex;

@@ -15,7 +15,7 @@ declarations-preserved c =
     let read : declaration_at c.args.abbrevs.now c.declarations.place ≡ found (Some (w.code, w.declaration)) w.next =
     sym w.ensures.value ∙ ap (λ (o : Option (ℕ × Declaration)). found o w.next) w.field-0-0-is in
     tabled_next c.args.abbrevs.now c.args.at c.declarations.declarations c.put.new.declarations c.declarations.place w.next w.code w.declaration
-    read w.ensures.within.behind w.ensures.within.within c.in_ok-put-in-Ok-Some-default.ensures c.declarations.invariant
+    read w.ensures.within.behind w.ensures.within.within c.in_ok-put-in-Ok-Some-default.ensures.put c.in_ok-put-in-Ok-Some-default.ensures.served c.declarations.invariant
 
 pub returns-in-declarations-clause-table : goal.returns-in-declarations-clause-table
 returns-in-declarations-clause-table c =
@@ -23,6 +23,6 @@ returns-in-declarations-clause-table c =
       | in-Ok-None-default w ↦
           let read : declaration_at c.args.abbrevs.now c.declarations.place ≡ found None w.in-Ok-None-default.field-0-1 =
           sym w.in-Ok-None-default.ensures.value ∙ ap (λ (o : Option (ℕ × Declaration)). found o w.in-Ok-None-default.field-0-1) w.in-Ok-None-default.field-0-0-is in
-          tabled_end c.args.abbrevs.now c.args.at c.declarations.declarations c.declarations.place _ c.match-declaration_at.end read w.end-is c.declarations.invariant
-      | in-Err w ↦ tabled_fault c.args.abbrevs.now c.args.at c.declarations.declarations c.declarations.place _ c.match-declaration_at.end (sym w.in-Err.ensures.value) w.end-is c.declarations.invariant
+          record { served = c.declarations.invariant.served; same = tabled_end c.args.abbrevs.now c.args.at c.declarations.declarations c.declarations.place _ c.match-declaration_at.end read w.end-is c.declarations.invariant }
+      | in-Err w ↦ record { served = c.declarations.invariant.served; same = tabled_fault c.args.abbrevs.now c.args.at c.declarations.declarations c.declarations.place _ c.match-declaration_at.end (sym w.in-Err.ensures.value) w.end-is c.declarations.invariant }
     ]
