@@ -1,0 +1,30 @@
+"""What measurements of the built debugger stand on."""
+
+import os
+import re
+import resource
+import subprocess
+
+HERE = os.path.dirname(os.path.realpath(__file__))
+RVDBG = os.path.join(HERE, "..", "crates", "dbg_program", "out", "dbg_program")
+RUNS = 5
+
+
+def seconds(words, text=b"", written=subprocess.PIPE):
+    """The least processor time of a command over some runs, and what the last wrote to both outputs."""
+    best = None
+    for _ in range(RUNS):
+        before = resource.getrusage(resource.RUSAGE_CHILDREN)
+        done = subprocess.run(words, input=text, stdout=written, stderr=written)
+        after = resource.getrusage(resource.RUSAGE_CHILDREN)
+        took = after.ru_utime - before.ru_utime + after.ru_stime - before.ru_stime
+        best = took if best is None else min(best, took)
+    return best, done.stdout, done.stderr
+
+
+def host_instructions(words, lines, folder):
+    """The host's instructions of a whole session, by callgrind."""
+    out = os.path.join(folder, "callgrind")
+    words = ["valgrind", "--tool=callgrind", "--callgrind-out-file=" + out, RVDBG, "--workers", "0", *words]
+    done = subprocess.run(words, input=lines, stdout=subprocess.PIPE, stderr=subprocess.PIPE)
+    return int(re.search(rb"Collected : (\d+)", done.stderr).group(1))
