@@ -83,8 +83,8 @@ content_text (content.Threads threads selected) =
     text.THREADS_HEAD.now ++ joined thread_text threads ++ text.THREADS_TAIL.now ++ decimal selected ++ text.QUOTED_END.now
 content_text (content.ThreadNumbers numbers selected) =
     text.NUMBERS_HEAD.now ++ joined number_text numbers ++ text.NUMBERS_TAIL.now ++ decimal selected ++ text.COUNT_HEAD.now ++ decimal (length numbers) ++ text.QUOTED_END.now
-content_text (content.Frames frames) = codes "^done,stack=[" ++ stack_frames frames ++ text.LIST_END.now
-content_text (content.Depth depth) = codes "^done,depth=\"" ++ decimal depth ++ text.QUOTED_END.now
+content_text (content.Frames frames) = text.STACK_HEAD.now ++ stack_frames frames ++ text.LIST_END.now
+content_text (content.Depth depth) = text.DEPTH_HEAD.now ++ decimal depth ++ text.QUOTED_END.now
 content_text (content.Frame frame) = codes "^done," ++ frame_text (Some 0) frame ++ text.END.now
 content_text content.RegisterNames = text.NAMES.now ++ text.END.now
 content_text (content.Registers format registers) = text.REGISTERS_HEAD.now ++ joined (register_text format) registers ++ text.LIST_END.now
