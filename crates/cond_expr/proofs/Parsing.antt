@@ -1,6 +1,6 @@
 -- What the reader by strengths reads is the tree that the tokens spell.
-use Rattle.std.proofs.Common.{◌≡◌, ℕ, zero, suc, ◌+◌, ◌-◌, ◌<◌, ◌≤◌, true, false, List, [], ◌∷◌, length, refl, sym, ap, subst, ◌∙◌, nat_lt, arith}
-use Rattle.std.specs.Prelude.{Option, Some, None, Ok, Err, if◌then◌else◌, ◌==◌}
+use Rattle.std.proofs.Common.{◌≡◌, ℕ, zero, suc, ◌+◌, ◌-◌, ◌<◌, ◌≤◌, true, false, List, [], ◌∷◌, length, refl, ap, subst, ◌∙◌, nat_lt, arith}
+use Rattle.std.specs.Prelude.{Some, None, Ok, Err, ◌==◌}
 use Rattle.std.proofs.lemmas.Bool.Decides.{nat_tests}
 use Rattle.elf_symbols.specs.Names.{Names}
 use Rattle.cond_expr.specs.declared.fault.ExprFault.{ExprFault}
@@ -19,7 +19,7 @@ use Rattle.cond_expr.specs.Fault.{first_fault}
 use Rattle.cond_expr.specs.Stops.{Stops, IsWeaker}
 use Rattle.cond_expr.specs.Lex.{tokens_of}
 use Rattle.cond_expr.specs.Condition.{Tree}
-use Rattle.cond_expr.specs.Reader.{Read, begun, operation_of, joined, expression, operand, read_tree, unless, parsed}
+use Rattle.cond_expr.specs.Reader.{Read, operation_of, joined, expression, operand, read_tree, parsed}
 use Rattle.cond_expr.proofs.Climb.{strength_le, stops_12, is_weaker}
 use Rattle.cond_expr.proofs.Unique.{stops_up, closed}
 use Rattle.cond_expr.proofs.NoFault.{no_fault}
@@ -122,7 +122,7 @@ reading (single s a starts) (suc below) (suc n) e le stops = absurd (omega arith
 reading {rest = r} (single s a starts) zero (suc n) e le stops = read_single n s r a starts
 
 pub read_is_tree : (tokens : List Spot) (x : Term) → IsTree tokens x → read_tree tokens ≡ x
-read_is_tree tokens x h = let n = length tokens in
+read_is_tree tokens x h =
     ap (λ (r : Read). r.0) (whole (length tokens) 10 1 tokens [] x refl (omega arith) tt (reading h 10 (length tokens) refl (omega arith) tt))
 
 pub parsed_tree : (names : Names) (text : List ℕ) (x : Term) → Tree text names x → parsed names text ≡ Ok x
