@@ -1,7 +1,9 @@
 -- Breakpoints as they are listed (GDB manual, "GDB/MI Breakpoint Information"): a field that has nothing to say is left out.
-use Rattle.std.specs.Prelude.{ℕ, ◌==◌, Bool, true, false, List, [], ◌++◌, Option, Some, None, if◌then◌else◌, decimal}
+use Rattle.std.specs.Prelude.{ℕ, ◌==◌, Bool, true, false, List, [], ◌++◌, Option, Some, None, if◌then◌else◌, decimal, codes}
 use Rattle.dbg_model.specs.declared.breakpoint.Breakpoint.{Breakpoint}
-use Rattle.mi_reports.specs.Bytes.{word_text, c_string}
+use Rattle.dbg_model.specs.declared.frame.SourceLine.{SourceLine}
+use Rattle.mi_reports.specs.Bytes.{word_text, c_string, text_field}
+use Rattle.mi_reports.specs.Frames.{line_fields}
 use Rattle.mi_reports.specs.Text.{disposition}
 use Rattle.mi_reports.specs.declared.reply_texts.TheConstants as text
 
@@ -9,10 +11,10 @@ abbrev pub enabled_text : Bool → List ℕ
 enabled_text true = text.YES.now
 enabled_text false = text.NO.now
 
--- a field of a text, behind its head
-abbrev pub text_field : List ℕ → Option (List ℕ) → List ℕ
-text_field head None = []
-text_field head (Some bytes) = head ++ c_string bytes
+-- the line that it stands at
+abbrev pub breakpoint_line : Option SourceLine → List ℕ
+breakpoint_line None = []
+breakpoint_line (Some s) = codes "\"" ++ line_fields s
 
 abbrev pub for_thread : Option ℕ → List ℕ
 for_thread None = []
@@ -28,7 +30,7 @@ breakpoint_front b =
 
 -- where it stands
 unfoldable pub breakpoint_place : Breakpoint → List ℕ
-breakpoint_place b = text.ADDRESS_HEAD.now ++ word_text b.address ++ text_field text.FUNCTION_HEAD.now b.function
+breakpoint_place b = text.ADDRESS_HEAD.now ++ word_text b.address ++ text_field (codes "\",func=\"") b.function ++ breakpoint_line b.source
 
 -- when it stops, and whom
 unfoldable pub breakpoint_terms : Breakpoint → List ℕ

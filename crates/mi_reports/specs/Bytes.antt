@@ -1,5 +1,5 @@
 -- Numbers and bytes as text (GDB manual, "GDB/MI Output Syntax": C strings).
-use Rattle.std.specs.Prelude.{ℕ, ◌+◌, ◌/◌, ◌%◌, ◌==◌, ◌&&◌, List, [], ◌∷◌, ◌++◌, if◌then◌else◌, nat_lt, nat_le}
+use Rattle.std.specs.Prelude.{ℕ, ◌+◌, ◌/◌, ◌%◌, ◌==◌, ◌&&◌, List, [], ◌∷◌, ◌++◌, Option, Some, None, if◌then◌else◌, nat_lt, nat_le}
 
 abbrev pub hex_digit : ℕ → ℕ
 hex_digit d = if nat_lt d 10 then 48 + d else 87 + d
@@ -35,3 +35,8 @@ escaped b =
 abbrev pub c_string : List ℕ → List ℕ
 c_string [] = []
 c_string (b ∷ bs) = escaped b ++ c_string bs
+
+-- a field that is a C string, behind its head; left out where there is none
+abbrev pub text_field : List ℕ → Option (List ℕ) → List ℕ
+text_field head None = []
+text_field head (Some bytes) = head ++ c_string bytes

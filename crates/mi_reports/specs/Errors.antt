@@ -1,5 +1,5 @@
 -- Why a line is refused (GDB manual, "GDB/MI Result Records": errors).
-use Rattle.std.specs.Prelude.{ℕ, List, ◌++◌, decimal}
+use Rattle.std.specs.Prelude.{ℕ, List, ◌++◌, decimal, codes}
 use Rattle.cond_expr.specs.declared.fault.FaultKind.{FaultKind}
 use Rattle.cond_expr.specs.declared.fault.FaultKind.TheVariants as kind
 use Rattle.mi_commands.specs.declared.refusal.Fault.{Fault}
@@ -48,7 +48,7 @@ message (refused.Faulty f) = fault_message f
 message (refused.Hindered o) = obstacle_message o
 message (refused.UnknownName name) = text.FUNCTION.now ++ name ++ text.NOT_DEFINED.now
 message refused.NotBuilt = text.NOT_BUILT.now
-message refused.LineNotBuilt = text.NOT_BUILT.now
+message (refused.UnknownLine file line) = codes "No line " ++ decimal line ++ codes " in file " ++ file
 
 -- what stands behind the text of an error
 abbrev pub error_tail : Refused → List ℕ

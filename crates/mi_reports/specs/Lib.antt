@@ -1,5 +1,6 @@
 pub mod Bytes
 pub mod Lists
+pub mod Frames
 pub mod Text
 pub mod Breakpoints
 pub mod Errors

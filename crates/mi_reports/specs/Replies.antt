@@ -1,10 +1,11 @@
 -- The lines of a reply (GDB manual, "GDB/MI Result Records", "GDB/MI Thread Commands", "GDB/MI Data Manipulation",
--- "GDB/MI Breakpoint Commands", "GDB/MI Miscellaneous Commands").
-use Rattle.std.specs.Prelude.{ℕ, ◌+◌, ◌-◌, ◌%◌, ◌^◌, Bool, List, [], ◌∷◌, ◌++◌, length, Option, Some, None, if◌then◌else◌, nat_lt, decimal}
+-- "GDB/MI Stack Manipulation Commands", "GDB/MI Breakpoint Commands", "GDB/MI Miscellaneous Commands").
+use Rattle.std.specs.Prelude.{ℕ, ◌+◌, ◌-◌, ◌%◌, ◌^◌, Bool, List, [], ◌∷◌, ◌++◌, length, Option, Some, None, if◌then◌else◌, nat_lt, decimal, codes}
 use Rattle.mi_commands.specs.declared.command.Displaced.{Displaced}
 use Rattle.mi_commands.specs.declared.command.Displaced.TheVariants as displaced
 use Rattle.mi_commands.specs.declared.command.Format.{Format}
 use Rattle.mi_commands.specs.declared.command.Format.TheVariants.{Hexadecimal, Decimal}
+use Rattle.dbg_model.specs.declared.frame.ShownFrame.{ShownFrame}
 use Rattle.dbg_model.specs.declared.reply.Register.{Register}
 use Rattle.dbg_model.specs.declared.reply.Thread.{Thread}
 use Rattle.dbg_model.specs.declared.reply.Content.{Content}
@@ -12,11 +13,12 @@ use Rattle.dbg_model.specs.declared.reply.Content.TheVariants as content
 use Rattle.dbg_model.specs.declared.reply.Reply.{Reply}
 use Rattle.hex.specs.Hex.{encode_lower}
 use Rattle.mi_reports.specs.Bytes.{word_text}
+use Rattle.mi_reports.specs.Frames.{frame_text, stack_frames}
 use Rattle.mi_reports.specs.Lists.{joined}
 use Rattle.mi_reports.specs.Breakpoints.{breakpoint_text}
 use Rattle.mi_reports.specs.Errors.{refused_text}
 use Rattle.mi_reports.specs.declared.reply_texts.TheConstants as text
-use Rattle.mi_reports.specs.declared.texts.TheConstants.{PROMPT}
+use Rattle.mi_reports.specs.declared.texts.TheConstants.{PROMPT, NEXT_FIELD}
 
 -- ---- threads
 
@@ -24,9 +26,9 @@ abbrev pub running_lines : List ℕ → List ℕ
 running_lines [] = []
 running_lines (t ∷ ts) = text.RUNNING_HEAD.now ++ decimal t ++ text.LINE_END.now ++ running_lines ts
 
-abbrev pub place_text : Option ℕ → List ℕ
+abbrev pub place_text : Option ShownFrame → List ℕ
 place_text None = text.RUNNING_TAIL.now
-place_text (Some pc) = text.STOPPED_AT.now ++ word_text pc ++ text.STOPPED_TAIL.now
+place_text (Some frame) = NEXT_FIELD.now ++ frame_text (Some 0) frame ++ text.STOPPED_TAIL.now
 
 -- a thread, whose hart is counted from 0
 abbrev pub thread_text : Thread → List ℕ
@@ -81,6 +83,9 @@ content_text (content.Threads threads selected) =
     text.THREADS_HEAD.now ++ joined thread_text threads ++ text.THREADS_TAIL.now ++ decimal selected ++ text.QUOTED_END.now
 content_text (content.ThreadNumbers numbers selected) =
     text.NUMBERS_HEAD.now ++ joined number_text numbers ++ text.NUMBERS_TAIL.now ++ decimal selected ++ text.COUNT_HEAD.now ++ decimal (length numbers) ++ text.QUOTED_END.now
+content_text (content.Frames frames) = codes "^done,stack=[" ++ stack_frames frames ++ text.LIST_END.now
+content_text (content.Depth depth) = codes "^done,depth=\"" ++ decimal depth ++ text.QUOTED_END.now
+content_text (content.Frame frame) = codes "^done," ++ frame_text (Some 0) frame ++ text.END.now
 content_text content.RegisterNames = text.NAMES.now ++ text.END.now
 content_text (content.Registers format registers) = text.REGISTERS_HEAD.now ++ joined (register_text format) registers ++ text.LIST_END.now
 content_text (content.Memory addr bytes) = memory_text addr bytes

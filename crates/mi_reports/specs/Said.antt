@@ -4,8 +4,11 @@ use Rattle.std.specs.Option.{option_map}
 use Rattle.dbg_model.specs.declared.entry.Why.TheVariants.{Break, Interrupted, Fault}
 use Rattle.dbg_model.specs.declared.entry.Entry.{Entry}
 use Rattle.dbg_model.specs.declared.entry.Entry.TheVariants.{Ran, Counted, Stopped, Left, Did}
+use Rattle.dbg_model.specs.declared.frame.ShownFrame.{ShownFrame}
 use Rattle.dbg_model.specs.declared.opening.Opening.{Opening}
 use Rattle.dbg_model.specs.Breaks.{is_temporary}
+use Rattle.source_index.specs.Sources.{sources_of}
+use Rattle.dbg_model.specs.Places.{own_frame}
 use Rattle.dbg_model.specs.State.{Hart, State, all_gone}
 use Rattle.dbg_model.specs.Reply.{reply_of}
 use Rattle.dbg_model.specs.Lawful.{ran, one_out, exited_at}
@@ -26,13 +29,17 @@ abbrev pub hart_pc : Option Hart → ℕ
 hart_pc None = 0
 hart_pc (Some x) = x.regs.pc
 
+-- the frame that a hart is stopped in
+abbrev pub stop_frame : Opening → State → ℕ → ShownFrame
+stop_frame o s h = own_frame (sources_of o.image) (hart_pc (slice_get s.harts h))
+
 -- the lines of an entry that comes in a state
 abbrev pub entry_text : Opening → State → Entry → List ℕ
 entry_text o s (Ran h n) = ran_text o h s n
 entry_text o s (Counted h) = []
-entry_text o s (Stopped h (Break number error)) = break_text (is_temporary s.breaks number) number error h (hart_pc (slice_get s.harts h))
-entry_text o s (Stopped h Interrupted) = interrupt_text h (hart_pc (slice_get s.harts h))
-entry_text o s (Stopped h (Fault cause)) = stop_text cause h (hart_pc (slice_get s.harts h))
+entry_text o s (Stopped h (Break number error)) = break_text (is_temporary s.breaks number) number error h (stop_frame o s h)
+entry_text o s (Stopped h Interrupted) = interrupt_text h (stop_frame o s h)
+entry_text o s (Stopped h (Fault cause)) = stop_text cause h (stop_frame o s h)
 entry_text o s (Left h code) = gone_text h ++ (if all_gone (exited_at s.harts h (slice_get s.harts h)) then exit_text code else [])
 entry_text o s (Did line) = reply_text (reply_of o s line)
 

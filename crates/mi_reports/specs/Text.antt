@@ -6,8 +6,10 @@ use Rattle.break_table.specs.declared.due.CondError.{CondError}
 use Rattle.break_table.specs.declared.due.CondError.TheVariants.{DivZero, Unread}
 use Rattle.dbg_model.specs.declared.entry.Entry.{Entry}
 use Rattle.dbg_model.specs.declared.entry.Entry.TheVariants.{Ran, Counted, Stopped, Left, Did}
+use Rattle.dbg_model.specs.declared.frame.ShownFrame.{ShownFrame}
 use Rattle.mi_reports.specs.Bytes.{word_text, octal, c_string}
-use Rattle.mi_reports.specs.declared.texts.TheConstants.{CREATED_HEAD, EXITED_HEAD, GROUP_TAIL, PROMPT, SIGNAL_HEAD, BREAK_HEAD, KEPT, DELETED, BREAK_NUMBER_HEAD, SEGMENTATION_FAULT, BUS_ERROR, ILLEGAL_INSTRUCTION, TRAP, INTERRUPT, FRAME_HEAD, FRAME_TAIL, STOPPED_HEAD, STOPPED_TAIL, EXITED_NORMALLY, EXIT_CODE_HEAD, LINE_TAIL, STREAM_HEAD, LOG_HEAD, CONDITION_ERROR, COLON, DIVISION_BY_ZERO, UNREADABLE}
+use Rattle.mi_reports.specs.Frames.{frame_text}
+use Rattle.mi_reports.specs.declared.texts.TheConstants.{CREATED_HEAD, EXITED_HEAD, GROUP_TAIL, PROMPT, SIGNAL_HEAD, BREAK_HEAD, KEPT, DELETED, BREAK_NUMBER_HEAD, SEGMENTATION_FAULT, BUS_ERROR, ILLEGAL_INSTRUCTION, TRAP, INTERRUPT, NEXT_FIELD, THREAD_HEAD, STOPPED_HEAD, STOPPED_TAIL, EXITED_NORMALLY, EXIT_CODE_HEAD, LINE_TAIL, STREAM_HEAD, LOG_HEAD, CONDITION_ERROR, COLON, DIVISION_BY_ZERO, UNREADABLE}
 
 -- a line for each of the first n threads
 abbrev pub created : ℕ → List ℕ
@@ -29,21 +31,22 @@ signal Break = TRAP.now
 signal Illegal = ILLEGAL_INSTRUCTION.now
 signal FetchFault = SEGMENTATION_FAULT.now
 
--- where hart h stopped, at pc
-unfoldable pub frame_text : ℕ → ℕ → List ℕ
-frame_text h pc = FRAME_HEAD.now ++ word_text pc ++ FRAME_TAIL.now ++ decimal (h + 1) ++ STOPPED_HEAD.now ++ decimal (h + 1) ++ STOPPED_TAIL.now
+-- hart h stopped in this frame
+unfoldable pub place_text : ℕ → ShownFrame → List ℕ
+place_text h frame =
+    NEXT_FIELD.now ++ frame_text None frame ++ THREAD_HEAD.now ++ decimal (h + 1) ++ STOPPED_HEAD.now ++ decimal (h + 1) ++ STOPPED_TAIL.now
 
--- hart h stopped at pc by a signal, which is given with its meaning
-unfoldable pub signal_text : List ℕ → ℕ → ℕ → List ℕ
-signal_text name h pc = SIGNAL_HEAD.now ++ name ++ frame_text h pc
+-- hart h stopped in this frame by a signal, which is given with its meaning
+unfoldable pub signal_text : List ℕ → ℕ → ShownFrame → List ℕ
+signal_text name h frame = SIGNAL_HEAD.now ++ name ++ place_text h frame
 
--- hart h stopped at pc by a fault
-unfoldable pub stop_text : Cause → ℕ → ℕ → List ℕ
-stop_text cause h pc = signal_text (signal cause) h pc
+-- hart h stopped in this frame by a fault
+unfoldable pub stop_text : Cause → ℕ → ShownFrame → List ℕ
+stop_text cause h frame = signal_text (signal cause) h frame
 
--- hart h stopped at pc by an interrupt that was asked of it
-unfoldable pub interrupt_text : ℕ → ℕ → List ℕ
-interrupt_text h pc = signal_text INTERRUPT.now h pc
+-- hart h stopped in this frame by an interrupt that was asked of it
+unfoldable pub interrupt_text : ℕ → ShownFrame → List ℕ
+interrupt_text h frame = signal_text INTERRUPT.now h frame
 
 -- what becomes of a breakpoint that is hit
 abbrev pub disposition : Bool → List ℕ
@@ -64,12 +67,12 @@ condition_text number None = []
 condition_text number (Some e) = LOG_HEAD.now ++ c_string (condition_message number e) ++ LINE_TAIL.now
 
 -- the line of a stop by the breakpoint of that number
-unfoldable pub hit_text : Bool → ℕ → ℕ → ℕ → List ℕ
-hit_text temporary number h pc = BREAK_HEAD.now ++ disposition temporary ++ BREAK_NUMBER_HEAD.now ++ decimal number ++ frame_text h pc
+unfoldable pub hit_text : Bool → ℕ → ℕ → ShownFrame → List ℕ
+hit_text temporary number h frame = BREAK_HEAD.now ++ disposition temporary ++ BREAK_NUMBER_HEAD.now ++ decimal number ++ place_text h frame
 
--- hart h stopped at pc by the breakpoint of that number, whose condition had this error
-unfoldable pub break_text : Bool → ℕ → Option CondError → ℕ → ℕ → List ℕ
-break_text temporary number error h pc = condition_text number error ++ hit_text temporary number h pc
+-- hart h stopped in this frame by the breakpoint of that number, whose condition had this error
+unfoldable pub break_text : Bool → ℕ → Option CondError → ℕ → ShownFrame → List ℕ
+break_text temporary number error h frame = condition_text number error ++ hit_text temporary number h frame
 
 -- hart h has exited
 unfoldable pub gone_text : ℕ → List ℕ

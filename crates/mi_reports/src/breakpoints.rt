@@ -1,13 +1,13 @@
 // Breakpoints as they are listed.
 ghost use Rattle.std.specs.Prelude.{◌≡◌, ◌++◌, decimal, OnOk};
-ghost use Rattle.mi_reports.specs.Breakpoints.{enabled_text, text_field, for_thread, ignored, breakpoint_front, breakpoint_place, breakpoint_terms, breakpoint_counts, breakpoint_location, breakpoint_text};
+ghost use Rattle.mi_reports.specs.Breakpoints.{enabled_text, breakpoint_line, for_thread, ignored, breakpoint_front, breakpoint_place, breakpoint_terms, breakpoint_counts, breakpoint_location, breakpoint_text};
 ghost use Rattle.mi_reports.specs.Lists.{behind_commas, joined};
 
-use crate::numbers::{push, push_at, push_c_string, push_decimal, push_word};
-use crate::reply_texts as text;
+use crate::frames::push_line;
+use crate::numbers::{push, push_at, push_c_string, push_decimal, push_text_field, push_word};
 use crate::report::disposition;
-use dbg_model::Breakpoint;
-use mi_commands::ByteList;
+use crate::{reply_texts as text, texts};
+use dbg_model::{Breakpoint, SourceLine};
 use std::alloc::AllocError;
 
 fn enabled_text(enabled: bool) -> &'static str
@@ -16,19 +16,14 @@ fn enabled_text(enabled: bool) -> &'static str
     if enabled { text::YES } else { text::NO }
 }
 
-// A field that is left out where there is no text.
-fn push_text_field(
-    into: &mut Vec<u8>,
-    head: &str,
-    field: &Option<ByteList>,
-) -> Result<(), AllocError>
-    ensures { OnOk result (into.new.items ≡ into.old.items ++ text_field head.now field.now) }
+fn push_breakpoint_line(into: &mut Vec<u8>, source: &Option<SourceLine>) -> Result<(), AllocError>
+    ensures { OnOk result (into.new.items ≡ into.old.items ++ breakpoint_line source.now) }
 {
-    let Some(bytes) = field else {
+    let Some(source) = source else {
         return Ok(());
     };
-    push(into, head)?;
-    push_c_string(into, bytes.as_slice())
+    push(into, texts::QUOTE)?;
+    push_line(into, source)
 }
 
 fn push_for_thread(into: &mut Vec<u8>, thread: Option<u32>) -> Result<(), AllocError>
@@ -68,7 +63,8 @@ fn push_place(into: &mut Vec<u8>, breakpoint: &Breakpoint) -> Result<(), AllocEr
     ensures { OnOk result (into.new.items ≡ into.old.items ++ breakpoint_place breakpoint.now) }
 {
     push_at(into, text::ADDRESS_HEAD, breakpoint.address)?;
-    push_text_field(into, text::FUNCTION_HEAD, &breakpoint.function)
+    push_text_field(into, texts::FUNCTION_HEAD, &breakpoint.function)?;
+    push_breakpoint_line(into, &breakpoint.source)
 }
 
 #[tactic(auto, unfolding(crate::specs::Breakpoints::breakpoint_terms))]

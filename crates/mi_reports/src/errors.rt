@@ -98,7 +98,12 @@ fn push_message(into: &mut Vec<u8>, refused: &Refused) -> Result<(), AllocError>
             into.extend_from_slice(name.as_slice())?;
             push(into, text::NOT_DEFINED)
         }
-        Refused::NotBuilt | Refused::LineNotBuilt => push(into, text::NOT_BUILT),
+        Refused::NotBuilt => push(into, text::NOT_BUILT),
+        Refused::UnknownLine { file, line } => {
+            push_counted(into, text::NO_LINE, *line)?;
+            push(into, text::IN_FILE)?;
+            into.extend_from_slice(file.as_slice())
+        }
     }
 }
 

@@ -4,6 +4,7 @@
 mod breakpoints;
 mod conditions;
 mod errors;
+mod frames;
 mod numbers;
 mod refusals;
 mod replies;

@@ -1,8 +1,9 @@
 // Texts, numbers and bytes behind what stands already.
 ghost use Rattle.std.specs.Prelude.{◌≡◌, ◌<◌, ◌+◌, ◌++◌, decimal, OnOk};
-ghost use Rattle.mi_reports.specs.Bytes.{hex_digit, hex8, word_text, octal, escaped, c_string};
+ghost use Rattle.mi_reports.specs.Bytes.{hex_digit, hex8, word_text, octal, escaped, c_string, text_field};
 
 use itoa::Buffer;
+use mi_commands::ByteList;
 use std::alloc::AllocError;
 
 /// Appends a text.
@@ -108,4 +109,19 @@ pub fn push_c_string(into: &mut Vec<u8>, bytes: &[u8]) -> Result<(), AllocError>
         push_escaped(into, *b)?;
     }
     Ok(())
+}
+
+/// Appends a field that is a C string, behind its head; nothing where there is none.
+pub fn push_text_field(
+    into: &mut Vec<u8>,
+    head: &str,
+    field: &Option<ByteList>,
+) -> Result<(), AllocError>
+    ensures { OnOk result (into.new.items ≡ into.old.items ++ text_field head.now field.now) }
+{
+    let Some(bytes) = field else {
+        return Ok(());
+    };
+    push(into, head)?;
+    push_c_string(into, bytes.as_slice())
 }

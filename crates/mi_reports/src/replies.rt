@@ -6,10 +6,11 @@ ghost use Rattle.mi_reports.specs.Replies.{running_lines, place_text, thread_tex
 
 use crate::breakpoints::{push_breakpoint, push_breakpoints};
 use crate::errors::push_error;
+use crate::frames::{push_frame, push_stack_frames};
 use crate::numbers::{push, push_address, push_decimal, push_word};
 use crate::reply_texts as text;
-use crate::texts::PROMPT;
-use dbg_model::{Breakpoint, Content, Register, Reply, Thread};
+use crate::texts::{NEXT_FIELD, PROMPT};
+use dbg_model::{Breakpoint, Content, Register, Reply, ShownFrame, Thread};
 use mi_commands::{Displaced, Format};
 use std::alloc::{AllocError, Global};
 
@@ -25,27 +26,27 @@ fn push_running(into: &mut Vec<u8>, threads: &[u32]) -> Result<(), AllocError>
     push_running(into, rest)
 }
 
-fn push_place(into: &mut Vec<u8>, stopped_at: Option<u32>) -> Result<(), AllocError>
-    ensures { OnOk result (into.new.items ≡ into.old.items ++ place_text stopped_at) }
+fn push_place(into: &mut Vec<u8>, stopped_at: &Option<ShownFrame>) -> Result<(), AllocError>
+    ensures { OnOk result (into.new.items ≡ into.old.items ++ place_text stopped_at.now) }
 {
     match stopped_at {
         None => push(into, text::RUNNING_TAIL),
-        Some(pc) => {
-            push(into, text::STOPPED_AT)?;
-            push_address(into, pc)?;
+        Some(frame) => {
+            push(into, NEXT_FIELD)?;
+            push_frame(into, Some(0), frame)?;
             push(into, text::STOPPED_TAIL)
         }
     }
 }
 
-fn push_thread(into: &mut Vec<u8>, thread: Thread) -> Result<(), AllocError>
-    ensures { OnOk result (into.new.items ≡ into.old.items ++ thread_text thread) }
+fn push_thread(into: &mut Vec<u8>, thread: &Thread) -> Result<(), AllocError>
+    ensures { OnOk result (into.new.items ≡ into.old.items ++ thread_text thread.now) }
 {
     push(into, text::ID_HEAD)?;
     push_word(into, thread.number)?;
     push(into, text::TARGET_HEAD)?;
     push_word(into, thread.number.saturating_sub(1))?;
-    push_place(into, thread.stopped_at)
+    push_place(into, &thread.stopped_at)
 }
 
 fn push_more_threads(into: &mut Vec<u8>, threads: &[Thread]) -> Result<(), AllocError>
@@ -55,7 +56,7 @@ fn push_more_threads(into: &mut Vec<u8>, threads: &[Thread]) -> Result<(), Alloc
         return Ok(());
     };
     into.push(b',')?;
-    push_thread(into, *thread)?;
+    push_thread(into, thread)?;
     push_more_threads(into, rest)
 }
 
@@ -65,7 +66,7 @@ fn push_threads(into: &mut Vec<u8>, threads: &[Thread]) -> Result<(), AllocError
     let [thread, rest @ ..] = threads else {
         return Ok(());
     };
-    push_thread(into, *thread)?;
+    push_thread(into, thread)?;
     push_more_threads(into, rest)
 }
 
@@ -225,6 +226,30 @@ fn push_thread_numbers(into: &mut Vec<u8>, numbers: &[u32], selected: u32) -> Re
     push(into, text::QUOTED_END)
 }
 
+fn push_stack(into: &mut Vec<u8>, frames: &[ShownFrame]) -> Result<(), AllocError>
+    ensures { OnOk result (into.new.items ≡ into.old.items ++ content_text (Content.Frames frames.now)) }
+{
+    push(into, text::STACK_HEAD)?;
+    push_stack_frames(into, frames)?;
+    push(into, text::LIST_END)
+}
+
+fn push_depth(into: &mut Vec<u8>, depth: u32) -> Result<(), AllocError>
+    ensures { OnOk result (into.new.items ≡ into.old.items ++ content_text (Content.Depth depth)) }
+{
+    push(into, text::DEPTH_HEAD)?;
+    push_word(into, depth)?;
+    push(into, text::QUOTED_END)
+}
+
+fn push_innermost(into: &mut Vec<u8>, frame: &ShownFrame) -> Result<(), AllocError>
+    ensures { OnOk result (into.new.items ≡ into.old.items ++ content_text (Content.Frame frame.now)) }
+{
+    push(into, text::FRAME_HEAD)?;
+    push_frame(into, Some(0), frame)?;
+    push(into, text::END)
+}
+
 fn push_going_on(into: &mut Vec<u8>, threads: &[u32]) -> Result<(), AllocError>
     ensures { OnOk result (into.new.items ≡ into.old.items ++ content_text (Content.Running threads.now)) }
 {
@@ -321,6 +346,9 @@ fn push_content(alloc: Global, into: &mut Vec<u8>, content: &Content) -> Result<
             numbers.as_slice(),
             *selected,
         ),
+        Content::Frames(frames) => push_stack(into, frames.as_slice()),
+        Content::Depth(depth) => push_depth(into, *depth),
+        Content::Frame(frame) => push_innermost(into, frame),
         Content::RegisterNames => {
             push(into, text::NAMES)?;
             push(into, text::END)

@@ -33,8 +33,6 @@ pub const NO: &str = "n";
 
 pub const ADDRESS_HEAD: &str = "\",addr=\"0x";
 
-pub const FUNCTION_HEAD: &str = "\",func=\"";
-
 pub const CONDITION_HEAD: &str = "\",cond=\"";
 
 pub const THREAD_HEAD: &str = "\",thread=\"";
@@ -55,11 +53,15 @@ pub const ID_HEAD: &str = "{id=\"";
 
 pub const TARGET_HEAD: &str = "\",target-id=\"Hart ";
 
-pub const STOPPED_AT: &str = "\",frame={level=\"0\",addr=\"0x";
-
-pub const STOPPED_TAIL: &str = "\",args=[]},state=\"stopped\"}";
+pub const STOPPED_TAIL: &str = ",state=\"stopped\"}";
 
 pub const RUNNING_TAIL: &str = "\",state=\"running\"}";
+
+pub const STACK_HEAD: &str = "^done,stack=[";
+
+pub const DEPTH_HEAD: &str = "^done,depth=\"";
+
+pub const FRAME_HEAD: &str = "^done,";
 
 pub const NUMBERS_HEAD: &str = "^done,thread-ids={";
 
@@ -133,6 +135,10 @@ pub const NO_BREAKPOINT: &str = "No breakpoint number ";
 pub const FUNCTION: &str = "Function ";
 
 pub const NOT_DEFINED: &str = " not defined";
+
+pub const NO_LINE: &str = "No line ";
+
+pub const IN_FILE: &str = " in file ";
 
 pub const NO_INSTRUCTION: &str = "No instruction at address 0x";
 

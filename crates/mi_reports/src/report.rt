@@ -1,12 +1,13 @@
 // The lines of what entries show.
 ghost use Rattle.std.specs.Prelude.{◌≡◌, ◌+◌, ◌++◌, ◌<◌, decimal, IfOk, OnOk};
-ghost use Rattle.mi_reports.specs.Text.{created, opening_text, signal, frame_text, signal_text, stop_text, interrupt_text, disposition, hit_text, break_text, gone_text, gone_texts, exit_text, lefts_text, stream_text};
+ghost use Rattle.mi_reports.specs.Text.{created, opening_text, signal, place_text, signal_text, stop_text, interrupt_text, disposition, hit_text, break_text, gone_text, gone_texts, exit_text, lefts_text, stream_text};
 
 use crate::conditions::push_condition;
-use crate::numbers::{push, push_address, push_c_string, push_decimal, push_octal, push_word};
+use crate::frames::push_frame;
+use crate::numbers::{push, push_c_string, push_decimal, push_octal, push_word};
 use crate::texts;
 use break_table::CondError;
-use dbg_model::Entry;
+use dbg_model::{Entry, ShownFrame};
 use rv_exec::Cause;
 use std::alloc::{AllocError, Global};
 
@@ -50,13 +51,13 @@ fn signal(cause: Cause) -> &'static str
 }
 
 // Where a hart stopped, to the end of the line.
-#[tactic(auto, unfolding(crate::specs::Text::frame_text))]
-fn push_frame(into: &mut Vec<u8>, hart: u32, pc: u32) -> Result<(), AllocError>
-    ensures { OnOk result (into.new.items ≡ into.old.items ++ frame_text hart pc) }
+#[tactic(auto, unfolding(crate::specs::Text::place_text))]
+fn push_place(into: &mut Vec<u8>, hart: u32, frame: &ShownFrame) -> Result<(), AllocError>
+    ensures { OnOk result (into.new.items ≡ into.old.items ++ place_text hart frame.now) }
 {
-    push(into, texts::FRAME_HEAD)?;
-    push_address(into, pc)?;
-    push(into, texts::FRAME_TAIL)?;
+    push(into, texts::NEXT_FIELD)?;
+    push_frame(into, None, frame)?;
+    push(into, texts::THREAD_HEAD)?;
     push_thread(into, hart)?;
     push(into, texts::STOPPED_HEAD)?;
     push_thread(into, hart)?;
@@ -65,30 +66,40 @@ fn push_frame(into: &mut Vec<u8>, hart: u32, pc: u32) -> Result<(), AllocError>
 
 // A signal comes with its meaning.
 #[tactic(auto, unfolding(crate::specs::Text::signal_text))]
-fn signal_text(alloc: Global, signal: &str, hart: u32, pc: u32) -> Result<Vec<u8>, AllocError>
-    ensures { IfOk result (λ v. v.items ≡ signal_text signal.now hart pc) }
+fn signal_text(
+    alloc: Global,
+    signal: &str,
+    hart: u32,
+    frame: &ShownFrame,
+) -> Result<Vec<u8>, AllocError>
+    ensures { IfOk result (λ v. v.items ≡ signal_text signal.now hart frame.now) }
 {
     let mut text = Vec::new(alloc);
     push(&mut text, texts::SIGNAL_HEAD)?;
     push(&mut text, signal)?;
-    push_frame(&mut text, hart, pc)?;
+    push_place(&mut text, hart, frame)?;
     Ok(text)
 }
 
-/// The line of a stop of a hart by a fault, at pc.
+/// The line of a stop of a hart by a fault, in this frame.
 #[tactic(auto, unfolding(crate::specs::Text::stop_text))]
-pub fn stop_text(alloc: Global, cause: Cause, hart: u32, pc: u32) -> Result<Vec<u8>, AllocError>
-    ensures { IfOk result (λ v. v.items ≡ stop_text cause hart pc) }
+pub fn stop_text(
+    alloc: Global,
+    cause: Cause,
+    hart: u32,
+    frame: &ShownFrame,
+) -> Result<Vec<u8>, AllocError>
+    ensures { IfOk result (λ v. v.items ≡ stop_text cause hart frame.now) }
 {
-    signal_text(alloc, signal(cause), hart, pc)
+    signal_text(alloc, signal(cause), hart, frame)
 }
 
-/// The line of a stop of a hart by an interrupt that was asked of it, at pc.
+/// The line of a stop of a hart by an interrupt that was asked of it, in this frame.
 #[tactic(auto, unfolding(crate::specs::Text::interrupt_text))]
-pub fn interrupt_text(alloc: Global, hart: u32, pc: u32) -> Result<Vec<u8>, AllocError>
-    ensures { IfOk result (λ v. v.items ≡ interrupt_text hart pc) }
+pub fn interrupt_text(alloc: Global, hart: u32, frame: &ShownFrame) -> Result<Vec<u8>, AllocError>
+    ensures { IfOk result (λ v. v.items ≡ interrupt_text hart frame.now) }
 {
-    signal_text(alloc, texts::INTERRUPT, hart, pc)
+    signal_text(alloc, texts::INTERRUPT, hart, frame)
 }
 
 /// What becomes of a breakpoint that is hit.
@@ -108,19 +119,19 @@ fn push_hit(
     temporary: bool,
     number: u32,
     hart: u32,
-    pc: u32,
+    frame: &ShownFrame,
 ) -> Result<(), AllocError>
-    ensures { OnOk result (into.new.items ≡ into.old.items ++ hit_text temporary number hart pc) }
+    ensures { OnOk result (into.new.items ≡ into.old.items ++ hit_text temporary number hart frame.now) }
 {
     push(into, texts::BREAK_HEAD)?;
     push(into, disposition(temporary))?;
     push(into, texts::BREAK_NUMBER_HEAD)?;
     push_word(into, number)?;
-    push_frame(into, hart, pc)
+    push_place(into, hart, frame)
 }
 
-/// The lines of a stop of a hart by the breakpoint of that number, at pc. Where the value of its condition couldn't be
-/// had, a line that says why comes first.
+/// The lines of a stop of a hart by the breakpoint of that number, in this frame. Where the value of its condition
+/// couldn't be had, a line that says why comes first.
 #[tactic(auto, unfolding(crate::specs::Text::break_text))]
 pub fn break_text(
     alloc: Global,
@@ -128,13 +139,13 @@ pub fn break_text(
     number: u32,
     error: Option<CondError>,
     hart: u32,
-    pc: u32,
+    frame: &ShownFrame,
 ) -> Result<Vec<u8>, AllocError>
-    ensures { IfOk result (λ v. v.items ≡ break_text temporary number error hart pc) }
+    ensures { IfOk result (λ v. v.items ≡ break_text temporary number error hart frame.now) }
 {
     let mut text = Vec::new(alloc);
     push_condition(alloc, &mut text, number, error)?;
-    push_hit(&mut text, temporary, number, hart, pc)?;
+    push_hit(&mut text, temporary, number, hart, frame)?;
     Ok(text)
 }
 

@@ -27,9 +27,27 @@ pub const TRAP: &str = "SIGTRAP\",signal-meaning=\"Trace/breakpoint trap";
 
 pub const INTERRUPT: &str = "SIGINT\",signal-meaning=\"Interrupt";
 
-pub const FRAME_HEAD: &str = "\",frame={addr=\"0x";
+pub const NEXT_FIELD: &str = "\",";
 
-pub const FRAME_TAIL: &str = "\",args=[]},thread-id=\"";
+pub const QUOTE: &str = "\"";
+
+pub const FRAME_HEAD: &str = "frame={";
+
+pub const LEVEL_HEAD: &str = "level=\"";
+
+pub const FRAME_ADDRESS: &str = "addr=\"0x";
+
+pub const FUNCTION_HEAD: &str = "\",func=\"";
+
+pub const FRAME_ARGUMENTS: &str = "\",args=[]";
+
+pub const FILE_HEAD: &str = ",file=\"";
+
+pub const LINE_HEAD: &str = "\",line=\"";
+
+pub const FRAME_TAIL: &str = "}";
+
+pub const THREAD_HEAD: &str = ",thread-id=\"";
 
 pub const STOPPED_HEAD: &str = "\",stopped-threads=[\"";
 

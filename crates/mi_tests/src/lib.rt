@@ -9,3 +9,7 @@ mod input_lines;
 mod records;
 #[cfg(test)]
 mod report_lines;
+#[cfg(test)]
+mod shown;
+#[cfg(test)]
+mod stop_lines;

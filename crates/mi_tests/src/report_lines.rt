@@ -1,24 +1,15 @@
-use break_table::CondError;
+use crate::shown::{Known, bytes, frame, source};
 use cond_expr::{ExprFault, FaultKind};
 use dbg_model::{
-    Breakpoint, BreakpointList, Content, Entry, Obstacle, Refused, Register, RegisterList, Reply,
-    Thread, ThreadList,
+    Breakpoint, BreakpointList, Content, FrameList, Obstacle, Refused, Register, RegisterList,
+    Reply, Thread, ThreadList,
 };
-use elf32_read::{ElfFault, ElfKind};
 use mi_commands::{ByteList, Displaced, Fault, Format, NumberList};
-use mi_reports::{
-    USAGE, bad_file, break_text, interrupt_text, lefts_text, opening_text, reply_text, stop_text,
-    stream_text,
-};
+use mi_reports::reply_text;
 use mi_values::{Token, is_token};
-use rv_exec::Cause;
 use std::alloc::Global;
 use std::process::Abort;
 use std::test::Fail;
-
-fn bytes(alloc: Global, text: &str) -> Result<ByteList, Fail> {
-    Ok(ByteList::of(text.as_bytes().to_vec(alloc)?))
-}
 
 fn token(rt: &impl Abort, alloc: Global, digits: &str) -> Result<Token, Fail> {
     let digits = digits.as_bytes().to_vec(alloc)?;
@@ -64,7 +55,7 @@ fn obstacle(number: u32) -> Obstacle {
     }
 }
 
-// Why a line is refused, by the number of its message; 0 is that of commands and 15 that of locations that aren't built.
+// Why a line is refused, by the number of its message.
 fn refused(number: u32, word: ByteList) -> Refused {
     match number {
         0 => Refused::NotBuilt,
@@ -77,13 +68,16 @@ fn refused(number: u32, word: ByteList) -> Refused {
         7 => Refused::Faulty(Fault::Setting),
         13 => Refused::Faulty(Fault::Location { word, thread: None }),
         14 => Refused::UnknownName(word),
-        15 => Refused::LineNotBuilt,
+        15 => Refused::UnknownLine {
+            file: word,
+            line: 4_294_967_295,
+        },
         _ => Refused::Hindered(obstacle(number)),
     }
 }
 
 /// The number of each error, the word that it repeats, and its line behind the token.
-const ERRORS: [(u32, &str, &str); 27] = [
+const ERRORS: [(u32, &str, &str); 28] = [
     (0, "", "^error,msg=\"Not built yet\"\n"),
     (1, "", "^error,msg=\"Line is longer than 4096 bytes\"\n"),
     (2, "", "^error,msg=\"Malformed MI line\"\n"),
@@ -138,7 +132,16 @@ const ERRORS: [(u32, &str, &str); 27] = [
         "^error,msg=\"Cannot access memory at address 0xfffffffe\"\n",
     ),
     (14, "", "^error,msg=\"Function  not defined\"\n"),
-    (15, "", "^error,msg=\"Not built yet\"\n"),
+    (
+        15,
+        "count.c",
+        "^error,msg=\"No line 4294967295 in file count.c\"\n",
+    ),
+    (
+        15,
+        "a\"b\\c.c",
+        "^error,msg=\"No line 4294967295 in file a\\\"b\\\\c.c\"\n",
+    ),
 ];
 
 #[test]
@@ -159,6 +162,7 @@ fn breakpoint(alloc: Global, number: u32, is_whole: bool) -> Result<Breakpoint, 
         number,
         address: 0x1_0078,
         function: None,
+        source: None,
         location: bytes(alloc, "*0x10078")?,
         temporary: is_whole,
         enabled: !is_whole,
@@ -169,6 +173,7 @@ fn breakpoint(alloc: Global, number: u32, is_whole: bool) -> Result<Breakpoint, 
     };
     if is_whole {
         breakpoint.function = Some(bytes(alloc, "work")?);
+        breakpoint.source = Some(source(alloc, 12)?);
         breakpoint.condition = Some(bytes(alloc, "1 == \"")?);
         breakpoint.ignore = 2_147_483_647;
         breakpoint.thread = Some(16);
@@ -178,10 +183,14 @@ fn breakpoint(alloc: Global, number: u32, is_whole: bool) -> Result<Breakpoint, 
 }
 
 const WHOLE: &str =
-    "bkpt={number=\"129\",type=\"breakpoint\",disp=\"del\",enabled=\"n\",addr=\"0x00010078\",func=\"work\",cond=\"1 == \\\"\",thread=\"16\",times=\"18446744073709551615\",ignore=\"2147483647\",original-location=\"*0x10078\"}";
+    "bkpt={number=\"129\",type=\"breakpoint\",disp=\"del\",enabled=\"n\",addr=\"0x00010078\",func=\"work\",file=\"a\\\"b\\\\c.c\",line=\"12\",cond=\"1 == \\\"\",thread=\"16\",times=\"18446744073709551615\",ignore=\"2147483647\",original-location=\"*0x10078\"}";
 
 const BARE: &str =
     "bkpt={number=\"1\",type=\"breakpoint\",disp=\"keep\",enabled=\"y\",addr=\"0x00010078\",times=\"0\",original-location=\"*0x10078\"}";
+
+/// Of which the line is known and not the function.
+const WITH_LINE: &str =
+    "bkpt={number=\"2\",type=\"breakpoint\",disp=\"keep\",enabled=\"y\",addr=\"0x00010078\",file=\"a\\\"b\\\\c.c\",line=\"0\",times=\"0\",original-location=\"*0x10078\"}";
 
 #[test]
 fn breakpoints_are_shown_with_their_parts(rt: HostRuntime) -> Result<(), Fail> {
@@ -204,7 +213,11 @@ fn breakpoints_are_shown_with_their_parts(rt: HostRuntime) -> Result<(), Fail> {
     let want = format!(in alloc;
         "^done,BreakpointTable={{nr_rows=\"2\",body=[{BARE},{WHOLE}]}}\n(gdb)\n"
     )?;
-    check(&rt, alloc, "", two, want.as_str())
+    check(&rt, alloc, "", two, want.as_str())?;
+    let mut with_line = breakpoint(alloc, 2, false)?;
+    with_line.source = Some(source(alloc, 0)?);
+    let want = format!(in alloc; "^done,{WITH_LINE}\n(gdb)\n")?;
+    check(&rt, alloc, "", Content::Inserted(with_line), want.as_str())
 }
 
 // The registers a0 and pc.
@@ -216,13 +229,30 @@ fn registers(alloc: Global) -> Result<RegisterList, Fail> {
     Ok(RegisterList::of(registers.to_vec(alloc)?))
 }
 
-// Hart 0 is stopped and hart 2 runs.
+// A whole frame, and one of which nothing is known.
+fn frames(alloc: Global) -> Result<FrameList, Fail> {
+    let mut frames = Vec::new(alloc);
+    frames.push(frame(alloc, Known::Both)?)?;
+    frames.push(frame(alloc, Known::Nothing)?)?;
+    Ok(FrameList::of(frames))
+}
+
+// Harts 0 and 1 are stopped and hart 2 runs.
 fn threads(alloc: Global) -> Result<ThreadList, Fail> {
-    let threads = [(1, Some(0x1_0078)), (3, None)].map(|(number, stopped_at)| Thread {
-        number,
-        stopped_at,
-    });
-    Ok(ThreadList::of(threads.to_vec(alloc)?))
+    let mut threads = Vec::new(alloc);
+    threads.push(Thread {
+        number: 1,
+        stopped_at: Some(frame(alloc, Known::Nothing)?),
+    })?;
+    threads.push(Thread {
+        number: 2,
+        stopped_at: Some(frame(alloc, Known::Both)?),
+    })?;
+    threads.push(Thread {
+        number: 3,
+        stopped_at: None,
+    })?;
+    Ok(ThreadList::of(threads))
 }
 
 fn numbers(alloc: Global, numbers: &[u32]) -> Result<NumberList, Fail> {
@@ -250,6 +280,13 @@ fn content(alloc: Global, name: &str) -> Result<Content, Fail> {
             numbers: numbers(alloc, &[])?,
             selected: 1,
         },
+        "stack" => Content::Frames(frames(alloc)?),
+        "no frames" => Content::Frames(FrameList::of(Vec::new(alloc))),
+        "depth" => Content::Depth(64),
+        "frame" => Content::Frame(frame(alloc, Known::Both)?),
+        "frame with function" => Content::Frame(frame(alloc, Known::Function)?),
+        "frame with line" => Content::Frame(frame(alloc, Known::Line)?),
+        "bare frame" => Content::Frame(frame(alloc, Known::Nothing)?),
         "names" => Content::RegisterNames,
         "hexadecimal" => Content::Registers {
             format: Format::Hexadecimal,
@@ -278,7 +315,7 @@ fn content(alloc: Global, name: &str) -> Result<Content, Fail> {
 }
 
 /// The lines of each reply.
-const REPLIES: [(&str, &str); 18] = [
+const REPLIES: [(&str, &str); 25] = [
     ("blank", "(gdb)\n"),
     ("done", "^done\n(gdb)\n"),
     ("exit", "^exit\n"),
@@ -290,7 +327,7 @@ const REPLIES: [(&str, &str); 18] = [
     ("selected", "^done,new-thread-id=\"16\"\n(gdb)\n"),
     (
         "threads",
-        "^done,threads=[{id=\"1\",target-id=\"Hart 0\",frame={level=\"0\",addr=\"0x00010078\",args=[]},state=\"stopped\"},{id=\"3\",target-id=\"Hart 2\",state=\"running\"}],current-thread-id=\"3\"\n(gdb)\n",
+        "^done,threads=[{id=\"1\",target-id=\"Hart 0\",frame={level=\"0\",addr=\"0x00010078\",args=[]},state=\"stopped\"},{id=\"2\",target-id=\"Hart 1\",frame={level=\"0\",addr=\"0x00010078\",func=\"work\",args=[],file=\"a\\\"b\\\\c.c\",line=\"4294967295\"},state=\"stopped\"},{id=\"3\",target-id=\"Hart 2\",state=\"running\"}],current-thread-id=\"3\"\n(gdb)\n",
     ),
     (
         "numbers",
@@ -299,6 +336,28 @@ const REPLIES: [(&str, &str); 18] = [
     (
         "no numbers",
         "^done,thread-ids={},current-thread-id=\"1\",number-of-threads=\"0\"\n(gdb)\n",
+    ),
+    (
+        "stack",
+        "^done,stack=[frame={level=\"0\",addr=\"0x00010078\",func=\"work\",args=[],file=\"a\\\"b\\\\c.c\",line=\"4294967295\"},frame={level=\"1\",addr=\"0x00010078\",args=[]}]\n(gdb)\n",
+    ),
+    ("no frames", "^done,stack=[]\n(gdb)\n"),
+    ("depth", "^done,depth=\"64\"\n(gdb)\n"),
+    (
+        "frame",
+        "^done,frame={level=\"0\",addr=\"0x00010078\",func=\"work\",args=[],file=\"a\\\"b\\\\c.c\",line=\"4294967295\"}\n(gdb)\n",
+    ),
+    (
+        "frame with function",
+        "^done,frame={level=\"0\",addr=\"0x00010078\",func=\"work\",args=[]}\n(gdb)\n",
+    ),
+    (
+        "frame with line",
+        "^done,frame={level=\"0\",addr=\"0x00010078\",args=[],file=\"a\\\"b\\\\c.c\",line=\"4294967295\"}\n(gdb)\n",
+    ),
+    (
+        "bare frame",
+        "^done,frame={level=\"0\",addr=\"0x00010078\",args=[]}\n(gdb)\n",
     ),
     (
         "names",
@@ -328,131 +387,5 @@ fn each_reply_has_its_lines(rt: HostRuntime) -> Result<(), Fail> {
     for (name, want) in REPLIES {
         check(&rt, rt.alloc(), "", content(rt.alloc(), name)?, want)?;
     }
-    Ok(())
-}
-
-/// What a trap is told as, in hart 1, which is thread 2.
-const SIGNALS: [(Cause, &str, &str); 8] = [
-    (Cause::FetchFault, "SIGSEGV", "Segmentation fault"),
-    (Cause::LoadFault, "SIGSEGV", "Segmentation fault"),
-    (Cause::StoreFault, "SIGSEGV", "Segmentation fault"),
-    (Cause::FetchAlign, "SIGBUS", "Bus error"),
-    (Cause::LoadAlign, "SIGBUS", "Bus error"),
-    (Cause::StoreAlign, "SIGBUS", "Bus error"),
-    (Cause::Illegal, "SIGILL", "Illegal instruction"),
-    (Cause::Break, "SIGTRAP", "Trace/breakpoint trap"),
-];
-
-const FRAME: &str = "frame={addr=\"0x00010078\",args=[]},thread-id=\"2\",stopped-threads=[\"2\"]\n";
-
-/// Whether the breakpoint is temporary, why its condition has no value, the line of that, and what becomes of it.
-const BREAKS: [(bool, Option<CondError>, &str, &str); 4] = [
-    (false, None, "", "keep"),
-    (true, None, "", "del"),
-    (
-        false,
-        Some(CondError::DivZero),
-        "&\"Error in testing condition for breakpoint 17: Division by zero\\n\"\n",
-        "keep",
-    ),
-    (
-        true,
-        Some(CondError::Unread(0xFFFF_FFFE)),
-        "&\"Error in testing condition for breakpoint 17: Cannot access memory at address 0xfffffffe\\n\"\n",
-        "del",
-    ),
-];
-
-#[test]
-fn each_stop_has_its_lines(rt: HostRuntime) -> Result<(), Fail> {
-    let alloc = rt.alloc();
-    let head = "*stopped,reason=\"signal-received\",signal-name=";
-    for (cause, name, meaning) in SIGNALS {
-        let text = stop_text(alloc, cause, 1, 0x1_0078)?;
-        let want = format!(in alloc; "{head}\"{name}\",signal-meaning=\"{meaning}\",{FRAME}")?;
-        assert_eq!(rt; text.as_slice(), want.as_bytes());
-    }
-    let text = interrupt_text(alloc, 1, 0x1_0078)?;
-    let want = format!(in alloc; "{head}\"SIGINT\",signal-meaning=\"Interrupt\",{FRAME}")?;
-    assert_eq!(rt; text.as_slice(), want.as_bytes());
-    for (temporary, error, line, disposition) in BREAKS {
-        let text = break_text(alloc, temporary, 17, error, 1, 0x1_0078)?;
-        let want = format!(in alloc;
-            "{line}*stopped,reason=\"breakpoint-hit\",disp=\"{disposition}\",bkptno=\"17\",{FRAME}"
-        )?;
-        assert_eq!(rt; text.as_slice(), want.as_bytes());
-    }
-    Ok(())
-}
-
-/// Whether no live hart is left, the code, and the lines behind those of the threads.
-const EXITS: [(bool, u32, &str); 5] = [
-    (false, 0, ""),
-    (true, 0, "*stopped,reason=\"exited-normally\"\n"),
-    (true, 7, "*stopped,reason=\"exited\",exit-code=\"07\"\n"),
-    (true, 8, "*stopped,reason=\"exited\",exit-code=\"010\"\n"),
-    (true, 255, "*stopped,reason=\"exited\",exit-code=\"0377\"\n"),
-];
-
-#[test]
-fn threads_are_told_as_created_and_as_exited(rt: HostRuntime) -> Result<(), Fail> {
-    let alloc = rt.alloc();
-    let text = opening_text(alloc, 2)?;
-    let want =
-        "=thread-created,id=\"1\",group-id=\"i1\"\n=thread-created,id=\"2\",group-id=\"i1\"\n(gdb)\n";
-    assert_eq!(rt; text.as_slice(), want.as_bytes());
-    let threads =
-        "=thread-exited,id=\"1\",group-id=\"i1\"\n=thread-exited,id=\"16\",group-id=\"i1\"\n";
-    for (all, code, line) in EXITS {
-        let entries = [
-            Entry::Left { hart: 0, code },
-            Entry::Counted { hart: 1 },
-            Entry::Left { hart: 15, code },
-        ];
-        assert!(rt; code < 256);
-        let text = lefts_text(alloc, &entries, all, code)?;
-        let want = format!(in alloc; "{threads}{line}")?;
-        assert_eq!(rt; text.as_slice(), want.as_bytes());
-    }
-    Ok(())
-}
-
-const KINDS: [(ElfKind, &str); 12] = [
-    (ElfKind::Short, "Short"),
-    (ElfKind::Magic, "Magic"),
-    (ElfKind::Class, "Class"),
-    (ElfKind::Order, "Order"),
-    (ElfKind::Kind, "Kind"),
-    (ElfKind::Machine, "Machine"),
-    (ElfKind::Flags, "Flags"),
-    (ElfKind::Segment, "Segment"),
-    (ElfKind::Section, "Section"),
-    (ElfKind::Text, "Text"),
-    (ElfKind::Entry, "Entry"),
-    (ElfKind::Large, "Large"),
-];
-
-#[test]
-fn words_files_and_output_have_their_lines(rt: HostRuntime) -> Result<(), Fail> {
-    let alloc = rt.alloc();
-    assert_eq!(rt;
-        USAGE,
-        "^error,msg=\"usage: rvdbg [--harts N] [--workers N] [--slots N] [--budget N] [--slice N] FILE\"\n"
-    );
-    for (kind, name) in KINDS {
-        let fault = ElfFault {
-            kind,
-            place: 33_554_432,
-        };
-        let text = bad_file(alloc, fault)?;
-        let want = format!(in alloc;
-            "^error,msg=\"Not an accepted ELF file: {name} at 33554432\"\n"
-        )?;
-        assert_eq!(rt; text.as_slice(), want.as_bytes());
-    }
-    let text = stream_text(alloc, b"a\n\r\t\"\\ ~\x00\x1F\x7F\xFF")?;
-    let want = "@\"a\\n\\r\\t\\\"\\\\ ~\\000\\037\\177\\377\"\n";
-    assert_eq!(rt; text.as_slice(), want.as_bytes());
-    assert!(rt; stream_text(alloc, b"")?.is_empty());
     Ok(())
 }
