@@ -3,6 +3,8 @@ use Rattle.std.proofs.Common.{◌≡◌, ℕ, zero, suc, ◌≤◌, List, [], �
 use Rattle.std.specs.Prelude.{Bool, true, false, not, Option, Some, None, Result, Ok, Err, is_some, length, nat_lt}
 use Rattle.elf32_read.specs.Program.{text_word}
 use Rattle.elf_symbols.specs.Names.{Names, Symbol, address_of}
+use Rattle.line_index.specs.Lines as tables
+use Rattle.source_index.specs.Sources.{Sources}
 use Rattle.cond_expr.specs.declared.evaluating.Value.{Value}
 use Rattle.cond_expr.specs.declared.evaluating.Value.TheVariants as worth
 use Rattle.cond_expr.specs.declared.fault.ExprFault.{ExprFault}
@@ -34,7 +36,7 @@ use Rattle.dbg_model.specs.Views.{register, shown_byte}
 use Rattle.dbg_model.specs.Sight.{Sight, thread_at, live, live_as, running, running_as, stopped, stopped_as, thread_or}
 use Rattle.dbg_model.specs.Outcome.{and_then}
 use Rattle.dbg_model.specs.Threads.{go_on, interrupt, thread_info}
-use Rattle.dbg_model.specs.Breakpoints.{condition, expression, expression_as, insert, known, known_thread, named, none_missing, place, placed, room}
+use Rattle.dbg_model.specs.Breakpoints.{condition, expression, expression_as, insert, known, known_thread, named, none_missing, on_line, place, placed, room}
 use Rattle.dbg_model.specs.Data.{address_at, byte_at, bytes_at, evaluate, shown_at, worth_as, worth_of}
 use Rattle.dbg_model.specs.Command.{asked_reply, reply}
 use Rattle.dbg_model.specs.Refusals.{Judges, absent, against, against_asked, against_evaluate, against_insert, against_live, against_named, against_running, against_stopped, against_target, failed, has_exited, is_stopped, kind_number, no_text, no_value, runs, unknown, unreadable, when}
@@ -42,14 +44,14 @@ use Rattle.dbg_answers.proofs.Tests.{From, UpTo, alone, both_from, chain, ensure
 
 -- ---- threads
 
-live_by : (t : ℕ) (x : Option ThreadView) → Judges (live_as t x) (when (not (is_some x)) (UnknownThread t) ++ when (has_exited x) (HasExited t))
-live_by t None = alone _
-live_by t (Some (view.Stopped r)) = refl
-live_by t (Some view.Running) = refl
-live_by t (Some view.Exited) = alone _
+live_by : (sources : Sources) (t : ℕ) (x : Option ThreadView) → Judges (live_as sources t x) (when (not (is_some x)) (UnknownThread t) ++ when (has_exited x) (HasExited t))
+live_by sources t None = alone _
+live_by sources t (Some (view.Stopped r)) = refl
+live_by sources t (Some view.Running) = refl
+live_by sources t (Some view.Exited) = alone _
 
 live_judged : (s : Sight) (t : ℕ) → Judges (live s t) (against_live s t)
-live_judged s t = live_by t (thread_at s.threads t)
+live_judged s t = live_by s.sources t (thread_at s.threads t)
 
 stopped_by : (t : ℕ) (x : Option ThreadView) → Judges (stopped_as t x) ((when (not (is_some x)) (UnknownThread t) ++ when (has_exited x) (HasExited t)) ++ when (runs x) (IsRunning t))
 stopped_by t None = alone _
@@ -139,12 +141,12 @@ condition_from : (names : Names) (text : Option (List ℕ)) → From 18 (failed 
 condition_from names None = none_from 18
 condition_from names (Some text) = then_failed (expression names text) _ 18 (expression_by text (parsed names text)).0
 
-condition_judged : (s : Sight) (n : ℕ) (text : Option (List ℕ)) → Judges (reply s (command.BreakCondition n text)) (absent s (n ∷ []) ++ failed (condition s.names text))
+condition_judged : (s : Sight) (n : ℕ) (text : Option (List ℕ)) → Judges (reply s (command.BreakCondition n text)) (absent s (n ∷ []) ++ failed (condition s.sources.names text))
 unfolding reply
 condition_judged s n text =
-    let bad = failed (condition s.names text) in
-    chain 12 (known s (n ∷ [])) _ (absent s (n ∷ [])) bad (known_up s (n ∷ [])) (less_from 12 18 bad (omega arith) (condition_from s.names text)) (known_judged s (n ∷ [])) (λ u is.
-    then_done (condition s.names text) _ bad (failed_judged (condition s.names text)))
+    let bad = failed (condition s.sources.names text) in
+    chain 12 (known s (n ∷ [])) _ (absent s (n ∷ [])) bad (known_up s (n ∷ [])) (less_from 12 18 bad (omega arith) (condition_from s.sources.names text)) (known_judged s (n ∷ [])) (λ u is.
+    then_done (condition s.sources.names text) _ bad (failed_judged (condition s.sources.names text)))
 
 worth_from : (v : Value) → From 22 (failed (worth_as v))
 worth_from (worth.Word n unsigned) = none_from 22
@@ -160,9 +162,9 @@ value_from s (Err f) (Err g) = none_from 22
 evaluate_judged : (s : Sight) (thread : Option ℕ) (text : List ℕ) → Judges (evaluate s thread text) (against_evaluate s (thread_or s.selected thread) text)
 evaluate_judged s thread text =
     let t = thread_or s.selected thread in
-    let e = expression s.names text in
+    let e = expression s.sources.names text in
     let none = no_value s (stopped s t) e in
-    let by = expression_by text (parsed s.names text) in
+    let by = expression_by text (parsed s.sources.names text) in
     let behind : From 10 (failed e ++ none) = both_from 10 (failed e) none (less_from 10 18 (failed e) (omega arith) by.0) (less_from 10 22 none (omega arith) (value_from s (stopped s t) e)) in
     chain 10 (stopped s t) _ (against_stopped s t) (failed e ++ none) (stopped_up t (thread_at s.threads t)) behind (stopped_judged s t) (λ r at.
     chain 22 e _ (failed e) none by.1 (value_from s (stopped s t) e) (failed_judged e) (λ c is.
@@ -197,14 +199,18 @@ bytes_judged s addr (suc n) =
 
 -- ---- a new breakpoint
 
-place_by : (name : List ℕ) (f : Option Symbol) → UpTo 15 (named name f) × From 8 (failed (named name f))
-place_by name None = (omega arith, one_from 8 _ (omega arith))
-place_by name (Some s) = (tt, none_from 8)
+name_by : (sources : Sources) (name : List ℕ) (f : Option Symbol) → UpTo 15 (named sources name f) × From 8 (failed (named sources name f))
+name_by sources name None = (omega arith, one_from 8 _ (omega arith))
+name_by sources name (Some s) = (tt, none_from 8)
 
-place_within : (names : Names) (l : Location) → UpTo 15 (place names l) × From 8 (failed (place names l))
-place_within names (location.Address addr) = (tt, none_from 8)
-place_within names (location.Name name) = place_by name (address_of names name)
-place_within names (location.Line file line) = (omega arith, one_from 8 _ (omega arith))
+line_by : (file : List ℕ) (line : ℕ) (addr : Option ℕ) → UpTo 15 (on_line file line addr) × From 8 (failed (on_line file line addr))
+line_by file line None = (omega arith, one_from 8 _ (omega arith))
+line_by file line (Some addr) = (tt, none_from 8)
+
+place_within : (sources : Sources) (l : Location) → UpTo 15 (place sources l) × From 8 (failed (place sources l))
+place_within sources (location.Address addr) = (tt, none_from 8)
+place_within sources (location.Name name) = name_by sources name (address_of sources.names name)
+place_within sources (location.Line file line) = line_by file line (tables.address_of sources.lines file line)
 
 text_from : (s : Sight) (p : Result ℕ Refused) → From 16 (no_text s p)
 text_from s (Ok addr) = when_from 16 (not (is_some (text_word s.image addr))) (NoInstruction addr) (omega arith)
@@ -212,16 +218,16 @@ text_from s (Err r) = none_from 16
 
 insert_judged : (s : Sight) (i : Insertion) → Judges (insert s i) (against_insert s i)
 insert_judged s i =
-    let p = place s.names i.location in
+    let p = place s.sources i.location in
     let texts = no_text s p in
     let low = nat_lt (length s.breaks) breakpoints in
     let full = when (not low) TooManyBreakpoints in
-    let bad = failed (condition s.names i.condition) in
-    let bad_from = condition_from s.names i.condition in
+    let bad = failed (condition s.sources.names i.condition) in
+    let bad_from = condition_from s.sources.names i.condition in
     let full_from : From 17 full = when_from 17 (not low) TooManyBreakpoints (omega arith) in
     let behind_text : From 17 (full ++ bad) = both_from 17 full bad full_from (less_from 17 18 bad (omega arith) bad_from) in
     let behind_place : From 16 (texts ++ (full ++ bad)) = both_from 16 texts (full ++ bad) (text_from s p) (less_from 16 17 (full ++ bad) (omega arith) behind_text) in
-    let within = place_within s.names i.location in
+    let within = place_within s.sources i.location in
     let behind_thread : From 8 (failed p ++ (texts ++ (full ++ bad))) = both_from 8 (failed p) (texts ++ (full ++ bad)) within.1 (less_from 8 16 (texts ++ (full ++ bad)) (omega arith) behind_place) in
     chain 8 (known_thread s i.thread) _ (against_named (unknown s) i.thread) (failed p ++ (texts ++ (full ++ bad))) (named_up s i.thread) behind_thread (named_judged s i.thread) (λ u e.
     chain 15 p _ (failed p) (texts ++ (full ++ bad)) within.0 (less_from 15 16 (texts ++ (full ++ bad)) (omega arith) behind_place) (failed_judged p) (λ addr at.
@@ -229,7 +235,7 @@ insert_judged s i =
     let here : texts ≡ when (not word) (NoInstruction addr) = ap (no_text s) at in
     chain 16 (placed s addr) _ texts (full ++ bad) (ensured_up 16 word (NoInstruction addr) (omega arith)) (less_from 16 17 (full ++ bad) (omega arith) behind_text) (rw here (ensured_judged word (NoInstruction addr))) (λ v e.
     chain 17 (room s) _ full bad (ensured_up 17 low TooManyBreakpoints (omega arith)) (less_from 17 18 bad (omega arith) bad_from) (ensured_judged low TooManyBreakpoints) (λ w e.
-    then_done (condition s.names i.condition) _ bad (failed_judged (condition s.names i.condition))))))
+    then_done (condition s.sources.names i.condition) _ bad (failed_judged (condition s.sources.names i.condition))))))
 
 -- ---- all commands
 
@@ -246,6 +252,9 @@ reply_judged s (command.Interrupt t) = interrupt_judged s t
 reply_judged s (command.ThreadInfo t) = info_judged s t
 reply_judged s (command.ThreadSelect t) = then_done (live s t) _ (against_live s t) (live_judged s t)
 reply_judged s (command.RegisterValues t f ns) = then_done (stopped s (thread_or s.selected t)) _ (against_stopped s (thread_or s.selected t)) (stopped_judged s (thread_or s.selected t))
+reply_judged s (command.FrameList t) = then_done (stopped s (thread_or s.selected t)) _ (against_stopped s (thread_or s.selected t)) (stopped_judged s (thread_or s.selected t))
+reply_judged s (command.FrameDepth t) = then_done (stopped s (thread_or s.selected t)) _ (against_stopped s (thread_or s.selected t)) (stopped_judged s (thread_or s.selected t))
+reply_judged s (command.FrameInfo t) = then_done (stopped s (thread_or s.selected t)) _ (against_stopped s (thread_or s.selected t)) (stopped_judged s (thread_or s.selected t))
 reply_judged s (command.ReadMemory addr n) = then_done (bytes_at s addr n) _ (unreadable s addr n) (bytes_judged s addr n)
 reply_judged s (command.Evaluate t text) = evaluate_judged s t text
 reply_judged s (command.Step t) = alone _
@@ -253,9 +262,6 @@ reply_judged s (command.Next t) = alone _
 reply_judged s (command.StepInstruction t) = alone _
 reply_judged s (command.NextInstruction t) = alone _
 reply_judged s (command.Finish t) = alone _
-reply_judged s (command.FrameList t) = alone _
-reply_judged s (command.FrameDepth t) = alone _
-reply_judged s (command.FrameInfo t) = alone _
 reply_judged s _ = refl
 
 pub asked_judged : (s : Sight) (r : Result Command Fault) → Judges (asked_reply s r) (against_asked s r)

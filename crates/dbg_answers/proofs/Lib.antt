@@ -4,3 +4,4 @@ pub mod Reading
 pub mod Ranges
 pub mod Lines
 pub mod Tables
+pub mod Showing

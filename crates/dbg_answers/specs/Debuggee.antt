@@ -5,7 +5,7 @@ use Rattle.dbg_answers.specs.declared.debuggee.Debuggee.{Debuggee}
 abbrev pub seen : Debuggee → Sight
 seen d = record {
   image = d.image.now;
-  names = d.symbols.now;
+  sources = d.sources.now;
   memory = d.memory.now;
   threads = d.threads.now;
   breaks = d.table.now.entries;

@@ -1,4 +1,5 @@
 pub mod Debuggee
+pub mod Live
 pub mod Answer
 pub mod Reading
 pub mod Each

@@ -1,21 +1,24 @@
 ghost use Rattle.std.specs.Prelude.{◌≡◌, ◌<◌, ◌-◌, ◌^◌, ◌∷◌, [], IfOk, map, Ok};
 ghost use Rattle.std.specs.Option.{option_map};
-ghost use Rattle.elf_symbols.specs.Names.{function_at};
+ghost use Rattle.elf_symbols.specs.Names.{address_of};
+ghost use Rattle.line_index.specs.Lines as tables;
 ghost use Rattle.break_table.specs.Entry.{condition_of, entry_of};
 ghost use Rattle.break_table.specs.Table.{has_number};
 ghost use Rattle.dbg_model.specs.Breaks.{missing_number};
-ghost use Rattle.dbg_model.specs.Breakpoints.{after, asked_at, change_condition, condition_text, delete, enable, insert, inserting, known, known_thread, list, listed, name_of, place, placed, room};
+ghost use Rattle.dbg_model.specs.Breakpoints.{after, asked_at, change_condition, condition_text, delete, enable, insert, inserting, known, known_thread, list, listed, named, on_line, place, placed, room};
 ghost use Rattle.dbg_answers.specs.Debuggee.{seen};
 ghost use Rattle.dbg_answers.specs.Answer.{Gives, GivesAs, outcome_of};
 
 use crate::answer::{Answer, Effect, Failure, doing, showing};
+use crate::bytes::bytes_of;
 use crate::debuggee::Debuggee;
 use crate::expressions::condition;
+use crate::frames::{function_name, source_line};
 use break_table::{BreakEntry, Location as PlaceText, Spec};
 use cond_expr::Expr;
 use dbg_model::{Breakpoint, BreakpointList, Content, MOST_BREAKPOINTS, Obstacle, Refused};
-use elf_symbols::Symbols;
 use mi_commands::{ByteList, Insertion, Location, NumberList};
+use source_index::SourceIndex;
 use std::alloc::{AllocError, Global};
 
 fn has_number(entries: &[BreakEntry], number: u32) -> bool
@@ -91,27 +94,11 @@ pub fn change_condition(
     ensures { Gives result (change_condition (seen debuggee.now) number text.now) }
 {
     known(debuggee, &[number])?;
-    let condition = condition(alloc, debuggee.symbols, text)?;
+    let condition = condition(alloc, debuggee.sources.symbols(), text)?;
     Ok(doing(Effect::Condition { number, condition }))
 }
 
 // ---- breakpoints as they are listed
-
-fn bytes_of(alloc: Global, bytes: &[u8]) -> Result<ByteList, AllocError>
-    ensures { IfOk result (λ b. b ≡ bytes.now) }
-{
-    Ok(ByteList::of(Vec::from_slice(alloc, bytes)?))
-}
-
-// The name of the function at an address.
-fn function_at(alloc: Global, symbols: &Symbols, addr: u32) -> Result<Option<ByteList>, AllocError>
-    ensures { IfOk result (λ f. f ≡ option_map name_of (function_at symbols.now addr)) }
-{
-    match symbols.function_at(addr) {
-        None => Ok(None),
-        Some(named) => Ok(Some(bytes_of(alloc, named.name)?)),
-    }
-}
 
 fn condition_text(alloc: Global, condition: &Option<Expr>) -> Result<Option<ByteList>, AllocError>
     ensures { IfOk result (λ t. t ≡ option_map condition_text (option_map condition_of condition.now)) }
@@ -122,13 +109,18 @@ fn condition_text(alloc: Global, condition: &Option<Expr>) -> Result<Option<Byte
     }
 }
 
-fn listed(alloc: Global, symbols: &Symbols, entry: &BreakEntry) -> Result<Breakpoint, AllocError>
-    ensures { IfOk result (λ b. b ≡ listed symbols.now (entry_of entry.now)) }
+fn listed(
+    alloc: Global,
+    sources: &SourceIndex,
+    entry: &BreakEntry,
+) -> Result<Breakpoint, AllocError>
+    ensures { IfOk result (λ b. b ≡ listed sources.now (entry_of entry.now)) }
 {
     Ok(Breakpoint {
         number: entry.number,
         address: entry.address,
-        function: function_at(alloc, symbols, entry.address)?,
+        function: function_name(alloc, sources, entry.address)?,
+        source: source_line(alloc, sources, entry.address)?,
         location: bytes_of(alloc, entry.location.as_slice())?,
         temporary: entry.temporary,
         enabled: entry.enabled,
@@ -146,7 +138,7 @@ pub fn list(alloc: Global, debuggee: &Debuggee<'_>) -> Result<Answer, AllocError
     let entries = debuggee.table.entries();
     let mut breakpoints = Vec::new(alloc);
     for entry in entries {
-        breakpoints.push(listed(alloc, debuggee.symbols, entry)?)?;
+        breakpoints.push(listed(alloc, debuggee.sources, entry)?)?;
     }
     Ok(showing(Content::Breakpoints(BreakpointList::of(breakpoints))))
 }
@@ -166,17 +158,38 @@ pub fn known_thread(debuggee: &Debuggee<'_>, thread: Option<u32>) -> Result<(), 
     }
 }
 
+// Where a name leads: a function to its body, another symbol to its address.
+fn named(alloc: Global, sources: &SourceIndex, name: &[u8]) -> Result<u32, Failure>
+    ensures { GivesAs (λ a. a) result (named sources.now name.now (address_of sources.now.names name.now)) }
+{
+    match sources.symbols().address_of(name) {
+        Some(named) if named.is_function => Ok(sources.lines().body_of(&named)),
+        Some(named) => Ok(named.address),
+        None => Err(Failure::Refused(Refused::UnknownName(bytes_of(alloc, name)?))),
+    }
+}
+
+// Where the statements of a line of a file begin, or else of the next one that has any.
+fn on_line(alloc: Global, sources: &SourceIndex, file: &[u8], line: u32) -> Result<u32, Failure>
+    ensures { GivesAs (λ a. a) result (on_line file.now line (tables.address_of sources.now.lines file.now line)) }
+{
+    match sources.lines().address_of(file, line) {
+        Some(address) => Ok(address),
+        None => Err(Failure::Refused(Refused::UnknownLine {
+            file: bytes_of(alloc, file)?,
+            line,
+        })),
+    }
+}
+
 // Where a location leads.
-fn place(alloc: Global, symbols: &Symbols, location: &Location) -> Result<u32, Failure>
-    ensures { GivesAs (λ a. a) result (place symbols.now location.now) }
+fn place(alloc: Global, sources: &SourceIndex, location: &Location) -> Result<u32, Failure>
+    ensures { GivesAs (λ a. a) result (place sources.now location.now) }
 {
     match location {
         Location::Address(address) => Ok(*address),
-        Location::Name(name) => match symbols.address_of(name.as_slice()) {
-            Some(named) => Ok(named.address),
-            None => Err(Failure::Refused(Refused::UnknownName(bytes_of(alloc, name.as_slice())?))),
-        },
-        Location::Line { .. } => Err(Failure::Refused(Refused::LineNotBuilt)),
+        Location::Name(name) => named(alloc, sources, name.as_slice()),
+        Location::Line { file, line } => on_line(alloc, sources, file.as_slice(), *line),
     }
 }
 
@@ -214,7 +227,8 @@ fn inserting(
     let content = Content::Inserted(Breakpoint {
         number: debuggee.table.given() + 1,
         address,
-        function: function_at(alloc, debuggee.symbols, address)?,
+        function: function_name(alloc, debuggee.sources, address)?,
+        source: source_line(alloc, debuggee.sources, address)?,
         location: bytes_of(alloc, insertion.text.as_slice())?,
         temporary: insertion.temporary,
         enabled: !insertion.disabled,
@@ -248,9 +262,9 @@ pub fn insert(
     ensures { Gives result (insert (seen debuggee.now) insertion.now) }
 {
     known_thread(debuggee, insertion.thread)?;
-    let address = place(alloc, debuggee.symbols, &insertion.location)?;
+    let address = place(alloc, debuggee.sources, &insertion.location)?;
     placed(debuggee, address)?;
     room(debuggee)?;
-    let condition = condition(alloc, debuggee.symbols, &insertion.condition)?;
+    let condition = condition(alloc, debuggee.sources.symbols(), &insertion.condition)?;
     Ok(inserting(alloc, debuggee, address, insertion, condition)?)
 }

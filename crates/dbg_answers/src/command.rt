@@ -9,6 +9,7 @@ use crate::answer::{Answer, Effect, Failure, doing, showing, told};
 use crate::breakpoints::{after, change_condition, delete, enable, insert, list};
 use crate::debuggee::Debuggee;
 use crate::expressions::evaluate;
+use crate::frames::{frame_depth, frame_info, frame_list};
 use crate::memory::read_memory;
 use crate::registers::register_values;
 use crate::resuming::{go_on, interrupt};
@@ -41,6 +42,9 @@ fn reply(alloc: Global, debuggee: &Debuggee<'_>, command: Command) -> Result<Ans
         Command::ThreadInfo { thread } => thread_info(alloc, debuggee, thread),
         Command::ThreadSelect { thread } => thread_select(debuggee, thread),
         Command::ThreadList => Ok(thread_list(alloc, debuggee)?),
+        Command::FrameList { thread } => frame_list(alloc, debuggee, thread),
+        Command::FrameDepth { thread } => frame_depth(debuggee, thread),
+        Command::FrameInfo { thread } => frame_info(alloc, debuggee, thread),
         Command::RegisterNames => Ok(showing(Content::RegisterNames)),
         Command::RegisterValues {
             thread,

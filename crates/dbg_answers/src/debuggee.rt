@@ -1,20 +1,24 @@
-ghost use Rattle.std.specs.Prelude.{◌≡◌};
-ghost use Rattle.dbg_model.specs.Sight.{thread_at, live, running, shown, stopped};
+ghost use Rattle.std.specs.Prelude.{◌≡◌, Ok};
+ghost use Rattle.dbg_model.specs.Sight.{thread_at, live, running, stopped};
+ghost use Rattle.dbg_model.specs.Outcome.{and_then};
 ghost use Rattle.dbg_answers.specs.Debuggee.{seen};
+ghost use Rattle.dbg_answers.specs.Live.{live_shown};
 
+use crate::live::{LiveThread, live_thread};
 use break_table::BreakTable;
 use data_memory::DataMemory;
-use dbg_model::{Obstacle, Refused, Thread, ThreadView};
-use elf_symbols::Symbols;
+use dbg_model::{Obstacle, Refused, ThreadView};
 use elf32_read::Image;
 use mi_commands::Displaced;
 use rv_exec::Regs;
+use source_index::SourceIndex;
 
 /// What a command may see.
 #[derive(Clone, Copy)]
 pub struct Debuggee<'a> {
     pub image: &'a Image,
-    pub symbols: &'a Symbols,
+    /// What the program's file tells of its source.
+    pub sources: &'a SourceIndex,
     pub memory: &'a DataMemory,
     /// Thread 1 is the first.
     pub threads: &'a [ThreadView],
@@ -23,23 +27,6 @@ pub struct Debuggee<'a> {
     /// The selected thread.
     pub selected: u32,
     pub displaced: Displaced,
-}
-
-/// A live thread; none where it has exited.
-pub fn show(thread: u32, hart: ThreadView) -> Option<Thread>
-    ensures { result ≡ shown thread hart }
-{
-    match hart {
-        ThreadView::Stopped(regs) => Some(Thread {
-            number: thread,
-            stopped_at: Some(regs.pc()),
-        }),
-        ThreadView::Running => Some(Thread {
-            number: thread,
-            stopped_at: None,
-        }),
-        ThreadView::Exited => None,
-    }
 }
 
 impl<'a> Debuggee<'a> {
@@ -87,12 +74,12 @@ impl<'a> Debuggee<'a> {
     }
 
     /// A thread that has to be live.
-    pub fn live(&self, thread: u32) -> Result<Thread, Refused>
-        ensures { result ≡ live (seen self.now) thread }
+    pub fn live(&self, thread: u32) -> Result<LiveThread, Refused>
+        ensures { and_then result (λ x. Ok (live_shown (seen self.now).sources x)) ≡ live (seen self.now) thread }
     {
         let hart = self
             .hart(thread)
             .ok_or(Refused::Hindered(Obstacle::UnknownThread(thread)))?;
-        show(thread, hart).ok_or(Refused::Hindered(Obstacle::HasExited(thread)))
+        live_thread(thread, hart).ok_or(Refused::Hindered(Obstacle::HasExited(thread)))
     }
 }

@@ -70,7 +70,7 @@ pub fn evaluate(
     ensures { Gives result (evaluate (seen debuggee.now) thread text.now) }
 {
     let regs = debuggee.stopped(thread.unwrap_or(debuggee.selected))?;
-    let expression = read(alloc, debuggee.symbols, text.as_slice())?;
+    let expression = read(alloc, debuggee.sources.symbols(), text.as_slice())?;
     let view = SeenHart {
         regs: &regs,
         image: debuggee.image,

@@ -3,11 +3,14 @@
 
 mod answer;
 mod breakpoints;
+mod bytes;
 mod command;
 mod debuggee;
 mod each;
 mod expressions;
+mod frames;
 mod line;
+mod live;
 mod memory;
 mod registers;
 mod resuming;
@@ -19,6 +22,7 @@ mod view;
 pub use answer::{Answer, Effect};
 pub use command::answer_command;
 pub use debuggee::Debuggee;
+pub use frames::shown_frame;
 pub use line::{LineAnswer, answer_fault, answer_line, waits};
 pub use table::{
     change_table, delete_entry, enable_entry, insert_entry, set_condition, set_ignore,

@@ -1,15 +1,25 @@
 ghost use Rattle.std.specs.Prelude.{◌≡◌, ◌≤◌, IfOk, Ok, length};
-ghost use Rattle.dbg_model.specs.Sight.{live_number};
+ghost use Rattle.dbg_model.specs.Sight.{each, live_number, shown};
 ghost use Rattle.dbg_model.specs.Threads.{thread_info, thread_list, thread_select};
 ghost use Rattle.dbg_answers.specs.Debuggee.{seen};
 ghost use Rattle.dbg_answers.specs.Answer.{Gives, outcome_of};
 
 use crate::answer::{Answer, Effect, Failure, showing};
-use crate::debuggee::{Debuggee, show};
+use crate::debuggee::Debuggee;
 use crate::each::each;
-use dbg_model::{Content, ThreadList, ThreadView};
+use crate::live::{live_thread, show, show_all};
+use dbg_model::{Content, Thread, ThreadList, ThreadView};
 use mi_commands::NumberList;
 use std::alloc::{AllocError, Global};
+
+// Each live thread as it is shown.
+fn every_thread(alloc: Global, debuggee: &Debuggee<'_>) -> Result<Vec<Thread>, AllocError>
+    requires { length debuggee.now.threads.now ≤ 16 }
+    ensures { IfOk result (λ v. v.items ≡ each (shown (seen debuggee.now).sources) 1 (seen debuggee.now).threads) }
+{
+    let threads = each(alloc, debuggee.threads, live_thread)?;
+    show_all(alloc, debuggee.sources, &threads)
+}
 
 /// `-thread-info [N]`.
 pub fn thread_info(
@@ -21,8 +31,8 @@ pub fn thread_info(
     ensures { Gives result (thread_info (seen debuggee.now) thread) }
 {
     let threads = match thread {
-        None => each(alloc, debuggee.threads, show)?,
-        Some(thread) => vec![in alloc; debuggee.live(thread)?]?,
+        None => every_thread(alloc, debuggee)?,
+        Some(thread) => vec![in alloc; show(alloc, debuggee.sources, debuggee.live(thread)?)?]?,
     };
     Ok(showing(Content::Threads {
         threads: ThreadList::of(threads),

@@ -1,0 +1,148 @@
+ghost use Rattle.std.specs.Prelude.{◌≡◌, IfOk, map};
+ghost use Rattle.frame_walk.specs.Frames.{frames_of};
+ghost use Rattle.dbg_model.specs.Views.{register, shown_byte};
+ghost use Rattle.dbg_model.specs.Places.{function_name, line_of_row, place_frame, source_line};
+ghost use Rattle.dbg_model.specs.Frames.{frame_depth, frame_info, frame_list, frame_shown};
+ghost use Rattle.dbg_answers.specs.Debuggee.{seen};
+ghost use Rattle.dbg_answers.specs.Answer.{Gives};
+
+use crate::answer::{Answer, Failure, showing};
+use crate::bytes::bytes_of;
+use crate::debuggee::Debuggee;
+use crate::view::SeenHart;
+use arrayvec::ArrayVec;
+use dbg_model::{Content, FrameList, ShownFrame, SourceLine};
+use frame_walk::{Frame, walk};
+use line_index::LineIndex;
+use line_rows::Row;
+use mi_commands::ByteList;
+use rv_exec::Regs;
+use source_index::SourceIndex;
+use std::alloc::{AllocError, Global};
+
+// ---- places in the source
+
+/// The name of the function that an address lies in.
+pub fn function_name(
+    alloc: Global,
+    sources: &SourceIndex,
+    address: u32,
+) -> Result<Option<ByteList>, AllocError>
+    ensures { IfOk result (λ name. name ≡ function_name sources.now address) }
+{
+    match sources.symbols().function_at(address) {
+        None => Ok(None),
+        Some(named) => Ok(Some(bytes_of(alloc, named.name)?)),
+    }
+}
+
+fn line_of_row(alloc: Global, lines: &LineIndex, row: Row) -> Result<SourceLine, AllocError>
+    ensures { IfOk result (λ line. line ≡ line_of_row lines.now row) }
+{
+    Ok(SourceLine {
+        file: bytes_of(alloc, lines.file_name(row.file))?,
+        line: row.line,
+    })
+}
+
+/// The line of the source that an address belongs to.
+pub fn source_line(
+    alloc: Global,
+    sources: &SourceIndex,
+    address: u32,
+) -> Result<Option<SourceLine>, AllocError>
+    ensures { IfOk result (λ line. line ≡ source_line sources.now address) }
+{
+    match sources.lines().row_at(address) {
+        None => Ok(None),
+        Some(row) => Ok(Some(line_of_row(alloc, sources.lines(), row)?)),
+    }
+}
+
+/// A frame at an address, with the function and the line of another one: a frame that called one is looked up before its
+/// address.
+pub fn shown_frame(
+    alloc: Global,
+    sources: &SourceIndex,
+    address: u32,
+    lookup: u32,
+) -> Result<ShownFrame, AllocError>
+    ensures { IfOk result (λ f. f ≡ place_frame sources.now address lookup) }
+{
+    Ok(ShownFrame {
+        address,
+        function: function_name(alloc, sources, lookup)?,
+        source: source_line(alloc, sources, lookup)?,
+    })
+}
+
+// ---- the frames of a thread
+
+// The frames of a hart, the innermost first.
+fn frames_of(debuggee: &Debuggee<'_>, regs: &Regs) -> ArrayVec<Frame, 64>
+    ensures { result.items ≡ frames_of (seen debuggee.now).sources.frames (seen debuggee.now).image (register regs.now) (shown_byte (seen debuggee.now).image (seen debuggee.now).memory) }
+{
+    let view = SeenHart {
+        regs,
+        image: debuggee.image,
+        memory: debuggee.memory,
+    };
+    let mut frames = ArrayVec::new();
+    walk(
+        debuggee.sources.frames(),
+        debuggee.image,
+        &view,
+        &mut frames,
+    );
+    frames
+}
+
+fn show_frames(
+    alloc: Global,
+    sources: &SourceIndex,
+    frames: &[Frame],
+) -> Result<FrameList, AllocError>
+    ensures { IfOk result (λ list. list ≡ map (frame_shown sources.now) frames.now) }
+{
+    let mut shown = Vec::new(alloc);
+    for frame in frames {
+        shown.push(shown_frame(alloc, sources, frame.pc, frame.lookup)?)?;
+    }
+    Ok(FrameList::of(shown))
+}
+
+/// `-stack-list-frames [--thread N]`.
+pub fn frame_list(
+    alloc: Global,
+    debuggee: &Debuggee<'_>,
+    thread: Option<u32>,
+) -> Result<Answer, Failure>
+    ensures { Gives result (frame_list (seen debuggee.now) thread) }
+{
+    let regs = debuggee.stopped(thread.unwrap_or(debuggee.selected))?;
+    let frames = frames_of(debuggee, &regs);
+    let shown = show_frames(alloc, debuggee.sources, frames.as_slice())?;
+    Ok(showing(Content::Frames(shown)))
+}
+
+/// `-stack-info-depth [--thread N]`.
+pub fn frame_depth(debuggee: &Debuggee<'_>, thread: Option<u32>) -> Result<Answer, Failure>
+    ensures { Gives result (frame_depth (seen debuggee.now) thread) }
+{
+    let regs = debuggee.stopped(thread.unwrap_or(debuggee.selected))?;
+    let frames = frames_of(debuggee, &regs);
+    Ok(showing(Content::Depth(frames.len() as u32)))
+}
+
+/// `-stack-info-frame [--thread N]`.
+pub fn frame_info(
+    alloc: Global,
+    debuggee: &Debuggee<'_>,
+    thread: Option<u32>,
+) -> Result<Answer, Failure>
+    ensures { Gives result (frame_info (seen debuggee.now) thread) }
+{
+    let pc = debuggee.stopped(thread.unwrap_or(debuggee.selected))?.pc();
+    let frame = shown_frame(alloc, debuggee.sources, pc, pc)?;
+    Ok(showing(Content::Frame(frame)))
+}
