@@ -24,7 +24,7 @@ use Rattle.dbg_model.proofs.Ending.{one_open}
 use Rattle.source_index.specs.Sources.{Sources, sources_of}
 use Rattle.mi_reports.specs.Text.{stream_text, stop_text, interrupt_text, break_text, lefts_text}
 use Rattle.mi_reports.specs.Replies.{reply_text}
-use Rattle.mi_reports.specs.Said.{said, hart_pc}
+use Rattle.mi_reports.specs.Said.{said, hart_pc, stop_frame}
 use Rattle.mi_reports.proofs.Saying.{said_added, said_lengthened}
 use Rattle.mi_reports.proofs.Leaving.{said_exits}
 use Rattle.dbg_engine.specs.declared.moving.Turned.{Turned}
@@ -155,7 +155,7 @@ pc_seen r h pc f low is_pc =
     ap hart_pc at ∙ is_pc (seen_hart r.opening.image c.0 x.0) at
 
 -- the frame that a hart is seen in
-frame_seen : (r s : Run) (h pc : ℕ) → Facts r → Facts s → h < length r.minds → IsPc r h pc → s.opening ≡ r.opening → own_frame (sources_of r.opening.image) (hart_pc (slice_get (seen r).harts h)) ≡ own_frame s.sources pc
+frame_seen : (r s : Run) (h pc : ℕ) → Facts r → Facts s → h < length r.minds → IsPc r h pc → s.opening ≡ r.opening → stop_frame r.opening (seen r) h ≡ own_frame s.sources pc
 frame_seen r s h pc f g low is_pc same =
     ap (own_frame (sources_of r.opening.image)) (pc_seen r h pc f low is_pc)
     ∙ ap (λ (sources : Sources). own_frame sources pc) (sym (g.sources ∙ ap (λ (o : Opening). sources_of o.image) same))
