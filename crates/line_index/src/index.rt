@@ -67,7 +67,7 @@ impl LineIndex {
         let kept = kept_rows(alloc, &rows, &text)?;
         let prologues = prologues(alloc, &kept)?;
         let statements = statements(alloc, &kept)?;
-        let lines = ordered_statements(alloc, rows.name_count(), &kept)?;
+        let lines = ordered_statements(rows.name_count(), kept);
         Ok(LineIndex {
             rows,
             functions,

@@ -1,11 +1,10 @@
 //! Statements in the order of files, lines and addresses.
 
-ghost use Rattle.std.specs.Prelude.{◌≡◌, ◌++◌, ◌∷◌, [], All, IfOk, OnOk, filter};
+ghost use Rattle.std.specs.Prelude.{◌≡◌, All, filter};
 ghost use Rattle.std.specs.List.Sorted.{IsNonDecreasingBy};
 ghost use Rattle.line_index.specs.Statements.{AreOrdered, IsFirst, IsNarrow, file_key, first_rank, is_in, rank};
 
 use line_rows::Row;
-use std::alloc::{AllocError, Global};
 
 fn file_key(names: usize, row: &Row) -> usize
     ensures { result ≡ file_key names row.now }
@@ -33,28 +32,30 @@ fn order(names: usize, rows: &mut [Row])
     rows.sort_unstable_by_key(|row| rank(names, row));
 }
 
-fn push_statement(statements: &mut Vec<Row>, row: &Row) -> Result<(), AllocError>
-    ensures pushed { OnOk result (statements.new.items ≡ statements.old.items ++ filter (λ r. r.is_stmt) (row.now ∷ [])) }
-    ensures narrow { IsNarrow row.now }
+// The numbers of a row have their types' bits.
+fn has_bits(row: &Row)
+    ensures { IsNarrow row.now }
 {
-    // What is read of a row has its type's bits.
     let (_line, _address) = (row.line, row.address);
-    if row.is_stmt {
-        statements.push(*row)?;
-    }
-    Ok(())
 }
 
-/// The statements among rows, in order; `names` is how many file names there are.
-pub fn ordered_statements(alloc: Global, names: usize, rows: &[Row]) -> Result<Vec<Row>, AllocError>
-    ensures { IfOk result (λ v. AreOrdered names (filter (λ r. r.is_stmt) rows.now) v.items) }
+fn have_bits(rows: &[Row])
+    ensures { All IsNarrow rows.now }
 {
-    let mut statements = Vec::new(alloc);
     for row in rows {
-        push_statement(&mut statements, row)?;
+        has_bits(row);
     }
+}
+
+/// The statements among rows, in order, in the memory of the rows; `names` is how many file names there are.
+pub fn ordered_statements(names: usize, rows: Vec<Row>) -> Vec<Row>
+    ensures { AreOrdered names (filter (λ r. r.is_stmt) rows.items) result.items }
+{
+    let mut statements = rows;
+    statements.retain(|row| row.is_stmt);
+    have_bits(&statements);
     order(names, &mut statements);
-    Ok(statements)
+    statements
 }
 
 /// The first row of a file that isn't below a line, by a binary search.
