@@ -1,12 +1,12 @@
 -- What holds of every verdict.
-use Rattle.std.specs.Prelude.{◌≡◌, ℕ, ◌<◌, Bool, true, Option, None, Some, is_some}
-use Rattle.rv_decode.specs.declared.instr.Instr.{Instr}
+use Rattle.std.specs.Prelude.{◌≡◌, ℕ, ◌<◌, Bool, true, false, Option, None, Some, is_some}
 use Rattle.elf_symbols.specs.Names.{Names}
 use Rattle.line_rows.specs.declared.row.Row.{Row}
 use Rattle.line_index.specs.Lines.{Lines, row_at}
-use Rattle.step_plans.specs.Verdicts.{verdict}
+use Rattle.step_plans.specs.Verdicts.{asks, verdict}
 use Rattle.step_plans.specs.declared.plan.After.{After}
 use Rattle.step_plans.specs.declared.plan.After.TheVariants as afters
+use Rattle.step_plans.specs.declared.plan.Last.{Last}
 use Rattle.step_plans.specs.declared.plan.Plan.{Plan}
 use Rattle.step_plans.specs.declared.plan.Plan.TheVariants as plans
 use Rattle.step_plans.specs.declared.plan.Verdict.{Verdict}
@@ -33,8 +33,8 @@ GoesOnIn place Finished = Unit {0}
 -- a plan that goes on keeps its line
 abbrev pub KeepsLine : Type 0
 KeepsLine =
-    (plan : Plan) (last : Instr) (last_pc : ℕ) (registers : ℕ → ℕ) (lines : Lines) (names : Names) →
-    GoesOnIn (line_of plan) (verdict plan last last_pc registers lines names)
+    (plan : Plan) (last : Option Last) (registers : ℕ → ℕ) (lines : Lines) (names : Names) →
+    GoesOnIn (line_of plan) (verdict plan last registers lines names)
 
 abbrev pub EndsAt : Option Row → Verdict → Type 0
 EndsAt row (Go plan) = Unit {0}
@@ -44,13 +44,20 @@ EndsAt row Finished = ⊥
 -- the plan of a line ends only where pc belongs to a row
 abbrev pub LinesEndAtRows : Type 0
 LinesEndAtRows =
-    (file line : ℕ) (into : Bool) (last : Instr) (last_pc : ℕ) (registers : ℕ → ℕ) (lines : Lines) (names : Names) →
-    EndsAt (row_at lines (registers 32)) (verdict (plans.Line file line into) last last_pc registers lines names)
+    (file line : ℕ) (into : Bool) (last : Option Last) (registers : ℕ → ℕ) (lines : Lines) (names : Names) →
+    EndsAt (row_at lines (registers 32)) (verdict (plans.Line file line into) last registers lines names)
 
 -- below the stack pointer of the call no wait for its return ends
 abbrev pub InnerReturnsGoOn : Type 0
 InnerReturnsGoOn =
-    (ret sp : ℕ) (after : After) (last : Instr) (last_pc : ℕ) (registers : ℕ → ℕ) (lines : Lines) (names : Names) →
+    (ret sp : ℕ) (after : After) (last : Option Last) (registers : ℕ → ℕ) (lines : Lines) (names : Names) →
     registers 2 < sp →
-    (verdict (plans.ToReturn ret sp after) last last_pc registers lines names ≡ Go (plans.ToReturn ret sp after)) ×
-    (verdict (plans.Finish ret sp) last last_pc registers lines names ≡ Go (plans.Finish ret sp))
+    (verdict (plans.ToReturn ret sp after) last registers lines names ≡ Go (plans.ToReturn ret sp after)) ×
+    (verdict (plans.Finish ret sp) last registers lines names ≡ Go (plans.Finish ret sp))
+
+-- a plan that doesn't ask what the instruction was is judged without it
+abbrev pub JudgedWithout : Type 0
+JudgedWithout =
+    (plan : Plan) (last : Option Last) (registers : ℕ → ℕ) (lines : Lines) (names : Names) →
+    asks plan ≡ false →
+    verdict plan last registers lines names ≡ verdict plan None registers lines names

@@ -1,8 +1,9 @@
 //! Where a hart has arrived.
 
 ghost use Rattle.std.specs.Prelude.{◌≡◌, ◌==◌, ◌&&◌, nat_le};
-ghost use Rattle.step_plans.specs.Arrivals.{arrival_of, is_back, jump_of};
+ghost use Rattle.step_plans.specs.Arrivals.{arrival_of, is_back, jump_by, jump_of};
 
+use crate::Last;
 use dbg_traits::View;
 use rv_decode::Instr;
 
@@ -18,7 +19,8 @@ const PC: u32 = 32;
 /// Whether an instruction goes to another function.
 #[derive(Clone, Copy, Debug, PartialEq, Eq)]
 pub enum Jump {
-    Call,
+    /// With the address that it returns to.
+    Call { back: u32 },
     Return,
     /// Neither a call nor a return.
     Other,
@@ -26,21 +28,32 @@ pub enum Jump {
 
 impl Jump {
     /// What an instruction is.
-    pub fn of(instr: Instr) -> Jump
-        ensures { result ≡ jump_of instr }
+    pub fn of(instruction: Instr, address: u32) -> Jump
+        ensures { result ≡ jump_of instruction address }
     {
-        match instr {
+        let back = address.wrapping_add(4);
+        match instruction {
             Instr::Jal { rd, .. } => match rd.number() {
-                RETURN_ADDRESS => Jump::Call,
+                RETURN_ADDRESS => Jump::Call { back },
                 _ => Jump::Other,
             },
             Instr::Jalr { rd, rs1, .. } => match (rd.number(), rs1.number()) {
-                (RETURN_ADDRESS, _) => Jump::Call,
+                (RETURN_ADDRESS, _) => Jump::Call { back },
                 (0, RETURN_ADDRESS) => Jump::Return,
                 _ => Jump::Other,
             },
             _ => Jump::Other,
         }
+    }
+}
+
+// By the instruction that has just ended; one that wasn't noted is neither a call nor a return.
+fn jump_by(last: Option<Last>) -> Jump
+    ensures { result ≡ jump_by last }
+{
+    match last {
+        Some(last) => Jump::of(last.instruction, last.address),
+        None => Jump::Other,
     }
 }
 
@@ -52,20 +65,17 @@ pub struct Arrival {
     pub sp: u32,
     /// What the instruction was.
     pub jump: Jump,
-    /// The address behind the instruction, which a call returns to.
-    pub behind: u32,
 }
 
 impl Arrival {
-    /// The arrival of the hart of a view, behind an instruction and its address.
-    pub fn of<V: View>(last: Instr, last_pc: u32, view: &V) -> Arrival
-        ensures { result ≡ arrival_of last last_pc (V.registers view.now) }
+    /// The arrival of the hart of a view.
+    pub fn of<V: View>(last: Option<Last>, view: &V) -> Arrival
+        ensures { result ≡ arrival_of last (V.registers view.now) }
     {
         Arrival {
             pc: view.reg(PC),
             sp: view.reg(STACK_POINTER),
-            jump: Jump::of(last),
-            behind: last_pc.wrapping_add(4),
+            jump: jump_by(last),
         }
     }
 

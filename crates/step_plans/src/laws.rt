@@ -1,4 +1,4 @@
-ghost use Rattle.step_plans.specs.Laws.{InnerReturnsGoOn, KeepsLine, LinesEndAtRows};
+ghost use Rattle.step_plans.specs.Laws.{InnerReturnsGoOn, JudgedWithout, KeepsLine, LinesEndAtRows};
 
 /// A law: a plan that goes on keeps its line.
 pub fn plans_keep_their_line()
@@ -13,4 +13,9 @@ pub fn lines_end_at_rows()
 /// A law: a return at a lower stack pointer, which is that of an inner call, ends no wait for a return.
 pub fn inner_returns_go_on()
     ensures { InnerReturnsGoOn }
+{}
+
+/// A law: a plan that doesn't ask what the instruction was is judged without it.
+pub fn others_are_judged_without()
+    ensures { JudgedWithout }
 {}

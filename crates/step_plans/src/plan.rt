@@ -1,3 +1,15 @@
+ghost use Rattle.std.specs.Prelude.{◌≡◌};
+ghost use Rattle.step_plans.specs.Verdicts.{asks};
+
+use rv_decode::Instr;
+
+/// An instruction that a hart has executed, and its address.
+#[derive(Clone, Copy, Debug, PartialEq, Eq)]
+pub struct Last {
+    pub instruction: Instr,
+    pub address: u32,
+}
+
 /// What a hart that goes on is to come to before it stops.
 ///
 /// A `file` is the number of a file name, as a row of the line tables has it: equal names have equal numbers. A `ret` is
@@ -36,6 +48,15 @@ pub enum Plan {
         file: u32,
         line: u32,
     },
+}
+
+impl Plan {
+    /// Whether the plan asks what the instruction was that has just ended: a call or a return counts for it.
+    pub fn asks(self) -> bool
+        ensures { result ≡ asks self }
+    {
+        matches!(self, Plan::One { .. } | Plan::Line { .. })
+    }
 }
 
 /// What follows the return of a call that is passed over.

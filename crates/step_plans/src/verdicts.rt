@@ -5,12 +5,18 @@ ghost use Rattle.step_plans.specs.Verdicts.{begins_another, entered, is_another,
 ghost use Rattle.line_index.specs.Lines.{row_at};
 
 use crate::arrival::{Arrival, Jump};
-use crate::{After, Plan, Verdict};
+use crate::{After, Last, Plan, Verdict};
 use dbg_traits::View;
 use elf_symbols::Symbols;
 use line_index::LineIndex;
 use line_rows::Row;
-use rv_decode::Instr;
+
+/// What is known of the source.
+#[derive(Clone, Copy)]
+struct Source<'a> {
+    lines: &'a LineIndex,
+    symbols: &'a Symbols,
+}
 
 /// Whether a row is of another line than this, or of another file.
 fn is_another(row: &Row, file: u32, line: u32) -> bool
@@ -30,30 +36,30 @@ fn begins_another(arrival: &Arrival, lines: &LineIndex, file: u32, line: u32) ->
 }
 
 /// A call of a line is passed over.
-fn passed_over(arrival: &Arrival, file: u32, line: u32, into: bool) -> Verdict
-    ensures { result ≡ passed_over file line into arrival.now }
+fn passed_over(arrival: &Arrival, back: u32, file: u32, line: u32, into: bool) -> Verdict
+    ensures { result ≡ passed_over back file line into arrival.now }
 {
     Verdict::Go(Plan::ToReturn {
-        ret: arrival.behind,
+        ret: back,
         sp: arrival.sp,
         after: After::Line { file, line, into },
     })
 }
 
 /// A function that has rows was called from a line.
-fn entered(arrival: &Arrival, lines: &LineIndex, symbols: &Symbols, file: u32, line: u32) -> Verdict
-    ensures { result ≡ entered file line arrival.now lines.now symbols.now }
+fn entered(arrival: &Arrival, source: &Source<'_>, back: u32, file: u32, line: u32) -> Verdict
+    ensures { result ≡ entered back file line arrival.now source.now.lines.now source.now.symbols.now }
 {
-    let Some(function) = symbols.function_at(arrival.pc) else {
+    let Some(function) = source.symbols.function_at(arrival.pc) else {
         return Verdict::Stepped;
     };
-    let at = lines.body_of(&function);
+    let at = source.lines.body_of(&function);
     if at == arrival.pc {
         return Verdict::Stepped;
     }
     Verdict::Go(Plan::ToBody {
         at,
-        ret: arrival.behind,
+        ret: back,
         sp: arrival.sp,
         file,
         line,
@@ -68,23 +74,16 @@ fn has_row(arrival: &Arrival, lines: &LineIndex) -> bool
 }
 
 /// An arrival with the plan of a line.
-fn judged_line(
-    arrival: &Arrival,
-    lines: &LineIndex,
-    symbols: &Symbols,
-    file: u32,
-    line: u32,
-    into: bool,
-) -> Verdict
-    ensures { result ≡ judged_line file line into arrival.now lines.now symbols.now }
+fn judged_line(arrival: &Arrival, source: &Source<'_>, file: u32, line: u32, into: bool) -> Verdict
+    ensures { result ≡ judged_line file line into arrival.now source.now.lines.now source.now.symbols.now }
 {
     match arrival.jump {
-        Jump::Call if into && has_row(arrival, lines) => {
-            entered(arrival, lines, symbols, file, line)
+        Jump::Call { back } if into && has_row(arrival, source.lines) => {
+            entered(arrival, source, back, file, line)
         }
-        Jump::Call => passed_over(arrival, file, line, into),
-        Jump::Return if has_row(arrival, lines) => Verdict::Stepped,
-        Jump::Other if begins_another(arrival, lines, file, line) => Verdict::Stepped,
+        Jump::Call { back } => passed_over(arrival, back, file, line, into),
+        Jump::Return if has_row(arrival, source.lines) => Verdict::Stepped,
+        Jump::Other if begins_another(arrival, source.lines, file, line) => Verdict::Stepped,
         Jump::Return | Jump::Other => Verdict::Go(Plan::Line { file, line, into }),
     }
 }
@@ -107,8 +106,8 @@ fn judged_one(arrival: &Arrival, over: bool) -> Verdict
     ensures { result ≡ judged_one over arrival.now }
 {
     match arrival.jump {
-        Jump::Call if over => Verdict::Go(Plan::ToReturn {
-            ret: arrival.behind,
+        Jump::Call { back } if over => Verdict::Go(Plan::ToReturn {
+            ret: back,
             sp: arrival.sp,
             after: After::Stop,
         }),
@@ -117,14 +116,14 @@ fn judged_one(arrival: &Arrival, over: bool) -> Verdict
 }
 
 /// An arrival with any plan.
-fn judged(arrival: &Arrival, lines: &LineIndex, symbols: &Symbols, plan: Plan) -> Verdict
-    ensures { result ≡ judged plan arrival.now lines.now symbols.now }
+fn judged(arrival: &Arrival, source: &Source<'_>, plan: Plan) -> Verdict
+    ensures { result ≡ judged plan arrival.now source.now.lines.now source.now.symbols.now }
 {
     match plan {
         Plan::One { over } => judged_one(arrival, over),
-        Plan::Line { file, line, into } => judged_line(arrival, lines, symbols, file, line, into),
+        Plan::Line { file, line, into } => judged_line(arrival, source, file, line, into),
         Plan::ToReturn { ret, sp, after } if arrival.is_back(ret, sp) => {
-            returned(arrival, lines, after)
+            returned(arrival, source.lines, after)
         }
         Plan::ToBody { at, .. } if arrival.pc == at => Verdict::Stepped,
         Plan::ToBody {
@@ -135,26 +134,26 @@ fn judged(arrival: &Arrival, lines: &LineIndex, symbols: &Symbols, plan: Plan) -
             ..
         } if arrival.is_back(ret, sp) => {
             let into = true;
-            returned(arrival, lines, After::Line { file, line, into })
+            returned(arrival, source.lines, After::Line { file, line, into })
         }
         Plan::Finish { ret, sp } if arrival.is_back(ret, sp) => Verdict::Finished,
         _ => Verdict::Go(plan),
     }
 }
 
-/// What becomes of a hart's plan where it arrives: behind an instruction of its own, `last` at `last_pc`.
+/// What becomes of a hart's plan where it arrives, behind the instruction of its own that has just ended. That one counts
+/// where the plan asks for it; without one the hart came neither by a call nor by a return.
 ///
 /// The view shows the hart as it is now. It takes no memory, and looks up its pc at most twice, or not at all for the
 /// plans Free and One.
 pub fn arrive<V: View>(
     plan: Plan,
-    last: Instr,
-    last_pc: u32,
+    last: Option<Last>,
     view: &V,
     lines: &LineIndex,
     symbols: &Symbols,
 ) -> Verdict
-    ensures { result ≡ verdict plan last last_pc (V.registers view.now) lines.now symbols.now }
+    ensures { result ≡ verdict plan last (V.registers view.now) lines.now symbols.now }
 {
-    judged(&Arrival::of(last, last_pc, view), lines, symbols, plan)
+    judged(&Arrival::of(last, view), &Source { lines, symbols }, plan)
 }

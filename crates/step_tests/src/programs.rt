@@ -11,7 +11,7 @@ use line_rows::{LineSections, Row, RowsBuilder};
 use rv_decode::{Instr, decode};
 use std::alloc::Global;
 use std::test::Fail;
-use step_plans::{Plan, Verdict, arrive};
+use step_plans::{Last, Plan, Verdict, arrive};
 
 /// A hart that has arrived; its other registers are 0, and no byte is mapped.
 #[derive(Drop)]
@@ -140,27 +140,19 @@ impl Program {
         pc: u32,
         sp: u32,
     ) -> Option<Verdict> {
-        let last = decode(word)?;
-        Some(arrive(
-            plan,
-            last,
-            last_pc,
-            &At { pc, sp },
-            &self.lines,
-            &self.names,
-        ))
+        let last = Last {
+            instruction: decode(word)?,
+            address: last_pc,
+        };
+        Some(arrive(plan, Some(last), &At { pc, sp }, &self.lines, &self.names))
     }
 
     /// What becomes of a plan behind the instruction at an address.
     pub fn after(&self, plan: Plan, last_pc: u32, pc: u32, sp: u32) -> Option<Verdict> {
-        let last = self.instruction(last_pc)?;
-        Some(arrive(
-            plan,
-            last,
-            last_pc,
-            &At { pc, sp },
-            &self.lines,
-            &self.names,
-        ))
+        let last = Last {
+            instruction: self.instruction(last_pc)?,
+            address: last_pc,
+        };
+        Some(arrive(plan, Some(last), &At { pc, sp }, &self.lines, &self.names))
     }
 }
