@@ -6,3 +6,4 @@ pub mod Along
 pub mod Filled
 pub mod Begun
 pub mod RangesRead
+pub mod RangesWritten

@@ -78,7 +78,7 @@ and_second true b e = e
 and_second false b e = absurd (cc)
 
 -- a writable byte isn't absent
-not_absent : (c : Option Byte) → is_writable c ≡ true → c ≡ None → ⊥
+pub not_absent : (c : Option Byte) → is_writable c ≡ true → c ≡ None → ⊥
 not_absent c w e = let z : false ≡ true = subst (λ d. is_writable d ≡ true) e w in cc
 
 kept_apart : (bytes : List (Option Byte)) (i j : ℕ) → is_writable (byte bytes i) ≡ true → byte bytes j ≡ None → j ≡ i → ⊥

@@ -10,6 +10,7 @@ mod memory;
 mod page_table;
 mod paged;
 mod reading;
+mod writing;
 
 pub use loading::stack_top;
 pub use memory::DataMemory;

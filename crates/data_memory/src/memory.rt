@@ -5,6 +5,7 @@ use crate::frames::Frames;
 use crate::loading::begin;
 use crate::page_table::PageTable;
 use crate::reading::{are_mapped, byte_in, read_into, writable_in};
+use crate::writing::{unwritable_in, write_in};
 use dbg_traits::NoMemory;
 use elf32_read::Image;
 use rv_exec::{AmoOp, Cause, DataPort};
@@ -71,11 +72,11 @@ impl DataMemory {
 }
 
 impl DataMemory {
-    ghost use Rattle.std.specs.Prelude.{◌≡◌, length, MatchResult, IfErr, Ok, Err};
+    ghost use Rattle.std.specs.Prelude.{◌≡◌, length, MatchResult, IfErr, None, Ok, Err};
     ghost use Rattle.std.specs.FinMap as map;
     ghost use Rattle.rv_exec.specs.Memory.{is_writable};
     ghost use Rattle.std.specs.Option.{is_some};
-    ghost use Rattle.data_memory.specs.Ranges.{value_at, range_at, bytes_at};
+    ghost use Rattle.data_memory.specs.Ranges.{value_at, range_at, bytes_at, first_unwritable, with_bytes};
 
     /// The byte at an address, if it is mapped.
     pub fn byte(&self, addr: u32) -> Option<u8>
@@ -106,5 +107,22 @@ impl DataMemory {
         ensures kept { IfErr result (λ _. into.new ≡ into.old) }
     {
         read_into(&self.pages, &self.frames, addr, into)
+    }
+
+    /// The first of `len` addresses from `addr` on, in the order of writing, whose byte isn't mapped and writable;
+    /// addresses go on modulo 2^32.
+    pub fn first_unwritable(&self, addr: u32, len: usize) -> Option<u32>
+        ensures { result ≡ first_unwritable self.now addr len }
+    {
+        unwritable_in(&self.pages, &self.frames, addr, len)
+    }
+
+    /// Puts bytes from `addr` on, where all are writable; addresses go on modulo 2^32. Nothing else changes, and no memory
+    /// is taken.
+    pub fn write_range(&mut self, addr: u32, bytes: &[u8])
+        requires { first_unwritable self.old addr (length bytes.now) ≡ None }
+        ensures { self.new ≡ with_bytes self.old addr bytes.now }
+    {
+        write_in(&self.pages, &mut self.frames, addr, bytes);
     }
 }

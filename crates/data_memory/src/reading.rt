@@ -27,7 +27,7 @@ pub fn writable_in(pages: &PageTable, frames: &Frames, addr: u32) -> bool
 }
 
 /// The address `i` bytes on, modulo 2^32.
-fn address_on(addr: u32, i: usize) -> u32
+pub fn address_on(addr: u32, i: usize) -> u32
     ensures { result ≡ (addr + i) % 2 ^ 32 }
 {
     addr.wrapping_add((i % 0x1_0000_0000) as u32)

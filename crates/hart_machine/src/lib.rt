@@ -1,11 +1,13 @@
 //! The machine that executes the stored words: its harts and their memory.
 #![tactic(auto)]
 
+mod cores;
 mod hart;
 mod laws;
 mod machine;
 mod running;
 mod view;
+mod window;
 
 pub use hart::Core;
 pub use laws::copy_is_step_at_home;

@@ -3,28 +3,33 @@ ghost use Rattle.std.specs.Option.{option_map};
 ghost use Rattle.std.specs.FinSet as set;
 ghost use Rattle.text_words.specs.Words as text;
 ghost use Rattle.data_memory.specs.Start.{start_memory};
-ghost use Rattle.data_memory.specs.Ranges.{bytes_at, range_at, value_at};
+ghost use Rattle.data_memory.specs.Ranges.{bytes_at, first_unwritable, range_at, value_at};
 ghost use Rattle.dbg_traits.specs.Settings.{AreSettings, AreHarts};
 ghost use Rattle.rv_decode.specs.Decode.{decode};
 ghost use Rattle.scratch_slots.specs.Table.{slot_address, slot_number, use_at, least_free, with_use, AllOut};
 ghost use Rattle.scratch_slots.specs.declared.slots.SlotUse.{SlotUse};
 ghost use Rattle.hart_machine.specs.Copying.{Begins, Enters, Finishes, Settles, StepsByCopy, owner};
-ghost use Rattle.hart_machine.specs.Stepping.{AreCounted, Steps, IsByteCode, first_cores, has_run, loaded};
+ghost use Rattle.hart_machine.specs.Stepping.{AreCounted, Steps, IsByteCode, has_run, loaded};
+ghost use Rattle.hart_machine.specs.Poking.{IsOut, PokesRegister, poked_bytes};
 ghost use Rattle.hart_machine.specs.Running.{AllRan, HasStopped};
+ghost use Rattle.hart_machine.specs.Slices.{TakesSlice};
+ghost use Rattle.hart_machine.specs.Slices as slices;
 ghost use Rattle.hart_machine.specs.declared.hart.Core.{Core};
 
 use crate::Core;
+use crate::cores::first_cores;
 use crate::hart::{copy_core, enter_core, settle_core, step_core};
 use crate::running::run_core;
 use crate::view::HartView;
+use crate::window::{Window, window_at};
 use data_memory::DataMemory;
 use dbg_traits::{NoMemory, Settings};
 use elf32_read::Image;
-use plain_machine::first_registers;
+use reg_slices::{Job, Slice};
 use rv_decode::decode;
 use rv_exec::Stepped;
 use scratch_slots::{SlotUse, Slots};
-use std::alloc::{AllocError, Global};
+use std::alloc::Global;
 use std::marker::Model;
 use text_words::TextWords;
 
@@ -51,22 +56,6 @@ impl Model for Machine {
     ghost view = { λ m. record { text = m.text; cores = m.cores.items; memory = m.memory; slots = m.slots } };
 
     ghost invariant = { λ m. AreCounted m.cores.items };
-}
-
-fn first_cores(alloc: Global, entry: u32, harts: u32) -> Result<Vec<Core>, AllocError>
-    requires { harts ≤ 16 }
-    ensures { IfOk result (λ v. v.items ≡ first_cores entry harts harts) }
-{
-    let mut cores = Vec::new(alloc);
-    for hart in 0..harts {
-        cores.push(Core {
-            regs: first_registers(entry, harts, hart),
-            retired: 0,
-            copied: 0,
-            entered: None,
-        })?;
-    }
-    Ok(cores)
 }
 
 impl Machine {
@@ -258,6 +247,55 @@ impl Machine {
         if let Some(found) = self.slots.at(slot) {
             settle_core(&mut self.cores[h as usize], found.word, slot, home, ran);
         }
+    }
+
+    /// Sets a register of a hart that is in no slot. Nothing else changes, and no memory is taken.
+    pub fn poke_register(&mut self, h: u32, n: u32, v: u32)
+        requires hart { h < length self.old.cores }
+        requires number { (1 ≤ n) × (n ≤ 31) }
+        requires out { IsOut self.old h }
+        ensures { PokesRegister self.old h n v self.new }
+    {
+        self.cores[h as usize].regs.set(n, v);
+    }
+
+    /// Puts bytes of data from `addr` on, where all are writable; addresses go on modulo 2^32. Nothing else changes, and
+    /// no memory is taken.
+    pub fn poke_bytes(&mut self, addr: u32, bytes: &[u8])
+        requires { first_unwritable self.old.memory addr (length bytes.now) ≡ None }
+        ensures { self.new ≡ poked_bytes self.old addr bytes.now }
+    {
+        self.memory.write_range(addr, bytes);
+    }
+
+    /// What a slice of a hart starts from: its registers, and the stored words from its pc on, at most 64 and up to a gap.
+    pub fn job(&self, h: u32, limit: u32) -> Job
+        requires { h < length self.now.cores }
+        ensures job { (result.hart ≡ h) × (result.limit ≡ limit) }
+        ensures hart { (c : Core) → slice_get self.now.cores h ≡ Some c → (result.regs ≡ c.regs) × (result.at ≡ c.regs.pc) }
+        ensures words { result.words.items ≡ slices.window self.now.text result.at }
+    {
+        let regs = self.cores[h as usize].regs;
+        let at = regs.pc();
+        let Window { words, code } = window_at(&self.text, at);
+        Job {
+            hart: h,
+            regs,
+            at,
+            words,
+            code,
+            limit,
+        }
+    }
+
+    /// Gives the slice's hart the registers after the slice, and counts its instructions. Nothing else changes.
+    pub fn take_slice(&mut self, slice: &Slice)
+        requires { slice.now.hart < length self.old.cores }
+        ensures { TakesSlice self.old slice.now.hart slice.now.count slice.now.after self.new }
+    {
+        let core = &mut self.cores[slice.hart as usize];
+        core.regs = slice.after;
+        core.retired = core.retired.saturating_add(u64::from(slice.count));
     }
 
     /// Gives a hart the least free slot for a copy of the word, and puts it there: its next step executes the word. None

@@ -44,11 +44,15 @@ enum Act {
     Slot(u32, Option<SlotUse>),
     /// A slot is free again.
     Free(u32),
+    /// A register of a hart is set.
+    Poke(u32, u32, u32),
+    /// Two bytes from an address on are set, all of which may be; else the first address that can't be set.
+    Put(u32, [u8; 2], Option<u32>),
 }
 
 use Act::{
-    Begin, Byte, Claim, Enter, Finish, Free, Hart, Lift, Plant, Run, Settle, Slot, Step, Word,
-    Zeros,
+    Begin, Byte, Claim, Enter, Finish, Free, Hart, Lift, Plant, Poke, Put, Run, Settle, Slot, Step,
+    Word, Zeros,
 };
 
 /// ADDI a7, x0, 93; ADDI a0, x0, 322; ECALL. 322 modulo 256 is 66.
@@ -61,7 +65,7 @@ const JUMPS: &[u32] = &[0xFFFF_F7B7, 0x0007_8067];
 const COUNTS: &[u32] = &[0x0015_0513, 0xFFDF_F06F];
 
 /// A program, and what is done with it in turn.
-const SCRIPTS: [(&[u32], &[Act]); 9] = [
+const SCRIPTS: [(&[u32], &[Act]); 11] = [
     // a hart runs as far as it may
     (
         COUNTS,
@@ -146,6 +150,37 @@ const SCRIPTS: [(&[u32], &[Act]); 9] = [
             Byte(0x0001_0080, None),
             Byte(0x0002_0003, Some(4)),
             Byte(0xEFFD_0000, Some(0)),
+        ],
+    ),
+    // a register of one hart is set, and its next instructions read it
+    (
+        COUNTS,
+        &[
+            Poke(1, 10, 0xFFFF_FFFF),
+            Hart(1, [HOME, 0, 0xFFFF_FFFF], 0, 0),
+            Hart(0, [HOME, 0, 0], 0, 0),
+            Poke(1, 1, 7),
+            Hart(1, [HOME, 7, 0xFFFF_FFFF], 0, 0),
+            Step(1, Stepped::Ran),
+            Hart(1, [ONWARD, 7, 0], 1, 0),
+        ],
+    ),
+    // bytes of data are set where each may be
+    (
+        COUNTS,
+        &[
+            Put(0x0002_0006, [9, 8], None),
+            Byte(0x0002_0005, Some(6)),
+            Byte(0x0002_0006, Some(9)),
+            Byte(0x0002_0007, Some(8)),
+            Put(0x0002_0007, [1, 1], Some(0x0002_0008)),
+            Put(0x0001_0074, [1, 1], Some(0x0001_0074)),
+            Put(0xFFFF_FFFF, [1, 1], Some(0xFFFF_FFFF)),
+            Byte(0x0002_0007, Some(8)),
+            Put(0xEFFE_FFFF, [1, 1], Some(0xEFFE_FFFF)),
+            Put(0xEFFF_0000, [3, 4], None),
+            Byte(0xEFFF_0001, Some(4)),
+            Byte(0xEFFF_0002, Some(0)),
         ],
     ),
     // a planted word, EBREAK, stops a hart until it is lifted
@@ -491,6 +526,23 @@ fn move_hart(rt: &impl Abort, machine: &mut Machine, act: Act) {
     assert_eq!(rt; machine.slot(SLOT), Some(found));
 }
 
+// A register of a hart, which is in no slot.
+fn poke(rt: &impl Abort, machine: &mut Machine, h: u32, n: u32, value: u32) {
+    assert!(rt; (h as usize) < machine.harts());
+    assert!(rt; 1 <= n && n <= 31);
+    assert!(rt; machine.cores()[h as usize].entered.is_none());
+    machine.poke_register(h, n, value);
+}
+
+// Two bytes of data, where both may be set.
+fn put(rt: &impl Abort, machine: &mut Machine, addr: u32, bytes: [u8; 2], fault: Option<u32>) {
+    let found = machine.data().first_unwritable(addr, bytes.len());
+    assert_eq!(rt; found, fault, "at {addr:#x}");
+    if found.is_none() {
+        machine.poke_bytes(addr, &bytes);
+    }
+}
+
 // What is done with breakpoints and free slots.
 fn change(rt: &impl Abort, machine: &mut Machine, act: Act) {
     match act {
@@ -513,6 +565,8 @@ fn change(rt: &impl Abort, machine: &mut Machine, act: Act) {
             assert!(rt; machine.slot(slot).is_some());
             machine.free(slot);
         }
+        Poke(h, n, value) => poke(rt, machine, h, n, value),
+        Put(addr, bytes, fault) => put(rt, machine, addr, bytes, fault),
         _ => move_hart(rt, machine, act),
     }
 }

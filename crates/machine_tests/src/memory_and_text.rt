@@ -59,6 +59,18 @@ fn data_and_stacks_are_read_and_text_is_not(rt: HostRuntime) -> Result<(), Fail>
     for (addr, len, is_mapped) in ranges {
         assert_eq!(rt; memory.are_mapped(addr, len), is_mapped, "at {addr}");
     }
+    let firsts = [
+        (0x0002_0000, 6, None),
+        (0x0002_0000, 7, Some(0x0002_0006)),
+        (0x0002_0005, 3, Some(0x0002_0006)),
+        (0x0002_000C, 0, None),
+        (0x0001_FFFF, 2, Some(0x0001_FFFF)),
+        (0xEFFF_FFFE, 4, Some(0xF000_0000)),
+        (0xFFFF_FFFF, 2, Some(0xFFFF_FFFF)),
+    ];
+    for (addr, len, first) in firsts {
+        assert_eq!(rt; memory.first_unwritable(addr, len), first, "at {addr}");
+    }
     let mut into = [9; 4];
     assert_eq!(rt; memory.read_range(0x0002_000A, &mut into), Err(0x0002_000C));
     assert_eq!(rt; memory.read_range(0x0001_0092, &mut into), Err(0x0001_0094));

@@ -1,9 +1,10 @@
--- A run of the unpatched program, in the order in which its harts execute. That a machine's harts take turns is this
--- project's own.
-use Rattle.std.specs.Prelude.{ℕ, zero, suc, Bool, true, false, List, [], ◌∷◌, ◌++◌, map, Option, Some, None, option_and_then, if◌then◌else◌, slice_get, slice_set}
-use Rattle.rv_exec.specs.Registers.{Registers}
+-- A run of the unpatched program, in the order in which its harts execute, and of what is written into it from outside.
+-- That a machine's harts take turns is this project's own.
+use Rattle.std.specs.Prelude.{ℕ, zero, suc, Bool, true, false, List, [], ◌∷◌, ◌++◌, map, Option, Some, None, option_and_then, if◌then◌else◌, ◌&&◌, length, nat_le, slice_get, slice_set}
+use Rattle.rv_exec.specs.Registers.{Registers, set}
 use Rattle.rv_exec.specs.Memory.{Memory}
 use Rattle.elf32_read.specs.Program.{Program}
+use Rattle.data_memory.specs.Ranges.{first_unwritable, with_bytes}
 use Rattle.data_memory.specs.Start.{start_memory}
 use Rattle.plain_machine.specs.Environment.{Answer, Traps, Goes, Leave, Stays, LeavesAlone, LeavesAll}
 use Rattle.plain_machine.specs.Plain.{plain, first_registers}
@@ -18,9 +19,12 @@ pub record PlainState : Type 0 where
   -- the bytes that the program wrote
   pub out : List ℕ
 
--- what happens next to a program: one instruction of a hart
+-- what happens next to a program: one instruction of a hart; or a register of a hart is set, or the bytes of data from an
+-- address on are
 pub data Item : Type 0 where
   Step : (hart : ℕ) → Item
+  Reg : (hart : ℕ) (number : ℕ) (value : ℕ) → Item
+  Bytes : (address : ℕ) (bytes : List ℕ) → Item
 
 abbrev pub gone : PlainHart → PlainHart
 gone x = record x { has_exited = true }
@@ -43,10 +47,30 @@ abbrev pub plain_step : Program → PlainState → ℕ → Option PlainHart → 
 plain_step p s h None = None
 plain_step p s h (Some x) = if x.has_exited then None else plain_after s h (plain p x.regs s.memory)
 
+-- x0 and pc aren't set
+abbrev pub is_settable : ℕ → Bool
+is_settable n = nat_le 1 n && nat_le n 31
+
+abbrev pub with_register : PlainHart → ℕ → ℕ → PlainHart
+with_register x n v = record x { regs = set x.regs n v }
+
+abbrev pub register_set : PlainState → ℕ → ℕ → ℕ → Option PlainHart → Option PlainState
+register_set s h n v None = None
+register_set s h n v (Some x) =
+    if x.has_exited then None
+    else (if is_settable n then Some (record s { harts = slice_set s.harts h (with_register x n v) }) else None)
+
+abbrev pub bytes_set : PlainState → ℕ → List ℕ → Option ℕ → Option PlainState
+bytes_set s a bytes None = Some (record s { memory = with_bytes s.memory a bytes })
+bytes_set s a bytes (Some at) = None
+
 abbrev pub take_item : Program → PlainState → Item → Option PlainState
 take_item p s (Step h) = plain_step p s h (slice_get s.harts h)
+take_item p s (Reg h n v) = register_set s h n v (slice_get s.harts h)
+take_item p s (Bytes a bytes) = bytes_set s a bytes (first_unwritable s.memory a (length bytes))
 
--- the items in turn; none where a step traps, or is of a hart that has exited or isn't there
+-- the items in turn; none where a step traps, an item is of a hart that has exited or isn't there, a register is x0 or
+-- isn't one, or a byte that is set isn't writable
 abbrev pub run_from : Program → PlainState → List Item → Option PlainState
 run_from p s [] = Some s
 run_from p s (i ∷ is) = option_and_then (λ t. run_from p t is) (take_item p s i)

@@ -1,10 +1,10 @@
 ghost use Rattle.std.specs.Prelude.{◌≡◌, ◌≤◌, ℕ, Some, None, if◌then◌else◌};
 ghost use Rattle.std.specs.Bool.{OnFalse};
 ghost use Rattle.rv_exec.specs.Registers.{Registers};
-ghost use Rattle.reg_slices.specs.Slices.{SliceOf, moved, is_register_only, word_at, TouchesRegistersAlone};
+ghost use Rattle.reg_slices.specs.Slices.{AreDecoded, SliceOf, instruction_at, is_register_only, moved_by, TouchesRegistersAlone};
 
 use arrayvec::ArrayVec;
-use rv_decode::{Instr, decode};
+use rv_decode::Instr;
 use rv_exec::{Effect, NoBytes, Regs, execute};
 
 /// What a slice starts from. It can't be dropped, so that whoever takes one must work it or take it apart.
@@ -17,8 +17,11 @@ pub struct Job {
     pub at: u32,
     /// The instruction words from `at` up.
     pub words: ArrayVec<u32, 64>,
+    /// The instruction of each word, where it is one.
+    pub code: ArrayVec<Option<Instr>, 64>,
     /// The greatest number of instructions.
     pub limit: u32,
+    pub ghost decoded: { AreDecoded words.items code.items },
 }
 
 /// A run of instructions: `count` of them, each of which stands in the window at its pc, touches registers alone
@@ -62,26 +65,30 @@ fn touches_registers_alone(i: &Instr) -> bool
     }
 }
 
-/// The word of the window that stands at `pc`.
-fn window_word(words: &[u32], at: u32, pc: u32) -> Option<u32>
-    ensures { result ≡ word_at words.now at pc }
+/// The instruction of the window that stands at `pc`.
+#[inline(always)]
+fn window_instruction(code: &[Option<Instr>], at: u32, pc: u32) -> Option<Instr>
+    ensures { result ≡ instruction_at code.now at pc }
 {
     if pc < at || (pc - at) % 4 != 0 {
         return None;
     }
-    words.get(((pc - at) / 4) as usize).copied()
+    match code.get(((pc - at) / 4) as usize) {
+        Some(instruction) => *instruction,
+        None => None,
+    }
 }
 
 /// Executes the instruction of the window at pc, if there is one that touches registers alone and doesn't trap.
+#[inline(always)]
 #[tactic(auto, using(crate::proofs::Moves::moves))]
-fn advance(words: &[u32], at: u32, regs: &mut Regs) -> bool
-    ensures moved { moved words.now at regs.old ≡ (if result then Some regs.new else None) }
+fn advance(code: &[Option<Instr>], at: u32, regs: &mut Regs) -> bool
+    ensures moved { moved_by code.now at regs.old ≡ (if result then Some regs.new else None) }
     ensures kept { OnFalse result (regs.new ≡ regs.old) }
 {
-    let Some(word) = window_word(words, at, regs.pc()) else {
+    let Some(i) = window_instruction(code, at, regs.pc()) else {
         return false
     };
-    let Some(i) = decode(word) else { return false };
     if !touches_registers_alone(&i) {
         return false;
     }
@@ -103,11 +110,12 @@ pub fn run_slice(job: Job) -> Slice
         regs,
         at,
         words,
+        code,
         limit,
     } = job;
     let mut after = regs;
     let mut count = 0;
-    while count < limit && advance(words.as_slice(), at, &mut after) {
+    while count < limit && advance(code.as_slice(), at, &mut after) {
         count += 1;
     }
     Slice {
