@@ -11,7 +11,7 @@ use Rattle.std.proofs.lemmas.Option.{slice_get_past}
 use Rattle.address_tables.proofs.Orders.{yes-le, yes-lt, no-lt, le-yes}
 use Rattle.line_rows.specs.declared.row.Row.{Row}
 use Rattle.line_index.specs.Lines.{file_name, is_called}
-use Rattle.line_index.specs.Statements.{IsFirst, IsNarrow, file_key, first_rank, is_in, is_wanted, is_wanted_at, is_wanted_below, rank}
+use Rattle.line_index.specs.Statements.{IsFirst, IsNarrow, file_key, first_rank, is_in, is_wanted_at, rank}
 
 -- files, lines and addresses as numbers
 below_start : (f l a line : ℕ) → line ≤ l → f * 2 ^ 64 + l * 2 ^ 32 + a < f * 2 ^ 64 + line * 2 ^ 32 → ⊥
@@ -101,37 +101,6 @@ module _ (names file line place : ℕ) (rows : List Row) (rise : IsNonDecreasing
         other (same_file file r.line r.address (file_key names x) x.line x.address line nr.line nr.address nx.line nx.address from numbers);
     one = λ r e. cc;
   }
-
--- numbers of files
-lt_more : (k n : ℕ) → nat_lt k (n + 1) ≡ (nat_lt k n || (k == n))
-lt_more k n = grind (arith, nat_tests)
-
-or_and : (a b w : Bool) → ((a || b) && w) ≡ ((a && w) || (b && w))
-or_and true true true = refl
-or_and true true false = refl
-or_and true false true = refl
-or_and true false false = refl
-or_and false b w = refl
-
-pub one_more : (names : List (List ℕ)) (file : List ℕ) (line number : ℕ) (r : Row) → is_wanted_below names file line (number + 1) r ≡ (is_wanted_below names file line number r || is_wanted_at names file line number r)
-one_more names file line number r =
-    ap (λ (b : Bool). b && is_wanted names file line r) (lt_more (file_key (length names) r) number)
-    ∙ or_and (nat_lt (file_key (length names) r) number) (file_key (length names) r == number) (is_wanted names file line r)
-
-lt_or_same : (file names : ℕ) → (nat_lt (if nat_lt file names then file else names) names || ((if nat_lt file names then file else names) == names)) ≡ true
-lt_or_same file names =
-    elim (nat_lt file names) as (λ v. nat_lt file names ≡ v → (nat_lt (if v then file else names) names || ((if v then file else names) == names)) ≡ true)
-    [ true ↦ λ e. rw e refl | false ↦ λ e. grind (arith, nat_tests) ] refl
-
-pub all_of_them : (names : List (List ℕ)) (file : List ℕ) (line : ℕ) (r : Row) → is_wanted names file line r ≡ (is_wanted_below names file line (length names) r || is_wanted_at names file line (length names) r)
-all_of_them names file line r =
-    ap (λ (b : Bool). b && is_wanted names file line r) (sym (lt_or_same r.file (length names)))
-    ∙ or_and (nat_lt (file_key (length names) r) (length names)) (file_key (length names) r == length names) (is_wanted names file line r)
-
-pub none_below : (names : List (List ℕ)) (file : List ℕ) (line : ℕ) (r : Row) → is_wanted_below names file line 0 r ≡ false
-none_below names file line r =
-    elim (nat_lt (file_key (length names) r) 0) as (λ v. nat_lt (file_key (length names) r) 0 ≡ v → (v && is_wanted names file line r) ≡ false)
-    [ true ↦ λ e. (let less = yes-lt (file_key (length names) r) 0 e in absurd (omega arith)) | false ↦ λ e. refl ] refl
 
 -- the file of a row is called as the file of its number
 name_by_key : (names : List (List ℕ)) (n number : ℕ) → (if nat_lt n (length names) then n else length names) ≡ number → file_name names n ≡ file_name names number

@@ -10,7 +10,7 @@ use Rattle.line_index.specs.Lines.{is_slash, last_part}
 abbrev pub IsPart : List ℕ → List ℕ → List ℕ → Type 0
 IsPart name part rest = last_part name ≡ (if list_any is_slash rest then last_part rest else part)
 
-whole : (name : List ℕ) → list_any is_slash name ≡ false → last_part name ≡ name
+pub whole : (name : List ℕ) → list_any is_slash name ≡ false → last_part name ≡ name
 whole [] h = refl
 whole (b ∷ bs) h = rw h refl
 

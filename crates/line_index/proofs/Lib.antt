@@ -8,3 +8,6 @@ pub mod Least
 pub mod FunctionBody
 pub mod Firsts
 pub mod FirstOfFile
+pub mod KeyRuns
+pub mod KeyTails
+pub mod KeysTold

@@ -53,7 +53,3 @@ is_wanted names file line r = nat_le line r.line && is_called file (file_name na
 -- the same in the file of a number
 abbrev pub is_wanted_at : List (List ℕ) → List ℕ → ℕ → ℕ → Row → Bool
 is_wanted_at names file line number r = (file_key (length names) r == number) && is_wanted names file line r
-
--- the same in the files below a number
-abbrev pub is_wanted_below : List (List ℕ) → List ℕ → ℕ → ℕ → Row → Bool
-is_wanted_below names file line number r = nat_lt (file_key (length names) r) number && is_wanted names file line r

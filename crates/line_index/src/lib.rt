@@ -6,6 +6,8 @@ mod body;
 mod files;
 mod index;
 mod joins;
+mod keys;
+mod names;
 mod sequence;
 mod statements;
 mod table;

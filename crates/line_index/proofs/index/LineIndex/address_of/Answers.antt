@@ -10,14 +10,14 @@ use Rattle.line_index.proofs.index.LineIndex.address_of.Goals as goal
 
 pub soonest-requires-clause-rise : goal.soonest-requires-clause-rise
 soonest-requires-clause-rise c =
-    subst (λ (rows : List Row). IsNonDecreasingBy (rank (length c.self.inside.rows.names)) rows) (sym c.deref.ensures.value) c.self.invariant.lines.rise
+    subst (λ (rows : List Row). IsNonDecreasingBy (rank (length c.self.inside.rows.names)) rows) (sym c.deref-2.ensures.value) c.self.invariant.lines.rise
 
 pub returns : goal.returns
 returns c =
     let i = c.self.inside in
     let file = c.args.file.now in
     let mapped : c.map.result ≡ option_map (λ (r : Row). r.address) c.soonest.result = search rules in
-    let first = subst (λ (rows : List Row). IsFirst (is_wanted i.rows.names file c.args.line) rows c.soonest.result) c.deref.ensures.value c.soonest.ensures in
+    let first = subst (λ (rows : List Row). IsFirst (is_wanted i.rows.names file c.args.line) rows c.soonest.result) c.deref-2.ensures.value c.soonest.ensures in
     mapped
     ∙ address_found i.rows.names file c.args.line (rows_of (seen i)) i.lines.items c.soonest.result c.self.invariant.lines.same first
     ∙ ap (λ (lines : Lines). address_of lines file c.args.line) c.self.view_is

@@ -3,7 +3,7 @@ use Rattle.std.specs.Str.{bytes_eq}
 use Rattle.std.proofs.lemmas.List.{take_rest}
 use Rattle.line_index.specs.Lines.{last_part}
 use Rattle.line_index.proofs.LastPart.{end_part}
-use Rattle.line_index.proofs.files.end_for.Goals as goal
+use Rattle.line_index.proofs.names.end_for.Goals as goal
 
 pub returns-then-file-name : goal.returns-then-file-name
 returns-then-file-name c =
