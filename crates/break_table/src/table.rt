@@ -1,6 +1,6 @@
 //! The table of breakpoints.
 
-ghost use Rattle.std.specs.Prelude.{◌≡◌, ◌+◌, ◌-◌, ◌^◌, ◌<◌, ℕ, true, false, filter, map, replicate, slice_get, IfOk, OnOk, OnErr, Some, None};
+ghost use Rattle.std.specs.Prelude.{◌≡◌, ◌+◌, ◌-◌, ◌^◌, ◌<◌, ℕ, true, false, filter, map, replicate, slice_get, IfOk, OnOk, OnErr, Some, None, length};
 ghost use Rattle.std.specs.Option.{option_map};
 ghost use Rattle.break_table.specs.Entry.{asked_of, condition_of, entry_of};
 ghost use Rattle.break_table.specs.Arrival.{due_of, settled, stays};
@@ -245,6 +245,14 @@ impl BreakTable {
         if let Some(wait) = self.waits.get_mut(hart as usize) {
             *wait = None;
         }
+    }
+
+    /// Where a hart waits, if it does.
+    pub fn wait(&self, hart: u32) -> Option<u32>
+        requires { hart < length self.now.waits }
+        ensures { slice_get self.now.waits hart ≡ Some result }
+    {
+        self.waits[hart as usize]
     }
 
     /// Whether a hart waits at an address.

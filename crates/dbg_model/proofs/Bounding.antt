@@ -8,8 +8,10 @@ use Rattle.dbg_model.specs.declared.entry.Entry.{Entry}
 use Rattle.dbg_model.specs.declared.entry.Entry.TheVariants.{Ran, Counted, Stopped, Left, Did}
 use Rattle.dbg_model.specs.declared.opening.Opening.{Opening}
 use Rattle.dbg_model.specs.Limits.{history}
-use Rattle.dbg_model.specs.State.{Hart, State, any_leaves, is_running, due, is_due}
-use Rattle.dbg_model.specs.Lawful.{enter, one, one_by, ran, may_run, may_move, may_go, stepped_by}
+use Rattle.dbg_model.specs.declared.hart.Hart.{Hart}
+use Rattle.dbg_model.specs.Judging.{is_due}
+use Rattle.dbg_model.specs.State.{State, any_leaves, is_running, due}
+use Rattle.dbg_model.specs.Lawful.{enter, one, one_by, ran, may_run, may_move, may_go, set_out, stepped_by}
 use Rattle.dbg_model.specs.Journals.{Place, come, follows, ran_hart, replay_from, replay, first_place, Leaves}
 use Rattle.dbg_model.proofs.Options.{map_some, bind_some, guard_some, same_some, both_true}
 use Rattle.dbg_model.proofs.Counting.{enter_adds, one_adds, Adds}
@@ -24,7 +26,7 @@ go_below o s may =
 one_by_below : (o : Opening) (s t : State) (h : ℕ) (r : Option Hart) → one_by o s h r ≡ Some t → s.retired < o.settings.budget
 one_by_below o s t h None is = cc
 one_by_below o s t h (Some x) is =
-    go_below o s (both_true (may_go o s) (is_running x.mode) (both_true (may_move o s x) (not (is_due (due o.image s h x))) (guard_some (may_run o s h x) (stepped_by (plain o.image x.regs s.memory) s h x) t is).0).0).0
+    go_below o s (both_true (may_go o s) (is_running x.mode) (both_true (may_move o s x) (not (is_due (due o.image s h x))) (guard_some (may_run o s h x) (stepped_by (plain o.image x.regs s.memory) s h (set_out (due o.image s h x) x)) t is).0).0).0
 
 one_below : (o : Opening) (h : ℕ) (s t : State) → one o h s ≡ Some t → s.retired < o.settings.budget
 unfolding one

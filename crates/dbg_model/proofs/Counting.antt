@@ -9,14 +9,16 @@ use Rattle.plain_machine.specs.PlainRun.{Item, Step}
 use Rattle.rv_exec.specs.declared.effect.Cause.{Cause}
 use Rattle.rv_exec.specs.Causes.{cause_number}
 use Rattle.dbg_model.specs.declared.entry.Why.{Why}
-use Rattle.dbg_model.specs.declared.entry.Why.TheVariants.{Break, Interrupted, Fault}
+use Rattle.dbg_model.specs.declared.entry.Why.TheVariants.{Break, Stepped, Finished, Interrupted, Fault}
 use Rattle.dbg_model.specs.declared.entry.Entry.{Entry}
 use Rattle.dbg_model.specs.declared.entry.Entry.TheVariants.{Ran, Counted, Stopped, Left, Did}
 use Rattle.dbg_model.specs.declared.opening.Opening.{Opening}
 use Rattle.dbg_model.specs.Breaks.{is_stop}
-use Rattle.dbg_model.specs.State.{Hart, State, due, is_counted, arrived}
+use Rattle.dbg_model.specs.declared.hart.Hart.{Hart}
+use Rattle.dbg_model.specs.Judging.{ends_function, ends_step, is_counted}
+use Rattle.dbg_model.specs.State.{State, due}
 use Rattle.dbg_model.specs.Reply.{done_by}
-use Rattle.dbg_model.specs.Lawful.{enter, one, one_by, ran, may_run, may_move, may_do, stepped_by, with_stop, faulted_by, stopped_by, counted_by, with_count, left_by, leaver_from, exited_at, with_step}
+use Rattle.dbg_model.specs.Lawful.{enter, one, one_by, ran, may_run, may_move, may_do, stepped_by, with_stop, faulted_by, stopped_by, counted_by, with_arrival, with_count, left_by, leaver_from, exited_at, set_out, with_step}
 use Rattle.dbg_model.specs.Journals.{Place, come, follows, ran_hart, replay_from, replay, first_place, Leaves, lengthened, one_more_by, count_of, last_count, noted, noted_one}
 use Rattle.dbg_model.specs.Erase.{erase, erase_one, steps_of}
 use Rattle.dbg_model.proofs.Options.{map_some, bind_some, guard_some, same_some}
@@ -37,7 +39,7 @@ step_adds (Goes r m out leave) s t h x is =
 
 one_by_adds : (o : Opening) (s t : State) (h : ℕ) (r : Option Hart) → one_by o s h r ≡ Some t → Adds s t 1 0
 one_by_adds o s t h None is = cc
-one_by_adds o s t h (Some x) is = step_adds (plain o.image x.regs s.memory) s t h x (guard_some (may_run o s h x) (stepped_by (plain o.image x.regs s.memory) s h x) t is).1
+one_by_adds o s t h (Some x) is = step_adds (plain o.image x.regs s.memory) s t h (set_out (due o.image s h x) x) (guard_some (may_run o s h x) (stepped_by (plain o.image x.regs s.memory) s h (set_out (due o.image s h x) x)) t is).1
 
 pub one_adds : (o : Opening) (h : ℕ) (s t : State) → one o h s ≡ Some t → Adds s t 1 0
 unfolding one
@@ -60,8 +62,16 @@ stop_adds : (o : Opening) (s t : State) (h : ℕ) (why : Why) (r : Option Hart) 
 stop_adds o s t h (Fault cause) None is = cc
 stop_adds o s t h (Break number error) None is = cc
 stop_adds o s t h (Break number error) (Some x) is =
-    let u : State = record (with_stop s h x) { breaks = arrived o.image s h x } in
-    is_more s t u 0 1 (same_some u t (guard_some (may_move o s x && is_stop (due o.image s h x) number error) (Some u) t is).1) (record { retired = omega arith; noted = refl })
+    let u = with_arrival o s h x in
+    is_more s t u 0 1 (same_some u t (guard_some (may_move o s x && is_stop (due o.image s h x).breaks number error) (Some u) t is).1) (record { retired = omega arith; noted = refl })
+stop_adds o s t h Stepped None is = cc
+stop_adds o s t h Stepped (Some x) is =
+    let u = with_arrival o s h x in
+    is_more s t u 0 1 (same_some u t (guard_some (may_move o s x && ends_step (due o.image s h x)) (Some u) t is).1) (record { retired = omega arith; noted = refl })
+stop_adds o s t h Finished None is = cc
+stop_adds o s t h Finished (Some x) is =
+    let u = with_arrival o s h x in
+    is_more s t u 0 1 (same_some u t (guard_some (may_move o s x && ends_function (due o.image s h x)) (Some u) t is).1) (record { retired = omega arith; noted = refl })
 stop_adds o s t h Interrupted None is = cc
 stop_adds o s t h Interrupted (Some x) is =
     let u = with_stop s h x in

@@ -5,8 +5,10 @@ use Rattle.plain_machine.specs.Environment.{Answer, Traps, Goes}
 use Rattle.plain_machine.specs.Plain.{plain}
 use Rattle.dbg_model.specs.declared.opening.Opening.{Opening}
 use Rattle.dbg_model.specs.Limits.{history}
-use Rattle.dbg_model.specs.State.{Hart, State, any_leaves, is_running, due, is_due}
-use Rattle.dbg_model.specs.Lawful.{one, one_by, may_run, may_move, may_go, stepped_by, with_step}
+use Rattle.dbg_model.specs.declared.hart.Hart.{Hart}
+use Rattle.dbg_model.specs.Judging.{is_due}
+use Rattle.dbg_model.specs.State.{State, any_leaves, is_running, due}
+use Rattle.dbg_model.specs.Lawful.{one, one_by, may_run, may_move, may_go, set_out, stepped_by, with_step}
 use Rattle.dbg_model.proofs.Options.{guard_some, same_some, both_true}
 
 not_true : (b : Bool) → not b ≡ true → b ≡ false
@@ -26,9 +28,9 @@ step_open (Goes r m out leave) s t h x still is = ap (λ (u : State). u.exited) 
 one_by_open : (o : Opening) (s t : State) (h : ℕ) (r : Option Hart) → one_by o s h r ≡ Some t → t.exited ≡ false
 one_by_open o s t h None is = cc
 one_by_open o s t h (Some x) is =
-    let g = guard_some (may_run o s h x) (stepped_by (plain o.image x.regs s.memory) s h x) t is in
+    let g = guard_some (may_run o s h x) (stepped_by (plain o.image x.regs s.memory) s h (set_out (due o.image s h x) x)) t is in
     let may = (both_true (may_go o s) (is_running x.mode) (both_true (may_move o s x) (not (is_due (due o.image s h x))) g.0).0).0 in
-    step_open (plain o.image x.regs s.memory) s t h x (go_open o s may) g.1
+    step_open (plain o.image x.regs s.memory) s t h (set_out (due o.image s h x) x) (go_open o s may) g.1
 
 -- after an instruction it wasn't either
 pub one_open : (o : Opening) (h : ℕ) (s t : State) → one o h s ≡ Some t → t.exited ≡ false

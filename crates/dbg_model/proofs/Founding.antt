@@ -2,8 +2,10 @@
 use Rattle.std.proofs.Common.{◌≡◌, ◌<◌, ℕ, zero, suc, Bool, true, false, List, length, map, refl, sym, ◌∙◌, nat_lt, arith}
 use Rattle.std.specs.Prelude.{[], ◌∷◌, Option, Some, None, Result, Ok, Err, is_some, slice_get}
 use Rattle.std.proofs.lemmas.Bool.Decides.{nat_tests}
+use Rattle.rv_exec.specs.Registers.{Registers}
 use Rattle.elf32_read.specs.Program.{Program, text_word}
 use Rattle.break_table.specs.Entry.{Entry}
+use Rattle.step_plans.specs.declared.plan.Plan.{Plan}
 use Rattle.mi_input.specs.Parts.{PartsView, is_cli, after_blanks}
 use Rattle.mi_input.specs.Reading.{parts_read}
 use Rattle.mi_commands.specs.Commands.{answer}
@@ -22,10 +24,12 @@ use Rattle.dbg_model.specs.declared.reply.Obstacle.TheVariants.{UnknownThread}
 use Rattle.dbg_model.specs.declared.reply.Refused.{Refused}
 use Rattle.dbg_model.specs.declared.reply.Thread.{Thread}
 use Rattle.dbg_model.specs.Limits.{breakpoints}
-use Rattle.dbg_model.specs.State.{Hart, State}
+use Rattle.dbg_model.specs.declared.hart.Hart.{Hart}
+use Rattle.dbg_model.specs.State.{State}
 use Rattle.dbg_model.specs.Sight.{Sight, thread_at, live, live_as, running, sight_of, stopped, thread_or, view_of}
 use Rattle.dbg_model.specs.Outcome.{Change, Outcome, and_then, inserts, selects, showing, told}
 use Rattle.dbg_model.specs.Threads.{go_on, interrupt, thread_info}
+use Rattle.dbg_model.specs.Steps.{finish_step, line_step, one_step, step}
 use Rattle.dbg_model.specs.Breakpoints.{condition, ensured, expression, insert, known, known_thread, place, placed, room}
 use Rattle.dbg_model.specs.Data.{bytes_at, worth_of}
 use Rattle.dbg_model.specs.Command.{asked_reply, reply}
@@ -96,6 +100,9 @@ interrupt_sound s target.Selected = behind s (running s s.selected) _ (λ u is. 
 interrupt_sound s (target.Thread t) = behind s (running s t) _ (λ u is. tt)
 interrupt_sound s target.All = tt
 
+step_sound : (plan_of : Sight → Registers → Result Plan Refused) (s : Sight) (t : Option ℕ) → IsSound s (step plan_of s t)
+step_sound plan_of s t = behind s (stopped s (thread_or s.selected t)) _ (λ r at. behind s (plan_of s r) _ (λ plan is. tt))
+
 info_sound : (s : Sight) (t : Option ℕ) → IsSound s (thread_info s t)
 info_sound s None = tt
 info_sound s (Some t) = behind s (live s t) _ (λ x is. tt)
@@ -113,6 +120,11 @@ reply_sound s (command.BreakCondition n text) = known_sound s (n ∷ []) _ (λ u
 reply_sound s (command.BreakAfter n k) = known_sound s (n ∷ []) _ (λ u. tt)
 reply_sound s (command.Continue t) = go_on_sound s t
 reply_sound s (command.Interrupt t) = interrupt_sound s t
+reply_sound s (command.Step t) = step_sound (line_step true) s t
+reply_sound s (command.Next t) = step_sound (line_step false) s t
+reply_sound s (command.StepInstruction t) = step_sound (one_step false) s t
+reply_sound s (command.NextInstruction t) = step_sound (one_step true) s t
+reply_sound s (command.Finish t) = step_sound finish_step s t
 reply_sound s (command.ThreadInfo t) = info_sound s t
 reply_sound s (command.ThreadSelect t) = behind s (live s t) _ (λ x is. is_live s.sources t (thread_at s.threads t) x is)
 reply_sound s (command.FrameList t) = behind s (stopped s (thread_or s.selected t)) _ (λ r is. tt)

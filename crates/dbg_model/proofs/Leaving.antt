@@ -8,7 +8,8 @@ use Rattle.dbg_model.specs.declared.entry.Mode.TheVariants as mode
 use Rattle.dbg_model.specs.declared.entry.Entry.{Entry}
 use Rattle.dbg_model.specs.declared.entry.Entry.TheVariants.{Left}
 use Rattle.dbg_model.specs.declared.opening.Opening.{Opening}
-use Rattle.dbg_model.specs.State.{Hart, State, any_leaves, is_leaving}
+use Rattle.dbg_model.specs.declared.hart.Hart.{Hart}
+use Rattle.dbg_model.specs.State.{State, any_leaves, is_leaving}
 use Rattle.dbg_model.specs.Lawful.{enter, leaver_from, leaver_or, exited}
 use Rattle.dbg_model.specs.Journals.{Leaves}
 use Rattle.dbg_model.specs.Leaving.{lefts_from, left_one, gone, gone_by}

@@ -8,3 +8,5 @@ pub mod Numbering
 pub mod Replying
 pub mod Founding
 pub mod Ending
+pub mod Naming
+pub mod Judged

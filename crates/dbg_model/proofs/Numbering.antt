@@ -7,15 +7,17 @@ use Rattle.rv_exec.specs.Causes.{cause_number}
 use Rattle.plain_machine.specs.Environment.{Answer, Traps, Goes}
 use Rattle.plain_machine.specs.Plain.{plain}
 use Rattle.dbg_model.specs.declared.entry.Why.{Why}
-use Rattle.dbg_model.specs.declared.entry.Why.TheVariants.{Break, Interrupted, Fault}
+use Rattle.dbg_model.specs.declared.entry.Why.TheVariants.{Break, Stepped, Finished, Interrupted, Fault}
 use Rattle.dbg_model.specs.declared.entry.Entry.{Entry}
 use Rattle.dbg_model.specs.declared.entry.Entry.TheVariants.{Ran, Counted, Stopped, Left, Did}
 use Rattle.dbg_model.specs.declared.opening.Opening.{Opening}
 use Rattle.dbg_model.specs.Breaks.{is_stop}
-use Rattle.dbg_model.specs.State.{Hart, State, due, is_counted, arrived}
+use Rattle.dbg_model.specs.declared.hart.Hart.{Hart}
+use Rattle.dbg_model.specs.Judging.{ends_function, ends_step, is_counted}
+use Rattle.dbg_model.specs.State.{State, due}
 use Rattle.dbg_model.specs.Outcome.{Change, stays, resumes, selects, inserts, deletes, enables, conditions, ignores, interrupts, displaces, exits}
 use Rattle.dbg_model.specs.Reply.{done_by, answer_of, given_after}
-use Rattle.dbg_model.specs.Lawful.{enter, one, one_by, ran, may_run, may_move, may_do, stepped_by, with_stop, faulted_by, stopped_by, counted_by, with_count, left_by, leaver_from, exited_at, with_step}
+use Rattle.dbg_model.specs.Lawful.{enter, one, one_by, ran, may_run, may_move, may_do, stepped_by, with_stop, faulted_by, stopped_by, counted_by, with_arrival, with_count, left_by, leaver_from, exited_at, set_out, with_step}
 use Rattle.dbg_model.specs.Journals.{Place, come, follows, ran_hart, replay_from, replay, first_place, Leaves, noted_one}
 use Rattle.dbg_model.proofs.Options.{map_some, bind_some, guard_some, same_some}
 use Rattle.dbg_model.proofs.Counting.{enter_adds}
@@ -31,7 +33,7 @@ step_given (Goes r m out leave) s t h x is =
 
 one_given : (o : Opening) (s t : State) (h : ℕ) (r : Option Hart) → one_by o s h r ≡ Some t → t.given ≡ s.given
 one_given o s t h None is = cc
-one_given o s t h (Some x) is = step_given (plain o.image x.regs s.memory) s t h x (guard_some (may_run o s h x) (stepped_by (plain o.image x.regs s.memory) s h x) t is).1
+one_given o s t h (Some x) is = step_given (plain o.image x.regs s.memory) s t h (set_out (due o.image s h x) x) (guard_some (may_run o s h x) (stepped_by (plain o.image x.regs s.memory) s h (set_out (due o.image s h x) x)) t is).1
 
 one_is : (o : Opening) (h : ℕ) (s t : State) → one o h s ≡ Some t → t.given ≡ s.given
 unfolding one
@@ -52,8 +54,16 @@ stop_given : (o : Opening) (s t : State) (h : ℕ) (why : Why) (r : Option Hart)
 stop_given o s t h (Fault cause) None is = cc
 stop_given o s t h (Break number error) None is = cc
 stop_given o s t h (Break number error) (Some x) is =
-    let u : State = record (with_stop s h x) { breaks = arrived o.image s h x } in
-    same_given s t u (same_some u t (guard_some (may_move o s x && is_stop (due o.image s h x) number error) (Some u) t is).1) refl
+    let u = with_arrival o s h x in
+    same_given s t u (same_some u t (guard_some (may_move o s x && is_stop (due o.image s h x).breaks number error) (Some u) t is).1) refl
+stop_given o s t h Stepped None is = cc
+stop_given o s t h Stepped (Some x) is =
+    let u = with_arrival o s h x in
+    same_given s t u (same_some u t (guard_some (may_move o s x && ends_step (due o.image s h x)) (Some u) t is).1) refl
+stop_given o s t h Finished None is = cc
+stop_given o s t h Finished (Some x) is =
+    let u = with_arrival o s h x in
+    same_given s t u (same_some u t (guard_some (may_move o s x && ends_function (due o.image s h x)) (Some u) t is).1) refl
 stop_given o s t h Interrupted None is = cc
 stop_given o s t h Interrupted (Some x) is =
     let u = with_stop s h x in same_given s t u (same_some u t (guard_some (may_run o s h x && x.asked) (Some u) t is).1) refl
@@ -74,7 +84,7 @@ left_given s t h code (Some leaver) is =
 
 given_more : (n : ℕ) (c : Change) → given_after n c ≤ n + 1
 given_more n stays = omega arith
-given_more n (resumes ts) = omega arith
+given_more n (resumes ts plan) = omega arith
 given_more n (selects t) = omega arith
 given_more n (inserts a) = omega arith
 given_more n (deletes ns) = omega arith

@@ -14,14 +14,19 @@ use Rattle.plain_machine.specs.PlainRun as machine
 use Rattle.dbg_model.specs.declared.entry.Mode.{Mode}
 use Rattle.dbg_model.specs.declared.entry.Mode.TheVariants as mode
 use Rattle.dbg_model.specs.declared.entry.Why.{Why}
-use Rattle.dbg_model.specs.declared.entry.Why.TheVariants.{Break, Interrupted, Fault}
+use Rattle.dbg_model.specs.declared.entry.Why.TheVariants.{Break, Stepped, Finished, Interrupted, Fault}
 use Rattle.dbg_model.specs.declared.entry.Entry.{Entry}
 use Rattle.dbg_model.specs.declared.entry.Entry.TheVariants.{Ran, Counted, Stopped, Left, Did}
 use Rattle.dbg_model.specs.declared.opening.Opening.{Opening}
 use Rattle.dbg_model.specs.Breaks.{is_stop}
-use Rattle.dbg_model.specs.State.{Hart, State, first_state, first_harts, is_running, due, is_due, is_counted, arrived}
-use Rattle.dbg_model.specs.Reply.{done_by, answer_of, changed_by, resumed, resumed_by, resumed_at, resumed_thread, resumed_threads, going_on, asked_by, asked, ask_at, ask_thread, ask_threads, asking}
-use Rattle.dbg_model.specs.Lawful.{enter, one, one_by, ran, may_run, may_move, may_go, may_do, stepped_by, stepped, leaving, leaving_at, with_leavers, with_stop, stopped, faulted_by, stopped_by, counted, counted_by, with_count, left_by, leaver_from, leaver_or, exited, exited_at, with_step}
+use Rattle.step_plans.specs.declared.plan.Plan.{Plan}
+use Rattle.step_plans.specs.declared.plan.Plan.TheVariants as plans
+use Rattle.dbg_model.specs.declared.hart.Hart.{Hart}
+use Rattle.dbg_model.specs.Judging.{ends_function, ends_step, is_counted, is_due}
+use Rattle.dbg_model.specs.State.{State, first_state, first_harts, is_running, due}
+use Rattle.dbg_model.specs.Outcome.{Change, resumes, interrupts}
+use Rattle.dbg_model.specs.Reply.{done_by, answer_of, changed_by, resumed, resumed_by, asked_by, asked, is_named, on_threads, harts_after}
+use Rattle.dbg_model.specs.Lawful.{enter, one, one_by, ran, may_run, may_move, may_go, may_do, stepped_by, stepped, leaving, leaving_at, with_leavers, with_stop, stopped, faulted_by, stopped_by, counted, counted_by, with_arrival, with_count, set_out, left_by, leaver_from, leaver_or, exited, exited_at, with_step}
 use Rattle.dbg_model.specs.Journals.{Place, come, follows, ran_hart, replay_from, replay, first_place, Leaves}
 use Rattle.dbg_model.specs.Erase.{erase, erase_one}
 use Rattle.dbg_model.proofs.Options.{map_some, bind_some, guard_some, bind_bind, bind_return, same_some, both_true}
@@ -115,9 +120,10 @@ answers_plain (Goes r m out leave) s t h x runs is =
 one_by_plain : (o : Opening) (s t : State) (h : ℕ) (r : Option Hart) → one_by o s h r ≡ Some t → plain_step o.image (plain_of s) h (option_map plain_hart r) ≡ Some (plain_of t)
 one_by_plain o s t h None is = cc
 one_by_plain o s t h (Some x) is =
-    let g = guard_some (may_run o s h x) (stepped_by (plain o.image x.regs s.memory) s h x) t is in
+    let y = set_out (due o.image s h x) x in
+    let g = guard_some (may_run o s h x) (stepped_by (plain o.image x.regs s.memory) s h y) t is in
     let runs = runs_runs o s h x g.0 in
-    ap (λ b. cond b None (plain_after (plain_of s) h (plain o.image x.regs s.memory))) runs ∙ answers_plain (plain o.image x.regs s.memory) s t h x runs g.1
+    ap (λ b. cond b None (plain_after (plain_of s) h (plain o.image x.regs s.memory))) runs ∙ answers_plain (plain o.image x.regs s.memory) s t h y runs g.1
 
 -- one instruction under the debugger is one of the program
 pub one_plain : (o : Opening) (h : ℕ) (s t : State) → one o h s ≡ Some t → take_item o.image (plain_of s) (Step h) ≡ Some (plain_of t)
@@ -156,14 +162,22 @@ fault_plain (Traps met) cause s t h x at runs is =
     same_harts s (slice_set s.harts h (stopped x)) (s.noted + 1) t (same_plain s.harts h x (stopped x) at same) (same_some (with_stop s h x) t g.1)
 fault_plain (Goes r m out leave) cause s t h x at runs is = cc
 
-stop_plain : (o : Opening) (s t : State) (h : ℕ) (why : Why) (r : Option Hart) → slice_get s.harts h ≡ r → stopped_by o s h why r ≡ Some t → plain_of s ≡ plain_of t
-stop_plain o s t h (Break number error) None at is = cc
-stop_plain o s t h (Break number error) (Some x) at is =
-    let u : State = record (with_stop s h x) { breaks = arrived o.image s h x } in
-    let g = guard_some (may_move o s x && is_stop (due o.image s h x) number error) (Some u) t is in
-    let runs = runs_moves o s x (both_true (may_move o s x) (is_stop (due o.image s h x) number error) g.0).0 in
+-- a hart stops where it has arrived
+arrival_plain : (o : Opening) (s t : State) (h : ℕ) (x : Hart) (stops : Bool) → slice_get s.harts h ≡ Some x → cond (may_move o s x && stops) (Some (with_arrival o s h x)) None ≡ Some t → plain_of s ≡ plain_of t
+arrival_plain o s t h x stops at is =
+    let u = with_arrival o s h x in
+    let g = guard_some (may_move o s x && stops) (Some u) t is in
+    let runs = runs_moves o s x (both_true (may_move o s x) stops g.0).0 in
     let same : plain_hart (stopped x) ≡ plain_hart x = ap (λ b. let y : PlainHart = record { regs = x.regs; has_exited = b } in y) (sym runs) in
     ap (λ ys. let p : PlainState = record { harts = ys; memory = s.memory; out = s.out } in p) (sym (same_plain s.harts h x (stopped x) at same)) ∙ ap plain_of (same_some u t g.1)
+
+stop_plain : (o : Opening) (s t : State) (h : ℕ) (why : Why) (r : Option Hart) → slice_get s.harts h ≡ r → stopped_by o s h why r ≡ Some t → plain_of s ≡ plain_of t
+stop_plain o s t h (Break number error) None at is = cc
+stop_plain o s t h (Break number error) (Some x) at is = arrival_plain o s t h x (is_stop (due o.image s h x).breaks number error) at is
+stop_plain o s t h Stepped None at is = cc
+stop_plain o s t h Stepped (Some x) at is = arrival_plain o s t h x (ends_step (due o.image s h x)) at is
+stop_plain o s t h Finished None at is = cc
+stop_plain o s t h Finished (Some x) at is = arrival_plain o s t h x (ends_function (due o.image s h x)) at is
 stop_plain o s t h Interrupted None at is = cc
 stop_plain o s t h Interrupted (Some x) at is =
     let g = guard_some (may_run o s h x && x.asked) (Some (with_stop s h x)) t is in
@@ -180,7 +194,7 @@ count_plain o s t h None at is = cc
 count_plain o s t h (Some x) at is =
     let u = with_count o s h x in
     let g = guard_some (may_move o s x && is_counted (due o.image s h x)) (Some u) t is in
-    ap (λ ys. let p : PlainState = record { harts = ys; memory = s.memory; out = s.out } in p) (sym (same_plain s.harts h x (counted x) at refl)) ∙ ap plain_of (same_some u t g.1)
+    ap (λ ys. let p : PlainState = record { harts = ys; memory = s.memory; out = s.out } in p) (sym (same_plain s.harts h x (counted (set_out (due o.image s h x) x)) at refl)) ∙ ap plain_of (same_some u t g.1)
 
 -- the hart that leaves
 record Leaver (xs : List Hart) (k : ℕ) (p : ℕ × ℕ) : Type 0 where
@@ -216,50 +230,40 @@ left_plain s t h code (Some p) from is =
     let harts : exited_at s.harts h (slice_get s.harts h) ≡ slice_set s.harts h (exited l.hart) = ap (exited_at s.harts h) at in
     same_harts s (exited_at s.harts h (slice_get s.harts h)) (s.noted + 1) t (ap (map plain_hart) harts ∙ same_plain s.harts h l.hart (exited l.hart) at same) (same_some u t g.1)
 
-resumed_plain : (x : Hart) (m : Mode) → x.mode ≡ m → plain_hart (resumed_by x m) ≡ plain_hart x
-resumed_plain x mode.Stopped is = ap (λ c. let y : PlainHart = record { regs = x.regs; has_exited = c } in y) (sym (ap is_gone is))
-resumed_plain x mode.Running is = refl
-resumed_plain x (mode.Leaving code) is = refl
-resumed_plain x mode.Exited is = refl
+resumed_by_plain : (plan : Plan) (x : Hart) (m : Mode) → x.mode ≡ m → plain_hart (resumed_by plan x m) ≡ plain_hart x
+resumed_by_plain plan x mode.Stopped is = ap (λ c. let y : PlainHart = record { regs = x.regs; has_exited = c } in y) (sym (ap is_gone is))
+resumed_by_plain plan x mode.Running is = refl
+resumed_by_plain plan x (mode.Leaving code) is = refl
+resumed_by_plain plan x mode.Exited is = refl
 
-resumed_at_plain : (xs : List Hart) (h : ℕ) (r : Option Hart) → slice_get xs h ≡ r → map plain_hart (resumed_at xs h r) ≡ map plain_hart xs
-resumed_at_plain xs h None at = refl
-resumed_at_plain xs h (Some x) at = same_plain xs h x (resumed x) at (resumed_plain x x.mode refl)
+asked_by_plain : (x : Hart) (m : Mode) → plain_hart (asked_by x m) ≡ plain_hart x
+asked_by_plain x mode.Stopped = refl
+asked_by_plain x mode.Running = refl
+asked_by_plain x (mode.Leaving code) = refl
+asked_by_plain x mode.Exited = refl
 
-resumed_thread_plain : (xs : List Hart) (t : ℕ) → map plain_hart (resumed_thread xs t) ≡ map plain_hart xs
-resumed_thread_plain xs zero = refl
-resumed_thread_plain xs (suc h) = resumed_at_plain xs h (slice_get xs h) refl
+named_plain : (f : Hart → Hart) (x : Hart) (b : Bool) → plain_hart (f x) ≡ plain_hart x → plain_hart (cond b (f x) x) ≡ plain_hart x
+named_plain f x true same = same
+named_plain f x false same = refl
 
--- threads that go on change nothing of the program
-resumed_threads_plain : (xs : List Hart) (ts : List ℕ) → map plain_hart (resumed_threads xs ts) ≡ map plain_hart xs
-resumed_threads_plain xs [] = refl
-resumed_threads_plain xs (t ∷ ts) = resumed_threads_plain (resumed_thread xs t) ts ∙ resumed_thread_plain xs t
+on_threads_plain : (f : Hart → Hart) → ((x : Hart) → plain_hart (f x) ≡ plain_hart x) → (ts : List ℕ) (n : ℕ) (xs : List Hart) → map plain_hart (on_threads f ts n xs) ≡ map plain_hart xs
+on_threads_plain f same ts n [] = refl
+on_threads_plain f same ts n (x ∷ xs) =
+    ap (λ y. y ∷ map plain_hart (on_threads f ts (n + 1) xs)) (named_plain f x (is_named ts n) (same x))
+    ∙ ap (λ ys. plain_hart x ∷ ys) (on_threads_plain f same ts (n + 1) xs)
 
-asked_plain : (x : Hart) (m : Mode) → x.mode ≡ m → plain_hart (asked_by x m) ≡ plain_hart x
-asked_plain x mode.Stopped is = refl
-asked_plain x mode.Running is = ap (λ c. let y : PlainHart = record { regs = x.regs; has_exited = c } in y) (sym (ap is_gone is))
-asked_plain x (mode.Leaving code) is = refl
-asked_plain x mode.Exited is = refl
-
-ask_at_plain : (xs : List Hart) (h : ℕ) (r : Option Hart) → slice_get xs h ≡ r → map plain_hart (ask_at xs h r) ≡ map plain_hart xs
-ask_at_plain xs h None at = refl
-ask_at_plain xs h (Some x) at = same_plain xs h x (asked x) at (asked_plain x x.mode refl)
-
-ask_thread_plain : (xs : List Hart) (t : ℕ) → map plain_hart (ask_thread xs t) ≡ map plain_hart xs
-ask_thread_plain xs zero = refl
-ask_thread_plain xs (suc h) = ask_at_plain xs h (slice_get xs h) refl
-
--- nor do threads of which an interrupt is asked
-ask_threads_plain : (xs : List Hart) (ts : List ℕ) → map plain_hart (ask_threads xs ts) ≡ map plain_hart xs
-ask_threads_plain xs [] = refl
-ask_threads_plain xs (t ∷ ts) = ask_threads_plain (ask_thread xs t) ts ∙ ask_thread_plain xs t
+-- threads that go on, or of which an interrupt is asked, change nothing of the program
+harts_plain : (xs : List Hart) (c : Change) → map plain_hart (harts_after xs c) ≡ map plain_hart xs
+harts_plain xs (resumes ts plan) = on_threads_plain (resumed plan) (λ x. resumed_by_plain plan x x.mode refl) ts 1 xs
+harts_plain xs (interrupts ts) = on_threads_plain asked (λ x. asked_by_plain x x.mode) ts 1 xs
+harts_plain xs _ = refl
 
 done_plain : (o : Opening) (s : State) (line : List ℕ) (t : State) → done_by o s line ≡ t → plain_of s ≡ plain_of t
 unfolding done_by
 done_plain o s line t is =
     let c = (answer_of o s line).outcome.change in
     let u = changed_by s c in
-    let same : plain_of s ≡ plain_of u = ap (λ ys. let p : PlainState = record { harts = ys; memory = s.memory; out = s.out } in p) (sym (ask_threads_plain (resumed_threads s.harts (going_on c)) (asking c) ∙ resumed_threads_plain s.harts (going_on c))) in
+    let same : plain_of s ≡ plain_of u = ap (λ ys. let p : PlainState = record { harts = ys; memory = s.memory; out = s.out } in p) (sym (harts_plain s.harts c)) in
     same ∙ ap plain_of is
 
 pub enter_plain : (o : Opening) (s : State) (e : Entry) (t : State) → enter o s e ≡ Some t → run_from o.image (plain_of s) (erase_one e) ≡ Some (plain_of t)
@@ -290,7 +294,7 @@ map-append f (x ∷ xs) ys = ap (λ t. f x ∷ t) (map-append f xs ys)
 start_harts : (p : Program) (harts n : ℕ) → machine.first_harts p harts n ≡ map plain_hart (first_harts p harts n)
 start_harts p harts zero = refl
 start_harts p harts (suc n) =
-    let x : Hart = record { regs = first_registers p.entry harts n; mode = mode.Stopped; fresh = false; asked = false } in
+    let x : Hart = record { regs = first_registers p.entry harts n; mode = mode.Stopped; fresh = false; asked = false; plan = plans.Free; last = None } in
     ap (λ t. t ++ plain_hart x ∷ []) (start_harts p harts n) ∙ sym (map-append plain_hart (first_harts p harts n) (x ∷ []))
 
 starts_plain : (o : Opening) → plain_start o.image o.settings.harts ≡ plain_of (first_state o)

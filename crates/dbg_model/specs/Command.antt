@@ -17,6 +17,7 @@ use Rattle.dbg_model.specs.Threads.{go_on, interrupt, thread_info, thread_list, 
 use Rattle.dbg_model.specs.Breakpoints.{after, change_condition, delete, enable, insert, known_thread, list}
 use Rattle.dbg_model.specs.Data.{evaluate, read_memory, register_values}
 use Rattle.dbg_model.specs.Frames.{frame_depth, frame_info, frame_list}
+use Rattle.dbg_model.specs.Steps.{finish_step, line_step, one_step, step}
 
 -- the value of a setting; the mode is always non-stop, and commands are always done while harts run
 abbrev pub setting_value : Displaced → Setting → Displaced
@@ -34,6 +35,11 @@ reply s (command.BreakAfter n count) = after s n count
 reply s command.BreakList = list s
 reply s (command.Continue target) = go_on s target
 reply s (command.Interrupt target) = interrupt s target
+reply s (command.Step thread) = step (line_step true) s thread
+reply s (command.Next thread) = step (line_step false) s thread
+reply s (command.StepInstruction thread) = step (one_step false) s thread
+reply s (command.NextInstruction thread) = step (one_step true) s thread
+reply s (command.Finish thread) = step finish_step s thread
 reply s command.Wait = Ok (doing stays)
 reply s (command.ThreadInfo thread) = thread_info s thread
 reply s (command.ThreadSelect thread) = thread_select s thread
@@ -50,7 +56,6 @@ reply s command.SetMiAsync = Ok (doing stays)
 reply s (command.SetDisplaced value) = Ok (doing (displaces value))
 reply s (command.Show setting) = Ok (showing (content.Setting (setting_value s.displaced setting)))
 reply s command.Exit = Ok (record { content = content.Exit; change = exits })
-reply s _ = Err refused.NotBuilt
 
 -- a line that has parts is a command, or has a fault; an unknown thread comes before a bad location
 unfoldable pub asked_reply : Sight → Result Command Fault → Result Outcome Refused

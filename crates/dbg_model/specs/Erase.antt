@@ -1,6 +1,6 @@
 -- A journal without the debugger's entries.
 use Rattle.std.specs.Prelude.{ℕ, ◌+◌, List, [], ◌∷◌, ◌++◌, replicate, if◌then◌else◌, ◌==◌}
-use Rattle.plain_machine.specs.PlainRun.{Item, Step}
+use Rattle.plain_machine.specs.PlainRun.{Item, Step, Reg, Bytes}
 use Rattle.dbg_model.specs.declared.entry.Entry.{Entry}
 use Rattle.dbg_model.specs.declared.entry.Entry.TheVariants.{Ran, Counted, Stopped, Left, Did}
 
@@ -18,6 +18,8 @@ erase (e ∷ es) = erase_one e ++ erase es
 
 abbrev pub is_step : ℕ → Item → ℕ
 is_step k (Step h) = if h == k then 1 else 0
+is_step k (Reg h n v) = 0
+is_step k (Bytes a bytes) = 0
 
 -- how many steps of a hart there are
 abbrev pub steps_of : ℕ → List Item → ℕ

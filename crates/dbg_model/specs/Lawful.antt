@@ -9,14 +9,18 @@ use Rattle.plain_machine.specs.Plain.{plain}
 use Rattle.dbg_model.specs.declared.entry.Mode.{Mode}
 use Rattle.dbg_model.specs.declared.entry.Mode.TheVariants as mode
 use Rattle.dbg_model.specs.declared.entry.Why.{Why}
-use Rattle.dbg_model.specs.declared.entry.Why.TheVariants.{Break, Interrupted, Fault}
+use Rattle.dbg_model.specs.declared.entry.Why.TheVariants.{Break, Stepped, Finished, Interrupted, Fault}
 use Rattle.dbg_model.specs.declared.entry.Entry.{Entry}
 use Rattle.dbg_model.specs.declared.entry.Entry.TheVariants.{Ran, Counted, Stopped, Left, Did}
+use Rattle.step_plans.specs.declared.plan.Plan.TheVariants as plans
+use Rattle.dbg_model.specs.declared.hart.Hart.{Hart}
+use Rattle.dbg_model.specs.declared.judgement.Judgement.{Judgement}
 use Rattle.dbg_model.specs.declared.opening.Opening.{Opening}
 use Rattle.dbg_model.specs.Limits.{history}
 use Rattle.dbg_model.specs.Breaks.{is_stop}
+use Rattle.dbg_model.specs.Judging.{ends_function, ends_step, is_counted, is_due, noted_with, plan_after}
 use Rattle.break_table.specs.Table.{stands}
-use Rattle.dbg_model.specs.State.{Hart, State, is_running, has_exited, is_off, any_runs, any_leaves, due, is_due, is_counted, arrived}
+use Rattle.dbg_model.specs.State.{State, is_running, has_exited, is_off, any_runs, any_leaves, due, arrived}
 use Rattle.dbg_model.specs.Reply.{done_by, is_wait}
 
 -- no exit is still to be reported, neither the budget nor the history is used up, and no `-gdb-exit` was done
@@ -31,16 +35,20 @@ may_do o s line = may_go o s && not (any_runs s.harts && is_wait line)
 abbrev pub may_move : Opening → State → Hart → Bool
 may_move o s x = may_go o s && is_running x.mode
 
--- a hart may execute: no breakpoint stops or counts it first
+-- a hart may execute: nothing is due first
 abbrev pub may_run : Opening → State → ℕ → Hart → Bool
 may_run o s h x = may_move o s x && not (is_due (due o.image s h x))
 
+-- a hart goes on with the plan that its arrival gave it
+abbrev pub set_out : Judgement → Hart → Hart
+set_out j x = record x { plan = plan_after j.verdict }
+
 abbrev pub stepped : Hart → Registers → Hart
-stepped x r = record { regs = r; mode = x.mode; fresh = true; asked = x.asked }
+stepped x r = record x { regs = r; fresh = true; last = noted_with x.plan x.regs.pc }
 
 -- a live hart leaves
 abbrev pub leaving : ℕ → Hart → Hart
-leaving code x = if has_exited x.mode then x else record { regs = x.regs; mode = mode.Leaving code; fresh = x.fresh; asked = x.asked }
+leaving code x = if has_exited x.mode then x else record x { mode = mode.Leaving code }
 
 abbrev pub leaving_at : ℕ → List Hart → ℕ → Option Hart → List Hart
 leaving_at code xs h None = xs
@@ -76,7 +84,7 @@ stepped_by (Goes r m out leave) s h x = Some (with_step s h x r m out leave)
 
 abbrev pub one_by : Opening → State → ℕ → Option Hart → Option State
 one_by o s h None = None
-one_by o s h (Some x) = if may_run o s h x then stepped_by (plain o.image x.regs s.memory) s h x else None
+one_by o s h (Some x) = if may_run o s h x then stepped_by (plain o.image x.regs s.memory) s h (set_out (due o.image s h x) x) else None
 
 -- one instruction of a hart
 unfoldable pub one : Opening → ℕ → State → Option State
@@ -88,7 +96,7 @@ ran o h s zero = Some s
 ran o h s (suc n) = option_and_then (one o h) (ran o h s n)
 
 abbrev pub stopped : Hart → Hart
-stopped x = record { regs = x.regs; mode = mode.Stopped; fresh = false; asked = false }
+stopped x = record x { mode = mode.Stopped; fresh = false; asked = false; plan = plans.Free; last = None }
 
 abbrev pub with_stop : State → ℕ → Hart → State
 with_stop s h x = record s { harts = slice_set s.harts h (stopped x); noted = s.noted + 1 }
@@ -98,20 +106,27 @@ abbrev pub faulted_by : Answer → Cause → State → ℕ → Hart → Option S
 faulted_by (Traps met) cause s h x = if cause_number met == cause_number cause then Some (with_stop s h x) else None
 faulted_by (Goes r m out leave) cause s h x = None
 
--- a hart stops: at a breakpoint that it has just come to, by an interrupt that was asked, or by a trap
+-- a hart stops where it has arrived, with the changes of the breakpoints there
+abbrev pub with_arrival : Opening → State → ℕ → Hart → State
+with_arrival o s h x = record (with_stop s h x) { breaks = arrived o.image s h x }
+
+-- a hart stops: at a breakpoint that it has just come to, at the end of its step or of its function, by an interrupt that
+-- was asked, or by a trap
 abbrev pub stopped_by : Opening → State → ℕ → Why → Option Hart → Option State
 stopped_by o s h why None = None
 stopped_by o s h (Break number error) (Some x) =
-    if may_move o s x && is_stop (due o.image s h x) number error then Some (record (with_stop s h x) { breaks = arrived o.image s h x }) else None
+    if may_move o s x && is_stop (due o.image s h x).breaks number error then Some (with_arrival o s h x) else None
+stopped_by o s h Stepped (Some x) = if may_move o s x && ends_step (due o.image s h x) then Some (with_arrival o s h x) else None
+stopped_by o s h Finished (Some x) = if may_move o s x && ends_function (due o.image s h x) then Some (with_arrival o s h x) else None
 stopped_by o s h Interrupted (Some x) = if may_run o s h x && x.asked then Some (with_stop s h x) else None
 stopped_by o s h (Fault cause) (Some x) = if may_run o s h x then faulted_by (plain o.image x.regs s.memory) cause s h x else None
 
 -- a hart that was counted has arrived, and isn't fresh any more
 abbrev pub counted : Hart → Hart
-counted x = record { regs = x.regs; mode = x.mode; fresh = false; asked = x.asked }
+counted x = record x { fresh = false }
 
 abbrev pub with_count : Opening → State → ℕ → Hart → State
-with_count o s h x = record s { harts = slice_set s.harts h (counted x); breaks = arrived o.image s h x; noted = s.noted + 1 }
+with_count o s h x = record s { harts = slice_set s.harts h (counted (set_out (due o.image s h x) x)); breaks = arrived o.image s h x; noted = s.noted + 1 }
 
 -- a hart is only counted by the breakpoints that it has just come to
 abbrev pub counted_by : Opening → State → ℕ → Option Hart → Option State
@@ -130,7 +145,7 @@ leaver_from k [] = None
 leaver_from k (x ∷ xs) = leaver_or k x.mode (leaver_from (k + 1) xs)
 
 abbrev pub exited : Hart → Hart
-exited x = record { regs = x.regs; mode = mode.Exited; fresh = x.fresh; asked = x.asked }
+exited x = record x { mode = mode.Exited }
 
 abbrev pub exited_at : List Hart → ℕ → Option Hart → List Hart
 exited_at xs h None = xs

@@ -1,6 +1,7 @@
 pub mod Limits
 pub mod Breaks
 pub mod Views
+pub mod Judging
 pub mod State
 pub mod Places
 pub mod Sight
@@ -9,6 +10,7 @@ pub mod Threads
 pub mod Breakpoints
 pub mod Data
 pub mod Frames
+pub mod Steps
 pub mod Command
 pub mod Refusals
 pub mod Reply

@@ -2,6 +2,7 @@
 use Rattle.std.specs.Prelude.{ℕ, Bool, List, Option, Result, Ok, Err}
 use Rattle.break_table.specs.Entry.{Asked, Condition}
 use Rattle.mi_commands.specs.declared.command.Displaced.{Displaced}
+use Rattle.step_plans.specs.declared.plan.Plan.{Plan}
 use Rattle.dbg_model.specs.declared.reply.Content.{Content}
 use Rattle.dbg_model.specs.declared.reply.Content.TheVariants as content
 use Rattle.dbg_model.specs.declared.reply.Refused.{Refused}
@@ -9,8 +10,8 @@ use Rattle.dbg_model.specs.declared.reply.Refused.{Refused}
 -- what a line changes
 pub data Change : Type 0 where
   stays : Change
-  -- these threads go on
-  resumes : List ℕ → Change
+  -- these threads go on with a plan
+  resumes : List ℕ → Plan → Change
   selects : ℕ → Change
   -- a breakpoint is set
   inserts : Asked → Change
@@ -42,9 +43,9 @@ showing c = record { content = c; change = stays }
 abbrev pub doing : Change → Outcome
 doing c = record { content = content.Done; change = c }
 
--- these threads go on
-abbrev pub going : List ℕ → Outcome
-going threads = record { content = content.Running threads; change = resumes threads }
+-- these threads go on with a plan
+abbrev pub going : List ℕ → Plan → Outcome
+going threads plan = record { content = content.Running threads; change = resumes threads plan }
 
 abbrev pub and_then : {A B E : Type 0} → Result A E → (A → Result B E) → Result B E
 and_then (Ok x) next = next x

@@ -14,12 +14,13 @@ use Rattle.mi_commands.specs.declared.refusal.Fault.TheVariants as fault
 use Rattle.mi_commands.specs.Faults.{fault_number}
 use Rattle.break_table.specs.Entry.{Condition}
 use Rattle.break_table.specs.Table.{has_number}
+use Rattle.step_plans.specs.declared.plan.Plan.{Plan}
 use Rattle.dbg_model.specs.declared.thread_view.ThreadView.{ThreadView}
 use Rattle.dbg_model.specs.declared.thread_view.ThreadView.TheVariants as view
 use Rattle.dbg_model.specs.declared.reply.Content.{Content}
 use Rattle.dbg_model.specs.declared.reply.Content.TheVariants as content
 use Rattle.dbg_model.specs.declared.reply.Obstacle.{Obstacle}
-use Rattle.dbg_model.specs.declared.reply.Obstacle.TheVariants.{UnknownThread, HasExited, IsRunning, NotRunning, NoBreakpoint, NoInstruction, TooManyBreakpoints, Expression, DivisionByZero, Unreadable}
+use Rattle.dbg_model.specs.declared.reply.Obstacle.TheVariants.{UnknownThread, HasExited, IsRunning, NotRunning, NoBreakpoint, NoInstruction, TooManyBreakpoints, Expression, DivisionByZero, Unreadable, NoLine, NoCaller}
 use Rattle.dbg_model.specs.declared.reply.Refused.{Refused}
 use Rattle.dbg_model.specs.declared.reply.Refused.TheVariants as refused
 use Rattle.dbg_model.specs.Limits.{breakpoints}
@@ -27,6 +28,7 @@ use Rattle.dbg_model.specs.Views.{shown_byte}
 use Rattle.dbg_model.specs.Sight.{Sight, thread_at, stopped, thread_or}
 use Rattle.dbg_model.specs.Breakpoints.{condition, expression, place}
 use Rattle.dbg_model.specs.Data.{address_at, worth_of}
+use Rattle.dbg_model.specs.Steps.{finish_step, line_step, one_step}
 
 -- ---- numbers
 
@@ -48,10 +50,11 @@ obstacle_number TooManyBreakpoints = 17
 obstacle_number (Expression f) = kind_number f.kind
 obstacle_number DivisionByZero = 23
 obstacle_number (Unreadable addr) = 24
+obstacle_number (NoLine addr) = 25
+obstacle_number NoCaller = 26
 
 -- the number of an error, by which it is chosen of several
 abbrev pub number : Refused → ℕ
-number refused.NotBuilt = 0
 number refused.Long = 1
 number refused.Syntax = 2
 number refused.Cli = 3
@@ -144,6 +147,15 @@ against_evaluate s thread text =
     ++ (failed (expression s.sources.names text)
     ++ no_value s (stopped s thread) (expression s.sources.names text))
 
+-- against the plan of a step, which there is only of a stopped thread
+abbrev pub no_plan : (Registers → Result Plan Refused) → Result Registers Refused → List Refused
+no_plan plan_of (Ok r) = failed (plan_of r)
+no_plan plan_of (Err x) = []
+
+abbrev pub against_step : (Sight → Registers → Result Plan Refused) → Sight → Option ℕ → List Refused
+against_step plan_of s thread =
+    against_stopped s (thread_or s.selected thread) ++ no_plan (plan_of s) (stopped s (thread_or s.selected thread))
+
 unfoldable pub against : Sight → Command → List Refused
 against s (command.BreakInsert i) = against_insert s i
 against s (command.BreakDelete ns) = absent s ns
@@ -161,11 +173,11 @@ against s (command.FrameDepth thread) = against_stopped s (thread_or s.selected 
 against s (command.FrameInfo thread) = against_stopped s (thread_or s.selected thread)
 against s (command.ReadMemory addr count) = unreadable s addr count
 against s (command.Evaluate thread text) = against_evaluate s (thread_or s.selected thread) text
-against s (command.Step thread) = refused.NotBuilt ∷ []
-against s (command.Next thread) = refused.NotBuilt ∷ []
-against s (command.StepInstruction thread) = refused.NotBuilt ∷ []
-against s (command.NextInstruction thread) = refused.NotBuilt ∷ []
-against s (command.Finish thread) = refused.NotBuilt ∷ []
+against s (command.Step thread) = against_step (line_step true) s thread
+against s (command.Next thread) = against_step (line_step false) s thread
+against s (command.StepInstruction thread) = against_step (one_step false) s thread
+against s (command.NextInstruction thread) = against_step (one_step true) s thread
+against s (command.Finish thread) = against_step finish_step s thread
 against s _ = []
 
 -- against a line that has parts; of a bad location only an unknown thread has a lesser number

@@ -1,5 +1,6 @@
 -- What a line of input is answered, and the state that it leaves (GDB manual, "GDB/MI Input Syntax").
-use Rattle.std.specs.Prelude.{ℕ, zero, suc, ◌+◌, Bool, true, false, List, [], ◌∷◌, ◌++◌, length, map, Option, Some, None, Result, Ok, Err, if◌then◌else◌, nat_lt, slice_get, slice_set}
+use Rattle.std.specs.Prelude.{ℕ, ◌+◌, ◌==◌, Bool, true, false, List, [], ◌∷◌, ◌++◌, length, map, Option, Some, None, Result, Ok, Err, if◌then◌else◌, nat_lt}
+use Rattle.std.specs.List.{list_any}
 use Rattle.break_table.specs.Entry.{Entry, new_entry}
 use Rattle.break_table.specs.Table.{changed_entry, with_condition, with_ignore}
 use Rattle.mi_input.specs.Parts.{PartsView, is_cli, after_blanks, token_of}
@@ -14,12 +15,14 @@ use Rattle.dbg_model.specs.declared.reply.Refused.TheVariants as refused
 use Rattle.dbg_model.specs.declared.reply.Reply.{Reply}
 use Rattle.dbg_model.specs.declared.entry.Mode.{Mode}
 use Rattle.dbg_model.specs.declared.entry.Mode.TheVariants as mode
+use Rattle.step_plans.specs.declared.plan.Plan.{Plan}
+use Rattle.dbg_model.specs.declared.hart.Hart.{Hart}
 use Rattle.dbg_model.specs.declared.opening.Opening.{Opening}
 use Rattle.dbg_model.specs.Breaks.{without, enabling}
 use Rattle.dbg_model.specs.Sight.{Sight, sight_of}
 use Rattle.dbg_model.specs.Outcome.{Change, Outcome, conditions, deletes, displaces, enables, exits, ignores, inserts, interrupts, resumes, selects, told}
 use Rattle.dbg_model.specs.Command.{asked_reply}
-use Rattle.dbg_model.specs.State.{Hart, State, is_off}
+use Rattle.dbg_model.specs.State.{State, is_off}
 
 -- what is answered to a line with its token, and what it changes
 pub record Answer : Type 0 where
@@ -62,52 +65,36 @@ is_wait line = if nat_lt 4096 (length line) then false else parts_wait (parts_re
 
 -- ---- the state after a line
 
--- a stopped hart goes on
-abbrev pub resumed_by : Hart → Mode → Hart
-resumed_by x mode.Stopped = record x { mode = mode.Running; fresh = false; asked = false }
-resumed_by x _ = x
+-- a stopped hart goes on with a plan
+abbrev pub resumed_by : Plan → Hart → Mode → Hart
+resumed_by plan x mode.Stopped = record x { mode = mode.Running; fresh = false; asked = false; plan = plan }
+resumed_by plan x _ = x
 
-abbrev pub resumed : Hart → Hart
-resumed x = resumed_by x x.mode
-
-abbrev pub resumed_at : List Hart → ℕ → Option Hart → List Hart
-resumed_at xs h None = xs
-resumed_at xs h (Some x) = slice_set xs h (resumed x)
-
-abbrev pub resumed_thread : List Hart → ℕ → List Hart
-resumed_thread xs zero = xs
-resumed_thread xs (suc h) = resumed_at xs h (slice_get xs h)
-
--- the harts, of which these threads go on where they are stopped
-abbrev pub resumed_threads : List Hart → List ℕ → List Hart
-resumed_threads xs [] = xs
-resumed_threads xs (t ∷ ts) = resumed_threads (resumed_thread xs t) ts
+abbrev pub resumed : Plan → Hart → Hart
+resumed plan x = resumed_by plan x x.mode
 
 -- an interrupt is asked of a hart that runs
 abbrev pub asked_by : Hart → Mode → Hart
-asked_by x mode.Running = record x { mode = mode.Running; asked = true }
+asked_by x mode.Running = record x { asked = true }
 asked_by x _ = x
 
 abbrev pub asked : Hart → Hart
 asked x = asked_by x x.mode
 
-abbrev pub ask_at : List Hart → ℕ → Option Hart → List Hart
-ask_at xs h None = xs
-ask_at xs h (Some x) = slice_set xs h (asked x)
+-- whether a thread is one of these
+abbrev pub is_named : List ℕ → ℕ → Bool
+is_named threads thread = list_any (λ t. t == thread) threads
 
-abbrev pub ask_thread : List Hart → ℕ → List Hart
-ask_thread xs zero = xs
-ask_thread xs (suc h) = ask_at xs h (slice_get xs h)
+-- those of these threads become what f makes of them; the first of the list is the thread of this number
+abbrev pub on_threads : {A : Type 0} → (A → A) → List ℕ → ℕ → List A → List A
+on_threads f threads n [] = []
+on_threads f threads n (x ∷ xs) = (if is_named threads n then f x else x) ∷ on_threads f threads (n + 1) xs
 
--- the harts, of which an interrupt is asked of these threads where they run
-abbrev pub ask_threads : List Hart → List ℕ → List Hart
-ask_threads xs [] = xs
-ask_threads xs (t ∷ ts) = ask_threads (ask_thread xs t) ts
-
--- of which threads a change asks an interrupt
-abbrev pub asking : Change → List ℕ
-asking (interrupts threads) = threads
-asking _ = []
+-- the harts after a change: some go on, or an interrupt is asked of some
+abbrev pub harts_after : List Hart → Change → List Hart
+harts_after xs (resumes threads plan) = on_threads (resumed plan) threads 1 xs
+harts_after xs (interrupts threads) = on_threads asked threads 1 xs
+harts_after xs _ = xs
 
 -- the setting after a change
 abbrev pub displaced_after : Displaced → Change → Displaced
@@ -121,11 +108,6 @@ sets_by sets value = if is_off value then sets else sets + 1
 abbrev pub sets_after : ℕ → Change → ℕ
 sets_after sets (displaces value) = sets_by sets value
 sets_after sets _ = sets
-
--- which threads a change lets go on
-abbrev pub going_on : Change → List ℕ
-going_on (resumes threads) = threads
-going_on _ = []
 
 -- which thread is selected after a change
 abbrev pub selected_after : ℕ → Change → ℕ
@@ -154,7 +136,7 @@ exited_after exited _ = exited
 -- the state after a line that makes this change
 abbrev pub changed_by : State → Change → State
 changed_by s c = record s {
-  harts = ask_threads (resumed_threads s.harts (going_on c)) (asking c);
+  harts = harts_after s.harts c;
   breaks = breaks_after s.breaks s.given c;
   given = given_after s.given c;
   selected = selected_after s.selected c;

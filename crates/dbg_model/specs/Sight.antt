@@ -16,7 +16,8 @@ use Rattle.dbg_model.specs.declared.reply.Refused.{Refused}
 use Rattle.dbg_model.specs.declared.reply.Refused.TheVariants.{Hindered}
 use Rattle.dbg_model.specs.declared.reply.Thread.{Thread}
 use Rattle.dbg_model.specs.Places.{own_frame}
-use Rattle.dbg_model.specs.State.{Hart, State}
+use Rattle.dbg_model.specs.declared.hart.Hart.{Hart}
+use Rattle.dbg_model.specs.State.{State}
 
 pub record Sight : Type 0 where
   pub image : Program

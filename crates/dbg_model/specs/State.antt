@@ -1,29 +1,24 @@
 -- The state of a session, as its journal makes it.
-use Rattle.std.specs.Prelude.{ℕ, zero, suc, Bool, true, false, not, ◌&&◌, ◌||◌, List, [], ◌∷◌, ◌++◌, replicate, is_some, if◌then◌else◌}
+use Rattle.std.specs.Prelude.{ℕ, zero, suc, Bool, true, false, List, [], ◌∷◌, ◌++◌, replicate, None}
 use Rattle.std.specs.List.{list_any, list_all}
-use Rattle.rv_exec.specs.Registers.{Registers}
 use Rattle.rv_exec.specs.Memory.{Memory}
 use Rattle.elf32_read.specs.Program.{Program}
 use Rattle.data_memory.specs.Start.{start_memory}
 use Rattle.plain_machine.specs.Plain.{first_registers}
 use Rattle.break_table.specs.Entry.{Entry}
-use Rattle.break_table.specs.Arrival.{due_of, settled}
-use Rattle.break_table.specs.declared.due.Due.{Due}
+use Rattle.break_table.specs.Arrival.{settled}
 use Rattle.mi_commands.specs.declared.command.Displaced.{Displaced}
 use Rattle.mi_commands.specs.declared.command.Displaced.TheVariants as displaced
+use Rattle.source_index.specs.Sources.{sources_of}
+use Rattle.step_plans.specs.declared.plan.Plan.TheVariants as plans
 use Rattle.dbg_model.specs.declared.entry.Mode.{Mode}
 use Rattle.dbg_model.specs.declared.entry.Mode.TheVariants as mode
+use Rattle.dbg_model.specs.declared.hart.Hart.{Hart}
+use Rattle.dbg_model.specs.declared.judgement.Course.{Course}
+use Rattle.dbg_model.specs.declared.judgement.Judgement.{Judgement}
 use Rattle.dbg_model.specs.declared.opening.Opening.{Opening}
-use Rattle.dbg_model.specs.Breaks.{nothing_due}
+use Rattle.dbg_model.specs.Judging.{judgement_of}
 use Rattle.dbg_model.specs.Views.{register, shown_byte}
-
-pub record Hart : Type 0 where
-  pub regs : Registers
-  pub mode : Mode
-  -- an instruction of its own has just ended
-  pub fresh : Bool
-  -- an interrupt is asked of it
-  pub asked : Bool
 
 pub record State : Type 0 where
   pub harts : List Hart
@@ -93,16 +88,12 @@ is_off displaced.Auto = false
 abbrev pub all_gone : List Hart → Bool
 all_gone xs = list_all hart_gone xs
 
--- what the breakpoints do with a hart that has just arrived; elsewhere nothing
-unfoldable pub due : Program → State → ℕ → Hart → Due
-due p s h x = if x.fresh then due_of h (register x.regs) (shown_byte p s.memory) s.breaks else nothing_due
+abbrev pub course_of : Hart → Course
+course_of x = record { fresh = x.fresh; plan = x.plan; last = x.last }
 
--- only counted: nothing stops the hart
-abbrev pub is_counted : Due → Bool
-is_counted d = not (is_some d.stop) && d.counts
-
-abbrev pub is_due : Due → Bool
-is_due d = is_some d.stop || d.counts
+-- what is judged of a hart
+unfoldable pub due : Program → State → ℕ → Hart → Judgement
+due p s h x = judgement_of p (sources_of p) s.breaks h (course_of x) (register x.regs) (shown_byte p s.memory)
 
 -- the breakpoints after a due arrival of a hart
 unfoldable pub arrived : Program → State → ℕ → Hart → List Entry
@@ -111,7 +102,7 @@ arrived p s h x = settled h (register x.regs) (shown_byte p s.memory) s.breaks
 -- the first n of so many harts, as a session begins with them
 abbrev pub first_harts : Program → ℕ → ℕ → List Hart
 first_harts p harts zero = []
-first_harts p harts (suc n) = first_harts p harts n ++ record { regs = first_registers p.entry harts n; mode = mode.Stopped; fresh = false; asked = false } ∷ []
+first_harts p harts (suc n) = first_harts p harts n ++ record { regs = first_registers p.entry harts n; mode = mode.Stopped; fresh = false; asked = false; plan = plans.Free; last = None } ∷ []
 
 -- where a session begins
 abbrev pub first_state : Opening → State

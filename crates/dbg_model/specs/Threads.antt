@@ -2,6 +2,7 @@
 use Rattle.std.specs.Prelude.{ℕ, List, [], ◌∷◌, Option, Some, None, Result, Ok}
 use Rattle.mi_commands.specs.declared.command.Target.{Target}
 use Rattle.mi_commands.specs.declared.command.Target.TheVariants as target
+use Rattle.step_plans.specs.declared.plan.Plan.TheVariants as plans
 use Rattle.dbg_model.specs.declared.reply.Content.TheVariants as content
 use Rattle.dbg_model.specs.declared.reply.Refused.{Refused}
 use Rattle.dbg_model.specs.declared.reply.Thread.{Thread}
@@ -23,13 +24,13 @@ abbrev pub thread_list : Sight → Result Outcome Refused
 thread_list s = Ok (showing (content.ThreadNumbers (each live_number 1 s.threads) s.selected))
 
 abbrev pub continue_one : Sight → ℕ → Result Outcome Refused
-continue_one s thread = and_then (stopped s thread) (λ r. Ok (going (thread ∷ [])))
+continue_one s thread = and_then (stopped s thread) (λ r. Ok (going (thread ∷ []) plans.Free))
 
 -- a thread that goes on has to be stopped; of all those that are stopped it may be none
 abbrev pub go_on : Sight → Target → Result Outcome Refused
 go_on s target.Selected = continue_one s s.selected
 go_on s (target.Thread thread) = continue_one s thread
-go_on s target.All = Ok (going (each stopped_thread 1 s.threads))
+go_on s target.All = Ok (going (each stopped_thread 1 s.threads) plans.Free)
 
 abbrev pub interrupt_one : Sight → ℕ → Result Outcome Refused
 interrupt_one s thread = and_then (running s thread) (λ u. Ok (doing (interrupts (thread ∷ []))))

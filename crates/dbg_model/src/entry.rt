@@ -23,6 +23,10 @@ pub enum Why {
         number: u32,
         error: Option<CondError>,
     },
+    /// Its step came to its end.
+    Stepped,
+    /// The function that it was to finish has returned.
+    Finished,
     /// An interrupt was asked of it.
     Interrupted,
     /// Its instruction trapped.

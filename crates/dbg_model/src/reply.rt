@@ -31,6 +31,10 @@ pub enum Obstacle {
     DivisionByZero,
     /// The byte at this address can't be read.
     Unreadable(u32),
+    /// No line of the source is known at this address.
+    NoLine(u32),
+    /// No frame is known that called the thread's own.
+    NoCaller,
 }
 
 /// Why a line is refused. A refused line changes nothing.
@@ -48,8 +52,6 @@ pub enum Refused {
     Hindered(Obstacle),
     /// There is no symbol of this name.
     UnknownName(ByteList),
-    /// The command isn't built yet.
-    NotBuilt,
     /// No line of the file has a statement at this line or behind it.
     UnknownLine { file: ByteList, line: u32 },
 }
@@ -68,7 +70,7 @@ fn kind_number(kind: FaultKind) -> u32
 }
 
 impl Obstacle {
-    /// The number of the error's message: 8 to 12 or 16 to 24.
+    /// The number of the error's message: 8 to 12 or 16 to 26.
     pub fn number(self) -> u32
         ensures { result ≡ obstacle_number self }
     {
@@ -83,17 +85,18 @@ impl Obstacle {
             Obstacle::Expression(fault) => kind_number(fault.kind),
             Obstacle::DivisionByZero => 23,
             Obstacle::Unreadable(_) => 24,
+            Obstacle::NoLine(_) => 25,
+            Obstacle::NoCaller => 26,
         }
     }
 }
 
 impl Refused {
-    /// The number of the error's message, 0 to 24; of several errors the one with the least is answered.
+    /// The number of the error's message, 1 to 26; of several errors the one with the least is answered.
     pub fn number(&self) -> u32
         ensures { result ≡ number self.now }
     {
         match self {
-            Refused::NotBuilt => 0,
             Refused::Long => 1,
             Refused::Syntax => 2,
             Refused::Cli => 3,

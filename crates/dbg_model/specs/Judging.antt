@@ -1,0 +1,86 @@
+-- What is judged where a hart has just arrived: what its breakpoints do with it (GDB manual, "Breakpoints, Watchpoints, and
+-- Catchpoints"), and whether its step is at its end (GDB manual, "Continuing and Stepping").
+use Rattle.std.specs.Prelude.{ℕ, Bool, true, false, not, ◌&&◌, ◌||◌, List, Option, Some, None, option_and_then, is_some, if◌then◌else◌}
+use Rattle.std.specs.Option.{option_map}
+use Rattle.rv_decode.specs.Decode.{decode}
+use Rattle.rv_decode.specs.declared.instr.Instr.{Instr}
+use Rattle.elf32_read.specs.Program.{Program, text_word}
+use Rattle.source_index.specs.Sources.{Sources}
+use Rattle.break_table.specs.Arrival.{due_of}
+use Rattle.break_table.specs.Entry.{Entry}
+use Rattle.step_plans.specs.declared.plan.Last.{Last}
+use Rattle.step_plans.specs.declared.plan.Plan.{Plan}
+use Rattle.step_plans.specs.declared.plan.Plan.TheVariants as plans
+use Rattle.step_plans.specs.declared.plan.Verdict.{Verdict}
+use Rattle.step_plans.specs.declared.plan.Verdict.TheVariants as verdicts
+use Rattle.step_plans.specs.Verdicts.{asks, verdict}
+use Rattle.dbg_model.specs.declared.judgement.Course.{Course}
+use Rattle.dbg_model.specs.declared.judgement.Judgement.{Judgement}
+use Rattle.dbg_model.specs.Breaks.{nothing_due}
+
+-- ---- the plan of a step
+
+-- the instruction at an address of text
+abbrev pub instruction_at : Program → ℕ → Option Instr
+instruction_at p addr = option_and_then decode (text_word p addr)
+
+-- the instruction at an address, as it is noted
+abbrev pub last_at : Program → ℕ → Option Last
+last_at p addr = option_map (λ i. record { instruction = i; address = addr }) (instruction_at p addr)
+
+-- what becomes of a plan behind the instruction that was noted, with the registers as they are now
+unfoldable pub verdict_behind : Program → Sources → Plan → (ℕ → ℕ) → Option ℕ → Verdict
+verdict_behind p sources plan registers noted = verdict plan (option_and_then (last_at p) noted) registers sources.lines sources.names
+
+-- the address of an instruction, which is noted where the plan asks for it
+abbrev pub noted_with : Plan → ℕ → Option ℕ
+noted_with plan pc = if asks plan then Some pc else None
+
+-- ---- the judgement
+
+-- of a hart that hasn't just arrived
+abbrev pub no_arrival : Plan → Judgement
+no_arrival plan = record { breaks = nothing_due; verdict = verdicts.Go plan }
+
+-- what the breakpoints and the plan make of a hart that has just arrived, and sees these registers and bytes; elsewhere
+-- nothing is due
+unfoldable pub judgement_of : Program → Sources → List Entry → ℕ → Course → (ℕ → ℕ) → (ℕ → Option ℕ) → Judgement
+judgement_of p sources entries h c registers bytes =
+    if c.fresh then record {
+      breaks = due_of h registers bytes entries;
+      verdict = verdict_behind p sources c.plan registers c.last;
+    } else no_arrival c.plan
+
+abbrev pub is_end : Verdict → Bool
+is_end (verdicts.Go plan) = false
+is_end verdicts.Stepped = true
+is_end verdicts.Finished = true
+
+-- the plan with which a hart goes on
+abbrev pub plan_after : Verdict → Plan
+plan_after (verdicts.Go plan) = plan
+plan_after _ = plans.Free
+
+-- a breakpoint stops or counts the hart, or its plan is at its end
+abbrev pub is_due : Judgement → Bool
+is_due j = is_some j.breaks.stop || (j.breaks.counts || is_end j.verdict)
+
+-- no breakpoint stops it and its plan isn't at its end, but a breakpoint counts it
+abbrev pub is_counted : Judgement → Bool
+is_counted j = not (is_some j.breaks.stop) && (not (is_end j.verdict) && j.breaks.counts)
+
+abbrev pub is_stepped : Verdict → Bool
+is_stepped verdicts.Stepped = true
+is_stepped _ = false
+
+abbrev pub is_finished : Verdict → Bool
+is_finished verdicts.Finished = true
+is_finished _ = false
+
+-- no breakpoint stops it, and its step is at its end
+abbrev pub ends_step : Judgement → Bool
+ends_step j = not (is_some j.breaks.stop) && is_stepped j.verdict
+
+-- no breakpoint stops it, and its function has returned
+abbrev pub ends_function : Judgement → Bool
+ends_function j = not (is_some j.breaks.stop) && is_finished j.verdict
