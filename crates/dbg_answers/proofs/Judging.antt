@@ -3,7 +3,11 @@ use Rattle.std.proofs.Common.{◌≡◌, ℕ, zero, suc, ◌≤◌, List, [], �
 use Rattle.std.specs.Prelude.{Bool, true, false, not, Option, Some, None, Result, Ok, Err, is_some, length, nat_lt}
 use Rattle.elf32_read.specs.Program.{text_word}
 use Rattle.elf_symbols.specs.Names.{Names, Symbol, address_of}
+use Rattle.line_rows.specs.declared.row.Row.{Row}
+use Rattle.line_index.specs.Lines.{row_at}
 use Rattle.line_index.specs.Lines as tables
+use Rattle.frame_walk.specs.declared.frame.Caller.{Caller}
+use Rattle.step_plans.specs.declared.plan.Plan.{Plan}
 use Rattle.source_index.specs.Sources.{Sources}
 use Rattle.cond_expr.specs.declared.evaluating.Value.{Value}
 use Rattle.cond_expr.specs.declared.evaluating.Value.TheVariants as worth
@@ -38,8 +42,9 @@ use Rattle.dbg_model.specs.Outcome.{and_then}
 use Rattle.dbg_model.specs.Threads.{go_on, interrupt, thread_info}
 use Rattle.dbg_model.specs.Breakpoints.{condition, expression, expression_as, insert, known, known_thread, named, none_missing, on_line, place, placed, room}
 use Rattle.dbg_model.specs.Data.{address_at, byte_at, bytes_at, evaluate, shown_at, worth_as, worth_of}
+use Rattle.dbg_model.specs.Steps.{caller_at, finish_plan, finish_step, line_plan, line_step, one_step, step}
 use Rattle.dbg_model.specs.Command.{asked_reply, reply}
-use Rattle.dbg_model.specs.Refusals.{Judges, absent, against, against_asked, against_evaluate, against_insert, against_live, against_named, against_running, against_stopped, against_target, failed, has_exited, is_stopped, kind_number, no_text, no_value, runs, unknown, unreadable, when}
+use Rattle.dbg_model.specs.Refusals.{Judges, absent, against, against_asked, against_evaluate, against_insert, against_live, against_named, against_running, against_step, against_stopped, against_target, failed, has_exited, is_stopped, kind_number, no_plan, no_text, no_value, runs, unknown, unreadable, when}
 use Rattle.dbg_answers.proofs.Tests.{From, UpTo, alone, both_from, chain, ensured_judged, ensured_up, failed_judged, first, less_from, none_from, one_from, then_done, up_then, when_from}
 
 -- ---- threads
@@ -197,6 +202,28 @@ bytes_judged s addr (suc n) =
     chain 24 (bytes_at s addr n) _ (unreadable s addr n) here (bytes_up s addr n) (when_from 24 (not (is_some b)) (Unreadable at) (omega arith)) (bytes_judged s addr n) (λ bytes is.
     then_done (shown_at s at) _ here (byte_judged at b))
 
+-- ---- steps
+
+line_from : (into : Bool) (pc : ℕ) (row : Option Row) → From 10 (failed (line_plan into pc row))
+line_from into pc None = one_from 10 _ (omega arith)
+line_from into pc (Some row) = none_from 10
+
+finish_from : (c : Option Caller) → From 10 (failed (finish_plan c))
+finish_from None = one_from 10 _ (omega arith)
+finish_from (Some c) = none_from 10
+
+plan_from : (plan_of : Registers → Result Plan Refused) (a : Result Registers Refused) → ((r : Registers) → From 10 (failed (plan_of r))) → From 10 (no_plan plan_of a)
+plan_from plan_of (Ok r) from = from r
+plan_from plan_of (Err e) from = none_from 10
+
+step_judged : (plan_of : Sight → Registers → Result Plan Refused) (s : Sight) (thread : Option ℕ) → ((r : Registers) → From 10 (failed (plan_of s r))) → Judges (step plan_of s thread) (against_step plan_of s thread)
+step_judged plan_of s thread from =
+    let t = thread_or s.selected thread in
+    let none = no_plan (plan_of s) (stopped s t) in
+    chain 10 (stopped s t) _ (against_stopped s t) none (stopped_up t (thread_at s.threads t)) (plan_from (plan_of s) (stopped s t) from) (stopped_judged s t) (λ r at.
+    let here : none ≡ failed (plan_of s r) = ap (no_plan (plan_of s)) at in
+    rw here (then_done (plan_of s r) _ (failed (plan_of s r)) (failed_judged (plan_of s r))))
+
 -- ---- a new breakpoint
 
 name_by : (sources : Sources) (name : List ℕ) (f : Option Symbol) → UpTo 15 (named sources name f) × From 8 (failed (named sources name f))
@@ -257,11 +284,11 @@ reply_judged s (command.FrameDepth t) = then_done (stopped s (thread_or s.select
 reply_judged s (command.FrameInfo t) = then_done (stopped s (thread_or s.selected t)) _ (against_stopped s (thread_or s.selected t)) (stopped_judged s (thread_or s.selected t))
 reply_judged s (command.ReadMemory addr n) = then_done (bytes_at s addr n) _ (unreadable s addr n) (bytes_judged s addr n)
 reply_judged s (command.Evaluate t text) = evaluate_judged s t text
-reply_judged s (command.Step t) = alone _
-reply_judged s (command.Next t) = alone _
-reply_judged s (command.StepInstruction t) = alone _
-reply_judged s (command.NextInstruction t) = alone _
-reply_judged s (command.Finish t) = alone _
+reply_judged s (command.Step t) = step_judged (line_step true) s t (λ r. line_from true r.pc (row_at s.sources.lines r.pc))
+reply_judged s (command.Next t) = step_judged (line_step false) s t (λ r. line_from false r.pc (row_at s.sources.lines r.pc))
+reply_judged s (command.StepInstruction t) = step_judged (one_step false) s t (λ r. none_from 10)
+reply_judged s (command.NextInstruction t) = step_judged (one_step true) s t (λ r. none_from 10)
+reply_judged s (command.Finish t) = step_judged finish_step s t (λ r. finish_from (caller_at s r))
 reply_judged s _ = refl
 
 pub asked_judged : (s : Sight) (r : Result Command Fault) → Judges (asked_reply s r) (against_asked s r)

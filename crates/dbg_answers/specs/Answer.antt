@@ -14,7 +14,7 @@ use Rattle.dbg_answers.specs.declared.line.LineAnswer.{LineAnswer}
 
 abbrev pub change_of : Effect → Change
 change_of effect.Nothing = stays
-change_of (effect.Resume threads) = resumes threads
+change_of (effect.Resume threads plan) = resumes threads plan
 change_of (effect.Interrupt threads) = interrupts threads
 change_of (effect.Select thread) = selects thread
 change_of (effect.Displace value) = displaces value

@@ -3,4 +3,5 @@ pub mod Live
 pub mod Answer
 pub mod Reading
 pub mod Each
+pub mod Steps
 pub mod Table

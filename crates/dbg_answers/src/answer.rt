@@ -11,13 +11,17 @@ use dbg_model::{Content, Refused};
 use dbg_traits::NoMemory;
 use mi_commands::{Displaced, NumberList};
 use std::alloc::{AllocError, AllocFailed};
+use step_plans::Plan;
 
 /// What a command changes.
 #[derive(Drop)]
 pub enum Effect {
     Nothing,
-    /// These threads go on.
-    Resume(NumberList),
+    /// These threads go on with a plan.
+    Resume {
+        threads: NumberList,
+        plan: Plan,
+    },
     /// An interrupt is asked of these threads.
     Interrupt(NumberList),
     /// This thread is selected.

@@ -14,8 +14,9 @@ use crate::memory::read_memory;
 use crate::registers::register_values;
 use crate::resuming::{go_on, interrupt};
 use crate::settings::{exit, show_setting};
+use crate::stepping::{FINISH, NEXT, NEXT_INSTRUCTION, STEP, STEP_INSTRUCTION, take_step};
 use crate::threads::{thread_info, thread_list, thread_select};
-use dbg_model::{Content, Refused};
+use dbg_model::Content;
 use dbg_traits::NoMemory;
 use mi_commands::Command;
 use std::alloc::Global;
@@ -39,6 +40,11 @@ fn reply(alloc: Global, debuggee: &Debuggee<'_>, command: Command) -> Result<Ans
         Command::BreakList => Ok(list(alloc, debuggee)?),
         Command::Continue(target) => go_on(alloc, debuggee, target),
         Command::Interrupt(target) => interrupt(alloc, debuggee, target),
+        Command::Step { thread } => take_step(alloc, debuggee, thread, STEP),
+        Command::Next { thread } => take_step(alloc, debuggee, thread, NEXT),
+        Command::StepInstruction { thread } => take_step(alloc, debuggee, thread, STEP_INSTRUCTION),
+        Command::NextInstruction { thread } => take_step(alloc, debuggee, thread, NEXT_INSTRUCTION),
+        Command::Finish { thread } => take_step(alloc, debuggee, thread, FINISH),
         Command::ThreadInfo { thread } => thread_info(alloc, debuggee, thread),
         Command::ThreadSelect { thread } => thread_select(debuggee, thread),
         Command::ThreadList => Ok(thread_list(alloc, debuggee)?),
@@ -57,7 +63,6 @@ fn reply(alloc: Global, debuggee: &Debuggee<'_>, command: Command) -> Result<Ans
         Command::SetDisplaced(value) => Ok(doing(Effect::Displace(value))),
         Command::Show(setting) => Ok(show_setting(debuggee, setting)),
         Command::Exit => Ok(exit()),
-        _ => Err(Failure::Refused(Refused::NotBuilt)),
     }
 }
 

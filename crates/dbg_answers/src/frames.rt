@@ -30,10 +30,10 @@ pub fn function_name(
 ) -> Result<Option<ByteList>, AllocError>
     ensures { IfOk result (λ name. name ≡ function_name sources.now address) }
 {
-    match sources.symbols().function_at(address) {
-        None => Ok(None),
-        Some(named) => Ok(Some(bytes_of(alloc, named.name)?)),
-    }
+    let function = sources.symbols().function_at(address);
+    function
+        .map(|named| bytes_of(alloc, named.name))
+        .transpose()
 }
 
 fn line_of_row(alloc: Global, lines: &LineIndex, row: Row) -> Result<SourceLine, AllocError>
@@ -53,10 +53,9 @@ pub fn source_line(
 ) -> Result<Option<SourceLine>, AllocError>
     ensures { IfOk result (λ line. line ≡ source_line sources.now address) }
 {
-    match sources.lines().row_at(address) {
-        None => Ok(None),
-        Some(row) => Ok(Some(line_of_row(alloc, sources.lines(), row)?)),
-    }
+    let row = sources.lines().row_at(address);
+    row.map(|row| line_of_row(alloc, sources.lines(), row))
+        .transpose()
 }
 
 /// A frame at an address, with the function and the line of another one: a frame that called one is looked up before its

@@ -12,9 +12,11 @@ mod frames;
 mod line;
 mod live;
 mod memory;
+mod order;
 mod registers;
 mod resuming;
 mod settings;
+mod stepping;
 mod table;
 mod threads;
 mod view;
@@ -24,6 +26,7 @@ pub use command::answer_command;
 pub use debuggee::Debuggee;
 pub use frames::shown_frame;
 pub use line::{LineAnswer, answer_fault, answer_line, waits};
+pub use order::{Order, is_named};
 pub use table::{
     change_table, delete_entry, enable_entry, insert_entry, set_condition, set_ignore,
 };

@@ -11,6 +11,7 @@ use crate::each::each;
 use dbg_model::{Content, ThreadView};
 use mi_commands::{NumberList, Target};
 use std::alloc::{AllocError, Global};
+use step_plans::Plan;
 
 fn stopped_thread(thread: u32, hart: ThreadView) -> Option<u32>
     ensures { result ≡ stopped_thread thread hart }
@@ -21,14 +22,17 @@ fn stopped_thread(thread: u32, hart: ThreadView) -> Option<u32>
     }
 }
 
-// These threads go on.
-fn going(alloc: Global, threads: Vec<u32>) -> Result<Answer, AllocError>
-    ensures { IfOk result (λ a. outcome_of a ≡ going threads.items) }
+/// These threads go on with a plan.
+pub fn going(alloc: Global, threads: Vec<u32>, plan: Plan) -> Result<Answer, AllocError>
+    ensures { IfOk result (λ a. outcome_of a ≡ going threads.items plan) }
 {
     let told = Vec::from_slice(alloc, threads.as_slice())?;
     Ok(Answer {
         content: Content::Running(NumberList::of(told)),
-        effect: Effect::Resume(NumberList::of(threads)),
+        effect: Effect::Resume {
+            threads: NumberList::of(threads),
+            plan,
+        },
     })
 }
 
@@ -38,12 +42,15 @@ pub fn go_on(alloc: Global, debuggee: &Debuggee<'_>, target: Target) -> Result<A
     ensures { Gives result (go_on (seen debuggee.now) target) }
 {
     let thread = match target {
-        Target::All => return Ok(going(alloc, each(alloc, debuggee.threads, stopped_thread)?)?),
+        Target::All => {
+            let threads = each(alloc, debuggee.threads, stopped_thread)?;
+            return Ok(going(alloc, threads, Plan::Free)?);
+        }
         Target::Selected => debuggee.selected,
         Target::Thread(thread) => thread,
     };
     debuggee.stopped(thread)?;
-    Ok(going(alloc, vec![in alloc; thread]?)?)
+    Ok(going(alloc, vec![in alloc; thread]?, Plan::Free)?)
 }
 
 fn running_thread(thread: u32, hart: ThreadView) -> Option<u32>

@@ -1,15 +1,25 @@
-// What an effect makes of the table of breakpoints. A number that is given twice is met once.
+// What an effect makes of the table of breakpoints. Whether it can be made was judged with the answer to its line.
 ghost use Rattle.std.specs.Prelude.{◌≡◌, ◌-◌, ◌^◌, ◌<◌, None};
 ghost use Rattle.std.specs.Option.{option_map};
 ghost use Rattle.break_table.specs.Entry.{asked_of, condition_of};
 ghost use Rattle.break_table.specs.Table.{changed, deleted, insert_fault, inserted, with_condition, with_enabled, with_ignore};
 ghost use Rattle.dbg_model.specs.Breaks.{enabling, without};
 ghost use Rattle.dbg_answers.specs.Answer.{change_of};
-ghost use Rattle.dbg_answers.specs.Table.{CanBeMade, changed_table};
+ghost use Rattle.dbg_answers.specs.Table.{CanBeMade, LacksAtMost, changed_table};
 
 use crate::answer::Effect;
-use break_table::{BreakTable, Spec};
+use break_table::{BreakFault, BreakTable, Spec};
 use cond_expr::Expr;
+
+// A call that names a number is done, or nothing is there to be changed: a line may delete a number twice.
+fn done_where_there(call: Result<(), BreakFault>)
+    requires { LacksAtMost call }
+{
+    match call {
+        Ok(()) | Err(BreakFault::NoNumber) => {}
+        Err(BreakFault::Place | BreakFault::Full | BreakFault::Thread) => unreachable!(),
+    }
+}
 
 /// A new breakpoint.
 pub fn insert_entry(table: &mut BreakTable, spec: Spec)
@@ -17,39 +27,42 @@ pub fn insert_entry(table: &mut BreakTable, spec: Spec)
     requires may { insert_fault table.old (asked_of spec) ≡ None }
     ensures { table.new ≡ inserted table.old (asked_of spec) }
 {
-    let _ = table.insert(spec);
+    match table.insert(spec) {
+        Ok(_number) => {}
+        Err(_fault) => unreachable!(),
+    }
 }
 
 /// The breakpoint of a number goes, if there is one.
 pub fn delete_entry(table: &mut BreakTable, number: u32)
     ensures { table.new ≡ deleted number table.old }
 {
-    let _ = table.delete(number);
+    done_where_there(table.delete(number));
 }
 
 /// The breakpoint of a number is enabled, or disabled, if there is one.
 pub fn enable_entry(table: &mut BreakTable, number: u32, enabled: bool)
     ensures { table.new ≡ changed (with_enabled enabled) number table.old }
 {
-    let _ = if enabled {
-        table.enable(number)
+    if enabled {
+        done_where_there(table.enable(number));
     } else {
-        table.disable(number)
-    };
+        done_where_there(table.disable(number));
+    }
 }
 
 /// The breakpoint of a number gets another condition or none, if there is one.
 pub fn set_condition(table: &mut BreakTable, number: u32, condition: Option<Expr>)
     ensures { table.new ≡ changed (with_condition (option_map condition_of condition)) number table.old }
 {
-    let _ = table.condition(number, condition);
+    done_where_there(table.condition(number, condition));
 }
 
 /// So many arrivals at the breakpoint of a number are only counted, if there is one.
 pub fn set_ignore(table: &mut BreakTable, number: u32, count: u32)
     ensures { table.new ≡ changed (with_ignore count) number table.old }
 {
-    let _ = table.after(number, count);
+    done_where_there(table.after(number, count));
 }
 
 fn delete_each(table: &mut BreakTable, numbers: &[u32])
@@ -85,7 +98,7 @@ pub fn change_table(table: &mut BreakTable, effect: Effect)
         Effect::Condition { number, condition } => set_condition(table, number, condition),
         Effect::After { number, count } => set_ignore(table, number, count),
         Effect::Nothing
-        | Effect::Resume(_)
+        | Effect::Resume { .. }
         | Effect::Interrupt(_)
         | Effect::Select(_)
         | Effect::Displace(_)

@@ -1,5 +1,5 @@
 -- What lines effect.
-use Rattle.std.proofs.Common.{◌≡◌, ◌≤◌, ◌<◌, ◌+◌, ◌-◌, ◌^◌, ◌/◌, ◌%◌, ℕ, zero, suc, Bool, true, false, cond, List, [], ◌∷◌, length, refl, sym, ap, ◌∙◌, subst, arith, length-set}
+use Rattle.std.proofs.Common.{◌≡◌, ◌≤◌, ◌<◌, ◌+◌, ◌-◌, ◌^◌, ◌/◌, ◌%◌, ℕ, zero, suc, Bool, true, false, cond, List, [], ◌∷◌, length, refl, sym, ap, ◌∙◌, subst, arith}
 use Rattle.std.specs.Prelude.{Option, Some, None, is_some, find, not, nat_lt, option_and_then, slice_get, slice_index, ◌&&◌, ◌||◌, ◌==◌, nat_le}
 use Rattle.std.specs.List.{list_any}
 use Rattle.std.proofs.lemmas.Bool.Decides.{nat_tests}
@@ -9,13 +9,15 @@ use Rattle.break_table.specs.Table.{Table, is_thread}
 use Rattle.break_table.specs.Text.{is_instruction, is_place}
 use Rattle.dbg_model.specs.declared.opening.Opening.{Opening}
 use Rattle.dbg_model.specs.Limits.{history}
-use Rattle.dbg_model.specs.State.{Hart, State, any_leaves, is_off}
+use Rattle.dbg_model.specs.declared.hart.Hart.{Hart}
+use Rattle.dbg_model.specs.State.{State, any_leaves, is_off}
 use Rattle.dbg_model.specs.Lawful.{may_do, may_go}
 use Rattle.dbg_model.specs.Sight.{thread_at}
 use Rattle.dbg_model.specs.Outcome.{Change, stays, resumes, selects, interrupts, displaces, inserts, deletes, enables, conditions, ignores, exits}
-use Rattle.dbg_model.specs.Reply.{answer_of, changed_by, done_by, given_after, ask_at, ask_thread, ask_threads, asked, asking, sets_after, going_on, resumed, resumed_at, resumed_thread, resumed_threads}
+use Rattle.dbg_model.specs.Reply.{answer_of, asked, changed_by, done_by, given_after, harts_after, resumed, sets_after}
 use Rattle.dbg_model.proofs.Options.{both_true}
 use Rattle.dbg_model.proofs.Founding.{IsFounded, IsThereOr, change_founded}
+use Rattle.dbg_model.proofs.Naming.{length-on_threads}
 use Rattle.dbg_answers.specs.declared.answer.Effect.{Effect}
 use Rattle.dbg_answers.specs.declared.answer.Effect.TheVariants as effect
 use Rattle.dbg_answers.specs.Answer.{change_of}
@@ -95,33 +97,14 @@ done_is : (o : Opening) (s : State) (line : List ℕ) (c : Change) → c ≡ (an
 unfolding done_by
 done_is o s line c is = ap (changed_by s) is
 
-length_at : (xs : List Hart) (h : ℕ) (r : Option Hart) → length (resumed_at xs h r) ≡ length xs
-length_at xs h None = refl
-length_at xs h (Some x) = length-set xs h (resumed x)
-
-length_thread : (xs : List Hart) (t : ℕ) → length (resumed_thread xs t) ≡ length xs
-length_thread xs zero = refl
-length_thread xs (suc h) = length_at xs h (slice_get xs h)
-
-length_threads : (xs : List Hart) (ts : List ℕ) → length (resumed_threads xs ts) ≡ length xs
-length_threads xs [] = refl
-length_threads xs (t ∷ ts) = length_threads (resumed_thread xs t) ts ∙ length_thread xs t
-
-length_ask_at : (xs : List Hart) (h : ℕ) (r : Option Hart) → length (ask_at xs h r) ≡ length xs
-length_ask_at xs h None = refl
-length_ask_at xs h (Some x) = length-set xs h (asked x)
-
-length_ask : (xs : List Hart) (t : ℕ) → length (ask_thread xs t) ≡ length xs
-length_ask xs zero = refl
-length_ask xs (suc h) = length_ask_at xs h (slice_get xs h)
-
-length_asks : (xs : List Hart) (ts : List ℕ) → length (ask_threads xs ts) ≡ length xs
-length_asks xs [] = refl
-length_asks xs (t ∷ ts) = length_asks (ask_thread xs t) ts ∙ length_ask xs t
+length_after : (xs : List Hart) (c : Change) → length (harts_after xs c) ≡ length xs
+length_after xs (resumes ts plan) = length-on_threads (resumed plan) ts 1 xs
+length_after xs (interrupts ts) = length-on_threads asked ts 1 xs
+length_after xs _ = refl
 
 given_more : (n : ℕ) (c : Change) → given_after n c ≤ n + 1
 given_more n stays = omega arith
-given_more n (resumes ts) = omega arith
+given_more n (resumes ts plan) = omega arith
 given_more n (selects t) = omega arith
 given_more n (inserts a) = omega arith
 given_more n (deletes ns) = omega arith
@@ -138,7 +121,7 @@ sets_by_more n false = omega arith
 
 sets_more : (n : ℕ) (c : Change) → sets_after n c ≤ n + 1
 sets_more n stays = omega arith
-sets_more n (resumes ts) = omega arith
+sets_more n (resumes ts plan) = omega arith
 sets_more n (selects t) = omega arith
 sets_more n (inserts a) = omega arith
 sets_more n (deletes ns) = omega arith
@@ -149,8 +132,8 @@ sets_more n (interrupts ts) = omega arith
 sets_more n (displaces d) = sets_by_more n (is_off d)
 sets_more n exits = omega arith
 
-still_kept : (o : Opening) (old new : Parts) (c : Change) → Kept o old → shown new ≡ changed_by (shown old) c → new.table ≡ changed_table old.table c → Kept o new
-still_kept o old new c kept state table =
+still_kept : (o : Opening) (old new : Parts) (c : Change) → Kept o old → shown new ≡ changed_by (shown old) c → new.table ≡ changed_table old.table c → new.sources ≡ old.sources → Kept o new
+still_kept o old new c kept state table sources =
     let given : new.table.given ≡ given_after old.table.given c = ap (λ (t : Table). t.given) table in
     let noted : new.noted ≡ old.noted + 1 = ap (λ (s : State). s.noted) state in
     let more = given_more old.table.given c in
@@ -159,7 +142,8 @@ still_kept o old new c kept state table =
     let sets_low = sets_more old.sets c in
     let sets_before = kept.sets in
     record {
-      harts = ap (λ (s : State). length s.harts) state ∙ (length_asks (resumed_threads old.harts.items (going_on c)) (asking c) ∙ (length_threads old.harts.items (going_on c) ∙ kept.harts));
+      sources = sources ∙ kept.sources;
+      harts = ap (λ (s : State). length s.harts) state ∙ (length_after old.harts.items c ∙ kept.harts);
       places = λ addr. ap (λ (t : Table). is_place t.text addr) table ∙ kept.places addr;
       waits = ap (λ (t : Table). length t.waits) table ∙ kept.waits;
       given = omega arith;
@@ -171,7 +155,7 @@ still_kept o old new c kept state table =
     }
 
 -- a line came
-pub line_comes : (o : Opening) (old new : Parts) (line : List ℕ) (x : Effect) (b : Bool) → Kept o old → b ≡ true → change_of x ≡ (answer_of o (shown old) line).outcome.change → shown new ≡ changed_by (shown old) (change_of x) → new.table ≡ changed_table old.table (change_of x)
+pub line_comes : (o : Opening) (old new : Parts) (line : List ℕ) (x : Effect) (b : Bool) → Kept o old → b ≡ true → change_of x ≡ (answer_of o (shown old) line).outcome.change → shown new ≡ changed_by (shown old) (change_of x) → new.table ≡ changed_table old.table (change_of x) → new.sources ≡ old.sources
     → (cond b (Some (done_by o (shown old) line)) None ≡ Some (shown new)) × Kept o new
-line_comes o old new line x b kept may is state table =
-    (rw may (ap Some (sym (state ∙ done_is o (shown old) line (change_of x) is))), still_kept o old new (change_of x) kept state table)
+line_comes o old new line x b kept may is state table sources =
+    (rw may (ap Some (sym (state ∙ done_is o (shown old) line (change_of x) is))), still_kept o old new (change_of x) kept state table sources)

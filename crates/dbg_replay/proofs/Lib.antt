@@ -1,6 +1,5 @@
 pub mod Marking
 pub mod Answering
-pub mod Arriving
 pub mod Running
 pub mod Passing
 pub mod Beginning

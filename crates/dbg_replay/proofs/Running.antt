@@ -11,8 +11,9 @@ use Rattle.plain_machine.specs.Answers.{StepGives}
 use Rattle.plain_machine.specs.Environment.{Answer, Traps, Goes, Leave, Stays, LeavesAlone, LeavesAll}
 use Rattle.plain_machine.specs.Plain.{plain}
 use Rattle.dbg_model.specs.declared.opening.Opening.{Opening}
-use Rattle.dbg_model.specs.State.{Hart, State}
-use Rattle.dbg_model.specs.Lawful.{leaving, leaving_at, may_run, one, one_by, one_more_at, passes, ran, stepped, stepped_by, with_leavers}
+use Rattle.dbg_model.specs.declared.hart.Hart.{Hart}
+use Rattle.dbg_model.specs.State.{State, due}
+use Rattle.dbg_model.specs.Lawful.{leaving, leaving_at, may_run, one, one_by, one_more_at, passes, ran, set_out, stepped, stepped_by, with_leavers}
 use Rattle.dbg_replay.specs.declared.halt.Halt.{Halt}
 use Rattle.dbg_replay.specs.declared.halt.Halt.TheVariants.{NoMemory, Unlawful}
 use Rattle.dbg_replay.specs.declared.state.Parts.{Parts}
@@ -31,9 +32,9 @@ unfolding one
 one_refused o s h NoMemory p c = tt
 one_refused o s h Unlawful p c = refused_by o s h (slice_get s.harts h) c
 
-pub one_steps : (o : Opening) (s : State) (h : ℕ) (x : Hart) (a : Answer) → slice_get s.harts h ≡ Some x → may_run o s h x ≡ true → plain o.image x.regs s.memory ≡ a → one o h s ≡ stepped_by a s h x
+pub one_steps : (o : Opening) (s : State) (h : ℕ) (x : Hart) (a : Answer) → slice_get s.harts h ≡ Some x → may_run o s h x ≡ true → plain o.image x.regs s.memory ≡ a → one o h s ≡ stepped_by a s h (set_out (due o.image s h x) x)
 unfolding one
-one_steps o s h x a at may is = ap (one_by o s h) at ∙ (rw may (ap (λ b. stepped_by b s h x) is))
+one_steps o s h x a at may is = ap (one_by o s h) at ∙ (rw may (ap (λ b. stepped_by b s h (set_out (due o.image s h x) x)) is))
 
 length_left : (code : ℕ) (xs : List Hart) (h : ℕ) (r : Option Hart) → length (leaving_at code xs h r) ≡ length xs
 length_left code xs h None = refl
@@ -92,7 +93,7 @@ finished o old new h x v w m s t k out leave after kept is same items more f =
     ap length harts ∙ (length_leavers leave (slice_set old.harts.items h (stepped x t)) h ∙ (length-set old.harts.items h (stepped x t) ∙ kept.harts)) in
     let within : (j : ℕ) → slice_index w.items j ≤ old.retired + 1 =
     λ j. subst (λ ns. slice_index ns j ≤ old.retired + 1) (sym more) (more_within old.passed.items h old.retired (passes (shown old) x) kept.passed j) in
-    let still : Kept o mid = record { harts = count; places = kept.places; waits = kept.waits; given = kept.given; few = kept.few; budget = kept.budget; counts = ap length more ∙ (length_more old.passed.items h (passes (shown old) x) ∙ kept.counts); passed = within; sets = kept.sets } in
+    let still : Kept o mid = record { sources = kept.sources; harts = count; places = kept.places; waits = kept.waits; given = kept.given; few = kept.few; budget = kept.budget; counts = ap length more ∙ (length_more old.passed.items h (passes (shown old) x) ∙ kept.counts); passed = within; sets = kept.sets } in
     (is ∙ ap Some (sym (ap shown f.2 ∙ state)), subst (Kept o) (sym f.2) still)
 
 finishes : (o : Opening) (old new : Parts) (h : ℕ) (x : Hart) (v : Vec Hart) (w : Vec ℕ) (m : Memory) (st : Stepped) (r s : Registers) (n : Memory) (result : Result (Unit {0}) Halt) (a : Answer) (after : Option State) → Kept o old
@@ -105,13 +106,15 @@ finishes o old new h x v w m st r s n (Err Unlawful) (Traps cause) after kept is
 finishes o old new h x v w m st r s n (Err NoMemory) a after kept is gives items more f = tt
 
 -- one instruction came
-pub one_comes : (o : Opening) (old new : Parts) (h : ℕ) (x : Hart) (v : Vec Hart) (w : Vec ℕ) (m : Memory) (st : Stepped) (r s : Registers) (result : Result (Unit {0}) Halt) → Kept o old → slice_get old.harts.items h ≡ Some x → may_run o (shown old) h x ≡ true → r ≡ x.regs
-    → StepGives st (plain o.image r old.memory) r s old.memory m → v.items ≡ slice_set old.harts.items h (stepped x s) → w.items ≡ one_more_at old.passed.items h (passes (shown old) x) → ((a : Answer) (r s : Registers) (n : Memory) → StepGives st a r s n m → Finishes result a (between old v m w) h new)
-    → Comes o result (one o h (shown old)) new
-one_comes o old new h x v w m st r s result kept at may same gives items more f =
+pub one_comes : (o : Opening) (old new : Parts) (h : ℕ) (x y : Hart) (v : Vec Hart) (w : Vec ℕ) (m : Memory) (st : Stepped) (r s : Registers) (result : Result (Unit {0}) Halt) → Kept o old → slice_get old.harts.items h ≡ Some x → may_run o (shown old) h x ≡ true
+    → y ≡ set_out (due o.image (shown old) h x) x → r ≡ y.regs → StepGives st (plain o.image r old.memory) r s old.memory m → v.items ≡ slice_set old.harts.items h (stepped y s) → w.items ≡ one_more_at old.passed.items h (passes (shown old) y)
+    → ((a : Answer) (r s : Registers) (n : Memory) → StepGives st a r s n m → Finishes result a (between old v m w) h new) → Comes o result (one o h (shown old)) new
+one_comes o old new h x y v w m st r s result kept at may goes same gives items more f =
     let a = plain o.image r old.memory in
-    let is : one o h (shown old) ≡ stepped_by a (shown old) h x = one_steps o (shown old) h x a at may (ap (λ q. plain o.image q old.memory) (sym same)) in
-    finishes o old new h x v w m st r s old.memory result a (one o h (shown old)) kept is gives items more (f a r s old.memory gives)
+    let regs : x.regs ≡ r = ap (λ (z : Hart). z.regs) (sym goes) ∙ sym same in
+    let is : one o h (shown old) ≡ stepped_by a (shown old) h y =
+    one_steps o (shown old) h x a at may (ap (λ q. plain o.image q old.memory) regs) ∙ ap (stepped_by a (shown old) h) (sym goes) in
+    finishes o old new h y v w m st r s old.memory result a (one o h (shown old)) kept is gives items more (f a r s old.memory gives)
 
 -- ---- several instructions
 

@@ -1,5 +1,5 @@
 -- What the parts of a replay answer.
-use Rattle.std.specs.Prelude.{◌≡◌, ◌<◌, ◌≤◌, ◌==◌, ℕ, Bool, true, false, List, ◌++◌, length, Option, Some, None, Result, Ok, Err, slice_get, slice_index}
+use Rattle.std.specs.Prelude.{◌≡◌, ◌<◌, ◌≤◌, ◌==◌, ◌&&◌, ℕ, Bool, true, false, List, ◌++◌, length, Option, Some, None, Result, Ok, Err, slice_get, slice_index, if◌then◌else◌}
 use Rattle.rv_exec.specs.declared.effect.Cause.{Cause}
 use Rattle.rv_exec.specs.declared.effect.Stepped.{Stepped}
 use Rattle.rv_exec.specs.declared.effect.Stepped.TheVariants as stepped
@@ -8,9 +8,19 @@ use Rattle.plain_machine.specs.Environment.{Answer, Traps, Goes}
 use Rattle.break_table.specs.Text.{is_instruction, is_place}
 use Rattle.dbg_model.specs.declared.opening.Opening.{Opening}
 use Rattle.dbg_model.specs.Limits.{history}
-use Rattle.dbg_model.specs.State.{Hart, State}
-use Rattle.dbg_model.specs.Lawful.{with_leavers}
+use Rattle.dbg_model.specs.declared.entry.Why.{Why}
+use Rattle.dbg_model.specs.declared.entry.Why.TheVariants as reason
+use Rattle.dbg_model.specs.declared.hart.Hart.{Hart}
+use Rattle.dbg_model.specs.declared.judgement.Judgement.{Judgement}
+use Rattle.dbg_model.specs.Breaks.{is_stop}
+use Rattle.dbg_model.specs.Judging.{ends_function, ends_step}
+use Rattle.dbg_model.specs.Reply.{asked, resumed}
+use Rattle.dbg_model.specs.State.{State, due}
+use Rattle.dbg_model.specs.Lawful.{may_move, with_arrival, with_leavers}
 use Rattle.dbg_model.specs.Journals.{Place}
+use Rattle.source_index.specs.Sources.{sources_of}
+use Rattle.dbg_answers.specs.declared.order.Order.{Order}
+use Rattle.dbg_answers.specs.declared.order.Order.TheVariants as order
 use Rattle.dbg_replay.specs.declared.halt.Halt.{Halt}
 use Rattle.dbg_replay.specs.declared.halt.Halt.TheVariants.{NoMemory, Unlawful}
 use Rattle.dbg_replay.specs.declared.state.Parts.{Parts}
@@ -28,6 +38,7 @@ Chosen (Err NoMemory) xs h may = ⊥
 
 -- what parts keep of the opening
 pub record Kept (o : Opening) (p : Parts) : Type 0 where
+  pub sources : p.sources ≡ sources_of o.image
   pub harts : length p.harts.items ≡ o.settings.harts
   pub places : (addr : ℕ) → is_place p.table.text addr ≡ is_instruction o.image addr
   pub waits : length p.table.waits ≡ o.settings.harts
@@ -57,6 +68,25 @@ Finishes (Err NoMemory) a old h new = Unit {0}
 abbrev pub traps_with : Stepped → Cause → Bool
 traps_with (stepped.Trap met) cause = cause_number met == cause_number cause
 traps_with _ cause = false
+
+-- whether this is why a hart stops where it has arrived
+abbrev pub is_reason : Why → Judgement → Bool
+is_reason (reason.Break number error) j = is_stop j.breaks number error
+is_reason reason.Stepped j = ends_step j
+is_reason reason.Finished j = ends_function j
+is_reason reason.Interrupted j = false
+is_reason (reason.Fault cause) j = false
+
+-- a hart stops where it has arrived, for this reason
+abbrev pub halted_by : Opening → State → ℕ → Why → Option Hart → Option State
+halted_by o s h why None = None
+halted_by o s h why (Some x) =
+    if may_move o s x && is_reason why (due o.image s h x) then Some (with_arrival o s h x) else None
+
+-- what becomes of a hart
+abbrev pub ordered : Order → Hart → Hart
+ordered (order.GoOn plan) = resumed plan
+ordered order.Interrupt = asked
 
 abbrev pub state_of : Place → State
 state_of p = p.state

@@ -1,63 +1,46 @@
 // What a line changes, over the parts of a state.
-ghost use Rattle.std.specs.Prelude.{◌≡◌, ◌+◌, ◌-◌, ◌^◌, ◌<◌};
+ghost use Rattle.std.specs.Prelude.{◌≡◌, ◌+◌, ◌-◌, ◌^◌, ◌<◌, ◌≤◌, if◌then◌else◌, length};
 ghost use Rattle.dbg_model.specs.State.{is_off};
-ghost use Rattle.dbg_model.specs.Reply.{ask_thread, ask_threads, changed_by, sets_by, resumed_thread, resumed_threads};
+ghost use Rattle.dbg_model.specs.Reply.{changed_by, is_named, on_threads, sets_by};
 ghost use Rattle.dbg_answers.specs.Answer.{change_of};
 ghost use Rattle.dbg_answers.specs.Table.{CanBeMade, changed_table};
+ghost use Rattle.dbg_replay.specs.Going.{ordered};
 ghost use Rattle.dbg_replay.specs.Parts.{shown};
 
-use crate::ModelHart;
-use crate::modes::{asked, find, resumed};
+use crate::modes::{asked, resumed};
 use crate::state::Parts;
-use dbg_answers::{Effect, change_table};
+use dbg_answers::{Effect, Order, change_table, is_named};
+use dbg_model::Hart;
 use mi_commands::Displaced;
 
-// A thread goes on where it is stopped. Threads are counted from 1.
-fn resume_thread(harts: &mut [ModelHart], thread: u32)
-    ensures { harts.new ≡ resumed_thread harts.old thread }
+fn ordered(order: Order, hart: Hart) -> Hart
+    ensures { result ≡ ordered order hart }
 {
-    if thread == 0 {
-        return;
-    }
-    let h = thread - 1;
-    if let Some(hart) = find(harts, h) {
-        harts[h as usize] = resumed(hart);
+    match order {
+        Order::GoOn(plan) => resumed(plan, hart),
+        Order::Interrupt => asked(hart),
     }
 }
 
-// These threads go on where they are stopped.
-fn resume_threads(harts: &mut [ModelHart], threads: &[u32])
-    ensures { harts.new ≡ resumed_threads harts.old threads.now }
+// What becomes of the hart of a thread, if it is one of these.
+fn named(hart: Hart, thread: u32, threads: &[u32], order: Order) -> Hart
+    ensures { result ≡ (if is_named threads.now thread then ordered order hart else hart) }
 {
-    let [thread, rest @ ..] = threads else {
-        return;
-    };
-    resume_thread(harts, *thread);
-    resume_threads(harts, rest);
-}
-
-// An interrupt is asked of a thread where it runs.
-fn ask_thread(harts: &mut [ModelHart], thread: u32)
-    ensures { harts.new ≡ ask_thread harts.old thread }
-{
-    if thread == 0 {
-        return;
-    }
-    let h = thread - 1;
-    if let Some(hart) = find(harts, h) {
-        harts[h as usize] = asked(hart);
+    if is_named(threads, thread) {
+        ordered(order, hart)
+    } else {
+        hart
     }
 }
 
-// An interrupt is asked of these threads where they run.
-fn ask_threads(harts: &mut [ModelHart], threads: &[u32])
-    ensures { harts.new ≡ ask_threads harts.old threads.now }
+// What becomes of the harts of these threads, which are counted from 1.
+fn on_threads(harts: &mut [Hart], threads: &[u32], order: Order)
+    requires { length harts.old ≤ 16 }
+    ensures { harts.new ≡ on_threads (ordered order) threads.now 1 harts.old }
 {
-    let [thread, rest @ ..] = threads else {
-        return;
-    };
-    ask_thread(harts, *thread);
-    ask_threads(harts, rest);
+    for h in 0..harts.len() {
+        harts[h] = named(harts[h], h as u32 + 1, threads, order);
+    }
 }
 
 pub fn is_off(displaced: Displaced) -> bool
@@ -79,16 +62,22 @@ pub fn make(parts: &mut Parts, effect: Effect)
     requires may { CanBeMade parts.old.table effect }
     requires room { parts.old.noted < 2 ^ 64 - 1 }
     requires sets { parts.old.sets < 2 ^ 64 - 1 }
+    requires few { length parts.old.harts.items ≤ 16 }
     ensures state { shown parts.new ≡ changed_by (shown parts.old) (change_of effect) }
+    ensures sources { parts.new.sources ≡ parts.old.sources }
     ensures table { parts.new.table ≡ changed_table parts.old.table (change_of effect) }
 {
     match &effect {
-        Effect::Resume(threads) => {
-            resume_threads(parts.harts.as_mut_slice(), threads.as_slice());
-        }
-        Effect::Interrupt(threads) => {
-            ask_threads(parts.harts.as_mut_slice(), threads.as_slice());
-        }
+        Effect::Resume { threads, plan } => on_threads(
+            parts.harts.as_mut_slice(),
+            threads.as_slice(),
+            Order::GoOn(*plan),
+        ),
+        Effect::Interrupt(threads) => on_threads(
+            parts.harts.as_mut_slice(),
+            threads.as_slice(),
+            Order::Interrupt,
+        ),
         Effect::Displace(displaced) => {
             parts.sets = sets_by(parts.sets, *displaced);
             parts.displaced = *displaced;

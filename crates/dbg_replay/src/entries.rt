@@ -2,22 +2,19 @@
 ghost use Rattle.std.specs.Prelude.{◌≡◌, ◌<◌, ◌-◌, ◌^◌, None, if◌then◌else◌, nat_lt, slice_get};
 ghost use Rattle.dbg_model.specs.declared.entry.Why.TheVariants as reason;
 ghost use Rattle.dbg_model.specs.Breaks.{is_number, is_stop, same_error};
-ghost use Rattle.dbg_model.specs.State.{is_counted};
 ghost use Rattle.dbg_model.specs.Lawful.{counted_by, enter, left_by, leaver_from, ran, stopped_by};
-ghost use Rattle.source_index.specs.Sources.{sources_of};
 ghost use Rattle.dbg_replay.specs.Parts.{shown};
-ghost use Rattle.dbg_replay.specs.Going.{Comes, Kept, traps_with};
+ghost use Rattle.dbg_replay.specs.Going.{Comes, Kept, halted_by, is_reason, traps_with};
 
 use crate::halt::Halt;
 use crate::lines::do_line;
-use crate::modes::{counted, exited, find, leaver_from, stopped};
+use crate::modes::{counted, exited, find, leaver_from, set_out, stopped};
 use crate::movers::{due, mover, runner, settle};
 use crate::state::Parts;
 use crate::stepping::{execute_plain, step};
 use break_table::{CondError, Due};
-use dbg_model::{Entry, Opening, Why};
+use dbg_model::{Entry, Judgement, Opening, Why};
 use rv_exec::{Cause, Stepped};
-use source_index::SourceIndex;
 use std::alloc::Global;
 
 // So many instructions of a hart, at least one.
@@ -34,23 +31,18 @@ fn run(alloc: Global, opening: &Opening, parts: &mut Parts, h: u32, count: u64) 
     Ok(())
 }
 
-fn is_counted(due: Due) -> bool
-    ensures { result ≡ is_counted due }
-{
-    due.stop.is_none() && due.counts
-}
-
 // Breakpoints only count a hart, which goes on.
 fn count(opening: &Opening, parts: &mut Parts, h: u32) -> Result<(), Halt>
     requires { Kept opening.now parts.old }
     ensures { Comes opening.now result (counted_by opening.now (shown parts.old) h (slice_get parts.old.harts.items h)) parts.new }
 {
     let hart = mover(opening, parts, h)?;
-    if !is_counted(due(opening, parts, h, &hart)) {
+    let judgement = due(opening, parts, h, &hart);
+    if !judgement.is_counted() {
         return Err(Halt::Unlawful);
     }
     settle(opening, parts, h, &hart);
-    parts.harts[h as usize] = counted(hart);
+    parts.harts[h as usize] = counted(set_out(judgement, hart));
     parts.noted += 1;
     Ok(())
 }
@@ -83,19 +75,25 @@ fn is_stop(due: Due, number: u32, error: Option<CondError>) -> bool
     is_number(due.stop, number) && same_error(due.error, error)
 }
 
-// A hart stops at the breakpoint of a number, of whose condition the value couldn't be had for this reason.
-fn stop_at(
-    opening: &Opening,
-    parts: &mut Parts,
-    h: u32,
-    number: u32,
-    error: Option<CondError>,
-) -> Result<(), Halt>
+// Whether this is why a hart stops where it has arrived.
+fn is_reason(why: Why, judgement: &Judgement) -> bool
+    ensures { result ≡ is_reason why judgement.now }
+{
+    match why {
+        Why::Break { number, error } => is_stop(judgement.breaks, number, error),
+        Why::Stepped => judgement.ends_step(),
+        Why::Finished => judgement.ends_function(),
+        Why::Interrupted | Why::Fault(_) => false,
+    }
+}
+
+// A hart stops where it has arrived: at a breakpoint, or at the end of its step or of its function.
+fn stop_at(opening: &Opening, parts: &mut Parts, h: u32, why: Why) -> Result<(), Halt>
     requires { Kept opening.now parts.old }
-    ensures { Comes opening.now result (stopped_by opening.now (shown parts.old) h (reason.Break number error) (slice_get parts.old.harts.items h)) parts.new }
+    ensures { Comes opening.now result (halted_by opening.now (shown parts.old) h why (slice_get parts.old.harts.items h)) parts.new }
 {
     let hart = mover(opening, parts, h)?;
-    if !is_stop(due(opening, parts, h, &hart), number, error) {
+    if !is_reason(why, &due(opening, parts, h, &hart)) {
         return Err(Halt::Unlawful);
     }
     settle(opening, parts, h, &hart);
@@ -110,7 +108,7 @@ fn interrupt(opening: &Opening, parts: &mut Parts, h: u32) -> Result<(), Halt>
     ensures { Comes opening.now result (stopped_by opening.now (shown parts.old) h reason.Interrupted (slice_get parts.old.harts.items h)) parts.new }
 {
     let hart = runner(opening, parts, h)?;
-    if !hart.is_asked() {
+    if !hart.asked {
         return Err(Halt::Unlawful);
     }
     parts.harts[h as usize] = stopped(hart);
@@ -133,7 +131,7 @@ fn stop_by(opening: &Opening, parts: &mut Parts, h: u32, cause: Cause) -> Result
     ensures { Comes opening.now result (stopped_by opening.now (shown parts.old) h (reason.Fault cause) (slice_get parts.old.harts.items h)) parts.new }
 {
     let hart = runner(opening, parts, h)?;
-    let mut regs = hart.regs();
+    let mut regs = hart.regs;
     let stepped = execute_plain(&opening.image, &mut regs, &mut parts.memory);
     if !traps_with(stepped, cause) {
         return Err(Halt::Unlawful);
@@ -164,15 +162,8 @@ fn leave(opening: &Opening, parts: &mut Parts, h: u32, code: u32) -> Result<(), 
 
 /// One entry.
 #[tactic(auto, unfolding(dbg_model::specs::Lawful::enter))]
-pub fn enter(
-    alloc: Global,
-    opening: &Opening,
-    sources: &SourceIndex,
-    parts: &mut Parts,
-    entry: &Entry,
-) -> Result<(), Halt>
+pub fn enter(alloc: Global, opening: &Opening, parts: &mut Parts, entry: &Entry) -> Result<(), Halt>
     requires kept { Kept opening.now parts.old }
-    requires sources { sources.now ≡ sources_of opening.now.image }
     requires room { parts.old.noted < 2 ^ 64 - 1 }
     ensures { Comes opening.now result (enter opening.now (shown parts.old) entry.now) parts.new }
 {
@@ -180,11 +171,13 @@ pub fn enter(
         Entry::Ran { hart, count } => run(alloc, opening, parts, *hart, *count),
         Entry::Counted { hart } => count(opening, parts, *hart),
         Entry::Stopped { hart, why } => match *why {
-            Why::Break { number, error } => stop_at(opening, parts, *hart, number, error),
+            Why::Break { .. } | Why::Stepped | Why::Finished => stop_at(
+                opening, parts, *hart, *why,
+            ),
             Why::Interrupted => interrupt(opening, parts, *hart),
             Why::Fault(cause) => stop_by(opening, parts, *hart, cause),
         },
         Entry::Left { hart, code } => leave(opening, parts, *hart, *code),
-        Entry::Did { line } => do_line(alloc, opening, sources, parts, line.as_slice()),
+        Entry::Did { line } => do_line(alloc, opening, parts, line.as_slice()),
     }
 }

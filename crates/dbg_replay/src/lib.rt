@@ -5,7 +5,6 @@
 mod changes;
 mod entries;
 mod halt;
-mod hart;
 mod lines;
 mod modes;
 mod movers;
@@ -13,6 +12,5 @@ mod replaying;
 mod state;
 mod stepping;
 
-pub use hart::ModelHart;
 pub use replaying::replay;
 pub use state::ModelState;

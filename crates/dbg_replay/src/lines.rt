@@ -10,31 +10,29 @@ ghost use Rattle.dbg_answers.specs.Reading.{IsRead};
 ghost use Rattle.dbg_replay.specs.Parts.{shown};
 ghost use Rattle.dbg_replay.specs.Going.{Comes, Kept};
 
-use crate::ModelHart;
 use crate::changes::make;
 use crate::halt::Halt;
 use crate::modes::any_runs;
 use crate::movers::may_go;
 use crate::state::Parts;
 use dbg_answers::{Debuggee, Effect, answer_line, waits};
-use dbg_model::{Mode, Opening, ThreadView};
+use dbg_model::{Hart, Mode, Opening, ThreadView};
 use dbg_traits::NoMemory;
 use mi_commands::{CommandLine, Refusal, command_of};
-use source_index::SourceIndex;
 use std::alloc::{AllocError, Global};
 
-fn view(hart: ModelHart) -> ThreadView
+fn view(hart: Hart) -> ThreadView
     ensures { result ≡ view_of hart }
 {
-    match hart.mode() {
-        Mode::Stopped => ThreadView::Stopped(hart.regs()),
+    match hart.mode {
+        Mode::Stopped => ThreadView::Stopped(hart.regs),
         Mode::Running => ThreadView::Running,
         Mode::Leaving(_) | Mode::Exited => ThreadView::Exited,
     }
 }
 
 // What a command may see of the harts.
-fn views(alloc: Global, harts: &[ModelHart]) -> Result<Vec<ThreadView>, AllocError>
+fn views(alloc: Global, harts: &[Hart]) -> Result<Vec<ThreadView>, AllocError>
     ensures { IfOk result (λ v. v.items ≡ map view_of harts.now) }
 {
     let mut views = Vec::new(alloc);
@@ -69,19 +67,18 @@ fn may_do(opening: &Opening, parts: &Parts, read: &Result<CommandLine, Refusal>)
 fn effect_of<'a>(
     alloc: Global,
     opening: &'a Opening,
-    sources: &'a SourceIndex,
     parts: &'a Parts,
     read: Result<CommandLine, Refusal>,
 ) -> Result<Effect, NoMemory>
     requires few { length parts.now.harts.items ≤ 16 }
     requires given { parts.now.table.given < 2 ^ 32 - 1 }
-    requires sources { sources.now ≡ sources_of opening.now.image }
+    requires sources { parts.now.sources ≡ sources_of opening.now.image }
     ensures { (line : List ℕ) → Commands line read → IfOk result (λ e. change_of e ≡ (answer_of opening.now (shown parts.now) line).outcome.change) }
 {
     let threads = views(alloc, parts.harts.as_slice())?;
     let debuggee = Debuggee {
         image: &opening.image,
-        sources,
+        sources: &parts.sources,
         memory: &parts.memory,
         threads: threads.as_slice(),
         table: &parts.table,
@@ -94,15 +91,8 @@ fn effect_of<'a>(
 }
 
 /// A line of the input.
-pub fn do_line(
-    alloc: Global,
-    opening: &Opening,
-    sources: &SourceIndex,
-    parts: &mut Parts,
-    line: &[u8],
-) -> Result<(), Halt>
+pub fn do_line(alloc: Global, opening: &Opening, parts: &mut Parts, line: &[u8]) -> Result<(), Halt>
     requires kept { Kept opening.now parts.old }
-    requires sources { sources.now ≡ sources_of opening.now.image }
     requires room { parts.old.noted < 2 ^ 64 - 1 }
     ensures { Comes opening.now result (if may_do opening.now (shown parts.old) line.now then Some (done_by opening.now (shown parts.old) line.now) else None) parts.new }
 {
@@ -110,7 +100,7 @@ pub fn do_line(
     if !may_do(opening, parts, &read) {
         return Err(Halt::Unlawful);
     }
-    let effect = effect_of(alloc, opening, sources, parts, read)?;
+    let effect = effect_of(alloc, opening, parts, read)?;
     make(parts, effect);
     Ok(())
 }

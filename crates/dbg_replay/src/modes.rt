@@ -1,14 +1,15 @@
 // What the harts are at.
 ghost use Rattle.std.specs.Prelude.{◌≡◌, ◌+◌, ◌≤◌, length, map, slice_get};
 ghost use Rattle.dbg_model.specs.State.{any_runs, any_leaves, is_running, is_leaving};
-ghost use Rattle.dbg_model.specs.Lawful.{leaver_from, leaving, exited, counted, stopped};
+ghost use Rattle.dbg_model.specs.Lawful.{leaver_from, leaving, exited, counted, set_out, stepped, stopped};
 ghost use Rattle.dbg_model.specs.Reply.{asked, resumed};
 
-use crate::ModelHart;
-use dbg_model::Mode;
+use dbg_model::{Hart, Judgement, Mode, noted_with, plan_after};
+use rv_exec::Regs;
+use step_plans::Plan;
 
 /// The hart of a number, if there is one.
-pub fn find(harts: &[ModelHart], h: u32) -> Option<ModelHart>
+pub fn find(harts: &[Hart], h: u32) -> Option<Hart>
     ensures { result ≡ slice_get harts.now h }
 {
     let h = h as usize;
@@ -32,56 +33,54 @@ fn is_leaving(mode: Mode) -> bool
 }
 
 /// Whether a hart runs.
-pub fn any_runs(harts: &[ModelHart]) -> bool
+pub fn any_runs(harts: &[Hart]) -> bool
     ensures { result ≡ any_runs harts.now }
 {
     match harts {
         [] => false,
-        [first, rest @ ..] => is_running(first.mode()) || any_runs(rest),
+        [first, rest @ ..] => is_running(first.mode) || any_runs(rest),
     }
 }
 
 /// Whether an exit is still to be reported.
-pub fn any_leaves(harts: &[ModelHart]) -> bool
+pub fn any_leaves(harts: &[Hart]) -> bool
     ensures { result ≡ any_leaves harts.now }
 {
     match harts {
         [] => false,
-        [first, rest @ ..] => is_leaving(first.mode()) || any_leaves(rest),
+        [first, rest @ ..] => is_leaving(first.mode) || any_leaves(rest),
     }
 }
 
 /// The least hart that leaves, with its code, where the first of these has the number `hart`.
-pub fn leaver_from(hart: u32, harts: &[ModelHart]) -> Option<(u32, u32)>
+pub fn leaver_from(hart: u32, harts: &[Hart]) -> Option<(u32, u32)>
     requires { hart + length harts.now ≤ 16 }
     ensures { result ≡ leaver_from hart harts.now }
 {
     let [first, rest @ ..] = harts else {
         return None;
     };
-    match first.mode() {
+    match first.mode {
         Mode::Leaving(code) => Some((hart, code)),
         Mode::Stopped | Mode::Running | Mode::Exited => leaver_from(hart + 1, rest),
     }
 }
 
 /// A live hart leaves.
-pub fn leaving(code: u32, hart: ModelHart) -> ModelHart
+pub fn leaving(code: u32, hart: Hart) -> Hart
     ensures { result ≡ leaving code hart }
 {
-    match hart.mode() {
+    match hart.mode {
         Mode::Exited => hart,
-        Mode::Stopped | Mode::Running | Mode::Leaving(_) => ModelHart::new(
-            hart.regs(),
-            Mode::Leaving(code),
-            hart.is_fresh(),
-            hart.is_asked(),
-        ),
+        Mode::Stopped | Mode::Running | Mode::Leaving(_) => Hart {
+            mode: Mode::Leaving(code),
+            ..hart
+        },
     }
 }
 
 /// Each live hart leaves.
-pub fn leave_all(harts: &mut [ModelHart], code: u32)
+pub fn leave_all(harts: &mut [Hart], code: u32)
     ensures { harts.new ≡ map (leaving code) harts.old }
 {
     for k in 0..harts.len() {
@@ -90,42 +89,86 @@ pub fn leave_all(harts: &mut [ModelHart], code: u32)
 }
 
 /// A hart that was reported.
-pub fn exited(hart: ModelHart) -> ModelHart
+pub fn exited(hart: Hart) -> Hart
     ensures { result ≡ exited hart }
 {
-    ModelHart::new(hart.regs(), Mode::Exited, hart.is_fresh(), hart.is_asked())
+    Hart {
+        mode: Mode::Exited,
+        ..hart
+    }
 }
 
 /// A hart that was counted.
-pub fn counted(hart: ModelHart) -> ModelHart
+pub fn counted(hart: Hart) -> Hart
     ensures { result ≡ counted hart }
 {
-    ModelHart::new(hart.regs(), hart.mode(), false, hart.is_asked())
+    Hart {
+        fresh: false,
+        ..hart
+    }
 }
 
 /// A hart that stopped.
-pub fn stopped(hart: ModelHart) -> ModelHart
+pub fn stopped(hart: Hart) -> Hart
     ensures { result ≡ stopped hart }
 {
-    ModelHart::new(hart.regs(), Mode::Stopped, false, false)
+    Hart {
+        mode: Mode::Stopped,
+        fresh: false,
+        asked: false,
+        plan: Plan::Free,
+        last: None,
+        ..hart
+    }
 }
 
-/// A stopped hart goes on.
-pub fn resumed(hart: ModelHart) -> ModelHart
-    ensures { result ≡ resumed hart }
+/// A hart goes on with the plan that its arrival gave it.
+pub fn set_out(judgement: Judgement, hart: Hart) -> Hart
+    ensures { result ≡ set_out judgement hart }
 {
-    match hart.mode() {
-        Mode::Stopped => ModelHart::new(hart.regs(), Mode::Running, false, false),
+    Hart {
+        plan: plan_after(judgement.verdict),
+        ..hart
+    }
+}
+
+/// A hart behind an instruction that left it these registers.
+pub fn stepped(hart: Hart, regs: Regs) -> Hart
+    ensures { result ≡ stepped hart regs }
+{
+    Hart {
+        regs,
+        fresh: true,
+        last: noted_with(hart.plan, hart.regs.pc()),
+        ..hart
+    }
+}
+
+/// A stopped hart goes on with a plan.
+pub fn resumed(plan: Plan, hart: Hart) -> Hart
+    ensures { result ≡ resumed plan hart }
+{
+    match hart.mode {
+        Mode::Stopped => Hart {
+            mode: Mode::Running,
+            fresh: false,
+            asked: false,
+            plan,
+            ..hart
+        },
         Mode::Running | Mode::Leaving(_) | Mode::Exited => hart,
     }
 }
 
 /// An interrupt is asked of a hart that runs.
-pub fn asked(hart: ModelHart) -> ModelHart
+pub fn asked(hart: Hart) -> Hart
     ensures { result ≡ asked hart }
 {
-    match hart.mode() {
-        Mode::Running => ModelHart::new(hart.regs(), Mode::Running, hart.is_fresh(), true),
+    match hart.mode {
+        Mode::Running => Hart {
+            asked: true,
+            ..hart
+        },
         Mode::Stopped | Mode::Leaving(_) | Mode::Exited => hart,
     }
 }

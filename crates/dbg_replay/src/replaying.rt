@@ -2,38 +2,39 @@
 ghost use Rattle.std.specs.Prelude.{◌≡◌, ◌≤◌, IfOk, replicate};
 ghost use Rattle.std.specs.Option.{option_map};
 ghost use Rattle.dbg_traits.specs.Settings.{AreSettings};
-ghost use Rattle.source_index.specs.Sources.{sources_of};
 ghost use Rattle.dbg_model.specs.State.{first_harts, first_state};
 ghost use Rattle.dbg_model.specs.Journals.{follows, ran_hart, replay};
 ghost use Rattle.dbg_replay.specs.Parts.{shown};
 ghost use Rattle.dbg_replay.specs.Going.{Kept, Ends, state_of};
 
-use crate::ModelHart;
 use crate::entries::enter;
 use crate::halt::Halt;
 use crate::state::{ModelState, Parts};
 use break_table::BreakTable;
 use data_memory::DataMemory;
-use dbg_model::{Entry, Journal, Mode, Opening};
+use dbg_model::{Entry, Hart, Journal, Mode, Opening};
 use dbg_traits::NoMemory;
 use elf32_read::Image;
 use mi_commands::Displaced;
 use plain_machine::first_registers;
 use source_index::SourceIndex;
 use std::alloc::{AllocError, Global};
+use step_plans::Plan;
 
-fn first_harts(alloc: Global, image: &Image, harts: u32) -> Result<Vec<ModelHart>, AllocError>
+fn first_harts(alloc: Global, image: &Image, harts: u32) -> Result<Vec<Hart>, AllocError>
     requires { harts ≤ 16 }
     ensures { IfOk result (λ v. v.items ≡ first_harts image.now harts harts) }
 {
     let mut all = Vec::new(alloc);
     for hart in 0..harts {
-        all.push(ModelHart::new(
-            first_registers(image.entry(), harts, hart),
-            Mode::Stopped,
-            false,
-            false,
-        ))?;
+        all.push(Hart {
+            regs: first_registers(image.entry(), harts, hart),
+            mode: Mode::Stopped,
+            fresh: false,
+            asked: false,
+            plan: Plan::Free,
+            last: None,
+        })?;
     }
     Ok(all)
 }
@@ -54,6 +55,7 @@ fn first_parts(alloc: Global, opening: &Opening) -> Result<Parts, NoMemory>
 {
     let harts = opening.settings.harts;
     Ok(Parts {
+        sources: SourceIndex::build(alloc, &opening.image)?,
         harts: first_harts(alloc, &opening.image, harts)?,
         memory: DataMemory::load(alloc, &opening.image, harts)?,
         out: Vec::new(alloc),
@@ -94,13 +96,11 @@ fn ran_hart(entry: &Entry) -> Option<u32>
 fn go_through(
     alloc: Global,
     opening: &Opening,
-    sources: &SourceIndex,
     parts: &mut Parts,
     entries: &[Entry],
 ) -> Result<(), Halt>
     requires first { shown parts.old ≡ first_state opening.now }
     requires kept { Kept opening.now parts.old }
-    requires sources { sources.now ≡ sources_of opening.now.image }
     ensures { Ends result (option_map state_of (replay opening.now entries.now)) parts.new }
 {
     let mut prev = None;
@@ -108,7 +108,7 @@ fn go_through(
         if !follows(prev, entry) {
             return Err(Halt::Unlawful);
         }
-        enter(alloc, opening, sources, parts, entry)?;
+        enter(alloc, opening, parts, entry)?;
         prev = ran_hart(entry);
     }
     Ok(())
@@ -126,8 +126,7 @@ pub fn replay(
     ensures { IfOk result (λ r. r ≡ option_map (λ p. p.state) (replay opening.now journal.now)) }
 {
     let mut parts = first_parts(alloc, opening)?;
-    let sources = SourceIndex::build(alloc, &opening.image)?;
-    match go_through(alloc, opening, &sources, &mut parts, journal.entries()) {
+    match go_through(alloc, opening, &mut parts, journal.entries()) {
         Ok(()) => Ok(Some(ModelState::of(parts))),
         Err(Halt::Unlawful) => Ok(None),
         Err(Halt::NoMemory) => Err(NoMemory),

@@ -1,17 +1,19 @@
 ghost use Rattle.std.specs.Prelude.{◌≡◌, map};
 ghost use Rattle.break_table.specs.Entry.{entry_of};
 
-use crate::ModelHart;
 use break_table::{BreakEntry, BreakTable};
 use data_memory::DataMemory;
+use dbg_model::Hart;
 use mi_commands::Displaced;
+use source_index::SourceIndex;
 use std::marker::Model;
 
-/// What a state is made of.
+/// What a replay keeps: what a state is made of, and what the program's file tells of its source.
 #[derive(Drop)]
 pub struct Parts {
+    pub sources: SourceIndex,
     /// Counted from 0.
-    pub harts: Vec<ModelHart>,
+    pub harts: Vec<Hart>,
     /// The data; the text is the image's.
     pub memory: DataMemory,
     /// The bytes that the program wrote.
@@ -66,7 +68,7 @@ impl ModelState {
     }
 
     /// The harts, counted from 0.
-    pub fn harts(&self) -> &[ModelHart]
+    pub fn harts(&self) -> &[Hart]
         ensures { result.now ≡ self.now.harts }
     {
         self.parts.harts.as_slice()

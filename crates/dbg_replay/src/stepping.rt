@@ -10,14 +10,13 @@ ghost use Rattle.dbg_model.specs.Lawful.{one, one_more_at, passes};
 ghost use Rattle.dbg_replay.specs.Parts.{shown};
 ghost use Rattle.dbg_replay.specs.Going.{Comes, Finishes, Kept};
 
-use crate::ModelHart;
 use crate::changes::is_off;
 use crate::halt::Halt;
-use crate::modes::{leave_all, leaving};
-use crate::movers::runner;
+use crate::modes::{leave_all, leaving, set_out, stepped};
+use crate::movers::{due, runner};
 use crate::state::Parts;
 use data_memory::DataMemory;
-use dbg_model::Opening;
+use dbg_model::{Hart, Opening};
 use elf32_read::Image;
 use plain_machine::call;
 use rv_decode::decode;
@@ -77,10 +76,10 @@ fn finish(alloc: Global, parts: &mut Parts, h: u32, stepped: Stepped) -> Result<
 }
 
 // Whether an enabled breakpoint stands where the hart is, and displaced stepping isn't off.
-fn passes(parts: &Parts, hart: &ModelHart) -> bool
+fn passes(parts: &Parts, hart: &Hart) -> bool
     ensures { result ≡ passes (shown parts.now) hart.now }
 {
-    !is_off(parts.displaced) && parts.table.stands(hart.regs().pc())
+    !is_off(parts.displaced) && parts.table.stands(hart.regs.pc())
 }
 
 // One more instruction of a hart that passed a breakpoint, if it did.
@@ -100,11 +99,12 @@ pub fn step(alloc: Global, opening: &Opening, parts: &mut Parts, h: u32) -> Resu
     ensures { Comes opening.now result (one opening.now h (shown parts.old)) parts.new }
 {
     let hart = runner(opening, parts, h)?;
+    let hart = set_out(due(opening, parts, h, &hart), hart);
     let passes = passes(parts, &hart);
-    let mut regs = hart.regs();
-    let stepped = execute_plain(&opening.image, &mut regs, &mut parts.memory);
-    parts.harts[h as usize] = ModelHart::new(regs, hart.mode(), true, hart.is_asked());
+    let mut regs = hart.regs;
+    let answer = execute_plain(&opening.image, &mut regs, &mut parts.memory);
+    parts.harts[h as usize] = stepped(hart, regs);
     count_pass(&mut parts.passed, h as usize, passes);
     parts.retired += 1;
-    finish(alloc, parts, h, stepped)
+    finish(alloc, parts, h, answer)
 }

@@ -7,7 +7,8 @@ use Rattle.dbg_model.specs.declared.entry.Mode.TheVariants as mode
 use Rattle.dbg_model.specs.declared.entry.Entry.{Entry}
 use Rattle.dbg_model.specs.declared.entry.Entry.TheVariants.{Left}
 use Rattle.dbg_model.specs.declared.opening.Opening.{Opening}
-use Rattle.dbg_model.specs.State.{Hart, State, any_leaves, is_leaving, has_exited, all_gone, hart_gone}
+use Rattle.dbg_model.specs.declared.hart.Hart.{Hart}
+use Rattle.dbg_model.specs.State.{State, any_leaves, is_leaving, has_exited, all_gone, hart_gone}
 use Rattle.dbg_model.specs.Lawful.{exited, exited_at}
 use Rattle.dbg_model.specs.Leaving.{lefts_from, left_one, gone, gone_by, LeaveWith, LeavesWith}
 use Rattle.dbg_model.specs.Journals.{Leaves}

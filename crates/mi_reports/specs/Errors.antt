@@ -38,6 +38,8 @@ obstacle_message obstacle.TooManyBreakpoints = text.TOO_MANY_BREAKPOINTS.now
 obstacle_message (obstacle.Expression f) = expression_message f.kind f.at
 obstacle_message obstacle.DivisionByZero = DIVISION_BY_ZERO.now
 obstacle_message (obstacle.Unreadable addr) = UNREADABLE.now ++ word_text addr
+obstacle_message (obstacle.NoLine addr) = text.NO_LINE_INFORMATION.now ++ word_text addr
+obstacle_message obstacle.NoCaller = text.NO_CALLER.now
 
 -- the text of an error, before its bytes are written as a C string
 abbrev pub message : Refused → List ℕ
@@ -47,7 +49,6 @@ message refused.Cli = text.CLI.now
 message (refused.Faulty f) = fault_message f
 message (refused.Hindered o) = obstacle_message o
 message (refused.UnknownName name) = text.FUNCTION.now ++ name ++ text.NOT_DEFINED.now
-message refused.NotBuilt = text.NOT_BUILT.now
 message (refused.UnknownLine file line) = codes "No line " ++ decimal line ++ codes " in file " ++ file
 
 -- what stands behind the text of an error

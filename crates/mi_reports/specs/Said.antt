@@ -1,7 +1,7 @@
 -- What a session says: the opening lines, and then the lines of each entry.
 use Rattle.std.specs.Prelude.{ℕ, zero, suc, List, [], ◌∷◌, ◌++◌, Option, Some, None, if◌then◌else◌, slice_get, unwrap_or}
 use Rattle.std.specs.Option.{option_map}
-use Rattle.dbg_model.specs.declared.entry.Why.TheVariants.{Break, Interrupted, Fault}
+use Rattle.dbg_model.specs.declared.entry.Why.TheVariants.{Break, Stepped, Finished, Interrupted, Fault}
 use Rattle.dbg_model.specs.declared.entry.Entry.{Entry}
 use Rattle.dbg_model.specs.declared.entry.Entry.TheVariants.{Ran, Counted, Stopped, Left, Did}
 use Rattle.dbg_model.specs.declared.frame.ShownFrame.{ShownFrame}
@@ -9,11 +9,12 @@ use Rattle.dbg_model.specs.declared.opening.Opening.{Opening}
 use Rattle.dbg_model.specs.Breaks.{is_temporary}
 use Rattle.source_index.specs.Sources.{sources_of}
 use Rattle.dbg_model.specs.Places.{own_frame}
-use Rattle.dbg_model.specs.State.{Hart, State, all_gone}
+use Rattle.dbg_model.specs.declared.hart.Hart.{Hart}
+use Rattle.dbg_model.specs.State.{State, all_gone}
 use Rattle.dbg_model.specs.Reply.{reply_of}
 use Rattle.dbg_model.specs.Lawful.{ran, one_out, exited_at}
 use Rattle.dbg_model.specs.Journals.{Place, come, first_place}
-use Rattle.mi_reports.specs.Text.{opening_text, stop_text, interrupt_text, break_text, gone_text, exit_text, stream_text}
+use Rattle.mi_reports.specs.Text.{opening_text, stop_text, interrupt_text, break_text, stepped_text, finished_text, gone_text, exit_text, stream_text}
 use Rattle.mi_reports.specs.Replies.{reply_text}
 
 abbrev pub wrote_text : Opening → ℕ → Option State → List ℕ
@@ -38,6 +39,8 @@ abbrev pub entry_text : Opening → State → Entry → List ℕ
 entry_text o s (Ran h n) = ran_text o h s n
 entry_text o s (Counted h) = []
 entry_text o s (Stopped h (Break number error)) = break_text (is_temporary s.breaks number) number error h (stop_frame o s h)
+entry_text o s (Stopped h Stepped) = stepped_text h (stop_frame o s h)
+entry_text o s (Stopped h Finished) = finished_text h (stop_frame o s h)
 entry_text o s (Stopped h Interrupted) = interrupt_text h (stop_frame o s h)
 entry_text o s (Stopped h (Fault cause)) = stop_text cause h (stop_frame o s h)
 entry_text o s (Left h code) = gone_text h ++ (if all_gone (exited_at s.harts h (slice_get s.harts h)) then exit_text code else [])

@@ -9,7 +9,7 @@ use Rattle.dbg_model.specs.declared.entry.Entry.TheVariants.{Ran, Counted, Stopp
 use Rattle.dbg_model.specs.declared.frame.ShownFrame.{ShownFrame}
 use Rattle.mi_reports.specs.Bytes.{word_text, octal, c_string}
 use Rattle.mi_reports.specs.Frames.{frame_text}
-use Rattle.mi_reports.specs.declared.texts.TheConstants.{CREATED_HEAD, EXITED_HEAD, GROUP_TAIL, PROMPT, SIGNAL_HEAD, BREAK_HEAD, KEPT, DELETED, BREAK_NUMBER_HEAD, SEGMENTATION_FAULT, BUS_ERROR, ILLEGAL_INSTRUCTION, TRAP, INTERRUPT, NEXT_FIELD, THREAD_HEAD, STOPPED_HEAD, STOPPED_TAIL, EXITED_NORMALLY, EXIT_CODE_HEAD, LINE_TAIL, STREAM_HEAD, LOG_HEAD, CONDITION_ERROR, COLON, DIVISION_BY_ZERO, UNREADABLE}
+use Rattle.mi_reports.specs.declared.texts.TheConstants.{CREATED_HEAD, EXITED_HEAD, GROUP_TAIL, PROMPT, SIGNAL_HEAD, BREAK_HEAD, STEPPED_HEAD, FINISHED_HEAD, KEPT, DELETED, BREAK_NUMBER_HEAD, SEGMENTATION_FAULT, BUS_ERROR, ILLEGAL_INSTRUCTION, TRAP, INTERRUPT, NEXT_FIELD, THREAD_HEAD, STOPPED_HEAD, STOPPED_TAIL, EXITED_NORMALLY, EXIT_CODE_HEAD, LINE_TAIL, STREAM_HEAD, LOG_HEAD, CONDITION_ERROR, COLON, DIVISION_BY_ZERO, UNREADABLE}
 
 -- a line for each of the first n threads
 abbrev pub created : ℕ → List ℕ
@@ -47,6 +47,14 @@ stop_text cause h frame = signal_text (signal cause) h frame
 -- hart h stopped in this frame by an interrupt that was asked of it
 unfoldable pub interrupt_text : ℕ → ShownFrame → List ℕ
 interrupt_text h frame = signal_text INTERRUPT.now h frame
+
+-- hart h stopped in this frame where its step ends
+unfoldable pub stepped_text : ℕ → ShownFrame → List ℕ
+stepped_text h frame = STEPPED_HEAD.now ++ place_text h frame
+
+-- hart h stopped in this frame, to which the function that it was to finish has returned
+unfoldable pub finished_text : ℕ → ShownFrame → List ℕ
+finished_text h frame = FINISHED_HEAD.now ++ place_text h frame
 
 -- what becomes of a breakpoint that is hit
 abbrev pub disposition : Bool → List ℕ

@@ -80,6 +80,8 @@ fn push_obstacle(into: &mut Vec<u8>, obstacle: Obstacle) -> Result<(), AllocErro
         Obstacle::Expression(fault) => push_expression(into, fault),
         Obstacle::DivisionByZero => push(into, DIVISION_BY_ZERO),
         Obstacle::Unreadable(address) => push_at(into, UNREADABLE, address),
+        Obstacle::NoLine(address) => push_at(into, text::NO_LINE_INFORMATION, address),
+        Obstacle::NoCaller => push(into, text::NO_CALLER),
     }
 }
 
@@ -98,7 +100,6 @@ fn push_message(into: &mut Vec<u8>, refused: &Refused) -> Result<(), AllocError>
             into.extend_from_slice(name.as_slice())?;
             push(into, text::NOT_DEFINED)
         }
-        Refused::NotBuilt => push(into, text::NOT_BUILT),
         Refused::UnknownLine { file, line } => {
             push_counted(into, text::NO_LINE, *line)?;
             push(into, text::IN_FILE)?;

@@ -14,4 +14,7 @@ mod texts;
 
 pub use refusals::{USAGE, bad_file};
 pub use replies::reply_text;
-pub use report::{break_text, interrupt_text, lefts_text, opening_text, stop_text, stream_text};
+pub use report::{
+    break_text, finished_text, interrupt_text, lefts_text, opening_text, stepped_text, stop_text,
+    stream_text,
+};

@@ -154,7 +154,9 @@ pub const EXPRESSION_DEEP: &str = "Expression is nested too deeply at ";
 
 pub const EXPRESSION_NAME: &str = "No symbol in expression at ";
 
-pub const NOT_BUILT: &str = "Not built yet";
+pub const NO_LINE_INFORMATION: &str = "No line information at 0x";
+
+pub const NO_CALLER: &str = "No caller frame";
 
 pub const COMMA: &str = ",";
 

@@ -1,6 +1,6 @@
 // The lines of what entries show.
 ghost use Rattle.std.specs.Prelude.{◌≡◌, ◌+◌, ◌++◌, ◌<◌, decimal, IfOk, OnOk};
-ghost use Rattle.mi_reports.specs.Text.{created, opening_text, signal, place_text, signal_text, stop_text, interrupt_text, disposition, hit_text, break_text, gone_text, gone_texts, exit_text, lefts_text, stream_text};
+ghost use Rattle.mi_reports.specs.Text.{created, opening_text, signal, place_text, signal_text, stop_text, interrupt_text, disposition, hit_text, break_text, stepped_text, finished_text, gone_text, gone_texts, exit_text, lefts_text, stream_text};
 
 use crate::conditions::push_condition;
 use crate::frames::push_frame;
@@ -146,6 +146,28 @@ pub fn break_text(
     let mut text = Vec::new(alloc);
     push_condition(alloc, &mut text, number, error)?;
     push_hit(&mut text, temporary, number, hart, frame)?;
+    Ok(text)
+}
+
+/// The line of a stop of a hart where its step ends, in this frame.
+#[tactic(auto, unfolding(crate::specs::Text::stepped_text))]
+pub fn stepped_text(alloc: Global, hart: u32, frame: &ShownFrame) -> Result<Vec<u8>, AllocError>
+    ensures { IfOk result (λ v. v.items ≡ stepped_text hart frame.now) }
+{
+    let mut text = Vec::new(alloc);
+    push(&mut text, texts::STEPPED_HEAD)?;
+    push_place(&mut text, hart, frame)?;
+    Ok(text)
+}
+
+/// The line of a stop of a hart in this frame, to which the function that it was to finish has returned.
+#[tactic(auto, unfolding(crate::specs::Text::finished_text))]
+pub fn finished_text(alloc: Global, hart: u32, frame: &ShownFrame) -> Result<Vec<u8>, AllocError>
+    ensures { IfOk result (λ v. v.items ≡ finished_text hart frame.now) }
+{
+    let mut text = Vec::new(alloc);
+    push(&mut text, texts::FINISHED_HEAD)?;
+    push_place(&mut text, hart, frame)?;
     Ok(text)
 }
 

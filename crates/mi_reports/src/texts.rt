@@ -11,6 +11,10 @@ pub const SIGNAL_HEAD: &str = "*stopped,reason=\"signal-received\",signal-name=\
 
 pub const BREAK_HEAD: &str = "*stopped,reason=\"breakpoint-hit\",disp=\"";
 
+pub const STEPPED_HEAD: &str = "*stopped,reason=\"end-stepping-range";
+
+pub const FINISHED_HEAD: &str = "*stopped,reason=\"function-finished";
+
 pub const KEPT: &str = "keep";
 
 pub const DELETED: &str = "del";

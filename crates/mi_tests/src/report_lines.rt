@@ -51,14 +51,15 @@ fn obstacle(number: u32) -> Obstacle {
         21 => fault(FaultKind::Deep, 32),
         22 => fault(FaultKind::Name, 10),
         23 => Obstacle::DivisionByZero,
-        _ => Obstacle::Unreadable(0xFFFF_FFFE),
+        24 => Obstacle::Unreadable(0xFFFF_FFFE),
+        25 => Obstacle::NoLine(0x1_0074),
+        _ => Obstacle::NoCaller,
     }
 }
 
 // Why a line is refused, by the number of its message.
 fn refused(number: u32, word: ByteList) -> Refused {
     match number {
-        0 => Refused::NotBuilt,
         1 => Refused::Long,
         2 => Refused::Syntax,
         3 => Refused::Cli,
@@ -77,8 +78,7 @@ fn refused(number: u32, word: ByteList) -> Refused {
 }
 
 /// The number of each error, the word that it repeats, and its line behind the token.
-const ERRORS: [(u32, &str, &str); 28] = [
-    (0, "", "^error,msg=\"Not built yet\"\n"),
+const ERRORS: [(u32, &str, &str); 29] = [
     (1, "", "^error,msg=\"Line is longer than 4096 bytes\"\n"),
     (2, "", "^error,msg=\"Malformed MI line\"\n"),
     (3, "", "^error,msg=\"Only MI commands are accepted\"\n"),
@@ -131,6 +131,8 @@ const ERRORS: [(u32, &str, &str); 28] = [
         "",
         "^error,msg=\"Cannot access memory at address 0xfffffffe\"\n",
     ),
+    (25, "", "^error,msg=\"No line information at 0x00010074\"\n"),
+    (26, "", "^error,msg=\"No caller frame\"\n"),
     (14, "", "^error,msg=\"Function  not defined\"\n"),
     (
         15,

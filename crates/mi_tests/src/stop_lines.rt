@@ -3,7 +3,8 @@ use break_table::CondError;
 use dbg_model::{Entry, ShownFrame};
 use elf32_read::{ElfFault, ElfKind};
 use mi_reports::{
-    USAGE, bad_file, break_text, interrupt_text, lefts_text, opening_text, stop_text, stream_text,
+    USAGE, bad_file, break_text, finished_text, interrupt_text, lefts_text, opening_text,
+    stepped_text, stop_text, stream_text,
 };
 use rv_exec::Cause;
 use std::alloc::Global;
@@ -58,6 +59,12 @@ fn check_stops(rt: &impl Abort, alloc: Global, frame: &ShownFrame, tail: &str) -
     }
     let text = interrupt_text(alloc, 1, frame)?;
     let want = format!(in alloc; "{head}\"SIGINT\",signal-meaning=\"Interrupt\",{tail}")?;
+    assert_eq!(rt; text.as_slice(), want.as_bytes());
+    let text = stepped_text(alloc, 1, frame)?;
+    let want = format!(in alloc; "*stopped,reason=\"end-stepping-range\",{tail}")?;
+    assert_eq!(rt; text.as_slice(), want.as_bytes());
+    let text = finished_text(alloc, 1, frame)?;
+    let want = format!(in alloc; "*stopped,reason=\"function-finished\",{tail}")?;
     assert_eq!(rt; text.as_slice(), want.as_bytes());
     for (temporary, error, line, disposition) in BREAKS {
         let text = break_text(alloc, temporary, 17, error, 1, frame)?;

@@ -21,4 +21,4 @@ pub returns : goal.returns
 returns c =
     let is : c.may_do.result ≡ true = search rules in
     let may : may_do c.args.opening.now (shown c.args.parts.now) c.args.line.now ≡ true = sym (c.may_do.ensures c.args.line.now c.in_ok-read.ensures.commands) ∙ is in
-    line_comes c.args.opening.now c.args.parts.now c.make.new.parts c.args.line.now c.in_ok-effect.effect (may_do c.args.opening.now (shown c.args.parts.now) c.args.line.now) c.requires.kept may (c.in_ok-effect.ensures c.args.line.now c.in_ok-read.ensures.commands) c.make.ensures.state c.make.ensures.table
+    line_comes c.args.opening.now c.args.parts.now c.make.new.parts c.args.line.now c.in_ok-effect.effect (may_do c.args.opening.now (shown c.args.parts.now) c.args.line.now) c.requires.kept may (c.in_ok-effect.ensures c.args.line.now c.in_ok-read.ensures.commands) c.make.ensures.state c.make.ensures.table c.make.ensures.sources

@@ -11,6 +11,7 @@ returns-clause-kept c =
     let table = c.in_ok-new.ensures.table in
     let given = ap (λ (t : Table). t.given) table in
     record {
+      sources = c.in_ok-build.ensures;
       harts = ap length c.in_ok-first_harts.ensures ∙ length_first o.image o.settings.harts o.settings.harts;
       places = c.in_ok-new.ensures.places;
       waits = ap (λ (t : Table). length t.waits) table ∙ length-replicated o.settings.harts _;

@@ -1,9 +1,8 @@
-use Rattle.std.proofs.Common.{true, Bool, rules, ◌≡◌, sym, ap, ◌∙◌, arith, subst, length-set}
+use Rattle.std.proofs.Common.{rules, ◌≡◌, refl, sym, ap, ◌∙◌, arith, subst, length-set}
 use Rattle.std.specs.Prelude.{Err, slice_set, Result}
 use Rattle.std.proofs.lemmas.Option.{slice_get_within}
-use Rattle.dbg_model.specs.State.{Hart}
-use Rattle.dbg_model.specs.Lawful.{one, one_more_at}
-use Rattle.dbg_model.specs.declared.entry.Mode.{Mode}
+use Rattle.dbg_model.specs.State.{due}
+use Rattle.dbg_model.specs.Lawful.{one, one_more_at, set_out}
 use Rattle.dbg_replay.specs.declared.halt.Halt.{Halt}
 use Rattle.dbg_replay.specs.Parts.{shown}
 use Rattle.dbg_replay.specs.Going.{Comes}
@@ -27,11 +26,17 @@ overflow_add-parts c = omega (arith, c.in_ok-hart.ensures.room.0, c.requires.bud
 pub finish-requires : goal.finish-requires
 finish-requires c =
     let low = slice_get_within c.args.parts.now.harts.items c.args.h c.in_ok-hart.hart c.in_ok-hart.ensures.hart.0 in
-    omega (arith, low, length-set c.args.parts.now.harts.items c.args.h c.new.result)
+    omega (arith, low, length-set c.args.parts.now.harts.items c.args.h c.stepped.result)
 
 pub returns : goal.returns
 returns c =
-    let xs = c.args.parts.now.harts.items in
-    let made = c.new.ensures ∙ ap (λ (m : Mode). let y : Hart = record { regs = c.execute_plain-stepped.new.regs; mode = m; fresh = true; asked = c.is_asked.result } in y) c.mode.ensures ∙ ap (λ (a : Bool). let y : Hart = record { regs = c.execute_plain-stepped.new.regs; mode = c.in_ok-hart.hart.mode; fresh = true; asked = a } in y) c.is_asked.ensures in
-    one_comes c.args.opening.now c.args.parts.now c.finish.new.parts c.args.h c.in_ok-hart.hart _ _ c.execute_plain-stepped.new.memory c.execute_plain-stepped.result c.regs-regs.result c.execute_plain-stepped.new.regs c.finish.result c.requires
-    c.in_ok-hart.ensures.hart.0 c.in_ok-hart.ensures.hart.1 c.regs-regs.ensures c.execute_plain-stepped.ensures (ap (slice_set xs c.args.h) made) (c.count_pass.ensures ∙ ap (one_more_at c.args.parts.now.passed.items c.args.h) c.passes-passes.ensures) c.finish.ensures
+    let o = c.args.opening.now in
+    let old = c.args.parts.now in
+    let h = c.args.h in
+    let x = c.in_ok-hart.hart in
+    let y = c.set_out-hart.result in
+    let st = c.execute_plain-answer in
+    let goes : y ≡ set_out (due o.image (shown old) h x) x = c.set_out-hart.ensures ∙ ap (λ j. set_out j x) c.due.ensures in
+    one_comes o old c.finish.new.parts h x y _ _ st.new.memory st.result y.regs st.new.regs c.finish.result c.requires
+    c.in_ok-hart.ensures.hart.0 c.in_ok-hart.ensures.hart.1 goes refl st.ensures (ap (slice_set old.harts.items h) c.stepped.ensures)
+    (c.count_pass.ensures ∙ ap (one_more_at old.passed.items h) c.passes-passes.ensures) c.finish.ensures
