@@ -20,11 +20,11 @@ use Rattle.dbg_model.specs.declared.opening.Opening.{Opening}
 use Rattle.mi_commands.specs.declared.command.Displaced.{Displaced}
 use Rattle.step_over.specs.declared.phase.Phase.{Phase}
 use Rattle.dbg_model.specs.Limits.{history}
-use Rattle.dbg_model.specs.State.{Hart, State, any_runs, is_off}
+use Rattle.dbg_model.specs.declared.hart.Hart.{Hart}
+use Rattle.dbg_model.specs.State.{State, any_runs, is_off}
 use Rattle.dbg_model.specs.Outcome.{Change, stays, resumes, selects, inserts, deletes, enables, conditions, ignores, interrupts, displaces, exits}
 use Rattle.dbg_model.specs.Sight.{thread_at}
-use Rattle.dbg_model.specs.Reply.{exited_after, answer_of, changed_by, done_by, is_wait, going_on, asking, selected_after, displaced_after, sets_after, breaks_after, given_after}
-use Rattle.dbg_model.specs.Reply as model
+use Rattle.dbg_model.specs.Reply.{exited_after, answer_of, changed_by, done_by, is_wait, selected_after, displaced_after, sets_after, breaks_after, given_after}
 use Rattle.dbg_model.specs.Lawful.{enter, may_go, may_do}
 use Rattle.dbg_model.proofs.Founding.{IsFounded, IsThereOr, change_founded}
 use Rattle.dbg_model.proofs.Numbering.{given_within}
@@ -32,7 +32,7 @@ use Rattle.dbg_model.proofs.Options.{both_true}
 use Rattle.engine_facts.specs.declared.mind.Mind.{Mind}
 use Rattle.engine_facts.specs.Minds.{is_lifted}
 use Rattle.engine_facts.specs.Seen.{Run, seen, seen_with, told_of, seen_harts}
-use Rattle.engine_facts.specs.Facts.{Facts, IsThread, InText, Planted, AreInText, pending}
+use Rattle.engine_facts.specs.Facts.{Sound, IsThread, wants_of, InText, Planted, AreInText, pending}
 use Rattle.engine_facts.specs.Moves.{lined}
 use Rattle.engine_facts.specs.Tables.{ArePlanted}
 use Rattle.engine_facts.proofs.Stopping.{lines}
@@ -43,11 +43,12 @@ use Rattle.engine_facts.proofs.Keeping.{Enters}
 use Rattle.dbg_answers.specs.Answer.{change_of}
 use Rattle.dbg_answers.specs.declared.answer.Effect.{Effect}
 use Rattle.dbg_answers.specs.declared.answer.Effect.TheVariants as effect
-use Rattle.dbg_engine.specs.Changing.{Makes, Applies, Retabled}
+use Rattle.dbg_engine.specs.Changing.{Makes, Applies, Retabled, wants_by}
 use Rattle.dbg_answers.specs.Table.{changed_table}
 use Rattle.dbg_engine.specs.Calls.{Lines}
-use Rattle.dbg_engine.specs.Resuming.{asked, gone_on, minds_after, on_threads}
-use Rattle.dbg_engine.proofs.GoingOn.{goes_on, harts_threads, is_asked, length_threads, phases_threads, seen_asked, seen_going}
+use Rattle.dbg_engine.specs.Resuming.{minds_after}
+use Rattle.dbg_engine.proofs.GoingOn.{line_ordered}
+use Rattle.dbg_engine.proofs.Holds.{Noted}
 
 enter_did : (o : Opening) (s : State) (line : List ℕ) → may_do o s line ≡ true → enter o s (Did line) ≡ Some (done_by o s line)
 unfolding enter
@@ -73,7 +74,7 @@ thread_within o xs (suc h) len e =
 
 selected_within : (o : Opening) (p : Program) (xs : List Hart) (es : List BreakEntry) (selected : ℕ) (c : Change) → IsThread o selected → length xs ≡ o.settings.harts → IsFounded p xs es c → IsThread o (selected_after selected c)
 selected_within o p xs es selected stays is len f = is
-selected_within o p xs es selected (resumes ts) is len f = is
+selected_within o p xs es selected (resumes ts plan) is len f = is
 selected_within o p xs es selected (selects t) is len f = thread_within o xs t len f
 selected_within o p xs es selected (inserts a) is len f = is
 selected_within o p xs es selected (deletes ns) is len f = is
@@ -88,9 +89,8 @@ done_is : (o : Opening) (s : State) (line : List ℕ) (c : Change) → (answer_o
 unfolding done_by
 done_is o s line c is = ap (changed_by s) is
 
-pub record LinedTo (r new : Run) (line : List ℕ) : Type 0 where
-  pub facts : Facts new
-  pub lines : Lines r new line
+abbrev pub LinedTo : Run → Run → List ℕ → Type 0
+LinedTo r new line = Noted new (λ n. Lines r n line)
 
 -- the engine after such a line
 abbrev after_line : Run → List ℕ → Change → Words → ℕ → Run
@@ -112,7 +112,7 @@ sets_by_more d value q sets false e = let l = pending_by value q false (is_lifte
 -- a line that switches displaced stepping on is counted for the one patch that may be lifted then
 sets_more : (d : Displaced) (sets : ℕ) (c : Change) (q : Phase) → pending (displaced_after d c) q + sets ≤ pending d q + sets_after sets c
 sets_more d sets stays q = omega arith
-sets_more d sets (resumes ts) q = omega arith
+sets_more d sets (resumes ts plan) q = omega arith
 sets_more d sets (selects t) q = omega arith
 sets_more d sets (inserts a) q = omega arith
 sets_more d sets (deletes ns) q = omega arith
@@ -123,40 +123,30 @@ sets_more d sets (interrupts ts) q = omega arith
 sets_more d sets (displaces value) q = sets_by_more d value q sets (is_off value) refl
 sets_more d sets exits q = omega arith
 
-lined_to : (r : Run) (line : List ℕ) (c : Change) (t : Words) (spare : ℕ) → Facts r → may_do r.opening (seen r) line ≡ true → Makes r line c → Planted r.opening.image t (breaks_after r.breaks r.given c) r.hold
+lined_to : (r : Run) (line : List ℕ) (c : Change) (t : Words) (spare : ℕ) → Sound r → may_do r.opening (seen r) line ≡ true → Makes r line c → Planted r.opening.image t (record (wants_of r) { entries = breaks_after r.breaks r.given c })
     → AreInText r.opening.image (breaks_after r.breaks r.given c) → LinedTo r (after_line r line c t spare) line
 lined_to r line c t spare f may is p texts =
     let image = r.opening.image in
-    let ts = going_on c in
-    let us = asking c in
-    let xs = on_threads gone_on r.minds ts in
     let n = after_line r line c t spare in
     let s = changed_by (seen r) c in
     let done = done_is r.opening (seen r) line c is in
-    let cores : length r.machine.cores ≡ length xs = f.harts.len ∙ sym (length_threads gone_on r.minds ts) in
-    let harts : seen_harts image r.machine.cores (minds_after r.minds c) ≡ s.harts =
-    seen_asked image r.machine.cores xs us cores ∙ ap (λ ys. model.ask_threads ys us) (seen_going image r.machine.cores r.minds ts f.harts.len) in
-    let same : s ≡ seen_with n (told_of s) = ap (λ ys. let u : State = record s { harts = ys } in u) (sym harts) in
+    let o = line_ordered image r.machine.cores r.machine.slots r.hold r.minds c f.harts in
+    let same : s ≡ seen_with n (told_of s) = ap (λ ys. let u : State = record s { harts = ys } in u) (sym o.sees) in
     let founded = subst (IsFounded image (seen r).harts r.breaks) is (change_founded r.opening (seen r) line) in
     let len : length (seen r).harts ≡ r.opening.settings.harts = harts_length image r.machine.cores r.minds f.harts.len ∙ f.count in
-    let resumed = harts_threads gone_on model.resumed goes_on image r.machine.cores r.machine.slots r.minds r.hold ts f.harts in
     let e : Enters n s =
     lines r (Did line) (minds_after r.minds c) (selected_after r.selected c) (displaced_after r.displaced c) t (breaks_after r.breaks r.given c) (given_after r.given c) (exited_after r.exited c) spare s f refl (enter_did r.opening (seen r) line may ∙ ap Some done) same
-    (length_threads asked xs us ∙ length_threads gone_on r.minds ts)
+    o.len
     (selected_within r.opening image (seen r).harts r.breaks r.selected c f.selected len founded)
-    (harts_threads asked model.asked is_asked image r.machine.cores r.machine.slots xs r.hold us resumed)
-    (record {
-      phases = phases_threads asked model.asked is_asked image r.machine.cores r.machine.slots xs r.hold us resumed ∙ phases_threads gone_on model.resumed goes_on image r.machine.cores r.machine.slots r.minds r.hold ts f.harts;
-      passed = refl;
-      sets = λ q. sets_more r.displaced (seen r).sets c q;
-    }) p texts in
-    record { facts = e.facts; lines = record { journal = refl; seen = sym (done ∙ e.seen); opening = refl } }
+    o.harts
+    (record { phases = o.phases; passed = refl; sets = λ q. sets_more r.displaced (seen r).sets c q }) p texts in
+    record { sound = e.facts; does = λ u ws. record { journal = refl; seen = sym (done ∙ e.seen); opening = refl } }
 
 -- A line that makes a change was done: the journal, what is kept of the harts, the settings and the table are those after it.
-pub done_line : (r : Run) (spare : ℕ) (line : List ℕ) (c : Change) (j : List Entry) (m : Patched) (xs : List Mind) (selected : ℕ) (d : Displaced) (exited : Bool) (old new : Table) → Facts r → may_do r.opening (seen r) line ≡ true → Makes r line c
+pub done_line : (r : Run) (spare : ℕ) (line : List ℕ) (c : Change) (j : List Entry) (m : Patched) (xs : List Mind) (selected : ℕ) (d : Displaced) (exited : Bool) (old new : Table) → Sound r → may_do r.opening (seen r) line ≡ true → Makes r line c
     → r.breaks ≡ old.entries → r.given ≡ old.given → r.bounds ≡ old.text → r.waits ≡ old.waits
     → j ≡ r.journal ++ Did line ∷ [] → xs ≡ minds_after r.minds c → selected ≡ selected_after r.selected c → d ≡ displaced_after r.displaced c → exited ≡ exited_after r.exited c
-    → new ≡ changed_table old c → Retabled r.machine m new.entries r.hold
+    → new ≡ changed_table old c → Retabled r.machine m (wants_by new r.hold)
     → LinedTo r (record r { journal = j; spare = spare; machine = m; minds = xs; breaks = new.entries; given = new.given; bounds = new.text; waits = new.waits; selected = selected; displaced = d; noted = r.noted + 1; exited = exited }) line
 done_line r spare line c j m xs selected d exited old new f may is breaks given bounds waits same minds chosen set ended table w =
     let N : List Entry → Patched → List Mind → ℕ → Displaced → Bool → List BreakEntry → ℕ → List Span → List (Option ℕ) → Type 0 =
@@ -173,7 +163,8 @@ done_line r spare line c j m xs selected d exited old new f may is breaks given 
     let gs : new.given ≡ g = ap (λ (t : Table). t.given) table ∙ ap (λ g. given_after g c) (sym given) in
     let ts : new.text ≡ r.bounds = ap (λ (t : Table). t.text) table ∙ sym bounds in
     let ws : new.waits ≡ r.waits = ap (λ (t : Table). t.waits) table ∙ sym waits in
-    let again = planted_again r m.text cs f w.words (subst (λ (es : List BreakEntry). ArePlanted m.text es r.hold) bs w.planted) in
+    let A : List BreakEntry → List (Option ℕ) → Type 0 = λ es vs. ArePlanted m.text (record { entries = es; waits = vs; hold = r.hold }) in
+    let again = planted_again r m.text cs f w.words (subst (λ (vs : List (Option ℕ)). A cs vs) ws (subst (λ (es : List BreakEntry). A es new.waits) bs w.planted)) in
     let first : N es m' ys t v x cs g r.bounds r.waits = lined_to r line c m.text spare f may is again.0 again.1 in
     subst (λ (ls : List Entry). N ls m xs selected d exited new.entries new.given new.text new.waits) (sym same)
     (subst (λ (n : Patched). N es n xs selected d exited new.entries new.given new.text new.waits) (sym w.rest)
@@ -202,7 +193,7 @@ word_by p a true is e = found_any p.text (in_words a) (λ (t : Text). slice_get 
 word_by p a false is e = cc
 
 -- a word of text is an instruction's place
-word_place : (p : Program) (a : ℕ) → is_some (text_word p a) ≡ true → is_instruction p a ≡ true
+pub word_place : (p : Program) (a : ℕ) → is_some (text_word p a) ≡ true → is_instruction p a ≡ true
 word_place p a e = word_by p a (a % 4 == 0) refl e
 
 thread_is : (o : Opening) (n : ℕ) (t : ℕ) → n ≡ o.settings.harts → IsThread o t → (nat_le 1 t && nat_le t n) ≡ true
@@ -225,28 +216,28 @@ text_in : (p : Program) (a : ℕ) → a < 2 ^ 32 → is_some (text_word p a) ≡
 text_in p a low is = ap is_some (word_below (text_word p) (2 ^ 32) a low) ∙ is
 
 -- a change that a line makes can be made
-pub applies : (r : Run) (line : List ℕ) (e : Effect) (t : Table) → Facts r → r.breaks ≡ t.entries → r.bounds ≡ t.text → r.waits ≡ t.waits → Makes r line (change_of e) → Applies r.machine.text t e
+pub applies : (r : Run) (line : List ℕ) (e : Effect) (t : Table) → Sound r → r.breaks ≡ t.entries → r.bounds ≡ t.text → r.waits ≡ t.waits → Makes r line (change_of e) → Applies r.machine.text t e
 applies r line (effect.Insert s) t f breaks bounds waits is =
     let k = subst (IsFounded r.opening.image (seen r).harts r.breaks) is (change_founded r.opening (seen r) line) in
     let place : is_place t.text s.address ≡ true = ap (λ us. is_place us s.address) (sym bounds) ∙ (f.places s.address ∙ word_place r.opening.image s.address k.0) in
     let len : length (seen r).harts ≡ r.opening.settings.harts = harts_length r.opening.image r.machine.cores r.minds f.harts.len ∙ f.count in
     let full : nat_le 128 (length t.entries) ≡ false = ap (λ es. nat_le 128 (length es)) (sym breaks) ∙ not_full (length r.breaks) k.1 in
-    let known : is_thread (length t.waits) s.thread ≡ true = ap (λ vs. is_thread (length vs) s.thread) (sym waits) ∙ thread_known r.opening (seen r).harts (length r.waits) s.thread len (ap length f.waits ∙ length-replicate {A = Option ℕ} r.opening.settings.harts None) k.2 in
+    let known : is_thread (length t.waits) s.thread ≡ true = ap (λ vs. is_thread (length vs) s.thread) (sym waits) ∙ thread_known r.opening (seen r).harts (length r.waits) s.thread len f.many k.2 in
     let free : insert_fault t (asked_of s) ≡ None = rw (place, full, known) refl in
-    (free, λ low. text_shown r.opening.image r.machine.text r.breaks r.hold s.address f.planted (text_in r.opening.image s.address low k.0))
+    (free, λ low. text_shown r.opening.image r.machine.text (wants_of r) s.address f.planted (text_in r.opening.image s.address low k.0))
 applies r line (effect.Delete ns) t f breaks bounds waits is = tt
 applies r line (effect.Enable ns e) t f breaks bounds waits is = tt
 applies r line (effect.Condition n c) t f breaks bounds waits is = tt
 applies r line (effect.After n k) t f breaks bounds waits is = tt
 applies r line effect.Nothing t f breaks bounds waits is = tt
-applies r line (effect.Resume ts) t f breaks bounds waits is = tt
+applies r line (effect.Resume ts plan) t f breaks bounds waits is = tt
 applies r line (effect.Interrupt ts) t f breaks bounds waits is = tt
 applies r line (effect.Select n) t f breaks bounds waits is = tt
 applies r line (effect.Displace v) t f breaks bounds waits is = tt
 applies r line effect.Exit t f breaks bounds waits is = tt
 
 -- the numbers have room
-pub numbers_room : (r : Run) → Facts r → r.noted < history → r.given < 2 ^ 32 - 1
+pub numbers_room : (r : Run) → Sound r → r.noted < history → r.given < 2 ^ 32 - 1
 numbers_room r f low = omega (arith, given_within r.opening r.journal (seen r) f.leaves)
 
 -- a line that may be done is not beyond the last

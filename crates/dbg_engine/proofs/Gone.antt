@@ -1,6 +1,6 @@
 -- The ways that a hart went, with those that it went before.
 use Rattle.std.proofs.Common.{◌≡◌, ◌<◌, ◌≤◌, ℕ, zero, suc, ◌+◌, Bool, List, [], ◌∷◌, length, refl, sym, ap, ◌∙◌, subst, arith}
-use Rattle.std.specs.Prelude.{◌^◌, true, false, Some, slice_get}
+use Rattle.std.specs.Prelude.{◌^◌, true, false, Some, is_some, slice_get}
 use Rattle.rv_exec.specs.Registers.{set_pc}
 use Rattle.elf32_read.specs.Program.{Program}
 use Rattle.text_words.specs.Words.{shown, is_planted}
@@ -9,11 +9,12 @@ use Rattle.hart_machine.specs.Copying.{StepsByCopy}
 use Rattle.hart_machine.specs.Stepping.{AreCounted}
 use Rattle.break_table.specs.Arrival.{due_of}
 use Rattle.dbg_model.specs.Views.{register, shown_byte}
-use Rattle.dbg_model.specs.State.{is_due}
+use Rattle.break_table.specs.declared.due.Due.{Due}
 use Rattle.hart_machine.specs.Patched.{Patched}
 use Rattle.hart_machine.specs.Running.{AllRan}
 use Rattle.break_table.specs.Entry.{Entry as BreakEntry}
-use Rattle.dbg_engine.specs.Going.{Way, InPlace, ByCopy, Goes, GoesBy, Passes, turns_of}
+use Rattle.step_plans.specs.declared.plan.Plan.{Plan}
+use Rattle.dbg_engine.specs.Going.{Way, InPlace, ByCopy, Goes, GoesBy, Passes, is_kept, meets, turns_of}
 
 abbrev in_place : ℕ → List Way → List Way
 in_place zero ws = ws
@@ -27,13 +28,13 @@ turns_more : (n : ℕ) (ws : List Way) → turns_of (in_place n ws) ≡ turns_of
 turns_more zero ws = omega arith
 turns_more (suc n) ws = let ih = turns_more n ws in omega arith
 
-module _ (p : Program) (bs : List BreakEntry) (h most : ℕ) (on : Bool) (old : Patched) where
-  more_by : (n : ℕ) (ws : List Way) (mid new : Patched) → length ws + n ≤ most → GoesBy p bs h on most ws old mid → AllRan n mid h new → GoesBy p bs h on most (in_place n ws) old new
-  more_by zero ws mid new room went ran = subst (λ (m : Patched). GoesBy p bs h on most ws old m) (sym ran) went
+module _ (p : Program) (bs : List BreakEntry) (h : ℕ) (plan : Plan) (most : ℕ) (on : Bool) (old : Patched) where
+  more_by : (n : ℕ) (ws : List Way) (mid new : Patched) → length ws + n ≤ most → GoesBy p bs h plan on most ws old mid → AllRan n mid h new → GoesBy p bs h plan on most (in_place n ws) old new
+  more_by zero ws mid new room went ran = subst (λ (m : Patched). GoesBy p bs h plan on most ws old m) (sym ran) went
   more_by (suc n) ws mid new room went ran = (let len = length_more n ws in omega arith, record { machine = ran.machine; before = more_by n ws mid ran.machine (omega arith) went ran.before; step = ran.step })
 
   -- n more instructions in their places
-  pub ran_more : (t i n : ℕ) (mid new : Patched) → i + n ≤ most → Goes p bs h on most t i old mid → AllRan n mid h new → Goes p bs h on most (t + n) (i + n) old new
+  pub ran_more : (t i n : ℕ) (mid new : Patched) → i + n ≤ most → Goes p bs h plan on most t i old mid → AllRan n mid h new → Goes p bs h plan on most (t + n) (i + n) old new
   ran_more t i n mid new room went ran =
       let ws = went.ways in
       record {
@@ -44,7 +45,7 @@ module _ (p : Program) (bs : List BreakEntry) (h most : ℕ) (on : Bool) (old : 
       }
 
   -- and one by a copy
-  pub passed_more : (t i : ℕ) (mid new : Patched) → i + 1 < most → Goes p bs h on most t i old mid → Passes p bs h on mid new → Goes p bs h on most (t + 3) (i + 1) old new
+  pub passed_more : (t i : ℕ) (mid new : Patched) → i + 1 < most → Goes p bs h plan on most t i old mid → Passes p bs h plan on mid new → Goes p bs h plan on most (t + 3) (i + 1) old new
   passed_more t i mid new room went passes =
       record {
         ways = ByCopy ∷ went.ways;
@@ -53,15 +54,20 @@ module _ (p : Program) (bs : List BreakEntry) (h most : ℕ) (on : Bool) (old : 
         goes = (let e = went.instructions_are in omega arith, record { machine = mid; before = went.goes; step = passes });
       }
 
-  pub none_yet : Goes p bs h on most 0 0 old old
+  pub none_yet : Goes p bs h plan on most 0 0 old old
   none_yet = record { ways = []; turns_are = refl; instructions_are = refl; goes = refl }
 
 -- a planted word that was passed, by the pc of its hart
-pub passes_at : (p : Program) (bs : List BreakEntry) (h : ℕ) (on : Bool) (m new : Patched) (pc word : ℕ) (k : Core) → slice_get m.cores h ≡ Some k → pc ≡ k.regs.pc → pc < 2 ^ 32 → on ≡ true → is_planted m.text pc ≡ true → Some word ≡ shown m.text pc
-    → is_due (due_of h (register (set_pc k.regs pc)) (shown_byte p m.memory) bs) ≡ false → AreCounted m.cores → StepsByCopy m h word new → Passes p bs h on m new
-passes_at p bs h on m new pc word k at is low is_on planted found undue counted steps =
+pub passes_at : (p : Program) (bs : List BreakEntry) (h : ℕ) (plan : Plan) (on : Bool) (m new : Patched) (pc word : ℕ) (k : Core) → slice_get m.cores h ≡ Some k → pc ≡ k.regs.pc → pc < 2 ^ 32 → on ≡ true → is_planted m.text pc ≡ true → Some word ≡ shown m.text pc
+    → meets (due_of h (register (set_pc k.regs pc)) (shown_byte p m.memory) bs) ≡ false → is_kept plan pc ≡ true → AreCounted m.cores → StepsByCopy m h word new → Passes p bs h plan on m new
+passes_at p bs h plan on m new pc word k at is low is_on planted found undue kept counted steps =
     let A : ℕ → Type 0 = λ a. a < 2 ^ 32 in
     let B : ℕ → Type 0 = λ a. is_planted m.text a ≡ true in
     let C : ℕ → Type 0 = λ a. Some word ≡ shown m.text a in
-    let D : ℕ → Type 0 = λ a. is_due (due_of h (register (set_pc k.regs a)) (shown_byte p m.memory) bs) ≡ false in
-    record { is_on = is_on; core = k; word = word; at = at; low = subst A is low; planted = subst B is planted; word_is = subst C is found; undue = subst D is undue; counted = counted; steps = steps }
+    let D : ℕ → Type 0 = λ a. meets (due_of h (register (set_pc k.regs a)) (shown_byte p m.memory) bs) ≡ false in
+    let K : ℕ → Type 0 = λ a. is_kept plan a ≡ true in
+    record { is_on = is_on; kept = subst K is kept; core = k; word = word; at = at; low = subst A is low; planted = subst B is planted; word_is = subst C is found; undue = subst D is undue; counted = counted; steps = steps }
+
+-- neither a stop nor a count
+pub unmet : (d : Due) → is_some d.stop ≡ false → d.counts ≡ false → meets d ≡ false
+unmet d stop counts = rw (stop, counts) refl

@@ -6,8 +6,10 @@ pub mod Commanding
 pub mod Marking
 pub mod Words
 pub mod Tabling
+pub mod Waitings
 pub mod Lengths
 pub mod Rows
+pub mod Arrivals
 pub mod Gone
 pub mod Passing
 pub mod Aheads
@@ -15,3 +17,5 @@ pub mod Marks
 pub mod GoingOn
 pub mod Viewing
 pub mod Reading
+pub mod Kept
+pub mod Rewaits

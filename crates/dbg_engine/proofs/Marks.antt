@@ -8,7 +8,8 @@ use Rattle.step_over.specs.declared.phase.Mark.TheVariants.{Copy, Lift, Run, Fix
 use Rattle.step_over.specs.Phases.{after, IsIdle}
 use Rattle.step_over.proofs.Marks.{not_idle, same}
 use Rattle.engine_facts.specs.declared.mind.Mind.{Mind}
-use Rattle.engine_facts.specs.Minds.{after_step, is_before, first_mind, ran_mind, counted_mind, exited_mind, gone_mind, with_phase}
+use Rattle.engine_facts.specs.Minds.{after_step, is_before, first_mind, counted_mind, gone_mind, with_phase}
+use Rattle.engine_facts.specs.Moves.{plan_for, ran_by}
 use Rattle.engine_facts.specs.Seen.{Run as Engine}
 use Rattle.dbg_engine.specs.declared.moving.Turned.{Turned}
 use Rattle.dbg_engine.specs.declared.moving.Turned.TheVariants as turned
@@ -63,7 +64,7 @@ moves turned.NotRunning r s h x y m at there = kept r s h x y m.0 at there
 moves (turned.Held by) r s h x y m at there = kept r s h x y m.0 at there
 moves turned.NoSlot r s h x y m at there = kept r s h x y m.0 at there
 moves turned.Counted r s h x y m at there =
-    phase_is (counted_mind m.mind) y (set_here r.minds s.minds h m.mind y (counted_mind m.mind) m.minds m.at there) ∙ phase_is x m.mind (same_mind r.minds h x m.mind at m.at)
+    (let z = counted_mind (plan_for r h m.hart) m.mind in phase_is z y (set_here r.minds s.minds h m.mind y z m.minds m.at there)) ∙ phase_is x m.mind (same_mind r.minds h x m.mind at m.at)
 moves turned.Copied r s h x y m at there =
     let q = phase_is (with_phase m.mind (Copied m.slot m.home)) y (set_here r.minds s.minds h m.mind y (with_phase m.mind (Copied m.slot m.home)) m.rephases.minds m.before.at there) in
     let p = sym (phase_is x m.mind (same_mind r.minds h x m.mind at m.before.at)) ∙ m.before.idle in
@@ -82,25 +83,31 @@ moves turned.Planted r s h x y m at there =
     ap (λ u. after u Plant) p ∙ ap Some (sym q)
 moves turned.Ran r s h x y m at there =
     let p = phase_is x m.mind (same_mind r.minds h x m.mind at m.at) in
-    let q = phase_is (ran_mind m.mind) y (set_here r.minds s.minds h m.mind y (ran_mind m.mind) m.minds m.at there) in
+    let z = ran_by r h m.hart m.mind in
+    let q = phase_is z y (set_here r.minds s.minds h m.mind y z m.minds m.at there) in
     runs_in x.phase y.phase (ap is_before (sym p) ∙ m.before) (q ∙ ap after_step p)
 moves (turned.Wrote addr len) r s h x y (out, some, bytes, m) at there =
     let p = phase_is x m.mind (same_mind r.minds h x m.mind at m.at) in
-    let q = phase_is (ran_mind m.mind) y (set_here r.minds s.minds h m.mind y (ran_mind m.mind) m.minds m.at there) in
+    let z = ran_by r h m.hart m.mind in
+    let q = phase_is z y (set_here r.minds s.minds h m.mind y z m.minds m.at there) in
     runs_in x.phase y.phase (ap is_before (sym p) ∙ m.before) (q ∙ ap after_step p)
 moves (turned.Left code) r s h x y m at there =
     let p = phase_is x m.mind (same_mind r.minds h x m.mind at m.at) in
-    leaves_in x.phase y.phase (ap is_before (sym p) ∙ m.before) (phase_is (exited_mind m.mind) y (set_here r.minds s.minds h m.mind y (exited_mind m.mind) m.minds m.at there))
+    let z = gone_mind (ran_by r h m.hart m.mind) in
+    leaves_in x.phase y.phase (ap is_before (sym p) ∙ m.before) (phase_is z y (set_here r.minds s.minds h m.mind y z m.minds m.at there))
 moves (turned.AllLeft code count) r s h x y m at there =
     let p = phase_is x m.mind (same_mind r.minds h x m.mind at m.at) in
-    let set = get-set_same r.minds h (ran_mind m.mind) m.mind m.at in
-    let is = same_some y (gone_mind (ran_mind m.mind)) (sym there ∙ (ap (λ (us : List Mind). slice_get us h) m.minds ∙ gone_get (slice_set r.minds h (ran_mind m.mind)) h (ran_mind m.mind) set)) in
-    leaves_in x.phase y.phase (ap is_before (sym p) ∙ m.before) (phase_is (gone_mind (ran_mind m.mind)) y is)
+    let z = ran_by r h m.hart m.mind in
+    let set = get-set_same r.minds h z m.mind m.at in
+    let is = same_some y (gone_mind z) (sym there ∙ (ap (λ (us : List Mind). slice_get us h) m.minds ∙ gone_get (slice_set r.minds h z) h z set)) in
+    leaves_in x.phase y.phase (ap is_before (sym p) ∙ m.before) (phase_is (gone_mind z) y is)
 moves (turned.Stopped cause) r s h x y m at there = ends_in x.phase y.phase (phase_is first_mind y (set_here r.minds s.minds h x y first_mind m.minds at there))
 moves turned.Interrupted r s h x y m at there =
     (sym (phase_is x m.mind (same_mind r.minds h x m.mind at m.at)) ∙ m.idle, phase_is first_mind y (set_here r.minds s.minds h x y first_mind m.halts.minds at there))
 moves (turned.Arrived number temporary error) r s h x y m at there =
     ends_in x.phase y.phase (phase_is first_mind y (set_here r.minds s.minds h x y first_mind m.0.minds at there))
+moves turned.Stepped r s h x y m at there = ends_in x.phase y.phase (phase_is first_mind y (set_here r.minds s.minds h x y first_mind m.minds at there))
+moves turned.Finished r s h x y m at there = ends_in x.phase y.phase (phase_is first_mind y (set_here r.minds s.minds h x y first_mind m.minds at there))
 
 -- ---- from one Idle to the next
 
@@ -144,6 +151,8 @@ fits (turned.AllLeft code count) p q m = run_fits p m.0 m.1
 fits (turned.Stopped cause) p q m = omega arith
 fits turned.Interrupted p q m = omega arith
 fits (turned.Arrived number temporary error) p q m = omega arith
+fits turned.Stepped p q m = omega arith
+fits turned.Finished p q m = omega arith
 
 -- an end leads to Idle
 end_idle : (p q : Phase) → after p End ≡ Some q → (IsIdle q → ⊥) → ⊥
@@ -213,6 +222,8 @@ goes (turned.AllLeft code count) p q m ne = absurd (ends_idle m.0 q m.2 ne)
 goes (turned.Stopped cause) p q m ne = absurd (ends_idle p q m ne)
 goes turned.Interrupted p q m ne = absurd (is_idle q m.1 ne)
 goes (turned.Arrived number temporary error) p q m ne = absurd (ends_idle p q m ne)
+goes turned.Stepped p q m ne = absurd (ends_idle p q m ne)
+goes turned.Finished p q m ne = absurd (ends_idle p q m ne)
 
 few : (p : Phase) (ts : List Turned) → MovesToIdle p ts → executed_by ts ≤ rest p
 few p [] m = absurd m

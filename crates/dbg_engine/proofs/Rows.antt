@@ -1,29 +1,35 @@
 -- Which row of the table of moves fits a hart.
 use Rattle.std.proofs.Common.{◌≡◌, ℕ, Bool, true, false, cond, List, [], ◌∷◌, ◌++◌, refl, sym, ap, ◌∙◌, not, nat_lt}
-use Rattle.std.specs.Prelude.{Some, None, is_some, ◌||◌, ◌&&◌, slice_get, slice_set}
+use Rattle.std.specs.Prelude.{Option, Some, None, is_some, ◌||◌, ◌&&◌, slice_get, slice_set}
 use Rattle.text_words.specs.Words.{is_planted}
 use Rattle.step_over.specs.declared.phase.Phase.{Phase}
 use Rattle.step_over.specs.declared.phase.Phase.TheVariants as phase
 use Rattle.hart_machine.proofs.Places.{same_some, set_twice, get-set_same}
-use Rattle.break_table.specs.declared.due.Due.{Due}
+use Rattle.break_table.specs.declared.due.CondError.{CondError}
+use Rattle.step_plans.specs.declared.plan.Verdict.{Verdict}
+use Rattle.step_plans.specs.declared.plan.Verdict.TheVariants as verdicts
 use Rattle.dbg_model.specs.declared.entry.Entry.TheVariants.{Stopped}
 use Rattle.dbg_model.specs.declared.entry.Why.{Why}
 use Rattle.dbg_model.specs.Limits.{history}
-use Rattle.dbg_model.specs.State.{Hart, due, is_due, any_leaves}
+use Rattle.dbg_model.specs.declared.hart.Hart.{Hart}
+use Rattle.dbg_model.specs.declared.judgement.Judgement.{Judgement}
+use Rattle.dbg_model.specs.Judging.{is_due, is_end}
+use Rattle.dbg_model.specs.State.{due, any_leaves}
 use Rattle.dbg_model.proofs.Options.{both_true}
 use Rattle.dbg_model.specs.Lawful.{enter, may_go}
 use Rattle.engine_facts.specs.declared.mind.Activity.TheVariants as activity
 use Rattle.engine_facts.specs.declared.mind.Mind.{Mind}
 use Rattle.engine_facts.specs.Minds.{runs, is_active, is_before, first_mind, with_phase}
 use Rattle.engine_facts.specs.Movers.{is_idle}
+use Rattle.engine_facts.specs.Moves.{stop_by}
 use Rattle.engine_facts.specs.Seen.{Run, seen, seen_hart}
-use Rattle.engine_facts.specs.Facts.{Facts, other_holder}
+use Rattle.engine_facts.specs.Facts.{Sound, other_holder}
 use Rattle.engine_facts.proofs.Keeping.{hart_at}
 use Rattle.engine_facts.proofs.Holding.{core_at}
 use Rattle.dbg_engine.specs.Several.{is_quiet}
 use Rattle.dbg_engine.specs.declared.moving.Turned.{Turned}
 use Rattle.dbg_engine.specs.declared.moving.Turned.TheVariants as turned
-use Rattle.dbg_engine.specs.Rows.{Row, Over, Rests, Waits, Finishes, Executes, row_at, row_of, row_hart, row_running, row_before, row_due, row_idle}
+use Rattle.dbg_engine.specs.Rows.{Row, Over, Rests, Waits, Finishes, Stops, Counts, Executes, row_at, row_of, row_hart, row_running, row_before, row_due, row_idle}
 use Rattle.dbg_engine.specs.Calls.{Of, Before, DueIs, Undue, Rephases, Halts}
 use Rattle.dbg_engine.proofs.Executing.{of_hart}
 
@@ -36,7 +42,7 @@ row_known r h x y may at there =
     ap (λ b. cond b (row_hart r h (slice_get r.minds h) (slice_get (seen r).harts h)) Over) may
     ∙ (ap (λ o. row_hart r h o (slice_get (seen r).harts h)) at ∙ ap (row_hart r h (Some x)) there)
 
-pub row_rests : (r : Run) (h : ℕ) (x : Mind) → Facts r → may_go r.opening (seen r) ≡ true → slice_get r.minds h ≡ Some x → runs x ≡ false → row_at r h ≡ Rests
+pub row_rests : (r : Run) (h : ℕ) (x : Mind) → Sound r → may_go r.opening (seen r) ≡ true → slice_get r.minds h ≡ Some x → runs x ≡ false → row_at r h ≡ Rests
 row_rests r h x f may at not =
     let k = core_at r h x f at in
     let y = seen_hart r.opening.image k.0 x in
@@ -46,7 +52,7 @@ row_rests r h x f may at not =
 row_goes : (r : Run) (h : ℕ) (x : Mind) (y : Hart) → may_go r.opening (seen r) ≡ true → slice_get r.minds h ≡ Some x → slice_get (seen r).harts h ≡ Some y → x.activity ≡ activity.Running → row_at r h ≡ row_running r h x y (other_holder r.hold h)
 row_goes r h x y may at there run = row_known r h x y may at there ∙ ap (λ a. cond (is_active a) (row_running r h x y (other_holder r.hold h)) Rests) run
 
-pub row_waits : (r : Run) (h by : ℕ) (x : Mind) → Facts r → may_go r.opening (seen r) ≡ true → slice_get r.minds h ≡ Some x → x.activity ≡ activity.Running → other_holder r.hold h ≡ Some by → row_at r h ≡ Waits by
+pub row_waits : (r : Run) (h by : ℕ) (x : Mind) → Sound r → may_go r.opening (seen r) ≡ true → slice_get r.minds h ≡ Some x → x.activity ≡ activity.Running → other_holder r.hold h ≡ Some by → row_at r h ≡ Waits by
 row_waits r h by x f may at run held =
     let k = core_at r h x f at in
     let y = seen_hart r.opening.image k.0 x in
@@ -57,14 +63,14 @@ row_free : (r : Run) (h : ℕ) (x : Mind) (y : Hart) → may_go r.opening (seen 
     → row_at r h ≡ cond (is_before x.phase) (row_before r h x y) Finishes
 row_free r h x y may at there run free = row_goes r h x y may at there run ∙ ap (row_running r h x y) free
 
-pub row_finishes : (r : Run) (h : ℕ) (x : Mind) → Facts r → may_go r.opening (seen r) ≡ true → slice_get r.minds h ≡ Some x → x.activity ≡ activity.Running → other_holder r.hold h ≡ None → is_before x.phase ≡ false → row_at r h ≡ Finishes
+pub row_finishes : (r : Run) (h : ℕ) (x : Mind) → Sound r → may_go r.opening (seen r) ≡ true → slice_get r.minds h ≡ Some x → x.activity ≡ activity.Running → other_holder r.hold h ≡ None → is_before x.phase ≡ false → row_at r h ≡ Finishes
 row_finishes r h x f may at run free behind =
     let k = core_at r h x f at in
     let y = seen_hart r.opening.image k.0 x in
     row_free r h x y may at (hart_at r h k.0 x k.1) run free ∙ ap (λ b. cond b (row_before r h x y) Finishes) behind
 
 -- the row of a hart with nothing to finish, where the breakpoints do this with it
-pub row_arrives : (r : Run) (h pc : ℕ) (x : Mind) (d : Due) → Facts r → Before r h x → DueIs r h d → Of r h (λ y. y.regs.pc ≡ pc) → row_at r h ≡ row_due d (cond (is_idle x.phase) (row_idle x.asked (is_planted r.machine.text pc)) Executes)
+pub row_arrives : (r : Run) (h pc : ℕ) (x : Mind) (d : Judgement) → Sound r → Before r h x → DueIs r h d → Of r h (λ y. y.regs.pc ≡ pc) → row_at r h ≡ row_due d (cond (is_idle x.phase) (row_idle x.asked (is_planted r.machine.text pc)) Executes)
 row_arrives r h pc x d f b is here =
     let k = core_at r h x f b.at in
     let y = seen_hart r.opening.image k.0 x in
@@ -75,18 +81,16 @@ row_arrives r h pc x d f b is here =
     ∙ (ap (λ e. row_due e (cond (is_idle x.phase) (row_idle x.asked (is_planted r.machine.text y.regs.pc)) Executes)) due_is
     ∙ ap (λ a. row_due d (cond (is_idle x.phase) (row_idle x.asked (is_planted r.machine.text a)) Executes)) pc_is))
 
-undue_by : (d : Due) (s c : Bool) (other : Row) → is_some d.stop ≡ s → d.counts ≡ c → (s || c) ≡ false → row_due d other ≡ other
-undue_by d true c other e f g = cc
-undue_by d false true other e f g = cc
-undue_by d false false other e f g = rw (e, f) refl
+undue_by : (stop : Option ℕ) (counts : Bool) (v : Verdict) (error : Option CondError) (other : Row) → (is_some stop || (counts || is_end v)) ≡ false → cond (is_some (stop_by stop error v)) Stops (cond counts Counts other) ≡ other
+undue_by (Some number) counts v error other none = cc
+undue_by None true v error other none = cc
+undue_by None false (verdicts.Go plan) error other none = refl
+undue_by None false verdicts.Stepped error other none = cc
+undue_by None false verdicts.Finished error other none = cc
 
 -- where nothing is due, the rest comes
-pub row_undue : (d : Due) (other : Row) → is_due d ≡ false → row_due d other ≡ other
-row_undue d other none = undue_by d (is_some d.stop) d.counts other refl refl none
-
--- neither a stop nor a count
-pub undue_is : (d : Due) → is_some d.stop ≡ false → d.counts ≡ false → is_due d ≡ false
-undue_is d stop counts = rw (stop, counts) refl
+pub row_undue : (d : Judgement) (other : Row) → is_due d ≡ false → row_due d other ≡ other
+row_undue d other none = undue_by d.breaks.stop d.breaks.counts d.verdict d.breaks.error other none
 
 unidle : (p : Phase) → (p ≡ phase.Idle → ⊥) → is_idle p ≡ false
 unidle phase.Idle n = absurd (n refl)
@@ -96,13 +100,13 @@ unidle (phase.Lifted home) n = refl
 unidle (phase.Ran home) n = refl
 
 -- the row of a hart in a step over a breakpoint, where nothing is due
-pub row_steps : (r : Run) (h pc : ℕ) (x : Mind) (d : Due) → Facts r → Before r h x → DueIs r h d → Of r h (λ y. y.regs.pc ≡ pc) → is_due d ≡ false → (x.phase ≡ phase.Idle → ⊥) → row_at r h ≡ Executes
+pub row_steps : (r : Run) (h pc : ℕ) (x : Mind) (d : Judgement) → Sound r → Before r h x → DueIs r h d → Of r h (λ y. y.regs.pc ≡ pc) → is_due d ≡ false → (x.phase ≡ phase.Idle → ⊥) → row_at r h ≡ Executes
 row_steps r h pc x d f b is here none steps =
     let other = row_idle x.asked (is_planted r.machine.text pc) in
     row_arrives r h pc x d f b is here ∙ (row_undue d (cond (is_idle x.phase) other Executes) none ∙ ap (λ b. cond b other Executes) (unidle x.phase steps))
 
 -- and of one that steps over nothing
-pub row_idles : (r : Run) (h pc : ℕ) (x : Mind) (d : Due) → Facts r → Before r h x → DueIs r h d → Of r h (λ y. y.regs.pc ≡ pc) → is_due d ≡ false → x.phase ≡ phase.Idle → row_at r h ≡ row_idle x.asked (is_planted r.machine.text pc)
+pub row_idles : (r : Run) (h pc : ℕ) (x : Mind) (d : Judgement) → Sound r → Before r h x → DueIs r h d → Of r h (λ y. y.regs.pc ≡ pc) → is_due d ≡ false → x.phase ≡ phase.Idle → row_at r h ≡ row_idle x.asked (is_planted r.machine.text pc)
 row_idles r h pc x d f b is here none idle =
     let other = row_idle x.asked (is_planted r.machine.text pc) in
     row_arrives r h pc x d f b is here ∙ (row_undue d (cond (is_idle x.phase) other Executes) none ∙ ap (λ q. cond (is_idle q) other Executes) idle)
@@ -112,7 +116,7 @@ same_seen : (r : Run) (h : ℕ) (z y : Hart) → slice_get (seen r).harts h ≡ 
 same_seen r h z y at there = same_some z y (sym at ∙ there)
 
 -- a hart that nothing stops executes
-pub row_executes : (r : Run) (h pc : ℕ) (x : Mind) → Facts r → Before r h x → Undue r h → Of r h (λ y. y.regs.pc ≡ pc) → x.phase ≡ phase.Idle → x.asked ≡ false → is_planted r.machine.text pc ≡ false → row_at r h ≡ Executes
+pub row_executes : (r : Run) (h pc : ℕ) (x : Mind) → Sound r → Before r h x → Undue r h → Of r h (λ y. y.regs.pc ≡ pc) → x.phase ≡ phase.Idle → x.asked ≡ false → is_planted r.machine.text pc ≡ false → row_at r h ≡ Executes
 row_executes r h pc x f b none here idle unasked unplanted =
     let k = core_at r h x f b.at in
     let y = seen_hart r.opening.image k.0 x in
@@ -124,7 +128,7 @@ row_executes r h pc x f b none here idle unasked unplanted =
     ∙ (ap (λ a. row_idle a (is_planted r.machine.text pc)) unasked ∙ ap (row_idle false) unplanted)))
 
 -- and one at a copy
-pub row_at_copy : (r : Run) (h pc : ℕ) (x : Mind) → Facts r → Before r h x → Undue r h → Of r h (λ y. y.regs.pc ≡ pc) → (x.phase ≡ phase.Idle → ⊥) → row_at r h ≡ Executes
+pub row_at_copy : (r : Run) (h pc : ℕ) (x : Mind) → Sound r → Before r h x → Undue r h → Of r h (λ y. y.regs.pc ≡ pc) → (x.phase ≡ phase.Idle → ⊥) → row_at r h ≡ Executes
 row_at_copy r h pc x f b none here steps =
     let k = core_at r h x f b.at in
     let y = seen_hart r.opening.image k.0 x in
@@ -187,6 +191,8 @@ not_over (turned.Stopped cause) quiet e = cc
 not_over turned.Interrupted quiet e = cc
 not_over turned.Counted quiet e = cc
 not_over (turned.Arrived number temporary error) quiet e = cc
+not_over turned.Stepped quiet e = cc
+not_over turned.Finished quiet e = cc
 
 moves_by : (b : Bool) (other row : Row) → (row ≡ Over → ⊥) → cond b other Over ≡ row → b ≡ true
 moves_by true other row n e = refl

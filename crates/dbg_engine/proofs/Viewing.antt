@@ -9,7 +9,7 @@ use Rattle.engine_facts.specs.declared.mind.Activity.{Activity}
 use Rattle.engine_facts.specs.declared.mind.Activity.TheVariants as activity
 use Rattle.engine_facts.specs.declared.mind.Mind.{Mind}
 use Rattle.engine_facts.specs.Minds.{mode_of}
-use Rattle.engine_facts.specs.Facts.{Facts}
+use Rattle.engine_facts.specs.Facts.{Sound}
 use Rattle.engine_facts.specs.Seen.{Run, seen, seen_hart, seen_harts, seen_regs}
 use Rattle.dbg_engine.specs.Viewing.{own_views}
 
@@ -42,7 +42,7 @@ shows r m views = record {
   displaced = r.displaced;
 }
 
-pub sees : (r : Run) (m : Memory) (vs : List ThreadView) → Facts r → m ≡ r.machine.memory → vs ≡ own_views r.machine.cores r.minds → shows r m vs ≡ sight_of r.opening (seen r)
+pub sees : (r : Run) (m : Memory) (vs : List ThreadView) → Sound r → m ≡ r.machine.memory → vs ≡ own_views r.machine.cores r.minds → shows r m vs ≡ sight_of r.opening (seen r)
 sees r m vs f same views =
     ap (λ m. shows r m vs) same
     ∙ (ap (shows r r.machine.memory) (views ∙ all_views r.opening.image r.machine.cores r.minds)

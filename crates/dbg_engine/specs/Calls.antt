@@ -14,23 +14,27 @@ use Rattle.hart_machine.specs.Patched.{Patched}
 use Rattle.hart_machine.specs.Stepping.{Steps}
 use Rattle.text_words.specs.Words.{is_planted}
 use Rattle.dbg_model.specs.declared.reply.Reply.{Reply}
-use Rattle.break_table.specs.declared.due.Due.{Due}
+use Rattle.step_plans.specs.declared.plan.Plan.{Plan}
 use Rattle.dbg_model.specs.declared.entry.Entry.TheVariants.{Counted, Stopped, Did}
 use Rattle.dbg_model.specs.declared.entry.Why.{Why}
 use Rattle.dbg_model.specs.declared.entry.Why.TheVariants.{Break, Interrupted, Fault}
+use Rattle.dbg_model.specs.declared.entry.Why.TheVariants as whys
 use Rattle.dbg_model.specs.Limits.{history}
 use Rattle.dbg_model.specs.Breaks.{is_temporary}
-use Rattle.dbg_model.specs.State.{Hart, State, any_leaves, due, is_due, is_off}
+use Rattle.dbg_model.specs.declared.hart.Hart.{Hart}
+use Rattle.dbg_model.specs.declared.judgement.Judgement.{Judgement}
+use Rattle.dbg_model.specs.Judging.{is_due}
+use Rattle.dbg_model.specs.State.{State, any_leaves, due, is_off}
 use Rattle.dbg_model.specs.Reply.{reply_of, done_by}
 use Rattle.dbg_model.specs.Lawful.{one, one_out, enter, may_go}
 use Rattle.dbg_model.specs.Leaving.{lefts_from, gone, LeaveWith}
 use Rattle.dbg_model.specs.Journals.{lengthened}
 use Rattle.engine_facts.specs.declared.mind.Hold.{Hold}
 use Rattle.engine_facts.specs.declared.mind.Mind.{Mind}
-use Rattle.engine_facts.specs.Minds.{runs, is_before, with_phase, counted_mind, ran_mind, first_mind}
+use Rattle.engine_facts.specs.Minds.{after_step, runs, is_before, with_phase, counted_mind, first_mind}
 use Rattle.engine_facts.specs.Seen.{Run, seen}
 use Rattle.engine_facts.specs.Facts.{other_holder, Planted, Retired, CopiedOver}
-use Rattle.engine_facts.specs.Moves.{AreHome}
+use Rattle.engine_facts.specs.Moves.{AreHome, plan_for, ran_by, stop_of}
 use Rattle.engine_facts.specs.declared.mind.Activity.TheVariants as activity
 use Rattle.dbg_engine.specs.Steps.{left_minds}
 use Rattle.dbg_engine.specs.Homing.{HomedBy}
@@ -43,11 +47,19 @@ use Rattle.dbg_engine.specs.declared.engine.End.TheVariants as end
 abbrev pub Of : Run → ℕ → (Hart → Type 0) → Type 0
 Of r h P = (y : Hart) → slice_get (seen r).harts h ≡ Some y → P y
 
--- what the breakpoints do with a hart
-abbrev pub DueIs : Run → ℕ → Due → Type 0
-DueIs r h d = Of r h (λ y. due r.opening.image (seen r) h y ≡ d)
+-- what is judged of a hart
+abbrev pub DueIs : Run → ℕ → Judgement → Type 0
+DueIs r h j = Of r h (λ y. due r.opening.image (seen r) h y ≡ j)
 
--- no breakpoint stops or counts a hart
+-- the plan with which a hart goes on
+abbrev pub GoesWith : Run → ℕ → Plan → Type 0
+GoesWith r h plan = Of r h (λ y. plan_for r h y ≡ plan)
+
+-- a hart stops where it has arrived, and why
+abbrev pub StopsBy : Run → ℕ → Why → Type 0
+StopsBy r h why = Of r h (λ y. stop_of (due r.opening.image (seen r) h y) ≡ Some why)
+
+-- nothing is due for a hart
 abbrev pub Undue : Run → ℕ → Type 0
 Undue r h = Of r h (λ y. is_due (due r.opening.image (seen r) h y) ≡ false)
 
@@ -132,13 +144,18 @@ pub record Plants (old new : Run) (h : ℕ) : Type 0 where
   pub ran : mind.phase ≡ phase.Ran home
   pub rephases : Rephases old new h mind phase.Idle None
 
--- one instruction of a hart, which wrote these bytes: one step of the machine, after which nothing else has changed
+-- one instruction of a hart, which wrote these bytes: one step of the machine
 pub record Runs (s : Stepped) (old new : Run) (h : ℕ) (out : List ℕ) : Type 0 where
   pub mind : Mind
   pub at : slice_get old.minds h ≡ Some mind
   pub before : is_before mind.phase ≡ true
-  pub steps : Steps s old.machine h new.machine
-  pub minds : new.minds ≡ slice_set old.minds h (ran_mind mind)
+  pub hart : Hart
+  pub shown : slice_get (seen old).harts h ≡ Some hart
+  pub machine : Patched
+  pub steps : Steps s old.machine h machine
+  -- patches are planted where harts wait then
+  pub patched : new.machine ≡ record machine { text = new.machine.text }
+  pub minds : new.minds ≡ slice_set old.minds h (ran_by old h hart mind)
   pub hold : new.hold ≡ old.hold
   pub journal : new.journal ≡ lengthened old.journal h
   pub one : one old.opening h (seen old) ≡ Some (seen new)
@@ -151,10 +168,14 @@ pub record Exits (s : Stepped) (old new : Run) (h count code : ℕ) : Type 0 whe
   pub mind : Mind
   pub at : slice_get old.minds h ≡ Some mind
   pub before : is_before mind.phase ≡ true
+  pub hart : Hart
+  pub shown : slice_get (seen old).harts h ≡ Some hart
   pub machine : Patched
   pub steps : Steps s old.machine h machine
-  pub homed : HomedBy s machine new.machine old.hold new.hold old.breaks h mind (slice_set old.minds h (ran_mind mind))
-  pub minds : new.minds ≡ left_minds s h mind old.minds
+  pub home : Patched
+  pub homed : HomedBy s machine home old.hold new.hold old.breaks old.waits h (after_step mind.phase) (slice_set old.minds h (ran_by old h hart mind))
+  pub patched : new.machine ≡ record home { text = new.machine.text }
+  pub minds : new.minds ≡ left_minds s h (ran_by old h hart mind) old.minds
   pub between : State
   pub codes : LeaveWith code between.harts
   pub some : any_leaves between.harts ≡ true
@@ -174,12 +195,14 @@ pub record Halts (old new : Run) (h : ℕ) (why : Why) : Type 0 where
   pub enters : enter old.opening (seen old) (Stopped h why) ≡ Some (seen new)
   pub opening : new.opening ≡ old.opening
 
--- a hart was counted by the breakpoints that it has come to
+-- a hart was counted by the breakpoints that it has come to, and goes on
 pub record Counts (old new : Run) (h : ℕ) : Type 0 where
   pub mind : Mind
   pub at : slice_get old.minds h ≡ Some mind
   pub fresh : mind.fresh ≡ true
-  pub minds : new.minds ≡ slice_set old.minds h (counted_mind mind)
+  pub hart : Hart
+  pub shown : slice_get (seen old).harts h ≡ Some hart
+  pub minds : new.minds ≡ slice_set old.minds h (counted_mind (plan_for old h hart) mind)
   pub hold : new.hold ≡ old.hold
   pub journal : new.journal ≡ old.journal ++ Counted h ∷ []
   pub enters : enter old.opening (seen old) (Counted h) ≡ Some (seen new)
@@ -215,6 +238,8 @@ Turns (turned.Stopped cause) old new h = Faults old new h cause
 Turns turned.Interrupted old new h = Interrupts old new h
 Turns turned.Counted old new h = Counts old new h
 Turns (turned.Arrived number temporary error) old new h = Halts old new h (Break number error) × (temporary ≡ is_temporary old.breaks number)
+Turns turned.Stepped old new h = Halts old new h whys.Stepped
+Turns turned.Finished old new h = Halts old new h whys.Finished
 
 -- the hart's instruction traps
 abbrev pub TrapsAt : Run → ℕ → Cause → Type 0
@@ -238,6 +263,8 @@ Executes (turned.Stopped cause) old new h = (new ≡ old) × TrapsAt old h cause
 Executes turned.Interrupted old new h = ⊥
 Executes turned.Counted old new h = ⊥
 Executes (turned.Arrived number temporary error) old new h = ⊥
+Executes turned.Stepped old new h = ⊥
+Executes turned.Finished old new h = ⊥
 
 -- a line was done
 pub record Does (old new : Run) (line : List ℕ) (reply : Reply) : Type 0 where
@@ -264,6 +291,6 @@ pub record Closes (r : Run) (m : Patched) : Type 0 where
   pub cores : AreHome r.opening.image r.machine.cores r.minds m.cores
   pub slots : (slot : ℕ) → use_at m.slots slot ≡ None
   pub memory : m.memory ≡ r.machine.memory
-  pub text : Planted r.opening.image m.text r.breaks None
+  pub text : Planted r.opening.image m.text (record { entries = r.breaks; waits = []; hold = None })
   pub retired : Retired m.cores r.journal
   pub copied : CopiedOver r.opening.settings.slots m.cores (seen r)

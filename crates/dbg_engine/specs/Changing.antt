@@ -1,8 +1,7 @@
 -- What a line is read as, and what it changes.
-use Rattle.std.specs.Prelude.{◌≡◌, ◌<◌, ◌^◌, Bool, true, false, ℕ, List, Option, IsSome, Result, Err}
+use Rattle.std.specs.Prelude.{◌≡◌, ◌<◌, ◌^◌, Bool, true, false, ℕ, List, Option, None, IsSome, Result, Err}
 use Rattle.text_words.specs.Words.{Words, shown}
 use Rattle.hart_machine.specs.Patched.{Patched}
-use Rattle.break_table.specs.Entry.{Entry as BreakEntry}
 use Rattle.break_table.specs.Table.{Table}
 use Rattle.mi_commands.specs.Gives.{Commands}
 use Rattle.mi_commands.specs.declared.command.CommandLine.{CommandLine}
@@ -15,6 +14,7 @@ use Rattle.dbg_answers.specs.Table.{CanBeMade}
 use Rattle.dbg_answers.specs.declared.answer.Effect.{Effect}
 use Rattle.dbg_answers.specs.declared.answer.Effect.TheVariants as effect
 use Rattle.engine_facts.specs.declared.mind.Hold.{Hold}
+use Rattle.engine_facts.specs.Facts.{Wants}
 use Rattle.engine_facts.specs.Seen.{Run, seen}
 use Rattle.engine_facts.specs.Tables.{ArePlanted}
 
@@ -36,8 +36,16 @@ abbrev pub Applies : Words → Table → Effect → Type 0
 Applies w t (effect.Insert spec) = CanBeMade t (effect.Insert spec) × (spec.address < 2 ^ 32 → IsSome (shown w spec.address))
 Applies w t _ = Unit {0}
 
--- the machine's patches are those of these breakpoints now, and nothing else changed
-pub record Retabled (old new : Patched) (bs : List BreakEntry) (hold : Option Hold) : Type 0 where
-  pub planted : ArePlanted new.text bs hold
+-- what patches are wanted for by a table, with this one lifted
+abbrev pub wants_by : Table → Option Hold → Wants
+wants_by t hold = record { entries = t.entries; waits = t.waits; hold = hold }
+
+-- a hart doesn't wait
+abbrev pub no_wait : Option ℕ
+no_wait = None
+
+-- the machine's patches are those that are wanted now, and nothing else changed
+pub record Retabled (old new : Patched) (w : Wants) : Type 0 where
+  pub planted : ArePlanted new.text w
   pub words : new.text.words ≡ old.text.words
   pub rest : new ≡ record old { text = new.text }

@@ -1,5 +1,5 @@
 -- How a hart goes on by itself: it executes instructions, and steps over planted words at which nothing is due.
-use Rattle.std.specs.Prelude.{◌≡◌, ◌<◌, ◌^◌, ℕ, suc, Bool, true, false, List, [], ◌∷◌, length, Some, slice_get}
+use Rattle.std.specs.Prelude.{◌≡◌, ◌<◌, ◌^◌, ℕ, suc, Bool, true, false, List, [], ◌∷◌, length, Some, is_some, ◌||◌, slice_get, not, ◌==◌}
 use Rattle.rv_exec.specs.Registers.{set_pc}
 use Rattle.rv_exec.specs.declared.effect.Stepped.TheVariants as stepped
 use Rattle.elf32_read.specs.Program.{Program}
@@ -11,7 +11,9 @@ use Rattle.hart_machine.specs.Copying.{StepsByCopy}
 use Rattle.break_table.specs.Entry.{Entry as BreakEntry}
 use Rattle.break_table.specs.Arrival.{due_of}
 use Rattle.dbg_model.specs.Views.{register, shown_byte}
-use Rattle.dbg_model.specs.State.{is_due}
+use Rattle.break_table.specs.declared.due.Due.{Due}
+use Rattle.step_plans.specs.declared.plan.Plan.{Plan}
+use Rattle.step_plans.specs.declared.plan.Plan.TheVariants as plans
 
 -- an instruction in its place, or over a planted word by a copy
 pub data Way : Type 0 where
@@ -24,9 +26,20 @@ turns_of [] = 0
 turns_of (InPlace ∷ ws) = suc (turns_of ws)
 turns_of (ByCopy ∷ ws) = suc (suc (suc (turns_of ws)))
 
--- hart h is at a planted word at which these breakpoints neither stop nor count it, and stepped over it by a copy, where
--- that is on
-pub record Passes (p : Program) (bs : List BreakEntry) (h : ℕ) (on : Bool) (old new : Patched) : Type 0 where
+-- a breakpoint stops or counts a hart
+abbrev pub meets : Due → Bool
+meets d = is_some d.stop || d.counts
+
+-- the plan stays as it is where a hart arrives there
+abbrev pub is_kept : Plan → ℕ → Bool
+is_kept plans.Free pc = true
+is_kept (plans.ToReturn ret sp after) pc = not (pc == ret)
+is_kept (plans.Finish ret sp) pc = not (pc == ret)
+is_kept _ pc = false
+
+-- hart h, with this plan, is at a planted word at which these breakpoints neither stop nor count it and the plan stays, and
+-- stepped over it by a copy, where that is on
+pub record Passes (p : Program) (bs : List BreakEntry) (h : ℕ) (plan : Plan) (on : Bool) (old new : Patched) : Type 0 where
   pub is_on : on ≡ true
   pub core : Core
   pub word : ℕ
@@ -34,7 +47,8 @@ pub record Passes (p : Program) (bs : List BreakEntry) (h : ℕ) (on : Bool) (ol
   pub low : core.regs.pc < 2 ^ 32
   pub planted : is_planted old.text core.regs.pc ≡ true
   pub word_is : Some word ≡ shown old.text core.regs.pc
-  pub undue : is_due (due_of h (register (set_pc core.regs core.regs.pc)) (shown_byte p old.memory) bs) ≡ false
+  pub undue : meets (due_of h (register (set_pc core.regs core.regs.pc)) (shown_byte p old.memory) bs) ≡ false
+  pub kept : is_kept plan core.regs.pc ≡ true
   pub counted : AreCounted old.cores
   pub steps : StepsByCopy old h word new
 
@@ -44,16 +58,16 @@ pub record ThenGoes (P Step : Patched → Type 0) : Type 0 where
   pub before : P machine
   pub step : Step machine
 
--- Hart h went these ways, of which the last comes first, while it had executed fewer than `most` instructions; a copy's own
+-- Hart h, with this plan, went these ways, of which the last comes first, while it had executed fewer than `most` instructions; a copy's own
 -- isn't the last of them, since its step is finished by a turn of its own.
-abbrev pub GoesBy : Program → List BreakEntry → ℕ → Bool → ℕ → List Way → Patched → Patched → Type 0
-GoesBy p bs h on most [] old new = new ≡ old
-GoesBy p bs h on most (InPlace ∷ ws) old new = (length ws < most) × ThenGoes (λ m. GoesBy p bs h on most ws old m) (λ m. Steps stepped.Ran m h new)
-GoesBy p bs h on most (ByCopy ∷ ws) old new = (suc (length ws) < most) × ThenGoes (λ m. GoesBy p bs h on most ws old m) (λ m. Passes p bs h on m new)
+abbrev pub GoesBy : Program → List BreakEntry → ℕ → Plan → Bool → ℕ → List Way → Patched → Patched → Type 0
+GoesBy p bs h plan on most [] old new = new ≡ old
+GoesBy p bs h plan on most (InPlace ∷ ws) old new = (length ws < most) × ThenGoes (λ m. GoesBy p bs h plan on most ws old m) (λ m. Steps stepped.Ran m h new)
+GoesBy p bs h plan on most (ByCopy ∷ ws) old new = (suc (length ws) < most) × ThenGoes (λ m. GoesBy p bs h plan on most ws old m) (λ m. Passes p bs h plan on m new)
 
 -- so many turns, with so many instructions
-pub record Goes (p : Program) (bs : List BreakEntry) (h : ℕ) (on : Bool) (most turns instructions : ℕ) (old new : Patched) : Type 0 where
+pub record Goes (p : Program) (bs : List BreakEntry) (h : ℕ) (plan : Plan) (on : Bool) (most turns instructions : ℕ) (old new : Patched) : Type 0 where
   pub ways : List Way
   pub turns_are : turns ≡ turns_of ways
   pub instructions_are : instructions ≡ length ways
-  pub goes : GoesBy p bs h on most ways old new
+  pub goes : GoesBy p bs h plan on most ways old new

@@ -37,6 +37,8 @@ Marks (turned.AllLeft code count) p q = Leaves p q
 Marks (turned.Stopped cause) p q = Ends p q
 Marks turned.Interrupted p q = (p ≡ Idle) × (q ≡ Idle)
 Marks (turned.Arrived number temporary error) p q = Ends p q
+Marks turned.Stepped p q = Ends p q
+Marks turned.Finished p q = Ends p q
 
 -- Each move of a hart changes its phase by the marks of its answer.
 abbrev pub MovesMark : Type 0
@@ -60,6 +62,8 @@ executed (turned.AllLeft code count) = 1
 executed (turned.Stopped cause) = 0
 executed turned.Interrupted = 0
 executed (turned.Arrived number temporary error) = 0
+executed turned.Stepped = 0
+executed turned.Finished = 0
 
 abbrev pub executed_by : List Turned → ℕ
 executed_by [] = 0

@@ -1,12 +1,14 @@
 -- The table of moves: what a hart does next is the first row that fits.
 use Rattle.std.specs.Prelude.{ℕ, Bool, Option, Some, None, is_some, slice_get, if◌then◌else◌}
 use Rattle.text_words.specs.Words.{is_planted}
-use Rattle.break_table.specs.declared.due.Due.{Due}
-use Rattle.dbg_model.specs.State.{Hart, due}
+use Rattle.dbg_model.specs.declared.hart.Hart.{Hart}
+use Rattle.dbg_model.specs.declared.judgement.Judgement.{Judgement}
+use Rattle.dbg_model.specs.State.{due}
 use Rattle.dbg_model.specs.Lawful.{may_go}
 use Rattle.engine_facts.specs.declared.mind.Mind.{Mind}
 use Rattle.engine_facts.specs.Minds.{runs, is_before}
 use Rattle.engine_facts.specs.Movers.{is_idle}
+use Rattle.engine_facts.specs.Moves.{stop_of}
 use Rattle.engine_facts.specs.Seen.{Run, seen}
 use Rattle.engine_facts.specs.Facts.{other_holder}
 use Rattle.dbg_engine.specs.declared.moving.Turned.{Turned}
@@ -22,7 +24,7 @@ pub data Row : Type 0 where
   Waits : (by : ℕ) → Row
   -- it has executed a copy, or where its patch was lifted, and that step over a breakpoint is finished
   Finishes : Row
-  -- it has come to a breakpoint that stops it
+  -- it has come to a breakpoint that stops it, or its plan is at its end
   Stops : Row
   -- it has come to breakpoints that only count it
   Counts : Row
@@ -41,6 +43,8 @@ row_of (turned.Held by) = Waits by
 row_of turned.Fixed = Finishes
 row_of turned.Planted = Finishes
 row_of (turned.Arrived number temporary error) = Stops
+row_of turned.Stepped = Stops
+row_of turned.Finished = Stops
 row_of turned.Counted = Counts
 row_of turned.Interrupted = Interrupts
 row_of turned.Copied = Begins
@@ -52,11 +56,11 @@ row_of (turned.Left code) = Executes
 row_of (turned.AllLeft code count) = Executes
 row_of (turned.Stopped cause) = Executes
 
--- breakpoints come before the rest
-abbrev pub row_due : Due → Row → Row
-row_due d rest = if is_some d.stop then Stops else if d.counts then Counts else rest
+-- breakpoints and the plan come before the rest
+abbrev pub row_due : Judgement → Row → Row
+row_due j rest = if is_some (stop_of j) then Stops else if j.breaks.counts then Counts else rest
 
--- of a hart that steps over nothing and that no breakpoint stops or counts
+-- of a hart that steps over nothing and for which nothing is due
 abbrev pub row_idle : (asked planted : Bool) → Row
 row_idle asked planted = if asked then Interrupts else if planted then Begins else Executes
 

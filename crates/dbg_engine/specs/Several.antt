@@ -1,12 +1,15 @@
 -- Several turns of a hart of which nothing is said.
-use Rattle.std.specs.Prelude.{◌≡◌, ◌⊎◌, ◌&&◌, not, ℕ, zero, suc, Bool, true, false, List, Option, Some, is_none, slice_get}
+use Rattle.std.specs.Prelude.{◌≡◌, ◌⊎◌, ◌&&◌, ◌||◌, not, is_some, ℕ, zero, suc, Bool, true, false, List, Option, Some, is_none, slice_get}
 use Rattle.hart_machine.specs.Running.{HasStopped}
 use Rattle.dbg_model.specs.declared.entry.Entry.{Entry}
 use Rattle.dbg_model.specs.Journals.{lengthened}
 use Rattle.dbg_model.specs.Lawful.{may_go}
+use Rattle.elf32_read.specs.Program.{Program}
+use Rattle.step_plans.specs.declared.plan.Plan.{Plan}
+use Rattle.step_plans.specs.declared.plan.Plan.TheVariants as plans
 use Rattle.engine_facts.specs.declared.mind.Hold.{Hold}
 use Rattle.engine_facts.specs.declared.mind.Mind.{Mind}
-use Rattle.engine_facts.specs.Minds.{runs}
+use Rattle.engine_facts.specs.Minds.{awaited, runs}
 use Rattle.engine_facts.specs.Movers.{is_idle}
 use Rattle.engine_facts.specs.Seen.{Run, seen}
 use Rattle.engine_facts.specs.Facts.{Facts}
@@ -33,6 +36,8 @@ is_quiet (turned.Stopped cause) = false
 is_quiet turned.Interrupted = false
 is_quiet turned.Counted = false
 is_quiet (turned.Arrived number temporary error) = false
+is_quiet turned.Stepped = false
+is_quiet turned.Finished = false
 
 -- a turn of hart h with such an answer, the first move that fits, from an engine of which P holds
 pub record ThenTurns (P : Run → Type 0) (new : Run) (h : ℕ) : Type 0 where
@@ -49,13 +54,22 @@ abbrev pub AllTurned : ℕ → Run → Run → ℕ → Type 0
 AllTurned zero old new h = new ≡ old
 AllTurned (suc n) old new h = ThenTurns (λ r. AllTurned n old r h) new h
 
--- a hart that runs, steps over nothing and isn't interrupted, and no patch is lifted
-abbrev pub is_alone : Mind → Option Hold → Bool
-is_alone x hold = ((runs x && is_idle x.phase) && not x.asked) && is_none hold
+-- nothing is asked of a hart but to go on
+abbrev pub is_unplanned : Plan → Bool
+is_unplanned plans.Free = true
+is_unplanned _ = false
+
+-- nor more than to wait for a return, at a word that is planted for it
+abbrev pub goes_alone : Program → Mind → Bool
+goes_alone p x = is_unplanned x.plan || is_some (awaited p x)
+
+-- a hart that runs, steps over nothing, isn't interrupted and has no plan but to wait for a return, and no patch is lifted
+abbrev pub is_alone : Program → Mind → Option Hold → Bool
+is_alone p x hold = (((runs x && is_idle x.phase) && not x.asked) && goes_alone p x) && is_none hold
 
 -- Hart h goes no further by such turns in one call: the session is over, the hart isn't alone, or it stops at its pc.
 abbrev pub Rests : Run → ℕ → Type 0
-Rests r h = (may_go r.opening (seen r) ≡ false) ⊎ (((x : Mind) → slice_get r.minds h ≡ Some x → is_alone x r.hold ≡ false) ⊎ HasStopped r.machine h)
+Rests r h = (may_go r.opening (seen r) ≡ false) ⊎ (((x : Mind) → slice_get r.minds h ≡ Some x → is_alone r.opening.image x r.hold ≡ false) ⊎ HasStopped r.machine h)
 
 -- the journal after n more instructions of a hart
 abbrev pub lengthened_by : ℕ → List Entry → ℕ → List Entry

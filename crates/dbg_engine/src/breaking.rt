@@ -10,13 +10,11 @@ ghost use Rattle.break_table.specs.Table.{changed, deleted, insert_fault, insert
 ghost use Rattle.dbg_answers.specs.Answer.{change_of};
 ghost use Rattle.dbg_model.specs.Breaks.{is_temporary, enabling, without};
 ghost use Rattle.dbg_model.specs.Views.{register, shown_byte};
-ghost use Rattle.engine_facts.specs.Facts.{wanted};
-ghost use Rattle.engine_facts.specs.Moves.{Repatched};
 ghost use Rattle.engine_facts.specs.Tables.{number_place, ArePlanted};
-ghost use Rattle.dbg_engine.specs.Changing.{Applies, Retabled};
+ghost use Rattle.dbg_engine.specs.Changing.{Applies, Retabled, wants_by};
 ghost use Rattle.dbg_answers.specs.Table.{changed_table};
 
-use crate::patching::{repatch, wants};
+use crate::patching::plant_as_wanted;
 use crate::view::ShownHart;
 use break_table::{BreakEntry, BreakTable, Due, Spec};
 use dbg_answers::{Effect, delete_entry, enable_entry, insert_entry, set_condition, set_ignore};
@@ -91,25 +89,14 @@ fn place_of(entries: &[BreakEntry], number: u32) -> Option<u32>
     }
 }
 
-// The word of an address is patched where that is wanted now.
-fn plant_as_wanted(machine: &mut Machine, table: &BreakTable, hold: Option<Hold>, addr: u32)
-    requires { addr < 2 ^ 32 → IsSome (shown machine.old.text addr) }
-    ensures text { Repatched machine.old.text machine.new.text addr (wanted table.now.entries hold addr) }
-    ensures there { IsSome (shown machine.old.text addr) }
-    ensures rest { machine.new ≡ record machine.old { text = machine.new.text } }
-{
-    let wants = wants(table, hold, addr);
-    repatch(machine, addr, wants);
-}
-
 // A new breakpoint, whose word is planted where it is wanted now.
 fn insert(machine: &mut Machine, table: &mut BreakTable, hold: Option<Hold>, spec: Spec)
-    requires planted { ArePlanted machine.old.text table.old.entries hold }
+    requires planted { ArePlanted machine.old.text (wants_by table.old hold) }
     requires given { table.old.given < 2 ^ 32 - 1 }
     requires may { insert_fault table.old (asked_of spec) ≡ None }
     requires text { spec.address < 2 ^ 32 → IsSome (shown machine.old.text spec.address) }
     ensures table { table.new ≡ inserted table.old (asked_of spec) }
-    ensures machine { Retabled machine.old machine.new table.new.entries hold }
+    ensures machine { Retabled machine.old machine.new (wants_by table.new hold) }
 {
     let place = spec.address;
     insert_entry(table, spec);
@@ -118,9 +105,9 @@ fn insert(machine: &mut Machine, table: &mut BreakTable, hold: Option<Hold>, spe
 
 // The breakpoint of a number goes, if there is one.
 fn delete(machine: &mut Machine, table: &mut BreakTable, hold: Option<Hold>, number: u32)
-    requires { ArePlanted machine.old.text table.old.entries hold }
+    requires { ArePlanted machine.old.text (wants_by table.old hold) }
     ensures table { table.new ≡ deleted number table.old }
-    ensures machine { Retabled machine.old machine.new table.new.entries hold }
+    ensures machine { Retabled machine.old machine.new (wants_by table.new hold) }
 {
     let Some(place) = place_of(table.entries(), number) else {
         return;
@@ -137,9 +124,9 @@ fn enable(
     number: u32,
     enabled: bool,
 )
-    requires { ArePlanted machine.old.text table.old.entries hold }
+    requires { ArePlanted machine.old.text (wants_by table.old hold) }
     ensures table { table.new ≡ changed (with_enabled enabled) number table.old }
-    ensures machine { Retabled machine.old machine.new table.new.entries hold }
+    ensures machine { Retabled machine.old machine.new (wants_by table.new hold) }
 {
     let Some(place) = place_of(table.entries(), number) else {
         return;
@@ -149,9 +136,9 @@ fn enable(
 }
 
 fn delete_each(machine: &mut Machine, table: &mut BreakTable, hold: Option<Hold>, numbers: &[u32])
-    requires { ArePlanted machine.old.text table.old.entries hold }
+    requires { ArePlanted machine.old.text (wants_by table.old hold) }
     ensures table { table.new ≡ record table.old { entries = without numbers.now table.old.entries } }
-    ensures machine { Retabled machine.old machine.new table.new.entries hold }
+    ensures machine { Retabled machine.old machine.new (wants_by table.new hold) }
 {
     let [number, rest @ ..] = numbers else {
         return;
@@ -167,9 +154,9 @@ fn enable_each(
     numbers: &[u32],
     enabled: bool,
 )
-    requires { ArePlanted machine.old.text table.old.entries hold }
+    requires { ArePlanted machine.old.text (wants_by table.old hold) }
     ensures table { table.new ≡ record table.old { entries = enabling enabled numbers.now table.old.entries } }
-    ensures machine { Retabled machine.old machine.new table.new.entries hold }
+    ensures machine { Retabled machine.old machine.new (wants_by table.new hold) }
 {
     let [number, rest @ ..] = numbers else {
         return;
@@ -185,11 +172,11 @@ pub fn change_table(
     hold: Option<Hold>,
     effect: Effect,
 )
-    requires planted { ArePlanted machine.old.text table.old.entries hold }
+    requires planted { ArePlanted machine.old.text (wants_by table.old hold) }
     requires given { table.old.given < 2 ^ 32 - 1 }
     requires may { Applies machine.old.text table.old effect }
     ensures table { table.new ≡ changed_table table.old (change_of effect) }
-    ensures machine { Retabled machine.old machine.new table.new.entries hold }
+    ensures machine { Retabled machine.old machine.new (wants_by table.new hold) }
 {
     match effect {
         Effect::Insert(spec) => insert(machine, table, hold, spec),
@@ -204,7 +191,7 @@ pub fn change_table(
         Effect::Condition { number, condition } => set_condition(table, number, condition),
         Effect::After { number, count } => set_ignore(table, number, count),
         Effect::Nothing
-        | Effect::Resume(_)
+        | Effect::Resume { .. }
         | Effect::Interrupt(_)
         | Effect::Select(_)
         | Effect::Displace(_)

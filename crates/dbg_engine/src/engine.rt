@@ -21,6 +21,7 @@ mod turn;
 use crate::homing::go_home_each;
 use crate::minds::{all_gone, any_running, find_running, first_minds, is_running};
 use crate::patching::release;
+use crate::waiting::{Waiting, end_waits};
 use break_table::{BreakEntry, BreakTable};
 pub use command::read_line;
 use dbg_answers::shown_frame;
@@ -316,7 +317,14 @@ impl Engine {
             exited: _,
         } = self;
         let mut machine = machine;
+        let mut table = table;
         go_home_each(&mut machine, minds.as_slice(), 0);
+        let waiting = Waiting {
+            image: &opening.image,
+            minds: minds.as_slice(),
+            hold,
+        };
+        end_waits(&mut machine, &mut table, &waiting);
         release(&mut machine, hold, &table);
         Closed {
             opening,

@@ -1,12 +1,13 @@
 // A hart that goes on by itself, over the parts of an engine.
 ghost use Rattle.std.specs.Prelude.{◌≡◌, ◌<◌, ◌≤◌, length, true, false};
 ghost use Rattle.hart_machine.specs.Running.{HasStopped};
-ghost use Rattle.dbg_engine.specs.Going.{Goes, Passes};
+ghost use Rattle.dbg_engine.specs.Going.{Goes, Passes, is_kept};
 
 use crate::breaking::due_at;
 use break_table::BreakTable;
 use elf32_read::Image;
 use hart_machine::Machine;
+use step_plans::Plan;
 
 /// What a hart meets that goes on.
 #[derive(Clone, Copy)]
@@ -15,6 +16,8 @@ pub struct Course<'a> {
     pub table: &'a BreakTable,
     /// What conditions read of the text.
     pub image: &'a Image,
+    /// The plan of the hart.
+    pub plan: Plan,
     /// Whether planted words are stepped over by copies.
     pub copies: bool,
 }
@@ -26,11 +29,22 @@ pub struct Progress {
     pub instructions: u32,
 }
 
-// Steps over the planted word at a hart's pc, where the breakpoints there neither stop nor count it. False where it isn't
-// stepped over; then nothing has changed.
+// Whether a plan stays as it is where a hart arrives there.
+fn is_kept(plan: Plan, pc: u32) -> bool
+    ensures { result ≡ is_kept plan pc }
+{
+    match plan {
+        Plan::Free => true,
+        Plan::ToReturn { ret, .. } | Plan::Finish { ret, .. } => pc != ret,
+        _ => false,
+    }
+}
+
+// Steps over the planted word at a hart's pc, where the breakpoints there neither stop nor count it and its plan stays.
+// False where it isn't stepped over; then nothing has changed.
 fn pass(machine: &mut Machine, course: &Course<'_>) -> bool
     requires { course.now.hart < length machine.old.cores }
-    ensures passes { result ≡ true → Passes course.now.image.now course.now.table.now.entries course.now.hart course.now.copies machine.old machine.new }
+    ensures passes { result ≡ true → Passes course.now.image.now course.now.table.now.entries course.now.hart course.now.plan course.now.copies machine.old machine.new }
     ensures kept { result ≡ false → machine.new ≡ machine.old }
     ensures harts { length machine.new.cores ≡ length machine.old.cores }
 {
@@ -39,6 +53,9 @@ fn pass(machine: &mut Machine, course: &Course<'_>) -> bool
     }
     let pc = machine.pc(course.hart);
     if !machine.planted(pc) {
+        return false;
+    }
+    if !is_kept(course.plan, pc) {
         return false;
     }
     let due = due_at(course.table, course.image, machine, course.hart, pc);
@@ -58,7 +75,7 @@ pub fn go(machine: &mut Machine, course: &Course<'_>, limit: u32, most: u32) -> 
     ensures limit { result.turns ≤ limit }
     ensures most { result.instructions ≤ most }
     ensures fewer { result.instructions ≤ result.turns }
-    ensures goes { Goes course.now.image.now course.now.table.now.entries course.now.hart course.now.copies most result.turns result.instructions machine.old machine.new }
+    ensures goes { Goes course.now.image.now course.now.table.now.entries course.now.hart course.now.plan course.now.copies most result.turns result.instructions machine.old machine.new }
     ensures far { result.turns < limit → result.instructions < most → HasStopped machine.new course.now.hart }
 {
     let mut turns = 0;

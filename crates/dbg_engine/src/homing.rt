@@ -3,12 +3,10 @@ ghost use Rattle.std.specs.Prelude.{◌≡◌, ◌<◌, ◌≤◌, ◌+◌, ◌^
 ghost use Rattle.rv_exec.specs.Registers.{Registers};
 ghost use Rattle.hart_machine.specs.Copying.{settled_regs};
 ghost use Rattle.engine_facts.specs.declared.mind.Mind.{Mind};
-ghost use Rattle.engine_facts.specs.Minds.{after_step};
 ghost use Rattle.engine_facts.specs.Moves.{HeldInText, Released};
 ghost use Rattle.engine_facts.specs.Homing.{IsSlotted, GoesHome, AllGoHome};
 ghost use Rattle.dbg_engine.specs.Homing.{HomedBy};
 
-use crate::moving::after_step;
 use crate::patching::release;
 use break_table::BreakTable;
 use engine_facts::{Hold, Mind, Phase};
@@ -59,10 +57,10 @@ pub fn go_home_each(machine: &mut Machine, minds: &[Mind], h: u32)
     go_home_each(machine, rest, h + 1);
 }
 
-// A lifted patch is planted again where a breakpoint stands, and is held no more.
+// A lifted patch is planted again where one is called for, and is held no more.
 fn let_go(machine: &mut Machine, hold: &mut Option<Hold>, table: &BreakTable)
     requires { HeldInText machine.old.text hold.old }
-    ensures text { Released machine.old.text machine.new.text table.now.entries hold.old }
+    ensures text { Released machine.old.text machine.new.text table.now.entries table.now.waits hold.old }
     ensures rest { machine.new ≡ record machine.old { text = machine.new.text } }
     ensures none { hold.new ≡ None }
 {
@@ -70,32 +68,39 @@ fn let_go(machine: &mut Machine, hold: &mut Option<Hold>, table: &BreakTable)
     *hold = None;
 }
 
-/// After an exit the harts that leave come home, and no patch stays lifted. Where all leave, `minds` has what is kept
-/// of each hart after the instruction.
+/// A hart after an instruction by which it may leave, and the others with it.
+#[derive(Clone, Copy)]
+pub struct Leaving<'a> {
+    pub hart: u32,
+    /// Where it is in a step over a breakpoint.
+    pub phase: Phase,
+    /// What is kept of each hart.
+    pub minds: &'a [Mind],
+}
+
+/// After an exit the harts that leave come home, and no patch stays lifted.
 pub fn go_home_at_exit(
     stepped: Stepped,
     machine: &mut Machine,
     hold: &mut Option<Hold>,
     table: &BreakTable,
-    h: u32,
-    mind: Mind,
-    minds: &[Mind],
+    leaving: &Leaving<'_>,
 )
     requires text { HeldInText machine.old.text hold.old }
     requires few { length machine.old.cores ≤ 16 }
-    requires harts { length minds.now ≤ length machine.old.cores }
-    requires hart { h < length machine.old.cores }
-    requires slot { IsSlotted machine.old h (after_step mind.phase) }
-    requires slots { (j : ℕ) (x : Mind) → slice_get minds.now j ≡ Some x → IsSlotted machine.old j x.phase }
-    ensures { HomedBy stepped machine.old machine.new hold.old hold.new table.now.entries h mind minds.now }
+    requires harts { length leaving.now.minds.now ≤ length machine.old.cores }
+    requires hart { leaving.now.hart < length machine.old.cores }
+    requires slot { IsSlotted machine.old leaving.now.hart leaving.now.phase }
+    requires slots { (j : ℕ) (x : Mind) → slice_get leaving.now.minds.now j ≡ Some x → IsSlotted machine.old j x.phase }
+    ensures { HomedBy stepped machine.old machine.new hold.old hold.new table.now.entries table.now.waits leaving.now.hart leaving.now.phase leaving.now.minds.now }
 {
     match stepped {
         Stepped::HartExit(_) => {
-            go_home(machine, h, after_step(mind.phase));
+            go_home(machine, leaving.hart, leaving.phase);
             let_go(machine, hold, table);
         }
         Stepped::AllExit(_) => {
-            go_home_each(machine, minds, 0);
+            go_home_each(machine, leaving.minds, 0);
             let_go(machine, hold, table);
         }
         Stepped::Ran | Stepped::Wrote { .. } | Stepped::Hit | Stepped::Trap(_) => {}

@@ -13,6 +13,7 @@ mod patching;
 mod resuming;
 mod view;
 mod views;
+mod waiting;
 
 pub use engine::{Closed, End, Engine, SPARE, read_line};
 pub use engine_facts::{Activity, Hold, Mind, Phase};

@@ -7,6 +7,7 @@ ghost use Rattle.dbg_engine.specs.Steps.{running_harts};
 
 use engine_facts::{Activity, Hold, Mind, Phase};
 use std::alloc::{AllocError, Global};
+use step_plans::Plan;
 
 /// What is kept of so many harts before the first move.
 pub fn first_minds(alloc: Global, count: u32) -> Result<Vec<Mind>, AllocError>
@@ -14,12 +15,7 @@ pub fn first_minds(alloc: Global, count: u32) -> Result<Vec<Mind>, AllocError>
 {
     let mut minds = Vec::new(alloc);
     for hart in 0..count {
-        minds.push(Mind {
-            activity: Activity::Stopped,
-            fresh: false,
-            asked: false,
-            phase: Phase::Idle,
-        })?;
+        minds.push(STOPPED)?;
     }
     Ok(minds)
 }
@@ -67,24 +63,25 @@ pub fn find_running(minds: &[Mind], hart: u32, from: usize) -> Option<u32>
     }
 }
 
-/// What is kept of a hart that breakpoints have counted.
-pub fn counted_mind(mind: Mind) -> Mind
-    ensures { result ≡ counted_mind mind }
+/// What is kept of a hart that breakpoints have counted, and that goes on with this plan.
+pub fn counted_mind(mind: Mind, plan: Plan) -> Mind
+    ensures { result ≡ counted_mind plan mind }
 {
     Mind {
-        activity: mind.activity,
         fresh: false,
-        asked: mind.asked,
-        phase: mind.phase,
+        plan,
+        ..mind
     }
 }
 
-/// What is kept of a hart that stopped.
+/// What is kept of a hart that is stopped, as all are at the beginning.
 pub const STOPPED: Mind = Mind {
     activity: Activity::Stopped,
     fresh: false,
     asked: false,
     phase: Phase::Idle,
+    plan: Plan::Free,
+    last: None,
 };
 
 /// The hart for which a patch is lifted, where that is another one than h.
@@ -107,10 +104,5 @@ pub fn other_holder(hold: Option<Hold>, h: u32) -> Option<u32>
 pub fn with_phase(mind: Mind, phase: Phase) -> Mind
     ensures { result ≡ with_phase mind phase }
 {
-    Mind {
-        activity: mind.activity,
-        fresh: mind.fresh,
-        asked: mind.asked,
-        phase,
-    }
+    Mind { phase, ..mind }
 }

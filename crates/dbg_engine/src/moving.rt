@@ -3,13 +3,14 @@ ghost use Rattle.std.specs.Prelude.{◌≡◌, ◌≤◌, ◌<◌, ◌+◌, ◌-
 ghost use Rattle.dbg_model.specs.Journals.{lengthened, last_count};
 ghost use Rattle.hart_machine.specs.Stepping.{IsByteCode, has_run};
 ghost use Rattle.engine_facts.specs.Minds.{gone_mind, ran_mind, after_step};
-ghost use Rattle.dbg_engine.specs.Steps.{applied, turned_of, IsTurned};
+ghost use Rattle.dbg_engine.specs.Steps.{applied, exits_of, turned_of, IsTurned};
 
 use crate::journal::{note, note_lefts, note_runs};
 use break_table::CondError;
 use dbg_model::Entry;
 use engine_facts::{Activity, Mind, Phase};
 use rv_exec::{Cause, Stepped};
+use step_plans::Plan;
 
 /// What a turn of a hart did.
 #[derive(Clone, Copy, Debug, PartialEq, Eq)]
@@ -62,6 +63,10 @@ pub enum Turned {
         temporary: bool,
         error: Option<CondError>,
     },
+    /// The hart stopped at the end of its step.
+    Stepped,
+    /// The hart stopped where the function has returned that it was to finish.
+    Finished,
 }
 
 /// The phase after an instruction.
@@ -75,49 +80,42 @@ pub fn after_step(phase: Phase) -> Phase
     }
 }
 
-/// What is kept of a hart that has just executed.
-pub fn ran_mind(mind: Mind) -> Mind
-    ensures { result ≡ ran_mind mind }
+/// What is kept of a hart that has just executed, and goes on with this plan; `last` is noted of its instruction.
+pub fn ran_mind(mind: Mind, plan: Plan, last: Option<u32>) -> Mind
+    ensures { result ≡ ran_mind plan last mind }
 {
     Mind {
         activity: Activity::Running,
         fresh: true,
-        asked: mind.asked,
         phase: after_step(mind.phase),
+        plan,
+        last,
+        ..mind
     }
 }
 
 // One more instruction of a hart, of which this is kept afterwards.
-fn note_instruction(
-    h: u32,
-    mind: Mind,
-    entries: &mut Vec<Entry>,
-    minds: &mut [Mind],
-    retired: &mut u64,
-)
+fn note_instruction(h: u32, mind: Mind, entries: &mut Vec<Entry>, minds: &mut [Mind])
     requires hart { h < length minds.old }
     requires room { vec_len entries.old < vec_capacity entries.old }
     requires count { last_count entries.old.items < 2 ^ 64 - 1 }
-    requires retired { retired.old < 2 ^ 64 - 1 }
     ensures entries { entries.new.items ≡ lengthened entries.old.items h }
     ensures minds { minds.new ≡ slice_set minds.old h mind }
-    ensures retired { retired.new ≡ retired.old + 1 }
     ensures room { vec_len entries.new ≤ vec_len entries.old + 1 }
     ensures capacity { vec_capacity entries.old ≤ vec_capacity entries.new }
 {
     note_runs(entries, h, 1);
     minds[h as usize] = mind;
-    *retired += 1;
 }
 
+// What is kept of a hart that has exited.
 fn gone_mind(mind: Mind) -> Mind
     ensures { result ≡ gone_mind mind }
 {
     Mind {
         activity: Activity::Exited,
-        fresh: mind.fresh,
-        asked: mind.asked,
         phase: Phase::Idle,
+        ..mind
     }
 }
 
@@ -130,15 +128,14 @@ fn mark_gone(minds: &mut [Mind])
     }
 }
 
-/// What an instruction of hart h does beside the machine, and what the turn is called.
+/// What an instruction of hart h does beside the machine and the counts, and what the turn is called; `ran` is kept of
+/// the hart where it stays.
 pub fn apply(
     stepped: Stepped,
     h: u32,
-    mind: Mind,
+    ran: Mind,
     entries: &mut Vec<Entry>,
     minds: &mut [Mind],
-    retired: &mut u64,
-    noted: &mut u64,
 ) -> Turned
     requires done { has_run stepped ≡ true }
     requires code { IsByteCode stepped }
@@ -146,42 +143,46 @@ pub fn apply(
     requires few { length minds.old ≤ 16 }
     requires room { vec_len entries.old + 32 ≤ vec_capacity entries.old }
     requires count { last_count entries.old.items < 2 ^ 64 - 1 }
-    requires retired { retired.old < 2 ^ 64 - 1 }
-    requires noted { noted.old + 32 < 2 ^ 64 }
-    ensures parts { record { journal = entries.new.items; minds = minds.new; retired = retired.new; noted = noted.new } ≡ applied stepped h mind (record { journal = entries.old.items; minds = minds.old; retired = retired.old; noted = noted.old }) }
-    ensures turned { result ≡ turned_of stepped h mind minds.old }
+    ensures parts { record { journal = entries.new.items; minds = minds.new } ≡ applied stepped h ran (record { journal = entries.old.items; minds = minds.old }) }
+    ensures turned { result ≡ turned_of stepped h ran minds.old }
+    ensures few { exits_of result ≤ 16 }
     ensures code { IsTurned result }
 {
     match stepped {
         Stepped::Ran => {
-            note_instruction(h, ran_mind(mind), entries, minds, retired);
+            note_instruction(h, ran, entries, minds);
             Turned::Ran
         }
         Stepped::Wrote { addr, len } => {
-            note_instruction(h, ran_mind(mind), entries, minds, retired);
+            note_instruction(h, ran, entries, minds);
             Turned::Wrote { addr, len }
         }
         Stepped::HartExit(code) => {
-            let gone = Mind {
-                activity: Activity::Exited,
-                fresh: true,
-                asked: mind.asked,
-                phase: Phase::Idle,
-            };
-            note_instruction(h, gone, entries, minds, retired);
+            note_instruction(h, gone_mind(ran), entries, minds);
             note(entries, Entry::Left { hart: h, code });
-            *noted += 1;
             Turned::Left { code }
         }
         Stepped::AllExit(code) => {
-            note_instruction(h, ran_mind(mind), entries, minds, retired);
+            note_instruction(h, ran, entries, minds);
             let before = entries.len();
             note_lefts(entries, minds, 0, code);
             mark_gone(minds);
-            let count = entries.len() - before;
-            *noted += count as u64;
-            Turned::AllLeft { code, count }
+            Turned::AllLeft {
+                code,
+                count: entries.len() - before,
+            }
         }
         Stepped::Hit | Stepped::Trap(_) => unreachable!(),
+    }
+}
+
+/// How many harts have exited by a turn.
+pub fn exits_of(turned: Turned) -> usize
+    ensures { result ≡ exits_of turned }
+{
+    match turned {
+        Turned::Left { .. } => 1,
+        Turned::AllLeft { count, .. } => count,
+        _ => 0,
     }
 }

@@ -1,23 +1,16 @@
 // Threads that go on, and threads that are interrupted.
-ghost use Rattle.std.specs.Prelude.{◌≡◌, slice_get};
+ghost use Rattle.std.specs.Prelude.{◌≡◌, ◌≤◌, length, if◌then◌else◌};
 ghost use Rattle.dbg_answers.specs.Answer.{change_of};
-ghost use Rattle.dbg_engine.specs.Resuming.{asked, at_place, gone_on, minds_after, on_thread, on_threads, ordered};
+ghost use Rattle.dbg_model.specs.Reply.{is_named, on_threads};
+ghost use Rattle.dbg_engine.specs.Resuming.{asked, gone_on, minds_after, ordered};
 
-use dbg_answers::Effect;
+use dbg_answers::{Effect, Order, is_named};
 use engine_facts::{Activity, Mind, Phase};
+use step_plans::Plan;
 
-/// What is to become of a thread.
-#[derive(Clone, Copy, Debug, PartialEq, Eq)]
-pub enum Order {
-    /// It goes on where it is stopped.
-    GoOn,
-    /// An interrupt is asked of it where it runs.
-    Interrupt,
-}
-
-// A stopped hart goes on.
-fn gone_on(mind: Mind) -> Mind
-    ensures { result ≡ gone_on mind }
+// A stopped hart goes on with a plan.
+fn gone_on(mind: Mind, plan: Plan) -> Mind
+    ensures { result ≡ gone_on plan mind }
 {
     match mind.activity {
         Activity::Stopped => Mind {
@@ -25,6 +18,8 @@ fn gone_on(mind: Mind) -> Mind
             fresh: false,
             asked: false,
             phase: Phase::Idle,
+            plan,
+            ..mind
         },
         Activity::Running | Activity::Exited => mind,
     }
@@ -36,10 +31,8 @@ fn asked(mind: Mind) -> Mind
 {
     match mind.activity {
         Activity::Running => Mind {
-            activity: mind.activity,
-            fresh: mind.fresh,
             asked: true,
-            phase: mind.phase,
+            ..mind
         },
         Activity::Stopped | Activity::Exited => mind,
     }
@@ -49,46 +42,41 @@ fn ordered(order: Order, mind: Mind) -> Mind
     ensures { result ≡ ordered order mind }
 {
     match order {
-        Order::GoOn => gone_on(mind),
+        Order::GoOn(plan) => gone_on(mind, plan),
         Order::Interrupt => asked(mind),
     }
 }
 
-// What becomes of the hart at a place, if there is one.
-fn at_place(minds: &mut [Mind], h: usize, order: Order)
-    ensures { minds.new ≡ at_place (ordered order) minds.old h (slice_get minds.old h) }
+// What becomes of a hart, if its thread is one of these.
+fn ordered_if(threads: &[u32], thread: u32, order: Order, mind: Mind) -> Mind
+    ensures { result ≡ (if is_named threads.now thread then ordered order mind else mind) }
 {
-    if h < minds.len() {
-        minds[h] = ordered(order, minds[h]);
+    if is_named(threads, thread) {
+        ordered(order, mind)
+    } else {
+        mind
     }
 }
 
-// What becomes of the hart of a thread, if there is one. Threads are counted from 1.
-fn on_thread(minds: &mut [Mind], thread: u32, order: Order)
-    ensures { minds.new ≡ on_thread (ordered order) minds.old thread }
-{
-    if thread > 0 {
-        at_place(minds, thread as usize - 1, order);
-    }
-}
-
-// What becomes of the harts of these threads.
+// What becomes of the harts of these threads. Threads are counted from 1.
 fn on_threads(minds: &mut [Mind], threads: &[u32], order: Order)
-    ensures { minds.new ≡ on_threads (ordered order) minds.old threads.now }
+    requires { length minds.old ≤ 16 }
+    ensures { minds.new ≡ on_threads (ordered order) threads.now 1 minds.old }
 {
-    let [thread, rest @ ..] = threads else {
-        return;
-    };
-    on_thread(minds, *thread, order);
-    on_threads(minds, rest, order);
+    for k in 0..minds.len() {
+        minds[k] = ordered_if(threads, k as u32 + 1, order, minds[k]);
+    }
 }
 
 /// The threads of a change go on where they are stopped, or an interrupt is asked of them where they run.
 pub fn change_threads(minds: &mut [Mind], effect: &Effect)
+    requires { length minds.old ≤ 16 }
     ensures { minds.new ≡ minds_after minds.old (change_of effect.now) }
 {
     match effect {
-        Effect::Resume(threads) => on_threads(minds, threads.as_slice(), Order::GoOn),
+        Effect::Resume { threads, plan } => {
+            on_threads(minds, threads.as_slice(), Order::GoOn(*plan));
+        }
         Effect::Interrupt(threads) => on_threads(minds, threads.as_slice(), Order::Interrupt),
         _ => {}
     }

@@ -7,10 +7,21 @@ use Rattle.elf32_read.specs.Program.{Program}
 use Rattle.hart_machine.proofs.Places.{same_some}
 use Rattle.break_table.specs.Entry.{Entry as BreakEntry}
 use Rattle.break_table.specs.Table.{stands, stands_at}
+use Rattle.break_table.specs.declared.due.Due.{Due}
+use Rattle.source_index.specs.Sources.{Sources, sources_of}
+use Rattle.step_plans.specs.declared.plan.Plan.{Plan}
+use Rattle.step_plans.specs.declared.plan.Plan.TheVariants as plans
+use Rattle.step_plans.specs.declared.plan.Verdict.{Verdict}
+use Rattle.step_plans.specs.declared.plan.Verdict.TheVariants as verdicts
 use Rattle.break_table.specs.Arrival.{is_for, fits, counts, stops, is_met, stays, raised, settled_entry, settled, least, told, due_of}
 use Rattle.dbg_model.specs.Breaks.{nothing_due}
 use Rattle.dbg_model.specs.Views.{register, shown_byte}
-use Rattle.dbg_model.specs.State.{Hart, State, due, is_due, arrived}
+use Rattle.dbg_model.specs.declared.hart.Hart.{Hart}
+use Rattle.dbg_model.specs.declared.judgement.Course.{Course}
+use Rattle.dbg_model.specs.declared.judgement.Judgement.{Judgement}
+use Rattle.dbg_model.specs.Judging.{is_due, judgement_of, no_arrival, verdict_behind}
+use Rattle.dbg_model.specs.State.{State, course_of, due, arrived}
+use Rattle.dbg_model.proofs.Judged.{free_goes}
 use Rattle.dbg_model.proofs.Options.{both_true}
 use Rattle.engine_facts.specs.Facts.{AreInText, InText}
 
@@ -127,19 +138,39 @@ quiet_due : (h : ℕ) (rs : ℕ → ℕ) (bytes : ℕ → Option ℕ) (bs : List
 quiet_due h rs bytes bs off =
     ap (λ es. told rs bytes (least es) (list_any (counts h (rs 32)) bs)) (none_stop h rs bytes bs off) ∙ ap (λ c. told rs bytes None c) (none_count h (rs 32) bs off)
 
-due_by : (p : Program) (s : State) (h : ℕ) (x : Hart) (fresh : Bool) → stands x.regs.pc s.breaks ≡ false → cond fresh (due_of h (register x.regs) (shown_byte p s.memory) s.breaks) nothing_due ≡ nothing_due
-due_by p s h x true off = quiet_due h (register x.regs) (shown_byte p s.memory) s.breaks off
-due_by p s h x false off = refl
+-- ---- what is judged of a hart
 
--- where none stands nothing is due
-pub undue : (p : Program) (s : State) (h : ℕ) (x : Hart) → stands x.regs.pc s.breaks ≡ false → due p s h x ≡ nothing_due
+breaks_by : (b : Bool) (d : Due) (v : Verdict) (plan : Plan) → (let j : Judgement = record { breaks = d; verdict = v } in (cond b j (no_arrival plan)).breaks) ≡ cond b d nothing_due
+breaks_by true d v plan = refl
+breaks_by false d v plan = refl
+
+-- what the breakpoints do with a hart
+pub due_breaks : (p : Program) (s : State) (h : ℕ) (x : Hart) → (due p s h x).breaks ≡ cond x.fresh (due_of h (register x.regs) (shown_byte p s.memory) s.breaks) nothing_due
+unfolding due judgement_of
+due_breaks p s h x = breaks_by x.fresh (due_of h (register x.regs) (shown_byte p s.memory) s.breaks) (verdict_behind p (sources_of p) x.plan (register x.regs) x.last) x.plan
+
+free_by : (b : Bool) (d : Due) (v : Verdict) → v ≡ verdicts.Go plans.Free → (let j : Judgement = record { breaks = d; verdict = v } in (cond b j (no_arrival plans.Free)).verdict) ≡ verdicts.Go plans.Free
+free_by true d v is = is
+free_by false d v is = refl
+
+free_course : (p : Program) (sources : Sources) (es : List BreakEntry) (h : ℕ) (c : Course) (rs : ℕ → ℕ) (bytes : ℕ → Option ℕ) → c.plan ≡ plans.Free → (judgement_of p sources es h c rs bytes).verdict ≡ verdicts.Go plans.Free
+unfolding judgement_of
+free_course p sources es h c rs bytes free =
+    let P : Plan → Type 0 = λ plan. (let j : Judgement = record { breaks = due_of h rs bytes es; verdict = verdict_behind p sources plan rs c.last } in (cond c.fresh j (no_arrival plan)).verdict) ≡ verdicts.Go plans.Free in
+    subst P (sym free) (free_by c.fresh (due_of h rs bytes es) (verdict_behind p sources plans.Free rs c.last) (free_goes p sources rs c.last))
+
+-- a hart without a plan goes on without one
+pub free_verdict : (p : Program) (s : State) (h : ℕ) (x : Hart) → x.plan ≡ plans.Free → (due p s h x).verdict ≡ verdicts.Go plans.Free
 unfolding due
-undue p s h x off = due_by p s h x x.fresh off
+free_verdict p s h x free = free_course p (sources_of p) s.breaks h (course_of x) (register x.regs) (shown_byte p s.memory) free
 
-stands_as : (p : Program) (s : State) (h : ℕ) (x : Hart) (t : Bool) → stands x.regs.pc s.breaks ≡ t → is_due (due p s h x) ≡ true → stands x.regs.pc s.breaks ≡ true
-stands_as p s h x true is e = is
-stands_as p s h x false is e = let none : is_due (due p s h x) ≡ false = ap is_due (undue p s h x is) in absurd cc
+quiet_by : (p : Program) (s : State) (h : ℕ) (x : Hart) (fresh : Bool) → stands x.regs.pc s.breaks ≡ false → cond fresh (due_of h (register x.regs) (shown_byte p s.memory) s.breaks) nothing_due ≡ nothing_due
+quiet_by p s h x true off = quiet_due h (register x.regs) (shown_byte p s.memory) s.breaks off
+quiet_by p s h x false off = refl
 
--- what is due stands at the hart's pc
-pub due_stands : (p : Program) (s : State) (h : ℕ) (x : Hart) → is_due (due p s h x) ≡ true → stands x.regs.pc s.breaks ≡ true
-due_stands p s h x is = stands_as p s h x (stands x.regs.pc s.breaks) refl is
+undue_as : (j : Judgement) → j.breaks ≡ nothing_due → j.verdict ≡ verdicts.Go plans.Free → is_due j ≡ false
+undue_as j breaks goes = rw (breaks, goes) refl
+
+-- nothing is due for a hart without a plan where no breakpoint stands
+pub undue : (p : Program) (s : State) (h : ℕ) (x : Hart) → x.plan ≡ plans.Free → stands x.regs.pc s.breaks ≡ false → is_due (due p s h x) ≡ false
+undue p s h x free off = undue_as (due p s h x) (due_breaks p s h x ∙ quiet_by p s h x x.fresh off) (free_verdict p s h x free)

@@ -1,6 +1,6 @@
 -- An engine before its first move.
 use Rattle.std.proofs.Common.{◌≡◌, ◌≤◌, ℕ, zero, suc, ◌+◌, Bool, true, false, cond, List, [], ◌∷◌, ◌++◌, replicate, refl, sym, ap, ◌∙◌, subst, arith, inl, inr}
-use Rattle.std.specs.Prelude.{Option, Some, None, ◌⊎◌, slice_get, slice_index}
+use Rattle.std.specs.Prelude.{Option, Some, None, ◌⊎◌, ◌&&◌, map, slice_get, slice_index}
 use Rattle.std.specs.Option.{option_and_then}
 use Rattle.scratch_slots.specs.declared.slots.SlotUse.{SlotUse}
 use Rattle.scratch_slots.specs.Table.{use_at, is_address, slot_number}
@@ -24,9 +24,12 @@ use Rattle.dbg_model.specs.State.{State, first_state}
 use Rattle.dbg_model.specs.Journals.{Leaves}
 use Rattle.dbg_model.proofs.Adding.{starts}
 use Rattle.engine_facts.specs.declared.mind.Mind.{Mind}
-use Rattle.engine_facts.specs.Minds.{first_mind}
+use Rattle.engine_facts.specs.Minds.{awaited, first_mind}
+use Rattle.break_table.specs.Table.{is_wait}
+use Rattle.std.specs.List.{list_any}
+use Rattle.elf32_read.specs.Program.{Program}
 use Rattle.engine_facts.specs.Seen.{Run, Told, seen, told_after}
-use Rattle.engine_facts.specs.Facts.{Facts, HartFact, pending}
+use Rattle.engine_facts.specs.Facts.{Facts, Sound, HartFact, pending, wanted}
 use Rattle.engine_facts.proofs.Updating.{none_some}
 use Rattle.engine_facts.proofs.Seeing.{first_seen, length_first, told_is}
 
@@ -125,7 +128,19 @@ first_copied o spare h c x is =
 abbrev pub KnowsText : Opening → Table → Type 0
 KnowsText o t = (a : ℕ) → is_place t.text a ≡ is_instruction o.image a
 
-begins : (o : Opening) (spare : ℕ) → AreSettings o.settings → KnowsText o (first_table o.image o.settings.harts) → Facts (first_run o spare)
+-- no hart waits at the beginning
+none_waits : (a n : ℕ) → list_any (is_wait a) (replicate n None) ≡ false
+none_waits a zero = refl
+none_waits a (suc n) = none_waits a n
+
+none_called : (a n : ℕ) → wanted (record { entries = []; waits = replicate n None; hold = None }) a ≡ false
+none_called a n = ap (λ b. b && true) (none_waits a n)
+
+none_await : (p : Program) (n : ℕ) → replicate n None ≡ map (awaited p) (replicate n first_mind)
+none_await p zero = refl
+none_await p (suc n) = ap (λ ws. None ∷ ws) (none_await p n)
+
+begins : (o : Opening) (spare : ℕ) → AreSettings o.settings → KnowsText o (first_table o.image o.settings.harts) → Sound (first_run o spare)
 begins o spare s places =
     let harts = length-replicate {A = Mind} o.settings.harts first_mind in
     record {
@@ -140,10 +155,11 @@ begins o spare s places =
         used = λ slot u e. free_use slot o.settings.slots u e;
       };
       slots = length-replicate {A = Option SlotUse} o.settings.slots None;
-      planted = record { words = refl; patches = λ a. contains-empty nat_cmp a };
+      planted = record { words = refl; patches = λ a. contains-empty nat_cmp a ∙ sym (none_called a o.settings.harts) };
       texts = λ k b at. no_break k b at;
       places = places;
-      waits = refl;
+      many = length-replicate {A = Option ℕ} o.settings.harts None;
+      awaits = λ a e. let none = none_waits a o.settings.harts in absurd cc;
       sources = refl;
       retired = λ h c at. none_yet o.image.entry o.settings.harts o.settings.harts h c at;
       copied = λ some h c x ec ex. first_copied o spare h c x (replicated o.settings.harts h x ex);
@@ -161,7 +177,7 @@ begins_at o spare j m xs t sources s none is are table places same =
     let ys = replicate o.settings.harts first_mind in
     let u = first_table o.image o.settings.harts in
     let known : KnowsText o u = subst (KnowsText o) table places in
-    let first : P [] l ys u (sources_of o.image) = record { facts = begins o spare s known; state = seen_begin o spare } in
+    let first : P [] l ys u (sources_of o.image) = record { facts = record { sound = begins o spare s known; waits = none_await o.image o.settings.harts }; state = seen_begin o spare } in
     subst (λ (k : List Entry). P k m xs t sources) (sym none)
     (subst (λ (n : Patched). P [] n xs t sources) (sym is)
     (subst (λ (zs : List Mind). P [] l zs t sources) (sym are)

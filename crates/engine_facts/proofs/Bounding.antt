@@ -2,7 +2,7 @@
 use Rattle.std.proofs.Common.{◌≡◌, ℕ, ◌<◌, ◌≤◌, Bool, true, false, cond, List, [], ◌∷◌, length, arith, not, nat_lt, refl}
 use Rattle.std.specs.Prelude.{Some, ◌==◌, ◌&&◌, slice_get}
 use Rattle.std.proofs.lemmas.Bool.Decides.{nat_tests}
-use Rattle.plain_machine.specs.PlainRun.{Item, Step}
+use Rattle.plain_machine.specs.PlainRun.{Item, Step, Reg, Bytes}
 use Rattle.hart_machine.specs.declared.hart.Core.{Core}
 use Rattle.dbg_model.specs.Limits.{history}
 use Rattle.dbg_model.specs.State.{any_leaves}
@@ -12,7 +12,7 @@ use Rattle.dbg_model.specs.Erase.{erase, steps_of, is_step}
 use Rattle.dbg_model.proofs.Counting.{counted, last_count-le}
 use Rattle.dbg_model.proofs.Options.{both_true}
 use Rattle.engine_facts.specs.Seen.{Run, seen}
-use Rattle.engine_facts.specs.Facts.{Facts}
+use Rattle.engine_facts.specs.Facts.{Sound}
 use Rattle.engine_facts.proofs.Seeing.{seen_quiet}
 
 pub record Small (r : Run) : Type 0 where
@@ -28,12 +28,14 @@ step_most_by false = omega arith
 
 step_most : (k : ℕ) (i : Item) → is_step k i ≤ 1
 step_most k (Step h) = step_most_by (h == k)
+step_most k (Reg h n v) = omega arith
+step_most k (Bytes a bytes) = omega arith
 
 steps_most : (k : ℕ) (is : List Item) → steps_of k is ≤ length is
 steps_most k [] = omega arith
 steps_most k (i ∷ is) = let ih = steps_most k is in let o = step_most k i in omega arith
 
-small : (r : Run) → Facts r → r.retired < r.opening.settings.budget → r.noted < history → Small r
+small : (r : Run) → Sound r → r.retired < r.opening.settings.budget → r.noted < history → Small r
 small r f budget low =
     let n = counted r.opening r.journal (seen r) f.leaves in
     let least = last_count-le r.journal in
@@ -55,7 +57,7 @@ below r may =
     let first = n.0 in
     let second = (both_true (nat_lt r.noted history) (not r.exited) n.1).0 in (grind (arith, nat_tests), grind (arith, nat_tests))
 
-pub small_at : (r : Run) → Facts r → may_go r.opening (seen r) ≡ true → Small r
+pub small_at : (r : Run) → Sound r → may_go r.opening (seen r) ≡ true → Small r
 small_at r f may = let b = below r may in small r f b.0 b.1
 
 -- an engine may go where neither is, and no line ended it

@@ -7,10 +7,10 @@ use Rattle.text_words.specs.Tables.{WordMap}
 use Rattle.text_words.specs.Words.{Words, shown}
 use Rattle.hart_machine.proofs.Places.{same_some, same_place}
 use Rattle.break_table.specs.Entry.{Entry as BreakEntry}
-use Rattle.break_table.specs.Table.{stands, stands_at, has_number, is_other, changed_entry, with_enabled, IsRising}
-use Rattle.engine_facts.specs.declared.mind.Hold.{Hold}
+use Rattle.break_table.specs.Table.{stands, stands_at, has_number, is_other, is_wait, changed_entry, with_enabled, IsRising}
+use Rattle.std.specs.List.{list_any}
 use Rattle.engine_facts.specs.Seen.{Run}
-use Rattle.engine_facts.specs.Facts.{Facts, Planted, AreInText, wanted, is_home}
+use Rattle.engine_facts.specs.Facts.{Sound, Planted, AreInText, Wants, wanted, wants_of, is_home}
 use Rattle.engine_facts.specs.Moves.{Repatched}
 use Rattle.engine_facts.specs.Tables.{number_place, number_place_by, HaveWords, ArePlanted}
 use Rattle.engine_facts.proofs.Planting.{replanted_at, text_shown, in_text}
@@ -144,30 +144,35 @@ pub place-shown : (t : Words) (bs : List BreakEntry) (n a : ℕ) → HaveWords t
 place-shown t [] n a each at = cc
 place-shown t (b ∷ bs) n a each at = place_by t b bs n a (b.number == n) at (each 0 b refl) (place-shown t bs n a (λ k d is. each (suc k) d is))
 
-same_words : (t t' : Words) (bs : List BreakEntry) → t'.words ≡ t.words → HaveWords t bs → HaveWords t' bs
+pub same_shown : (t t' : Words) (a : ℕ) → t'.words ≡ t.words → IsSome (shown t a) → IsSome (shown t' a)
+same_shown t t' a is some = subst (λ (m : WordMap). IsSome (finite.get m a)) (sym is) some
+
+pub same_words : (t t' : Words) (bs : List BreakEntry) → t'.words ≡ t.words → HaveWords t bs → HaveWords t' bs
 same_words t t' bs is each = λ k d at. subst (λ (m : WordMap). IsSome (finite.get m d.address)) (sym is) (each k d at)
 
 -- ---- patches
 
 -- one word is patched as it is wanted now, and the others are wanted as before
-pub replanted_words : (bs bs' : List BreakEntry) (hold : Option Hold) (t t' : Words) (a : ℕ) → ArePlanted t bs hold → Repatched t t' a (wanted bs' hold a) → ((c : ℕ) → (a ≡ c → ⊥) → stands c bs ≡ stands c bs') → HaveWords t bs'
-    → ArePlanted t' bs' hold
-replanted_words bs bs' hold t t' a f w same each =
+pub replanted_words : (v : Wants) (bs : List BreakEntry) (t t' : Words) (a : ℕ) → ArePlanted t v → Repatched t t' a (wanted (record v { entries = bs }) a) → ((c : ℕ) → (a ≡ c → ⊥) → stands c v.entries ≡ stands c bs) → HaveWords t bs
+    → ArePlanted t' (record v { entries = bs })
+replanted_words v bs t t' a f w same each =
     record {
-      patches = λ b. replanted_at bs bs' hold hold t t' a f.patches w (λ c n. ap (λ u. u && not (is_home hold c)) (same c n)) b (same_place a b);
-      words = same_words t t' bs' w.words each;
+      patches = λ b. replanted_at v (record v { entries = bs }) t t' a f.patches w (λ c n. ap (λ u. (u || list_any (is_wait c) v.waits) && not (is_home v.hold c)) (same c n)) b (same_place a b);
+      words = same_words t t' bs w.words each;
+      awaits = λ c e. same_shown t t' c w.words (f.awaits c e);
     }
 
 -- the breakpoints change, and none stands elsewhere than before
-pub kept_words : (bs bs' : List BreakEntry) (hold : Option Hold) (t : Words) → ArePlanted t bs hold → ((c : ℕ) → stands c bs' ≡ stands c bs) → HaveWords t bs' → ArePlanted t bs' hold
-kept_words bs bs' hold t f same each = record { patches = λ c. f.patches c ∙ ap (λ u. u && not (is_home hold c)) (sym (same c)); words = each }
+pub kept_words : (v : Wants) (bs : List BreakEntry) (t : Words) → ArePlanted t v → ((c : ℕ) → stands c bs ≡ stands c v.entries) → HaveWords t bs → ArePlanted t (record v { entries = bs })
+kept_words v bs t f same each = record { patches = λ c. f.patches c ∙ ap (λ u. (u || list_any (is_wait c) v.waits) && not (is_home v.hold c)) (sym (same c)); words = each; awaits = f.awaits }
 
 -- what is planted in an engine
-pub are_planted : (r : Run) → Facts r → ArePlanted r.machine.text r.breaks r.hold
-are_planted r f = record { patches = f.planted.patches; words = λ k b at. text_shown r.opening.image r.machine.text r.breaks r.hold b.address f.planted (f.texts k b at) }
+pub are_planted : (r : Run) → Sound r → ArePlanted r.machine.text (wants_of r)
+are_planted r f = record { patches = f.planted.patches; words = λ k b at. text_shown r.opening.image r.machine.text (wants_of r) b.address f.planted (f.texts k b at); awaits = λ a e. text_shown r.opening.image r.machine.text (wants_of r) a f.planted (f.awaits a e) }
 
 -- and back
-pub planted_again : (r : Run) (t : Words) (bs : List BreakEntry) → Facts r → t.words ≡ r.machine.text.words → ArePlanted t bs r.hold → Planted r.opening.image t bs r.hold × AreInText r.opening.image bs
+pub planted_again : (r : Run) (t : Words) (bs : List BreakEntry) → Sound r → t.words ≡ r.machine.text.words → (let v : Wants = record (wants_of r) { entries = bs } in ArePlanted t v → Planted r.opening.image t v × AreInText r.opening.image bs)
 planted_again r t bs f same p =
-    let planted : Planted r.opening.image t bs r.hold = record { words = same ∙ f.planted.words; patches = p.patches } in
-    (planted, λ k b at. in_text r.opening.image t bs r.hold b.address planted (p.words k b at))
+    let v : Wants = record (wants_of r) { entries = bs } in
+    let planted : Planted r.opening.image t v = record { words = same ∙ f.planted.words; patches = p.patches } in
+    (planted, λ k b at. in_text r.opening.image t v b.address planted (p.words k b at))

@@ -14,7 +14,7 @@ use Rattle.engine_facts.specs.declared.mind.Activity.TheVariants as activity
 use Rattle.engine_facts.specs.declared.mind.Mind.{Mind}
 use Rattle.engine_facts.specs.Minds.{lifted_of, slot_of, with_phase}
 use Rattle.engine_facts.specs.Seen.{Run, running_regs}
-use Rattle.engine_facts.specs.Facts.{Facts, pending}
+use Rattle.engine_facts.specs.Facts.{Sound, pending}
 use Rattle.engine_facts.specs.Moves.{Takes, rehomed}
 use Rattle.engine_facts.proofs.Updating.{slots_taken}
 use Rattle.engine_facts.proofs.Keeping.{Mover, StaysSeen, silent_home}
@@ -28,7 +28,7 @@ copied_pending d slot home = ap (λ b. cond b 1 0) (and_off (not (is_off d)))
 entered_seen : (p : Program) (r : Registers) (slot home : ℕ) → r.pc ≡ home → running_regs p (set_pc r slot) (phase.Copied slot home) ≡ r
 entered_seen p r slot home pc = ap (set_pc r) (sym pc)
 
-pub copies : (r : Run) (h slot home word : ℕ) (c : Core) (x : Mind) (slots : List (Option SlotUse)) → Facts r → Mover r h c x → x.activity ≡ activity.Running → x.phase ≡ phase.Idle → c.regs.pc ≡ home → text_word r.opening.image home ≡ Some word
+pub copies : (r : Run) (h slot home word : ℕ) (c : Core) (x : Mind) (slots : List (Option SlotUse)) → Sound r → Mover r h c x → x.activity ≡ activity.Running → x.phase ≡ phase.Idle → c.regs.pc ≡ home → text_word r.opening.image home ≡ Some word
     → IsWordAddress slot → IsWordAddress home → Takes r.machine.slots slots h slot word → StaysSeen r (rehomed r h (entered_core c slot) (with_phase x (phase.Copied slot home)) r.machine.text slots r.hold)
 copies r h slot home word c x slots f m runs idle pc image at_slot at_home takes =
     let p = r.opening.image in
@@ -36,7 +36,7 @@ copies r h slot home word c x slots f m runs idle pc image at_slot at_home takes
     let x' = with_phase x q in
     let d = entered_core c slot in
     let same : running_regs p d.regs q ≡ running_regs p c.regs x.phase = entered_seen p c.regs slot home pc ∙ ap (running_regs p c.regs) (sym idle) in
-    silent_home r h c d x x' r.machine.text slots r.hold f m (shown_alike p c d x x' refl refl refl (seen_alike p d.regs c.regs x.activity q x.phase runs same))
+    silent_home r h c d x x' r.machine.text slots r.hold f m (shown_alike p c d x q (seen_alike p d.regs c.regs x.activity q x.phase runs same))
     (record {
       slots = slots_taken p r.machine.cores r.machine.slots slots r.minds r.hold h slot home word x f.harts m.mind (ap slot_of idle) takes.was takes.one;
       holds = λ k n. refl;

@@ -17,7 +17,7 @@ use Rattle.engine_facts.specs.declared.mind.Hold.{Hold}
 use Rattle.engine_facts.specs.declared.mind.Mind.{Mind}
 use Rattle.engine_facts.specs.Minds.{is_active, runs, lifted_of, slot_of, with_phase}
 use Rattle.engine_facts.specs.Seen.{Run, seen_regs, running_regs}
-use Rattle.engine_facts.specs.Facts.{Facts, Harts, HasSlot, Placed, other_holder}
+use Rattle.engine_facts.specs.Facts.{Sound, Harts, HasSlot, Placed, other_holder}
 use Rattle.engine_facts.specs.Moves.{IsHome, AreHome, Frees, OneSlot, Released}
 use Rattle.engine_facts.specs.Homing.{Owns, IsSlotted, settled_by, home_core, Leaves, GoesHome, AllGoHome}
 use Rattle.engine_facts.proofs.Updating.{AllFree, SlotChange, slots_same, slots_freed}
@@ -35,7 +35,7 @@ slotted_by p m h c (phase.Landed slot home) a = record { owns = record { word = 
 slotted_by p m h c (phase.Lifted home) a = tt
 slotted_by p m h c (phase.Ran home) a = tt
 
-pub is_slotted : (r : Run) (h : ℕ) (c : Core) (x : Mind) → Facts r → Mover r h c x → IsSlotted r.machine h x.phase
+pub is_slotted : (r : Run) (h : ℕ) (c : Core) (x : Mind) → Sound r → Mover r h c x → IsSlotted r.machine h x.phase
 is_slotted r h c x f m = slotted_by r.opening.image r.machine h c x.phase (fact_of r h c x f m).placed
 
 -- what a hart is at home
@@ -62,8 +62,8 @@ home_counts slots c (phase.Lifted home) = (refl, refl)
 home_counts slots c (phase.Ran home) = (refl, refl)
 
 -- a hart with a slot comes home
-slot_unwound : (r : Run) (h slot : ℕ) (c : Core) (x : Mind) (m' : Patched) (t : Words) → Facts r → Mover r h c x → x.activity ≡ activity.Running → other_holder r.hold h ≡ None → slot_of x.phase ≡ Some slot → lifted_of x.phase ≡ None → Owns r.machine h slot
-    → (home_core r.machine.slots c x.phase).entered ≡ None → Leaves r.machine m' h slot x.phase → Released m'.text t r.breaks r.hold
+slot_unwound : (r : Run) (h slot : ℕ) (c : Core) (x : Mind) (m' : Patched) (t : Words) → Sound r → Mover r h c x → x.activity ≡ activity.Running → other_holder r.hold h ≡ None → slot_of x.phase ≡ Some slot → lifted_of x.phase ≡ None → Owns r.machine h slot
+    → (home_core r.machine.slots c x.phase).entered ≡ None → Leaves r.machine m' h slot x.phase → Released m'.text t r.breaks r.waits r.hold
     → StaysSeen r (record r { machine = record m' { text = t }; minds = slice_set r.minds h (with_phase x phase.Idle); hold = None })
 slot_unwound r h slot c x m' t f m runs free has lifted owns out l w =
     let d = home_core r.machine.slots c x.phase in
@@ -73,7 +73,7 @@ slot_unwound r h slot c x m' t f m runs free has lifted owns out l w =
     let counts = home_counts r.machine.slots c x.phase in
     let done = comes_home r h slot owns.word c d x m'.slots f m runs has lifted free owns.out l.frees (sym (home_is r.opening.image r.machine.slots h c x.phase fact.placed)) counts.0 counts.1 out in
     let same : m' ≡ record r.machine { cores = slice_set r.machine.cores h d; slots = m'.slots } = l.machine ∙ ap (λ e. record r.machine { cores = slice_set r.machine.cores h (home_core r.machine.slots e x.phase); slots = m'.slots }) core in
-    let text : t ≡ r.machine.text = subst (λ (o : Option Hold). Released m'.text t r.breaks o) hold w ∙ ap (λ (n : Patched). n.text) same in
+    let text : t ≡ r.machine.text = subst (λ (o : Option Hold). Released m'.text t r.breaks r.waits o) hold w ∙ ap (λ (n : Patched). n.text) same in
     let P : Patched → Type 0 = λ n. StaysSeen r (record r { machine = n; minds = slice_set r.minds h (with_phase x phase.Idle); hold = None }) in
     let whole : record r.machine { cores = slice_set r.machine.cores h d; slots = m'.slots } ≡ record m' { text = t } =
     ap (λ (u : Words). let n : Patched = record { text = u; cores = slice_set r.machine.cores h d; memory = r.machine.memory; slots = m'.slots } in n) (sym text)
@@ -81,10 +81,10 @@ slot_unwound r h slot c x m' t f m runs free has lifted owns out l w =
     subst P whole done
 
 -- a hart without a slot
-text_unwound : (r : Run) (h : ℕ) (c : Core) (x : Mind) (m' : Patched) (t : Words) → Facts r → Mover r h c x → other_holder r.hold h ≡ None → slot_of x.phase ≡ None → m' ≡ r.machine → Released m'.text t r.breaks r.hold
+text_unwound : (r : Run) (h : ℕ) (c : Core) (x : Mind) (m' : Patched) (t : Words) → Sound r → Mover r h c x → other_holder r.hold h ≡ None → slot_of x.phase ≡ None → m' ≡ r.machine → Released m'.text t r.breaks r.waits r.hold
     → StaysSeen r (record r { machine = record m' { text = t }; minds = slice_set r.minds h (with_phase x phase.Idle); hold = None })
 text_unwound r h c x m' t f m free without same w =
-    let w' : Released r.machine.text t r.breaks r.hold = subst (λ (n : Patched). Released n.text t r.breaks r.hold) same w in
+    let w' : Released r.machine.text t r.breaks r.waits r.hold = subst (λ (n : Patched). Released n.text t r.breaks r.waits r.hold) same w in
     let P : Patched → Type 0 = λ n. StaysSeen r (record r { machine = record n { text = t }; minds = slice_set r.minds h (with_phase x phase.Idle); hold = None }) in
     subst P (sym same) (unwinds r h c x t f m without free w')
 
@@ -92,7 +92,7 @@ settled_out : (slots : List (Option SlotUse)) (c : Core) (o : Option SlotUse) (s
 settled_out slots c None slot home b u e = cc
 settled_out slots c (Some v) slot home b u e = refl
 
-unwound_by : (r : Run) (h : ℕ) (c : Core) (x : Mind) (m' : Patched) (t : Words) (q : Phase) → x.phase ≡ q → Facts r → Mover r h c x → x.activity ≡ activity.Running → other_holder r.hold h ≡ None → IsSlotted r.machine h q → GoesHome r.machine m' h q → Released m'.text t r.breaks r.hold
+unwound_by : (r : Run) (h : ℕ) (c : Core) (x : Mind) (m' : Patched) (t : Words) (q : Phase) → x.phase ≡ q → Sound r → Mover r h c x → x.activity ≡ activity.Running → other_holder r.hold h ≡ None → IsSlotted r.machine h q → GoesHome r.machine m' h q → Released m'.text t r.breaks r.waits r.hold
     → StaysSeen r (record r { machine = record m' { text = t }; minds = slice_set r.minds h (with_phase x phase.Idle); hold = None })
 unwound_by r h c x m' t phase.Idle is f m runs free own g w = text_unwound r h c x m' t f m free (ap slot_of is) g w
 unwound_by r h c x m' t (phase.Copied slot home) is f m runs free own g w =
@@ -105,7 +105,7 @@ unwound_by r h c x m' t (phase.Lifted home) is f m runs free own g w = text_unwo
 unwound_by r h c x m' t (phase.Ran home) is f m runs free own g w = text_unwound r h c x m' t f m free (ap slot_of is) g w
 
 -- a running hart steps over nothing any more
-pub unwound : (r : Run) (h : ℕ) (c : Core) (x : Mind) (m' : Patched) (t : Words) → Facts r → Mover r h c x → x.activity ≡ activity.Running → other_holder r.hold h ≡ None → GoesHome r.machine m' h x.phase → Released m'.text t r.breaks r.hold
+pub unwound : (r : Run) (h : ℕ) (c : Core) (x : Mind) (m' : Patched) (t : Words) → Sound r → Mover r h c x → x.activity ≡ activity.Running → other_holder r.hold h ≡ None → GoesHome r.machine m' h x.phase → Released m'.text t r.breaks r.waits r.hold
     → StaysSeen r (record r { machine = record m' { text = t }; minds = slice_set r.minds h (with_phase x phase.Idle); hold = None })
 unwound r h c x m' t f m runs free g w = unwound_by r h c x m' t x.phase refl f m runs free (is_slotted r h c x f m) g w
 

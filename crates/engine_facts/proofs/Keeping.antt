@@ -1,5 +1,5 @@
 -- What each kind of move keeps.
-use Rattle.std.proofs.Common.{◌≡◌, ◌<◌, ◌≤◌, ℕ, List, length, replicate, refl, sym, ap, ◌∙◌, subst, length-set}
+use Rattle.std.proofs.Common.{◌≡◌, ◌<◌, ◌≤◌, ℕ, List, length, refl, sym, ap, ◌∙◌, subst, length-set}
 use Rattle.std.specs.Prelude.{Option, Some, None, slice_get, slice_set}
 use Rattle.dbg_traits.specs.Settings.{AreSettings}
 use Rattle.text_words.specs.Words.{Words}
@@ -15,7 +15,7 @@ use Rattle.dbg_model.specs.Journals.{Leaves}
 use Rattle.engine_facts.specs.declared.mind.Hold.{Hold}
 use Rattle.engine_facts.specs.declared.mind.Mind.{Mind}
 use Rattle.engine_facts.specs.Seen.{Run, Told, seen, seen_with, told_of, seen_hart, seen_harts}
-use Rattle.engine_facts.specs.Facts.{Facts, Harts, Planted, AreInText, AreCopied, Retired, IsThread, pending}
+use Rattle.engine_facts.specs.Facts.{Sound, Harts, Planted, AreInText, AwaitText, AreCopied, Retired, IsThread, pending, wants_of}
 use Rattle.engine_facts.specs.Moves.{rehomed, rephased}
 use Rattle.engine_facts.proofs.Seeing.{reseen, seen_at, seen_same}
 use Rattle.engine_facts.proofs.Counting.{retired_same, copied_same}
@@ -31,7 +31,7 @@ hart_at r h c x m = seen_at r.opening.image r.machine.cores r.minds h c x m.core
 
 -- the facts hold, and the same is seen
 pub record StaysSeen (r s : Run) : Type 0 where
-  pub facts : Facts s
+  pub facts : Sound s
   pub seen : seen s ≡ seen r
 
 -- what an engine has beside its journal, which tells this
@@ -40,17 +40,18 @@ pub record Stands (r : Run) (told : Told) : Type 0 where
   pub selected : IsThread r.opening r.selected
   pub harts : Harts r.opening.image r.machine.cores r.machine.slots r.minds r.hold
   pub slots : length r.machine.slots ≡ r.opening.settings.slots
-  pub planted : Planted r.opening.image r.machine.text r.breaks r.hold
+  pub planted : Planted r.opening.image r.machine.text (wants_of r)
   pub texts : AreInText r.opening.image r.breaks
   pub places : (a : ℕ) → is_place r.bounds a ≡ is_instruction r.opening.image a
-  pub waits : r.waits ≡ replicate r.opening.settings.harts None
+  pub many : length r.waits ≡ r.opening.settings.harts
+  pub awaits : AwaitText r.opening.image r.waits
   pub sources : r.sources ≡ sources_of r.opening.image
   pub retired : Retired r.machine.cores r.journal
   pub copied : AreCopied r.opening.settings.slots r.machine.cores r.minds r.displaced told.passed told.sets
 
 -- the facts after a move that was entered in the journal
 pub record Enters (r : Run) (s : State) : Type 0 where
-  pub facts : Facts r
+  pub facts : Sound r
   pub seen : s ≡ seen r
 
 pub entered : (r : Run) (s : State) → AreSettings r.opening.settings → Leaves r.opening r.journal s → s ≡ seen_with r (told_of s) → Stands r (told_of s) → Enters r s
@@ -67,7 +68,8 @@ entered r s settings l e f =
         planted = f.planted;
         texts = f.texts;
         places = f.places;
-        waits = f.waits;
+        many = f.many;
+        awaits = f.awaits;
         sources = f.sources;
         retired = f.retired;
         copied = subst (λ (t : State). AreCopied r.opening.settings.slots r.machine.cores r.minds r.displaced t.passed t.sets) same f.copied;
@@ -82,8 +84,8 @@ pub record Recounts (count : ℕ) (d : Displaced) (c c' : Core) (q q' : Phase) :
   pub pending : 0 < count → pending d q' ≤ pending d q
 
 -- a move that shows nothing: a hart has another phase, with other registers, patches, slots and another hold
-pub silent_home : (r : Run) (h : ℕ) (c c' : Core) (x x' : Mind) (t : Words) (slots : List (Option SlotUse)) (hold : Option Hold) → Facts r → Mover r h c x → seen_hart r.opening.image c' x' ≡ seen_hart r.opening.image c x
-    → Changes r.opening.image r.machine.slots slots r.hold hold h c' x' → length slots ≡ length r.machine.slots → Recounts r.opening.settings.slots r.displaced c c' x.phase x'.phase → Planted r.opening.image t r.breaks hold
+pub silent_home : (r : Run) (h : ℕ) (c c' : Core) (x x' : Mind) (t : Words) (slots : List (Option SlotUse)) (hold : Option Hold) → Sound r → Mover r h c x → seen_hart r.opening.image c' x' ≡ seen_hart r.opening.image c x
+    → Changes r.opening.image r.machine.slots slots r.hold hold h c' x' → length slots ≡ length r.machine.slots → Recounts r.opening.settings.slots r.displaced c c' x.phase x'.phase → Planted r.opening.image t (record (wants_of r) { hold = hold })
     → StaysSeen r (rehomed r h c' x' t slots hold)
 silent_home r h c c' x x' t slots hold f m same ch len n p =
     let p' = r.opening.image in
@@ -103,7 +105,8 @@ silent_home r h c c' x x' t slots hold f m same ch len n p =
         planted = p;
         texts = f.texts;
         places = f.places;
-        waits = f.waits;
+        many = f.many;
+        awaits = f.awaits;
         sources = f.sources;
         retired = retired_same r.machine.cores h c c' r.journal m.core n.retired f.retired;
         copied = copied_same r.opening.settings.slots r.machine.cores r.minds h c c' x x' r.displaced (seen r).passed (seen r).sets m.core m.mind n.copied n.pending f.copied;
@@ -112,8 +115,8 @@ silent_home r h c c' x x' t slots hold f m same ch len n p =
     }
 
 -- the same where the registers and slots stay
-pub silent : (r : Run) (h : ℕ) (c : Core) (x x' : Mind) (t : Words) (hold : Option Hold) → Facts r → Mover r h c x → seen_hart r.opening.image c x' ≡ seen_hart r.opening.image c x
-    → Changes r.opening.image r.machine.slots r.machine.slots r.hold hold h c x' → (0 < r.opening.settings.slots → pending r.displaced x'.phase ≤ pending r.displaced x.phase) → Planted r.opening.image t r.breaks hold
+pub silent : (r : Run) (h : ℕ) (c : Core) (x x' : Mind) (t : Words) (hold : Option Hold) → Sound r → Mover r h c x → seen_hart r.opening.image c x' ≡ seen_hart r.opening.image c x
+    → Changes r.opening.image r.machine.slots r.machine.slots r.hold hold h c x' → (0 < r.opening.settings.slots → pending r.displaced x'.phase ≤ pending r.displaced x.phase) → Planted r.opening.image t (record (wants_of r) { hold = hold })
     → StaysSeen r (rephased r h x' t hold)
 silent r h c x x' t hold f m same ch n p =
     let done = silent_home r h c c x x' t r.machine.slots hold f m same ch refl (record { retired = refl; copied = refl; pending = n }) p in

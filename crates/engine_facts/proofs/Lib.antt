@@ -14,3 +14,4 @@ pub mod Stopping
 pub mod Breaking
 pub mod Beginning
 pub mod Movers
+pub mod Awaiting

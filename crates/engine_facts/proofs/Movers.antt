@@ -17,7 +17,7 @@ use Rattle.engine_facts.specs.declared.mind.Hold.{Hold}
 use Rattle.engine_facts.specs.declared.mind.Mind.{Mind}
 use Rattle.engine_facts.specs.Minds.{mode_of, is_active, runs, lifted_of, slot_of}
 use Rattle.engine_facts.specs.Seen.{Run, seen, seen_harts}
-use Rattle.engine_facts.specs.Facts.{Facts, held_by}
+use Rattle.engine_facts.specs.Facts.{Sound, held_by}
 use Rattle.engine_facts.specs.Movers.{runs_at, is_free, is_idle, idle_as, are_out, waits_for_slot, moves_at}
 
 -- a hart that can be moved, whatever stands at its pc
@@ -57,7 +57,7 @@ and_false true = refl
 and_false false = refl
 
 -- a hart that runs, for which no other stands in the way, can be moved where it needn't wait for a slot
-moves_by : (r : Run) (h : ℕ) (x : Mind) → Facts r → slice_get r.minds h ≡ Some x → runs x ≡ true → is_free r.hold h ≡ true → waits_for_slot r.machine.slots r.minds h ≡ false → SomeMover r
+moves_by : (r : Run) (h : ℕ) (x : Mind) → Sound r → slice_get r.minds h ≡ Some x → runs x ≡ true → is_free r.hold h ≡ true → waits_for_slot r.machine.slots r.minds h ≡ false → SomeMover r
 moves_by r h x f at is free waits =
     let run : runs_at (seen r).harts h ≡ true = runs_mind r.opening.image r.machine.cores r.minds h x f.harts.len at ∙ is in
     record { hart = h; low = slice_get_within r.minds h x at; moves = rw (run, free, waits) refl }
@@ -65,7 +65,7 @@ moves_by r h x f at is free waits =
 busy_waits : (r : Run) (h : ℕ) (x : Mind) → slice_get r.minds h ≡ Some x → is_idle x.phase ≡ false → waits_for_slot r.machine.slots r.minds h ≡ false
 busy_waits r h x at busy = ap (λ m. are_out r.machine.slots && idle_as m) at ∙ (ap (λ b. are_out r.machine.slots && b) busy ∙ and_false (are_out r.machine.slots))
 
-busy_moves : (r : Run) (h : ℕ) (c : Core) (x : Mind) → Facts r → slice_get r.machine.cores h ≡ Some c → slice_get r.minds h ≡ Some x → is_idle x.phase ≡ false → is_free r.hold h ≡ true → SomeMover r
+busy_moves : (r : Run) (h : ℕ) (c : Core) (x : Mind) → Sound r → slice_get r.machine.cores h ≡ Some c → slice_get r.minds h ≡ Some x → is_idle x.phase ≡ false → is_free r.hold h ≡ true → SomeMover r
 busy_moves r h c x f core at busy free =
     moves_by r h x f at (busy_runs x (runs x) refl (f.harts.each h c x core at).idle busy) free (busy_waits r h x at busy)
 
@@ -84,7 +84,7 @@ slotted_busy (phase.Lifted home) slot is = refl
 slotted_busy (phase.Ran home) slot is = refl
 
 -- the hart for which a patch is lifted
-holder_moves : (r : Run) (d : Hold) → Facts r → r.hold ≡ Some d → SomeMover r
+holder_moves : (r : Run) (d : Hold) → Sound r → r.hold ≡ Some d → SomeMover r
 holder_moves r d f is =
     let low = f.harts.holder d is in
     let x = get_within r.minds d.hart low in
@@ -100,7 +100,7 @@ first_out (None ∷ slots) out = cc
 first_out (Some u ∷ slots) out = (u, refl)
 
 -- a hart that has a slot
-owner_moves : (r : Run) → Facts r → r.hold ≡ None → are_out r.machine.slots ≡ true → SomeMover r
+owner_moves : (r : Run) → Sound r → r.hold ≡ None → are_out r.machine.slots ≡ true → SomeMover r
 owner_moves r f free out =
     let u = first_out r.machine.slots out in
     let has = f.harts.used (slot_address 0) u.0 u.1 in
@@ -125,20 +125,20 @@ runner p (c ∷ cs) [] some = cc
 runner p (c ∷ cs) (x ∷ xs) some =
     runner_by x xs (runs x) (any_runs (seen_harts p cs xs)) refl (ap (λ b. b || any_runs (seen_harts p cs xs)) (sym (active_runs x.activity)) ∙ some) (runner p cs xs)
 
-runner_moves : (r : Run) → Facts r → r.hold ≡ None → are_out r.machine.slots ≡ false → any_runs (seen r).harts ≡ true → SomeMover r
+runner_moves : (r : Run) → Sound r → r.hold ≡ None → are_out r.machine.slots ≡ false → any_runs (seen r).harts ≡ true → SomeMover r
 runner_moves r f free room some =
     let x = runner r.opening.image r.machine.cores r.minds some in
     moves_by r x.hart x.mind f x.at x.runs (ap (λ h. is_free h x.hart) free) (ap (λ b. b && idle_as (slice_get r.minds x.hart)) room)
 
-rest_moves : (r : Run) (out : Bool) → Facts r → r.hold ≡ None → are_out r.machine.slots ≡ out → any_runs (seen r).harts ≡ true → SomeMover r
+rest_moves : (r : Run) (out : Bool) → Sound r → r.hold ≡ None → are_out r.machine.slots ≡ out → any_runs (seen r).harts ≡ true → SomeMover r
 rest_moves r true f free is some = owner_moves r f free is
 rest_moves r false f free is some = runner_moves r f free is some
 
-mover_by : (r : Run) (held : Option Hold) → Facts r → r.hold ≡ held → any_runs (seen r).harts ≡ true → SomeMover r
+mover_by : (r : Run) (held : Option Hold) → Sound r → r.hold ≡ held → any_runs (seen r).harts ≡ true → SomeMover r
 mover_by r (Some d) f is some = holder_moves r d f is
 mover_by r None f is some = rest_moves r (are_out r.machine.slots) f is refl some
 
 -- Where a hart runs, one can be moved: the one for which a patch is lifted, since all others stand held; else, where all slots are out, one that has a slot;
 -- else any that runs.
-pub some_mover : (r : Run) → Facts r → any_runs (seen r).harts ≡ true → SomeMover r
+pub some_mover : (r : Run) → Sound r → any_runs (seen r).harts ≡ true → SomeMover r
 some_mover r f some = mover_by r r.hold f refl some

@@ -22,9 +22,7 @@ use Rattle.plain_machine.specs.Environment.{Answer}
 use Rattle.plain_machine.specs.Plain.{plain, on_word, on_instruction}
 use Rattle.hart_machine.specs.Stepping.{FetchGives, StepGives}
 use Rattle.hart_machine.proofs.Places.{same_place}
-use Rattle.break_table.specs.Entry.{Entry as BreakEntry}
-use Rattle.engine_facts.specs.declared.mind.Hold.{Hold}
-use Rattle.engine_facts.specs.Facts.{Planted, InText, wanted}
+use Rattle.engine_facts.specs.Facts.{Planted, InText, Wants, wanted}
 use Rattle.engine_facts.specs.Moves.{Repatched}
 
 tied : (a : ℕ) → eq_by_cmp nat_cmp a a ≡ true
@@ -55,26 +53,26 @@ patched_out t a = record { words = refl; here = in_remove_same t.planted a; othe
 pub patched_still : (t : Words) (a : ℕ) (is : Bool) → is_planted t a ≡ is → Repatched t t a is
 patched_still t a is e = record { words = refl; here = e; others = λ b n. refl }
 
-pub replanted_at : (bs bs' : List BreakEntry) (hold hold' : Option Hold) (t t' : Words) (a : ℕ) → ((b : ℕ) → is_planted t b ≡ wanted bs hold b) → Repatched t t' a (wanted bs' hold' a)
-    → ((b : ℕ) → (a ≡ b → ⊥) → wanted bs hold b ≡ wanted bs' hold' b) → (b : ℕ) → (a ≡ b) ⊎ (a ≡ b → ⊥) → is_planted t' b ≡ wanted bs' hold' b
-replanted_at bs bs' hold hold' t t' a p w same b (inl e) = let P : ℕ → Type 0 = λ b. is_planted t' b ≡ wanted bs' hold' b in subst P e w.here
-replanted_at bs bs' hold hold' t t' a p w same b (inr n) = w.others b n ∙ (p b ∙ same b n)
+pub replanted_at : (v v' : Wants) (t t' : Words) (a : ℕ) → ((b : ℕ) → is_planted t b ≡ wanted v b) → Repatched t t' a (wanted v' a)
+    → ((b : ℕ) → (a ≡ b → ⊥) → wanted v b ≡ wanted v' b) → (b : ℕ) → (a ≡ b) ⊎ (a ≡ b → ⊥) → is_planted t' b ≡ wanted v' b
+replanted_at v v' t t' a p w same b (inl e) = let P : ℕ → Type 0 = λ b. is_planted t' b ≡ wanted v' b in subst P e w.here
+replanted_at v v' t t' a p w same b (inr n) = w.others b n ∙ (p b ∙ same b n)
 
 -- one word is patched as it is wanted now, and the others are wanted as before
-pub replanted : (p : Program) (bs bs' : List BreakEntry) (hold hold' : Option Hold) (t t' : Words) (a : ℕ) → Planted p t bs hold → Repatched t t' a (wanted bs' hold' a)
-    → ((b : ℕ) → (a ≡ b → ⊥) → wanted bs hold b ≡ wanted bs' hold' b) → Planted p t' bs' hold'
-replanted p bs bs' hold hold' t t' a f w same =
-    record { words = w.words ∙ f.words; patches = λ b. replanted_at bs bs' hold hold' t t' a f.patches w same b (same_place a b) }
+pub replanted : (p : Program) (v v' : Wants) (t t' : Words) (a : ℕ) → Planted p t v → Repatched t t' a (wanted v' a)
+    → ((b : ℕ) → (a ≡ b → ⊥) → wanted v b ≡ wanted v' b) → Planted p t' v'
+replanted p v v' t t' a f w same =
+    record { words = w.words ∙ f.words; patches = λ b. replanted_at v v' t t' a f.patches w same b (same_place a b) }
 
 -- the program's word, as the machine shows it
-pub shown_image : (p : Program) (t : Words) (bs : List BreakEntry) (hold : Option Hold) (a : ℕ) → Planted p t bs hold → a < 2 ^ 32 → shown t a ≡ text_word p a
-shown_image p t bs hold a f low = ap (λ (m : WordMap). map.get m a) f.words ∙ word_below (text_word p) (2 ^ 32) a low
+pub shown_image : (p : Program) (t : Words) (v : Wants) (a : ℕ) → Planted p t v → a < 2 ^ 32 → shown t a ≡ text_word p a
+shown_image p t v a f low = ap (λ (m : WordMap). map.get m a) f.words ∙ word_below (text_word p) (2 ^ 32) a low
 
-pub in_text : (p : Program) (t : Words) (bs : List BreakEntry) (hold : Option Hold) (a : ℕ) → Planted p t bs hold → IsSome (shown t a) → InText p a
-in_text p t bs hold a f some = subst (λ (m : WordMap). IsSome (map.get m a)) f.words some
+pub in_text : (p : Program) (t : Words) (v : Wants) (a : ℕ) → Planted p t v → IsSome (shown t a) → InText p a
+in_text p t v a f some = subst (λ (m : WordMap). IsSome (map.get m a)) f.words some
 
-pub text_shown : (p : Program) (t : Words) (bs : List BreakEntry) (hold : Option Hold) (a : ℕ) → Planted p t bs hold → InText p a → IsSome (shown t a)
-text_shown p t bs hold a f some = subst (λ (m : WordMap). IsSome (map.get m a)) (sym f.words) some
+pub text_shown : (p : Program) (t : Words) (v : Wants) (a : ℕ) → Planted p t v → InText p a → IsSome (shown t a)
+text_shown p t v a f some = subst (λ (m : WordMap). IsSome (map.get m a)) (sym f.words) some
 
 decoded_gives : (s : Stepped) (i : Option Instr) (r r' : Registers) (m m' : Memory) → FetchGives s (decoded_as i) r r' m m' → StepGives s (on_instruction r m i) r r' m m'
 decoded_gives s None r r' m m' g = g
@@ -85,11 +83,11 @@ found_gives s None r r' m m' g = g
 found_gives s (Some w) r r' m m' g = decoded_gives s (decode w) r r' m m' g
 
 -- where no patch is wanted, the image's instruction is executed
-pub fetch_plain : (s : Stepped) (p : Program) (t : Words) (bs : List BreakEntry) (hold : Option Hold) (r r' : Registers) (m m' : Memory) → Planted p t bs hold → r.pc < 2 ^ 32 → wanted bs hold r.pc ≡ false
+pub fetch_plain : (s : Stepped) (p : Program) (t : Words) (v : Wants) (r r' : Registers) (m m' : Memory) → Planted p t v → r.pc < 2 ^ 32 → wanted v r.pc ≡ false
     → FetchGives s (fetched t r.pc) r r' m m' → StepGives s (plain p r m) r r' m m'
 unfolding plain
-fetch_plain s p t bs hold r r' m m' f low none g =
-    let fetch : fetched t r.pc ≡ fetched_as (text_word p r.pc) false = ap (λ w. fetched_as w (is_planted t r.pc)) (shown_image p t bs hold r.pc f low) ∙ ap (fetched_as (text_word p r.pc)) (f.patches r.pc ∙ none) in
+fetch_plain s p t v r r' m m' f low none g =
+    let fetch : fetched t r.pc ≡ fetched_as (text_word p r.pc) false = ap (λ w. fetched_as w (is_planted t r.pc)) (shown_image p t v r.pc f low) ∙ ap (fetched_as (text_word p r.pc)) (f.patches r.pc ∙ none) in
     found_gives s (text_word p r.pc) r r' m m' (subst (λ (f : Fetch). FetchGives s f r r' m m') fetch g)
 
 -- a patch is never met there

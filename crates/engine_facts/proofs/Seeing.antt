@@ -13,7 +13,8 @@ use Rattle.dbg_model.specs.declared.entry.Entry.TheVariants.{Left}
 use Rattle.dbg_model.specs.declared.entry.Mode.{Mode}
 use Rattle.dbg_model.specs.declared.entry.Mode.TheVariants as mode
 use Rattle.dbg_model.specs.declared.opening.Opening.{Opening}
-use Rattle.dbg_model.specs.State.{Hart, State, any_leaves, any_runs, all_gone, has_exited, is_leaving, is_running, first_harts}
+use Rattle.dbg_model.specs.declared.hart.Hart.{Hart}
+use Rattle.dbg_model.specs.State.{State, any_leaves, any_runs, all_gone, has_exited, is_leaving, is_running, first_harts}
 use Rattle.dbg_model.specs.Lawful.{leaving}
 use Rattle.dbg_model.specs.Leaving.{lefts_from, gone, left_one, gone_by, LeaveWith, LeavesWith}
 use Rattle.dbg_model.specs.Journals.{Leaves, Place}
@@ -95,7 +96,7 @@ pub alone_gone : (xs : List Hart) (h : ℕ) (z : Hart) → any_leaves xs ≡ fal
 alone_gone xs h z q = set-map gone xs h z ∙ ap (λ ys. slice_set ys h (gone z)) (quiet_map xs q)
 
 -- all live harts leave
-left_as : (p : Program) (k code : ℕ) (c : Core) (x : Mind) (a : Activity) → left_one k (leaving code (record { regs = seen_regs p c.regs a x.phase; mode = mode_of a; fresh = x.fresh; asked = x.asked })).mode ≡ left_live code k a
+left_as : (p : Program) (k code : ℕ) (c : Core) (x : Mind) (a : Activity) → left_one k (leaving code (seen_hart p c (record x { activity = a }))).mode ≡ left_live code k a
 left_as p k code c x activity.Stopped = refl
 left_as p k code c x activity.Running = refl
 left_as p k code c x activity.Exited = refl
@@ -109,10 +110,10 @@ all_lefts p k code (c ∷ cs) (x ∷ xs) len =
     ap (λ t. t ++ lefts_from (k + 1) (map (leaving code) (seen_harts p cs xs))) (left_as p k code c x x.activity) ∙ ap (λ t. left_live code k x.activity ++ t) (all_lefts p (k + 1) code cs xs l)
 
 gone_as : (p : Program) (code : ℕ) (c d : Core) (x : Mind) (a : Activity) → d.regs ≡ seen_regs p c.regs a x.phase
-    → gone (leaving code (record { regs = seen_regs p c.regs a x.phase; mode = mode_of a; fresh = x.fresh; asked = x.asked })) ≡ seen_hart p d (gone_mind x)
-gone_as p code c d x activity.Stopped e = ap (λ r. let y : Hart = record { regs = r; mode = mode.Exited; fresh = x.fresh; asked = x.asked } in y) (sym e)
-gone_as p code c d x activity.Running e = ap (λ r. let y : Hart = record { regs = r; mode = mode.Exited; fresh = x.fresh; asked = x.asked } in y) (sym e)
-gone_as p code c d x activity.Exited e = ap (λ r. let y : Hart = record { regs = r; mode = mode.Exited; fresh = x.fresh; asked = x.asked } in y) (sym e)
+    → gone (leaving code (seen_hart p c (record x { activity = a }))) ≡ seen_hart p d (gone_mind x)
+gone_as p code c d x activity.Stopped e = ap (λ r. let y : Hart = record (seen_hart p d (gone_mind x)) { regs = r } in y) (sym e)
+gone_as p code c d x activity.Running e = ap (λ r. let y : Hart = record (seen_hart p d (gone_mind x)) { regs = r } in y) (sym e)
+gone_as p code c d x activity.Exited e = ap (λ r. let y : Hart = record (seen_hart p d (gone_mind x)) { regs = r } in y) (sym e)
 
 -- each has exited, where its registers are at home
 pub all_left : (p : Program) (code : ℕ) (cs : List Core) (xs : List Mind) (ds : List Core) → AreHome p cs xs ds → map gone (map (leaving code) (seen_harts p cs xs)) ≡ seen_harts p ds (map gone_mind xs)
@@ -204,7 +205,7 @@ alone_some [] h code y z at is = cc
 alone_some (x ∷ xs) zero code y z at is = ap (λ m. is_leaving m || any_leaves xs) is
 alone_some (x ∷ xs) (suc h) code y z at is = ap (λ b. is_leaving x.mode || b) (alone_some xs h code y z at is) ∙ or_true (is_leaving x.mode)
 
-with_as : (p : Program) (code : ℕ) (c : Core) (x : Mind) (a : Activity) → LeavesWith code (leaving code (record { regs = seen_regs p c.regs a x.phase; mode = mode_of a; fresh = x.fresh; asked = x.asked })).mode
+with_as : (p : Program) (code : ℕ) (c : Core) (x : Mind) (a : Activity) → LeavesWith code (leaving code (seen_hart p c (record x { activity = a }))).mode
 with_as p code c x activity.Stopped = refl
 with_as p code c x activity.Running = refl
 with_as p code c x activity.Exited = tt

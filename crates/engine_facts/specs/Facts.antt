@@ -1,5 +1,6 @@
 -- What the type of an engine keeps.
-use Rattle.std.specs.Prelude.{◌≡◌, ◌<◌, ◌≤◌, ◌+◌, ℕ, Bool, false, ◌&&◌, ◌==◌, not, List, length, replicate, Option, Some, None, IsSome, slice_get, slice_index, if◌then◌else◌}
+use Rattle.std.specs.Prelude.{◌≡◌, ◌<◌, ◌≤◌, ◌+◌, ℕ, Bool, true, false, ◌&&◌, ◌==◌, not, ◌||◌, List, length, map, Option, Some, None, IsSome, slice_get, slice_index, if◌then◌else◌}
+use Rattle.std.specs.List.{list_any}
 use Rattle.dbg_traits.specs.Settings.{AreSettings}
 use Rattle.rv_decode.specs.Decode.{decode}
 use Rattle.elf32_read.specs.Program.{Program, text_word}
@@ -14,7 +15,7 @@ use Rattle.break_table.specs.Text.{is_instruction, is_place}
 use Rattle.source_index.specs.Sources.{sources_of}
 use Rattle.dbg_model.specs.declared.entry.Entry.{Entry}
 use Rattle.dbg_model.specs.declared.opening.Opening.{Opening}
-use Rattle.break_table.specs.Table.{stands}
+use Rattle.break_table.specs.Table.{is_wait, stands}
 use Rattle.dbg_model.specs.State.{State, is_off}
 use Rattle.dbg_model.specs.Journals.{Leaves}
 use Rattle.dbg_model.specs.Erase.{erase, steps_of}
@@ -22,7 +23,7 @@ use Rattle.engine_facts.specs.declared.mind.Hold.{Hold}
 use Rattle.engine_facts.specs.declared.mind.Mind.{Mind}
 use Rattle.step_over.specs.declared.phase.Phase.{Phase}
 use Rattle.step_over.specs.declared.phase.Phase.TheVariants as phase
-use Rattle.engine_facts.specs.Minds.{runs, lifted_of, slot_of, entered_of, is_lifted}
+use Rattle.engine_facts.specs.Minds.{awaited, runs, lifted_of, slot_of, entered_of, is_lifted}
 use Rattle.engine_facts.specs.Seen.{Run, seen}
 
 -- a word of text is at the address
@@ -43,15 +44,26 @@ abbrev pub is_home : Option Hold → ℕ → Bool
 is_home None a = false
 is_home (Some d) a = d.home == a
 
--- a patch is wanted where an enabled breakpoint stands and the patch isn't lifted
-abbrev pub wanted : List BreakEntry → Option Hold → ℕ → Bool
-wanted bs hold a = stands a bs && not (is_home hold a)
+-- what patches are wanted for: the breakpoints that the user set, and for each hart where it waits for a return; and the
+-- one that is lifted
+pub record Wants : Type 0 where
+  pub entries : List BreakEntry
+  pub waits : List (Option ℕ)
+  pub hold : Option Hold
+
+-- an enabled breakpoint stands there, or a hart waits there
+abbrev pub called : List BreakEntry → List (Option ℕ) → ℕ → Bool
+called bs ws a = stands a bs || list_any (is_wait a) ws
+
+-- a patch is wanted where it is called for and isn't lifted
+abbrev pub wanted : Wants → ℕ → Bool
+wanted w a = called w.entries w.waits a && not (is_home w.hold a)
 
 -- the program's words are the image's, and a patch is planted exactly where one is wanted: so each stored word is
 -- EBREAK there, and elsewhere the image's
-pub record Planted (p : Program) (t : Words) (bs : List BreakEntry) (hold : Option Hold) : Type 0 where
+pub record Planted (p : Program) (t : Words) (w : Wants) : Type 0 where
   pub words : t.words ≡ (unpatched p).words
-  pub patches : (a : ℕ) → is_planted t a ≡ wanted bs hold a
+  pub patches : (a : ℕ) → is_planted t a ≡ wanted w a
 
 -- hart h has the slot, for a copy of the image's word at home
 pub record Slotted (p : Program) (slots : List (Option SlotUse)) (h slot home : ℕ) : Type 0 where
@@ -127,7 +139,16 @@ OneLifted r = (h k : ℕ) (x y : Mind) (a b : ℕ) → slice_get r.minds h ≡ S
 abbrev pub IsThread : Opening → ℕ → Type 0
 IsThread o thread = (0 < thread) × (thread ≤ o.settings.harts)
 
-pub record Facts (r : Run) : Type 0 where
+-- what the engine's patches are wanted for
+abbrev pub wants_of : Run → Wants
+wants_of r = record { entries = r.breaks; waits = r.waits; hold = r.hold }
+
+-- each hart that waits waits at a word of text
+abbrev pub AwaitText : Program → List (Option ℕ) → Type 0
+AwaitText p ws = (a : ℕ) → list_any (is_wait a) ws ≡ true → InText p a
+
+-- what holds of an engine, wherever its harts wait
+pub record Sound (r : Run) : Type 0 where
   -- the journal is lawful, and leaves what is seen
   pub leaves : Leaves r.opening r.journal (seen r)
   pub settings : AreSettings r.opening.settings
@@ -136,12 +157,17 @@ pub record Facts (r : Run) : Type 0 where
   pub selected : IsThread r.opening r.selected
   pub harts : Harts r.opening.image r.machine.cores r.machine.slots r.minds r.hold
   pub slots : length r.machine.slots ≡ r.opening.settings.slots
-  pub planted : Planted r.opening.image r.machine.text r.breaks r.hold
+  pub planted : Planted r.opening.image r.machine.text (wants_of r)
   pub texts : AreInText r.opening.image r.breaks
   -- the table of breakpoints knows where text stands, and the harts
   pub places : (a : ℕ) → is_place r.bounds a ≡ is_instruction r.opening.image a
-  -- no hart waits at an address
-  pub waits : r.waits ≡ replicate r.opening.settings.harts None
+  pub many : length r.waits ≡ r.opening.settings.harts
+  pub awaits : AwaitText r.opening.image r.waits
   pub sources : r.sources ≡ sources_of r.opening.image
   pub retired : Retired r.machine.cores r.journal
   pub copied : AreCopied r.opening.settings.slots r.machine.cores r.minds r.displaced (seen r).passed (seen r).sets
+
+pub record Facts (r : Run) : Type 0 where
+  pub sound : Sound r
+  -- each hart waits where its plan has it wait
+  pub waits : r.waits ≡ map (awaited r.opening.image) r.minds

@@ -1,5 +1,7 @@
 -- What the debugger keeps of the harts.
-use Rattle.std.specs.Prelude.{ℕ, ◌+◌, Bool, true, false, List, [], ◌∷◌, ◌++◌, Option, Some, None}
+use Rattle.std.specs.Prelude.{ℕ, ◌+◌, Bool, true, false, List, [], ◌∷◌, ◌++◌, Option, Some, None, is_some, if◌then◌else◌}
+use Rattle.elf32_read.specs.Program.{Program}
+use Rattle.text_words.specs.Words.{shown, unpatched}
 use Rattle.dbg_model.specs.declared.entry.Entry.{Entry}
 use Rattle.dbg_model.specs.declared.entry.Entry.TheVariants.{Left}
 use Rattle.dbg_model.specs.declared.entry.Mode.{Mode}
@@ -8,6 +10,8 @@ use Rattle.engine_facts.specs.declared.mind.Activity.{Activity}
 use Rattle.engine_facts.specs.declared.mind.Activity.TheVariants as activity
 use Rattle.step_over.specs.declared.phase.Phase.{Phase}
 use Rattle.step_over.specs.declared.phase.Phase.TheVariants as phase
+use Rattle.step_plans.specs.declared.plan.Plan.{Plan}
+use Rattle.step_plans.specs.declared.plan.Plan.TheVariants as plans
 use Rattle.engine_facts.specs.declared.mind.Mind.{Mind}
 
 abbrev pub mode_of : Activity → Mode
@@ -87,33 +91,47 @@ is_before (phase.Landed slot home) = false
 is_before (phase.Lifted home) = true
 is_before (phase.Ran home) = false
 
+-- the address that a call returns to for which a plan waits
+abbrev pub return_of : Plan → Option ℕ
+return_of (plans.ToReturn ret sp after) = Some ret
+return_of (plans.Finish ret sp) = Some ret
+return_of _ = None
+
+-- a word of text has to be there
+abbrev pub in_place : Program → Option ℕ → Option ℕ
+in_place p None = None
+in_place p (Some ret) = if is_some (shown (unpatched p) ret) then Some ret else None
+
+-- where a hart waits for a return
+abbrev pub awaited : Program → Mind → Option ℕ
+awaited p x = if runs x then in_place p (return_of x.plan) else None
+
 abbrev pub with_phase : Mind → Phase → Mind
-with_phase x p = record { activity = x.activity; fresh = x.fresh; asked = x.asked; phase = p }
+with_phase x p = record x { phase = p }
 
 -- a hart that is stopped, as all are at the beginning
 abbrev pub first_mind : Mind
-first_mind = record { activity = activity.Stopped; fresh = false; asked = false; phase = phase.Idle }
+first_mind = record { activity = activity.Stopped; fresh = false; asked = false; phase = phase.Idle; plan = plans.Free; last = None }
 
--- a hart that has just executed, or was resumed, or exited
-abbrev pub ran_mind : Mind → Mind
-ran_mind x = record { activity = activity.Running; fresh = true; asked = x.asked; phase = after_step x.phase }
+-- a hart that has just executed, and goes on with this plan; this is noted of the address of its instruction
+abbrev pub ran_mind : Plan → Option ℕ → Mind → Mind
+ran_mind plan last x = record x { activity = activity.Running; fresh = true; phase = after_step x.phase; plan = plan; last = last }
 
--- a hart that breakpoints counted
-abbrev pub counted_mind : Mind → Mind
-counted_mind x = record { activity = x.activity; fresh = false; asked = x.asked; phase = x.phase }
+-- a hart that breakpoints counted, and that goes on with this plan
+abbrev pub counted_mind : Plan → Mind → Mind
+counted_mind plan x = record x { fresh = false; plan = plan }
 
-abbrev pub resumed_mind : Mind
-resumed_mind = record { activity = activity.Running; fresh = false; asked = false; phase = phase.Idle }
+-- a stopped hart that was resumed with this plan
+abbrev pub resumed_mind : Plan → Mind → Mind
+resumed_mind plan x = record x { activity = activity.Running; fresh = false; asked = false; phase = phase.Idle; plan = plan }
 
 -- a hart of which an interrupt is asked
 abbrev pub asked_mind : Mind → Mind
-asked_mind x = record { activity = x.activity; fresh = x.fresh; asked = true; phase = x.phase }
+asked_mind x = record x { asked = true }
 
-abbrev pub exited_mind : Mind → Mind
-exited_mind x = record { activity = activity.Exited; fresh = true; asked = x.asked; phase = phase.Idle }
-
+-- a hart that has exited
 abbrev pub gone_mind : Mind → Mind
-gone_mind x = record { activity = activity.Exited; fresh = x.fresh; asked = x.asked; phase = phase.Idle }
+gone_mind x = record x { activity = activity.Exited; phase = phase.Idle }
 
 abbrev pub left_live : ℕ → ℕ → Activity → List Entry
 left_live code k activity.Stopped = Left k code ∷ []

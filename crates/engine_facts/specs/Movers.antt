@@ -4,7 +4,8 @@ use Rattle.scratch_slots.specs.declared.slots.SlotUse.{SlotUse}
 use Rattle.scratch_slots.specs.Table.{least_free}
 use Rattle.step_over.specs.declared.phase.Phase.{Phase}
 use Rattle.step_over.specs.declared.phase.Phase.TheVariants as phase
-use Rattle.dbg_model.specs.State.{Hart, hart_runs}
+use Rattle.dbg_model.specs.declared.hart.Hart.{Hart}
+use Rattle.dbg_model.specs.State.{hart_runs}
 use Rattle.engine_facts.specs.declared.mind.Hold.{Hold}
 use Rattle.engine_facts.specs.declared.mind.Mind.{Mind}
 use Rattle.engine_facts.specs.Facts.{other_holder}

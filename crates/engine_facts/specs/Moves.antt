@@ -8,12 +8,23 @@ use Rattle.scratch_slots.specs.Table.{use_at}
 use Rattle.mi_commands.specs.declared.command.Displaced.{Displaced}
 use Rattle.hart_machine.specs.declared.hart.Core.{Core}
 use Rattle.break_table.specs.Entry.{Entry as BreakEntry}
+use Rattle.step_plans.specs.declared.plan.Plan.{Plan}
+use Rattle.step_plans.specs.declared.plan.Verdict.{Verdict}
+use Rattle.step_plans.specs.declared.plan.Verdict.TheVariants as verdicts
+use Rattle.break_table.specs.declared.due.CondError.{CondError}
 use Rattle.dbg_model.specs.declared.entry.Entry.{Entry}
-use Rattle.break_table.specs.Table.{stands}
+use Rattle.dbg_model.specs.declared.entry.Why.{Why}
+use Rattle.dbg_model.specs.declared.entry.Why.TheVariants.{Break, Stepped, Finished}
+use Rattle.dbg_model.specs.declared.hart.Hart.{Hart}
+use Rattle.dbg_model.specs.declared.judgement.Judgement.{Judgement}
+use Rattle.dbg_model.specs.Judging.{noted_with, plan_after}
+use Rattle.dbg_model.specs.State.{due}
 use Rattle.dbg_model.specs.Journals.{lengthened}
 use Rattle.engine_facts.specs.declared.mind.Hold.{Hold}
 use Rattle.engine_facts.specs.declared.mind.Mind.{Mind}
-use Rattle.engine_facts.specs.Seen.{Run, seen_regs}
+use Rattle.engine_facts.specs.Facts.{called}
+use Rattle.engine_facts.specs.Minds.{ran_mind}
+use Rattle.engine_facts.specs.Seen.{Run, seen, seen_regs}
 
 -- one word is patched, or is so no more, and all others are as before
 pub record Repatched (old new : Words) (a : ℕ) (is : Bool) : Type 0 where
@@ -26,10 +37,10 @@ abbrev pub HeldInText : Words → Option Hold → Type 0
 HeldInText t None = Unit {0}
 HeldInText t (Some d) = IsSome (shown t d.home)
 
--- a lifted patch is planted again where a breakpoint stands
-abbrev pub Released : Words → Words → List BreakEntry → Option Hold → Type 0
-Released old new bs None = new ≡ old
-Released old new bs (Some d) = Repatched old new d.home (stands d.home bs)
+-- a lifted patch is planted again where one is called for
+abbrev pub Released : Words → Words → List BreakEntry → List (Option ℕ) → Option Hold → Type 0
+Released old new bs ws None = new ≡ old
+Released old new bs ws (Some d) = Repatched old new d.home (called bs ws d.home)
 
 -- a hart has another phase, with other patches and another hold
 abbrev pub rephased : Run → ℕ → Mind → Words → Option Hold → Run
@@ -70,6 +81,27 @@ AreHome p [] xs (d ∷ ds) = ⊥
 AreHome p (c ∷ cs) xs [] = ⊥
 AreHome p (c ∷ cs) [] (d ∷ ds) = ⊥
 AreHome p (c ∷ cs) (x ∷ xs) (d ∷ ds) = IsHome p c x d × AreHome p cs xs ds
+
+-- the plan with which a hart that shows this goes on
+abbrev pub plan_for : Run → ℕ → Hart → Plan
+plan_for r h y = plan_after (due r.opening.image (seen r) h y).verdict
+
+-- what is kept of a hart that shows this, after its instruction
+abbrev pub ran_by : Run → ℕ → Hart → Mind → Mind
+ran_by r h y x = ran_mind (plan_for r h y) (noted_with (plan_for r h y) y.regs.pc) x
+
+abbrev pub end_of : Verdict → Option Why
+end_of (verdicts.Go plan) = None
+end_of verdicts.Stepped = Some Stepped
+end_of verdicts.Finished = Some Finished
+
+abbrev pub stop_by : Option ℕ → Option CondError → Verdict → Option Why
+stop_by (Some number) error v = Some (Break number error)
+stop_by None error v = end_of v
+
+-- why a hart stops where it has just arrived, if it does: breakpoints come before its plan
+abbrev pub stop_of : Judgement → Option Why
+stop_of j = stop_by j.breaks.stop j.breaks.error j.verdict
 
 -- one instruction of a hart, by which none exits
 abbrev pub executed : Run → ℕ → Core → Mind → Memory → ℕ → Run

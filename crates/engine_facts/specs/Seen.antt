@@ -14,7 +14,8 @@ use Rattle.step_over.specs.declared.phase.Phase.{Phase}
 use Rattle.step_over.specs.declared.phase.Phase.TheVariants as phase
 use Rattle.dbg_model.specs.declared.entry.Entry.{Entry}
 use Rattle.dbg_model.specs.declared.opening.Opening.{Opening}
-use Rattle.dbg_model.specs.State.{Hart, State}
+use Rattle.dbg_model.specs.declared.hart.Hart.{Hart}
+use Rattle.dbg_model.specs.State.{State}
 use Rattle.dbg_model.specs.Journals.{replay}
 use Rattle.engine_facts.specs.declared.mind.Hold.{Hold}
 use Rattle.engine_facts.specs.declared.mind.Activity.{Activity}
@@ -64,7 +65,7 @@ seen_regs p r activity.Running q = running_regs p r q
 seen_regs p r activity.Exited q = r
 
 abbrev pub seen_hart : Program → Core → Mind → Hart
-seen_hart p c x = record { regs = seen_regs p c.regs x.activity x.phase; mode = mode_of x.activity; fresh = x.fresh; asked = x.asked }
+seen_hart p c x = record { regs = seen_regs p c.regs x.activity x.phase; mode = mode_of x.activity; fresh = x.fresh; asked = x.asked; plan = x.plan; last = x.last }
 
 abbrev pub seen_harts : Program → List Core → List Mind → List Hart
 seen_harts p [] xs = []

@@ -1,4 +1,5 @@
 use step_over::Phase;
+use step_plans::Plan;
 
 /// What the debugger lets a hart do.
 #[derive(Clone, Copy, Debug, PartialEq, Eq)]
@@ -18,6 +19,10 @@ pub struct Mind {
     pub asked: bool,
     /// Where it is in a step over the planted word at its pc.
     pub phase: Phase,
+    /// What it is to come to before it stops.
+    pub plan: Plan,
+    /// Where the plan asks for it: the address of the instruction of its own that has just ended.
+    pub last: Option<u32>,
 }
 
 /// The hart for which a patch is lifted, and its address. All other harts stand held meanwhile.

@@ -72,10 +72,10 @@ fn agree(engine: &Engine, state: &ModelState) -> bool {
             continue;
         }
         let hart = harts[h as usize];
-        if engine.pc(h) != hart.regs().pc() || engine.running(h) != (hart.mode() == Mode::Running) {
+        if engine.pc(h) != hart.regs.pc() || engine.running(h) != (hart.mode == Mode::Running) {
             return false;
         }
-        gone = gone && hart.mode() == Mode::Exited;
+        gone = gone && hart.mode == Mode::Exited;
     }
     engine.all_gone() == gone && same_breakpoints(engine.breakpoints(), state.breakpoints())
 }
@@ -131,7 +131,7 @@ const REFUSES: [Step; 11] = [
 ];
 
 /// Words, harts, slots, budget, and what is done.
-type Session = (&'static [u32], u32, u32, u64, &'static [Step]);
+pub type Session = (&'static [u32], u32, u32, u64, &'static [Step]);
 
 const OF_ONE_HART: [Session; 2] = [
     (&LOOPS, 1, 2, 100, &ONE_COPIES),
@@ -150,8 +150,8 @@ const THAT_END: [Session; 3] = [
     (&LOOPS, 2, 0, 100, &ENDS),
 ];
 
-// Does the steps, and compares behind each that noted something new in the journal.
-fn go_through(rt: &impl Abort, alloc: Global, session: Session) -> Result<(), Fail> {
+/// Does the steps, and compares behind each that noted something new in the journal.
+pub fn go_through(rt: &impl Abort, alloc: Global, session: Session) -> Result<(), Fail> {
     let (words, harts, slots, budget, steps) = session;
     let opening = opening_of(alloc, words, harts, slots, budget)?;
     let loaded = opening_of(alloc, words, harts, slots, budget)?;

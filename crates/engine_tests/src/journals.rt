@@ -25,6 +25,10 @@ enum Told {
     Counted(u32),
     /// A hart stops at the breakpoint of a number.
     Stopped(u32, u32),
+    /// A hart stops at the end of its step.
+    Stepped(u32),
+    /// A hart stops where its function has returned.
+    Finished(u32),
     /// A hart stops by an interrupt.
     Interrupted(u32),
     /// A hart stops by EBREAK.
@@ -33,7 +37,7 @@ enum Told {
     Did(&'static str),
 }
 
-use Told::{Counted, Did, Faulted, Interrupted, Left, Ran, Stopped};
+use Told::{Counted, Did, Faulted, Finished, Interrupted, Left, Ran, Stepped, Stopped};
 
 fn entry(alloc: Global, told: Told) -> Result<Entry, Fail> {
     Ok(match told {
@@ -45,6 +49,14 @@ fn entry(alloc: Global, told: Told) -> Result<Entry, Fail> {
                 number,
                 error: None,
             },
+        },
+        Stepped(hart) => Entry::Stopped {
+            hart,
+            why: Why::Stepped,
+        },
+        Finished(hart) => Entry::Stopped {
+            hart,
+            why: Why::Finished,
         },
         Interrupted(hart) => Entry::Stopped {
             hart,
@@ -108,10 +120,10 @@ fn a_breakpoint_stops_a_hart_on_its_way_to_its_exit(rt: HostRuntime) -> Result<(
     let [hart] = state.harts() else {
         return Err(Fail::new("there is one hart"));
     };
-    assert_eq!(rt; hart.mode(), Mode::Exited);
-    assert_eq!(rt; hart.regs().get(10), 2);
-    assert_eq!(rt; hart.regs().get(17), 93);
-    assert_eq!(rt; hart.regs().pc(), 0x0001_0084);
+    assert_eq!(rt; hart.mode, Mode::Exited);
+    assert_eq!(rt; hart.regs.get(10), 2);
+    assert_eq!(rt; hart.regs.get(17), 93);
+    assert_eq!(rt; hart.regs.pc(), 0x0001_0084);
     assert_eq!(rt; (state.retired(), state.selected()), (4, 1));
     assert!(rt; state.output().is_empty());
     // It was resumed where the breakpoint stands.
@@ -195,6 +207,47 @@ fn no_other_journals_are_gone_through(rt: HostRuntime) -> Result<(), Fail> {
             budget >= 1 && budget <= 9 && !is_lawful(alloc, budget, told)?,
             "case {case}"
         );
+    }
+    Ok(())
+}
+
+const STEP: Told = Did("-exec-step-instruction");
+
+#[test]
+fn a_step_ends_behind_its_instruction(rt: HostRuntime) -> Result<(), Fail> {
+    let alloc = rt.alloc();
+    let cases: [&[Told]; 5] = [
+        &[STEP, Ran(0, 1), Stepped(0)],
+        // Then the plan is gone.
+        &[STEP, Ran(0, 1), Stepped(0), GO, Ran(0, 2)],
+        &[STEP, Did("-exec-interrupt"), Interrupted(0), GO, Ran(0, 2)],
+        // A breakpoint that stops comes first, and one that counts doesn't.
+        &[SET, STEP, Ran(0, 1), Stopped(0, 1), GO, Ran(0, 2)],
+        &[COUNTING, STEP, Ran(0, 1), Stepped(0), GO, Ran(0, 2)],
+    ];
+    for (case, told) in cases.into_iter().enumerate() {
+        assert!(rt; is_lawful(alloc, 9, told)?, "case {case}");
+    }
+    Ok(())
+}
+
+#[test]
+fn a_step_ends_nowhere_else(rt: HostRuntime) -> Result<(), Fail> {
+    let alloc = rt.alloc();
+    let cases: [&[Told]; 8] = [
+        // Past its end, where it begins, where none was asked for, as the end of a function.
+        &[STEP, Ran(0, 2)],
+        &[STEP, Stepped(0)],
+        &[GO, Ran(0, 1), Stepped(0)],
+        &[STEP, Ran(0, 1), Finished(0)],
+        // Where a breakpoint stops, only counted, by an interrupt at its end, twice.
+        &[SET, STEP, Ran(0, 1), Stepped(0)],
+        &[COUNTING, STEP, Ran(0, 1), Counted(0)],
+        &[STEP, Ran(0, 1), Did("-exec-interrupt"), Interrupted(0)],
+        &[STEP, Ran(0, 1), Stepped(0), Stepped(0)],
+    ];
+    for (case, told) in cases.into_iter().enumerate() {
+        assert!(rt; !is_lawful(alloc, 9, told)?, "case {case}");
     }
     Ok(())
 }

@@ -9,3 +9,5 @@ mod engine_moves;
 mod frames;
 #[cfg(test)]
 mod journals;
+#[cfg(test)]
+mod waits;

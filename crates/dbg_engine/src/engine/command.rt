@@ -15,6 +15,7 @@ use crate::breaking::change_table;
 use crate::journal::did;
 use crate::resuming::change_threads;
 use crate::views::views;
+use crate::waiting::{Waiting, rewait};
 use dbg_answers::{Debuggee, Effect, LineAnswer, answer_line, waits};
 use dbg_model::Reply;
 use dbg_traits::NoMemory;
@@ -109,6 +110,12 @@ impl Engine {
         self.displaced = displaced_after(self.displaced, &effect);
         self.exited = exited_after(self.exited, &effect);
         change_table(&mut self.machine, &mut self.table, self.hold, effect);
+        let waiting = Waiting {
+            image: &self.opening.image,
+            minds: self.minds.as_slice(),
+            hold: self.hold,
+        };
+        rewait(&mut self.machine, &mut self.table, &waiting, true);
         self.noted += 1;
         Ok(())
     }

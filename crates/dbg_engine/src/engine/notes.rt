@@ -1,20 +1,20 @@
 // What the journal notes of a hart that stops or is counted.
-ghost use Rattle.std.specs.Prelude.{◌≡◌, ◌≤◌, Some, true};
-ghost use Rattle.dbg_model.specs.State.{is_counted};
+ghost use Rattle.std.specs.Prelude.{◌≡◌, ◌≤◌, true};
+ghost use Rattle.dbg_model.specs.Judging.{is_counted};
 
 use super::Engine;
 use crate::breaking::settle;
 use crate::journal::note;
 use crate::minds::{STOPPED, counted_mind};
 use crate::patching::{repatch, wants};
-use break_table::Due;
-use dbg_model::{Entry, Why};
+use crate::waiting::{Waiting, changes, rewait};
+use dbg_model::{Entry, Judgement, Why, plan_after};
 use engine_facts::{Mind, Phase};
 use rv_exec::Cause;
 
 impl Engine {
     ghost use Rattle.engine_facts.specs.Facts.{Facts};
-    ghost use Rattle.dbg_engine.specs.Calls.{Of, Before, Halts, Interrupts, Counts, DueIs, Undue, TrapsAt};
+    ghost use Rattle.dbg_engine.specs.Calls.{Of, Before, Halts, Interrupts, Counts, DueIs, StopsBy, Undue, TrapsAt};
 
     // A hart that steps over nothing stops by a fault.
     pub(crate) fn note_fault(&mut self, h: u32, mind: Mind, cause: Cause)
@@ -34,6 +34,12 @@ impl Engine {
             },
         );
         self.minds[h as usize] = STOPPED;
+        let waiting = Waiting {
+            image: &self.opening.image,
+            minds: self.minds.as_slice(),
+            hold: self.hold,
+        };
+        rewait(&mut self.machine, &mut self.table, &waiting, true);
         self.noted += 1;
     }
 
@@ -55,39 +61,41 @@ impl Engine {
             },
         );
         self.minds[h as usize] = STOPPED;
+        let waiting = Waiting {
+            image: &self.opening.image,
+            minds: self.minds.as_slice(),
+            hold: self.hold,
+        };
+        rewait(&mut self.machine, &mut self.table, &waiting, true);
         self.noted += 1;
     }
 
-    // A hart that steps over nothing stops at a breakpoint.
-    pub(crate) fn note_arrival(&mut self, h: u32, mind: Mind, number: u32, due: Due, pc: u32)
+    // A hart that steps over nothing stops where it has arrived.
+    pub(crate) fn note_arrival(&mut self, h: u32, mind: Mind, why: Why, pc: u32)
         requires before { Before self.old h mind }
         requires idle { mind.phase ≡ Phase.Idle }
         requires pc { Of self.old h (λ y. y.regs.pc ≡ pc) }
-        requires due { DueIs self.old h due }
-        requires stops { due.stop ≡ Some number }
+        requires stops { StopsBy self.old h why }
         requires spare { 32 ≤ self.old.spare }
-        ensures halts { Halts self.old self.new h (Why.Break number due.error) }
+        ensures halts { Halts self.old self.new h why }
         ensures facts { Facts self.new }
     {
-        note(
-            &mut self.entries,
-            Entry::Stopped {
-                hart: h,
-                why: Why::Break {
-                    number,
-                    error: due.error,
-                },
-            },
-        );
+        note(&mut self.entries, Entry::Stopped { hart: h, why });
         settle(&mut self.table, &self.opening.image, &self.machine, h, pc);
         let wants = wants(&self.table, self.hold, pc);
         repatch(&mut self.machine, pc, wants);
         self.minds[h as usize] = STOPPED;
+        let waiting = Waiting {
+            image: &self.opening.image,
+            minds: self.minds.as_slice(),
+            hold: self.hold,
+        };
+        rewait(&mut self.machine, &mut self.table, &waiting, true);
         self.noted += 1;
     }
 
     // Breakpoints count a hart, which goes on.
-    pub(crate) fn note_count(&mut self, h: u32, mind: Mind, due: Due, pc: u32)
+    pub(crate) fn note_count(&mut self, h: u32, mind: Mind, due: Judgement, pc: u32)
         requires before { Before self.old h mind }
         requires pc { Of self.old h (λ y. y.regs.pc ≡ pc) }
         requires due { DueIs self.old h due }
@@ -101,7 +109,15 @@ impl Engine {
         settle(&mut self.table, &self.opening.image, &self.machine, h, pc);
         let wants = wants(&self.table, self.hold, pc);
         repatch(&mut self.machine, pc, wants);
-        self.minds[h as usize] = counted_mind(mind);
+        let plan = plan_after(due.verdict);
+        self.minds[h as usize] = counted_mind(mind, plan);
+        let waiting = Waiting {
+            image: &self.opening.image,
+            minds: self.minds.as_slice(),
+            hold: self.hold,
+        };
+        let moved = changes(mind.plan, plan);
+        rewait(&mut self.machine, &mut self.table, &waiting, moved);
         self.noted += 1;
     }
 }

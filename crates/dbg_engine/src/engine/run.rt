@@ -2,15 +2,18 @@
 ghost use Rattle.std.specs.Prelude.{◌≡◌, ◌<◌, ◌≤◌, length, not};
 ghost use Rattle.dbg_model.specs.State.{is_off};
 ghost use Rattle.engine_facts.specs.Movers.{is_idle};
-ghost use Rattle.dbg_engine.specs.Several.{AllTurned, Rests, is_alone};
+ghost use Rattle.dbg_engine.specs.Several.{AllTurned, Rests, goes_alone, is_alone, is_unplanned};
 
 use super::Engine;
 use crate::going::{Course, go};
 use crate::journal::note_runs;
 use crate::minds::is_running;
 use crate::moving::ran_mind;
+use crate::waiting::awaited;
+use elf32_read::Image;
 use engine_facts::{Hold, Mind, Phase};
 use mi_commands::Displaced;
+use step_plans::Plan;
 
 fn is_idle(phase: Phase) -> bool
     ensures { result ≡ is_idle phase }
@@ -18,11 +21,30 @@ fn is_idle(phase: Phase) -> bool
     matches!(phase, Phase::Idle)
 }
 
-// Whether a hart runs, steps over nothing and isn't interrupted, and no patch is lifted.
-fn is_alone(mind: Mind, hold: Option<Hold>) -> bool
-    ensures { result ≡ is_alone mind hold }
+// Whether nothing is asked of a hart but to go on.
+fn is_unplanned(plan: Plan) -> bool
+    ensures { result ≡ is_unplanned plan }
 {
-    is_running(&mind) && is_idle(mind.phase) && !mind.asked && hold.is_none()
+    matches!(plan, Plan::Free)
+}
+
+// Nor more than to wait for a return, at a word that is planted for it.
+fn goes_alone(image: &Image, mind: Mind) -> bool
+    ensures { result ≡ goes_alone image.now mind }
+{
+    is_unplanned(mind.plan) || awaited(image, mind).is_some()
+}
+
+// Whether a hart runs, steps over nothing, isn't interrupted and has no plan but to wait for a return, and no patch is
+// lifted.
+fn is_alone(image: &Image, mind: Mind, hold: Option<Hold>) -> bool
+    ensures { result ≡ is_alone image.now mind hold }
+{
+    is_running(&mind)
+        && is_idle(mind.phase)
+        && !mind.asked
+        && goes_alone(image, mind)
+        && hold.is_none()
 }
 
 // Whether planted words are stepped over by copies, where there are slots.
@@ -50,7 +72,7 @@ impl Engine {
             return 0;
         }
         let mind = self.mind(h);
-        if !is_alone(mind, self.hold) {
+        if !is_alone(&self.opening.image, mind, self.hold) {
             return 0;
         }
         let most = (self.opening.settings.budget - self.retired).min(u64::from(limit));
@@ -58,6 +80,7 @@ impl Engine {
             hart: h,
             table: &self.table,
             image: &self.opening.image,
+            plan: mind.plan,
             copies: is_on(self.displaced),
         };
         let progress = go(&mut self.machine, &course, limit, most as u32);
@@ -66,7 +89,7 @@ impl Engine {
         }
         let count = u64::from(progress.instructions);
         note_runs(&mut self.entries, h, count);
-        self.minds[h as usize] = ran_mind(mind);
+        self.minds[h as usize] = ran_mind(mind, mind.plan, None);
         self.retired += count;
         progress.turns
     }

@@ -1,31 +1,60 @@
 // One move of a hart: the first of the table of moves that fits.
-ghost use Rattle.std.specs.Prelude.{◌≡◌, ◌<◌, ◌≤◌, Some, None, IsSome, length, slice_get, true, false};
+ghost use Rattle.std.specs.Prelude.{◌≡◌, ◌<◌, ◌≤◌, Some, None, length, slice_get, true, false};
 ghost use Rattle.text_words.specs.Words.{is_planted};
-ghost use Rattle.dbg_model.specs.Breaks.{is_temporary};
-ghost use Rattle.dbg_model.specs.State.{is_counted, is_due};
+ghost use Rattle.dbg_model.specs.Judging.{is_due};
 ghost use Rattle.engine_facts.specs.Minds.{is_before};
-ghost use Rattle.dbg_engine.specs.Steps.{IsTurned};
+ghost use Rattle.engine_facts.specs.Moves.{stop_of};
+ghost use Rattle.dbg_engine.specs.Steps.{IsTurned, leaves};
 
 use super::Engine;
 use crate::Turned;
-use crate::breaking::{due_at, is_temporary};
-use crate::homing::{go_home_at_exit, landed_pc};
+use crate::breaking::is_temporary;
+use crate::homing::{Leaving, go_home_at_exit, landed_pc};
 use crate::minds::{other_holder, with_phase};
-use crate::moving::{apply, ran_mind};
-use break_table::Due;
+use crate::moving::{apply, exits_of, ran_mind};
+use crate::view::ShownHart;
+use crate::waiting::{Waiting, changes, rewait};
+use dbg_model::{Course, Judge, Judgement, Why, noted_with, plan_after};
 use engine_facts::{Activity, Mind, Phase};
 use rv_exec::Stepped;
+use step_plans::{Plan, Verdict};
 
-const NOTHING_DUE: Due = Due {
-    stop: None,
-    error: None,
-    counts: false,
-};
+// Why a hart stops where it has just arrived, if it does: breakpoints come before its plan.
+fn stop_of(judgement: Judgement) -> Option<Why>
+    ensures { result ≡ stop_of judgement }
+{
+    let Judgement { breaks, verdict } = judgement;
+    match (breaks.stop, verdict) {
+        (Some(number), _) => Some(Why::Break {
+            number,
+            error: breaks.error,
+        }),
+        (None, Verdict::Stepped) => Some(Why::Stepped),
+        (None, Verdict::Finished) => Some(Why::Finished),
+        (None, Verdict::Go(_)) => None,
+    }
+}
+
+// Whether harts leave by a step of the machine.
+fn leaves(stepped: Stepped) -> bool
+    ensures { result ≡ leaves stepped }
+{
+    matches!(stepped, Stepped::HartExit(_) | Stepped::AllExit(_))
+}
+
+// Whether harts may wait elsewhere after an instruction of one.
+fn is_moved(old: Plan, new: Plan, stepped: Stepped) -> bool
+    ensures plan { result ≡ false → new ≡ old }
+    ensures none { result ≡ false → leaves stepped ≡ false }
+{
+    leaves(stepped) || changes(old, new)
+}
 
 impl Engine {
     ghost use Rattle.engine_facts.specs.Facts.{Facts};
-    ghost use Rattle.dbg_engine.specs.Calls.{Of, Before, DueIs, Undue, Executes, Turns};
+    ghost use Rattle.dbg_engine.specs.Calls.{Of, Before, DueIs, GoesWith, Undue, Executes, Turns};
     ghost use Rattle.dbg_engine.specs.Rows.{Row, Executes as EXECUTES, row_of, row_at, row_due};
+    ghost use Rattle.dbg_engine.specs.Steps.{Arrives, stopped_by};
 
     /// One move of a hart: that of the first row of the table of moves that fits.
     pub fn turn(&mut self, h: u32) -> Turned
@@ -71,11 +100,12 @@ impl Engine {
     {
         let pc = self.shown_pc(h, mind);
         let due = self.due(h, mind, pc);
-        if due.counts || due.stop.is_some() {
+        if due.is_due() {
             return self.arrive(h, mind, due, pc);
         }
+        let plan = plan_after(due.verdict);
         if mind.phase != Phase::Idle {
-            return self.run_or_stop(h, mind, pc);
+            return self.run_or_stop(h, mind, pc, plan);
         }
         if mind.asked {
             self.note_interrupt(h, mind);
@@ -84,41 +114,55 @@ impl Engine {
         if self.machine.planted(pc) {
             return self.step_over(h, mind, pc);
         }
-        self.run_or_stop(h, mind, pc)
+        self.run_or_stop(h, mind, pc, plan)
     }
 
-    // A hart comes to breakpoints that stop it, or that only count it.
-    fn arrive(&mut self, h: u32, mind: Mind, due: Due, pc: u32) -> Turned
+    // A hart arrives where it stops, or where breakpoints only count it.
+    fn arrive(&mut self, h: u32, mind: Mind, due: Judgement, pc: u32) -> Turned
         requires before { Before self.old h mind }
         requires pc { Of self.old h (λ y. y.regs.pc ≡ pc) }
         requires due { DueIs self.old h due }
         requires some { is_due due ≡ true }
-        requires fresh { due.counts ≡ true → mind.fresh ≡ true }
+        requires fresh { due.breaks.counts ≡ true → mind.fresh ≡ true }
         requires spare { 32 ≤ self.old.spare }
         ensures first { (other : Row) → row_of result ≡ row_due due other }
         ensures turns { Turns result self.old self.new h }
         ensures code { IsTurned result }
         ensures facts { Facts self.new }
     {
-        let Some(number) = due.stop else {
+        let Some(why) = stop_of(due) else {
             self.note_count(h, mind, due, pc);
             return Turned::Counted;
         };
-        let temporary = self.is_temporary(number);
+        let turned = self.stopped_by(why);
         self.unwind(h, mind);
-        self.note_arrival(h, with_phase(mind, Phase::Idle), number, due, pc);
-        Turned::Arrived {
-            number,
-            temporary,
-            error: due.error,
+        self.note_arrival(h, with_phase(mind, Phase::Idle), why, pc);
+        turned
+    }
+
+    // What a turn is called in which a hart stops where it has arrived.
+    fn stopped_by(&self, why: Why) -> Turned
+        requires { Arrives why }
+        ensures { result ≡ stopped_by why self.now.breaks }
+    {
+        match why {
+            Why::Break { number, error } => Turned::Arrived {
+                number,
+                temporary: is_temporary(self.table.entries(), number),
+                error,
+            },
+            Why::Stepped => Turned::Stepped,
+            Why::Finished => Turned::Finished,
+            Why::Interrupted | Why::Fault(_) => unreachable!(),
         }
     }
 
     // A hart that nothing stops executes one instruction, or stops by a fault.
-    fn run_or_stop(&mut self, h: u32, mind: Mind, pc: u32) -> Turned
+    fn run_or_stop(&mut self, h: u32, mind: Mind, pc: u32, plan: Plan) -> Turned
         requires before { Before self.old h mind }
         requires pc { Of self.old h (λ y. y.regs.pc ≡ pc) }
         requires due { Undue self.old h }
+        requires plan { GoesWith self.old h plan }
         requires unpatched { mind.phase ≡ Phase.Idle → is_planted self.old.machine.text pc ≡ false }
         requires spare { 32 ≤ self.old.spare }
         ensures row { row_of result ≡ EXECUTES }
@@ -126,7 +170,7 @@ impl Engine {
         ensures code { IsTurned result }
         ensures facts { Facts self.new }
     {
-        let turned = self.execute(h, mind, pc);
+        let turned = self.execute(h, mind, pc, plan);
         if let Turned::Stopped { cause } = turned {
             self.unwind(h, mind);
             self.note_fault(h, with_phase(mind, Phase::Idle), cause);
@@ -135,10 +179,11 @@ impl Engine {
     }
 
     // One instruction of a hart that nothing stops; at a trap nothing changes.
-    fn execute(&mut self, h: u32, mind: Mind, pc: u32) -> Turned
+    fn execute(&mut self, h: u32, mind: Mind, pc: u32, plan: Plan) -> Turned
         requires before { Before self.old h mind }
         requires pc { Of self.old h (λ y. y.regs.pc ≡ pc) }
         requires due { Undue self.old h }
+        requires plan { GoesWith self.old h plan }
         requires unpatched { mind.phase ≡ Phase.Idle → is_planted self.old.machine.text pc ≡ false }
         requires spare { 32 ≤ self.old.spare }
         ensures row { row_of result ≡ EXECUTES }
@@ -150,25 +195,31 @@ impl Engine {
         if let Stepped::Trap(cause) = stepped {
             return Turned::Stopped { cause };
         }
-        self.minds[h as usize] = ran_mind(mind);
+        let ran = ran_mind(mind, plan, noted_with(plan, pc));
+        self.minds[h as usize] = ran;
+        let leaving = Leaving {
+            hart: h,
+            phase: ran.phase,
+            minds: self.minds.as_slice(),
+        };
         go_home_at_exit(
             stepped,
             &mut self.machine,
             &mut self.hold,
             &self.table,
-            h,
-            mind,
-            self.minds.as_slice(),
+            &leaving,
         );
-        apply(
-            stepped,
-            h,
-            mind,
-            &mut self.entries,
-            &mut self.minds,
-            &mut self.retired,
-            &mut self.noted,
-        )
+        let turned = apply(stepped, h, ran, &mut self.entries, &mut self.minds);
+        let waiting = Waiting {
+            image: &self.opening.image,
+            minds: self.minds.as_slice(),
+            hold: self.hold,
+        };
+        let moved = is_moved(mind.plan, plan, stepped);
+        rewait(&mut self.machine, &mut self.table, &waiting, moved);
+        self.retired += 1;
+        self.noted += exits_of(turned) as u64;
+        turned
     }
 
     // Where a running hart shows its pc: at home, where it is in its slot.
@@ -188,26 +239,31 @@ impl Engine {
         }
     }
 
-    // What the breakpoints do with a hart; nothing where it hasn't just arrived.
-    fn due(&self, h: u32, mind: Mind, pc: u32) -> Due
+    // What is judged of a hart.
+    fn due(&self, h: u32, mind: Mind, pc: u32) -> Judgement
         requires mind { slice_get self.now.minds h ≡ Some mind }
         requires before { is_before mind.phase ≡ true }
         requires runs { mind.activity ≡ Activity.Running }
         requires pc { Of self.now h (λ y. y.regs.pc ≡ pc) }
         ensures due { DueIs self.now h result }
-        ensures fresh { result.counts ≡ true → mind.fresh ≡ true }
+        ensures fresh { result.breaks.counts ≡ true → mind.fresh ≡ true }
     {
-        if mind.fresh {
-            due_at(&self.table, &self.opening.image, &self.machine, h, pc)
-        } else {
-            NOTHING_DUE
-        }
-    }
-
-    // Whether the breakpoint of that number is temporary.
-    fn is_temporary(&self, number: u32) -> bool
-        ensures { result ≡ is_temporary self.now.breaks number }
-    {
-        is_temporary(self.table.entries(), number)
+        let judge = Judge {
+            image: &self.opening.image,
+            sources: &self.sources,
+            table: &self.table,
+        };
+        let course = Course {
+            fresh: mind.fresh,
+            plan: mind.plan,
+            last: mind.last,
+        };
+        let view = ShownHart {
+            regs: &self.machine.cores()[h as usize].regs,
+            pc,
+            image: &self.opening.image,
+            machine: &self.machine,
+        };
+        judge.judge(h, course, &view)
     }
 }

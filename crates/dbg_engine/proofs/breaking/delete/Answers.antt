@@ -1,6 +1,4 @@
-use Rattle.std.proofs.Common.{refl}
 use Rattle.std.specs.Prelude.{None, Some}
-use Rattle.engine_facts.specs.Facts.{wanted}
 use Rattle.engine_facts.proofs.Breaking.{place-shown}
 use Rattle.dbg_engine.proofs.Tabling.{number_at, deleted_words, none_deleted}
 use Rattle.dbg_engine.proofs.breaking.delete.Goals as goal
@@ -17,5 +15,5 @@ plant_as_wanted-requires c low =
 pub returns-clause-machine : goal.returns-clause-machine
 returns-clause-machine c =
     let at = number_at c.args.table.now c.entries.result.now c.args.number c.place_of.result (Some c.in-Some.place) c.entries.ensures.entries c.place_of.ensures c.in-Some.is in
-    deleted_words c.args.machine.now c.plant_as_wanted.new.machine c.args.table.now c.delete_entry.new.table c.args.hold c.args.number c.in-Some.place (wanted c.delete_entry.new.table.entries c.args.hold c.in-Some.place) c.requires c.entries.ensures.rising at
-    c.delete_entry.ensures refl c.plant_as_wanted.ensures.text c.plant_as_wanted.ensures.rest
+    deleted_words c.args.machine.now c.plant_as_wanted.new.machine c.args.table.now c.delete_entry.new.table c.args.hold c.args.number c.in-Some.place c.requires c.entries.ensures.rising at
+    c.delete_entry.ensures c.plant_as_wanted.ensures.text c.plant_as_wanted.ensures.rest

@@ -1,7 +1,5 @@
-use Rattle.std.proofs.Common.{refl}
 use Rattle.std.specs.Prelude.{None, Some}
 use Rattle.break_table.specs.Table.{with_enabled}
-use Rattle.engine_facts.specs.Facts.{wanted}
 use Rattle.engine_facts.proofs.Breaking.{place-shown}
 use Rattle.dbg_engine.proofs.Tabling.{number_at, enabled_words, none_changed}
 use Rattle.dbg_engine.proofs.breaking.enable.Goals as goal
@@ -18,5 +16,5 @@ plant_as_wanted-requires c low =
 pub returns-clause-machine : goal.returns-clause-machine
 returns-clause-machine c =
     let at = number_at c.args.table.now c.entries.result.now c.args.number c.place_of.result (Some c.in-Some.place) c.entries.ensures.entries c.place_of.ensures c.in-Some.is in
-    enabled_words c.args.enabled c.args.machine.now c.plant_as_wanted.new.machine c.args.table.now c.enable_entry.new.table c.args.hold c.args.number c.in-Some.place (wanted c.enable_entry.new.table.entries c.args.hold c.in-Some.place) c.requires c.entries.ensures.rising at
-    c.enable_entry.ensures refl c.plant_as_wanted.ensures.text c.plant_as_wanted.ensures.rest
+    enabled_words c.args.enabled c.args.machine.now c.plant_as_wanted.new.machine c.args.table.now c.enable_entry.new.table c.args.hold c.args.number c.in-Some.place c.requires c.entries.ensures.rising at
+    c.enable_entry.ensures c.plant_as_wanted.ensures.text c.plant_as_wanted.ensures.rest

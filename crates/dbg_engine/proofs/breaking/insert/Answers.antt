@@ -1,9 +1,7 @@
-use Rattle.std.proofs.Common.{refl}
 use Rattle.break_table.specs.Entry.{asked_of}
-use Rattle.engine_facts.specs.Facts.{wanted}
 use Rattle.dbg_engine.proofs.Tabling.{inserted_words}
 use Rattle.dbg_engine.proofs.breaking.insert.Goals as goal
 
 pub returns-clause-machine : goal.returns-clause-machine
 returns-clause-machine c =
-    inserted_words c.args.machine.now c.plant_as_wanted.new.machine c.args.table.now c.insert_entry.new.table c.args.hold (asked_of c.args.spec) (wanted c.insert_entry.new.table.entries c.args.hold c.args.spec.address) c.requires.planted c.insert_entry.ensures c.plant_as_wanted.ensures.there refl c.plant_as_wanted.ensures.text c.plant_as_wanted.ensures.rest
+    inserted_words c.args.machine.now c.plant_as_wanted.new.machine c.args.table.now c.insert_entry.new.table c.args.hold (asked_of c.args.spec) c.requires.planted c.insert_entry.ensures c.plant_as_wanted.ensures.there c.plant_as_wanted.ensures.text c.plant_as_wanted.ensures.rest

@@ -8,7 +8,7 @@ invariant-loop-turns l = record {
   limit : l.turns ≤ l.limit;
   most : l.instructions ≤ l.most;
   fewer : l.instructions ≤ l.turns;
-  goes : Goes l.course.image.now l.course.table.now.entries l.course.hart l.course.copies l.most l.turns l.instructions l.initial.machine l.machine;
+  goes : Goes l.course.image.now l.course.table.now.entries l.course.hart l.course.plan l.course.copies l.most l.turns l.instructions l.initial.machine l.machine;
 }
 
 abbrev pub decreases-loop-turns : goal.decreases-loop-turns

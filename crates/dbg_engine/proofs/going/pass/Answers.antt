@@ -1,8 +1,7 @@
 use Rattle.std.proofs.Common.{◌≡◌, true, false, sym, ap, ◌∙◌, arith, rules}
-use Rattle.dbg_model.specs.State.{is_due}
 use Rattle.engine_facts.proofs.Holding.{get_within}
-use Rattle.dbg_engine.proofs.Gone.{passes_at}
-use Rattle.dbg_engine.proofs.Rows.{undue_is}
+use Rattle.dbg_engine.specs.Going.{meets}
+use Rattle.dbg_engine.proofs.Gone.{passes_at, unmet}
 use Rattle.dbg_engine.proofs.going.pass.Goals as goal
 
 pub returns-clause-passes : goal.returns-clause-passes
@@ -12,6 +11,6 @@ returns-clause-passes c done =
     let k = get_within m.cores course.hart c.requires in
     let on : course.copies ≡ true = search rules in
     let planted = sym c.if-not-planted.ensures in
-    let none : is_due c.due_at-due.result ≡ false = undue_is c.due_at-due.result (sym c.if-is_some.ensures) c.if-due.false in
-    passes_at course.image.now course.table.now.entries course.hart course.copies m c.step_copy.new.self c.pc-pc.result c.in-Some.word k.0 k.1 (c.pc-pc.ensures k.0 k.1) (omega arith) on planted c.in-Some.ensures
-    (ap is_due (sym (c.due_at-due.ensures k.0 k.1)) ∙ none) (c.step_copy.ensures.counts done) (c.step_copy.ensures.steps done)
+    let none : meets c.due_at-due.result ≡ false = unmet c.due_at-due.result (sym c.if-is_some.ensures) c.if-due.false in
+    passes_at course.image.now course.table.now.entries course.hart course.plan course.copies m c.step_copy.new.self c.pc-pc.result c.in-Some.word k.0 k.1 (c.pc-pc.ensures k.0 k.1) (omega arith) on planted c.in-Some.ensures
+    (ap meets (sym (c.due_at-due.ensures k.0 k.1)) ∙ none) (sym c.if-not-is_kept.ensures) (c.step_copy.ensures.counts done) (c.step_copy.ensures.steps done)

@@ -10,5 +10,5 @@ pub returns : goal.returns
 returns c =
     c.all_gone.ensures
     ∙ (ap (list_all has_gone) c.as_slice.ensures.value
-    ∙ (all_seen c.self.inside.opening.image c.self.inside.machine.cores c.self.inside.minds.items c.self.invariant.facts.harts.len
+    ∙ (all_seen c.self.inside.opening.image c.self.inside.machine.cores c.self.inside.minds.items c.self.invariant.facts.sound.harts.len
     ∙ ap (λ (r : Run). all_gone (seen r).harts) c.self.view_is))

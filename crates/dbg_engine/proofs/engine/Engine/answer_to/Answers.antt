@@ -21,7 +21,7 @@ answer_line-requires-clause-few c =
 pub answer_line-requires-clause-given : goal.answer_line-requires-clause-given
 answer_line-requires-clause-given c =
     let r = run_of c.self.inside in
-    numbers_room r c.self.invariant.facts (subst (λ (q : Run). q.noted < history) (sym c.self.view_is) c.requires.room)
+    numbers_room r c.self.invariant.facts.sound (subst (λ (q : Run). q.noted < history) (sym c.self.view_is) c.requires.room)
 
 pub returns : goal.returns
 returns c =
@@ -29,7 +29,7 @@ returns c =
     let cores = ap (λ cs. own_views cs c.as_slice.result.now) c.cores.ensures in
     let minds = ap (own_views r.machine.cores) c.as_slice.ensures.value in
     let views = c.as_slice-2.ensures.value ∙ (c.in_ok-threads.ensures ∙ (cores ∙ minds)) in
-    let same = sees r c.data.result.now c.as_slice-2.result.now c.self.invariant.facts c.data.ensures views in
+    let same = sees r c.data.result.now c.as_slice-2.result.now c.self.invariant.facts.sound c.data.ensures views in
     let P : Sight → Type 0 = λ s. IfOk c.answer_line.result (λ a. line_answer_of a ≡ answer_to s c.args.line.now) in
     let Q : Run → Type 0 = λ q. IfOk c.answer_line.result (λ a. line_answer_of a ≡ answer_of q.opening (seen q) c.args.line.now) in
     subst Q c.self.view_is (subst P same (c.answer_line.ensures c.args.line.now c.requires.read))

@@ -10,5 +10,5 @@ pub returns : goal.returns
 returns c =
     c.any_running.ensures
     ∙ (ap (list_any runs) c.as_slice.ensures.value
-    ∙ (any_seen c.self.inside.opening.image c.self.inside.machine.cores c.self.inside.minds.items c.self.invariant.facts.harts.len
+    ∙ (any_seen c.self.inside.opening.image c.self.inside.machine.cores c.self.inside.minds.items c.self.invariant.facts.sound.harts.len
     ∙ ap (λ (r : Run). any_runs (seen r).harts) c.self.view_is))

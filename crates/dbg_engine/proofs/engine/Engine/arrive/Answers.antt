@@ -1,7 +1,15 @@
-use Rattle.dbg_model.specs.declared.entry.Why.TheVariants.{Break}
+use Rattle.std.proofs.Common.{refl, sym, subst}
+use Rattle.dbg_engine.specs.declared.moving.Turned.{Turned}
+use Rattle.dbg_engine.specs.Calls.{Turns}
+use Rattle.dbg_engine.proofs.Arrivals.{arrives, stopped_turns}
 use Rattle.dbg_engine.proofs.Rows.{halts_behind}
 use Rattle.dbg_engine.proofs.engine.Engine.arrive.Goals as goal
 
 pub returns-clause-turns : goal.returns-clause-turns
 returns-clause-turns c =
-    (halts_behind c.args.self.now c.unwind.new.self c.note_arrival.new.self c.args.h c.args.mind (Break c.in-Some.number c.args.due.error) c.unwind.ensures.home c.note_arrival.ensures.halts, c.is_temporary-temporary.ensures)
+    let r = c.args.self.now in
+    let n = c.note_arrival.new.self in
+    let why = c.in-Some.why in
+    let halts = halts_behind r c.unwind.new.self n c.args.h c.args.mind why c.unwind.ensures.home c.note_arrival.ensures.halts in
+    let P : Turned → Type 0 = λ t. Turns t r n c.args.h in
+    subst P (sym c.stopped_by-turned.ensures) (stopped_turns r n c.args.h why r.breaks refl (arrives c.args.due why c.in-Some.ensures) halts)

@@ -1,19 +1,32 @@
-use Rattle.std.proofs.Common.{◌≡◌, ap, ◌∙◌, arith}
-use Rattle.std.specs.Prelude.{Some, slice_get}
-use Rattle.std.proofs.lemmas.Option.{slice_get_within}
-use Rattle.engine_facts.specs.Seen.{Run}
+use Rattle.std.proofs.Common.{◌≡◌, get_or, ap, ◌∙◌, sym, subst}
+use Rattle.std.specs.Prelude.{slice_get}
+use Rattle.std.proofs.lemmas.Option.{get_or_from_slice_get}
+use Rattle.rv_exec.specs.Registers.{set_pc}
+use Rattle.hart_machine.specs.declared.hart.Core.{Core}
+use Rattle.dbg_model.specs.Judging.{judgement_of}
+use Rattle.dbg_model.specs.Views.{register, shown_byte}
+use Rattle.dbg_model.specs.declared.judgement.Course.{Course}
+use Rattle.dbg_model.specs.declared.judgement.Judgement.{Judgement}
 use Rattle.dbg_engine.specs.EngineInside.{run_of}
-use Rattle.dbg_engine.proofs.Holds.{due_new, due_stale}
+use Rattle.dbg_engine.proofs.Holds.{counts_fresh, judged}
 use Rattle.dbg_engine.proofs.engine.Engine.due.Goals as goal
 
-pub due_at-requires : goal.due_at-requires
-due_at-requires c =
+pub returns-clause-due : goal.returns-clause-due
+returns-clause-due c =
     let r = run_of c.self.inside in
-    let mind : slice_get r.minds c.args.h ≡ Some c.args.mind = ap (λ (q : Run). slice_get q.minds c.args.h) c.self.view_is ∙ c.requires.mind in
-    omega (arith, slice_get_within r.minds c.args.h c.args.mind mind, c.self.invariant.facts.harts.len)
+    let x = c.args.mind in
+    let course : Course = record { fresh = x.fresh; plan = x.plan; last = x.last } in
+    judged r c.args.self.now c.args.h c.args.pc x c.judge.result c.self.view_is c.self.invariant.facts.sound c.requires.mind c.requires.runs c.requires.before c.requires.pc
+    (λ k at.
+    let same = get_or_from_slice_get c.cores.result.now c.args.h k c.index-cores-h.result (ap (λ cs. slice_get cs c.args.h) c.cores.ensures ∙ at) in
+    subst (λ (q : Core). c.judge.result ≡ judgement_of r.opening.image r.sources r.breaks c.args.h course (register (set_pc q.regs c.args.pc)) (shown_byte r.opening.image r.machine.memory)) same c.judge.ensures)
 
-pub returns-then-mind-clause-due : goal.returns-then-mind-clause-due
-returns-then-mind-clause-due c = due_new (run_of c.self.inside) c.args.self.now c.args.h c.args.pc c.args.mind c.due_at.result c.self.view_is c.self.invariant.facts c.requires.mind c.if-mind.true c.requires.runs c.requires.before c.requires.pc c.due_at.ensures
-
-pub returns-else-mind-clause-due : goal.returns-else-mind-clause-due
-returns-else-mind-clause-due c = due_stale (run_of c.self.inside) c.args.self.now c.args.h c.args.mind c.self.view_is c.self.invariant.facts c.requires.mind c.if-mind.false
+pub returns-clause-fresh : goal.returns-clause-fresh
+returns-clause-fresh c counts =
+    let r = run_of c.self.inside in
+    let x = c.args.mind in
+    let k = get_or c.cores.result.now c.args.h c.index-cores-h.result in
+    let course : Course = record { fresh = x.fresh; plan = x.plan; last = x.last } in
+    let bytes = shown_byte r.opening.image r.machine.memory in
+    let is : c.judge.result ≡ judgement_of r.opening.image r.sources r.breaks c.args.h course (register (set_pc k.regs c.args.pc)) bytes = c.judge.ensures in
+    counts_fresh r.opening.image r.sources r.breaks c.args.h course (register (set_pc k.regs c.args.pc)) bytes (ap (λ (j : Judgement). j.breaks.counts) (sym is) ∙ counts)

@@ -1,20 +1,14 @@
-use Rattle.std.proofs.Common.{◌≡◌, ◌<◌, sym, ap, ◌∙◌, subst, true}
+use Rattle.std.proofs.Common.{◌≡◌, ◌<◌, sym, subst, true}
 use Rattle.std.specs.Prelude.{Some, slice_set}
-use Rattle.text_words.specs.Words.{is_planted}
 use Rattle.dbg_model.specs.State.{is_off}
 use Rattle.engine_facts.specs.Seen.{Run}
-use Rattle.engine_facts.proofs.Planting.{text_shown}
-use Rattle.engine_facts.proofs.Holding.{planted_text}
 use Rattle.dbg_engine.specs.Calls.{AtPlanted, Lifts}
 use Rattle.dbg_engine.specs.EngineInside.{run_of}
-use Rattle.dbg_engine.proofs.Holds.{Moved, lifted}
+use Rattle.dbg_engine.proofs.Holds.{Moved, lifted, planted_shown}
 use Rattle.dbg_engine.proofs.engine.Engine.lift.Goals as goal
 
-pub repatch-requires : goal.repatch-requires
-repatch-requires c =
-    let r = run_of c.self.inside in
-    let planted : is_planted r.machine.text c.args.pc ≡ true = ap (λ (q : Run). is_planted q.machine.text c.args.pc) c.self.view_is ∙ c.requires.before.planted in
-    text_shown r.opening.image r.machine.text r.breaks r.hold c.args.pc c.self.invariant.facts.planted (planted_text r c.args.pc c.self.invariant.facts planted)
+pub repatch-requires-clause-planted : goal.repatch-requires-clause-planted
+repatch-requires-clause-planted c = planted_shown (run_of c.self.inside) c.args.pc c.self.invariant.facts.sound
 
 move : (c : goal.After-self-2-1) → (let r = run_of c.self.inside in let new : Run = record r { machine = c.repatch.new.machine; minds = slice_set r.minds c.args.h c.with_phase.result; hold = Some (record { hart = c.args.h; home = c.args.pc }) } in Moved new (Lifts r new c.args.h))
 move c =

@@ -1,62 +1,92 @@
-use Rattle.std.proofs.Common.{◌≡◌, ℕ, ◌-◌, ◌+◌, sym, ap, ◌∙◌, subst, arith, true, ◌||◌, refl}
-use Rattle.std.specs.Prelude.{Option, Some, is_some, slice_get, slice_set, vec_len, vec_capacity}
-use Rattle.std.proofs.lemmas.Option.{slice_get_within}
+use Rattle.std.proofs.Common.{◌≡◌, ◌-◌, ◌+◌, ◌≤◌, false, true, List, length, map, refl, sym, ap, ◌∙◌, subst, arith, length-set}
+use Rattle.std.specs.Prelude.{Some, slice_get, slice_set, vec_len, vec_capacity}
 use Rattle.break_table.specs.Table.{Table}
-use Rattle.break_table.specs.declared.due.Due.{Due}
-use Rattle.dbg_model.specs.State.{is_due}
+use Rattle.break_table.specs.Text.{is_place}
 use Rattle.dbg_model.specs.Lawful.{may_go}
+use Rattle.engine_facts.specs.declared.mind.Mind.{Mind}
+use Rattle.engine_facts.specs.Minds.{awaited, first_mind}
 use Rattle.engine_facts.specs.Seen.{Run, seen}
-use Rattle.engine_facts.specs.Facts.{other_holder}
+use Rattle.engine_facts.specs.Facts.{Facts, other_holder}
+use Rattle.engine_facts.proofs.Breaking.{are_planted}
 use Rattle.dbg_engine.specs.EngineInside.{run_of}
-use Rattle.dbg_model.specs.declared.entry.Why.TheVariants.{Break}
-use Rattle.engine_facts.specs.Minds.{first_mind}
-use Rattle.dbg_engine.specs.Calls.{Halts, Of, DueIs}
-use Rattle.dbg_engine.proofs.Holds.{Moved, Settles, arrived, due_text}
+use Rattle.std.proofs.lemmas.Option.{slice_get_within}
+use Rattle.engine_facts.specs.Facts.{wanted, wants_of}
+use Rattle.engine_facts.specs.Tables.{ArePlanted}
+use Rattle.dbg_engine.specs.Changing.{wants_by}
+use Rattle.dbg_engine.specs.Calls.{Halts, Of, StopsBy}
+use Rattle.dbg_engine.proofs.Holds.{Moved, Settles, arrived, planted_shown, wanted_text}
+use Rattle.dbg_engine.proofs.Rewaits.{rewaits, text_place, with_table}
 use Rattle.dbg_engine.proofs.engine.Engine.note_arrival.Goals as goal
-
-stop_due : (d : Due) (n : Option ℕ) → d.stop ≡ n → is_some n ≡ true → is_due d ≡ true
-stop_due d n is some = let e : is_some d.stop ≡ true = ap is_some is ∙ some in ap (λ b. b || d.counts) e
 
 pub settle-requires : goal.settle-requires
 settle-requires c =
     let r = run_of c.self.inside in
     let mind : slice_get r.minds c.args.h ≡ Some c.args.mind = ap (λ (q : Run). slice_get q.minds c.args.h) c.self.view_is ∙ c.requires.before.at in
-    omega (arith, slice_get_within r.minds c.args.h c.args.mind mind, c.self.invariant.facts.harts.len)
+    omega (arith, slice_get_within r.minds c.args.h c.args.mind mind, c.self.invariant.facts.sound.harts.len)
 
-pub repatch-requires : goal.repatch-requires
-repatch-requires c =
+pub repatch-requires-clause-wants : goal.repatch-requires-clause-wants
+repatch-requires-clause-wants c =
     let r = run_of c.self.inside in
     let mind : slice_get r.minds c.args.h ≡ Some c.args.mind = ap (λ (q : Run). slice_get q.minds c.args.h) c.self.view_is ∙ c.requires.before.at in
-    let P : Run → Type 0 = λ q. DueIs q c.args.h c.args.due in
-    let Q : Run → Type 0 = λ q. Of q c.args.h (λ y. y.regs.pc ≡ c.args.pc) in
-    due_text r c.args.h c.args.pc c.args.due c.args.mind c.self.invariant.facts mind (subst Q (sym c.self.view_is) c.requires.pc) (subst P (sym c.self.view_is) c.requires.due) (stop_due c.args.due (Some c.args.number) c.requires.stops refl)
-
-abbrev new_run : goal.After-self-2-1 → Table → Run
-new_run c t =
-    record (run_of c.self.inside) {
-      journal = c.note.new.entries.items;
-      spare = vec_capacity c.note.new.entries - vec_len c.note.new.entries;
-      machine = c.repatch.new.machine;
-      minds = slice_set c.self.inside.minds.items c.args.h first_mind;
-      breaks = t.entries;
-      given = t.given;
-      bounds = t.text;
-      waits = t.waits;
-      noted = c.self.inside.noted + 1;
-    }
-
-move : (c : goal.After-self-2-1) → Moved (new_run c c.settle.new.table) (Halts (run_of c.self.inside) (new_run c c.settle.new.table) c.args.h (Break c.args.number c.args.due.error))
-move c =
-    let r = run_of c.self.inside in
-    let mind : slice_get r.minds c.args.h ≡ Some c.args.mind = ap (λ (q : Run). slice_get q.minds c.args.h) c.self.view_is ∙ c.requires.before.at in
-    let P : Run → Type 0 = λ q. DueIs q c.args.h c.args.due in
     let Q : Run → Type 0 = λ q. Of q c.args.h (λ y. y.regs.pc ≡ c.args.pc) in
     let settles : Settles r c.args.h c.args.pc c.settle.new.table.entries = λ k at. c.settle.ensures.entries k at in
-    let M : Table → Type 0 = λ t. Moved (new_run c t) (Halts r (new_run c t) c.args.h (Break c.args.number c.args.due.error)) in
-    subst M (sym c.settle.ensures.rest)
-    (arrived r c.args.h c.args.number c.args.pc (vec_capacity c.note.new.entries - vec_len c.note.new.entries) c.args.due c.args.mind c.note.new.entries.items c.repatch.new.machine c.settle.new.table.entries c.wants-wants.result c.self.invariant.facts mind
-    c.requires.idle c.requires.before.runs (ap (λ (q : Run). other_holder q.hold c.args.h) c.self.view_is ∙ c.requires.before.free) (subst Q (sym c.self.view_is) c.requires.pc) (subst P (sym c.self.view_is) c.requires.due) c.requires.stops (ap (λ (q : Run). may_go q.opening (seen q)) c.self.view_is ∙ c.requires.before.may)
-    c.note.ensures.entries settles c.wants-wants.ensures c.repatch.ensures.text c.repatch.ensures.rest)
+    wanted_text r c.args.h c.args.pc c.args.mind c.settle.new.table.entries c.wants-wants.result c.self.invariant.facts.sound mind c.requires.before.before c.requires.before.runs (subst Q (sym c.self.view_is) c.requires.pc) settles (c.wants-wants.ensures ∙ ap (λ (t : Table). wanted (wants_by t r.hold) c.args.pc) c.settle.ensures.rest)
+
+pub repatch-requires-clause-planted : goal.repatch-requires-clause-planted
+repatch-requires-clause-planted c = planted_shown (run_of c.self.inside) c.args.pc c.self.invariant.facts.sound
+
+pub rewait-requires-clause-few : goal.rewait-requires-clause-few
+rewait-requires-clause-few c =
+    let r = run_of c.self.inside in
+    let f = c.self.invariant.facts.sound in
+    omega (arith, f.count, f.settings.harts.1, ap (λ (xs : List Mind). length xs) c.as_slice.ensures.value ∙ length-set r.minds c.args.h first_mind)
+
+pub rewait-requires-clause-many : goal.rewait-requires-clause-many
+rewait-requires-clause-many c =
+    let r = run_of c.self.inside in
+    let f = c.self.invariant.facts.sound in
+    ap (λ (t : Table). length t.waits) c.settle.ensures.rest ∙ (f.many ∙ (sym f.count ∙ sym (ap (λ (xs : List Mind). length xs) c.as_slice.ensures.value ∙ length-set r.minds c.args.h first_mind)))
+
+pub rewait-requires-clause-words : goal.rewait-requires-clause-words
+rewait-requires-clause-words c = c.repatch.ensures.text.words ∙ c.self.invariant.facts.sound.planted.words
+
+pub rewait-requires-clause-places : goal.rewait-requires-clause-places
+rewait-requires-clause-places c a is = ap (λ (t : Table). is_place t.text a) c.settle.ensures.rest ∙ text_place (run_of c.self.inside) c.self.invariant.facts.sound a is
+
+pub rewait-requires-clause-planted : goal.rewait-requires-clause-planted
+rewait-requires-clause-planted c =
+    let r = run_of c.self.inside in
+    let f = c.self.invariant.facts.sound in
+    let mind : slice_get r.minds c.args.h ≡ Some c.args.mind = ap (λ (q : Run). slice_get q.minds c.args.h) c.self.view_is ∙ c.requires.before.at in
+    let P : Run → Type 0 = λ q. StopsBy q c.args.h c.args.why in
+    let Q : Run → Type 0 = λ q. Of q c.args.h (λ y. y.regs.pc ≡ c.args.pc) in
+    let settles : Settles r c.args.h c.args.pc c.settle.new.table.entries = λ k at. c.settle.ensures.entries k at in
+    let n =
+    arrived r c.args.h c.args.pc (vec_capacity c.note.new.entries - vec_len c.note.new.entries) c.args.why c.args.mind c.note.new.entries.items c.repatch.new.machine c.settle.new.table.entries c.wants-wants.result f mind
+    c.requires.idle c.requires.before.runs (ap (λ (q : Run). other_holder q.hold c.args.h) c.self.view_is ∙ c.requires.before.free) (subst Q (sym c.self.view_is) c.requires.pc) (subst P (sym c.self.view_is) c.requires.stops) (ap (λ (q : Run). may_go q.opening (seen q)) c.self.view_is ∙ c.requires.before.may)
+    c.note.ensures.entries settles (c.wants-wants.ensures ∙ ap (λ (t : Table). wanted (wants_by t r.hold) c.args.pc) c.settle.ensures.rest) c.repatch.ensures.text c.repatch.ensures.rest in
+    let q : Run = record r { journal = c.note.new.entries.items; spare = vec_capacity c.note.new.entries - vec_len c.note.new.entries; machine = c.repatch.new.machine; minds = slice_set r.minds c.args.h first_mind; breaks = c.settle.new.table.entries; noted = r.noted + 1 } in
+    let P : Table → Type 0 = λ t. ArePlanted c.repatch.new.machine.text (wants_by t r.hold) in
+    subst P (sym c.settle.ensures.rest) (are_planted q n.sound)
+
+abbrev new_run : goal.After-self-2-1 → Run
+new_run c = let r = run_of c.self.inside in record r { journal = c.note.new.entries.items; spare = vec_capacity c.note.new.entries - vec_len c.note.new.entries; machine = c.repatch.new.machine; minds = slice_set r.minds c.args.h first_mind; breaks = c.settle.new.table.entries; noted = r.noted + 1 }
+
+move : (c : goal.After-self-2-1) → (let r = run_of c.self.inside in let n = with_table (new_run c) c.rewait.new.machine c.rewait.new.table in Moved n (Halts r n c.args.h c.args.why))
+move c =
+    let r = run_of c.self.inside in
+    let f = c.self.invariant.facts.sound in
+    let mind : slice_get r.minds c.args.h ≡ Some c.args.mind = ap (λ (q : Run). slice_get q.minds c.args.h) c.self.view_is ∙ c.requires.before.at in
+    let P : Run → Type 0 = λ q. StopsBy q c.args.h c.args.why in
+    let Q : Run → Type 0 = λ q. Of q c.args.h (λ y. y.regs.pc ≡ c.args.pc) in
+    let settles : Settles r c.args.h c.args.pc c.settle.new.table.entries = λ k at. c.settle.ensures.entries k at in
+    let n =
+    arrived r c.args.h c.args.pc (vec_capacity c.note.new.entries - vec_len c.note.new.entries) c.args.why c.args.mind c.note.new.entries.items c.repatch.new.machine c.settle.new.table.entries c.wants-wants.result f mind
+    c.requires.idle c.requires.before.runs (ap (λ (q : Run). other_holder q.hold c.args.h) c.self.view_is ∙ c.requires.before.free) (subst Q (sym c.self.view_is) c.requires.pc) (subst P (sym c.self.view_is) c.requires.stops) (ap (λ (q : Run). may_go q.opening (seen q)) c.self.view_is ∙ c.requires.before.may)
+    c.note.ensures.entries settles (c.wants-wants.ensures ∙ ap (λ (t : Table). wanted (wants_by t r.hold) c.args.pc) c.settle.ensures.rest) c.repatch.ensures.text c.repatch.ensures.rest in
+    let all : List Mind → Table = λ xs. record c.self.inside.table { entries = c.settle.new.table.entries; waits = map (awaited r.opening.image) xs } in
+    let before = ap (λ (t : Table). let u : Table = record t { waits = map (awaited r.opening.image) c.as_slice.result.now } in u) c.settle.ensures.rest in
+    rewaits (λ n. Halts r n c.args.h c.args.why) (new_run c) c.rewait.new.machine c.rewait.new.table n (record { table = c.rewait.ensures.table ∙ (before ∙ ap all c.as_slice.ensures.value); machine = c.rewait.ensures.machine })
 
 pub invariant_of-self : goal.invariant_of-self
 invariant_of-self c = record { facts = (move c).facts }

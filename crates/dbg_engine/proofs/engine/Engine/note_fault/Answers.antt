@@ -1,23 +1,54 @@
-use Rattle.std.proofs.Common.{◌≡◌, ◌-◌, ◌+◌, sym, ap, ◌∙◌, subst}
+use Rattle.std.proofs.Common.{◌≡◌, ◌-◌, ◌+◌, ◌≤◌, false, true, List, length, map, refl, sym, ap, ◌∙◌, subst, arith, length-set}
 use Rattle.std.specs.Prelude.{Some, slice_get, slice_set, vec_len, vec_capacity}
-use Rattle.dbg_model.specs.declared.entry.Why.TheVariants.{Fault}
+use Rattle.break_table.specs.Table.{Table}
 use Rattle.dbg_model.specs.Lawful.{may_go}
-use Rattle.engine_facts.specs.Minds.{first_mind}
+use Rattle.engine_facts.specs.declared.mind.Mind.{Mind}
+use Rattle.engine_facts.specs.Minds.{awaited, first_mind}
 use Rattle.engine_facts.specs.Seen.{Run, seen}
-use Rattle.engine_facts.specs.Facts.{other_holder}
-use Rattle.dbg_engine.specs.Calls.{Halts, Undue, TrapsAt}
+use Rattle.engine_facts.specs.Facts.{Facts, other_holder}
+use Rattle.engine_facts.proofs.Breaking.{are_planted}
 use Rattle.dbg_engine.specs.EngineInside.{run_of}
+use Rattle.dbg_model.specs.declared.entry.Why.TheVariants.{Fault}
+use Rattle.dbg_engine.specs.Calls.{Halts, Undue, TrapsAt}
 use Rattle.dbg_engine.proofs.Holds.{Moved, faulted}
+use Rattle.dbg_engine.proofs.Rewaits.{rewaits, text_place, with_table}
 use Rattle.dbg_engine.proofs.engine.Engine.note_fault.Goals as goal
 
-move : (c : goal.After-self-2-1) → (let r = run_of c.self.inside in let new : Run = record r { journal = c.note.new.entries.items; spare = vec_capacity c.note.new.entries - vec_len c.note.new.entries; minds = slice_set r.minds c.args.h first_mind; noted = r.noted + 1 } in Moved new (Halts r new c.args.h (Fault c.args.cause)))
+pub rewait-requires-clause-few : goal.rewait-requires-clause-few
+rewait-requires-clause-few c =
+    let r = run_of c.self.inside in
+    let f = c.self.invariant.facts.sound in
+    omega (arith, f.count, f.settings.harts.1, ap (λ (xs : List Mind). length xs) c.as_slice.ensures.value ∙ length-set r.minds c.args.h first_mind)
+
+pub rewait-requires-clause-many : goal.rewait-requires-clause-many
+rewait-requires-clause-many c =
+    let r = run_of c.self.inside in
+    let f = c.self.invariant.facts.sound in
+    (f.many ∙ (sym f.count ∙ sym (ap (λ (xs : List Mind). length xs) c.as_slice.ensures.value ∙ length-set r.minds c.args.h first_mind)))
+
+pub rewait-requires-clause-words : goal.rewait-requires-clause-words
+rewait-requires-clause-words c = c.self.invariant.facts.sound.planted.words
+
+pub rewait-requires-clause-places : goal.rewait-requires-clause-places
+rewait-requires-clause-places c a is = text_place (run_of c.self.inside) c.self.invariant.facts.sound a is
+
+pub rewait-requires-clause-planted : goal.rewait-requires-clause-planted
+rewait-requires-clause-planted c =
+    are_planted (run_of c.self.inside) c.self.invariant.facts.sound
+
+abbrev new_run : goal.After-self-2-1 → Run
+new_run c = let r = run_of c.self.inside in record r { journal = c.note.new.entries.items; spare = vec_capacity c.note.new.entries - vec_len c.note.new.entries; minds = slice_set r.minds c.args.h first_mind; noted = r.noted + 1 }
+
+move : (c : goal.After-self-2-1) → (let r = run_of c.self.inside in let n = with_table (new_run c) c.rewait.new.machine c.rewait.new.table in Moved n (Halts r n c.args.h (Fault c.args.cause)))
 move c =
     let r = run_of c.self.inside in
+    let f = c.self.invariant.facts.sound in
     let mind : slice_get r.minds c.args.h ≡ Some c.args.mind = ap (λ (q : Run). slice_get q.minds c.args.h) c.self.view_is ∙ c.requires.before.at in
     let P : Run → Type 0 = λ q. Undue q c.args.h in
     let Q : Run → Type 0 = λ q. TrapsAt q c.args.h c.args.cause in
-    faulted r c.args.h (vec_capacity c.note.new.entries - vec_len c.note.new.entries) c.args.mind c.args.cause c.note.new.entries.items c.self.invariant.facts mind c.requires.idle c.requires.before.runs (ap (λ (q : Run). other_holder q.hold c.args.h) c.self.view_is ∙ c.requires.before.free)
-    (subst P (sym c.self.view_is) c.requires.due) (subst Q (sym c.self.view_is) c.requires.traps) (ap (λ (q : Run). may_go q.opening (seen q)) c.self.view_is ∙ c.requires.before.may) c.note.ensures.entries
+    let n = faulted r c.args.h (vec_capacity c.note.new.entries - vec_len c.note.new.entries) c.args.mind c.args.cause c.note.new.entries.items f mind c.requires.idle c.requires.before.runs (ap (λ (q : Run). other_holder q.hold c.args.h) c.self.view_is ∙ c.requires.before.free) (subst P (sym c.self.view_is) c.requires.due) (subst Q (sym c.self.view_is) c.requires.traps) (ap (λ (q : Run). may_go q.opening (seen q)) c.self.view_is ∙ c.requires.before.may) c.note.ensures.entries in
+    let all : List Mind → Table = λ xs. record c.self.inside.table { waits = map (awaited r.opening.image) xs } in
+    rewaits (λ n. Halts r n c.args.h (Fault c.args.cause)) (new_run c) c.rewait.new.machine c.rewait.new.table n (record { table = c.rewait.ensures.table ∙ ap all c.as_slice.ensures.value; machine = c.rewait.ensures.machine })
 
 pub invariant_of-self : goal.invariant_of-self
 invariant_of-self c = record { facts = (move c).facts }

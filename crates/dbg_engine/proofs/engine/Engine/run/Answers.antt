@@ -1,17 +1,26 @@
-use Rattle.std.proofs.Common.{◌-◌, sym, ap, ◌∙◌, arith}
+use Rattle.std.proofs.Common.{◌-◌, sym, ap, ◌∙◌, subst, arith}
+use Rattle.hart_machine.specs.Patched.{Patched}
+use Rattle.engine_facts.specs.Facts.{Facts}
 use Rattle.std.specs.Prelude.{vec_len, vec_capacity}
 use Rattle.dbg_model.specs.State.{is_off}
 use Rattle.dbg_engine.specs.Several.{lengthened_by}
 use Rattle.dbg_engine.specs.EngineInside.{run_of}
-use Rattle.dbg_engine.proofs.Aheads.{gone_to, small_of, turned_at}
+use Rattle.dbg_engine.proofs.Aheads.{gone_to, none_gone, small_of, turned_at}
 use Rattle.dbg_engine.proofs.Rows.{not_so}
 use Rattle.dbg_engine.proofs.engine.Engine.run.Goals as goal
 
 pub note_runs-requires-clause-last : goal.note_runs-requires-clause-last
 note_runs-requires-clause-last c =
     let r = run_of c.self.inside in
-    let k = small_of r c.args.self.now c.self.view_is c.self.invariant.facts (sym c.if-not-may_go.ensures) in
+    let k = small_of r c.args.self.now c.self.view_is c.self.invariant.facts.sound (sym c.if-not-may_go.ensures) in
     omega (arith, k.last, c.min-most.ensures, c.from.ensures, c.from-count.ensures, c.go-progress.ensures.most)
+
+pub returns-then-progress-eq0-clause-facts : goal.returns-then-progress-eq0-clause-facts
+returns-then-progress-eq0-clause-facts c =
+    let r = run_of c.self.inside in
+    let p = c.go-progress.result in
+    let M : Patched → Type 0 = λ m. Facts (record r { machine = m }) in
+    subst M (sym (none_gone r.opening.image r.breaks c.args.h c.min-most.result p.turns p.instructions c.mind-mind.result.plan c.is_on.result r.machine c.go-progress.new.machine c.if-progress-eq0.true c.go-progress.ensures.goes)) c.self.invariant.facts
 
 pub invariant_of-self-2 : goal.invariant_of-self-2
 invariant_of-self-2 c =

@@ -3,7 +3,7 @@ use Rattle.dbg_model.specs.Lawful.{may_go}
 use Rattle.engine_facts.specs.declared.mind.Activity.TheVariants as activity
 use Rattle.engine_facts.specs.Minds.{is_before}
 use Rattle.engine_facts.specs.Seen.{Run, seen}
-use Rattle.engine_facts.specs.Facts.{Facts, other_holder}
+use Rattle.engine_facts.specs.Facts.{Sound, other_holder}
 use Rattle.dbg_engine.proofs.Rows.{row_waits, row_finishes}
 use Rattle.dbg_engine.proofs.engine.Engine.turn.Goals as goal
 
@@ -12,18 +12,18 @@ returns-in-Some-clause-first c =
     let may : may_go c.args.self.now.opening (seen c.args.self.now) ≡ true = search rules in
     let runs : c.mind-mind.result.activity ≡ activity.Running = search rules in
     let held = ap (λ (q : Run). other_holder q.hold c.args.h) (sym c.self.view_is) ∙ (sym c.other_holder.ensures ∙ c.in-Some.is) in
-    sym (row_waits c.args.self.now c.args.h c.in-Some.by c.mind-mind.result (subst Facts c.self.view_is c.self.invariant.facts) may c.mind-mind.ensures runs held)
+    sym (row_waits c.args.self.now c.args.h c.in-Some.by c.mind-mind.result (subst Sound c.self.view_is c.self.invariant.facts.sound) may c.mind-mind.ensures runs held)
 
 pub returns-in-Landed-clause-first : goal.returns-in-Landed-clause-first
 returns-in-Landed-clause-first c =
     let may : may_go c.args.self.now.opening (seen c.args.self.now) ≡ true = search rules in
     let runs : c.mind-mind.result.activity ≡ activity.Running = search rules in
     let free = ap (λ (q : Run). other_holder q.hold c.args.h) (sym c.self.view_is) ∙ (sym c.other_holder.ensures ∙ c.in_default.is) in
-    sym (row_finishes c.args.self.now c.args.h c.mind-mind.result (subst Facts c.self.view_is c.self.invariant.facts) may c.mind-mind.ensures runs free (ap is_before c.in-Landed.is))
+    sym (row_finishes c.args.self.now c.args.h c.mind-mind.result (subst Sound c.self.view_is c.self.invariant.facts.sound) may c.mind-mind.ensures runs free (ap is_before c.in-Landed.is))
 
 pub returns-in-Ran-clause-first : goal.returns-in-Ran-clause-first
 returns-in-Ran-clause-first c =
     let may : may_go c.args.self.now.opening (seen c.args.self.now) ≡ true = search rules in
     let runs : c.mind-mind.result.activity ≡ activity.Running = search rules in
     let free = ap (λ (q : Run). other_holder q.hold c.args.h) (sym c.self.view_is) ∙ (sym c.other_holder.ensures ∙ c.in_default.is) in
-    sym (row_finishes c.args.self.now c.args.h c.mind-mind.result (subst Facts c.self.view_is c.self.invariant.facts) may c.mind-mind.ensures runs free (ap is_before c.in-Ran.is))
+    sym (row_finishes c.args.self.now c.args.h c.mind-mind.result (subst Sound c.self.view_is c.self.invariant.facts.sound) may c.mind-mind.ensures runs free (ap is_before c.in-Ran.is))

@@ -1,9 +1,12 @@
 use Rattle.std.proofs.Common.{subst, Bool}
 use Rattle.engine_facts.specs.Moves.{Repatched}
-use Rattle.dbg_engine.proofs.breaking.plant_as_wanted.Goals as goal
+use Rattle.dbg_engine.proofs.patching.plant_as_wanted.Goals as goal
 
-pub repatch-requires : goal.repatch-requires
-repatch-requires c = c.requires c.ranges.addr.fits
+pub repatch-requires-clause-wants : goal.repatch-requires-clause-wants
+repatch-requires-clause-wants c _ = c.requires c.ranges.addr.fits
+
+pub repatch-requires-clause-planted : goal.repatch-requires-clause-planted
+repatch-requires-clause-planted c _ = c.requires c.ranges.addr.fits
 
 pub returns-clause-text : goal.returns-clause-text
 returns-clause-text c = subst (λ (b : Bool). Repatched c.args.machine.now.text c.repatch.new.machine.text c.args.addr b) c.wants-wants.ensures c.repatch.ensures.text
