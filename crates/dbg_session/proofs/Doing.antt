@@ -67,4 +67,4 @@ stands ended rest line next is = ap is_some_line (first_line ended rest line nex
 
 -- a session has as many harts as before
 pub minds_same : (e s : Run) → Facts e → Facts s → s.opening ≡ e.opening → length s.minds ≡ length e.minds
-minds_same e s f g opening = g.count ∙ (ap (λ (o : Opening). o.settings.harts) opening ∙ sym f.count)
+minds_same e s f g opening = g.sound.count ∙ (ap (λ (o : Opening). o.settings.harts) opening ∙ sym f.sound.count)

@@ -6,7 +6,7 @@ use mathlib.Core.List.{append-nil}
 use Rattle.std.specs.Prelude.{map}
 use Rattle.dbg_traits.specs.Told.{Told}
 use Rattle.mi_input.specs.Lines.{lines}
-use Rattle.dbg_model.specs.State.{Hart}
+use Rattle.dbg_model.specs.declared.hart.Hart.{Hart}
 use Rattle.dbg_model.specs.Journals.{did, noted}
 use Rattle.dbg_model.specs.Erase.{erase}
 use Rattle.dbg_model.proofs.Plainly.{lawful_plain, plain_of, plain_hart}

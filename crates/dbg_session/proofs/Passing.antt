@@ -19,7 +19,7 @@ use Rattle.dbg_session.proofs.Ahead as ahead_proofs
 
 -- none was picked: none runs
 pub still : (e : Run) (next : ℕ) → Facts e → None ≡ next_running e.minds next → not (any_runs (seen e).harts) ≡ true
-still e next f is = ap not (sym (any_seen e.opening.image e.machine.cores e.minds f.harts.len) ∙ none_runs e.minds next (sym is))
+still e next f is = ap not (sym (any_seen e.opening.image e.machine.cores e.minds f.sound.harts.len) ∙ none_runs e.minds next (sym is))
 
 pub same_none : {W : Type 0} (s t : Seen W) → t ≡ record s { next = picked None s.next } → Same s t
 same_none {W = W} s t is = record { run = ap (λ (x : Seen W). x.run) is; input = ap (λ (x : Seen W). x.input) is; status = ap (λ (x : Seen W). x.status) is; next = ap (λ (x : Seen W). x.next) is }
@@ -34,12 +34,12 @@ nearer e next h f is stays =
     let len = movers_length r 0 (length xs) in
     let low = next_within xs next h is in
     let rests = mover_at r 0 (length xs) h low ∙ (ap (moves_at r) (zero_more h) ∙ stays) in
-    let runs : any_runs (seen e).harts ≡ true = sym (any_seen e.opening.image e.machine.cores xs f.harts.len) ∙ next_runs xs next h is in
-    let m = some_mover e f runs in
+    let runs : any_runs (seen e).harts ≡ true = sym (any_seen e.opening.image e.machine.cores xs f.sound.harts.len) ∙ next_runs xs next h is in
+    let m = some_mover e f.sound runs in
     fewer next h (movers r) xs below len is rests (ahead_proofs.some_mover r m.hart m.low m.moves)
 
 few_ahead : (e : Run) (next : ℕ) → Facts e → ahead (movers (stage_of e)) next ≤ 33
-few_ahead e next f = omega (arith, ahead_most (movers (stage_of e)) next, movers_length (stage_of e) 0 (length e.minds), f.count, f.settings.harts.1)
+few_ahead e next f = omega (arith, ahead_most (movers (stage_of e)) next, movers_length (stage_of e) 0 (length e.minds), f.sound.count, f.sound.settings.harts.1)
 
 less_min : (w p q : ℕ) → p < q → q ≤ 33 → 34 * w + min 33 p < 34 * w + min 33 q
 less_min w p q less few = omega arith

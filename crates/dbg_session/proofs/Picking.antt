@@ -68,7 +68,7 @@ open_line false running line some = refl
 pub mover_runs : (e : Run) (h : ℕ) (x : Mind) → Facts e → slice_get e.minds h ≡ Some x → moves_at (stage_of e) h ≡ true → runs x ≡ true
 mover_runs e h x f at is =
     let first = both_true (runs_at (seen e).harts h && is_free e.hold h) (not (waits_for_slot e.machine.slots e.minds h)) is in
-    sym (runs_mind e.opening.image e.machine.cores e.minds h x f.harts.len at) ∙ (both_true (runs_at (seen e).harts h) (is_free e.hold h) first.0).0
+    sym (runs_mind e.opening.image e.machine.cores e.minds h x f.sound.harts.len at) ∙ (both_true (runs_at (seen e).harts h) (is_free e.hold h) first.0).0
 
 -- harts at home have the registers that were seen
 home_regs : (p : Program) (cs : List Core) (xs : List Mind) (ds : List Core) → AreHome p cs xs ds → core_registers ds ≡ hart_registers (seen_harts p cs xs)
@@ -85,7 +85,7 @@ pub left : (e : Run) (c : Closed) → c.opening ≡ e.opening → c.journal ≡ 
 left e c o j m f = record {
   opening = o;
   journal = j;
-  leaves = rw (o, j) f.leaves;
+  leaves = rw (o, j) f.sound.leaves;
   registers = home_regs e.opening.image e.machine.cores e.minds c.machine.cores m.cores;
   memory = m.memory;
   planted = rw o m.text;

@@ -3,13 +3,13 @@ use Rattle.std.proofs.Common.{◌≡◌, ◌<◌, ◌≤◌, ℕ, zero, suc, ◌
 use Rattle.std.specs.Prelude.{Option, Some, None, is_none, ◌&&◌, ◌⊎◌, map, slice_get}
 use mathlib.Core.Logic.{inl, inr}
 use mathlib.Core.List.{append-nil}
-use Rattle.rv_exec.specs.declared.effect.Cause.{Cause}
 use Rattle.rv_exec.specs.declared.effect.Stepped.{Stepped}
 use Rattle.rv_exec.specs.declared.effect.Stepped.TheVariants as stepped
 use Rattle.dbg_model.specs.declared.reply.Reply.{Reply}
 use Rattle.dbg_model.specs.declared.entry.Entry.{Entry}
 use Rattle.dbg_model.specs.declared.entry.Entry.TheVariants.{Counted, Stopped, Did}
 use Rattle.dbg_model.specs.declared.entry.Why.{Why}
+use Rattle.dbg_model.specs.declared.entry.Why.TheVariants as whys
 use Rattle.dbg_model.specs.declared.entry.Why.TheVariants.{Break, Interrupted, Fault}
 use Rattle.dbg_model.specs.declared.opening.Opening.{Opening}
 use Rattle.dbg_model.specs.declared.frame.ShownFrame.{ShownFrame}
@@ -22,9 +22,9 @@ use Rattle.dbg_model.specs.Journals.{lengthened, did}
 use Rattle.dbg_model.proofs.Adding.{lengthens}
 use Rattle.dbg_model.proofs.Ending.{one_open}
 use Rattle.source_index.specs.Sources.{Sources, sources_of}
-use Rattle.mi_reports.specs.Text.{stream_text, stop_text, interrupt_text, break_text, lefts_text}
+use Rattle.mi_reports.specs.Text.{stream_text, stop_text, interrupt_text, break_text, stepped_text, finished_text, lefts_text}
 use Rattle.mi_reports.specs.Replies.{reply_text}
-use Rattle.mi_reports.specs.Said.{said, hart_pc, stop_frame}
+use Rattle.mi_reports.specs.Said.{entry_text, said, hart_pc, stop_frame}
 use Rattle.mi_reports.proofs.Saying.{said_added, said_lengthened}
 use Rattle.mi_reports.proofs.Leaving.{said_exits}
 use Rattle.dbg_engine.specs.declared.moving.Turned.{Turned}
@@ -36,6 +36,7 @@ use Rattle.step_over.specs.declared.phase.Phase.TheVariants as phase
 use Rattle.engine_facts.specs.Seen.{Run, seen, seen_hart}
 use Rattle.engine_facts.specs.Facts.{Facts}
 use Rattle.engine_facts.specs.Minds.{mode_of, is_active, with_phase, counted_mind}
+use Rattle.engine_facts.specs.Moves.{plan_for}
 use Rattle.engine_facts.proofs.Seeing.{seen_at}
 use Rattle.dbg_engine.specs.Several.{is_quiet}
 use Rattle.dbg_engine.specs.Calls.{Of, Turns, Runs, Exits, Halts, Counts, Rephases, Does}
@@ -77,10 +78,10 @@ nothing_written = refl
 
 -- few harts, and few moves of theirs
 pub few_moves : (r : Run) → Facts r → moves r.minds ≤ 48
-few_moves r f = omega (arith, moves_most r.minds, f.count, f.settings.harts.1)
+few_moves r f = omega (arith, moves_most r.minds, f.sound.count, f.sound.settings.harts.1)
 
 pub few_run : (r : Run) → Facts r → running (seen r).harts ≤ 16
-few_run r f = omega (arith, running_most (seen r).harts, harts_length r.opening.image r.machine.cores r.minds f.harts.len, f.count, f.settings.harts.1)
+few_run r f = omega (arith, running_most (seen r).harts, harts_length r.opening.image r.machine.cores r.minds f.sound.harts.len, f.sound.count, f.sound.settings.harts.1)
 
 less_work : (b r s m n p q : ℕ) → r < b → s ≡ r + 1 → m ≤ n → p ≤ 48 → 49 * (b - s) + (49 * m + p) < 49 * (b - r) + (49 * n + q)
 less_work b r s m n p q low is le few = omega arith
@@ -99,7 +100,7 @@ said_is r s j text o is e = ap (λ p. said p s.journal) o ∙ (ap (said r.openin
 
 runs_say : (t : Turned) (v : Stepped) (r s : Run) (h pc : ℕ) (out : List ℕ) → Facts r → Facts s → Runs v r s h out → stream_text out ≡ turned_text s t h pc → Said t r s h pc
 runs_say t v r s h pc out f g m text =
-    let l = said_lengthened r.opening r.journal h (seen r) f.leaves in
+    let l = said_lengthened r.opening r.journal h (seen r) f.sound.leaves in
     record {
       opening = m.opening;
       said = said_is r s (lengthened r.journal h) (turned_text s t h pc) m.opening m.journal (l ∙ ap (λ u. said r.opening r.journal ++ u) (ap stream_text m.wrote ∙ text));
@@ -127,8 +128,8 @@ exits_say : (t : Turned) (v : Stepped) (r s : Run) (h pc count code : ℕ) → F
 exits_say t v r s h pc count code f g m text =
     let j = lengthened r.journal h in
     let lefts = lefts_from 0 m.between.harts in
-    let l = lengthens r.opening r.journal h (seen r) m.between f.leaves m.one in
-    let first : said r.opening j ≡ said r.opening r.journal = said_lengthened r.opening r.journal h (seen r) f.leaves ∙ (ap (λ u. said r.opening r.journal ++ u) (ap stream_text m.wrote ∙ nothing_written) ∙ append-nil (said r.opening r.journal)) in
+    let l = lengthens r.opening r.journal h (seen r) m.between f.sound.leaves m.one in
+    let first : said r.opening j ≡ said r.opening r.journal = said_lengthened r.opening r.journal h (seen r) f.sound.leaves ∙ (ap (λ u. said r.opening r.journal ++ u) (ap stream_text m.wrote ∙ nothing_written) ∙ append-nil (said r.opening r.journal)) in
     let exits = said_exits r.opening j m.between code l (one_open r.opening h (seen r) m.between m.one) m.codes m.some in
     let last : lefts_text lefts (all_gone (map gone m.between.harts)) code ≡ last_lefts s count code =
     ap (λ es. lefts_text es (all_gone (map gone m.between.harts)) code) (sym (last_are s.journal j lefts count m.journal m.counted)) ∙ ap (λ xs. lefts_text (drop (length s.journal - count) s.journal) (all_gone xs) code) (sym m.harts) in
@@ -148,7 +149,7 @@ get_within (x ∷ xs) (suc h) low = get_within xs h (omega arith)
 -- where a hart is seen
 pc_seen : (r : Run) (h pc : ℕ) → Facts r → h < length r.minds → IsPc r h pc → hart_pc (slice_get (seen r).harts h) ≡ pc
 pc_seen r h pc f low is_pc =
-    let low_core : h < length r.machine.cores = omega (arith, f.harts.len) in
+    let low_core : h < length r.machine.cores = omega (arith, f.sound.harts.len) in
     let c = get_within r.machine.cores h low_core in
     let x = get_within r.minds h low in
     let at = seen_at r.opening.image r.machine.cores r.minds h c.0 x.0 c.1 x.1 in
@@ -158,7 +159,7 @@ pc_seen r h pc f low is_pc =
 frame_seen : (r s : Run) (h pc : ℕ) → Facts r → Facts s → h < length r.minds → IsPc r h pc → s.opening ≡ r.opening → stop_frame r.opening (seen r) h ≡ own_frame s.sources pc
 frame_seen r s h pc f g low is_pc same =
     ap (own_frame (sources_of r.opening.image)) (pc_seen r h pc f low is_pc)
-    ∙ ap (λ (sources : Sources). own_frame sources pc) (sym (g.sources ∙ ap (λ (o : Opening). sources_of o.image) same))
+    ∙ ap (λ (sources : Sources). own_frame sources pc) (sym (g.sound.sources ∙ ap (λ (o : Opening). sources_of o.image) same))
 
 halts_say : (t : Turned) (r s : Run) (h pc : ℕ) (why : Why) → Facts r → Facts s → Halts r s h why → said_by (stage_of s) ≡ said_by (stage_of r) ++ turned_text s t h pc → Said t r s h pc
 halts_say t r s h pc why f g m text =
@@ -176,24 +177,21 @@ halts_say t r s h pc why f g m text =
       work = subst P (sym m.opening) (omega arith);
     }
 
-faults_say : (r s : Run) (h pc : ℕ) (cause : Cause) → Facts r → Facts s → h < length r.minds → IsPc r h pc → Halts r s h (Fault cause) → Said (turned.Stopped cause) r s h pc
-faults_say r s h pc cause f g low is_pc m =
-    let e : Entry = Stopped h (Fault cause) in
-    halts_say (turned.Stopped cause) r s h pc (Fault cause) f g m
-    (said_is r s (r.journal ++ e ∷ []) (stop_text cause h (own_frame s.sources pc)) m.opening m.journal (said_added r.opening r.journal (seen r) e f.leaves ∙ ap (λ (frame : ShownFrame). said r.opening r.journal ++ stop_text cause h frame) (frame_seen r s h pc f g low is_pc m.opening)))
-
-interrupts_say : (r s : Run) (h pc : ℕ) → Facts r → Facts s → h < length r.minds → IsPc r h pc → Halts r s h Interrupted → Said turned.Interrupted r s h pc
-interrupts_say r s h pc f g low is_pc m =
-    let e : Entry = Stopped h Interrupted in
-    halts_say turned.Interrupted r s h pc Interrupted f g m
-    (said_is r s (r.journal ++ e ∷ []) (interrupt_text h (own_frame s.sources pc)) m.opening m.journal (said_added r.opening r.journal (seen r) e f.leaves ∙ ap (λ (frame : ShownFrame). said r.opening r.journal ++ interrupt_text h frame) (frame_seen r s h pc f g low is_pc m.opening)))
+-- a stop of which nothing but the frame is told
+framed_says : (t : Turned) (r s : Run) (h pc : ℕ) (why : Why) (text : ℕ → ShownFrame → List ℕ) → Facts r → Facts s → h < length r.minds → IsPc r h pc → Halts r s h why
+    → entry_text r.opening (seen r) (Stopped h why) ≡ text h (stop_frame r.opening (seen r) h) → text h (own_frame s.sources pc) ≡ turned_text s t h pc → Said t r s h pc
+framed_says t r s h pc why text f g low is_pc m first last =
+    let e : Entry = Stopped h why in
+    let shown = first ∙ (ap (text h) (frame_seen r s h pc f g low is_pc m.opening) ∙ last) in
+    halts_say t r s h pc why f g m
+    (said_is r s (r.journal ++ e ∷ []) (turned_text s t h pc) m.opening m.journal (said_added r.opening r.journal (seen r) e f.sound.leaves ∙ ap (λ u. said r.opening r.journal ++ u) shown))
 
 arrivals_say : (r s : Run) (h pc number : ℕ) (temporary : Bool) (error : Option CondError) → Facts r → Facts s → h < length r.minds → IsPc r h pc → Halts r s h (Break number error) → temporary ≡ is_temporary r.breaks number → Said (turned.Arrived number temporary error) r s h pc
 arrivals_say r s h pc number temporary error f g low is_pc m kind =
     let e : Entry = Stopped h (Break number error) in
     halts_say (turned.Arrived number temporary error) r s h pc (Break number error) f g m
     (said_is r s (r.journal ++ e ∷ []) (break_text temporary number error h (own_frame s.sources pc)) m.opening m.journal
-    (said_added r.opening r.journal (seen r) e f.leaves ∙ (ap (λ (frame : ShownFrame). said r.opening r.journal ++ break_text (is_temporary r.breaks number) number error h frame) (frame_seen r s h pc f g low is_pc m.opening)
+    (said_added r.opening r.journal (seen r) e f.sound.leaves ∙ (ap (λ (frame : ShownFrame). said r.opening r.journal ++ break_text (is_temporary r.breaks number) number error h frame) (frame_seen r s h pc f g low is_pc m.opening)
     ∙ ap (λ b. said r.opening r.journal ++ break_text b number error h (own_frame s.sources pc)) (sym kind))))
 
 moves_fresh : (x : Mind) → x.fresh ≡ true → moves_left x ≡ moves_of x.phase + 1
@@ -206,13 +204,13 @@ counts_say r s h pc f g m =
     let noted = count_notes r.opening h (seen r) (seen s) m.enters in
     let retired : s.retired ≡ r.retired = noted.retired in
     let running_same = noted.running in
-    let set = moves_set r.minds h m.mind (counted_mind m.mind) m.at in
+    let set = moves_set r.minds h m.mind (counted_mind (plan_for r h m.hart) m.mind) m.at in
     let one = moves_fresh m.mind m.fresh in
     let fewer : moves s.minds < moves r.minds = omega (arith, ap moves m.minds) in
     let P : Opening → Type 0 = λ o. 49 * (o.settings.budget - s.retired) + (49 * running (seen s).harts + moves s.minds) < work_of (stage_of r) in
     record {
       opening = m.opening;
-      said = said_is r s (r.journal ++ e ∷ []) [] m.opening m.journal (said_added r.opening r.journal (seen r) e f.leaves);
+      said = said_is r s (r.journal ++ e ∷ []) [] m.opening m.journal (said_added r.opening r.journal (seen r) e f.sound.leaves);
       goes = goes_by r s (grown_more r.journal (e ∷ []) s.journal m.journal refl) (inr (count_runs r.opening h (seen r) (seen s) m.enters));
       move = inr (inr (e, refl, m.journal));
       work = subst P (sym m.opening) (omega arith);
@@ -251,6 +249,8 @@ quiet_says (turned.AllLeft code count) r s h quiet f g m = cc
 quiet_says (turned.Stopped cause) r s h quiet f g m = cc
 quiet_says turned.Interrupted r s h quiet f g m = cc
 quiet_says turned.Counted r s h quiet f g m = cc
+quiet_says turned.Stepped r s h quiet f g m = cc
+quiet_says turned.Finished r s h quiet f g m = cc
 quiet_says (turned.Arrived number temporary error) r s h quiet f g m = cc
 
 abbrev pub HasMoved : Turned → Type 0
@@ -269,6 +269,8 @@ HasMoved (turned.AllLeft code count) = Unit {0}
 HasMoved (turned.Stopped cause) = Unit {0}
 HasMoved turned.Interrupted = Unit {0}
 HasMoved turned.Counted = Unit {0}
+HasMoved turned.Stepped = Unit {0}
+HasMoved turned.Finished = Unit {0}
 HasMoved (turned.Arrived number temporary error) = Unit {0}
 
 says : (t : Turned) (r s : Run) (h pc : ℕ) → Facts r → Facts s → h < length r.minds → IsPc r h pc → HasMoved t → Turns t r s h → Said t r s h pc
@@ -288,9 +290,11 @@ says turned.Ran r s h pc f g low is moved m = runs_say turned.Ran stepped.Ran r 
 says (turned.Wrote addr len) r s h pc f g low is moved m = runs_say (turned.Wrote addr len) (stepped.Wrote addr len) r s h pc m.0 f g m.3 (ap stream_of (sym m.2))
 says (turned.Left code) r s h pc f g low is moved m = exits_say (turned.Left code) (stepped.HartExit code) r s h pc 1 code f g m refl
 says (turned.AllLeft code count) r s h pc f g low is moved m = exits_say (turned.AllLeft code count) (stepped.AllExit code) r s h pc count code f g m refl
-says (turned.Stopped cause) r s h pc f g low is moved m = faults_say r s h pc cause f g low is m
-says turned.Interrupted r s h pc f g low is moved m = interrupts_say r s h pc f g low is m.halts
+says (turned.Stopped cause) r s h pc f g low is moved m = framed_says (turned.Stopped cause) r s h pc (Fault cause) (stop_text cause) f g low is m refl refl
+says turned.Interrupted r s h pc f g low is moved m = framed_says turned.Interrupted r s h pc Interrupted interrupt_text f g low is m.halts refl refl
 says turned.Counted r s h pc f g low is moved m = counts_say r s h pc f g m
+says turned.Stepped r s h pc f g low is moved m = framed_says turned.Stepped r s h pc whys.Stepped stepped_text f g low is m refl refl
+says turned.Finished r s h pc f g low is moved m = framed_says turned.Finished r s h pc whys.Finished finished_text f g low is m refl refl
 says (turned.Arrived number temporary error) r s h pc f g low is moved m = arrivals_say r s h pc number temporary error f g low is m.0 m.1
 
 spared : (t : Turned) (e s : Run) (n h pc : ℕ) → Said t (record e { spare = n }) s h pc → Said t e s h pc
@@ -319,7 +323,7 @@ does_say r s line answer f g m =
     let P : Opening → Type 0 = λ o. 49 * (o.settings.budget - s.retired) + (49 * running (seen s).harts + moves s.minds) ≤ work_of (stage_of r) + 832 in
     record {
       opening = m.opening;
-      said = said_is r s (r.journal ++ Did line ∷ []) (reply_text answer) m.opening m.journal (said_added r.opening r.journal (seen r) (Did line) f.leaves ∙ ap (λ a. said r.opening r.journal ++ reply_text a) (sym m.answers));
+      said = said_is r s (r.journal ++ Did line ∷ []) (reply_text answer) m.opening m.journal (said_added r.opening r.journal (seen r) (Did line) f.sound.leaves ∙ ap (λ a. said r.opening r.journal ++ reply_text a) (sym m.answers));
       journal = m.journal;
       did = ap did m.journal ∙ did_line r.journal line;
       work = subst P (sym m.opening) (omega arith);
@@ -341,10 +345,17 @@ has_moved_so (turned.AllLeft code count) is = tt
 has_moved_so (turned.Stopped cause) is = tt
 has_moved_so turned.Interrupted is = tt
 has_moved_so turned.Counted is = tt
+has_moved_so turned.Stepped is = tt
+has_moved_so turned.Finished is = tt
 has_moved_so (turned.Arrived number temporary error) is = tt
 
 spare_facts : (e : Run) (n : ℕ) → Facts e → Facts (record e { spare = n })
-spare_facts e n f = record { leaves = f.leaves; settings = f.settings; count = f.count; selected = f.selected; harts = f.harts; slots = f.slots; planted = f.planted; texts = f.texts; places = f.places; waits = f.waits; sources = f.sources; retired = f.retired; copied = f.copied }
+spare_facts e n f =
+    let s = f.sound in
+    record {
+      sound = record { leaves = s.leaves; settings = s.settings; count = s.count; selected = s.selected; harts = s.harts; slots = s.slots; planted = s.planted; texts = s.texts; places = s.places; many = s.many; awaits = s.awaits; sources = s.sources; retired = s.retired; copied = s.copied };
+      waits = f.waits;
+    }
 
 pub made_room : (e r : Run) → r ≡ record e { spare = r.spare } → Facts e → Facts r
 made_room e r is f = subst Facts (sym is) (spare_facts e r.spare f)
@@ -370,7 +381,7 @@ idle activity.Exited is = refl
 stands : (t : Turned) (r s : Run) (h : ℕ) → Facts r → h < length r.minds → has_moved t ≡ false → Turns t r s h → Stands r s h
 stands turned.Over r s h f low no_move m = record { stage = ap stage_of m.0; why = ap (λ b. b && moves_at (stage_of r) h) m.1 }
 stands turned.NotRunning r s h f low no_move m =
-    let low_core : h < length r.machine.cores = omega (arith, f.harts.len) in
+    let low_core : h < length r.machine.cores = omega (arith, f.sound.harts.len) in
     let c = get_within r.machine.cores h low_core in
     let x = get_within r.minds h low in
     let at = seen_at r.opening.image r.machine.cores r.minds h c.0 x.0 c.1 x.1 in
@@ -386,7 +397,7 @@ stands (turned.Held by) r s h f low no_move m =
     }
 stands turned.NoSlot r s h f low no_move m =
     let d = m.1 in
-    let out = out_so r.machine.slots (omega (arith, f.slots, d.some)) d.out in
+    let out = out_so r.machine.slots (omega (arith, f.sound.slots, d.some)) d.out in
     let waits : waits_for_slot r.machine.slots r.minds h ≡ true = ap (λ b. b && idle_as (slice_get r.minds h)) out ∙ (ap idle_as d.before.at ∙ ap is_idle d.before.idle) in
     let first = runs_at (seen r).harts h && is_free r.hold h in
     record {
@@ -404,6 +415,8 @@ stands (turned.AllLeft code count) r s h f low no_move m = cc
 stands (turned.Stopped cause) r s h f low no_move m = cc
 stands turned.Interrupted r s h f low no_move m = cc
 stands turned.Counted r s h f low no_move m = cc
+stands turned.Stepped r s h f low no_move m = cc
+stands turned.Finished r s h f low no_move m = cc
 stands (turned.Arrived number temporary error) r s h f low no_move m = cc
 
 stands_spared : (e s : Run) (h n : ℕ) → Stands (record e { spare = n }) s h → Stands e s h

@@ -46,7 +46,7 @@ pub record Holds (p : Moment) (r : Run) (o : Option Status) : Type 0 where
   pub tied : IsTied o p.told (stage_of r) p.input
 
 one_holds : (p : Moment) (r s : Run) (h : ℕ) (o : Option Status) → Facts r → Holds p r None → Said turned.Ran r s h 0 → OverBy o (stage_of s) p.input.count → Holds p s o
-one_holds p r s h o f k d over = record { tied = turn_put o p.told p.told (stage_of r) (stage_of s) p.input k.tied d.opening f.leaves (silent p.told r s h d) d.goes over }
+one_holds p r s h o f k d over = record { tied = turn_put o p.told p.told (stage_of r) (stage_of s) p.input k.tied d.opening f.sound.leaves (silent p.told r s h d) d.goes over }
 
 -- a session goes on before each turn
 going : (p : Moment) (r s : Run) → may_go s.opening (seen s) ≡ true → GoesOn (stage_of r) p.input.count → s.exited ≡ false → GoesOn (stage_of s) p.input.count

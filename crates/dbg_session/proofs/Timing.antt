@@ -12,7 +12,8 @@ use Rattle.dbg_model.specs.declared.entry.Entry.TheVariants.{Ran, Counted, Stopp
 use Rattle.dbg_model.specs.declared.entry.Mode.{Mode}
 use Rattle.dbg_model.specs.declared.entry.Mode.TheVariants as mode
 use Rattle.dbg_model.specs.declared.opening.Opening.{Opening}
-use Rattle.dbg_model.specs.State.{Hart, State, any_runs}
+use Rattle.dbg_model.specs.declared.hart.Hart.{Hart}
+use Rattle.dbg_model.specs.State.{State, any_runs}
 use Rattle.dbg_model.specs.Journals.{Leaves, Place, come, did, did_one, lengthened, one_more_by, ran_count, first_place}
 use Rattle.dbg_model.specs.Leaving.{lefts_from, left_one}
 use Rattle.mi_reports.specs.Said.{said, said_from, entry_text}

@@ -9,14 +9,17 @@ use Rattle.rv_exec.specs.Causes.{cause_number}
 use Rattle.dbg_model.specs.declared.entry.Mode.{Mode}
 use Rattle.dbg_model.specs.declared.entry.Mode.TheVariants as mode
 use Rattle.dbg_model.specs.declared.entry.Why.{Why}
-use Rattle.dbg_model.specs.declared.entry.Why.TheVariants.{Break, Interrupted, Fault}
+use Rattle.dbg_model.specs.declared.entry.Why.TheVariants.{Break, Stepped, Finished, Interrupted, Fault}
 use Rattle.dbg_model.specs.Breaks.{is_stop}
 use Rattle.dbg_model.specs.declared.entry.Entry.TheVariants.{Counted, Stopped}
 use Rattle.dbg_model.specs.Limits.{history}
+use Rattle.dbg_model.specs.declared.hart.Hart.{Hart}
+use Rattle.dbg_model.specs.declared.judgement.Judgement.{Judgement}
 use Rattle.dbg_model.specs.declared.opening.Opening.{Opening}
-use Rattle.dbg_model.specs.State.{Hart, State, hart_runs, any_runs, any_leaves, is_running, due, is_due, is_counted, arrived}
+use Rattle.dbg_model.specs.Judging.{ends_function, ends_step, is_counted, is_due}
+use Rattle.dbg_model.specs.State.{State, hart_runs, any_runs, any_leaves, is_running, due}
 use Rattle.dbg_model.specs.Reply.{done_by}
-use Rattle.dbg_model.specs.Lawful.{one, one_by, enter, may_go, may_move, may_run, stepped_by, stepped, stopped, with_stop, faulted_by, stopped_by, counted, counted_by, with_count, with_leavers, leaving, leaving_at, with_step}
+use Rattle.dbg_model.specs.Lawful.{one, one_by, enter, may_go, may_move, may_run, stepped_by, stepped, stopped, with_stop, faulted_by, stopped_by, counted, counted_by, set_out, with_arrival, with_count, with_leavers, leaving, leaving_at, with_step}
 use Rattle.dbg_model.specs.Leaving.{gone, gone_by}
 use Rattle.dbg_model.proofs.Options.{guard_some, same_some, both_true}
 use Rattle.engine_facts.specs.declared.mind.Mind.{Mind}
@@ -71,12 +74,14 @@ pub record Worked (o : Opening) (s t : State) : Type 0 where
   pub retired : t.retired ≡ s.retired + 1
   pub running : running t.harts ≤ running s.harts
 
-answer_works : (o : Opening) (a : Answer) (s t : State) (h : ℕ) (x : Hart) → slice_get s.harts h ≡ Some x → s.retired < o.settings.budget → stepped_by a s h x ≡ Some t → Worked o s t
-answer_works o (Traps cause) s t h x at below is = cc
-answer_works o (Goes r m out leave) s t h x at below is =
-    let u = with_step s h x r m out leave in
-    let set = running_set s.harts h x (stepped x r) at in
-    let l = leavers_running leave (slice_set s.harts h (stepped x r)) h in
+-- whatever plan it goes on with
+answer_works : (o : Opening) (a : Answer) (s t : State) (h : ℕ) (x : Hart) (j : Judgement) → slice_get s.harts h ≡ Some x → s.retired < o.settings.budget → stepped_by a s h (set_out j x) ≡ Some t → Worked o s t
+answer_works o (Traps cause) s t h x j at below is = cc
+answer_works o (Goes r m out leave) s t h x j at below is =
+    let y = set_out j x in
+    let u = with_step s h y r m out leave in
+    let set = running_set s.harts h x (stepped y r) at in
+    let l = leavers_running leave (slice_set s.harts h (stepped y r)) h in
     subst (λ (v : State). Worked o s v) (same_some u t is) (record { below = below; retired = refl; running = omega arith })
 
 go_below : (o : Opening) (s : State) → may_go o s ≡ true → s.retired < o.settings.budget
@@ -89,8 +94,8 @@ go_below o s may =
 one_by_works : (o : Opening) (s t : State) (h : ℕ) (r : Option Hart) → slice_get s.harts h ≡ r → one_by o s h r ≡ Some t → Worked o s t
 one_by_works o s t h None at is = cc
 one_by_works o s t h (Some x) at is =
-    let g = guard_some (may_run o s h x) (stepped_by (plain o.image x.regs s.memory) s h x) t is in
-    answer_works o (plain o.image x.regs s.memory) s t h x at (go_below o s (both_true (may_go o s) (is_running x.mode) (both_true (may_move o s x) (not (is_due (due o.image s h x))) g.0).0).0) g.1
+    let g = guard_some (may_run o s h x) (stepped_by (plain o.image x.regs s.memory) s h (set_out (due o.image s h x) x)) t is in
+    answer_works o (plain o.image x.regs s.memory) s t h x (due o.image s h x) at (go_below o s (both_true (may_go o s) (is_running x.mode) (both_true (may_move o s x) (not (is_due (due o.image s h x))) g.0).0).0) g.1
 
 pub one_works : (o : Opening) (h : ℕ) (s t : State) → one o h s ≡ Some t → Worked o s t
 unfolding one
@@ -110,7 +115,7 @@ runs_there (z ∷ zs) (suc h) x at is = ap (λ b. hart_runs z || b) (runs_there 
 one_by_runs : (o : Opening) (s t : State) (h : ℕ) (r : Option Hart) → slice_get s.harts h ≡ r → one_by o s h r ≡ Some t → any_runs s.harts ≡ true
 one_by_runs o s t h None at is = cc
 one_by_runs o s t h (Some x) at is =
-    let g = guard_some (may_run o s h x) (stepped_by (plain o.image x.regs s.memory) s h x) t is in
+    let g = guard_some (may_run o s h x) (stepped_by (plain o.image x.regs s.memory) s h (set_out (due o.image s h x) x)) t is in
     runs_there s.harts h x at (both_true (may_go o s) (is_running x.mode) (both_true (may_move o s x) (not (is_due (due o.image s h x))) g.0).0).1
 
 pub one_runs : (o : Opening) (h : ℕ) (s t : State) → one o h s ≡ Some t → any_runs s.harts ≡ true
@@ -138,17 +143,20 @@ fault_halts (Traps met) cause s t h x at runs is =
     subst (λ (v : State). Halted s v) (same_some (with_stop s h x) t g.1) (record { retired = refl; running = omega arith })
 fault_halts (Goes r m out leave) cause s t h x at runs is = cc
 
-stop_halts : (o : Opening) (why : Why) (s t : State) (h : ℕ) (r : Option Hart) → slice_get s.harts h ≡ r → stopped_by o s h why r ≡ Some t → Halted s t
-stop_halts o (Break number error) s t h None at is = cc
-stop_halts o Interrupted s t h None at is = cc
-stop_halts o (Fault cause) s t h None at is = cc
-stop_halts o (Break number error) s t h (Some x) at is =
-    let u : State = record (with_stop s h x) { breaks = arrived o.image s h x } in
-    let g = guard_some (may_move o s x && is_stop (due o.image s h x) number error) (Some u) t is in
-    let runs = (both_true (may_go o s) (is_running x.mode) (both_true (may_move o s x) (is_stop (due o.image s h x) number error) g.0).0).1 in
+-- a stop where a hart has arrived, for whatever reason
+arrival_halts : (o : Opening) (why : Bool) (s t : State) (h : ℕ) (x : Hart) → slice_get s.harts h ≡ Some x → cond (may_move o s x && why) (Some (with_arrival o s h x)) None ≡ Some t → Halted s t
+arrival_halts o why s t h x at is =
+    let g = guard_some (may_move o s x && why) (Some (with_arrival o s h x)) t is in
+    let runs = (both_true (may_go o s) (is_running x.mode) (both_true (may_move o s x) why g.0).0).1 in
     let set = running_set s.harts h x (stopped x) at in
     let one : one_if (hart_runs x) ≡ 1 = ap one_if runs in
-    subst (λ (v : State). Halted s v) (same_some u t g.1) (record { retired = refl; running = omega arith })
+    subst (λ (v : State). Halted s v) (same_some (with_arrival o s h x) t g.1) (record { retired = refl; running = omega arith })
+
+stop_halts : (o : Opening) (why : Why) (s t : State) (h : ℕ) (r : Option Hart) → slice_get s.harts h ≡ r → stopped_by o s h why r ≡ Some t → Halted s t
+stop_halts o why s t h None at is = cc
+stop_halts o (Break number error) s t h (Some x) at is = arrival_halts o (is_stop (due o.image s h x).breaks number error) s t h x at is
+stop_halts o Stepped s t h (Some x) at is = arrival_halts o (ends_step (due o.image s h x)) s t h x at is
+stop_halts o Finished s t h (Some x) at is = arrival_halts o (ends_function (due o.image s h x)) s t h x at is
 stop_halts o Interrupted s t h (Some x) at is =
     let g = guard_some (may_run o s h x && x.asked) (Some (with_stop s h x)) t is in
     let runs = (both_true (may_go o s) (is_running x.mode) (both_true (may_move o s x) (not (is_due (due o.image s h x))) (both_true (may_run o s h x) x.asked g.0).0).0).1 in
@@ -177,7 +185,7 @@ count_by o s t h (Some x) at is =
     let u = with_count o s h x in
     let g = guard_some (may_move o s x && is_counted (due o.image s h x)) (Some u) t is in
     let runs = (both_true (may_go o s) (is_running x.mode) (both_true (may_move o s x) (is_counted (due o.image s h x)) g.0).0).1 in
-    let set = running_set s.harts h x (counted x) at in
+    let set = running_set s.harts h x (counted (set_out (due o.image s h x) x)) at in
     (subst (λ (v : State). Noted s v) (same_some u t g.1) (record { retired = refl; running = omega arith }), runs_there s.harts h x at runs)
 
 pub count_notes : (o : Opening) (h : ℕ) (s t : State) → enter o s (Counted h) ≡ Some t → Noted s t

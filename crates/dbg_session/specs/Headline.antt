@@ -67,7 +67,7 @@ pub record Headline (status : Status) (t : Told) (c : Closed) : Type 0 where
   pub memory : plain.memory ≡ c.machine.memory
   pub output : plain.out ≡ state.out
   -- its text is the program's, with EBREAK planted exactly where an enabled breakpoint of that state stands
-  pub planted : Planted c.opening.image c.machine.text state.breaks None
+  pub planted : Planted c.opening.image c.machine.text (record { entries = state.breaks; waits = []; hold = None })
   -- the machine executed each hart's instructions
   pub retired : Retired c.machine.cores c.journal
   -- where there are slots, each hart executed by copies where a breakpoint stood, but for one instruction for each time that displaced stepping was switched on

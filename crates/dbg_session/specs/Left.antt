@@ -1,9 +1,9 @@
 -- What is left of a session.
-use Rattle.std.specs.Prelude.{◌≡◌, List, None, map}
+use Rattle.std.specs.Prelude.{◌≡◌, List, None, map, []}
 use Rattle.rv_exec.specs.Registers.{Registers}
 use Rattle.plain_machine.specs.PlainRun.{PlainHart}
 use Rattle.hart_machine.specs.declared.hart.Core.{Core}
-use Rattle.dbg_model.specs.State.{Hart}
+use Rattle.dbg_model.specs.declared.hart.Hart.{Hart}
 use Rattle.dbg_model.specs.Journals.{Leaves}
 use Rattle.dbg_engine.specs.declared.engine.Closed.{Closed}
 use Rattle.engine_facts.specs.Facts.{Planted, Retired, CopiedOver}
@@ -27,7 +27,7 @@ pub record IsLeft (r : Stage) (c : Closed) : Type 0 where
   pub registers : core_registers c.machine.cores ≡ hart_registers r.state.harts
   pub memory : c.machine.memory ≡ r.state.memory
   -- a patch is planted exactly where an enabled breakpoint stands
-  pub planted : Planted c.opening.image c.machine.text r.state.breaks None
+  pub planted : Planted c.opening.image c.machine.text (record { entries = r.state.breaks; waits = []; hold = None })
   pub retired : Retired c.machine.cores c.journal
   -- breakpoints were stepped over by copies
   pub copied : CopiedOver c.opening.settings.slots c.machine.cores r.state

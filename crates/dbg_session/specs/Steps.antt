@@ -7,7 +7,8 @@ use Rattle.mi_reports.specs.Said.{said}
 use Rattle.mi_input.specs.Lines.{lines, IsNext}
 use Rattle.dbg_model.specs.declared.entry.Entry.{Entry}
 use Rattle.dbg_model.specs.declared.entry.Entry.TheVariants.{Ran, Counted, Stopped, Left, Did}
-use Rattle.dbg_model.specs.State.{Hart, any_runs}
+use Rattle.dbg_model.specs.declared.hart.Hart.{Hart}
+use Rattle.dbg_model.specs.State.{any_runs}
 use Rattle.dbg_model.specs.Reply.{is_wait}
 use Rattle.dbg_model.specs.Leaving.{lefts_from}
 use Rattle.dbg_model.specs.Lawful.{may_go}

@@ -6,7 +6,7 @@ use Rattle.dbg_model.specs.State.{all_gone}
 use Rattle.dbg_engine.specs.declared.moving.Turned.{Turned}
 use Rattle.dbg_engine.specs.declared.moving.Turned.TheVariants as turned
 use Rattle.engine_facts.specs.Seen.{Run, seen}
-use Rattle.mi_reports.specs.Text.{stop_text, interrupt_text, break_text, stream_text, lefts_text}
+use Rattle.mi_reports.specs.Text.{stop_text, interrupt_text, break_text, stepped_text, finished_text, stream_text, lefts_text}
 
 abbrev pub stream_of : Option (List ℕ) → List ℕ
 stream_of None = []
@@ -37,6 +37,8 @@ turned_text r (turned.AllLeft code count) h pc = last_lefts r count code
 turned_text r (turned.Stopped cause) h pc = stop_text cause h (own_frame r.sources pc)
 turned_text r turned.Interrupted h pc = interrupt_text h (own_frame r.sources pc)
 turned_text r turned.Counted h pc = []
+turned_text r turned.Stepped h pc = stepped_text h (own_frame r.sources pc)
+turned_text r turned.Finished h pc = finished_text h (own_frame r.sources pc)
 turned_text r (turned.Arrived number temporary error) h pc = break_text temporary number error h (own_frame r.sources pc)
 
 -- whether a turn moved its hart
@@ -56,4 +58,6 @@ has_moved (turned.AllLeft code count) = true
 has_moved (turned.Stopped cause) = true
 has_moved turned.Interrupted = true
 has_moved turned.Counted = true
+has_moved turned.Stepped = true
+has_moved turned.Finished = true
 has_moved (turned.Arrived number temporary error) = true

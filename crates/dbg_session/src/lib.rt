@@ -1,6 +1,7 @@
 //! The session: it runs one program by lines of commands.
 #![tactic(auto)]
 
+mod ending;
 mod file;
 mod known;
 mod puts;
@@ -10,6 +11,7 @@ mod status;
 mod steps;
 
 pub use dbg_engine::Closed;
+pub use ending::Ended;
 pub use run::debug_run;
-pub use session::{Ended, Session};
+pub use session::Session;
 pub use status::Status;

@@ -1,7 +1,7 @@
 // A session, step by step.
 ghost use Rattle.std.specs.Prelude.{◌≡◌, ◌≢◌, ◌<◌, ◌≤◌, ◌↔◌, [], ℕ, length, false, None, Some, if◌then◌else◌, IsTrue, IfSome, IsSomeAnd};
 ghost use Rattle.std.specs.Bool.{OnFalse};
-ghost use Rattle.dbg_session.specs.Ties.{IsTied, OverBy, session_work};
+ghost use Rattle.dbg_session.specs.Ties.{IsTied, session_work};
 ghost use Rattle.dbg_session.specs.Seen.{GotOn, HasTurned, work, no_input, no_line, no_move, is_open};
 ghost use Rattle.dbg_session.specs.Taking.{has_line};
 ghost use Rattle.dbg_session.specs.Round.{Takes, Lines, Moves, MovesOne, TurnsOne, Settles, Round, Rounds, Moved, moment};
@@ -10,11 +10,11 @@ ghost use Rattle.dbg_session.specs.Left.{IsLeft};
 ghost use Rattle.dbg_session.specs.Stage.{stage_of, moves_at};
 
 use crate::Status;
+use crate::ending::{Ended, over, status_of};
 use crate::known::Known;
 use crate::puts::put_all;
 use crate::steps::{Done, Input, PIECE, Turn, input_once, line_once, turn_once};
-use dbg_engine::{Closed, End, Engine, SPARE};
-use dbg_model::MOST_INPUT;
+use dbg_engine::{Engine, SPARE};
 use dbg_traits::World;
 use mi_input::next_line;
 use std::alloc::Global;
@@ -61,26 +61,6 @@ impl<W: World> Model for Session<W> {
     ghost use Rattle.engine_facts.specs.Facts.{Facts};
 
     ghost invariant = { λ s. IsTied s.status (W.told s.world) (stage_of s.engine) (taken_of s) × (s.start ≤ vec_len s.buffer) × IsCounted s.status s.count × IsKnown s.known s.ended (drop s.start s.buffer.items) × Facts s.engine };
-}
-
-// The status after a put.
-fn status_of(put: bool) -> Option<Status>
-    ensures { result ≡ (if put then None else Some Status.WriteFault) }
-{
-    if put { None } else { Some(Status::WriteFault) }
-}
-
-// Why a session over the engine is over, where so much input was polled.
-fn over(engine: &Engine, count: u64) -> Option<Status>
-    ensures { OverBy result (stage_of engine.now) count }
-{
-    match engine.over() {
-        Some(End::Budget) => Some(Status::Budget),
-        Some(End::History) => Some(Status::History),
-        _ if count >= MOST_INPUT => Some(Status::History),
-        Some(End::Exit) => Some(Status::Done),
-        None => None,
-    }
 }
 
 impl<W: World> Session<W> {
@@ -410,13 +390,4 @@ impl<W: World> Session<W> {
             None => unreachable!(),
         }
     }
-}
-
-/// How a run ended: the world is handed back.
-pub struct Ended<W> {
-    /// Why it ended.
-    pub status: Status,
-    pub world: W,
-    /// What is left of the session; None where none was begun.
-    pub closed: Option<Closed>,
 }

@@ -14,7 +14,10 @@ use crate::puts::put_all;
 use dbg_engine::{Engine, SPARE, Turned, read_line};
 use dbg_traits::{NoMemory, Polled, World};
 use mi_input::next_line;
-use mi_reports::{break_text, interrupt_text, lefts_text, reply_text, stop_text, stream_text};
+use mi_reports::{
+    break_text, finished_text, interrupt_text, lefts_text, reply_text, stepped_text, stop_text,
+    stream_text,
+};
 use std::alloc::{AllocError, Global};
 
 /// The most bytes of one poll.
@@ -109,6 +112,8 @@ fn turned_text(
         Turned::AllLeft { code, count } => last_lefts(alloc, engine, count, code),
         Turned::Stopped { cause } => stop_text(alloc, cause, hart, &engine.frame(pc)?),
         Turned::Interrupted => interrupt_text(alloc, hart, &engine.frame(pc)?),
+        Turned::Stepped => stepped_text(alloc, hart, &engine.frame(pc)?),
+        Turned::Finished => finished_text(alloc, hart, &engine.frame(pc)?),
         Turned::Arrived {
             number,
             temporary,

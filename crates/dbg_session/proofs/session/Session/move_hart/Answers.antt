@@ -21,7 +21,7 @@ invariant_of-self-in-Moved g c =
     let h : IsTied None (told c.self.inside.world) (stage_of c.self.inside.engine) (taken_of c.self.inside) = rw (← none) c.self.invariant.0 in
     let few = rw none at c.self.invariant.2 in
     let over = c.over-self-inside.ensures in (
-      turn_put c.over-self-inside.result (told c.self.inside.world) (told c.turn_once-turn.new.world) (stage_of c.self.inside.engine) (stage_of c.turn_once-turn.new.engine) (taken_of c.self.inside) h c.in-Moved.ensures.opening c.self.invariant.4.leaves c.in-Moved.ensures.turns.0 c.in-Moved.ensures.goes over,
+      turn_put c.over-self-inside.result (told c.self.inside.world) (told c.turn_once-turn.new.world) (stage_of c.self.inside.engine) (stage_of c.turn_once-turn.new.engine) (taken_of c.self.inside) h c.in-Moved.ensures.opening c.self.invariant.4.sound.leaves c.in-Moved.ensures.turns.0 c.in-Moved.ensures.goes over,
       c.self.invariant.1,
       counted_same c.over-self-inside.result (stage_of c.turn_once-turn.new.engine) c.self.inside.count few over,
       c.self.invariant.3,
@@ -34,7 +34,7 @@ invariant_of-self-in-Unput g c =
     let none : c.self.inside.status ≡ None = ap (λ (s : Seen g.row.W.Denot). s.status) c.self.view_is ∙ c.requires.going in
     let h : IsTied None (told c.self.inside.world) (stage_of c.self.inside.engine) (taken_of c.self.inside) = rw (← none) c.self.invariant.0 in
     let few = rw none at c.self.invariant.2 in (
-      turn_unput (told c.self.inside.world) (told c.turn_once-turn.new.world) (stage_of c.self.inside.engine) (stage_of c.turn_once-turn.new.engine) (taken_of c.self.inside) h c.in-Unput.ensures.opening c.self.invariant.4.leaves c.in-Unput.ensures.turns.0 c.in-Unput.ensures.goes,
+      turn_unput (told c.self.inside.world) (told c.turn_once-turn.new.world) (stage_of c.self.inside.engine) (stage_of c.turn_once-turn.new.engine) (taken_of c.self.inside) h c.in-Unput.ensures.opening c.self.invariant.4.sound.leaves c.in-Unput.ensures.turns.0 c.in-Unput.ensures.goes,
       c.self.invariant.1,
       omega (arith, few),
       c.self.invariant.3,
@@ -47,7 +47,7 @@ invariant_of-self-in-NoMemory g c =
     let none : c.self.inside.status ≡ None = ap (λ (s : Seen g.row.W.Denot). s.status) c.self.view_is ∙ c.requires.going in
     let h : IsTied None (told c.self.inside.world) (stage_of c.self.inside.engine) (taken_of c.self.inside) = rw (← none) c.self.invariant.0 in
     let few = rw none at c.self.invariant.2 in (
-      turn_unsaid (told c.self.inside.world) (told c.turn_once-turn.new.world) (stage_of c.self.inside.engine) (stage_of c.turn_once-turn.new.engine) (taken_of c.self.inside) h c.in-NoMemory.ensures.opening c.self.invariant.4.leaves c.in-NoMemory.ensures.turns.0 c.in-NoMemory.ensures.goes,
+      turn_unsaid (told c.self.inside.world) (told c.turn_once-turn.new.world) (stage_of c.self.inside.engine) (stage_of c.turn_once-turn.new.engine) (taken_of c.self.inside) h c.in-NoMemory.ensures.opening c.self.invariant.4.sound.leaves c.in-NoMemory.ensures.turns.0 c.in-NoMemory.ensures.goes,
       c.self.invariant.1,
       omega (arith, few),
       c.self.invariant.3,

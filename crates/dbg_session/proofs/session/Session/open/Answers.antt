@@ -10,7 +10,7 @@ invariant_of-result g c =
     let P : List ℕ → Type 0 = λ text. PutsAll c.put_all.result text (told c.args.world) (told c.put_all.new.world) in
     let puts = subst P c.requires.text c.put_all.ensures in
     let r = stage_of c.args.engine in
-    let goes = begins r c.requires.facts.leaves c.requires.ready.journal c.requires.facts.settings in
+    let goes = begins r c.requires.facts.sound.leaves c.requires.ready.journal c.requires.facts.sound.settings in
     rw (c.status_of-status.ensures, c.new.ensures.items) (
       tied_open c.put_all.result (told c.args.world) (told c.put_all.new.world) r c.requires.ready goes puts,
       omega arith,

@@ -17,7 +17,7 @@ invariant_of-self-in-End g c =
     let h : IsTied None (told c.self.inside.world) (stage_of c.self.inside.engine) (taken_of c.self.inside) = rw (← none) c.self.invariant.0 in
     let few = rw none at c.self.invariant.2 in
     let stands = subst (λ (s : Seen g.row.W.Denot). false ≡ has_line s.input.ended s.input.rest) (sym c.self.view_is) c.if-has_line.ensures in
-    let q = quiet (stage_of c.self.inside.engine) (taken_of c.self.inside) c.any_running-wait.result c.if-self.false stands c.any_running-wait.ensures c.self.invariant.4.leaves in
+    let q = quiet (stage_of c.self.inside.engine) (taken_of c.self.inside) c.any_running-wait.result c.if-self.false stands c.any_running-wait.ensures c.self.invariant.4.sound.leaves in
     let same = c.in-End.ensures.1 in
     rw (none, same) (
       tied_end (told c.self.inside.world) (told c.input_once.new.world) (stage_of c.self.inside.engine) (taken_of c.self.inside) (record (taken_of c.self.inside) { ended = true }) (not c.any_running-wait.result) h q c.in-End.ensures.0 refl,
@@ -36,7 +36,7 @@ invariant_of-self g c =
     let start = c.self.inside.start in
     let items = c.self.inside.buffer.items in
     let stands = subst (λ (s : Seen g.row.W.Denot). false ≡ has_line s.input.ended s.input.rest) (sym c.self.view_is) c.if-has_line.ensures in
-    let q = quiet (stage_of c.self.inside.engine) (taken_of c.self.inside) c.any_running-wait.result c.if-self.false stands c.any_running-wait.ensures c.self.invariant.4.leaves in
+    let q = quiet (stage_of c.self.inside.engine) (taken_of c.self.inside) c.any_running-wait.result c.if-self.false stands c.any_running-wait.ensures c.self.invariant.4.sound.leaves in
     let n = c.in-Took.n in
     let bytes = c.in-Took.ensures.0 in
     let e = c.in-Took.ensures in
@@ -64,7 +64,7 @@ returns-in-Took-clause-takes g c =
     let within : start ≤ length items = omega (arith, c.self.invariant.1, c.self.inside.buffer.ok.0) in
     let behind : drop start new ≡ drop start items ++ bytes = ap (drop start) e.4 ∙ drop_front start items bytes within in
     let stands = subst (λ (s : Seen g.row.W.Denot). false ≡ has_line s.input.ended s.input.rest) (sym c.self.view_is) c.if-has_line.ensures in
-    let q = quiet (stage_of c.self.inside.engine) (taken_of c.self.inside) c.any_running-wait.result c.if-self.false stands c.any_running-wait.ensures c.self.invariant.4.leaves in
+    let q = quiet (stage_of c.self.inside.engine) (taken_of c.self.inside) c.any_running-wait.result c.if-self.false stands c.any_running-wait.ensures c.self.invariant.4.sound.leaves in
     let step = took (moment told (seen_of c.self.inside)) n bytes (told c.input_once.new.world) (drop start new) c.over-self-inside.result c.any_running-wait.result c.if-self.false q.none c.any_running-wait.ensures e.1 e.2 e.3 behind e.5 c.over-self-inside.ensures in
     let P : Seen g.row.W.Denot → Type 0 = λ s. Takes (moment told s) (record (moment told (seen_of c.self.inside)) { told = told c.input_once.new.world; input = record { rest = drop start new; count = c.self.inside.count + n; ended = c.self.inside.ended }; status = c.over-self-inside.result }) in
     subst P c.self.view_is step
