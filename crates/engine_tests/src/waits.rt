@@ -26,17 +26,21 @@ const EXITS_IN_A_CALL: [u32; 5] = [
     0x0000_0073,
 ];
 
-// Two harts wait at one address: where the first stops, the other waits still.
-const TWO_WAIT: [Step; 11] = [
+// Two harts wait at one address: where the first stops, the other waits still. A call is judged where it led, so a hart
+// waits from its next instruction on.
+const TWO_WAIT: [Step; 14] = [
     Line("-exec-next-instruction --thread 1"),
     Line("-exec-next-instruction --thread 2"),
     Turn(0, Ran),
+    Planted(0x1_0078, false),
+    Turn(0, Ran),
     Planted(0x1_0078, true),
     Turn(1, Ran),
-    Run(0, 64, 2),
+    Turn(1, Ran),
+    Run(0, 64, 1),
     Turn(0, Stepped),
     Planted(0x1_0078, true),
-    Run(1, 64, 2),
+    Run(1, 64, 1),
     Turn(1, Stepped),
     Planted(0x1_0078, false),
 ];
@@ -47,10 +51,10 @@ const WAITS_WHILE_LIFTED: [Step; 13] = [
     Line("-gdb-set displaced-stepping off"),
     Line("-exec-next-instruction"),
     Turn(0, Ran),
-    Planted(0x1_0078, true),
     Turn(0, Lifted),
     Planted(0x1_007C, false),
     Turn(0, Ran),
+    Planted(0x1_0078, true),
     Turn(0, Turned::Planted),
     Run(0, 64, 1),
     Turn(0, Stepped),
@@ -58,8 +62,9 @@ const WAITS_WHILE_LIFTED: [Step; 13] = [
     Planted(0x1_007C, true),
 ];
 
-const ONE_ENDS_ALL: [Step; 9] = [
+const ONE_ENDS_ALL: [Step; 10] = [
     Line("-exec-next-instruction --thread 1"),
+    Turn(0, Ran),
     Turn(0, Ran),
     Planted(0x1_0078, true),
     Line("-exec-continue --thread 2"),
@@ -70,10 +75,12 @@ const ONE_ENDS_ALL: [Step; 9] = [
     Turn(0, NotRunning),
 ];
 
-const LEAVES_WHILE_IT_WAITS: [Step; 5] = [
+const LEAVES_WHILE_IT_WAITS: [Step; 7] = [
     Line("-exec-next-instruction --thread 2"),
     Turn(1, Ran),
-    Run(1, 64, 2),
+    Turn(1, Ran),
+    Planted(0x1_0078, true),
+    Run(1, 64, 1),
     Turn(1, Left { code: 7 }),
     Planted(0x1_0078, false),
 ];
