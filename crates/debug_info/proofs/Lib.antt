@@ -3,7 +3,8 @@ pub mod Declared
 pub mod Specified
 pub mod Ends
 pub mod Joined
-pub mod Dropped
+pub mod Behind
+pub mod Runs
 pub mod Opened
 pub mod Texts
 pub mod Orders
@@ -14,3 +15,5 @@ pub mod Listed
 pub mod Links
 pub mod Levels
 pub mod Rising
+pub mod Tabled
+pub mod Orderly

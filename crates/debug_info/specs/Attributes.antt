@@ -6,7 +6,7 @@ use Rattle.debug_info.specs.Expressions.{base_of, place_of}
 use Rattle.debug_info.specs.Forms.{value_at}
 use Rattle.debug_info.specs.declared.abbreviation.Declaration.{Declaration}
 use Rattle.debug_info.specs.declared.abbreviation.Specification.{Specification}
-use Rattle.debug_info.specs.declared.entry.Attributes.{Attributes}
+use Rattle.debug_info.specs.declared.attribute.Attributes.{Attributes}
 use Rattle.debug_info.specs.declared.entry.Entry.{Entry}
 use Rattle.debug_info.specs.declared.entry.Kind.{Kind}
 use Rattle.debug_info.specs.declared.entry.Kind.TheVariants as kind
@@ -33,17 +33,17 @@ tag_of code =
     else tag.Other))))))))
 
 -- the values of an entry's attributes, each with its name, by their specifications in order
-abbrev pub value_behind : ℕ → List ℕ → (ℕ → ℕ → Read (List (ℕ × Value))) → ℕ → Option Specification × ℕ → Read (List (ℕ × Value))
-value_behind texts info rest at (None, behind) = found [] at
-value_behind texts info rest at (Some s, behind) = do
-  v ← value_at s.form texts info at
+abbrev pub value_behind : List ℕ → List ℕ → (ℕ → ℕ → Read (List (ℕ × Value))) → ℕ → Option Specification × ℕ → Read (List (ℕ × Value))
+value_behind strs info rest at (None, behind) = found [] at
+value_behind strs info rest at (Some s, behind) = do
+  v ← value_at s.form strs info at
   others ← rest behind v.1
   found ((s.name, v.0) ∷ others.0) others.1
 
 -- by the specifications from one on, of which there are no more than bytes
-abbrev pub values_from : ℕ → List ℕ → ℕ → List ℕ → ℕ → ℕ → Read (List (ℕ × Value))
-values_from zero abbrevs texts info specified at = Err fault.Short
-values_from (suc most) abbrevs texts info specified at = specification_at abbrevs specified >>= value_behind texts info (values_from most abbrevs texts info) at
+abbrev pub values_from : ℕ → List ℕ → List ℕ → List ℕ → ℕ → ℕ → Read (List (ℕ × Value))
+values_from zero abbrevs strs info specified at = Err fault.Short
+values_from (suc most) abbrevs strs info specified at = specification_at abbrevs specified >>= value_behind strs info (values_from most abbrevs strs info) at
 
 -- the value of a name: of several the first
 abbrev pub first_of : ℕ → List (ℕ × Value) → Option Value
@@ -68,8 +68,8 @@ attributes_by (Ok (vs, next)) = found (attributes_of vs) next
 attributes_by (Err e) = Err e
 
 -- the attributes at a place whose specifications stand at another
-abbrev pub attributes_at : List ℕ → ℕ → List ℕ → ℕ → ℕ → Read Attributes
-attributes_at abbrevs texts info specifications at = attributes_by (values_from (length abbrevs + 1) abbrevs texts info specifications at)
+abbrev pub attributes_at : List ℕ → List ℕ → List ℕ → ℕ → ℕ → Read Attributes
+attributes_at abbrevs strs info specifications at = attributes_by (values_from (length abbrevs + 1) abbrevs strs info specifications at)
 
 -- one value more
 abbrev pub or_named : ℕ → Option Value → ℕ → Value → Option Value

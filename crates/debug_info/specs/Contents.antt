@@ -24,19 +24,19 @@ one_unit at (Ok entries) = record { units = entries ∷ []; faults = [] }
 one_unit at (Err e) = record { units = []; faults = record { offset = record { at = at }; fault = e } ∷ [] }
 
 -- a unit, and those behind it; behind one that passes the section there is none
-abbrev pub and_behind : List ℕ → ℕ → List ℕ → ℕ → (ℕ → Contents) → Result ℕ InfoFault → Contents
-and_behind abbrevs texts info at rest (Ok end) = joined (one_unit at (unit_entries abbrevs texts (take end info) at)) (rest end)
-and_behind abbrevs texts info at rest (Err e) = one_unit at (Err e)
+abbrev pub and_behind : List ℕ → List ℕ → List ℕ → ℕ → (ℕ → Contents) → Result ℕ InfoFault → Contents
+and_behind abbrevs strs info at rest (Ok end) = joined (one_unit at (unit_entries abbrevs strs (take end info) at)) (rest end)
+and_behind abbrevs strs info at rest (Err e) = one_unit at (Err e)
 
 -- the units from a place on, of which there are no more than bytes
-abbrev pub contents_from : ℕ → List ℕ → ℕ → List ℕ → ℕ → Contents
-contents_from zero abbrevs texts info at = no_units
-contents_from (suc most) abbrevs texts info at =
+abbrev pub contents_from : ℕ → List ℕ → List ℕ → List ℕ → ℕ → Contents
+contents_from zero abbrevs strs info at = no_units
+contents_from (suc most) abbrevs strs info at =
     if nat_le (length info) at then no_units
-    else and_behind abbrevs texts info at (contents_from most abbrevs texts info) (unit_end info at)
+    else and_behind abbrevs strs info at (contents_from most abbrevs strs info) (unit_end info at)
 
-unfoldable pub contents_of : List ℕ → ℕ → List ℕ → Contents
-contents_of abbrevs texts info = contents_from (length info + 1) abbrevs texts info 0
+unfoldable pub contents_of : List ℕ → List ℕ → List ℕ → Contents
+contents_of abbrevs strs info = contents_from (length info + 1) abbrevs strs info 0
 
 -- how the code keeps them
 abbrev pub unit_shown : unit_of.Unit → List Entry

@@ -12,13 +12,13 @@ use Rattle.debug_info.specs.declared.fault.InfoFault.{InfoFault}
 use Rattle.debug_info.specs.declared.fault.InfoFault.TheVariants as fault
 
 -- the entry at a place of a unit below so many levels; code 0 is none, and ends children
-unfoldable pub entry_at : List ℕ → ℕ → List ℕ → ℕ → ℕ → ℕ → ℕ → Read (Option Entry)
-entry_at abbrevs texts info table unit level at = do
+unfoldable pub entry_at : List ℕ → List ℕ → List ℕ → ℕ → ℕ → ℕ → ℕ → Read (Option Entry)
+entry_at abbrevs strs info table unit level at = do
   code ← read (uleb_at info at)
   if code.0 == 0 then found None code.1 else (do
     declaration ← abbreviation_of (length abbrevs + 1) abbrevs code.0 table
     if level == 64 then Err fault.Deep else (do
-      attributes ← attributes_at abbrevs texts info declaration.attributes code.1
+      attributes ← attributes_at abbrevs strs info declaration.attributes code.1
       found (Some (entry_of (at - unit) (level + 1) declaration attributes.0)) attributes.1))
 
 -- behind an entry with children these stand below it
@@ -39,11 +39,11 @@ abbrev pub with_others : ℕ → (ℕ → ℕ → Result (List Entry) InfoFault)
 with_others level rest (entry, next) = in_front (entry_list entry) (rest (level_behind level entry) next)
 
 -- the entries from a place up to the unit's end, of which there are no more than bytes
-abbrev pub entries_from : ℕ → List ℕ → ℕ → List ℕ → ℕ → ℕ → ℕ → ℕ → Result (List Entry) InfoFault
-entries_from zero abbrevs texts info table unit level at = Ok []
-entries_from (suc most) abbrevs texts info table unit level at =
+abbrev pub entries_from : ℕ → List ℕ → List ℕ → List ℕ → ℕ → ℕ → ℕ → ℕ → Result (List Entry) InfoFault
+entries_from zero abbrevs strs info table unit level at = Ok []
+entries_from (suc most) abbrevs strs info table unit level at =
     if nat_le (length info) at then Ok []
-    else entry_at abbrevs texts info table unit level at >>= with_others level (entries_from most abbrevs texts info table unit)
+    else entry_at abbrevs strs info table unit level at >>= with_others level (entries_from most abbrevs strs info table unit)
 
 -- an entry's level is one of the 64
 pub record IsLevel (entry : Entry) : Type 0 where

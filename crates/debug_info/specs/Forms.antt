@@ -1,5 +1,5 @@
 -- The forms of attributes' values (DWARF 4, sections 7.5.4 and 7.5.5, figures 20 and 21; DWARF 2 and 3 have no others).
-use Rattle.std.specs.Prelude.{ℕ, zero, suc, ℤ, pos, negsuc, ◌≤◌, ◌==◌, nat_lt, ◌||◌, List, [], ◌∷◌, length, slice_range, Option, None, Some, Err, if◌then◌else◌}
+use Rattle.std.specs.Prelude.{ℕ, ℤ, pos, negsuc, ◌≤◌, ◌==◌, ◌||◌, List, length, slice_range, Option, None, Some, Err, if◌then◌else◌}
 use Rattle.leb_read.specs.Leb.{number_at, sleb_at, text_at, uleb_at}
 use Rattle.debug_info.specs.Reading.{◌>>=◌, Read, behind_run, found, read}
 use Rattle.debug_info.specs.Expressions.{only_operation}
@@ -58,21 +58,12 @@ block_at width bytes at = do
   past ← behind_run size.0 bytes size.1
   found (value.Block (only_operation (slice_range bytes size.1 past))) past
 
--- one place further in a longer text
-abbrev pub and_front : ℕ → ℕ → ℕ
-and_front b zero = if b == 0 then 1 else 0
-and_front b (suc end) = suc (suc end)
-
--- the place behind the last zero byte of .debug_str, or 0: a text that begins before it has its zero byte
-unfoldable pub texts_end : List ℕ → ℕ
-texts_end [] = 0
-texts_end (b ∷ bs) = and_front b (texts_end bs)
-
--- an offset into .debug_str, where a text stands up to its zero byte
-unfoldable pub shared_at : ℕ → List ℕ → ℕ → Read Value
-shared_at texts bytes at = do
+-- an offset into .debug_str, where a text stands that has its zero byte
+unfoldable pub shared_at : List ℕ → List ℕ → ℕ → Read Value
+shared_at strs bytes at = do
   offset ← read (number_at 4 bytes at)
-  if nat_lt offset.0 texts then found (value.Text (place.Shared (record { at = offset.0 }))) offset.1 else Err fault.Short
+  text ← read (text_at strs offset.0)
+  found (value.Text (place.Shared (record { at = offset.0 }))) offset.1
 
 -- a negative number counts nothing
 abbrev pub signed_constant : ℤ → Value
@@ -80,32 +71,32 @@ signed_constant (pos n) = value.Constant n
 signed_constant (negsuc n) = value.Opaque
 
 -- the value of a form
-unfoldable pub value_by : Form → ℕ → List ℕ → ℕ → Read Value
-value_by form.Address texts bytes at = do
+unfoldable pub value_by : Form → List ℕ → List ℕ → ℕ → Read Value
+value_by form.Address strs bytes at = do
   address ← read (number_at 4 bytes at)
   found (value.Address address.0) address.1
-value_by (form.Constant width) texts bytes at = do
+value_by (form.Constant width) strs bytes at = do
   number ← number_by width bytes at
   found (value.Constant number.0) number.1
-value_by form.SignedConstant texts bytes at = do
+value_by form.SignedConstant strs bytes at = do
   number ← read (sleb_at bytes at)
   found (signed_constant number.0) number.1
-value_by (form.Block width) texts bytes at = block_at width bytes at
-value_by form.Inline texts bytes at = do
+value_by (form.Block width) strs bytes at = block_at width bytes at
+value_by form.Inline strs bytes at = do
   text ← read (text_at bytes at)
   found (value.Text (place.Inline (record { at = at }))) text.1
-value_by form.Shared texts bytes at = shared_at texts bytes at
-value_by (form.Reference width) texts bytes at = do
+value_by form.Shared strs bytes at = shared_at strs bytes at
+value_by (form.Reference width) strs bytes at = do
   offset ← number_by width bytes at
   found (value.Reference offset.0) offset.1
-value_by (form.Opaque size) texts bytes at = do
+value_by (form.Opaque size) strs bytes at = do
   next ← behind_run size bytes at
   found value.Opaque next
 
-abbrev pub value_of : Option Form → ℕ → List ℕ → ℕ → Read Value
-value_of None texts bytes at = Err fault.Form
-value_of (Some form) texts bytes at = value_by form texts bytes at
+abbrev pub value_of : Option Form → List ℕ → List ℕ → ℕ → Read Value
+value_of None strs bytes at = Err fault.Form
+value_of (Some form) strs bytes at = value_by form strs bytes at
 
 -- the value of the form of a code
-unfoldable pub value_at : ℕ → ℕ → List ℕ → ℕ → Read Value
-value_at code texts bytes at = value_of (form_of code) texts bytes at
+unfoldable pub value_at : ℕ → List ℕ → List ℕ → ℕ → Read Value
+value_at code strs bytes at = value_of (form_of code) strs bytes at

@@ -1,7 +1,6 @@
 -- What the three sections tell of variables.
 use Rattle.std.specs.Prelude.{ℕ, List}
 use Rattle.debug_info.specs.Contents.{contents_of}
-use Rattle.debug_info.specs.Forms.{texts_end}
 use Rattle.debug_info.specs.Functions.{function_at}
 use Rattle.debug_info.specs.Scope.{Texts, Variable, variables_by}
 use Rattle.debug_info.specs.declared.entry.Entry.{Entry}
@@ -15,8 +14,8 @@ pub record Info : Type 0 where
 
 abbrev pub info_of : List ℕ → List ℕ → List ℕ → Info
 info_of abbrevs strs info = record {
-  units = (contents_of abbrevs (texts_end strs) info).units;
-  faults = (contents_of abbrevs (texts_end strs) info).faults;
+  units = (contents_of abbrevs strs info).units;
+  faults = (contents_of abbrevs strs info).faults;
   texts = record { info = info; strs = strs };
 }
 

@@ -4,8 +4,12 @@ pub mod Expressions
 pub mod Abbreviations
 pub mod Tables
 pub mod Attributes
+pub mod Index
+pub mod Sources
 pub mod Entries
 pub mod Units
+pub mod Spans
+pub mod Order
 pub mod Contents
 pub mod Functions
 pub mod Steps

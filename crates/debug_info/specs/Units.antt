@@ -25,7 +25,7 @@ header_at abbrevs info at = do
       else Err fault.Version
 
 -- the entries of the unit at a place, by the section's bytes up to the unit's end
-unfoldable pub unit_entries : List ℕ → ℕ → List ℕ → ℕ → Result (List Entry) InfoFault
-unit_entries abbrevs texts info unit = do
+unfoldable pub unit_entries : List ℕ → List ℕ → List ℕ → ℕ → Result (List Entry) InfoFault
+unit_entries abbrevs strs info unit = do
   header ← header_at abbrevs info (unit + 4)
-  entries_from (length info + 1) abbrevs texts info header.0 unit 0 header.1
+  entries_from (length info + 1) abbrevs strs info header.0 unit 0 header.1

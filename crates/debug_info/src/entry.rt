@@ -1,17 +1,19 @@
-//! The entries of a unit (DWARF 4, source 2.1 to 2.3 and 7.5.2).
+//! The entries of a unit (DWARF 4, sections 2.1 to 2.3 and 7.5.2).
 
-ghost use Rattle.std.specs.Prelude.{◌≡◌, ◌<◌, ◌≤◌, ◌+◌, ◌-◌, IfOk, IfSome, OnOk, length, [], ◌++◌};
-ghost use Rattle.debug_info.specs.Forms.{IsReadTo};
-ghost use Rattle.debug_info.specs.Attributes.{attributes_at, attributes_by, attributes_of, basic_kind, constant_of, entry_of, expression_of, or_named, range_of, reference_of, tag_of, text_of, with_value};
+ghost use Rattle.std.specs.Prelude.{◌≡◌, ◌<◌, ◌≤◌, ◌+◌, ◌-◌, IfOk, IfSome, OnOk, length, ◌++◌};
+ghost use Rattle.debug_info.specs.Attributes.{basic_kind, constant_of, entry_of, expression_of, range_of, reference_of, tag_of, text_of};
 ghost use Rattle.debug_info.specs.Entries.{Gives, IsLevel, entries_from, entry_at, entry_list, level_behind};
+ghost use Rattle.debug_info.specs.Sources.{IsSource};
 ghost use Rattle.debug_info.specs.Rising.{RisesFrom};
-ghost use Rattle.debug_info.specs.Tables.{IsTable, values_by};
+ghost use Rattle.debug_info.specs.Tables.{IsTable};
 
-use crate::abbreviation::{Declaration, Specification, Table};
+use crate::abbreviation::Declaration;
+use crate::attribute::{Attributes, attributes_at};
 use crate::expression::{Base, Operation, Place, base_of, place_of};
 use crate::fault::{InfoError, InfoFault};
-use crate::form::{TextPlace, Value, value_at};
+use crate::form::{TextPlace, Value};
 use crate::offset::Source;
+use crate::tables::Table;
 use dbg_traits::NoMemory;
 use leb_read::uleb;
 use std::alloc::Global;
@@ -51,19 +53,6 @@ pub struct Range {
     pub end: u64,
 }
 
-/// The values of an entry's attributes.
-#[derive(Clone, Copy, Debug, PartialEq, Eq)]
-pub struct Attributes {
-    pub location: Option<Value>,
-    pub name: Option<Value>,
-    pub byte_size: Option<Value>,
-    pub low_pc: Option<Value>,
-    pub high_pc: Option<Value>,
-    pub encoding: Option<Value>,
-    pub frame_base: Option<Value>,
-    pub type_of: Option<Value>,
-}
-
 /// An entry of a unit.
 #[derive(Clone, Copy, Debug, PartialEq, Eq)]
 pub struct Entry {
@@ -101,68 +90,6 @@ fn tag_of(code: u64) -> Tag
         0x35 => Tag::Volatile,
         _ => Tag::Other,
     }
-}
-
-pub fn no_attributes() -> Attributes
-    ensures { result ≡ attributes_of [] }
-{
-    Attributes {
-        location: None,
-        name: None,
-        byte_size: None,
-        low_pc: None,
-        high_pc: None,
-        encoding: None,
-        frame_base: None,
-        type_of: None,
-    }
-}
-
-// The value of a name: the first, or this one if it has the name.
-fn or_named(code: u64, first: Option<Value>, name: u64, value: Value) -> Option<Value>
-    ensures { result ≡ or_named code first name value }
-{
-    match first {
-        Some(_) => first,
-        None if name == code => Some(value),
-        None => None,
-    }
-}
-
-// The attributes with one more.
-pub fn with_value(attributes: Attributes, name: u64, value: Value) -> Attributes
-    ensures { result ≡ with_value attributes name value }
-{
-    Attributes {
-        location: or_named(0x02, attributes.location, name, value),
-        name: or_named(0x03, attributes.name, name, value),
-        byte_size: or_named(0x0B, attributes.byte_size, name, value),
-        low_pc: or_named(0x11, attributes.low_pc, name, value),
-        high_pc: or_named(0x12, attributes.high_pc, name, value),
-        encoding: or_named(0x3E, attributes.encoding, name, value),
-        frame_base: or_named(0x40, attributes.frame_base, name, value),
-        type_of: or_named(0x49, attributes.type_of, name, value),
-    }
-}
-
-// The attributes at a place, by their specifications.
-fn attributes_by(
-    source: &Source<'_>,
-    used: &[Specification],
-    at: usize,
-) -> Result<(Attributes, usize), InfoFault>
-    requires { at ≤ length source.now.info.now }
-    ensures value { result ≡ attributes_by (values_by source.now.texts_end source.now.info.now used.now at) }
-    ensures within { IfOk result (λ r. IsReadTo source.now.info.now at r.1) }
-{
-    let mut attributes = no_attributes();
-    let mut place = at;
-    for specification in used {
-        let (value, next) = value_at(specification.form, source.texts_end, source.info, place)?;
-        attributes = with_value(attributes, specification.name, value);
-        place = next;
-    }
-    Ok((attributes, place))
 }
 
 fn text_of(value: Option<Value>) -> Option<TextPlace>
@@ -258,10 +185,11 @@ fn entry_at(
     level: u8,
     at: usize,
 ) -> Result<(Option<Entry>, usize), InfoFault>
+    requires source { IsSource source.now }
     requires table { IsTable source.now.abbrevs.now table.now }
     requires level { level ≤ 64 }
     requires unit { unit ≤ at }
-    ensures value { result ≡ entry_at source.now.abbrevs.now source.now.texts_end source.now.info.now table.now.at unit level at }
+    ensures value { result ≡ entry_at source.now.abbrevs.now source.now.strs.now source.now.info.now table.now.at unit level at }
     ensures behind { IfOk result (λ r. at < r.1) }
     ensures within { IfOk result (λ r. r.1 ≤ length source.now.info.now) }
     ensures deep { IfOk result (λ r. IfSome r.0 IsLevel) }
@@ -271,12 +199,12 @@ fn entry_at(
     if code == 0 {
         return Ok((None, next));
     }
-    let abbreviation = table.find(source.abbrevs, code)?;
+    let declaration = table.find(source.abbrevs, code)?;
     if level == LEVELS {
         return Err(InfoFault::Deep);
     }
-    let (attributes, next) = attributes_by(source, &abbreviation.used, next)?;
-    let entry = entry_of(at - unit, level + 1, abbreviation.declaration, attributes);
+    let (attributes, next) = attributes_at(source, declaration.attributes, next)?;
+    let entry = entry_of(at - unit, level + 1, declaration, attributes);
     Ok((Some(entry), next))
 }
 
@@ -311,11 +239,12 @@ pub fn entries_at(
     unit: usize,
     at: usize,
 ) -> Result<Vec<Entry>, InfoError>
+    requires source { IsSource source.now }
     requires table { IsTable source.now.abbrevs.now table.now }
     requires unit { unit ≤ at }
     requires within { at ≤ length source.now.info.now }
     ensures rising { IfOk result (λ v. RisesFrom 0 v.items) }
-    ensures value { Gives result (entries_from (length source.now.info.now + 1) source.now.abbrevs.now source.now.texts_end source.now.info.now table.now.at unit 0 at) }
+    ensures value { Gives result (entries_from (length source.now.info.now + 1) source.now.abbrevs.now source.now.strs.now source.now.info.now table.now.at unit 0 at) }
 {
     let mut entries = Vec::new(alloc);
     let mut level = 0;

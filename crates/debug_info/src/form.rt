@@ -3,11 +3,12 @@
 ghost use Rattle.std.specs.Prelude.{◌≡◌, ◌<◌, ◌≤◌, IfOk, length};
 ghost use Rattle.leb_read.specs.Leb.{IsBehind, number_at};
 ghost use Rattle.debug_info.specs.Reading.{behind_run};
-ghost use Rattle.debug_info.specs.Forms.{IsReadTo, block_at, form_of, number_by, shared_at, signed_constant, texts_end, value_at, value_by};
+ghost use Rattle.debug_info.specs.Forms.{IsReadTo, block_at, form_of, number_by, shared_at, signed_constant, value_at, value_by};
+ghost use Rattle.debug_info.specs.Sources.{IsSource, texts_end};
 
 use crate::expression::{Operation, only_operation};
 use crate::fault::InfoFault;
-use crate::offset::{InfoOffset, StrOffset};
+use crate::offset::{InfoOffset, Source, StrOffset};
 use byteorder::{ByteOrder, LittleEndian};
 use leb_read::{Leb, sleb, text_at, u8_at, u16_at, u32_at, uleb};
 
@@ -162,16 +163,17 @@ pub fn texts_end(strs: &[u8]) -> usize
 }
 
 // A text of `.debug_str`, by its offset.
-#[tactic(auto, unfolding(crate::specs::Forms::shared_at))]
-fn shared_at(texts_end: usize, bytes: &[u8], at: usize) -> Result<(Value, usize), InfoFault>
-    ensures value { result ≡ shared_at texts_end bytes.now at }
-    ensures within { IfOk result (λ r. IsReadTo bytes.now at r.1) }
+#[tactic(auto, using(crate::proofs::Texts::shared_text, crate::proofs::Texts::shared_short), unfolding(crate::specs::Forms::shared_at))]
+fn shared_at(source: &Source<'_>, at: usize) -> Result<(Value, usize), InfoFault>
+    requires { IsSource source.now }
+    ensures value { result ≡ shared_at source.now.strs.now source.now.info.now at }
+    ensures within { IfOk result (λ r. IsReadTo source.now.info.now at r.1) }
 {
-    let (offset, next) = u32_at(bytes, at)?;
+    let (offset, next) = u32_at(source.info, at)?;
     let place = StrOffset {
         at: offset as usize,
     };
-    if texts_end <= place.at {
+    if source.texts_end <= place.at {
         return Err(InfoFault::Short);
     }
     Ok((Value::Text(TextPlace::Shared(place)), next))
@@ -188,16 +190,13 @@ fn signed_constant(number: i64) -> Value
 
 // The value of a form at a place, and the next place.
 #[tactic(auto, unfolding(crate::specs::Forms::value_by))]
-fn value_by(
-    form: Form,
-    texts_end: usize,
-    bytes: &[u8],
-    at: usize,
-) -> Result<(Value, usize), InfoFault>
-    requires { at ≤ length bytes.now }
-    ensures value { result ≡ value_by form texts_end bytes.now at }
-    ensures within { IfOk result (λ r. IsReadTo bytes.now at r.1) }
+fn value_by(form: Form, source: &Source<'_>, at: usize) -> Result<(Value, usize), InfoFault>
+    requires source { IsSource source.now }
+    requires within { at ≤ length source.now.info.now }
+    ensures value { result ≡ value_by form source.now.strs.now source.now.info.now at }
+    ensures within { IfOk result (λ r. IsReadTo source.now.info.now at r.1) }
 {
+    let bytes = source.info;
     match form {
         Form::Address => {
             let (address, next) = u32_at(bytes, at)?;
@@ -216,7 +215,7 @@ fn value_by(
             let (_, next) = text_at(bytes, at)?;
             Ok((Value::Text(TextPlace::Inline(InfoOffset { at })), next))
         }
-        Form::Shared => shared_at(texts_end, bytes, at),
+        Form::Shared => shared_at(source, at),
         Form::Reference(width) => {
             let (offset, next) = number_by(width, bytes, at)?;
             Ok((Value::Reference(offset), next))
@@ -230,18 +229,14 @@ fn value_by(
 
 /// The value of the form of a code at a place, and the next place.
 #[tactic(auto, unfolding(crate::specs::Forms::value_at))]
-pub fn value_at(
-    code: u64,
-    texts_end: usize,
-    bytes: &[u8],
-    at: usize,
-) -> Result<(Value, usize), InfoFault>
-    requires { at ≤ length bytes.now }
-    ensures value { result ≡ value_at code texts_end bytes.now at }
-    ensures within { IfOk result (λ r. IsReadTo bytes.now at r.1) }
+pub fn value_at(code: u64, source: &Source<'_>, at: usize) -> Result<(Value, usize), InfoFault>
+    requires source { IsSource source.now }
+    requires within { at ≤ length source.now.info.now }
+    ensures value { result ≡ value_at code source.now.strs.now source.now.info.now at }
+    ensures within { IfOk result (λ r. IsReadTo source.now.info.now at r.1) }
 {
     match form_of(code) {
-        Some(form) => value_by(form, texts_end, bytes, at),
+        Some(form) => value_by(form, source, at),
         None => Err(InfoFault::Form),
     }
 }

@@ -7,6 +7,7 @@ ghost use Rattle.debug_info.specs.Shown.{shown_variables};
 use crate::entry::Entry;
 use crate::fault::UnitFault;
 use crate::form::texts_end;
+use crate::index::index_of;
 use crate::offset::{Sections, Source};
 use crate::scope::{Texts, Var, variables_in};
 use crate::table::{Step, function_at, functions_of, table_of};
@@ -45,9 +46,12 @@ impl Model for Info {
 pub fn read_info(alloc: Global, sections: &Sections<'_>) -> Result<Info, NoMemory>
     ensures { IfOk result (λ info. info ≡ info_of sections.now.abbrevs.now sections.now.strs.now sections.now.info.now) }
 {
+    let index = index_of(alloc, sections.abbrevs)?;
     let source = Source {
         info: sections.info,
         abbrevs: sections.abbrevs,
+        index: &index,
+        strs: sections.strs,
         texts_end: texts_end(sections.strs),
     };
     let contents = contents_of(alloc, &source)?;

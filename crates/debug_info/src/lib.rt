@@ -4,17 +4,20 @@
 #![tactic(auto)]
 
 mod abbreviation;
+mod attribute;
 mod entry;
 mod expression;
 mod fault;
 mod form;
+mod header;
+mod index;
 mod info;
 mod offset;
+mod order;
 mod scope;
 mod table;
 mod tables;
 mod unit;
-mod used;
 
 pub use entry::{Kind, Range};
 pub use expression::{Base, Place};

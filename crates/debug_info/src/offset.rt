@@ -1,5 +1,7 @@
 //! Places in the three sections, each with a type of its own.
 
+use crate::index::Index;
+
 /// An offset into `.debug_info`.
 #[derive(Clone, Copy, Debug, PartialEq, Eq)]
 pub struct InfoOffset {
@@ -30,12 +32,16 @@ pub struct Sections<'a> {
 }
 
 /// What entries are read of.
-#[derive(Clone, Copy, Debug)]
+#[derive(Clone, Copy)]
 pub struct Source<'a> {
     /// `.debug_info`, or its bytes up to a unit's end
     pub info: &'a [u8],
     /// `.debug_abbrev`
     pub abbrevs: &'a [u8],
-    /// Behind the last zero byte of `.debug_str`.
+    /// What stands at each place of it.
+    pub index: &'a Index,
+    /// `.debug_str`
+    pub strs: &'a [u8],
+    /// Behind the last zero byte of `.debug_str`, where the last text ends.
     pub texts_end: usize,
 }

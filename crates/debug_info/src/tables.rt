@@ -1,70 +1,213 @@
-//! The tables of abbreviations that were read, by their offsets.
+//! The table of abbreviations that units are read by (DWARF 4, section 7.5.3).
+//!
+//! Tables at several places may share their ends. So there is one table that moves, and what the tables at the old place
+//! and the new one share stays.
 
-ghost use Rattle.std.specs.Prelude.{◌≡◌, ◌≤◌, IfOk, OnOk, length};
-ghost use Rattle.debug_info.specs.Tables.{AreTables, IsTable};
+ghost use Rattle.std.specs.Prelude.{◌≡◌, ◌<◌, ◌≤◌, ◌+◌, ◌==◌, ℕ, IfOk, OnOk, Some, length, reverse, if◌then◌else◌};
+ghost use Rattle.std.specs.BTreeMap.{get};
+ghost use Rattle.std.specs.Ordering.{nat_cmp};
+ghost use Rattle.std.specs.Vec.{vec_len};
+ghost use Rattle.debug_info.specs.Abbreviations.{abbreviation_of, declaration_at};
+ghost use Rattle.debug_info.specs.Index.{IsIndex};
+ghost use Rattle.debug_info.specs.Tables.{IsDeclared, IsTable, LeadTo, end_of};
 
-use crate::abbreviation::{Table, table_at};
+use crate::abbreviation::{Declaration, declaration_at};
+use crate::fault::InfoFault;
+use crate::index::Index;
 use dbg_traits::NoMemory;
 use std::alloc::Global;
 use std::collections::BTreeMap;
 
-/// Tables of abbreviations, each at its offset.
-#[derive(Drop)]
-pub struct Tables {
-    tables: BTreeMap<usize, Table>,
-    /// How many bytes they have, so that tables that overlap don't take more memory than others.
-    bytes: usize,
+/// A declaration of a table.
+#[derive(Clone, Copy)]
+pub struct Listed {
+    pub at: usize,
+    pub code: u64,
+    pub declaration: Declaration,
+    /// The place behind it.
+    pub next: usize,
+    /// The first one of its code among those behind it.
+    pub hidden: Option<Declaration>,
 }
 
-pub fn no_tables(alloc: Global, abbrevs: &[u8]) -> Tables
-    ensures { AreTables abbrevs.now result }
+/// The table of abbreviations at a place, by their codes.
+#[derive(Drop)]
+pub struct Table {
+    /// Where it begins.
+    pub at: usize,
+    /// Its declarations, the last one first.
+    listed: Vec<Listed>,
+    /// The first one of each code.
+    declarations: BTreeMap<u64, Declaration>,
+    /// Why another code isn't found.
+    end: InfoFault,
+}
+
+// Sets what is found of a code.
+fn set(
+    declarations: &mut BTreeMap<u64, Declaration>,
+    code: u64,
+    declaration: Option<Declaration>,
+) -> Result<(), NoMemory>
+    ensures { OnOk result ((other : ℕ) → get nat_cmp declarations.new other ≡ (if code == other then declaration else get nat_cmp declarations.old other)) }
 {
-    let _abbrevs = abbrevs;
-    Tables {
-        tables: BTreeMap::new(alloc),
-        bytes: 0,
+    match declaration {
+        Some(declaration) => {
+            declarations.insert(code, declaration)?;
+            Ok(())
+        }
+        None => {
+            declarations.remove(&code);
+            Ok(())
+        }
     }
 }
 
-impl Tables {
-    /// Takes out the table at an offset, which is read where it isn't there.
-    pub fn take(&mut self, alloc: Global, abbrevs: &[u8], offset: usize) -> Result<Table, NoMemory>
-        requires tables { AreTables abbrevs.now self.old }
-        requires within { offset ≤ length abbrevs.now }
-        ensures tables { AreTables abbrevs.now self.new }
-        ensures table { IfOk result (IsTable abbrevs.now) }
-        ensures place { IfOk result (λ table. table.at ≡ offset) }
+impl Table {
+    /// The table at the section's end, which has nothing.
+    pub fn new(alloc: Global, abbrevs: &[u8]) -> Table
+        ensures { IsTable abbrevs.now result }
     {
-        match self.tables.remove(&offset) {
-            Some(table) => Ok(table),
-            None => {
-                let table = table_at(alloc, abbrevs, offset)?;
-                self.count(alloc, abbrevs, table.size);
-                Ok(table)
+        Table {
+            at: abbrevs.len(),
+            listed: Vec::new(alloc),
+            declarations: BTreeMap::new(alloc),
+            end: InfoFault::Short,
+        }
+    }
+
+    // Makes it the table at a place where no declaration stands.
+    fn end_at(&mut self, alloc: Global, abbrevs: &[u8], at: usize, end: InfoFault)
+        requires within { at ≤ length abbrevs.now }
+        requires end { end_of (declaration_at abbrevs.now at) ≡ Some end }
+        ensures table { IsTable abbrevs.now self.new }
+        ensures place { self.new.at ≡ at }
+    {
+        let _abbrevs = abbrevs;
+        self.at = at;
+        self.listed = Vec::new(alloc);
+        self.declarations = BTreeMap::new(alloc);
+        self.end = end;
+    }
+
+    // Takes its first declaration away.
+    fn drop_first(&mut self, abbrevs: &[u8]) -> Result<(), NoMemory>
+        requires table { IsTable abbrevs.now self.old }
+        requires some { 0 < vec_len self.old.listed }
+        ensures table { OnOk result (IsTable abbrevs.now self.new) }
+        ensures fewer { OnOk result (vec_len self.new.listed + 1 ≡ vec_len self.old.listed) }
+    {
+        let _abbrevs = abbrevs;
+        let Some(first) = self.listed.pop() else {
+            return Ok(());
+        };
+        set(&mut self.declarations, first.code, first.hidden)?;
+        self.at = first.next;
+        Ok(())
+    }
+
+    // Puts a declaration in front.
+    fn put_first(&mut self, abbrevs: &[u8], first: Listed) -> Result<(), NoMemory>
+        requires table { IsTable abbrevs.now self.old }
+        requires next { first.next ≡ self.old.at }
+        requires declared { IsDeclared abbrevs.now first }
+        ensures table { OnOk result (IsTable abbrevs.now self.new) }
+        ensures place { OnOk result (self.new.at ≡ first.at) }
+    {
+        let _abbrevs = abbrevs;
+        let hidden = self.declarations.insert(first.code, first.declaration)?;
+        self.listed.push(Listed { hidden, ..first })?;
+        self.at = first.at;
+        Ok(())
+    }
+
+    // Takes the declarations before a place away.
+    fn drop_before(&mut self, abbrevs: &[u8], place: usize) -> Result<(), NoMemory>
+        requires { IsTable abbrevs.now self.old }
+        ensures { OnOk result (IsTable abbrevs.now self.new) }
+    {
+        'declarations: while self.at < place && !self.listed.is_empty() {
+            self.drop_first(abbrevs)?;
+        }
+        Ok(())
+    }
+
+    // Moves to the first place behind which the table at another place is the same, and gives the declarations before it.
+    fn meet(
+        &mut self,
+        alloc: Global,
+        abbrevs: &[u8],
+        index: &Index,
+        at: usize,
+    ) -> Result<Vec<Listed>, NoMemory>
+        requires index { IsIndex abbrevs.now index.now }
+        requires table { IsTable abbrevs.now self.old }
+        requires within { at ≤ length abbrevs.now }
+        ensures table { OnOk result (IsTable abbrevs.now self.new) }
+        ensures before { IfOk result (λ before. LeadTo abbrevs.now at self.new.at (reverse before.items)) }
+    {
+        let mut before = Vec::new(alloc);
+        let mut place = at;
+        'places: loop {
+            self.drop_before(abbrevs, place)?;
+            if self.at == place {
+                return Ok(before);
+            }
+            match declaration_at(abbrevs, index, place) {
+                Ok((Some((code, declaration)), next)) => {
+                    before.push(Listed {
+                        at: place,
+                        code,
+                        declaration,
+                        next,
+                        hidden: None,
+                    })?;
+                    place = next;
+                }
+                Ok((None, _)) => {
+                    self.end_at(alloc, abbrevs, place, InfoFault::Abbrev);
+                    return Ok(before);
+                }
+                Err(fault) => {
+                    self.end_at(alloc, abbrevs, place, fault);
+                    return Ok(before);
+                }
             }
         }
     }
 
-    // Counts the bytes of one more table. Where there are more than the section has, tables overlap, and the others are let go.
-    fn count(&mut self, alloc: Global, abbrevs: &[u8], bytes: usize)
-        requires { AreTables abbrevs.now self.old }
-        ensures { AreTables abbrevs.now self.new }
+    /// Makes it the table at another place. From one place to the next in the order of `ranks`, all moves together take a
+    /// step for each declaration.
+    pub fn move_to(
+        &mut self,
+        alloc: Global,
+        abbrevs: &[u8],
+        index: &Index,
+        at: usize,
+    ) -> Result<(), NoMemory>
+        requires index { IsIndex abbrevs.now index.now }
+        requires table { IsTable abbrevs.now self.old }
+        requires within { at ≤ length abbrevs.now }
+        ensures table { OnOk result (IsTable abbrevs.now self.new) }
+        ensures place { OnOk result (self.new.at ≡ at) }
     {
-        self.bytes = self.bytes.saturating_add(bytes);
-        if abbrevs.len() < self.bytes {
-            self.tables = BTreeMap::new(alloc);
-            self.bytes = bytes;
+        let mut before = self.meet(alloc, abbrevs, index, at)?;
+        'declarations: while let Some(first) = before.pop() {
+            self.put_first(abbrevs, first)?;
         }
+        Ok(())
     }
 
-    /// Keeps a table for later units.
-    pub fn keep(&mut self, abbrevs: &[u8], table: Table) -> Result<(), NoMemory>
-        requires tables { AreTables abbrevs.now self.old }
-        requires table { IsTable abbrevs.now table }
-        ensures { OnOk result (AreTables abbrevs.now self.new) }
+    /// The declaration of a code.
+    pub fn find(&self, abbrevs: &[u8], code: u64) -> Result<Declaration, InfoFault>
+        requires { IsTable abbrevs.now self.now }
+        ensures value { result ≡ abbreviation_of (length abbrevs.now + 1) abbrevs.now code self.now.at }
+        ensures within { IfOk result (λ d. d.attributes ≤ length abbrevs.now) }
     {
         let _abbrevs = abbrevs;
-        self.tables.insert(table.at, table)?;
-        Ok(())
+        match self.declarations.get(&code) {
+            Some(declaration) => Ok(*declaration),
+            None => Err(self.end),
+        }
     }
 }

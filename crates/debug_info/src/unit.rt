@@ -1,19 +1,21 @@
-//! The units of a section (DWARF 4, section 7.5.1.1).
+//! What the units of a section give (DWARF 4, section 7.5.1.1).
 
-ghost use Rattle.std.specs.Prelude.{◌≡◌, ◌<◌, ◌≤◌, ◌+◌, All, IfOk, OnOk, Err, length};
+ghost use Rattle.std.specs.Prelude.{◌≡◌, ◌≤◌, ◌+◌, All, IfOk, OnOk, Err, length, map};
 ghost use Rattle.debug_info.specs.Contents.{contents_of, joined, one_unit, shown};
 ghost use Rattle.debug_info.specs.Entries.{Gives, IfRead};
+ghost use Rattle.debug_info.specs.Sources.{IsSource};
+ghost use Rattle.debug_info.specs.Spans.{IsRisingReading, IsSpan, all_joined, ended, given, reading_shown};
 ghost use Rattle.debug_info.specs.Rising.{IsRising, RisesFrom};
-ghost use Rattle.debug_info.specs.Tables.{AreTables};
-ghost use Rattle.debug_info.specs.Units.{header_at, unit_end, unit_entries};
+ghost use Rattle.debug_info.specs.Tables.{IsTable};
+ghost use Rattle.debug_info.specs.Units.{unit_entries};
 
 use crate::entry::{Entry, entries_at};
 use crate::fault::{InfoError, InfoFault, UnitFault};
-use crate::form::behind_run;
+use crate::header::{Span, Spans, header_at, spans_of};
 use crate::offset::{InfoOffset, Source};
-use crate::tables::{Tables, no_tables};
+use crate::order::turns_of;
+use crate::tables::Table;
 use dbg_traits::NoMemory;
-use leb_read::{u8_at, u16_at, u32_at};
 use std::alloc::Global;
 
 /// The entries of a unit.
@@ -29,123 +31,159 @@ pub struct Contents {
     pub faults: Vec<UnitFault>,
 }
 
-// Where the unit at a place ends.
-#[tactic(auto, using(crate::proofs::Ends::number_next), unfolding(crate::specs::Units::unit_end))]
-fn unit_end(info: &[u8], at: usize) -> Result<usize, InfoFault>
-    ensures value { result ≡ unit_end info.now at }
-    ensures within { IfOk result (λ end. end ≤ length info.now) }
-    ensures behind { IfOk result (λ end. at + 4 ≤ end) }
-{
-    let (length, start) = u32_at(info, at)?;
-    behind_run(u64::from(length), info, start)
+/// What was read of the unit at a place.
+#[derive(Drop)]
+pub struct Reading {
+    pub at: usize,
+    pub entries: Result<Vec<Entry>, InfoFault>,
 }
 
-// The place of the unit's abbreviations, and the next place; its version stands at a place.
-#[tactic(auto, unfolding(crate::specs::Units::header_at))]
-fn header_at(abbrevs: &[u8], info: &[u8], at: usize) -> Result<(usize, usize), InfoFault>
-    ensures value { result ≡ header_at abbrevs.now info.now at }
-    ensures abbrevs { IfOk result (λ r. r.0 ≤ length abbrevs.now) }
-    ensures behind { IfOk result (λ r. at < r.1) }
-    ensures within { IfOk result (λ r. r.1 ≤ length info.now) }
-{
-    let (version, next) = u16_at(info, at)?;
-    if version < 2 || 4 < version {
-        return Err(InfoFault::Version);
-    }
-    let (offset, next) = u32_at(info, next)?;
-    if abbrevs.len() < offset as usize {
-        return Err(InfoFault::Abbrev);
-    }
-    let (address_size, next) = u8_at(info, next)?;
-    if address_size == 4 {
-        Ok((offset as usize, next))
-    } else {
-        Err(InfoFault::Version)
-    }
-}
-
-// The entries of the unit at a place, whose bytes end with the section's. Its table of abbreviations is kept.
+// The entries of the unit at a place, whose bytes end with the section's. The table moves to its abbreviations.
 #[tactic(auto, unfolding(crate::specs::Units::unit_entries))]
 fn unit_entries(
     alloc: Global,
     source: &Source<'_>,
     at: usize,
-    tables: &mut Tables,
+    table: &mut Table,
 ) -> Result<Vec<Entry>, InfoError>
+    requires source { IsSource source.now }
     requires within { at + 4 ≤ length source.now.info.now }
-    requires tables { AreTables source.now.abbrevs.now tables.old }
-    ensures tables { IfRead result (AreTables source.now.abbrevs.now tables.new) }
+    requires table { IsTable source.now.abbrevs.now table.old }
+    ensures table { IfRead result (IsTable source.now.abbrevs.now table.new) }
     ensures rising { IfOk result (λ v. RisesFrom 0 v.items) }
-    ensures value { Gives result (unit_entries source.now.abbrevs.now source.now.texts_end source.now.info.now at) }
+    ensures value { Gives result (unit_entries source.now.abbrevs.now source.now.strs.now source.now.info.now at) }
 {
     let (offset, next) = header_at(source.abbrevs, source.info, at + 4)?;
-    let table = tables.take(alloc, source.abbrevs, offset)?;
-    let entries = entries_at(alloc, source, &table, at, next);
-    tables.keep(source.abbrevs, table)?;
-    entries
+    table.move_to(alloc, source.abbrevs, source.index, offset)?;
+    entries_at(alloc, source, table, at, next)
 }
 
-// Adds what the unit at a place gives, whose bytes end with the section's.
-fn add_unit(
+// What is read of a unit.
+fn reading_of(
     alloc: Global,
     source: &Source<'_>,
-    at: usize,
-    tables: &mut Tables,
-    contents: &mut Contents,
-) -> Result<(), NoMemory>
-    requires within { at + 4 ≤ length source.now.info.now }
-    requires tables { AreTables source.now.abbrevs.now tables.old }
-    requires rising { All IsRising contents.old.units.items }
-    ensures tables { OnOk result (AreTables source.now.abbrevs.now tables.new) }
-    ensures rising { OnOk result (All IsRising contents.new.units.items) }
-    ensures value { OnOk result (shown contents.new ≡ joined (shown contents.old) (one_unit at (unit_entries source.now.abbrevs.now source.now.texts_end source.now.info.now at))) }
+    span: &Span,
+    table: &mut Table,
+) -> Result<Reading, NoMemory>
+    requires source { IsSource source.now }
+    requires span { IsSpan source.now.info.now span.now }
+    requires table { IsTable source.now.abbrevs.now table.old }
+    ensures table { OnOk result (IsTable source.now.abbrevs.now table.new) }
+    ensures rising { IfOk result IsRisingReading }
+    ensures value { IfOk result (λ reading. reading_shown reading ≡ given source.now.abbrevs.now source.now.strs.now source.now.info.now span.now) }
 {
-    match unit_entries(alloc, source, at, tables) {
-        Ok(entries) => {
-            contents.units.push(Unit { entries })?;
-            Ok(())
-        }
-        Err(InfoError::Fault(fault)) => add_fault(at, fault, contents),
+    let unit = Source {
+        info: &source.info[..span.end],
+        ..*source
+    };
+    let at = span.at;
+    match unit_entries(alloc, &unit, at, table) {
+        Ok(entries) => Ok(Reading {
+            at,
+            entries: Ok(entries),
+        }),
+        Err(InfoError::Fault(fault)) => Ok(Reading {
+            at,
+            entries: Err(fault),
+        }),
         Err(InfoError::Memory) => Err(NoMemory),
     }
 }
 
-// Adds the fault of the unit at a place.
-fn add_fault(at: usize, fault: InfoFault, contents: &mut Contents) -> Result<(), NoMemory>
-    ensures units { contents.new.units.items ≡ contents.old.units.items }
-    ensures value { OnOk result (shown contents.new ≡ joined (shown contents.old) (one_unit at (Err fault))) }
+// Places for what will be read of so many units.
+fn unread(alloc: Global, count: usize) -> Result<Vec<Reading>, NoMemory>
+    ensures { IfOk result (λ readings. length readings.items ≡ count) }
 {
-    let offset = InfoOffset { at };
-    contents.faults.push(UnitFault { offset, fault })?;
+    let mut readings = Vec::new(alloc);
+    for at in 0..count {
+        readings.push(Reading {
+            at,
+            entries: Err(InfoFault::Short),
+        })?;
+    }
+    Ok(readings)
+}
+
+// What is read of each unit.
+fn readings_of(alloc: Global, source: &Source<'_>, spans: &[Span]) -> Result<Vec<Reading>, NoMemory>
+    requires source { IsSource source.now }
+    requires spans { All (IsSpan source.now.info.now) spans.now }
+    ensures rising { IfOk result (λ readings. All IsRisingReading readings.items) }
+    ensures value { IfOk result (λ readings. map reading_shown readings.items ≡ map (given source.now.abbrevs.now source.now.strs.now source.now.info.now) spans.now) }
+{
+    let turns = turns_of(alloc, source, spans)?;
+    let mut readings = unread(alloc, spans.len())?;
+    let mut table = Table::new(alloc, source.abbrevs);
+    for turn in &turns {
+        let number = turn.number;
+        readings[number] = reading_of(alloc, source, &spans[number], &mut table)?;
+    }
+    Ok(readings)
+}
+
+// Adds what was read of a unit.
+fn push_reading(contents: &mut Contents, reading: Reading) -> Result<(), NoMemory>
+    requires reading { IsRisingReading reading }
+    requires rising { All IsRising contents.old.units.items }
+    ensures rising { OnOk result (All IsRising contents.new.units.items) }
+    ensures value { OnOk result (shown contents.new ≡ joined (shown contents.old) (reading_shown reading)) }
+{
+    let Reading { at, entries } = reading;
+    match entries {
+        Ok(entries) => {
+            contents.units.push(Unit { entries })?;
+            Ok(())
+        }
+        Err(fault) => {
+            let offset = InfoOffset { at };
+            contents.faults.push(UnitFault { offset, fault })?;
+            Ok(())
+        }
+    }
+}
+
+// Adds what was read of several units.
+fn push_readings(contents: &mut Contents, readings: Vec<Reading>) -> Result<(), NoMemory>
+    requires readings { All IsRisingReading readings.items }
+    requires rising { All IsRising contents.old.units.items }
+    ensures rising { OnOk result (All IsRising contents.new.units.items) }
+    ensures value { OnOk result (shown contents.new ≡ joined (shown contents.old) (all_joined (map reading_shown readings.items))) }
+{
+    let mut rest = readings.into_iter();
+    'readings: while let Some(reading) = rest.next() {
+        push_reading(contents, reading)?;
+    }
     Ok(())
 }
 
-/// What the units of the section give.
-pub fn contents_of(alloc: Global, source: &Source<'_>) -> Result<Contents, NoMemory>
-    ensures rising { IfOk result (λ contents. All IsRising contents.units.items) }
-    ensures value { IfOk result (λ contents. shown contents ≡ contents_of source.now.abbrevs.now source.now.texts_end source.now.info.now) }
+// Adds the fault of a last unit, if it has one.
+fn push_fault(contents: &mut Contents, fault: Option<UnitFault>) -> Result<(), NoMemory>
+    ensures units { contents.new.units.items ≡ contents.old.units.items }
+    ensures value { OnOk result (shown contents.new ≡ joined (shown contents.old) (ended fault)) }
 {
+    match fault {
+        None => Ok(()),
+        Some(fault) => {
+            contents.faults.push(fault)?;
+            Ok(())
+        }
+    }
+}
+
+/// What the units of the section give, each with its own fault or none. They are read in another order than theirs, so
+/// that tables of abbreviations which share their ends are read once.
+pub fn contents_of(alloc: Global, source: &Source<'_>) -> Result<Contents, NoMemory>
+    requires { IsSource source.now }
+    ensures rising { IfOk result (λ contents. All IsRising contents.units.items) }
+    ensures value { IfOk result (λ contents. shown contents ≡ contents_of source.now.abbrevs.now source.now.strs.now source.now.info.now) }
+{
+    let Spans { units, fault } = spans_of(alloc, source.info)?;
+    let readings = readings_of(alloc, source, &units)?;
     let mut contents = Contents {
         units: Vec::new(alloc),
         faults: Vec::new(alloc),
     };
-    let mut tables = no_tables(alloc, source.abbrevs);
-    let mut at = 0;
-    'units: while at < source.info.len() {
-        match unit_end(source.info, at) {
-            Ok(end) => {
-                let unit = Source {
-                    info: &source.info[..end],
-                    ..*source
-                };
-                add_unit(alloc, &unit, at, &mut tables, &mut contents)?;
-                at = end;
-            }
-            Err(fault) => {
-                add_fault(at, fault, &mut contents)?;
-                return Ok(contents);
-            }
-        }
-    }
+    push_readings(&mut contents, readings)?;
+    push_fault(&mut contents, fault)?;
     Ok(contents)
 }

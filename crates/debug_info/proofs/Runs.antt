@@ -1,0 +1,212 @@
+-- What is kept of the specifications at each place, and the loop over them.
+use Rattle.std.proofs.Common.{◌≡◌, ◌<◌, ◌≤◌, ◌+◌, ◌-◌, ◌++◌, ℕ, zero, suc, Bool, true, false, List, [], ◌∷◌, length, get_or, Option, None, Some, Result, Ok, Err, refl, arith, sym, ◌∙◌, ap, subst, append-nil, append_assoc, length-append, inl, inr}
+use Rattle.std.specs.Prelude.{IfOk, nat_le, ◌==◌, ◌||◌, if◌then◌else◌}
+use Rattle.std.proofs.lemmas.Bool.Decides.{nat_tests}
+use Rattle.std.proofs.lemmas.List.{get_or_append_left}
+use Rattle.std.proofs.Math.Seq.{get_or-append_seam}
+use Rattle.std.proofs.Math.Nat.{eq-or-lt_of_le}
+use Rattle.leb_read.specs.Leb.{IsBehind}
+use Rattle.debug_info.specs.Reading.{◌>>=◌, Read, behind_run, found}
+use Rattle.debug_info.specs.Abbreviations.{specification_at, specifications_end}
+use Rattle.debug_info.specs.Attributes.{attributes_by, attributes_of, or_named, value_behind, values_from, with_value}
+use Rattle.debug_info.specs.Forms.{value_at, value_by}
+use Rattle.debug_info.specs.Index.{AreRuns, IsRun, extended, lone_run, no_flags, or_flag, with_flag, with_flags, with_values}
+use Rattle.debug_info.specs.declared.abbreviation.Specification.{Specification}
+use Rattle.debug_info.specs.declared.attribute.Attributes.{Attributes}
+use Rattle.debug_info.specs.declared.fault.InfoFault.{InfoFault}
+use Rattle.debug_info.specs.declared.fault.InfoFault.TheVariants as fault
+use Rattle.debug_info.specs.declared.form.Value.{Value}
+use Rattle.debug_info.specs.declared.form.Value.TheVariants as value
+use Rattle.debug_info.specs.declared.index.Flags.{Flags}
+use Rattle.debug_info.specs.declared.index.Run.{Run}
+use Rattle.debug_info.proofs.Behind.{all_end, ends_same, specification_behind, values_same}
+use Rattle.debug_info.proofs.Declared.{ends, ends_done, ends_fault, ends_next}
+use Rattle.debug_info.proofs.Specified.{with_more}
+use Rattle.debug_info.proofs.Turns.{reaches_start}
+
+-- the attributes of values, one after another
+all_values : (done vs : List (ℕ × Value)) → with_values (attributes_of done) vs ≡ attributes_of (done ++ vs)
+all_values done [] = ap attributes_of (sym (append-nil done))
+all_values done (v ∷ vs) =
+    ap (λ (a : Attributes). with_values a vs) (with_more done v.0 v.1)
+    ∙ all_values (done ++ v ∷ []) vs
+    ∙ ap attributes_of (append_assoc done (v ∷ []) vs)
+
+pub all_extended : (r : Read (List (ℕ × Value))) → attributes_by r ≡ extended (attributes_of []) r
+all_extended (Ok (vs, next)) = ap (λ (a : Attributes). found a next) (sym (all_values [] vs))
+all_extended (Err e) = refl
+
+-- the first specification of those that are left
+record Turn (abbrevs : List ℕ) (at : ℕ) : Type 0 where
+  more : ℕ
+  enough : length abbrevs ≤ at + more
+  same : (strs info : List ℕ) (from : ℕ) → values_from (length abbrevs + 1) abbrevs strs info at from ≡ (specification_at abbrevs at >>= value_behind strs info (values_from more abbrevs strs info) from)
+
+turn_from : (abbrevs : List ℕ) (at most : ℕ) → length abbrevs < at + most → 0 < most
+    → ((strs info : List ℕ) (from : ℕ) → values_from (length abbrevs + 1) abbrevs strs info at from ≡ values_from most abbrevs strs info at from) → Turn abbrevs at
+turn_from abbrevs at zero enough some same = absurd (omega arith)
+turn_from abbrevs at (suc most) enough some same = record { more = most; enough = omega arith; same = same }
+
+turn : (abbrevs : List ℕ) (at : ℕ) → Turn abbrevs at
+turn abbrevs at = turn_from abbrevs at (length abbrevs + 1) (omega arith) (omega arith) (λ strs info from. refl)
+
+value_extended : (a : Attributes) (name : ℕ) (v : Value) (r : Read (List (ℕ × Value))) → extended a (r >>= (λ others. found ((name, v) ∷ others.0) others.1)) ≡ extended (with_value a name v) r
+value_extended a name v (Ok (vs, next)) = refl
+value_extended a name v (Err e) = refl
+
+-- behind a specification and its value
+pub one_extended : (abbrevs strs info : List ℕ) (a : Attributes) (at next from place : ℕ) (s : Specification) (v : Value) → specification_at abbrevs at ≡ found (Some s) next → value_at s.form strs info from ≡ found v place
+    → extended a (values_from (length abbrevs + 1) abbrevs strs info at from) ≡ extended (with_value a s.name v) (values_from (length abbrevs + 1) abbrevs strs info next place)
+one_extended abbrevs strs info a at next from place s v is read =
+    let t = turn abbrevs at in
+    let behind = specification_behind abbrevs at next (Some s) is in
+    ap (extended a) (t.same strs info from)
+    ∙ ap (λ (r : Read (Option Specification)). extended a (r >>= value_behind strs info (values_from t.more abbrevs strs info) from)) is
+    ∙ ap (λ (o : Read Value). extended a (o >>= (λ x. values_from t.more abbrevs strs info next x.1 >>= (λ others. found ((s.name, x.0) ∷ others.0) others.1)))) read
+    ∙ value_extended a s.name v (values_from t.more abbrevs strs info next place)
+    ∙ ap (extended (with_value a s.name v)) (values_same t.more (length abbrevs + 1) abbrevs strs info next place behind.within (let b = behind.behind in let w = behind.within in let x = t.enough in omega arith) (omega arith))
+
+-- the loop over specifications
+pub at_run : (whole : Read Attributes) (abbrevs strs info : List ℕ) (a b : Attributes) (at from : ℕ) (run : Run) → whole ≡ extended a (values_from (length abbrevs + 1) abbrevs strs info at from) → IsRun abbrevs at run → b ≡ with_flags a run.flags
+    → whole ≡ extended b (values_from (length abbrevs + 1) abbrevs strs info run.behind from)
+at_run whole abbrevs strs info a b at from run same is flags =
+    same ∙ is.same strs info a from ∙ ap (λ (x : Attributes). extended x (values_from (length abbrevs + 1) abbrevs strs info run.behind from)) (sym flags)
+
+pub next_value : (whole : Read Attributes) (abbrevs strs info : List ℕ) (a b : Attributes) (at next from place : ℕ) (s : Specification) (v : Value) → whole ≡ extended a (values_from (length abbrevs + 1) abbrevs strs info at from)
+    → specification_at abbrevs at ≡ found (Some s) next → value_at s.form strs info from ≡ found v place → b ≡ with_value a s.name v → whole ≡ extended b (values_from (length abbrevs + 1) abbrevs strs info next place)
+next_value whole abbrevs strs info a b at next from place s v same is read more =
+    same ∙ one_extended abbrevs strs info a at next from place s v is read ∙ ap (λ (x : Attributes). extended x (values_from (length abbrevs + 1) abbrevs strs info next place)) (sym more)
+
+pub specification_fault : (whole : Read Attributes) (abbrevs strs info : List ℕ) (a : Attributes) (at from : ℕ) (e : InfoFault) → whole ≡ extended a (values_from (length abbrevs + 1) abbrevs strs info at from)
+    → specification_at abbrevs at ≡ Err e → whole ≡ Err e
+specification_fault whole abbrevs strs info a at from e same is =
+    let t = turn abbrevs at in
+    same
+    ∙ ap (extended a) (t.same strs info from)
+    ∙ ap (λ (r : Read (Option Specification)). extended a (r >>= value_behind strs info (values_from t.more abbrevs strs info) from)) is
+
+pub all_read : (whole : Read Attributes) (abbrevs strs info : List ℕ) (a : Attributes) (at next from : ℕ) → whole ≡ extended a (values_from (length abbrevs + 1) abbrevs strs info at from)
+    → specification_at abbrevs at ≡ found None next → whole ≡ found a from
+all_read whole abbrevs strs info a at next from same is =
+    let t = turn abbrevs at in
+    same
+    ∙ ap (extended a) (t.same strs info from)
+    ∙ ap (λ (r : Read (Option Specification)). extended a (r >>= value_behind strs info (values_from t.more abbrevs strs info) from)) is
+
+pub value_fault : (whole : Read Attributes) (abbrevs strs info : List ℕ) (a : Attributes) (at next from : ℕ) (s : Specification) (e : InfoFault) → whole ≡ extended a (values_from (length abbrevs + 1) abbrevs strs info at from)
+    → specification_at abbrevs at ≡ found (Some s) next → value_at s.form strs info from ≡ Err e → whole ≡ Err e
+value_fault whole abbrevs strs info a at next from s e same is read =
+    let t = turn abbrevs at in
+    same
+    ∙ ap (extended a) (t.same strs info from)
+    ∙ ap (λ (r : Read (Option Specification)). extended a (r >>= value_behind strs info (values_from t.more abbrevs strs info) from)) is
+    ∙ ap (λ (o : Read Value). extended a (o >>= (λ x. values_from t.more abbrevs strs info next x.1 >>= (λ others. found ((s.name, x.0) ∷ others.0) others.1)))) read
+
+-- a flag has no bytes
+flag_value : (strs info : List ℕ) (at : ℕ) → value_at 0x19 strs info at ≡ found value.Opaque at
+unfolding value_at value_by behind_run
+flag_value strs info at =
+    let test : nat_le 0 (length info - at) ≡ true = grind (arith, nat_tests) in
+    ap (λ (b : Bool). (if b then Ok (at + 0) else Err fault.Short) >>= (λ next. found value.Opaque next)) test
+    ∙ ap (λ (n : ℕ). found value.Opaque n) (let none : at + 0 ≡ at = omega arith in none)
+
+-- flags
+or_none : (o : Option Value) → or_flag o false ≡ o
+or_none None = refl
+or_none (Some v) = refl
+
+no_more : (a : Attributes) → with_flags a no_flags ≡ a
+no_more a = rw (or_none a.location, or_none a.name, or_none a.byte_size, or_none a.low_pc, or_none a.high_pc, or_none a.encoding, or_none a.frame_base, or_none a.type_of) refl
+
+flagged_once : (flagged : Bool) → or_flag (Some value.Opaque) flagged ≡ or_flag None (flagged || true)
+flagged_once true = refl
+flagged_once false = refl
+
+flagged_alone : (flagged : Bool) → or_flag None flagged ≡ or_flag None (flagged || false)
+flagged_alone true = refl
+flagged_alone false = refl
+
+or_both : (code name : ℕ) (o : Option Value) (flagged : Bool) → or_flag (or_named code o name value.Opaque) flagged ≡ or_flag o (flagged || (name == code))
+or_both code name (Some v) flagged = refl
+or_both code name None flagged =
+    elim (name == code) as (λ b. or_flag (if b then Some value.Opaque else None) flagged ≡ or_flag None (flagged || b)) [
+      | true ↦ flagged_once flagged
+      | false ↦ flagged_alone flagged
+    ]
+
+one_flag : (a : Attributes) (name : ℕ) (f : Flags) → with_flags (with_value a name value.Opaque) f ≡ with_flags a (with_flag f name)
+one_flag a name f =
+    let x1 = or_both 0x02 name a.location f.location in
+    let x2 = or_both 0x03 name a.name f.name in
+    let x3 = or_both 0x0B name a.byte_size f.byte_size in
+    let x4 = or_both 0x11 name a.low_pc f.low_pc in
+    let x5 = or_both 0x12 name a.high_pc f.high_pc in
+    let x6 = or_both 0x3E name a.encoding f.encoding in
+    let x7 = or_both 0x40 name a.frame_base f.frame_base in
+    let x8 = or_both 0x49 name a.type_of f.type_of in
+    cc
+
+last_end : (abbrevs : List ℕ) (at : ℕ) (end : Result ℕ InfoFault) → end ≡ specifications_end (length abbrevs + 1) abbrevs at → IfOk end (λ next. IsBehind abbrevs at next)
+last_end abbrevs at end is = subst (λ (r : Result ℕ InfoFault). IfOk r (λ next. IsBehind abbrevs at next)) (sym is) (all_end (length abbrevs + 1) abbrevs at)
+
+-- a run without flags
+lone : (abbrevs : List ℕ) (at : ℕ) (end : Result ℕ InfoFault) → at ≤ length abbrevs → end ≡ specifications_end (length abbrevs + 1) abbrevs at → IsRun abbrevs at (lone_run at end)
+lone abbrevs at end h is = record {
+  end = is;
+  last = last_end abbrevs at end is;
+  behind = omega arith;
+  within = h;
+  same = λ strs info a from. ap (λ (b : Attributes). extended b (values_from (length abbrevs + 1) abbrevs strs info at from)) (sym (no_more a));
+}
+
+pub run_fault : (abbrevs : List ℕ) (at : ℕ) (e : InfoFault) → at ≤ length abbrevs → specification_at abbrevs at ≡ Err e → IsRun abbrevs at (lone_run at (Err e))
+run_fault abbrevs at e h is = lone abbrevs at (Err e) h (sym (ends_fault _ abbrevs at e is (reaches_start (ends abbrevs) abbrevs at)))
+
+pub run_end : (abbrevs : List ℕ) (at next : ℕ) → at ≤ length abbrevs → specification_at abbrevs at ≡ found None next → IsRun abbrevs at (lone_run at (Ok next))
+run_end abbrevs at next h is = lone abbrevs at (Ok next) h (sym (ends_done _ abbrevs at next is (reaches_start (ends abbrevs) abbrevs at)))
+
+end_behind : (abbrevs : List ℕ) (at next : ℕ) (s : Specification) (rest : Run) → specification_at abbrevs at ≡ found (Some s) next → IsRun abbrevs next rest → rest.end ≡ specifications_end (length abbrevs + 1) abbrevs at
+end_behind abbrevs at next s rest is run =
+    let b = specification_behind abbrevs at next (Some s) is in
+    let r = ends_next (specifications_end (length abbrevs + 1) abbrevs at) abbrevs at next s is b.behind b.within (reaches_start (ends abbrevs) abbrevs at) in
+    run.end ∙ ends_same (length abbrevs + 1) r.most abbrevs next b.within (omega arith) r.enough ∙ sym r.same
+
+pub run_other : (abbrevs : List ℕ) (at next : ℕ) (s : Specification) (rest : Run) → at ≤ length abbrevs → specification_at abbrevs at ≡ found (Some s) next → IsRun abbrevs next rest → IsRun abbrevs at (lone_run at rest.end)
+run_other abbrevs at next s rest h is run = lone abbrevs at rest.end h (end_behind abbrevs at next s rest is run)
+
+pub run_flag : (abbrevs : List ℕ) (at next : ℕ) (s : Specification) (rest run : Run) → specification_at abbrevs at ≡ found (Some s) next → s.form ≡ 0x19 → IsRun abbrevs next rest
+    → run.flags ≡ with_flag rest.flags s.name → run.behind ≡ rest.behind → run.end ≡ rest.end → IsRun abbrevs at run
+run_flag abbrevs at next s rest run is form r flags behind end =
+    let b = specification_behind abbrevs at next (Some s) is in
+    record {
+      end = end ∙ end_behind abbrevs at next s rest is r;
+      last = last_end abbrevs at run.end (end ∙ end_behind abbrevs at next s rest is r);
+      behind = (let x = b.behind in let y = r.behind in omega arith);
+      within = (let y = r.within in omega arith);
+      same = λ strs info a from.
+          one_extended abbrevs strs info a at next from from s value.Opaque is (ap (λ (n : ℕ). value_at n strs info from) form ∙ flag_value strs info from)
+          ∙ r.same strs info (with_value a s.name value.Opaque) from
+          ∙ ap (λ (x : Attributes). extended x (values_from (length abbrevs + 1) abbrevs strs info rest.behind from)) (one_flag a s.name rest.flags ∙ ap (with_flags a) (sym flags))
+          ∙ ap (λ (n : ℕ). extended (with_flags a run.flags) (values_from (length abbrevs + 1) abbrevs strs info n from)) (sym behind);
+    }
+
+-- a run more
+pub runs_more : (abbrevs : List ℕ) (runs more : List Run) (run : Run) (at : ℕ) → length runs + at ≡ length abbrevs → more ≡ runs ++ run ∷ [] → AreRuns abbrevs runs → IsRun abbrevs at run → AreRuns abbrevs more
+runs_more abbrevs runs more run at count push all one k d h =
+    let size : length more ≡ length runs + 1 = ap length push ∙ length-append runs (run ∷ []) in
+    let most : k ≤ length runs = omega arith in
+    elim (eq-or-lt_of_le most) [
+      | inl e ↦ (
+          let here : get_or more k d ≡ run = ap (λ (xs : List Run). get_or xs k d) push ∙ ap (λ (n : ℕ). get_or (runs ++ run ∷ []) n d) e ∙ get_or-append_seam runs run [] d in
+          let place : length abbrevs - k ≡ at = omega arith in
+          rw (here, place) one)
+      | inr l ↦ (
+          let here : get_or more k d ≡ get_or runs k d = ap (λ (xs : List Run). get_or xs k d) push ∙ get_or_append_left runs (run ∷ []) d k l in
+          rw here (all k d l))
+    ]
+
+-- the run of a place
+pub run_of : (abbrevs : List ℕ) (runs : List Run) (at : ℕ) (d : Run) → AreRuns abbrevs runs → at ≤ length abbrevs → length abbrevs - at < length runs → IsRun abbrevs at (get_or runs (length abbrevs - at) d)
+run_of abbrevs runs at d all h k =
+    let place : length abbrevs - (length abbrevs - at) ≡ at = omega arith in
+    subst (λ (n : ℕ). IsRun abbrevs n (get_or runs (length abbrevs - at) d)) place (all (length abbrevs - at) d k)

@@ -1,0 +1,16 @@
+-- The units so far, and those from here on.
+use Rattle.std.proofs.Common.{◌-◌, length}
+use Rattle.std.specs.Prelude.{All}
+use Rattle.debug_info.specs.Spans.{IsSpan}
+use Rattle.debug_info.proofs.Joined.{Spanned}
+use Rattle.debug_info.proofs.header.spans_of.Given as goal
+
+abbrev pub invariant-units : goal.invariant-units
+invariant-units l =
+    record {
+      spans : All (IsSpan l.info) l.units.items;
+      read : Spanned l.info l.units.items l.at;
+    }
+
+abbrev pub decreases-units : goal.decreases-units
+decreases-units l = length l.info - l.at

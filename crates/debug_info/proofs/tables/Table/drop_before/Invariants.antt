@@ -1,0 +1,9 @@
+use Rattle.std.specs.Vec.{vec_len}
+use Rattle.debug_info.specs.Tables.{IsTable}
+use Rattle.debug_info.proofs.tables.Table.drop_before.Given as goal
+
+abbrev pub invariant-declarations : goal.invariant-declarations
+invariant-declarations l = IsTable l.abbrevs l.self
+
+abbrev pub decreases-declarations : goal.decreases-declarations
+decreases-declarations l = vec_len l.self.listed

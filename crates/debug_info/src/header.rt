@@ -1,0 +1,86 @@
+//! Where units stand, and their headers (DWARF 4, section 7.5.1.1).
+
+ghost use Rattle.std.specs.Prelude.{◌≡◌, ◌<◌, ◌≤◌, ◌+◌, ℕ, All, IfOk, List, length, map};
+ghost use Rattle.debug_info.specs.Contents.{contents_of, joined};
+ghost use Rattle.debug_info.specs.Spans.{IsSpan, all_joined, ended, given};
+ghost use Rattle.debug_info.specs.Units.{header_at, unit_end};
+
+use crate::fault::{InfoFault, UnitFault};
+use crate::form::behind_run;
+use crate::offset::InfoOffset;
+use dbg_traits::NoMemory;
+use leb_read::{u8_at, u16_at, u32_at};
+use std::alloc::Global;
+
+/// Where a unit begins, and where its bytes end.
+#[derive(Clone, Copy, Debug, PartialEq, Eq)]
+pub struct Span {
+    pub at: usize,
+    pub end: usize,
+}
+
+/// Where the units of a section stand.
+#[derive(Drop)]
+pub struct Spans {
+    pub units: Vec<Span>,
+    /// The fault of a last one that passes the section.
+    pub fault: Option<UnitFault>,
+}
+
+// Where the unit at a place ends.
+#[tactic(auto, using(crate::proofs::Ends::number_next), unfolding(crate::specs::Units::unit_end))]
+fn unit_end(info: &[u8], at: usize) -> Result<usize, InfoFault>
+    ensures value { result ≡ unit_end info.now at }
+    ensures within { IfOk result (λ end. end ≤ length info.now) }
+    ensures behind { IfOk result (λ end. at + 4 ≤ end) }
+{
+    let (length, start) = u32_at(info, at)?;
+    behind_run(u64::from(length), info, start)
+}
+
+/// The place of the unit's abbreviations, and the next place; its version stands at a place.
+#[tactic(auto, unfolding(crate::specs::Units::header_at))]
+pub fn header_at(abbrevs: &[u8], info: &[u8], at: usize) -> Result<(usize, usize), InfoFault>
+    ensures value { result ≡ header_at abbrevs.now info.now at }
+    ensures abbrevs { IfOk result (λ r. r.0 ≤ length abbrevs.now) }
+    ensures behind { IfOk result (λ r. at < r.1) }
+    ensures within { IfOk result (λ r. r.1 ≤ length info.now) }
+{
+    let (version, next) = u16_at(info, at)?;
+    if version < 2 || 4 < version {
+        return Err(InfoFault::Version);
+    }
+    let (offset, next) = u32_at(info, next)?;
+    if abbrevs.len() < offset as usize {
+        return Err(InfoFault::Abbrev);
+    }
+    let (address_size, next) = u8_at(info, next)?;
+    if address_size == 4 {
+        Ok((offset as usize, next))
+    } else {
+        Err(InfoFault::Version)
+    }
+}
+
+/// Where the units of a section stand. Behind one that passes the section there is none.
+pub fn spans_of(alloc: Global, info: &[u8]) -> Result<Spans, NoMemory>
+    ensures spans { IfOk result (λ r. All (IsSpan info.now) r.units.items) }
+    ensures value { IfOk result (λ r. (abbrevs strs : List ℕ) → contents_of abbrevs strs info.now ≡ joined (all_joined (map (given abbrevs strs info.now) r.units.items)) (ended r.fault)) }
+{
+    let mut units = Vec::new(alloc);
+    let mut at = 0;
+    'units: while at < info.len() {
+        match unit_end(info, at) {
+            Ok(end) => {
+                units.push(Span { at, end })?;
+                at = end;
+            }
+            Err(fault) => {
+                let offset = InfoOffset { at };
+                let fault = Some(UnitFault { offset, fault });
+                return Ok(Spans { units, fault });
+            }
+        }
+    }
+    Ok(Spans { units, fault: None })
+}

@@ -1,0 +1,134 @@
+//! The specifications of attributes, by the places of `.debug_abbrev`.
+//!
+//! Lists of specifications may share their ends, so what stands behind a place is kept for each place, and is filled from
+//! the section's end on.
+
+ghost use Rattle.std.specs.Prelude.{◌≡◌, ◌≤◌, ◌+◌, IfOk, length};
+ghost use Rattle.debug_info.specs.Index.{AreRuns, IsIndex, IsRun, lone_run, no_flags, with_flag};
+
+use crate::abbreviation::specification_at;
+use crate::fault::InfoFault;
+use dbg_traits::NoMemory;
+use std::alloc::Global;
+
+/// `DW_FORM_flag_present`, which has no bytes.
+const FLAG_PRESENT: u64 = 0x19;
+
+/// The attributes that flags name.
+#[derive(Clone, Copy, Debug, PartialEq, Eq)]
+pub struct Flags {
+    pub location: bool,
+    pub name: bool,
+    pub byte_size: bool,
+    pub low_pc: bool,
+    pub high_pc: bool,
+    pub encoding: bool,
+    pub frame_base: bool,
+    pub type_of: bool,
+}
+
+/// The specifications from a place on.
+#[derive(Clone, Copy, Debug, PartialEq, Eq)]
+pub struct Run {
+    /// What those in front name that have no bytes in an entry.
+    pub flags: Flags,
+    /// The place of the first other one, or of their end.
+    pub behind: usize,
+    /// The place behind their end.
+    pub end: Result<usize, InfoFault>,
+}
+
+/// The specifications from each place on.
+#[derive(Drop)]
+pub struct Index {
+    /// The last place's first.
+    runs: Vec<Run>,
+}
+
+fn no_flags() -> Flags
+    ensures { result ≡ no_flags }
+{
+    Flags {
+        location: false,
+        name: false,
+        byte_size: false,
+        low_pc: false,
+        high_pc: false,
+        encoding: false,
+        frame_base: false,
+        type_of: false,
+    }
+}
+
+// The flags with one more.
+fn with_flag(flags: Flags, name: u64) -> Flags
+    ensures { result ≡ with_flag flags name }
+{
+    Flags {
+        location: flags.location || name == 0x02,
+        name: flags.name || name == 0x03,
+        byte_size: flags.byte_size || name == 0x0B,
+        low_pc: flags.low_pc || name == 0x11,
+        high_pc: flags.high_pc || name == 0x12,
+        encoding: flags.encoding || name == 0x3E,
+        frame_base: flags.frame_base || name == 0x40,
+        type_of: flags.type_of || name == 0x49,
+    }
+}
+
+// The run at a place, by those of the places behind it.
+fn run_at(abbrevs: &[u8], later: &[Run], at: usize) -> Run
+    requires runs { AreRuns abbrevs.now later.now }
+    requires count { length later.now + at ≡ length abbrevs.now }
+    ensures { IsRun abbrevs.now at result }
+{
+    match specification_at(abbrevs, at) {
+        Ok((Some(specification), next)) => {
+            let rest = later[abbrevs.len() - next];
+            if specification.form == FLAG_PRESENT {
+                let flags = with_flag(rest.flags, specification.name);
+                Run { flags, ..rest }
+            } else {
+                lone_run(at, rest.end)
+            }
+        }
+        Ok((None, next)) => lone_run(at, Ok(next)),
+        Err(fault) => lone_run(at, Err(fault)),
+    }
+}
+
+// A run without flags.
+fn lone_run(at: usize, end: Result<usize, InfoFault>) -> Run
+    ensures { result ≡ lone_run at end }
+{
+    Run {
+        flags: no_flags(),
+        behind: at,
+        end,
+    }
+}
+
+/// The specifications from each place of the section on.
+pub fn index_of(alloc: Global, abbrevs: &[u8]) -> Result<Index, NoMemory>
+    ensures { IfOk result (IsIndex abbrevs.now) }
+{
+    let mut runs = Vec::with_capacity(alloc, abbrevs.len() + 1)?;
+    let mut left = abbrevs.len() + 1;
+    'places: while left > 0 {
+        left -= 1;
+        let run = run_at(abbrevs, &runs, left);
+        runs.push(run)?;
+    }
+    Ok(Index { runs })
+}
+
+impl Index {
+    /// The specifications from a place on.
+    pub fn run(&self, abbrevs: &[u8], at: usize) -> Run
+        requires index { IsIndex abbrevs.now self.now }
+        requires within { at ≤ length abbrevs.now }
+        ensures { IsRun abbrevs.now at result }
+    {
+        self.runs[abbrevs.len() - at]
+    }
+}
