@@ -43,7 +43,7 @@ module _ (old : Patched) (h : ℕ) (c : Core) (at : slice_get old.cores h ≡ So
   with_hart d m = record old { cores = slice_set old.cores h d; memory = m }
 
   -- a step of the hart is a step of the machine
-  lifted : (s : Stepped) (d d' : Core) (m m' : Memory) → d.regs.pc < 2 ^ 32 → CoreSteps s (fetched_by old.text old.slots d) d d' m m' → Steps s (with_hart d m) h (with_hart d' m')
+  pub lifted : (s : Stepped) (d d' : Core) (m m' : Memory) → d.regs.pc < 2 ^ 32 → CoreSteps s (fetched_by old.text old.slots d) d d' m m' → Steps s (with_hart d m) h (with_hart d' m')
   lifted s d d' m m' low k b seen =
       let same : d ≡ b = same_some d b (sym (get-set_same old.cores h d c at) ∙ seen) in
       subst (λ (e : Core). StepsTo s (with_hart d m) h e (with_hart d' m')) same

@@ -1,14 +1,13 @@
 -- Windows of words that a hart executes apart from the machine, and what it brings back.
-use Rattle.std.specs.Prelude.{◌≡◌, ℕ, zero, suc, ◌+◌, ◌-◌, ◌/◌, ◌^◌, min, List, [], ◌∷◌, Option, Some, None, slice_get}
-use Rattle.rv_decode.specs.declared.instr.Instr.{Instr}
-use Rattle.rv_decode.specs.declared.instr.Instr.TheVariants.{Ebreak}
+use Rattle.std.specs.Prelude.{◌≡◌, ◌<◌, ℕ, zero, suc, ◌+◌, ◌-◌, ◌/◌, ◌^◌, min, false, List, [], ◌∷◌, Option, Some, None, IsSome, slice_get}
 use Rattle.rv_exec.specs.Registers.{Registers}
-use Rattle.text_words.specs.Words.{Words, stored}
-use Rattle.text_words.specs.declared.fetch.Fetch.{Fetch}
-use Rattle.text_words.specs.declared.fetch.Fetch.TheVariants.{Absent, Planted, Illegal, Instruction}
+use Rattle.rv_exec.specs.declared.effect.Stepped.TheVariants as stepped
+pub use Rattle.text_words.specs.Words.{AreStored}
+use Rattle.text_words.specs.Words.{Words, stored, shown, is_planted}
 use Rattle.hart_machine.specs.declared.hart.Core.{Core}
 use Rattle.hart_machine.specs.Patched.{Patched}
 use Rattle.hart_machine.specs.Copying.{with_core}
+use Rattle.hart_machine.specs.Stepping.{Steps}
 
 abbrev pub word_then : Option ℕ → List ℕ → List ℕ
 word_then None ws = []
@@ -26,13 +25,6 @@ window_room at = min 64 ((2 ^ 32 - 1 - at) / 4 + 1)
 abbrev pub window : Words → ℕ → List ℕ
 window t at = words_from t at (window_room at)
 
--- the instruction of a stored word, where it is one; EBREAK at a planted breakpoint
-abbrev pub instruction_of : Fetch → Option Instr
-instruction_of Absent = None
-instruction_of Planted = Some Ebreak
-instruction_of Illegal = None
-instruction_of (Instruction i) = Some i
-
 -- other registers, after n more instructions; the count stands still at the greatest of its type
 abbrev pub taken_core : Core → ℕ → Registers → Core
 taken_core c n r = record c { regs = r; retired = min (c.retired + n) (2 ^ 64 - 1) }
@@ -40,3 +32,31 @@ taken_core c n r = record c { regs = r; retired = min (c.retired + n) (2 ^ 64 - 
 -- hart h has these registers, n more instructions are counted, and nothing else changes
 abbrev pub TakesSlice : Patched → ℕ → ℕ → Registers → Patched → Type 0
 TakesSlice old h n r new = (c : Core) → slice_get old.cores h ≡ Some c → new ≡ with_core old h (taken_core c n r)
+
+-- hart h is in no slot and has these registers, and these words are stored from an address on
+pub record Fits (m : Patched) (h : ℕ) (r : Registers) (addr : ℕ) (words : List ℕ) : Type 0 where
+  pub core : Core
+  pub there : slice_get m.cores h ≡ Some core
+  pub out : core.entered ≡ None
+  pub regs : core.regs ≡ r
+  pub stored : AreStored m.text addr words
+
+-- a step of hart h, which is in no slot, by a word of text at which no breakpoint is planted, from a machine of which P holds;
+-- it stores nothing
+pub record ThenInPlace (P : Patched → Type 0) (h : ℕ) (new : Patched) : Type 0 where
+  pub machine : Patched
+  pub before : P machine
+  pub core : Core
+  pub there : slice_get machine.cores h ≡ Some core
+  pub out : core.entered ≡ None
+  -- pc is a word
+  pub low : core.regs.pc < 2 ^ 32
+  pub in_text : IsSome (shown machine.text core.regs.pc)
+  pub unplanted : is_planted machine.text core.regs.pc ≡ false
+  pub step : Steps stepped.Ran machine h new
+  pub kept : new.memory ≡ machine.memory
+
+-- n such steps, each of which answered `Ran`
+abbrev pub AllInPlace : ℕ → Patched → ℕ → Patched → Type 0
+AllInPlace zero old h new = new ≡ old
+AllInPlace (suc n) old h new = ThenInPlace (λ m. AllInPlace n old h m) h new

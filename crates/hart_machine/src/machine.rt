@@ -12,26 +12,25 @@ ghost use Rattle.hart_machine.specs.Copying.{Begins, Enters, Finishes, Settles, 
 ghost use Rattle.hart_machine.specs.Stepping.{AreCounted, Steps, IsByteCode, has_run, loaded};
 ghost use Rattle.hart_machine.specs.Poking.{IsOut, PokesRegister, poked_bytes};
 ghost use Rattle.hart_machine.specs.Running.{AllRan, HasStopped};
-ghost use Rattle.hart_machine.specs.Slices.{TakesSlice};
-ghost use Rattle.hart_machine.specs.Slices as slices;
+ghost use Rattle.text_words.specs.Words.{AreStored};
 ghost use Rattle.hart_machine.specs.declared.hart.Core.{Core};
+
+mod slicing;
 
 use crate::Core;
 use crate::cores::first_cores;
 use crate::hart::{copy_core, enter_core, settle_core, step_core};
 use crate::running::run_core;
 use crate::view::HartView;
-use crate::window::{Window, window_at};
 use data_memory::DataMemory;
 use dbg_traits::{NoMemory, Settings};
 use elf32_read::Image;
-use reg_slices::{Job, Slice};
 use rv_decode::decode;
 use rv_exec::Stepped;
 use scratch_slots::{SlotUse, Slots};
 use std::alloc::Global;
 use std::marker::Model;
-use text_words::TextWords;
+use text_words::{Fetch, TextWords};
 
 /// Several harts over one text, one memory and the scratch slots.
 #[derive(Drop)]
@@ -153,6 +152,22 @@ impl Machine {
         self.text.word(addr)
     }
 
+    /// What stands at an address for a hart that executes it and is in no slot.
+    pub fn fetch(&self, addr: u32) -> Fetch
+        ensures { result ≡ text.fetched self.now.text addr }
+    {
+        self.text.fetch(addr)
+    }
+
+    /// Whether these words are stored one after another from an address on: EBREAK where a breakpoint is planted. Nothing
+    /// is stored past the last address, and no words are stored anywhere.
+    pub fn stores(&self, addr: u32, words: &[u32]) -> bool
+        ensures yes { result ≡ true → AreStored self.now.text addr words.now }
+        ensures no { AreStored self.now.text addr words.now → result ≡ true }
+    {
+        self.text.stores(addr, words)
+    }
+
     /// The program's word at an address; none where no word of text is.
     pub fn shown(&self, addr: u32) -> Option<u32>
         ensures { result ≡ text.shown self.now.text addr }
@@ -266,36 +281,6 @@ impl Machine {
         ensures { self.new ≡ poked_bytes self.old addr bytes.now }
     {
         self.memory.write_range(addr, bytes);
-    }
-
-    /// What a slice of a hart starts from: its registers, and the stored words from its pc on, at most 64 and up to a gap.
-    pub fn job(&self, h: u32, limit: u32) -> Job
-        requires { h < length self.now.cores }
-        ensures job { (result.hart ≡ h) × (result.limit ≡ limit) }
-        ensures hart { (c : Core) → slice_get self.now.cores h ≡ Some c → (result.regs ≡ c.regs) × (result.at ≡ c.regs.pc) }
-        ensures words { result.words.items ≡ slices.window self.now.text result.at }
-    {
-        let regs = self.cores[h as usize].regs;
-        let at = regs.pc();
-        let Window { words, code } = window_at(&self.text, at);
-        Job {
-            hart: h,
-            regs,
-            at,
-            words,
-            code,
-            limit,
-        }
-    }
-
-    /// Gives the slice's hart the registers after the slice, and counts its instructions. Nothing else changes.
-    pub fn take_slice(&mut self, slice: &Slice)
-        requires { slice.now.hart < length self.old.cores }
-        ensures { TakesSlice self.old slice.now.hart slice.now.count slice.now.after self.new }
-    {
-        let core = &mut self.cores[slice.hart as usize];
-        core.regs = slice.after;
-        core.retired = core.retired.saturating_add(u64::from(slice.count));
     }
 
     /// Gives a hart the least free slot for a copy of the word, and puts it there: its next step executes the word. None

@@ -1,52 +1,33 @@
-// Windows of stored words, with their instructions.
-ghost use Rattle.std.specs.Prelude.{◌≡◌};
-ghost use Rattle.reg_slices.specs.Slices.{AreDecoded};
+// Windows of stored words.
+ghost use Rattle.std.specs.Prelude.{◌≡◌, []};
 ghost use Rattle.hart_machine.specs.Slices as slices;
 
 use arrayvec::ArrayVec;
-use rv_decode::Instr;
-use text_words::{Fetch, TextWords};
+use text_words::TextWords;
 
 /// The most words of a window.
-const MOST_WORDS: u32 = 64;
-
-/// Words and the instruction of each, where it is one.
-pub struct Window {
-    pub words: ArrayVec<u32, 64>,
-    pub code: ArrayVec<Option<Instr>, 64>,
-    pub ghost decoded: { AreDecoded words.items code.items },
-}
-
-fn instruction_of(fetched: Fetch) -> Option<Instr>
-    ensures { result ≡ slices.instruction_of fetched }
-{
-    match fetched {
-        Fetch::Absent | Fetch::Illegal => None,
-        Fetch::Planted => Some(Instr::Ebreak),
-        Fetch::Instruction(instruction) => Some(instruction),
-    }
-}
+const MOST_WORDS: usize = 64;
 
 /// How many words may stand in a window that begins at an address.
-fn window_room(at: u32) -> u32
+fn window_room(at: u32) -> usize
     ensures { result ≡ slices.window_room at }
 {
-    MOST_WORDS.min((u32::MAX - at) / 4 + 1)
+    MOST_WORDS.min((u32::MAX - at) as usize / 4 + 1)
 }
 
-/// The stored words from an address on, up to a gap, and their instructions.
-pub fn window_at(text: &TextWords, at: u32) -> Window
-    ensures { result.words.items ≡ slices.window text.now at }
+/// Appends the stored words from an address on, up to a gap, to an empty list. The words of one section are copied at once.
+pub fn push_window(text: &TextWords, at: u32, words: &mut ArrayVec<u32, 64>)
+    requires { words.old.items ≡ [] }
+    ensures { words.new.items ≡ slices.window text.now at }
 {
-    let mut words = ArrayVec::new();
-    let mut code = ArrayVec::new();
-    'words: for i in 0..window_room(at) {
-        let addr = at + 4 * i;
-        let Some(word) = text.word(addr) else {
-            return Window { words, code };
-        };
+    let room = window_room(at);
+    let run = text.run_at(at);
+    let near = room.min(run.len());
+    // The room is the list's capacity at most.
+    words.try_extend_from_slice(&run[..near]).unwrap();
+    'far: for i in near..room {
+        let addr = at + 4 * i as u32;
+        let Some(word) = text.word(addr) else { return };
         words.push(word);
-        code.push(instruction_of(text.fetch(addr)));
     }
-    Window { words, code }
 }

@@ -1,45 +1,35 @@
 -- When one more instruction of a window can be executed, and how far a run of them goes.
-use Rattle.std.proofs.Common.{◌≡◌, ℕ, suc, zero, ◌+◌, ◌<◌, ◌≤◌, ◌-◌, ◌/◌, ◌%◌, ◌&&◌, nat_le, Bool, Option, [], ◌∷◌, map, refl, ap, sym, ◌∙◌, cond, Some, None, arith, true, false, List, inl, inr}
-use Rattle.std.specs.Prelude.{slice_get, ◌==◌}
+use Rattle.std.proofs.Common.{◌≡◌, ℕ, suc, zero, ◌+◌, ◌<◌, ◌≤◌, [], ◌∷◌, ap, sym, ◌∙◌, cond, Some, None, arith, true, false, List, inl, inr}
+use Rattle.std.specs.Prelude.{replicate}
 use Rattle.std.specs.Option.{option_and_then}
 use Rattle.std.proofs.lemmas.Bool.{cases_lt}
 use Rattle.rv_decode.specs.declared.instr.Instr.{Instr}
-use Rattle.rv_decode.specs.Decode.{decode}
 use Rattle.rv_exec.specs.Registers.{Registers}
 use Rattle.rv_exec.specs.Step.{step, Outcome}
 use Rattle.rv_exec.specs.Memory.{no_bytes}
-use Rattle.reg_slices.specs.Slices.{AreDecoded, instruction_at, moved, moved_by, is_register_only, registers_of, own_step, ran}
+use Rattle.reg_slices.specs.Slices.{AreKnown, instruction_at, moved, is_register_only, registers_of, own_step, ran}
 
-pub no_instruction : (code : List (Option Instr)) (at : ℕ) (r : Registers) → instruction_at code at r.pc ≡ None → moved_by code at r ≡ None
-unfolding moved_by
-no_instruction code at r h = ap (option_and_then (own_step r)) h
+pub no_instruction : (words : List ℕ) (at : ℕ) (r : Registers) → instruction_at words at r.pc ≡ None → moved words at r ≡ None
+unfolding moved
+no_instruction words at r h = ap (option_and_then (own_step r)) h
 
-pub other_kind : (code : List (Option Instr)) (at : ℕ) (r : Registers) (i : Instr) → instruction_at code at r.pc ≡ Some i → is_register_only i ≡ false → moved_by code at r ≡ None
-unfolding moved_by
-other_kind code at r i h k = ap (option_and_then (own_step r)) h ∙ ap (λ b. cond b (registers_of (step i r no_bytes)) None) k
+pub other_kind : (words : List ℕ) (at : ℕ) (r : Registers) (i : Instr) → instruction_at words at r.pc ≡ Some i → is_register_only i ≡ false → moved words at r ≡ None
+unfolding moved
+other_kind words at r i h k = ap (option_and_then (own_step r)) h ∙ ap (λ b. cond b (registers_of (step i r no_bytes)) None) k
 
-pub stepped : (code : List (Option Instr)) (at : ℕ) (r : Registers) (i : Instr) (o : Outcome) → instruction_at code at r.pc ≡ Some i → is_register_only i ≡ true → o ≡ step i r no_bytes
-    → moved_by code at r ≡ registers_of o
-unfolding moved_by
-stepped code at r i o h k s = ap (option_and_then (own_step r)) h ∙ ap (λ b. cond b (registers_of (step i r no_bytes)) None) k ∙ ap registers_of (sym s)
+pub stepped : (words : List ℕ) (at : ℕ) (r : Registers) (i : Instr) (o : Outcome) → instruction_at words at r.pc ≡ Some i → is_register_only i ≡ true → o ≡ step i r no_bytes
+    → moved words at r ≡ registers_of o
+unfolding moved
+stepped words at r i o h k s = ap (option_and_then (own_step r)) h ∙ ap (λ b. cond b (registers_of (step i r no_bytes)) None) k ∙ ap registers_of (sym s)
 
 pub ruleset moves = (no_instruction, other_kind, stepped)
 
-get-decoded : (words : List ℕ) (k : ℕ) → option_and_then (λ o. o) (slice_get (map decode words) k) ≡ option_and_then decode (slice_get words k)
-get-decoded [] k = refl
-get-decoded (w ∷ ws) zero = refl
-get-decoded (w ∷ ws) (suc k) = get-decoded ws k
-
-in_window : (b : Bool) (x : Option Instr) (o : Option ℕ) → x ≡ option_and_then decode o → cond b x None ≡ option_and_then decode (cond b o None)
-in_window true x o e = e
-in_window false x o e = refl
-
--- the window's instructions are those of its words
-pub same_moves : (words : List ℕ) (code : List (Option Instr)) (at : ℕ) (r : Registers) → AreDecoded words code → moved_by code at r ≡ moved words at r
-unfolding moved moved_by
-same_moves words code at r e =
-    ap (λ c. option_and_then (own_step r) (instruction_at c at r.pc)) e
-    ∙ ap (option_and_then (own_step r)) (in_window (nat_le at r.pc && ((r.pc - at) % 4 == 0)) _ (slice_get words ((r.pc - at) / 4)) (get-decoded words ((r.pc - at) / 4)))
+-- nothing is known at first
+pub none_known : (words : List ℕ) (n : ℕ) → AreKnown words (replicate n None)
+none_known words zero k i h = cc
+none_known words (suc n) zero i h = cc
+none_known [] (suc n) (suc k) i h = none_known [] n k i h
+none_known (w ∷ ws) (suc n) (suc k) i h = none_known ws n k i h
 
 -- past the place where no more instruction is executed there is no run
 none_after : (words : List ℕ) (at : ℕ) (r q : Registers) (n k : ℕ) → ran words at r n ≡ Some q → moved words at q ≡ None → n < k → ran words at r k ≡ None

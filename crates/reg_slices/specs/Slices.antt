@@ -1,6 +1,6 @@
 -- Runs of instructions that touch registers alone: this project's own notion. Which ones do is read off the RISC-V
 -- Unprivileged ISA: all of RV32IM but loads, stores, ECALL and EBREAK, and no AMO.
-use Rattle.std.specs.Prelude.{ℕ, suc, zero, ◌-◌, ◌/◌, ◌%◌, ◌≡◌, Bool, true, false, ◌&&◌, ◌==◌, nat_le, List, map, slice_get, Option, Some, None, if◌then◌else◌}
+use Rattle.std.specs.Prelude.{ℕ, suc, zero, ◌-◌, ◌/◌, ◌%◌, ◌≡◌, Bool, true, false, ◌&&◌, ◌==◌, nat_le, List, slice_get, Option, Some, None, if◌then◌else◌}
 use Rattle.std.specs.Option.{option_and_then}
 use Rattle.rv_decode.specs.declared.instr.Instr.{Instr}
 use Rattle.rv_decode.specs.declared.instr.Instr.TheVariants.{Lui, Auipc, Jal, Jalr, Branch, Load, Store, OpImm, Op, MulDiv, Amo, Fence, FenceI, Ecall, Ebreak}
@@ -31,9 +31,9 @@ is_register_only Ebreak = false
 abbrev pub word_at : List ℕ → ℕ → ℕ → Option ℕ
 word_at words at pc = if nat_le at pc && ((pc - at) % 4 == 0) then slice_get words ((pc - at) / 4) else None
 
--- the instruction at an address of the window, given what each word decodes to
-abbrev pub instruction_at : List (Option Instr) → ℕ → ℕ → Option Instr
-instruction_at code at pc = if nat_le at pc && ((pc - at) % 4 == 0) then option_and_then (λ o. o) (slice_get code ((pc - at) / 4)) else None
+-- the instruction at an address of the window
+abbrev pub instruction_at : List ℕ → ℕ → ℕ → Option Instr
+instruction_at words at pc = option_and_then decode (word_at words at pc)
 
 abbrev pub registers_of : Outcome → Option Registers
 registers_of (Done r m) = Some r
@@ -45,11 +45,7 @@ own_step r i = if is_register_only i then registers_of (step i r no_bytes) else 
 
 -- one instruction of the window, which touches registers alone and doesn't trap
 unfoldable pub moved : List ℕ → ℕ → Registers → Option Registers
-moved words at r = option_and_then (own_step r) (option_and_then decode (word_at words at r.pc))
-
--- the same, given what each word decodes to
-unfoldable pub moved_by : List (Option Instr) → ℕ → Registers → Option Registers
-moved_by code at r = option_and_then (own_step r) (instruction_at code at r.pc)
+moved words at r = option_and_then (own_step r) (instruction_at words at r.pc)
 
 -- so many of them
 abbrev pub ran : List ℕ → ℕ → Registers → ℕ → Option Registers
@@ -60,9 +56,9 @@ ran words at r (suc n) = option_and_then (moved words at) (ran words at r n)
 abbrev pub SliceOf : Registers → ℕ → List ℕ → ℕ → Registers → Type 0
 SliceOf r at words n r' = ran words at r n ≡ Some r'
 
--- what each word decodes to
-abbrev pub AreDecoded : List ℕ → List (Option Instr) → Type 0
-AreDecoded words code = code ≡ map decode words
+-- each instruction that is known of a word is what the word decodes to
+abbrev pub AreKnown : List ℕ → List (Option Instr) → Type 0
+AreKnown words known = (k : ℕ) (i : Instr) → slice_get known k ≡ Some (Some i) → option_and_then decode (slice_get words k) ≡ Some i
 
 -- the same outcome with another memory
 abbrev pub with_memory : Memory → Outcome → Outcome

@@ -1,10 +1,12 @@
-ghost use Rattle.std.specs.Prelude.{◌≡◌, ◌≤◌, ℕ, Some, None, if◌then◌else◌};
+ghost use Rattle.std.specs.Prelude.{◌≡◌, ◌<◌, ◌≤◌, ℕ, Some, None, if◌then◌else◌, length, slice_get};
 ghost use Rattle.std.specs.Bool.{OnFalse};
+ghost use Rattle.std.specs.Option.{option_and_then};
+ghost use Rattle.rv_decode.specs.Decode.{decode};
 ghost use Rattle.rv_exec.specs.Registers.{Registers};
-ghost use Rattle.reg_slices.specs.Slices.{AreDecoded, SliceOf, instruction_at, is_register_only, moved_by, TouchesRegistersAlone};
+ghost use Rattle.reg_slices.specs.Slices.{AreKnown, SliceOf, instruction_at, is_register_only, moved, TouchesRegistersAlone};
 
 use arrayvec::ArrayVec;
-use rv_decode::Instr;
+use rv_decode::{Instr, decode};
 use rv_exec::{Effect, NoBytes, Regs, execute};
 
 /// What a slice starts from. It can't be dropped, so that whoever takes one must work it or take it apart.
@@ -17,11 +19,8 @@ pub struct Job {
     pub at: u32,
     /// The instruction words from `at` up.
     pub words: ArrayVec<u32, 64>,
-    /// The instruction of each word, where it is one.
-    pub code: ArrayVec<Option<Instr>, 64>,
     /// The greatest number of instructions.
     pub limit: u32,
-    pub ghost decoded: { AreDecoded words.items code.items },
 }
 
 /// A run of instructions: `count` of them, each of which stands in the window at its pc, touches registers alone
@@ -65,28 +64,55 @@ fn touches_registers_alone(i: &Instr) -> bool
     }
 }
 
+/// The instruction of a word. It is decoded where it isn't known yet, and known from then on.
+#[inline(always)]
+fn instruction_of(words: &[u32], known: &mut [Option<Instr>], k: usize) -> Option<Instr>
+    requires place { k < length words.now }
+    requires room { k < length known.old }
+    requires known { AreKnown words.now known.old }
+    ensures instruction { result ≡ option_and_then decode (slice_get words.now k) }
+    ensures known { AreKnown words.now known.new }
+    ensures same { length known.new ≡ length known.old }
+{
+    let found = known[k];
+    if found.is_some() {
+        return found;
+    }
+    known[k] = decode(words[k]);
+    known[k]
+}
+
 /// The instruction of the window that stands at `pc`.
 #[inline(always)]
-fn window_instruction(code: &[Option<Instr>], at: u32, pc: u32) -> Option<Instr>
-    ensures { result ≡ instruction_at code.now at pc }
+fn window_instruction(words: &[u32], known: &mut [Option<Instr>], at: u32, pc: u32) -> Option<Instr>
+    requires room { length words.now ≤ length known.old }
+    requires known { AreKnown words.now known.old }
+    ensures instruction { result ≡ instruction_at words.now at pc }
+    ensures known { AreKnown words.now known.new }
+    ensures same { length known.new ≡ length known.old }
 {
     if pc < at || (pc - at) % 4 != 0 {
         return None;
     }
-    match code.get(((pc - at) / 4) as usize) {
-        Some(instruction) => *instruction,
-        None => None,
+    let k = ((pc - at) / 4) as usize;
+    if k >= words.len() {
+        return None;
     }
+    instruction_of(words, known, k)
 }
 
 /// Executes the instruction of the window at pc, if there is one that touches registers alone and doesn't trap.
 #[inline(always)]
 #[tactic(auto, using(crate::proofs::Moves::moves))]
-fn advance(code: &[Option<Instr>], at: u32, regs: &mut Regs) -> bool
-    ensures moved { moved_by code.now at regs.old ≡ (if result then Some regs.new else None) }
+fn advance(words: &[u32], known: &mut [Option<Instr>], at: u32, regs: &mut Regs) -> bool
+    requires room { length words.now ≤ length known.old }
+    requires known { AreKnown words.now known.old }
+    ensures moved { moved words.now at regs.old ≡ (if result then Some regs.new else None) }
     ensures kept { OnFalse result (regs.new ≡ regs.old) }
+    ensures known { AreKnown words.now known.new }
+    ensures same { length known.new ≡ length known.old }
 {
-    let Some(i) = window_instruction(code, at, regs.pc()) else {
+    let Some(i) = window_instruction(words, known, at, regs.pc()) else {
         return false
     };
     if !touches_registers_alone(&i) {
@@ -110,12 +136,13 @@ pub fn run_slice(job: Job) -> Slice
         regs,
         at,
         words,
-        code,
         limit,
     } = job;
+    // A slice meets a few words, most of them in a loop.
+    let mut known = [None; 64];
     let mut after = regs;
     let mut count = 0;
-    while count < limit && advance(code.as_slice(), at, &mut after) {
+    while count < limit && advance(words.as_slice(), &mut known, at, &mut after) {
         count += 1;
     }
     Slice {

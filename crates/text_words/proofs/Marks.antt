@@ -1,6 +1,6 @@
 -- Words, marks and instructions at the places of addresses.
-use Rattle.std.proofs.Common.{◌≡◌, ◌≢◌, ℕ, suc, zero, ◌%◌, ◌/◌, ◌*◌, ◌+◌, ◌-◌, ◌≤◌, ◌^◌, ◌<◌, List, [], ◌∷◌, length, map, subst, refl, ap, sym, ◌∙◌, arith, Bool, true, false, cond, Some, None, Option, ◌&&◌, get_or-set_same, get_or-set_other, inl, inr}
-use Rattle.std.specs.Prelude.{IfSome, slice_get, slice_index, slice_index_or, slice_set, is_some, IsSome, ◌==◌, ◌⊎◌}
+use Rattle.std.proofs.Common.{◌≡◌, ◌≢◌, ℕ, suc, zero, ◌%◌, ◌/◌, ◌*◌, ◌+◌, ◌-◌, ◌≤◌, ◌^◌, ◌<◌, List, [], ◌∷◌, length, map, subst, refl, ap, sym, ◌∙◌, arith, Bool, true, false, cond, Some, None, Option, get_or-set_same, get_or-set_other, length-set, inl, inr, true≢false}
+use Rattle.std.specs.Prelude.{IfSome, slice_get, slice_index, slice_index_or, slice_set, is_some, IsSome, ◌==◌, ◌⊎◌, if◌then◌else◌}
 use Rattle.std.specs.Option.{option_map, option_map_or}
 use Rattle.std.specs.FinSet as set
 use Rattle.std.proofs.lemmas.Bool.Decides.{nat_tests}
@@ -13,18 +13,10 @@ use Rattle.text_words.specs.declared.text.TextWords.TheInside.{Inside}
 use Rattle.text_words.specs.declared.fetch.Fetch.{Fetch}
 use Rattle.text_words.specs.declared.fetch.Fetch.TheVariants.{Absent}
 use Rattle.text_words.specs.Tables.{words_below, set_below}
-use Rattle.text_words.specs.Words.{Words, shown, is_planted, fetched, fetched_as, decoded_as, unpatched}
-use Rattle.text_words.specs.Layout.{Laid, IsLaid, AreEntries, place, index, word_at, entry_at, mark_at, is_mark, seen, sections_from, all_words}
+use Rattle.text_words.specs.Words.{Words, shown, is_planted, fetched, fetched_as, decoded_as, stored_as, unpatched}
+use Rattle.text_words.specs.Layout.{Laid, IsLaid, AreEntries, AreKept, place, index, word_at, entry_at, mark_at, is_mark, seen, sections_from, all_words}
 use Rattle.text_words.proofs.Below.{word_below, in_below, inserted, removed, same_words, none_in}
 use Rattle.text_words.proofs.Places.{place_range, one_place, begun_word, found_place}
-
-and_true : (b : Bool) → b ≡ (b && true)
-and_true true = refl
-and_true false = refl
-
-and_false : (b : Bool) → (b && false) ≡ false
-and_false true = refl
-and_false false = refl
 
 some_mapped : (o : Option ℕ) (words : List ℕ) → IsSome (option_map (slice_index words) o) → is_some o ≡ true
 some_mapped None words s = s
@@ -87,9 +79,8 @@ entry_here ss code addr i f h e =
     ap (λ o. option_map_or (λ j. slice_index_or (slice_set code i f) j Absent) o Absent) e ∙ get_or-set_same code i f Absent (index_range ss (length code) addr i h e)
 
 pub marked_here : (ss : List Section) (code : List Fetch) (addr i w : ℕ) (f : Fetch) (planted : Bool) → Laid 0 ss (length code) → index ss addr ≡ Some i → f ≡ fetched_as (Some w) planted
-    → mark_at ss (slice_set code i f) addr ≡ (planted && is_some (index ss addr))
-marked_here ss code addr i w f planted h e is =
-    ap is_mark (entry_here ss code addr i f h e ∙ is) ∙ mark_of w planted ∙ and_true planted ∙ sym (ap (λ o. planted && is_some o) e)
+    → mark_at ss (slice_set code i f) addr ≡ planted
+marked_here ss code addr i w f planted h e is = ap is_mark (entry_here ss code addr i f h e ∙ is) ∙ mark_of w planted
 
 entry_other : (ss : List Section) (code : List Fetch) (addr i q : ℕ) (f : Fetch) (o : Option ℕ) → Laid 0 ss (length code) → index ss addr ≡ Some i → q ≢ addr → index ss q ≡ o
     → option_map_or (λ j. slice_index_or (slice_set code i f) j Absent) o Absent ≡ option_map_or (λ j. slice_index_or code j Absent) o Absent
@@ -100,9 +91,6 @@ entry_other ss code addr i q f (Some j) h e d w =
 pub marked_others : (ss : List Section) (code : List Fetch) (addr i : ℕ) (f : Fetch) → Laid 0 ss (length code) → index ss addr ≡ Some i
     → (q : ℕ) → q ≢ addr → mark_at ss (slice_set code i f) q ≡ mark_at ss code q
 marked_others ss code addr i f h e q d = ap is_mark (entry_other ss code addr i q f (index ss q) h e d refl)
-
-pub unmarked_here : (ss : List Section) (code : List Fetch) (addr : ℕ) (planted : Bool) → index ss addr ≡ None → mark_at ss code addr ≡ (planted && is_some (index ss addr))
-unmarked_here ss code addr planted e = ap (λ o. is_mark (option_map_or (λ j. slice_index_or code j Absent) o Absent)) e ∙ sym (and_false planted) ∙ sym (ap (λ o. planted && is_some o) e)
 
 same_place : (h k : ℕ) → (h ≡ k) ⊎ (h ≡ k → ⊥)
 same_place zero zero = inl refl
@@ -127,6 +115,24 @@ entries_kept words code i f planted whole low is all k within =
       | inr d ↦ subst (IsEntry (slice_index words k)) (sym (get_or-set_other code i k f Absent (λ e. d (sym e)))) (all k within)
     ]
 
+-- and each stored word its entry's
+pub kept_set : (words kept : List ℕ) (code : List Fetch) (i : ℕ) (f : Fetch) → length code ≡ length words → i < length code → AreKept words code kept
+    → AreKept words (slice_set code i f) (slice_set kept i (stored_as (slice_index words i) f))
+kept_set words kept code i f whole low all = record {
+  whole = length-set kept i (stored_as (slice_index words i) f) ∙ all.whole;
+  each = λ k within.
+      elim (same_place i k) [
+        | inl e ↦
+            ap (λ j. slice_index (slice_set kept i (stored_as (slice_index words i) f)) j) (sym e)
+            ∙ (get_or-set_same kept i (stored_as (slice_index words i) f) 0 (omega (arith, whole, low, all.whole))
+            ∙ (ap (stored_as (slice_index words i)) (sym (get_or-set_same code i f Absent low))
+            ∙ ap (λ j. stored_as (slice_index words j) (slice_index_or (slice_set code i f) j Absent)) e))
+        | inr d ↦
+            get_or-set_other kept i k (stored_as (slice_index words i) f) 0 (λ e. d (sym e))
+            ∙ (all.each k within ∙ ap (stored_as (slice_index words k)) (sym (get_or-set_other code i k f Absent (λ e. d (sym e)))))
+      ];
+}
+
 -- the entries as they are made
 abbrev pub unmarked : List ℕ → List Fetch
 unmarked words = map (λ w. decoded_as (decode w)) words
@@ -140,6 +146,19 @@ unmarked_entries [] k l = absurd (omega arith)
 unmarked_entries (w ∷ ws) zero l = made w false
 unmarked_entries (w ∷ ws) (suc k) l = unmarked_entries ws k (omega arith)
 
+stored_decoded : (w : ℕ) (o : Option Instr) → w ≡ stored_as w (decoded_as o)
+stored_decoded w None = refl
+stored_decoded w (Some i) = refl
+
+each_unmarked : (words : List ℕ) (k : ℕ) → k < length words → slice_index words k ≡ stored_as (slice_index words k) (slice_index_or (unmarked words) k Absent)
+each_unmarked [] k l = absurd (omega arith)
+each_unmarked (w ∷ ws) zero l = stored_decoded w (decode w)
+each_unmarked (w ∷ ws) (suc k) l = each_unmarked ws k (omega arith)
+
+-- the stored words as they are made
+pub unmarked_kept : (words : List ℕ) → AreKept words (unmarked words) words
+unmarked_kept words = record { whole = refl; each = each_unmarked words }
+
 all_unmarked : (words : List ℕ) (i : ℕ) → is_mark (slice_index_or (unmarked words) i Absent) ≡ false
 all_unmarked [] i = refl
 all_unmarked (w ∷ ws) zero = mark_of w false
@@ -151,6 +170,9 @@ blank words (Some i) = all_unmarked words i
 
 pub shown_is : (t : Inside) (addr : ℕ) → addr < 2 ^ 32 → shown (seen t) addr ≡ word_at t.sections.items t.words.items addr
 shown_is t addr l = word_below (word_at t.sections.items t.words.items) (2 ^ 32) addr l
+
+pub none_shown : (t : Inside) (addr : ℕ) → addr < 2 ^ 32 → index t.sections.items addr ≡ None → IsSome (shown (seen t) addr) → ⊥
+none_shown t addr l e s = true≢false (sym (subst IsSome (shown_is t addr l ∙ ap (option_map (slice_index t.words.items)) e) s))
 
 pub planted_is : (t : Inside) (addr : ℕ) → addr < 2 ^ 32 → is_planted (seen t) addr ≡ mark_at t.sections.items t.code.items addr
 planted_is t addr l = in_below (mark_at t.sections.items t.code.items) (2 ^ 32) addr l
@@ -177,6 +199,18 @@ plant_set ss code code' addr l here others = inserted (mark_at ss code) (mark_at
 pub lift_set : (ss : List Section) (code code' : List Fetch) (addr : ℕ) → addr < 2 ^ 32 → mark_at ss code' addr ≡ false → ((q : ℕ) → q ≢ addr → mark_at ss code' q ≡ mark_at ss code q)
     → set_below (mark_at ss code') (2 ^ 32) ≡ set.remove (set_below (mark_at ss code) (2 ^ 32)) addr
 lift_set ss code code' addr l here others = removed (mark_at ss code) (mark_at ss code') (2 ^ 32) addr l here (λ r s d. others r d)
+
+pub marked_set : (ss : List Section) (code code' : List Fetch) (addr : ℕ) (planted : Bool) → addr < 2 ^ 32 → mark_at ss code' addr ≡ planted → ((q : ℕ) → q ≢ addr → mark_at ss code' q ≡ mark_at ss code q)
+    → set_below (mark_at ss code') (2 ^ 32) ≡ (if planted then set.insert (set_below (mark_at ss code) (2 ^ 32)) addr else set.remove (set_below (mark_at ss code) (2 ^ 32)) addr)
+marked_set ss code code' addr true l here others = plant_set ss code code' addr l here others
+marked_set ss code code' addr false l here others = lift_set ss code code' addr l here others
+
+-- nothing is marked where no word of text is
+pub unmarked_set : (t : Inside) (addr : ℕ) (planted : Bool) → addr < 2 ^ 32 → index t.sections.items addr ≡ None → (planted ≡ true → IsSome (shown (seen t) addr))
+    → (seen t).planted ≡ (if planted then set.insert (seen t).planted addr else set.remove (seen t).planted addr)
+unmarked_set t addr true l e some = absurd (none_shown t addr l e (some refl))
+unmarked_set t addr false l e some =
+    marked_set t.sections.items t.code.items t.code.items addr false l (ap (λ o. is_mark (option_map_or (λ j. slice_index_or t.code.items j Absent) o Absent)) e) (λ q d. refl)
 
 pub begun : (p : Program) (ss : List Section) (ws us : List ℕ) (code : List Fetch) → ss ≡ sections_from 0 p.text → ws ≡ all_words p.text → code ≡ unmarked us
     → ◌≡◌ {A = Words} (record { words = words_below (word_at ss ws) (2 ^ 32); planted = set_below (mark_at ss code) (2 ^ 32) }) (unpatched p)

@@ -4,7 +4,7 @@ use Rattle.std.specs.Option.{option_map, option_map_or}
 use Rattle.elf32_read.specs.Fields.{spans}
 use Rattle.elf32_read.specs.Program.{Text}
 use Rattle.text_words.specs.Tables.{words_below, set_below}
-use Rattle.text_words.specs.Words.{Words, fetched_as}
+use Rattle.text_words.specs.Words.{Words, fetched_as, stored_as}
 use Rattle.text_words.specs.declared.fetch.Fetch.{Fetch}
 use Rattle.text_words.specs.declared.fetch.Fetch.TheVariants.{Absent, Planted, Illegal, Instruction}
 use Rattle.text_words.specs.declared.layout.Section.{Section}
@@ -48,6 +48,11 @@ seen t = record { words = words_below (word_at t.sections.items t.words.items) (
 abbrev pub AreEntries : List ℕ → List Fetch → Type 0
 AreEntries words code = (k : ℕ) → k < length words → slice_index_or code k Absent ≡ fetched_as (Some (slice_index words k)) (is_mark (slice_index_or code k Absent))
 
+-- the stored word of each: EBREAK where its entry is a breakpoint
+pub record AreKept (words : List ℕ) (code : List Fetch) (kept : List ℕ) : Type 0 where
+  pub whole : length kept ≡ length words
+  pub each : (k : ℕ) → k < length words → slice_index kept k ≡ stored_as (slice_index words k) (slice_index_or code k Absent)
+
 -- a table has the places of the words from its base on
 pub record IsTable (sections : List Section) (t : Table) : Type 0 where
   pub base : t.base % 4 ≡ 0
@@ -58,6 +63,7 @@ pub record IsLaid (t : Inside) : Type 0 where
   pub table : IsTable t.sections.items t.table
   pub whole : length t.code.items ≡ length t.words.items
   pub entries : AreEntries t.words.items t.code.items
+  pub kept : AreKept t.words.items t.code.items t.stored.items
 
 -- the layout of text sections, from a place on
 abbrev pub sections_from : ℕ → List Text → List Section

@@ -1,5 +1,5 @@
 -- Text as it is stored, with breakpoints planted in it.
-use Rattle.std.specs.Prelude.{ℕ, ◌^◌, Bool, true, false, Option, Some, None, refl, if◌then◌else◌}
+use Rattle.std.specs.Prelude.{◌≡◌, ◌<◌, ℕ, ◌+◌, ◌*◌, ◌^◌, Bool, true, false, List, Option, Some, None, slice_get, refl, if◌then◌else◌}
 use Rattle.std.specs.Coded.{Coded, code_by, coded×, coded_ℕ}
 use Rattle.std.specs.Option.{option_map}
 use Rattle.std.specs.FinMap as map
@@ -33,6 +33,21 @@ shown t addr = map.get t.words addr
 -- the word that is executed: EBREAK where a breakpoint is planted
 abbrev pub stored : Words → ℕ → Option ℕ
 stored t addr = option_map (λ w. if is_planted t addr then ebreak else w) (shown t addr)
+
+-- this word is stored i words after an address, and not past the last address
+abbrev pub IsStoredAt : Words → ℕ → ℕ → ℕ → Type 0
+IsStoredAt t addr i w = (addr + 4 * i < 2 ^ 32) × (stored t (addr + 4 * i) ≡ Some w)
+
+-- these words are stored one after another from an address on
+abbrev pub AreStored : Words → ℕ → List ℕ → Type 0
+AreStored t addr words = (i w : ℕ) → slice_get words i ≡ Some w → IsStoredAt t addr i w
+
+-- the stored word where the program has a word and this stands for a hart
+abbrev pub stored_as : ℕ → Fetch → ℕ
+stored_as w Planted = ebreak
+stored_as w Absent = w
+stored_as w Illegal = w
+stored_as w (Instruction i) = w
 
 abbrev pub decoded_as : Option Instr → Fetch
 decoded_as None = Illegal

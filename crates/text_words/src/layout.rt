@@ -1,9 +1,9 @@
 // Text sections side by side in one list of words.
-ghost use Rattle.std.specs.Prelude.{ℕ, ◌<◌, ◌%◌, ◌^◌, IfSome, ◌≢◌, ◌&&◌, is_some, ◌≡◌, ◌≤◌, ◌+◌, ◌*◌, ◌/◌, ◌++◌, ◌∷◌, [], length, map, OnOk, IfOk};
+ghost use Rattle.std.specs.Prelude.{ℕ, ◌<◌, ◌%◌, ◌^◌, IfSome, Some, ◌≡◌, ◌≤◌, ◌+◌, ◌*◌, ◌/◌, ◌++◌, ◌∷◌, [], length, map, OnOk, IfOk};
 ghost use Rattle.rv_decode.specs.Decode.{decode};
 ghost use Rattle.elf32_read.specs.Fields.{u32_at, entries};
-ghost use Rattle.text_words.specs.Words.{decoded_as};
-ghost use Rattle.text_words.specs.Layout.{Laid, IsTable, AreEntries, index, word_at, entry_at, mark_at, sections_from, all_words};
+ghost use Rattle.text_words.specs.Words.{decoded_as, fetched_as};
+ghost use Rattle.text_words.specs.Layout.{Laid, IsTable, index, word_at, entry_at, mark_at, sections_from, all_words};
 
 use crate::fetch::Fetch;
 use elf32_read::Image;
@@ -131,29 +131,14 @@ fn instruction_or_illegal(instruction: Option<Instr>) -> Fetch
     }
 }
 
-/// Plants a breakpoint at the word at an address, or lifts it; nothing where no word of text is.
-pub fn mark(
-    sections: &[Section],
-    table: &Table,
-    words: &[u32],
-    code: &mut [Fetch],
-    addr: u32,
-    planted: bool,
-)
-    requires laid { Laid 0 sections.now (length code.old) }
-    requires table { IsTable sections.now table.now }
-    requires whole { length code.old ≡ length words.now }
-    ensures here { mark_at sections.now code.new addr ≡ (planted && is_some (index sections.now addr)) }
-    ensures others { (q : ℕ) → q ≢ addr → mark_at sections.now code.new q ≡ mark_at sections.now code.old q }
-    ensures entries { AreEntries words.now code.old → AreEntries words.now code.new }
+/// What stands at a word of the program for a hart.
+pub fn entry_of(word: u32, planted: bool) -> Fetch
+    ensures { result ≡ fetched_as (Some word) planted }
 {
-    if let Some(i) = place_of(sections, table, addr, code.len()) {
-        code[i] = if planted {
-            Fetch::Planted
-        } else {
-            instruction_or_illegal(decode(words[i]))
-        };
+    if planted {
+        return Fetch::Planted;
     }
+    instruction_or_illegal(decode(word))
 }
 
 /// Appends the words that the bytes spell, lowest byte first.

@@ -1,7 +1,7 @@
 use Rattle.std.proofs.Common.{refl, ap, sym, ◌∙◌, subst, length}
-use Rattle.text_words.specs.Layout.{IsTable, AreEntries}
+use Rattle.text_words.specs.Layout.{IsTable, AreEntries, AreKept}
 use Rattle.text_words.proofs.Places.{laid_image}
-use Rattle.text_words.proofs.Marks.{begun, unmarked, unmarked_length, unmarked_entries}
+use Rattle.text_words.proofs.Marks.{begun, unmarked, unmarked_length, unmarked_entries, unmarked_kept}
 use Rattle.text_words.proofs.text.TextWords.load.Goals as goal
 
 pub table_of-requires : goal.table_of-requires
@@ -14,6 +14,8 @@ invariant_of-result c = record {
   table = subst (λ ss. IsTable ss c.in_ok-table.table) c.as_slice.ensures.value c.in_ok-table.ensures;
   whole = ap length (c.in_ok-code.ensures ∙ ap unmarked c.as_slice-2.ensures.value) ∙ unmarked_length c.collect.new.words.items;
   entries = subst (AreEntries c.collect.new.words.items) (sym (c.in_ok-code.ensures ∙ ap unmarked c.as_slice-2.ensures.value)) (unmarked_entries c.collect.new.words.items);
+  kept = subst (λ code. AreKept c.collect.new.words.items code c.in_ok-stored.stored.items) (sym (c.in_ok-code.ensures ∙ ap unmarked c.as_slice-2.ensures.value))
+      (subst (AreKept c.collect.new.words.items (unmarked c.collect.new.words.items)) (sym (c.in_ok-stored.ensures.items_if_clones_equal (λ x y e. e) ∙ c.as_slice-3.ensures.value)) (unmarked_kept c.collect.new.words.items));
 }
 
 pub returns : goal.returns
