@@ -17,6 +17,6 @@ pub use climbing::accepted_is_tree;
 pub use evaluating::{Value, node_value};
 pub use expr::{Expr, parse, parsed_is_tree, value};
 pub use fault::{ExprFault, FaultKind, ParseError};
-pub use register::Register;
+pub use register::{Register, register_of};
 pub use token::{Binary, Leaf, Prefix, ReadType};
 pub use tree::Node;

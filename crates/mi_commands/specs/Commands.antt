@@ -1,5 +1,5 @@
 -- What a line's parts ask for.
-use Rattle.std.specs.Prelude.{ℕ, List, [], ◌∷◌, ◌++◌, map, Option, Some, None, Result, Ok, Err, unwrap_or, if◌then◌else◌}
+use Rattle.std.specs.Prelude.{ℕ, List, [], ◌∷◌, ◌++◌, length, map, Option, Some, None, Result, Ok, Err, unwrap_or, if◌then◌else◌}
 use Rattle.mi_input.specs.Parts.{WordView, PartsView}
 use Rattle.mi_commands.specs.declared.operation.Operation.{Operation}
 use Rattle.mi_commands.specs.declared.operation.Operation.TheVariants as op
@@ -17,6 +17,8 @@ use Rattle.mi_commands.specs.declared.refusal.Fault.TheVariants as fault
 use Rattle.mi_commands.specs.Operations.{spelling, operation_of}
 use Rattle.mi_commands.specs.Words.{options, parameters, stands, value_in}
 use Rattle.mi_commands.specs.Numbers.{number}
+use Rattle.mi_commands.specs.Bytes.{bytes_of, repeated}
+use Rattle.mi_commands.specs.Registers.{Assignment, assignment, form, register}
 use Rattle.mi_commands.specs.Locations.{location_of}
 use Rattle.mi_commands.specs.Settings.{format_of, setting_of, set_command}
 use Rattle.mi_commands.specs.Faults.{first_word, second_word, number_in, first_fault}
@@ -72,6 +74,18 @@ insertion ws = record {
   text = first_word (parameters ws);
 }
 
+-- `$NAME=VALUE`, of a thread
+abbrev pub set_register : Option ℕ → Assignment → Command
+set_register thread a = command.SetRegister thread a.name (register a.name) (number a.value)
+
+-- the bytes of CONTENTS, and how many are written: as many as are given, where there is no COUNT
+abbrev pub bytes_written : List ℕ → Option ℕ → List ℕ
+bytes_written bytes count = repeated bytes (unwrap_or count (length bytes))
+
+-- ADDRESS CONTENTS [COUNT]
+abbrev pub write_memory : List WordView → Command
+write_memory ps = command.WriteMemory (first_number ps) (bytes_written (bytes_of (second_word ps)) (number_if_any (rest_of (rest_of ps))))
+
 -- what the words of an operation ask for, where they have no fault
 abbrev pub command_for : Operation → List WordView → Command
 command_for op.BreakInsert ws = command.BreakInsert (insertion ws)
@@ -81,6 +95,7 @@ command_for op.BreakDisable ws = command.BreakDisable (numbers (parameters ws))
 command_for op.BreakCondition ws = command.BreakCondition (first_number (parameters ws)) (joined_if_any (rest_of (parameters ws)))
 command_for op.BreakAfter ws = command.BreakAfter (first_number (parameters ws)) (second_number (parameters ws))
 command_for op.BreakList ws = command.BreakList
+command_for op.BreakWatch ws = command.BreakWatch (joined (parameters ws))
 command_for op.Continue ws = command.Continue (target_of ws)
 command_for op.Interrupt ws = command.Interrupt (target_of ws)
 command_for op.Step ws = command.Step (number_in option.Thread ws)
@@ -100,8 +115,10 @@ command_for op.RegisterValues ws =
     command.RegisterValues (number_in option.Thread ws) (unwrap_or (format_of (first_word (parameters ws))) format.Hexadecimal)
     (numbers (rest_of (parameters ws)))
 command_for op.ReadMemory ws = command.ReadMemory (first_number (parameters ws)) (second_number (parameters ws))
+command_for op.WriteMemory ws = write_memory (parameters ws)
 command_for op.Evaluate ws = command.Evaluate (number_in option.Thread ws) (joined (parameters ws))
 command_for op.Set ws = unwrap_or (set_command (first_word (parameters ws)) (second_word (parameters ws))) command.SetNonStop
+command_for op.SetRegister ws = set_register (number_in option.Thread ws) (assignment (first_word (parameters ws)))
 command_for op.Show ws = command.Show (unwrap_or (setting_of (first_word (parameters ws))) setting.NonStop)
 command_for op.Exit ws = command.Exit
 
@@ -109,10 +126,13 @@ abbrev pub unless : Option Fault → Command → Result Command Fault
 unless None c = Ok c
 unless (Some f) c = Err f
 
+abbrev pub answer_as : List ℕ → Operation → List WordView → Result Command Fault
+answer_as name o ws = unless (first_fault o name ws) (command_for o ws)
+
 -- An operation that isn't in the table, else the least of the other faults, else the command.
 abbrev pub answer_by : List ℕ → Option Operation → List WordView → Result Command Fault
 answer_by name None ws = Err (fault.Undefined name)
-answer_by name (Some o) ws = unless (first_fault o name ws) (command_for o ws)
+answer_by name (Some o) ws = answer_as name (form o (parameters ws)) ws
 
 unfoldable pub answer_of : Option (List ℕ) → List WordView → Result Command Fault
 answer_of None ws = Ok command.Blank

@@ -11,6 +11,8 @@ use Rattle.mi_commands.specs.declared.refusal.Fault.TheVariants as fault
 use Rattle.mi_commands.specs.Operations.{or_else}
 use Rattle.mi_commands.specs.Words.{options, parameters, value_in, words_fit}
 use Rattle.mi_commands.specs.Numbers.{number, bad_number}
+use Rattle.cond_expr.specs.Registers.{register_number}
+use Rattle.mi_commands.specs.Registers.{assignment}
 use Rattle.mi_commands.specs.Locations.{location_of}
 use Rattle.mi_commands.specs.Settings.{format_of, setting_of, set_command}
 
@@ -40,9 +42,10 @@ parameters_fault o name ws = if words_fit o ws then None else Some (fault.Parame
 abbrev pub number_fault : Operation → List WordView → Option Fault
 number_fault o ws = option_map fault.Number (bad_number o ws)
 
--- whether the parameters are settings, values and formats that there are
+-- whether the parameters are settings, values, registers and formats that there are
 abbrev pub settings_fit : Operation → List WordView → Bool
 settings_fit op.Set ps = is_some (set_command (first_word ps) (second_word ps))
+settings_fit op.SetRegister ps = is_some (register_number (assignment (first_word ps)).name)
 settings_fit op.Show ps = is_some (setting_of (first_word ps))
 settings_fit op.RegisterValues ps = is_some (format_of (first_word ps))
 settings_fit _ ps = true

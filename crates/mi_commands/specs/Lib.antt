@@ -1,6 +1,8 @@
 pub mod Operations
 pub mod Words
 pub mod Steps
+pub mod Bytes
+pub mod Registers
 pub mod Numbers
 pub mod Locations
 pub mod Settings

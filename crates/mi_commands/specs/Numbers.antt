@@ -1,5 +1,5 @@
 -- Numbers: decimal, or hexadecimal behind `0x`, below 2^32.
-use Rattle.std.specs.Prelude.{ℕ, ◌+◌, ◌-◌, ◌*◌, ◌^◌, List, [], ◌∷◌, Bool, false, ◌==◌, ◌&&◌, nat_le, nat_lt, Option, Some, None, is_none, unwrap_or, if◌then◌else◌}
+use Rattle.std.specs.Prelude.{ℕ, ◌+◌, ◌-◌, ◌*◌, ◌^◌, List, [], ◌∷◌, Bool, false, not, ◌==◌, ◌&&◌, nat_lt, Option, Some, None, is_none, unwrap_or, if◌then◌else◌}
 use Rattle.std.specs.Option.{option_and_then}
 use Rattle.mi_input.specs.Parts.{WordView}
 use Rattle.mi_commands.specs.declared.operation.Operation.{Operation}
@@ -9,13 +9,8 @@ use Rattle.mi_commands.specs.declared.number.Range.{Range}
 use Rattle.mi_commands.specs.declared.number.Range.TheVariants as range
 use Rattle.mi_commands.specs.Operations.{or_else, is_named}
 use Rattle.mi_commands.specs.Words.{Given, options, parameters}
-
-abbrev pub between : ℕ → ℕ → ℕ → Bool
-between low high n = nat_le low n && nat_le n high
-
--- what a hexadecimal digit of either case counts, and 16 for other bytes
-abbrev pub digit_value : ℕ → ℕ
-digit_value b = if between 48 57 b then b - 48 else (if between 97 102 b then b - 87 else (if between 65 70 b then b - 55 else 16))
+use Rattle.mi_commands.specs.Bytes.{between, digit_value, are_bytes}
+use Rattle.mi_commands.specs.Registers.{assignment}
 
 -- the number `n` with these digits behind it, if they are digits and it stays below 2^32
 unfoldable pub value_from : ℕ → ℕ → List ℕ → Option ℕ
@@ -67,7 +62,7 @@ value_range word =
 abbrev pub first_and_others : Option Range → Option Range → ℕ → Option Range
 first_and_others first others k = if k == 0 then first else others
 
--- which parameters are numbers, by their places from 0
+-- which parameters are numbers, by their places from 0; where a register is set, what stands behind the `=` is one
 abbrev pub range_at : Operation → ℕ → Option Range
 range_at op.BreakInsert k = None
 range_at op.BreakDelete k = Some range.Any
@@ -76,6 +71,7 @@ range_at op.BreakDisable k = Some range.Any
 range_at op.BreakCondition k = first_and_others (Some range.Any) None k
 range_at op.BreakAfter k = first_and_others (Some range.Any) (Some range.Count) k
 range_at op.BreakList k = None
+range_at op.BreakWatch k = None
 range_at op.Continue k = None
 range_at op.Interrupt k = None
 range_at op.Step k = None
@@ -93,8 +89,10 @@ range_at op.FrameInfo k = None
 range_at op.RegisterNames k = None
 range_at op.RegisterValues k = first_and_others None (Some range.Register) k
 range_at op.ReadMemory k = first_and_others (Some range.Any) (Some range.Length) k
+range_at op.WriteMemory k = first_and_others (Some range.Any) (Some range.Length) k
 range_at op.Evaluate k = None
 range_at op.Set k = None
+range_at op.SetRegister k = Some range.Any
 range_at op.Show k = None
 range_at op.Exit k = None
 
@@ -104,10 +102,25 @@ bad_value [] = None
 bad_value ((word, None) ∷ given) = bad_value given
 bad_value ((word, Some value) ∷ given) = if is_bad (value_range word) value then Some value else bad_value given
 
--- the same of the parameters, the first of which has this place
+-- which parameter is bytes, each as two hexadecimal digits
+abbrev pub has_bytes_at : Operation → ℕ → Bool
+has_bytes_at op.WriteMemory k = k == 1
+has_bytes_at _ k = false
+
+-- no number or no bytes, where such are wanted
+abbrev pub is_bad_at : Operation → ℕ → List ℕ → Bool
+is_bad_at o k word = if has_bytes_at o k then not (are_bytes word) else is_bad (range_at o k) word
+
+-- the part of a parameter that is to be a number or bytes
+abbrev pub number_part : Operation → List ℕ → List ℕ
+number_part op.SetRegister word = (assignment word).value
+number_part _ word = word
+
+-- the first parameter that should be a number or bytes and is none; the first has this place
 unfoldable pub bad_parameter : Operation → ℕ → List WordView → Option (List ℕ)
 bad_parameter o k [] = None
-bad_parameter o k (w ∷ ws) = if is_bad (range_at o k) w.0 then Some w.0 else bad_parameter o (k + 1) ws
+bad_parameter o k (w ∷ ws) =
+    if is_bad_at o k (number_part o w.0) then Some (number_part o w.0) else bad_parameter o (k + 1) ws
 
 -- the leftmost word that should be a number and is none: the options stand before the parameters
 abbrev pub bad_number : Operation → List WordView → Option (List ℕ)

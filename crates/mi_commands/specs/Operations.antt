@@ -1,6 +1,6 @@
 -- The table of the commands: the operations' names, the options that each takes, and how many parameters.
 -- (GDB's manual, chapter "The GDB/MI Interface"; `exec-wait` is this project's own.)
-use Rattle.std.specs.Prelude.{ℕ, List, Bool, false, ◌==◌, ◌||◌, nat_le, Option, Some, None, codes, if◌then◌else◌}
+use Rattle.std.specs.Prelude.{ℕ, List, Bool, false, ◌==◌, ◌&&◌, ◌||◌, nat_le, Option, Some, None, codes, if◌then◌else◌}
 use Rattle.std.specs.Str.{bytes_eq}
 use Rattle.mi_commands.specs.declared.operation.Operation.{Operation}
 use Rattle.mi_commands.specs.declared.operation.Operation.TheVariants as op
@@ -25,7 +25,8 @@ break_operation name =
     else (if bytes_eq name (codes "break-condition") then Some op.BreakCondition
     else (if bytes_eq name (codes "break-after") then Some op.BreakAfter
     else (if bytes_eq name (codes "break-list") then Some op.BreakList
-    else None))))))
+    else (if bytes_eq name (codes "break-watch") then Some op.BreakWatch
+    else None)))))))
 
 unfoldable pub run_operation : List ℕ → Option Operation
 run_operation name =
@@ -54,13 +55,15 @@ data_operation name =
     if bytes_eq name (codes "data-list-register-names") then Some op.RegisterNames
     else (if bytes_eq name (codes "data-list-register-values") then Some op.RegisterValues
     else (if bytes_eq name (codes "data-read-memory-bytes") then Some op.ReadMemory
+    else (if bytes_eq name (codes "data-write-memory-bytes") then Some op.WriteMemory
     else (if bytes_eq name (codes "data-evaluate-expression") then Some op.Evaluate
     else (if bytes_eq name (codes "gdb-set") then Some op.Set
     else (if bytes_eq name (codes "gdb-show") then Some op.Show
     else (if bytes_eq name (codes "gdb-exit") then Some op.Exit
-    else None))))))
+    else None)))))))
 
--- the operation of a name without the `-` before it; the names differ, so that at most one of the four is there
+-- the operation of a name without the `-` before it; the names differ, so that at most one of the four is there.
+-- `SetRegister` has no name of its own: it is a form of `-gdb-set`.
 unfoldable pub operation_of : List ℕ → Option Operation
 operation_of name = or_else (break_operation name) (or_else (run_operation name) (or_else (thread_operation name) (data_operation name)))
 
@@ -95,6 +98,7 @@ abbrev pub fits : Count → ℕ → Bool
 fits count.Zero n = n == 0
 fits count.One n = n == 1
 fits count.Two n = n == 2
+fits count.TwoOrThree n = nat_le 2 n && nat_le n 3
 fits count.AtMostOne n = nat_le n 1
 fits count.AtLeastOne n = nat_le 1 n
 
@@ -107,6 +111,7 @@ shape op.BreakDisable = (allowed.Nothing, count.AtLeastOne)
 shape op.BreakCondition = (allowed.Nothing, count.AtLeastOne)
 shape op.BreakAfter = (allowed.Nothing, count.Two)
 shape op.BreakList = (allowed.Nothing, count.Zero)
+shape op.BreakWatch = (allowed.Nothing, count.AtLeastOne)
 shape op.Continue = (allowed.OfThreads, count.Zero)
 shape op.Interrupt = (allowed.OfThreads, count.Zero)
 shape op.Step = (allowed.OfThread, count.Zero)
@@ -124,7 +129,9 @@ shape op.FrameInfo = (allowed.OfThread, count.Zero)
 shape op.RegisterNames = (allowed.Nothing, count.Zero)
 shape op.RegisterValues = (allowed.OfThread, count.AtLeastOne)
 shape op.ReadMemory = (allowed.Nothing, count.Two)
+shape op.WriteMemory = (allowed.Nothing, count.TwoOrThree)
 shape op.Evaluate = (allowed.OfThread, count.AtLeastOne)
 shape op.Set = (allowed.Nothing, count.Two)
+shape op.SetRegister = (allowed.OfThread, count.One)
 shape op.Show = (allowed.Nothing, count.One)
 shape op.Exit = (allowed.Nothing, count.Zero)

@@ -8,13 +8,16 @@ ghost use Rattle.mi_commands.specs.Operations.{operation_of};
 ghost use Rattle.mi_commands.specs.Words.{options, value_in};
 ghost use Rattle.mi_commands.specs.Steps.{text};
 ghost use Rattle.mi_commands.specs.Faults.{first_fault, first_word};
-ghost use Rattle.mi_commands.specs.Commands.{insertion, command_for, answer_of};
+ghost use Rattle.mi_commands.specs.Commands.{insertion, set_register, write_memory, command_for, answer_of};
+ghost use Rattle.mi_commands.specs.Registers.{assignment};
 ghost use Rattle.mi_commands.specs.Gives.{Answers, Commands, GivesAnswer};
 
+use crate::bytes::{bytes_of, repeated};
 use crate::command::{Command, CommandLine, Format, Insertion, Setting};
 use crate::counts::OptionName;
 use crate::lists::ByteList;
 use crate::location::{Place, location_of};
+use crate::number::number;
 use crate::operation::Operation;
 use crate::options::{has, parameters, value_in, words_fit};
 use crate::reading::{
@@ -22,6 +25,7 @@ use crate::reading::{
     number_in, numbers, rest_of, second_number, second_word, settings_fit, target_of,
 };
 use crate::refusal::{Failure, Fault, Refusal};
+use crate::registers::{assignment, register};
 use crate::setting::{format_of, set_command, setting_of};
 use mi_input::{InputFault, Word, split};
 use std::alloc::{AllocError, Global};
@@ -84,6 +88,34 @@ fn insertion(alloc: Global, words: &[Word]) -> Result<Insertion, AllocError>
     })
 }
 
+// `$NAME=VALUE`, of a thread.
+fn set_register(alloc: Global, thread: Option<u32>, word: &[u8]) -> Result<Command, AllocError>
+    ensures { IfOk result (λ c. c ≡ set_register thread (assignment word.now)) }
+{
+    let assignment = assignment(word);
+    Ok(Command::SetRegister {
+        thread,
+        name: copy(alloc, assignment.name)?,
+        register: register(assignment.name),
+        value: number(assignment.value),
+    })
+}
+
+// ADDRESS CONTENTS [COUNT]; without COUNT as many bytes are written as are given.
+fn write_memory(alloc: Global, parameters: &[Word]) -> Result<Command, AllocError>
+    ensures { IfOk result (λ c. c ≡ write_memory (words_view parameters.now)) }
+{
+    let bytes = bytes_of(alloc, second_word(parameters))?;
+    let count = match number_if_any(rest_of(rest_of(parameters))) {
+        Some(count) => count as usize,
+        None => bytes.len(),
+    };
+    Ok(Command::WriteMemory {
+        address: first_number(parameters),
+        bytes: repeated(alloc, &bytes, count)?,
+    })
+}
+
 // What the words of an operation ask for, where they have no fault.
 fn command(alloc: Global, operation: Operation, words: &[Word]) -> Result<Command, AllocError>
     ensures { IfOk result (λ c. c ≡ command_for operation (words_view words.now)) }
@@ -104,6 +136,9 @@ fn command(alloc: Global, operation: Operation, words: &[Word]) -> Result<Comman
             count: second_number(parameters),
         },
         Operation::BreakList => Command::BreakList,
+        Operation::BreakWatch => Command::BreakWatch {
+            expression: joined(alloc, parameters)?,
+        },
         Operation::Continue => Command::Continue(target_of(words)),
         Operation::Interrupt => Command::Interrupt(target_of(words)),
         Operation::Step => Command::Step { thread },
@@ -132,6 +167,7 @@ fn command(alloc: Global, operation: Operation, words: &[Word]) -> Result<Comman
             address: first_number(parameters),
             count: second_number(parameters),
         },
+        Operation::WriteMemory => write_memory(alloc, parameters)?,
         Operation::Evaluate => Command::Evaluate {
             thread,
             expression: joined(alloc, parameters)?,
@@ -139,6 +175,7 @@ fn command(alloc: Global, operation: Operation, words: &[Word]) -> Result<Comman
         Operation::Set => set_command(first_word(parameters), second_word(parameters)).unwrap_or(
             Command::SetNonStop,
         ),
+        Operation::SetRegister => set_register(alloc, thread, first_word(parameters))?,
         Operation::Show => {
             Command::Show(setting_of(first_word(parameters)).unwrap_or(Setting::NonStop))
         }
@@ -158,6 +195,7 @@ fn answer(alloc: Global, operation: Option<Vec<u8>>, words: &[Word]) -> Result<C
     let Some(operation) = Operation::named(&name) else {
         return Err(Failure::Faulty(Fault::Undefined(ByteList::of(name))));
     };
+    let operation = operation.form(parameters(words));
     if let Some(fault) = first_fault(alloc, operation, &name, words)? {
         return Err(Failure::Faulty(fault));
     }

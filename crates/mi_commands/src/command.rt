@@ -91,6 +91,10 @@ pub enum Command {
         count: u32,
     },
     BreakList,
+    /// The words of the expression, whose bytes are to be watched, are joined by one space each.
+    BreakWatch {
+        expression: ByteList,
+    },
     Continue(Target),
     Interrupt(Target),
     Step {
@@ -138,6 +142,11 @@ pub enum Command {
         address: u32,
         count: u32,
     },
+    /// The 1 to 4,096 bytes that are to be written from an address on.
+    WriteMemory {
+        address: u32,
+        bytes: ByteList,
+    },
     /// The words of the expression are joined by one space each.
     Evaluate {
         thread: Option<u32>,
@@ -149,6 +158,13 @@ pub enum Command {
     SetMiAsync,
     /// `-gdb-set displaced-stepping on|off|auto`.
     SetDisplaced(Displaced),
+    /// `-gdb-set $NAME=VALUE`: the register's name as it is spelled, without the `$`, and its number, of which 32 is pc.
+    SetRegister {
+        thread: Option<u32>,
+        name: ByteList,
+        register: u32,
+        value: u32,
+    },
     Show(Setting),
     Exit,
 }

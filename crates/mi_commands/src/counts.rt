@@ -35,6 +35,7 @@ pub enum Count {
     Zero,
     One,
     Two,
+    TwoOrThree,
     AtMostOne,
     AtLeastOne,
 }
@@ -103,6 +104,7 @@ impl Count {
             Count::Zero => n == 0,
             Count::One => n == 1,
             Count::Two => n == 2,
+            Count::TwoOrThree => 2 <= n && n <= 3,
             Count::AtMostOne => n <= 1,
             Count::AtLeastOne => 1 <= n,
         }

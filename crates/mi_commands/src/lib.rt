@@ -4,6 +4,7 @@
 #![tactic(auto)]
 
 mod answering;
+mod bytes;
 mod command;
 mod counts;
 mod lists;
@@ -13,6 +14,7 @@ mod operation;
 mod options;
 mod reading;
 mod refusal;
+mod registers;
 mod setting;
 
 pub use answering::command_of;

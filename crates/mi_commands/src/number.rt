@@ -1,7 +1,9 @@
 //! Numbers, and the ranges in which they lie.
 
 ghost use Rattle.std.specs.Prelude.{◌≡◌, ◌≤◌, ◌<◌, ◌^◌};
-ghost use Rattle.mi_commands.specs.Numbers.{digit_value, value_from, digits_number, number_of, in_range, is_bad, number};
+ghost use Rattle.mi_commands.specs.Numbers.{value_from, digits_number, number_of, in_range, is_bad, number};
+
+use crate::bytes::digit_value;
 
 /// The numbers that a command takes at some place.
 #[derive(Clone, Copy, Debug, PartialEq, Eq)]
@@ -14,19 +16,6 @@ pub enum Range {
     Register,
     /// 1 to 4,096.
     Length,
-}
-
-/// What a hexadecimal digit counts, and 16 for other bytes.
-fn digit_value(b: u8) -> u8
-    ensures value { result ≡ digit_value b }
-    ensures small { result ≤ 16 }
-{
-    match b {
-        b'0'..=b'9' => b - b'0',
-        b'a'..=b'f' => b - b'a' + 10,
-        b'A'..=b'F' => b - b'A' + 10,
-        _ => 16,
-    }
 }
 
 /// The number with these digits behind it.

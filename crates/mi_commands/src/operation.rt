@@ -2,10 +2,14 @@
 
 ghost use Rattle.std.specs.Prelude.{◌≡◌};
 ghost use Rattle.mi_commands.specs.Operations.{break_operation, run_operation, thread_operation, data_operation, operation_of, shape};
-ghost use Rattle.mi_commands.specs.Numbers.{range_at, first_and_others};
+ghost use Rattle.mi_input.specs.Split.{words_view};
+ghost use Rattle.mi_commands.specs.Numbers.{range_at, first_and_others, has_bytes_at};
+ghost use Rattle.mi_commands.specs.Registers.{form};
 
 use crate::counts::{Allowed, Count};
 use crate::number::Range;
+use crate::registers::assignment_of;
+use mi_input::Word;
 
 /// What a line asks for, by the operation's name.
 #[derive(Clone, Copy, Debug, PartialEq, Eq)]
@@ -17,6 +21,7 @@ pub enum Operation {
     BreakCondition,
     BreakAfter,
     BreakList,
+    BreakWatch,
     Continue,
     Interrupt,
     Step,
@@ -34,8 +39,12 @@ pub enum Operation {
     RegisterNames,
     RegisterValues,
     ReadMemory,
+    WriteMemory,
     Evaluate,
+    /// `-gdb-set` of a setting.
     Set,
+    /// `-gdb-set` of a register.
+    SetRegister,
     Show,
     Exit,
 }
@@ -58,6 +67,8 @@ fn break_operation(name: &[u8]) -> Option<Operation>
         Some(Operation::BreakAfter)
     } else if name == b"break-list".as_slice() {
         Some(Operation::BreakList)
+    } else if name == b"break-watch".as_slice() {
+        Some(Operation::BreakWatch)
     } else {
         None
     }
@@ -119,6 +130,8 @@ fn data_operation(name: &[u8]) -> Option<Operation>
         Some(Operation::RegisterValues)
     } else if name == b"data-read-memory-bytes".as_slice() {
         Some(Operation::ReadMemory)
+    } else if name == b"data-write-memory-bytes".as_slice() {
+        Some(Operation::WriteMemory)
     } else if name == b"data-evaluate-expression".as_slice() {
         Some(Operation::Evaluate)
     } else if name == b"gdb-set".as_slice() {
@@ -166,7 +179,8 @@ impl Operation {
             Operation::BreakDelete
             | Operation::BreakEnable
             | Operation::BreakDisable
-            | Operation::BreakCondition => (Allowed::Nothing, Count::AtLeastOne),
+            | Operation::BreakCondition
+            | Operation::BreakWatch => (Allowed::Nothing, Count::AtLeastOne),
             Operation::BreakAfter | Operation::ReadMemory | Operation::Set => (
                 Allowed::Nothing,
                 Count::Two,
@@ -185,6 +199,8 @@ impl Operation {
             | Operation::FrameList
             | Operation::FrameDepth
             | Operation::FrameInfo => (Allowed::OfThread, Count::Zero),
+            Operation::WriteMemory => (Allowed::Nothing, Count::TwoOrThree),
+            Operation::SetRegister => (Allowed::OfThread, Count::One),
             Operation::ThreadInfo => (Allowed::Nothing, Count::AtMostOne),
             Operation::ThreadSelect | Operation::Show => (Allowed::Nothing, Count::One),
             Operation::RegisterValues | Operation::Evaluate => (
@@ -203,12 +219,37 @@ impl Operation {
             | Operation::BreakEnable
             | Operation::BreakDisable
             | Operation::ThreadInfo
-            | Operation::ThreadSelect => Some(Range::Any),
+            | Operation::ThreadSelect
+            | Operation::SetRegister => Some(Range::Any),
             Operation::BreakCondition => first_and_others(Some(Range::Any), None, place),
             Operation::BreakAfter => first_and_others(Some(Range::Any), Some(Range::Count), place),
             Operation::RegisterValues => first_and_others(None, Some(Range::Register), place),
-            Operation::ReadMemory => first_and_others(Some(Range::Any), Some(Range::Length), place),
+            Operation::ReadMemory | Operation::WriteMemory => {
+                first_and_others(Some(Range::Any), Some(Range::Length), place)
+            }
             _ => None,
+        }
+    }
+
+    /// Whether its parameter at this place, from 0, is bytes, each as two hexadecimal digits.
+    pub fn has_bytes_at(self, place: usize) -> bool
+        ensures { result ≡ has_bytes_at self place }
+    {
+        match self {
+            Operation::WriteMemory => place == 1,
+            _ => false,
+        }
+    }
+
+    /// The operation with these parameters: `-gdb-set` with the one word `$NAME=VALUE` sets a register.
+    pub fn form(self, parameters: &[Word]) -> Operation
+        ensures { result ≡ form self (words_view parameters.now) }
+    {
+        match (self, parameters) {
+            (Operation::Set, [word]) if assignment_of(&word.bytes).is_some() => {
+                Operation::SetRegister
+            }
+            _ => self,
         }
     }
 }

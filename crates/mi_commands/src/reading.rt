@@ -3,12 +3,13 @@
 ghost use Rattle.std.specs.Prelude.{◌≡◌, ◌+◌, ◌<◌, ◌^◌, ◌++◌, length, OnOk, IfOk};
 ghost use Rattle.mi_input.specs.Split.{words_view};
 ghost use Rattle.mi_commands.specs.Faults.{first_word, second_word, number_in, settings_fit, location_fits};
-ghost use Rattle.mi_commands.specs.Numbers.{value_range, bad_value, bad_parameter};
+ghost use Rattle.mi_commands.specs.Numbers.{value_range, bad_value, bad_parameter, is_bad_at, number_part};
 ghost use Rattle.mi_commands.specs.Words.{options};
 ghost use Rattle.mi_commands.specs.Steps.{text};
 ghost use Rattle.mi_commands.specs.Commands.{first_number, second_number, rest_of, numbers, spaced, joined, joined_if_any, number_if_any, target_of};
 ghost use Rattle.mi_commands.specs.Operations.{or_else};
 
+use crate::bytes::are_bytes;
 use crate::command::Target;
 use crate::counts::OptionName;
 use crate::lists::{ByteList, NumberList};
@@ -16,7 +17,9 @@ use crate::location::location_of;
 use crate::number::{Range, is_bad, number};
 use crate::operation::Operation;
 use crate::options::{has, option_in_front, value_in};
+use crate::registers::assignment;
 use crate::setting::{format_of, set_command, setting_of};
+use cond_expr::register_of;
 use mi_input::Word;
 use std::alloc::{AllocError, Global};
 
@@ -170,6 +173,27 @@ fn bad_value(words: &[Word]) -> Option<&[u8]>
     }
 }
 
+// Whether the word is no number or no bytes, where such are wanted.
+fn is_bad_at(operation: Operation, place: usize, word: &[u8]) -> bool
+    ensures { result ≡ is_bad_at operation place word.now }
+{
+    if operation.has_bytes_at(place) {
+        !are_bytes(word)
+    } else {
+        is_bad(operation.range_at(place), word)
+    }
+}
+
+// The part of a parameter that is to be a number or bytes.
+fn number_part(operation: Operation, word: &[u8]) -> &[u8]
+    ensures { result.now ≡ number_part operation word.now }
+{
+    match operation {
+        Operation::SetRegister => assignment(word).value,
+        _ => word,
+    }
+}
+
 #[tactic(auto, unfolding(crate::specs::Numbers::bad_parameter))]
 fn bad_parameter(operation: Operation, place: usize, words: &[Word]) -> Option<&[u8]>
     requires { place + length words.now < 2 ^ 64 }
@@ -178,13 +202,14 @@ fn bad_parameter(operation: Operation, place: usize, words: &[Word]) -> Option<&
     let [first, rest @ ..] = words else {
         return None;
     };
-    if is_bad(operation.range_at(place), &first.bytes) {
-        return Some(&first.bytes);
+    let part = number_part(operation, &first.bytes);
+    if is_bad_at(operation, place, part) {
+        return Some(part);
     }
     bad_parameter(operation, place + 1, rest)
 }
 
-/// The leftmost word that should be a number of some range and is none.
+/// The leftmost word that should be a number of some range, or bytes, and is none.
 pub fn bad_number<'a>(
     operation: Operation,
     words: &'a [Word],
@@ -198,12 +223,13 @@ pub fn bad_number<'a>(
     }
 }
 
-/// Whether the parameters are settings, values and formats that there are.
+/// Whether the parameters are settings, values, registers and formats that there are.
 pub fn settings_fit(operation: Operation, parameters: &[Word]) -> bool
     ensures { result ≡ settings_fit operation (words_view parameters.now) }
 {
     match operation {
         Operation::Set => { set_command(first_word(parameters), second_word(parameters)).is_some() }
+        Operation::SetRegister => register_of(assignment(first_word(parameters)).name).is_some(),
         Operation::Show => setting_of(first_word(parameters)).is_some(),
         Operation::RegisterValues => format_of(first_word(parameters)).is_some(),
         _ => true,

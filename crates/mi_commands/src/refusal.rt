@@ -19,10 +19,10 @@ pub enum Fault {
     /// of words; with the operation's name.
     #[error("wrong parameters")]
     Parameters(ByteList),
-    /// The leftmost word that is no number, or one out of its range.
+    /// The leftmost word that is no number, or one out of its range, or no bytes; of `$NAME=VALUE` the value.
     #[error("bad number")]
     Number(ByteList),
-    /// Another setting or value, or another register format.
+    /// Another setting or value, another register format, or no register.
     #[error("unsupported setting")]
     Setting,
     /// A word of no location form, and the thread of `-p`.

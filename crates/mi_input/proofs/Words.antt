@@ -10,7 +10,8 @@ use Rattle.std.proofs.lemmas.Option.{same_Some}
 use Rattle.mi_input.specs.declared.parts.Word.{Word}
 use Rattle.mi_input.specs.declared.parts.InputFault.{InputFault}
 use Rattle.mi_input.specs.declared.parts.InputFault.TheVariants as faults
-use Rattle.mi_input.specs.Parts.{Symbol, symbol, byte_of, third_digit, second_digit, octal_at, escape_at, symbol_at, is_octal, IsText, is_blank, is_word_byte, is_plain, is_parted, after_blanks, WordView, IsWordOf, IsWord, IsWords}
+use Rattle.mi_values.specs.Reading.{is_octal}
+use Rattle.mi_input.specs.Parts.{Symbol, symbol, byte_of, third_digit, second_digit, octal_at, escape_at, symbol_at, IsText, is_blank, is_word_byte, is_plain, is_parted, after_blanks, WordView, IsWordOf, IsWord, IsWords}
 use Rattle.mi_input.specs.Split.{word_view, words_view, ReadsQuoted, ReadsWord, ReadsWords}
 
 -- ---- a byte's spelling is taken off the front

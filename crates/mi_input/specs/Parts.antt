@@ -2,6 +2,7 @@
 use Rattle.std.specs.Prelude.{◌≡◌, ℕ, ◌+◌, ◌-◌, ◌*◌, List, [], ◌∷◌, ◌++◌, length, take, drop, take_while, min, Bool, true, false, not, Option, Some, None, ◌==◌, ◌&&◌, ◌||◌, nat_le, nat_lt, if◌then◌else◌}
 use Rattle.std.specs.List.{list_all}
 use Rattle.mi_values.specs.Token.{is_digit}
+use Rattle.mi_values.specs.Reading.{is_octal, letter_or}
 
 -- space and tab
 abbrev pub is_blank : ℕ → Bool
@@ -40,9 +41,6 @@ is_operation (b ∷ bs) = list_all is_operation_byte (b ∷ bs)
 
 -- ---- C strings
 
-abbrev pub is_octal : ℕ → Bool
-is_octal b = nat_le 48 b && nat_le b 55
-
 -- a byte, and what stands behind its spelling
 abbrev pub Symbol : Type 0
 Symbol = Option (ℕ × List ℕ)
@@ -70,12 +68,7 @@ octal_at (b ∷ bs) = if is_octal b then second_digit (b - 48) bs else None
 -- behind a `\`
 unfoldable pub escape_at : List ℕ → Symbol
 escape_at [] = None
-escape_at (b ∷ bs) =
-    if b == 34 then symbol 34 bs
-    else (if b == 92 then symbol 92 bs
-    else (if b == 110 then symbol 10 bs
-    else (if b == 114 then symbol 13 bs
-    else (if b == 116 then symbol 9 bs else octal_at (b ∷ bs)))))
+escape_at (b ∷ bs) = letter_or b bs (octal_at (b ∷ bs))
 
 -- the byte that is spelled at the front; a `"` spells none
 unfoldable pub symbol_at : List ℕ → Symbol

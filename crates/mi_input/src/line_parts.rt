@@ -7,8 +7,8 @@ ghost use Rattle.mi_input.specs.Split.{Splits, GivesParts, ReadsCommand};
 ghost use Rattle.mi_input.specs.Reading.{Reads};
 
 use crate::parts::{InputFault, Parts, Word};
-use crate::word::{after, after_blanks, is_parted, words};
-use mi_values::{Token, is_digit};
+use crate::word::{after_blanks, is_parted, words};
+use mi_values::{Token, after, is_digit};
 use std::alloc::Global;
 
 /// The greatest length of a line.

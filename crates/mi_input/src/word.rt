@@ -1,22 +1,13 @@
 //! The words of a line.
 
-ghost use Rattle.std.specs.Prelude.{◌≡◌, ◌<◌, ◌≤◌, ◌∷◌, ℕ, List, length, take_while, IfOk, MatchOption, false};
-ghost use Rattle.mi_input.specs.Parts.{is_blank, is_octal, is_word_byte, is_parted, after_blanks, Symbol, octal_at, second_digit, third_digit, escape_at, symbol_at};
+ghost use Rattle.std.specs.Prelude.{◌≡◌, ◌<◌, length, take_while, false};
+ghost use Rattle.mi_input.specs.Parts.{is_blank, is_word_byte, is_parted, after_blanks, Symbol, octal_at, second_digit, third_digit, escape_at, symbol_at};
 ghost use Rattle.mi_input.specs.Split.{ReadsQuoted, ReadsWord, ReadsWords};
 ghost use Rattle.mi_input.specs.Gives.{GivesSymbol};
 
 use crate::parts::{InputFault, Word};
+use mi_values::{after, is_octal, letter};
 use std::alloc::Global;
-
-/// What stands behind this byte, if it is the first.
-pub fn after(bytes: &[u8], b: u8) -> Option<&[u8]>
-    ensures { MatchOption result ((rest : List ℕ) → bytes.now ≡ b ∷ rest → ⊥) (λ rest. bytes.now ≡ b ∷ rest.now) }
-{
-    match bytes {
-        [first, rest @ ..] if *first == b => Some(rest),
-        _ => None,
-    }
-}
 
 fn is_blank(b: u8) -> bool
     ensures { result ≡ is_blank b }
@@ -45,12 +36,6 @@ pub fn after_blanks(bytes: &[u8]) -> &[u8]
     ensures { result.now ≡ after_blanks bytes.now }
 {
     &bytes[blanks(bytes)..]
-}
-
-fn is_octal(b: u8) -> bool
-    ensures { result ≡ is_octal b }
-{
-    48 <= b && b <= 55
 }
 
 fn third_digit(n: u32, bytes: &[u8]) -> Option<(u8, &[u8])>
@@ -87,20 +72,16 @@ fn octal(bytes: &[u8]) -> Option<(u8, &[u8])>
 }
 
 /// The byte that an escape stands for, behind its `\`.
-#[tactic(auto, unfolding(crate::specs::Parts::escape_at))]
+#[tactic(auto, using(mi_values::proofs::Letters::letter_found, mi_values::proofs::Letters::letter_missed), unfolding(crate::specs::Parts::escape_at))]
 fn escape(bytes: &[u8]) -> Option<(u8, &[u8])>
     ensures { GivesSymbol result (escape_at bytes.now) }
 {
     let [first, rest @ ..] = bytes else {
         return None;
     };
-    match *first {
-        b'"' => Some((b'"', rest)),
-        b'\\' => Some((b'\\', rest)),
-        b'n' => Some((b'\n', rest)),
-        b'r' => Some((b'\r', rest)),
-        b't' => Some((b'\t', rest)),
-        _ => octal(bytes),
+    match letter(*first, rest) {
+        Some(found) => Some(found),
+        None => octal(bytes),
     }
 }
 

@@ -1,11 +1,12 @@
 -- One byte's spelling, both ways.
-use Rattle.std.proofs.Common.{eq-eqb, suc, get_or, Fits, w8, ◌≡◌, ℕ, ◌+◌, ◌-◌, ◌*◌, ◌/◌, ◌%◌, ◌<◌, ◌≤◌, List, [], ◌∷◌, ◌++◌, length, Bool, true, false, cond, ◌&&◌, eqb, leb, ltb, Option, Some, None, refl, sym, ap, subst, arith, ◌⊎◌, inl, inr}
+use Rattle.std.proofs.Common.{eq-eqb, suc, get_or, Fits, w8, ◌≡◌, ℕ, ◌+◌, ◌-◌, ◌*◌, ◌/◌, ◌%◌, ◌<◌, ◌≤◌, List, [], ◌∷◌, ◌++◌, length, Bool, true, false, cond, ◌&&◌, eqb, leb, ltb, Option, Some, None, refl, sym, ap, subst, ◌∙◌, arith, ◌⊎◌, inl, inr}
 use Rattle.std.proofs.lemmas.Bool.{cases_eq, cases_lt, ne_eqb, le-leb, lt-leb, leb-true, ltb-true, lt-ltb, eqb-false}
 use Rattle.std.proofs.lemmas.Bool.Decides.{nat_tests}
 use Rattle.std.proofs.lemmas.Option.{same_Some}
 use Rattle.std.proofs.lemmas.List.{length-append}
-use Rattle.mi_values.specs.CString.{escaped, AreBytes}
-use Rattle.mi_values.specs.Reading.{is_plain, is_octal, octal_byte, octal, digits_at, escape_at, byte_at}
+use Rattle.std.specs.List.{list_all}
+use Rattle.mi_values.specs.CString.{escaped, escapes, AreBytes}
+use Rattle.mi_values.specs.Reading.{is_own, is_plain, is_octal, octal_byte, octal, digits_at, escape_at, byte_at}
 
 -- an option that a test leaves
 some_if : {A : Type 0} (b : Bool) (o : Option A) (x : A) → cond b o None ≡ Some x → (b ≡ true) × (o ≡ Some x)
@@ -194,3 +195,12 @@ byte_shorter bytes b rest h = rw (byte_takes bytes b rest h) (longer b rest)
 pub are_bytes : (xs : List ℕ) → ((i : ℕ) → Fits w8 (get_or xs i 0)) → AreBytes xs
 are_bytes [] h = tt
 are_bytes (b ∷ bs) h = let first : Fits w8 b = h 0 in (omega (arith, first), are_bytes bs (λ i. h (suc i)))
+
+own_byte : (b : ℕ) → is_own b ≡ true → escaped b ≡ b ∷ []
+unfolding escaped
+own_byte b h = grind (arith, nat_tests)
+
+-- a text of such bytes is spelled as it is
+pub own_escapes : (t : List ℕ) → list_all is_own t ≡ true → escapes t ≡ t
+own_escapes [] h = refl
+own_escapes (b ∷ bs) h = let p = both (is_own b) (list_all is_own bs) h in ap (λ x. x ++ escapes bs) (own_byte b p.0) ∙ ap (λ x. b ∷ x) (own_escapes bs p.1)

@@ -1,3 +1,4 @@
+pub mod Letters
 pub mod Bytes
 pub mod Bodies
 pub mod Kept
@@ -6,3 +7,7 @@ pub mod One
 pub mod Names
 pub mod Reading
 pub mod Lines
+pub mod Testing
+pub mod Fitting
+pub mod Joined
+pub mod Pieces

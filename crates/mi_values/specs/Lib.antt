@@ -11,3 +11,6 @@ pub mod Keeps
 pub mod Record
 pub mod Line
 pub mod LineParts
+pub mod Testing
+pub mod Records
+pub mod Pieces

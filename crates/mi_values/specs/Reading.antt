@@ -1,5 +1,5 @@
 -- Reading a C string from left to right.
-use Rattle.std.specs.Prelude.{◌≡◌, ℕ, ◌+◌, ◌*◌, ◌-◌, List, [], ◌∷◌, Bool, Option, Some, None, Result, Ok, Err, ◌==◌, ◌&&◌, nat_le, nat_lt, if◌then◌else◌}
+use Rattle.std.specs.Prelude.{◌≡◌, ℕ, ◌+◌, ◌*◌, ◌-◌, List, [], ◌∷◌, Bool, Option, Some, None, Result, Ok, Err, ◌==◌, ◌&&◌, nat_le, nat_lt, if◌then◌else◌, not}
 use Rattle.std.specs.Borrow.{Bor}
 use Rattle.mi_values.specs.declared.fault.RecordFault.{RecordFault}
 use Rattle.mi_values.specs.declared.fault.RecordFault.TheVariants.{NoMemory, Text}
@@ -21,6 +21,10 @@ is_octal b = nat_le 48 b && nat_lt b 56
 abbrev pub is_plain : ℕ → Bool
 is_plain b = nat_le 32 b && nat_le b 126
 
+-- a byte whose spelling is the byte
+abbrev pub is_own : ℕ → Bool
+is_own b = not (b == 34) && (not (b == 92) && is_plain b)
+
 -- a number that is written in octal digits: below 256, and no byte that is written otherwise
 abbrev pub octal_byte : ℕ → List ℕ → Option (ℕ × List ℕ)
 octal_byte b rest =
@@ -36,11 +40,15 @@ digits_at (x ∷ []) = None
 digits_at (x ∷ y ∷ []) = None
 digits_at (x ∷ y ∷ z ∷ rest) = octal x y z rest
 
+-- what a byte behind a `\` stands for, or else this
+abbrev pub letter_or : ℕ → List ℕ → Option (ℕ × List ℕ) → Option (ℕ × List ℕ)
+letter_or c rest other =
+    if c == 34 then Some (34, rest) else (if c == 92 then Some (92, rest) else (if c == 110 then Some (10, rest) else (if c == 114 then Some (13, rest) else (if c == 116 then Some (9, rest) else other))))
+
 -- behind a `\`
 unfoldable pub escape_at : List ℕ → Option (ℕ × List ℕ)
 escape_at [] = None
-escape_at (c ∷ rest) =
-    if c == 34 then Some (34, rest) else (if c == 92 then Some (92, rest) else (if c == 110 then Some (10, rest) else (if c == 114 then Some (13, rest) else (if c == 116 then Some (9, rest) else digits_at (c ∷ rest)))))
+escape_at (c ∷ rest) = letter_or c rest (digits_at (c ∷ rest))
 
 -- one byte's spelling at the front
 unfoldable pub byte_at : List ℕ → Option (ℕ × List ℕ)

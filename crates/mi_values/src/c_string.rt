@@ -1,10 +1,11 @@
 //! C strings: one spelling for each text.
 
-ghost use Rattle.std.specs.Prelude.{◌≡◌, List, ◌++◌, OnOk};
-ghost use Rattle.mi_values.specs.CString.{escaped, c_string, AreBytes};
+ghost use Rattle.std.specs.Prelude.{◌≡◌, List, ◌++◌, OnOk, None};
+ghost use Rattle.std.specs.List.{list_all};
+ghost use Rattle.mi_values.specs.CString.{escaped, escapes, c_string, AreBytes};
 ghost use Rattle.mi_values.specs.Keeps.{Keeps};
 ghost use Rattle.mi_values.specs.Body.{ReadsText, ReadsBody};
-ghost use Rattle.mi_values.specs.Reading.{digits_at, escape_at, byte_at, GivesOption, is_octal};
+ghost use Rattle.mi_values.specs.Reading.{digits_at, escape_at, byte_at, GivesOption, is_octal, is_own, letter_or};
 
 use crate::fault::RecordFault;
 use crate::front::after;
@@ -31,6 +32,34 @@ fn write_byte(b: u8, into: &mut Vec<u8>) -> Result<(), AllocError>
     Ok(())
 }
 
+// Whether a byte's spelling is the byte.
+fn is_own(b: u8) -> bool
+    ensures { result ≡ is_own b }
+{
+    b != b'"' && b != b'\\' && 32 <= b && b <= 126
+}
+
+fn are_own(bytes: &[u8]) -> bool
+    ensures { result ≡ list_all is_own bytes.now }
+{
+    bytes.iter().all(|b| is_own(*b))
+}
+
+#[tactic(auto, using(std::proofs::lemmas::Grind::common_steps, crate::proofs::Bytes::own_escapes))]
+/// Puts the spellings of a text's bytes at the end. Most texts are spelled as they are.
+fn write_bytes(text: &[u8], into: &mut Vec<u8>) -> Result<(), AllocError>
+    ensures written { OnOk result (into.new.items ≡ into.old.items ++ escapes text.now) }
+    ensures kept { Keeps into.old.items into.new.items }
+{
+    if are_own(text) {
+        return into.extend_from_slice(text);
+    }
+    for b in text {
+        write_byte(*b, into)?;
+    }
+    Ok(())
+}
+
 /// Puts the C string of a text at the end.
 pub fn write_c_string(text: &[u8], into: &mut Vec<u8>) -> Result<(), AllocError>
     ensures written { OnOk result (into.new.items ≡ into.old.items ++ c_string text.now) }
@@ -38,14 +67,13 @@ pub fn write_c_string(text: &[u8], into: &mut Vec<u8>) -> Result<(), AllocError>
     ensures kept { Keeps into.old.items into.new.items }
 {
     into.push(b'"')?;
-    for b in text {
-        write_byte(*b, into)?;
-    }
+    write_bytes(text, into)?;
     into.push(b'"')?;
     Ok(())
 }
 
-fn is_octal(b: u8) -> bool
+/// Whether this is an octal digit.
+pub fn is_octal(b: u8) -> bool
     ensures { result ≡ is_octal b }
 {
     48 <= b && b < 56
@@ -68,21 +96,31 @@ fn digits(bytes: &[u8]) -> Option<(u8, &[u8])>
     }
 }
 
+/// The byte that a quotation mark, a backslash or a letter behind a `\` stands for.
+pub fn letter(first: u8, rest: &[u8]) -> Option<(u8, &[u8])>
+    ensures { GivesOption result (letter_or first rest.now None) }
+{
+    match first {
+        b'"' => Some((b'"', rest)),
+        b'\\' => Some((b'\\', rest)),
+        b'n' => Some((b'\n', rest)),
+        b'r' => Some((b'\r', rest)),
+        b't' => Some((b'\t', rest)),
+        _ => None,
+    }
+}
+
 /// The byte that an escape stands for, behind its `\`.
-#[tactic(auto, unfolding(crate::specs::Reading::escape_at))]
+#[tactic(auto, using(crate::proofs::Letters::letter_found, crate::proofs::Letters::letter_missed), unfolding(crate::specs::Reading::escape_at))]
 fn escape(bytes: &[u8]) -> Option<(u8, &[u8])>
     ensures { GivesOption result (escape_at bytes.now) }
 {
     let [first, rest @ ..] = bytes else {
         return None;
     };
-    match *first {
-        b'"' => Some((b'"', rest)),
-        b'\\' => Some((b'\\', rest)),
-        b'n' => Some((b'\n', rest)),
-        b'r' => Some((b'\r', rest)),
-        b't' => Some((b'\t', rest)),
-        _ => digits(bytes),
+    match letter(*first, rest) {
+        Some(found) => Some(found),
+        None => digits(bytes),
     }
 }
 

@@ -86,7 +86,8 @@ fn write_fields(
     Ok(())
 }
 
-fn notice_byte(sign: NoticeSign) -> u8
+/// The first byte of a notice.
+pub fn notice_byte(sign: NoticeSign) -> u8
     ensures { result ≡ notice_byte sign }
 {
     match sign {
@@ -95,7 +96,8 @@ fn notice_byte(sign: NoticeSign) -> u8
     }
 }
 
-fn stream_byte(sign: StreamSign) -> u8
+/// The first byte of a stream.
+pub fn stream_byte(sign: StreamSign) -> u8
     ensures { result ≡ stream_byte sign }
 {
     match sign {

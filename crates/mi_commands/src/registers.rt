@@ -1,0 +1,67 @@
+//! A register that a command sets: `$NAME=VALUE`.
+
+ghost use Rattle.std.specs.Prelude.{◌≡◌, ◌<◌, length, IfSome};
+ghost use Rattle.std.specs.Option.{option_map};
+ghost use Rattle.mi_commands.specs.Registers.{assignment, assignment_of, first_equals, register};
+ghost use Rattle.mi_commands.specs.Steps.{assignment_view};
+
+use cond_expr::register_of;
+
+/// The two texts of `$NAME=VALUE`, which stand in the line.
+#[derive(Clone, Copy)]
+pub struct Texts<'a> {
+    pub name: &'a [u8],
+    pub value: &'a [u8],
+}
+
+// The place of the first `=`.
+#[tactic(auto, unfolding(crate::specs::Registers::first_equals))]
+fn first_equals(bytes: &[u8]) -> Option<usize>
+    ensures place { result ≡ first_equals bytes.now }
+    ensures within { IfSome result (λ k. k < length bytes.now) }
+{
+    let [first, rest @ ..] = bytes else {
+        return None;
+    };
+    if *first == b'=' {
+        return Some(0);
+    }
+    match first_equals(rest) {
+        Some(k) => Some(k + 1),
+        None => None,
+    }
+}
+
+/// `$NAME=VALUE`, cut at the first `=`.
+pub fn assignment_of(word: &[u8]) -> Option<Texts<'_>>
+    ensures { option_map assignment_view result ≡ assignment_of word.now }
+{
+    let [b'$', rest @ ..] = word else {
+        return None;
+    };
+    let k = first_equals(rest)?;
+    Some(Texts {
+        name: &rest[..k],
+        value: &rest[k + 1..],
+    })
+}
+
+/// The same of a word that is of this form.
+pub fn assignment(word: &[u8]) -> Texts<'_>
+    ensures { assignment_view result ≡ assignment word.now }
+{
+    assignment_of(word).unwrap_or(Texts {
+        name: b"",
+        value: b"",
+    })
+}
+
+/// The number of a register of this name; 32 is pc.
+pub fn register(name: &[u8]) -> u32
+    ensures { result ≡ register name.now }
+{
+    match register_of(name) {
+        Some(register) => register.number(),
+        None => 0,
+    }
+}
