@@ -5,7 +5,7 @@ use Rattle.std.specs.Option.{option_map}
 use Rattle.std.proofs.lemmas.Bool.Decides.{nat_tests}
 use mathlib.Core.Logic.{inl, inr}
 use Rattle.dbg_model.specs.declared.entry.Entry.{Entry}
-use Rattle.dbg_model.specs.declared.entry.Entry.TheVariants.{Ran, Counted, Stopped, Left, Did}
+use Rattle.dbg_model.specs.declared.entry.Entry.TheVariants.{Ran, Counted, Stopped, Left, Did, Poked}
 use Rattle.dbg_model.specs.declared.opening.Opening.{Opening}
 use Rattle.dbg_model.specs.State.{State, first_state}
 use Rattle.dbg_model.specs.Lawful.{enter, one, ran}
@@ -40,6 +40,7 @@ free (Some k) (Counted hart) h = refl
 free (Some k) (Stopped hart why) h = refl
 free (Some k) (Left hart code) h = refl
 free (Some k) (Did line) h = refl
+free (Some k) (Poked p) h = refl
 
 pub comes : (o : Opening) (p : Place) (e : Entry) (s : State) → follows p.prev e ≡ true → enter o p.state e ≡ Some s → come o p e ≡ Some (record { prev = ran_hart e; state = s })
 comes o p e s f h = rw (f, h) refl
@@ -139,6 +140,7 @@ lengthens_last o front (Counted k) h s t by g = behind o front (Counted k) h s t
 lengthens_last o front (Stopped k n) h s t by g = behind o front (Stopped k n) h s t by refl g
 lengthens_last o front (Left k code) h s t by g = behind o front (Left k code) h s t by refl g
 lengthens_last o front (Did line) h s t by g = behind o front (Did line) h s t by refl g
+lengthens_last o front (Poked p) h s t by g = behind o front (Poked p) h s t by refl g
 
 prev_none : (o : Opening) (s : State) → (l : Leaves o [] s) → l.prev ≡ None
 unfolding replay
@@ -169,6 +171,7 @@ counted (Counted k) h n is = cc
 counted (Stopped k m) h n is = cc
 counted (Left k code) h n is = cc
 counted (Did line) h n is = cc
+counted (Poked p) h n is = cc
 
 pub last_counted : (old front : List Entry) (e : Entry) (h n : ℕ) → old ≡ front ++ e ∷ [] → ran_count e h ≡ Some n → last_count old ≡ n
 last_counted old front e h n is k = ap last_count is ∙ (last_count-append front e ∙ counted e h n k)

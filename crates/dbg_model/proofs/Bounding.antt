@@ -1,11 +1,11 @@
 -- A lawful journal stays within the budget.
 use Rattle.std.proofs.Common.{◌≡◌, ◌≤◌, ◌<◌, ℕ, zero, suc, true, List, [], ◌∷◌, ap, arith, nat_lt, not}
-use Rattle.std.specs.Prelude.{Option, Some, None, ◌&&◌, slice_get}
+use Rattle.std.specs.Prelude.{Option, Some, None, ◌&&◌, is_none, slice_get}
 use Rattle.std.specs.Option.{option_map}
 use Rattle.std.proofs.lemmas.Bool.Decides.{nat_tests}
 use Rattle.plain_machine.specs.Plain.{plain}
 use Rattle.dbg_model.specs.declared.entry.Entry.{Entry}
-use Rattle.dbg_model.specs.declared.entry.Entry.TheVariants.{Ran, Counted, Stopped, Left, Did}
+use Rattle.dbg_model.specs.declared.entry.Entry.TheVariants.{Ran, Counted, Stopped, Left, Did, Poked}
 use Rattle.dbg_model.specs.declared.opening.Opening.{Opening}
 use Rattle.dbg_model.specs.Limits.{history}
 use Rattle.dbg_model.specs.declared.hart.Hart.{Hart}
@@ -14,12 +14,12 @@ use Rattle.dbg_model.specs.State.{State, any_leaves, is_running, due}
 use Rattle.dbg_model.specs.Lawful.{enter, one, one_by, ran, may_run, may_move, may_go, set_out, stepped_by}
 use Rattle.dbg_model.specs.Journals.{Place, come, follows, ran_hart, replay_from, replay, first_place, Leaves}
 use Rattle.dbg_model.proofs.Options.{map_some, bind_some, guard_some, same_some, both_true}
-use Rattle.dbg_model.proofs.Counting.{enter_adds, one_adds, Adds}
+use Rattle.dbg_model.proofs.Counting.{enter_adds, one_adds, poked_adds, Adds}
 
 go_below : (o : Opening) (s : State) → may_go o s ≡ true → s.retired < o.settings.budget
 go_below o s may =
-    let b = both_true (not (any_leaves s.harts)) (nat_lt s.retired o.settings.budget && (nat_lt s.noted history && not s.exited)) may in
-    let n = both_true (nat_lt s.retired o.settings.budget) (nat_lt s.noted history && not s.exited) b.1 in
+    let b = both_true (not (any_leaves s.harts)) (nat_lt s.retired o.settings.budget && (nat_lt s.noted history && (not s.exited && is_none s.pending))) may in
+    let n = both_true (nat_lt s.retired o.settings.budget) (nat_lt s.noted history && (not s.exited && is_none s.pending)) b.1 in
     let first = n.0 in
     grind (arith, nat_tests)
 
@@ -50,6 +50,7 @@ enter_within o s (Counted h) t is le = same_within o s (Counted h) t 1 (enter_ad
 enter_within o s (Stopped h why) t is le = same_within o s (Stopped h why) t 1 (enter_adds o s (Stopped h why) t is) le
 enter_within o s (Left h code) t is le = same_within o s (Left h code) t 1 (enter_adds o s (Left h code) t is) le
 enter_within o s (Did line) t is le = same_within o s (Did line) t 1 (enter_adds o s (Did line) t is) le
+enter_within o s (Poked p) t is le = same_within o s (Poked p) t 1 (poked_adds s t p is) le
 
 replay_within : (o : Opening) (p q : Place) (j : List Entry) → replay_from o p j ≡ Some q → p.state.retired ≤ o.settings.budget → q.state.retired ≤ o.settings.budget
 replay_within o p q [] is le = let same = ap (λ (r : Place). r.state.retired) (same_some p q is) in omega arith

@@ -1,26 +1,31 @@
 -- The numbers of a state are those of its journal.
 use Rattle.std.proofs.Common.{◌≡◌, ℕ, zero, suc, ◌+◌, ◌≤◌, Bool, true, false, cond, List, [], ◌∷◌, ◌++◌, length, replicate, refl, sym, ap, ◌∙◌, arith, append_assoc}
-use Rattle.std.specs.Prelude.{Option, Some, None, ◌==◌, ◌&&◌, not, nat_lt, slice_get}
+use Rattle.std.specs.Prelude.{Option, Some, None, ◌==◌, ◌&&◌, not, nat_lt, slice_get, slice_set}
 use Rattle.std.specs.Option.{option_map}
 use Rattle.std.proofs.lemmas.Bool.Decides.{nat_tests}
 use Rattle.plain_machine.specs.Environment.{Answer, Traps, Goes}
 use Rattle.plain_machine.specs.Plain.{plain}
-use Rattle.plain_machine.specs.PlainRun.{Item, Step}
+use Rattle.data_memory.specs.Ranges.{first_unwritable, with_bytes}
+use Rattle.plain_machine.specs.PlainRun.{Item, Step, is_settable}
 use Rattle.rv_exec.specs.declared.effect.Cause.{Cause}
 use Rattle.rv_exec.specs.Causes.{cause_number}
+use Rattle.dbg_model.specs.declared.entry.Poke.{Poke}
+use Rattle.dbg_model.specs.declared.entry.Poke.TheVariants as poke
 use Rattle.dbg_model.specs.declared.entry.Why.{Why}
-use Rattle.dbg_model.specs.declared.entry.Why.TheVariants.{Break, Stepped, Finished, Interrupted, Fault}
+use Rattle.dbg_model.specs.declared.entry.Why.TheVariants.{Break, Watch, Stepped, Finished, Interrupted, Fault}
 use Rattle.dbg_model.specs.declared.entry.Entry.{Entry}
-use Rattle.dbg_model.specs.declared.entry.Entry.TheVariants.{Ran, Counted, Stopped, Left, Did}
+use Rattle.dbg_model.specs.declared.entry.Entry.TheVariants.{Ran, Counted, Stopped, Left, Did, Poked}
 use Rattle.dbg_model.specs.declared.opening.Opening.{Opening}
 use Rattle.dbg_model.specs.Breaks.{is_stop}
 use Rattle.dbg_model.specs.declared.hart.Hart.{Hart}
-use Rattle.dbg_model.specs.Judging.{ends_function, ends_step, is_counted}
-use Rattle.dbg_model.specs.State.{State, due}
+use Rattle.dbg_model.specs.Judging.{ends_function, ends_step, fires, is_counted}
+use Rattle.dbg_model.specs.Watches.{is_fired}
+use Rattle.dbg_model.specs.Pokes.{bytes_poked, is_pending, item_of, register_poked, with_poke, with_register, written}
+use Rattle.dbg_model.specs.State.{State, due, is_stopped}
 use Rattle.dbg_model.specs.Reply.{done_by}
-use Rattle.dbg_model.specs.Lawful.{enter, one, one_by, ran, may_run, may_move, may_do, stepped_by, with_stop, faulted_by, stopped_by, counted_by, with_arrival, with_count, left_by, leaver_from, exited_at, set_out, with_step}
+use Rattle.dbg_model.specs.Lawful.{enter, one, one_by, ran, may_run, may_move, may_do, stepped_by, with_stop, faulted_by, stopped_by, counted_by, with_arrival, with_count, left_by, leaver_from, exited_at, poked_by, set_out, with_step}
 use Rattle.dbg_model.specs.Journals.{Place, come, follows, ran_hart, replay_from, replay, first_place, Leaves, lengthened, one_more_by, count_of, last_count, noted, noted_one}
-use Rattle.dbg_model.specs.Erase.{erase, erase_one, steps_of}
+use Rattle.dbg_model.specs.Erase.{erase, erase_one, steps, steps_of}
 use Rattle.dbg_model.proofs.Options.{map_some, bind_some, guard_some, same_some}
 
 -- what an entry adds to the numbers
@@ -64,6 +69,10 @@ stop_adds o s t h (Break number error) None is = cc
 stop_adds o s t h (Break number error) (Some x) is =
     let u = with_arrival o s h x in
     is_more s t u 0 1 (same_some u t (guard_some (may_move o s x && is_stop (due o.image s h x).breaks number error) (Some u) t is).1) (record { retired = omega arith; noted = refl })
+stop_adds o s t h (Watch f) None is = cc
+stop_adds o s t h (Watch f) (Some x) is =
+    let u = with_arrival o s h x in
+    is_more s t u 0 1 (same_some u t (guard_some (may_move o s x && is_fired (fires (due o.image s h x)) f) (Some u) t is).1) (record { retired = omega arith; noted = refl })
 stop_adds o s t h Stepped None is = cc
 stop_adds o s t h Stepped (Some x) is =
     let u = with_arrival o s h x in
@@ -91,15 +100,47 @@ left_adds s t h code (Some leaver) is =
     let u : State = record s { harts = exited_at s.harts h (slice_get s.harts h); noted = s.noted + 1 } in
     is_more s t u 0 1 (same_some u t (guard_some (not s.exited && ((leaver.0 == h) && (leaver.1 == code))) (Some u) t is).1) (record { retired = omega arith; noted = refl })
 
+-- a write changes no number
+register_adds : (s t : State) (h n v : ℕ) (r : Option Hart) → register_poked s h n v r ≡ Some t → Adds s t 0 0
+register_adds s t h n v None is = cc
+register_adds s t h n v (Some x) is =
+    let u : State = record s { harts = slice_set s.harts h (with_register x n v) } in
+    is_more s t u 0 0 (same_some u t (guard_some (is_stopped x.mode && is_settable n) (Some u) t is).1) (record { retired = omega arith; noted = omega arith })
+
+bytes_adds : (s t : State) (a : ℕ) (bytes : List ℕ) (r : Option ℕ) → bytes_poked s a bytes r ≡ Some t → Adds s t 0 0
+bytes_adds s t a bytes None is =
+    let u : State = record s { memory = with_bytes s.memory a bytes } in
+    is_more s t u 0 0 (same_some u t is) (record { retired = omega arith; noted = omega arith })
+bytes_adds s t a bytes (Some at) is = cc
+
+written_adds : (s t : State) (p : Poke) → written s p ≡ Some t → Adds s t 0 0
+written_adds s t (poke.Register h n v) is = register_adds s t h n v (slice_get s.harts h) is
+written_adds s t (poke.Bytes a bytes) is = bytes_adds s t a bytes (first_unwritable s.memory a (length bytes)) is
+
+pub poked_adds : (s t : State) (p : Poke) → poked_by s p ≡ Some t → Adds s t 0 1
+poked_adds s t p is =
+    let g = guard_some (is_pending s.pending p) (option_map with_poke (written s p)) t is in
+    let m = map_some with_poke (written s p) t g.1 in
+    let a = written_adds s m.0 p m.1 in
+    is_more s t (with_poke m.0) 0 1 m.2 (record { retired = a.retired; noted = omega (arith, a.noted) })
+
 pub length-replicated : {A : Type 0} (n : ℕ) (x : A) → length (replicate n x) ≡ n
 length-replicated zero x = refl
 length-replicated (suc n) x = ap suc (length-replicated n x)
 
-pub enter_adds : (o : Opening) (s : State) (e : Entry) (t : State) → enter o s e ≡ Some t → Adds s t (length (erase_one e)) (noted_one e)
+pub steps-replicated : (n h : ℕ) → steps (replicate n (Step h)) ≡ n
+steps-replicated zero h = refl
+steps-replicated (suc n) h = let ih = steps-replicated n h in omega arith
+
+no_step : (p : Poke) → steps (item_of p ∷ []) ≡ 0
+no_step (poke.Register h n v) = refl
+no_step (poke.Bytes a bytes) = refl
+
+pub enter_adds : (o : Opening) (s : State) (e : Entry) (t : State) → enter o s e ≡ Some t → Adds s t (steps (erase_one e)) (noted_one e)
 unfolding enter done_by
 enter_adds o s (Ran h n) t is =
     let a = ran_adds o h s n t (guard_some (nat_lt 0 n) (ran o h s n) t is).1 in
-    let l = length-replicated n (Step h) in
+    let l = steps-replicated n h in
     record { retired = rw l a.retired; noted = a.noted }
 enter_adds o s (Counted h) t is = count_adds o s t h (slice_get s.harts h) is
 enter_adds o s (Stopped h why) t is = stop_adds o s t h why (slice_get s.harts h) is
@@ -107,26 +148,31 @@ enter_adds o s (Left h code) t is = left_adds s t h code (leaver_from 0 s.harts)
 enter_adds o s (Did line) t is =
     let u = done_by o s line in
     is_more s t u 0 1 (same_some u t (guard_some (may_do o s line) (Some u) t is).1) (record { retired = omega arith; noted = refl })
+enter_adds o s (Poked p) t is = let a = poked_adds s t p is in let none = no_step p in record { retired = omega (arith, a.retired, none); noted = a.noted }
 
 pub length-both : {A : Type 0} (xs ys : List A) → length (xs ++ ys) ≡ length xs + length ys
 length-both [] ys = omega arith
 length-both (x ∷ xs) ys = let ih = length-both xs ys in omega arith
 
-replay_adds : (o : Opening) (p q : Place) (j : List Entry) → replay_from o p j ≡ Some q → Adds p.state q.state (length (erase j)) (noted j)
+steps-append : (xs ys : List Item) → steps (xs ++ ys) ≡ steps xs + steps ys
+steps-append [] ys = omega arith
+steps-append (x ∷ xs) ys = let ih = steps-append xs ys in omega arith
+
+replay_adds : (o : Opening) (p q : Place) (j : List Entry) → replay_from o p j ≡ Some q → Adds p.state q.state (steps (erase j)) (noted j)
 replay_adds o p q [] is = is_more p.state q.state p.state 0 0 (ap (λ (r : Place). r.state) (same_some p q is)) (record { retired = omega arith; noted = omega arith })
 replay_adds o p q (e ∷ es) is =
     let b = bind_some (λ r. replay_from o r es) (come o p e) q is in
     let g = guard_some (follows p.prev e) (option_map (λ (t : State). let r : Place = record { prev = ran_hart e; state = t } in r) (enter o p.state e)) b.0 b.1 in
     let m = map_some (λ (t : State). let r : Place = record { prev = ran_hart e; state = t } in r) (enter o p.state e) b.0 g.1 in
     let at : m.0 ≡ b.0.state = ap (λ (r : Place). r.state) m.2 in
-    let first = is_more p.state b.0.state m.0 (length (erase_one e)) (noted_one e) at (enter_adds o p.state e m.0 m.1) in
+    let first = is_more p.state b.0.state m.0 (steps (erase_one e)) (noted_one e) at (enter_adds o p.state e m.0 m.1) in
     let rest = replay_adds o b.0 q es b.2 in
-    let l = length-both (erase_one e) (erase es) in
+    let l = steps-append (erase_one e) (erase es) in
     record { retired = omega (arith, first.retired, rest.retired, l); noted = omega (arith, first.noted, rest.noted) }
 
 -- the numbers of the state that a journal leaves
 pub record HasCounts (j : List Entry) (s : State) : Type 0 where
-  pub retired : s.retired ≡ length (erase j)
+  pub retired : s.retired ≡ steps (erase j)
   pub noted : s.noted ≡ noted j
 
 pub counted : (o : Opening) (j : List Entry) (s : State) → Leaves o j s → HasCounts j s
@@ -135,17 +181,18 @@ counted o j s l =
     let a = replay_adds o (first_place o) (record { prev = l.prev; state = s }) j l.replays in
     record { retired = omega (arith, a.retired); noted = omega (arith, a.noted) }
 
-count-le : (e : Entry) → count_of e ≤ length (erase_one e)
-count-le (Ran h n) = let l = length-replicated n (Step h) in omega arith
+count-le : (e : Entry) → count_of e ≤ steps (erase_one e)
+count-le (Ran h n) = let l = steps-replicated n h in omega arith
 count-le (Counted h) = omega arith
 count-le (Stopped h why) = omega arith
 count-le (Left h code) = omega arith
 count-le (Did line) = omega arith
+count-le (Poked p) = omega arith
 
-pub last_count-le : (j : List Entry) → last_count j ≤ length (erase j)
+pub last_count-le : (j : List Entry) → last_count j ≤ steps (erase j)
 last_count-le [] = omega arith
-last_count-le (e ∷ []) = let l = length-both (erase_one e) [] in let c = count-le e in omega arith
-last_count-le (e ∷ f ∷ es) = let l = length-both (erase_one e) (erase (f ∷ es)) in let ih = last_count-le (f ∷ es) in omega arith
+last_count-le (e ∷ []) = let l = steps-append (erase_one e) [] in let c = count-le e in omega arith
+last_count-le (e ∷ f ∷ es) = let l = steps-append (erase_one e) (erase (f ∷ es)) in let ih = last_count-le (f ∷ es) in omega arith
 
 -- how often a hart stands in the erased journal
 pub steps_of-append : (k : ℕ) (xs ys : List Item) → steps_of k (xs ++ ys) ≡ steps_of k xs + steps_of k ys
@@ -166,17 +213,23 @@ pub erase-append : (xs ys : List Entry) → erase (xs ++ ys) ≡ erase xs ++ era
 erase-append [] ys = refl
 erase-append (x ∷ xs) ys = ap (λ t. erase_one x ++ t) (erase-append xs ys) ∙ sym (append_assoc (erase_one x) (erase xs) (erase ys))
 
-quiet_erased : (e : Entry) → ran_hart e ≡ None → erase_one e ≡ []
-quiet_erased (Ran h n) q = cc
-quiet_erased (Counted h) q = refl
-quiet_erased (Stopped h why) q = refl
-quiet_erased (Left h code) q = refl
-quiet_erased (Did line) q = refl
+no_step_of : (k : ℕ) (p : Poke) → steps_of k (item_of p ∷ []) ≡ 0
+no_step_of k (poke.Register h n v) = refl
+no_step_of k (poke.Bytes a bytes) = refl
 
--- an entry of the debugger's adds no step
+quiet_erased : (k : ℕ) (e : Entry) → ran_hart e ≡ None → steps_of k (erase_one e) ≡ 0
+quiet_erased k (Ran h n) q = cc
+quiet_erased k (Counted h) q = refl
+quiet_erased k (Stopped h why) q = refl
+quiet_erased k (Left h code) q = refl
+quiet_erased k (Did line) q = refl
+quiet_erased k (Poked p) q = no_step_of k p
+
+-- an entry of the debugger's adds no step, nor does a write
 pub steps_noted : (k : ℕ) (j : List Entry) (e : Entry) → ran_hart e ≡ None → steps_of k (erase (j ++ e ∷ [])) ≡ steps_of k (erase j)
 steps_noted k j e q =
-    let none : steps_of k (erase (e ∷ [])) ≡ 0 = ap (λ t. steps_of k (t ++ [])) (quiet_erased e q) in
+    let none = quiet_erased k e q in
+    let last = steps_of-append k (erase_one e) [] in
     ap (steps_of k) (erase-append j (e ∷ [])) ∙ (steps_of-append k (erase j) (erase (e ∷ [])) ∙ omega arith)
 
 one_longer : (b : Bool) (n : ℕ) → cond b (n + 1) 0 ≡ cond b n 0 + cond b 1 0
@@ -198,17 +251,21 @@ ran_longer false a n h k is =
     let old = steps_of-append k (replicate n (Step a)) [] in
     omega arith
 
-step_more : (k : ℕ) (e : Entry) (h : ℕ) → erase_one e ≡ [] → steps_of k (erase (e ∷ Ran h 1 ∷ [])) ≡ steps_of k (erase (e ∷ [])) + here h k
-step_more k e h q = rw q (omega arith)
+step_more : (k : ℕ) (e : Entry) (h : ℕ) → steps_of k (erase (e ∷ Ran h 1 ∷ [])) ≡ steps_of k (erase (e ∷ [])) + here h k
+step_more k e h =
+    let new = steps_of-append k (erase_one e) (erase (Ran h 1 ∷ [])) in
+    let old = steps_of-append k (erase_one e) [] in
+    omega arith
 
 -- one more instruction adds a step of its hart
 pub steps_lengthened : (k : ℕ) (j : List Entry) (h : ℕ) → steps_of k (erase (lengthened j h)) ≡ steps_of k (erase j) + here h k
 steps_lengthened k [] h = omega arith
 steps_lengthened k (Ran a n ∷ []) h = ran_longer (a == h) a n h k refl
-steps_lengthened k (Counted a ∷ []) h = step_more k (Counted a) h refl
-steps_lengthened k (Stopped a why ∷ []) h = step_more k (Stopped a why) h refl
-steps_lengthened k (Left a code ∷ []) h = step_more k (Left a code) h refl
-steps_lengthened k (Did line ∷ []) h = step_more k (Did line) h refl
+steps_lengthened k (Counted a ∷ []) h = step_more k (Counted a) h
+steps_lengthened k (Stopped a why ∷ []) h = step_more k (Stopped a why) h
+steps_lengthened k (Left a code ∷ []) h = step_more k (Left a code) h
+steps_lengthened k (Did line ∷ []) h = step_more k (Did line) h
+steps_lengthened k (Poked p ∷ []) h = step_more k (Poked p) h
 steps_lengthened k (e ∷ f ∷ es) h =
     let ih = steps_lengthened k (f ∷ es) h in
     let new = steps_of-append k (erase_one e) (erase (lengthened (f ∷ es) h)) in

@@ -1,6 +1,6 @@
 -- Where an instruction is executed the session was not ended.
 use Rattle.std.proofs.Common.{◌≡◌, ℕ, Bool, true, false, refl, sym, ap, ◌∙◌, nat_lt, not}
-use Rattle.std.specs.Prelude.{Option, Some, None, ◌&&◌, slice_get}
+use Rattle.std.specs.Prelude.{Option, Some, None, ◌&&◌, is_none, slice_get}
 use Rattle.plain_machine.specs.Environment.{Answer, Traps, Goes}
 use Rattle.plain_machine.specs.Plain.{plain}
 use Rattle.dbg_model.specs.declared.opening.Opening.{Opening}
@@ -17,9 +17,10 @@ not_true true is = cc
 
 pub go_open : (o : Opening) (s : State) → may_go o s ≡ true → s.exited ≡ false
 go_open o s may =
-    let b = both_true (not (any_leaves s.harts)) (nat_lt s.retired o.settings.budget && (nat_lt s.noted history && not s.exited)) may in
-    let n = both_true (nat_lt s.retired o.settings.budget) (nat_lt s.noted history && not s.exited) b.1 in
-    not_true s.exited (both_true (nat_lt s.noted history) (not s.exited) n.1).1
+    let b = both_true (not (any_leaves s.harts)) (nat_lt s.retired o.settings.budget && (nat_lt s.noted history && (not s.exited && is_none s.pending))) may in
+    let n = both_true (nat_lt s.retired o.settings.budget) (nat_lt s.noted history && (not s.exited && is_none s.pending)) b.1 in
+    let c = both_true (nat_lt s.noted history) (not s.exited && is_none s.pending) n.1 in
+    not_true s.exited (both_true (not s.exited) (is_none s.pending) c.1).0
 
 step_open : (a : Answer) (s t : State) (h : ℕ) (x : Hart) → s.exited ≡ false → stepped_by a s h x ≡ Some t → t.exited ≡ false
 step_open (Traps cause) s t h x still is = cc

@@ -23,6 +23,6 @@ judged_elsewhere p sources entries h c registers bytes is = rw is refl
 
 -- what is judged of a hart that has
 pub judged_here : (p : Program) (sources : Sources) (entries : List Entry) (h : ℕ) (c : Course) (registers : ℕ → ℕ) (bytes : ℕ → Option ℕ) → c.fresh ≡ true
-    → judgement_of p sources entries h c registers bytes ≡ record { breaks = due_of h registers bytes entries; verdict = verdict_behind p sources c.plan registers c.last }
+    → judgement_of p sources entries h c registers bytes ≡ record { breaks = due_of h registers bytes entries; fired = c.fired; verdict = verdict_behind p sources c.plan registers c.last }
 unfolding judgement_of
 judged_here p sources entries h c registers bytes is = rw is refl

@@ -10,3 +10,6 @@ pub mod Founding
 pub mod Ending
 pub mod Naming
 pub mod Judged
+pub mod Firing
+pub mod Marking
+pub mod Sizing

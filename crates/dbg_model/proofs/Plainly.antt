@@ -1,5 +1,5 @@
 -- A lawful journal without the debugger's entries is a run of the program.
-use Rattle.std.proofs.Common.{◌≡◌, ℕ, zero, suc, ◌+◌, Bool, true, false, cond, List, [], ◌∷◌, ◌++◌, replicate, refl, sym, ap, ◌∙◌, arith, nat_lt, not}
+use Rattle.std.proofs.Common.{◌≡◌, ℕ, zero, suc, ◌+◌, Bool, true, false, cond, List, [], ◌∷◌, ◌++◌, length, replicate, refl, sym, ap, ◌∙◌, arith, nat_lt, not}
 use Rattle.std.specs.Prelude.{Option, Some, None, option_and_then, ◌==◌, ◌&&◌, map, slice_get, slice_set}
 use Rattle.std.specs.Option.{option_map}
 use Rattle.std.proofs.lemmas.Bool.Decides.{nat_tests}
@@ -7,26 +7,32 @@ use Rattle.rv_exec.specs.Registers.{Registers}
 use Rattle.rv_exec.specs.declared.effect.Cause.{Cause}
 use Rattle.rv_exec.specs.Causes.{cause_number}
 use Rattle.elf32_read.specs.Program.{Program}
+use Rattle.data_memory.specs.Ranges.{first_unwritable, with_bytes}
 use Rattle.plain_machine.specs.Environment.{Answer, Traps, Goes, Leave, Stays, LeavesAlone, LeavesAll}
 use Rattle.plain_machine.specs.Plain.{plain, first_registers}
-use Rattle.plain_machine.specs.PlainRun.{PlainHart, PlainState, Item, Step, gone_at, without_leavers, plain_after, plain_step, take_item, run_from, plain_start, plain_run}
+use Rattle.plain_machine.specs.PlainRun.{PlainHart, PlainState, Item, Step, Reg, Bytes, bytes_set, gone_at, is_settable, register_set, without_leavers, plain_after, plain_step, take_item, run_from, plain_start, plain_run}
 use Rattle.plain_machine.specs.PlainRun as machine
 use Rattle.dbg_model.specs.declared.entry.Mode.{Mode}
 use Rattle.dbg_model.specs.declared.entry.Mode.TheVariants as mode
+use Rattle.dbg_model.specs.declared.entry.Poke.{Poke}
+use Rattle.dbg_model.specs.declared.entry.Poke.TheVariants as poke
+use Rattle.dbg_model.specs.declared.watch.Fired.{Fired}
 use Rattle.dbg_model.specs.declared.entry.Why.{Why}
-use Rattle.dbg_model.specs.declared.entry.Why.TheVariants.{Break, Stepped, Finished, Interrupted, Fault}
+use Rattle.dbg_model.specs.declared.entry.Why.TheVariants.{Break, Watch, Stepped, Finished, Interrupted, Fault}
 use Rattle.dbg_model.specs.declared.entry.Entry.{Entry}
-use Rattle.dbg_model.specs.declared.entry.Entry.TheVariants.{Ran, Counted, Stopped, Left, Did}
+use Rattle.dbg_model.specs.declared.entry.Entry.TheVariants.{Ran, Counted, Stopped, Left, Did, Poked}
 use Rattle.dbg_model.specs.declared.opening.Opening.{Opening}
 use Rattle.dbg_model.specs.Breaks.{is_stop}
 use Rattle.step_plans.specs.declared.plan.Plan.{Plan}
 use Rattle.step_plans.specs.declared.plan.Plan.TheVariants as plans
 use Rattle.dbg_model.specs.declared.hart.Hart.{Hart}
-use Rattle.dbg_model.specs.Judging.{ends_function, ends_step, is_counted, is_due}
-use Rattle.dbg_model.specs.State.{State, first_state, first_harts, is_running, due}
-use Rattle.dbg_model.specs.Outcome.{Change, resumes, interrupts}
-use Rattle.dbg_model.specs.Reply.{done_by, answer_of, changed_by, resumed, resumed_by, asked_by, asked, is_named, on_threads, harts_after}
-use Rattle.dbg_model.specs.Lawful.{enter, one, one_by, ran, may_run, may_move, may_go, may_do, stepped_by, stepped, leaving, leaving_at, with_leavers, with_stop, stopped, faulted_by, stopped_by, counted, counted_by, with_arrival, with_count, set_out, left_by, leaver_from, leaver_or, exited, exited_at, with_step}
+use Rattle.dbg_model.specs.Judging.{ends_function, ends_step, fires, is_counted, is_due}
+use Rattle.dbg_model.specs.Watches.{fired_by, is_fired}
+use Rattle.dbg_model.specs.Pokes.{bytes_poked, is_pending, item_of, register_poked, with_poke, with_register, written}
+use Rattle.dbg_model.specs.State.{State, first_state, first_harts, is_running, is_stopped, due}
+use Rattle.dbg_model.specs.Outcome.{Change, deletes, enables, resumes, interrupts}
+use Rattle.dbg_model.specs.Reply.{done_by, answer_of, changed_by, resumed, resumed_by, asked_by, asked, forgetting, is_named, on_threads, harts_after}
+use Rattle.dbg_model.specs.Lawful.{enter, one, one_by, ran, may_run, may_move, may_go, may_do, stepped_by, stepped, leaving, leaving_at, with_leavers, with_stop, stopped, faulted_by, stopped_by, counted, counted_by, with_arrival, with_count, set_out, left_by, leaver_from, leaver_or, exited, exited_at, poked_by, with_step}
 use Rattle.dbg_model.specs.Journals.{Place, come, follows, ran_hart, replay_from, replay, first_place, Leaves}
 use Rattle.dbg_model.specs.Erase.{erase, erase_one}
 use Rattle.dbg_model.proofs.Options.{map_some, bind_some, guard_some, bind_bind, bind_return, same_some, both_true}
@@ -103,18 +109,18 @@ runs_runs : (o : Opening) (s : State) (h : ℕ) (x : Hart) → may_run o s h x �
 runs_runs o s h x may = runs_moves o s x (both_true (may_move o s x) (not (is_due (due o.image s h x))) may).0
 
 -- the harts after an instruction, as the program has them
-stepped_plain : (xs : List Hart) (h : ℕ) (x : Hart) (r : Registers) (leave : Leave) → is_gone x.mode ≡ false
-    → map plain_hart (with_leavers leave (slice_set xs h (stepped x r)) h) ≡ without_leavers (slice_set (map plain_hart xs) h (record { regs = r; has_exited = false })) h leave
-stepped_plain xs h x r leave runs =
-    let new : plain_hart (stepped x r) ≡ record { regs = r; has_exited = false } = ap (λ b. let y : PlainHart = record { regs = r; has_exited = b } in y) runs in
-    leavers_plain leave (slice_set xs h (stepped x r)) h
-    ∙ ap (λ ys. without_leavers ys h leave) (set-map plain_hart xs h (stepped x r) ∙ ap (λ y. slice_set (map plain_hart xs) h y) new)
+stepped_plain : (xs : List Hart) (h : ℕ) (x : Hart) (r : Registers) (f : Option Fired) (leave : Leave) → is_gone x.mode ≡ false
+    → map plain_hart (with_leavers leave (slice_set xs h (stepped x r f)) h) ≡ without_leavers (slice_set (map plain_hart xs) h (record { regs = r; has_exited = false })) h leave
+stepped_plain xs h x r f leave runs =
+    let new : plain_hart (stepped x r f) ≡ record { regs = r; has_exited = false } = ap (λ b. let y : PlainHart = record { regs = r; has_exited = b } in y) runs in
+    leavers_plain leave (slice_set xs h (stepped x r f)) h
+    ∙ ap (λ ys. without_leavers ys h leave) (set-map plain_hart xs h (stepped x r f) ∙ ap (λ y. slice_set (map plain_hart xs) h y) new)
 
 answers_plain : (a : Answer) (s t : State) (h : ℕ) (x : Hart) → is_gone x.mode ≡ false → stepped_by a s h x ≡ Some t → plain_after (plain_of s) h a ≡ Some (plain_of t)
 answers_plain (Traps cause) s t h x runs is = cc
 answers_plain (Goes r m out leave) s t h x runs is =
     let u = with_step s h x r m out leave in
-    ap (λ ys. let p : PlainState = record { harts = ys; memory = m; out = s.out ++ out } in Some p) (sym (stepped_plain s.harts h x r leave runs))
+    ap (λ ys. let p : PlainState = record { harts = ys; memory = m; out = s.out ++ out } in Some p) (sym (stepped_plain s.harts h x r (fired_by s.watches s.memory m) leave runs))
     ∙ ap (λ v. Some (plain_of v)) (same_some u t is)
 
 one_by_plain : (o : Opening) (s t : State) (h : ℕ) (r : Option Hart) → one_by o s h r ≡ Some t → plain_step o.image (plain_of s) h (option_map plain_hart r) ≡ Some (plain_of t)
@@ -174,6 +180,8 @@ arrival_plain o s t h x stops at is =
 stop_plain : (o : Opening) (s t : State) (h : ℕ) (why : Why) (r : Option Hart) → slice_get s.harts h ≡ r → stopped_by o s h why r ≡ Some t → plain_of s ≡ plain_of t
 stop_plain o s t h (Break number error) None at is = cc
 stop_plain o s t h (Break number error) (Some x) at is = arrival_plain o s t h x (is_stop (due o.image s h x).breaks number error) at is
+stop_plain o s t h (Watch f) None at is = cc
+stop_plain o s t h (Watch f) (Some x) at is = arrival_plain o s t h x (is_fired (fires (due o.image s h x)) f) at is
 stop_plain o s t h Stepped None at is = cc
 stop_plain o s t h Stepped (Some x) at is = arrival_plain o s t h x (ends_step (due o.image s h x)) at is
 stop_plain o s t h Finished None at is = cc
@@ -252,10 +260,18 @@ on_threads_plain f same ts n (x ∷ xs) =
     ap (λ y. y ∷ map plain_hart (on_threads f ts (n + 1) xs)) (named_plain f x (is_named ts n) (same x))
     ∙ ap (λ ys. plain_hart x ∷ ys) (on_threads_plain f same ts (n + 1) xs)
 
+-- what a watch did is nothing of the program
+forgetting_plain : (ns : List ℕ) (xs : List Hart) → map plain_hart (map (forgetting ns) xs) ≡ map plain_hart xs
+forgetting_plain ns [] = refl
+forgetting_plain ns (x ∷ xs) = ap (λ ys. plain_hart x ∷ ys) (forgetting_plain ns xs)
+
 -- threads that go on, or of which an interrupt is asked, change nothing of the program
 harts_plain : (xs : List Hart) (c : Change) → map plain_hart (harts_after xs c) ≡ map plain_hart xs
 harts_plain xs (resumes ts plan) = on_threads_plain (resumed plan) (λ x. resumed_by_plain plan x x.mode refl) ts 1 xs
 harts_plain xs (interrupts ts) = on_threads_plain asked (λ x. asked_by_plain x x.mode) ts 1 xs
+harts_plain xs (deletes ns) = forgetting_plain ns xs
+harts_plain xs (enables true ns) = refl
+harts_plain xs (enables false ns) = forgetting_plain ns xs
 harts_plain xs _ = refl
 
 done_plain : (o : Opening) (s : State) (line : List ℕ) (t : State) → done_by o s line ≡ t → plain_of s ≡ plain_of t
@@ -266,6 +282,42 @@ done_plain o s line t is =
     let same : plain_of s ≡ plain_of u = ap (λ ys. let p : PlainState = record { harts = ys; memory = s.memory; out = s.out } in p) (sym (harts_plain s.harts c)) in
     same ∙ ap plain_of is
 
+stopped_known : (m : Mode) → is_stopped m ≡ true → is_gone m ≡ false
+stopped_known mode.Stopped h = refl
+stopped_known mode.Running h = cc
+stopped_known (mode.Leaving code) h = cc
+stopped_known mode.Exited h = cc
+
+register_plain : (s t : State) (h n v : ℕ) (r : Option Hart) → register_poked s h n v r ≡ Some t → register_set (plain_of s) h n v (option_map plain_hart r) ≡ Some (plain_of t)
+register_plain s t h n v None is = cc
+register_plain s t h n v (Some x) is =
+    let u : State = record s { harts = slice_set s.harts h (with_register x n v) } in
+    let g = guard_some (is_stopped x.mode && is_settable n) (Some u) t is in
+    let b = both_true (is_stopped x.mode) (is_settable n) g.0 in
+    let p : PlainState = record { harts = slice_set (map plain_hart s.harts) h (machine.with_register (plain_hart x) n v); memory = s.memory; out = s.out } in
+    ap (λ c. cond c None (cond (is_settable n) (Some p) None)) (stopped_known x.mode b.0)
+    ∙ (ap (λ c. cond c (Some p) None) b.1
+    ∙ (ap (λ ys. let q : PlainState = record { harts = ys; memory = s.memory; out = s.out } in Some q) (sym (set-map plain_hart s.harts h (with_register x n v)))
+    ∙ ap (λ w. Some (plain_of w)) (same_some u t g.1)))
+
+bytes_plain : (s t : State) (a : ℕ) (bytes : List ℕ) (r : Option ℕ) → bytes_poked s a bytes r ≡ Some t → bytes_set (plain_of s) a bytes r ≡ Some (plain_of t)
+bytes_plain s t a bytes None is =
+    let u : State = record s { memory = with_bytes s.memory a bytes } in
+    ap (λ w. Some (plain_of w)) (same_some u t is)
+bytes_plain s t a bytes (Some at) is = cc
+
+-- what the user writes is written into the program
+written_plain : (o : Opening) (s t : State) (p : Poke) → written s p ≡ Some t → take_item o.image (plain_of s) (item_of p) ≡ Some (plain_of t)
+written_plain o s t (poke.Register h n v) is =
+    ap (register_set (plain_of s) h n v) (get-map plain_hart s.harts h) ∙ register_plain s t h n v (slice_get s.harts h) is
+written_plain o s t (poke.Bytes a bytes) is = bytes_plain s t a bytes (first_unwritable s.memory a (length bytes)) is
+
+poked_plain : (o : Opening) (s t : State) (p : Poke) → poked_by s p ≡ Some t → run_from o.image (plain_of s) (item_of p ∷ []) ≡ Some (plain_of t)
+poked_plain o s t p is =
+    let g = guard_some (is_pending s.pending p) (option_map with_poke (written s p)) t is in
+    let m = map_some with_poke (written s p) t g.1 in
+    bind_return (take_item o.image (plain_of s) (item_of p)) ∙ (written_plain o s m.0 p m.1 ∙ ap (λ w. Some (plain_of w)) m.2)
+
 pub enter_plain : (o : Opening) (s : State) (e : Entry) (t : State) → enter o s e ≡ Some t → run_from o.image (plain_of s) (erase_one e) ≡ Some (plain_of t)
 unfolding enter
 enter_plain o s (Ran h n) t is = ran_plain o h s n t (guard_some (nat_lt 0 n) (ran o h s n) t is).1
@@ -273,6 +325,7 @@ enter_plain o s (Counted h) t is = ap Some (count_plain o s t h (slice_get s.har
 enter_plain o s (Stopped h why) t is = ap Some (stop_plain o s t h why (slice_get s.harts h) refl is)
 enter_plain o s (Left h code) t is = ap Some (left_plain s t h code (leaver_from 0 s.harts) refl is)
 enter_plain o s (Did line) t is = ap Some (done_plain o s line t (same_some (done_by o s line) t (guard_some (may_do o s line) (Some (done_by o s line)) t is).1))
+enter_plain o s (Poked p) t is = poked_plain o s t p is
 
 -- the harts of a journal that goes from one place to another take the program along
 replay_plain : (o : Opening) (p q : Place) (j : List Entry) → replay_from o p j ≡ Some q → run_from o.image (plain_of p.state) (erase j) ≡ Some (plain_of q.state)
@@ -294,7 +347,7 @@ map-append f (x ∷ xs) ys = ap (λ t. f x ∷ t) (map-append f xs ys)
 start_harts : (p : Program) (harts n : ℕ) → machine.first_harts p harts n ≡ map plain_hart (first_harts p harts n)
 start_harts p harts zero = refl
 start_harts p harts (suc n) =
-    let x : Hart = record { regs = first_registers p.entry harts n; mode = mode.Stopped; fresh = false; asked = false; plan = plans.Free; last = None } in
+    let x : Hart = record { regs = first_registers p.entry harts n; mode = mode.Stopped; fresh = false; asked = false; plan = plans.Free; last = None; fired = None } in
     ap (λ t. t ++ plain_hart x ∷ []) (start_harts p harts n) ∙ sym (map-append plain_hart (first_harts p harts n) (x ∷ []))
 
 starts_plain : (o : Opening) → plain_start o.image o.settings.harts ≡ plain_of (first_state o)

@@ -13,12 +13,16 @@ use Rattle.mi_commands.specs.declared.command.Insertion.{Insertion}
 use Rattle.mi_commands.specs.declared.command.Location.{Location}
 use Rattle.mi_commands.specs.declared.command.Location.TheVariants as location
 use Rattle.dbg_model.specs.declared.breakpoint.Breakpoint.{Breakpoint}
+use Rattle.dbg_model.specs.declared.row.Row.{Row}
+use Rattle.dbg_model.specs.declared.row.Row.TheVariants as row
+use Rattle.dbg_model.specs.declared.watch.Watch.{Watch}
 use Rattle.dbg_model.specs.declared.reply.Content.TheVariants as content
 use Rattle.dbg_model.specs.declared.reply.Obstacle.{Obstacle}
 use Rattle.dbg_model.specs.declared.reply.Obstacle.TheVariants.{UnknownThread, NoBreakpoint, NoInstruction, TooManyBreakpoints, Expression}
 use Rattle.dbg_model.specs.declared.reply.Refused.{Refused}
 use Rattle.dbg_model.specs.declared.reply.Refused.TheVariants.{Hindered, UnknownName, UnknownLine}
 use Rattle.dbg_model.specs.Breaks.{missing_number}
+use Rattle.dbg_model.specs.Watches.{missing_of}
 use Rattle.cond_expr.specs.Reader.{parsed}
 use Rattle.dbg_model.specs.Limits.{breakpoints}
 use Rattle.dbg_model.specs.Sight.{Sight, thread_at}
@@ -29,7 +33,7 @@ use Rattle.dbg_model.specs.Outcome.{Change, Outcome, and_then, conditions, delet
 abbrev pub ensured : Bool → Obstacle → Result Unit Refused
 ensured b o = if b then Ok tt else Err (Hindered o)
 
--- ---- breakpoints as they are listed
+-- ---- breakpoints and watches as they are listed
 
 abbrev pub condition_text : Condition → List ℕ
 condition_text c = c.text
@@ -49,8 +53,28 @@ listed sources e = record {
   times = e.times;
 }
 
+abbrev pub breakpoint_row : Sources → Entry → Row
+breakpoint_row sources e = row.Breakpoint (listed sources e)
+
+abbrev pub row_number : Row → ℕ
+row_number (row.Breakpoint b) = b.number
+row_number (row.Watch w) = w.number
+
+-- a row stands before the first one that hasn't a lesser number
+abbrev pub with_row : Row → List Row → List Row
+with_row r [] = r ∷ []
+with_row r (x ∷ xs) = if nat_lt (row_number x) (row_number r) then x ∷ with_row r xs else r ∷ x ∷ xs
+
+-- watches stand by their numbers among the others
+abbrev pub with_watches : List Watch → List Row → List Row
+with_watches [] xs = xs
+with_watches (w ∷ ws) xs = with_watches ws (with_row (row.Watch w) xs)
+
+abbrev pub rows : Sight → List Row
+rows s = with_watches s.watches (map (breakpoint_row s.sources) s.breaks)
+
 abbrev pub list : Sight → Result Outcome Refused
-list s = Ok (showing (content.Breakpoints (map (listed s.sources) s.breaks)))
+list s = Ok (showing (content.Breakpoints (rows s)))
 
 -- ---- breakpoints that have to be there
 
@@ -65,11 +89,18 @@ known s numbers = none_missing (missing_number s.breaks numbers)
 abbrev pub of_known : Sight → List ℕ → Change → Result Outcome Refused
 of_known s numbers c = and_then (known s numbers) (λ u. Ok (doing c))
 
+-- each of the numbers has to be a breakpoint's or a watch's
+abbrev pub known_either : Sight → List ℕ → Result Unit Refused
+known_either s numbers = none_missing (missing_of s.breaks s.watches numbers)
+
+abbrev pub of_either : Sight → List ℕ → Change → Result Outcome Refused
+of_either s numbers c = and_then (known_either s numbers) (λ u. Ok (doing c))
+
 abbrev pub delete : Sight → List ℕ → Result Outcome Refused
-delete s numbers = of_known s numbers (deletes numbers)
+delete s numbers = of_either s numbers (deletes numbers)
 
 abbrev pub enable : Sight → Bool → List ℕ → Result Outcome Refused
-enable s enabled numbers = of_known s numbers (enables enabled numbers)
+enable s enabled numbers = of_either s numbers (enables enabled numbers)
 
 abbrev pub after : Sight → ℕ → ℕ → Result Outcome Refused
 after s number count = of_known s (number ∷ []) (ignores number count)

@@ -18,6 +18,8 @@ use Rattle.dbg_model.specs.Breakpoints.{after, change_condition, delete, enable,
 use Rattle.dbg_model.specs.Data.{evaluate, read_memory, register_values}
 use Rattle.dbg_model.specs.Frames.{frame_depth, frame_info, frame_list}
 use Rattle.dbg_model.specs.Steps.{finish_step, line_step, one_step, step}
+use Rattle.dbg_model.specs.Watchpoints.{watch}
+use Rattle.dbg_model.specs.Writes.{set_register, write_memory}
 
 -- the value of a setting; the mode is always non-stop, and commands are always done while harts run
 abbrev pub setting_value : Displaced → Setting → Displaced
@@ -33,6 +35,7 @@ reply s (command.BreakDisable ns) = enable s false ns
 reply s (command.BreakCondition n text) = change_condition s n text
 reply s (command.BreakAfter n count) = after s n count
 reply s command.BreakList = list s
+reply s (command.BreakWatch text) = watch s text
 reply s (command.Continue target) = go_on s target
 reply s (command.Interrupt target) = interrupt s target
 reply s (command.Step thread) = step (line_step true) s thread
@@ -50,10 +53,12 @@ reply s (command.FrameInfo thread) = frame_info s thread
 reply s command.RegisterNames = Ok (showing content.RegisterNames)
 reply s (command.RegisterValues thread format numbers) = register_values s thread format numbers
 reply s (command.ReadMemory addr count) = read_memory s addr count
+reply s (command.WriteMemory address bytes) = write_memory s address bytes
 reply s (command.Evaluate thread text) = evaluate s thread text
 reply s command.SetNonStop = Ok (doing stays)
 reply s command.SetMiAsync = Ok (doing stays)
 reply s (command.SetDisplaced value) = Ok (doing (displaces value))
+reply s (command.SetRegister thread name register value) = set_register s thread name register value
 reply s (command.Show setting) = Ok (showing (content.Setting (setting_value s.displaced setting)))
 reply s command.Exit = Ok (record { content = content.Exit; change = exits })
 

@@ -2,7 +2,7 @@
 use Rattle.std.specs.Prelude.{◌≡◌, ℕ, ◌+◌, Bool, true, List, [], ◌∷◌, ◌++◌, Option, Some, None, option_and_then, if◌then◌else◌, ◌==◌, not}
 use Rattle.std.specs.Option.{option_map}
 use Rattle.dbg_model.specs.declared.entry.Entry.{Entry}
-use Rattle.dbg_model.specs.declared.entry.Entry.TheVariants.{Ran, Counted, Stopped, Left, Did}
+use Rattle.dbg_model.specs.declared.entry.Entry.TheVariants.{Ran, Counted, Stopped, Left, Did, Poked}
 use Rattle.dbg_model.specs.declared.opening.Opening.{Opening}
 use Rattle.dbg_model.specs.State.{State, first_state}
 use Rattle.dbg_model.specs.Lawful.{enter}
@@ -18,6 +18,7 @@ ran_hart (Counted h) = None
 ran_hart (Stopped h why) = None
 ran_hart (Left h code) = None
 ran_hart (Did line) = None
+ran_hart (Poked p) = None
 
 -- no two neighbouring `Ran` are of one hart
 abbrev pub follows : Option ℕ → Entry → Bool
@@ -27,6 +28,7 @@ follows (Some h) (Counted k) = true
 follows (Some h) (Stopped k why) = true
 follows (Some h) (Left k code) = true
 follows (Some h) (Did line) = true
+follows (Some h) (Poked p) = true
 
 abbrev pub come : Opening → Place → Entry → Option Place
 come o p e = if follows p.prev e then option_map (λ s. record { prev = ran_hart e; state = s }) (enter o p.state e) else None
@@ -54,6 +56,7 @@ ran_count (Counted k) h = None
 ran_count (Stopped k why) h = None
 ran_count (Left k code) h = None
 ran_count (Did line) h = None
+ran_count (Poked p) h = None
 
 -- one more instruction of a hart: it lengthens the last entry where that is a `Ran` of this hart
 abbrev pub one_more_by : Option ℕ → Entry → ℕ → List Entry
@@ -75,6 +78,7 @@ count_of (Counted k) = 0
 count_of (Stopped k why) = 0
 count_of (Left k code) = 0
 count_of (Did line) = 0
+count_of (Poked p) = 0
 
 abbrev pub last_count : List Entry → ℕ
 last_count [] = 0
@@ -88,6 +92,7 @@ did_one (Counted h) = []
 did_one (Stopped h why) = []
 did_one (Left h code) = []
 did_one (Did line) = line ∷ []
+did_one (Poked p) = []
 
 abbrev pub did : List Entry → List (List ℕ)
 did [] = []
@@ -100,6 +105,7 @@ noted_one (Counted h) = 1
 noted_one (Stopped h why) = 1
 noted_one (Left h code) = 1
 noted_one (Did line) = 1
+noted_one (Poked p) = 1
 
 abbrev pub noted : List Entry → ℕ
 noted [] = 0

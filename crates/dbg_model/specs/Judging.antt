@@ -1,5 +1,5 @@
--- What is judged where a hart has just arrived: what its breakpoints do with it (GDB manual, "Breakpoints, Watchpoints, and
--- Catchpoints"), and whether its step is at its end (GDB manual, "Continuing and Stepping").
+-- What is judged where a hart has just arrived: what its breakpoints and a watch do with it (GDB manual, "Breakpoints,
+-- Watchpoints, and Catchpoints"), and whether its step is at its end (GDB manual, "Continuing and Stepping").
 use Rattle.std.specs.Prelude.{ℕ, Bool, true, false, not, ◌&&◌, ◌||◌, List, Option, Some, None, option_and_then, is_some, if◌then◌else◌}
 use Rattle.std.specs.Option.{option_map}
 use Rattle.rv_decode.specs.Decode.{decode}
@@ -16,6 +16,7 @@ use Rattle.step_plans.specs.declared.plan.Verdict.TheVariants as verdicts
 use Rattle.step_plans.specs.Verdicts.{asks, verdict}
 use Rattle.dbg_model.specs.declared.judgement.Course.{Course}
 use Rattle.dbg_model.specs.declared.judgement.Judgement.{Judgement}
+use Rattle.dbg_model.specs.declared.watch.Fired.{Fired}
 use Rattle.dbg_model.specs.Breaks.{nothing_due}
 
 -- ---- the plan of a step
@@ -40,14 +41,15 @@ noted_with plan pc = if asks plan then Some pc else None
 
 -- of a hart that hasn't just arrived
 abbrev pub no_arrival : Plan → Judgement
-no_arrival plan = record { breaks = nothing_due; verdict = verdicts.Go plan }
+no_arrival plan = record { breaks = nothing_due; fired = None; verdict = verdicts.Go plan }
 
--- what the breakpoints and the plan make of a hart that has just arrived, and sees these registers and bytes; elsewhere
+-- what the breakpoints, the watch that fired and the plan make of a hart that has just arrived, and sees these registers and bytes; elsewhere
 -- nothing is due
 unfoldable pub judgement_of : Program → Sources → List Entry → ℕ → Course → (ℕ → ℕ) → (ℕ → Option ℕ) → Judgement
 judgement_of p sources entries h c registers bytes =
     if c.fresh then record {
       breaks = due_of h registers bytes entries;
+      fired = c.fired;
       verdict = verdict_behind p sources c.plan registers c.last;
     } else no_arrival c.plan
 
@@ -61,13 +63,21 @@ abbrev pub plan_after : Verdict → Plan
 plan_after (verdicts.Go plan) = plan
 plan_after _ = plans.Free
 
--- a breakpoint stops or counts the hart, or its plan is at its end
+-- a breakpoint stops or counts the hart, a watch fired, or its plan is at its end
 abbrev pub is_due : Judgement → Bool
-is_due j = is_some j.breaks.stop || (j.breaks.counts || is_end j.verdict)
+is_due j = is_some j.breaks.stop || (j.breaks.counts || (is_some j.fired || is_end j.verdict))
 
--- no breakpoint stops it and its plan isn't at its end, but a breakpoint counts it
+-- neither a breakpoint nor a watch stops it
+abbrev pub no_stop : Judgement → Bool
+no_stop j = not (is_some j.breaks.stop) && not (is_some j.fired)
+
+-- neither stops it and its plan isn't at its end, but a breakpoint counts it
 abbrev pub is_counted : Judgement → Bool
-is_counted j = not (is_some j.breaks.stop) && (not (is_end j.verdict) && j.breaks.counts)
+is_counted j = no_stop j && (not (is_end j.verdict) && j.breaks.counts)
+
+-- the watch that stops it, where no breakpoint does
+abbrev pub fires : Judgement → Option Fired
+fires j = if is_some j.breaks.stop then None else j.fired
 
 abbrev pub is_stepped : Verdict → Bool
 is_stepped verdicts.Stepped = true
@@ -77,10 +87,10 @@ abbrev pub is_finished : Verdict → Bool
 is_finished verdicts.Finished = true
 is_finished _ = false
 
--- no breakpoint stops it, and its step is at its end
+-- neither stops it, and its step is at its end
 abbrev pub ends_step : Judgement → Bool
-ends_step j = not (is_some j.breaks.stop) && is_stepped j.verdict
+ends_step j = no_stop j && is_stepped j.verdict
 
--- no breakpoint stops it, and its function has returned
+-- neither stops it, and its function has returned
 abbrev pub ends_function : Judgement → Bool
-ends_function j = not (is_some j.breaks.stop) && is_finished j.verdict
+ends_function j = no_stop j && is_finished j.verdict

@@ -1,5 +1,6 @@
 -- Which entries may come in a state, and the state that each leaves.
-use Rattle.std.specs.Prelude.{ℕ, suc, zero, ◌+◌, Bool, true, false, List, [], ◌∷◌, ◌++◌, map, Option, Some, None, option_and_then, if◌then◌else◌, ◌==◌, ◌&&◌, not, nat_lt, slice_get, slice_index, slice_set}
+use Rattle.std.specs.Prelude.{ℕ, suc, zero, ◌+◌, Bool, true, false, List, [], ◌∷◌, ◌++◌, map, Option, Some, None, option_and_then, is_none, if◌then◌else◌, ◌==◌, ◌&&◌, not, nat_lt, slice_get, slice_index, slice_set}
+use Rattle.std.specs.Option.{option_map}
 use Rattle.rv_exec.specs.declared.effect.Cause.{Cause}
 use Rattle.rv_exec.specs.Causes.{cause_number}
 use Rattle.rv_exec.specs.Registers.{Registers}
@@ -9,23 +10,28 @@ use Rattle.plain_machine.specs.Plain.{plain}
 use Rattle.dbg_model.specs.declared.entry.Mode.{Mode}
 use Rattle.dbg_model.specs.declared.entry.Mode.TheVariants as mode
 use Rattle.dbg_model.specs.declared.entry.Why.{Why}
-use Rattle.dbg_model.specs.declared.entry.Why.TheVariants.{Break, Stepped, Finished, Interrupted, Fault}
+use Rattle.dbg_model.specs.declared.entry.Why.TheVariants.{Break, Watch, Stepped, Finished, Interrupted, Fault}
 use Rattle.dbg_model.specs.declared.entry.Entry.{Entry}
-use Rattle.dbg_model.specs.declared.entry.Entry.TheVariants.{Ran, Counted, Stopped, Left, Did}
+use Rattle.dbg_model.specs.declared.entry.Entry.TheVariants.{Ran, Counted, Stopped, Left, Did, Poked}
+use Rattle.dbg_model.specs.declared.entry.Poke.{Poke}
 use Rattle.step_plans.specs.declared.plan.Plan.TheVariants as plans
 use Rattle.dbg_model.specs.declared.hart.Hart.{Hart}
 use Rattle.dbg_model.specs.declared.judgement.Judgement.{Judgement}
 use Rattle.dbg_model.specs.declared.opening.Opening.{Opening}
+use Rattle.dbg_model.specs.declared.watch.Fired.{Fired}
 use Rattle.dbg_model.specs.Limits.{history}
 use Rattle.dbg_model.specs.Breaks.{is_stop}
-use Rattle.dbg_model.specs.Judging.{ends_function, ends_step, is_counted, is_due, noted_with, plan_after}
+use Rattle.dbg_model.specs.Judging.{ends_function, ends_step, fires, is_counted, is_due, noted_with, plan_after}
 use Rattle.break_table.specs.Table.{stands}
 use Rattle.dbg_model.specs.State.{State, is_running, has_exited, is_off, any_runs, any_leaves, due, arrived}
+use Rattle.dbg_model.specs.Watches.{fired_by, is_fired, risen}
+use Rattle.dbg_model.specs.Pokes.{is_pending, with_poke, written}
 use Rattle.dbg_model.specs.Reply.{done_by, is_wait}
 
--- no exit is still to be reported, neither the budget nor the history is used up, and no `-gdb-exit` was done
+-- no exit is still to be reported, neither the budget nor the history is used up, no `-gdb-exit` was done, and nothing is
+-- still to be written
 abbrev pub may_go : Opening → State → Bool
-may_go o s = not (any_leaves s.harts) && (nat_lt s.retired o.settings.budget && (nat_lt s.noted history && not s.exited))
+may_go o s = not (any_leaves s.harts) && (nat_lt s.retired o.settings.budget && (nat_lt s.noted history && (not s.exited && is_none s.pending)))
 
 -- a line may be done; one that waits only where no hart runs
 abbrev pub may_do : Opening → State → List ℕ → Bool
@@ -43,8 +49,9 @@ may_run o s h x = may_move o s x && not (is_due (due o.image s h x))
 abbrev pub set_out : Judgement → Hart → Hart
 set_out j x = record x { plan = plan_after j.verdict }
 
-abbrev pub stepped : Hart → Registers → Hart
-stepped x r = record x { regs = r; fresh = true; last = noted_with x.plan x.regs.pc }
+-- a hart after an instruction that left these registers, and made this watch fire
+abbrev pub stepped : Hart → Registers → Option Fired → Hart
+stepped x r fired = record x { regs = r; fresh = true; last = noted_with x.plan x.regs.pc; fired = fired }
 
 -- a live hart leaves
 abbrev pub leaving : ℕ → Hart → Hart
@@ -71,7 +78,7 @@ one_more_at ns h false = ns
 -- the state after an instruction of a hart
 abbrev pub with_step : State → ℕ → Hart → Registers → Memory → List ℕ → Leave → State
 with_step s h x r m out leave = record s {
-  harts = with_leavers leave (slice_set s.harts h (stepped x r)) h;
+  harts = with_leavers leave (slice_set s.harts h (stepped x r (fired_by s.watches s.memory m))) h;
   memory = m;
   out = s.out ++ out;
   passed = one_more_at s.passed h (passes s x);
@@ -96,7 +103,7 @@ ran o h s zero = Some s
 ran o h s (suc n) = option_and_then (one o h) (ran o h s n)
 
 abbrev pub stopped : Hart → Hart
-stopped x = record x { mode = mode.Stopped; fresh = false; asked = false; plan = plans.Free; last = None }
+stopped x = record x { mode = mode.Stopped; fresh = false; asked = false; plan = plans.Free; last = None; fired = None }
 
 abbrev pub with_stop : State → ℕ → Hart → State
 with_stop s h x = record s { harts = slice_set s.harts h (stopped x); noted = s.noted + 1 }
@@ -106,16 +113,17 @@ abbrev pub faulted_by : Answer → Cause → State → ℕ → Hart → Option S
 faulted_by (Traps met) cause s h x = if cause_number met == cause_number cause then Some (with_stop s h x) else None
 faulted_by (Goes r m out leave) cause s h x = None
 
--- a hart stops where it has arrived, with the changes of the breakpoints there
+-- a hart stops where it has arrived, with the changes of the breakpoints there and of the watch that fired
 abbrev pub with_arrival : Opening → State → ℕ → Hart → State
-with_arrival o s h x = record (with_stop s h x) { breaks = arrived o.image s h x }
+with_arrival o s h x = record (with_stop s h x) { breaks = arrived o.image s h x; watches = risen x.fired s.watches }
 
--- a hart stops: at a breakpoint that it has just come to, at the end of its step or of its function, by an interrupt that
+-- a hart stops: at a breakpoint that it has just come to, by a watch that fired, at the end of its step or of its function, by an interrupt that
 -- was asked, or by a trap
 abbrev pub stopped_by : Opening → State → ℕ → Why → Option Hart → Option State
 stopped_by o s h why None = None
 stopped_by o s h (Break number error) (Some x) =
     if may_move o s x && is_stop (due o.image s h x).breaks number error then Some (with_arrival o s h x) else None
+stopped_by o s h (Watch f) (Some x) = if may_move o s x && is_fired (fires (due o.image s h x)) f then Some (with_arrival o s h x) else None
 stopped_by o s h Stepped (Some x) = if may_move o s x && ends_step (due o.image s h x) then Some (with_arrival o s h x) else None
 stopped_by o s h Finished (Some x) = if may_move o s x && ends_function (due o.image s h x) then Some (with_arrival o s h x) else None
 stopped_by o s h Interrupted (Some x) = if may_run o s h x && x.asked then Some (with_stop s h x) else None
@@ -157,6 +165,10 @@ left_by s h code None = None
 left_by s h code (Some leaver) =
     if not s.exited && ((leaver.0 == h) && (leaver.1 == code)) then Some (record s { harts = exited_at s.harts h (slice_get s.harts h); noted = s.noted + 1 }) else None
 
+-- what the line before asked for is written
+abbrev pub poked_by : State → Poke → Option State
+poked_by s p = if is_pending s.pending p then option_map with_poke (written s p) else None
+
 -- the state after an entry, where it may come
 unfoldable pub enter : Opening → State → Entry → Option State
 enter o s (Ran h n) = if nat_lt 0 n then ran o h s n else None
@@ -164,6 +176,7 @@ enter o s (Counted h) = counted_by o s h (slice_get s.harts h)
 enter o s (Stopped h why) = stopped_by o s h why (slice_get s.harts h)
 enter o s (Left h code) = left_by s h code (leaver_from 0 s.harts)
 enter o s (Did line) = if may_do o s line then Some (done_by o s line) else None
+enter o s (Poked p) = poked_by s p
 
 -- the bytes that an instruction writes
 abbrev pub answer_out : Answer → List ℕ

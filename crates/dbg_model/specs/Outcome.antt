@@ -1,7 +1,9 @@
 -- What is answered to a command, and what it changes: two values.
 use Rattle.std.specs.Prelude.{ℕ, Bool, List, Option, Result, Ok, Err}
 use Rattle.break_table.specs.Entry.{Asked, Condition}
+use Rattle.watch_points.specs.declared.watch.Watched.{Watched}
 use Rattle.mi_commands.specs.declared.command.Displaced.{Displaced}
+use Rattle.dbg_model.specs.declared.entry.Poke.{Poke}
 use Rattle.step_plans.specs.declared.plan.Plan.{Plan}
 use Rattle.dbg_model.specs.declared.reply.Content.{Content}
 use Rattle.dbg_model.specs.declared.reply.Content.TheVariants as content
@@ -15,9 +17,11 @@ pub data Change : Type 0 where
   selects : ℕ → Change
   -- a breakpoint is set
   inserts : Asked → Change
-  -- the breakpoints of these numbers are deleted
+  -- these bytes, which a text gave, are watched
+  adds_watch : List ℕ → Watched → Change
+  -- the breakpoints and the watches of these numbers are deleted
   deletes : List ℕ → Change
-  -- the breakpoints of these numbers are enabled, or disabled
+  -- the breakpoints and the watches of these numbers are enabled, or disabled
   enables : Bool → List ℕ → Change
   -- the breakpoint of this number gets another condition, or none
   conditions : ℕ → Option Condition → Change
@@ -27,6 +31,8 @@ pub data Change : Type 0 where
   interrupts : List ℕ → Change
   -- displaced stepping is set
   displaces : Displaced → Change
+  -- this is to be written into the program
+  pokes : Poke → Change
   -- the session ends
   exits : Change
 

@@ -1,6 +1,9 @@
 -- Why a command is refused: the number of each error, all that stands against a command, and which of it is answered.
-use Rattle.std.specs.Prelude.{ℕ, zero, suc, ◌≡◌, ◌≤◌, ◌<◌, Bool, true, false, not, List, [], ◌∷◌, ◌++◌, length, Option, Some, None, Result, Ok, Err, is_some, if◌then◌else◌, nat_lt, All}
+use Rattle.std.specs.Prelude.{ℕ, zero, suc, ◌+◌, ◌%◌, ◌^◌, ◌≡◌, ◌≤◌, ◌<◌, Bool, true, false, not, ◌||◌, List, [], ◌∷◌, ◌++◌, length, Option, Some, None, Result, Ok, Err, is_some, if◌then◌else◌, nat_lt, All}
+use Rattle.std.specs.FinMap as map
 use Rattle.rv_exec.specs.Registers.{Registers}
+use Rattle.rv_exec.specs.Memory.{Memory, is_writable}
+use Rattle.data_memory.specs.Ranges.{value_at}
 use Rattle.elf32_read.specs.Program.{text_word}
 use Rattle.cond_expr.specs.declared.fault.FaultKind.{FaultKind}
 use Rattle.cond_expr.specs.declared.fault.FaultKind.TheVariants as kind
@@ -14,21 +17,25 @@ use Rattle.mi_commands.specs.declared.refusal.Fault.TheVariants as fault
 use Rattle.mi_commands.specs.Faults.{fault_number}
 use Rattle.break_table.specs.Entry.{Condition}
 use Rattle.break_table.specs.Table.{has_number}
+use Rattle.watch_points.specs.declared.watch.Watched.{Watched}
 use Rattle.step_plans.specs.declared.plan.Plan.{Plan}
 use Rattle.dbg_model.specs.declared.thread_view.ThreadView.{ThreadView}
 use Rattle.dbg_model.specs.declared.thread_view.ThreadView.TheVariants as view
 use Rattle.dbg_model.specs.declared.reply.Content.{Content}
 use Rattle.dbg_model.specs.declared.reply.Content.TheVariants as content
 use Rattle.dbg_model.specs.declared.reply.Obstacle.{Obstacle}
-use Rattle.dbg_model.specs.declared.reply.Obstacle.TheVariants.{UnknownThread, HasExited, IsRunning, NotRunning, NoBreakpoint, NoInstruction, TooManyBreakpoints, Expression, DivisionByZero, Unreadable, NoLine, NoCaller}
+use Rattle.dbg_model.specs.declared.reply.Obstacle.TheVariants.{UnknownThread, HasExited, IsRunning, NotRunning, NoBreakpoint, NoInstruction, TooManyBreakpoints, Expression, DivisionByZero, Unreadable, NoLine, NoCaller, Unwritable, TooManyWatches}
 use Rattle.dbg_model.specs.declared.reply.Refused.{Refused}
 use Rattle.dbg_model.specs.declared.reply.Refused.TheVariants as refused
-use Rattle.dbg_model.specs.Limits.{breakpoints}
+use Rattle.dbg_model.specs.Limits.{breakpoints, most_watches}
 use Rattle.dbg_model.specs.Views.{shown_byte}
 use Rattle.dbg_model.specs.Sight.{Sight, thread_at, stopped, thread_or}
 use Rattle.dbg_model.specs.Breakpoints.{condition, expression, place}
 use Rattle.dbg_model.specs.Data.{address_at, worth_of}
 use Rattle.dbg_model.specs.Steps.{finish_step, line_step, one_step}
+use Rattle.dbg_model.specs.Watches.{has_watch}
+use Rattle.dbg_model.specs.Watchpoints.{watched}
+use Rattle.dbg_model.specs.Writes.{settable}
 
 -- ---- numbers
 
@@ -52,6 +59,8 @@ obstacle_number DivisionByZero = 23
 obstacle_number (Unreadable addr) = 24
 obstacle_number (NoLine addr) = 25
 obstacle_number NoCaller = 26
+obstacle_number (Unwritable addr) = 27
+obstacle_number TooManyWatches = 32
 
 -- the number of an error, by which it is chosen of several
 abbrev pub number : Refused → ℕ
@@ -62,6 +71,8 @@ number (refused.Faulty f) = fault_number f
 number (refused.Hindered o) = obstacle_number o
 number (refused.UnknownName name) = 14
 number (refused.UnknownLine file line) = 15
+number (refused.FixedRegister name) = 28
+number (refused.Unwatchable text) = 31
 
 -- the number of the error that is answered, if one is
 abbrev pub refused_number : Content → Option ℕ
@@ -119,6 +130,11 @@ abbrev pub absent : Sight → List ℕ → List Refused
 absent s [] = []
 absent s (n ∷ ns) = when (not (has_number n s.breaks)) (NoBreakpoint n) ++ absent s ns
 
+-- each of the numbers that neither a breakpoint nor a watch has
+abbrev pub absent_from_both : Sight → List ℕ → List Refused
+absent_from_both s [] = []
+absent_from_both s (n ∷ ns) = when (not (has_number n s.breaks || has_watch n s.watches)) (NoBreakpoint n) ++ absent_from_both s ns
+
 abbrev pub no_text : Sight → Result ℕ Refused → List Refused
 no_text s (Ok addr) = when (not (is_some (text_word s.image addr))) (NoInstruction addr)
 no_text s (Err r) = []
@@ -135,6 +151,27 @@ against_insert s i =
 abbrev pub unreadable : Sight → ℕ → ℕ → List Refused
 unreadable s addr zero = []
 unreadable s addr (suc n) = unreadable s addr n ++ when (not (is_some (shown_byte s.image s.memory (address_at addr n)))) (Unreadable (address_at addr n))
+
+-- each address of a range whose byte can't be written; addresses go on modulo 2 ^ 32
+abbrev pub unwritable : Memory → ℕ → ℕ → List Refused
+unwritable m addr zero = []
+unwritable m addr (suc n) = when (not (is_writable (map.get m (addr % 2 ^ 32)))) (Unwritable (addr % 2 ^ 32)) ++ unwritable m (addr + 1) n
+
+-- each address of a range that has no byte of data; addresses go on modulo 2 ^ 32
+abbrev pub no_data : Memory → ℕ → ℕ → List Refused
+no_data m addr zero = []
+no_data m addr (suc n) = when (not (is_some (value_at m (addr % 2 ^ 32)))) (Unreadable (addr % 2 ^ 32)) ++ no_data m (addr + 1) n
+
+-- each of the bytes that are to be watched, of which a text has to give some
+abbrev pub unwatched_bytes : Sight → Result Watched Refused → List Refused
+unwatched_bytes s (Ok b) = no_data s.memory b.address b.size
+unwatched_bytes s (Err r) = []
+
+abbrev pub against_watch : Sight → List ℕ → List Refused
+against_watch s text =
+    failed (watched s.sources.names text)
+    ++ (unwatched_bytes s (watched s.sources.names text)
+    ++ when (not (nat_lt (length s.watches) most_watches)) TooManyWatches)
 
 -- against the value of an expression, which there is only of a stopped thread and of a text without fault
 abbrev pub no_value : Sight → Result Registers Refused → Result Condition Refused → List Refused
@@ -158,11 +195,12 @@ against_step plan_of s thread =
 
 unfoldable pub against : Sight → Command → List Refused
 against s (command.BreakInsert i) = against_insert s i
-against s (command.BreakDelete ns) = absent s ns
-against s (command.BreakEnable ns) = absent s ns
-against s (command.BreakDisable ns) = absent s ns
+against s (command.BreakDelete ns) = absent_from_both s ns
+against s (command.BreakEnable ns) = absent_from_both s ns
+against s (command.BreakDisable ns) = absent_from_both s ns
 against s (command.BreakCondition n text) = absent s (n ∷ []) ++ failed (condition s.sources.names text)
 against s (command.BreakAfter n count) = absent s (n ∷ [])
+against s (command.BreakWatch text) = against_watch s text
 against s (command.Continue target) = against_target (against_stopped s) s target
 against s (command.Interrupt target) = against_target (against_running s) s target
 against s (command.ThreadInfo thread) = against_named (against_live s) thread
@@ -172,6 +210,9 @@ against s (command.FrameList thread) = against_stopped s (thread_or s.selected t
 against s (command.FrameDepth thread) = against_stopped s (thread_or s.selected thread)
 against s (command.FrameInfo thread) = against_stopped s (thread_or s.selected thread)
 against s (command.ReadMemory addr count) = unreadable s addr count
+against s (command.WriteMemory address bytes) = unwritable s.memory address (length bytes)
+against s (command.SetRegister thread name register value) =
+    against_stopped s (thread_or s.selected thread) ++ failed (settable name register)
 against s (command.Evaluate thread text) = against_evaluate s (thread_or s.selected thread) text
 against s (command.Step thread) = against_step (line_step true) s thread
 against s (command.Next thread) = against_step (line_step false) s thread

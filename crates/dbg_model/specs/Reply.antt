@@ -15,12 +15,15 @@ use Rattle.dbg_model.specs.declared.reply.Refused.TheVariants as refused
 use Rattle.dbg_model.specs.declared.reply.Reply.{Reply}
 use Rattle.dbg_model.specs.declared.entry.Mode.{Mode}
 use Rattle.dbg_model.specs.declared.entry.Mode.TheVariants as mode
+use Rattle.dbg_model.specs.declared.entry.Poke.{Poke}
 use Rattle.step_plans.specs.declared.plan.Plan.{Plan}
 use Rattle.dbg_model.specs.declared.hart.Hart.{Hart}
 use Rattle.dbg_model.specs.declared.opening.Opening.{Opening}
 use Rattle.dbg_model.specs.Breaks.{without, enabling}
 use Rattle.dbg_model.specs.Sight.{Sight, sight_of}
-use Rattle.dbg_model.specs.Outcome.{Change, Outcome, conditions, deletes, displaces, enables, exits, ignores, inserts, interrupts, resumes, selects, told}
+use Rattle.dbg_model.specs.declared.watch.Watch.{Watch}
+use Rattle.dbg_model.specs.Watches.{new_watch, switched, unless_of, unwatched}
+use Rattle.dbg_model.specs.Outcome.{Change, Outcome, adds_watch, conditions, deletes, displaces, enables, exits, ignores, inserts, interrupts, pokes, resumes, selects, told}
 use Rattle.dbg_model.specs.Command.{asked_reply}
 use Rattle.dbg_model.specs.State.{State, is_off}
 
@@ -90,10 +93,17 @@ abbrev pub on_threads : {A : Type 0} → (A → A) → List ℕ → ℕ → List
 on_threads f threads n [] = []
 on_threads f threads n (x ∷ xs) = (if is_named threads n then f x else x) ∷ on_threads f threads (n + 1) xs
 
--- the harts after a change: some go on, or an interrupt is asked of some
+-- a watch of these numbers has no longer fired for a hart
+abbrev pub forgetting : List ℕ → Hart → Hart
+forgetting ns x = record x { fired = unless_of ns x.fired }
+
+-- the harts after a change: some go on, or an interrupt is asked of some; what a watch that is deleted or disabled did is
+-- forgotten
 abbrev pub harts_after : List Hart → Change → List Hart
 harts_after xs (resumes threads plan) = on_threads (resumed plan) threads 1 xs
 harts_after xs (interrupts threads) = on_threads asked threads 1 xs
+harts_after xs (deletes ns) = map (forgetting ns) xs
+harts_after xs (enables false ns) = map (forgetting ns) xs
 harts_after xs _ = xs
 
 -- the setting after a change
@@ -123,10 +133,23 @@ breaks_after es given (conditions n c) = map (changed_entry (with_condition c) n
 breaks_after es given (ignores n k) = map (changed_entry (with_ignore k) n) es
 breaks_after es given _ = es
 
+-- the watches after a change
+abbrev pub watches_after : List Watch → ℕ → Change → List Watch
+watches_after ws given (adds_watch text b) = ws ++ new_watch (given + 1) text b ∷ []
+watches_after ws given (deletes ns) = unwatched ns ws
+watches_after ws given (enables enabled ns) = switched enabled ns ws
+watches_after ws given _ = ws
+
 -- how many numbers were given after a change
 abbrev pub given_after : ℕ → Change → ℕ
 given_after given (inserts a) = given + 1
+given_after given (adds_watch text b) = given + 1
 given_after given _ = given
+
+-- what is to be written after a change
+abbrev pub pending_after : Option Poke → Change → Option Poke
+pending_after pending (pokes p) = Some p
+pending_after pending _ = pending
 
 -- whether the session was ended after a change
 abbrev pub exited_after : Bool → Change → Bool
@@ -138,10 +161,12 @@ abbrev pub changed_by : State → Change → State
 changed_by s c = record s {
   harts = harts_after s.harts c;
   breaks = breaks_after s.breaks s.given c;
+  watches = watches_after s.watches s.given c;
   given = given_after s.given c;
   selected = selected_after s.selected c;
   displaced = displaced_after s.displaced c;
   sets = sets_after s.sets c;
+  pending = pending_after s.pending c;
   noted = s.noted + 1;
   exited = exited_after s.exited c;
 }

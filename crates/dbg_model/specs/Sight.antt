@@ -17,6 +17,7 @@ use Rattle.dbg_model.specs.declared.reply.Refused.TheVariants.{Hindered}
 use Rattle.dbg_model.specs.declared.reply.Thread.{Thread}
 use Rattle.dbg_model.specs.Places.{own_frame}
 use Rattle.dbg_model.specs.declared.hart.Hart.{Hart}
+use Rattle.dbg_model.specs.declared.watch.Watch.{Watch}
 use Rattle.dbg_model.specs.State.{State}
 
 pub record Sight : Type 0 where
@@ -28,7 +29,9 @@ pub record Sight : Type 0 where
   pub threads : List ThreadView
   -- the breakpoints that the user set, in rising order of their numbers
   pub breaks : List Entry
-  -- how many numbers were given to breakpoints
+  -- the watches that the user set, in rising order of their numbers
+  pub watches : List Watch
+  -- how many numbers were given to breakpoints and watches
   pub given : ℕ
   -- the selected thread
   pub selected : ℕ
@@ -51,6 +54,7 @@ sight_of o s = record {
   memory = s.memory;
   threads = map view_of s.harts;
   breaks = s.breaks;
+  watches = s.watches;
   given = s.given;
   selected = s.selected;
   displaced = s.displaced;

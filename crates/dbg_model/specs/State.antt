@@ -1,5 +1,5 @@
 -- The state of a session, as its journal makes it.
-use Rattle.std.specs.Prelude.{ℕ, zero, suc, Bool, true, false, List, [], ◌∷◌, ◌++◌, replicate, None}
+use Rattle.std.specs.Prelude.{ℕ, zero, suc, Bool, true, false, List, [], ◌∷◌, ◌++◌, replicate, Option, None}
 use Rattle.std.specs.List.{list_any, list_all}
 use Rattle.rv_exec.specs.Memory.{Memory}
 use Rattle.elf32_read.specs.Program.{Program}
@@ -13,10 +13,12 @@ use Rattle.source_index.specs.Sources.{sources_of}
 use Rattle.step_plans.specs.declared.plan.Plan.TheVariants as plans
 use Rattle.dbg_model.specs.declared.entry.Mode.{Mode}
 use Rattle.dbg_model.specs.declared.entry.Mode.TheVariants as mode
+use Rattle.dbg_model.specs.declared.entry.Poke.{Poke}
 use Rattle.dbg_model.specs.declared.hart.Hart.{Hart}
 use Rattle.dbg_model.specs.declared.judgement.Course.{Course}
 use Rattle.dbg_model.specs.declared.judgement.Judgement.{Judgement}
 use Rattle.dbg_model.specs.declared.opening.Opening.{Opening}
+use Rattle.dbg_model.specs.declared.watch.Watch.{Watch}
 use Rattle.dbg_model.specs.Judging.{judgement_of}
 use Rattle.dbg_model.specs.Views.{register, shown_byte}
 
@@ -27,7 +29,9 @@ pub record State : Type 0 where
   pub out : List ℕ
   -- the breakpoints that the user set, in rising order of their numbers
   pub breaks : List Entry
-  -- how many numbers were given to breakpoints, from 1 on
+  -- the watches that the user set, in rising order of their numbers
+  pub watches : List Watch
+  -- how many numbers were given to breakpoints and watches, from 1 on
   pub given : ℕ
   -- the selected thread, counted from 1
   pub selected : ℕ
@@ -37,12 +41,20 @@ pub record State : Type 0 where
   pub sets : ℕ
   -- for each hart, how many of its instructions were executed where an enabled breakpoint stood, while that wasn't off
   pub passed : List ℕ
+  -- what the line that was done last asks to be written, until it is
+  pub pending : Option Poke
   -- how many instructions were executed
   pub retired : ℕ
   -- how many entries other than `Ran` there are
   pub noted : ℕ
   -- whether `-gdb-exit` was done
   pub exited : Bool
+
+abbrev pub is_stopped : Mode → Bool
+is_stopped mode.Stopped = true
+is_stopped mode.Running = false
+is_stopped (mode.Leaving code) = false
+is_stopped mode.Exited = false
 
 abbrev pub is_running : Mode → Bool
 is_running mode.Stopped = false
@@ -89,7 +101,7 @@ abbrev pub all_gone : List Hart → Bool
 all_gone xs = list_all hart_gone xs
 
 abbrev pub course_of : Hart → Course
-course_of x = record { fresh = x.fresh; plan = x.plan; last = x.last }
+course_of x = record { fresh = x.fresh; plan = x.plan; last = x.last; fired = x.fired }
 
 -- what is judged of a hart
 unfoldable pub due : Program → State → ℕ → Hart → Judgement
@@ -102,7 +114,7 @@ arrived p s h x = settled h (register x.regs) (shown_byte p s.memory) s.breaks
 -- the first n of so many harts, as a session begins with them
 abbrev pub first_harts : Program → ℕ → ℕ → List Hart
 first_harts p harts zero = []
-first_harts p harts (suc n) = first_harts p harts n ++ record { regs = first_registers p.entry harts n; mode = mode.Stopped; fresh = false; asked = false; plan = plans.Free; last = None } ∷ []
+first_harts p harts (suc n) = first_harts p harts n ++ record { regs = first_registers p.entry harts n; mode = mode.Stopped; fresh = false; asked = false; plan = plans.Free; last = None; fired = None } ∷ []
 
 -- where a session begins
 abbrev pub first_state : Opening → State
@@ -111,11 +123,13 @@ first_state o = record {
   memory = start_memory o.image o.settings.harts;
   out = [];
   breaks = [];
+  watches = [];
   given = 0;
   selected = 1;
   displaced = displaced.Auto;
   sets = 0;
   passed = replicate o.settings.harts 0;
+  pending = None;
   retired = 0;
   noted = 0;
   exited = false;

@@ -1,9 +1,7 @@
 // Breakpoints as they are listed.
-ghost use Rattle.std.specs.Prelude.{◌≡◌};
 
 use crate::SourceLine;
 use mi_commands::ByteList;
-use std::marker::Model;
 
 /// A breakpoint that the user set, as it is listed.
 #[derive(Drop)]
@@ -29,35 +27,4 @@ pub struct Breakpoint {
     pub thread: Option<u32>,
     /// How many arrivals it counted or stopped.
     pub times: u64,
-}
-
-/// Breakpoints that contracts see as a list.
-#[derive(Drop)]
-pub struct BreakpointList {
-    breakpoints: Vec<Breakpoint>,
-}
-
-impl Model for BreakpointList {
-    ghost use Rattle.std.specs.Prelude.{List};
-    ghost use Rattle.dbg_model.specs.declared.breakpoint.Breakpoint.{Breakpoint};
-
-    ghost Value = { List Breakpoint };
-
-    ghost view = { λ l. l.breakpoints.items };
-}
-
-impl BreakpointList {
-    /// The breakpoints of a vector, which keeps its memory.
-    pub fn of(breakpoints: Vec<Breakpoint>) -> BreakpointList
-        ensures { result ≡ breakpoints.items }
-    {
-        BreakpointList { breakpoints }
-    }
-
-    /// The breakpoints in order.
-    pub fn as_slice(&self) -> &[Breakpoint]
-        ensures { result.now ≡ self.now }
-    {
-        self.breakpoints.as_slice()
-    }
 }

@@ -1,5 +1,6 @@
 ghost use Rattle.std.specs.Prelude.{◌≡◌};
 
+use crate::Fired;
 use break_table::CondError;
 use mi_commands::ByteList;
 use rv_exec::Cause;
@@ -23,6 +24,8 @@ pub enum Why {
         number: u32,
         error: Option<CondError>,
     },
+    /// Its instruction changed the bytes of this watch.
+    Watch(Fired),
     /// Its step came to its end.
     Stepped,
     /// The function that it was to finish has returned.
@@ -31,6 +34,15 @@ pub enum Why {
     Interrupted,
     /// Its instruction trapped.
     Fault(Cause),
+}
+
+/// What the user writes into the program.
+#[derive(Drop)]
+pub enum Poke {
+    /// The register of this number of a hart, which is counted from 0, gets a value. x0 and pc are never written.
+    Register { hart: u32, number: u32, value: u32 },
+    /// The bytes of data from an address on, which go on modulo 2^32.
+    Bytes { address: u32, bytes: ByteList },
 }
 
 /// One entry of a journal. Harts are counted from 0.
@@ -46,6 +58,8 @@ pub enum Entry {
     Left { hart: u32, code: u32 },
     /// A line of the input was done.
     Did { line: ByteList },
+    /// What the line before asked to be written was written.
+    Poked { poke: Poke },
 }
 
 /// A journal, which contracts see as the list of its entries.

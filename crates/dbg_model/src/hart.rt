@@ -1,7 +1,7 @@
 ghost use Rattle.std.specs.Prelude.{◌≡◌};
 ghost use Rattle.dbg_model.specs.State.{course_of};
 
-use crate::{Course, Mode};
+use crate::{Course, Fired, Mode};
 use rv_exec::Regs;
 use step_plans::Plan;
 
@@ -18,6 +18,8 @@ pub struct Hart {
     pub plan: Plan,
     /// Where the plan asks for it: the address of the instruction of its own that has just ended.
     pub last: Option<u32>,
+    /// The watch whose bytes that instruction changed.
+    pub fired: Option<Fired>,
 }
 
 impl Hart {
@@ -29,6 +31,7 @@ impl Hart {
             fresh: self.fresh,
             plan: self.plan,
             last: self.last,
+            fired: self.fired,
         }
     }
 }

@@ -1,7 +1,8 @@
 // What is judged where a hart has just arrived.
 ghost use Rattle.std.specs.Prelude.{◌≡◌, option_and_then};
-ghost use Rattle.dbg_model.specs.Judging.{ends_function, ends_step, is_counted, is_due, is_end, is_finished, is_stepped, judgement_of, last_at, noted_with, plan_after, verdict_behind};
+ghost use Rattle.dbg_model.specs.Judging.{ends_function, ends_step, fires, is_counted, is_due, is_end, is_finished, is_stepped, judgement_of, last_at, no_stop, noted_with, plan_after, verdict_behind};
 
+use crate::Fired;
 use break_table::{BreakTable, Due};
 use dbg_traits::View;
 use elf32_read::Image;
@@ -18,6 +19,8 @@ pub struct Course {
     pub plan: Plan,
     /// Where the plan asks for it: the address of the instruction of its own that has just ended.
     pub last: Option<u32>,
+    /// The watch whose bytes that instruction changed.
+    pub fired: Option<Fired>,
 }
 
 /// What is judged of a hart where it has just arrived.
@@ -25,6 +28,8 @@ pub struct Course {
 pub struct Judgement {
     /// What the breakpoints do with it.
     pub breaks: Due,
+    /// The watch that fired.
+    pub fired: Option<Fired>,
     /// What becomes of its plan.
     pub verdict: Verdict,
 }
@@ -36,32 +41,52 @@ fn is_end(verdict: Verdict) -> bool
 }
 
 impl Judgement {
-    /// Whether a breakpoint stops or counts the hart, or its plan is at its end.
+    /// Whether a breakpoint stops or counts the hart, a watch fired, or its plan is at its end.
     pub fn is_due(&self) -> bool
         ensures { result ≡ is_due self.now }
     {
-        self.breaks.stop.is_some() || self.breaks.counts || is_end(self.verdict)
+        self.breaks.stop.is_some()
+            || self.breaks.counts
+            || self.fired.is_some()
+            || is_end(self.verdict)
+    }
+
+    // Whether neither a breakpoint nor a watch stops the hart.
+    fn no_stop(&self) -> bool
+        ensures { result ≡ no_stop self.now }
+    {
+        self.breaks.stop.is_none() && self.fired.is_none()
     }
 
     /// Whether a breakpoint counts the hart, which goes on.
     pub fn is_counted(&self) -> bool
         ensures { result ≡ is_counted self.now }
     {
-        self.breaks.stop.is_none() && !is_end(self.verdict) && self.breaks.counts
+        self.no_stop() && !is_end(self.verdict) && self.breaks.counts
     }
 
-    /// Whether the hart stops at the end of its step: no breakpoint stops it.
+    /// The watch that stops the hart: no breakpoint does.
+    pub fn fires(&self) -> Option<Fired>
+        ensures { result ≡ fires self.now }
+    {
+        match self.breaks.stop {
+            Some(_) => None,
+            None => self.fired,
+        }
+    }
+
+    /// Whether the hart stops at the end of its step: neither a breakpoint nor a watch stops it.
     pub fn ends_step(&self) -> bool
         ensures { result ≡ ends_step self.now }
     {
-        self.breaks.stop.is_none() && matches!(self.verdict, Verdict::Stepped)
+        self.no_stop() && matches!(self.verdict, Verdict::Stepped)
     }
 
-    /// Whether the hart stops where its function has returned: no breakpoint stops it.
+    /// Whether the hart stops where its function has returned: neither a breakpoint nor a watch stops it.
     pub fn ends_function(&self) -> bool
         ensures { result ≡ ends_function self.now }
     {
-        self.breaks.stop.is_none() && matches!(self.verdict, Verdict::Finished)
+        self.no_stop() && matches!(self.verdict, Verdict::Finished)
     }
 }
 
@@ -142,11 +167,13 @@ impl<'a> Judge<'a> {
         if !course.fresh {
             return Judgement {
                 breaks: NOTHING_DUE,
+                fired: None,
                 verdict: Verdict::Go(course.plan),
             };
         }
         Judgement {
             breaks: self.table.due(h, view),
+            fired: course.fired,
             verdict: self.verdict(course.plan, course.last, view),
         }
     }

@@ -6,3 +6,6 @@ pub const MOST_INPUT: u64 = 67_108_864;
 
 /// So many breakpoints of the user stand at most.
 pub const MOST_BREAKPOINTS: usize = 128;
+
+/// So many watches of the user stand at most.
+pub const MOST_WATCHES: usize = 16;

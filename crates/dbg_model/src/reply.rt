@@ -2,7 +2,7 @@
 ghost use Rattle.std.specs.Prelude.{◌≡◌};
 ghost use Rattle.dbg_model.specs.Refusals.{kind_number, number, obstacle_number, refused_number};
 
-use crate::{Breakpoint, BreakpointList, FrameList, ShownFrame};
+use crate::{Breakpoint, FrameList, RowList, ShownFrame};
 use cond_expr::{ExprFault, FaultKind};
 use mi_commands::{ByteList, Displaced, Fault, Format, NumberList};
 use mi_values::Token;
@@ -19,7 +19,7 @@ pub enum Obstacle {
     IsRunning(u32),
     /// The thread is stopped, and has to run.
     NotRunning(u32),
-    /// No breakpoint has this number.
+    /// No breakpoint has this number, nor a watch where one would do.
     NoBreakpoint(u32),
     /// No word of text is at this address.
     NoInstruction(u32),
@@ -35,6 +35,10 @@ pub enum Obstacle {
     NoLine(u32),
     /// No frame is known that called the thread's own.
     NoCaller,
+    /// The byte at this address can't be written.
+    Unwritable(u32),
+    /// The most watches stand already.
+    TooManyWatches,
 }
 
 /// Why a line is refused. A refused line changes nothing.
@@ -54,6 +58,10 @@ pub enum Refused {
     UnknownName(ByteList),
     /// No line of the file has a statement at this line or behind it.
     UnknownLine { file: ByteList, line: u32 },
+    /// The register of this name can't be written.
+    FixedRegister(ByteList),
+    /// The text asks for nothing that can be watched.
+    Unwatchable(ByteList),
 }
 
 // The number of the message of an expression's fault.
@@ -70,7 +78,7 @@ fn kind_number(kind: FaultKind) -> u32
 }
 
 impl Obstacle {
-    /// The number of the error's message: 8 to 12 or 16 to 26.
+    /// The number of the error's message: 8 to 12, 16 to 27, 32.
     pub fn number(self) -> u32
         ensures { result ≡ obstacle_number self }
     {
@@ -87,12 +95,14 @@ impl Obstacle {
             Obstacle::Unreadable(_) => 24,
             Obstacle::NoLine(_) => 25,
             Obstacle::NoCaller => 26,
+            Obstacle::Unwritable(_) => 27,
+            Obstacle::TooManyWatches => 32,
         }
     }
 }
 
 impl Refused {
-    /// The number of the error's message, 1 to 26; of several errors the one with the least is answered.
+    /// The number of the error's message, 1 to 28, 31 or 32; of several errors the one with the least is answered.
     pub fn number(&self) -> u32
         ensures { result ≡ number self.now }
     {
@@ -104,6 +114,8 @@ impl Refused {
             Refused::Hindered(obstacle) => obstacle.number(),
             Refused::UnknownName(_) => 14,
             Refused::UnknownLine { .. } => 15,
+            Refused::FixedRegister(_) => 28,
+            Refused::Unwatchable(_) => 31,
         }
     }
 }
@@ -193,8 +205,13 @@ pub enum Content {
     Done,
     /// This breakpoint is set.
     Inserted(Breakpoint),
-    /// The breakpoints that are set.
-    Breakpoints(BreakpointList),
+    /// The breakpoints and watches that are set.
+    Breakpoints(RowList),
+    /// The bytes that this text gave are watched, under this number.
+    Watching {
+        number: u32,
+        text: ByteList,
+    },
     /// These threads go on.
     Running(NumberList),
     /// This thread is selected.

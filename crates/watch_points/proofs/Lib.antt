@@ -2,3 +2,4 @@ pub mod Inside
 pub mod Worth
 pub mod Single
 pub mod Exact
+pub mod Telling

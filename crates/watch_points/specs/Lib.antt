@@ -1,3 +1,4 @@
 pub mod Failure
 pub mod Constant
 pub mod Watching
+pub mod Reading

@@ -3,6 +3,7 @@
 ghost use Rattle.std.specs.Prelude.{◌≡◌, Ok, Err, Some};
 ghost use Rattle.cond_expr.specs.declared.token.Prefix.TheVariants.{Read};
 ghost use Rattle.cond_expr.specs.Term.{term_of, prefix};
+ghost use Rattle.watch_points.specs.Reading.{GivesWatch, watching};
 ghost use Rattle.watch_points.specs.Watching.{size_of, is_signed, IsWatch, IsWatchable, HasNoAddress, Suits, SpellsTree, ExactlyWhere, expression_fault};
 ghost use Rattle.cond_expr.specs.declared.fault.ExprFault.{ExprFault};
 
@@ -75,6 +76,7 @@ pub fn watch_of(alloc: Global, text: &[u8], symbols: &Symbols) -> Result<Watched
     ensures expr { (f : ExprFault) → ExactlyWhere result (Err (WatchError.Fault (WatchFault.Expr f))) (expression_fault symbols.now text.now ≡ Some f) }
     ensures form { ExactlyWhere result (Err (WatchError.Fault WatchFault.Form)) (SpellsTree text.now symbols.now (λ x. ¬ (IsWatchable x))) }
     ensures value { ExactlyWhere result (Err (WatchError.Fault WatchFault.Value)) (SpellsTree text.now symbols.now HasNoAddress) }
+    ensures told { GivesWatch result (watching symbols.now text.now) }
 {
     let e = parse(alloc, text, symbols)?;
     Ok(tree_watch(e.root())?)
