@@ -1,6 +1,6 @@
 -- Of all that stands against a command the least number is answered.
-use Rattle.std.proofs.Common.{◌≡◌, ℕ, zero, suc, ◌≤◌, List, [], ◌∷◌, ◌++◌, refl, ap, ◌∙◌, arith}
-use Rattle.std.specs.Prelude.{Bool, true, false, not, Option, Some, None, Result, Ok, Err, is_some, length, nat_lt}
+use Rattle.std.proofs.Common.{◌≡◌, ℕ, zero, suc, ◌+◌, ◌%◌, ◌^◌, ◌≤◌, List, [], ◌∷◌, ◌++◌, refl, ap, ◌∙◌, arith}
+use Rattle.std.specs.Prelude.{Bool, true, false, not, ◌||◌, Option, Some, None, Result, Ok, Err, is_some, length, nat_lt}
 use Rattle.elf32_read.specs.Program.{text_word}
 use Rattle.elf_symbols.specs.Names.{Names, Symbol, address_of}
 use Rattle.line_rows.specs.declared.row.Row.{Row}
@@ -16,7 +16,15 @@ use Rattle.cond_expr.specs.declared.fault.FaultKind.{FaultKind}
 use Rattle.cond_expr.specs.declared.fault.FaultKind.TheVariants as kind
 use Rattle.cond_expr.specs.Term.{Term}
 use Rattle.cond_expr.specs.Value.{value_of}
+use Rattle.std.specs.FinMap as map
 use Rattle.rv_exec.specs.Registers.{Registers}
+use Rattle.rv_exec.specs.Memory.{Memory, is_writable}
+use Rattle.data_memory.specs.Ranges.{first_unwritable, range_at, then_range, value_at}
+use Rattle.watch_points.specs.declared.watch.Watched.{Watched}
+use Rattle.watch_points.specs.declared.fault.WatchFault.{WatchFault}
+use Rattle.watch_points.specs.declared.fault.WatchFault.TheVariants.{Expr, Form, Value as Undefined}
+use Rattle.watch_points.specs.Reading.{watching}
+use Rattle.plain_machine.specs.PlainRun.{is_settable}
 use Rattle.break_table.specs.Entry.{Condition}
 use Rattle.break_table.specs.Table.{has_number}
 use Rattle.mi_commands.specs.declared.command.Command.{Command}
@@ -28,23 +36,26 @@ use Rattle.mi_commands.specs.declared.command.Target.{Target}
 use Rattle.mi_commands.specs.declared.command.Target.TheVariants as target
 use Rattle.mi_commands.specs.declared.refusal.Fault.{Fault}
 use Rattle.mi_commands.specs.declared.refusal.Fault.TheVariants as fault
-use Rattle.dbg_model.specs.declared.reply.Obstacle.TheVariants.{UnknownThread, HasExited, IsRunning, NotRunning, NoBreakpoint, NoInstruction, TooManyBreakpoints, Unreadable}
+use Rattle.dbg_model.specs.declared.reply.Obstacle.TheVariants.{UnknownThread, HasExited, IsRunning, NotRunning, NoBreakpoint, NoInstruction, TooManyBreakpoints, TooManyWatches, Unreadable, Unwritable}
 use Rattle.dbg_model.specs.declared.reply.Refused.{Refused}
 use Rattle.dbg_model.specs.declared.reply.Refused.TheVariants as refused
 use Rattle.dbg_model.specs.declared.thread_view.ThreadView.{ThreadView}
 use Rattle.dbg_model.specs.declared.thread_view.ThreadView.TheVariants as view
 use Rattle.dbg_model.specs.Breaks.{missing_number}
 use Rattle.cond_expr.specs.Reader.{parsed}
-use Rattle.dbg_model.specs.Limits.{breakpoints}
+use Rattle.dbg_model.specs.Limits.{breakpoints, most_watches}
+use Rattle.dbg_model.specs.Watches.{has_watch}
 use Rattle.dbg_model.specs.Views.{register, shown_byte}
 use Rattle.dbg_model.specs.Sight.{Sight, thread_at, live, live_as, running, running_as, stopped, stopped_as, thread_or}
 use Rattle.dbg_model.specs.Outcome.{and_then}
 use Rattle.dbg_model.specs.Threads.{go_on, interrupt, thread_info}
-use Rattle.dbg_model.specs.Breakpoints.{condition, expression, expression_as, insert, known, known_thread, named, none_missing, on_line, place, placed, room}
+use Rattle.dbg_model.specs.Breakpoints.{condition, expression, expression_as, insert, known, known_either, known_thread, named, none_missing, on_line, place, placed, room}
 use Rattle.dbg_model.specs.Data.{address_at, byte_at, bytes_at, evaluate, shown_at, worth_as, worth_of}
 use Rattle.dbg_model.specs.Steps.{caller_at, finish_plan, finish_step, line_plan, line_step, one_step, step}
+use Rattle.dbg_model.specs.Watchpoints.{adding, all_read, are_data, watch, watch_room, watched, watched_as}
+use Rattle.dbg_model.specs.Writes.{none_unwritable, set_register, settable}
 use Rattle.dbg_model.specs.Command.{asked_reply, reply}
-use Rattle.dbg_model.specs.Refusals.{Judges, absent, against, against_asked, against_evaluate, against_insert, against_live, against_named, against_running, against_step, against_stopped, against_target, failed, has_exited, is_stopped, kind_number, no_plan, no_text, no_value, runs, unknown, unreadable, when}
+use Rattle.dbg_model.specs.Refusals.{Judges, absent, absent_from_both, against, against_asked, against_evaluate, against_insert, against_live, against_named, against_running, against_step, against_stopped, against_target, against_watch, failed, has_exited, is_stopped, kind_number, no_data, no_plan, no_text, no_value, number, runs, unknown, unreadable, unwatched_bytes, unwritable, when}
 use Rattle.dbg_answers.proofs.Tests.{From, UpTo, alone, both_from, chain, ensured_judged, ensured_up, failed_judged, first, less_from, none_from, one_from, then_done, up_then, when_from}
 
 -- ---- threads
@@ -125,6 +136,20 @@ missing_up (Some n) = omega arith
 known_up : (s : Sight) (ns : List ℕ) → UpTo 12 (known s ns)
 known_up s ns = missing_up (missing_number s.breaks ns)
 
+either_from : (s : Sight) (ns : List ℕ) → From 12 (absent_from_both s ns)
+either_from s [] = none_from 12
+either_from s (n ∷ ns) =
+    let out = not (has_number n s.breaks || has_watch n s.watches) in
+    both_from 12 (when out (NoBreakpoint n)) (absent_from_both s ns) (when_from 12 out (NoBreakpoint n) (omega arith)) (either_from s ns)
+
+either_by : (s : Sight) (n : ℕ) (ns : List ℕ) (b : Bool) → (has_number n s.breaks || has_watch n s.watches) ≡ b → Judges (known_either s ns) (absent_from_both s ns) → Judges (known_either s (n ∷ ns)) (absent_from_both s (n ∷ ns))
+either_by s n ns true is rest = rw is rest
+either_by s n ns false is rest = rw is (first (refused.Hindered (NoBreakpoint n)) (absent_from_both s ns) (either_from s ns))
+
+either_judged : (s : Sight) (ns : List ℕ) → Judges (known_either s ns) (absent_from_both s ns)
+either_judged s [] = refl
+either_judged s (n ∷ ns) = either_by s n ns (has_number n s.breaks || has_watch n s.watches) refl (either_judged s ns)
+
 -- ---- expressions
 
 kind_within : (k : FaultKind) → (18 ≤ kind_number k) × (kind_number k ≤ 22)
@@ -202,6 +227,50 @@ bytes_judged s addr (suc n) =
     chain 24 (bytes_at s addr n) _ (unreadable s addr n) here (bytes_up s addr n) (when_from 24 (not (is_some b)) (Unreadable at) (omega arith)) (bytes_judged s addr n) (λ bytes is.
     then_done (shown_at s at) _ here (byte_judged at b))
 
+-- ---- a watch
+
+watched_up : (text : List ℕ) (r : Result Watched WatchFault) → UpTo 31 (watched_as text r)
+watched_up text (Ok b) = tt
+watched_up text (Err (Expr f)) = omega (arith, (kind_within f.kind).1)
+watched_up text (Err Form) = omega arith
+watched_up text (Err Undefined) = omega arith
+
+data_from : (m : Memory) (addr n : ℕ) → From 24 (no_data m addr n)
+data_from m addr zero = none_from 24
+data_from m addr (suc n) =
+    let at = addr % 2 ^ 32 in
+    let out = not (is_some (value_at m at)) in
+    both_from 24 (when out (Unreadable at)) (no_data m (addr + 1) n) (when_from 24 out (Unreadable at) (omega arith)) (data_from m (addr + 1) n)
+
+-- the first byte that is no data, if it is the one in front
+data_in_front : (at : ℕ) (v : Option ℕ) (r : Result (List ℕ) ℕ) (rs : List Refused) → From 24 rs → Judges (all_read r) rs → Judges (all_read (then_range at v r)) (when (not (is_some v)) (Unreadable at) ++ rs)
+data_in_front at None r rs from j = first (refused.Hindered (Unreadable at)) rs from
+data_in_front at (Some v) (Ok bytes) rs from j = j
+data_in_front at (Some v) (Err a) rs from j = j
+
+data_judged : (m : Memory) (addr n : ℕ) → Judges (all_read (range_at m addr n)) (no_data m addr n)
+data_judged m addr zero = refl
+data_judged m addr (suc n) = data_in_front (addr % 2 ^ 32) (value_at m (addr % 2 ^ 32)) (range_at m (addr + 1) n) (no_data m (addr + 1) n) (data_from m (addr + 1) n) (data_judged m (addr + 1) n)
+
+data_up : (r : Result (List ℕ) ℕ) → UpTo 24 (all_read r)
+data_up (Ok bytes) = tt
+data_up (Err addr) = omega arith
+
+watch_by : (s : Sight) (text : List ℕ) (a : Result Watched Refused) → UpTo 31 a
+    → Judges (and_then a (λ b. and_then (are_data s b) (λ u. and_then (watch_room s) (λ v. Ok (adding s text b))))) (failed a ++ (unwatched_bytes s a ++ when (not (nat_lt (length s.watches) most_watches)) TooManyWatches))
+watch_by s text (Ok b) up =
+    let low = nat_lt (length s.watches) most_watches in
+    let full = when (not low) TooManyWatches in
+    let full_from : From 24 full = when_from 24 (not low) TooManyWatches (omega arith) in
+    chain 24 (are_data s b) _ (no_data s.memory b.address b.size) full (data_up (range_at s.memory b.address b.size)) full_from (data_judged s.memory b.address b.size) (λ u is.
+    then_done (watch_room s) _ full (ensured_judged low TooManyWatches))
+watch_by s text (Err r) up =
+    let low = nat_lt (length s.watches) most_watches in
+    first r (when (not low) TooManyWatches) (when_from (number r) (not low) TooManyWatches (omega (arith, up)))
+
+watch_judged : (s : Sight) (text : List ℕ) → Judges (watch s text) (against_watch s text)
+watch_judged s text = watch_by s text (watched s.sources.names text) (watched_up text (watching s.sources.names text))
+
 -- ---- steps
 
 line_from : (into : Bool) (pc : ℕ) (row : Option Row) → From 10 (failed (line_plan into pc row))
@@ -264,14 +333,44 @@ insert_judged s i =
     chain 17 (room s) _ full bad (ensured_up 17 low TooManyBreakpoints (omega arith)) (less_from 17 18 bad (omega arith) bad_from) (ensured_judged low TooManyBreakpoints) (λ w e.
     then_done (condition s.sources.names i.condition) _ bad (failed_judged (condition s.sources.names i.condition))))))
 
+-- ---- writes
+
+settable_by : (name : List ℕ) (register : ℕ) (b : Bool) → is_settable register ≡ b → From 28 (failed (settable name register))
+settable_by name register true is = rw is (none_from 28)
+settable_by name register false is = rw is (one_from 28 (refused.FixedRegister name) (omega arith))
+
+register_judged : (s : Sight) (thread : Option ℕ) (name : List ℕ) (register value : ℕ) → Judges (set_register s thread name register value) (against_stopped s (thread_or s.selected thread) ++ failed (settable name register))
+register_judged s thread name register value =
+    let t = thread_or s.selected thread in
+    let fixed = failed (settable name register) in
+    chain 10 (stopped s t) _ (against_stopped s t) fixed (stopped_up t (thread_at s.threads t)) (less_from 10 28 fixed (omega arith) (settable_by name register (is_settable register) refl)) (stopped_judged s t) (λ r at.
+    then_done (settable name register) _ fixed (failed_judged (settable name register)))
+
+unwritable_from : (m : Memory) (addr n : ℕ) → From 27 (unwritable m addr n)
+unwritable_from m addr zero = none_from 27
+unwritable_from m addr (suc n) =
+    let at = addr % 2 ^ 32 in
+    both_from 27 (when (not (is_writable (map.get m at))) (Unwritable at)) (unwritable m (addr + 1) n) (when_from 27 (not (is_writable (map.get m at))) (Unwritable at) (omega arith)) (unwritable_from m (addr + 1) n)
+
+-- the first byte that can't be written, if it is the one in front
+in_front : (m : Memory) (addr n : ℕ) (b : Bool) → is_writable (map.get m (addr % 2 ^ 32)) ≡ b → Judges (none_unwritable (first_unwritable m (addr + 1) n)) (unwritable m (addr + 1) n)
+    → Judges (none_unwritable (first_unwritable m addr (suc n))) (unwritable m addr (suc n))
+in_front m addr n true is rest = rw is rest
+in_front m addr n false is rest = rw is (first (refused.Hindered (Unwritable (addr % 2 ^ 32))) (unwritable m (addr + 1) n) (unwritable_from m (addr + 1) n))
+
+unwritable_judged : (m : Memory) (addr n : ℕ) → Judges (none_unwritable (first_unwritable m addr n)) (unwritable m addr n)
+unwritable_judged m addr zero = refl
+unwritable_judged m addr (suc n) = in_front m addr n (is_writable (map.get m (addr % 2 ^ 32))) refl (unwritable_judged m (addr + 1) n)
+
 -- ---- all commands
 
 pub reply_judged : (s : Sight) (c : Command) → Judges (reply s c) (against s c)
 unfolding reply against
 reply_judged s (command.BreakInsert i) = insert_judged s i
-reply_judged s (command.BreakDelete ns) = then_done (known s ns) _ (absent s ns) (known_judged s ns)
-reply_judged s (command.BreakEnable ns) = then_done (known s ns) _ (absent s ns) (known_judged s ns)
-reply_judged s (command.BreakDisable ns) = then_done (known s ns) _ (absent s ns) (known_judged s ns)
+reply_judged s (command.BreakDelete ns) = then_done (known_either s ns) _ (absent_from_both s ns) (either_judged s ns)
+reply_judged s (command.BreakEnable ns) = then_done (known_either s ns) _ (absent_from_both s ns) (either_judged s ns)
+reply_judged s (command.BreakDisable ns) = then_done (known_either s ns) _ (absent_from_both s ns) (either_judged s ns)
+reply_judged s (command.BreakWatch text) = watch_judged s text
 reply_judged s (command.BreakCondition n text) = condition_judged s n text
 reply_judged s (command.BreakAfter n k) = then_done (known s (n ∷ [])) _ (absent s (n ∷ [])) (known_judged s (n ∷ []))
 reply_judged s (command.Continue t) = go_on_judged s t
@@ -283,6 +382,9 @@ reply_judged s (command.FrameList t) = then_done (stopped s (thread_or s.selecte
 reply_judged s (command.FrameDepth t) = then_done (stopped s (thread_or s.selected t)) _ (against_stopped s (thread_or s.selected t)) (stopped_judged s (thread_or s.selected t))
 reply_judged s (command.FrameInfo t) = then_done (stopped s (thread_or s.selected t)) _ (against_stopped s (thread_or s.selected t)) (stopped_judged s (thread_or s.selected t))
 reply_judged s (command.ReadMemory addr n) = then_done (bytes_at s addr n) _ (unreadable s addr n) (bytes_judged s addr n)
+reply_judged s (command.WriteMemory addr bytes) =
+    then_done (none_unwritable (first_unwritable s.memory addr (length bytes))) _ (unwritable s.memory addr (length bytes)) (unwritable_judged s.memory addr (length bytes))
+reply_judged s (command.SetRegister t name register value) = register_judged s t name register value
 reply_judged s (command.Evaluate t text) = evaluate_judged s t text
 reply_judged s (command.Step t) = step_judged (line_step true) s t (λ r. line_from true r.pc (row_at s.sources.lines r.pc))
 reply_judged s (command.Next t) = step_judged (line_step false) s t (λ r. line_from false r.pc (row_at s.sources.lines r.pc))

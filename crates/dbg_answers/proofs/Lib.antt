@@ -5,3 +5,5 @@ pub mod Ranges
 pub mod Lines
 pub mod Tables
 pub mod Showing
+pub mod Rows
+pub mod Changing

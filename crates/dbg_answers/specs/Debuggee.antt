@@ -9,6 +9,7 @@ seen d = record {
   memory = d.memory.now;
   threads = d.threads.now;
   breaks = d.table.now.entries;
+  watches = d.watches.now;
   given = d.table.now.given;
   selected = d.selected;
   displaced = d.displaced;

@@ -7,11 +7,12 @@ ghost use Rattle.dbg_answers.specs.declared.answer.Failure.TheVariants as failur
 
 use break_table::Spec;
 use cond_expr::Expr;
-use dbg_model::{Content, Refused};
+use dbg_model::{Content, Poke, Refused};
 use dbg_traits::NoMemory;
-use mi_commands::{Displaced, NumberList};
+use mi_commands::{ByteList, Displaced, NumberList};
 use std::alloc::{AllocError, AllocFailed};
 use step_plans::Plan;
+use watch_points::Watched;
 
 /// What a command changes.
 #[derive(Drop)]
@@ -30,6 +31,11 @@ pub enum Effect {
     Displace(Displaced),
     /// A breakpoint is set.
     Insert(Spec),
+    /// These bytes, which a text gave, are watched.
+    Watch {
+        text: ByteList,
+        watched: Watched,
+    },
     Delete(NumberList),
     Enable {
         numbers: NumberList,
@@ -43,6 +49,8 @@ pub enum Effect {
         number: u32,
         count: u32,
     },
+    /// This is to be written into the program.
+    Poke(Poke),
     /// The session ends.
     Exit,
 }

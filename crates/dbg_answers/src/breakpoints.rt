@@ -1,11 +1,13 @@
-ghost use Rattle.std.specs.Prelude.{◌≡◌, ◌<◌, ◌-◌, ◌^◌, ◌∷◌, [], IfOk, map, Ok};
+ghost use Rattle.std.specs.Prelude.{◌≡◌, ◌<◌, ◌≤◌, ◌-◌, ◌^◌, ◌∷◌, [], IfOk, OnOk, length, map, Ok};
 ghost use Rattle.std.specs.Option.{option_map};
 ghost use Rattle.elf_symbols.specs.Names.{address_of};
 ghost use Rattle.line_index.specs.Lines as tables;
 ghost use Rattle.break_table.specs.Entry.{condition_of, entry_of};
 ghost use Rattle.break_table.specs.Table.{has_number};
 ghost use Rattle.dbg_model.specs.Breaks.{missing_number};
-ghost use Rattle.dbg_model.specs.Breakpoints.{after, asked_at, change_condition, condition_text, delete, enable, insert, inserting, known, known_thread, list, listed, named, on_line, place, placed, room};
+ghost use Rattle.dbg_model.specs.Watches.{has_watch, missing_of};
+ghost use Rattle.dbg_answers.specs.Rows.{rows_below};
+ghost use Rattle.dbg_model.specs.Breakpoints.{after, asked_at, breakpoint_row, change_condition, condition_text, delete, enable, insert, inserting, known, known_either, known_thread, list, listed, named, on_line, place, placed, room, with_row, with_watches};
 ghost use Rattle.dbg_answers.specs.Debuggee.{seen};
 ghost use Rattle.dbg_answers.specs.Answer.{Gives, GivesAs, outcome_of};
 
@@ -16,7 +18,7 @@ use crate::expressions::condition;
 use crate::frames::{function_name, source_line};
 use break_table::{BreakEntry, Location as PlaceText, Spec};
 use cond_expr::Expr;
-use dbg_model::{Breakpoint, BreakpointList, Content, MOST_BREAKPOINTS, Obstacle, Refused};
+use dbg_model::{Breakpoint, Content, MOST_BREAKPOINTS, Obstacle, Refused, Row, RowList, Watch};
 use mi_commands::{ByteList, Insertion, Location, NumberList};
 use source_index::SourceIndex;
 use std::alloc::{AllocError, Global};
@@ -46,6 +48,38 @@ fn missing(entries: &[BreakEntry], numbers: &[u32]) -> Option<u32>
     }
 }
 
+fn has_watch(watches: &[Watch], number: u32) -> bool
+    ensures { result ≡ has_watch number watches.now }
+{
+    watches.iter().any(|watch| watch.number == number)
+}
+
+// The first of the numbers that neither a breakpoint nor a watch has.
+fn missing_of(entries: &[BreakEntry], watches: &[Watch], numbers: &[u32]) -> Option<u32>
+    ensures { result ≡ missing_of (map entry_of entries.now) watches.now numbers.now }
+{
+    match numbers {
+        [] => None,
+        [first, rest @ ..] => {
+            if has_number(entries, *first) || has_watch(watches, *first) {
+                missing_of(entries, watches, rest)
+            } else {
+                Some(*first)
+            }
+        }
+    }
+}
+
+// Each of the numbers has to be a breakpoint's or a watch's.
+fn known_either(debuggee: &Debuggee<'_>, numbers: &[u32]) -> Result<(), Refused>
+    ensures { result ≡ known_either (seen debuggee.now) numbers.now }
+{
+    match missing_of(debuggee.table.entries(), debuggee.watches, numbers) {
+        None => Ok(()),
+        Some(number) => Err(Refused::Hindered(Obstacle::NoBreakpoint(number))),
+    }
+}
+
 // Each of the numbers has to be a breakpoint's.
 fn known(debuggee: &Debuggee<'_>, numbers: &[u32]) -> Result<(), Refused>
     ensures { result ≡ known (seen debuggee.now) numbers.now }
@@ -60,7 +94,7 @@ fn known(debuggee: &Debuggee<'_>, numbers: &[u32]) -> Result<(), Refused>
 pub fn delete(debuggee: &Debuggee<'_>, numbers: NumberList) -> Result<Answer, Failure>
     ensures { Gives result (delete (seen debuggee.now) numbers) }
 {
-    known(debuggee, numbers.as_slice())?;
+    known_either(debuggee, numbers.as_slice())?;
     Ok(doing(Effect::Delete(numbers)))
 }
 
@@ -72,7 +106,7 @@ pub fn enable(
 ) -> Result<Answer, Failure>
     ensures { Gives result (enable (seen debuggee.now) enabled numbers) }
 {
-    known(debuggee, numbers.as_slice())?;
+    known_either(debuggee, numbers.as_slice())?;
     Ok(doing(Effect::Enable { numbers, enabled }))
 }
 
@@ -98,7 +132,7 @@ pub fn change_condition(
     Ok(doing(Effect::Condition { number, condition }))
 }
 
-// ---- breakpoints as they are listed
+// ---- breakpoints and watches as they are listed
 
 fn condition_text(alloc: Global, condition: &Option<Expr>) -> Result<Option<ByteList>, AllocError>
     ensures { IfOk result (λ t. t ≡ option_map condition_text (option_map condition_of condition.now)) }
@@ -131,16 +165,59 @@ fn listed(
     })
 }
 
+// The rows of the breakpoints.
+fn breakpoint_rows(
+    alloc: Global,
+    sources: &SourceIndex,
+    entries: &[BreakEntry],
+) -> Result<Vec<Row>, AllocError>
+    ensures { IfOk result (λ v. v.items ≡ map (breakpoint_row sources.now) (map entry_of entries.now)) }
+{
+    let mut rows = Vec::new(alloc);
+    for entry in entries {
+        rows.push(Row::Breakpoint(listed(alloc, sources, entry)?))?;
+    }
+    Ok(rows)
+}
+
+// How many of the first rows have a lesser number.
+fn rows_below(rows: &[Row], number: u32) -> usize
+    ensures value { result ≡ rows_below number rows.now }
+    ensures within { result ≤ length rows.now }
+{
+    match rows {
+        [first, rest @ ..] if first.number() < number => 1 + rows_below(rest, number),
+        _ => 0,
+    }
+}
+
+// A row more, by its number.
+fn insert_row(rows: &mut Vec<Row>, row: Row) -> Result<(), AllocError>
+    ensures { OnOk result (rows.new.items ≡ with_row row rows.old.items) }
+{
+    let place = rows_below(rows, row.number());
+    rows.insert(place, row)?;
+    Ok(())
+}
+
+// The watches by their numbers among the other rows.
+fn insert_watches(alloc: Global, rows: &mut Vec<Row>, watches: &[Watch]) -> Result<(), AllocError>
+    ensures { OnOk result (rows.new.items ≡ with_watches watches.now rows.old.items) }
+{
+    let [first, rest @ ..] = watches else {
+        return Ok(());
+    };
+    insert_row(rows, Row::Watch(first.copied(alloc)?))?;
+    insert_watches(alloc, rows, rest)
+}
+
 /// `-break-list`.
 pub fn list(alloc: Global, debuggee: &Debuggee<'_>) -> Result<Answer, AllocError>
     ensures { IfOk result (λ a. Ok (outcome_of a) ≡ list (seen debuggee.now)) }
 {
-    let entries = debuggee.table.entries();
-    let mut breakpoints = Vec::new(alloc);
-    for entry in entries {
-        breakpoints.push(listed(alloc, debuggee.sources, entry)?)?;
-    }
-    Ok(showing(Content::Breakpoints(BreakpointList::of(breakpoints))))
+    let mut rows = breakpoint_rows(alloc, debuggee.sources, debuggee.table.entries())?;
+    insert_watches(alloc, &mut rows, debuggee.watches)?;
+    Ok(showing(Content::Breakpoints(RowList::of(rows))))
 }
 
 // ---- a new breakpoint

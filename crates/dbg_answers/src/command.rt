@@ -1,9 +1,10 @@
-ghost use Rattle.std.specs.Prelude.{◌≡◌, ◌<◌, ◌≤◌, ◌-◌, ◌^◌, IfOk, length};
+ghost use Rattle.std.specs.Prelude.{◌≡◌, true, ◌<◌, ◌≤◌, ◌-◌, ◌^◌, IfOk, length};
 ghost use Rattle.dbg_model.specs.Outcome.{told};
 ghost use Rattle.dbg_model.specs.Command.{reply};
 ghost use Rattle.dbg_model.specs.Refusals.{Judges, against};
 ghost use Rattle.dbg_answers.specs.Debuggee.{seen};
 ghost use Rattle.dbg_answers.specs.Answer.{Gives, outcome_of};
+ghost use Rattle.dbg_answers.specs.Subjects.{is_setting};
 
 use crate::answer::{Answer, Effect, Failure, doing, showing, told};
 use crate::breakpoints::{after, change_condition, delete, enable, insert, list};
@@ -16,10 +17,33 @@ use crate::resuming::{go_on, interrupt};
 use crate::settings::{exit, show_setting};
 use crate::stepping::{FINISH, NEXT, NEXT_INSTRUCTION, STEP, STEP_INSTRUCTION, take_step};
 use crate::threads::{thread_info, thread_list, thread_select};
+use crate::watchpoints::watch;
+use crate::writing::{set_register, write_memory};
 use dbg_model::Content;
 use dbg_traits::NoMemory;
 use mi_commands::Command;
 use std::alloc::Global;
+
+// What is answered to a command of settings, of registers or of the session.
+#[tactic(auto, unfolding(dbg_model::specs::Command::reply))]
+fn set(debuggee: &Debuggee<'_>, command: Command) -> Result<Answer, Failure>
+    requires setting { is_setting command ≡ true }
+    requires few { length debuggee.now.threads.now ≤ 16 }
+    ensures { Gives result (reply (seen debuggee.now) command) }
+{
+    match command {
+        Command::SetDisplaced(value) => Ok(doing(Effect::Displace(value))),
+        Command::SetRegister {
+            thread,
+            name,
+            register,
+            value,
+        } => set_register(debuggee, thread, name, register, value),
+        Command::Show(setting) => Ok(show_setting(debuggee, setting)),
+        Command::Exit => Ok(exit()),
+        _ => Ok(doing(Effect::Nothing)),
+    }
+}
 
 #[tactic(auto, unfolding(dbg_model::specs::Command::reply))]
 fn reply(alloc: Global, debuggee: &Debuggee<'_>, command: Command) -> Result<Answer, Failure>
@@ -38,6 +62,7 @@ fn reply(alloc: Global, debuggee: &Debuggee<'_>, command: Command) -> Result<Ans
         ),
         Command::BreakAfter { number, count } => after(debuggee, number, count),
         Command::BreakList => Ok(list(alloc, debuggee)?),
+        Command::BreakWatch { expression } => watch(alloc, debuggee, expression),
         Command::Continue(target) => go_on(alloc, debuggee, target),
         Command::Interrupt(target) => interrupt(alloc, debuggee, target),
         Command::Step { thread } => take_step(alloc, debuggee, thread, STEP),
@@ -58,11 +83,9 @@ fn reply(alloc: Global, debuggee: &Debuggee<'_>, command: Command) -> Result<Ans
             numbers,
         } => register_values(alloc, debuggee, thread, format, &numbers),
         Command::ReadMemory { address, count } => read_memory(alloc, debuggee, address, count),
+        Command::WriteMemory { address, bytes } => write_memory(debuggee, address, bytes),
         Command::Evaluate { thread, expression } => evaluate(alloc, debuggee, thread, &expression),
-        Command::Wait | Command::SetNonStop | Command::SetMiAsync => Ok(doing(Effect::Nothing)),
-        Command::SetDisplaced(value) => Ok(doing(Effect::Displace(value))),
-        Command::Show(setting) => Ok(show_setting(debuggee, setting)),
-        Command::Exit => Ok(exit()),
+        other => set(debuggee, other),
     }
 }
 

@@ -7,7 +7,7 @@ ghost use Rattle.dbg_answers.specs.Live.{live_shown};
 use crate::live::{LiveThread, live_thread};
 use break_table::BreakTable;
 use data_memory::DataMemory;
-use dbg_model::{Obstacle, Refused, ThreadView};
+use dbg_model::{Obstacle, Refused, ThreadView, Watch};
 use elf32_read::Image;
 use mi_commands::Displaced;
 use rv_exec::Regs;
@@ -22,8 +22,10 @@ pub struct Debuggee<'a> {
     pub memory: &'a DataMemory,
     /// Thread 1 is the first.
     pub threads: &'a [ThreadView],
-    /// The breakpoints that the user set, and how many numbers were given to breakpoints.
+    /// The breakpoints that the user set, and how many numbers were given to breakpoints and watches.
     pub table: &'a BreakTable,
+    /// The watches that the user set, in rising order of number.
+    pub watches: &'a [Watch],
     /// The selected thread.
     pub selected: u32,
     pub displaced: Displaced,

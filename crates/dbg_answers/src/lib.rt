@@ -12,7 +12,7 @@ mod frames;
 mod line;
 mod live;
 mod memory;
-mod order;
+mod named;
 mod registers;
 mod resuming;
 mod settings;
@@ -20,14 +20,15 @@ mod stepping;
 mod table;
 mod threads;
 mod view;
+mod watchpoints;
+mod writing;
 
 pub use answer::{Answer, Effect};
 pub use command::answer_command;
 pub use debuggee::Debuggee;
 pub use frames::shown_frame;
 pub use line::{LineAnswer, answer_fault, answer_line, waits};
-pub use order::{Order, is_named};
-pub use table::{
-    change_table, delete_entry, enable_entry, insert_entry, set_condition, set_ignore,
-};
+pub use named::on_threads;
+pub use table::{change_table, delete_entry, enable_entry, insert_entry};
 pub use view::SeenHart;
+pub use writing::is_settable;

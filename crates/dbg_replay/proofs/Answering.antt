@@ -4,6 +4,7 @@ use Rattle.std.specs.Prelude.{Option, Some, None, is_some, find, not, nat_lt, op
 use Rattle.std.specs.List.{list_any}
 use Rattle.std.proofs.lemmas.Bool.Decides.{nat_tests}
 use Rattle.std.proofs.lemmas.Option.{slice_get_within}
+use Rattle.std.proofs.lemmas.List.{length-map}
 use Rattle.elf32_read.specs.Program.{Program, Text, text_word, in_words}
 use Rattle.break_table.specs.Table.{Table, is_thread}
 use Rattle.break_table.specs.Text.{is_instruction, is_place}
@@ -13,15 +14,15 @@ use Rattle.dbg_model.specs.declared.hart.Hart.{Hart}
 use Rattle.dbg_model.specs.State.{State, any_leaves, is_off}
 use Rattle.dbg_model.specs.Lawful.{may_do, may_go}
 use Rattle.dbg_model.specs.Sight.{thread_at}
-use Rattle.dbg_model.specs.Outcome.{Change, stays, resumes, selects, interrupts, displaces, inserts, deletes, enables, conditions, ignores, exits}
-use Rattle.dbg_model.specs.Reply.{answer_of, asked, changed_by, done_by, given_after, harts_after, resumed, sets_after}
+use Rattle.dbg_model.specs.Outcome.{Change, stays, resumes, selects, interrupts, displaces, inserts, adds_watch, deletes, enables, conditions, ignores, pokes, exits}
+use Rattle.dbg_model.specs.Reply.{answer_of, asked, changed_by, done_by, forgetting, given_after, harts_after, resumed, sets_after}
 use Rattle.dbg_model.proofs.Options.{both_true}
-use Rattle.dbg_model.proofs.Founding.{IsFounded, IsThereOr, change_founded}
+use Rattle.dbg_model.proofs.Founding.{IsFounded, IsThereOr, change_founded, change_watchable}
 use Rattle.dbg_model.proofs.Naming.{length-on_threads}
 use Rattle.dbg_answers.specs.declared.answer.Effect.{Effect}
 use Rattle.dbg_answers.specs.declared.answer.Effect.TheVariants as effect
 use Rattle.dbg_answers.specs.Answer.{change_of}
-use Rattle.dbg_answers.specs.Table.{CanBeMade, changed_table}
+use Rattle.dbg_answers.specs.Table.{CanBeMade, CanBeWatched, changed_table}
 use Rattle.dbg_replay.specs.declared.state.Parts.{Parts}
 use Rattle.dbg_replay.specs.Parts.{shown}
 use Rattle.dbg_replay.specs.Going.{Kept}
@@ -91,6 +92,14 @@ can_by o p _ kept f = tt
 pub can_be_made : (o : Opening) (p : Parts) (line : List ℕ) (x : Effect) → Kept o p → change_of x ≡ (answer_of o (shown p) line).outcome.change → CanBeMade p.table x
 can_be_made o p line x kept is = can_by o p x kept (subst (IsFounded o.image p.harts.items p.table.entries) (sym is) (change_founded o (shown p) line))
 
+watched_by : (o : Opening) (p : Parts) (line : List ℕ) (x : Effect) → change_of x ≡ (answer_of o (shown p) line).outcome.change → CanBeWatched p.watches x
+watched_by o p line (effect.Watch text b) is = change_watchable o (shown p) line text b (sym is)
+watched_by o p line _ is = tt
+
+-- a watch of a line can be added
+pub can_be_watched : (o : Opening) (p : Parts) (line : List ℕ) (x : Effect) → change_of x ≡ (answer_of o (shown p) line).outcome.change → CanBeWatched p.watches x
+can_be_watched o p line x is = watched_by o p line x is
+
 -- ---- the state after a line
 
 done_is : (o : Opening) (s : State) (line : List ℕ) (c : Change) → c ≡ (answer_of o s line).outcome.change → changed_by s c ≡ done_by o s line
@@ -100,6 +109,9 @@ done_is o s line c is = ap (changed_by s) is
 length_after : (xs : List Hart) (c : Change) → length (harts_after xs c) ≡ length xs
 length_after xs (resumes ts plan) = length-on_threads (resumed plan) ts 1 xs
 length_after xs (interrupts ts) = length-on_threads asked ts 1 xs
+length_after xs (deletes ns) = length-map xs (forgetting ns)
+length_after xs (enables true ns) = refl
+length_after xs (enables false ns) = length-map xs (forgetting ns)
 length_after xs _ = refl
 
 given_more : (n : ℕ) (c : Change) → given_after n c ≤ n + 1
@@ -107,12 +119,14 @@ given_more n stays = omega arith
 given_more n (resumes ts plan) = omega arith
 given_more n (selects t) = omega arith
 given_more n (inserts a) = omega arith
+given_more n (adds_watch text b) = omega arith
 given_more n (deletes ns) = omega arith
 given_more n (enables b ns) = omega arith
 given_more n (conditions k c) = omega arith
 given_more n (ignores k m) = omega arith
 given_more n (interrupts ts) = omega arith
 given_more n (displaces d) = omega arith
+given_more n (pokes p) = omega arith
 given_more n exits = omega arith
 
 sets_by_more : (n : ℕ) (b : Bool) → cond b n (n + 1) ≤ n + 1
@@ -124,12 +138,14 @@ sets_more n stays = omega arith
 sets_more n (resumes ts plan) = omega arith
 sets_more n (selects t) = omega arith
 sets_more n (inserts a) = omega arith
+sets_more n (adds_watch text b) = omega arith
 sets_more n (deletes ns) = omega arith
 sets_more n (enables b ns) = omega arith
 sets_more n (conditions k c) = omega arith
 sets_more n (ignores k m) = omega arith
 sets_more n (interrupts ts) = omega arith
 sets_more n (displaces d) = sets_by_more n (is_off d)
+sets_more n (pokes p) = omega arith
 sets_more n exits = omega arith
 
 still_kept : (o : Opening) (old new : Parts) (c : Change) → Kept o old → shown new ≡ changed_by (shown old) c → new.table ≡ changed_table old.table c → new.sources ≡ old.sources → Kept o new

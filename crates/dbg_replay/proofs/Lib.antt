@@ -1,4 +1,3 @@
-pub mod Marking
 pub mod Answering
 pub mod Running
 pub mod Passing

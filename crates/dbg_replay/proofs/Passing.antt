@@ -4,7 +4,7 @@ use Rattle.std.specs.Prelude.{Option, Some, None, option_and_then, Err, get_or}
 use Rattle.std.specs.Option.{option_map}
 use Rattle.std.proofs.Math.Seq.{drop-cons}
 use Rattle.dbg_model.specs.declared.entry.Entry.{Entry}
-use Rattle.dbg_model.specs.declared.entry.Entry.TheVariants.{Ran, Counted, Stopped, Left, Did}
+use Rattle.dbg_model.specs.declared.entry.Entry.TheVariants.{Ran, Counted, Stopped, Left, Did, Poked}
 use Rattle.dbg_model.specs.declared.opening.Opening.{Opening}
 use Rattle.dbg_model.specs.State.{State}
 use Rattle.dbg_model.specs.Lawful.{enter}
@@ -68,6 +68,7 @@ one_at_most (Counted h) = omega arith
 one_at_most (Stopped h why) = omega arith
 one_at_most (Left h code) = omega arith
 one_at_most (Did line) = omega arith
+one_at_most (Poked p) = omega arith
 
 -- an entry adds one to the number of entries other than `Ran`, or nothing
 pub noted_more : (o : Opening) (s t : State) (e : Entry) (k : ℕ) → enter o s e ≡ Some t → s.noted ≤ k → t.noted ≤ k + 1

@@ -13,6 +13,7 @@ use Rattle.plain_machine.specs.Plain.{plain}
 use Rattle.dbg_model.specs.declared.opening.Opening.{Opening}
 use Rattle.dbg_model.specs.declared.hart.Hart.{Hart}
 use Rattle.dbg_model.specs.State.{State, due}
+use Rattle.dbg_model.specs.Watches.{fired_by}
 use Rattle.dbg_model.specs.Lawful.{leaving, leaving_at, may_run, one, one_by, one_more_at, passes, ran, set_out, stepped, stepped_by, with_leavers}
 use Rattle.dbg_replay.specs.declared.halt.Halt.{Halt}
 use Rattle.dbg_replay.specs.declared.halt.Halt.TheVariants.{NoMemory, Unlawful}
@@ -79,25 +80,25 @@ more_within ns h n true each k = set_within ns h (slice_index ns h + 1) k n (ome
 more_within ns h n false each k = omega (arith, each k)
 
 finished : (o : Opening) (old new : Parts) (h : ℕ) (x : Hart) (v : Vec Hart) (w : Vec ℕ) (m : Memory) (s t : Registers) (k : Memory) (out : List ℕ) (leave : Leave) (after : Option State) → Kept o old
-    → after ≡ stepped_by (Goes t k out leave) (shown old) h x → (t ≡ s) × (k ≡ m) → v.items ≡ slice_set old.harts.items h (stepped x s) → w.items ≡ one_more_at old.passed.items h (passes (shown old) x) → Finishes (Ok tt) (Goes t k out leave) (between old v m w) h new → Comes o (Ok tt) after new
+    → after ≡ stepped_by (Goes t k out leave) (shown old) h x → (t ≡ s) × (k ≡ m) → v.items ≡ slice_set old.harts.items h (stepped x s (fired_by old.watches old.memory m)) → w.items ≡ one_more_at old.passed.items h (passes (shown old) x) → Finishes (Ok tt) (Goes t k out leave) (between old v m w) h new → Comes o (Ok tt) after new
 finished o old new h x v w m s t k out leave after kept is same items more f =
-    let harts : new.harts.items ≡ with_leavers leave (slice_set old.harts.items h (stepped x t)) h =
-    f.0 ∙ ap (λ ys. with_leavers leave ys h) (items ∙ ap (λ r. slice_set old.harts.items h (stepped x r)) (sym same.0)) in
+    let harts : new.harts.items ≡ with_leavers leave (slice_set old.harts.items h (stepped x t (fired_by old.watches old.memory k))) h =
+    f.0 ∙ ap (λ ys. with_leavers leave ys h) (items ∙ (ap (λ r. slice_set old.harts.items h (stepped x r (fired_by old.watches old.memory m))) (sym same.0) ∙ ap (λ b. slice_set old.harts.items h (stepped x t (fired_by old.watches old.memory b))) (sym same.1))) in
     let mid : Parts = record (between old v m w) { harts = new.harts; out = new.out } in
     let counts = one_more_at old.passed.items h (passes (shown old) x) in
-    let state : shown mid ≡ after_one (shown old) (with_leavers leave (slice_set old.harts.items h (stepped x t)) h) k (old.out.items ++ out) counts =
-    ap (λ ys. after_one (shown old) ys m new.out.items w.items) harts ∙ (ap (λ b. after_one (shown old) (with_leavers leave (slice_set old.harts.items h (stepped x t)) h) m b w.items) f.1
-    ∙ (ap (λ b. after_one (shown old) (with_leavers leave (slice_set old.harts.items h (stepped x t)) h) b (old.out.items ++ out) w.items) (sym same.1)
-    ∙ ap (after_one (shown old) (with_leavers leave (slice_set old.harts.items h (stepped x t)) h) k (old.out.items ++ out)) more)) in
+    let state : shown mid ≡ after_one (shown old) (with_leavers leave (slice_set old.harts.items h (stepped x t (fired_by old.watches old.memory k))) h) k (old.out.items ++ out) counts =
+    ap (λ ys. after_one (shown old) ys m new.out.items w.items) harts ∙ (ap (λ b. after_one (shown old) (with_leavers leave (slice_set old.harts.items h (stepped x t (fired_by old.watches old.memory k))) h) m b w.items) f.1
+    ∙ (ap (λ b. after_one (shown old) (with_leavers leave (slice_set old.harts.items h (stepped x t (fired_by old.watches old.memory k))) h) b (old.out.items ++ out) w.items) (sym same.1)
+    ∙ ap (after_one (shown old) (with_leavers leave (slice_set old.harts.items h (stepped x t (fired_by old.watches old.memory k))) h) k (old.out.items ++ out)) more)) in
     let count : length new.harts.items ≡ o.settings.harts =
-    ap length harts ∙ (length_leavers leave (slice_set old.harts.items h (stepped x t)) h ∙ (length-set old.harts.items h (stepped x t) ∙ kept.harts)) in
+    ap length harts ∙ (length_leavers leave (slice_set old.harts.items h (stepped x t (fired_by old.watches old.memory k))) h ∙ (length-set old.harts.items h (stepped x t (fired_by old.watches old.memory k)) ∙ kept.harts)) in
     let within : (j : ℕ) → slice_index w.items j ≤ old.retired + 1 =
     λ j. subst (λ ns. slice_index ns j ≤ old.retired + 1) (sym more) (more_within old.passed.items h old.retired (passes (shown old) x) kept.passed j) in
     let still : Kept o mid = record { sources = kept.sources; harts = count; places = kept.places; waits = kept.waits; given = kept.given; few = kept.few; budget = kept.budget; counts = ap length more ∙ (length_more old.passed.items h (passes (shown old) x) ∙ kept.counts); passed = within; sets = kept.sets } in
     (is ∙ ap Some (sym (ap shown f.2 ∙ state)), subst (Kept o) (sym f.2) still)
 
 finishes : (o : Opening) (old new : Parts) (h : ℕ) (x : Hart) (v : Vec Hart) (w : Vec ℕ) (m : Memory) (st : Stepped) (r s : Registers) (n : Memory) (result : Result (Unit {0}) Halt) (a : Answer) (after : Option State) → Kept o old
-    → after ≡ stepped_by a (shown old) h x → StepGives st a r s n m → v.items ≡ slice_set old.harts.items h (stepped x s) → w.items ≡ one_more_at old.passed.items h (passes (shown old) x) → Finishes result a (between old v m w) h new → Comes o result after new
+    → after ≡ stepped_by a (shown old) h x → StepGives st a r s n m → v.items ≡ slice_set old.harts.items h (stepped x s (fired_by old.watches old.memory m)) → w.items ≡ one_more_at old.passed.items h (passes (shown old) x) → Finishes result a (between old v m w) h new → Comes o result after new
 finishes o old new h x v w m st r s n (Ok u) (Goes t k out leave) after kept is gives items more f =
     finished o old new h x v w m s t k out leave after kept is (goes_with st (Goes t k out leave) r s t n m k out leave gives refl) items more f
 finishes o old new h x v w m st r s n (Ok u) (Traps cause) after kept is gives items more f = absurd f
@@ -107,7 +108,7 @@ finishes o old new h x v w m st r s n (Err NoMemory) a after kept is gives items
 
 -- one instruction came
 pub one_comes : (o : Opening) (old new : Parts) (h : ℕ) (x y : Hart) (v : Vec Hart) (w : Vec ℕ) (m : Memory) (st : Stepped) (r s : Registers) (result : Result (Unit {0}) Halt) → Kept o old → slice_get old.harts.items h ≡ Some x → may_run o (shown old) h x ≡ true
-    → y ≡ set_out (due o.image (shown old) h x) x → r ≡ y.regs → StepGives st (plain o.image r old.memory) r s old.memory m → v.items ≡ slice_set old.harts.items h (stepped y s) → w.items ≡ one_more_at old.passed.items h (passes (shown old) y)
+    → y ≡ set_out (due o.image (shown old) h x) x → r ≡ y.regs → StepGives st (plain o.image r old.memory) r s old.memory m → v.items ≡ slice_set old.harts.items h (stepped y s (fired_by old.watches old.memory m)) → w.items ≡ one_more_at old.passed.items h (passes (shown old) y)
     → ((a : Answer) (r s : Registers) (n : Memory) → StepGives st a r s n m → Finishes result a (between old v m w) h new) → Comes o result (one o h (shown old)) new
 one_comes o old new h x y v w m st r s result kept at may goes same gives items more f =
     let a = plain o.image r old.memory in

@@ -13,14 +13,12 @@ use Rattle.dbg_model.specs.declared.entry.Why.TheVariants as reason
 use Rattle.dbg_model.specs.declared.hart.Hart.{Hart}
 use Rattle.dbg_model.specs.declared.judgement.Judgement.{Judgement}
 use Rattle.dbg_model.specs.Breaks.{is_stop}
-use Rattle.dbg_model.specs.Judging.{ends_function, ends_step}
-use Rattle.dbg_model.specs.Reply.{asked, resumed}
+use Rattle.dbg_model.specs.Judging.{ends_function, ends_step, fires}
+use Rattle.dbg_model.specs.Watches.{is_fired}
 use Rattle.dbg_model.specs.State.{State, due}
 use Rattle.dbg_model.specs.Lawful.{may_move, with_arrival, with_leavers}
 use Rattle.dbg_model.specs.Journals.{Place}
 use Rattle.source_index.specs.Sources.{sources_of}
-use Rattle.dbg_answers.specs.declared.order.Order.{Order}
-use Rattle.dbg_answers.specs.declared.order.Order.TheVariants as order
 use Rattle.dbg_replay.specs.declared.halt.Halt.{Halt}
 use Rattle.dbg_replay.specs.declared.halt.Halt.TheVariants.{NoMemory, Unlawful}
 use Rattle.dbg_replay.specs.declared.state.Parts.{Parts}
@@ -72,6 +70,7 @@ traps_with _ cause = false
 -- whether this is why a hart stops where it has arrived
 abbrev pub is_reason : Why → Judgement → Bool
 is_reason (reason.Break number error) j = is_stop j.breaks number error
+is_reason (reason.Watch f) j = is_fired (fires j) f
 is_reason reason.Stepped j = ends_step j
 is_reason reason.Finished j = ends_function j
 is_reason reason.Interrupted j = false
@@ -82,11 +81,6 @@ abbrev pub halted_by : Opening → State → ℕ → Why → Option Hart → Opt
 halted_by o s h why None = None
 halted_by o s h why (Some x) =
     if may_move o s x && is_reason why (due o.image s h x) then Some (with_arrival o s h x) else None
-
--- what becomes of a hart
-abbrev pub ordered : Order → Hart → Hart
-ordered (order.GoOn plan) = resumed plan
-ordered order.Interrupt = asked
 
 abbrev pub state_of : Place → State
 state_of p = p.state

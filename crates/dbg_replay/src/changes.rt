@@ -1,47 +1,17 @@
 // What a line changes, over the parts of a state.
 ghost use Rattle.std.specs.Prelude.{◌≡◌, ◌+◌, ◌-◌, ◌^◌, ◌<◌, ◌≤◌, if◌then◌else◌, length};
+ghost use Rattle.dbg_model.specs.Outcome.{enables};
 ghost use Rattle.dbg_model.specs.State.{is_off};
-ghost use Rattle.dbg_model.specs.Reply.{changed_by, is_named, on_threads, sets_by};
+ghost use Rattle.dbg_model.specs.Reply.{changed_by, displaced_after, exited_after, harts_after, selected_after, sets_after, sets_by};
 ghost use Rattle.dbg_answers.specs.Answer.{change_of};
-ghost use Rattle.dbg_answers.specs.Table.{CanBeMade, changed_table};
-ghost use Rattle.dbg_replay.specs.Going.{ordered};
+ghost use Rattle.dbg_answers.specs.Table.{CanBeMade, CanBeWatched, changed_table};
 ghost use Rattle.dbg_replay.specs.Parts.{shown};
 
-use crate::modes::{asked, resumed};
+use crate::modes::{asked, forget, resumed};
 use crate::state::Parts;
-use dbg_answers::{Effect, Order, change_table, is_named};
+use dbg_answers::{Effect, change_table, on_threads};
 use dbg_model::Hart;
 use mi_commands::Displaced;
-
-fn ordered(order: Order, hart: Hart) -> Hart
-    ensures { result ≡ ordered order hart }
-{
-    match order {
-        Order::GoOn(plan) => resumed(plan, hart),
-        Order::Interrupt => asked(hart),
-    }
-}
-
-// What becomes of the hart of a thread, if it is one of these.
-fn named(hart: Hart, thread: u32, threads: &[u32], order: Order) -> Hart
-    ensures { result ≡ (if is_named threads.now thread then ordered order hart else hart) }
-{
-    if is_named(threads, thread) {
-        ordered(order, hart)
-    } else {
-        hart
-    }
-}
-
-// What becomes of the harts of these threads, which are counted from 1.
-fn on_threads(harts: &mut [Hart], threads: &[u32], order: Order)
-    requires { length harts.old ≤ 16 }
-    ensures { harts.new ≡ on_threads (ordered order) threads.now 1 harts.old }
-{
-    for h in 0..harts.len() {
-        harts[h] = named(harts[h], h as u32 + 1, threads, order);
-    }
-}
 
 pub fn is_off(displaced: Displaced) -> bool
     ensures { result ≡ is_off displaced }
@@ -56,27 +26,35 @@ fn sets_by(sets: u64, displaced: Displaced) -> u64
     if is_off(displaced) { sets } else { sets + 1 }
 }
 
-/// Makes the change of a line.
-pub fn make(parts: &mut Parts, effect: Effect)
-    requires given { parts.old.table.given < 2 ^ 32 - 1 }
-    requires may { CanBeMade parts.old.table effect }
-    requires room { parts.old.noted < 2 ^ 64 - 1 }
+// What fired for a hart is forgotten, if its watch is one that is disabled.
+fn forget_disabled(harts: &mut [Hart], numbers: &[u32], enabled: bool)
+    ensures { harts.new ≡ harts_after harts.old (enables enabled numbers.now) }
+{
+    if !enabled {
+        forget(harts, numbers);
+    }
+}
+
+// Makes the change of a line in all but the breakpoints, the watches and what is to be written.
+fn change(parts: &mut Parts, effect: &Effect)
     requires sets { parts.old.sets < 2 ^ 64 - 1 }
     requires few { length parts.old.harts.items ≤ 16 }
-    ensures state { shown parts.new ≡ changed_by (shown parts.old) (change_of effect) }
-    ensures sources { parts.new.sources ≡ parts.old.sources }
-    ensures table { parts.new.table ≡ changed_table parts.old.table (change_of effect) }
+    ensures rest { parts.new ≡ record parts.old { harts = parts.new.harts; selected = selected_after parts.old.selected (change_of effect.now); displaced = displaced_after parts.old.displaced (change_of effect.now); sets = sets_after parts.old.sets (change_of effect.now); exited = exited_after parts.old.exited (change_of effect.now) } }
+    ensures harts { parts.new.harts.items ≡ harts_after parts.old.harts.items (change_of effect.now) }
 {
-    match &effect {
-        Effect::Resume { threads, plan } => on_threads(
+    match effect {
+        Effect::Resume { threads, plan } => {
+            let harts = parts.harts.as_mut_slice();
+            on_threads(harts, threads.as_slice(), |hart| resumed(*plan, hart));
+        }
+        Effect::Interrupt(threads) => {
+            on_threads(parts.harts.as_mut_slice(), threads.as_slice(), asked);
+        }
+        Effect::Delete(numbers) => forget(parts.harts.as_mut_slice(), numbers.as_slice()),
+        Effect::Enable { numbers, enabled } => forget_disabled(
             parts.harts.as_mut_slice(),
-            threads.as_slice(),
-            Order::GoOn(*plan),
-        ),
-        Effect::Interrupt(threads) => on_threads(
-            parts.harts.as_mut_slice(),
-            threads.as_slice(),
-            Order::Interrupt,
+            numbers.as_slice(),
+            *enabled,
         ),
         Effect::Displace(displaced) => {
             parts.sets = sets_by(parts.sets, *displaced);
@@ -86,6 +64,26 @@ pub fn make(parts: &mut Parts, effect: Effect)
         Effect::Exit => parts.exited = true,
         _ => {}
     }
-    change_table(&mut parts.table, effect);
+}
+
+/// Makes the change of a line.
+pub fn make(parts: &mut Parts, effect: Effect)
+    requires given { parts.old.table.given < 2 ^ 32 - 1 }
+    requires may { CanBeMade parts.old.table effect }
+    requires watch { CanBeWatched parts.old.watches effect }
+    requires room { parts.old.noted < 2 ^ 64 - 1 }
+    requires sets { parts.old.sets < 2 ^ 64 - 1 }
+    requires few { length parts.old.harts.items ≤ 16 }
+    ensures state { shown parts.new ≡ changed_by (shown parts.old) (change_of effect) }
+    ensures sources { parts.new.sources ≡ parts.old.sources }
+    ensures table { parts.new.table ≡ changed_table parts.old.table (change_of effect) }
+{
+    match effect {
+        Effect::Poke(poke) => parts.pending = Some(poke),
+        effect => {
+            change(parts, &effect);
+            change_table(&mut parts.table, &mut parts.watches, effect);
+        }
+    }
     parts.noted += 1;
 }

@@ -2,6 +2,7 @@
 ghost use Rattle.std.specs.Prelude.{◌≡◌, ◌<◌, ◌-◌, ◌^◌, None, if◌then◌else◌, nat_lt, slice_get};
 ghost use Rattle.dbg_model.specs.declared.entry.Why.TheVariants as reason;
 ghost use Rattle.dbg_model.specs.Breaks.{is_number, is_stop, same_error};
+ghost use Rattle.dbg_model.specs.Watches.{is_fired};
 ghost use Rattle.dbg_model.specs.Lawful.{counted_by, enter, left_by, leaver_from, ran, stopped_by};
 ghost use Rattle.dbg_replay.specs.Parts.{shown};
 ghost use Rattle.dbg_replay.specs.Going.{Comes, Kept, halted_by, is_reason, traps_with};
@@ -10,10 +11,11 @@ use crate::halt::Halt;
 use crate::lines::do_line;
 use crate::modes::{counted, exited, find, leaver_from, set_out, stopped};
 use crate::movers::{due, mover, runner, settle};
+use crate::pokes::write;
 use crate::state::Parts;
 use crate::stepping::{execute_plain, step};
 use break_table::{CondError, Due};
-use dbg_model::{Entry, Judgement, Opening, Why};
+use dbg_model::{Entry, Fired, Judgement, Opening, Why};
 use rv_exec::{Cause, Stepped};
 use std::alloc::Global;
 
@@ -75,19 +77,31 @@ fn is_stop(due: Due, number: u32, error: Option<CondError>) -> bool
     is_number(due.stop, number) && same_error(due.error, error)
 }
 
+fn is_fired(found: Option<Fired>, fired: Fired) -> bool
+    ensures { result ≡ is_fired found fired }
+{
+    match found {
+        None => false,
+        Some(found) => {
+            found.number == fired.number && found.old == fired.old && found.new == fired.new
+        }
+    }
+}
+
 // Whether this is why a hart stops where it has arrived.
 fn is_reason(why: Why, judgement: &Judgement) -> bool
     ensures { result ≡ is_reason why judgement.now }
 {
     match why {
         Why::Break { number, error } => is_stop(judgement.breaks, number, error),
+        Why::Watch(fired) => is_fired(judgement.fires(), fired),
         Why::Stepped => judgement.ends_step(),
         Why::Finished => judgement.ends_function(),
         Why::Interrupted | Why::Fault(_) => false,
     }
 }
 
-// A hart stops where it has arrived: at a breakpoint, or at the end of its step or of its function.
+// A hart stops where it has arrived: at a breakpoint, by a watch, or at the end of its step or of its function.
 fn stop_at(opening: &Opening, parts: &mut Parts, h: u32, why: Why) -> Result<(), Halt>
     requires { Kept opening.now parts.old }
     ensures { Comes opening.now result (halted_by opening.now (shown parts.old) h why (slice_get parts.old.harts.items h)) parts.new }
@@ -97,6 +111,7 @@ fn stop_at(opening: &Opening, parts: &mut Parts, h: u32, why: Why) -> Result<(),
         return Err(Halt::Unlawful);
     }
     settle(opening, parts, h, &hart);
+    parts.watches.rise(hart.fired);
     parts.harts[h as usize] = stopped(hart);
     parts.noted += 1;
     Ok(())
@@ -171,7 +186,7 @@ pub fn enter(alloc: Global, opening: &Opening, parts: &mut Parts, entry: &Entry)
         Entry::Ran { hart, count } => run(alloc, opening, parts, *hart, *count),
         Entry::Counted { hart } => count(opening, parts, *hart),
         Entry::Stopped { hart, why } => match *why {
-            Why::Break { .. } | Why::Stepped | Why::Finished => stop_at(
+            Why::Break { .. } | Why::Watch(_) | Why::Stepped | Why::Finished => stop_at(
                 opening, parts, *hart, *why,
             ),
             Why::Interrupted => interrupt(opening, parts, *hart),
@@ -179,5 +194,6 @@ pub fn enter(alloc: Global, opening: &Opening, parts: &mut Parts, entry: &Entry)
         },
         Entry::Left { hart, code } => leave(opening, parts, *hart, *code),
         Entry::Did { line } => do_line(alloc, opening, parts, line.as_slice()),
+        Entry::Poked { poke } => write(opening, parts, poke),
     }
 }

@@ -8,6 +8,7 @@ mod halt;
 mod lines;
 mod modes;
 mod movers;
+mod pokes;
 mod replaying;
 mod state;
 mod stepping;

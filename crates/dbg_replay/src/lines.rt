@@ -82,6 +82,7 @@ fn effect_of<'a>(
         memory: &parts.memory,
         threads: threads.as_slice(),
         table: &parts.table,
+        watches: parts.watches.as_slice(),
         selected: parts.selected,
         displaced: parts.displaced,
     };

@@ -2,9 +2,9 @@
 ghost use Rattle.std.specs.Prelude.{◌≡◌, ◌+◌, ◌≤◌, length, map, slice_get};
 ghost use Rattle.dbg_model.specs.State.{any_runs, any_leaves, is_running, is_leaving};
 ghost use Rattle.dbg_model.specs.Lawful.{leaver_from, leaving, exited, counted, set_out, stepped, stopped};
-ghost use Rattle.dbg_model.specs.Reply.{asked, resumed};
+ghost use Rattle.dbg_model.specs.Reply.{asked, forgetting, resumed};
 
-use dbg_model::{Hart, Judgement, Mode, noted_with, plan_after};
+use dbg_model::{Fired, Hart, Judgement, Mode, noted_with, plan_after, unless_of};
 use rv_exec::Regs;
 use step_plans::Plan;
 
@@ -118,6 +118,7 @@ pub fn stopped(hart: Hart) -> Hart
         asked: false,
         plan: Plan::Free,
         last: None,
+        fired: None,
         ..hart
     }
 }
@@ -132,14 +133,15 @@ pub fn set_out(judgement: Judgement, hart: Hart) -> Hart
     }
 }
 
-/// A hart behind an instruction that left it these registers.
-pub fn stepped(hart: Hart, regs: Regs) -> Hart
-    ensures { result ≡ stepped hart regs }
+/// A hart behind an instruction that left it these registers, and made this watch fire.
+pub fn stepped(hart: Hart, regs: Regs, fired: Option<Fired>) -> Hart
+    ensures { result ≡ stepped hart regs fired }
 {
     Hart {
         regs,
         fresh: true,
         last: noted_with(hart.plan, hart.regs.pc()),
+        fired,
         ..hart
     }
 }
@@ -170,5 +172,24 @@ pub fn asked(hart: Hart) -> Hart
             ..hart
         },
         Mode::Stopped | Mode::Leaving(_) | Mode::Exited => hart,
+    }
+}
+
+/// What fired for a hart is forgotten, if it is one of these watches.
+fn forgetting(numbers: &[u32], hart: Hart) -> Hart
+    ensures { result ≡ forgetting numbers.now hart }
+{
+    Hart {
+        fired: unless_of(numbers, hart.fired),
+        ..hart
+    }
+}
+
+/// The same for each hart.
+pub fn forget(harts: &mut [Hart], numbers: &[u32])
+    ensures { harts.new ≡ map (forgetting numbers.now) harts.old }
+{
+    for k in 0..harts.len() {
+        harts[k] = forgetting(numbers, harts[k]);
     }
 }

@@ -12,7 +12,8 @@ use crate::state::Parts;
 use dbg_answers::SeenHart;
 use dbg_model::{HISTORY, Hart, Judge, Judgement, Opening};
 
-/// Whether no exit is still to be reported, neither the budget nor the history is used up, and no `-gdb-exit` was done.
+/// Whether no exit is still to be reported, neither the budget nor the history is used up, no `-gdb-exit` was done, and
+/// nothing is still to be written.
 pub fn may_go(opening: &Opening, parts: &Parts) -> bool
     ensures value { result ≡ may_go opening.now (shown parts.now) }
     ensures room { IsTrue result → HasRoom opening.now parts.now }
@@ -21,6 +22,7 @@ pub fn may_go(opening: &Opening, parts: &Parts) -> bool
         && parts.retired < opening.settings.budget
         && parts.noted < HISTORY
         && !parts.exited
+        && parts.pending.is_none()
 }
 
 /// The hart of a number, where it may move.

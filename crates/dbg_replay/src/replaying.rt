@@ -12,7 +12,7 @@ use crate::halt::Halt;
 use crate::state::{ModelState, Parts};
 use break_table::BreakTable;
 use data_memory::DataMemory;
-use dbg_model::{Entry, Hart, Journal, Mode, Opening};
+use dbg_model::{Entry, Hart, Journal, Mode, Opening, WatchList};
 use dbg_traits::NoMemory;
 use elf32_read::Image;
 use mi_commands::Displaced;
@@ -34,6 +34,7 @@ fn first_harts(alloc: Global, image: &Image, harts: u32) -> Result<Vec<Hart>, Al
             asked: false,
             plan: Plan::Free,
             last: None,
+            fired: None,
         })?;
     }
     Ok(all)
@@ -60,10 +61,12 @@ fn first_parts(alloc: Global, opening: &Opening) -> Result<Parts, NoMemory>
         memory: DataMemory::load(alloc, &opening.image, harts)?,
         out: Vec::new(alloc),
         table: BreakTable::new(alloc, &opening.image, harts)?,
+        watches: WatchList::new(alloc)?,
         selected: 1,
         displaced: Displaced::Auto,
         sets: 0,
         passed: no_counts(alloc, harts as usize)?,
+        pending: None,
         retired: 0,
         noted: 0,
         exited: false,

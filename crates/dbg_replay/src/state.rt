@@ -3,7 +3,7 @@ ghost use Rattle.break_table.specs.Entry.{entry_of};
 
 use break_table::{BreakEntry, BreakTable};
 use data_memory::DataMemory;
-use dbg_model::Hart;
+use dbg_model::{Hart, Poke, Watch, WatchList};
 use mi_commands::Displaced;
 use source_index::SourceIndex;
 use std::marker::Model;
@@ -18,8 +18,10 @@ pub struct Parts {
     pub memory: DataMemory,
     /// The bytes that the program wrote.
     pub out: Vec<u8>,
-    /// The breakpoints that the user set, and how many numbers were given.
+    /// The breakpoints that the user set, and how many numbers were given to breakpoints and watches.
     pub table: BreakTable,
+    /// The watches that the user set.
+    pub watches: WatchList,
     /// The selected thread, counted from 1.
     pub selected: u32,
     /// Whether a planted instruction is executed as a copy in a slot.
@@ -28,6 +30,8 @@ pub struct Parts {
     pub sets: u64,
     /// For each hart, how many of its instructions were executed where an enabled breakpoint stood, while that wasn't off.
     pub passed: Vec<u64>,
+    /// What the line before asked to be written, and isn't written yet.
+    pub pending: Option<Poke>,
     /// How many instructions were executed.
     pub retired: u64,
     /// How many entries other than `Ran` there are.
@@ -86,6 +90,13 @@ impl ModelState {
         ensures { map entry_of result.now ≡ self.now.breaks }
     {
         self.parts.table.entries()
+    }
+
+    /// The watches that the user set, in rising order of their numbers.
+    pub fn watches(&self) -> &[Watch]
+        ensures { result.now ≡ self.now.watches }
+    {
+        self.parts.watches.as_slice()
     }
 
     /// The selected thread, counted from 1.

@@ -7,6 +7,7 @@ ghost use Rattle.plain_machine.specs.Answers.{StepGives};
 ghost use Rattle.plain_machine.specs.Environment.{Answer};
 ghost use Rattle.plain_machine.specs.Plain.{plain};
 ghost use Rattle.dbg_model.specs.Lawful.{one, one_more_at, passes};
+ghost use Rattle.dbg_model.specs.Watches.{fired_by};
 ghost use Rattle.dbg_replay.specs.Parts.{shown};
 ghost use Rattle.dbg_replay.specs.Going.{Comes, Finishes, Kept};
 
@@ -16,7 +17,7 @@ use crate::modes::{leave_all, leaving, set_out, stepped};
 use crate::movers::{due, runner};
 use crate::state::Parts;
 use data_memory::DataMemory;
-use dbg_model::{Hart, Opening};
+use dbg_model::{Fired, Hart, Opening, WatchList};
 use elf32_read::Image;
 use plain_machine::call;
 use rv_decode::decode;
@@ -39,6 +40,22 @@ pub fn execute_plain(image: &Image, regs: &mut Regs, memory: &mut DataMemory) ->
         Effect::Call => call(regs, memory),
         Effect::Trap(cause) => Stepped::Trap(cause),
     }
+}
+
+// The same, and which watch it makes fire.
+fn execute_watched(
+    image: &Image,
+    regs: &mut Regs,
+    memory: &mut DataMemory,
+    watches: &WatchList,
+) -> (Stepped, Option<Fired>)
+    ensures step { StepGives result.0 (plain image.now regs.old memory.old) regs.old regs.new memory.old memory.new }
+    ensures fired { result.1 ≡ fired_by watches.now memory.old memory.new }
+{
+    let before = watches.worths(memory);
+    let stepped = execute_plain(image, regs, memory);
+    let fired = watches.fired(&before, memory);
+    (stepped, fired)
 }
 
 // The bytes of a range that can be read are written.
@@ -102,8 +119,13 @@ pub fn step(alloc: Global, opening: &Opening, parts: &mut Parts, h: u32) -> Resu
     let hart = set_out(due(opening, parts, h, &hart), hart);
     let passes = passes(parts, &hart);
     let mut regs = hart.regs;
-    let answer = execute_plain(&opening.image, &mut regs, &mut parts.memory);
-    parts.harts[h as usize] = stepped(hart, regs);
+    let (answer, fired) = execute_watched(
+        &opening.image,
+        &mut regs,
+        &mut parts.memory,
+        &parts.watches,
+    );
+    parts.harts[h as usize] = stepped(hart, regs, fired);
     count_pass(&mut parts.passed, h as usize, passes);
     parts.retired += 1;
     finish(alloc, parts, h, answer)

@@ -1,7 +1,7 @@
 use Rattle.std.proofs.Common.{◌≡◌, true, rules, sym, ◌∙◌}
 use Rattle.dbg_model.specs.Lawful.{may_do}
 use Rattle.dbg_replay.specs.Parts.{shown}
-use Rattle.dbg_replay.proofs.Answering.{can_be_made, line_comes, numbers_low}
+use Rattle.dbg_replay.proofs.Answering.{can_be_made, can_be_watched, line_comes, numbers_low}
 use Rattle.dbg_replay.proofs.lines.do_line.Goals as goal
 
 pub effect_of-requires-clause-given : goal.effect_of-requires-clause-given
@@ -16,6 +16,9 @@ make-requires-clause-given c =
 
 pub make-requires-clause-may : goal.make-requires-clause-may
 make-requires-clause-may c = can_be_made c.args.opening.now c.args.parts.now c.args.line.now c.in_ok-effect.effect c.requires.kept (c.in_ok-effect.ensures c.args.line.now c.in_ok-read.ensures.commands)
+
+pub make-requires-clause-watch : goal.make-requires-clause-watch
+make-requires-clause-watch c = can_be_watched c.args.opening.now c.args.parts.now c.args.line.now c.in_ok-effect.effect (c.in_ok-effect.ensures c.args.line.now c.in_ok-read.ensures.commands)
 
 pub returns : goal.returns
 returns c =

@@ -2,7 +2,7 @@ use Rattle.std.proofs.Common.{◌<◌, length, ap, ◌∙◌, arith, refl}
 use Rattle.std.specs.Prelude.{slice_set}
 use Rattle.std.proofs.lemmas.Option.{slice_get_read}
 use Rattle.dbg_model.specs.Lawful.{leaving}
-use Rattle.dbg_replay.proofs.Marking.{marks}
+use Rattle.dbg_model.proofs.Marking.{marks}
 use Rattle.dbg_replay.proofs.modes.leave_all.Goals as goal
 
 pub loop-k-preserved : goal.loop-k-preserved

@@ -2,7 +2,7 @@ use Rattle.std.proofs.Common.{rules, ◌≡◌, refl, sym, ap, ◌∙◌, arith,
 use Rattle.std.specs.Prelude.{Err, slice_set, Result}
 use Rattle.std.proofs.lemmas.Option.{slice_get_within}
 use Rattle.dbg_model.specs.State.{due}
-use Rattle.dbg_model.specs.Lawful.{one, one_more_at, set_out}
+use Rattle.dbg_model.specs.Lawful.{one, one_more_at, set_out, stepped}
 use Rattle.dbg_replay.specs.declared.halt.Halt.{Halt}
 use Rattle.dbg_replay.specs.Parts.{shown}
 use Rattle.dbg_replay.specs.Going.{Comes}
@@ -35,8 +35,8 @@ returns c =
     let h = c.args.h in
     let x = c.in_ok-hart.hart in
     let y = c.set_out-hart.result in
-    let st = c.execute_plain-answer in
+    let st = c.execute_watched-answer in
     let goes : y ≡ set_out (due o.image (shown old) h x) x = c.set_out-hart.ensures ∙ ap (λ j. set_out j x) c.due.ensures in
-    one_comes o old c.finish.new.parts h x y _ _ st.new.memory st.result y.regs st.new.regs c.finish.result c.requires
-    c.in_ok-hart.ensures.hart.0 c.in_ok-hart.ensures.hart.1 goes refl st.ensures (ap (slice_set old.harts.items h) c.stepped.ensures)
+    one_comes o old c.finish.new.parts h x y _ _ st.new.memory st.result.0 y.regs st.new.regs c.finish.result c.requires
+    c.in_ok-hart.ensures.hart.0 c.in_ok-hart.ensures.hart.1 goes refl st.ensures.step (ap (slice_set old.harts.items h) (c.stepped.ensures ∙ ap (stepped y st.new.regs) st.ensures.fired))
     (c.count_pass.ensures ∙ ap (one_more_at old.passed.items h) c.passes-passes.ensures) c.finish.ensures
