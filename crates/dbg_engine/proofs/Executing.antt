@@ -28,6 +28,8 @@ use Rattle.dbg_model.specs.declared.hart.Hart.{Hart}
 use Rattle.dbg_model.specs.Judging.{is_due, noted_with}
 use Rattle.step_plans.specs.declared.plan.Plan.{Plan}
 use Rattle.dbg_model.specs.State.{due}
+use Rattle.dbg_model.specs.Watches.{fired_by}
+use Rattle.dbg_model.specs.declared.watch.Fired.{Fired}
 use Rattle.dbg_model.specs.Lawful.{may_go, may_move, may_run}
 use Rattle.dbg_model.specs.Journals.{lengthened}
 use Rattle.engine_facts.specs.declared.mind.Activity.TheVariants as activity
@@ -123,12 +125,15 @@ ready r h x pc f at before runs free is none clear may copies =
     )
 
 -- what is kept of a hart after an instruction, as the code makes it
-pub ran_is : (r : Run) (h pc : ℕ) (c : Core) (x z : Mind) (plan : Plan) (last : Option ℕ) → Mover r h c x → GoesWith r h plan → Of r h (λ y. y.regs.pc ≡ pc) → z ≡ ran_mind plan last x → last ≡ noted_with plan pc → z ≡ ran_of r h c x
-ran_is r h pc c x z plan last m goes here is noted =
+pub ran_is : (r : Run) (h pc : ℕ) (c : Core) (x z : Mind) (plan : Plan) (last : Option ℕ) (fired : Option Fired) (new : Patched) → Mover r h c x → GoesWith r h plan → Of r h (λ y. y.regs.pc ≡ pc) → z ≡ ran_mind plan last fired x → last ≡ noted_with plan pc
+    → fired ≡ fired_by r.watches r.machine.memory new.memory → z ≡ ran_of r h c x new.memory
+ran_is r h pc c x z plan last fired new m goes here is noted watched =
     let y = seen_hart r.opening.image c x in
-    is ∙ (ap (λ l. ran_mind plan l x) noted
-    ∙ (ap (λ a. ran_mind plan (noted_with plan a) x) (sym (of_hart r h c x (λ y. y.regs.pc ≡ pc) m here))
-    ∙ ap (λ q. ran_mind q (noted_with q y.regs.pc) x) (sym (of_hart r h c x (λ y. plan_for r h y ≡ plan) m goes))))
+    let f = fired_by r.watches r.machine.memory new.memory in
+    is ∙ (ap (λ w. ran_mind plan last w x) watched
+    ∙ (ap (λ l. ran_mind plan l f x) noted
+    ∙ (ap (λ a. ran_mind plan (noted_with plan a) f x) (sym (of_hart r h c x (λ y. y.regs.pc ≡ pc) m here))
+    ∙ ap (λ q. ran_mind q (noted_with q y.regs.pc) f x) (sym (of_hart r h c x (λ y. plan_for r h y ≡ plan) m goes)))))
 
 -- what is known before an instruction
 pub record Readied (r : Run) (h : ℕ) (x : Mind) : Type 0 where
@@ -243,11 +248,11 @@ went (stepped.Trap cause) a q q' m m' d g = cc
 
 -- what is known of the harts then
 pub known : (s : Stepped) (r : Run) (h : ℕ) (c : Core) (x : Mind) (new : Patched) → has_run s ≡ true → Ready r h c x → (t : StepsTo s r.machine h c new)
-    → Harts r.opening.image (slice_set r.machine.cores h t.core) r.machine.slots (slice_set r.minds h (ran_of r h c x)) r.hold
+    → Harts r.opening.image (slice_set r.machine.cores h t.core) r.machine.slots (slice_set r.minds h (ran_of r h c x t.memory)) r.hold
 known s r h c x new d k t =
     let y = seen_hart r.opening.image c x in
     let w = went s (plain r.opening.image y.regs r.machine.memory) y.regs (shown_after r t.core x s) r.machine.memory t.memory d (plain_gives s r h c x new k t) in
-    ran_harts r h c t.core x w.regs w.memory w.out w.leave k.facts k.mover k.runs k.before w.is (counts s r h c x new d k t).entered
+    ran_harts r h c t.core x w.regs w.memory t.memory w.out w.leave k.facts k.mover k.runs k.before w.is (counts s r h c x new d k t).entered
 
 -- with other patches, and other waits
 abbrev pub rewoven : Run → Words → List (Option ℕ) → Run
@@ -275,7 +280,7 @@ pub record Ran (s : Stepped) (r new : Run) (h : ℕ) (out : List ℕ) : Type 0 w
 
 ran_on : (r : Run) (h spare : ℕ) (c c' : Core) (x : Mind) (mem : Memory) (out : List ℕ) (s : Stepped) → Ready r h c x → Counted s r c c' x
     → plain r.opening.image (seen_hart r.opening.image c x).regs r.machine.memory ≡ Goes (running_regs r.opening.image c'.regs (after_step x.phase)) mem out Stays → Steps s r.machine h (stepped_to r h c' mem)
-    → Ran s r (executed r h c' (ran_of r h c x) mem spare) h out
+    → Ran s r (executed r h c' (ran_of r h c x mem) mem spare) h out
 ran_on r h spare c c' x mem out s k n is st =
     let e = executes r h spare c c' x mem out k.facts k.mover k.runs k.before k.none k.may is n.retired n.copied n.entered in
     let goes = one_seen r h c x (running_regs r.opening.image c'.regs (after_step x.phase)) mem out Stays k.mover k.may is in
@@ -291,8 +296,8 @@ record Leaving (s : Stepped) (r : Run) (h : ℕ) (c : Core) (x : Mind) (m : Patc
   before : is_before x.phase ≡ true
   machine : Patched
   steps : Steps s r.machine h machine
-  homed : HomedBy s machine m r.hold None r.breaks r.waits h (after_step x.phase) (slice_set r.minds h (ran_of r h c x))
-  minds : xs ≡ left_minds s h (ran_of r h c x) r.minds
+  homed : HomedBy s machine m r.hold None r.breaks r.waits h (after_step x.phase) (slice_set r.minds h (ran_of r h c x machine.memory))
+  minds : xs ≡ left_minds s h (ran_of r h c x machine.memory) r.minds
 
 exits_as : (s : Stepped) (r : Run) (h code count spare : ℕ) (c : Core) (x : Mind) (cs : List Core) (xs : List Mind) (mem : Memory) (t : Words) (slots : List (Option SlotUse)) (es : List Entry) → length es ≡ count
     → Leaving s r h c x (record { text = t; cores = cs; memory = mem; slots = slots }) xs
@@ -323,16 +328,15 @@ exits_as s r h code count spare c x cs xs mem t slots es len l d u ws =
     }
 
 -- the same with the machine and the hold of an instruction by which none exits
-kept_by : (s : Stepped) (r : Run) (h spare : ℕ) (c : Core) (x : Mind) (m n : Patched) (hold : Option Hold) → (hold ≡ r.hold) × (n ≡ m) → Executed s r (ran_to s r h (ran_of r h c x) m r.hold spare) h (ran_of r h c x)
-    → Executed s r (ran_to s r h (ran_of r h c x) n hold spare) h (ran_of r h c x)
-kept_by s r h spare c x m n hold rel e =
-    let P : Patched → Option Hold → Type 0 = λ n o. Executed s r (ran_to s r h (ran_of r h c x) n o spare) h (ran_of r h c x) in
+kept_by : (s : Stepped) (r : Run) (h spare : ℕ) (z : Mind) (m n : Patched) (hold : Option Hold) → (hold ≡ r.hold) × (n ≡ m) → Executed s r (ran_to s r h z m r.hold spare) h z → Executed s r (ran_to s r h z n hold spare) h z
+kept_by s r h spare z m n hold rel e =
+    let P : Patched → Option Hold → Type 0 = λ n o. Executed s r (ran_to s r h z n o spare) h z in
     subst (λ (o : Option Hold). P n o) (sym rel.0) (subst (λ (n : Patched). P n r.hold) (sym rel.1) e)
 
 -- the machine at the end, by its parts
-whole : (s : Stepped) (r : Run) (h spare : ℕ) (c : Core) (x : Mind) (m n : Patched) (hold : Option Hold) → hold ≡ None → n ≡ m → Executed s r (ran_to s r h (ran_of r h c x) m None spare) h (ran_of r h c x) → Executed s r (ran_to s r h (ran_of r h c x) n hold spare) h (ran_of r h c x)
-whole s r h spare c x m n hold none same e =
-    let P : Patched → Option Hold → Type 0 = λ n o. Executed s r (ran_to s r h (ran_of r h c x) n o spare) h (ran_of r h c x) in
+whole : (s : Stepped) (r : Run) (h spare : ℕ) (z : Mind) (m n : Patched) (hold : Option Hold) → hold ≡ None → n ≡ m → Executed s r (ran_to s r h z m None spare) h z → Executed s r (ran_to s r h z n hold spare) h z
+whole s r h spare z m n hold none same e =
+    let P : Patched → Option Hold → Type 0 = λ n o. Executed s r (ran_to s r h z n o spare) h z in
     subst (λ (o : Option Hold). P n o) (sym none) (subst (λ (n : Patched). P n None) (sym same) e)
 
 -- the machine after harts came home, by its parts
@@ -344,7 +348,7 @@ parts_home old between new cs slots rest cores text =
 
 -- this hart left
 left_alone : (r : Run) (h spare code : ℕ) (c : Core) (x : Mind) (new m : Patched) (hold : Option Hold) → Ready r h c x → (t : StepsTo (stepped.HartExit code) r.machine h c new)
-    → ComesHome (stepped_to r h t.core t.memory) m r.hold hold r.breaks r.waits (λ k. GoesHome (stepped_to r h t.core t.memory) k h (after_step x.phase)) → Executed (stepped.HartExit code) r (ran_to (stepped.HartExit code) r h (ran_of r h c x) m hold spare) h (ran_of r h c x)
+    → ComesHome (stepped_to r h t.core t.memory) m r.hold hold r.breaks r.waits (λ k. GoesHome (stepped_to r h t.core t.memory) k h (after_step x.phase)) → Executed (stepped.HartExit code) r (ran_to (stepped.HartExit code) r h (ran_of r h c x t.memory) m hold spare) h (ran_of r h c x t.memory)
 left_alone r h spare code c x new m hold k t rel =
     let p = r.opening.image in
     let s = stepped.HartExit code in
@@ -353,7 +357,7 @@ left_alone r h spare code c x new m hold k t rel =
     let g = rel.between in
     let hs = known s r h c x new refl k t in
     let at : slice_get mid.cores h ≡ Some t.core = get-set_same r.machine.cores h t.core c k.mover.core in
-    let z = ran_of r h c x in
+    let z = ran_of r h c x t.memory in
     let x_at : slice_get (slice_set r.minds h z) h ≡ Some z = get-set_same r.minds h z x k.mover.mind in
     let fact = hs.each h t.core z at x_at in
     let own = slotted_by p mid h t.core q fact.placed in
@@ -372,17 +376,18 @@ left_alone r h spare code c x new m hold k t rel =
     let P : Patched → Option Hold → Type 0 = λ n o. ComesHome mid n r.hold o r.breaks r.waits (λ k. GoesHome mid k h q) in
     let homed = subst (λ (o : Option Hold). P end o) rel.none (subst (λ (n : Patched). P n hold) parts rel) in
     let l : Leaving s r h c x end (slice_set r.minds h (gone_mind z)) = record { mover = k.mover; before = k.before; machine = mid; steps = stepped_as s r h c x new k.mover t; homed = homed; minds = refl } in
-    whole s r h spare c x end m hold rel.none parts (record { facts = e.facts; does = exits_as s r h code 1 spare c x (slice_set r.machine.cores h d) (slice_set r.minds h (gone_mind z)) t.memory m.text g.slots (Left h code ∷ []) refl l e })
+    whole s r h spare z end m hold rel.none parts (record { facts = e.facts; does = exits_as s r h code 1 spare c x (slice_set r.machine.cores h d) (slice_set r.minds h (gone_mind z)) t.memory m.text g.slots (Left h code ∷ []) refl l e })
 
 -- all harts left
 left_all : (r : Run) (h spare code : ℕ) (c : Core) (x : Mind) (new m : Patched) (hold : Option Hold) → Ready r h c x → (t : StepsTo (stepped.AllExit code) r.machine h c new)
-    → ComesHome (stepped_to r h t.core t.memory) m r.hold hold r.breaks r.waits (λ k. AllGoHome (stepped_to r h t.core t.memory) k 0 (slice_set r.minds h (ran_of r h c x)))
-    → Executed (stepped.AllExit code) r (ran_to (stepped.AllExit code) r h (ran_of r h c x) m hold spare) h (ran_of r h c x)
+    → ComesHome (stepped_to r h t.core t.memory) m r.hold hold r.breaks r.waits (λ k. AllGoHome (stepped_to r h t.core t.memory) k 0 (slice_set r.minds h (ran_of r h c x t.memory)))
+    → Executed (stepped.AllExit code) r (ran_to (stepped.AllExit code) r h (ran_of r h c x t.memory) m hold spare) h (ran_of r h c x t.memory)
 left_all r h spare code c x new m hold k t rel =
     let p = r.opening.image in
     let s = stepped.AllExit code in
     let mid = stepped_to r h t.core t.memory in
-    let xs = slice_set r.minds h (ran_of r h c x) in
+    let z = ran_of r h c x t.memory in
+    let xs = slice_set r.minds h z in
     let g = rel.between in
     let hs = known s r h c x new refl k t in
     let n = counts s r h c x new refl k t in
@@ -397,37 +402,40 @@ left_all r h spare code c x new m hold k t rel =
     let P : Patched → Option Hold → Type 0 = λ n o. ComesHome mid n r.hold o r.breaks r.waits (λ k. AllGoHome mid k 0 xs) in
     let homed = subst (λ (o : Option Hold). P end o) rel.none (subst (λ (n : Patched). P n hold) parts rel) in
     let l : Leaving s r h c x end (map gone_mind xs) = record { mover = k.mover; before = k.before; machine = mid; steps = stepped_as s r h c x new k.mover t; homed = homed; minds = refl } in
-    whole s r h spare c x end m hold rel.none parts (record { facts = e.facts; does = exits_as s r h code (length es) spare c x g.cores (map gone_mind xs) t.memory m.text g.slots es refl l e })
+    whole s r h spare z end m hold rel.none parts (record { facts = e.facts; does = exits_as s r h code (length es) spare c x g.cores (map gone_mind xs) t.memory m.text g.slots es refl l e })
 
 executed_by : (s : Stepped) (r : Run) (h spare : ℕ) (c : Core) (x : Mind) (new m : Patched) (hold : Option Hold) → has_run s ≡ true → Ready r h c x → (t : StepsTo s r.machine h c new)
-    → HomedBy s (stepped_to r h t.core t.memory) m r.hold hold r.breaks r.waits h (after_step x.phase) (slice_set r.minds h (ran_of r h c x)) → Executed s r (ran_to s r h (ran_of r h c x) m hold spare) h (ran_of r h c x)
+    → HomedBy s (stepped_to r h t.core t.memory) m r.hold hold r.breaks r.waits h (after_step x.phase) (slice_set r.minds h (ran_of r h c x t.memory)) → Executed s r (ran_to s r h (ran_of r h c x t.memory) m hold spare) h (ran_of r h c x t.memory)
 executed_by stepped.Ran r h spare c x new m hold d k t rel =
     let g = ran_on r h spare c t.core x t.memory [] stepped.Ran k (counts stepped.Ran r h c x new d k t) (plain_gives stepped.Ran r h c x new k t) (stepped_as stepped.Ran r h c x new k.mover t) in
-    kept_by stepped.Ran r h spare c x (stepped_to r h t.core t.memory) m hold rel (record { facts = g.facts; does = g.runs })
+    kept_by stepped.Ran r h spare (ran_of r h c x t.memory) (stepped_to r h t.core t.memory) m hold rel (record { facts = g.facts; does = g.runs })
 executed_by (stepped.Wrote addr len) r h spare c x new m hold d k t rel =
     let s = stepped.Wrote addr len in
     let p = plain_gives s r h c x new k t in
     let g = ran_on r h spare c t.core x t.memory p.0 s k (counts s r h c x new d k t) p.3 (stepped_as s r h c x new k.mover t) in
-    kept_by s r h spare c x (stepped_to r h t.core t.memory) m hold rel (record { facts = g.facts; does = λ u ws. (p.0, p.1, p.2, g.runs u ws) })
+    kept_by s r h spare (ran_of r h c x t.memory) (stepped_to r h t.core t.memory) m hold rel (record { facts = g.facts; does = λ u ws. (p.0, p.1, p.2, g.runs u ws) })
 executed_by (stepped.HartExit code) r h spare c x new m hold d k t rel = left_alone r h spare code c x new m hold k t rel
 executed_by (stepped.AllExit code) r h spare c x new m hold d k t rel = left_all r h spare code c x new m hold k t rel
 executed_by stepped.Hit r h spare c x new m hold d k t rel = cc
 executed_by (stepped.Trap cause) r h spare c x new m hold d k t rel = cc
 
 pub executed_to : (s : Stepped) (r : Run) (h spare : ℕ) (c : Core) (x : Mind) (new m : Patched) (hold : Option Hold) (q : Parts) (noted : ℕ) → has_run s ≡ true → Ready r h c x → StepsTo s r.machine h c new
-    → HomedBy s new m r.hold hold r.breaks r.waits h (after_step x.phase) (slice_set r.minds h (ran_of r h c x)) → q ≡ applied s h (ran_of r h c x) (parts_of r) → noted ≡ noted_by s h (ran_of r h c x) r.minds r.noted → Executed s r (run_with r m q noted hold spare) h (ran_of r h c x)
+    → HomedBy s new m r.hold hold r.breaks r.waits h (after_step x.phase) (slice_set r.minds h (ran_of r h c x new.memory)) → q ≡ applied s h (ran_of r h c x new.memory) (parts_of r) → noted ≡ noted_by s h (ran_of r h c x new.memory) r.minds r.noted
+    → Executed s r (run_with r m q noted hold spare) h (ran_of r h c x new.memory)
 executed_to s r h spare c x new m hold q noted d k t rel is count =
-    let Q : Parts → Type 0 = λ u. Executed s r (run_with r m u noted hold spare) h (ran_of r h c x) in
-    let N : ℕ → Type 0 = λ n. Executed s r (run_with r m (applied s h (ran_of r h c x) (parts_of r)) n hold spare) h (ran_of r h c x) in
-    let R : Patched → Type 0 = λ n. HomedBy s n m r.hold hold r.breaks r.waits h (after_step x.phase) (slice_set r.minds h (ran_of r h c x)) in
-    subst Q (sym is) (subst N (sym count) (executed_by s r h spare c x new m hold d k t (subst R t.machine rel)))
+    let Z : Patched → Mind = λ n. ran_of r h c x n.memory in
+    let Q : Parts → Type 0 = λ u. Executed s r (run_with r m u noted hold spare) h (Z new) in
+    let N : ℕ → Type 0 = λ n. Executed s r (run_with r m (applied s h (Z new) (parts_of r)) n hold spare) h (Z new) in
+    let R : Patched → Type 0 = λ n. HomedBy s n m r.hold hold r.breaks r.waits h (after_step x.phase) (slice_set r.minds h (Z n)) in
+    let E : Patched → Type 0 = λ n. Executed s r (ran_to s r h (Z n) m hold spare) h (Z n) in
+    subst Q (sym is) (subst N (sym count) (subst E (sym t.machine) (executed_by s r h spare c x new m hold d k t (subst R t.machine rel))))
 
 -- what holds of the engine then, where this is kept of the hart
-pub executed_as : (s : Stepped) (r : Run) (h spare : ℕ) (c : Core) (x z : Mind) (new m : Patched) (hold : Option Hold) (q : Parts) → has_run s ≡ true → Ready r h c x → StepsTo s r.machine h c new → ran_of r h c x ≡ z
+pub executed_as : (s : Stepped) (r : Run) (h spare : ℕ) (c : Core) (x z : Mind) (new m : Patched) (hold : Option Hold) (q : Parts) → has_run s ≡ true → Ready r h c x → StepsTo s r.machine h c new → ran_of r h c x new.memory ≡ z
     → HomedBy s new m r.hold hold r.breaks r.waits h z.phase (slice_set r.minds h z) → q ≡ applied s h z (parts_of r) → Sound (run_with r m q (noted_by s h z r.minds r.noted) hold spare)
 executed_as s r h spare c x z new m hold q d k t same rel is =
     let P : Mind → Type 0 = λ z. HomedBy s new m r.hold hold r.breaks r.waits h z.phase (slice_set r.minds h z) → q ≡ applied s h z (parts_of r) → Sound (run_with r m q (noted_by s h z r.minds r.noted) hold spare) in
-    subst P same (λ rel is. (executed_to s r h spare c x new m hold q (noted_by s h (ran_of r h c x) r.minds r.noted) d k t rel is refl).facts) rel is
+    subst P same (λ rel is. (executed_to s r h spare c x new m hold q (noted_by s h (ran_of r h c x new.memory) r.minds r.noted) d k t rel is refl).facts) rel is
 
 -- what is kept of the harts where none leaves
 pub stayed : (s : Stepped) (h : ℕ) (z : Mind) (p : Parts) → has_run s ≡ true → leaves s ≡ false → (applied s h z p).minds ≡ slice_set p.minds h z
@@ -468,26 +476,26 @@ exits_noted (stepped.Trap cause) h z xs n = omega arith
 pub record Prepared (r : Run) (h : ℕ) (c : Core) (x : Mind) (new : Patched) : Type 0 where
   pub text : HeldInText new.text r.hold
   pub few : length new.cores ≤ 16
-  pub harts : length (slice_set r.minds h (ran_of r h c x)) ≤ length new.cores
+  pub harts : length (slice_set r.minds h (ran_of r h c x new.memory)) ≤ length new.cores
   pub hart : h < length new.cores
   pub slot : IsSlotted new h (after_step x.phase)
-  pub slots : (j : ℕ) (y : Mind) → slice_get (slice_set r.minds h (ran_of r h c x)) j ≡ Some y → IsSlotted new j y.phase
+  pub slots : (j : ℕ) (y : Mind) → slice_get (slice_set r.minds h (ran_of r h c x new.memory)) j ≡ Some y → IsSlotted new j y.phase
 
 pub prepared : (s : Stepped) (r : Run) (h : ℕ) (c : Core) (x : Mind) (new : Patched) → has_run s ≡ true → Ready r h c x → Small r → StepsTo s r.machine h c new → Prepared r h c x new
 prepared s r h c x new d k small t =
     let mid = stepped_to r h t.core t.memory in
-    let xs = slice_set r.minds h (ran_of r h c x) in
+    let xs = slice_set r.minds h (ran_of r h c x t.memory) in
     let hs = known s r h c x new d k t in
     let slots = all_slotted r.opening.image mid xs r.hold hs in
-    let len : length xs ≡ length r.minds = length-set r.minds h (ran_of r h c x) in
+    let len : length xs ≡ length r.minds = length-set r.minds h (ran_of r h c x t.memory) in
     let low : h < length r.minds = slice_get_within r.minds h x k.mover.mind in
-    let x_at : slice_get xs h ≡ Some (ran_of r h c x) = get-set_same r.minds h (ran_of r h c x) x k.mover.mind in
+    let x_at : slice_get xs h ≡ Some (ran_of r h c x t.memory) = get-set_same r.minds h (ran_of r h c x t.memory) x k.mover.mind in
     subst (Prepared r h c x) (sym t.machine)
     (record {
       text = held_text r k.facts;
       few = omega (arith, hs.len, len, small.harts);
       harts = omega (arith, hs.len);
       hart = omega (arith, hs.len, len, low);
-      slot = slots h (ran_of r h c x) x_at;
+      slot = slots h (ran_of r h c x t.memory) x_at;
       slots = slots;
     })

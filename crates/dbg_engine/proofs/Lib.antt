@@ -10,6 +10,7 @@ pub mod Waitings
 pub mod Lengths
 pub mod Rows
 pub mod Arrivals
+pub mod Nearing
 pub mod Gone
 pub mod Passing
 pub mod Aheads
@@ -19,3 +20,7 @@ pub mod Viewing
 pub mod Reading
 pub mod Kept
 pub mod Rewaits
+pub mod Picks
+pub mod Quiet
+pub mod Taking
+pub mod Jobs

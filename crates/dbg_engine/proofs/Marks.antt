@@ -83,21 +83,21 @@ moves turned.Planted r s h x y m at there =
     ap (λ u. after u Plant) p ∙ ap Some (sym q)
 moves turned.Ran r s h x y m at there =
     let p = phase_is x m.mind (same_mind r.minds h x m.mind at m.at) in
-    let z = ran_by r h m.hart m.mind in
+    let z = ran_by r h m.hart m.machine.memory m.mind in
     let q = phase_is z y (set_here r.minds s.minds h m.mind y z m.minds m.at there) in
     runs_in x.phase y.phase (ap is_before (sym p) ∙ m.before) (q ∙ ap after_step p)
 moves (turned.Wrote addr len) r s h x y (out, some, bytes, m) at there =
     let p = phase_is x m.mind (same_mind r.minds h x m.mind at m.at) in
-    let z = ran_by r h m.hart m.mind in
+    let z = ran_by r h m.hart m.machine.memory m.mind in
     let q = phase_is z y (set_here r.minds s.minds h m.mind y z m.minds m.at there) in
     runs_in x.phase y.phase (ap is_before (sym p) ∙ m.before) (q ∙ ap after_step p)
 moves (turned.Left code) r s h x y m at there =
     let p = phase_is x m.mind (same_mind r.minds h x m.mind at m.at) in
-    let z = gone_mind (ran_by r h m.hart m.mind) in
+    let z = gone_mind (ran_by r h m.hart m.machine.memory m.mind) in
     leaves_in x.phase y.phase (ap is_before (sym p) ∙ m.before) (phase_is z y (set_here r.minds s.minds h m.mind y z m.minds m.at there))
 moves (turned.AllLeft code count) r s h x y m at there =
     let p = phase_is x m.mind (same_mind r.minds h x m.mind at m.at) in
-    let z = ran_by r h m.hart m.mind in
+    let z = ran_by r h m.hart m.machine.memory m.mind in
     let set = get-set_same r.minds h z m.mind m.at in
     let is = same_some y (gone_mind z) (sym there ∙ (ap (λ (us : List Mind). slice_get us h) m.minds ∙ gone_get (slice_set r.minds h z) h z set)) in
     leaves_in x.phase y.phase (ap is_before (sym p) ∙ m.before) (phase_is (gone_mind z) y is)
@@ -106,6 +106,7 @@ moves turned.Interrupted r s h x y m at there =
     (sym (phase_is x m.mind (same_mind r.minds h x m.mind at m.at)) ∙ m.idle, phase_is first_mind y (set_here r.minds s.minds h x y first_mind m.halts.minds at there))
 moves (turned.Arrived number temporary error) r s h x y m at there =
     ends_in x.phase y.phase (phase_is first_mind y (set_here r.minds s.minds h x y first_mind m.0.minds at there))
+moves (turned.Triggered fired) r s h x y m at there = ends_in x.phase y.phase (phase_is first_mind y (set_here r.minds s.minds h x y first_mind m.halts.minds at there))
 moves turned.Stepped r s h x y m at there = ends_in x.phase y.phase (phase_is first_mind y (set_here r.minds s.minds h x y first_mind m.minds at there))
 moves turned.Finished r s h x y m at there = ends_in x.phase y.phase (phase_is first_mind y (set_here r.minds s.minds h x y first_mind m.minds at there))
 
@@ -151,6 +152,7 @@ fits (turned.AllLeft code count) p q m = run_fits p m.0 m.1
 fits (turned.Stopped cause) p q m = omega arith
 fits turned.Interrupted p q m = omega arith
 fits (turned.Arrived number temporary error) p q m = omega arith
+fits (turned.Triggered fired) p q m = omega arith
 fits turned.Stepped p q m = omega arith
 fits turned.Finished p q m = omega arith
 
@@ -222,6 +224,7 @@ goes (turned.AllLeft code count) p q m ne = absurd (ends_idle m.0 q m.2 ne)
 goes (turned.Stopped cause) p q m ne = absurd (ends_idle p q m ne)
 goes turned.Interrupted p q m ne = absurd (is_idle q m.1 ne)
 goes (turned.Arrived number temporary error) p q m ne = absurd (ends_idle p q m ne)
+goes (turned.Triggered fired) p q m ne = absurd (ends_idle p q m ne)
 goes turned.Stepped p q m ne = absurd (ends_idle p q m ne)
 goes turned.Finished p q m ne = absurd (ends_idle p q m ne)
 

@@ -21,6 +21,7 @@ use Rattle.dbg_model.specs.declared.hart.Hart.{Hart}
 use Rattle.dbg_model.specs.Breaks.{nothing_due}
 use Rattle.dbg_model.specs.Judging.{is_due}
 use Rattle.dbg_model.specs.State.{State, due, is_off}
+use Rattle.dbg_model.specs.Watches.{fired_by}
 use Rattle.engine_facts.specs.declared.mind.Activity.TheVariants as activity
 use Rattle.engine_facts.specs.declared.mind.Hold.{Hold}
 use Rattle.engine_facts.specs.declared.mind.Mind.{Mind}
@@ -29,7 +30,7 @@ use Rattle.engine_facts.specs.Moves.{Released}
 use Rattle.engine_facts.specs.Homing.{GoesHome, OwnsRun}
 use Rattle.engine_facts.specs.Seen.{Run, seen, seen_hart}
 use Rattle.engine_facts.specs.Facts.{Facts, other_holder}
-use Rattle.engine_facts.proofs.Arriving.{due_breaks}
+use Rattle.engine_facts.proofs.Arriving.{due_breaks, due_fired}
 use Rattle.engine_facts.proofs.Awaiting.{waits_same}
 use Rattle.engine_facts.proofs.Keeping.{Mover}
 use Rattle.engine_facts.proofs.Stepping.{ran_of}
@@ -39,22 +40,32 @@ use Rattle.engine_facts.proofs.Bounding.{may_go_by}
 use Rattle.dbg_engine.specs.Calls.{Of, Undue, DueIs, AtPlanted, Turns}
 use Rattle.dbg_engine.specs.Going.{Passes, is_kept, meets}
 use Rattle.dbg_engine.specs.Rows.{Begins, row_at, row_idle}
-use Rattle.dbg_engine.specs.Several.{AllTurned, goes_alone}
+use Rattle.dbg_engine.specs.Several.{AllTurned}
+use Rattle.dbg_engine.specs.Slicing.{takes_slices}
 use Rattle.dbg_engine.specs.Steps.{applied}
 use Rattle.dbg_engine.specs.declared.moving.Turned.TheVariants as turned
 use Rattle.dbg_engine.proofs.Executing.{Executed, Ready, executed_to, of_hart, own_pc, parts_of, ran_to, ready, same_hart}
 use Rattle.dbg_engine.proofs.Holds.{Claims, copied, shown_is, unwound_to}
+use Rattle.dbg_engine.proofs.Gone.{none_fire}
 use Rattle.dbg_engine.proofs.Homes.{left_slot}
 use Rattle.dbg_engine.proofs.Kept.{kept_ran, kept_verdict, quiet_as, ran_kept}
 use Rattle.dbg_engine.proofs.Rewaits.{same_waits}
 use Rattle.dbg_engine.proofs.Rows.{row_at_copy, row_finishes, row_idles}
 
--- what a hart keeps while it goes on
-pub record Alone (p : Program) (x : Mind) : Type 0 where
+-- what a hart keeps while it executes by itself
+pub record Apart (x : Mind) : Type 0 where
+  pub idle : x.phase ≡ phase.Idle
+  pub runs : x.activity ≡ activity.Running
+  pub plan : takes_slices x.plan ≡ true
+  pub unfired : x.fired ≡ None
+
+-- and while no interrupt is asked of it
+pub record Alone (x : Mind) : Type 0 where
   pub idle : x.phase ≡ phase.Idle
   pub runs : x.activity ≡ activity.Running
   pub asked : x.asked ≡ false
-  pub plan : goes_alone p x ≡ true
+  pub plan : takes_slices x.plan ≡ true
+  pub unfired : x.fired ≡ None
 
 -- an engine that isn't over
 pub record Going (r : Run) : Type 0 where
@@ -68,10 +79,10 @@ pub record Ahead (n : ℕ) (r new : Run) (h : ℕ) : Type 0 where
   pub turns : AllTurned n r new h
 
 -- its instruction
-pub kept_executed : (q : Run) (h spare : ℕ) (c : Core) (x : Mind) (m : Patched) → is_kept x.plan (seen_hart q.opening.image c x).regs.pc ≡ true → Ready q h c x → StepsTo stepped.Ran q.machine h c m → Executed stepped.Ran q (ran_to stepped.Ran q h (kept_ran x) m q.hold spare) h (kept_ran x)
-kept_executed q h spare c x m kept k t =
+pub kept_executed : (q : Run) (h spare : ℕ) (c : Core) (x : Mind) (m : Patched) → is_kept x.plan (seen_hart q.opening.image c x).regs.pc ≡ true → fired_by q.watches q.machine.memory m.memory ≡ None → Ready q h c x → StepsTo stepped.Ran q.machine h c m → Executed stepped.Ran q (ran_to stepped.Ran q h (kept_ran x) m q.hold spare) h (kept_ran x)
+kept_executed q h spare c x m kept none k t =
     let P : Mind → Type 0 = λ z. Executed stepped.Ran q (ran_to stepped.Ran q h z m q.hold spare) h z in
-    subst P (ran_kept q h c x kept) (executed_to stepped.Ran q h spare c x m m q.hold (applied stepped.Ran h (ran_of q h c x) (parts_of q)) q.noted refl k t (refl, refl) refl refl)
+    subst P (ran_kept q h c x m.memory kept none) (executed_to stepped.Ran q h spare c x m m q.hold (applied stepped.Ran h (ran_of q h c x m.memory) (parts_of q)) q.noted refl k t (refl, refl) refl refl)
 
 -- the hart waits where it did
 pub kept_facts : (q : Run) (h spare : ℕ) (x : Mind) (m : Patched) → Facts q → slice_get q.minds h ≡ Some x → runs x ≡ true → Executed stepped.Ran q (ran_to stepped.Ran q h (kept_ran x) m q.hold spare) h (kept_ran x) → Facts (ran_to stepped.Ran q h (kept_ran x) m q.hold spare)
@@ -82,20 +93,20 @@ met_by : (d : Due) (b : Bool) → meets d ≡ false → meets (cond b d nothing_
 met_by d true none = none
 met_by d false none = refl
 
-quiet_by : (p : Program) (s : State) (h : ℕ) (c : Core) (x : Mind) → is_kept x.plan (seen_hart p c x).regs.pc ≡ true → (seen_hart p c x).regs ≡ set_pc c.regs c.regs.pc → meets (due_of h (register (set_pc c.regs c.regs.pc)) (shown_byte p s.memory) s.breaks) ≡ false
+quiet_by : (p : Program) (s : State) (h : ℕ) (c : Core) (x : Mind) → x.fired ≡ None → is_kept x.plan (seen_hart p c x).regs.pc ≡ true → (seen_hart p c x).regs ≡ set_pc c.regs c.regs.pc → meets (due_of h (register (set_pc c.regs c.regs.pc)) (shown_byte p s.memory) s.breaks) ≡ false
     → is_due (due p s h (seen_hart p c x)) ≡ false
-quiet_by p s h c x kept is none =
+quiet_by p s h c x unfired kept is none =
     let y = seen_hart p c x in
     let P : Registers → Type 0 = λ q. meets (due_of h (register q) (shown_byte p s.memory) s.breaks) ≡ false in
     let met = met_by (due_of h (register y.regs) (shown_byte p s.memory) s.breaks) y.fresh (subst P (sym is) none) in
-    quiet_as (due p s h y) x.plan (ap meets (due_breaks p s h y) ∙ met) (kept_verdict p s h y kept)
+    quiet_as (due p s h y) x.plan (ap meets (due_breaks p s h y) ∙ met) (due_fired p s h y unfired) (kept_verdict p s h y kept)
 
 -- a hart at a planted word that it passes
 record Comes (q : Run) (h : ℕ) (x : Mind) (pc : ℕ) : Type 0 where
   before : AtPlanted q h x pc
   row : row_at q h ≡ Begins
 
-comes : (q : Run) (h : ℕ) (x : Mind) (m : Patched) → Facts q → slice_get q.minds h ≡ Some x → Alone q.opening.image x → q.hold ≡ None → Going q → (s : Passes q.opening.image q.breaks h x.plan true q.machine m) → Comes q h x s.core.regs.pc
+comes : (q : Run) (h : ℕ) (x : Mind) (m : Patched) → Facts q → slice_get q.minds h ≡ Some x → Alone x → q.hold ≡ None → Going q → (s : Passes q.opening.image q.breaks q.watches h x.plan true q.machine m) → Comes q h x s.core.regs.pc
 comes q h x m f at a none going s =
     let p = q.opening.image in
     let c = s.core in
@@ -107,7 +118,7 @@ comes q h x m f at a none going s =
     let before : is_before x.phase ≡ true = ap is_before a.idle in
     let kept : is_kept x.plan (seen_hart p c x).regs.pc ≡ true = ap (is_kept x.plan) own ∙ s.kept in
     let d = due p (seen q) h (seen_hart p c x) in
-    let quiet : is_due d ≡ false = quiet_by p (seen q) h c x kept (shown_is p c x c.regs.pc a.runs before own) s.undue in
+    let quiet : is_due d ≡ false = quiet_by p (seen q) h c x a.unfired kept (shown_is p c x c.regs.pc a.runs before own) s.undue in
     let is : DueIs q h d = λ y e. ap (due p (seen q) h) (sym (same_hart q h c x y mover e)) in
     let undue : Undue q h = λ y e. ap is_due (is y e) ∙ quiet in
     record {
@@ -116,8 +127,8 @@ comes q h x m f at a none going s =
           ∙ (ap (λ b. row_idle b (is_planted q.machine.text c.regs.pc)) a.asked ∙ ap (row_idle false) s.planted);
     }
 
-pub passed : (n : ℕ) (r q : Run) (h spare : ℕ) (x : Mind) (m : Patched) → AllTurned n r q h → Facts q → slice_get q.minds h ≡ Some x → Alone q.opening.image x → q.hold ≡ None → Going q → q.retired + 1 < q.opening.settings.budget → is_off q.displaced ≡ false
-    → Passes q.opening.image q.breaks h x.plan true q.machine m → Ahead (suc (suc (suc n))) r (ran_to stepped.Ran q h (kept_ran x) m q.hold spare) h
+pub passed : (n : ℕ) (r q : Run) (h spare : ℕ) (x : Mind) (m : Patched) → AllTurned n r q h → Facts q → slice_get q.minds h ≡ Some x → Alone x → q.hold ≡ None → Going q → q.retired + 1 < q.opening.settings.budget → is_off q.displaced ≡ false
+    → Passes q.opening.image q.breaks q.watches h x.plan true q.machine m → Ahead (suc (suc (suc n))) r (ran_to stepped.Ran q h (kept_ran x) m q.hold spare) h
 passed n r q h spare x m ahead f at a none going low on s =
     let c = s.core in
     let pc = c.regs.pc in
@@ -142,7 +153,7 @@ passed n r q h spare x m ahead f at a none going low on s =
     -- and executed the word
     let go = ready q1 h x1 pc one.facts.sound at1 refl a.runs free1 pc1 undue1 (λ e. cc) may1 (λ d there is. subst E (same_some b d (sym at_b ∙ there)) (s.counted h c s.at)) in
     let kept1 : is_kept x1.plan (seen_hart q1.opening.image go.0 x1).regs.pc ≡ true = ap (is_kept x.plan) (of_hart q1 h go.0 x1 (λ y. y.regs.pc ≡ pc) go.1.mover pc1) ∙ s.kept in
-    let two = kept_executed q1 h spare go.0 x1 k.ran kept1 go.1 (k.steps go.0 go.1.mover.core) in
+    let two = kept_executed q1 h spare go.0 x1 k.ran kept1 (none_fire q.watches k.begun.memory k.ran.memory s.unwatched) go.1 (k.steps go.0 go.1.mover.core) in
     let facts2 = kept_facts q1 h spare x1 k.ran one.facts at1 (ap is_active a.runs) two in
     let q2 : Run = ran_to stepped.Ran q1 h (kept_ran x1) k.ran q1.hold spare in
     let first1 = row_at_copy q1 h pc x1 one.facts.sound (record { may = may1; at = at1; runs = a.runs; free = free1; before = refl }) undue1 pc1 (λ e. cc) in
@@ -165,17 +176,15 @@ passed n r q h spare x m ahead f at a none going low on s =
       run = q2;
       before = record {
         run = q1;
-        before = record { run = q; before = ahead; facts = f; answer = turned.Copied; quiet = refl; first = start.row; turn = one.does };
+        before = record { run = q; before = ahead; facts = f; answer = turned.Copied; fits = record { quiet = refl; first = start.row }; turn = one.does };
         facts = one.facts;
         answer = turned.Ran;
-        quiet = refl;
-        first = first1;
+        fits = record { quiet = refl; first = first1 };
         turn = two.does k.ran.text q1.waits;
       };
       facts = facts2;
       answer = turned.Fixed;
-      quiet = refl;
-      first = first2;
+      fits = record { quiet = refl; first = first2 };
       turn = fixes;
     } in
     let mind_is : with_phase x2 phase.Idle ≡ kept_ran x = ap (with_phase (kept_ran x)) (sym (ap after_step a.idle)) in

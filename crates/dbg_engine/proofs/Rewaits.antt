@@ -1,9 +1,9 @@
 -- The harts wait where their plans have them wait, after a move of one of them.
-use Rattle.std.proofs.Common.{◌≡◌, ◌<◌, ◌≤◌, ◌^◌, ℕ, true, cond, List, inl, inr, sym, ap, ◌∙◌, subst}
+use Rattle.std.proofs.Common.{◌≡◌, ◌<◌, ◌≤◌, ◌^◌, ℕ, true, cond, inl, inr, sym, ap, ◌∙◌, subst}
 use Rattle.std.proofs.lemmas.Bool.{cases_lt}
-use Rattle.std.specs.Prelude.{Option, None, IsSome, is_some, ◌⊎◌, map}
+use Rattle.std.specs.Prelude.{None, IsSome, is_some, ◌⊎◌, map}
 use Rattle.elf32_read.specs.Program.{Program, text_word}
-use Rattle.text_words.specs.Words.{Words, shown, unpatched}
+use Rattle.text_words.specs.Words.{shown, unpatched}
 use Rattle.text_words.proofs.Below.{word_above, word_below}
 use Rattle.break_table.specs.Text.{is_place}
 use Rattle.hart_machine.specs.Patched.{Patched}
@@ -11,11 +11,10 @@ use Rattle.break_table.specs.Table.{Table}
 use Rattle.engine_facts.specs.declared.mind.Mind.{Mind}
 use Rattle.engine_facts.specs.Minds.{awaited, in_place, return_of, runs}
 use Rattle.engine_facts.specs.Seen.{Run}
-use Rattle.engine_facts.specs.Facts.{Facts, Sound, wants_of}
+use Rattle.engine_facts.specs.Facts.{Sound}
 use Rattle.engine_facts.proofs.Awaiting.{rewaited}
 use Rattle.dbg_engine.specs.Changing.{Retabled, wants_by}
 use Rattle.dbg_engine.proofs.Commanding.{word_place}
-use Rattle.dbg_engine.proofs.Executing.{rewoven}
 use Rattle.dbg_engine.proofs.Holds.{Moved, Noted}
 
 -- an engine with this machine and this table

@@ -13,6 +13,7 @@ use Rattle.dbg_model.specs.declared.entry.Why.{Why}
 use Rattle.dbg_model.specs.Limits.{history}
 use Rattle.dbg_model.specs.declared.hart.Hart.{Hart}
 use Rattle.dbg_model.specs.declared.judgement.Judgement.{Judgement}
+use Rattle.dbg_model.specs.declared.watch.Fired.{Fired}
 use Rattle.dbg_model.specs.Judging.{is_due, is_end}
 use Rattle.dbg_model.specs.State.{due, any_leaves}
 use Rattle.dbg_model.proofs.Options.{both_true}
@@ -26,10 +27,7 @@ use Rattle.engine_facts.specs.Seen.{Run, seen, seen_hart}
 use Rattle.engine_facts.specs.Facts.{Sound, other_holder}
 use Rattle.engine_facts.proofs.Keeping.{hart_at}
 use Rattle.engine_facts.proofs.Holding.{core_at}
-use Rattle.dbg_engine.specs.Several.{is_quiet}
-use Rattle.dbg_engine.specs.declared.moving.Turned.{Turned}
-use Rattle.dbg_engine.specs.declared.moving.Turned.TheVariants as turned
-use Rattle.dbg_engine.specs.Rows.{Row, Over, Rests, Waits, Finishes, Stops, Counts, Executes, row_at, row_of, row_hart, row_running, row_before, row_due, row_idle}
+use Rattle.dbg_engine.specs.Rows.{Row, Over, Rests, Waits, Finishes, Stops, Counts, Executes, row_at, row_hart, row_running, row_before, row_due, row_idle}
 use Rattle.dbg_engine.specs.Calls.{Of, Before, DueIs, Undue, Rephases, Halts}
 use Rattle.dbg_engine.proofs.Executing.{of_hart}
 
@@ -81,16 +79,18 @@ row_arrives r h pc x d f b is here =
     ∙ (ap (λ e. row_due e (cond (is_idle x.phase) (row_idle x.asked (is_planted r.machine.text y.regs.pc)) Executes)) due_is
     ∙ ap (λ a. row_due d (cond (is_idle x.phase) (row_idle x.asked (is_planted r.machine.text a)) Executes)) pc_is))
 
-undue_by : (stop : Option ℕ) (counts : Bool) (v : Verdict) (error : Option CondError) (other : Row) → (is_some stop || (counts || is_end v)) ≡ false → cond (is_some (stop_by stop error v)) Stops (cond counts Counts other) ≡ other
-undue_by (Some number) counts v error other none = cc
-undue_by None true v error other none = cc
-undue_by None false (verdicts.Go plan) error other none = refl
-undue_by None false verdicts.Stepped error other none = cc
-undue_by None false verdicts.Finished error other none = cc
+undue_by : (stop : Option ℕ) (counts : Bool) (fired : Option Fired) (v : Verdict) (error : Option CondError) (other : Row) → (is_some stop || (counts || (is_some fired || is_end v))) ≡ false
+    → cond (is_some (stop_by stop error fired v)) Stops (cond counts Counts other) ≡ other
+undue_by (Some number) counts fired v error other none = cc
+undue_by None true fired v error other none = cc
+undue_by None false (Some f) v error other none = cc
+undue_by None false None (verdicts.Go plan) error other none = refl
+undue_by None false None verdicts.Stepped error other none = cc
+undue_by None false None verdicts.Finished error other none = cc
 
 -- where nothing is due, the rest comes
 pub row_undue : (d : Judgement) (other : Row) → is_due d ≡ false → row_due d other ≡ other
-row_undue d other none = undue_by d.breaks.stop d.breaks.counts d.verdict d.breaks.error other none
+row_undue d other none = undue_by d.breaks.stop d.breaks.counts d.fired d.verdict d.breaks.error other none
 
 unidle : (p : Phase) → (p ≡ phase.Idle → ⊥) → is_idle p ≡ false
 unidle phase.Idle n = absurd (n refl)
@@ -169,37 +169,7 @@ not_so false e = refl
 
 pub open_by : (r : Run) → may_go r.opening (seen r) ≡ true → r.exited ≡ false
 open_by r may =
-    let a = both_true (not (any_leaves (seen r).harts)) (nat_lt r.retired r.opening.settings.budget && (nat_lt r.noted history && not r.exited)) may in
-    let b = both_true (nat_lt r.retired r.opening.settings.budget) (nat_lt r.noted history && not r.exited) a.1 in
-    not_so r.exited (both_true (nat_lt r.noted history) (not r.exited) b.1).1
-
--- no quiet answer is that of a session that is over
-not_over : (t : Turned) → is_quiet t ≡ true → row_of t ≡ Over → ⊥
-not_over turned.Ran quiet e = cc
-not_over turned.Copied quiet e = cc
-not_over turned.Fixed quiet e = cc
-not_over turned.Lifted quiet e = cc
-not_over turned.Planted quiet e = cc
-not_over turned.Over quiet e = cc
-not_over turned.NotRunning quiet e = cc
-not_over (turned.Held by) quiet e = cc
-not_over turned.NoSlot quiet e = cc
-not_over (turned.Wrote addr len) quiet e = cc
-not_over (turned.Left code) quiet e = cc
-not_over (turned.AllLeft code count) quiet e = cc
-not_over (turned.Stopped cause) quiet e = cc
-not_over turned.Interrupted quiet e = cc
-not_over turned.Counted quiet e = cc
-not_over (turned.Arrived number temporary error) quiet e = cc
-not_over turned.Stepped quiet e = cc
-not_over turned.Finished quiet e = cc
-
-moves_by : (b : Bool) (other row : Row) → (row ≡ Over → ⊥) → cond b other Over ≡ row → b ≡ true
-moves_by true other row n e = refl
-moves_by false other row n e = absurd (n (sym e))
-
--- before a turn of which nothing is said a session isn't over
-pub quiet_may : (r : Run) (h : ℕ) (t : Turned) → is_quiet t ≡ true → row_at r h ≡ row_of t → Goes r
-quiet_may r h t quiet first =
-    let may = moves_by (may_go r.opening (seen r)) (row_hart r h (slice_get r.minds h) (slice_get (seen r).harts h)) (row_of t) (not_over t quiet) first in
-    record { may = may; going = open_by r may }
+    let a = both_true (not (any_leaves (seen r).harts)) (nat_lt r.retired r.opening.settings.budget && (nat_lt r.noted history && (not r.exited && true))) may in
+    let b = both_true (nat_lt r.retired r.opening.settings.budget) (nat_lt r.noted history && (not r.exited && true)) a.1 in
+    let c = both_true (nat_lt r.noted history) (not r.exited && true) b.1 in
+    not_so r.exited (both_true (not r.exited) true c.1).0

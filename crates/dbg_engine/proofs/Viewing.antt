@@ -4,6 +4,7 @@ use Rattle.rv_exec.specs.Memory.{Memory}
 use Rattle.elf32_read.specs.Program.{Program}
 use Rattle.hart_machine.specs.declared.hart.Core.{Core}
 use Rattle.dbg_model.specs.declared.thread_view.ThreadView.{ThreadView}
+use Rattle.dbg_model.specs.declared.watch.Watch.{Watch}
 use Rattle.dbg_model.specs.Sight.{Sight, sight_of, view_by, view_of}
 use Rattle.engine_facts.specs.declared.mind.Activity.{Activity}
 use Rattle.engine_facts.specs.declared.mind.Activity.TheVariants as activity
@@ -29,21 +30,23 @@ views_few (c ∷ cs) [] n le = omega (arith, le)
 views_few (c ∷ cs) (x ∷ xs) zero le = absurd (omega (arith, le))
 views_few (c ∷ cs) (x ∷ xs) (suc n) le = let l : length xs ≤ n = omega (arith, le) in let h = views_few cs xs n l in omega (arith, h)
 
--- what an engine shows to a command, with this memory and these threads
-abbrev pub shows : Run → Memory → List ThreadView → Sight
-shows r m views = record {
+-- what an engine shows to a command, with this memory, these threads and these watches
+abbrev pub shows : Run → Memory → List ThreadView → List Watch → Sight
+shows r m views watches = record {
   image = r.opening.image;
   sources = r.sources;
   memory = m;
   threads = views;
   breaks = r.breaks;
+  watches = watches;
   given = r.given;
   selected = r.selected;
   displaced = r.displaced;
 }
 
-pub sees : (r : Run) (m : Memory) (vs : List ThreadView) → Sound r → m ≡ r.machine.memory → vs ≡ own_views r.machine.cores r.minds → shows r m vs ≡ sight_of r.opening (seen r)
-sees r m vs f same views =
-    ap (λ m. shows r m vs) same
-    ∙ (ap (shows r r.machine.memory) (views ∙ all_views r.opening.image r.machine.cores r.minds)
-    ∙ ap (λ sources. let s : Sight = record (sight_of r.opening (seen r)) { sources = sources } in s) f.sources)
+pub sees : (r : Run) (m : Memory) (vs : List ThreadView) (ws : List Watch) → Sound r → m ≡ r.machine.memory → vs ≡ own_views r.machine.cores r.minds → ws ≡ r.watches → shows r m vs ws ≡ sight_of r.opening (seen r)
+sees r m vs ws f same views watches =
+    ap (λ m. shows r m vs ws) same
+    ∙ (ap (λ vs. shows r r.machine.memory vs ws) (views ∙ all_views r.opening.image r.machine.cores r.minds)
+    ∙ (ap (λ (ps : List Watch). let s : Sight = record (sight_of r.opening (seen r)) { sources = r.sources; watches = ps } in s) watches
+    ∙ ap (λ sources. let s : Sight = record (sight_of r.opening (seen r)) { sources = sources } in s) f.sources))

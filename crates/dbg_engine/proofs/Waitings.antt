@@ -11,7 +11,7 @@ use Rattle.break_table.specs.Table.{Table, is_wait, with_wait}
 use Rattle.engine_facts.specs.declared.mind.Hold.{Hold}
 use Rattle.engine_facts.specs.declared.mind.Mind.{Mind}
 use Rattle.engine_facts.specs.Minds.{awaited, in_place, return_of, runs}
-use Rattle.engine_facts.specs.Facts.{Wants, wanted}
+use Rattle.engine_facts.specs.Facts.{wanted}
 use Rattle.engine_facts.specs.Moves.{Repatched}
 use Rattle.engine_facts.specs.Tables.{ArePlanted}
 use Rattle.engine_facts.proofs.Awaiting.{rewaited_words}

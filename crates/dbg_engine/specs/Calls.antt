@@ -15,12 +15,17 @@ use Rattle.hart_machine.specs.Stepping.{Steps}
 use Rattle.text_words.specs.Words.{is_planted}
 use Rattle.dbg_model.specs.declared.reply.Reply.{Reply}
 use Rattle.step_plans.specs.declared.plan.Plan.{Plan}
-use Rattle.dbg_model.specs.declared.entry.Entry.TheVariants.{Counted, Stopped, Did}
+use Rattle.dbg_model.specs.declared.entry.Entry.{Entry}
+use Rattle.dbg_model.specs.declared.entry.Entry.TheVariants.{Counted, Stopped, Did, Poked}
+use Rattle.dbg_model.specs.declared.entry.Poke.{Poke}
+use Rattle.dbg_model.specs.declared.opening.Opening.{Opening}
 use Rattle.dbg_model.specs.declared.entry.Why.{Why}
 use Rattle.dbg_model.specs.declared.entry.Why.TheVariants.{Break, Interrupted, Fault}
 use Rattle.dbg_model.specs.declared.entry.Why.TheVariants as whys
 use Rattle.dbg_model.specs.Limits.{history}
 use Rattle.dbg_model.specs.Breaks.{is_temporary}
+use Rattle.dbg_model.specs.Watches.{risen}
+use Rattle.dbg_model.specs.declared.watch.Fired.{Fired}
 use Rattle.dbg_model.specs.declared.hart.Hart.{Hart}
 use Rattle.dbg_model.specs.declared.judgement.Judgement.{Judgement}
 use Rattle.dbg_model.specs.Judging.{is_due}
@@ -155,7 +160,7 @@ pub record Runs (s : Stepped) (old new : Run) (h : ℕ) (out : List ℕ) : Type 
   pub steps : Steps s old.machine h machine
   -- patches are planted where harts wait then
   pub patched : new.machine ≡ record machine { text = new.machine.text }
-  pub minds : new.minds ≡ slice_set old.minds h (ran_by old h hart mind)
+  pub minds : new.minds ≡ slice_set old.minds h (ran_by old h hart machine.memory mind)
   pub hold : new.hold ≡ old.hold
   pub journal : new.journal ≡ lengthened old.journal h
   pub one : one old.opening h (seen old) ≡ Some (seen new)
@@ -173,9 +178,9 @@ pub record Exits (s : Stepped) (old new : Run) (h count code : ℕ) : Type 0 whe
   pub machine : Patched
   pub steps : Steps s old.machine h machine
   pub home : Patched
-  pub homed : HomedBy s machine home old.hold new.hold old.breaks old.waits h (after_step mind.phase) (slice_set old.minds h (ran_by old h hart mind))
+  pub homed : HomedBy s machine home old.hold new.hold old.breaks old.waits h (after_step mind.phase) (slice_set old.minds h (ran_by old h hart machine.memory mind))
   pub patched : new.machine ≡ record home { text = new.machine.text }
-  pub minds : new.minds ≡ left_minds s h (ran_by old h hart mind) old.minds
+  pub minds : new.minds ≡ left_minds s h (ran_by old h hart machine.memory mind) old.minds
   pub between : State
   pub codes : LeaveWith code between.harts
   pub some : any_leaves between.harts ≡ true
@@ -220,6 +225,11 @@ pub record Interrupts (old new : Run) (h : ℕ) : Type 0 where
   pub asked : mind.asked ≡ true
   pub halts : Halts old new h Interrupted
 
+-- a hart stopped by the watch that its instruction made fire, whose times rose
+pub record Triggers (old new : Run) (h : ℕ) (fired : Fired) : Type 0 where
+  pub halts : Halts old new h (whys.Watch fired)
+  pub watches : new.watches ≡ risen (Some fired) old.watches
+
 -- what a turn did
 abbrev pub Turns : Turned → Run → Run → ℕ → Type 0
 Turns turned.Over old new h = (new ≡ old) × (may_go old.opening (seen old) ≡ false)
@@ -238,6 +248,7 @@ Turns (turned.Stopped cause) old new h = Faults old new h cause
 Turns turned.Interrupted old new h = Interrupts old new h
 Turns turned.Counted old new h = Counts old new h
 Turns (turned.Arrived number temporary error) old new h = Halts old new h (Break number error) × (temporary ≡ is_temporary old.breaks number)
+Turns (turned.Triggered fired) old new h = Triggers old new h fired
 Turns turned.Stepped old new h = Halts old new h whys.Stepped
 Turns turned.Finished old new h = Halts old new h whys.Finished
 
@@ -263,20 +274,35 @@ Executes (turned.Stopped cause) old new h = (new ≡ old) × TrapsAt old h cause
 Executes turned.Interrupted old new h = ⊥
 Executes turned.Counted old new h = ⊥
 Executes (turned.Arrived number temporary error) old new h = ⊥
+Executes (turned.Triggered fired) old new h = ⊥
 Executes turned.Stepped old new h = ⊥
 Executes turned.Finished old new h = ⊥
 
--- a line was done
+-- what a line asks to be written, as an entry
+abbrev pub pokes_of : Option Poke → List Entry
+pokes_of None = []
+pokes_of (Some p) = Poked p ∷ []
+
+-- the state after that was written
+abbrev pub poked_after : Opening → State → Option Poke → Option State
+poked_after o s None = Some s
+poked_after o s (Some p) = enter o s (Poked p)
+
+-- the state after a line and after what it asks to be written, where it leaves this state
+abbrev pub settled : Opening → State → Option State
+settled o s = poked_after o s s.pending
+
+-- a line was done, and what it asks to be written was written
 pub record Does (old new : Run) (line : List ℕ) (reply : Reply) : Type 0 where
   pub answers : reply ≡ reply_of old.opening (seen old) line
-  pub journal : new.journal ≡ old.journal ++ Did line ∷ []
-  pub seen : seen new ≡ done_by old.opening (seen old) line
+  pub journal : new.journal ≡ old.journal ++ Did line ∷ pokes_of (done_by old.opening (seen old) line).pending
+  pub seen : settled old.opening (done_by old.opening (seen old) line) ≡ Some (seen new)
   pub opening : new.opening ≡ old.opening
 
--- a line was done, whatever is answered to it
+-- the same, whatever is answered to it
 pub record Lines (old new : Run) (line : List ℕ) : Type 0 where
-  pub journal : new.journal ≡ old.journal ++ Did line ∷ []
-  pub seen : seen new ≡ done_by old.opening (seen old) line
+  pub journal : new.journal ≡ old.journal ++ Did line ∷ pokes_of (done_by old.opening (seen old) line).pending
+  pub seen : settled old.opening (done_by old.opening (seen old) line) ≡ Some (seen new)
   pub opening : new.opening ≡ old.opening
 
 -- why an engine is over: the first of these that holds

@@ -12,6 +12,7 @@ run_of e = record {
   machine = e.machine;
   minds = e.minds.items;
   hold = e.hold;
+  watches = e.watches;
   breaks = e.table.entries;
   given = e.table.given;
   bounds = e.table.text;

@@ -1,5 +1,5 @@
 -- How a hart goes on by itself: it executes instructions, and steps over planted words at which nothing is due.
-use Rattle.std.specs.Prelude.{◌≡◌, ◌<◌, ◌^◌, ℕ, suc, Bool, true, false, List, [], ◌∷◌, length, Some, is_some, ◌||◌, slice_get, not, ◌==◌}
+use Rattle.std.specs.Prelude.{◌≡◌, ◌<◌, ◌^◌, ℕ, suc, Bool, true, false, List, [], ◌∷◌, length, Some, None, is_some, ◌||◌, slice_get, not, ◌==◌}
 use Rattle.rv_exec.specs.Registers.{set_pc}
 use Rattle.rv_exec.specs.declared.effect.Stepped.TheVariants as stepped
 use Rattle.elf32_read.specs.Program.{Program}
@@ -12,6 +12,8 @@ use Rattle.break_table.specs.Entry.{Entry as BreakEntry}
 use Rattle.break_table.specs.Arrival.{due_of}
 use Rattle.dbg_model.specs.Views.{register, shown_byte}
 use Rattle.break_table.specs.declared.due.Due.{Due}
+use Rattle.dbg_model.specs.declared.watch.Watch.{Watch}
+use Rattle.dbg_model.specs.Watches.{fired_by}
 use Rattle.step_plans.specs.declared.plan.Plan.{Plan}
 use Rattle.step_plans.specs.declared.plan.Plan.TheVariants as plans
 
@@ -38,8 +40,9 @@ is_kept (plans.Finish ret sp) pc = not (pc == ret)
 is_kept _ pc = false
 
 -- hart h, with this plan, is at a planted word at which these breakpoints neither stop nor count it and the plan stays, and
--- stepped over it by a copy, where that is on
-pub record Passes (p : Program) (bs : List BreakEntry) (h : ℕ) (plan : Plan) (on : Bool) (old new : Patched) : Type 0 where
+-- stepped over it by a copy, where that is on and nothing is watched
+pub record Passes (p : Program) (bs : List BreakEntry) (vs : List Watch) (h : ℕ) (plan : Plan) (on : Bool) (old new : Patched) : Type 0 where
+  pub unwatched : vs ≡ []
   pub is_on : on ≡ true
   pub core : Core
   pub word : ℕ
@@ -52,6 +55,11 @@ pub record Passes (p : Program) (bs : List BreakEntry) (h : ℕ) (plan : Plan) (
   pub counted : AreCounted old.cores
   pub steps : StepsByCopy old h word new
 
+-- hart h executed an instruction in its place that made none of these watches fire
+pub record StepsUnfired (vs : List Watch) (h : ℕ) (old new : Patched) : Type 0 where
+  pub steps : Steps stepped.Ran old h new
+  pub unfired : fired_by vs old.memory new.memory ≡ None
+
 -- a step from a machine of which P holds
 pub record ThenGoes (P Step : Patched → Type 0) : Type 0 where
   pub machine : Patched
@@ -60,14 +68,14 @@ pub record ThenGoes (P Step : Patched → Type 0) : Type 0 where
 
 -- Hart h, with this plan, went these ways, of which the last comes first, while it had executed fewer than `most` instructions; a copy's own
 -- isn't the last of them, since its step is finished by a turn of its own.
-abbrev pub GoesBy : Program → List BreakEntry → ℕ → Plan → Bool → ℕ → List Way → Patched → Patched → Type 0
-GoesBy p bs h plan on most [] old new = new ≡ old
-GoesBy p bs h plan on most (InPlace ∷ ws) old new = (length ws < most) × ThenGoes (λ m. GoesBy p bs h plan on most ws old m) (λ m. Steps stepped.Ran m h new)
-GoesBy p bs h plan on most (ByCopy ∷ ws) old new = (suc (length ws) < most) × ThenGoes (λ m. GoesBy p bs h plan on most ws old m) (λ m. Passes p bs h plan on m new)
+abbrev pub GoesBy : Program → List BreakEntry → List Watch → ℕ → Plan → Bool → ℕ → List Way → Patched → Patched → Type 0
+GoesBy p bs vs h plan on most [] old new = new ≡ old
+GoesBy p bs vs h plan on most (InPlace ∷ ws) old new = (length ws < most) × ThenGoes (λ m. GoesBy p bs vs h plan on most ws old m) (λ m. StepsUnfired vs h m new)
+GoesBy p bs vs h plan on most (ByCopy ∷ ws) old new = (suc (length ws) < most) × ThenGoes (λ m. GoesBy p bs vs h plan on most ws old m) (λ m. Passes p bs vs h plan on m new)
 
 -- so many turns, with so many instructions
-pub record Goes (p : Program) (bs : List BreakEntry) (h : ℕ) (plan : Plan) (on : Bool) (most turns instructions : ℕ) (old new : Patched) : Type 0 where
+pub record Goes (p : Program) (bs : List BreakEntry) (vs : List Watch) (h : ℕ) (plan : Plan) (on : Bool) (most turns instructions : ℕ) (old new : Patched) : Type 0 where
   pub ways : List Way
   pub turns_are : turns ≡ turns_of ways
   pub instructions_are : instructions ≡ length ways
-  pub goes : GoesBy p bs h plan on most ways old new
+  pub goes : GoesBy p bs vs h plan on most ways old new

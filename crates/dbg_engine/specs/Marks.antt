@@ -37,6 +37,7 @@ Marks (turned.AllLeft code count) p q = Leaves p q
 Marks (turned.Stopped cause) p q = Ends p q
 Marks turned.Interrupted p q = (p ≡ Idle) × (q ≡ Idle)
 Marks (turned.Arrived number temporary error) p q = Ends p q
+Marks (turned.Triggered fired) p q = Ends p q
 Marks turned.Stepped p q = Ends p q
 Marks turned.Finished p q = Ends p q
 
@@ -62,6 +63,7 @@ executed (turned.AllLeft code count) = 1
 executed (turned.Stopped cause) = 0
 executed turned.Interrupted = 0
 executed (turned.Arrived number temporary error) = 0
+executed (turned.Triggered fired) = 0
 executed turned.Stepped = 0
 executed turned.Finished = 0
 

@@ -1,14 +1,13 @@
--- Threads that go on, or of which an interrupt is asked, as they are kept.
-use Rattle.std.specs.Prelude.{List}
+-- Threads that go on, or of which an interrupt is asked, and what is forgotten of watches, as they are kept.
+use Rattle.std.specs.Prelude.{ℕ, false, List, map}
 use Rattle.step_plans.specs.declared.plan.Plan.{Plan}
-use Rattle.dbg_model.specs.Outcome.{Change, resumes, interrupts}
+use Rattle.dbg_model.specs.Outcome.{Change, deletes, enables, resumes, interrupts}
 use Rattle.dbg_model.specs.Reply.{on_threads}
+use Rattle.dbg_model.specs.Watches.{unless_of}
 use Rattle.engine_facts.specs.declared.mind.Activity.{Activity}
 use Rattle.engine_facts.specs.declared.mind.Activity.TheVariants as activity
 use Rattle.engine_facts.specs.declared.mind.Mind.{Mind}
 use Rattle.engine_facts.specs.Minds.{resumed_mind, asked_mind}
-use Rattle.dbg_answers.specs.declared.order.Order.{Order}
-use Rattle.dbg_answers.specs.declared.order.Order.TheVariants as order
 
 abbrev pub gone_on_by : Plan → Mind → Activity → Mind
 gone_on_by plan x activity.Stopped = resumed_mind plan x
@@ -26,13 +25,14 @@ asked_by x _ = x
 abbrev pub asked : Mind → Mind
 asked x = asked_by x x.activity
 
--- what becomes of a hart
-abbrev pub ordered : Order → Mind → Mind
-ordered (order.GoOn plan) = gone_on plan
-ordered order.Interrupt = asked
+-- a watch of these numbers has no longer fired for a hart
+abbrev pub forgetting : List ℕ → Mind → Mind
+forgetting ns x = record x { fired = unless_of ns x.fired }
 
 -- what is kept of the harts after a line that makes this change
 abbrev pub minds_after : List Mind → Change → List Mind
 minds_after xs (resumes threads plan) = on_threads (gone_on plan) threads 1 xs
 minds_after xs (interrupts threads) = on_threads asked threads 1 xs
+minds_after xs (deletes ns) = map (forgetting ns) xs
+minds_after xs (enables false ns) = map (forgetting ns) xs
 minds_after xs _ = xs

@@ -24,7 +24,7 @@ pub data Row : Type 0 where
   Waits : (by : ℕ) → Row
   -- it has executed a copy, or where its patch was lifted, and that step over a breakpoint is finished
   Finishes : Row
-  -- it has come to a breakpoint that stops it, or its plan is at its end
+  -- it has come to a breakpoint that stops it, its instruction made a watch fire, or its plan is at its end
   Stops : Row
   -- it has come to breakpoints that only count it
   Counts : Row
@@ -43,6 +43,7 @@ row_of (turned.Held by) = Waits by
 row_of turned.Fixed = Finishes
 row_of turned.Planted = Finishes
 row_of (turned.Arrived number temporary error) = Stops
+row_of (turned.Triggered fired) = Stops
 row_of turned.Stepped = Stops
 row_of turned.Finished = Stops
 row_of turned.Counted = Counts
@@ -56,7 +57,7 @@ row_of (turned.Left code) = Executes
 row_of (turned.AllLeft code count) = Executes
 row_of (turned.Stopped cause) = Executes
 
--- breakpoints and the plan come before the rest
+-- breakpoints, watches and the plan come before the rest
 abbrev pub row_due : Judgement → Row → Row
 row_due j rest = if is_some (stop_of j) then Stops else if j.breaks.counts then Counts else rest
 

@@ -17,6 +17,7 @@ use Rattle.dbg_engine.specs.declared.moving.Turned.{Turned}
 use Rattle.dbg_engine.specs.declared.moving.Turned.TheVariants as turned
 use Rattle.dbg_engine.specs.Rows.{row_at, row_of}
 use Rattle.dbg_engine.specs.Calls.{Turns}
+use Rattle.dbg_engine.specs.Watching.{WritesNear}
 
 -- the answers of which nothing is said, and nothing but an instruction is noted
 abbrev pub is_quiet : Turned → Bool
@@ -36,23 +37,44 @@ is_quiet (turned.Stopped cause) = false
 is_quiet turned.Interrupted = false
 is_quiet turned.Counted = false
 is_quiet (turned.Arrived number temporary error) = false
+is_quiet (turned.Triggered fired) = false
 is_quiet turned.Stepped = false
 is_quiet turned.Finished = false
 
--- a turn of hart h with such an answer, the first move that fits, from an engine of which P holds
-pub record ThenTurns (P : Run → Type 0) (new : Run) (h : ℕ) : Type 0 where
+-- a turn of hart h with an answer that fits, from an engine of which P holds
+pub record ThenTurns (P : Run → Type 0) (Fits : Run → Turned → Type 0) (new : Run) (h : ℕ) : Type 0 where
   pub run : Run
   pub before : P run
   pub facts : Facts run
   pub answer : Turned
-  pub quiet : is_quiet answer ≡ true
-  pub first : row_at run h ≡ row_of answer
+  pub fits : Fits run answer
   pub turn : Turns answer run new h
 
 -- n such turns
+abbrev pub TurnedBy : (Run → Turned → Type 0) → ℕ → Run → Run → ℕ → Type 0
+TurnedBy Fits zero old new h = new ≡ old
+TurnedBy Fits (suc n) old new h = ThenTurns (λ r. TurnedBy Fits n old r h) Fits new h
+
+-- nothing is said of a turn
+abbrev pub IsQuiet : Run → Turned → Type 0
+IsQuiet r t = is_quiet t ≡ true
+
+-- nor does another move fit first
+pub record IsQuietRow (h : ℕ) (r : Run) (t : Turned) : Type 0 where
+  pub quiet : is_quiet t ≡ true
+  pub first : row_at r h ≡ row_of t
+
+-- it executed an instruction that wrote nothing
+abbrev pub HasRan : Run → Turned → Type 0
+HasRan r t = t ≡ turned.Ran
+
+-- n turns of which nothing is said, each the first move that fits
 abbrev pub AllTurned : ℕ → Run → Run → ℕ → Type 0
-AllTurned zero old new h = new ≡ old
-AllTurned (suc n) old new h = ThenTurns (λ r. AllTurned n old r h) new h
+AllTurned n old new h = TurnedBy (IsQuietRow h) n old new h
+
+-- n instructions that wrote nothing, also where an interrupt would come first
+abbrev pub AllRan : ℕ → Run → Run → ℕ → Type 0
+AllRan n old new h = TurnedBy HasRan n old new h
 
 -- nothing is asked of a hart but to go on
 abbrev pub is_unplanned : Plan → Bool
@@ -63,13 +85,15 @@ is_unplanned _ = false
 abbrev pub goes_alone : Program → Mind → Bool
 goes_alone p x = is_unplanned x.plan || is_some (awaited p x)
 
--- a hart that runs, steps over nothing, isn't interrupted and has no plan but to wait for a return, and no patch is lifted
+-- a hart that runs, steps over nothing, isn't interrupted and has no plan but to wait for a return, for which no watch fired,
+-- and no patch is lifted
 abbrev pub is_alone : Program → Mind → Option Hold → Bool
-is_alone p x hold = (((runs x && is_idle x.phase) && not x.asked) && goes_alone p x) && is_none hold
+is_alone p x hold = ((((runs x && is_idle x.phase) && not x.asked) && goes_alone p x) && is_none x.fired) && is_none hold
 
--- Hart h goes no further by such turns in one call: the session is over, the hart isn't alone, or it stops at its pc.
+-- Hart h goes no further by such turns in one call: the session is over, the hart isn't alone, it stops at its pc, or its
+-- instruction writes where a watch has its bytes.
 abbrev pub Rests : Run → ℕ → Type 0
-Rests r h = (may_go r.opening (seen r) ≡ false) ⊎ (((x : Mind) → slice_get r.minds h ≡ Some x → is_alone r.opening.image x r.hold ≡ false) ⊎ HasStopped r.machine h)
+Rests r h = (may_go r.opening (seen r) ≡ false) ⊎ (((x : Mind) → slice_get r.minds h ≡ Some x → is_alone r.opening.image x r.hold ≡ false) ⊎ (HasStopped r.machine h ⊎ WritesNear r.machine h r.watches))
 
 -- the journal after n more instructions of a hart
 abbrev pub lengthened_by : ℕ → List Entry → ℕ → List Entry

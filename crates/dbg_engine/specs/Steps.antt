@@ -1,5 +1,5 @@
 -- What a step of the machine does to the journal and to what is kept of the harts, and which hart is next.
-use Rattle.std.specs.Prelude.{ℕ, ◌+◌, ◌<◌, Bool, true, false, List, [], ◌∷◌, ◌++◌, length, find, nat_le, map, slice_set, Option, Some, None, if◌then◌else◌}
+use Rattle.std.specs.Prelude.{◌≡◌, ℕ, ◌+◌, ◌<◌, Bool, true, false, List, [], ◌∷◌, ◌++◌, length, find, nat_le, map, slice_set, slice_index_or, not, ◌&&◌, Option, Some, None, if◌then◌else◌}
 use Rattle.rv_exec.specs.declared.effect.Stepped.{Stepped}
 use Rattle.rv_exec.specs.declared.effect.Stepped.TheVariants as stepped
 use Rattle.dbg_model.specs.declared.entry.Entry.{Entry}
@@ -57,6 +57,7 @@ turned_of (stepped.Trap cause) h z xs = turned.Stopped cause
 -- a hart stops where it has arrived
 abbrev pub Arrives : Why → Type 0
 Arrives (whys.Break number error) = Unit {0}
+Arrives (whys.Watch f) = Unit {0}
 Arrives whys.Stepped = Unit {0}
 Arrives whys.Finished = Unit {0}
 Arrives whys.Interrupted = ⊥
@@ -65,6 +66,7 @@ Arrives (whys.Fault cause) = ⊥
 -- what a turn is called in which a hart stops so, where these are the breakpoints
 abbrev pub stopped_by : Why → List BreakEntry → Turned
 stopped_by (whys.Break number error) bs = turned.Arrived number (is_temporary bs number) error
+stopped_by (whys.Watch f) bs = turned.Triggered f
 stopped_by whys.Stepped bs = turned.Stepped
 stopped_by whys.Finished bs = turned.Finished
 stopped_by whys.Interrupted bs = turned.Interrupted
@@ -81,17 +83,24 @@ abbrev pub running_harts : ℕ → List Mind → List ℕ
 running_harts k [] = []
 running_harts k (x ∷ xs) = if runs x then k ∷ running_harts (k + 1) xs else running_harts (k + 1) xs
 
--- the least running hart at or above a number
-abbrev pub least_running : List Mind → ℕ → Option ℕ
-least_running xs from = find (nat_le from) (running_harts 0 xs)
+-- the job of a hart is out, where these are the marks of the first harts
+abbrev pub is_out : List Bool → ℕ → Bool
+is_out out h = slice_index_or out h false
+
+abbrev pub NoneOut : List Bool → Type 0
+NoneOut out = (h : ℕ) → is_out out h ≡ false
+
+-- the least running hart at or above a number that has no job out
+abbrev pub least_running : List Mind → List Bool → ℕ → Option ℕ
+least_running xs out from = find (λ h. nat_le from h && not (is_out out h)) (running_harts 0 xs)
 
 abbrev pub some_or : Option ℕ → Option ℕ → Option ℕ
 some_or None other = other
 some_or (Some k) other = Some k
 
--- the next running hart round the harts: the least at or above the number, else the least of all
-abbrev pub next_running : List Mind → ℕ → Option ℕ
-next_running xs from = some_or (least_running xs from) (least_running xs 0)
+-- the next such hart round the harts: the least at or above the number, else the least of all
+abbrev pub next_running : List Mind → List Bool → ℕ → Option ℕ
+next_running xs out from = some_or (least_running xs out from) (least_running xs out 0)
 
 -- the code of an exit is a byte
 abbrev pub IsTurned : Turned → Type 0
@@ -111,5 +120,6 @@ IsTurned turned.Copied = Unit {0}
 IsTurned turned.NoSlot = Unit {0}
 IsTurned turned.Interrupted = Unit {0}
 IsTurned (turned.Arrived number temporary error) = Unit {0}
+IsTurned (turned.Triggered fired) = Unit {0}
 IsTurned turned.Stepped = Unit {0}
 IsTurned turned.Finished = Unit {0}

@@ -12,12 +12,16 @@ ghost use Rattle.dbg_model.specs.Breaks.{is_temporary, enabling, without};
 ghost use Rattle.dbg_model.specs.Views.{register, shown_byte};
 ghost use Rattle.engine_facts.specs.Tables.{number_place, ArePlanted};
 ghost use Rattle.dbg_engine.specs.Changing.{Applies, Retabled, wants_by};
-ghost use Rattle.dbg_answers.specs.Table.{changed_table};
+ghost use Rattle.dbg_answers.specs.Table.{CanBeWatched, changed_table};
+ghost use Rattle.dbg_model.specs.Reply.{watches_after};
 
 use crate::patching::plant_as_wanted;
 use crate::view::ShownHart;
 use break_table::{BreakEntry, BreakTable, Due, Spec};
-use dbg_answers::{Effect, delete_entry, enable_entry, insert_entry, set_condition, set_ignore};
+use dbg_answers::{
+    Effect, change_table as change_entries, delete_entry, enable_entry, insert_entry,
+};
+use dbg_model::WatchList;
 use elf32_read::Image;
 use engine_facts::Hold;
 use hart_machine::Machine;
@@ -165,36 +169,32 @@ fn enable_each(
     enable_each(machine, table, hold, rest, enabled);
 }
 
-/// Makes a change of breakpoints, with the words that are planted for them.
+/// Makes a change of breakpoints and watches, with the words that are planted for breakpoints.
 pub fn change_table(
     machine: &mut Machine,
     table: &mut BreakTable,
+    watches: &mut WatchList,
     hold: Option<Hold>,
     effect: Effect,
 )
     requires planted { ArePlanted machine.old.text (wants_by table.old hold) }
     requires given { table.old.given < 2 ^ 32 - 1 }
     requires may { Applies machine.old.text table.old effect }
+    requires watch { CanBeWatched watches.old effect }
     ensures table { table.new ≡ changed_table table.old (change_of effect) }
+    ensures watches { watches.new ≡ watches_after watches.old table.old.given (change_of effect) }
     ensures machine { Retabled machine.old machine.new (wants_by table.new hold) }
 {
     match effect {
         Effect::Insert(spec) => insert(machine, table, hold, spec),
-        Effect::Delete(numbers) => delete_each(machine, table, hold, numbers.as_slice()),
-        Effect::Enable { numbers, enabled } => enable_each(
-            machine,
-            table,
-            hold,
-            numbers.as_slice(),
-            enabled,
-        ),
-        Effect::Condition { number, condition } => set_condition(table, number, condition),
-        Effect::After { number, count } => set_ignore(table, number, count),
-        Effect::Nothing
-        | Effect::Resume { .. }
-        | Effect::Interrupt(_)
-        | Effect::Select(_)
-        | Effect::Displace(_)
-        | Effect::Exit => {}
+        Effect::Delete(numbers) => {
+            delete_each(machine, table, hold, numbers.as_slice());
+            watches.delete(numbers.as_slice());
+        }
+        Effect::Enable { numbers, enabled } => {
+            enable_each(machine, table, hold, numbers.as_slice(), enabled);
+            watches.switch(numbers.as_slice(), enabled);
+        }
+        other => change_entries(table, watches, other),
     }
 }

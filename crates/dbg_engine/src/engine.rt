@@ -15,6 +15,7 @@ ghost use Rattle.dbg_engine.specs.Steps.{next_running};
 mod command;
 mod notes;
 mod run;
+mod slicing;
 mod stepping;
 mod turn;
 
@@ -25,11 +26,12 @@ use crate::waiting::{Waiting, end_waits};
 use break_table::{BreakEntry, BreakTable};
 pub use command::read_line;
 use dbg_answers::shown_frame;
-use dbg_model::{Entry, HISTORY, Journal, Opening, ShownFrame};
-use dbg_traits::NoMemory;
+use dbg_model::{Entry, HISTORY, Journal, Opening, ShownFrame, Watch, WatchList};
+use dbg_traits::{NoMemory, Settings};
 use engine_facts::{Activity, Hold, Mind, Phase};
 use hart_machine::Machine;
 use mi_commands::Displaced;
+pub use slicing::Commit;
 use source_index::SourceIndex;
 use std::alloc::{AllocError, Global};
 use std::marker::Model;
@@ -57,6 +59,7 @@ pub struct Engine {
     machine: Machine,
     minds: Vec<Mind>,
     hold: Option<Hold>,
+    watches: WatchList,
     table: BreakTable,
     sources: SourceIndex,
     selected: u32,
@@ -109,6 +112,7 @@ impl Engine {
     {
         let machine = Machine::load(alloc, &opening.image, opening.settings)?;
         let minds = first_minds(alloc, opening.settings.harts)?;
+        let watches = WatchList::new(alloc)?;
         let table = BreakTable::new(alloc, &opening.image, opening.settings.harts)?;
         let sources = SourceIndex::build(alloc, &opening.image)?;
         Ok(Engine {
@@ -118,6 +122,7 @@ impl Engine {
             machine,
             minds,
             hold: None,
+            watches,
             table,
             sources,
             selected: 1,
@@ -137,6 +142,13 @@ impl Engine {
     {
         self.entries.reserve(n)?;
         Ok(())
+    }
+
+    /// The settings of the session.
+    pub fn settings(&self) -> Settings
+        ensures { result ≡ self.now.opening.settings }
+    {
+        self.opening.settings
     }
 
     /// Why the session is over, if it is: the first cause that holds, in the order of `End`.
@@ -177,14 +189,15 @@ impl Engine {
         any_running(self.minds.as_slice())
     }
 
-    /// The next running hart round the harts: the least at or above the number, else the least of all.
-    pub fn next_running(&self, from: usize) -> Option<u32>
-        ensures { result ≡ next_running self.now.minds from }
+    /// The next running hart round the harts that has no job out: the least at or above the number, else the least of all.
+    /// `out` marks the harts whose job is out; a hart behind its end has none.
+    pub fn next_running(&self, from: usize, out: &[bool]) -> Option<u32>
+        ensures { result ≡ next_running self.now.minds out.now from }
     {
         let minds = self.minds.as_slice();
-        match find_running(minds, 0, from) {
+        match find_running(minds, out, 0, from) {
             Some(hart) => Some(hart),
-            None => find_running(minds, 0, 0),
+            None => find_running(minds, out, 0, 0),
         }
     }
 
@@ -278,6 +291,13 @@ impl Engine {
         self.table.entries()
     }
 
+    /// The watches that the user set, in rising order of their numbers.
+    pub fn watches(&self) -> &[Watch]
+        ensures { result.now ≡ self.now.watches }
+    {
+        self.watches.as_slice()
+    }
+
     /// Where a hart is in a step over a breakpoint.
     pub fn phase(&self, h: u32) -> Phase
         requires { h < length self.now.minds }
@@ -308,6 +328,7 @@ impl Engine {
             machine,
             minds,
             hold,
+            watches: _,
             table,
             sources: _,
             selected: _,

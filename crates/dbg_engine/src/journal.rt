@@ -20,14 +20,15 @@ pub fn note(entries: &mut Vec<Entry>, entry: Entry)
     let _ = entries.push(entry);
 }
 
-/// Notes that a line was done.
+/// Notes that a line was done, and makes room for one entry more.
 pub fn did(alloc: Global, entries: &mut Vec<Entry>, line: &[u8]) -> Result<(), AllocError>
     ensures done { OnOk result (entries.new.items ≡ entries.old.items ++ Did line.now ∷ []) }
+    ensures room { OnOk result (vec_len entries.new < vec_capacity entries.new) }
     ensures items { OnErr result (entries.new.items ≡ entries.old.items) }
     ensures capacity { OnErr result (vec_capacity entries.new ≡ vec_capacity entries.old) }
 {
     let line = ByteList::of(line.to_vec(alloc)?);
-    entries.reserve(1)?;
+    entries.reserve(2)?;
     note(entries, Entry::Did { line });
     Ok(())
 }

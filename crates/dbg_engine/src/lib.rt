@@ -14,8 +14,10 @@ mod resuming;
 mod view;
 mod views;
 mod waiting;
+mod watching;
+mod writing;
 
-pub use engine::{Closed, End, Engine, SPARE, read_line};
+pub use engine::{Closed, Commit, End, Engine, SPARE, read_line};
 pub use engine_facts::{Activity, Hold, Mind, Phase};
 pub use laws::{moves_mark, one_instruction_or_none};
 pub use moving::Turned;

@@ -1,9 +1,9 @@
 // What is kept of the harts.
-ghost use Rattle.std.specs.Prelude.{◌≡◌, ◌≤◌, ◌+◌, length, replicate, IfOk, find, nat_le};
+ghost use Rattle.std.specs.Prelude.{◌≡◌, ◌≤◌, ◌+◌, ◌&&◌, length, replicate, IfOk, find, nat_le, not};
 ghost use Rattle.std.specs.List.{list_any, list_all};
 ghost use Rattle.engine_facts.specs.Minds.{first_mind, counted_mind, runs, has_gone, with_phase};
 ghost use Rattle.engine_facts.specs.Facts.{other_holder};
-ghost use Rattle.dbg_engine.specs.Steps.{running_harts};
+ghost use Rattle.dbg_engine.specs.Steps.{is_out, running_harts};
 
 use engine_facts::{Activity, Hold, Mind, Phase};
 use std::alloc::{AllocError, Global};
@@ -47,18 +47,28 @@ pub fn all_gone(minds: &[Mind]) -> bool
     }
 }
 
-/// The first hart at or above `from` that runs; the first of the list has the number `hart`.
-pub fn find_running(minds: &[Mind], hart: u32, from: usize) -> Option<u32>
+// Whether the job of a hart is out, where these are the marks of the first harts.
+fn is_out(out: &[bool], hart: u32) -> bool
+    ensures { result ≡ is_out out.now hart }
+{
+    match out.get(hart as usize) {
+        Some(mark) => *mark,
+        None => false,
+    }
+}
+
+/// The first hart at or above `from` that runs and has no job out; the first of the list has the number `hart`.
+pub fn find_running(minds: &[Mind], out: &[bool], hart: u32, from: usize) -> Option<u32>
     requires { hart + length minds.now ≤ 16 }
-    ensures { result ≡ find (nat_le from) (running_harts hart minds.now) }
+    ensures { result ≡ find (λ h. nat_le from h && not (is_out out.now h)) (running_harts hart minds.now) }
 {
     match minds {
         [] => None,
         [first, rest @ ..] => {
-            if is_running(first) && from <= hart as usize {
+            if is_running(first) && from <= hart as usize && !is_out(out, hart) {
                 return Some(hart);
             }
-            find_running(rest, hart + 1, from)
+            find_running(rest, out, hart + 1, from)
         }
     }
 }
@@ -82,6 +92,7 @@ pub const STOPPED: Mind = Mind {
     phase: Phase::Idle,
     plan: Plan::Free,
     last: None,
+    fired: None,
 };
 
 /// The hart for which a patch is lifted, where that is another one than h.

@@ -7,7 +7,7 @@ ghost use Rattle.dbg_engine.specs.Steps.{applied, exits_of, turned_of, IsTurned}
 
 use crate::journal::{note, note_lefts, note_runs};
 use break_table::CondError;
-use dbg_model::Entry;
+use dbg_model::{Entry, Fired};
 use engine_facts::{Activity, Mind, Phase};
 use rv_exec::{Cause, Stepped};
 use step_plans::Plan;
@@ -63,6 +63,8 @@ pub enum Turned {
         temporary: bool,
         error: Option<CondError>,
     },
+    /// The hart stopped by a watch, whose bytes its instruction changed.
+    Triggered(Fired),
     /// The hart stopped at the end of its step.
     Stepped,
     /// The hart stopped where the function has returned that it was to finish.
@@ -80,9 +82,10 @@ pub fn after_step(phase: Phase) -> Phase
     }
 }
 
-/// What is kept of a hart that has just executed, and goes on with this plan; `last` is noted of its instruction.
-pub fn ran_mind(mind: Mind, plan: Plan, last: Option<u32>) -> Mind
-    ensures { result ≡ ran_mind plan last mind }
+/// What is kept of a hart that has just executed, and goes on with this plan; `last` is noted of its instruction, by which
+/// the watch fired.
+pub fn ran_mind(mind: Mind, plan: Plan, last: Option<u32>, fired: Option<Fired>) -> Mind
+    ensures { result ≡ ran_mind plan last fired mind }
 {
     Mind {
         activity: Activity::Running,
@@ -90,6 +93,7 @@ pub fn ran_mind(mind: Mind, plan: Plan, last: Option<u32>) -> Mind
         phase: after_step(mind.phase),
         plan,
         last,
+        fired,
         ..mind
     }
 }

@@ -1,10 +1,10 @@
-// Threads that go on, and threads that are interrupted.
-ghost use Rattle.std.specs.Prelude.{◌≡◌, ◌≤◌, length, if◌then◌else◌};
+// Threads that go on, threads that are interrupted, and what is forgotten of watches.
+ghost use Rattle.std.specs.Prelude.{◌≡◌, ◌≤◌, length, map};
 ghost use Rattle.dbg_answers.specs.Answer.{change_of};
-ghost use Rattle.dbg_model.specs.Reply.{is_named, on_threads};
-ghost use Rattle.dbg_engine.specs.Resuming.{asked, gone_on, minds_after, ordered};
+ghost use Rattle.dbg_engine.specs.Resuming.{asked, forgetting, gone_on, minds_after};
 
-use dbg_answers::{Effect, Order, is_named};
+use dbg_answers::{Effect, on_threads};
+use dbg_model::unless_of;
 use engine_facts::{Activity, Mind, Phase};
 use step_plans::Plan;
 
@@ -38,46 +38,40 @@ fn asked(mind: Mind) -> Mind
     }
 }
 
-fn ordered(order: Order, mind: Mind) -> Mind
-    ensures { result ≡ ordered order mind }
+// A watch of these numbers has no longer fired for a hart.
+fn forgetting(mind: Mind, numbers: &[u32]) -> Mind
+    ensures { result ≡ forgetting numbers.now mind }
 {
-    match order {
-        Order::GoOn(plan) => gone_on(mind, plan),
-        Order::Interrupt => asked(mind),
+    Mind {
+        fired: unless_of(numbers, mind.fired),
+        ..mind
     }
 }
 
-// What becomes of a hart, if its thread is one of these.
-fn ordered_if(threads: &[u32], thread: u32, order: Order, mind: Mind) -> Mind
-    ensures { result ≡ (if is_named threads.now thread then ordered order mind else mind) }
-{
-    if is_named(threads, thread) {
-        ordered(order, mind)
-    } else {
-        mind
-    }
-}
-
-// What becomes of the harts of these threads. Threads are counted from 1.
-fn on_threads(minds: &mut [Mind], threads: &[u32], order: Order)
-    requires { length minds.old ≤ 16 }
-    ensures { minds.new ≡ on_threads (ordered order) threads.now 1 minds.old }
+fn forget_each(minds: &mut [Mind], numbers: &[u32])
+    ensures { minds.new ≡ map (forgetting numbers.now) minds.old }
 {
     for k in 0..minds.len() {
-        minds[k] = ordered_if(threads, k as u32 + 1, order, minds[k]);
+        minds[k] = forgetting(minds[k], numbers);
     }
 }
 
-/// The threads of a change go on where they are stopped, or an interrupt is asked of them where they run.
+/// The threads of a change go on where they are stopped, or an interrupt is asked of them where they run; what a watch did
+/// that is deleted or disabled is forgotten.
 pub fn change_threads(minds: &mut [Mind], effect: &Effect)
     requires { length minds.old ≤ 16 }
     ensures { minds.new ≡ minds_after minds.old (change_of effect.now) }
 {
     match effect {
         Effect::Resume { threads, plan } => {
-            on_threads(minds, threads.as_slice(), Order::GoOn(*plan));
+            on_threads(minds, threads.as_slice(), |mind| gone_on(mind, *plan));
         }
-        Effect::Interrupt(threads) => on_threads(minds, threads.as_slice(), Order::Interrupt),
+        Effect::Interrupt(threads) => on_threads(minds, threads.as_slice(), asked),
+        Effect::Delete(numbers)
+        | Effect::Enable {
+            numbers,
+            enabled: false,
+        } => forget_each(minds, numbers.as_slice()),
         _ => {}
     }
 }

@@ -19,6 +19,7 @@ use Rattle.dbg_model.specs.Views.{register, shown_byte}
 use Rattle.dbg_model.specs.declared.hart.Hart.{Hart}
 use Rattle.dbg_model.specs.declared.judgement.Course.{Course}
 use Rattle.dbg_model.specs.declared.judgement.Judgement.{Judgement}
+use Rattle.dbg_model.specs.declared.watch.Fired.{Fired}
 use Rattle.dbg_model.specs.Judging.{is_due, judgement_of, no_arrival, verdict_behind}
 use Rattle.dbg_model.specs.State.{State, course_of, due, arrived}
 use Rattle.dbg_model.proofs.Judged.{free_goes}
@@ -140,24 +141,37 @@ quiet_due h rs bytes bs off =
 
 -- ---- what is judged of a hart
 
-breaks_by : (b : Bool) (d : Due) (v : Verdict) (plan : Plan) → (let j : Judgement = record { breaks = d; verdict = v } in (cond b j (no_arrival plan)).breaks) ≡ cond b d nothing_due
-breaks_by true d v plan = refl
-breaks_by false d v plan = refl
+breaks_by : (b : Bool) (d : Due) (f : Option Fired) (v : Verdict) (plan : Plan) → (let j : Judgement = record { breaks = d; fired = f; verdict = v } in (cond b j (no_arrival plan)).breaks) ≡ cond b d nothing_due
+breaks_by true d f v plan = refl
+breaks_by false d f v plan = refl
 
 -- what the breakpoints do with a hart
 pub due_breaks : (p : Program) (s : State) (h : ℕ) (x : Hart) → (due p s h x).breaks ≡ cond x.fresh (due_of h (register x.regs) (shown_byte p s.memory) s.breaks) nothing_due
 unfolding due judgement_of
-due_breaks p s h x = breaks_by x.fresh (due_of h (register x.regs) (shown_byte p s.memory) s.breaks) (verdict_behind p (sources_of p) x.plan (register x.regs) x.last) x.plan
+due_breaks p s h x = breaks_by x.fresh (due_of h (register x.regs) (shown_byte p s.memory) s.breaks) x.fired (verdict_behind p (sources_of p) x.plan (register x.regs) x.last) x.plan
 
-free_by : (b : Bool) (d : Due) (v : Verdict) → v ≡ verdicts.Go plans.Free → (let j : Judgement = record { breaks = d; verdict = v } in (cond b j (no_arrival plans.Free)).verdict) ≡ verdicts.Go plans.Free
-free_by true d v is = is
-free_by false d v is = refl
+fired_as : (b : Bool) (d : Due) (f : Option Fired) (v : Verdict) (plan : Plan) → f ≡ None → (let j : Judgement = record { breaks = d; fired = f; verdict = v } in (cond b j (no_arrival plan)).fired) ≡ None
+fired_as true d f v plan none = none
+fired_as false d f v plan none = refl
+
+-- where no watch fired none stops the hart
+pub unwatched : (p : Program) (sources : Sources) (es : List BreakEntry) (h : ℕ) (c : Course) (rs : ℕ → ℕ) (bytes : ℕ → Option ℕ) → c.fired ≡ None → (judgement_of p sources es h c rs bytes).fired ≡ None
+unfolding judgement_of
+unwatched p sources es h c rs bytes none = fired_as c.fresh (due_of h rs bytes es) c.fired (verdict_behind p sources c.plan rs c.last) c.plan none
+
+pub due_fired : (p : Program) (s : State) (h : ℕ) (x : Hart) → x.fired ≡ None → (due p s h x).fired ≡ None
+unfolding due
+due_fired p s h x none = unwatched p (sources_of p) s.breaks h (course_of x) (register x.regs) (shown_byte p s.memory) none
+
+free_by : (b : Bool) (d : Due) (f : Option Fired) (v : Verdict) → v ≡ verdicts.Go plans.Free → (let j : Judgement = record { breaks = d; fired = f; verdict = v } in (cond b j (no_arrival plans.Free)).verdict) ≡ verdicts.Go plans.Free
+free_by true d f v is = is
+free_by false d f v is = refl
 
 free_course : (p : Program) (sources : Sources) (es : List BreakEntry) (h : ℕ) (c : Course) (rs : ℕ → ℕ) (bytes : ℕ → Option ℕ) → c.plan ≡ plans.Free → (judgement_of p sources es h c rs bytes).verdict ≡ verdicts.Go plans.Free
 unfolding judgement_of
 free_course p sources es h c rs bytes free =
-    let P : Plan → Type 0 = λ plan. (let j : Judgement = record { breaks = due_of h rs bytes es; verdict = verdict_behind p sources plan rs c.last } in (cond c.fresh j (no_arrival plan)).verdict) ≡ verdicts.Go plans.Free in
-    subst P (sym free) (free_by c.fresh (due_of h rs bytes es) (verdict_behind p sources plans.Free rs c.last) (free_goes p sources rs c.last))
+    let P : Plan → Type 0 = λ plan. (let j : Judgement = record { breaks = due_of h rs bytes es; fired = c.fired; verdict = verdict_behind p sources plan rs c.last } in (cond c.fresh j (no_arrival plan)).verdict) ≡ verdicts.Go plans.Free in
+    subst P (sym free) (free_by c.fresh (due_of h rs bytes es) c.fired (verdict_behind p sources plans.Free rs c.last) (free_goes p sources rs c.last))
 
 -- a hart without a plan goes on without one
 pub free_verdict : (p : Program) (s : State) (h : ℕ) (x : Hart) → x.plan ≡ plans.Free → (due p s h x).verdict ≡ verdicts.Go plans.Free
@@ -168,9 +182,9 @@ quiet_by : (p : Program) (s : State) (h : ℕ) (x : Hart) (fresh : Bool) → sta
 quiet_by p s h x true off = quiet_due h (register x.regs) (shown_byte p s.memory) s.breaks off
 quiet_by p s h x false off = refl
 
-undue_as : (j : Judgement) → j.breaks ≡ nothing_due → j.verdict ≡ verdicts.Go plans.Free → is_due j ≡ false
-undue_as j breaks goes = rw (breaks, goes) refl
+undue_as : (j : Judgement) → j.breaks ≡ nothing_due → j.fired ≡ None → j.verdict ≡ verdicts.Go plans.Free → is_due j ≡ false
+undue_as j breaks none goes = rw (breaks, none, goes) refl
 
--- nothing is due for a hart without a plan where no breakpoint stands
-pub undue : (p : Program) (s : State) (h : ℕ) (x : Hart) → x.plan ≡ plans.Free → stands x.regs.pc s.breaks ≡ false → is_due (due p s h x) ≡ false
-undue p s h x free off = undue_as (due p s h x) (due_breaks p s h x ∙ quiet_by p s h x x.fresh off) (free_verdict p s h x free)
+-- nothing is due for a hart without a plan where no breakpoint stands and no watch fired
+pub undue : (p : Program) (s : State) (h : ℕ) (x : Hart) → x.plan ≡ plans.Free → x.fired ≡ None → stands x.regs.pc s.breaks ≡ false → is_due (due p s h x) ≡ false
+undue p s h x free none off = undue_as (due p s h x) (due_breaks p s h x ∙ quiet_by p s h x x.fresh off) (due_fired p s h x none) (free_verdict p s h x free)

@@ -1,5 +1,5 @@
 -- Where harts wait for returns, and the words that are planted for it.
-use Rattle.std.proofs.Common.{◌≡◌, ℕ, zero, suc, Bool, true, false, cond, List, [], ◌∷◌, length, refl, sym, ap, ◌∙◌, subst, not, inl, inr, length-set}
+use Rattle.std.proofs.Common.{◌≡◌, ℕ, zero, suc, Bool, true, false, cond, List, [], ◌∷◌, length, refl, sym, ap, ◌∙◌, subst, not, inl, inr}
 use Rattle.std.specs.Prelude.{Option, Some, None, IsSome, is_some, ◌⊎◌, ◌==◌, ◌||◌, ◌&&◌, map, slice_get, slice_set}
 use Rattle.std.specs.List.{list_any}
 use Rattle.std.proofs.lemmas.Bool.Decides.{nat_tests}
@@ -11,11 +11,11 @@ use Rattle.break_table.specs.Table.{is_wait, stands}
 use Rattle.engine_facts.specs.declared.mind.Mind.{Mind}
 use Rattle.engine_facts.specs.Minds.{awaited, in_place, return_of, runs}
 use Rattle.engine_facts.specs.Seen.{Run}
-use Rattle.engine_facts.specs.Facts.{AwaitText, Facts, InText, Sound, Wants, called, is_home, wanted, wants_of}
+use Rattle.engine_facts.specs.Facts.{AwaitText, Facts, InText, Sound, Wants, is_home, wanted, wants_of}
 use Rattle.engine_facts.specs.Moves.{Repatched}
 use Rattle.engine_facts.specs.Tables.{ArePlanted}
 use Rattle.engine_facts.proofs.Breaking.{same_shown, same_words}
-use Rattle.engine_facts.proofs.Planting.{in_text, replanted_at, text_shown}
+use Rattle.engine_facts.proofs.Planting.{replanted_at}
 use Rattle.hart_machine.proofs.Places.{same_place}
 
 differs : (a b : ℕ) → (a ≡ b → ⊥) → (a == b) ≡ false

@@ -21,6 +21,7 @@ use Rattle.break_table.specs.Entry.{Entry as BreakEntry}
 use Rattle.dbg_model.specs.declared.entry.Entry.{Entry}
 use Rattle.dbg_model.specs.declared.opening.Opening.{Opening}
 use Rattle.dbg_model.specs.State.{State, first_state}
+use Rattle.dbg_model.specs.declared.watch.Watch.{Watch}
 use Rattle.dbg_model.specs.Journals.{Leaves}
 use Rattle.dbg_model.proofs.Adding.{starts}
 use Rattle.engine_facts.specs.declared.mind.Mind.{Mind}
@@ -33,8 +34,8 @@ use Rattle.engine_facts.specs.Facts.{Facts, Sound, HartFact, pending, wanted}
 use Rattle.engine_facts.proofs.Updating.{none_some}
 use Rattle.engine_facts.proofs.Seeing.{first_seen, length_first, told_is}
 
-abbrev pub run_at : Opening → ℕ → List Entry → Patched → List Mind → Table → Sources → Run
-run_at o spare j m xs t sources =
+abbrev pub run_at : Opening → ℕ → List Entry → Patched → List Mind → List Watch → Table → Sources → Run
+run_at o spare j m xs ws t sources =
     record {
       opening = o;
       journal = j;
@@ -42,6 +43,7 @@ run_at o spare j m xs t sources =
       machine = m;
       minds = xs;
       hold = None;
+      watches = ws;
       breaks = t.entries;
       given = t.given;
       bounds = t.text;
@@ -55,7 +57,7 @@ run_at o spare j m xs t sources =
     }
 
 abbrev pub first_run : Opening → ℕ → Run
-first_run o spare = run_at o spare [] (loaded o.image o.settings.harts o.settings.slots) (replicate o.settings.harts first_mind) (first_table o.image o.settings.harts) (sources_of o.image)
+first_run o spare = run_at o spare [] (loaded o.image o.settings.harts o.settings.slots) (replicate o.settings.harts first_mind) [] (first_table o.image o.settings.harts) (sources_of o.image)
 
 last_or : {A : Type 0} (xs : List A) (x y : A) (h : ℕ) → slice_get (xs ++ x ∷ []) h ≡ Some y → (slice_get xs h ≡ Some y) ⊎ (x ≡ y)
 last_or [] x y zero is = inr (same_some x y is)
@@ -169,17 +171,18 @@ pub record Begins (o : Opening) (r : Run) : Type 0 where
   pub facts : Facts r
   pub state : seen r ≡ first_state o
 
-pub begins_at : (o : Opening) (spare : ℕ) (j : List Entry) (m : Patched) (xs : List Mind) (t : Table) (sources : Sources) → AreSettings o.settings → j ≡ [] → m ≡ loaded o.image o.settings.harts o.settings.slots → xs ≡ replicate o.settings.harts first_mind
-    → t ≡ first_table o.image o.settings.harts → KnowsText o t → sources ≡ sources_of o.image → Begins o (run_at o spare j m xs t sources)
-begins_at o spare j m xs t sources s none is are table places same =
-    let P : List Entry → Patched → List Mind → Table → Sources → Type 0 = λ j m xs t sources. Begins o (run_at o spare j m xs t sources) in
+pub begins_at : (o : Opening) (spare : ℕ) (j : List Entry) (m : Patched) (xs : List Mind) (ws : List Watch) (t : Table) (sources : Sources) → AreSettings o.settings → j ≡ [] → m ≡ loaded o.image o.settings.harts o.settings.slots → xs ≡ replicate o.settings.harts first_mind → ws ≡ []
+    → t ≡ first_table o.image o.settings.harts → KnowsText o t → sources ≡ sources_of o.image → Begins o (run_at o spare j m xs ws t sources)
+begins_at o spare j m xs ws t sources s none is are unwatched table places same =
+    let P : List Entry → Patched → List Mind → List Watch → Table → Sources → Type 0 = λ j m xs ws t sources. Begins o (run_at o spare j m xs ws t sources) in
     let l = loaded o.image o.settings.harts o.settings.slots in
     let ys = replicate o.settings.harts first_mind in
     let u = first_table o.image o.settings.harts in
     let known : KnowsText o u = subst (KnowsText o) table places in
-    let first : P [] l ys u (sources_of o.image) = record { facts = record { sound = begins o spare s known; waits = none_await o.image o.settings.harts }; state = seen_begin o spare } in
-    subst (λ (k : List Entry). P k m xs t sources) (sym none)
-    (subst (λ (n : Patched). P [] n xs t sources) (sym is)
-    (subst (λ (zs : List Mind). P [] l zs t sources) (sym are)
-    (subst (λ (v : Table). P [] l ys v sources) (sym table)
-    (subst (λ (n : Sources). P [] l ys u n) (sym same) first))))
+    let first : P [] l ys [] u (sources_of o.image) = record { facts = record { sound = begins o spare s known; waits = none_await o.image o.settings.harts }; state = seen_begin o spare } in
+    subst (λ (k : List Entry). P k m xs ws t sources) (sym none)
+    (subst (λ (n : Patched). P [] n xs ws t sources) (sym is)
+    (subst (λ (zs : List Mind). P [] l zs ws t sources) (sym are)
+    (subst (λ (vs : List Watch). P [] l ys vs t sources) (sym unwatched)
+    (subst (λ (v : Table). P [] l ys [] v sources) (sym table)
+    (subst (λ (n : Sources). P [] l ys [] u n) (sym same) first)))))

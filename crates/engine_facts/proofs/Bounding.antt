@@ -8,7 +8,7 @@ use Rattle.dbg_model.specs.Limits.{history}
 use Rattle.dbg_model.specs.State.{any_leaves}
 use Rattle.dbg_model.specs.Lawful.{may_go}
 use Rattle.dbg_model.specs.Journals.{last_count}
-use Rattle.dbg_model.specs.Erase.{erase, steps_of, is_step}
+use Rattle.dbg_model.specs.Erase.{erase, is_step, step_one, steps, steps_of}
 use Rattle.dbg_model.proofs.Counting.{counted, last_count-le}
 use Rattle.dbg_model.proofs.Options.{both_true}
 use Rattle.engine_facts.specs.Seen.{Run, seen}
@@ -26,12 +26,12 @@ step_most_by : (b : Bool) → cond b 1 0 ≤ 1
 step_most_by true = omega arith
 step_most_by false = omega arith
 
-step_most : (k : ℕ) (i : Item) → is_step k i ≤ 1
+step_most : (k : ℕ) (i : Item) → is_step k i ≤ step_one i
 step_most k (Step h) = step_most_by (h == k)
 step_most k (Reg h n v) = omega arith
 step_most k (Bytes a bytes) = omega arith
 
-steps_most : (k : ℕ) (is : List Item) → steps_of k is ≤ length is
+steps_most : (k : ℕ) (is : List Item) → steps_of k is ≤ steps is
 steps_most k [] = omega arith
 steps_most k (i ∷ is) = let ih = steps_most k is in let o = step_most k i in omega arith
 
@@ -52,10 +52,10 @@ small r f budget low =
 -- neither the budget nor the history is used up
 pub below : (r : Run) → may_go r.opening (seen r) ≡ true → (r.retired < r.opening.settings.budget) × (r.noted < history)
 below r may =
-    let b = both_true (not (any_leaves (seen r).harts)) (nat_lt r.retired r.opening.settings.budget && (nat_lt r.noted history && not r.exited)) may in
-    let n = both_true (nat_lt r.retired r.opening.settings.budget) (nat_lt r.noted history && not r.exited) b.1 in
+    let b = both_true (not (any_leaves (seen r).harts)) (nat_lt r.retired r.opening.settings.budget && (nat_lt r.noted history && (not r.exited && true))) may in
+    let n = both_true (nat_lt r.retired r.opening.settings.budget) (nat_lt r.noted history && (not r.exited && true)) b.1 in
     let first = n.0 in
-    let second = (both_true (nat_lt r.noted history) (not r.exited) n.1).0 in (grind (arith, nat_tests), grind (arith, nat_tests))
+    let second = (both_true (nat_lt r.noted history) (not r.exited && true) n.1).0 in (grind (arith, nat_tests), grind (arith, nat_tests))
 
 pub small_at : (r : Run) → Sound r → may_go r.opening (seen r) ≡ true → Small r
 small_at r f may = let b = below r may in small r f b.0 b.1

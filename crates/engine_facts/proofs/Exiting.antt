@@ -18,6 +18,7 @@ use Rattle.dbg_model.specs.declared.entry.Entry.TheVariants.{Left}
 use Rattle.dbg_model.specs.declared.entry.Mode.TheVariants as mode
 use Rattle.dbg_model.specs.declared.hart.Hart.{Hart}
 use Rattle.dbg_model.specs.State.{State, any_leaves}
+use Rattle.dbg_model.specs.Watches.{fired_by}
 use Rattle.dbg_model.specs.Lawful.{one, one_out, one_more_at, may_run, leaving, passes}
 use Rattle.dbg_model.specs.Lawful as lawful
 use Rattle.dbg_model.specs.Leaving.{lefts_from, gone, LeaveWith}
@@ -65,18 +66,18 @@ pub departs_alone : (r : Run) (h spare code : ℕ) (c d : Core) (x : Mind) (mem 
     → (x.phase ≡ phase.Idle → called r.breaks r.waits c.regs.pc ≡ false) → may_run r.opening (seen r) h (seen_hart r.opening.image c x) ≡ true
     → plain r.opening.image (seen_hart r.opening.image c x).regs r.machine.memory ≡ Goes d.regs mem [] (LeavesAlone code) → d.retired ≡ c.retired + 1 → d.copied ≡ c.copied + adds (is_copied x.phase) → d.entered ≡ None
     → ((k : ℕ) → (h ≡ k → ⊥) → held_by r.hold k ≡ held_by None k) → SlotChange r.machine.slots slots h phase.Idle → length slots ≡ length r.machine.slots → Planted r.opening.image t (record (wants_of r) { hold = None })
-    → Departs r (departed r h (slice_set r.machine.cores h d) (slice_set r.minds h (gone_mind (ran_of r h c x))) mem t slots (Left h code ∷ []) 1 spare) h code (Left h code ∷ [])
+    → Departs r (departed r h (slice_set r.machine.cores h d) (slice_set r.minds h (gone_mind (ran_of r h c x mem))) mem t slots (Left h code ∷ []) 1 spare) h code (Left h code ∷ [])
 departs_alone r h spare code c d x mem t slots f m runs before none may is more copied out holds free len p =
     let image = r.opening.image in
     let y = seen_hart image c x in
     let goes = one_seen r h c x d.regs mem [] (LeavesAlone code) m may is in
-    let x' = gone_mind (ran_of r h c x) in
+    let x' = gone_mind (ran_of r h c x mem) in
     let xs = slice_set r.minds h x' in
     let cs = slice_set r.machine.cores h d in
     let es = Left h code ∷ [] in
     let n : Run = departed r h cs xs mem t slots es 1 spare in
     let s = after_one r h c x d.regs mem [] (LeavesAlone code) in
-    let v = lawful.stepped (sets_out r h c x) d.regs in
+    let v = lawful.stepped (sets_out r h c x) d.regs (fired_by r.watches r.machine.memory mem) in
     let w : Hart = record v { mode = mode.Running } in
     let z : Hart = record v { mode = mode.Leaving code } in
     let stepped_is : v ≡ w = ap (λ a. let u : Hart = record v { mode = mode_of a } in u) runs in
@@ -141,21 +142,21 @@ copied_gone p count cs xs ds d passed sets home f some k e y ek yk =
 pub departs_all : (r : Run) (h spare code : ℕ) (c c' : Core) (x : Mind) (ds : List Core) (mem : Memory) (t : Words) (slots : List (Option SlotUse)) → Sound r → Mover r h c x → x.activity ≡ activity.Running → is_before x.phase ≡ true
     → (x.phase ≡ phase.Idle → called r.breaks r.waits c.regs.pc ≡ false) → may_run r.opening (seen r) h (seen_hart r.opening.image c x) ≡ true
     → plain r.opening.image (seen_hart r.opening.image c x).regs r.machine.memory ≡ Goes (running_regs r.opening.image c'.regs (after_step x.phase)) mem [] (LeavesAll code) → c'.retired ≡ c.retired + 1 → c'.copied ≡ c.copied + adds (is_copied x.phase)
-    → AreHome r.opening.image (slice_set r.machine.cores h c') (slice_set r.minds h (ran_of r h c x)) ds → AllFree slots → length slots ≡ length r.machine.slots → length ds ≡ length r.machine.cores → Planted r.opening.image t (record (wants_of r) { hold = None })
-    → (let es = lefts_live code 0 (slice_set r.minds h (ran_of r h c x)) in Departs r (departed r h ds (map gone_mind (slice_set r.minds h (ran_of r h c x))) mem t slots es (length es) spare) h code es)
+    → AreHome r.opening.image (slice_set r.machine.cores h c') (slice_set r.minds h (ran_of r h c x mem)) ds → AllFree slots → length slots ≡ length r.machine.slots → length ds ≡ length r.machine.cores → Planted r.opening.image t (record (wants_of r) { hold = None })
+    → (let es = lefts_live code 0 (slice_set r.minds h (ran_of r h c x mem)) in Departs r (departed r h ds (map gone_mind (slice_set r.minds h (ran_of r h c x mem))) mem t slots es (length es) spare) h code es)
 departs_all r h spare code c c' x ds mem t slots f m runs before none may is more copied home free slots_len ds_len p =
     let image = r.opening.image in
     let q = running_regs image c'.regs (after_step x.phase) in
     let y = seen_hart image c x in
     let goes = one_seen r h c x q mem [] (LeavesAll code) m may is in
     let cs = slice_set r.machine.cores h c' in
-    let z = ran_of r h c x in
+    let z = ran_of r h c x mem in
     let xs = slice_set r.minds h z in
     let es = lefts_live code 0 xs in
     let n : Run = departed r h ds (map gone_mind xs) mem t slots es (length es) spare in
     let s = after_one r h c x q mem [] (LeavesAll code) in
-    let w = lawful.stepped (sets_out r h c x) q in
-    let w_is : w ≡ seen_hart image c' z = ran_seen r h c c' x runs in
+    let w = lawful.stepped (sets_out r h c x) q (fired_by r.watches r.machine.memory mem) in
+    let w_is : w ≡ seen_hart image c' z = ran_seen r h c c' x mem runs in
     let ran : slice_set (seen r).harts h w ≡ seen_harts image cs xs = ap (slice_set (seen r).harts h) w_is ∙ sym (seen-set image r.machine.cores r.minds h c' z) in
     let harts : s.harts ≡ map (leaving code) (seen_harts image cs xs) = ap (map (leaving code)) ran in
     let cores : length cs ≡ length r.machine.cores = length-set r.machine.cores h c' in

@@ -1,6 +1,6 @@
 -- What each kind of move keeps.
 use Rattle.std.proofs.Common.{◌≡◌, ◌<◌, ◌≤◌, ℕ, List, length, refl, sym, ap, ◌∙◌, subst, length-set}
-use Rattle.std.specs.Prelude.{Option, Some, None, slice_get, slice_set}
+use Rattle.std.specs.Prelude.{Option, Some, slice_get, slice_set}
 use Rattle.dbg_traits.specs.Settings.{AreSettings}
 use Rattle.text_words.specs.Words.{Words}
 use Rattle.source_index.specs.Sources.{sources_of}

@@ -15,3 +15,4 @@ pub mod Breaking
 pub mod Beginning
 pub mod Movers
 pub mod Awaiting
+pub mod Writing

@@ -20,12 +20,12 @@ use Rattle.hart_machine.specs.Stepping.{FetchGives, StepGives, fetch_of, has_run
 use Rattle.hart_machine.proofs.Copying.{copied_alike, settled_unrun, fetch_text, fetch_slot}
 use Rattle.hart_machine.proofs.Places.{same_some}
 use Rattle.mi_commands.specs.declared.command.Displaced.{Displaced}
-use Rattle.break_table.specs.Entry.{Entry as BreakEntry}
 use Rattle.break_table.specs.Table.{is_wait, stands}
 use Rattle.std.specs.List.{list_any}
 use Rattle.dbg_model.specs.declared.opening.Opening.{Opening}
 use Rattle.dbg_model.specs.declared.hart.Hart.{Hart}
 use Rattle.dbg_model.specs.State.{State, due, is_off}
+use Rattle.dbg_model.specs.Watches.{fired_by}
 use Rattle.dbg_model.specs.Lawful.{one, one_out, may_run, passes}
 use Rattle.dbg_model.specs.Lawful as lawful
 use Rattle.dbg_model.proofs.Adding.{lengthens}
@@ -183,9 +183,9 @@ gives_seen r h s c c' x m' f m before none low g = gives_by r h s c c' x m' x.ph
 abbrev pub sets_out : Run → ℕ → Core → Mind → Hart
 sets_out r h c x = let y = seen_hart r.opening.image c x in lawful.set_out (due r.opening.image (seen r) h y) y
 
--- what is kept of it after its instruction
-abbrev pub ran_of : Run → ℕ → Core → Mind → Mind
-ran_of r h c x = ran_by r h (seen_hart r.opening.image c x) x
+-- what is kept of it after its instruction, which left this memory
+abbrev pub ran_of : Run → ℕ → Core → Mind → Memory → Mind
+ran_of r h c x m = ran_by r h (seen_hart r.opening.image c x) m x
 
 -- the state after an instruction of a hart that is seen so before
 abbrev pub after_one : Run → ℕ → Core → Mind → Registers → Memory → List ℕ → Leave → State
@@ -216,8 +216,9 @@ one_seen r h c x q m out leave v may is =
     }
 
 -- a hart that has executed, as it is seen
-pub ran_seen : (r : Run) (h : ℕ) (c c' : Core) (x : Mind) → x.activity ≡ activity.Running → lawful.stepped (sets_out r h c x) (running_regs r.opening.image c'.regs (after_step x.phase)) ≡ seen_hart r.opening.image c' (ran_of r h c x)
-ran_seen r h c c' x runs = ap (λ a. let y : Hart = record (seen_hart r.opening.image c' (ran_of r h c x)) { mode = mode_of a } in y) runs
+pub ran_seen : (r : Run) (h : ℕ) (c c' : Core) (x : Mind) (m : Memory) → x.activity ≡ activity.Running
+    → lawful.stepped (sets_out r h c x) (running_regs r.opening.image c'.regs (after_step x.phase)) (fired_by r.watches r.machine.memory m) ≡ seen_hart r.opening.image c' (ran_of r h c x m)
+ran_seen r h c c' x m runs = ap (λ a. let y : Hart = record (seen_hart r.opening.image c' (ran_of r h c x m)) { mode = mode_of a } in y) runs
 
 -- where a hart is after an instruction
 after_placed : (p : Program) (slots : List (Option SlotUse)) (h : ℕ) (c c' : Core) (q : Phase) → Placed p slots h c q → is_before q ≡ true → (is_copied q ≡ true → (slot home : ℕ) (e : q ≡ phase.Copied slot home) (a : Slotted p slots h slot home) → IsSome (decode a.word)) → Placed p slots h c' (after_step q)
@@ -302,12 +303,12 @@ here_none r c x none runs idle =
     let regs : seen_regs p c.regs x.activity x.phase ≡ c.regs = ap (λ t. seen_regs p c.regs t x.phase) runs ∙ ap (running_regs p c.regs) idle in
     ap (λ (t : Registers). stands t.pc r.breaks) regs ∙ or_left (stands c.regs.pc r.breaks) (list_any (is_wait c.regs.pc) r.waits) (none idle)
 
--- what is known of the harts after an instruction of one
-pub ran_harts : (r : Run) (h : ℕ) (c c' : Core) (x : Mind) (q : Registers) (mem : Memory) (out : List ℕ) (leave : Leave) → Sound r → Mover r h c x → x.activity ≡ activity.Running → is_before x.phase ≡ true
-    → plain r.opening.image (seen_hart r.opening.image c x).regs r.machine.memory ≡ Goes q mem out leave → c'.entered ≡ None → Harts r.opening.image (slice_set r.machine.cores h c') r.machine.slots (slice_set r.minds h (ran_of r h c x)) r.hold
-ran_harts r h c c' x q mem out leave f m runs before is left =
+-- what is known of the harts after an instruction of one, whatever watch it made fire
+pub ran_harts : (r : Run) (h : ℕ) (c c' : Core) (x : Mind) (q : Registers) (mem after : Memory) (out : List ℕ) (leave : Leave) → Sound r → Mover r h c x → x.activity ≡ activity.Running → is_before x.phase ≡ true
+    → plain r.opening.image (seen_hart r.opening.image c x).regs r.machine.memory ≡ Goes q mem out leave → c'.entered ≡ None → Harts r.opening.image (slice_set r.machine.cores h c') r.machine.slots (slice_set r.minds h (ran_of r h c x after)) r.hold
+ran_harts r h c c' x q mem after out leave f m runs before is left =
     let p = r.opening.image in
-    let x' = ran_of r h c x in
+    let x' = ran_of r h c x after in
     let fact = fact_of r h c x f m in
     updated p r.machine.cores r.machine.slots r.machine.slots r.minds r.hold r.hold h c' x x' f.harts m.mind
     (record {
@@ -326,22 +327,22 @@ ran_harts r h c c' x q mem out leave f m runs before is left =
 pub executes : (r : Run) (h spare : ℕ) (c c' : Core) (x : Mind) (mem : Memory) (out : List ℕ) → Sound r → Mover r h c x → x.activity ≡ activity.Running → is_before x.phase ≡ true → (x.phase ≡ phase.Idle → called r.breaks r.waits c.regs.pc ≡ false)
     → may_run r.opening (seen r) h (seen_hart r.opening.image c x) ≡ true → plain r.opening.image (seen_hart r.opening.image c x).regs r.machine.memory ≡ Goes (running_regs r.opening.image c'.regs (after_step x.phase)) mem out Stays
     → c'.retired ≡ c.retired + 1 → c'.copied ≡ c.copied + adds (is_copied x.phase) → c'.entered ≡ None
-    → Enters (executed r h c' (ran_of r h c x) mem spare) (after_one r h c x (running_regs r.opening.image c'.regs (after_step x.phase)) mem out Stays)
+    → Enters (executed r h c' (ran_of r h c x mem) mem spare) (after_one r h c x (running_regs r.opening.image c'.regs (after_step x.phase)) mem out Stays)
 executes r h spare c c' x mem out f m runs before none may is more copied left =
     let p = r.opening.image in
-    let x' = ran_of r h c x in
+    let x' = ran_of r h c x mem in
     let q = running_regs p c'.regs (after_step x.phase) in
     let s = after_one r h c x q mem out Stays in
     let n : Run = executed r h c' x' mem spare in
     let goes = one_seen r h c x q mem out Stays m may is in
-    let harts : slice_set (seen r).harts h (lawful.stepped (sets_out r h c x) q) ≡ seen_harts p (slice_set r.machine.cores h c') (slice_set r.minds h x') =
-    ap (slice_set (seen r).harts h) (ran_seen r h c c' x runs) ∙ sym (seen-set p r.machine.cores r.minds h c' x') in
+    let harts : slice_set (seen r).harts h (lawful.stepped (sets_out r h c x) q (fired_by r.watches r.machine.memory mem)) ≡ seen_harts p (slice_set r.machine.cores h c') (slice_set r.minds h x') =
+    ap (slice_set (seen r).harts h) (ran_seen r h c c' x mem runs) ∙ sym (seen-set p r.machine.cores r.minds h c' x') in
     entered n s f.settings (lengthens r.opening r.journal h (seen r) s f.leaves goes.one)
     (ap (λ ys. let u : State = record s { harts = ys } in u) harts)
     (record {
       count = length-set r.minds h x' ∙ f.count;
       selected = f.selected;
-      harts = ran_harts r h c c' x q mem out Stays f m runs before is left;
+      harts = ran_harts r h c c' x q mem mem out Stays f m runs before is left;
       slots = f.slots;
       planted = f.planted;
       texts = f.texts;

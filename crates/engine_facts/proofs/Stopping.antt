@@ -25,14 +25,16 @@ use Rattle.step_plans.specs.declared.plan.Verdict.TheVariants as verdicts
 use Rattle.dbg_model.specs.declared.entry.Entry.{Entry}
 use Rattle.dbg_model.specs.declared.entry.Entry.TheVariants.{Counted, Stopped}
 use Rattle.dbg_model.specs.declared.entry.Why.{Why}
-use Rattle.dbg_model.specs.declared.entry.Why.TheVariants.{Break, Stepped, Finished, Interrupted, Fault}
-use Rattle.dbg_model.specs.declared.entry.Mode.TheVariants as mode
+use Rattle.dbg_model.specs.declared.entry.Why.TheVariants.{Break, Watch, Stepped, Finished, Interrupted, Fault}
 use Rattle.dbg_model.specs.declared.opening.Opening.{Opening}
 use Rattle.dbg_model.specs.Breaks.{is_stop, same_error}
 use Rattle.dbg_model.specs.declared.hart.Hart.{Hart}
 use Rattle.dbg_model.specs.declared.judgement.Judgement.{Judgement}
-use Rattle.dbg_model.specs.Judging.{ends_function, ends_step, is_counted, is_due}
+use Rattle.dbg_model.specs.declared.watch.Fired.{Fired}
+use Rattle.dbg_model.specs.declared.watch.Watch.{Watch as Watchpoint}
+use Rattle.dbg_model.specs.Judging.{ends_function, ends_step, fires, is_counted, is_due}
 use Rattle.dbg_model.specs.State.{State, due, arrived}
+use Rattle.dbg_model.specs.Watches.{is_fired, risen}
 use Rattle.dbg_model.specs.Lawful.{enter, may_move, may_run, stopped, with_arrival, with_stop, with_count}
 use Rattle.dbg_model.specs.Journals.{ran_hart}
 use Rattle.dbg_model.proofs.Adding.{added}
@@ -41,7 +43,7 @@ use Rattle.engine_facts.specs.declared.mind.Mind.{Mind}
 use Rattle.engine_facts.specs.Minds.{first_mind, resumed_mind, asked_mind, counted_mind, lifted_of, slot_of, entered_of, runs}
 use Rattle.engine_facts.specs.Seen.{Run, seen, seen_with, told_of, seen_hart, seen_harts, seen_regs}
 use Rattle.engine_facts.specs.Facts.{Sound, Harts, HartFact, Planted, AreInText, AreCopied, Wants, wanted, wants_of, is_home, held_by, pending, IsThread}
-use Rattle.engine_facts.specs.Moves.{Repatched, end_of, halted, lined, plan_for, stop_by, stop_of}
+use Rattle.engine_facts.specs.Moves.{Repatched, halted, lined, plan_for, stop_by, stop_of}
 use Rattle.engine_facts.proofs.Seeing.{seen-set_mind}
 use Rattle.engine_facts.proofs.Counting.{retired_noted, copied_mind}
 use Rattle.engine_facts.proofs.Updating.{updated_mind, slots_same, equals}
@@ -52,8 +54,8 @@ use Rattle.engine_facts.proofs.Holding.{idle_pending, idle_seen}
 use Rattle.engine_facts.proofs.Arriving.{stands-arrived, text-arrived}
 
 -- the state after an entry about a hart that is seen so afterwards
-abbrev pub stop_state : State → ℕ → Hart → List BreakEntry → State
-stop_state s h y bs = record s { harts = slice_set s.harts h y; breaks = bs; noted = s.noted + 1 }
+abbrev pub stop_state : State → ℕ → Hart → List BreakEntry → List Watchpoint → State
+stop_state s h y bs ws = record s { harts = slice_set s.harts h y; breaks = bs; watches = ws; noted = s.noted + 1 }
 
 -- the facts hold after an entry that came
 pub record Comes (r n : Run) (e : Entry) : Type 0 where
@@ -65,13 +67,13 @@ pub record Rests (r : Run) (x x' : Mind) : Type 0 where
   pub slot : slot_of x'.phase ≡ slot_of x.phase
   pub pending : 0 < r.opening.settings.slots → pending r.displaced x'.phase ≤ pending r.displaced x.phase
 
--- a hart stops or is counted, with these patches and breakpoints
-pub halts : (r : Run) (e : Entry) (h spare : ℕ) (c : Core) (x x' : Mind) (t : Words) (bs : List BreakEntry) → Sound r → Mover r h c x → HartFact r.opening.image r.machine.slots r.hold h c x' → Rests r x x' → ran_hart e ≡ None
-    → enter r.opening (seen r) e ≡ Some (stop_state (seen r) h (seen_hart r.opening.image c x') bs) → Planted r.opening.image t (record (wants_of r) { entries = bs }) → AreInText r.opening.image bs → Comes r (halted r e h x' t bs spare) e
-halts r e h spare c x x' t bs f m fact rests quiet comes p texts =
+-- a hart stops or is counted, with these patches, breakpoints and watches
+pub halts : (r : Run) (e : Entry) (h spare : ℕ) (c : Core) (x x' : Mind) (t : Words) (bs : List BreakEntry) (ws : List Watchpoint) → Sound r → Mover r h c x → HartFact r.opening.image r.machine.slots r.hold h c x' → Rests r x x' → ran_hart e ≡ None
+    → enter r.opening (seen r) e ≡ Some (stop_state (seen r) h (seen_hart r.opening.image c x') bs ws) → Planted r.opening.image t (record (wants_of r) { entries = bs }) → AreInText r.opening.image bs → Comes r (halted r e h x' t bs ws spare) e
+halts r e h spare c x x' t bs ws f m fact rests quiet comes p texts =
     let image = r.opening.image in
-    let s = stop_state (seen r) h (seen_hart image c x') bs in
-    let n : Run = halted r e h x' t bs spare in
+    let s = stop_state (seen r) h (seen_hart image c x') bs ws in
+    let n : Run = halted r e h x' t bs ws spare in
     let harts : slice_set (seen r).harts h (seen_hart image c x') ≡ seen_harts image r.machine.cores (slice_set r.minds h x') = sym (seen-set_mind image r.machine.cores r.minds h c x' m.core) in
     let d : Enters n s =
     entered n s f.settings (added r.opening r.journal (seen r) s e f.leaves quiet comes)
@@ -119,13 +121,13 @@ unfolding enter
 enter_fault o s h y cause at may is = rw (at, may, is, equals (cause_number cause)) refl
 
 -- the state after a stop of a hart that steps over nothing
-stop_seen : (r : Run) (h : ℕ) (c : Core) (x : Mind) (bs : List BreakEntry) → x.phase ≡ phase.Idle
-    → record (with_stop (seen r) h (seen_hart r.opening.image c x)) { breaks = bs } ≡ stop_state (seen r) h (seen_hart r.opening.image c first_mind) bs
-stop_seen r h c x bs idle = ap (λ y. stop_state (seen r) h y bs) (stopped_seen r.opening.image c x idle)
+stop_seen : (r : Run) (h : ℕ) (c : Core) (x : Mind) (bs : List BreakEntry) (ws : List Watchpoint) → x.phase ≡ phase.Idle
+    → record (with_stop (seen r) h (seen_hart r.opening.image c x)) { breaks = bs; watches = ws } ≡ stop_state (seen r) h (seen_hart r.opening.image c first_mind) bs ws
+stop_seen r h c x bs ws idle = ap (λ y. stop_state (seen r) h y bs ws) (stopped_seen r.opening.image c x idle)
 
 pub fault_comes : (r : Run) (h : ℕ) (c : Core) (x : Mind) (cause : Cause) → Mover r h c x → x.phase ≡ phase.Idle → may_run r.opening (seen r) h (seen_hart r.opening.image c x) ≡ true
-    → plain r.opening.image (seen_hart r.opening.image c x).regs r.machine.memory ≡ Traps cause → enter r.opening (seen r) (Stopped h (Fault cause)) ≡ Some (stop_state (seen r) h (seen_hart r.opening.image c first_mind) r.breaks)
-fault_comes r h c x cause m idle may is = enter_fault r.opening (seen r) h (seen_hart r.opening.image c x) cause (hart_at r h c x m) may is ∙ ap Some (stop_seen r h c x r.breaks idle)
+    → plain r.opening.image (seen_hart r.opening.image c x).regs r.machine.memory ≡ Traps cause → enter r.opening (seen r) (Stopped h (Fault cause)) ≡ Some (stop_state (seen r) h (seen_hart r.opening.image c first_mind) r.breaks r.watches)
+fault_comes r h c x cause m idle may is = enter_fault r.opening (seen r) h (seen_hart r.opening.image c x) cause (hart_at r h c x m) may is ∙ ap Some (stop_seen r h c x r.breaks r.watches idle)
 
 -- the stop by an interrupt comes
 enter_interrupt : (o : Opening) (s : State) (h : ℕ) (y : Hart) → slice_get s.harts h ≡ Some y → may_run o s h y ≡ true → y.asked ≡ true → enter o s (Stopped h Interrupted) ≡ Some (with_stop s h y)
@@ -133,8 +135,8 @@ unfolding enter
 enter_interrupt o s h y at may asked = rw (at, may, asked) refl
 
 interrupt_comes : (r : Run) (h : ℕ) (c : Core) (x : Mind) → Mover r h c x → x.phase ≡ phase.Idle → x.asked ≡ true → may_run r.opening (seen r) h (seen_hart r.opening.image c x) ≡ true
-    → enter r.opening (seen r) (Stopped h Interrupted) ≡ Some (stop_state (seen r) h (seen_hart r.opening.image c first_mind) r.breaks)
-interrupt_comes r h c x m idle asked may = enter_interrupt r.opening (seen r) h (seen_hart r.opening.image c x) (hart_at r h c x m) may asked ∙ ap Some (stop_seen r h c x r.breaks idle)
+    → enter r.opening (seen r) (Stopped h Interrupted) ≡ Some (stop_state (seen r) h (seen_hart r.opening.image c first_mind) r.breaks r.watches)
+interrupt_comes r h c x m idle asked may = enter_interrupt r.opening (seen r) h (seen_hart r.opening.image c x) (hart_at r h c x m) may asked ∙ ap Some (stop_seen r h c x r.breaks r.watches idle)
 
 same_error_self : (e : Option CondError) → same_error e e ≡ true
 same_error_self None = refl
@@ -149,6 +151,13 @@ enter_break : (o : Opening) (s : State) (h number : ℕ) (y : Hart) → slice_ge
 unfolding enter
 enter_break o s h number y at may is = rw (at, may, break_by (due o.image s h y).breaks number is) refl
 
+fired_by : (j : Judgement) (f : Fired) → j.breaks.stop ≡ None → j.fired ≡ Some f → is_fired (fires j) f ≡ true
+fired_by j f none is = rw (none, is, equals f.number, equals f.old, equals f.new) refl
+
+enter_watch : (o : Opening) (s : State) (h : ℕ) (f : Fired) (y : Hart) → slice_get s.harts h ≡ Some y → may_move o s y ≡ true → is_fired (fires (due o.image s h y)) f ≡ true → enter o s (Stopped h (Watch f)) ≡ Some (with_arrival o s h y)
+unfolding enter
+enter_watch o s h f y at may is = rw (at, may, is) refl
+
 enter_step : (o : Opening) (s : State) (h : ℕ) (y : Hart) → slice_get s.harts h ≡ Some y → may_move o s y ≡ true → ends_step (due o.image s h y) ≡ true → enter o s (Stopped h Stepped) ≡ Some (with_arrival o s h y)
 unfolding enter
 enter_step o s h y at may is = rw (at, may, is) refl
@@ -158,24 +167,28 @@ unfolding enter
 enter_finish o s h y at may is = rw (at, may, is) refl
 
 -- the stop where a hart arrives, by what stops it
-enter_by : (o : Opening) (s : State) (h : ℕ) (y : Hart) (why : Why) (stop : Option ℕ) (v : Verdict) → slice_get s.harts h ≡ Some y → may_move o s y ≡ true → (due o.image s h y).breaks.stop ≡ stop → (due o.image s h y).verdict ≡ v
-    → stop_by stop (due o.image s h y).breaks.error v ≡ Some why → enter o s (Stopped h why) ≡ Some (with_arrival o s h y)
-enter_by o s h y why (Some number) v at may stops ends is =
+enter_by : (o : Opening) (s : State) (h : ℕ) (y : Hart) (why : Why) (stop : Option ℕ) (fired : Option Fired) (v : Verdict) → slice_get s.harts h ≡ Some y → may_move o s y ≡ true
+    → (due o.image s h y).breaks.stop ≡ stop → (due o.image s h y).fired ≡ fired → (due o.image s h y).verdict ≡ v
+    → stop_by stop (due o.image s h y).breaks.error fired v ≡ Some why → enter o s (Stopped h why) ≡ Some (with_arrival o s h y)
+enter_by o s h y why (Some number) fired v at may stops watch ends is =
     let P : Why → Type 0 = λ w. enter o s (Stopped h w) ≡ Some (with_arrival o s h y) in
     subst P (same_some (Break number (due o.image s h y).breaks.error) why is) (enter_break o s h number y at may stops)
-enter_by o s h y why None (verdicts.Go plan) at may stops ends is = cc
-enter_by o s h y why None verdicts.Stepped at may stops ends is =
+enter_by o s h y why None (Some f) v at may stops watch ends is =
     let P : Why → Type 0 = λ w. enter o s (Stopped h w) ≡ Some (with_arrival o s h y) in
-    let e : ends_step (due o.image s h y) ≡ true = rw (stops, ends) refl in
+    subst P (same_some (Watch f) why is) (enter_watch o s h f y at may (fired_by (due o.image s h y) f stops watch))
+enter_by o s h y why None None (verdicts.Go plan) at may stops watch ends is = cc
+enter_by o s h y why None None verdicts.Stepped at may stops watch ends is =
+    let P : Why → Type 0 = λ w. enter o s (Stopped h w) ≡ Some (with_arrival o s h y) in
+    let e : ends_step (due o.image s h y) ≡ true = rw (stops, watch, ends) refl in
     subst P (same_some Stepped why is) (enter_step o s h y at may e)
-enter_by o s h y why None verdicts.Finished at may stops ends is =
+enter_by o s h y why None None verdicts.Finished at may stops watch ends is =
     let P : Why → Type 0 = λ w. enter o s (Stopped h w) ≡ Some (with_arrival o s h y) in
-    let e : ends_function (due o.image s h y) ≡ true = rw (stops, ends) refl in
+    let e : ends_function (due o.image s h y) ≡ true = rw (stops, watch, ends) refl in
     subst P (same_some Finished why is) (enter_finish o s h y at may e)
 
 -- the stop where a hart arrives comes
 enter_arrival : (o : Opening) (s : State) (h : ℕ) (y : Hart) (why : Why) → slice_get s.harts h ≡ Some y → may_move o s y ≡ true → stop_of (due o.image s h y) ≡ Some why → enter o s (Stopped h why) ≡ Some (with_arrival o s h y)
-enter_arrival o s h y why at may is = enter_by o s h y why (due o.image s h y).breaks.stop (due o.image s h y).verdict at may refl refl is
+enter_arrival o s h y why at may is = enter_by o s h y why (due o.image s h y).breaks.stop (due o.image s h y).fired (due o.image s h y).verdict at may refl refl refl is
 
 -- the count at breakpoints comes
 enter_count : (o : Opening) (s : State) (h : ℕ) (y : Hart) → slice_get s.harts h ≡ Some y → may_move o s y ≡ true → is_counted (due o.image s h y) ≡ true → enter o s (Counted h) ≡ Some (with_count o s h y)
@@ -206,25 +219,25 @@ planted_after r h c x t f w =
 
 -- an idle hart stops by a fault
 pub halts_fault : (r : Run) (h spare : ℕ) (c : Core) (x : Mind) (cause : Cause) → Sound r → Mover r h c x → x.phase ≡ phase.Idle → may_run r.opening (seen r) h (seen_hart r.opening.image c x) ≡ true
-    → plain r.opening.image (seen_hart r.opening.image c x).regs r.machine.memory ≡ Traps cause → Comes r (halted r (Stopped h (Fault cause)) h first_mind r.machine.text r.breaks spare) (Stopped h (Fault cause))
+    → plain r.opening.image (seen_hart r.opening.image c x).regs r.machine.memory ≡ Traps cause → Comes r (halted r (Stopped h (Fault cause)) h first_mind r.machine.text r.breaks r.watches spare) (Stopped h (Fault cause))
 halts_fault r h spare c x cause f m idle may is =
-    halts r (Stopped h (Fault cause)) h spare c x first_mind r.machine.text r.breaks f m (stopped_fact r h c x f m idle) (stopped_rests r x idle) refl (fault_comes r h c x cause m idle may is) f.planted f.texts
+    halts r (Stopped h (Fault cause)) h spare c x first_mind r.machine.text r.breaks r.watches f m (stopped_fact r h c x f m idle) (stopped_rests r x idle) refl (fault_comes r h c x cause m idle may is) f.planted f.texts
 
 -- an idle hart stops by an interrupt
 pub halts_interrupt : (r : Run) (h spare : ℕ) (c : Core) (x : Mind) → Sound r → Mover r h c x → x.phase ≡ phase.Idle → x.asked ≡ true → may_run r.opening (seen r) h (seen_hart r.opening.image c x) ≡ true
-    → Comes r (halted r (Stopped h Interrupted) h first_mind r.machine.text r.breaks spare) (Stopped h Interrupted)
+    → Comes r (halted r (Stopped h Interrupted) h first_mind r.machine.text r.breaks r.watches spare) (Stopped h Interrupted)
 halts_interrupt r h spare c x f m idle asked may =
-    halts r (Stopped h Interrupted) h spare c x first_mind r.machine.text r.breaks f m (stopped_fact r h c x f m idle) (stopped_rests r x idle) refl (interrupt_comes r h c x m idle asked may) f.planted f.texts
+    halts r (Stopped h Interrupted) h spare c x first_mind r.machine.text r.breaks r.watches f m (stopped_fact r h c x f m idle) (stopped_rests r x idle) refl (interrupt_comes r h c x m idle asked may) f.planted f.texts
 
 -- an idle hart stops where it has arrived
 pub halts_arrival : (r : Run) (h spare : ℕ) (why : Why) (c : Core) (x : Mind) (t : Words) → Sound r → Mover r h c x → x.phase ≡ phase.Idle → may_move r.opening (seen r) (seen_hart r.opening.image c x) ≡ true
     → stop_of (due r.opening.image (seen r) h (seen_hart r.opening.image c x)) ≡ Some why
-    → Repatched r.machine.text t (shown_pc r c x) (wanted (wants_after r h c x) (shown_pc r c x)) → Comes r (halted r (Stopped h why) h first_mind t (after_arrival r h c x) spare) (Stopped h why)
+    → Repatched r.machine.text t (shown_pc r c x) (wanted (wants_after r h c x) (shown_pc r c x)) → Comes r (halted r (Stopped h why) h first_mind t (after_arrival r h c x) (risen x.fired r.watches) spare) (Stopped h why)
 halts_arrival r h spare why c x t f m idle may is w =
     let y = seen_hart r.opening.image c x in
     let bs = after_arrival r h c x in
-    halts r (Stopped h why) h spare c x first_mind t bs f m (stopped_fact r h c x f m idle) (stopped_rests r x idle) refl
-    (enter_arrival r.opening (seen r) h y why (hart_at r h c x m) may is ∙ ap Some (stop_seen r h c x bs idle))
+    halts r (Stopped h why) h spare c x first_mind t bs (risen x.fired r.watches) f m (stopped_fact r h c x f m idle) (stopped_rests r x idle) refl
+    (enter_arrival r.opening (seen r) h y why (hart_at r h c x m) may is ∙ ap Some (stop_seen r h c x bs (risen x.fired r.watches) idle))
     (planted_after r h c x t f w) (text-arrived r.opening.image (seen r) h y f.texts)
 
 -- the plan with which a hart goes on
@@ -234,12 +247,12 @@ goes_with r h c x = plan_for r h (seen_hart r.opening.image c x)
 -- a hart is counted at breakpoints, and stays in its phase
 pub counts : (r : Run) (h spare : ℕ) (c : Core) (x : Mind) (t : Words) → Sound r → Mover r h c x → may_move r.opening (seen r) (seen_hart r.opening.image c x) ≡ true
     → is_counted (due r.opening.image (seen r) h (seen_hart r.opening.image c x)) ≡ true → Repatched r.machine.text t (shown_pc r c x) (wanted (wants_after r h c x) (shown_pc r c x))
-    → Comes r (halted r (Counted h) h (counted_mind (goes_with r h c x) x) t (after_arrival r h c x) spare) (Counted h)
+    → Comes r (halted r (Counted h) h (counted_mind (goes_with r h c x) x) t (after_arrival r h c x) r.watches spare) (Counted h)
 counts r h spare c x t f m may is w =
     let y = seen_hart r.opening.image c x in
     let bs = after_arrival r h c x in
     let plan = goes_with r h c x in
-    halts r (Counted h) h spare c x (counted_mind plan x) t bs f m (counted_fact r h c x plan f m) (record { slot = refl; pending = λ some. omega arith }) refl
+    halts r (Counted h) h spare c x (counted_mind plan x) t bs r.watches f m (counted_fact r h c x plan f m) (record { slot = refl; pending = λ some. omega arith }) refl
     (enter_count r.opening (seen r) h y (hart_at r h c x m) may is) (planted_after r h c x t f w) (text-arrived r.opening.image (seen r) h y f.texts)
 
 -- ---- lines
@@ -295,12 +308,12 @@ copied_line r xs d s f l some h c x ec ex =
     let passed : slice_index s.passed h ≡ slice_index (seen r).passed h = ap (λ ns. slice_index ns h) l.passed in
     omega (arith, had, same, more, passed)
 
--- a line is done that changes harts, the selected thread, the setting and the breakpoints
-pub lines : (r : Run) (e : Entry) (xs : List Mind) (selected : ℕ) (d : Displaced) (t : Words) (bs : List BreakEntry) (given : ℕ) (exited : Bool) (spare : ℕ) (s : State) → Sound r → ran_hart e ≡ None → enter r.opening (seen r) e ≡ Some s
-    → s ≡ seen_with (lined r e xs selected d t bs given exited spare) (told_of s) → length xs ≡ length r.minds → IsThread r.opening selected → Harts r.opening.image r.machine.cores r.machine.slots xs r.hold → Resets r xs d s
-    → Planted r.opening.image t (record (wants_of r) { entries = bs }) → AreInText r.opening.image bs → Enters (lined r e xs selected d t bs given exited spare) s
-lines r e xs selected d t bs given exited spare s f quiet comes same len thread hs l p texts =
-    entered (lined r e xs selected d t bs given exited spare) s f.settings (added r.opening r.journal (seen r) s e f.leaves quiet comes) same
+-- a line is done that changes harts, the selected thread, the setting, the breakpoints and the watches
+pub lines : (r : Run) (e : Entry) (xs : List Mind) (selected : ℕ) (d : Displaced) (t : Words) (bs : List BreakEntry) (ws : List Watchpoint) (given : ℕ) (exited : Bool) (spare : ℕ) (s : State) → Sound r → ran_hart e ≡ None → enter r.opening (seen r) e ≡ Some s
+    → s ≡ seen_with (lined r e xs selected d t bs ws given exited spare) (told_of s) → length xs ≡ length r.minds → IsThread r.opening selected → Harts r.opening.image r.machine.cores r.machine.slots xs r.hold → Resets r xs d s
+    → Planted r.opening.image t (record (wants_of r) { entries = bs }) → AreInText r.opening.image bs → Enters (lined r e xs selected d t bs ws given exited spare) s
+lines r e xs selected d t bs ws given exited spare s f quiet comes same len thread hs l p texts =
+    entered (lined r e xs selected d t bs ws given exited spare) s f.settings (added r.opening r.journal (seen r) s e f.leaves quiet comes) same
     (record {
       count = len ∙ f.count;
       selected = thread;

@@ -6,6 +6,7 @@ use Rattle.dbg_model.specs.declared.entry.Entry.{Entry}
 use Rattle.dbg_model.specs.declared.entry.Entry.TheVariants.{Left}
 use Rattle.dbg_model.specs.declared.entry.Mode.{Mode}
 use Rattle.dbg_model.specs.declared.entry.Mode.TheVariants as mode
+use Rattle.dbg_model.specs.declared.watch.Fired.{Fired}
 use Rattle.engine_facts.specs.declared.mind.Activity.{Activity}
 use Rattle.engine_facts.specs.declared.mind.Activity.TheVariants as activity
 use Rattle.step_over.specs.declared.phase.Phase.{Phase}
@@ -111,11 +112,12 @@ with_phase x p = record x { phase = p }
 
 -- a hart that is stopped, as all are at the beginning
 abbrev pub first_mind : Mind
-first_mind = record { activity = activity.Stopped; fresh = false; asked = false; phase = phase.Idle; plan = plans.Free; last = None }
+first_mind = record { activity = activity.Stopped; fresh = false; asked = false; phase = phase.Idle; plan = plans.Free; last = None; fired = None }
 
--- a hart that has just executed, and goes on with this plan; this is noted of the address of its instruction
-abbrev pub ran_mind : Plan → Option ℕ → Mind → Mind
-ran_mind plan last x = record x { activity = activity.Running; fresh = true; phase = after_step x.phase; plan = plan; last = last }
+-- a hart that has just executed, and goes on with this plan; this is noted of the address of its instruction, by which this
+-- watch fired
+abbrev pub ran_mind : Plan → Option ℕ → Option Fired → Mind → Mind
+ran_mind plan last fired x = record x { activity = activity.Running; fresh = true; phase = after_step x.phase; plan = plan; last = last; fired = fired }
 
 -- a hart that breakpoints counted, and that goes on with this plan
 abbrev pub counted_mind : Plan → Mind → Mind

@@ -13,11 +13,16 @@ use Rattle.step_plans.specs.declared.plan.Verdict.{Verdict}
 use Rattle.step_plans.specs.declared.plan.Verdict.TheVariants as verdicts
 use Rattle.break_table.specs.declared.due.CondError.{CondError}
 use Rattle.dbg_model.specs.declared.entry.Entry.{Entry}
+use Rattle.dbg_model.specs.declared.entry.Entry.TheVariants.{Did, Poked}
+use Rattle.dbg_model.specs.declared.entry.Poke.{Poke}
 use Rattle.dbg_model.specs.declared.entry.Why.{Why}
-use Rattle.dbg_model.specs.declared.entry.Why.TheVariants.{Break, Stepped, Finished}
+use Rattle.dbg_model.specs.declared.entry.Why.TheVariants.{Break, Watch, Stepped, Finished}
 use Rattle.dbg_model.specs.declared.hart.Hart.{Hart}
 use Rattle.dbg_model.specs.declared.judgement.Judgement.{Judgement}
+use Rattle.dbg_model.specs.declared.watch.Fired.{Fired}
+use Rattle.dbg_model.specs.declared.watch.Watch.{Watch as Watchpoint}
 use Rattle.dbg_model.specs.Judging.{noted_with, plan_after}
+use Rattle.dbg_model.specs.Watches.{fired_by}
 use Rattle.dbg_model.specs.State.{due}
 use Rattle.dbg_model.specs.Journals.{lengthened}
 use Rattle.engine_facts.specs.declared.mind.Hold.{Hold}
@@ -86,22 +91,23 @@ AreHome p (c ∷ cs) (x ∷ xs) (d ∷ ds) = IsHome p c x d × AreHome p cs xs d
 abbrev pub plan_for : Run → ℕ → Hart → Plan
 plan_for r h y = plan_after (due r.opening.image (seen r) h y).verdict
 
--- what is kept of a hart that shows this, after its instruction
-abbrev pub ran_by : Run → ℕ → Hart → Mind → Mind
-ran_by r h y x = ran_mind (plan_for r h y) (noted_with (plan_for r h y) y.regs.pc) x
+-- what is kept of a hart that shows this, after its instruction, which left this memory
+abbrev pub ran_by : Run → ℕ → Hart → Memory → Mind → Mind
+ran_by r h y m x = ran_mind (plan_for r h y) (noted_with (plan_for r h y) y.regs.pc) (fired_by r.watches r.machine.memory m) x
 
 abbrev pub end_of : Verdict → Option Why
 end_of (verdicts.Go plan) = None
 end_of verdicts.Stepped = Some Stepped
 end_of verdicts.Finished = Some Finished
 
-abbrev pub stop_by : Option ℕ → Option CondError → Verdict → Option Why
-stop_by (Some number) error v = Some (Break number error)
-stop_by None error v = end_of v
+abbrev pub stop_by : Option ℕ → Option CondError → Option Fired → Verdict → Option Why
+stop_by (Some number) error fired v = Some (Break number error)
+stop_by None error (Some f) v = Some (Watch f)
+stop_by None error None v = end_of v
 
--- why a hart stops where it has just arrived, if it does: breakpoints come before its plan
+-- why a hart stops where it has just arrived, if it does: breakpoints come before watches, and watches before its plan
 abbrev pub stop_of : Judgement → Option Why
-stop_of j = stop_by j.breaks.stop j.breaks.error j.verdict
+stop_of j = stop_by j.breaks.stop j.breaks.error j.fired j.verdict
 
 -- one instruction of a hart, by which none exits
 abbrev pub executed : Run → ℕ → Core → Mind → Memory → ℕ → Run
@@ -127,30 +133,42 @@ departed r h cs xs memory t slots lefts count spare =
       noted = r.noted + count;
     }
 
--- a hart stopped, or was counted, with this entry, these patches and these breakpoints
-abbrev pub halted : Run → Entry → ℕ → Mind → Words → List BreakEntry → ℕ → Run
-halted r e h x t bs spare =
+-- a hart stopped, or was counted, with this entry, these patches, breakpoints and watches
+abbrev pub halted : Run → Entry → ℕ → Mind → Words → List BreakEntry → List Watchpoint → ℕ → Run
+halted r e h x t bs ws spare =
     record r {
       journal = r.journal ++ e ∷ [];
       spare = spare;
       machine = record r.machine { text = t };
       minds = slice_set r.minds h x;
       breaks = bs;
+      watches = ws;
       noted = r.noted + 1;
     }
 
--- a line was done, after which these are the harts, the selected thread, the setting, the patches and the breakpoints, and whether the session was ended
-abbrev pub lined : Run → Entry → List Mind → ℕ → Displaced → Words → List BreakEntry → ℕ → Bool → ℕ → Run
-lined r e xs selected d t bs given exited spare =
+-- a line was done, after which these are the harts, the selected thread, the setting, the patches, the breakpoints and the watches, and whether the session was ended
+abbrev pub lined : Run → Entry → List Mind → ℕ → Displaced → Words → List BreakEntry → List Watchpoint → ℕ → Bool → ℕ → Run
+lined r e xs selected d t bs ws given exited spare =
     record r {
       journal = r.journal ++ e ∷ [];
       spare = spare;
       machine = record r.machine { text = t };
       minds = xs;
       breaks = bs;
+      watches = ws;
       given = given;
       selected = selected;
       displaced = d;
       noted = r.noted + 1;
       exited = exited;
+    }
+
+-- a line was done that asks for a write, and that was written: these are the harts and the memory then
+abbrev pub poked : Run → List ℕ → Poke → List Core → Memory → ℕ → Run
+poked r line p cs memory spare =
+    record r {
+      journal = (r.journal ++ Did line ∷ []) ++ Poked p ∷ [];
+      spare = spare;
+      machine = record r.machine { cores = cs; memory = memory };
+      noted = r.noted + 2;
     }

@@ -15,6 +15,7 @@ use Rattle.step_over.specs.declared.phase.Phase.TheVariants as phase
 use Rattle.dbg_model.specs.declared.entry.Entry.{Entry}
 use Rattle.dbg_model.specs.declared.opening.Opening.{Opening}
 use Rattle.dbg_model.specs.declared.hart.Hart.{Hart}
+use Rattle.dbg_model.specs.declared.watch.Watch.{Watch}
 use Rattle.dbg_model.specs.State.{State}
 use Rattle.dbg_model.specs.Journals.{replay}
 use Rattle.engine_facts.specs.declared.mind.Hold.{Hold}
@@ -31,7 +32,8 @@ pub record Run : Type 0 where
   pub machine : Patched
   pub minds : List Mind
   pub hold : Option Hold
-  -- the breakpoints, how many numbers were given to breakpoints, where text stands, and where each hart waits
+  -- the watches, the breakpoints, how many numbers were given to either, where text stands, and where each hart waits
+  pub watches : List Watch
   pub breaks : List BreakEntry
   pub given : ℕ
   pub bounds : List Span
@@ -65,7 +67,7 @@ seen_regs p r activity.Running q = running_regs p r q
 seen_regs p r activity.Exited q = r
 
 abbrev pub seen_hart : Program → Core → Mind → Hart
-seen_hart p c x = record { regs = seen_regs p c.regs x.activity x.phase; mode = mode_of x.activity; fresh = x.fresh; asked = x.asked; plan = x.plan; last = x.last }
+seen_hart p c x = record { regs = seen_regs p c.regs x.activity x.phase; mode = mode_of x.activity; fresh = x.fresh; asked = x.asked; plan = x.plan; last = x.last; fired = x.fired }
 
 abbrev pub seen_harts : Program → List Core → List Mind → List Hart
 seen_harts p [] xs = []
@@ -84,18 +86,20 @@ told_of s = record { out = s.out; passed = s.passed; sets = s.sets }
 abbrev pub told_after : Opening → List Entry → Told
 told_after o j = option_map_or (λ p. told_of p.state) (replay o j) (record { out = []; passed = []; sets = 0 })
 
--- what an engine shows, where the journal tells this
+-- what an engine shows, where the journal tells this: what a line asks to be written is written at once
 abbrev pub seen_with : Run → Told → State
 seen_with r told = record {
   harts = seen_harts r.opening.image r.machine.cores r.minds;
   memory = r.machine.memory;
   out = told.out;
   breaks = r.breaks;
+  watches = r.watches;
   given = r.given;
   selected = r.selected;
   displaced = r.displaced;
   sets = told.sets;
   passed = told.passed;
+  pending = None;
   retired = r.retired;
   noted = r.noted;
   exited = r.exited;

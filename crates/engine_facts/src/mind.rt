@@ -1,3 +1,4 @@
+use dbg_model::Fired;
 use step_over::Phase;
 use step_plans::Plan;
 
@@ -23,6 +24,8 @@ pub struct Mind {
     pub plan: Plan,
     /// Where the plan asks for it: the address of the instruction of its own that has just ended.
     pub last: Option<u32>,
+    /// The watch whose bytes that instruction changed.
+    pub fired: Option<Fired>,
 }
 
 /// The hart for which a patch is lifted, and its address. All other harts stand held meanwhile.

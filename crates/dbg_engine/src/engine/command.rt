@@ -1,10 +1,11 @@
 // A line of the user, done and answered.
-ghost use Rattle.std.specs.Prelude.{◌≡◌, ◌&&◌, ◌<◌, true, IfOk, OnOk, MatchResult};
+ghost use Rattle.std.specs.Prelude.{◌≡◌, ◌&&◌, ◌<◌, true, None, IfOk, OnOk, MatchResult};
 ghost use Rattle.mi_commands.specs.Gives.{Commands};
 ghost use Rattle.dbg_model.specs.Limits.{history};
 ghost use Rattle.dbg_model.specs.Lawful.{may_do};
+ghost use Rattle.dbg_model.specs.Outcome.{pokes};
 ghost use Rattle.dbg_model.specs.State.{any_runs};
-ghost use Rattle.dbg_model.specs.Reply.{answer_of, displaced_after, exited_after, is_wait, selected_after};
+ghost use Rattle.dbg_model.specs.Reply.{answer_of, displaced_after, exited_after, is_wait, pending_after, selected_after};
 ghost use Rattle.dbg_answers.specs.Answer.{change_of, line_answer_of};
 ghost use Rattle.dbg_answers.specs.Reading.{IsRead};
 ghost use Rattle.engine_facts.specs.Seen.{seen};
@@ -12,12 +13,13 @@ ghost use Rattle.dbg_engine.specs.Changing.{lacks_memory, HasRead, Makes};
 
 use super::Engine;
 use crate::breaking::change_table;
-use crate::journal::did;
+use crate::journal::{did, note};
 use crate::resuming::change_threads;
 use crate::views::views;
-use crate::waiting::{Waiting, rewait};
+use crate::waiting::{Waiting, rewait, waiting_of};
+use crate::writing::write;
 use dbg_answers::{Debuggee, Effect, LineAnswer, answer_line, waits};
-use dbg_model::Reply;
+use dbg_model::{Entry, Poke, Reply};
 use dbg_traits::NoMemory;
 use mi_commands::{CommandLine, Displaced, Refusal, command_of};
 use std::alloc::Global;
@@ -91,10 +93,51 @@ impl Engine {
             memory: self.machine.data(),
             threads: threads.as_slice(),
             table: &self.table,
+            watches: self.watches.as_slice(),
             selected: self.selected,
             displaced: self.displaced,
         };
         answer_line(self.alloc, &debuggee, read)
+    }
+
+    // Does a line that asks for a write, and writes.
+    fn write(&mut self, line: &[u8], poke: Poke) -> Result<(), NoMemory>
+        requires may { may_do self.old.opening (seen self.old) line.now ≡ true }
+        requires makes { Makes self.old line.now (pokes poke) }
+        ensures lines { MatchResult result (λ _. Lines self.old self.new line.now) (λ _. self.new ≡ self.old) }
+        ensures facts { OnOk result (Facts self.new) }
+    {
+        did(self.alloc, &mut self.entries, line)?;
+        write(&mut self.machine, &poke);
+        note(&mut self.entries, Entry::Poked { poke });
+        self.noted += 2;
+        Ok(())
+    }
+
+    // Does a line that makes this change, and asks for no write.
+    fn change(&mut self, line: &[u8], effect: Effect) -> Result<(), NoMemory>
+        requires may { may_do self.old.opening (seen self.old) line.now ≡ true }
+        requires makes { Makes self.old line.now (change_of effect) }
+        requires asks { pending_after None (change_of effect) ≡ None }
+        ensures lines { MatchResult result (λ _. Lines self.old self.new line.now) (λ _. self.new ≡ self.old) }
+        ensures facts { OnOk result (Facts self.new) }
+    {
+        did(self.alloc, &mut self.entries, line)?;
+        change_threads(&mut self.minds, &effect);
+        self.selected = selected_after(self.selected, &effect);
+        self.displaced = displaced_after(self.displaced, &effect);
+        self.exited = exited_after(self.exited, &effect);
+        change_table(
+            &mut self.machine,
+            &mut self.table,
+            &mut self.watches,
+            self.hold,
+            effect,
+        );
+        let waiting = waiting_of!(self);
+        rewait(&mut self.machine, &mut self.table, &waiting, true);
+        self.noted += 1;
+        Ok(())
     }
 
     // Does a line that makes this change.
@@ -104,20 +147,10 @@ impl Engine {
         ensures lines { MatchResult result (λ _. Lines self.old self.new line.now) (λ _. self.new ≡ self.old) }
         ensures facts { OnOk result (Facts self.new) }
     {
-        did(self.alloc, &mut self.entries, line)?;
-        change_threads(&mut self.minds, &effect);
-        self.selected = selected_after(self.selected, &effect);
-        self.displaced = displaced_after(self.displaced, &effect);
-        self.exited = exited_after(self.exited, &effect);
-        change_table(&mut self.machine, &mut self.table, self.hold, effect);
-        let waiting = Waiting {
-            image: &self.opening.image,
-            minds: self.minds.as_slice(),
-            hold: self.hold,
-        };
-        rewait(&mut self.machine, &mut self.table, &waiting, true);
-        self.noted += 1;
-        Ok(())
+        match effect {
+            Effect::Poke(poke) => self.write(line, poke),
+            other => self.change(line, other),
+        }
     }
 
     /// Whether a line can't be done yet: it waits until no hart runs, and one does. `read` is what `read_line` gives.
@@ -131,8 +164,8 @@ impl Engine {
         waits(read)
     }
 
-    /// Does one line, and answers it. A line that waits is done only where no hart runs. `read` is what `read_line`
-    /// gives.
+    /// Does one line, writes what it asks to be written, and answers it. A line that waits is done only where no hart runs.
+    /// `read` is what `read_line` gives.
     ///
     /// # Errors
     ///

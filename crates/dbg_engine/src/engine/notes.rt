@@ -1,13 +1,14 @@
 // What the journal notes of a hart that stops or is counted.
 ghost use Rattle.std.specs.Prelude.{◌≡◌, ◌≤◌, true};
 ghost use Rattle.dbg_model.specs.Judging.{is_counted};
+ghost use Rattle.dbg_model.specs.Watches.{risen};
 
 use super::Engine;
 use crate::breaking::settle;
 use crate::journal::note;
 use crate::minds::{STOPPED, counted_mind};
 use crate::patching::{repatch, wants};
-use crate::waiting::{Waiting, changes, rewait};
+use crate::waiting::{Waiting, changes, rewait, waiting_of};
 use dbg_model::{Entry, Judgement, Why, plan_after};
 use engine_facts::{Mind, Phase};
 use rv_exec::Cause;
@@ -34,11 +35,7 @@ impl Engine {
             },
         );
         self.minds[h as usize] = STOPPED;
-        let waiting = Waiting {
-            image: &self.opening.image,
-            minds: self.minds.as_slice(),
-            hold: self.hold,
-        };
+        let waiting = waiting_of!(self);
         rewait(&mut self.machine, &mut self.table, &waiting, true);
         self.noted += 1;
     }
@@ -61,11 +58,7 @@ impl Engine {
             },
         );
         self.minds[h as usize] = STOPPED;
-        let waiting = Waiting {
-            image: &self.opening.image,
-            minds: self.minds.as_slice(),
-            hold: self.hold,
-        };
+        let waiting = waiting_of!(self);
         rewait(&mut self.machine, &mut self.table, &waiting, true);
         self.noted += 1;
     }
@@ -78,18 +71,16 @@ impl Engine {
         requires stops { StopsBy self.old h why }
         requires spare { 32 ≤ self.old.spare }
         ensures halts { Halts self.old self.new h why }
+        ensures watches { self.new.watches ≡ risen mind.fired self.old.watches }
         ensures facts { Facts self.new }
     {
         note(&mut self.entries, Entry::Stopped { hart: h, why });
         settle(&mut self.table, &self.opening.image, &self.machine, h, pc);
+        self.watches.rise(mind.fired);
         let wants = wants(&self.table, self.hold, pc);
         repatch(&mut self.machine, pc, wants);
         self.minds[h as usize] = STOPPED;
-        let waiting = Waiting {
-            image: &self.opening.image,
-            minds: self.minds.as_slice(),
-            hold: self.hold,
-        };
+        let waiting = waiting_of!(self);
         rewait(&mut self.machine, &mut self.table, &waiting, true);
         self.noted += 1;
     }
@@ -111,11 +102,7 @@ impl Engine {
         repatch(&mut self.machine, pc, wants);
         let plan = plan_after(due.verdict);
         self.minds[h as usize] = counted_mind(mind, plan);
-        let waiting = Waiting {
-            image: &self.opening.image,
-            minds: self.minds.as_slice(),
-            hold: self.hold,
-        };
+        let waiting = waiting_of!(self);
         let moved = changes(mind.plan, plan);
         rewait(&mut self.machine, &mut self.table, &waiting, moved);
         self.noted += 1;

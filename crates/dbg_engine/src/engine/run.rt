@@ -15,7 +15,8 @@ use engine_facts::{Hold, Mind, Phase};
 use mi_commands::Displaced;
 use step_plans::Plan;
 
-fn is_idle(phase: Phase) -> bool
+// Whether a hart steps over no breakpoint.
+pub(super) fn is_idle(phase: Phase) -> bool
     ensures { result ≡ is_idle phase }
 {
     matches!(phase, Phase::Idle)
@@ -35,8 +36,8 @@ fn goes_alone(image: &Image, mind: Mind) -> bool
     is_unplanned(mind.plan) || awaited(image, mind).is_some()
 }
 
-// Whether a hart runs, steps over nothing, isn't interrupted and has no plan but to wait for a return, and no patch is
-// lifted.
+// Whether a hart runs, steps over nothing, isn't interrupted and has no plan but to wait for a return, for which no watch
+// fired, and no patch is lifted.
 fn is_alone(image: &Image, mind: Mind, hold: Option<Hold>) -> bool
     ensures { result ≡ is_alone image.now mind hold }
 {
@@ -44,6 +45,7 @@ fn is_alone(image: &Image, mind: Mind, hold: Option<Hold>) -> bool
         && is_idle(mind.phase)
         && !mind.asked
         && goes_alone(image, mind)
+        && mind.fired.is_none()
         && hold.is_none()
 }
 
@@ -59,7 +61,8 @@ impl Engine {
 
     /// Takes a hart on by turns of which nothing is said, in one call: at most `limit`, and how many. Each is a turn that
     /// answers `Ran`, or is of a step over a breakpoint at which nothing is due. They are fewer only where the session is
-    /// over, the hart isn't alone, or it has come to where it doesn't go on by itself, as at an ECALL or a breakpoint.
+    /// over, the hart isn't alone, or it has come to where it doesn't go on by itself, as at an ECALL, a breakpoint, or an
+    /// instruction that writes where a watch has its bytes.
     pub fn run(&mut self, h: u32, limit: u32) -> u32
         requires hart { h < length self.old.minds }
         requires spare { 32 ≤ self.old.spare }
@@ -79,6 +82,7 @@ impl Engine {
         let course = Course {
             hart: h,
             table: &self.table,
+            watches: &self.watches,
             image: &self.opening.image,
             plan: mind.plan,
             copies: is_on(self.displaced),
@@ -89,7 +93,7 @@ impl Engine {
         }
         let count = u64::from(progress.instructions);
         note_runs(&mut self.entries, h, count);
-        self.minds[h as usize] = ran_mind(mind, mind.plan, None);
+        self.minds[h as usize] = ran_mind(mind, mind.plan, None, None);
         self.retired += count;
         progress.turns
     }

@@ -13,25 +13,31 @@ use crate::homing::{Leaving, go_home_at_exit, landed_pc};
 use crate::minds::{other_holder, with_phase};
 use crate::moving::{apply, exits_of, ran_mind};
 use crate::view::ShownHart;
-use crate::waiting::{Waiting, changes, rewait};
+use crate::waiting::{Waiting, changes, rewait, waiting_of};
+use crate::watching::step_watched;
 use dbg_model::{Course, Judge, Judgement, Why, noted_with, plan_after};
 use engine_facts::{Activity, Mind, Phase};
 use rv_exec::Stepped;
 use step_plans::{Plan, Verdict};
 
-// Why a hart stops where it has just arrived, if it does: breakpoints come before its plan.
+// Why a hart stops where it has just arrived, if it does: breakpoints come before watches, and watches before its plan.
 fn stop_of(judgement: Judgement) -> Option<Why>
     ensures { result ≡ stop_of judgement }
 {
-    let Judgement { breaks, verdict } = judgement;
-    match (breaks.stop, verdict) {
-        (Some(number), _) => Some(Why::Break {
+    let Judgement {
+        breaks,
+        fired,
+        verdict,
+    } = judgement;
+    match (breaks.stop, fired, verdict) {
+        (Some(number), _, _) => Some(Why::Break {
             number,
             error: breaks.error,
         }),
-        (None, Verdict::Stepped) => Some(Why::Stepped),
-        (None, Verdict::Finished) => Some(Why::Finished),
-        (None, Verdict::Go(_)) => None,
+        (None, Some(fired), _) => Some(Why::Watch(fired)),
+        (None, None, Verdict::Stepped) => Some(Why::Stepped),
+        (None, None, Verdict::Finished) => Some(Why::Finished),
+        (None, None, Verdict::Go(_)) => None,
     }
 }
 
@@ -124,6 +130,7 @@ impl Engine {
         requires due { DueIs self.old h due }
         requires some { is_due due ≡ true }
         requires fresh { due.breaks.counts ≡ true → mind.fresh ≡ true }
+        requires fired { due.fired ≡ mind.fired }
         requires spare { 32 ≤ self.old.spare }
         ensures first { (other : Row) → row_of result ≡ row_due due other }
         ensures turns { Turns result self.old self.new h }
@@ -151,6 +158,7 @@ impl Engine {
                 temporary: is_temporary(self.table.entries(), number),
                 error,
             },
+            Why::Watch(fired) => Turned::Triggered(fired),
             Why::Stepped => Turned::Stepped,
             Why::Finished => Turned::Finished,
             Why::Interrupted | Why::Fault(_) => unreachable!(),
@@ -191,11 +199,12 @@ impl Engine {
         ensures code { IsTurned result }
         ensures facts { Facts self.new }
     {
-        let stepped = self.machine.step(h);
+        let watched = step_watched(&mut self.machine, h, &self.watches);
+        let stepped = watched.stepped;
         if let Stepped::Trap(cause) = stepped {
             return Turned::Stopped { cause };
         }
-        let ran = ran_mind(mind, plan, noted_with(plan, pc));
+        let ran = ran_mind(mind, plan, noted_with(plan, pc), watched.fired);
         self.minds[h as usize] = ran;
         let leaving = Leaving {
             hart: h,
@@ -210,11 +219,7 @@ impl Engine {
             &leaving,
         );
         let turned = apply(stepped, h, ran, &mut self.entries, &mut self.minds);
-        let waiting = Waiting {
-            image: &self.opening.image,
-            minds: self.minds.as_slice(),
-            hold: self.hold,
-        };
+        let waiting = waiting_of!(self);
         let moved = is_moved(mind.plan, plan, stepped);
         rewait(&mut self.machine, &mut self.table, &waiting, moved);
         self.retired += 1;
@@ -247,6 +252,7 @@ impl Engine {
         requires pc { Of self.now h (λ y. y.regs.pc ≡ pc) }
         ensures due { DueIs self.now h result }
         ensures fresh { result.breaks.counts ≡ true → mind.fresh ≡ true }
+        ensures fired { is_due result ≡ true → result.fired ≡ mind.fired }
     {
         let judge = Judge {
             image: &self.opening.image,
@@ -257,6 +263,7 @@ impl Engine {
             fresh: mind.fresh,
             plan: mind.plan,
             last: mind.last,
+            fired: mind.fired,
         };
         let view = ShownHart {
             regs: &self.machine.cores()[h as usize].regs,

@@ -1,7 +1,6 @@
-use Rattle.std.proofs.Common.{◌<◌, length, sym, ap, ◌∙◌, arith, subst}
-use Rattle.break_table.specs.Table.{Table}
+use Rattle.std.proofs.Common.{arith}
 use Rattle.engine_facts.specs.declared.mind.Mind.{Mind}
-use Rattle.dbg_engine.specs.Changing.{Retabled, no_wait, wants_by}
+use Rattle.dbg_engine.specs.Changing.{no_wait}
 use Rattle.dbg_engine.proofs.Waitings.{partly_all, partly_more, partly_none}
 use Rattle.dbg_engine.proofs.waiting.end_waits.Goals as goal
 

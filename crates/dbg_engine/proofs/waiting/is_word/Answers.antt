@@ -1,4 +1,4 @@
-use Rattle.std.proofs.Common.{◌≡◌, ◌^◌, sym, ap, ◌∙◌}
+use Rattle.std.proofs.Common.{◌^◌, sym, ap, ◌∙◌}
 use Rattle.std.specs.Prelude.{is_some}
 use Rattle.elf32_read.specs.Program.{text_word}
 use Rattle.text_words.proofs.Below.{word_below}

@@ -1,8 +1,8 @@
-use Rattle.std.proofs.Common.{◌<◌, length, sym, ap, ◌∙◌, arith}
+use Rattle.std.proofs.Common.{ap, ◌∙◌, arith}
 use Rattle.break_table.specs.Table.{Table}
 use Rattle.break_table.specs.Text.{is_place}
 use Rattle.engine_facts.specs.Minds.{awaited}
-use Rattle.dbg_engine.proofs.Waitings.{partly_all, partly_more, partly_none, stays}
+use Rattle.dbg_engine.proofs.Waitings.{partly_all, partly_more, partly_none}
 use Rattle.dbg_engine.proofs.waiting.rewait.Goals as goal
 
 pub returns-then-not-needed-clause-table : goal.returns-then-not-needed-clause-table

@@ -1,5 +1,5 @@
 use Rattle.std.proofs.Common.{◌<◌, length, refl, sym, ap, ◌∙◌, arith, length-set}
-use Rattle.std.specs.Prelude.{Option, None, slice_get}
+use Rattle.std.specs.Prelude.{None, slice_get}
 use Rattle.text_words.specs.Words.{unpatched}
 use Rattle.break_table.specs.Table.{Table, with_wait}
 use Rattle.break_table.specs.Text.{is_place}

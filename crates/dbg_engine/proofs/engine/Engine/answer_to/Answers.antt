@@ -29,7 +29,7 @@ returns c =
     let cores = ap (λ cs. own_views cs c.as_slice.result.now) c.cores.ensures in
     let minds = ap (own_views r.machine.cores) c.as_slice.ensures.value in
     let views = c.as_slice-2.ensures.value ∙ (c.in_ok-threads.ensures ∙ (cores ∙ minds)) in
-    let same = sees r c.data.result.now c.as_slice-2.result.now c.self.invariant.facts.sound c.data.ensures views in
+    let same = sees r c.data.result.now c.as_slice-2.result.now c.as_slice-3.result.now c.self.invariant.facts.sound c.data.ensures views c.as_slice-3.ensures.watches in
     let P : Sight → Type 0 = λ s. IfOk c.answer_line.result (λ a. line_answer_of a ≡ answer_to s c.args.line.now) in
     let Q : Run → Type 0 = λ q. IfOk c.answer_line.result (λ a. line_answer_of a ≡ answer_of q.opening (seen q) c.args.line.now) in
     subst Q c.self.view_is (subst P same (c.answer_line.ensures c.args.line.now c.requires.read))

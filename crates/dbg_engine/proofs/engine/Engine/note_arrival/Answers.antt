@@ -1,4 +1,4 @@
-use Rattle.std.proofs.Common.{◌≡◌, ◌-◌, ◌+◌, ◌≤◌, false, true, List, length, map, refl, sym, ap, ◌∙◌, subst, arith, length-set}
+use Rattle.std.proofs.Common.{◌≡◌, ◌-◌, ◌+◌, List, length, map, sym, ap, ◌∙◌, subst, arith, length-set}
 use Rattle.std.specs.Prelude.{Some, slice_get, slice_set, vec_len, vec_capacity}
 use Rattle.break_table.specs.Table.{Table}
 use Rattle.break_table.specs.Text.{is_place}
@@ -6,11 +6,11 @@ use Rattle.dbg_model.specs.Lawful.{may_go}
 use Rattle.engine_facts.specs.declared.mind.Mind.{Mind}
 use Rattle.engine_facts.specs.Minds.{awaited, first_mind}
 use Rattle.engine_facts.specs.Seen.{Run, seen}
-use Rattle.engine_facts.specs.Facts.{Facts, other_holder}
+use Rattle.engine_facts.specs.Facts.{other_holder}
 use Rattle.engine_facts.proofs.Breaking.{are_planted}
 use Rattle.dbg_engine.specs.EngineInside.{run_of}
 use Rattle.std.proofs.lemmas.Option.{slice_get_within}
-use Rattle.engine_facts.specs.Facts.{wanted, wants_of}
+use Rattle.engine_facts.specs.Facts.{wanted}
 use Rattle.engine_facts.specs.Tables.{ArePlanted}
 use Rattle.dbg_engine.specs.Changing.{wants_by}
 use Rattle.dbg_engine.specs.Calls.{Halts, Of, StopsBy}
@@ -62,15 +62,15 @@ rewait-requires-clause-planted c =
     let Q : Run → Type 0 = λ q. Of q c.args.h (λ y. y.regs.pc ≡ c.args.pc) in
     let settles : Settles r c.args.h c.args.pc c.settle.new.table.entries = λ k at. c.settle.ensures.entries k at in
     let n =
-    arrived r c.args.h c.args.pc (vec_capacity c.note.new.entries - vec_len c.note.new.entries) c.args.why c.args.mind c.note.new.entries.items c.repatch.new.machine c.settle.new.table.entries c.wants-wants.result f mind
+    arrived r c.args.h c.args.pc (vec_capacity c.note.new.entries - vec_len c.note.new.entries) c.args.why c.args.mind c.note.new.entries.items c.repatch.new.machine c.settle.new.table.entries c.rise.new.self c.wants-wants.result f mind
     c.requires.idle c.requires.before.runs (ap (λ (q : Run). other_holder q.hold c.args.h) c.self.view_is ∙ c.requires.before.free) (subst Q (sym c.self.view_is) c.requires.pc) (subst P (sym c.self.view_is) c.requires.stops) (ap (λ (q : Run). may_go q.opening (seen q)) c.self.view_is ∙ c.requires.before.may)
-    c.note.ensures.entries settles (c.wants-wants.ensures ∙ ap (λ (t : Table). wanted (wants_by t r.hold) c.args.pc) c.settle.ensures.rest) c.repatch.ensures.text c.repatch.ensures.rest in
-    let q : Run = record r { journal = c.note.new.entries.items; spare = vec_capacity c.note.new.entries - vec_len c.note.new.entries; machine = c.repatch.new.machine; minds = slice_set r.minds c.args.h first_mind; breaks = c.settle.new.table.entries; noted = r.noted + 1 } in
+    c.note.ensures.entries settles c.rise.ensures (c.wants-wants.ensures ∙ ap (λ (t : Table). wanted (wants_by t r.hold) c.args.pc) c.settle.ensures.rest) c.repatch.ensures.text c.repatch.ensures.rest in
+    let q : Run = record r { journal = c.note.new.entries.items; spare = vec_capacity c.note.new.entries - vec_len c.note.new.entries; machine = c.repatch.new.machine; minds = slice_set r.minds c.args.h first_mind; watches = c.rise.new.self; breaks = c.settle.new.table.entries; noted = r.noted + 1 } in
     let P : Table → Type 0 = λ t. ArePlanted c.repatch.new.machine.text (wants_by t r.hold) in
     subst P (sym c.settle.ensures.rest) (are_planted q n.sound)
 
 abbrev new_run : goal.After-self-2-1 → Run
-new_run c = let r = run_of c.self.inside in record r { journal = c.note.new.entries.items; spare = vec_capacity c.note.new.entries - vec_len c.note.new.entries; machine = c.repatch.new.machine; minds = slice_set r.minds c.args.h first_mind; breaks = c.settle.new.table.entries; noted = r.noted + 1 }
+new_run c = let r = run_of c.self.inside in record r { journal = c.note.new.entries.items; spare = vec_capacity c.note.new.entries - vec_len c.note.new.entries; machine = c.repatch.new.machine; minds = slice_set r.minds c.args.h first_mind; watches = c.rise.new.self; breaks = c.settle.new.table.entries; noted = r.noted + 1 }
 
 move : (c : goal.After-self-2-1) → (let r = run_of c.self.inside in let n = with_table (new_run c) c.rewait.new.machine c.rewait.new.table in Moved n (Halts r n c.args.h c.args.why))
 move c =
@@ -81,9 +81,9 @@ move c =
     let Q : Run → Type 0 = λ q. Of q c.args.h (λ y. y.regs.pc ≡ c.args.pc) in
     let settles : Settles r c.args.h c.args.pc c.settle.new.table.entries = λ k at. c.settle.ensures.entries k at in
     let n =
-    arrived r c.args.h c.args.pc (vec_capacity c.note.new.entries - vec_len c.note.new.entries) c.args.why c.args.mind c.note.new.entries.items c.repatch.new.machine c.settle.new.table.entries c.wants-wants.result f mind
+    arrived r c.args.h c.args.pc (vec_capacity c.note.new.entries - vec_len c.note.new.entries) c.args.why c.args.mind c.note.new.entries.items c.repatch.new.machine c.settle.new.table.entries c.rise.new.self c.wants-wants.result f mind
     c.requires.idle c.requires.before.runs (ap (λ (q : Run). other_holder q.hold c.args.h) c.self.view_is ∙ c.requires.before.free) (subst Q (sym c.self.view_is) c.requires.pc) (subst P (sym c.self.view_is) c.requires.stops) (ap (λ (q : Run). may_go q.opening (seen q)) c.self.view_is ∙ c.requires.before.may)
-    c.note.ensures.entries settles (c.wants-wants.ensures ∙ ap (λ (t : Table). wanted (wants_by t r.hold) c.args.pc) c.settle.ensures.rest) c.repatch.ensures.text c.repatch.ensures.rest in
+    c.note.ensures.entries settles c.rise.ensures (c.wants-wants.ensures ∙ ap (λ (t : Table). wanted (wants_by t r.hold) c.args.pc) c.settle.ensures.rest) c.repatch.ensures.text c.repatch.ensures.rest in
     let all : List Mind → Table = λ xs. record c.self.inside.table { entries = c.settle.new.table.entries; waits = map (awaited r.opening.image) xs } in
     let before = ap (λ (t : Table). let u : Table = record t { waits = map (awaited r.opening.image) c.as_slice.result.now } in u) c.settle.ensures.rest in
     rewaits (λ n. Halts r n c.args.h c.args.why) (new_run c) c.rewait.new.machine c.rewait.new.table n (record { table = c.rewait.ensures.table ∙ (before ∙ ap all c.as_slice.ensures.value); machine = c.rewait.ensures.machine })

@@ -1,4 +1,4 @@
-use Rattle.std.proofs.Common.{◌≡◌, ◌-◌, ◌+◌, ◌≤◌, false, true, List, length, map, refl, sym, ap, ◌∙◌, subst, arith, length-set}
+use Rattle.std.proofs.Common.{◌≡◌, ◌-◌, ◌+◌, List, length, map, refl, sym, ap, ◌∙◌, subst, arith, length-set}
 use Rattle.std.specs.Prelude.{Some, slice_get, slice_set, vec_len, vec_capacity}
 use Rattle.break_table.specs.Table.{Table}
 use Rattle.break_table.specs.Text.{is_place}
@@ -6,12 +6,11 @@ use Rattle.dbg_model.specs.Lawful.{may_go}
 use Rattle.engine_facts.specs.declared.mind.Mind.{Mind}
 use Rattle.engine_facts.specs.Minds.{awaited, counted_mind}
 use Rattle.engine_facts.specs.Seen.{Run, seen}
-use Rattle.engine_facts.specs.Facts.{Facts, other_holder}
 use Rattle.engine_facts.proofs.Awaiting.{waits_same}
 use Rattle.engine_facts.proofs.Breaking.{are_planted}
 use Rattle.dbg_engine.specs.EngineInside.{run_of}
 use Rattle.std.proofs.lemmas.Option.{slice_get_within}
-use Rattle.engine_facts.specs.Facts.{wanted, wants_of}
+use Rattle.engine_facts.specs.Facts.{wanted}
 use Rattle.engine_facts.specs.Tables.{ArePlanted}
 use Rattle.dbg_engine.specs.Changing.{wants_by}
 use Rattle.dbg_engine.specs.Calls.{Counts, Of, DueIs}

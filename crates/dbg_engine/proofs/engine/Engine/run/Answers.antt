@@ -20,7 +20,14 @@ returns-then-progress-eq0-clause-facts c =
     let r = run_of c.self.inside in
     let p = c.go-progress.result in
     let M : Patched → Type 0 = λ m. Facts (record r { machine = m }) in
-    subst M (sym (none_gone r.opening.image r.breaks c.args.h c.min-most.result p.turns p.instructions c.mind-mind.result.plan c.is_on.result r.machine c.go-progress.new.machine c.if-progress-eq0.true c.go-progress.ensures.goes)) c.self.invariant.facts
+    subst M (sym (none_gone r.opening.image r.breaks r.watches c.args.h c.min-most.result p.turns p.instructions c.mind-mind.result.plan c.is_on.result r.machine c.go-progress.new.machine c.if-progress-eq0.true c.go-progress.ensures.goes)) c.self.invariant.facts
+
+pub invariant_of-self : goal.invariant_of-self
+invariant_of-self c =
+    let r = run_of c.self.inside in
+    let p = c.go-progress.result in
+    let M : Patched → Type 0 = λ m. Facts (record r { machine = m }) in
+    record { facts = subst M (sym (none_gone r.opening.image r.breaks r.watches c.args.h c.min-most.result p.turns p.instructions c.mind-mind.result.plan c.is_on.result r.machine c.go-progress.new.machine c.if-progress-eq0.true c.go-progress.ensures.goes)) c.self.invariant.facts }
 
 pub invariant_of-self-2 : goal.invariant_of-self-2
 invariant_of-self-2 c =

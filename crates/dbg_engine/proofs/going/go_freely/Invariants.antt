@@ -1,6 +1,6 @@
 use Rattle.std.proofs.Common.{◌<◌, ◌≤◌, ◌-◌, length}
 use Rattle.dbg_engine.specs.Going.{Goes}
-use Rattle.dbg_engine.proofs.going.go.Given as goal
+use Rattle.dbg_engine.proofs.going.go_freely.Given as goal
 
 abbrev pub invariant-loop-turns : goal.invariant-loop-turns
 invariant-loop-turns l = record {
@@ -8,7 +8,7 @@ invariant-loop-turns l = record {
   limit : l.turns ≤ l.limit;
   most : l.instructions ≤ l.most;
   fewer : l.instructions ≤ l.turns;
-  goes : Goes l.course.image.now l.course.table.now.entries l.course.hart l.course.plan l.course.copies l.most l.turns l.instructions l.initial.machine l.machine;
+  goes : Goes l.course.image.now l.course.table.now.entries l.course.watches.now l.course.hart l.course.plan l.course.copies l.most l.turns l.instructions l.initial.machine l.machine;
 }
 
 abbrev pub decreases-loop-turns : goal.decreases-loop-turns
