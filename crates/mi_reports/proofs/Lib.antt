@@ -1,3 +1,12 @@
-pub mod Strings
+pub mod Pieces
+pub mod Bytes
+pub mod Names
+pub mod Proper
+pub mod Worths
+pub mod Watching
+pub mod Replying
+pub mod Grammar
+pub mod Stopping
 pub mod Saying
+pub mod Telling
 pub mod Leaving

@@ -1,48 +1,49 @@
 -- Breakpoints as they are listed (GDB manual, "GDB/MI Breakpoint Information"): a field that has nothing to say is left out.
-use Rattle.std.specs.Prelude.{ℕ, ◌==◌, Bool, true, false, List, [], ◌++◌, Option, Some, None, if◌then◌else◌, decimal, codes}
+use Rattle.std.specs.Prelude.{ℕ, ◌==◌, Bool, List, [], ◌∷◌, ◌++◌, Option, Some, None, if◌then◌else◌, decimal}
 use Rattle.dbg_model.specs.declared.breakpoint.Breakpoint.{Breakpoint}
-use Rattle.dbg_model.specs.declared.frame.SourceLine.{SourceLine}
-use Rattle.mi_reports.specs.Bytes.{word_text, c_string, text_field}
-use Rattle.mi_reports.specs.Frames.{line_fields}
-use Rattle.mi_reports.specs.Text.{disposition}
-use Rattle.mi_reports.specs.declared.reply_texts.TheConstants as text
+use Rattle.mi_values.specs.Tree.{Tree}
+use Rattle.mi_values.specs.Pieces.{tuple_of}
+use Rattle.mi_reports.specs.declared.words.Key.TheVariants as key
+use Rattle.mi_reports.specs.declared.words.Phrase.{Phrase}
+use Rattle.mi_reports.specs.declared.words.Phrase.TheVariants as phrase
+use Rattle.mi_reports.specs.Words.{key_text, phrase_text, says, says_some}
+use Rattle.mi_reports.specs.Bytes.{address_text}
+use Rattle.mi_reports.specs.Frames.{source_fields}
 
-abbrev pub enabled_text : Bool → List ℕ
-enabled_text true = text.YES.now
-enabled_text false = text.NO.now
+-- what becomes of a breakpoint that is hit
+abbrev pub disposition : Bool → Phrase
+disposition temporary = if temporary then phrase.Deleted else phrase.Kept
 
--- the line that it stands at
-abbrev pub breakpoint_line : Option SourceLine → List ℕ
-breakpoint_line None = []
-breakpoint_line (Some s) = codes "\"" ++ line_fields s
+abbrev pub enabled : Bool → Phrase
+enabled b = if b then phrase.Yes else phrase.No
 
-abbrev pub for_thread : Option ℕ → List ℕ
+abbrev pub for_thread : Option ℕ → List (List ℕ × Tree)
 for_thread None = []
-for_thread (Some thread) = text.THREAD_HEAD.now ++ decimal thread
+for_thread (Some thread) = says key.Thread (decimal thread) ∷ []
 
-abbrev pub ignored : ℕ → List ℕ
-ignored n = if n == 0 then [] else text.IGNORE_HEAD.now ++ decimal n
+abbrev pub ignored : ℕ → List (List ℕ × Tree)
+ignored n = if n == 0 then [] else says key.Ignore (decimal n) ∷ []
 
--- what a breakpoint is called, and whether it stays and is enabled
-unfoldable pub breakpoint_front : Breakpoint → List ℕ
-breakpoint_front b =
-    text.BREAKPOINT_HEAD.now ++ decimal b.number ++ text.DISPOSITION_HEAD.now ++ disposition b.temporary ++ text.ENABLED_HEAD.now ++ enabled_text b.enabled
+-- whether it stays and is enabled, and where it stands
+unfoldable pub front_fields : Breakpoint → List (List ℕ × Tree)
+front_fields b =
+    says key.Type (phrase_text phrase.BreakpointType) ∷ says key.Disp (phrase_text (disposition b.temporary)) ∷
+    says key.Enabled (phrase_text (enabled b.enabled)) ∷ says key.Addr (address_text b.address) ∷ []
 
--- where it stands
-unfoldable pub breakpoint_place : Breakpoint → List ℕ
-breakpoint_place b = text.ADDRESS_HEAD.now ++ word_text b.address ++ text_field (codes "\",func=\"") b.function ++ breakpoint_line b.source
+-- the function and the line that it stands in
+unfoldable pub place_fields : Breakpoint → List (List ℕ × Tree)
+place_fields b = says_some key.Func b.function ++ source_fields b.source
 
 -- when it stops, and whom
-unfoldable pub breakpoint_terms : Breakpoint → List ℕ
-breakpoint_terms b = text_field text.CONDITION_HEAD.now b.condition ++ for_thread b.thread
+unfoldable pub term_fields : Breakpoint → List (List ℕ × Tree)
+term_fields b = says_some key.Cond b.condition ++ for_thread b.thread
 
--- its arrivals, and how many more are only counted
-unfoldable pub breakpoint_counts : Breakpoint → List ℕ
-breakpoint_counts b = text.TIMES_HEAD.now ++ decimal b.times ++ ignored b.ignore
+-- its arrivals, how many more are only counted, and where it was asked for
+unfoldable pub count_fields : Breakpoint → List (List ℕ × Tree)
+count_fields b = (says key.Times (decimal b.times) ∷ ignored b.ignore) ++ (says key.OriginalLocation b.location ∷ [])
 
--- where it was asked for
-unfoldable pub breakpoint_location : Breakpoint → List ℕ
-breakpoint_location b = text.LOCATION_HEAD.now ++ c_string b.location ++ text.FIELD_TAIL.now
+unfoldable pub breakpoint_fields : Breakpoint → List (List ℕ × Tree)
+breakpoint_fields b = says key.Number (decimal b.number) ∷ (front_fields b ++ (place_fields b ++ (term_fields b ++ count_fields b)))
 
-unfoldable pub breakpoint_text : Breakpoint → List ℕ
-breakpoint_text b = breakpoint_front b ++ breakpoint_place b ++ breakpoint_terms b ++ breakpoint_counts b ++ breakpoint_location b
+unfoldable pub breakpoint_field : Breakpoint → List ℕ × Tree
+breakpoint_field b = (key_text key.Bkpt, tuple_of (breakpoint_fields b))

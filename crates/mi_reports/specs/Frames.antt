@@ -1,33 +1,35 @@
 -- Frames and lines of the source (GDB manual, "GDB/MI Frame Information"): a field of which nothing is known is left out.
-use Rattle.std.specs.Prelude.{ℕ, ◌+◌, List, [], ◌∷◌, ◌++◌, Option, Some, None, decimal, codes}
+use Rattle.std.specs.Prelude.{ℕ, ◌+◌, List, [], ◌∷◌, ◌++◌, Option, Some, None, decimal}
 use Rattle.dbg_model.specs.declared.frame.ShownFrame.{ShownFrame}
 use Rattle.dbg_model.specs.declared.frame.SourceLine.{SourceLine}
-use Rattle.mi_reports.specs.Bytes.{word_text, c_string, text_field}
+use Rattle.mi_values.specs.Tree.{Tree, items, no_item}
+use Rattle.mi_values.specs.Pieces.{tuple_of, in_brackets}
+use Rattle.mi_reports.specs.declared.words.Key.TheVariants as key
+use Rattle.mi_reports.specs.Words.{key_text, says, says_some}
+use Rattle.mi_reports.specs.Bytes.{address_text}
 
--- the fields of a line, to its last digit
-abbrev pub line_fields : SourceLine → List ℕ
-line_fields s = codes ",file=\"" ++ c_string s.file ++ codes "\",line=\"" ++ decimal s.line
+-- a line of a file
+abbrev pub source_fields : Option SourceLine → List (List ℕ × Tree)
+source_fields None = []
+source_fields (Some s) = says key.File s.file ∷ says key.Line (decimal s.line) ∷ []
 
-abbrev pub frame_line : Option SourceLine → List ℕ
-frame_line None = []
-frame_line (Some s) = line_fields s ++ codes "\""
-
--- the field of a frame's place in its stack
-abbrev pub frame_level : Option ℕ → List ℕ
-frame_level None = []
-frame_level (Some level) = codes "level=\"" ++ decimal level ++ codes "\","
+-- behind the address
+unfoldable pub frame_rest : ShownFrame → List (List ℕ × Tree)
+frame_rest f = says_some key.Func f.function ++ ((key_text key.Args, items no_item) ∷ source_fields f.source)
 
 -- a frame, with its place in the stack where that is told
-unfoldable pub frame_text : Option ℕ → ShownFrame → List ℕ
-frame_text level f =
-    codes "frame={" ++ frame_level level ++ codes "addr=\"0x" ++ word_text f.address ++ text_field (codes "\",func=\"") f.function ++ codes "\",args=[]" ++ frame_line f.source ++ codes "}"
+unfoldable pub frame_fields : Option ℕ → ShownFrame → List (List ℕ × Tree)
+frame_fields None f = says key.Addr (address_text f.address) ∷ frame_rest f
+frame_fields (Some level) f = says key.Level (decimal level) ∷ says key.Addr (address_text f.address) ∷ frame_rest f
 
--- the frames of a stack behind others, of which the first has this level
-abbrev pub outer_frames : ℕ → List ShownFrame → List ℕ
-outer_frames level [] = []
-outer_frames level (f ∷ fs) = 44 ∷ (frame_text (Some level) f ++ outer_frames (level + 1) fs)
+unfoldable pub frame_field : Option ℕ → ShownFrame → List ℕ × Tree
+frame_field level f = (key_text key.Frame, tuple_of (frame_fields level f))
+
+-- the frames of a stack, of which the first has this level
+abbrev pub stack_fields : ℕ → List ShownFrame → List (List ℕ × Tree)
+stack_fields level [] = []
+stack_fields level (f ∷ fs) = frame_field (Some level) f ∷ stack_fields (level + 1) fs
 
 -- the frames of a stack, counted from 0
-abbrev pub stack_frames : List ShownFrame → List ℕ
-stack_frames [] = []
-stack_frames (f ∷ fs) = frame_text (Some 0) f ++ outer_frames 1 fs
+abbrev pub stack_tree : List ShownFrame → Tree
+stack_tree fs = in_brackets (stack_fields 0 fs)

@@ -1,9 +1,14 @@
 pub mod Bytes
-pub mod Lists
+pub mod Words
+pub mod Messages
 pub mod Frames
-pub mod Text
 pub mod Breakpoints
+pub mod Watches
+pub mod Table
 pub mod Errors
+pub mod Text
 pub mod Replies
+pub mod Triggers
 pub mod Said
 pub mod Refusals
+pub mod Fits

@@ -1,8 +1,16 @@
--- The one line of a session that isn't begun.
-use Rattle.std.specs.Prelude.{ℕ, List, ◌++◌, decimal, codes}
+-- The one line of a session that isn't begun: this project's own.
+use Rattle.std.specs.Prelude.{ℕ, List, [], ◌∷◌, ◌++◌, decimal, codes}
 use Rattle.elf32_read.specs.declared.fault.ElfKind.{ElfKind}
 use Rattle.elf32_read.specs.declared.fault.ElfKind.TheVariants as kind
 use Rattle.elf32_read.specs.declared.fault.ElfFault.{ElfFault}
+use Rattle.mi_values.specs.Tree.{Tree}
+use Rattle.mi_values.specs.Record.{LineTree}
+use Rattle.mi_values.specs.Pieces.{result_of}
+use Rattle.mi_values.specs.Records.{lines_bytes}
+use Rattle.mi_reports.specs.declared.words.Key.TheVariants as key
+use Rattle.mi_reports.specs.declared.parts.Part.TheVariants as parts
+use Rattle.mi_reports.specs.Words.{key_text, says}
+use Rattle.mi_reports.specs.Messages.{part_text}
 
 abbrev pub kind_name : ElfKind → List ℕ
 kind_name kind.Short = codes "Short"
@@ -18,6 +26,20 @@ kind_name kind.Text = codes "Text"
 kind_name kind.Entry = codes "Entry"
 kind_name kind.Large = codes "Large"
 
+-- an error without a token, and no prompt behind it
+abbrev pub refusal_lines : List (List ℕ × Tree) → List LineTree
+refusal_lines fields = result_of [] (key_text key.Error) fields ∷ []
+
 -- the file is refused
+unfoldable pub file_fields : ElfFault → List (List ℕ × Tree)
+file_fields f = says key.Message (part_text parts.BadFile ++ kind_name f.kind ++ part_text parts.AtPlace ++ decimal f.place) ∷ []
+
 unfoldable pub bad_file : ElfFault → List ℕ
-bad_file f = codes "^error,msg=\"Not an accepted ELF file: " ++ kind_name f.kind ++ codes " at " ++ decimal f.place ++ codes "\"\n"
+bad_file f = lines_bytes (refusal_lines (file_fields f))
+
+-- the words of the command line are refused
+unfoldable pub usage_fields : List (List ℕ × Tree)
+usage_fields = says key.Message (part_text parts.Usage) ∷ []
+
+unfoldable pub usage : List ℕ
+usage = lines_bytes (refusal_lines usage_fields)

@@ -1,101 +1,156 @@
--- The lines of what entries show (GDB manual, "GDB/MI Async Records", "GDB/MI Result Records").
+-- The lines of what entries show (GDB manual, "GDB/MI Async Records", "GDB/MI Stream Records"), and their texts.
 use Rattle.std.specs.Prelude.{ℕ, zero, suc, ◌+◌, ◌==◌, Bool, List, [], ◌∷◌, ◌++◌, Option, Some, None, if◌then◌else◌, decimal}
 use Rattle.rv_exec.specs.declared.effect.Cause.{Cause}
 use Rattle.rv_exec.specs.declared.effect.Cause.TheVariants.{FetchAlign, LoadFault, StoreFault, LoadAlign, StoreAlign, Break, Illegal, FetchFault}
 use Rattle.break_table.specs.declared.due.CondError.{CondError}
-use Rattle.break_table.specs.declared.due.CondError.TheVariants.{DivZero, Unread}
 use Rattle.dbg_model.specs.declared.entry.Entry.{Entry}
-use Rattle.dbg_model.specs.declared.entry.Entry.TheVariants.{Ran, Counted, Stopped, Left, Did}
+use Rattle.dbg_model.specs.declared.entry.Entry.TheVariants.{Ran, Counted, Stopped, Left, Did, Poked}
 use Rattle.dbg_model.specs.declared.frame.ShownFrame.{ShownFrame}
-use Rattle.mi_reports.specs.Bytes.{word_text, octal, c_string}
-use Rattle.mi_reports.specs.Frames.{frame_text}
-use Rattle.mi_reports.specs.declared.texts.TheConstants.{CREATED_HEAD, EXITED_HEAD, GROUP_TAIL, PROMPT, SIGNAL_HEAD, BREAK_HEAD, STEPPED_HEAD, FINISHED_HEAD, KEPT, DELETED, BREAK_NUMBER_HEAD, SEGMENTATION_FAULT, BUS_ERROR, ILLEGAL_INSTRUCTION, TRAP, INTERRUPT, NEXT_FIELD, THREAD_HEAD, STOPPED_HEAD, STOPPED_TAIL, EXITED_NORMALLY, EXIT_CODE_HEAD, LINE_TAIL, STREAM_HEAD, LOG_HEAD, CONDITION_ERROR, COLON, DIVISION_BY_ZERO, UNREADABLE}
+use Rattle.mi_values.specs.declared.sign.NoticeSign.TheVariants.{Exec, Notify}
+use Rattle.mi_values.specs.declared.sign.StreamSign.TheVariants.{Target, Log}
+use Rattle.mi_values.specs.Tree.{Tree, text, items, item, no_item}
+use Rattle.mi_values.specs.Record.{LineTree, stream, prompt}
+use Rattle.mi_values.specs.Pieces.{notice_of}
+use Rattle.mi_values.specs.Records.{lines_bytes}
+use Rattle.mi_reports.specs.declared.words.Key.{Key}
+use Rattle.mi_reports.specs.declared.words.Key.TheVariants as key
+use Rattle.mi_reports.specs.declared.words.Phrase.{Phrase}
+use Rattle.mi_reports.specs.declared.words.Phrase.TheVariants as phrase
+use Rattle.mi_reports.specs.Words.{key_text, phrase_text, says}
+use Rattle.mi_reports.specs.Bytes.{exit_code}
+use Rattle.mi_reports.specs.Frames.{frame_field}
+use Rattle.mi_reports.specs.Breakpoints.{disposition}
+use Rattle.mi_reports.specs.Errors.{condition_message}
+
+-- ---- threads; harts are counted from 0, threads from 1
+
+-- the thread of hart h, in its group
+unfoldable pub thread_fields : ℕ → List (List ℕ × Tree)
+thread_fields h = says key.Id (decimal (h + 1)) ∷ says key.GroupId (phrase_text phrase.Group) ∷ []
+
+-- such a thread was created, or has exited
+unfoldable pub thread_line : Key → ℕ → LineTree
+thread_line class h = notice_of Notify (key_text class) (thread_fields h)
 
 -- a line for each of the first n threads
-abbrev pub created : ℕ → List ℕ
-created zero = []
-created (suc n) = created n ++ CREATED_HEAD.now ++ decimal (n + 1) ++ GROUP_TAIL.now
+abbrev pub created_lines : ℕ → List LineTree
+created_lines zero = []
+created_lines (suc n) = created_lines n ++ thread_line key.ThreadCreated n ∷ []
 
 -- the lines that a session of so many harts opens with
-unfoldable pub opening_text : ℕ → List ℕ
-opening_text harts = created harts ++ PROMPT.now
+abbrev pub opening_lines : ℕ → List LineTree
+opening_lines harts = created_lines harts ++ prompt ∷ []
 
--- the signal of a cause, with its meaning
-abbrev pub signal : Cause → List ℕ
-signal FetchAlign = BUS_ERROR.now
-signal LoadFault = SEGMENTATION_FAULT.now
-signal StoreFault = SEGMENTATION_FAULT.now
-signal LoadAlign = BUS_ERROR.now
-signal StoreAlign = BUS_ERROR.now
-signal Break = TRAP.now
-signal Illegal = ILLEGAL_INSTRUCTION.now
-signal FetchFault = SEGMENTATION_FAULT.now
+unfoldable pub opening_text : ℕ → List ℕ
+opening_text harts = lines_bytes (opening_lines harts)
+
+-- ---- stops
 
 -- hart h stopped in this frame
-unfoldable pub place_text : ℕ → ShownFrame → List ℕ
-place_text h frame =
-    NEXT_FIELD.now ++ frame_text None frame ++ THREAD_HEAD.now ++ decimal (h + 1) ++ STOPPED_HEAD.now ++ decimal (h + 1) ++ STOPPED_TAIL.now
+unfoldable pub place_fields : ℕ → ShownFrame → List (List ℕ × Tree)
+place_fields h frame =
+    frame_field None frame ∷ says key.ThreadId (decimal (h + 1)) ∷ (key_text key.StoppedThreads, items (item (text (decimal (h + 1))) no_item)) ∷ []
 
--- hart h stopped in this frame by a signal, which is given with its meaning
-unfoldable pub signal_text : List ℕ → ℕ → ShownFrame → List ℕ
-signal_text name h frame = SIGNAL_HEAD.now ++ name ++ place_text h frame
+-- something stopped
+unfoldable pub stopped_line : List (List ℕ × Tree) → LineTree
+stopped_line fields = notice_of Exec (key_text key.Stopped) fields
+
+-- hart h stopped in this frame by a signal
+unfoldable pub signal_fields : Phrase → Phrase → ℕ → ShownFrame → List (List ℕ × Tree)
+signal_fields name meaning h frame =
+    says key.Reason (phrase_text phrase.SignalReceived) ∷ says key.SignalName (phrase_text name) ∷ says key.SignalMeaning (phrase_text meaning) ∷ place_fields h frame
+
+-- hart h stopped in this frame, for a reason that its place says all of
+unfoldable pub end_fields : Phrase → ℕ → ShownFrame → List (List ℕ × Tree)
+end_fields reason h frame = says key.Reason (phrase_text reason) ∷ place_fields h frame
+
+-- hart h stopped in this frame by the breakpoint of that number
+unfoldable pub hit_fields : Bool → ℕ → ℕ → ShownFrame → List (List ℕ × Tree)
+hit_fields temporary number h frame =
+    says key.Reason (phrase_text phrase.BreakpointHit) ∷ says key.Disp (phrase_text (disposition temporary)) ∷ says key.BkptNumber (decimal number) ∷ place_fields h frame
+
+abbrev pub signal_name : Cause → Phrase
+signal_name FetchAlign = phrase.Sigbus
+signal_name LoadFault = phrase.Sigsegv
+signal_name StoreFault = phrase.Sigsegv
+signal_name LoadAlign = phrase.Sigbus
+signal_name StoreAlign = phrase.Sigbus
+signal_name Break = phrase.Sigtrap
+signal_name Illegal = phrase.Sigill
+signal_name FetchFault = phrase.Sigsegv
+
+abbrev pub signal_meaning : Cause → Phrase
+signal_meaning FetchAlign = phrase.BusError
+signal_meaning LoadFault = phrase.SegmentationFault
+signal_meaning StoreFault = phrase.SegmentationFault
+signal_meaning LoadAlign = phrase.BusError
+signal_meaning StoreAlign = phrase.BusError
+signal_meaning Break = phrase.Trap
+signal_meaning Illegal = phrase.IllegalInstruction
+signal_meaning FetchFault = phrase.SegmentationFault
 
 -- hart h stopped in this frame by a fault
+abbrev pub stop_lines : Cause → ℕ → ShownFrame → List LineTree
+stop_lines cause h frame = stopped_line (signal_fields (signal_name cause) (signal_meaning cause) h frame) ∷ []
+
 unfoldable pub stop_text : Cause → ℕ → ShownFrame → List ℕ
-stop_text cause h frame = signal_text (signal cause) h frame
+stop_text cause h frame = lines_bytes (stop_lines cause h frame)
 
 -- hart h stopped in this frame by an interrupt that was asked of it
+abbrev pub interrupt_lines : ℕ → ShownFrame → List LineTree
+interrupt_lines h frame = stopped_line (signal_fields phrase.Sigint phrase.Interrupt h frame) ∷ []
+
 unfoldable pub interrupt_text : ℕ → ShownFrame → List ℕ
-interrupt_text h frame = signal_text INTERRUPT.now h frame
+interrupt_text h frame = lines_bytes (interrupt_lines h frame)
 
 -- hart h stopped in this frame where its step ends
+abbrev pub stepped_lines : ℕ → ShownFrame → List LineTree
+stepped_lines h frame = stopped_line (end_fields phrase.EndSteppingRange h frame) ∷ []
+
 unfoldable pub stepped_text : ℕ → ShownFrame → List ℕ
-stepped_text h frame = STEPPED_HEAD.now ++ place_text h frame
+stepped_text h frame = lines_bytes (stepped_lines h frame)
 
 -- hart h stopped in this frame, to which the function that it was to finish has returned
+abbrev pub finished_lines : ℕ → ShownFrame → List LineTree
+finished_lines h frame = stopped_line (end_fields phrase.FunctionFinished h frame) ∷ []
+
 unfoldable pub finished_text : ℕ → ShownFrame → List ℕ
-finished_text h frame = FINISHED_HEAD.now ++ place_text h frame
+finished_text h frame = lines_bytes (finished_lines h frame)
 
--- what becomes of a breakpoint that is hit
-abbrev pub disposition : Bool → List ℕ
-disposition temporary = if temporary then DELETED.now else KEPT.now
-
--- why the value of a condition can't be had
-abbrev pub error_text : CondError → List ℕ
-error_text DivZero = DIVISION_BY_ZERO.now
-error_text (Unread addr) = UNREADABLE.now ++ word_text addr
-
--- what is told of such a condition, before its bytes are written as a C string: a line of its own
-abbrev pub condition_message : ℕ → CondError → List ℕ
-condition_message number e = CONDITION_ERROR.now ++ decimal number ++ COLON.now ++ error_text e ++ 10 ∷ []
-
--- the line of the condition of that breakpoint; none where it had a value (GDB manual, "GDB/MI Stream Records": the log)
-unfoldable pub condition_text : ℕ → Option CondError → List ℕ
-condition_text number None = []
-condition_text number (Some e) = LOG_HEAD.now ++ c_string (condition_message number e) ++ LINE_TAIL.now
-
--- the line of a stop by the breakpoint of that number
-unfoldable pub hit_text : Bool → ℕ → ℕ → ShownFrame → List ℕ
-hit_text temporary number h frame = BREAK_HEAD.now ++ disposition temporary ++ BREAK_NUMBER_HEAD.now ++ decimal number ++ place_text h frame
+-- the line of the condition of that breakpoint; none where it had a value
+abbrev pub condition_lines : ℕ → Option CondError → List LineTree
+condition_lines number None = []
+condition_lines number (Some e) = stream Log (condition_message number e) ∷ []
 
 -- hart h stopped in this frame by the breakpoint of that number, whose condition had this error
+abbrev pub break_lines : Bool → ℕ → Option CondError → ℕ → ShownFrame → List LineTree
+break_lines temporary number error h frame = condition_lines number error ++ stopped_line (hit_fields temporary number h frame) ∷ []
+
 unfoldable pub break_text : Bool → ℕ → Option CondError → ℕ → ShownFrame → List ℕ
-break_text temporary number error h frame = condition_text number error ++ hit_text temporary number h frame
+break_text temporary number error h frame = lines_bytes (break_lines temporary number error h frame)
+
+-- ---- exits
 
 -- hart h has exited
+abbrev pub gone_lines : ℕ → List LineTree
+gone_lines h = thread_line key.ThreadExited h ∷ []
+
 unfoldable pub gone_text : ℕ → List ℕ
-gone_text h = EXITED_HEAD.now ++ decimal (h + 1) ++ GROUP_TAIL.now
+gone_text h = lines_bytes (gone_lines h)
 
--- the program has exited
+-- the program has exited with a code
+unfoldable pub exit_fields : ℕ → List (List ℕ × Tree)
+exit_fields code =
+    if code == 0 then says key.Reason (phrase_text phrase.ExitedNormally) ∷ []
+    else says key.Reason (phrase_text phrase.Exited) ∷ says key.ExitCode (exit_code code) ∷ []
+
+abbrev pub exit_lines : ℕ → List LineTree
+exit_lines code = stopped_line (exit_fields code) ∷ []
+
 unfoldable pub exit_text : ℕ → List ℕ
-exit_text code = if code == 0 then EXITED_NORMALLY.now else EXIT_CODE_HEAD.now ++ octal code ++ LINE_TAIL.now
+exit_text code = lines_bytes (exit_lines code)
 
--- the bytes that an instruction wrote
-unfoldable pub stream_text : List ℕ → List ℕ
-stream_text [] = []
-stream_text (b ∷ bs) = STREAM_HEAD.now ++ c_string (b ∷ bs) ++ LINE_TAIL.now
-
--- the lines of exits, without that of the program
+-- the texts of exits, without that of the program
 abbrev pub gone_texts : List Entry → List ℕ
 gone_texts [] = []
 gone_texts (Left h code ∷ es) = gone_text h ++ gone_texts es
@@ -103,7 +158,31 @@ gone_texts (Ran h n ∷ es) = gone_texts es
 gone_texts (Counted h ∷ es) = gone_texts es
 gone_texts (Stopped h why ∷ es) = gone_texts es
 gone_texts (Did line ∷ es) = gone_texts es
+gone_texts (Poked p ∷ es) = gone_texts es
 
--- the lines of exits, of which the last may be that of the program
+-- the texts of exits, of which the last may be that of the program
 abbrev pub lefts_text : List Entry → Bool → ℕ → List ℕ
 lefts_text es all code = gone_texts es ++ (if all then exit_text code else [])
+
+-- the trees of these lines
+abbrev pub gone_trees : List Entry → List LineTree
+gone_trees [] = []
+gone_trees (Left h code ∷ es) = gone_lines h ++ gone_trees es
+gone_trees (Ran h n ∷ es) = gone_trees es
+gone_trees (Counted h ∷ es) = gone_trees es
+gone_trees (Stopped h why ∷ es) = gone_trees es
+gone_trees (Did line ∷ es) = gone_trees es
+gone_trees (Poked p ∷ es) = gone_trees es
+
+abbrev pub lefts_lines : List Entry → Bool → ℕ → List LineTree
+lefts_lines es all code = gone_trees es ++ (if all then exit_lines code else [])
+
+-- ---- output
+
+-- the bytes that an instruction wrote; no line where it wrote none
+abbrev pub stream_lines : List ℕ → List LineTree
+stream_lines [] = []
+stream_lines (b ∷ bs) = stream Target (b ∷ bs) ∷ []
+
+unfoldable pub stream_text : List ℕ → List ℕ
+stream_text bytes = lines_bytes (stream_lines bytes)

@@ -1,128 +1,123 @@
 // Breakpoints as they are listed.
-ghost use Rattle.std.specs.Prelude.{◌≡◌, ◌++◌, decimal, OnOk};
-ghost use Rattle.mi_reports.specs.Breakpoints.{enabled_text, breakpoint_line, for_thread, ignored, breakpoint_front, breakpoint_place, breakpoint_terms, breakpoint_counts, breakpoint_location, breakpoint_text};
-ghost use Rattle.mi_reports.specs.Lists.{behind_commas, joined};
+ghost use Rattle.std.specs.Prelude.{◌≡◌, ◌∷◌, [], ◌++◌, OnOk, true, ◌&&◌};
+ghost use Rattle.mi_values.specs.Pieces.{behind, pieces, between_commas};
+ghost use Rattle.mi_values.specs.Testing.{are_bytes};
+ghost use Rattle.mi_reports.specs.Fits.{text_fits, source_fits, breakpoint_fits};
+ghost use Rattle.mi_reports.specs.Breakpoints.{disposition, enabled, for_thread, ignored, front_fields, place_fields, term_fields, count_fields, breakpoint_fields, breakpoint_field};
 
-use crate::frames::push_line;
-use crate::numbers::{push, push_at, push_c_string, push_decimal, push_text_field, push_word};
-use crate::report::disposition;
-use crate::{reply_texts as text, texts};
-use dbg_model::{Breakpoint, SourceLine};
+use crate::fields::{
+    push_address, push_first_number, push_number, push_phrase, push_some, push_text, push_word,
+};
+use crate::frames::push_source;
+use crate::words::{Key, Phrase, name};
+use dbg_model::Breakpoint;
+use mi_values::write_key;
 use std::alloc::AllocError;
 
-fn enabled_text(enabled: bool) -> &'static str
-    ensures { result.now ≡ enabled_text enabled }
+/// What becomes of a breakpoint that is hit.
+pub fn disposition(temporary: bool) -> Phrase
+    ensures { result ≡ disposition temporary }
 {
-    if enabled { text::YES } else { text::NO }
+    if temporary {
+        Phrase::Deleted
+    } else {
+        Phrase::Kept
+    }
 }
 
-fn push_breakpoint_line(into: &mut Vec<u8>, source: &Option<SourceLine>) -> Result<(), AllocError>
-    ensures { OnOk result (into.new.items ≡ into.old.items ++ breakpoint_line source.now) }
+/// Whether it stops harts.
+pub fn enabled(on: bool) -> Phrase
+    ensures { result ≡ enabled on }
 {
-    let Some(source) = source else {
-        return Ok(());
-    };
-    push(into, texts::QUOTE)?;
-    push_line(into, source)
+    if on { Phrase::Yes } else { Phrase::No }
 }
 
 fn push_for_thread(into: &mut Vec<u8>, thread: Option<u32>) -> Result<(), AllocError>
-    ensures { OnOk result (into.new.items ≡ into.old.items ++ for_thread thread) }
+    ensures { OnOk result (into.new.items ≡ into.old.items ++ pieces (for_thread thread)) }
 {
     let Some(thread) = thread else {
         return Ok(());
     };
-    push(into, text::THREAD_HEAD)?;
-    push_word(into, thread)
+    push_word(into, Key::Thread, thread)
 }
 
 fn push_ignored(into: &mut Vec<u8>, ignore: u32) -> Result<(), AllocError>
-    ensures { OnOk result (into.new.items ≡ into.old.items ++ ignored ignore) }
+    ensures { OnOk result (into.new.items ≡ into.old.items ++ pieces (ignored ignore)) }
 {
     if ignore == 0 {
         return Ok(());
     }
-    push(into, text::IGNORE_HEAD)?;
-    push_word(into, ignore)
+    push_word(into, Key::Ignore, ignore)
 }
 
-#[tactic(auto, unfolding(crate::specs::Breakpoints::breakpoint_front))]
+#[tactic(auto, unfolding(crate::specs::Breakpoints::front_fields))]
 fn push_front(into: &mut Vec<u8>, breakpoint: &Breakpoint) -> Result<(), AllocError>
-    ensures { OnOk result (into.new.items ≡ into.old.items ++ breakpoint_front breakpoint.now) }
+    ensures { OnOk result (into.new.items ≡ into.old.items ++ pieces (front_fields breakpoint.now)) }
 {
-    push(into, text::BREAKPOINT_HEAD)?;
-    push_word(into, breakpoint.number)?;
-    push(into, text::DISPOSITION_HEAD)?;
-    push(into, disposition(breakpoint.temporary))?;
-    push(into, text::ENABLED_HEAD)?;
-    push(into, enabled_text(breakpoint.enabled))
+    push_phrase(into, Key::Type, Phrase::BreakpointType)?;
+    push_phrase(into, Key::Disp, disposition(breakpoint.temporary))?;
+    push_phrase(into, Key::Enabled, enabled(breakpoint.enabled))?;
+    push_address(into, Key::Addr, breakpoint.address)
 }
 
-#[tactic(auto, unfolding(crate::specs::Breakpoints::breakpoint_place))]
+#[tactic(auto, using(std::proofs::lemmas::Grind::common_steps), unfolding(crate::specs::Breakpoints::place_fields))]
 fn push_place(into: &mut Vec<u8>, breakpoint: &Breakpoint) -> Result<(), AllocError>
-    ensures { OnOk result (into.new.items ≡ into.old.items ++ breakpoint_place breakpoint.now) }
+    ensures written { OnOk result (into.new.items ≡ into.old.items ++ pieces (place_fields breakpoint.now)) }
+    ensures fits { OnOk result (text_fits breakpoint.now.function && source_fits breakpoint.now.source ≡ true) }
 {
-    push_at(into, text::ADDRESS_HEAD, breakpoint.address)?;
-    push_text_field(into, texts::FUNCTION_HEAD, &breakpoint.function)?;
-    push_breakpoint_line(into, &breakpoint.source)
+    push_some(into, Key::Func, &breakpoint.function)?;
+    push_source(into, &breakpoint.source)
 }
 
-#[tactic(auto, unfolding(crate::specs::Breakpoints::breakpoint_terms))]
+#[tactic(auto, using(std::proofs::lemmas::Grind::common_steps), unfolding(crate::specs::Breakpoints::term_fields))]
 fn push_terms(into: &mut Vec<u8>, breakpoint: &Breakpoint) -> Result<(), AllocError>
-    ensures { OnOk result (into.new.items ≡ into.old.items ++ breakpoint_terms breakpoint.now) }
+    ensures written { OnOk result (into.new.items ≡ into.old.items ++ pieces (term_fields breakpoint.now)) }
+    ensures fits { OnOk result (text_fits breakpoint.now.condition ≡ true) }
 {
-    push_text_field(into, text::CONDITION_HEAD, &breakpoint.condition)?;
+    push_some(into, Key::Cond, &breakpoint.condition)?;
     push_for_thread(into, breakpoint.thread)
 }
 
-#[tactic(auto, unfolding(crate::specs::Breakpoints::breakpoint_counts))]
+#[tactic(auto, using(std::proofs::lemmas::Grind::common_steps), unfolding(crate::specs::Breakpoints::count_fields))]
 fn push_counts(into: &mut Vec<u8>, breakpoint: &Breakpoint) -> Result<(), AllocError>
-    ensures { OnOk result (into.new.items ≡ into.old.items ++ breakpoint_counts breakpoint.now) }
+    ensures written { OnOk result (into.new.items ≡ into.old.items ++ pieces (count_fields breakpoint.now)) }
+    ensures fits { OnOk result (are_bytes breakpoint.now.location ≡ true) }
 {
-    push(into, text::TIMES_HEAD)?;
-    push_decimal(into, breakpoint.times)?;
-    push_ignored(into, breakpoint.ignore)
+    push_number(into, Key::Times, breakpoint.times)?;
+    push_ignored(into, breakpoint.ignore)?;
+    push_text(into, Key::OriginalLocation, breakpoint.location.as_slice())
 }
 
-#[tactic(auto, unfolding(crate::specs::Breakpoints::breakpoint_location))]
-fn push_location(into: &mut Vec<u8>, breakpoint: &Breakpoint) -> Result<(), AllocError>
-    ensures { OnOk result (into.new.items ≡ into.old.items ++ breakpoint_location breakpoint.now) }
+#[tactic(auto, using(std::proofs::lemmas::Grind::common_steps), unfolding(crate::specs::Breakpoints::breakpoint_fields, crate::specs::Fits::breakpoint_fits))]
+fn push_fields(into: &mut Vec<u8>, breakpoint: &Breakpoint) -> Result<(), AllocError>
+    ensures written { OnOk result (into.new.items ≡ into.old.items ++ between_commas (breakpoint_fields breakpoint.now)) }
+    ensures fits { OnOk result (breakpoint_fits breakpoint.now ≡ true) }
 {
-    push(into, text::LOCATION_HEAD)?;
-    push_c_string(into, breakpoint.location.as_slice())?;
-    push(into, text::FIELD_TAIL)
-}
-
-/// Appends a breakpoint with its fields.
-#[tactic(auto, unfolding(crate::specs::Breakpoints::breakpoint_text))]
-pub fn push_breakpoint(into: &mut Vec<u8>, breakpoint: &Breakpoint) -> Result<(), AllocError>
-    ensures { OnOk result (into.new.items ≡ into.old.items ++ breakpoint_text breakpoint.now) }
-{
+    push_first_number(into, Key::Number, u64::from(breakpoint.number))?;
     push_front(into, breakpoint)?;
     push_place(into, breakpoint)?;
     push_terms(into, breakpoint)?;
-    push_counts(into, breakpoint)?;
-    push_location(into, breakpoint)
+    push_counts(into, breakpoint)
 }
 
-fn push_more_breakpoints(into: &mut Vec<u8>, breakpoints: &[Breakpoint]) -> Result<(), AllocError>
-    ensures { OnOk result (into.new.items ≡ into.old.items ++ behind_commas breakpoint_text breakpoints.now) }
+/// Appends a breakpoint, the first among fields.
+#[tactic(auto, using(std::proofs::lemmas::Grind::common_steps, mi_values::proofs::Pieces::tuple_pieces), unfolding(crate::specs::Breakpoints::breakpoint_field, mi_values::specs::Pieces::piece))]
+pub fn push_first_breakpoint(into: &mut Vec<u8>, breakpoint: &Breakpoint) -> Result<(), AllocError>
+    ensures written { OnOk result (into.new.items ≡ into.old.items ++ between_commas (breakpoint_field breakpoint.now ∷ [])) }
+    ensures fits { OnOk result (breakpoint_fits breakpoint.now ≡ true) }
 {
-    let [breakpoint, rest @ ..] = breakpoints else {
-        return Ok(());
-    };
+    write_key(name(Key::Bkpt), into)?;
+    into.push(b'{')?;
+    push_fields(into, breakpoint)?;
+    into.push(b'}')?;
+    Ok(())
+}
+
+/// Appends a breakpoint with its fields.
+pub fn push_breakpoint(into: &mut Vec<u8>, breakpoint: &Breakpoint) -> Result<(), AllocError>
+    ensures written { OnOk result (into.new.items ≡ into.old.items ++ behind (breakpoint_field breakpoint.now)) }
+    ensures fits { OnOk result (breakpoint_fits breakpoint.now ≡ true) }
+{
     into.push(b',')?;
-    push_breakpoint(into, breakpoint)?;
-    push_more_breakpoints(into, rest)
-}
-
-/// Appends breakpoints with commas between.
-pub fn push_breakpoints(into: &mut Vec<u8>, breakpoints: &[Breakpoint]) -> Result<(), AllocError>
-    ensures { OnOk result (into.new.items ≡ into.old.items ++ joined breakpoint_text breakpoints.now) }
-{
-    let [breakpoint, rest @ ..] = breakpoints else {
-        return Ok(());
-    };
-    push_breakpoint(into, breakpoint)?;
-    push_more_breakpoints(into, rest)
+    push_first_breakpoint(into, breakpoint)
 }

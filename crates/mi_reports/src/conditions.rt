@@ -1,49 +1,57 @@
 // The line of a condition whose value can't be had.
 ghost use Rattle.std.specs.Prelude.{◌≡◌, ◌++◌, OnOk};
-ghost use Rattle.mi_reports.specs.Text.{error_text, condition_message, condition_text};
+ghost use Rattle.mi_values.specs.Records.{lines_bytes};
+ghost use Rattle.mi_reports.specs.Errors.{condition_error, condition_message};
+ghost use Rattle.mi_reports.specs.Text.{condition_lines};
 
-use crate::numbers::{push, push_at, push_c_string, push_word};
-use crate::texts;
+use crate::numbers::{address_text, append_decimal};
+use crate::parts::{Part, fixed};
 use break_table::CondError;
+use mi_values::{StreamSign, stream_byte, write_c_string};
 use std::alloc::{AllocError, Global};
 
 fn push_error(into: &mut Vec<u8>, error: CondError) -> Result<(), AllocError>
-    ensures { OnOk result (into.new.items ≡ into.old.items ++ error_text error) }
+    ensures { OnOk result (into.new.items ≡ into.old.items ++ condition_error error) }
 {
     match error {
-        CondError::DivZero => push(into, texts::DIVISION_BY_ZERO),
-        CondError::Unread(address) => push_at(into, texts::UNREADABLE, address),
+        CondError::DivZero => into.extend_from_slice(fixed(Part::DivisionByZero)),
+        CondError::Unread(address) => {
+            into.extend_from_slice(fixed(Part::Unreadable))?;
+            into.extend_from_slice(&address_text(address))
+        }
     }
 }
 
 // The message, before its bytes are written as a C string.
+#[tactic(auto, unfolding(crate::specs::Errors::condition_message))]
 fn push_message(into: &mut Vec<u8>, number: u32, error: CondError) -> Result<(), AllocError>
     ensures { OnOk result (into.new.items ≡ into.old.items ++ condition_message number error) }
 {
-    push(into, texts::CONDITION_ERROR)?;
-    push_word(into, number)?;
-    push(into, texts::COLON)?;
+    into.extend_from_slice(fixed(Part::ConditionError))?;
+    append_decimal(into, u64::from(number))?;
+    into.extend_from_slice(fixed(Part::Colon))?;
     push_error(into, error)?;
     into.push(b'\n')?;
     Ok(())
 }
 
 /// Appends the line of the condition of that breakpoint; none where it had a value.
-#[tactic(auto, unfolding(crate::specs::Text::condition_text))]
+#[tactic(auto, unfolding(mi_values::specs::Record::line_bytes))]
 pub fn push_condition(
     alloc: Global,
     into: &mut Vec<u8>,
     number: u32,
     error: Option<CondError>,
 ) -> Result<(), AllocError>
-    ensures { OnOk result (into.new.items ≡ into.old.items ++ condition_text number error) }
+    ensures { OnOk result (into.new.items ≡ into.old.items ++ lines_bytes (condition_lines number error)) }
 {
     let Some(error) = error else {
         return Ok(());
     };
     let mut message = Vec::new(alloc);
     push_message(&mut message, number, error)?;
-    push(into, texts::LOG_HEAD)?;
-    push_c_string(into, message.as_slice())?;
-    push(into, texts::LINE_TAIL)
+    into.push(stream_byte(StreamSign::Log))?;
+    write_c_string(message.as_slice(), into)?;
+    into.push(b'\n')?;
+    Ok(())
 }

@@ -1,10 +1,15 @@
 // Why a line is refused.
-ghost use Rattle.std.specs.Prelude.{◌≡◌, ◌++◌, decimal, OnOk};
-ghost use Rattle.mi_reports.specs.Errors.{fault_message, expression_message, obstacle_message, message, error_tail, refused_text};
+ghost use Rattle.std.specs.Prelude.{◌≡◌, ◌++◌, decimal, OnOk, true};
+ghost use Rattle.mi_values.specs.Pieces.{pieces};
+ghost use Rattle.mi_values.specs.Testing.{are_bytes};
+ghost use Rattle.mi_reports.specs.Bytes.{address_text};
+ghost use Rattle.mi_reports.specs.Messages.{part_text};
+ghost use Rattle.mi_reports.specs.Errors.{fault_message, expression_message, obstacle_message, message, error_code, error_fields};
 
-use crate::numbers::{push, push_at, push_c_string, push_word};
-use crate::reply_texts as text;
-use crate::texts::{DIVISION_BY_ZERO, UNREADABLE};
+use crate::fields::{push_phrase, push_text};
+use crate::numbers::{address_text, append_decimal};
+use crate::parts::{Part, fixed};
+use crate::words::{Key, Phrase};
 use cond_expr::{ExprFault, FaultKind};
 use dbg_model::{Obstacle, Refused};
 use mi_commands::Fault;
@@ -15,42 +20,56 @@ fn push_fault(into: &mut Vec<u8>, fault: &Fault) -> Result<(), AllocError>
 {
     match fault {
         Fault::Undefined(name) => {
-            push(into, text::UNDEFINED)?;
+            push(into, Part::Undefined)?;
             into.extend_from_slice(name.as_slice())
         }
         Fault::Parameters(name) => {
-            push(into, text::PARAMETERS)?;
+            push(into, Part::Parameters)?;
             into.extend_from_slice(name.as_slice())
         }
         Fault::Number(word) => {
-            push(into, text::NUMBER)?;
+            push(into, Part::BadNumber)?;
             into.extend_from_slice(word.as_slice())
         }
-        Fault::Setting => push(into, text::SETTING),
+        Fault::Setting => push(into, Part::Setting),
         Fault::Location { word, .. } => {
-            push(into, text::LOCATION)?;
+            push(into, Part::BadLocation)?;
             into.extend_from_slice(word.as_slice())
         }
     }
 }
 
+fn push(into: &mut Vec<u8>, part: Part) -> Result<(), AllocError>
+    ensures { OnOk result (into.new.items ≡ into.old.items ++ part_text part) }
+{
+    into.extend_from_slice(fixed(part))
+}
+
 // A number behind a text.
-fn push_counted(into: &mut Vec<u8>, head: &str, n: u32) -> Result<(), AllocError>
-    ensures { OnOk result (into.new.items ≡ into.old.items ++ (head.now ++ decimal n)) }
+fn push_counted(into: &mut Vec<u8>, head: Part, n: u32) -> Result<(), AllocError>
+    ensures { OnOk result (into.new.items ≡ into.old.items ++ (part_text head ++ decimal n)) }
 {
     push(into, head)?;
-    push_word(into, n)
+    append_decimal(into, u64::from(n))
+}
+
+// An address behind a text.
+fn push_at(into: &mut Vec<u8>, head: Part, address: u32) -> Result<(), AllocError>
+    ensures { OnOk result (into.new.items ≡ into.old.items ++ (part_text head ++ address_text address)) }
+{
+    push(into, head)?;
+    into.extend_from_slice(&address_text(address))
 }
 
 fn push_expression(into: &mut Vec<u8>, fault: ExprFault) -> Result<(), AllocError>
     ensures { OnOk result (into.new.items ≡ into.old.items ++ expression_message fault.kind fault.at) }
 {
     match fault.kind {
-        FaultKind::Long => push(into, text::LONG_EXPRESSION),
-        FaultKind::Text => push_counted(into, text::EXPRESSION_SYNTAX, fault.at),
-        FaultKind::Number => push_counted(into, text::EXPRESSION_NUMBER, fault.at),
-        FaultKind::Deep => push_counted(into, text::EXPRESSION_DEEP, fault.at),
-        FaultKind::Name => push_counted(into, text::EXPRESSION_NAME, fault.at),
+        FaultKind::Long => push(into, Part::LongExpression),
+        FaultKind::Text => push_counted(into, Part::ExpressionSyntax, fault.at),
+        FaultKind::Number => push_counted(into, Part::ExpressionNumber, fault.at),
+        FaultKind::Deep => push_counted(into, Part::ExpressionDeep, fault.at),
+        FaultKind::Name => push_counted(into, Part::ExpressionName, fault.at),
     }
 }
 
@@ -58,30 +77,32 @@ fn push_obstacle(into: &mut Vec<u8>, obstacle: Obstacle) -> Result<(), AllocErro
     ensures { OnOk result (into.new.items ≡ into.old.items ++ obstacle_message obstacle) }
 {
     match obstacle {
-        Obstacle::UnknownThread(thread) => push_counted(into, text::UNKNOWN_THREAD, thread),
+        Obstacle::UnknownThread(thread) => push_counted(into, Part::UnknownThread, thread),
         Obstacle::HasExited(thread) => {
-            push(into, text::THREAD)?;
-            push_word(into, thread)?;
-            push(into, text::HAS_EXITED)
+            push(into, Part::Thread)?;
+            append_decimal(into, u64::from(thread))?;
+            push(into, Part::HasExited)
         }
         Obstacle::IsRunning(thread) => {
-            push(into, text::THREAD)?;
-            push_word(into, thread)?;
-            push(into, text::IS_RUNNING)
+            push(into, Part::Thread)?;
+            append_decimal(into, u64::from(thread))?;
+            push(into, Part::IsRunning)
         }
         Obstacle::NotRunning(thread) => {
-            push(into, text::THREAD)?;
-            push_word(into, thread)?;
-            push(into, text::NOT_RUNNING)
+            push(into, Part::Thread)?;
+            append_decimal(into, u64::from(thread))?;
+            push(into, Part::NotRunning)
         }
-        Obstacle::NoBreakpoint(number) => push_counted(into, text::NO_BREAKPOINT, number),
-        Obstacle::NoInstruction(address) => push_at(into, text::NO_INSTRUCTION, address),
-        Obstacle::TooManyBreakpoints => push(into, text::TOO_MANY_BREAKPOINTS),
+        Obstacle::NoBreakpoint(number) => push_counted(into, Part::NoBreakpoint, number),
+        Obstacle::NoInstruction(address) => push_at(into, Part::NoInstruction, address),
+        Obstacle::TooManyBreakpoints => push(into, Part::TooManyBreakpoints),
         Obstacle::Expression(fault) => push_expression(into, fault),
-        Obstacle::DivisionByZero => push(into, DIVISION_BY_ZERO),
-        Obstacle::Unreadable(address) => push_at(into, UNREADABLE, address),
-        Obstacle::NoLine(address) => push_at(into, text::NO_LINE_INFORMATION, address),
-        Obstacle::NoCaller => push(into, text::NO_CALLER),
+        Obstacle::DivisionByZero => push(into, Part::DivisionByZero),
+        Obstacle::Unreadable(address) => push_at(into, Part::Unreadable, address),
+        Obstacle::NoLine(address) => push_at(into, Part::NoLineInformation, address),
+        Obstacle::NoCaller => push(into, Part::NoCaller),
+        Obstacle::Unwritable(address) => push_at(into, Part::Unwritable, address),
+        Obstacle::TooManyWatches => push(into, Part::TooManyWatches),
     }
 }
 
@@ -90,41 +111,54 @@ fn push_message(into: &mut Vec<u8>, refused: &Refused) -> Result<(), AllocError>
     ensures { OnOk result (into.new.items ≡ into.old.items ++ message refused.now) }
 {
     match refused {
-        Refused::Long => push(into, text::LONG),
-        Refused::Syntax => push(into, text::SYNTAX),
-        Refused::Cli => push(into, text::CLI),
+        Refused::Long => push(into, Part::LongLine),
+        Refused::Syntax => push(into, Part::Syntax),
+        Refused::Cli => push(into, Part::Cli),
         Refused::Faulty(fault) => push_fault(into, fault),
         Refused::Hindered(obstacle) => push_obstacle(into, *obstacle),
         Refused::UnknownName(name) => {
-            push(into, text::FUNCTION)?;
+            push(into, Part::Function)?;
             into.extend_from_slice(name.as_slice())?;
-            push(into, text::NOT_DEFINED)
+            push(into, Part::NotDefined)
         }
         Refused::UnknownLine { file, line } => {
-            push_counted(into, text::NO_LINE, *line)?;
-            push(into, text::IN_FILE)?;
+            push_counted(into, Part::NoLine, *line)?;
+            push(into, Part::InFile)?;
             into.extend_from_slice(file.as_slice())
+        }
+        Refused::FixedRegister(name) => {
+            push(into, Part::FixedRegister)?;
+            into.extend_from_slice(name.as_slice())
+        }
+        Refused::Unwatchable(expression) => {
+            push(into, Part::CannotWatch)?;
+            into.extend_from_slice(expression.as_slice())
         }
     }
 }
 
-fn error_tail(refused: &Refused) -> &'static str
-    ensures { result.now ≡ error_tail refused.now }
+// An operation that isn't known has a code.
+fn push_code(into: &mut Vec<u8>, refused: &Refused) -> Result<(), AllocError>
+    ensures { OnOk result (into.new.items ≡ into.old.items ++ pieces (error_code refused.now)) }
 {
     match refused {
-        Refused::Faulty(Fault::Undefined(_)) => text::UNDEFINED_TAIL,
-        _ => text::QUOTED_END,
+        Refused::Faulty(Fault::Undefined(_)) => push_phrase(
+            into,
+            Key::Code,
+            Phrase::UndefinedCommand,
+        ),
+        _ => Ok(()),
     }
 }
 
-/// Appends what is answered to a line that is refused.
-#[tactic(auto, unfolding(crate::specs::Errors::refused_text))]
+/// Appends the fields of the error that is answered to a line that is refused.
+#[tactic(auto, unfolding(crate::specs::Errors::error_fields))]
 pub fn push_error(alloc: Global, into: &mut Vec<u8>, refused: &Refused) -> Result<(), AllocError>
-    ensures { OnOk result (into.new.items ≡ into.old.items ++ refused_text refused.now) }
+    ensures written { OnOk result (into.new.items ≡ into.old.items ++ pieces (error_fields refused.now)) }
+    ensures fits { OnOk result (are_bytes (message refused.now) ≡ true) }
 {
     let mut message = Vec::new(alloc);
     push_message(&mut message, refused)?;
-    push(into, text::ERROR_HEAD)?;
-    push_c_string(into, message.as_slice())?;
-    push(into, error_tail(refused))
+    push_text(into, Key::Message, message.as_slice())?;
+    push_code(into, refused)
 }

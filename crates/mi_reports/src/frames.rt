@@ -1,59 +1,89 @@
 // Frames and lines of the source.
-ghost use Rattle.std.specs.Prelude.{◌≡◌, ◌+◌, ◌^◌, ◌<◌, ◌++◌, length, OnOk};
-ghost use Rattle.mi_reports.specs.Frames.{line_fields, frame_line, frame_level, frame_text, outer_frames, stack_frames};
+ghost use Rattle.std.specs.Prelude.{◌≡◌, ◌+◌, ◌^◌, ◌<◌, ◌∷◌, [], ◌++◌, length, OnOk, true};
+ghost use Rattle.mi_values.specs.Pieces.{behind, pieces, between_commas};
+ghost use Rattle.mi_reports.specs.declared.words.Key.TheVariants as keys;
+ghost use Rattle.mi_reports.specs.Fits.{source_fits, frame_fits, frames_fit};
+ghost use Rattle.mi_reports.specs.Words.{key_text};
+ghost use Rattle.mi_reports.specs.Frames.{source_fields, frame_rest, frame_fields, frame_field, stack_fields, stack_tree};
 
-use crate::numbers::{push, push_at, push_c_string, push_decimal, push_text_field, push_word};
-use crate::texts;
+use crate::fields::{
+    open, push_address, push_empty, push_first, push_first_number, push_some, push_text, push_word,
+};
+use crate::numbers::address_text;
+use crate::words::{Key, name};
 use dbg_model::{ShownFrame, SourceLine};
+use mi_values::write_key;
 use std::alloc::AllocError;
 
-/// Appends the fields of a line of a source file, to the line's last digit.
-pub fn push_line(into: &mut Vec<u8>, source: &SourceLine) -> Result<(), AllocError>
-    ensures { OnOk result (into.new.items ≡ into.old.items ++ line_fields source.now) }
-{
-    push(into, texts::FILE_HEAD)?;
-    push_c_string(into, source.file.as_slice())?;
-    push(into, texts::LINE_HEAD)?;
-    push_word(into, source.line)
-}
-
-fn push_frame_line(into: &mut Vec<u8>, source: &Option<SourceLine>) -> Result<(), AllocError>
-    ensures { OnOk result (into.new.items ≡ into.old.items ++ frame_line source.now) }
+/// Appends the fields of a line of a source file; none where none is known.
+pub fn push_source(into: &mut Vec<u8>, source: &Option<SourceLine>) -> Result<(), AllocError>
+    ensures written { OnOk result (into.new.items ≡ into.old.items ++ pieces (source_fields source.now)) }
+    ensures fits { OnOk result (source_fits source.now ≡ true) }
 {
     let Some(source) = source else {
         return Ok(());
     };
-    push_line(into, source)?;
-    push(into, texts::QUOTE)
+    push_text(into, Key::File, source.file.as_slice())?;
+    push_word(into, Key::Line, source.line)
 }
 
-fn push_level(into: &mut Vec<u8>, level: Option<u64>) -> Result<(), AllocError>
-    ensures { OnOk result (into.new.items ≡ into.old.items ++ frame_level level) }
+// What stands behind the address.
+#[tactic(auto, using(std::proofs::lemmas::Grind::common_steps), unfolding(crate::specs::Frames::frame_rest, crate::specs::Fits::frame_fits))]
+fn push_rest(into: &mut Vec<u8>, frame: &ShownFrame) -> Result<(), AllocError>
+    ensures written { OnOk result (into.new.items ≡ into.old.items ++ pieces (frame_rest frame.now)) }
+    ensures fits { OnOk result (frame_fits frame.now ≡ true) }
 {
-    let Some(level) = level else {
-        return Ok(());
-    };
-    push(into, texts::LEVEL_HEAD)?;
-    push_decimal(into, level)?;
-    push(into, texts::NEXT_FIELD)
+    push_some(into, Key::Func, &frame.function)?;
+    push_empty(into, Key::Args)?;
+    push_source(into, &frame.source)
+}
+
+#[tactic(auto, unfolding(crate::specs::Frames::frame_fields))]
+fn push_fields(into: &mut Vec<u8>, level: Option<u64>, frame: &ShownFrame) -> Result<(), AllocError>
+    ensures written { OnOk result (into.new.items ≡ into.old.items ++ between_commas (frame_fields level frame.now)) }
+    ensures fits { OnOk result (frame_fits frame.now ≡ true) }
+{
+    match level {
+        None => {
+            push_first(into, Key::Addr, &address_text(frame.address))?;
+            push_rest(into, frame)
+        }
+        Some(level) => {
+            push_first_number(into, Key::Level, level)?;
+            push_address(into, Key::Addr, frame.address)?;
+            push_rest(into, frame)
+        }
+    }
+}
+
+/// Appends a frame, the first among fields, with its place in the stack where that is told.
+#[tactic(auto, using(std::proofs::lemmas::Grind::common_steps, mi_values::proofs::Pieces::tuple_pieces), unfolding(crate::specs::Frames::frame_field, mi_values::specs::Pieces::piece))]
+pub fn push_first_frame(
+    into: &mut Vec<u8>,
+    level: Option<u64>,
+    frame: &ShownFrame,
+) -> Result<(), AllocError>
+    ensures written { OnOk result (into.new.items ≡ into.old.items ++ between_commas (frame_field level frame.now ∷ [])) }
+    ensures fits { OnOk result (frame_fits frame.now ≡ true) }
+{
+    write_key(name(Key::Frame), into)?;
+    into.push(b'{')?;
+    push_fields(into, level, frame)?;
+    into.push(b'}')?;
+    Ok(())
 }
 
 /// Appends a frame, with its place in the stack where that is told.
-#[tactic(auto, unfolding(crate::specs::Frames::frame_text))]
 pub fn push_frame(
     into: &mut Vec<u8>,
     level: Option<u64>,
     frame: &ShownFrame,
 ) -> Result<(), AllocError>
-    ensures { OnOk result (into.new.items ≡ into.old.items ++ frame_text level frame.now) }
+    ensures written { OnOk result (into.new.items ≡ into.old.items ++ behind (frame_field level frame.now)) }
+    ensures fits { OnOk result (frame_fits frame.now ≡ true) }
 {
-    push(into, texts::FRAME_HEAD)?;
-    push_level(into, level)?;
-    push_at(into, texts::FRAME_ADDRESS, frame.address)?;
-    push_text_field(into, texts::FUNCTION_HEAD, &frame.function)?;
-    push(into, texts::FRAME_ARGUMENTS)?;
-    push_frame_line(into, &frame.source)?;
-    push(into, texts::FRAME_TAIL)
+    into.push(b',')?;
+    push_first_frame(into, level, frame)
 }
 
 fn push_outer_frames(
@@ -62,23 +92,36 @@ fn push_outer_frames(
     frames: &[ShownFrame],
 ) -> Result<(), AllocError>
     requires { level + length frames.now < 2 ^ 64 }
-    ensures { OnOk result (into.new.items ≡ into.old.items ++ outer_frames level frames.now) }
+    ensures written { OnOk result (into.new.items ≡ into.old.items ++ pieces (stack_fields level frames.now)) }
+    ensures fits { OnOk result (frames_fit frames.now ≡ true) }
 {
     let [frame, rest @ ..] = frames else {
         return Ok(());
     };
-    into.push(b',')?;
     push_frame(into, Some(level), frame)?;
     push_outer_frames(into, level + 1, rest)
 }
 
-/// Appends the frames of a stack, counted from 0, with commas between.
-pub fn push_stack_frames(into: &mut Vec<u8>, frames: &[ShownFrame]) -> Result<(), AllocError>
-    ensures { OnOk result (into.new.items ≡ into.old.items ++ stack_frames frames.now) }
+fn push_frames(into: &mut Vec<u8>, frames: &[ShownFrame]) -> Result<(), AllocError>
+    ensures written { OnOk result (into.new.items ≡ into.old.items ++ between_commas (stack_fields 0 frames.now)) }
+    ensures fits { OnOk result (frames_fit frames.now ≡ true) }
 {
     let [frame, rest @ ..] = frames else {
         return Ok(());
     };
-    push_frame(into, Some(0), frame)?;
+    push_first_frame(into, Some(0), frame)?;
     push_outer_frames(into, 1, rest)
+}
+
+/// Appends the frames of a stack, counted from 0, as a field.
+#[tactic(auto, using(std::proofs::lemmas::Grind::common_steps, mi_values::proofs::Pieces::bracket_pieces), unfolding(mi_values::specs::Pieces::piece))]
+pub fn push_stack(into: &mut Vec<u8>, frames: &[ShownFrame]) -> Result<(), AllocError>
+    ensures written { OnOk result (into.new.items ≡ into.old.items ++ behind (key_text keys.Stack, stack_tree frames.now)) }
+    ensures fits { OnOk result (frames_fit frames.now ≡ true) }
+{
+    open(into, Key::Stack)?;
+    into.push(b'[')?;
+    push_frames(into, frames)?;
+    into.push(b']')?;
+    Ok(())
 }

@@ -1,20 +1,32 @@
 //! The lines that a session puts: those of its opening, of each entry of its journal, and of its refusals.
+//!
+//! Each is defined as trees of the grammar of `mi_values`, and written piece by piece.
 #![tactic(auto)]
 
 mod breakpoints;
 mod conditions;
 mod errors;
+mod fields;
 mod frames;
+mod laws;
+mod lines;
 mod numbers;
+mod parts;
 mod refusals;
+mod registers;
 mod replies;
-mod reply_texts;
 mod report;
-mod texts;
+mod table;
+mod threads;
+mod triggers;
+mod watches;
+mod words;
 
-pub use refusals::{USAGE, bad_file};
+pub use laws::said_shows_output;
+pub use refusals::{bad_file, usage};
 pub use replies::reply_text;
 pub use report::{
-    break_text, finished_text, interrupt_text, lefts_text, opening_text, stepped_text, stop_text,
-    stream_text,
+    Hit, break_text, finished_text, interrupt_text, lefts_text, opening_text, stepped_text,
+    stop_text, stream_text,
 };
+pub use triggers::trigger_text;

@@ -1,119 +1,174 @@
 // The lines of what entries show.
-ghost use Rattle.std.specs.Prelude.{◌≡◌, ◌+◌, ◌++◌, ◌<◌, decimal, IfOk, OnOk};
-ghost use Rattle.mi_reports.specs.Text.{created, opening_text, signal, place_text, signal_text, stop_text, interrupt_text, disposition, hit_text, break_text, stepped_text, finished_text, gone_text, gone_texts, exit_text, lefts_text, stream_text};
+ghost use Rattle.std.specs.Prelude.{◌≡◌, ◌+◌, ◌∷◌, [], ◌++◌, ◌<◌, decimal, IfOk, OnOk, true};
+ghost use Rattle.mi_values.specs.Tree.{text, items, item, no_item};
+ghost use Rattle.mi_values.specs.Pieces.{behind, pieces};
+ghost use Rattle.mi_values.specs.Record.{line_bytes};
+ghost use Rattle.mi_values.specs.Records.{lines_bytes, AreRecords};
+ghost use Rattle.mi_reports.specs.Fits.{frame_fits};
+ghost use Rattle.mi_reports.specs.declared.words.Key.TheVariants as keys;
+ghost use Rattle.mi_reports.specs.Words.{key_text};
+ghost use Rattle.mi_reports.specs.Text.{thread_fields, thread_line, created_lines, opening_lines, opening_text, place_fields, signal_fields, end_fields, hit_fields, signal_name, signal_meaning, stop_lines, stop_text, interrupt_lines, interrupt_text, break_lines, break_text, stepped_lines, stepped_text, finished_lines, finished_text, gone_text, gone_texts, exit_fields, exit_text, lefts_lines, lefts_text, stream_lines, stream_text};
 
+use crate::breakpoints::disposition;
 use crate::conditions::push_condition;
+use crate::fields::{open, push_exit_code, push_number, push_phrase, push_word};
 use crate::frames::push_frame;
-use crate::numbers::{push, push_c_string, push_decimal, push_octal, push_word};
-use crate::texts;
+use crate::lines::{begin_notice, end_line, push_prompt};
+use crate::numbers::push_c_number;
+use crate::words::{Key, Phrase};
 use break_table::CondError;
 use dbg_model::{Entry, ShownFrame};
+use mi_values::{NoticeSign, StreamSign, known_bytes, stream_byte, write_c_string};
 use rv_exec::Cause;
 use std::alloc::{AllocError, Global};
 
-fn push_thread(into: &mut Vec<u8>, hart: u32) -> Result<(), AllocError>
-    ensures { OnOk result (into.new.items ≡ into.old.items ++ decimal (hart + 1)) }
+#[tactic(auto, unfolding(crate::specs::Text::thread_fields))]
+fn push_thread_fields(into: &mut Vec<u8>, hart: u32) -> Result<(), AllocError>
+    ensures { OnOk result (into.new.items ≡ into.old.items ++ pieces (thread_fields hart)) }
 {
-    push_decimal(into, u64::from(hart) + 1)
+    push_number(into, Key::Id, u64::from(hart) + 1)?;
+    push_phrase(into, Key::GroupId, Phrase::Group)
 }
 
+// A thread was created, or has exited.
+#[tactic(auto, using(std::proofs::lemmas::Grind::common_steps, mi_values::proofs::Pieces::notice_pieces), unfolding(crate::specs::Text::thread_line))]
+fn push_thread_line(into: &mut Vec<u8>, class: Key, hart: u32) -> Result<(), AllocError>
+    ensures { OnOk result (into.new.items ≡ into.old.items ++ line_bytes (thread_line class hart)) }
+{
+    begin_notice(into, NoticeSign::Notify, class)?;
+    push_thread_fields(into, hart)?;
+    end_line(into)
+}
+
+#[tactic(auto, using(std::proofs::lemmas::Grind::common_steps))]
 fn push_created(into: &mut Vec<u8>, harts: u32) -> Result<(), AllocError>
-    ensures { OnOk result (into.new.items ≡ into.old.items ++ created harts) }
+    ensures { OnOk result (into.new.items ≡ into.old.items ++ lines_bytes (created_lines harts)) }
 {
     for hart in 0..harts {
-        push(into, texts::CREATED_HEAD)?;
-        push_thread(into, hart)?;
-        push(into, texts::GROUP_TAIL)?;
+        push_thread_line(into, Key::ThreadCreated, hart)?;
     }
     Ok(())
 }
 
 /// The lines that a session of so many harts opens with.
-#[tactic(auto, unfolding(crate::specs::Text::opening_text))]
+#[tactic(auto, using(std::proofs::lemmas::Grind::common_steps, crate::proofs::Grammar::opening_records), unfolding(crate::specs::Text::opening_text))]
 pub fn opening_text(alloc: Global, harts: u32) -> Result<Vec<u8>, AllocError>
-    ensures { IfOk result (λ v. v.items ≡ opening_text harts) }
+    ensures written { IfOk result (λ v. v.items ≡ opening_text harts) }
+    ensures grammar { IfOk result (λ v. AreRecords (opening_text harts) (opening_lines harts)) }
 {
     let mut text = Vec::new(alloc);
     push_created(&mut text, harts)?;
-    push(&mut text, texts::PROMPT)?;
+    push_prompt(&mut text)?;
     Ok(text)
 }
 
-fn signal(cause: Cause) -> &'static str
-    ensures { result.now ≡ signal cause }
+fn signal_name(cause: Cause) -> Phrase
+    ensures { result ≡ signal_name cause }
 {
     match cause {
-        Cause::FetchFault | Cause::LoadFault | Cause::StoreFault => texts::SEGMENTATION_FAULT,
-        Cause::FetchAlign | Cause::LoadAlign | Cause::StoreAlign => texts::BUS_ERROR,
-        Cause::Illegal => texts::ILLEGAL_INSTRUCTION,
-        Cause::Break => texts::TRAP,
+        Cause::FetchFault | Cause::LoadFault | Cause::StoreFault => Phrase::Sigsegv,
+        Cause::FetchAlign | Cause::LoadAlign | Cause::StoreAlign => Phrase::Sigbus,
+        Cause::Illegal => Phrase::Sigill,
+        Cause::Break => Phrase::Sigtrap,
     }
 }
 
-// Where a hart stopped, to the end of the line.
-#[tactic(auto, unfolding(crate::specs::Text::place_text))]
-fn push_place(into: &mut Vec<u8>, hart: u32, frame: &ShownFrame) -> Result<(), AllocError>
-    ensures { OnOk result (into.new.items ≡ into.old.items ++ place_text hart frame.now) }
+fn signal_meaning(cause: Cause) -> Phrase
+    ensures { result ≡ signal_meaning cause }
 {
-    push(into, texts::NEXT_FIELD)?;
-    push_frame(into, None, frame)?;
-    push(into, texts::THREAD_HEAD)?;
-    push_thread(into, hart)?;
-    push(into, texts::STOPPED_HEAD)?;
-    push_thread(into, hart)?;
-    push(into, texts::STOPPED_TAIL)
+    match cause {
+        Cause::FetchFault | Cause::LoadFault | Cause::StoreFault => Phrase::SegmentationFault,
+        Cause::FetchAlign | Cause::LoadAlign | Cause::StoreAlign => Phrase::BusError,
+        Cause::Illegal => Phrase::IllegalInstruction,
+        Cause::Break => Phrase::Trap,
+    }
 }
 
-// A signal comes with its meaning.
-#[tactic(auto, unfolding(crate::specs::Text::signal_text))]
-fn signal_text(
-    alloc: Global,
-    signal: &str,
-    hart: u32,
-    frame: &ShownFrame,
-) -> Result<Vec<u8>, AllocError>
-    ensures { IfOk result (λ v. v.items ≡ signal_text signal.now hart frame.now) }
+// The one thread that stopped.
+#[tactic(auto, unfolding(mi_values::specs::Pieces::piece, mi_values::specs::Spelling::value_bytes, mi_values::specs::Spelling::items_from))]
+fn push_stopped_thread(into: &mut Vec<u8>, hart: u32) -> Result<(), AllocError>
+    ensures { OnOk result (into.new.items ≡ into.old.items ++ behind (key_text keys.StoppedThreads, items (item (text (decimal (hart + 1))) no_item))) }
+{
+    open(into, Key::StoppedThreads)?;
+    into.push(b'[')?;
+    push_c_number(into, u64::from(hart) + 1)?;
+    into.push(b']')?;
+    Ok(())
+}
+
+/// Appends where a hart stopped.
+#[tactic(auto, unfolding(crate::specs::Text::place_fields))]
+pub fn push_place(into: &mut Vec<u8>, hart: u32, frame: &ShownFrame) -> Result<(), AllocError>
+    ensures written { OnOk result (into.new.items ≡ into.old.items ++ pieces (place_fields hart frame.now)) }
+    ensures fits { OnOk result (frame_fits frame.now ≡ true) }
+{
+    push_frame(into, None, frame)?;
+    push_number(into, Key::ThreadId, u64::from(hart) + 1)?;
+    push_stopped_thread(into, hart)
+}
+
+/// A line that something stopped, up to its fields.
+pub fn stopped(alloc: Global) -> Result<Vec<u8>, AllocError>
+    ensures { IfOk result (λ v. v.items ≡ 42 ∷ key_text keys.Stopped) }
 {
     let mut text = Vec::new(alloc);
-    push(&mut text, texts::SIGNAL_HEAD)?;
-    push(&mut text, signal)?;
-    push_place(&mut text, hart, frame)?;
+    begin_notice(&mut text, NoticeSign::Exec, Key::Stopped)?;
     Ok(text)
 }
 
+#[tactic(auto, unfolding(crate::specs::Text::signal_fields))]
+fn push_signal(
+    into: &mut Vec<u8>,
+    name: Phrase,
+    meaning: Phrase,
+    hart: u32,
+    frame: &ShownFrame,
+) -> Result<(), AllocError>
+    ensures written { OnOk result (into.new.items ≡ into.old.items ++ pieces (signal_fields name meaning hart frame.now)) }
+    ensures fits { OnOk result (frame_fits frame.now ≡ true) }
+{
+    push_phrase(into, Key::Reason, Phrase::SignalReceived)?;
+    push_phrase(into, Key::SignalName, name)?;
+    push_phrase(into, Key::SignalMeaning, meaning)?;
+    push_place(into, hart, frame)
+}
+
 /// The line of a stop of a hart by a fault, in this frame.
-#[tactic(auto, unfolding(crate::specs::Text::stop_text))]
+#[tactic(auto, using(std::proofs::lemmas::Grind::common_steps, crate::proofs::Pieces::stopped_pieces, crate::proofs::Grammar::stop_records), unfolding(crate::specs::Text::stop_text))]
 pub fn stop_text(
     alloc: Global,
     cause: Cause,
     hart: u32,
     frame: &ShownFrame,
 ) -> Result<Vec<u8>, AllocError>
-    ensures { IfOk result (λ v. v.items ≡ stop_text cause hart frame.now) }
+    ensures written { IfOk result (λ v. v.items ≡ stop_text cause hart frame.now) }
+    ensures grammar { IfOk result (λ v. AreRecords (stop_text cause hart frame.now) (stop_lines cause hart frame.now)) }
 {
-    signal_text(alloc, signal(cause), hart, frame)
+    let mut text = stopped(alloc)?;
+    push_signal(
+        &mut text,
+        signal_name(cause),
+        signal_meaning(cause),
+        hart,
+        frame,
+    )?;
+    end_line(&mut text)?;
+    Ok(text)
 }
 
 /// The line of a stop of a hart by an interrupt that was asked of it, in this frame.
-#[tactic(auto, unfolding(crate::specs::Text::interrupt_text))]
+#[tactic(auto, using(std::proofs::lemmas::Grind::common_steps, crate::proofs::Pieces::stopped_pieces, crate::proofs::Grammar::interrupt_records), unfolding(crate::specs::Text::interrupt_text))]
 pub fn interrupt_text(alloc: Global, hart: u32, frame: &ShownFrame) -> Result<Vec<u8>, AllocError>
-    ensures { IfOk result (λ v. v.items ≡ interrupt_text hart frame.now) }
+    ensures written { IfOk result (λ v. v.items ≡ interrupt_text hart frame.now) }
+    ensures grammar { IfOk result (λ v. AreRecords (interrupt_text hart frame.now) (interrupt_lines hart frame.now)) }
 {
-    signal_text(alloc, texts::INTERRUPT, hart, frame)
+    let mut text = stopped(alloc)?;
+    push_signal(&mut text, Phrase::Sigint, Phrase::Interrupt, hart, frame)?;
+    end_line(&mut text)?;
+    Ok(text)
 }
 
-/// What becomes of a breakpoint that is hit.
-pub fn disposition(temporary: bool) -> &'static str
-    ensures { result.now ≡ disposition temporary }
-{
-    if temporary {
-        texts::DELETED
-    } else {
-        texts::KEPT
-    }
-}
-
-#[tactic(auto, unfolding(crate::specs::Text::hit_text))]
+#[tactic(auto, unfolding(crate::specs::Text::hit_fields))]
 fn push_hit(
     into: &mut Vec<u8>,
     temporary: bool,
@@ -121,53 +176,79 @@ fn push_hit(
     hart: u32,
     frame: &ShownFrame,
 ) -> Result<(), AllocError>
-    ensures { OnOk result (into.new.items ≡ into.old.items ++ hit_text temporary number hart frame.now) }
+    ensures written { OnOk result (into.new.items ≡ into.old.items ++ pieces (hit_fields temporary number hart frame.now)) }
+    ensures fits { OnOk result (frame_fits frame.now ≡ true) }
 {
-    push(into, texts::BREAK_HEAD)?;
-    push(into, disposition(temporary))?;
-    push(into, texts::BREAK_NUMBER_HEAD)?;
-    push_word(into, number)?;
+    push_phrase(into, Key::Reason, Phrase::BreakpointHit)?;
+    push_phrase(into, Key::Disp, disposition(temporary))?;
+    push_word(into, Key::BkptNumber, number)?;
     push_place(into, hart, frame)
 }
 
-/// The lines of a stop of a hart by the breakpoint of that number, in this frame. Where the value of its condition
-/// couldn't be had, a line that says why comes first.
-#[tactic(auto, unfolding(crate::specs::Text::break_text))]
+/// A breakpoint that stops a hart.
+#[derive(Clone, Copy)]
+pub struct Hit {
+    pub number: u32,
+    pub temporary: bool,
+    /// Why the value of its condition couldn't be had.
+    pub error: Option<CondError>,
+}
+
+/// The lines of a stop of a hart by a breakpoint, in this frame. Where the value of its condition couldn't be had, a
+/// line that says why comes first.
+#[tactic(auto, using(std::proofs::lemmas::Grind::common_steps, crate::proofs::Pieces::stopped_pieces, crate::proofs::Grammar::break_records), unfolding(crate::specs::Text::break_text))]
 pub fn break_text(
     alloc: Global,
-    temporary: bool,
-    number: u32,
-    error: Option<CondError>,
+    hit: Hit,
     hart: u32,
     frame: &ShownFrame,
 ) -> Result<Vec<u8>, AllocError>
-    ensures { IfOk result (λ v. v.items ≡ break_text temporary number error hart frame.now) }
+    ensures written { IfOk result (λ v. v.items ≡ break_text hit.temporary hit.number hit.error hart frame.now) }
+    ensures grammar { IfOk result (λ v. AreRecords (break_text hit.temporary hit.number hit.error hart frame.now) (break_lines hit.temporary hit.number hit.error hart frame.now)) }
 {
     let mut text = Vec::new(alloc);
-    push_condition(alloc, &mut text, number, error)?;
-    push_hit(&mut text, temporary, number, hart, frame)?;
+    push_condition(alloc, &mut text, hit.number, hit.error)?;
+    begin_notice(&mut text, NoticeSign::Exec, Key::Stopped)?;
+    push_hit(&mut text, hit.temporary, hit.number, hart, frame)?;
+    end_line(&mut text)?;
     Ok(text)
 }
 
-/// The line of a stop of a hart where its step ends, in this frame.
-#[tactic(auto, unfolding(crate::specs::Text::stepped_text))]
-pub fn stepped_text(alloc: Global, hart: u32, frame: &ShownFrame) -> Result<Vec<u8>, AllocError>
-    ensures { IfOk result (λ v. v.items ≡ stepped_text hart frame.now) }
+#[tactic(auto, unfolding(crate::specs::Text::end_fields))]
+fn push_end(
+    into: &mut Vec<u8>,
+    reason: Phrase,
+    hart: u32,
+    frame: &ShownFrame,
+) -> Result<(), AllocError>
+    ensures written { OnOk result (into.new.items ≡ into.old.items ++ pieces (end_fields reason hart frame.now)) }
+    ensures fits { OnOk result (frame_fits frame.now ≡ true) }
 {
-    let mut text = Vec::new(alloc);
-    push(&mut text, texts::STEPPED_HEAD)?;
-    push_place(&mut text, hart, frame)?;
+    push_phrase(into, Key::Reason, reason)?;
+    push_place(into, hart, frame)
+}
+
+/// The line of a stop of a hart where its step ends, in this frame.
+#[tactic(auto, using(std::proofs::lemmas::Grind::common_steps, crate::proofs::Pieces::stopped_pieces, crate::proofs::Grammar::stepped_records), unfolding(crate::specs::Text::stepped_text))]
+pub fn stepped_text(alloc: Global, hart: u32, frame: &ShownFrame) -> Result<Vec<u8>, AllocError>
+    ensures written { IfOk result (λ v. v.items ≡ stepped_text hart frame.now) }
+    ensures grammar { IfOk result (λ v. AreRecords (stepped_text hart frame.now) (stepped_lines hart frame.now)) }
+{
+    let mut text = stopped(alloc)?;
+    push_end(&mut text, Phrase::EndSteppingRange, hart, frame)?;
+    end_line(&mut text)?;
     Ok(text)
 }
 
 /// The line of a stop of a hart in this frame, to which the function that it was to finish has returned.
-#[tactic(auto, unfolding(crate::specs::Text::finished_text))]
+#[tactic(auto, using(std::proofs::lemmas::Grind::common_steps, crate::proofs::Pieces::stopped_pieces, crate::proofs::Grammar::finished_records), unfolding(crate::specs::Text::finished_text))]
 pub fn finished_text(alloc: Global, hart: u32, frame: &ShownFrame) -> Result<Vec<u8>, AllocError>
-    ensures { IfOk result (λ v. v.items ≡ finished_text hart frame.now) }
+    ensures written { IfOk result (λ v. v.items ≡ finished_text hart frame.now) }
+    ensures grammar { IfOk result (λ v. AreRecords (finished_text hart frame.now) (finished_lines hart frame.now)) }
 {
-    let mut text = Vec::new(alloc);
-    push(&mut text, texts::FINISHED_HEAD)?;
-    push_place(&mut text, hart, frame)?;
+    let mut text = stopped(alloc)?;
+    push_end(&mut text, Phrase::FunctionFinished, hart, frame)?;
+    end_line(&mut text)?;
     Ok(text)
 }
 
@@ -175,9 +256,7 @@ pub fn finished_text(alloc: Global, hart: u32, frame: &ShownFrame) -> Result<Vec
 fn push_gone(into: &mut Vec<u8>, hart: u32) -> Result<(), AllocError>
     ensures { OnOk result (into.new.items ≡ into.old.items ++ gone_text hart) }
 {
-    push(into, texts::EXITED_HEAD)?;
-    push_thread(into, hart)?;
-    push(into, texts::GROUP_TAIL)
+    push_thread_line(into, Key::ThreadExited, hart)
 }
 
 fn push_gones(into: &mut Vec<u8>, entries: &[Entry]) -> Result<(), AllocError>
@@ -194,20 +273,30 @@ fn push_gones(into: &mut Vec<u8>, entries: &[Entry]) -> Result<(), AllocError>
     }
 }
 
-#[tactic(auto, unfolding(crate::specs::Text::exit_text))]
+#[tactic(auto, unfolding(crate::specs::Text::exit_fields))]
+fn push_exit_fields(into: &mut Vec<u8>, code: u32) -> Result<(), AllocError>
+    requires { code < 256 }
+    ensures { OnOk result (into.new.items ≡ into.old.items ++ pieces (exit_fields code)) }
+{
+    if code == 0 {
+        return push_phrase(into, Key::Reason, Phrase::ExitedNormally);
+    }
+    push_phrase(into, Key::Reason, Phrase::Exited)?;
+    push_exit_code(into, Key::ExitCode, code)
+}
+
+#[tactic(auto, using(std::proofs::lemmas::Grind::common_steps, crate::proofs::Pieces::stopped_pieces), unfolding(crate::specs::Text::exit_text))]
 fn push_exit(into: &mut Vec<u8>, code: u32) -> Result<(), AllocError>
     requires { code < 256 }
     ensures { OnOk result (into.new.items ≡ into.old.items ++ exit_text code) }
 {
-    if code == 0 {
-        return push(into, texts::EXITED_NORMALLY);
-    }
-    push(into, texts::EXIT_CODE_HEAD)?;
-    push_octal(into, code)?;
-    push(into, texts::LINE_TAIL)
+    begin_notice(into, NoticeSign::Exec, Key::Stopped)?;
+    push_exit_fields(into, code)?;
+    end_line(into)
 }
 
 /// The lines of the exits among the entries, and that of the program's where no hart is left.
+#[tactic(auto, using(crate::proofs::Grammar::lefts_records))]
 pub fn lefts_text(
     alloc: Global,
     entries: &[Entry],
@@ -215,7 +304,8 @@ pub fn lefts_text(
     code: u32,
 ) -> Result<Vec<u8>, AllocError>
     requires { code < 256 }
-    ensures { IfOk result (λ v. v.items ≡ lefts_text entries.now all code) }
+    ensures written { IfOk result (λ v. v.items ≡ lefts_text entries.now all code) }
+    ensures grammar { IfOk result (λ v. AreRecords (lefts_text entries.now all code) (lefts_lines entries.now all code)) }
 {
     let mut text = Vec::new(alloc);
     push_gones(&mut text, entries)?;
@@ -226,16 +316,18 @@ pub fn lefts_text(
 }
 
 /// The line of the bytes that an instruction wrote.
-#[tactic(auto, unfolding(crate::specs::Text::stream_text))]
+#[tactic(auto, using(crate::proofs::Grammar::stream_records), unfolding(crate::specs::Text::stream_text, mi_values::specs::Record::line_bytes))]
 pub fn stream_text(alloc: Global, bytes: &[u8]) -> Result<Vec<u8>, AllocError>
-    ensures { IfOk result (λ v. v.items ≡ stream_text bytes.now) }
+    ensures written { IfOk result (λ v. v.items ≡ stream_text bytes.now) }
+    ensures grammar { IfOk result (λ v. AreRecords (stream_text bytes.now) (stream_lines bytes.now)) }
 {
+    known_bytes(bytes);
     let mut text = Vec::new(alloc);
     if bytes.is_empty() {
         return Ok(text);
     }
-    push(&mut text, texts::STREAM_HEAD)?;
-    push_c_string(&mut text, bytes)?;
-    push(&mut text, texts::LINE_TAIL)?;
+    text.push(stream_byte(StreamSign::Target))?;
+    write_c_string(bytes, &mut text)?;
+    end_line(&mut text)?;
     Ok(text)
 }
