@@ -3,6 +3,7 @@
 
 mod crew;
 mod run;
+mod worker;
 
 pub use crew::{Crew, Duty};
 pub use run::run_crew;

@@ -1,25 +1,41 @@
 ghost use Rattle.std.specs.Prelude.{◌≤◌};
 
+use crate::worker::Worker;
 use crate::{Crew, Duty};
 use dbg_traits::Gate;
 use std::sync::{Mutex, Wait};
 use std::thread;
 use std::thread::Threads;
 
-// One worker, until it gets Over. Each lock is left at its statement's end, so a job is worked outside of it.
-fn serve<R: Wait, C: Crew, G: Gate>(rt: &R, crew: &Mutex<C>, worker: u32, gate: &G) {
+// One worker, until it gets Over. One that finds nothing to do lets others run, since they would have to wait for the lock that
+// it asks for again.
+fn serve<R: Wait, C: Crew, G: Gate>(rt: &R, crew: &Mutex<C>, number: u32, gate: &G) {
+    let worker = Worker {
+        rt,
+        crew,
+        gate,
+        number,
+    };
+    let mut kept = None;
     for _ in rt.forever() {
-        let duty = crew.lock(rt).duty(worker);
-        match duty {
-            Duty::Job(job) => {
-                let hart = C::hart_of(&job);
-                let done = C::work(job);
-                gate.slice_ready(worker, hart);
-                crew.lock(rt).take(done);
+        let duty = match kept {
+            Some(job) => worker.work(job),
+            None => worker.ask(),
+        };
+        kept = match duty {
+            Duty::Job(job) => Some(job),
+            Duty::Again => {
+                gate.idle(number);
+                thread::yield_now();
+                None
             }
-            Duty::Again => gate.idle(worker),
-            Duty::Over => break,
-        }
+            Duty::Over => return,
+        };
+    }
+    // No run comes here; a job that is kept is worked all the same.
+    if let Some(job) = kept {
+        let done = C::work(job);
+        crew.lock(rt).take(done);
     }
 }
 
