@@ -7,7 +7,8 @@ use Rattle.std.proofs.lemmas.List.{drop-drop, get_or-drop}
 use Rattle.engine_facts.specs.declared.mind.Mind.{Mind}
 use Rattle.engine_facts.specs.Minds.{runs}
 use Rattle.dbg_model.proofs.Options.{same_some}
-use Rattle.dbg_engine.specs.Steps.{running_harts, least_running, some_or, next_running}
+use Rattle.dbg_engine.specs.Steps.{running_harts, some_or}
+use Rattle.dbg_engine.proofs.Picks.{least_of_all, next_of_all}
 use Rattle.dbg_session.specs.Stage.{Stage, moves_at}
 use Rattle.dbg_session.specs.Seen.{movers_from, movers, any_of, gap, ahead}
 
@@ -41,8 +42,8 @@ least_from zero f k xs is = least_all f k xs (omega arith) ∙ ap (λ n. running
 least_from (suc d) f k [] is = refl
 least_from (suc d) f k (x ∷ xs) is = head_below (runs x) f k (running_harts (k + 1) xs) (not_above f k (omega arith)) ∙ least_from d f (k + 1) xs (omega arith)
 
-next_is : (xs : List Mind) (from : ℕ) → next_running xs from ≡ some_or (running_from from (drop from xs)) (running_from 0 xs)
-next_is xs from = ap (λ o. some_or o (least_running xs 0)) (least_from from from 0 xs (omega arith)) ∙ ap (some_or (running_from from (drop from xs))) (least_from 0 0 0 xs refl)
+next_is : (xs : List Mind) (from : ℕ) → next_of_all xs from ≡ some_or (running_from from (drop from xs)) (running_from 0 xs)
+next_is xs from = ap (λ o. some_or o (least_of_all xs 0)) (least_from from from 0 xs (omega arith)) ∙ ap (some_or (running_from from (drop from xs))) (least_from 0 0 0 xs refl)
 
 -- of these harts only those that run can be moved
 abbrev pub AreBelow : List Bool → List Mind → Type 0
@@ -194,7 +195,7 @@ fewer_by next h ms xs None len below found is rests some =
     fewer_round ms next h none some (vain 0 h ms xs below is (rests_drop 0 h ms rests))
 
 -- the next that runs can't be moved, and another can: after it fewer are picked in vain
-pub fewer : (next h : ℕ) (ms : List Bool) (xs : List Mind) → AreBelow ms xs → length ms ≡ length xs → next_running xs next ≡ Some h → get_or ms h false ≡ false → any_of ms ≡ true → ahead ms (h + 1) < ahead ms next
+pub fewer : (next h : ℕ) (ms : List Bool) (xs : List Mind) → AreBelow ms xs → length ms ≡ length xs → next_of_all xs next ≡ Some h → get_or ms h false ≡ false → any_of ms ≡ true → ahead ms (h + 1) < ahead ms next
 fewer next h ms xs below len is rests some = fewer_by next h ms xs (running_from next (drop next xs)) len below refl (sym (next_is xs next) ∙ is) rests some
 
 none_here : (b rest : Bool) (k : ℕ) (o : Option ℕ) → (if b then Some k else o) ≡ None → (o ≡ None → rest ≡ false) → (b || rest) ≡ false
@@ -210,7 +211,7 @@ or_none : (a b : Option ℕ) → some_or a b ≡ None → b ≡ None
 or_none None b is = is
 or_none (Some k) b is = cc
 
-pub none_runs : (xs : List Mind) (next : ℕ) → next_running xs next ≡ None → list_any runs xs ≡ false
+pub none_runs : (xs : List Mind) (next : ℕ) → next_of_all xs next ≡ None → list_any runs xs ≡ false
 none_runs xs next is = from_none 0 xs (or_none (running_from next (drop next xs)) (running_from 0 xs) (sym (next_is xs next) ∙ is))
 
 -- ---- the movers of an engine
@@ -256,7 +257,7 @@ within_by from h xs (Some k) found is =
 within_by from h xs None found is = let low = below_end 0 h xs is in omega arith
 
 -- the next that runs is one of the harts
-pub next_within : (xs : List Mind) (from h : ℕ) → next_running xs from ≡ Some h → h < length xs
+pub next_within : (xs : List Mind) (from h : ℕ) → next_of_all xs from ≡ Some h → h < length xs
 next_within xs from h is = within_by from h xs (running_from from (drop from xs)) refl (sym (next_is xs from) ∙ is)
 
 some_here : (b rest : Bool) (k h : ℕ) (o : Option ℕ) → (if b then Some k else o) ≡ Some h → (o ≡ Some h → rest ≡ true) → (b || rest) ≡ true
@@ -281,5 +282,5 @@ some_by from h xs (Some k) found is = some_dropped from xs (some_from from h (dr
 some_by from h xs None found is = some_from 0 h xs is
 
 -- where one is next, one runs
-pub next_runs : (xs : List Mind) (from h : ℕ) → next_running xs from ≡ Some h → list_any runs xs ≡ true
+pub next_runs : (xs : List Mind) (from h : ℕ) → next_of_all xs from ≡ Some h → list_any runs xs ≡ true
 next_runs xs from h is = some_by from h xs (running_from from (drop from xs)) refl (sym (next_is xs from) ∙ is)

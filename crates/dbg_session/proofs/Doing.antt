@@ -4,6 +4,8 @@ use Rattle.std.specs.Prelude.{◌&&◌, not}
 use Rattle.std.proofs.lemmas.List.{append-nil}
 use Rattle.dbg_traits.specs.Told.{Told}
 use Rattle.mi_input.specs.Lines.{IsNext, lines}
+use Rattle.mi_values.specs.Record.{LineTree}
+use Rattle.mi_values.specs.Records.{AreRecords}
 use Rattle.dbg_model.specs.declared.reply.Reply.{Reply}
 use Rattle.dbg_model.specs.State.{any_runs}
 use Rattle.dbg_model.specs.Reply.{is_wait}
@@ -13,7 +15,7 @@ use Rattle.engine_facts.specs.Facts.{Facts}
 use Rattle.engine_facts.specs.Seen.{Run, seen}
 use Rattle.dbg_session.specs.Stage.{Stage, stage_of}
 use Rattle.dbg_session.specs.Puts.{PutsAll}
-use Rattle.dbg_session.specs.Steps.{said_by, Says, Keeps, DoesLine, may_take}
+use Rattle.dbg_session.specs.Steps.{lines_by, Says, Keeps, DoesLine, may_take}
 use Rattle.dbg_session.specs.Taking.{first_waits, has_line, is_some_line}
 use Rattle.dbg_session.specs.Ties.{GoesOn}
 use Rattle.dbg_model.specs.Lawful.{may_go}
@@ -36,15 +38,15 @@ does_line ended rest line next r s answer is_next some within may d = record {
   did = d.did;
 }
 
--- the text was said, and not put
-pub keeps : (t : Told) (r s : Stage) (text : List ℕ) → said_by s ≡ said_by r ++ text → Keeps t t r s
-keeps t r s text is = record { text = text; said = is; told = refl }
+-- lines were said, and not put
+pub keeps : (t : Told) (r s : Stage) (trees : List LineTree) → lines_by s ≡ lines_by r ++ trees → Keeps t t r s
+keeps t r s trees is = record { trees = trees; said = is; told = refl }
 
--- the text was said, and put
-pub says_as : (put : Bool) (t u : Told) (r s : Stage) (text piece : List ℕ) → piece ≡ text → said_by s ≡ said_by r ++ text → PutsAll put piece t u → Says t u r s put
-says_as put t u r s text piece same is puts =
+-- lines were said, and put
+pub says_as : (put : Bool) (t u : Told) (r s : Stage) (trees : List LineTree) (piece : List ℕ) → AreRecords piece trees → lines_by s ≡ lines_by r ++ trees → PutsAll put piece t u → Says t u r s put
+says_as put t u r s trees piece are is puts =
     let P : List ℕ → Type 0 = λ x. PutsAll put x t u in
-    record { text = text; said = is; puts = subst P same puts }
+    record { trees = trees; said = is; grammar = are.lines; puts = subst P are.text puts }
 
 pub record MustWait (r : Run) (ended : Bool) (rest : List ℕ) : Type 0 where
   pub waits : first_waits (lines rest ended) ≡ true

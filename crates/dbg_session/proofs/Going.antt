@@ -23,19 +23,19 @@ pub goes_on : (o : Option Status) (R : Moment → Moment → Type 0) (m q : Mome
 goes_on None R m q is r = r
 goes_on (Some s) R m q is r = cc
 
-pub round_taken : (p a : Moment) → Takes p a → is_some a.status ≡ true → Round p a
-round_taken p a t is = (a, t, ended a.status (Then Lines (Then Moves Settles)) a is)
+pub round_taken : (k : Option ℕ) (p a : Moment) → Takes p a → is_some a.status ≡ true → Round k p a
+round_taken k p a t is = (a, t, ended a.status (Then Lines (Then (Moves k) Settles)) a is)
 
-pub round_line : (p a b : Moment) → Takes p a → is_some a.status ≡ false → Lines a b → is_some b.status ≡ true → Round p b
-round_line p a b t is l done = (a, t, goes_on a.status (Then Lines (Then Moves Settles)) a b is (b, l, ended b.status (Then Moves Settles) b done))
+pub round_line : (k : Option ℕ) (p a b : Moment) → Takes p a → is_some a.status ≡ false → Lines a b → is_some b.status ≡ true → Round k p b
+round_line k p a b t is l done = (a, t, goes_on a.status (Then Lines (Then (Moves k) Settles)) a b is (b, l, ended b.status (Then (Moves k) Settles) b done))
 
-pub round_move : (p a b c : Moment) → Takes p a → is_some a.status ≡ false → Lines a b → is_some b.status ≡ false → Moves b c → is_some c.status ≡ true → Round p c
-round_move p a b c t is l on m done =
-    (a, t, goes_on a.status (Then Lines (Then Moves Settles)) a c is (b, l, goes_on b.status (Then Moves Settles) b c on (c, m, ended c.status Settles c done)))
+pub round_move : (k : Option ℕ) (p a b c : Moment) → Takes p a → is_some a.status ≡ false → Lines a b → is_some b.status ≡ false → Moves k b c → is_some c.status ≡ true → Round k p c
+round_move k p a b c t is l on m done =
+    (a, t, goes_on a.status (Then Lines (Then (Moves k) Settles)) a c is (b, l, goes_on b.status (Then (Moves k) Settles) b c on (c, m, ended c.status Settles c done)))
 
-pub round_whole : (p a b c d : Moment) → Takes p a → is_some a.status ≡ false → Lines a b → is_some b.status ≡ false → Moves b c → is_some c.status ≡ false → Settles c d → Round p d
-round_whole p a b c d t is l on m going e =
-    (a, t, goes_on a.status (Then Lines (Then Moves Settles)) a d is (b, l, goes_on b.status (Then Moves Settles) b d on (c, m, goes_on c.status Settles c d going e)))
+pub round_whole : (k : Option ℕ) (p a b c d : Moment) → Takes p a → is_some a.status ≡ false → Lines a b → is_some b.status ≡ false → Moves k b c → is_some c.status ≡ false → Settles c d → Round k p d
+round_whole k p a b c d t is l on m going e =
+    (a, t, goes_on a.status (Then Lines (Then (Moves k) Settles)) a d is (b, l, goes_on b.status (Then (Moves k) Settles) b d on (c, m, goes_on c.status Settles c d going e)))
 
 -- ---- single steps
 

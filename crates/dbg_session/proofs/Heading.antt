@@ -8,10 +8,11 @@ use Rattle.dbg_traits.specs.Told.{Told}
 use Rattle.mi_input.specs.Lines.{lines}
 use Rattle.dbg_model.specs.declared.hart.Hart.{Hart}
 use Rattle.dbg_model.specs.Journals.{did, noted}
-use Rattle.dbg_model.specs.Erase.{erase}
+use Rattle.dbg_model.specs.Erase.{erase, steps}
 use Rattle.dbg_model.proofs.Plainly.{lawful_plain, plain_of, plain_hart}
 use Rattle.dbg_model.proofs.Counting.{counted}
 use Rattle.dbg_model.proofs.Bounding.{within_budget}
+use Rattle.mi_reports.proofs.Telling.{said_output}
 use Rattle.dbg_engine.specs.declared.engine.Closed.{Closed}
 use Rattle.dbg_session.specs.Stage.{Stage}
 use Rattle.dbg_session.specs.Taking.{Gives}
@@ -28,6 +29,8 @@ use Rattle.dbg_session.specs.Headline.{Headline, IsDone, IsBelow, Why, Early, Is
 use Rattle.dbg_session.specs.declared.status.Status.{Status}
 use Rattle.dbg_session.specs.declared.status.Status.TheVariants as status
 use Rattle.dbg_session.proofs.Tying.{told_same}
+use Rattle.dbg_session.proofs.Triggering.{tells_changes}
+use Rattle.dbg_session.proofs.Holding.{stops_first}
 
 front_lines : (ended : Bool) (bytes : List ℕ) (done : List (List ℕ)) (rest : List ℕ) → Gives ended bytes done rest → (more : List (List ℕ)) × (done ++ more ≡ lines bytes ended)
 front_lines true bytes done rest h = (lines rest true, sym h)
@@ -38,7 +41,7 @@ all_lines bytes done rest h none = h ∙ (ap (λ t. done ++ t) none ∙ append-n
 
 -- the numbers of the journal
 record Numbers (c : Closed) (r : Stage) : Type 0 where
-  steps : length (erase c.journal) ≡ r.state.retired
+  retired : steps (erase c.journal) ≡ r.state.retired
   notes : noted c.journal ≡ r.state.noted
   most : r.state.retired ≤ c.opening.settings.budget
   budget : c.opening.settings.budget ≡ r.opening.settings.budget
@@ -46,7 +49,7 @@ record Numbers (c : Closed) (r : Stage) : Type 0 where
 numbers : (c : Closed) (r : Stage) → IsLeft r c → Numbers c r
 numbers c r e =
     let n = counted c.opening c.journal r.state e.leaves in
-    record { steps = sym n.retired; notes = sym n.noted; most = within_budget c.opening c.journal r.state e.leaves; budget = ap (λ o. o.settings.budget) e.opening }
+    record { retired = sym n.retired; notes = sym n.noted; most = within_budget c.opening c.journal r.state e.leaves; budget = ap (λ o. o.settings.budget) e.opening }
 
 below : (t : Told) (r : Stage) (i : Taken) (c : Closed) → IsLeft r c → IsHeld t r i → ties.IsBelow r i.count → IsBelow t c
 below t r i c e h b =
@@ -54,7 +57,7 @@ below t r i c e h b =
     let low = b.budget in
     let few = b.history in
     let less = b.input in
-    record { budget = omega (arith, low, n.steps, n.budget); history = omega (arith, few, n.notes); input = omega (arith, less, h.count) }
+    record { budget = omega (arith, low, n.retired, n.budget); history = omega (arith, few, n.notes); input = omega (arith, less, h.count) }
 
 done_by : (t : Told) (r : Stage) (i : Taken) (c : Closed) → IsLeft r c → IsHeld t r i → AllDone r i → IsDone t c r.state
 done_by t r i c e h d =
@@ -69,13 +72,13 @@ whys : (s : Status) (t : Told) (r : Stage) (i : Taken) (c : Closed) → IsLeft r
 whys status.Done t r i c e h =
     let d = h.cause in
     (d.0, below t r i c e h.held d.1, elim d.2 [ inl all ↦ inl (done_by t r i c e h.held all) | inr exited ↦ inr exited ])
-whys status.Budget t r i c e h = let n = numbers c r e in let b = h.cause.1 in (h.cause.0, omega (arith, n.steps, n.most, n.budget))
+whys status.Budget t r i c e h = let n = numbers c r e in let b = h.cause.1 in (h.cause.0, omega (arith, n.retired, n.most, n.budget))
 whys status.History t r i c e h =
     let n = numbers c r e in
     let b = h.cause.1 in
     let same = h.held.count in (
       h.cause.0,
-      omega (arith, n.steps, n.budget),
+      omega (arith, n.retired, n.budget),
       elim h.cause.2 [ inl noted ↦ inl (omega (arith, n.notes)) | inr count ↦ inr (omega (arith, same)) ],
     )
 whys status.ReadFault t r i c e h = h.cause
@@ -96,6 +99,8 @@ heading s t r i c e h = record {
   in_time = rw (e.opening, e.journal) h.held.asks;
   state = r.state;
   lawful = e.leaves;
+  triggered = tells_changes c.opening c.journal r.state e.leaves;
+  held = stops_first c.opening c.journal r.state e.leaves;
   plain = plain_of r.state;
   erased = lawful_plain c.opening c.journal r.state e.leaves;
   registers = regs_plain r.state.harts ∙ sym e.registers;
@@ -105,6 +110,7 @@ heading s t r i c e h = record {
   retired = e.retired;
   copied = e.copied;
   said = rw (e.opening, e.journal) h.written;
+  shown = said_output c.opening c.journal r.state e.leaves;
   why = whys s t r i c e h;
 }
 

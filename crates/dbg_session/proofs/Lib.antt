@@ -1,5 +1,6 @@
 pub mod Putting
 pub mod Reading
+pub mod Writing
 pub mod Working
 pub mod Timing
 pub mod Saying
@@ -12,4 +13,10 @@ pub mod Getting
 pub mod Several
 pub mod Going
 pub mod Passing
+pub mod Triggering
+pub mod Holding
 pub mod Heading
+pub mod Picked
+pub mod Outs
+pub mod Sending
+pub mod Bringing

@@ -14,8 +14,9 @@ use Rattle.dbg_session.specs.Words.{served_words, ReadsAll, ReadsSome, named_of}
 use Rattle.dbg_session.specs.declared.file.FileError.TheVariants as error
 use Rattle.dbg_session.specs.Ties.{IsReady, IsEmpty, IsCut}
 use Rattle.dbg_session.specs.Puts.{PutsAll}
-use Rattle.mi_reports.specs.Refusals.{bad_file}
-use Rattle.mi_reports.specs.declared.refusals.TheConstants.{USAGE}
+use Rattle.mi_values.specs.Record.{LineTree}
+use Rattle.mi_values.specs.Records.{lines_bytes, AreRecords}
+use Rattle.mi_reports.specs.Refusals.{refusal_lines, file_fields, usage_fields}
 use Rattle.dbg_session.specs.declared.status.Status.TheVariants as status
 use Rattle.dbg_session.specs.Headline.{Early, Line, Silent, IsUnpolled, IsUnread, IsRead, IsReadIfAny, HasFault}
 
@@ -61,19 +62,21 @@ unpolled t fresh = record { polls = fresh.polls; taken = fresh.input_length; pol
 unread : (t : Told) → IsFresh t → IsUnread t
 unread t fresh = record { name = fresh.named; taken = fresh.file_length; bytes = empty t.file_taken fresh.taken; faults = fresh.file_faults; ended = fresh.file_ended }
 
-front_of : (o : Option (List ℕ)) (line piece : List ℕ) (n : ℕ) → piece ≡ line → (o ≡ None) ⊎ (o ≡ Some []) → IfSome (more o (take n piece)) (λ written. IsCut written line)
-front_of o line piece n same fresh = told_all o (take n piece) (λ written. IsCut written line) fresh (drop n piece, take-append-drop n piece ∙ same)
+front_of : (o : Option (List ℕ)) (trees : List LineTree) (piece : List ℕ) (n : ℕ) → AreRecords piece trees → (o ≡ None) ⊎ (o ≡ Some []) → IfSome (more o (take n piece)) (λ written. IsCut written (lines_bytes trees))
+front_of o trees piece n are fresh = told_all o (take n piece) (λ written. IsCut written (lines_bytes trees)) fresh (drop n piece, take-append-drop n piece ∙ are.text)
 
--- the one line that was put
-pub line_written : (b : Bool) (t u : Told) (line piece : List ℕ) → piece ≡ line → (t.written ≡ None) ⊎ (t.written ≡ Some []) → t.put_faults ≡ 0 → PutsAll b piece t u → Line line u
-line_written true t u line piece same fresh none puts = rw puts (record {
-  front = told_all t.written piece (λ written. IsCut written line) fresh ([], append-nil piece ∙ same);
-  whole = λ _. told_all t.written piece (λ written. written ≡ line) fresh same;
+-- the lines that were put
+pub line_written : (b : Bool) (t u : Told) (trees : List LineTree) (piece : List ℕ) → AreRecords piece trees → (t.written ≡ None) ⊎ (t.written ≡ Some []) → t.put_faults ≡ 0 → PutsAll b piece t u → Line trees u
+line_written true t u trees piece are fresh none puts = rw puts (record {
+  grammar = are.lines;
+  front = told_all t.written piece (λ written. IsCut written (lines_bytes trees)) fresh ([], append-nil piece ∙ are.text);
+  whole = λ _. told_all t.written piece (λ written. written ≡ lines_bytes trees) fresh are.text;
 })
-line_written false t u line piece same fresh none puts =
+line_written false t u trees piece are fresh none puts =
     let rose : 0 < puts.1 = omega (arith, none, puts.2) in
     rw puts.3 (record {
-      front = front_of t.written line piece puts.0 same fresh;
+      grammar = are.lines;
+      front = front_of t.written trees piece puts.0 are fresh;
       whole = λ zero. absurd (omega (arith, zero, rose));
     })
 
@@ -91,12 +94,12 @@ put_words true t u piece puts = ap (λ (v : Told). v.words) puts
 put_words false t u piece puts = ap (λ (v : Told). v.words) puts.3
 
 -- the words were refused
-pub early_words : (b : Bool) (t u : Told) (words : List (List ℕ)) (piece : List ℕ) → IsFresh t → words ≡ t.words → None ≡ served_words words → piece ≡ USAGE.now → PutsAll b piece t u → Early status.Words u
+pub early_words : (b : Bool) (t u : Told) (words : List (List ℕ)) (piece : List ℕ) → IsFresh t → words ≡ t.words → None ≡ served_words words → AreRecords piece (refusal_lines usage_fields) → PutsAll b piece t u → Early status.Words u
 early_words b t u words piece fresh asked is same puts = (
   put_unpolled b t u piece puts (unpolled t fresh),
   put_unread b t u piece puts (unread t fresh),
   ap served_words (put_words b t u piece puts ∙ sym asked) ∙ sym is,
-  line_written b t u USAGE.now piece same fresh.written fresh.put_faults puts,
+  line_written b t u (refusal_lines usage_fields) piece same fresh.written fresh.put_faults puts,
 )
 
 -- there was no memory to read the words
@@ -165,11 +168,11 @@ read_fault t u words served bytes f fresh asked is reads fault = rw reads.3 (rec
 })
 
 -- the file was refused
-pub early_file : (b : Bool) (t u v : Told) (words : List (List ℕ)) (served : Served) (bytes : List ℕ) (f : ElfFault) (piece : List ℕ) → IsFresh t → words ≡ t.words → Some served ≡ served_words words → ReadsAll bytes served.name t u → Refused bytes f → piece ≡ bad_file f → PutsAll b piece u v → Early (status.File f) v
+pub early_file : (b : Bool) (t u v : Told) (words : List (List ℕ)) (served : Served) (bytes : List ℕ) (f : ElfFault) (piece : List ℕ) → IsFresh t → words ≡ t.words → Some served ≡ served_words words → ReadsAll bytes served.name t u → Refused bytes f → AreRecords piece (refusal_lines (file_fields f)) → PutsAll b piece u v → Early (status.File f) v
 early_file b t u v words served bytes f piece fresh asked is reads fault same puts =
     let written : u.written ≡ t.written = ap (λ (x : Told). x.written) reads.3 in
     let none : u.put_faults ≡ 0 = ap (λ (x : Told). x.put_faults) reads.3 ∙ fresh.put_faults in (
       put_unpolled b u v piece puts (all_unpolled t u bytes served.name reads fresh),
       put_fault b u v f piece puts (read_fault t u words served bytes f fresh asked is reads fault),
-      line_written b u v (bad_file f) piece same (rw written fresh.written) none puts,
+      line_written b u v (refusal_lines (file_fields f)) piece same (rw written fresh.written) none puts,
     )

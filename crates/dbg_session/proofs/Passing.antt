@@ -7,7 +7,7 @@ use Rattle.engine_facts.specs.Seen.{Run, seen}
 use Rattle.engine_facts.specs.Facts.{Facts}
 use Rattle.engine_facts.proofs.Seeing.{any_seen}
 use Rattle.engine_facts.proofs.Movers.{some_mover}
-use Rattle.dbg_engine.specs.Steps.{next_running}
+use Rattle.dbg_engine.proofs.Picks.{next_of_all}
 use Rattle.dbg_session.specs.declared.status.Status.{Status}
 use Rattle.dbg_session.specs.Stage.{Stage, stage_of, moves_at}
 use Rattle.dbg_session.specs.Ties.{session_work}
@@ -18,14 +18,14 @@ use Rattle.dbg_session.proofs.Ahead.{fewer, ahead_most, movers_length, movers_be
 use Rattle.dbg_session.proofs.Ahead as ahead_proofs
 
 -- none was picked: none runs
-pub still : (e : Run) (next : ℕ) → Facts e → None ≡ next_running e.minds next → not (any_runs (seen e).harts) ≡ true
+pub still : (e : Run) (next : ℕ) → Facts e → None ≡ next_of_all e.minds next → not (any_runs (seen e).harts) ≡ true
 still e next f is = ap not (sym (any_seen e.opening.image e.machine.cores e.minds f.sound.harts.len) ∙ none_runs e.minds next (sym is))
 
 pub same_none : {W : Type 0} (s t : Seen W) → t ≡ record s { next = picked None s.next } → Same s t
-same_none {W = W} s t is = record { run = ap (λ (x : Seen W). x.run) is; input = ap (λ (x : Seen W). x.input) is; status = ap (λ (x : Seen W). x.status) is; next = ap (λ (x : Seen W). x.next) is }
+same_none {W = W} s t is = record { run = ap (λ (x : Seen W). x.run) is; input = ap (λ (x : Seen W). x.input) is; status = ap (λ (x : Seen W). x.status) is; next = ap (λ (x : Seen W). x.next) is; out = ap (λ (x : Seen W). x.out) is }
 
 -- after a hart that couldn't be moved the next that can be is nearer
-nearer : (e : Run) (next h : ℕ) → Facts e → next_running e.minds next ≡ Some h → moves_at (stage_of e) h ≡ false → ahead (movers (stage_of e)) (h + 1) < ahead (movers (stage_of e)) next
+nearer : (e : Run) (next h : ℕ) → Facts e → next_of_all e.minds next ≡ Some h → moves_at (stage_of e) h ≡ false → ahead (movers (stage_of e)) (h + 1) < ahead (movers (stage_of e)) next
 nearer e next h f is stays =
     let r = stage_of e in
     let xs = e.minds in
@@ -45,13 +45,13 @@ less_min : (w p q : ℕ) → p < q → q ≤ 33 → 34 * w + min 33 p < 34 * w +
 less_min w p q less few = omega arith
 
 -- a hart was picked and turned: there is less to do
-pub turned_less : {W : Type 0} (e : Run) (s t u : Seen W) (h : ℕ) → Facts e → stage_of e ≡ s.run → Some h ≡ next_running s.run.minds s.next → t ≡ record s { next = picked (Some h) s.next } → HasTurned h t u → work u < work s
+pub turned_less : {W : Type 0} (e : Run) (s t u : Seen W) (h : ℕ) → Facts e → stage_of e ≡ s.run → Some h ≡ next_of_all s.run.minds s.next → t ≡ record s { next = picked (Some h) s.next } → HasTurned h t u → work u < work s
 turned_less {W = W} e s t u h f run is next (inl less) =
     let same : session_work t.status t.run t.input ≡ session_work s.status s.run s.input = ap (λ (x : Seen W). session_work x.status x.run x.input) next in
     less_work s u (omega (arith, same, less))
 turned_less {W = W} e s t u h f run is next (inr stood) =
     let w = session_work s.status s.run s.input in
-    let there : next_running e.minds s.next ≡ Some h = ap (λ (r : Stage). next_running r.minds s.next) run ∙ sym is in
+    let there : next_of_all e.minds s.next ≡ Some h = ap (λ (r : Stage). next_of_all r.minds s.next) run ∙ sym is in
     let kept : t.run ≡ stage_of e = ap (λ (x : Seen W). x.run) next ∙ sym run in
     let stays : moves_at (stage_of e) h ≡ false = ap (λ (r : Stage). moves_at r h) (sym kept) ∙ stood.1 in
     let near = nearer e s.next h f there stays in

@@ -1,5 +1,5 @@
 -- What a turn and a line say.
-use Rattle.std.proofs.Common.{◌≡◌, ◌<◌, ◌≤◌, ℕ, zero, suc, ◌+◌, ◌-◌, ◌*◌, Bool, true, false, List, [], ◌∷◌, ◌++◌, length, drop, refl, sym, ap, ◌∙◌, arith, subst, cond, not}
+use Rattle.std.proofs.Common.{◌≡◌, ◌<◌, ◌≤◌, ℕ, zero, suc, ◌+◌, ◌-◌, ◌*◌, Bool, true, false, List, [], ◌∷◌, ◌++◌, length, drop, refl, sym, ap, ◌∙◌, arith, subst, cond, not, append_assoc}
 use Rattle.std.specs.Prelude.{Option, Some, None, is_none, ◌&&◌, ◌⊎◌, map, slice_get}
 use mathlib.Core.Logic.{inl, inr}
 use mathlib.Core.List.{append-nil}
@@ -7,24 +7,33 @@ use Rattle.rv_exec.specs.declared.effect.Stepped.{Stepped}
 use Rattle.rv_exec.specs.declared.effect.Stepped.TheVariants as stepped
 use Rattle.dbg_model.specs.declared.reply.Reply.{Reply}
 use Rattle.dbg_model.specs.declared.entry.Entry.{Entry}
-use Rattle.dbg_model.specs.declared.entry.Entry.TheVariants.{Counted, Stopped, Did}
+use Rattle.dbg_model.specs.declared.entry.Entry.TheVariants.{Counted, Stopped, Did, Poked}
+use Rattle.dbg_model.specs.declared.entry.Poke.{Poke}
 use Rattle.dbg_model.specs.declared.entry.Why.{Why}
 use Rattle.dbg_model.specs.declared.entry.Why.TheVariants as whys
-use Rattle.dbg_model.specs.declared.entry.Why.TheVariants.{Break, Interrupted, Fault}
+use Rattle.dbg_model.specs.declared.entry.Why.TheVariants.{Break, Watch, Interrupted, Fault}
+use Rattle.dbg_model.specs.declared.watch.Fired.{Fired}
+use Rattle.dbg_model.specs.Watches.{risen}
 use Rattle.dbg_model.specs.declared.opening.Opening.{Opening}
 use Rattle.dbg_model.specs.declared.frame.ShownFrame.{ShownFrame}
 use Rattle.dbg_model.specs.Breaks.{is_temporary}
 use Rattle.dbg_model.specs.Places.{own_frame}
 use Rattle.dbg_model.specs.State.{State, all_gone, any_runs}
-use Rattle.dbg_model.specs.Lawful.{one}
+use Rattle.dbg_model.specs.Lawful.{enter, one}
 use Rattle.dbg_model.specs.Leaving.{lefts_from, gone}
-use Rattle.dbg_model.specs.Journals.{lengthened, did}
-use Rattle.dbg_model.proofs.Adding.{lengthens}
+use Rattle.dbg_model.specs.Journals.{Leaves, lengthened, did}
+use Rattle.dbg_model.specs.Reply.{done_by}
+use Rattle.dbg_model.proofs.Options.{same_some}
+use Rattle.dbg_model.proofs.Counting.{poked_adds}
+use Rattle.dbg_model.proofs.Adding.{came_by, lengthens}
 use Rattle.dbg_model.proofs.Ending.{one_open}
 use Rattle.source_index.specs.Sources.{Sources, sources_of}
-use Rattle.mi_reports.specs.Text.{stream_text, stop_text, interrupt_text, break_text, stepped_text, finished_text, lefts_text}
-use Rattle.mi_reports.specs.Replies.{reply_text}
-use Rattle.mi_reports.specs.Said.{entry_text, said, hart_pc, stop_frame}
+use Rattle.mi_values.specs.Record.{LineTree}
+use Rattle.mi_reports.specs.Text.{stream_lines, stop_lines, interrupt_lines, break_lines, stepped_lines, finished_lines, lefts_lines}
+use Rattle.mi_reports.specs.Replies.{reply_lines}
+use Rattle.mi_reports.specs.Said.{entry_lines, said_lines, hart_pc, stop_frame}
+use Rattle.mi_reports.specs.Triggers.{trigger_lines, watch_of}
+use Rattle.mi_reports.proofs.Stopping.{trigger_risen}
 use Rattle.mi_reports.proofs.Saying.{said_added, said_lengthened}
 use Rattle.mi_reports.proofs.Leaving.{said_exits}
 use Rattle.dbg_engine.specs.declared.moving.Turned.{Turned}
@@ -39,7 +48,7 @@ use Rattle.engine_facts.specs.Minds.{mode_of, is_active, with_phase, counted_min
 use Rattle.engine_facts.specs.Moves.{plan_for}
 use Rattle.engine_facts.proofs.Seeing.{seen_at}
 use Rattle.dbg_engine.specs.Several.{is_quiet}
-use Rattle.dbg_engine.specs.Calls.{Of, Turns, Runs, Exits, Halts, Counts, Rephases, Does}
+use Rattle.dbg_engine.specs.Calls.{Of, Turns, Runs, Exits, Halts, Counts, Rephases, Does, pokes_of, poked_after}
 use Rattle.break_table.specs.declared.due.CondError.{CondError}
 use Rattle.engine_facts.specs.Movers.{runs_at, runs_as, is_free, is_idle, idle_as, waits_for_slot}
 use Rattle.dbg_session.specs.Stage.{stage_of, work_of, running, moves, moves_of, moves_left, moves_at}
@@ -47,8 +56,8 @@ use Rattle.dbg_model.specs.State.{is_running}
 use Rattle.dbg_model.specs.Lawful.{may_go}
 use Rattle.engine_facts.specs.declared.mind.Activity.{Activity}
 use Rattle.engine_facts.specs.declared.mind.Activity.TheVariants as activity
-use Rattle.dbg_session.specs.Steps.{said_by, Goes, IsMove}
-use Rattle.dbg_session.specs.Turned.{turned_text, last_lefts, stream_of, has_moved}
+use Rattle.dbg_session.specs.Steps.{lines_by, Goes, IsMove}
+use Rattle.dbg_session.specs.Turned.{turned_lines, left_lines, stream_tree, has_moved}
 use Rattle.dbg_session.proofs.Timing.{did_line, Grown, grown_same, grown_more, grown_lengthened, grown_exits}
 use Rattle.dbg_session.proofs.Working.{one_works, one_runs, halt_runs, halts, count_notes, count_runs, done_retired, running_gone, running_most, moves_most, moves_set}
 use Rattle.dbg_session.proofs.Picking.{out_so}
@@ -57,7 +66,7 @@ use Rattle.dbg_engine.proofs.Commanding.{harts_length}
 -- what a turn that moved says, and leaves to do
 pub record Said (t : Turned) (r s : Run) (h pc : ℕ) : Type 0 where
   pub opening : s.opening ≡ r.opening
-  pub said : said_by (stage_of s) ≡ said_by (stage_of r) ++ turned_text s t h pc
+  pub said : lines_by (stage_of s) ≡ lines_by (stage_of r) ++ turned_lines s t h pc
   pub goes : Goes (stage_of r) (stage_of s)
   pub move : IsMove h (stage_of r) (stage_of s)
   pub work : work_of (stage_of s) < work_of (stage_of r)
@@ -72,8 +81,7 @@ spared_goes e s n g = record { lines = g.lines; through = g.through; until = g.u
 abbrev pub IsPc : Run → ℕ → ℕ → Type 0
 IsPc r h pc = Of r h (λ y. y.regs.pc ≡ pc)
 
-nothing_written : stream_text [] ≡ []
-unfolding stream_text
+nothing_written : stream_lines [] ≡ []
 nothing_written = refl
 
 -- few harts, and few moves of theirs
@@ -95,15 +103,15 @@ ran_less r s h t is retired run opening g =
     subst P (sym opening) (less_work r.opening.settings.budget r.retired s.retired (running (seen s).harts) (running (seen r).harts) (moves s.minds) (moves r.minds) w.below more le (few_moves s g))
 
 -- said over equal openings and journals
-said_is : (r s : Run) (j : List Entry) (text : List ℕ) → s.opening ≡ r.opening → s.journal ≡ j → said r.opening j ≡ said r.opening r.journal ++ text → said_by (stage_of s) ≡ said_by (stage_of r) ++ text
-said_is r s j text o is e = ap (λ p. said p s.journal) o ∙ (ap (said r.opening) is ∙ e)
+said_is : (r s : Run) (j : List Entry) (text : List LineTree) → s.opening ≡ r.opening → s.journal ≡ j → said_lines r.opening j ≡ said_lines r.opening r.journal ++ text → lines_by (stage_of s) ≡ lines_by (stage_of r) ++ text
+said_is r s j text o is e = ap (λ p. said_lines p s.journal) o ∙ (ap (said_lines r.opening) is ∙ e)
 
-runs_say : (t : Turned) (v : Stepped) (r s : Run) (h pc : ℕ) (out : List ℕ) → Facts r → Facts s → Runs v r s h out → stream_text out ≡ turned_text s t h pc → Said t r s h pc
+runs_say : (t : Turned) (v : Stepped) (r s : Run) (h pc : ℕ) (out : List ℕ) → Facts r → Facts s → Runs v r s h out → stream_lines out ≡ turned_lines s t h pc → Said t r s h pc
 runs_say t v r s h pc out f g m text =
     let l = said_lengthened r.opening r.journal h (seen r) f.sound.leaves in
     record {
       opening = m.opening;
-      said = said_is r s (lengthened r.journal h) (turned_text s t h pc) m.opening m.journal (l ∙ ap (λ u. said r.opening r.journal ++ u) (ap stream_text m.wrote ∙ text));
+      said = said_is r s (lengthened r.journal h) (turned_lines s t h pc) m.opening m.journal (l ∙ ap (λ u. said_lines r.opening r.journal ++ u) (ap stream_lines m.wrote ∙ text));
       goes = goes_by r s (grown_lengthened r.journal s.journal h m.journal) (inr (one_runs r.opening h (seen r) (seen s) m.one));
       move = inr (inl ([], m.journal ∙ sym (append-nil (lengthened r.journal h))));
       work = ran_less r s h (seen s) m.one refl (let z : running (seen s).harts ≤ running (seen s).harts = omega arith in z) m.opening g;
@@ -124,18 +132,18 @@ last_are j xs ys n is len =
     let front : length j - n ≡ length xs = let m = ap length is in omega arith in
     ap (λ k. drop k j) front ∙ (ap (drop (length xs)) is ∙ drop_behind xs ys)
 
-exits_say : (t : Turned) (v : Stepped) (r s : Run) (h pc count code : ℕ) → Facts r → Facts s → Exits v r s h count code → last_lefts s count code ≡ turned_text s t h pc → Said t r s h pc
+exits_say : (t : Turned) (v : Stepped) (r s : Run) (h pc count code : ℕ) → Facts r → Facts s → Exits v r s h count code → left_lines s count code ≡ turned_lines s t h pc → Said t r s h pc
 exits_say t v r s h pc count code f g m text =
     let j = lengthened r.journal h in
     let lefts = lefts_from 0 m.between.harts in
     let l = lengthens r.opening r.journal h (seen r) m.between f.sound.leaves m.one in
-    let first : said r.opening j ≡ said r.opening r.journal = said_lengthened r.opening r.journal h (seen r) f.sound.leaves ∙ (ap (λ u. said r.opening r.journal ++ u) (ap stream_text m.wrote ∙ nothing_written) ∙ append-nil (said r.opening r.journal)) in
+    let first : said_lines r.opening j ≡ said_lines r.opening r.journal = said_lengthened r.opening r.journal h (seen r) f.sound.leaves ∙ (ap (λ u. said_lines r.opening r.journal ++ u) (ap stream_lines m.wrote ∙ nothing_written) ∙ append-nil (said_lines r.opening r.journal)) in
     let exits = said_exits r.opening j m.between code l (one_open r.opening h (seen r) m.between m.one) m.codes m.some in
-    let last : lefts_text lefts (all_gone (map gone m.between.harts)) code ≡ last_lefts s count code =
-    ap (λ es. lefts_text es (all_gone (map gone m.between.harts)) code) (sym (last_are s.journal j lefts count m.journal m.counted)) ∙ ap (λ xs. lefts_text (drop (length s.journal - count) s.journal) (all_gone xs) code) (sym m.harts) in
+    let last : lefts_lines lefts (all_gone (map gone m.between.harts)) code ≡ left_lines s count code =
+    ap (λ es. lefts_lines es (all_gone (map gone m.between.harts)) code) (sym (last_are s.journal j lefts count m.journal m.counted)) ∙ ap (λ xs. lefts_lines (drop (length s.journal - count) s.journal) (all_gone xs) code) (sym m.harts) in
     record {
       opening = m.opening;
-      said = said_is r s (j ++ lefts) (turned_text s t h pc) m.opening m.journal (exits ∙ (ap (λ u. u ++ lefts_text lefts (all_gone (map gone m.between.harts)) code) first ∙ ap (λ u. said r.opening r.journal ++ u) (last ∙ text)));
+      said = said_is r s (j ++ lefts) (turned_lines s t h pc) m.opening m.journal (exits ∙ (ap (λ u. u ++ lefts_lines lefts (all_gone (map gone m.between.harts)) code) first ∙ ap (λ u. said_lines r.opening r.journal ++ u) (last ∙ text)));
       goes = goes_by r s (grown_exits r.journal s.journal h m.between.harts m.journal) (inr (one_runs r.opening h (seen r) m.between m.one));
       move = inr (inl (m.between.harts, m.journal));
       work = ran_less r s h m.between m.one (m.retired ∙ sym (one_works r.opening h (seen r) m.between m.one).retired) (let e = ap running m.harts ∙ running_gone m.between.harts in let z : running (seen s).harts ≤ running m.between.harts = omega arith in z) m.opening g;
@@ -161,7 +169,7 @@ frame_seen r s h pc f g low is_pc same =
     ap (own_frame (sources_of r.opening.image)) (pc_seen r h pc f low is_pc)
     ∙ ap (λ (sources : Sources). own_frame sources pc) (sym (g.sound.sources ∙ ap (λ (o : Opening). sources_of o.image) same))
 
-halts_say : (t : Turned) (r s : Run) (h pc : ℕ) (why : Why) → Facts r → Facts s → Halts r s h why → said_by (stage_of s) ≡ said_by (stage_of r) ++ turned_text s t h pc → Said t r s h pc
+halts_say : (t : Turned) (r s : Run) (h pc : ℕ) (why : Why) → Facts r → Facts s → Halts r s h why → lines_by (stage_of s) ≡ lines_by (stage_of r) ++ turned_lines s t h pc → Said t r s h pc
 halts_say t r s h pc why f g m text =
     let e : Entry = Stopped h why in
     let halt = halts r.opening why h (seen r) (seen s) m.enters in
@@ -178,21 +186,27 @@ halts_say t r s h pc why f g m text =
     }
 
 -- a stop of which nothing but the frame is told
-framed_says : (t : Turned) (r s : Run) (h pc : ℕ) (why : Why) (text : ℕ → ShownFrame → List ℕ) → Facts r → Facts s → h < length r.minds → IsPc r h pc → Halts r s h why
-    → entry_text r.opening (seen r) (Stopped h why) ≡ text h (stop_frame r.opening (seen r) h) → text h (own_frame s.sources pc) ≡ turned_text s t h pc → Said t r s h pc
+framed_says : (t : Turned) (r s : Run) (h pc : ℕ) (why : Why) (text : ℕ → ShownFrame → List LineTree) → Facts r → Facts s → h < length r.minds → IsPc r h pc → Halts r s h why
+    → entry_lines r.opening (seen r) (Stopped h why) ≡ text h (stop_frame r.opening (seen r) h) → text h (own_frame s.sources pc) ≡ turned_lines s t h pc → Said t r s h pc
 framed_says t r s h pc why text f g low is_pc m first last =
     let e : Entry = Stopped h why in
     let shown = first ∙ (ap (text h) (frame_seen r s h pc f g low is_pc m.opening) ∙ last) in
     halts_say t r s h pc why f g m
-    (said_is r s (r.journal ++ e ∷ []) (turned_text s t h pc) m.opening m.journal (said_added r.opening r.journal (seen r) e f.sound.leaves ∙ ap (λ u. said r.opening r.journal ++ u) shown))
+    (said_is r s (r.journal ++ e ∷ []) (turned_lines s t h pc) m.opening m.journal (said_added r.opening r.journal (seen r) e f.sound.leaves ∙ ap (λ u. said_lines r.opening r.journal ++ u) shown))
+
+triggers_say : (r s : Run) (h pc : ℕ) (fired : Fired) → Facts r → Facts s → h < length r.minds → IsPc r h pc → Halts r s h (Watch fired) → s.watches ≡ risen (Some fired) r.watches → Said (turned.Triggered fired) r s h pc
+triggers_say r s h pc fired f g low is_pc m after =
+    let shown : trigger_lines (watch_of r.watches fired.number) fired h (own_frame s.sources pc) ≡ trigger_lines (watch_of s.watches fired.number) fired h (own_frame s.sources pc) =
+    sym (ap (λ ws. trigger_lines (watch_of ws fired.number) fired h (own_frame s.sources pc)) after ∙ trigger_risen (Some fired) r.watches fired h (own_frame s.sources pc)) in
+    framed_says (turned.Triggered fired) r s h pc (Watch fired) (trigger_lines (watch_of r.watches fired.number) fired) f g low is_pc m refl shown
 
 arrivals_say : (r s : Run) (h pc number : ℕ) (temporary : Bool) (error : Option CondError) → Facts r → Facts s → h < length r.minds → IsPc r h pc → Halts r s h (Break number error) → temporary ≡ is_temporary r.breaks number → Said (turned.Arrived number temporary error) r s h pc
 arrivals_say r s h pc number temporary error f g low is_pc m kind =
     let e : Entry = Stopped h (Break number error) in
     halts_say (turned.Arrived number temporary error) r s h pc (Break number error) f g m
-    (said_is r s (r.journal ++ e ∷ []) (break_text temporary number error h (own_frame s.sources pc)) m.opening m.journal
-    (said_added r.opening r.journal (seen r) e f.sound.leaves ∙ (ap (λ (frame : ShownFrame). said r.opening r.journal ++ break_text (is_temporary r.breaks number) number error h frame) (frame_seen r s h pc f g low is_pc m.opening)
-    ∙ ap (λ b. said r.opening r.journal ++ break_text b number error h (own_frame s.sources pc)) (sym kind))))
+    (said_is r s (r.journal ++ e ∷ []) (break_lines temporary number error h (own_frame s.sources pc)) m.opening m.journal
+    (said_added r.opening r.journal (seen r) e f.sound.leaves ∙ (ap (λ (frame : ShownFrame). said_lines r.opening r.journal ++ break_lines (is_temporary r.breaks number) number error h frame) (frame_seen r s h pc f g low is_pc m.opening)
+    ∙ ap (λ b. said_lines r.opening r.journal ++ break_lines b number error h (own_frame s.sources pc)) (sym kind))))
 
 moves_fresh : (x : Mind) → x.fresh ≡ true → moves_left x ≡ moves_of x.phase + 1
 moves_fresh x fresh = ap (λ b. moves_of x.phase + cond b 1 0) fresh
@@ -217,7 +231,7 @@ counts_say r s h pc f g m =
     }
 
 -- a move that nothing shows
-quiets_say : (t : Turned) (r s : Run) (h pc : ℕ) (x : Mind) (p : Phase) (hold : Option Hold) → Rephases r s h x p hold → slice_get r.minds h ≡ Some x → moves_of p < moves_of x.phase → [] ≡ turned_text s t h pc → Said t r s h pc
+quiets_say : (t : Turned) (r s : Run) (h pc : ℕ) (x : Mind) (p : Phase) (hold : Option Hold) → Rephases r s h x p hold → slice_get r.minds h ≡ Some x → moves_of p < moves_of x.phase → [] ≡ turned_lines s t h pc → Said t r s h pc
 quiets_say t r s h pc x p hold m at less text =
     let set = moves_set r.minds h x (with_phase x p) at in
     let fewer : moves s.minds < moves r.minds = omega (arith, ap moves m.minds) in
@@ -226,7 +240,7 @@ quiets_say t r s h pc x p hold m at less text =
     ∙ ap (λ (u : State). 49 * (r.opening.settings.budget - u.retired) + (49 * running u.harts + moves s.minds)) m.seen in
     record {
       opening = m.opening;
-      said = said_is r s r.journal (turned_text s t h pc) m.opening m.journal (sym (append-nil (said r.opening r.journal)) ∙ ap (λ u. said r.opening r.journal ++ u) text);
+      said = said_is r s r.journal (turned_lines s t h pc) m.opening m.journal (sym (append-nil (said_lines r.opening r.journal)) ∙ ap (λ u. said_lines r.opening r.journal ++ u) text);
       goes = goes_by r s (grown_same r.journal s.journal m.journal) (inl m.journal);
       move = inl (m.journal, (with_phase x p, m.minds));
       work = omega (arith, shown);
@@ -251,6 +265,7 @@ quiet_says turned.Interrupted r s h quiet f g m = cc
 quiet_says turned.Counted r s h quiet f g m = cc
 quiet_says turned.Stepped r s h quiet f g m = cc
 quiet_says turned.Finished r s h quiet f g m = cc
+quiet_says (turned.Triggered fired) r s h quiet f g m = cc
 quiet_says (turned.Arrived number temporary error) r s h quiet f g m = cc
 
 abbrev pub HasMoved : Turned → Type 0
@@ -271,6 +286,7 @@ HasMoved turned.Interrupted = Unit {0}
 HasMoved turned.Counted = Unit {0}
 HasMoved turned.Stepped = Unit {0}
 HasMoved turned.Finished = Unit {0}
+HasMoved (turned.Triggered fired) = Unit {0}
 HasMoved (turned.Arrived number temporary error) = Unit {0}
 
 says : (t : Turned) (r s : Run) (h pc : ℕ) → Facts r → Facts s → h < length r.minds → IsPc r h pc → HasMoved t → Turns t r s h → Said t r s h pc
@@ -287,14 +303,15 @@ says turned.Planted r s h pc f g low is moved m =
 says turned.Lifted r s h pc f g low is moved m =
     quiets_say turned.Lifted r s h pc m.mind (phase.Lifted m.home) (Some (record { hart = h; home = m.home })) m.rephases m.before.at (let e = ap moves_of m.before.idle in omega arith) refl
 says turned.Ran r s h pc f g low is moved m = runs_say turned.Ran stepped.Ran r s h pc [] f g m nothing_written
-says (turned.Wrote addr len) r s h pc f g low is moved m = runs_say (turned.Wrote addr len) (stepped.Wrote addr len) r s h pc m.0 f g m.3 (ap stream_of (sym m.2))
+says (turned.Wrote addr len) r s h pc f g low is moved m = runs_say (turned.Wrote addr len) (stepped.Wrote addr len) r s h pc m.0 f g m.3 (ap stream_tree (sym m.2))
 says (turned.Left code) r s h pc f g low is moved m = exits_say (turned.Left code) (stepped.HartExit code) r s h pc 1 code f g m refl
 says (turned.AllLeft code count) r s h pc f g low is moved m = exits_say (turned.AllLeft code count) (stepped.AllExit code) r s h pc count code f g m refl
-says (turned.Stopped cause) r s h pc f g low is moved m = framed_says (turned.Stopped cause) r s h pc (Fault cause) (stop_text cause) f g low is m refl refl
-says turned.Interrupted r s h pc f g low is moved m = framed_says turned.Interrupted r s h pc Interrupted interrupt_text f g low is m.halts refl refl
+says (turned.Stopped cause) r s h pc f g low is moved m = framed_says (turned.Stopped cause) r s h pc (Fault cause) (stop_lines cause) f g low is m refl refl
+says turned.Interrupted r s h pc f g low is moved m = framed_says turned.Interrupted r s h pc Interrupted interrupt_lines f g low is m.halts refl refl
 says turned.Counted r s h pc f g low is moved m = counts_say r s h pc f g m
-says turned.Stepped r s h pc f g low is moved m = framed_says turned.Stepped r s h pc whys.Stepped stepped_text f g low is m refl refl
-says turned.Finished r s h pc f g low is moved m = framed_says turned.Finished r s h pc whys.Finished finished_text f g low is m refl refl
+says turned.Stepped r s h pc f g low is moved m = framed_says turned.Stepped r s h pc whys.Stepped stepped_lines f g low is m refl refl
+says turned.Finished r s h pc f g low is moved m = framed_says turned.Finished r s h pc whys.Finished finished_lines f g low is m refl refl
+says (turned.Triggered fired) r s h pc f g low is moved m = triggers_say r s h pc fired f g low is m.halts m.watches
 says (turned.Arrived number temporary error) r s h pc f g low is moved m = arrivals_say r s h pc number temporary error f g low is m.0 m.1
 
 spared : (t : Turned) (e s : Run) (n h pc : ℕ) → Said t (record e { spare = n }) s h pc → Said t e s h pc
@@ -310,22 +327,43 @@ turn_says t e r s h pc is f g low is_pc moved m =
 -- a line that was done
 pub record DoneSaid (r s : Run) (line : List ℕ) (answer : Reply) : Type 0 where
   pub opening : s.opening ≡ r.opening
-  pub said : said_by (stage_of s) ≡ said_by (stage_of r) ++ reply_text answer
-  pub journal : s.journal ≡ r.journal ++ Did line ∷ []
+  pub said : lines_by (stage_of s) ≡ lines_by (stage_of r) ++ reply_lines answer
+  pub journal : s.journal ≡ r.journal ++ Did line ∷ pokes_of (done_by r.opening (seen r) line).pending
   pub did : did s.journal ≡ did r.journal ++ line ∷ []
   pub work : work_of (stage_of s) ≤ work_of (stage_of r) + 832
 
+-- a write executes nothing
+settled_retired : (o : Opening) (s t : State) (q : Option Poke) → poked_after o s q ≡ Some t → t.retired ≡ s.retired
+unfolding enter
+settled_retired o s t None is = ap (λ (u : State). u.retired) (sym (same_some s t is))
+settled_retired o s t (Some p) is = let a = poked_adds s t p is in omega (arith, a.retired)
+
+-- and says nothing
+said_settled : (o : Opening) (j : List Entry) (line : List ℕ) (q : Option Poke) (s t : State) → Leaves o j s → Leaves o (j ++ Did line ∷ pokes_of q) t → said_lines o (j ++ Did line ∷ pokes_of q) ≡ said_lines o j ++ entry_lines o s (Did line)
+said_settled o j line None s t before after = said_added o j s (Did line) before
+said_settled o j line (Some p) s t before after =
+    let done = j ++ Did line ∷ [] in
+    let same = append_assoc j (Did line ∷ []) (Poked p ∷ []) in
+    let by = came_by o done (Poked p) t (subst (λ (k : List Entry). Leaves o k t) (sym same) after) in
+    let quiet = said_added o done by.before.state (Poked p) (record { prev = by.before.prev; replays = by.at }) in
+    ap (said_lines o) (sym same) ∙ (quiet ∙ (append-nil (said_lines o done) ∙ said_added o j s (Did line) before))
+
 pub does_say : (r s : Run) (line : List ℕ) (answer : Reply) → Facts r → Facts s → Does r s line answer → DoneSaid r s line answer
 does_say r s line answer f g m =
-    let retired : s.retired ≡ r.retired = ap (λ (q : State). q.retired) m.seen ∙ done_retired r.opening (seen r) line in
+    let done = done_by r.opening (seen r) line in
+    let es = pokes_of done.pending in
+    let retired : s.retired ≡ r.retired = settled_retired r.opening done (seen s) done.pending m.seen ∙ done_retired r.opening (seen r) line in
     let run = few_run s g in
     let few = few_moves s g in
     let P : Opening → Type 0 = λ o. 49 * (o.settings.budget - s.retired) + (49 * running (seen s).harts + moves s.minds) ≤ work_of (stage_of r) + 832 in
+    let after : Leaves r.opening (r.journal ++ Did line ∷ es) (seen s) =
+    subst (λ (o : Opening). Leaves o (r.journal ++ Did line ∷ es) (seen s)) m.opening (subst (λ (k : List Entry). Leaves s.opening k (seen s)) m.journal g.sound.leaves) in
     record {
       opening = m.opening;
-      said = said_is r s (r.journal ++ Did line ∷ []) (reply_text answer) m.opening m.journal (said_added r.opening r.journal (seen r) (Did line) f.sound.leaves ∙ ap (λ a. said r.opening r.journal ++ reply_text a) (sym m.answers));
+      said = said_is r s (r.journal ++ Did line ∷ es) (reply_lines answer) m.opening m.journal
+          (said_settled r.opening r.journal line done.pending (seen r) (seen s) f.sound.leaves after ∙ ap (λ (a : Reply). said_lines r.opening r.journal ++ reply_lines a) (sym m.answers));
       journal = m.journal;
-      did = ap did m.journal ∙ did_line r.journal line;
+      did = ap did m.journal ∙ did_line r.journal line done.pending;
       work = subst P (sym m.opening) (omega arith);
     }
 
@@ -347,6 +385,7 @@ has_moved_so turned.Interrupted is = tt
 has_moved_so turned.Counted is = tt
 has_moved_so turned.Stepped is = tt
 has_moved_so turned.Finished is = tt
+has_moved_so (turned.Triggered fired) is = tt
 has_moved_so (turned.Arrived number temporary error) is = tt
 
 spare_facts : (e : Run) (n : ℕ) → Facts e → Facts (record e { spare = n })
@@ -417,6 +456,7 @@ stands turned.Interrupted r s h f low no_move m = cc
 stands turned.Counted r s h f low no_move m = cc
 stands turned.Stepped r s h f low no_move m = cc
 stands turned.Finished r s h f low no_move m = cc
+stands (turned.Triggered fired) r s h f low no_move m = cc
 stands (turned.Arrived number temporary error) r s h f low no_move m = cc
 
 stands_spared : (e s : Run) (h n : ℕ) → Stands (record e { spare = n }) s h → Stands e s h

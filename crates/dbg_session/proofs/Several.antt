@@ -4,13 +4,15 @@ use Rattle.std.specs.Prelude.{Option, Some, None}
 use mathlib.Core.List.{append-nil}
 use Rattle.dbg_traits.specs.Told.{Told, more}
 use Rattle.dbg_model.specs.Lawful.{may_go}
+use Rattle.dbg_model.specs.Journals.{lengthened}
 use Rattle.engine_facts.specs.Seen.{Run, seen}
 use Rattle.engine_facts.specs.Facts.{Facts}
 use Rattle.engine_facts.proofs.Bounding.{below}
+use Rattle.dbg_engine.specs.declared.moving.Turned.{Turned}
 use Rattle.dbg_engine.specs.declared.moving.Turned.TheVariants as turned
-use Rattle.dbg_engine.specs.Several.{AllTurned}
+use Rattle.dbg_engine.specs.Several.{AllRan, IsQuiet, TurnedBy, lengthened_by}
 use Rattle.dbg_engine.specs.Calls.{Turns as EngineTurns}
-use Rattle.dbg_engine.proofs.Rows.{quiet_may}
+use Rattle.dbg_engine.proofs.Quiet.{quiet_may}
 use Rattle.dbg_session.specs.declared.status.Status.{Status}
 use Rattle.dbg_session.specs.declared.steps.Turn.TheVariants as turn
 use Rattle.dbg_session.specs.Puts.{with_text}
@@ -31,7 +33,7 @@ none_put t = ap (λ o. record t { written = o }) (more_none t.written)
 
 -- a turn of which nothing is said
 silent : (t : Told) (r s : Run) (h : ℕ) → Said turned.Ran r s h 0 → Says t t (stage_of r) (stage_of s) true
-silent t r s h d = record { text = []; said = d.said; puts = none_put t }
+silent t r s h d = record { trees = []; said = d.said; grammar = tt; puts = none_put t }
 
 -- a session in which the engine stands here
 abbrev pub standing : Moment → Run → Option Status → Moment
@@ -66,17 +68,17 @@ pub record Gone (n : ℕ) (p : Moment) (r s : Run) (h : ℕ) (o : Option Status)
   pub opening : s.opening ≡ r.opening
   pub less : left_at p s o < left_at p r None
 
-pub gone : (n : ℕ) (p : Moment) (r s : Run) (h : ℕ) (o : Option Status) → Facts r → Facts s → Holds p r None → AllTurned (suc n) r s h → OverBy o (stage_of s) p.input.count → Gone (suc n) p r s h o
+pub gone : (n : ℕ) (p : Moment) (r s : Run) (h : ℕ) (o : Option Status) → Facts r → Facts s → Holds p r None → TurnedBy IsQuiet (suc n) r s h → OverBy o (stage_of s) p.input.count → Gone (suc n) p r s h o
 gone zero p r s h o f g k turns over =
     let P : Run → Type 0 = λ q. EngineTurns turns.answer q s h in
-    let d = quiet_says turns.answer r s h turns.quiet f g (subst P turns.before turns.turn) in
+    let d = quiet_says turns.answer r s h turns.fits f g (subst P turns.before turns.turn) in
     record { moved = (standing p r None, refl, refl, one_move p r s h o d over); holds = one_holds p r s h o f k d over; opening = d.opening; less = less_by o p r s d.work }
 gone (suc n) p r s h o f g k turns over =
     let q = turns.run in
-    let may = quiet_may q h turns.answer turns.quiet turns.first in
+    let may = quiet_may turns.answer q s h turns.fits turns.turn in
     let ends = k.tied.cause.1 in
     let mid = gone n p r q h None f turns.facts k turns.before (going p r q may.may ends may.going) in
-    let d = quiet_says turns.answer q s h turns.quiet turns.facts g turns.turn in
+    let d = quiet_says turns.answer q s h turns.fits turns.facts g turns.turn in
     record {
       moved = (standing p q None, mid.moved, refl, one_move p q s h o d over);
       holds = one_holds p q s h o turns.facts mid.holds d over;
@@ -88,21 +90,29 @@ gone (suc n) p r s h o f g k turns over =
 spared : (n : ℕ) (p : Moment) (e s : Run) (k h : ℕ) (o : Option Status) → Gone n p (record e { spare = k }) s h o → Gone n p e s h o
 spared n p e s k h o g = record { moved = g.moved; holds = g.holds; opening = g.opening; less = g.less }
 
-some_gone : (n : ℕ) (p : Moment) (r s : Run) (h : ℕ) (o : Option Status) → 0 < n → Facts r → Facts s → Holds p r None → AllTurned n r s h → OverBy o (stage_of s) p.input.count → Gone n p r s h o
+some_gone : (n : ℕ) (p : Moment) (r s : Run) (h : ℕ) (o : Option Status) → 0 < n → Facts r → Facts s → Holds p r None → TurnedBy IsQuiet n r s h → OverBy o (stage_of s) p.input.count → Gone n p r s h o
 some_gone zero p r s h o some f g k turns over = absurd (omega arith)
 some_gone (suc n) p r s h o some f g k turns over = gone n p r s h o f g k turns over
 
 -- a call of the engine for several turns, in a session that goes on
-pub ran_on : (n : ℕ) (p : Moment) (e r s : Run) (h : ℕ) (o : Option Status) → r ≡ record e { spare = r.spare } → 0 < n → Facts e → Facts s → Holds p e None → AllTurned n r s h → OverBy o (stage_of s) p.input.count → Gone n p e s h o
+pub ran_on : (n : ℕ) (p : Moment) (e r s : Run) (h : ℕ) (o : Option Status) → r ≡ record e { spare = r.spare } → 0 < n → Facts e → Facts s → Holds p e None → TurnedBy IsQuiet n r s h → OverBy o (stage_of s) p.input.count → Gone n p e s h o
 ran_on n p e r s h o is some f g k turns over =
     let q : Run = record e { spare = r.spare } in
-    let T : Run → Type 0 = λ u. AllTurned n u s h in
+    let T : Run → Type 0 = λ u. TurnedBy IsQuiet n u s h in
     let room : Facts q = subst Facts is (made_room e r is f) in
     spared n p e s r.spare h o (some_gone n p q s h o some room g (record { tied = k.tied }) (subst T is turns) over)
 
 -- and for none
 pub none_ran : (e r s : Run) (h : ℕ) → r ≡ record e { spare = r.spare } → s ≡ r → stage_of s ≡ stage_of e
 none_ran e r s h is same = ap stage_of same ∙ ap stage_of is
+
+ran_once : (t : Turned) (r s : Run) (h : ℕ) → t ≡ turned.Ran → EngineTurns t r s h → s.journal ≡ lengthened r.journal h
+ran_once t r s h is turn = let P : Turned → Type 0 = λ u. EngineTurns u r s h in (subst P is turn).journal
+
+-- instructions that wrote nothing are all that is noted of them
+pub ran_noted : (n : ℕ) (r s : Run) (h : ℕ) → AllRan n r s h → s.journal ≡ lengthened_by n r.journal h
+ran_noted zero r s h ran = ap (λ (u : Run). u.journal) ran
+ran_noted (suc n) r s h ran = ran_once ran.answer ran.run s h ran.fits ran.turn ∙ ap (λ j. lengthened j h) (ran_noted n r ran.run h ran.before)
 
 -- moves one after the other
 pub moved_more : (a b : ℕ) (h : ℕ) (p m q : Moment) → Moved a h p m → Moved b h m q → Moved (a + b) h p q

@@ -8,7 +8,8 @@ use Rattle.std.proofs.lemmas.List.{take_all}
 use Rattle.dbg_traits.specs.Told.{Ask, told_length, more}
 use Rattle.mi_input.specs.Lines.{lines, lines_after, rest_line, without_cr}
 use Rattle.dbg_model.specs.declared.entry.Entry.{Entry}
-use Rattle.dbg_model.specs.declared.entry.Entry.TheVariants.{Ran, Counted, Stopped, Left, Did}
+use Rattle.dbg_model.specs.declared.entry.Entry.TheVariants.{Ran, Counted, Stopped, Left, Did, Poked}
+use Rattle.dbg_model.specs.declared.entry.Poke.{Poke}
 use Rattle.dbg_model.specs.declared.entry.Mode.{Mode}
 use Rattle.dbg_model.specs.declared.entry.Mode.TheVariants as mode
 use Rattle.dbg_model.specs.declared.opening.Opening.{Opening}
@@ -16,9 +17,13 @@ use Rattle.dbg_model.specs.declared.hart.Hart.{Hart}
 use Rattle.dbg_model.specs.State.{State, any_runs}
 use Rattle.dbg_model.specs.Journals.{Leaves, Place, come, did, did_one, lengthened, one_more_by, ran_count, first_place}
 use Rattle.dbg_model.specs.Leaving.{lefts_from, left_one}
-use Rattle.mi_reports.specs.Said.{said, said_from, entry_text}
-use Rattle.mi_reports.specs.Text.{opening_text}
+use Rattle.mi_values.specs.Record.{LineTree}
+use Rattle.mi_values.specs.Records.{lines_bytes}
+use Rattle.mi_values.proofs.Joined.{bytes_joined}
+use Rattle.mi_reports.specs.Said.{said, said_lines, lines_from, entry_lines}
+use Rattle.mi_reports.specs.Text.{opening_lines}
 use Rattle.hart_machine.proofs.Places.{same_some}
+use Rattle.dbg_engine.specs.Calls.{pokes_of}
 use Rattle.dbg_session.specs.Ties.{IsEmpty}
 use Rattle.dbg_session.specs.Stage.{Stage}
 use Rattle.dbg_session.specs.Steps.{Goes}
@@ -46,8 +51,10 @@ pub did-append : (j k : List Entry) → did (j ++ k) ≡ did j ++ did k
 did-append [] k = refl
 did-append (e ∷ es) k = ap (λ t. did_one e ++ t) (did-append es k) ∙ sym (append_assoc (did_one e) (did es) (did k))
 
-pub did_line : (j : List Entry) (line : List ℕ) → did (j ++ Did line ∷ []) ≡ did j ++ line ∷ []
-did_line j line = did-append j (Did line ∷ [])
+-- a line, with what it asks to be written
+pub did_line : (j : List Entry) (line : List ℕ) (q : Option Poke) → did (j ++ Did line ∷ pokes_of q) ≡ did j ++ line ∷ []
+did_line j line None = did-append j (Did line ∷ [])
+did_line j line (Some p) = did-append j (Did line ∷ Poked p ∷ [])
 
 did_one_more : (e : Entry) (r : Option ℕ) (h : ℕ) → ran_count e h ≡ r → did (one_more_by r e h) ≡ did_one e
 did_one_more (Ran k n) None h is = refl
@@ -60,6 +67,8 @@ did_one_more (Left k code) None h is = refl
 did_one_more (Left k code) (Some m) h is = cc
 did_one_more (Did line) None h is = refl
 did_one_more (Did line) (Some m) h is = cc
+did_one_more (Poked p) None h is = refl
+did_one_more (Poked p) (Some m) h is = cc
 
 pub did-lengthened : (j : List Entry) (h : ℕ) → did (lengthened j h) ≡ did j
 did-lengthened [] h = refl
@@ -85,6 +94,7 @@ through_front (suc n) [] k le = absurd (omega arith)
 through_front (suc n) (Ran h count ∷ es) k le = ap (λ t. Ran h count ∷ t) (through_front (suc n) es k le)
 through_front (suc n) (Counted h ∷ es) k le = ap (λ t. Counted h ∷ t) (through_front (suc n) es k le)
 through_front (suc n) (Stopped h why ∷ es) k le = ap (λ t. Stopped h why ∷ t) (through_front (suc n) es k le)
+through_front (suc n) (Poked p ∷ es) k le = ap (λ t. Poked p ∷ t) (through_front (suc n) es k le)
 through_front (suc n) (Left h code ∷ es) k le = ap (λ t. Left h code ∷ t) (through_front (suc n) es k le)
 through_front (suc n) (Did line ∷ es) k le = ap (λ t. Did line ∷ t) (through_front n es k (omega arith))
 
@@ -93,25 +103,28 @@ until_front n [] k low = absurd (omega arith)
 until_front n (Ran h count ∷ es) k low = ap (λ t. Ran h count ∷ t) (until_front n es k low)
 until_front n (Counted h ∷ es) k low = ap (λ t. Counted h ∷ t) (until_front n es k low)
 until_front n (Stopped h why ∷ es) k low = ap (λ t. Stopped h why ∷ t) (until_front n es k low)
+until_front n (Poked p ∷ es) k low = ap (λ t. Poked p ∷ t) (until_front n es k low)
 until_front n (Left h code ∷ es) k low = ap (λ t. Left h code ∷ t) (until_front n es k low)
 until_front zero (Did line ∷ es) k low = refl
 until_front (suc n) (Did line ∷ es) k low = ap (λ t. Did line ∷ t) (until_front n es k (omega arith))
 
-until_line : (n : ℕ) (j : List Entry) (line : List ℕ) → n ≤ length (did j) → until (j ++ Did line ∷ []) n ≡ until j n
-until_line zero [] line le = refl
-until_line (suc n) [] line le = absurd (omega arith)
-until_line n (Ran h count ∷ es) line le = ap (λ t. Ran h count ∷ t) (until_line n es line le)
-until_line n (Counted h ∷ es) line le = ap (λ t. Counted h ∷ t) (until_line n es line le)
-until_line n (Stopped h why ∷ es) line le = ap (λ t. Stopped h why ∷ t) (until_line n es line le)
-until_line n (Left h code ∷ es) line le = ap (λ t. Left h code ∷ t) (until_line n es line le)
-until_line zero (Did text ∷ es) line le = refl
-until_line (suc n) (Did text ∷ es) line le = ap (λ t. Did text ∷ t) (until_line n es line (omega arith))
+until_line : (n : ℕ) (j : List Entry) (line : List ℕ) (k : List Entry) → n ≤ length (did j) → until (j ++ Did line ∷ k) n ≡ until j n
+until_line zero [] line k le = refl
+until_line (suc n) [] line k le = absurd (omega arith)
+until_line n (Ran h count ∷ es) line k le = ap (λ t. Ran h count ∷ t) (until_line n es line k le)
+until_line n (Counted h ∷ es) line k le = ap (λ t. Counted h ∷ t) (until_line n es line k le)
+until_line n (Stopped h why ∷ es) line k le = ap (λ t. Stopped h why ∷ t) (until_line n es line k le)
+until_line n (Poked p ∷ es) line k le = ap (λ t. Poked p ∷ t) (until_line n es line k le)
+until_line n (Left h code ∷ es) line k le = ap (λ t. Left h code ∷ t) (until_line n es line k le)
+until_line zero (Did text ∷ es) line k le = refl
+until_line (suc n) (Did text ∷ es) line k le = ap (λ t. Did text ∷ t) (until_line n es line k (omega arith))
 
 pub until_all : (j : List Entry) → until j (length (did j)) ≡ j
 until_all [] = refl
 until_all (Ran h count ∷ es) = ap (λ t. Ran h count ∷ t) (until_all es)
 until_all (Counted h ∷ es) = ap (λ t. Counted h ∷ t) (until_all es)
 until_all (Stopped h why ∷ es) = ap (λ t. Stopped h why ∷ t) (until_all es)
+until_all (Poked p ∷ es) = ap (λ t. Poked p ∷ t) (until_all es)
 until_all (Left h code ∷ es) = ap (λ t. Left h code ∷ t) (until_all es)
 until_all (Did line ∷ es) = ap (λ t. Did line ∷ t) (until_all es)
 
@@ -127,10 +140,12 @@ through_lengthened (suc n) (Ran k count ∷ []) h le = absurd (omega arith)
 through_lengthened (suc n) (Counted k ∷ []) h le = absurd (omega arith)
 through_lengthened (suc n) (Stopped k why ∷ []) h le = absurd (omega arith)
 through_lengthened (suc n) (Left k code ∷ []) h le = absurd (omega arith)
+through_lengthened (suc n) (Poked p ∷ []) h le = absurd (omega arith)
 through_lengthened (suc n) (Did line ∷ []) h le = through_last n line h le
 through_lengthened (suc n) (Ran k count ∷ f ∷ es) h le = ap (λ t. Ran k count ∷ t) (through_lengthened (suc n) (f ∷ es) h le)
 through_lengthened (suc n) (Counted k ∷ f ∷ es) h le = ap (λ t. Counted k ∷ t) (through_lengthened (suc n) (f ∷ es) h le)
 through_lengthened (suc n) (Stopped k why ∷ f ∷ es) h le = ap (λ t. Stopped k why ∷ t) (through_lengthened (suc n) (f ∷ es) h le)
+through_lengthened (suc n) (Poked p ∷ f ∷ es) h le = ap (λ t. Poked p ∷ t) (through_lengthened (suc n) (f ∷ es) h le)
 through_lengthened (suc n) (Left k code ∷ f ∷ es) h le = ap (λ t. Left k code ∷ t) (through_lengthened (suc n) (f ∷ es) h le)
 through_lengthened (suc n) (Did line ∷ f ∷ es) h le = let low : n ≤ length (did (f ∷ es)) = omega arith in ap (λ t. Did line ∷ t) (through_lengthened n (f ∷ es) h low)
 
@@ -140,11 +155,13 @@ until_lengthened n (Ran k count ∷ []) h low = absurd (omega arith)
 until_lengthened n (Counted k ∷ []) h low = absurd (omega arith)
 until_lengthened n (Stopped k why ∷ []) h low = absurd (omega arith)
 until_lengthened n (Left k code ∷ []) h low = absurd (omega arith)
+until_lengthened n (Poked p ∷ []) h low = absurd (omega arith)
 until_lengthened zero (Did line ∷ []) h low = refl
 until_lengthened (suc n) (Did line ∷ []) h low = absurd (omega arith)
 until_lengthened n (Ran k count ∷ f ∷ es) h low = ap (λ t. Ran k count ∷ t) (until_lengthened n (f ∷ es) h low)
 until_lengthened n (Counted k ∷ f ∷ es) h low = ap (λ t. Counted k ∷ t) (until_lengthened n (f ∷ es) h low)
 until_lengthened n (Stopped k why ∷ f ∷ es) h low = ap (λ t. Stopped k why ∷ t) (until_lengthened n (f ∷ es) h low)
+until_lengthened n (Poked p ∷ f ∷ es) h low = ap (λ t. Poked p ∷ t) (until_lengthened n (f ∷ es) h low)
 until_lengthened n (Left k code ∷ f ∷ es) h low = ap (λ t. Left k code ∷ t) (until_lengthened n (f ∷ es) h low)
 until_lengthened zero (Did line ∷ f ∷ es) h low = refl
 until_lengthened (suc n) (Did line ∷ f ∷ es) h low = let few : n < length (did (f ∷ es)) = omega arith in ap (λ t. Did line ∷ t) (until_lengthened n (f ∷ es) h few)
@@ -156,25 +173,36 @@ through_first (suc n) [] = ([], refl)
 through_first (suc n) (Ran h count ∷ es) = let d = through_first (suc n) es in (d.0, ap (λ t. Ran h count ∷ t) d.1)
 through_first (suc n) (Counted h ∷ es) = let d = through_first (suc n) es in (d.0, ap (λ t. Counted h ∷ t) d.1)
 through_first (suc n) (Stopped h why ∷ es) = let d = through_first (suc n) es in (d.0, ap (λ t. Stopped h why ∷ t) d.1)
+through_first (suc n) (Poked p ∷ es) = let d = through_first (suc n) es in (d.0, ap (λ t. Poked p ∷ t) d.1)
 through_first (suc n) (Left h code ∷ es) = let d = through_first (suc n) es in (d.0, ap (λ t. Left h code ∷ t) d.1)
 through_first (suc n) (Did line ∷ es) = let d = through_first n es in (d.0, ap (λ t. Did line ∷ t) d.1)
 
 -- ---- what a front says is no longer
 
-less_said : (c : Option Place) (text : List ℕ) (f g : Place → List ℕ) → ((q : Place) → length (f q) ≤ length (g q)) → length (text ++ unwrap_or (option_map f c) []) ≤ length (text ++ unwrap_or (option_map g c) [])
-less_said None text f g le = omega arith
-less_said (Some q) text f g le = let d = le q in omega (arith, length-append text (f q), length-append text (g q))
+record Front (xs ys : List LineTree) : Type 0 where
+  more : List LineTree
+  is : ys ≡ xs ++ more
 
-said_from_front : (o : Opening) (j k : List Entry) (p : Place) → length (said_from o p j) ≤ length (said_from o p (j ++ k))
-said_from_front o [] k p = omega arith
-said_from_front o (e ∷ es) k p = less_said (come o p e) (entry_text o p.state e) (λ q. said_from o q es) (λ q. said_from o q (es ++ k)) (λ q. said_from_front o es k q)
+front_by : (c : Option Place) (f g : Place → List LineTree) → ((q : Place) → Front (f q) (g q)) → Front (unwrap_or (option_map f c) []) (unwrap_or (option_map g c) [])
+front_by None f g each = record { more = []; is = refl }
+front_by (Some q) f g each = each q
+
+lines_front : (o : Opening) (j k : List Entry) (p : Place) → Front (lines_from o p j) (lines_from o p (j ++ k))
+lines_front o [] k p = record { more = lines_from o p k; is = refl }
+lines_front o (e ∷ es) k p =
+    let d = front_by (come o p e) (λ q. lines_from o q es) (λ q. lines_from o q (es ++ k)) (λ q. lines_front o es k q) in
+    record { more = d.more; is = ap (λ t. entry_lines o p.state e ++ t) d.is ∙ sym (append_assoc (entry_lines o p.state e) (unwrap_or (option_map (λ q. lines_from o q es) (come o p e)) []) d.more) }
 
 said_front : (o : Opening) (j k : List Entry) → length (said o j) ≤ length (said o (j ++ k))
-unfolding said
+unfolding said said_lines
 said_front o j k =
-    let d = said_from_front o j k (first_place o) in
-    let text = opening_text o.settings.harts in
-    omega (arith, length-append text (said_from o (first_place o) j), length-append text (said_from o (first_place o) (j ++ k)))
+    let d = lines_front o j k (first_place o) in
+    let first = opening_lines o.settings.harts in
+    let old = first ++ lines_from o (first_place o) j in
+    let whole : first ++ lines_from o (first_place o) (j ++ k) ≡ old ++ d.more = ap (λ t. first ++ t) d.is ∙ sym (append_assoc first (lines_from o (first_place o) j) d.more) in
+    let text : lines_bytes (first ++ lines_from o (first_place o) (j ++ k)) ≡ lines_bytes old ++ lines_bytes d.more = ap lines_bytes whole ∙ bytes_joined old d.more in
+    let long = ap length text in
+    omega (arith, long, length-append (lines_bytes old) (lines_bytes d.more))
 
 pub said_through : (o : Opening) (n : ℕ) (j : List Entry) → length (said o (through n j)) ≤ length (said o j)
 said_through o n j =
@@ -219,11 +247,11 @@ waited_at o j k w is d = subst (λ (t : List Entry). Waited o t w) (sym is) d
 answers_at : (o : Opening) (j k : List Entry) (w : Option ℕ) → k ≡ j → IfSome w (λ n. length (said o j) ≤ n) → IfSome w (λ n. length (said o k) ≤ n)
 answers_at o j k w is d = subst (λ (t : List Entry). IfSome w (λ n. length (said o t) ≤ n)) (sym is) d
 
-answered_line : (o : Opening) (j : List Entry) (line : List ℕ) (n : ℕ) (wait : Bool) (w : Option ℕ) → Answered o j n wait w → Answered o (j ++ Did line ∷ []) n wait w
-answered_line o j line n wait w d = record {
-  done = let l = ap length (did_line j line) in omega (arith, d.done, l, length-append (did j) (line ∷ []));
-  answers = answers_at o (through n j) (through n (j ++ Did line ∷ [])) w (through_front n j (Did line ∷ []) d.done) d.answers;
-  waited = λ is. waited_at o (until j n) (until (j ++ Did line ∷ []) n) w (until_line n j line d.done) (d.waited is);
+answered_line : (o : Opening) (j : List Entry) (line : List ℕ) (k : List Entry) (n : ℕ) (wait : Bool) (w : Option ℕ) → Answered o j n wait w → Answered o (j ++ Did line ∷ k) n wait w
+answered_line o j line k n wait w d = record {
+  done = let l = ap length (did-append j (Did line ∷ k)) in omega (arith, d.done, l, length-append (did j) (did (Did line ∷ k)));
+  answers = answers_at o (through n j) (through n (j ++ Did line ∷ k)) w (through_front n j (Did line ∷ k) d.done) d.answers;
+  waited = λ is. waited_at o (until j n) (until (j ++ Did line ∷ k) n) w (until_line n j line k d.done) (d.waited is);
 }
 
 -- a number below or at a most
@@ -280,10 +308,10 @@ told_as o j k None (Some xs) step d = tt
 told_as o j k (Some bytes) (Some xs) step d = all_as o j k bytes xs step d
 
 -- a line was done
-pub told_line : (r s : Stage) (line : List ℕ) (polled : Option (List ℕ)) (asks : Option (List Ask)) → s.opening ≡ r.opening → s.journal ≡ r.journal ++ Did line ∷ [] → ToldInTime r.opening r.journal polled asks → ToldInTime s.opening s.journal polled asks
-told_line r s line polled asks same is d =
-    let k = r.journal ++ Did line ∷ [] in
-    let e = told_as r.opening r.journal k polled asks (λ n wait w. answered_line r.opening r.journal line n wait w) d in
+pub told_line : (r s : Stage) (line : List ℕ) (es : List Entry) (polled : Option (List ℕ)) (asks : Option (List Ask)) → s.opening ≡ r.opening → s.journal ≡ r.journal ++ Did line ∷ es → ToldInTime r.opening r.journal polled asks → ToldInTime s.opening s.journal polled asks
+told_line r s line es polled asks same is d =
+    let k = r.journal ++ Did line ∷ es in
+    let e = told_as r.opening r.journal k polled asks (λ n wait w. answered_line r.opening r.journal line es n wait w) d in
     subst (λ (o : Opening). ToldInTime o s.journal polled asks) (sym same) (subst (λ (t : List Entry). ToldInTime r.opening t polled asks) (sym is) e)
 
 -- a hart moved

@@ -13,13 +13,19 @@ use Rattle.dbg_model.specs.declared.entry.Entry.{Entry}
 use Rattle.dbg_model.specs.State.{State, any_runs, first_state}
 use Rattle.dbg_model.specs.Journals.{did, Leaves, Place, first_place, replay}
 use Rattle.dbg_model.proofs.Options.{same_some}
+use Rattle.mi_values.specs.Record.{LineTree}
+use Rattle.mi_values.specs.Records.{lines_bytes, AreLines, AreRecords}
+use Rattle.mi_values.proofs.Joined.{records_joined}
 use Rattle.mi_reports.specs.Text.{opening_text}
-use Rattle.mi_reports.specs.Said.{said}
+use Rattle.mi_reports.specs.Said.{said, said_lines}
 use Rattle.mi_reports.proofs.Saying.{said_nothing}
+use Rattle.mi_reports.proofs.Grammar.{opening_records}
+use Rattle.dbg_model.specs.Reply.{done_by}
+use Rattle.dbg_engine.specs.Calls.{pokes_of}
 use Rattle.dbg_session.specs.Stage.{Stage}
 use Rattle.dbg_session.specs.Taking.{Gives, has_line, is_some_line}
 use Rattle.dbg_session.specs.InTime.{ToldInTime}
-use Rattle.dbg_session.specs.Steps.{said_by, Says, Keeps, DoesLine, Goes, with_poll}
+use Rattle.dbg_session.specs.Steps.{lines_by, Says, Keeps, DoesLine, Goes, with_poll}
 use Rattle.dbg_model.specs.declared.opening.Opening.{Opening}
 use Rattle.dbg_session.specs.Words.{served_words}
 use Rattle.dbg_session.specs.Ties.{IsTied, IsHeld, Taken, Opened, Clean, GoesOn, IsCut, OverBy, IsReady, IsEmpty, IsCounted}
@@ -47,7 +53,7 @@ told_same None P Q step h = tt
 told_same (Some bytes) P Q step h = step bytes h
 
 -- a session whose status is found
-pub tied_over : (s : Option Status) (t : Told) (r : Stage) (i : Taken) → OverBy s r i.count → IsHeld t r i → Clean t → IfSome t.written (λ written. written ≡ said_by r) → IsTied s t r i
+pub tied_over : (s : Option Status) (t : Told) (r : Stage) (i : Taken) → OverBy s r i.count → IsHeld t r i → Clean t → IfSome t.written (λ written. AreRecords written (lines_by r)) → IsTied s t r i
 tied_over None t r i o h c w = record { held = h; written = w; cause = (c, o) }
 tied_over (Some status.Done) t r i o h c w = record { held = h; written = w; cause = (c, o.0, inr o.1) }
 tied_over (Some status.Words) t r i o h c w = absurd o
@@ -57,6 +63,12 @@ tied_over (Some status.History) t r i o h c w = record { held = h; written = w; 
 tied_over (Some status.ReadFault) t r i o h c w = absurd o
 tied_over (Some status.WriteFault) t r i o h c w = absurd o
 tied_over (Some status.NoMemory) t r i o h c w = absurd o
+
+-- the text of what was said
+said_text : (r : Stage) (o : Option (List ℕ)) → IfSome o (λ w. AreRecords w (lines_by r)) → IfSome o (λ w. w ≡ said r.opening r.journal)
+unfolding said
+said_text r None h = tt
+said_text r (Some w) h = h.text
 
 -- where input is asked for: each whole line was done, and it may wait only while no hart runs
 pub record IsQuiet (wait : Bool) (r : Stage) (i : Taken) : Type 0 where
@@ -108,7 +120,7 @@ held_took t r i wait bytes n h q len few =
       polled = told_more t.polled bytes (λ b. length b ≡ i.count) (λ b. length b ≡ i.count + n) (λ b e. omega (arith, length-append b bytes, len, e)) h.held.polled;
       count = raised_is t.input_length i.count n h.held.count h.cause.1.below.input few;
       ended = h.held.ended;
-      asks = told_took r wait t.asks t.polled t.written bytes i.rest h.held.asks q.none (polled_so t r i h.held q.ended) h.written q.still q.leaves;
+      asks = told_took r wait t.asks t.polled t.written bytes i.rest h.held.asks q.none (polled_so t r i h.held q.ended) (said_text r t.written h.written) q.still q.leaves;
     }
 
 pub tied_took : (s : Option Status) (t u : Told) (r : Stage) (i j : Taken) (wait : Bool) (bytes : List ℕ) (n : ℕ) → IsTied None t r i → IsQuiet wait r i → length bytes ≡ n → n ≤ 4096
@@ -130,7 +142,7 @@ tied_end t u r i j wait h q is eq =
         polled = h.held.polled;
         count = h.held.count;
         ended = refl;
-        asks = told_end r wait t.asks t.polled t.written i.rest h.held.asks q.none (polled_so t r i h.held q.ended) h.written q.still q.leaves;
+        asks = told_end r wait t.asks t.polled t.written i.rest h.held.asks q.none (polled_so t r i h.held q.ended) (said_text r t.written h.written) q.still q.leaves;
       };
       written = h.written;
       cause = (record { file = c.file; poll = c.poll; put = c.put }, h.cause.1);
@@ -156,22 +168,27 @@ gives_line : (ended : Bool) (bytes : List ℕ) (done : List (List ℕ)) (rest li
 gives_line true bytes done rest line next h n = h ∙ (ap (λ t. done ++ t) n ∙ sym (append_assoc done (line ∷ []) (lines (drop next rest) true)))
 gives_line false bytes done rest line next h n = λ more e. h more e ∙ (ap (λ t. done ++ t) (n more e) ∙ sym (append_assoc done (line ∷ []) (lines (drop next rest ++ more) e)))
 
+-- the lines that were said before, and those that were said since
+both : (w : List ℕ) (before after trees : List LineTree) → after ≡ before ++ trees → AreLines trees → AreRecords w before → AreRecords (w ++ lines_bytes trees) after
+both w before after trees said are h = subst (λ (ls : List LineTree). AreRecords (w ++ lines_bytes trees) ls) (sym said) (records_joined w (lines_bytes trees) before trees h (record { lines = are; text = refl }))
+
 -- a put that failed left a front of what was said
-cut_by : (o : Option (List ℕ)) (before after text : List ℕ) (n : ℕ) → after ≡ before ++ text → IfSome o (λ w. w ≡ before) → IfSome (more o (take n text)) (λ w. IsCut w after)
-cut_by None before after text n said h = tt
-cut_by (Some w) before after text n said h =
-    let back : (w ++ take n text) ++ drop n text ≡ after = append_assoc w (take n text) (drop n text) ∙ (ap (λ t. w ++ t) (take-append-drop n text) ∙ (ap (λ t. t ++ text) h ∙ sym said)) in
-    (drop n text, back)
+cut_by : (o : Option (List ℕ)) (before after trees : List LineTree) (n : ℕ) → after ≡ before ++ trees → AreLines trees → IfSome o (λ w. AreRecords w before) → IfSome (more o (take n (lines_bytes trees))) (λ w. AreLines after × IsCut w (lines_bytes after))
+cut_by None before after trees n said are h = tt
+cut_by (Some w) before after trees n said are h =
+    let text = lines_bytes trees in
+    let whole = both w before after trees said are h in
+    (whole.lines, (drop n text, append_assoc w (take n text) (drop n text) ∙ (ap (λ t. w ++ t) (take-append-drop n text) ∙ whole.text)))
 
 -- all that was said was put
-put_by : (o : Option (List ℕ)) (before after text : List ℕ) → after ≡ before ++ text → IfSome o (λ w. w ≡ before) → IfSome (more o text) (λ w. w ≡ after)
-put_by None before after text said h = tt
-put_by (Some w) before after text said h = ap (λ t. t ++ text) h ∙ sym said
+put_by : (o : Option (List ℕ)) (before after trees : List LineTree) → after ≡ before ++ trees → AreLines trees → IfSome o (λ w. AreRecords w before) → IfSome (more o (lines_bytes trees)) (λ w. AreRecords w after)
+put_by None before after trees said are h = tt
+put_by (Some w) before after trees said are h = both w before after trees said are h
 
--- what was written is a front of what was said since
-unsaid : (o : Option (List ℕ)) (before after text : List ℕ) → after ≡ before ++ text → IfSome o (λ w. w ≡ before) → IfSome o (λ w. IsCut w after)
-unsaid None before after text said h = tt
-unsaid (Some w) before after text said h = (text, ap (λ t. t ++ text) h ∙ sym said)
+-- what was written are the first lines of what was said since
+unsaid : (o : Option (List ℕ)) (before after trees : List LineTree) → after ≡ before ++ trees → IfSome o (λ w. AreRecords w before) → IfSome o (λ w. (first : List LineTree) × (rest : List LineTree) × (first ++ rest ≡ after) × AreRecords w first)
+unsaid None before after trees said h = tt
+unsaid (Some w) before after trees said h = (before, trees, sym said, h)
 
 -- the input as a line leaves it
 line_input : (t : Told) (r s : Stage) (i : Taken) (next : ℕ) → IsHeld t r i → DoesLine i.ended i.rest next r s → IfSome t.polled (λ b. Gives i.ended b (did s.journal) (drop next i.rest))
@@ -199,11 +216,12 @@ unput_by : (t u : Told) (r s : Stage) (i j : Taken) → IsTied None t r i → s.
     → IfSome t.polled (λ b. Gives j.ended b (did s.journal) j.rest) → ToldInTime s.opening s.journal t.polled t.asks → IsTied (Some status.WriteFault) u s j
 unput_by t u r s i j h opened says count ended input times =
     let p = says.puts in
+    let text = lines_bytes says.trees in
     let c = h.cause.0.put in
     let rose : 0 < p.1 = omega (arith, p.2) in
     rw p.3 (record {
-      held = held_put t (record t { written = more t.written (take p.0 says.text); put_faults = p.1 }) r s i j h.held opened refl refl refl refl refl refl refl refl refl refl count ended input times;
-      written = cut_by t.written (said_by r) (said_by s) says.text p.0 says.said h.written;
+      held = held_put t (record t { written = more t.written (take p.0 text); put_faults = p.1 }) r s i j h.held opened refl refl refl refl refl refl refl refl refl refl count ended input times;
+      written = cut_by t.written (lines_by r) (lines_by s) says.trees p.0 says.said says.grammar h.written;
       cause = rose;
     })
 
@@ -213,34 +231,42 @@ unsaid_by : (t u : Told) (r s : Stage) (i j : Taken) → IsTied None t r i → s
 unsaid_by t u r s i j h opened keeps count ended input times =
     rw keeps.told (record {
       held = held_put t t r s i j h.held opened refl refl refl refl refl refl refl refl refl refl count ended input times;
-      written = unsaid t.written (said_by r) (said_by s) keeps.text keeps.said h.written;
+      written = unsaid t.written (lines_by r) (lines_by s) keeps.trees keeps.said h.written;
       cause = tt;
     })
+
+-- memory ran out, and nothing was done
+pub tied_short : (t : Told) (r : Stage) (i : Taken) → IsTied None t r i → IsTied (Some status.NoMemory) t r i
+tied_short t r i h = record {
+  held = h.held;
+  written = told_same t.written (λ w. AreRecords w (lines_by r)) (λ w. (first : List LineTree) × (rest : List LineTree) × (first ++ rest ≡ lines_by r) × AreRecords w first) (λ w are. (lines_by r, [], append-nil (lines_by r), are)) h.written;
+  cause = tt;
+}
 
 -- the lines were put
 put_of : (o : Option Status) (t u : Told) (r s : Stage) (i j : Taken) → IsTied None t r i → s.opening ≡ r.opening → Says t u r s true → j.count ≡ i.count → j.ended ≡ i.ended
     → IfSome t.polled (λ b. Gives j.ended b (did s.journal) j.rest) → ToldInTime s.opening s.journal t.polled t.asks → OverBy o s j.count → IsTied o u s j
 put_of o t u r s i j h opened says count ended input times over =
     let c = h.cause.0 in
-    let v : Told = record t { written = more t.written says.text } in
+    let v : Told = record t { written = more t.written (lines_bytes says.trees) } in
     rw says.puts (tied_over o v s j over
     (held_put t v r s i j h.held opened refl refl refl refl refl refl refl refl refl refl count ended input times)
     (record { file = c.file; poll = c.poll; put = c.put })
-    (put_by t.written (said_by r) (said_by s) says.text says.said h.written))
+    (put_by t.written (lines_by r) (lines_by s) says.trees says.said says.grammar h.written))
 
 pub line_unput : (t u : Told) (r s : Stage) (i : Taken) (next : ℕ) → IsTied None t r i → s.opening ≡ r.opening → Says t u r s false → DoesLine i.ended i.rest next r s → IsTied (Some status.WriteFault) u s (record i { rest = drop next i.rest })
 line_unput t u r s i next h opened says does =
-    unput_by t u r s i (record i { rest = drop next i.rest }) h opened says refl refl (line_input t r s i next h.held does) (told_line r s does.line t.polled t.asks opened does.journal h.held.asks)
+    unput_by t u r s i (record i { rest = drop next i.rest }) h opened says refl refl (line_input t r s i next h.held does) (told_line r s does.line (pokes_of (done_by r.opening r.state does.line).pending) t.polled t.asks opened does.journal h.held.asks)
 
 -- A line was done, and there was no memory for its reply.
 pub line_unsaid : (t u : Told) (r s : Stage) (i : Taken) (next : ℕ) → IsTied None t r i → s.opening ≡ r.opening → Keeps t u r s → DoesLine i.ended i.rest next r s → IsTied (Some status.NoMemory) u s (record i { rest = drop next i.rest })
 line_unsaid t u r s i next h opened keeps does =
-    unsaid_by t u r s i (record i { rest = drop next i.rest }) h opened keeps refl refl (line_input t r s i next h.held does) (told_line r s does.line t.polled t.asks opened does.journal h.held.asks)
+    unsaid_by t u r s i (record i { rest = drop next i.rest }) h opened keeps refl refl (line_input t r s i next h.held does) (told_line r s does.line (pokes_of (done_by r.opening r.state does.line).pending) t.polled t.asks opened does.journal h.held.asks)
 
 -- A line was done, and its reply put.
 pub line_done : (o : Option Status) (t u : Told) (r s : Stage) (i : Taken) (next : ℕ) → IsTied None t r i → s.opening ≡ r.opening → Says t u r s true → DoesLine i.ended i.rest next r s → OverBy o s i.count → IsTied o u s (record i { rest = drop next i.rest })
 line_done o t u r s i next h opened says does over =
-    put_of o t u r s i (record i { rest = drop next i.rest }) h opened says refl refl (line_input t r s i next h.held does) (told_line r s does.line t.polled t.asks opened does.journal h.held.asks) over
+    put_of o t u r s i (record i { rest = drop next i.rest }) h opened says refl refl (line_input t r s i next h.held does) (told_line r s does.line (pokes_of (done_by r.opening r.state does.line).pending) t.polled t.asks opened does.journal h.held.asks) over
 
 -- A hart moved, and its lines were put.
 pub turn_put : (o : Option Status) (t u : Told) (r s : Stage) (i : Taken) → IsTied None t r i → s.opening ≡ r.opening → Leaves r.opening r.journal r.state → Says t u r s true → Goes r s → OverBy o s i.count → IsTied o u s i
@@ -298,16 +324,17 @@ count_none : (o : Option (List ℕ)) → IsEmpty o → IfSome o (λ bytes. lengt
 count_none None h = tt
 count_none (Some bytes) h = ap length h
 
-all_put : (o : Option (List ℕ)) (text said : List ℕ) → IsEmpty o → text ≡ said → IfSome (more o text) (λ w. w ≡ said)
-all_put None text said h e = tt
-all_put (Some bytes) text said h e = ap (λ t. t ++ text) h ∙ e
+all_put : (o : Option (List ℕ)) (text : List ℕ) (trees : List LineTree) → IsEmpty o → AreRecords text trees → IfSome (more o text) (λ w. AreRecords w trees)
+all_put None text trees h are = tt
+all_put (Some bytes) text trees h are = subst (λ (t : List ℕ). AreRecords (t ++ text) trees) (sym h) are
 
-some_put : (o : Option (List ℕ)) (text said : List ℕ) (n : ℕ) → IsEmpty o → text ≡ said → IfSome (more o (take n text)) (λ w. IsCut w said)
-some_put None text said n h e = tt
-some_put (Some bytes) text said n h e = (drop n text, ap (λ t. (t ++ take n text) ++ drop n text) h ∙ (take-append-drop n text ∙ e))
+some_put : (o : Option (List ℕ)) (text : List ℕ) (trees : List LineTree) (n : ℕ) → IsEmpty o → AreRecords text trees → IfSome (more o (take n text)) (λ w. AreLines trees × IsCut w (lines_bytes trees))
+some_put None text trees n h are = tt
+some_put (Some bytes) text trees n h are = (are.lines, (drop n text, ap (λ t. (t ++ take n text) ++ drop n text) h ∙ (take-append-drop n text ∙ are.text)))
 
-said_none : (r : Stage) → r.journal ≡ [] → opening_text r.opening.settings.harts ≡ said_by r
-said_none r h = sym (ap (said r.opening) h ∙ said_nothing r.opening)
+opened_with : (r : Stage) → r.journal ≡ [] → AreRecords (opening_text r.opening.settings.harts) (lines_by r)
+opened_with r h =
+    subst (λ (trees : List LineTree). AreRecords (opening_text r.opening.settings.harts) trees) (sym (ap (said_lines r.opening) h ∙ said_nothing r.opening)) (opening_records r.opening.settings.harts)
 
 first_left : (o : Opening) (s : State) → Leaves o [] s → first_state o ≡ s
 unfolding replay
@@ -331,7 +358,7 @@ tied_open true t u r h goes puts = rw puts (record {
     ended = h.running;
     asks = told_none r.opening r.journal t.polled t.asks h.asks;
   };
-  written = all_put t.written (opening_text r.opening.settings.harts) (said_by r) h.written (said_none r h.journal);
+  written = all_put t.written (opening_text r.opening.settings.harts) (lines_by r) h.written (opened_with r h.journal);
   cause = (record { file = h.clean.file; poll = h.clean.poll; put = h.clean.put }, goes);
 })
 tied_open false t u r h goes puts =
@@ -346,7 +373,7 @@ tied_open false t u r h goes puts =
         ended = h.running;
         asks = told_none r.opening r.journal t.polled t.asks h.asks;
       };
-      written = some_put t.written (opening_text r.opening.settings.harts) (said_by r) puts.0 h.written (said_none r h.journal);
+      written = some_put t.written (opening_text r.opening.settings.harts) (lines_by r) puts.0 h.written (opened_with r h.journal);
       cause = rose;
     })
 

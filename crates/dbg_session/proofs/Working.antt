@@ -1,6 +1,6 @@
 -- How much the harts can still do.
 use Rattle.std.proofs.Common.{◌≡◌, ◌<◌, ◌≤◌, ℕ, zero, suc, ◌+◌, ◌*◌, Bool, true, false, cond, List, [], ◌∷◌, length, refl, sym, ap, ◌∙◌, arith, subst, not, nat_lt}
-use Rattle.std.specs.Prelude.{Option, Some, None, ◌&&◌, ◌||◌, ◌==◌, map, slice_get, slice_set}
+use Rattle.std.specs.Prelude.{Option, Some, None, ◌&&◌, ◌||◌, ◌==◌, is_none, map, slice_get, slice_set}
 use Rattle.std.proofs.lemmas.Bool.Decides.{nat_tests}
 use Rattle.plain_machine.specs.Environment.{Answer, Traps, Goes, Leave, Stays, LeavesAlone, LeavesAll}
 use Rattle.plain_machine.specs.Plain.{plain}
@@ -9,15 +9,16 @@ use Rattle.rv_exec.specs.Causes.{cause_number}
 use Rattle.dbg_model.specs.declared.entry.Mode.{Mode}
 use Rattle.dbg_model.specs.declared.entry.Mode.TheVariants as mode
 use Rattle.dbg_model.specs.declared.entry.Why.{Why}
-use Rattle.dbg_model.specs.declared.entry.Why.TheVariants.{Break, Stepped, Finished, Interrupted, Fault}
+use Rattle.dbg_model.specs.declared.entry.Why.TheVariants.{Break, Watch, Stepped, Finished, Interrupted, Fault}
 use Rattle.dbg_model.specs.Breaks.{is_stop}
 use Rattle.dbg_model.specs.declared.entry.Entry.TheVariants.{Counted, Stopped}
 use Rattle.dbg_model.specs.Limits.{history}
 use Rattle.dbg_model.specs.declared.hart.Hart.{Hart}
 use Rattle.dbg_model.specs.declared.judgement.Judgement.{Judgement}
 use Rattle.dbg_model.specs.declared.opening.Opening.{Opening}
-use Rattle.dbg_model.specs.Judging.{ends_function, ends_step, is_counted, is_due}
+use Rattle.dbg_model.specs.Judging.{ends_function, ends_step, fires, is_counted, is_due}
 use Rattle.dbg_model.specs.State.{State, hart_runs, any_runs, any_leaves, is_running, due}
+use Rattle.dbg_model.specs.Watches.{fired_by, is_fired}
 use Rattle.dbg_model.specs.Reply.{done_by}
 use Rattle.dbg_model.specs.Lawful.{one, one_by, enter, may_go, may_move, may_run, stepped_by, stepped, stopped, with_stop, faulted_by, stopped_by, counted, counted_by, set_out, with_arrival, with_count, with_leavers, leaving, leaving_at, with_step}
 use Rattle.dbg_model.specs.Leaving.{gone, gone_by}
@@ -80,14 +81,15 @@ answer_works o (Traps cause) s t h x j at below is = cc
 answer_works o (Goes r m out leave) s t h x j at below is =
     let y = set_out j x in
     let u = with_step s h y r m out leave in
-    let set = running_set s.harts h x (stepped y r) at in
-    let l = leavers_running leave (slice_set s.harts h (stepped y r)) h in
+    let z = stepped y r (fired_by s.watches s.memory m) in
+    let set = running_set s.harts h x z at in
+    let l = leavers_running leave (slice_set s.harts h z) h in
     subst (λ (v : State). Worked o s v) (same_some u t is) (record { below = below; retired = refl; running = omega arith })
 
 go_below : (o : Opening) (s : State) → may_go o s ≡ true → s.retired < o.settings.budget
 go_below o s may =
-    let b = both_true (not (any_leaves s.harts)) (nat_lt s.retired o.settings.budget && (nat_lt s.noted history && not s.exited)) may in
-    let n = both_true (nat_lt s.retired o.settings.budget) (nat_lt s.noted history && not s.exited) b.1 in
+    let b = both_true (not (any_leaves s.harts)) (nat_lt s.retired o.settings.budget && (nat_lt s.noted history && (not s.exited && is_none s.pending))) may in
+    let n = both_true (nat_lt s.retired o.settings.budget) (nat_lt s.noted history && (not s.exited && is_none s.pending)) b.1 in
     let first = n.0 in
     grind (arith, nat_tests)
 
@@ -155,6 +157,7 @@ arrival_halts o why s t h x at is =
 stop_halts : (o : Opening) (why : Why) (s t : State) (h : ℕ) (r : Option Hart) → slice_get s.harts h ≡ r → stopped_by o s h why r ≡ Some t → Halted s t
 stop_halts o why s t h None at is = cc
 stop_halts o (Break number error) s t h (Some x) at is = arrival_halts o (is_stop (due o.image s h x).breaks number error) s t h x at is
+stop_halts o (Watch f) s t h (Some x) at is = arrival_halts o (is_fired (fires (due o.image s h x)) f) s t h x at is
 stop_halts o Stepped s t h (Some x) at is = arrival_halts o (ends_step (due o.image s h x)) s t h x at is
 stop_halts o Finished s t h (Some x) at is = arrival_halts o (ends_function (due o.image s h x)) s t h x at is
 stop_halts o Interrupted s t h (Some x) at is =

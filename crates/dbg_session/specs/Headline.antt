@@ -7,12 +7,13 @@ use Rattle.elf32_read.specs.Reading as reading
 use Rattle.plain_machine.specs.PlainRun.{PlainState, plain_run}
 use Rattle.dbg_traits.specs.Told.{Told}
 use Rattle.mi_input.specs.Lines.{lines}
-use Rattle.mi_reports.specs.Said.{said}
-use Rattle.mi_reports.specs.Refusals.{bad_file}
-use Rattle.mi_reports.specs.declared.refusals.TheConstants.{USAGE}
+use Rattle.mi_values.specs.Record.{LineTree}
+use Rattle.mi_values.specs.Records.{lines_bytes, streamed, AreLines}
+use Rattle.mi_reports.specs.Said.{said_lines}
+use Rattle.mi_reports.specs.Refusals.{refusal_lines, file_fields, usage_fields}
 use Rattle.dbg_model.specs.State.{State, any_runs}
 use Rattle.dbg_model.specs.Journals.{Leaves, did, noted}
-use Rattle.dbg_model.specs.Erase.{erase}
+use Rattle.dbg_model.specs.Erase.{erase, steps}
 use Rattle.dbg_model.specs.Limits as limits
 use Rattle.dbg_engine.specs.declared.engine.Closed.{Closed}
 use Rattle.engine_facts.specs.Facts.{Planted, Retired, CopiedOver}
@@ -20,6 +21,7 @@ use Rattle.dbg_session.specs.Words.{served_words, IsWhole, most_file}
 use Rattle.dbg_session.specs.declared.file.Served.{Served}
 use Rattle.dbg_session.specs.Left.{core_registers, plain_registers}
 use Rattle.dbg_session.specs.InTime.{ToldInTime}
+use Rattle.dbg_session.specs.Triggered.{TellsChanges, StopsFirst}
 use Rattle.dbg_session.specs.Ties.{Opened, Written, IsCut, IsEmpty, Clean}
 use Rattle.dbg_session.specs.declared.status.Status.{Status}
 use Rattle.dbg_session.specs.declared.status.Status.TheVariants as status
@@ -32,15 +34,15 @@ pub record IsDone (t : Told) (c : Closed) (s : State) : Type 0 where
 
 -- no limit is reached: of instructions, of entries and of input
 pub record IsBelow (t : Told) (c : Closed) : Type 0 where
-  pub budget : length (erase c.journal) < c.opening.settings.budget
+  pub budget : steps (erase c.journal) < c.opening.settings.budget
   pub history : noted c.journal < limits.history
   pub input : t.input_length < limits.input
 
 -- Why a session that was begun has its status. It is done by its input, or by a line that exits.
 abbrev pub Why : Status → Told → Closed → State → Type 0
 Why status.Done t c s = Clean t × IsBelow t c × (IsDone t c s ⊎ (s.exited ≡ true))
-Why status.Budget t c s = Clean t × (length (erase c.journal) ≡ c.opening.settings.budget)
-Why status.History t c s = Clean t × (length (erase c.journal) < c.opening.settings.budget) × ((limits.history ≤ noted c.journal) ⊎ (limits.input ≤ t.input_length))
+Why status.Budget t c s = Clean t × (steps (erase c.journal) ≡ c.opening.settings.budget)
+Why status.History t c s = Clean t × (steps (erase c.journal) < c.opening.settings.budget) × ((limits.history ≤ noted c.journal) ⊎ (limits.input ≤ t.input_length))
 Why status.ReadFault t c s = 0 < t.poll_faults
 Why status.WriteFault t c s = 0 < t.put_faults
 Why status.NoMemory t c s = Unit {0}
@@ -59,7 +61,11 @@ pub record Headline (status : Status) (t : Told) (c : Closed) : Type 0 where
   -- the journal is lawful
   pub state : State
   pub lawful : Leaves c.opening c.journal state
-  -- without the debugger's entries it is a run of the program
+  -- each stop by a watch tells which bytes its hart's last instruction changed, and from which value to which
+  pub triggered : TellsChanges c.opening c.journal
+  -- and a hart whose instruction changed them executes nothing before it was stopped, unless that watch was deleted or disabled first
+  pub held : StopsFirst c.opening c.journal
+  -- without the debugger's entries it is a run of the program, in which the user's writes are its items Reg and Bytes
   pub plain : PlainState
   pub erased : plain_run c.opening.image c.opening.settings.harts (erase c.journal) ≡ Some plain
   -- which ends in the machine's registers and data, and with the output of the journal's state
@@ -72,15 +78,18 @@ pub record Headline (status : Status) (t : Told) (c : Closed) : Type 0 where
   pub retired : Retired c.machine.cores c.journal
   -- where there are slots, each hart executed by copies where a breakpoint stood, but for one instruction for each time that displaced stepping was switched on
   pub copied : CopiedOver c.opening.settings.slots c.machine.cores state
-  -- what was written is what was said
-  pub said : IfSome t.written (λ written. Written (Some status) written (said c.opening c.journal))
+  -- what was written is the text of the journal's lines, which are lines of the grammar
+  pub said : IfSome t.written (λ written. Written (Some status) written (said_lines c.opening c.journal))
+  -- the contents of its `@` lines, in order, are the program's output
+  pub shown : streamed (said_lines c.opening c.journal) ≡ state.out
   -- why it has its status
   pub why : Why status t c state
 
--- the line was written; where a put failed, a front of it
-pub record Line (line : List ℕ) (t : Told) : Type 0 where
-  pub front : IfSome t.written (λ written. IsCut written line)
-  pub whole : t.put_faults ≡ 0 → IfSome t.written (λ written. written ≡ line)
+-- the text of these lines, which are lines of the grammar, was written; where a put failed, a front of it
+pub record Line (trees : List LineTree) (t : Told) : Type 0 where
+  pub grammar : AreLines trees
+  pub front : IfSome t.written (λ written. IsCut written (lines_bytes trees))
+  pub whole : t.put_faults ≡ 0 → IfSome t.written (λ written. written ≡ lines_bytes trees)
 
 -- nothing was written
 abbrev pub Silent : Told → Type 0
@@ -128,8 +137,8 @@ pub record HasFault (t : Told) (f : ElfFault) : Type 0 where
 
 -- Why a run ended before a session was begun, and what it wrote. No input was asked for.
 abbrev pub Early : Status → Told → Type 0
-Early status.Words t = IsUnpolled t × IsUnread t × (served_words t.words ≡ None) × Line USAGE.now t
-Early (status.File f) t = IsUnpolled t × HasFault t f × Line (bad_file f) t
+Early status.Words t = IsUnpolled t × IsUnread t × (served_words t.words ≡ None) × Line (refusal_lines usage_fields) t
+Early (status.File f) t = IsUnpolled t × HasFault t f × Line (refusal_lines (file_fields f)) t
 Early status.ReadFault t = IsUnpolled t × IsRead t × IsPart t × (0 < t.file_faults) × Silent t
 Early status.NoMemory t = IsUnpolled t × IsReadIfAny t × (t.file_faults ≡ 0) × Silent t
 Early s t = ⊥

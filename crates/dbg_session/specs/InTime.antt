@@ -2,7 +2,7 @@
 use Rattle.std.specs.Prelude.{◌≡◌, ◌≤◌, ℕ, zero, suc, ◌+◌, ◌==◌, Bool, true, false, cond, List, [], ◌∷◌, length, take, Option, IfSome}
 use Rattle.dbg_traits.specs.Told.{Ask}
 use Rattle.dbg_model.specs.declared.entry.Entry.{Entry}
-use Rattle.dbg_model.specs.declared.entry.Entry.TheVariants.{Ran, Counted, Stopped, Left, Did}
+use Rattle.dbg_model.specs.declared.entry.Entry.TheVariants.{Ran, Counted, Stopped, Left, Did, Poked}
 use Rattle.dbg_model.specs.declared.opening.Opening.{Opening}
 use Rattle.dbg_model.specs.State.{State, any_runs}
 use Rattle.dbg_model.specs.Journals.{Leaves, did}
@@ -22,6 +22,7 @@ through (suc n) (Counted h ∷ es) = Counted h ∷ through (suc n) es
 through (suc n) (Stopped h why ∷ es) = Stopped h why ∷ through (suc n) es
 through (suc n) (Left h code ∷ es) = Left h code ∷ through (suc n) es
 through (suc n) (Did line ∷ es) = Did line ∷ through n es
+through (suc n) (Poked p ∷ es) = Poked p ∷ through (suc n) es
 
 -- the entries before the line that follows the n-th, or all of them
 abbrev pub until : List Entry → ℕ → List Entry
@@ -30,6 +31,7 @@ until (Ran h count ∷ es) n = Ran h count ∷ until es n
 until (Counted h ∷ es) n = Counted h ∷ until es n
 until (Stopped h why ∷ es) n = Stopped h why ∷ until es n
 until (Left h code ∷ es) n = Left h code ∷ until es n
+until (Poked p ∷ es) n = Poked p ∷ until es n
 until (Did line ∷ es) zero = []
 until (Did line ∷ es) (suc n) = Did line ∷ until es n
 

@@ -9,6 +9,8 @@ pub mod Ties
 pub mod Seen
 pub mod SessionInside
 pub mod Left
+pub mod Triggered
 pub mod Headline
 pub mod Numbers
 pub mod Round
+pub mod Crew

@@ -24,9 +24,10 @@ pub record Moment : Type 0 where
   pub input : Taken
   pub status : Option Status
   pub next : ℕ
+  pub out : List Bool
 
 abbrev pub moment : {W : Type 0} → (W → Told) → Seen W → Moment
-moment told s = record { told = told s.world; run = s.run; input = s.input; status = s.status; next = s.next }
+moment told s = record { told = told s.world; run = s.run; input = s.input; status = s.status; next = s.next; out = s.out }
 
 -- ---- input is taken
 
@@ -139,13 +140,15 @@ pub record MovesOne (h : ℕ) (p q : Moment) : Type 0 where
   pub moved : Moved count h p q
   pub rests : count < 64 → q.status ≡ None → moves_at q.run h ≡ false
 
--- the next hart that runs is picked and turned, where one runs
+-- the hart that was picked is turned
 abbrev pub MovesBy : Option ℕ → Moment → Moment → Type 0
 MovesBy None p q = q ≡ p
 MovesBy (Some h) p q = MovesOne h (record p { next = h + 1 }) q
 
-abbrev pub Moves : Moment → Moment → Type 0
-Moves p q = MovesBy (next_running p.run.minds p.next) p q
+-- The next hart that runs and has no job out is picked, where there is one, and turned.
+pub record Moves (pick : Option ℕ) (p q : Moment) : Type 0 where
+  pub picks : pick ≡ next_running p.run.minds p.out p.next
+  pub moves : MovesBy pick p q
 
 -- ---- the end
 
@@ -167,11 +170,6 @@ Unless (Some s) R p q = q ≡ p
 abbrev pub Then : (Moment → Moment → Type 0) → (Moment → Moment → Type 0) → Moment → Moment → Type 0
 Then R S p q = (m : Moment) × R p m × Unless m.status S m q
 
--- input is taken, a line is done, a hart is moved, and the session is done where nothing is left
-abbrev pub Round : Moment → Moment → Type 0
-Round p q = Then Takes (Then Lines (Then Moves Settles)) p q
-
--- so many rounds, in a session that goes on before each
-abbrev pub Rounds : ℕ → Moment → Moment → Type 0
-Rounds zero p q = q ≡ p
-Rounds (suc n) p q = (m : Moment) × Rounds n p m × (m.status ≡ None) × Round m q
+-- Input is taken, a line is done, a hart is picked and moved, and the session is done where nothing is left.
+abbrev pub Round : Option ℕ → Moment → Moment → Type 0
+Round pick p q = Then Takes (Then Lines (Then (Moves pick) Settles)) p q

@@ -1,6 +1,7 @@
 -- What a session's engine is seen as.
 use Rattle.std.specs.Prelude.{ℕ, ◌+◌, ◌-◌, ◌*◌, Bool, cond, List, [], ◌∷◌, Option}
 use Rattle.scratch_slots.specs.declared.slots.SlotUse.{SlotUse}
+use Rattle.text_words.specs.Words.{Words}
 use Rattle.dbg_model.specs.declared.entry.Entry.{Entry}
 use Rattle.dbg_model.specs.declared.opening.Opening.{Opening}
 use Rattle.dbg_model.specs.declared.hart.Hart.{Hart}
@@ -12,7 +13,7 @@ use Rattle.step_over.specs.declared.phase.Phase.TheVariants as phase
 use Rattle.engine_facts.specs.Movers.{moves_in}
 use Rattle.engine_facts.specs.Seen.{Run, seen}
 
--- how the session began, its journal, the state that the journal leaves, where its harts are in steps over breakpoints, and who has which scratch slot
+-- how the session began, its journal, the state that the journal leaves, where its harts are in steps over breakpoints, who has which scratch slot, and the text as it is stored
 pub record Stage : Type 0 where
   pub opening : Opening
   pub journal : List Entry
@@ -20,9 +21,10 @@ pub record Stage : Type 0 where
   pub minds : List Mind
   pub hold : Option Hold
   pub slots : List (Option SlotUse)
+  pub text : Words
 
 abbrev pub stage_of : Run → Stage
-stage_of r = record { opening = r.opening; journal = r.journal; state = seen r; minds = r.minds; hold = r.hold; slots = r.machine.slots }
+stage_of r = record { opening = r.opening; journal = r.journal; state = seen r; minds = r.minds; hold = r.hold; slots = r.machine.slots; text = r.machine.text }
 
 -- how many harts run
 abbrev pub running : List Hart → ℕ

@@ -3,13 +3,16 @@ use Rattle.std.specs.Prelude.{◌≡◌, ◌⊎◌, ◌<◌, ◌≤◌, ℕ, ◌
 use Rattle.dbg_traits.specs.Told.{Told, more, raised, with_ask}
 use Rattle.dbg_traits.specs.Causes.{Rose}
 use Rattle.dbg_session.specs.Puts.{PutsAll}
-use Rattle.mi_reports.specs.Said.{said}
+use Rattle.mi_values.specs.Record.{LineTree}
+use Rattle.mi_values.specs.Records.{lines_bytes, AreLines}
+use Rattle.mi_reports.specs.Said.{said_lines}
 use Rattle.mi_input.specs.Lines.{lines, IsNext}
 use Rattle.dbg_model.specs.declared.entry.Entry.{Entry}
-use Rattle.dbg_model.specs.declared.entry.Entry.TheVariants.{Ran, Counted, Stopped, Left, Did}
+use Rattle.dbg_model.specs.declared.entry.Entry.TheVariants.{Ran, Counted, Stopped, Left, Did, Poked}
 use Rattle.dbg_model.specs.declared.hart.Hart.{Hart}
 use Rattle.dbg_model.specs.State.{any_runs}
-use Rattle.dbg_model.specs.Reply.{is_wait}
+use Rattle.dbg_model.specs.Reply.{done_by, is_wait}
+use Rattle.dbg_engine.specs.Calls.{pokes_of}
 use Rattle.dbg_model.specs.Leaving.{lefts_from}
 use Rattle.dbg_model.specs.Lawful.{may_go}
 use Rattle.dbg_model.specs.Journals.{did, lengthened}
@@ -24,28 +27,30 @@ use Rattle.dbg_session.specs.declared.steps.Done.TheVariants as done
 use Rattle.dbg_session.specs.declared.steps.Input.{Input}
 use Rattle.dbg_session.specs.declared.steps.Input.TheVariants as input
 
-abbrev pub said_by : Stage → List ℕ
-said_by r = said r.opening r.journal
+abbrev pub lines_by : Stage → List LineTree
+lines_by r = said_lines r.opening r.journal
 
--- a text was said, and put
+-- lines of the grammar were said, and their text put
 pub record Says (t u : Told) (r s : Stage) (put : Bool) : Type 0 where
-  pub text : List ℕ
-  pub said : said_by s ≡ said_by r ++ text
-  pub puts : PutsAll put text t u
+  pub trees : List LineTree
+  pub said : lines_by s ≡ lines_by r ++ trees
+  pub grammar : AreLines trees
+  pub puts : PutsAll put (lines_bytes trees) t u
 
--- a text was said, and none of it put
+-- lines were said, and nothing put
 pub record Keeps (t u : Told) (r s : Stage) : Type 0 where
-  pub text : List ℕ
-  pub said : said_by s ≡ said_by r ++ text
+  pub trees : List LineTree
+  pub said : lines_by s ≡ lines_by r ++ trees
   pub told : u ≡ t
 
--- the hart that an entry is of
+-- the hart that a move's entry is of
 abbrev pub hart_of : Entry → Option ℕ
 hart_of (Ran h count) = Some h
 hart_of (Counted h) = Some h
 hart_of (Stopped h why) = Some h
 hart_of (Left h code) = Some h
 hart_of (Did line) = None
+hart_of (Poked p) = None
 
 -- A move of hart h without an entry, as a copy that it enters: only what is kept of h changes.
 abbrev pub IsSilent : ℕ → Stage → Stage → Type 0
@@ -93,7 +98,8 @@ pub record DoesLine (ended : Bool) (rest : List ℕ) (next : ℕ) (r s : Stage) 
   pub some : 0 < next
   pub within : next ≤ length rest
   pub may : can_do r ended rest ≡ true
-  pub journal : s.journal ≡ r.journal ++ Did line ∷ []
+  -- and what it asks to be written was written
+  pub journal : s.journal ≡ r.journal ++ Did line ∷ pokes_of (done_by r.opening r.state line).pending
   pub did : did s.journal ≡ did r.journal ++ line ∷ []
 
 -- what the next line of the rest does, in a session that goes on

@@ -3,6 +3,8 @@ use Rattle.std.specs.Prelude.{◌≡◌, ◌⊎◌, ◌<◌, ◌≤◌, ℕ, ◌
 use Rattle.dbg_traits.specs.Told.{Told}
 use Rattle.elf32_read.specs.Reading.{IsImage}
 use Rattle.mi_input.specs.Lines.{lines}
+use Rattle.mi_values.specs.Record.{LineTree}
+use Rattle.mi_values.specs.Records.{lines_bytes, AreLines, AreRecords}
 use Rattle.dbg_model.specs.declared.opening.Opening.{Opening}
 use Rattle.dbg_model.specs.State.{any_runs}
 use Rattle.dbg_model.specs.Journals.{did}
@@ -10,7 +12,7 @@ use Rattle.dbg_session.specs.Stage.{Stage, work_of}
 use Rattle.dbg_session.specs.Words.{served_words, IsWhole}
 use Rattle.dbg_session.specs.InTime.{ToldInTime}
 use Rattle.dbg_session.specs.Taking.{Gives}
-use Rattle.dbg_session.specs.Steps.{said_by}
+use Rattle.dbg_session.specs.Steps.{lines_by}
 use Rattle.dbg_session.specs.declared.status.Status.{Status}
 use Rattle.dbg_session.specs.declared.status.Status.TheVariants as status
 use Rattle.dbg_model.specs.Limits as limits
@@ -19,11 +21,12 @@ use Rattle.dbg_model.specs.Limits as limits
 abbrev pub IsCut : List ℕ → List ℕ → Type 0
 IsCut written text = (rest : List ℕ) × (written ++ rest ≡ text)
 
--- What is written is what was said. After a failed put or want of memory it is a front of it.
-abbrev pub Written : Option Status → List ℕ → List ℕ → Type 0
-Written (Some status.WriteFault) written text = IsCut written text
-Written (Some status.NoMemory) written text = IsCut written text
-Written s written text = written ≡ text
+-- What is written is the text of these lines, which are lines of the grammar. After a failed put it is a front of that text;
+-- where memory ran out it is the text of the first of them.
+abbrev pub Written : Option Status → List ℕ → List LineTree → Type 0
+Written (Some status.WriteFault) written trees = AreLines trees × IsCut written (lines_bytes trees)
+Written (Some status.NoMemory) written trees = (first : List LineTree) × (rest : List LineTree) × (first ++ rest ≡ trees) × AreRecords written first
+Written s written trees = AreRecords written trees
 
 -- nothing has failed
 pub record Clean (t : Told) : Type 0 where
@@ -96,7 +99,7 @@ pub record IsHeld (t : Told) (r : Stage) (i : Taken) : Type 0 where
 -- what the type of a session keeps
 pub record IsTied (s : Option Status) (t : Told) (r : Stage) (i : Taken) : Type 0 where
   pub held : IsHeld t r i
-  pub written : IfSome t.written (λ written. Written s written (said_by r))
+  pub written : IfSome t.written (λ written. Written s written (lines_by r))
   pub cause : Cause s t r i
 
 -- how much a session can still do

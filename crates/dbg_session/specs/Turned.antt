@@ -6,40 +6,43 @@ use Rattle.dbg_model.specs.State.{all_gone}
 use Rattle.dbg_engine.specs.declared.moving.Turned.{Turned}
 use Rattle.dbg_engine.specs.declared.moving.Turned.TheVariants as turned
 use Rattle.engine_facts.specs.Seen.{Run, seen}
-use Rattle.mi_reports.specs.Text.{stop_text, interrupt_text, break_text, stepped_text, finished_text, stream_text, lefts_text}
+use Rattle.mi_values.specs.Record.{LineTree}
+use Rattle.mi_reports.specs.Triggers.{trigger_lines, watch_of}
+use Rattle.mi_reports.specs.Text.{stop_lines, interrupt_lines, break_lines, stepped_lines, finished_lines, stream_lines, lefts_lines}
 
-abbrev pub stream_of : Option (List ℕ) → List ℕ
-stream_of None = []
-stream_of (Some bytes) = stream_text bytes
+abbrev pub stream_tree : Option (List ℕ) → List LineTree
+stream_tree None = []
+stream_tree (Some bytes) = stream_lines bytes
 
 -- the line of the bytes of a range
-abbrev pub wrote_text : Run → ℕ → ℕ → List ℕ
-wrote_text r addr len = stream_of (bytes_at r.machine.memory addr len)
+abbrev pub wrote_lines : Run → ℕ → ℕ → List LineTree
+wrote_lines r addr len = stream_tree (bytes_at r.machine.memory addr len)
 
 -- the lines of the last exits of the journal
-abbrev pub last_lefts : Run → ℕ → ℕ → List ℕ
-last_lefts r count code = lefts_text (drop (length r.journal - count) r.journal) (all_gone (seen r).harts) code
+abbrev pub left_lines : Run → ℕ → ℕ → List LineTree
+left_lines r count code = lefts_lines (drop (length r.journal - count) r.journal) (all_gone (seen r).harts) code
 
 -- the lines of a turn of a hart that was at pc; those of a stop show the frame there
-abbrev pub turned_text : Run → Turned → ℕ → ℕ → List ℕ
-turned_text r turned.Over h pc = []
-turned_text r turned.NotRunning h pc = []
-turned_text r (turned.Held by) h pc = []
-turned_text r turned.Fixed h pc = []
-turned_text r turned.Planted h pc = []
-turned_text r turned.Copied h pc = []
-turned_text r turned.NoSlot h pc = []
-turned_text r turned.Lifted h pc = []
-turned_text r turned.Ran h pc = []
-turned_text r (turned.Wrote addr len) h pc = wrote_text r addr len
-turned_text r (turned.Left code) h pc = last_lefts r 1 code
-turned_text r (turned.AllLeft code count) h pc = last_lefts r count code
-turned_text r (turned.Stopped cause) h pc = stop_text cause h (own_frame r.sources pc)
-turned_text r turned.Interrupted h pc = interrupt_text h (own_frame r.sources pc)
-turned_text r turned.Counted h pc = []
-turned_text r turned.Stepped h pc = stepped_text h (own_frame r.sources pc)
-turned_text r turned.Finished h pc = finished_text h (own_frame r.sources pc)
-turned_text r (turned.Arrived number temporary error) h pc = break_text temporary number error h (own_frame r.sources pc)
+abbrev pub turned_lines : Run → Turned → ℕ → ℕ → List LineTree
+turned_lines r turned.Over h pc = []
+turned_lines r turned.NotRunning h pc = []
+turned_lines r (turned.Held by) h pc = []
+turned_lines r turned.Fixed h pc = []
+turned_lines r turned.Planted h pc = []
+turned_lines r turned.Copied h pc = []
+turned_lines r turned.NoSlot h pc = []
+turned_lines r turned.Lifted h pc = []
+turned_lines r turned.Ran h pc = []
+turned_lines r (turned.Wrote addr len) h pc = wrote_lines r addr len
+turned_lines r (turned.Left code) h pc = left_lines r 1 code
+turned_lines r (turned.AllLeft code count) h pc = left_lines r count code
+turned_lines r (turned.Stopped cause) h pc = stop_lines cause h (own_frame r.sources pc)
+turned_lines r turned.Interrupted h pc = interrupt_lines h (own_frame r.sources pc)
+turned_lines r turned.Counted h pc = []
+turned_lines r turned.Stepped h pc = stepped_lines h (own_frame r.sources pc)
+turned_lines r turned.Finished h pc = finished_lines h (own_frame r.sources pc)
+turned_lines r (turned.Triggered f) h pc = trigger_lines (watch_of r.watches f.number) f h (own_frame r.sources pc)
+turned_lines r (turned.Arrived number temporary error) h pc = break_lines temporary number error h (own_frame r.sources pc)
 
 -- whether a turn moved its hart
 abbrev pub has_moved : Turned → Bool
@@ -60,4 +63,5 @@ has_moved turned.Interrupted = true
 has_moved turned.Counted = true
 has_moved turned.Stepped = true
 has_moved turned.Finished = true
+has_moved (turned.Triggered f) = true
 has_moved (turned.Arrived number temporary error) = true

@@ -12,9 +12,10 @@ use dbg_engine::Engine;
 use dbg_model::Opening;
 use dbg_traits::{Gate, World};
 use elf32_read::{ElfReadError, read_image};
-use mi_reports::{USAGE, bad_file, opening_text};
+use hart_workers::run_crew;
+use mi_reports::{bad_file, opening_text, usage};
 use std::alloc::Global;
-use std::sync::Wait;
+use std::sync::{Mutex, Wait};
 use std::thread::Threads;
 
 // A run that ended before a session was begun.
@@ -39,7 +40,10 @@ fn load<W: World>(alloc: Global, world: W) -> Result<Session<W>, Ended<W>>
     let served = match served_words(alloc, world.words()) {
         Ok(Some(served)) => served,
         Ok(None) => {
-            put_all(&mut world, USAGE.as_bytes());
+            let Ok(line) = usage(alloc) else {
+                return Err(early(Status::NoMemory, world));
+            };
+            put_all(&mut world, line.as_slice());
             return Err(early(Status::Words, world));
         }
         Err(_) => return Err(early(Status::NoMemory, world)),
@@ -70,12 +74,27 @@ fn load<W: World>(alloc: Global, world: W) -> Result<Session<W>, Ended<W>>
     }
 }
 
+// The workers of a session, if it has any, serve it until it is over.
+fn serve<R: Threads + Wait + Sync, W: World + Send, G: Gate + Sync>(
+    rt: &R,
+    session: Session<W>,
+    gate: &G,
+) -> Session<W> {
+    let workers = session.workers();
+    if workers == 0 {
+        return session;
+    }
+    let crew = Mutex::new(session);
+    run_crew(rt, &crew, workers, gate);
+    crew.into_inner()
+}
+
 /// Runs the debugger over a world, and hands the world back.
 pub fn debug_run<R: Threads + Wait + Sync, W: World + Send, G: Gate + Sync>(
-    _rt: &R,
+    rt: &R,
     alloc: Global,
     world: W,
-    _gate: &G,
+    gate: &G,
 ) -> Ended<W>
     requires fresh { IsFresh (W.told world) }
 
@@ -91,7 +110,7 @@ pub fn debug_run<R: Threads + Wait + Sync, W: World + Send, G: Gate + Sync>(
 {
     match load(alloc, world) {
         Ok(session) => {
-            let mut session = session;
+            let mut session = serve(rt, session, gate);
             session.run_serial();
             session.close()
         }

@@ -1,24 +1,29 @@
 // A session, step by step.
-ghost use Rattle.std.specs.Prelude.{◌≡◌, ◌≢◌, ◌<◌, ◌≤◌, ◌↔◌, [], ℕ, length, false, None, Some, if◌then◌else◌, IsTrue, IfSome, IsSomeAnd};
-ghost use Rattle.std.specs.Bool.{OnFalse};
-ghost use Rattle.dbg_session.specs.Ties.{IsTied, session_work};
-ghost use Rattle.dbg_session.specs.Seen.{GotOn, HasTurned, work, no_input, no_line, no_move, is_open};
+ghost use Rattle.std.specs.Prelude.{◌≡◌, ◌≢◌, ◌<◌, [], true, false, None, Some, if◌then◌else◌, IfSome, IsSomeAnd, IsTrue};
+ghost use Rattle.dbg_session.specs.Ties.{IsTied};
+ghost use Rattle.dbg_session.specs.Seen.{GotOn, work, no_input, no_line, is_open};
 ghost use Rattle.dbg_session.specs.Taking.{has_line};
-ghost use Rattle.dbg_session.specs.Round.{Takes, Lines, Moves, MovesOne, TurnsOne, Settles, Round, Rounds, Moved, moment};
-ghost use Rattle.dbg_engine.specs.Steps.{next_running};
+ghost use Rattle.dbg_session.specs.Round.{Takes, Lines, Settles, Round, moment};
+ghost use Rattle.dbg_engine.specs.Steps.{NoneOut};
 ghost use Rattle.dbg_session.specs.Left.{IsLeft};
-ghost use Rattle.dbg_session.specs.Stage.{stage_of, moves_at};
+ghost use Rattle.dbg_session.specs.Stage.{stage_of};
+
+mod crew;
+mod moving;
 
 use crate::Status;
 use crate::ending::{Ended, over, status_of};
 use crate::known::Known;
 use crate::puts::put_all;
-use crate::steps::{Done, Input, PIECE, Turn, input_once, line_once, turn_once};
-use dbg_engine::{Engine, SPARE};
+use crate::steps::{Done, Input, PIECE, input_once, line_once};
+use dbg_engine::Engine;
 use dbg_traits::World;
 use mi_input::next_line;
 use std::alloc::Global;
 use std::marker::Model;
+
+// The most harts of a machine.
+const HARTS: usize = 16;
 
 /// One program's session: its engine, and the world that it talks to.
 pub struct Session<W: World> {
@@ -35,6 +40,8 @@ pub struct Session<W: World> {
     known: Known,
     // The hart after the one that was picked last.
     next: usize,
+    // The harts whose job is out.
+    out: [bool; HARTS],
     status: Option<Status>,
 }
 
@@ -79,6 +86,7 @@ impl<W: World> Session<W> {
         ensures run { result.run ≡ stage_of engine }
         ensures input { result.input ≡ record { rest = []; count = 0; ended = false } }
         ensures next { result.next ≡ 0 }
+        ensures out { NoneOut result.out }
         ensures puts { PutsAll (is_none result.status) opening.now (W.told world) (W.told result.world) }
         ensures status { result.status ≡ (if is_none result.status then None else Some Status.WriteFault) }
     {
@@ -95,6 +103,7 @@ impl<W: World> Session<W> {
             ended: false,
             known: Known::Open,
             next: 0,
+            out: [false; HARTS],
             status,
         }
     }
@@ -148,6 +157,17 @@ impl<W: World> Session<W> {
         }
     }
 
+    // Whether it is known already that no line can be done yet.
+    fn must_wait(&self) -> bool
+        ensures { IsTrue result → no_line self.now ≡ true }
+    {
+        match self.known {
+            Known::Open => false,
+            Known::NoLine => true,
+            Known::Waits => self.engine.any_running(),
+        }
+    }
+
     // Does the next line that is kept, unless it waits while a hart runs. True where it got on.
     fn do_line(&mut self) -> bool
         requires { self.old.status ≡ None }
@@ -155,14 +175,8 @@ impl<W: World> Session<W> {
         ensures lines { Lines (moment W.told self.old) (moment W.told self.new) }
         ensures less { GotOn result self.old self.new (no_line self.old) }
     {
-        match self.known {
-            Known::Open => {}
-            Known::NoLine => return false,
-            Known::Waits => {
-                if self.engine.any_running() {
-                    return false;
-                }
-            }
+        if self.must_wait() {
+            return false;
         }
         let done = line_once(
             self.alloc,
@@ -203,96 +217,6 @@ impl<W: World> Session<W> {
         }
     }
 
-    // Turns a hart once. True where it moved, or a status was set.
-    fn move_hart(&mut self, hart: u32) -> bool
-        requires going { self.old.status ≡ None }
-        requires known { hart < length self.old.run.minds }
-        ensures next { self.new.next ≡ self.old.next }
-        ensures same { length self.new.run.minds ≡ length self.old.run.minds }
-        ensures opening { self.new.run.opening ≡ self.old.run.opening }
-        ensures moves { IsTrue result → TurnsOne hart (moment W.told self.old) (moment W.told self.new) }
-        ensures stands { OnFalse result ((moment W.told self.new ≡ moment W.told self.old) × (moves_at self.old.run hart ≡ false)) }
-        ensures less { IsTrue result → session_work self.new.status self.new.run self.new.input < session_work self.old.status self.old.run self.old.input }
-    {
-        let turn = turn_once(self.alloc, &mut self.world, &mut self.engine, hart);
-        match turn {
-            Turn::Stood => false,
-            Turn::Moved => {
-                self.status = over(&self.engine, self.count);
-                true
-            }
-            Turn::Unput => {
-                self.status = Some(Status::WriteFault);
-                true
-            }
-            Turn::NoMemory => {
-                self.status = Some(Status::NoMemory);
-                true
-            }
-        }
-    }
-
-    // Makes turns of a hart of which nothing is said, in one call: at most `limit`, and how many. None where another turn is
-    // next.
-    fn run_hart(&mut self, hart: u32, limit: u32) -> u32
-        requires going { self.old.status ≡ None }
-        requires known { hart < length self.old.run.minds }
-        ensures limit { result ≤ limit }
-        ensures next { self.new.next ≡ self.old.next }
-        ensures same { length self.new.run.minds ≡ length self.old.run.minds }
-        ensures opening { self.new.run.opening ≡ self.old.run.opening }
-        ensures moved { Moved result hart (moment W.told self.old) (moment W.told self.new) }
-        ensures none { result ≡ 0 → self.new ≡ self.old }
-        ensures less { 0 < result → session_work self.new.status self.new.run self.new.input < session_work self.old.status self.old.run self.old.input }
-    {
-        if self.engine.reserve_journal(SPARE).is_err() {
-            return 0;
-        }
-        let count = self.engine.run(hart, limit);
-        if count > 0 {
-            self.status = over(&self.engine, self.count);
-        }
-        count
-    }
-
-    // Turns a hart while it moves, at most 64 times.
-    fn turn_hart(&mut self, hart: u32)
-        requires going { self.old.status ≡ None }
-        requires known { hart < length self.old.run.minds }
-        ensures opening { self.new.run.opening ≡ self.old.run.opening }
-        ensures moves { MovesOne hart (moment W.told self.old) (moment W.told self.new) }
-        ensures less { HasTurned hart self.old self.new }
-    {
-        let mut count = 0u32;
-        while count < 64 && self.status.is_none() {
-            let ran = self.run_hart(hart, 64 - count);
-            if ran > 0 {
-                count += ran;
-                continue;
-            }
-            if !self.move_hart(hart) {
-                return;
-            }
-            count += 1;
-        }
-    }
-
-    // Turns the next hart that runs, in rising order round the harts from the one after that turned last. True where one
-    // runs.
-    fn move_on(&mut self) -> bool
-        requires { self.old.status ≡ None }
-        ensures opening { self.new.run.opening ≡ self.old.run.opening }
-        ensures moves { Moves (moment W.told self.old) (moment W.told self.new) }
-        ensures less { GotOn result self.old self.new (no_move self.old) }
-    {
-        let Some(hart) = self.engine.next_running(self.next) else {
-            return false;
-        };
-        self.next = hart as usize + 1;
-        self.turn_hart(hart);
-        true
-    }
-
     // The session is done where the input ended, no line is left and no hart runs. True where it is.
     fn settle(&mut self) -> bool
         requires { self.old.status ≡ None }
@@ -313,50 +237,28 @@ impl<W: World> Session<W> {
         true
     }
 
-    // One round: input is taken, a line is done, a hart is moved.
-    fn go_round(&mut self)
+    // One round: input is taken, a line is done, a hart is picked and moved. The hart that was picked, if one was.
+    fn go_round(&mut self) -> Option<u32>
         requires { self.old.status ≡ None }
         ensures opening { self.new.run.opening ≡ self.old.run.opening }
-        ensures round { Round (moment W.told self.old) (moment W.told self.new) }
-        ensures less { work self.new < work self.old }
+        ensures round { Round result (moment W.told self.old) (moment W.told self.new) }
+        ensures known { IfSome result (λ h. h < self.old.run.opening.settings.harts) }
+        ensures less { NoneOut self.old.out → work self.new < work self.old }
     {
         self.take_input();
         if self.status.is_some() {
-            return;
+            return None;
         }
         self.do_line();
         if self.status.is_some() {
-            return;
+            return None;
         }
-        self.move_on();
+        let picked = self.move_on();
         if self.status.is_some() {
-            return;
+            return picked;
         }
         self.settle();
-    }
-
-    /// One duty: a round, where the status is not set. True where it was set when the duty began.
-    pub fn duty(&mut self) -> bool
-        ensures over { IsTrue result ↔ (self.old.status ≢ None) }
-        ensures stays { IsTrue result → self.new ≡ self.old }
-        ensures round { OnFalse result (Round (moment W.told self.old) (moment W.told self.new)) }
-    {
-        if self.status.is_some() {
-            return true;
-        }
-        self.go_round();
-        false
-    }
-
-    /// Does rounds until the status is set.
-    pub fn run_serial(&mut self)
-        ensures over { self.new.status ≢ None }
-        ensures opening { self.new.run.opening ≡ self.old.run.opening }
-        ensures rounds { (n : ℕ) × Rounds n (moment W.told self.old) (moment W.told self.new) }
-    {
-        while self.status.is_none() {
-            self.go_round();
-        }
+        picked
     }
 
     /// Ends the session, whose status is set.
@@ -378,6 +280,7 @@ impl<W: World> Session<W> {
             ended: _,
             known: _,
             next: _,
+            out: _,
             status,
         } = self;
         let closed = Some(engine.close());

@@ -1,8 +1,9 @@
 // The steps of a session, over its parts.
 ghost use Rattle.std.specs.Prelude.{◌≡◌, ◌<◌, ◌≤◌, ◌+◌, length, IfOk, true, false};
 ghost use Rattle.dbg_engine.specs.Steps.{IsTurned};
+ghost use Rattle.mi_values.specs.Records.{AreRecords};
 ghost use Rattle.dbg_session.specs.Stage.{stage_of};
-ghost use Rattle.dbg_session.specs.Turned.{turned_text, wrote_text, last_lefts, has_moved};
+ghost use Rattle.dbg_session.specs.Turned.{turned_lines, wrote_lines, left_lines, has_moved};
 ghost use Rattle.dbg_session.specs.Steps.{Turns, Goes, Does, Inputs};
 ghost use Rattle.dbg_session.specs.Stage.{work_of};
 ghost use Rattle.dbg_model.specs.Lawful.{may_go};
@@ -15,8 +16,8 @@ use dbg_engine::{Engine, SPARE, Turned, read_line};
 use dbg_traits::{NoMemory, Polled, World};
 use mi_input::next_line;
 use mi_reports::{
-    break_text, finished_text, interrupt_text, lefts_text, reply_text, stepped_text, stop_text,
-    stream_text,
+    Hit, break_text, finished_text, interrupt_text, lefts_text, reply_text, stepped_text,
+    stop_text, stream_text, trigger_text,
 };
 use std::alloc::{AllocError, Global};
 
@@ -60,8 +61,9 @@ pub enum Input {
 }
 
 // The line of the bytes of a range.
+#[tactic(auto, using(crate::proofs::Writing::written_as, crate::proofs::Writing::nothing_written))]
 fn wrote_text(alloc: Global, engine: &Engine, addr: u32, len: u32) -> Result<Vec<u8>, AllocError>
-    ensures { IfOk result (λ v. v.items ≡ wrote_text engine.now addr len) }
+    ensures { IfOk result (λ v. AreRecords v.items (wrote_lines engine.now addr len)) }
 {
     let mut bytes = vec![in alloc; 0u8; len as usize]?;
     match engine.read_range(addr, bytes.as_mut_slice()) {
@@ -71,6 +73,7 @@ fn wrote_text(alloc: Global, engine: &Engine, addr: u32, len: u32) -> Result<Vec
 }
 
 // The lines of the last exits of the journal.
+#[tactic(auto, using(crate::proofs::Writing::written_as, crate::proofs::Writing::nothing_written))]
 fn last_lefts(
     alloc: Global,
     engine: &Engine,
@@ -78,7 +81,7 @@ fn last_lefts(
     code: u32,
 ) -> Result<Vec<u8>, AllocError>
     requires { code < 256 }
-    ensures { IfOk result (λ v. v.items ≡ last_lefts engine.now count code) }
+    ensures { IfOk result (λ v. AreRecords v.items (left_lines engine.now count code)) }
 {
     let entries = engine.entries();
     let last = &entries[entries.len().saturating_sub(count)..];
@@ -86,6 +89,7 @@ fn last_lefts(
 }
 
 // The lines of a turn of a hart, which was at pc before.
+#[tactic(auto, using(crate::proofs::Writing::written_as, crate::proofs::Writing::nothing_written))]
 fn turned_text(
     alloc: Global,
     engine: &Engine,
@@ -94,7 +98,7 @@ fn turned_text(
     pc: u32,
 ) -> Result<Vec<u8>, AllocError>
     requires { IsTurned turned }
-    ensures { IfOk result (λ v. v.items ≡ turned_text engine.now turned hart pc) }
+    ensures { IfOk result (λ v. AreRecords v.items (turned_lines engine.now turned hart pc)) }
 {
     match turned {
         Turned::Over
@@ -114,11 +118,25 @@ fn turned_text(
         Turned::Interrupted => interrupt_text(alloc, hart, &engine.frame(pc)?),
         Turned::Stepped => stepped_text(alloc, hart, &engine.frame(pc)?),
         Turned::Finished => finished_text(alloc, hart, &engine.frame(pc)?),
+        Turned::Triggered(fired) => trigger_text(
+            alloc,
+            engine.watches(),
+            fired,
+            hart,
+            &engine.frame(pc)?,
+        ),
         Turned::Arrived {
             number,
             temporary,
             error,
-        } => break_text(alloc, temporary, number, error, hart, &engine.frame(pc)?),
+        } => {
+            let hit = Hit {
+                number,
+                temporary,
+                error,
+            };
+            break_text(alloc, hit, hart, &engine.frame(pc)?)
+        }
     }
 }
 

@@ -1,8 +1,9 @@
 use Rattle.std.proofs.Common.{◌∙◌, take, refl, rules}
 use Rattle.std.specs.Prelude.{true, false}
 use Rattle.dbg_session.specs.Stage.{stage_of}
-use Rattle.mi_reports.specs.Replies.{reply_text}
+use Rattle.mi_reports.specs.Replies.{reply_lines}
 use Rattle.dbg_session.proofs.Saying.{does_say}
+use Rattle.dbg_session.proofs.Writing.{written_as}
 use Rattle.dbg_session.proofs.Doing.{does_line, keeps, says_as, must_wait, stands}
 use Rattle.dbg_session.proofs.steps.line_once.Goals as goal
 
@@ -19,7 +20,7 @@ returns-in_default-reply_text-clause-does g c =
     let line = take c.in-Some.text c.args.rest.now in
     let d = does_say e s line c.in-Ok-command.reply c.requires.facts c.in-Ok-command.ensures.facts c.in-Ok-command.ensures.does in
     let n = c.in-Some.ensures in (
-      keeps (g.W.World.told c.args.world.now) (stage_of e) (stage_of s) (reply_text c.in-Ok-command.reply) d.said,
+      keeps (g.W.World.told c.args.world.now) (stage_of e) (stage_of s) (reply_lines c.in-Ok-command.reply) d.said,
       does_line c.args.ended c.args.rest.now line c.in-Some.next e s c.in-Ok-command.reply n.next n.takes n.within c.if-must_wait.ensures d,
     )
 
@@ -31,7 +32,7 @@ returns-then-put_all-clause-does g c =
     let line = take c.in-Some.text c.args.rest.now in
     let d = does_say e s line c.in-Ok-command.reply c.requires.facts c.in-Ok-command.ensures.facts c.in-Ok-command.ensures.does in
     let n = c.in-Some.ensures in (
-      says_as true (told c.args.world.now) (told c.put_all.new.world) (stage_of e) (stage_of s) (reply_text c.in-Ok-command.reply) c.as_slice.result.now (c.as_slice.ensures.value ∙ c.in-Ok-reply_text.ensures) d.said c.if-put_all.ensures,
+      says_as true (told c.args.world.now) (told c.put_all.new.world) (stage_of e) (stage_of s) (reply_lines c.in-Ok-command.reply) c.as_slice.result.now (written_as _ c.as_slice.result.now _ (c.as_slice.ensures.value ∙ c.in-Ok-reply_text.ensures.written) c.in-Ok-reply_text.ensures.grammar) d.said c.if-put_all.ensures,
       does_line c.args.ended c.args.rest.now line c.in-Some.next e s c.in-Ok-command.reply n.next n.takes n.within c.if-must_wait.ensures d,
     )
 
@@ -43,7 +44,7 @@ returns-clause-does g c =
     let line = take c.in-Some.text c.args.rest.now in
     let d = does_say e s line c.in-Ok-command.reply c.requires.facts c.in-Ok-command.ensures.facts c.in-Ok-command.ensures.does in
     let n = c.in-Some.ensures in (
-      says_as false (told c.args.world.now) (told c.put_all.new.world) (stage_of e) (stage_of s) (reply_text c.in-Ok-command.reply) c.as_slice.result.now (c.as_slice.ensures.value ∙ c.in-Ok-reply_text.ensures) d.said c.if-put_all.ensures,
+      says_as false (told c.args.world.now) (told c.put_all.new.world) (stage_of e) (stage_of s) (reply_lines c.in-Ok-command.reply) c.as_slice.result.now (written_as _ c.as_slice.result.now _ (c.as_slice.ensures.value ∙ c.in-Ok-reply_text.ensures.written) c.in-Ok-reply_text.ensures.grammar) d.said c.if-put_all.ensures,
       does_line c.args.ended c.args.rest.now line c.in-Some.next e s c.in-Ok-command.reply n.next n.takes n.within c.if-must_wait.ensures d,
     )
 

@@ -1,10 +1,11 @@
-use Rattle.std.proofs.Common.{◌∙◌, refl}
+use Rattle.std.proofs.Common.{refl}
 use Rattle.std.specs.Prelude.{true, false}
 use mathlib.Core.Logic.{inr}
 use Rattle.dbg_session.specs.Stage.{stage_of}
-use Rattle.dbg_session.specs.Turned.{turned_text}
+use Rattle.dbg_session.specs.Turned.{turned_lines}
 use Rattle.dbg_session.proofs.Saying.{moved, stood}
 use Rattle.dbg_session.proofs.Doing.{keeps, says_as}
+use Rattle.dbg_session.proofs.Writing.{written_as}
 use Rattle.dbg_session.proofs.steps.turn_once.Goals as goal
 
 pub returns-then-not-has_moved-clause-turns : goal.returns-then-not-has_moved-clause-turns
@@ -21,7 +22,7 @@ returns-in_default-clause-turns g c =
     let e = c.args.engine.now in
     let s = c.turn-turned.new.self in
     let d = moved c.turn-turned.result e c.reserve_journal.new.self s c.args.hart c.pc-pc.result c.reserve_journal.ensures.same c.requires.facts c.turn-turned.ensures.facts c.requires.hart c.pc-pc.ensures c.if-not-has_moved.ensures c.turn-turned.ensures.turns in
-    (keeps (g.W.World.told c.args.world.now) (stage_of e) (stage_of s) (turned_text s c.turn-turned.result c.args.hart c.pc-pc.result) d.said, inr d.move)
+    (keeps (g.W.World.told c.args.world.now) (stage_of e) (stage_of s) (turned_lines s c.turn-turned.result c.args.hart c.pc-pc.result) d.said, inr d.move)
 
 pub returns-then-put_all-clause-goes : goal.returns-then-put_all-clause-goes
 returns-then-put_all-clause-goes g c =
@@ -33,7 +34,7 @@ returns-then-put_all-clause-turns g c =
     let e = c.args.engine.now in
     let s = c.turn-turned.new.self in
     let d = moved c.turn-turned.result e c.reserve_journal.new.self s c.args.hart c.pc-pc.result c.reserve_journal.ensures.same c.requires.facts c.turn-turned.ensures.facts c.requires.hart c.pc-pc.ensures c.if-not-has_moved.ensures c.turn-turned.ensures.turns in
-    (says_as true (told c.args.world.now) (told c.put_all.new.world) (stage_of e) (stage_of s) (turned_text s c.turn-turned.result c.args.hart c.pc-pc.result) c.as_slice.result.now (c.as_slice.ensures.value ∙ c.in-Ok.ensures) d.said c.if-put_all.ensures, d.move)
+    (says_as true (told c.args.world.now) (told c.put_all.new.world) (stage_of e) (stage_of s) (turned_lines s c.turn-turned.result c.args.hart c.pc-pc.result) c.as_slice.result.now (written_as _ c.as_slice.result.now _ c.as_slice.ensures.value c.in-Ok.ensures) d.said c.if-put_all.ensures, d.move)
 
 pub returns-clause-goes : goal.returns-clause-goes
 returns-clause-goes g c =
@@ -45,7 +46,7 @@ returns-clause-turns g c =
     let e = c.args.engine.now in
     let s = c.turn-turned.new.self in
     let d = moved c.turn-turned.result e c.reserve_journal.new.self s c.args.hart c.pc-pc.result c.reserve_journal.ensures.same c.requires.facts c.turn-turned.ensures.facts c.requires.hart c.pc-pc.ensures c.if-not-has_moved.ensures c.turn-turned.ensures.turns in
-    (says_as false (told c.args.world.now) (told c.put_all.new.world) (stage_of e) (stage_of s) (turned_text s c.turn-turned.result c.args.hart c.pc-pc.result) c.as_slice.result.now (c.as_slice.ensures.value ∙ c.in-Ok.ensures) d.said c.if-put_all.ensures, d.move)
+    (says_as false (told c.args.world.now) (told c.put_all.new.world) (stage_of e) (stage_of s) (turned_lines s c.turn-turned.result c.args.hart c.pc-pc.result) c.as_slice.result.now (written_as _ c.as_slice.result.now _ c.as_slice.ensures.value c.in-Ok.ensures) d.said c.if-put_all.ensures, d.move)
 
 pub returns-then-put_all-clause-less : goal.returns-then-put_all-clause-less
 returns-then-put_all-clause-less g c =

@@ -9,6 +9,7 @@ use Rattle.dbg_session.specs.Round.{Moved, moment}
 use Rattle.dbg_session.proofs.Doing.{minds_same}
 use Rattle.dbg_session.proofs.Tying.{counted_same}
 use Rattle.dbg_session.proofs.Several.{ran_on, standing}
+use Rattle.dbg_engine.proofs.Quiet.{turned_quiet}
 use Rattle.dbg_session.proofs.session.Session.run_hart.Goals as goal
 
 pub invariant_of-self-then-count-gt0 : goal.invariant_of-self-then-count-gt0
@@ -21,7 +22,7 @@ invariant_of-self-then-count-gt0 g c =
     let none : c.self.inside.status ≡ None = ap (λ (s : Seen g.row.W.Denot). s.status) c.self.view_is ∙ c.requires.going in
     let h : IsTied None (told c.self.inside.world) (stage_of e) (taken_of c.self.inside) = rw (← none) c.self.invariant.0 in
     let few = rw none at c.self.invariant.2 in
-    let k = ran_on c.run-count.result p e c.reserve_journal.new.self s c.args.hart o c.reserve_journal.ensures.same (omega arith) c.self.invariant.4 c.run-count.ensures.facts (record { tied = h }) c.run-count.ensures.turns c.over-self-inside.ensures in (
+    let k = ran_on c.run-count.result p e c.reserve_journal.new.self s c.args.hart o c.reserve_journal.ensures.same (omega arith) c.self.invariant.4 c.run-count.ensures.facts (record { tied = h }) (turned_quiet c.run-count.result c.reserve_journal.new.self s c.args.hart c.run-count.ensures.turns) c.over-self-inside.ensures in (
       k.holds.tied,
       c.self.invariant.1,
       counted_same o (stage_of s) c.self.inside.count few c.over-self-inside.ensures,
@@ -38,7 +39,7 @@ returns-then-count-gt0-clause-same g c =
     let p = moment told (seen_of c.self.inside) in
     let none : c.self.inside.status ≡ None = ap (λ (s : Seen g.row.W.Denot). s.status) c.self.view_is ∙ c.requires.going in
     let h : IsTied None (told c.self.inside.world) (stage_of e) (taken_of c.self.inside) = rw (← none) c.self.invariant.0 in
-    let k = ran_on c.run-count.result p e c.reserve_journal.new.self s c.args.hart o c.reserve_journal.ensures.same (omega arith) c.self.invariant.4 c.run-count.ensures.facts (record { tied = h }) c.run-count.ensures.turns c.over-self-inside.ensures in
+    let k = ran_on c.run-count.result p e c.reserve_journal.new.self s c.args.hart o c.reserve_journal.ensures.same (omega arith) c.self.invariant.4 c.run-count.ensures.facts (record { tied = h }) (turned_quiet c.run-count.result c.reserve_journal.new.self s c.args.hart c.run-count.ensures.turns) c.over-self-inside.ensures in
     let P : Seen g.row.W.Denot → Type 0 = λ u. length s.minds ≡ length u.run.minds in
     subst P c.self.view_is (minds_same e s c.self.invariant.4 c.run-count.ensures.facts k.opening)
 
@@ -51,7 +52,7 @@ returns-then-count-gt0-clause-opening g c =
     let p = moment told (seen_of c.self.inside) in
     let none : c.self.inside.status ≡ None = ap (λ (s : Seen g.row.W.Denot). s.status) c.self.view_is ∙ c.requires.going in
     let h : IsTied None (told c.self.inside.world) (stage_of e) (taken_of c.self.inside) = rw (← none) c.self.invariant.0 in
-    let k = ran_on c.run-count.result p e c.reserve_journal.new.self s c.args.hart o c.reserve_journal.ensures.same (omega arith) c.self.invariant.4 c.run-count.ensures.facts (record { tied = h }) c.run-count.ensures.turns c.over-self-inside.ensures in
+    let k = ran_on c.run-count.result p e c.reserve_journal.new.self s c.args.hart o c.reserve_journal.ensures.same (omega arith) c.self.invariant.4 c.run-count.ensures.facts (record { tied = h }) (turned_quiet c.run-count.result c.reserve_journal.new.self s c.args.hart c.run-count.ensures.turns) c.over-self-inside.ensures in
     let P : Seen g.row.W.Denot → Type 0 = λ u. s.opening ≡ u.run.opening in
     subst P c.self.view_is k.opening
 
@@ -65,7 +66,7 @@ returns-then-count-gt0-clause-moved g c =
     let p = moment told (seen_of c.self.inside) in
     let none : c.self.inside.status ≡ None = ap (λ (s : Seen g.row.W.Denot). s.status) c.self.view_is ∙ c.requires.going in
     let h : IsTied None (told c.self.inside.world) (stage_of e) (taken_of c.self.inside) = rw (← none) c.self.invariant.0 in
-    let k = ran_on n p e c.reserve_journal.new.self s c.args.hart o c.reserve_journal.ensures.same (omega arith) c.self.invariant.4 c.run-count.ensures.facts (record { tied = h }) c.run-count.ensures.turns c.over-self-inside.ensures in
+    let k = ran_on n p e c.reserve_journal.new.self s c.args.hart o c.reserve_journal.ensures.same (omega arith) c.self.invariant.4 c.run-count.ensures.facts (record { tied = h }) (turned_quiet c.run-count.result c.reserve_journal.new.self s c.args.hart c.run-count.ensures.turns) c.over-self-inside.ensures in
     let P : Option Status → Type 0 = λ t. Moved n c.args.hart (record p { status = t }) (standing p s o) in
     let Q : Seen g.row.W.Denot → Type 0 = λ u. Moved n c.args.hart (moment told u) (standing p s o) in
     subst Q c.self.view_is (subst P (sym none) k.moved)
@@ -79,7 +80,7 @@ returns-then-count-gt0-clause-less g c =
     let p = moment told (seen_of c.self.inside) in
     let none : c.self.inside.status ≡ None = ap (λ (s : Seen g.row.W.Denot). s.status) c.self.view_is ∙ c.requires.going in
     let h : IsTied None (told c.self.inside.world) (stage_of e) (taken_of c.self.inside) = rw (← none) c.self.invariant.0 in
-    let k = ran_on c.run-count.result p e c.reserve_journal.new.self s c.args.hart o c.reserve_journal.ensures.same (omega arith) c.self.invariant.4 c.run-count.ensures.facts (record { tied = h }) c.run-count.ensures.turns c.over-self-inside.ensures in
+    let k = ran_on c.run-count.result p e c.reserve_journal.new.self s c.args.hart o c.reserve_journal.ensures.same (omega arith) c.self.invariant.4 c.run-count.ensures.facts (record { tied = h }) (turned_quiet c.run-count.result c.reserve_journal.new.self s c.args.hart c.run-count.ensures.turns) c.over-self-inside.ensures in
     let P : Option Status → Type 0 = λ t. session_work o (stage_of s) (taken_of c.self.inside) < session_work t (stage_of e) (taken_of c.self.inside) in
     let Q : Seen g.row.W.Denot → Type 0 = λ u. session_work o (stage_of s) (taken_of c.self.inside) < session_work u.status u.run u.input in
     λ _. subst Q c.self.view_is (subst P (sym none) k.less)

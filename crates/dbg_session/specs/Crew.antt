@@ -1,0 +1,96 @@
+-- What the duties of a session are, and what becomes of the jobs that they give: this project's own rules.
+use Rattle.std.specs.Prelude.{◌≡◌, ◌⊎◌, ◌≤◌, ℕ, zero, suc, ◌&&◌, nat_lt, Bool, true, false, List, slice_set, Option, None, Some, is_none, is_some}
+use Rattle.rv_exec.specs.Registers.{Registers}
+use Rattle.reg_slices.specs.declared.slice.Job.{Job}
+use Rattle.reg_slices.specs.declared.slice.Slice.{Slice}
+use Rattle.reg_slices.specs.Slices.{SliceOf}
+use Rattle.hart_workers.specs.declared.crew.Duty.{Duty}
+use Rattle.hart_workers.specs.declared.crew.Duty.TheVariants as duties
+use Rattle.dbg_engine.specs.Several.{lengthened_by}
+use Rattle.dbg_engine.specs.Slicing.{gives_job_in, IsJobIn, CanTakeIn}
+use Rattle.dbg_engine.specs.Steps.{NoneOut}
+use Rattle.dbg_session.specs.Stage.{Stage}
+use Rattle.dbg_session.specs.Round.{Moment, Moved, Round}
+use Rattle.dbg_session.specs.declared.status.Status.TheVariants as status
+
+-- whether a hart gives a job
+abbrev pub gives_job : Stage → ℕ → Bool
+gives_job r h = gives_job_in r.opening r.state r.minds r.hold h
+
+-- whether the hart that was picked in a round gives a job when the round is over
+abbrev pub has_job : Option ℕ → Moment → Bool
+has_job None q = false
+has_job (Some h) q = is_none q.status && gives_job q.run h
+
+-- a job is of its hart as that stands
+abbrev pub IsJobOf : Stage → Job → Type 0
+IsJobOf r job = IsJobIn r.opening r.state r.text job.hart job
+
+-- whether the job of a hart is out is noted
+abbrev pub marked : Moment → ℕ → Bool → Moment
+marked p h mark = record p { out = slice_set p.out h mark }
+
+-- the job of the hart that was picked is handed out, where that gives one, and it is out from then on
+abbrev pub HandsOut : Option ℕ → Option Job → Moment → Moment → Type 0
+HandsOut pick None p q = (has_job pick p ≡ false) × (q ≡ p)
+HandsOut pick (Some job) p q = (has_job pick p ≡ true) × (pick ≡ Some job.hart) × IsJobOf p.run job × (q ≡ marked p job.hart true)
+
+-- a round, and then what is handed out of the hart that was picked in it
+pub record Goes (job : Option Job) (p q : Moment) : Type 0 where
+  pub going : p.status ≡ None
+  pub pick : Option ℕ
+  pub between : Moment
+  pub round : Round pick p between
+  pub hands : HandsOut pick job between q
+
+-- One duty: it is over where the status was set when it began.
+abbrev pub Duties : Duty Job → Moment → Moment → Type 0
+Duties duties.Over p q = (is_some p.status ≡ true) × (q ≡ p)
+Duties duties.Again p q = Goes None p q
+Duties (duties.Job job) p q = Goes (Some job) p q
+
+-- a slice is the work of a job, as far as the job goes
+pub record IsWorkOf (job : Job) (slice : Slice) : Type 0 where
+  pub hart : slice.hart ≡ job.hart
+  pub regs : slice.regs ≡ job.regs
+  pub at : slice.at ≡ job.at
+  pub words : slice.words ≡ job.words
+  pub limit : slice.count ≤ job.limit
+  pub greatest : (n : ℕ) (r : Registers) → n ≤ job.limit → SliceOf job.regs job.at job.words.items n r → n ≤ slice.count
+
+abbrev pub CanTake : Stage → Slice → Type 0
+CanTake r slice = CanTakeIn r.opening r.state r.minds r.hold r.text slice
+
+-- the instructions of a slice become moves of its hart, and no line is put
+pub record Commits (slice : Slice) (p q : Moment) : Type 0 where
+  pub can : CanTake p.run slice
+  pub moved : Moved slice.count slice.hart p q
+  pub journal : q.run.journal ≡ lengthened_by slice.count p.run.journal slice.hart
+  pub told : q.told ≡ p.told
+
+-- it is forgotten, since it can't be taken any more
+pub record Forgets (slice : Slice) (p q : Moment) : Type 0 where
+  pub stale : CanTake p.run slice → ⊥
+  pub is : q ≡ p
+
+-- A slice of at least one instruction is committed or forgotten in a session that goes on, unless memory runs out. Any other
+-- is forgotten.
+abbrev pub TakesBy : Bool → Slice → Moment → Moment → Type 0
+TakesBy true slice p q = Commits slice p q ⊎ (Forgets slice p q ⊎ (q ≡ record p { status = Some status.NoMemory }))
+TakesBy false slice p q = q ≡ p
+
+-- what was made of a job is taken back: no job of its hart is out any more
+abbrev pub TakesBack : Slice → Moment → Moment → Type 0
+TakesBack slice p q = TakesBy (is_none p.status && nat_lt 0 slice.count) slice (marked p slice.hart false) q
+
+-- so many rounds, one after the other, in a session that goes on before each
+abbrev pub Rounds : ℕ → Moment → Moment → Type 0
+Rounds zero p q = q ≡ p
+Rounds (suc n) p q = (m : Moment) × Rounds n p m × (m.status ≡ None) × ((pick : Option ℕ) × Round pick m q)
+
+-- the session forgets whose jobs are out, and goes so many rounds, in which no job is given
+pub record ServesAlone (p q : Moment) : Type 0 where
+  pub out : List Bool
+  pub none : NoneOut out
+  pub count : ℕ
+  pub rounds : Rounds count (record p { out = out }) q

@@ -1,0 +1,158 @@
+// A session as a crew: its duties are rounds, its jobs the slices of harts.
+ghost use Rattle.std.specs.Prelude.{◌≡◌, ◌≢◌, ◌<◌, ◌≤◌, ◌↔◌, ◌&&◌, true, false, None, IfSome, is_none, is_some, nat_lt, slice_set};
+ghost use Rattle.dbg_engine.specs.Steps.{NoneOut};
+ghost use Rattle.dbg_session.specs.Crew.{Duties, HandsOut, IsWorkOf, ServesAlone, TakesBack, TakesBy};
+ghost use Rattle.dbg_session.specs.Round.{moment};
+ghost use Rattle.dbg_session.specs.Seen.{work};
+
+use super::{HARTS, Session};
+use crate::Status;
+use crate::ending::over;
+use dbg_engine::{Commit, SPARE};
+use dbg_traits::World;
+use hart_workers::{Crew, Duty};
+use reg_slices::{Job, Slice, run_slice};
+
+// Clears the mark of a hart, if it has one.
+fn clear(marks: &mut [bool], hart: u32)
+    ensures { marks.new ≡ slice_set marks.old hart false }
+{
+    if (hart as usize) < marks.len() {
+        marks[hart as usize] = false;
+    }
+}
+
+impl<W: World> Session<W> {
+    /// The number of workers, 0 to 16.
+    pub fn workers(&self) -> u32
+        ensures value { result ≡ self.now.run.opening.settings.workers }
+        ensures most { result ≤ 16 }
+    {
+        self.engine.settings().workers
+    }
+
+    // The job of the hart that was picked, where the session goes on and the hart gives one. It is out from then on.
+    fn hand_out(&mut self, picked: Option<u32>) -> Option<Job>
+        requires { IfSome picked (λ h. h < self.old.run.opening.settings.harts) }
+        ensures { HandsOut picked result (moment W.told self.old) (moment W.told self.new) }
+    {
+        let hart = picked?;
+        if self.status.is_some() {
+            return None;
+        }
+        let job = self.engine.check_out(hart)?;
+        self.out[hart as usize] = true;
+        Some(job)
+    }
+
+    // Commits a slice in a session that goes on, if it can be taken still.
+    fn commit(&mut self, slice: &Slice)
+        requires going { self.old.status ≡ None }
+        requires some { 1 ≤ slice.now.count }
+        ensures opening { self.new.run.opening ≡ self.old.run.opening }
+        ensures takes { TakesBy true slice.now (moment W.told self.old) (moment W.told self.new) }
+        ensures less { work self.new ≤ work self.old }
+    {
+        if self.engine.reserve_journal(SPARE).is_err() {
+            self.status = Some(Status::NoMemory);
+            return;
+        }
+        match self.engine.commit(slice) {
+            Commit::Took => self.status = over(&self.engine, self.count),
+            Commit::Stale => {}
+        }
+    }
+
+    // Commits a slice of at least one instruction where the session goes on.
+    fn bring(&mut self, slice: &Slice)
+        ensures opening { self.new.run.opening ≡ self.old.run.opening }
+        ensures takes { TakesBy (is_none self.old.status && nat_lt 0 slice.now.count) slice.now (moment W.told self.old) (moment W.told self.new) }
+        ensures less { work self.new ≤ work self.old }
+    {
+        if self.status.is_some() {
+            return;
+        }
+        if slice.count == 0 {
+            return;
+        }
+        self.commit(slice);
+    }
+
+    /// Forgets whose jobs are out, and goes rounds until the status is set. It gives no job: what a slice would execute comes
+    /// in the next round of its hart, in place.
+    pub fn run_serial(&mut self)
+        ensures over { self.new.status ≢ None }
+        ensures opening { self.new.run.opening ≡ self.old.run.opening }
+        ensures serves { ServesAlone (moment W.told self.old) (moment W.told self.new) }
+    {
+        self.out = [false; HARTS];
+        while self.status.is_none() {
+            self.go_round();
+        }
+    }
+}
+
+impl<W: World> Crew for Session<W> {
+    type Job = Job;
+
+    type Done = Slice;
+
+    ghost is_over = { λ s. is_some s.status };
+
+    /// A round, where the status isn't set, and then a job of the hart that was picked, if it gives one.
+    fn duty(&mut self, _worker: u32) -> Duty<Job>
+        ensures over { (result ≡ Duty.Over) ↔ (is_some self.old.status ≡ true) }
+        ensures stays { result ≡ Duty.Over → self.new ≡ self.old }
+        ensures opening { self.new.run.opening ≡ self.old.run.opening }
+        ensures duties { Duties result (moment W.told self.old) (moment W.told self.new) }
+        ensures less { self.old.status ≡ None → NoneOut self.old.out → work self.new < work self.old }
+    {
+        if self.status.is_some() {
+            return Duty::Over;
+        }
+        let picked = self.go_round();
+        match self.hand_out(picked) {
+            Some(job) => Duty::Job(job),
+            None => Duty::Again,
+        }
+    }
+
+    fn hart_of(job: &Job) -> u32
+        ensures { result ≡ job.now.hart }
+    {
+        job.hart
+    }
+
+    /// The slice of the job that has the greatest count.
+    fn work(job: Job) -> Slice
+        ensures { IsWorkOf job result }
+    {
+        run_slice(job)
+    }
+
+    /// The slice's hart has no job out any more. Where the status isn't set the slice's instructions, if there are any, are
+    /// done in one, and no line is put. A slice that can't be taken any more is forgotten.
+    fn take(&mut self, slice: Slice)
+        ensures opening { self.new.run.opening ≡ self.old.run.opening }
+        ensures takes { TakesBack slice (moment W.told self.old) (moment W.told self.new) }
+        ensures less { work self.new ≤ work self.old }
+    {
+        clear(&mut self.out, slice.hart);
+        self.bring(&slice);
+        let Slice {
+            hart: _,
+            regs: _,
+            at: _,
+            words: _,
+            count: _,
+            after: _,
+        } = slice;
+    }
+
+    /// Whether the status is set.
+    fn over(&self) -> bool
+        ensures { result ≡ is_some self.now.status }
+    {
+        self.status.is_some()
+    }
+}
