@@ -3,11 +3,13 @@
 
 mod again;
 mod feed;
+mod gate;
 mod reader;
 mod world;
 
 use dbg_session::{Ended, Status, debug_run};
-use dbg_traits::{ArgText, NoMemory, OpenGate};
+use dbg_traits::{ArgText, NoMemory};
+use gate::RestingGate;
 use reader::{Shared, pump};
 use std::io::ErrorKind;
 use std::process::ExitCode;
@@ -58,6 +60,6 @@ fn main(rt: HostRuntime) -> ExitCode {
         status,
         world: _,
         closed: _,
-    } = debug_run(&rt, alloc, world, &OpenGate);
+    } = debug_run(&rt, alloc, world, &RestingGate::new(&rt));
     ExitCode::from(status.number())
 }
