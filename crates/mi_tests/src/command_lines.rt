@@ -49,6 +49,15 @@ fn of_command(alloc: Global, command: &Command) -> Result<String, Fail> {
             let expression = text_of(expression.as_slice());
             Ok(format!(in alloc; "evaluate {thread:?} {expression}")?)
         }
+        Command::SetRegister {
+            thread,
+            name,
+            register,
+            value,
+        } => {
+            let name = text_of(name.as_slice());
+            Ok(format!(in alloc; "set {thread:?} {name} {register} {value}")?)
+        }
         _ => Ok(format!(in alloc; "{command:?}")?),
     }
 }
@@ -199,6 +208,45 @@ const VALUES: [(&str, &str); 14] = [
 #[test]
 fn commands_of_values_and_settings_are_read(rt: HostRuntime) -> Result<(), Fail> {
     check(&rt, rt.alloc(), &VALUES)
+}
+
+/// Commands that write, and lines that are almost such.
+const WRITES: [(&str, &str); 18] = [
+    ("-gdb-set $a0=9", ":set None a0 10 9"),
+    ("-gdb-set --thread 2 $pc=0x10", ":set Some(2) pc 32 16"),
+    ("-gdb-set \"$fp=1\"", ":set None fp 8 1"),
+    (
+        "-data-write-memory-bytes 0x10 0aFf",
+        ":WriteMemory { address: 16, bytes: ByteList { bytes: [10, 255] } }",
+    ),
+    (
+        "-data-write-memory-bytes 16 0102 5",
+        ":WriteMemory { address: 16, bytes: ByteList { bytes: [1, 2, 1, 2, 1] } }",
+    ),
+    (
+        "-data-write-memory-bytes 16 010203 1",
+        ":WriteMemory { address: 16, bytes: ByteList { bytes: [1] } }",
+    ),
+    ("-gdb-set $a0", ":5 None gdb-set"),
+    ("-gdb-set --thread 1 non-stop on", ":5 None gdb-set"),
+    ("-gdb-set $a0=1=2", ":6 None 1=2"),
+    ("-gdb-set $a0=", ":6 None "),
+    ("-gdb-set $y=x", ":6 None x"),
+    ("-gdb-set $y=1", ":7 None "),
+    ("-gdb-set $a0=1 2", ":7 None "),
+    (
+        "-data-write-memory-bytes 16",
+        ":5 None data-write-memory-bytes",
+    ),
+    ("-data-write-memory-bytes 16 012", ":6 None 012"),
+    ("-data-write-memory-bytes 16 0g 4097", ":6 None 0g"),
+    ("-data-write-memory-bytes 16 00 4097", ":6 None 4097"),
+    ("-data-write-memory-bytes 16 \"\"", ":6 None "),
+];
+
+#[test]
+fn commands_that_write_are_read(rt: HostRuntime) -> Result<(), Fail> {
+    check(&rt, rt.alloc(), &WRITES)
 }
 
 /// Lines that are no commands, by the numbers of their messages.

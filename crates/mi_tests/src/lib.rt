@@ -4,6 +4,8 @@
 #[cfg(test)]
 mod command_lines;
 #[cfg(test)]
+mod error_lines;
+#[cfg(test)]
 mod input_lines;
 #[cfg(test)]
 mod records;

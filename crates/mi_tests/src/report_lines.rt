@@ -1,10 +1,9 @@
-use crate::shown::{Known, bytes, frame, source};
-use cond_expr::{ExprFault, FaultKind};
+use crate::shown::{Known, bytes, frame, read_and_written, source};
 use dbg_model::{
-    Breakpoint, BreakpointList, Content, FrameList, Obstacle, Refused, Register, RegisterList,
-    Reply, Thread, ThreadList,
+    Breakpoint, Content, FrameList, Register, RegisterList, Reply, Row, RowList, Thread,
+    ThreadList, Watch,
 };
-use mi_commands::{ByteList, Displaced, Fault, Format, NumberList};
+use mi_commands::{Displaced, Format, NumberList};
 use mi_reports::reply_text;
 use mi_values::{Token, is_token};
 use std::alloc::Global;
@@ -17,8 +16,8 @@ fn token(rt: &impl Abort, alloc: Global, digits: &str) -> Result<Token, Fail> {
     Ok(Token::new(digits))
 }
 
-// Compares the lines of a reply.
-fn check(
+/// Compares the lines of a reply.
+pub fn check(
     rt: &impl Abort,
     alloc: Global,
     digits: &str,
@@ -31,130 +30,7 @@ fn check(
     };
     let text = reply_text(alloc, &reply)?;
     assert_eq!(rt; str::from_utf8(&text).unwrap_or("no text"), want);
-    Ok(())
-}
-
-// What stands against a command, by the number of its message.
-fn obstacle(number: u32) -> Obstacle {
-    let fault = |kind, at| Obstacle::Expression(ExprFault { kind, at });
-    match number {
-        8 => Obstacle::UnknownThread(17),
-        9 => Obstacle::HasExited(2),
-        10 => Obstacle::IsRunning(16),
-        11 => Obstacle::NotRunning(2),
-        12 => Obstacle::NoBreakpoint(4_294_967_295),
-        16 => Obstacle::NoInstruction(0x1_00B6),
-        17 => Obstacle::TooManyBreakpoints,
-        18 => fault(FaultKind::Long, 256),
-        19 => fault(FaultKind::Text, 0),
-        20 => fault(FaultKind::Number, 7),
-        21 => fault(FaultKind::Deep, 32),
-        22 => fault(FaultKind::Name, 10),
-        23 => Obstacle::DivisionByZero,
-        24 => Obstacle::Unreadable(0xFFFF_FFFE),
-        25 => Obstacle::NoLine(0x1_0074),
-        _ => Obstacle::NoCaller,
-    }
-}
-
-// Why a line is refused, by the number of its message.
-fn refused(number: u32, word: ByteList) -> Refused {
-    match number {
-        1 => Refused::Long,
-        2 => Refused::Syntax,
-        3 => Refused::Cli,
-        4 => Refused::Faulty(Fault::Undefined(word)),
-        5 => Refused::Faulty(Fault::Parameters(word)),
-        6 => Refused::Faulty(Fault::Number(word)),
-        7 => Refused::Faulty(Fault::Setting),
-        13 => Refused::Faulty(Fault::Location { word, thread: None }),
-        14 => Refused::UnknownName(word),
-        15 => Refused::UnknownLine {
-            file: word,
-            line: 4_294_967_295,
-        },
-        _ => Refused::Hindered(obstacle(number)),
-    }
-}
-
-/// The number of each error, the word that it repeats, and its line behind the token.
-const ERRORS: [(u32, &str, &str); 29] = [
-    (1, "", "^error,msg=\"Line is longer than 4096 bytes\"\n"),
-    (2, "", "^error,msg=\"Malformed MI line\"\n"),
-    (3, "", "^error,msg=\"Only MI commands are accepted\"\n"),
-    (
-        4,
-        "exec-run",
-        "^error,msg=\"Undefined MI command: exec-run\",code=\"undefined-command\"\n",
-    ),
-    (
-        5,
-        "exec-wait",
-        "^error,msg=\"Wrong parameters for exec-wait\"\n",
-    ),
-    (6, "0x", "^error,msg=\"Bad number: 0x\"\n"),
-    (
-        6,
-        "\"\\\t\u{7F}",
-        "^error,msg=\"Bad number: \\\"\\\\\\t\\177\"\n",
-    ),
-    (7, "", "^error,msg=\"Unsupported setting\"\n"),
-    (8, "", "^error,msg=\"Unknown thread 17\"\n"),
-    (9, "", "^error,msg=\"Thread 2 has exited\"\n"),
-    (10, "", "^error,msg=\"Thread 16 is running\"\n"),
-    (11, "", "^error,msg=\"Thread 2 is not running\"\n"),
-    (12, "", "^error,msg=\"No breakpoint number 4294967295\"\n"),
-    (13, "*x", "^error,msg=\"Bad location: *x\"\n"),
-    (14, "main", "^error,msg=\"Function main not defined\"\n"),
-    (
-        16,
-        "",
-        "^error,msg=\"No instruction at address 0x000100b6\"\n",
-    ),
-    (17, "", "^error,msg=\"Too many breakpoints\"\n"),
-    (
-        18,
-        "",
-        "^error,msg=\"Expression is longer than 256 bytes\"\n",
-    ),
-    (19, "", "^error,msg=\"Syntax error in expression at 0\"\n"),
-    (20, "", "^error,msg=\"Bad number in expression at 7\"\n"),
-    (
-        21,
-        "",
-        "^error,msg=\"Expression is nested too deeply at 32\"\n",
-    ),
-    (22, "", "^error,msg=\"No symbol in expression at 10\"\n"),
-    (23, "", "^error,msg=\"Division by zero\"\n"),
-    (
-        24,
-        "",
-        "^error,msg=\"Cannot access memory at address 0xfffffffe\"\n",
-    ),
-    (25, "", "^error,msg=\"No line information at 0x00010074\"\n"),
-    (26, "", "^error,msg=\"No caller frame\"\n"),
-    (14, "", "^error,msg=\"Function  not defined\"\n"),
-    (
-        15,
-        "count.c",
-        "^error,msg=\"No line 4294967295 in file count.c\"\n",
-    ),
-    (
-        15,
-        "a\"b\\c.c",
-        "^error,msg=\"No line 4294967295 in file a\\\"b\\\\c.c\"\n",
-    ),
-];
-
-#[test]
-fn each_error_has_its_number_and_text(rt: HostRuntime) -> Result<(), Fail> {
-    for (number, word, line) in ERRORS {
-        let refused = refused(number, bytes(rt.alloc(), word)?);
-        assert_eq!(rt; refused.number(), number);
-        let content = Content::Refused(refused);
-        let want = format!(in rt.alloc(); "17{line}(gdb)\n")?;
-        check(&rt, rt.alloc(), "17", content, want.as_str())?;
-    }
+    assert_eq!(rt; read_and_written(alloc, &text)?, text);
     Ok(())
 }
 
@@ -200,7 +76,7 @@ fn breakpoints_are_shown_with_their_parts(rt: HostRuntime) -> Result<(), Fail> {
     let whole = Content::Inserted(breakpoint(alloc, 129, true)?);
     let want = format!(in alloc; "4^done,{WHOLE}\n(gdb)\n")?;
     check(&rt, alloc, "4", whole, want.as_str())?;
-    let none = Content::Breakpoints(BreakpointList::of(Vec::new(alloc)));
+    let none = Content::Breakpoints(RowList::of(Vec::new(alloc)));
     check(
         &rt,
         alloc,
@@ -209,9 +85,9 @@ fn breakpoints_are_shown_with_their_parts(rt: HostRuntime) -> Result<(), Fail> {
         "^done,BreakpointTable={nr_rows=\"0\",body=[]}\n(gdb)\n",
     )?;
     let mut list = Vec::new(alloc);
-    list.push(breakpoint(alloc, 1, false)?)?;
-    list.push(breakpoint(alloc, 129, true)?)?;
-    let two = Content::Breakpoints(BreakpointList::of(list));
+    list.push(Row::Breakpoint(breakpoint(alloc, 1, false)?))?;
+    list.push(Row::Breakpoint(breakpoint(alloc, 129, true)?))?;
+    let two = Content::Breakpoints(RowList::of(list));
     let want = format!(in alloc;
         "^done,BreakpointTable={{nr_rows=\"2\",body=[{BARE},{WHOLE}]}}\n(gdb)\n"
     )?;
@@ -220,6 +96,46 @@ fn breakpoints_are_shown_with_their_parts(rt: HostRuntime) -> Result<(), Fail> {
     with_line.source = Some(source(alloc, 0)?);
     let want = format!(in alloc; "^done,{WITH_LINE}\n(gdb)\n")?;
     check(&rt, alloc, "", Content::Inserted(with_line), want.as_str())
+}
+
+/// A watch of four bytes, which stops harts where it is enabled.
+pub fn watch(alloc: Global, number: u32, signed: bool) -> Result<Watch, Fail> {
+    Ok(Watch {
+        number,
+        text: bytes(alloc, "{int} \"a\\")?,
+        address: 0x2_0000,
+        size: 4,
+        signed,
+        enabled: signed,
+        times: 18_446_744_073_709_551_615,
+    })
+}
+
+const FIRST_WATCH: &str =
+    "bkpt={number=\"2\",type=\"watchpoint\",disp=\"keep\",enabled=\"y\",what=\"{int} \\\"a\\\\\",times=\"18446744073709551615\"}";
+
+const LAST_WATCH: &str =
+    "bkpt={number=\"144\",type=\"watchpoint\",disp=\"keep\",enabled=\"n\",what=\"{int} \\\"a\\\\\",times=\"18446744073709551615\"}";
+
+#[test]
+fn watches_stand_among_breakpoints(rt: HostRuntime) -> Result<(), Fail> {
+    let alloc = rt.alloc();
+    let told = Content::Watching {
+        number: 4_294_967_295,
+        text: bytes(alloc, "{int} \"a\\")?,
+    };
+    let want = "31^done,wpt={number=\"4294967295\",exp=\"{int} \\\"a\\\\\"}\n(gdb)\n";
+    check(&rt, alloc, "31", told, want)?;
+    let mut list = Vec::new(alloc);
+    list.push(Row::Breakpoint(breakpoint(alloc, 1, false)?))?;
+    list.push(Row::Watch(watch(alloc, 2, true)?))?;
+    list.push(Row::Breakpoint(breakpoint(alloc, 129, true)?))?;
+    list.push(Row::Watch(watch(alloc, 144, false)?))?;
+    let four = Content::Breakpoints(RowList::of(list));
+    let want = format!(in alloc;
+        "^done,BreakpointTable={{nr_rows=\"4\",body=[{BARE},{FIRST_WATCH},{WHOLE},{LAST_WATCH}]}}\n(gdb)\n"
+    )?;
+    check(&rt, alloc, "", four, want.as_str())
 }
 
 // The registers a0 and pc.

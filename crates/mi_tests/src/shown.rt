@@ -1,6 +1,7 @@
 // Frames and lines that the tests show.
 use dbg_model::{ShownFrame, SourceLine};
 use mi_commands::ByteList;
+use mi_values::{read_line, write_line};
 use std::alloc::Global;
 use std::test::Fail;
 
@@ -38,4 +39,13 @@ pub fn frame(alloc: Global, known: Known) -> Result<ShownFrame, Fail> {
         frame.source = Some(source(alloc, 4_294_967_295)?);
     }
     Ok(frame)
+}
+
+// Reads a text line by line, and writes each line again.
+pub fn read_and_written(alloc: Global, text: &[u8]) -> Result<Vec<u8>, Fail> {
+    let mut out = Vec::new(alloc);
+    for line in text.split_inclusive(|b| *b == b'\n') {
+        write_line(&read_line(alloc, line)?, &mut out)?;
+    }
+    Ok(out)
 }

@@ -1,10 +1,11 @@
-use crate::shown::{Known, frame};
+use crate::report_lines::watch;
+use crate::shown::{Known, frame, read_and_written};
 use break_table::CondError;
-use dbg_model::{Entry, ShownFrame};
+use dbg_model::{Entry, Fired, ShownFrame, Watch};
 use elf32_read::{ElfFault, ElfKind};
 use mi_reports::{
-    USAGE, bad_file, break_text, finished_text, interrupt_text, lefts_text, opening_text,
-    stepped_text, stop_text, stream_text,
+    Hit, bad_file, break_text, finished_text, interrupt_text, lefts_text, opening_text,
+    stepped_text, stop_text, stream_text, trigger_text, usage,
 };
 use rv_exec::Cause;
 use std::alloc::Global;
@@ -67,11 +68,17 @@ fn check_stops(rt: &impl Abort, alloc: Global, frame: &ShownFrame, tail: &str) -
     let want = format!(in alloc; "*stopped,reason=\"function-finished\",{tail}")?;
     assert_eq!(rt; text.as_slice(), want.as_bytes());
     for (temporary, error, line, disposition) in BREAKS {
-        let text = break_text(alloc, temporary, 17, error, 1, frame)?;
+        let hit = Hit {
+            number: 17,
+            temporary,
+            error,
+        };
+        let text = break_text(alloc, hit, 1, frame)?;
         let want = format!(in alloc;
             "{line}*stopped,reason=\"breakpoint-hit\",disp=\"{disposition}\",bkptno=\"17\",{tail}"
         )?;
         assert_eq!(rt; text.as_slice(), want.as_bytes());
+        assert_eq!(rt; read_and_written(alloc, &text)?, text);
     }
     Ok(())
 }
@@ -81,6 +88,53 @@ fn each_stop_has_its_lines(rt: HostRuntime) -> Result<(), Fail> {
     for (known, tail) in PLACES {
         let frame = frame(rt.alloc(), known)?;
         check_stops(&rt, rt.alloc(), &frame, tail)?;
+    }
+    Ok(())
+}
+
+/// Two watches: one with a sign, and one without.
+fn watches(alloc: Global) -> Result<Vec<Watch>, Fail> {
+    let mut watches = Vec::new(alloc);
+    watches.push(watch(alloc, 3, true)?)?;
+    watches.push(watch(alloc, 17, false)?)?;
+    Ok(watches)
+}
+
+/// The number of the watch that fired, what its bytes were worth before and are since, and how that is told.
+const TRIGGERS: [(u32, u32, u32, &str); 3] = [
+    (
+        3,
+        0xFFFF_FFFF,
+        0,
+        "wpt={number=\"3\",exp=\"{int} \\\"a\\\\\"},value={old=\"-1\",new=\"0\"}",
+    ),
+    (
+        17,
+        0,
+        0xFFFF_FFFF,
+        "wpt={number=\"17\",exp=\"{int} \\\"a\\\\\"},value={old=\"0\",new=\"4294967295\"}",
+    ),
+    (
+        3,
+        0x8000_0000,
+        0x7FFF_FFFF,
+        "wpt={number=\"3\",exp=\"{int} \\\"a\\\\\"},value={old=\"-2147483648\",new=\"2147483647\"}",
+    ),
+];
+
+#[test]
+fn each_stop_by_a_watch_has_its_line(rt: HostRuntime) -> Result<(), Fail> {
+    let alloc = rt.alloc();
+    let watches = watches(alloc)?;
+    for (known, tail) in PLACES {
+        let frame = frame(alloc, known)?;
+        for (number, old, new, told) in TRIGGERS {
+            let fired = Fired { number, old, new };
+            let text = trigger_text(alloc, watches.as_slice(), fired, 1, &frame)?;
+            let want = format!(in alloc; "*stopped,reason=\"watchpoint-trigger\",{told},{tail}")?;
+            assert_eq!(rt; text.as_slice(), want.as_bytes());
+            assert_eq!(rt; read_and_written(alloc, &text)?, text);
+        }
     }
     Ok(())
 }
@@ -113,6 +167,7 @@ fn threads_are_told_as_created_and_as_exited(rt: HostRuntime) -> Result<(), Fail
         let text = lefts_text(alloc, &entries, all, code)?;
         let want = format!(in alloc; "{threads}{line}")?;
         assert_eq!(rt; text.as_slice(), want.as_bytes());
+        assert_eq!(rt; read_and_written(alloc, &text)?, text);
     }
     Ok(())
 }
@@ -135,10 +190,11 @@ const KINDS: [(ElfKind, &str); 12] = [
 #[test]
 fn words_files_and_output_have_their_lines(rt: HostRuntime) -> Result<(), Fail> {
     let alloc = rt.alloc();
-    assert_eq!(rt;
-        USAGE,
-        "^error,msg=\"usage: rvdbg [--harts N] [--workers N] [--slots N] [--budget N] [--slice N] FILE\"\n"
-    );
+    let text = usage(alloc)?;
+    let want =
+        "^error,msg=\"usage: rvdbg [--harts N] [--workers N] [--slots N] [--budget N] [--slice N] FILE\"\n";
+    assert_eq!(rt; read_and_written(alloc, &text)?, text);
+    assert_eq!(rt; text.as_slice(), want.as_bytes());
     for (kind, name) in KINDS {
         let fault = ElfFault {
             kind,
@@ -151,6 +207,7 @@ fn words_files_and_output_have_their_lines(rt: HostRuntime) -> Result<(), Fail> 
         assert_eq!(rt; text.as_slice(), want.as_bytes());
     }
     let text = stream_text(alloc, b"a\n\r\t\"\\ ~\x00\x1F\x7F\xFF")?;
+    assert_eq!(rt; read_and_written(alloc, &text)?, text);
     let want = "@\"a\\n\\r\\t\\\"\\\\ ~\\000\\037\\177\\377\"\n";
     assert_eq!(rt; text.as_slice(), want.as_bytes());
     assert!(rt; stream_text(alloc, b"")?.is_empty());

@@ -1,5 +1,5 @@
 //! Reads, polls and puts that fail, one at a time.
-use crate::worlds::{LARGE, Sizes, first_hart, program, run, shape, world_of};
+use crate::worlds::{LARGE, Sizes, first_hart, program, run, shape, stepwise_world, world_of};
 use dbg_session::Status;
 use std::test::Fail;
 
@@ -192,7 +192,7 @@ const CASES: [Case<'static>; 9] = [
     // The eighth line is the reply to the third line of the input: the hart is at its copy then, and is taken home.
     (
         &COUNTS,
-        &["--slice", "0"],
+        &[],
         &["-break-insert -i 2 -c \"1 == 2\" *0x10078\n-exec-continue\n-thread-list-ids\n"],
         LINE_8_FAILS,
         Status::WriteFault,
@@ -207,7 +207,7 @@ fn a_failure_ends_a_run_with_its_status(rt: HostRuntime) -> Result<(), Fail> {
     let alloc = rt.alloc();
     for (words, options, cues, sizes, expected, output, journal, first) in CASES {
         let file = program(&rt, alloc, words)?;
-        let world = world_of(alloc, options, file, cues, sizes)?;
+        let world = stepwise_world(alloc, options, file, cues, sizes)?;
         let (status, world, closed) = run(&rt, alloc, world);
         assert_eq!(rt; status, expected, "{cues:?}");
         assert!(rt; world.output().ends_with(output.as_bytes()), "{cues:?}");

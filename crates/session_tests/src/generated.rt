@@ -1,5 +1,5 @@
 //! Sessions over generated files, whose harts add to a counter in the function `work` of count.c.
-use crate::worlds::{LARGE, first_hart, run, shape, world_of};
+use crate::worlds::{LARGE, first_hart, run, shape, stepwise_world};
 use dbg_session::Status;
 use elf_gen::generate;
 use std::test::Fail;
@@ -57,7 +57,7 @@ fn generated_files_are_run(rt: HostRuntime) -> Result<(), Fail> {
     let alloc = rt.alloc();
     for (number, options, cues, ending, journal, first) in CASES {
         let file = generate(alloc, number)?;
-        let world = world_of(alloc, options, file, cues, LARGE)?;
+        let world = stepwise_world(alloc, options, file, cues, LARGE)?;
         let (status, world, closed) = run(&rt, alloc, world);
         assert_eq!(rt; status, Status::Done, "{cues:?}");
         assert!(rt; world.output().ends_with(ending.as_bytes()), "{cues:?}");

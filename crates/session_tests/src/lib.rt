@@ -10,4 +10,6 @@ mod limits;
 #[cfg(test)]
 mod order;
 #[cfg(test)]
+mod workers;
+#[cfg(test)]
 mod worlds;

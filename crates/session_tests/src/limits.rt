@@ -55,7 +55,13 @@ fn limits_are_met_exactly(rt: HostRuntime) -> Result<(), Fail> {
     for (length, (blanks, count, last), expected, written) in CASES {
         let mut script = Vec::new(alloc);
         script.push(Cue::Piece(blank_lines(alloc, blanks, count, last)?))?;
-        let world = scripted(alloc, &[], file_of(alloc, length)?, script, LARGE)?;
+        let world = scripted(
+            alloc,
+            &["--workers", "0"],
+            file_of(alloc, length)?,
+            script,
+            LARGE,
+        )?;
         let (status, world, _) = run(&rt, alloc, world);
         assert_eq!(rt; status, expected, "{length} {blanks} {count}");
         assert_eq!(rt; world.output().len(), written, "{length} {blanks} {count}");

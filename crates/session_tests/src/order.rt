@@ -1,5 +1,5 @@
 //! In which order lines are done and harts are moved, by the shapes of journals.
-use crate::worlds::{LARGE, first_hart, program, run, shape, world_of};
+use crate::worlds::{LARGE, first_hart, program, run, shape, stepwise_world};
 use dbg_session::Status;
 use std::test::Fail;
 
@@ -74,16 +74,16 @@ const CASES: [Case<'static>; 16] = [
     // The first two arrivals are only counted, and then the condition doesn't hold.
     (
         &COUNTS,
-        &["--budget", "10", "--slice", "0"],
+        &["--budget", "10"],
         &["-break-insert -i 2 -c \"1 == 2\" *0x10078\n-exec-continue\n"],
         Status::Budget,
         "D D 0:1 C 0:2 C 0:7 ",
         (0x1_0074, 10, 5),
     ),
-    // Input is taken beside a running hart, whichever number of workers is asked for.
+    // Input is taken beside a running hart.
     (
         &SPINS,
-        &["--workers", "0"],
+        &[],
         &[
             "-exec-continue\n",
             "-",
@@ -97,7 +97,7 @@ const CASES: [Case<'static>; 16] = [
     ),
     (
         &SPINS,
-        &["--workers", "2"],
+        &[],
         &[
             "-exec-continue\n",
             "hundred -",
@@ -198,7 +198,7 @@ fn lines_are_done_and_harts_moved_in_this_order(rt: HostRuntime) -> Result<(), F
     let alloc = rt.alloc();
     for (words, options, cues, expected, journal, first) in CASES {
         let file = program(&rt, alloc, words)?;
-        let world = world_of(alloc, options, file, cues, LARGE)?;
+        let world = stepwise_world(alloc, options, file, cues, LARGE)?;
         let (status, _, closed) = run(&rt, alloc, world);
         assert_eq!(rt; status, expected, "{cues:?}");
         assert_eq!(rt; shape(alloc, &closed)?.as_str(), journal, "{cues:?}");

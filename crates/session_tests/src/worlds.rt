@@ -95,6 +95,21 @@ pub fn world_of(
     scripted(alloc, options, file, script, sizes)
 }
 
+/// The same on one thread and without slices, so that the journal can be told from the input.
+pub fn stepwise_world(
+    alloc: Global,
+    options: &[&'static str],
+    file: Vec<u8>,
+    cues: &[&str],
+    sizes: Sizes,
+) -> Result<MemWorld, Fail>
+    ensures { IfOk result (λ w. IsFresh (told_of w)) }
+{
+    let mut words = ["--workers", "0", "--slice", "0"].to_vec(alloc)?;
+    words.extend_from_slice(options)?;
+    world_of(alloc, words.as_slice(), file, cues, sizes)
+}
+
 // An entry of the journal: a `Ran` by its hart and count, and any other by its first letter.
 fn mark(alloc: Global, entry: &Entry) -> Result<String, Fail> {
     Ok(match entry {
@@ -103,6 +118,7 @@ fn mark(alloc: Global, entry: &Entry) -> Result<String, Fail> {
         Entry::Stopped { .. } => String::from_str(alloc, "S ")?,
         Entry::Left { .. } => String::from_str(alloc, "L ")?,
         Entry::Did { .. } => String::from_str(alloc, "D ")?,
+        Entry::Poked { .. } => String::from_str(alloc, "P ")?,
     })
 }
 

@@ -1,0 +1,21 @@
+// Numbers of a line.
+
+/// A number in decimal, or behind 0x in hexadecimal.
+pub fn number(text: &str) -> Option<u32> {
+    match text.strip_prefix("0x") {
+        Some(digits) => u32::from_str_radix(digits, 16).ok(),
+        None => text.parse().ok(),
+    }
+}
+
+/// Two numbers, which a space parts.
+pub fn two(text: &str) -> Option<(u32, u32)> {
+    let (first, second) = text.split_once(' ')?;
+    Some((number(first)?, number(second)?))
+}
+
+/// A number, and what is behind the space behind it, if there is one.
+pub fn before(text: &str) -> Option<(u32, &str)> {
+    let (first, rest) = text.split_once(' ').unwrap_or((text, ""));
+    Some((number(first)?, rest))
+}

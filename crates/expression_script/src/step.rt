@@ -1,0 +1,54 @@
+// What a line asks for.
+use crate::numbers::number;
+use crate::table::TableStep;
+
+/// One thing that is done, or asked. Numbers are in decimal, or behind 0x in hexadecimal.
+#[derive(Clone, Copy)]
+pub enum Step<'a> {
+    /// `file BYTES`: the next program is that of an ELF file of these bytes, in hexadecimal.
+    File(&'a str),
+    /// `words COUNT`: the next program has so many words of text from 0x10074 on, at most 256.
+    Words(u32),
+    /// `worth TEXT`: the value of an expression, or its first fault and the fault's place. Each register holds 100 and its
+    /// number; the bytes from 4096 to 4103, and the last of all, are 128 and the low four bits of the address.
+    Worth(&'a str),
+    /// `repeat COUNT CHAR TEXT`: the same of a text behind so many equal characters, of which `_` stands for a space.
+    Repeat {
+        count: u32,
+        char: char,
+        text: &'a str,
+    },
+    /// `table HARTS`: the next table of breakpoints is over the program, and empty.
+    Table(u32),
+    /// What else is done with the table.
+    Entry(TableStep<'a>),
+}
+
+fn read_repeat(text: &str) -> Option<Step<'_>> {
+    let (count, rest) = text.split_once(' ')?;
+    let (first, text) = rest.split_once(' ')?;
+    let char = match first.chars().next()? {
+        '_' => ' ',
+        other => other,
+    };
+    Some(Step::Repeat {
+        count: number(count)?,
+        char,
+        text,
+    })
+}
+
+impl<'a> Step<'a> {
+    /// What a line asks for. None where that is nothing that is known.
+    pub fn read(line: &'a str) -> Option<Step<'a>> {
+        let (word, rest) = line.split_once(' ').unwrap_or((line, ""));
+        match word {
+            "file" => Some(Step::File(rest)),
+            "words" => Some(Step::Words(number(rest)?)),
+            "worth" => Some(Step::Worth(rest)),
+            "repeat" => read_repeat(rest),
+            "table" => Some(Step::Table(number(rest)?)),
+            _ => Some(Step::Entry(TableStep::read(word, rest)?)),
+        }
+    }
+}
