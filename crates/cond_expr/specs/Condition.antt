@@ -1,4 +1,4 @@
--- Conditions: which tree a text spells, and what parsing gives.
+-- Expressions: which tree a text spells, and what parsing gives.
 use Rattle.std.specs.Prelude.{◌≡◌, ℕ, ◌≤◌, List, length, Result, Ok, Err}
 use Rattle.elf_symbols.specs.Names.{Names}
 use Rattle.cond_expr.specs.declared.fault.ParseError.{ParseError}

@@ -1,4 +1,6 @@
--- The first token that can't stand where it stands, by what is open there. Strengths play no part.
+-- The first token that can't stand where it stands, by what is open there: a fault is at that token, or at the end of the text
+-- where something is still wanted. Strengths play no part, since no strength makes a token faulty. That a text has no fault
+-- exactly where it is a tree of the grammar is a law of the code, `accepted_is_tree`.
 use Rattle.std.specs.Prelude.{◌≡◌, ℕ, ◌+◌, List, [], ◌∷◌, Option, Some, None, Result, Ok, Err, nat_lt, if◌then◌else◌}
 use Rattle.cond_expr.specs.declared.fault.FaultKind.{FaultKind}
 use Rattle.cond_expr.specs.declared.fault.FaultKind.TheVariants.{Text, Deep}

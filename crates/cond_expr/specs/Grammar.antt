@@ -1,4 +1,5 @@
--- The grammar over tokens. Operations of strength 1 to 10 group to the left; a prefix binds more strongly than they do.
+-- The grammar over tokens (C17, 6.5.5 to 6.5.14; GDB manual, "Expressions"). Operations of strength 1 to 10 group to the left; a
+-- prefix binds more strongly than they do (C17, 6.5.3).
 use Rattle.std.specs.Prelude.{◌≡◌, ℕ, ◌+◌, ◌<◌, List, [], ◌∷◌}
 use Rattle.cond_expr.specs.declared.token.Binary.{Binary}
 use Rattle.cond_expr.specs.declared.token.Prefix.{Prefix}

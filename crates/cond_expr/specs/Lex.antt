@@ -1,5 +1,7 @@
--- The tokens of a text, each the longest that stands there, by its first byte.
-use Rattle.std.specs.Prelude.{◌≡◌, ℕ, zero, suc, ◌+◌, ◌-◌, ◌*◌, ◌^◌, List, [], ◌∷◌, length, take, drop, Bool, true, false, not, ◌==◌, ◌&&◌, ◌||◌, nat_lt, min, Option, None, Some, if◌then◌else◌, codes}
+-- The tokens of a text, each the longest that stands there, by its first byte (C17, 6.4, as far as this project's expressions
+-- have its tokens; `$` and a register's name as in the GDB manual, "Registers").
+use Rattle.std.specs.Prelude.{◌≡◌, ℕ, zero, suc, ◌+◌, ◌-◌, ◌^◌, List, [], ◌∷◌, length, map, take, drop, take_while, Bool, true, false, not, ◌==◌, ◌&&◌, ◌||◌, nat_lt, Option, None, Some, if◌then◌else◌, codes}
+use Rattle.std.specs.Int.Digits.{number_from_digits_after}
 use Rattle.std.specs.Str.{bytes_eq}
 use Rattle.std.specs.Borrow.{Bor}
 use Rattle.elf_symbols.specs.Names.{Names, Symbol, address_of}
@@ -71,18 +73,21 @@ digit_value b = if between 48 57 b then b - 48 else (if between 97 102 b then b 
 abbrev pub number_token : ℕ → Token
 number_token n = if nat_lt n (2 ^ 32) then Leaf (Number n) else Large
 
--- the number that the digits go on with; from 2 ^ 32 on it stays there
-unfoldable pub number_from : ℕ → List ℕ → ℕ → Token × List ℕ
-number_from base [] n = (number_token n, [])
-number_from base (b ∷ rest) n =
-    if nat_lt (digit_value b) base then number_from base rest (min (base * n + digit_value b) (2 ^ 32)) else (number_token n, b ∷ rest)
+abbrev pub is_digit_of : ℕ → ℕ → Bool
+is_digit_of base b = nat_lt (digit_value b) base
 
--- behind a first digit: hexadecimal behind `0x` and a digit, else decimal
+-- the number that digits spell behind those of a first number: those of the base in front, as many as stand there
+unfoldable pub number_behind : ℕ → ℕ → List ℕ → Token × List ℕ
+number_behind base n bytes =
+    let digits = take_while (is_digit_of base) bytes in
+    (number_token (number_from_digits_after base n (map digit_value digits)), drop (length digits) bytes)
+
+-- behind a first digit: hexadecimal behind `0x` and a digit, else decimal (C17, 6.4.4.1, without octal numbers and suffixes)
 abbrev pub number_at : ℕ → List ℕ → Token × List ℕ
-number_at c [] = number_from 10 [] (c - 48)
-number_at c (x ∷ []) = number_from 10 (x ∷ []) (c - 48)
+number_at c [] = number_behind 10 (c - 48) []
+number_at c (x ∷ []) = number_behind 10 (c - 48) (x ∷ [])
 number_at c (x ∷ d ∷ rest) =
-    if ((c == 48) && (x == 120)) && nat_lt (digit_value d) 16 then number_from 16 (d ∷ rest) 0 else number_from 10 (x ∷ d ∷ rest) (c - 48)
+    if ((c == 48) && (x == 120)) && is_digit_of 16 d then number_behind 16 0 (d ∷ rest) else number_behind 10 (c - 48) (x ∷ d ∷ rest)
 
 abbrev pub register_token : Option ℕ → Token
 register_token None = Unknown
@@ -126,7 +131,7 @@ type_at end bytes =
     if bytes_eq (word_of bytes) (codes "unsigned") then unsigned_at end (after_blanks (behind_word bytes))
     else typed end (signed_type (word_of bytes)) (behind_word bytes) bytes
 
--- operators and parentheses
+-- operators and parentheses (C17, 6.4.6)
 abbrev pub sign_at : ℕ → List ℕ → Token × List ℕ
 sign_at c rest =
     if c == 124 then either rest 124 (Operator OrElse) (Operator Or)

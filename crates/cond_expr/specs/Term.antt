@@ -1,4 +1,4 @@
--- The tree of a condition, without where it lies in memory.
+-- The tree of an expression, without where it lies in memory.
 use Rattle.cond_expr.specs.declared.token.Binary.{Binary}
 use Rattle.cond_expr.specs.declared.token.Prefix.{Prefix}
 use Rattle.cond_expr.specs.declared.token.Leaf.{Leaf}

@@ -1,4 +1,4 @@
--- What each token is where an operand is wanted and behind an operand, and how strongly an operation binds.
+-- What each token is where an operand is wanted and behind an operand, and how strongly an operation binds (C17, 6.5.5 to 6.5.14).
 use Rattle.std.specs.Prelude.{ℕ, Bool, true, false}
 use Rattle.cond_expr.specs.declared.fault.FaultKind.TheVariants as kinds
 use Rattle.cond_expr.specs.declared.token.Binary.{Binary}

@@ -1,5 +1,5 @@
--- What a condition's tree is worth: words of 32 bits, each int or unsigned, with C's operators (ISO C17, 6.5), arithmetic modulo 2 ^ 32.
-use Rattle.std.specs.Prelude.{ℕ, ℤ, pos, ◌+◌, ◌-◌, ◌*◌, ◌/◌, ◌%◌, ◌^◌, ◌<◌, Bool, true, false, not, ◌==◌, ◌||◌, nat_lt, nat_le, int_lt, int_div, int_rem, bit_and, bit_or, bit_xor, unsigned_abs, if◌then◌else◌, Option, None, Some}
+-- What an expression's tree is worth: words of 32 bits, each int or unsigned, with C's operators (ISO C17, 6.5), arithmetic modulo 2 ^ 32.
+use Rattle.std.specs.Prelude.{ℕ, ℤ, pos, ◌+◌, ◌-◌, ◌*◌, ◌/◌, ◌%◌, ◌^◌, Bool, true, false, not, ◌==◌, ◌||◌, nat_lt, nat_le, int_lt, int_div, int_rem, bit_and, bit_or, bit_xor, unsigned_abs, if◌then◌else◌, Option, None, Some, Result, Ok, Err}
 use Rattle.std.specs.Int.{w32, cast_signed, int_rem_euclid, int_shr}
 use Rattle.cond_expr.specs.declared.token.Binary.{Binary}
 use Rattle.cond_expr.specs.declared.token.Binary.TheVariants.{OrElse, AndThen, Or, Xor, And, Equal, NotEqual, Less, LessEqual, Greater, GreaterEqual, ShiftLeft, ShiftRight, Add, Subtract, Multiply, Divide, Remainder}
@@ -12,6 +12,7 @@ use Rattle.cond_expr.specs.declared.token.Leaf.TheVariants.{Number, Register, Ad
 use Rattle.cond_expr.specs.declared.evaluating.Value.{Value}
 use Rattle.cond_expr.specs.declared.evaluating.Value.TheVariants.{Word, DivZero, Unread}
 use Rattle.cond_expr.specs.Term.{Term, leaf, prefix, binary}
+use Rattle.view_words.specs.Numbers.{number_at}
 
 -- a word read as a signed number
 abbrev pub signed : ℕ → ℤ
@@ -37,41 +38,28 @@ with_word (Word n unsigned) next = next n unsigned
 with_word DivZero next = DivZero
 with_word (Unread addr) next = Unread addr
 
-abbrev pub byte_value : Option ℕ → ℕ → Value
-byte_value None addr = Unread addr
-byte_value (Some b) addr = Word b false
-
--- the number of two parts, the lower one at the lower address and read first
-abbrev pub low_first : ℕ → Value → Value → Value
-low_first scale low high = with_word low (λ n u. with_word high (λ m v. Word (n + scale * m) false))
-
-abbrev pub byte_at : (ℕ → Option ℕ) → ℕ → Value
-byte_at bytes addr = byte_value (bytes addr) addr
-
--- a word, if it is one, is less than this
-abbrev pub IsBelow : ℕ → Value → Type 0
-IsBelow limit (Word n unsigned) = n < limit
-IsBelow limit DivZero = Unit {0}
-IsBelow limit (Unread addr) = Unit {0}
-
--- little-endian, at any address; addresses go on modulo 2 ^ 32
-abbrev pub half_at : (ℕ → Option ℕ) → ℕ → Value
-half_at bytes addr = low_first (2 ^ 8) (byte_at bytes addr) (byte_at bytes ((addr + 1) % 2 ^ 32))
-
-abbrev pub word_at : (ℕ → Option ℕ) → ℕ → Value
-word_at bytes addr = low_first (2 ^ 16) (half_at bytes addr) (half_at bytes ((addr + 2) % 2 ^ 32))
-
 -- 16 bits with their sign
 abbrev pub extended : ℕ → ℕ
 extended n = if nat_lt n (2 ^ 15) then n else n + (2 ^ 32 - 2 ^ 16)
 
+-- a word that was read, or the address of its first byte that isn't mapped
+abbrev pub read_word : Bool → Result ℕ ℕ → Value
+read_word unsigned (Ok n) = Word n unsigned
+read_word unsigned (Err addr) = Unread addr
+
+-- the same of 16 bits, with their sign
+abbrev pub read_short : Result ℕ ℕ → Value
+read_short (Ok n) = Word (extended n) false
+read_short (Err addr) = Unread addr
+
+-- what memory holds at an address, as a type; `char` is unsigned
 abbrev pub read_value : (ℕ → Option ℕ) → ReadType → ℕ → Value
-read_value bytes Int addr = word_at bytes addr
-read_value bytes UnsignedInt addr = with_word (word_at bytes addr) (λ n u. Word n true)
-read_value bytes Short addr = with_word (half_at bytes addr) (λ n u. Word (extended n) false)
-read_value bytes UnsignedShort addr = half_at bytes addr
-read_value bytes Char addr = byte_at bytes addr
-read_value bytes UnsignedChar addr = byte_at bytes addr
+read_value bytes Int addr = read_word false (number_at bytes 4 addr)
+read_value bytes UnsignedInt addr = read_word true (number_at bytes 4 addr)
+read_value bytes Short addr = read_short (number_at bytes 2 addr)
+read_value bytes UnsignedShort addr = read_word false (number_at bytes 2 addr)
+read_value bytes Char addr = read_word false (number_at bytes 1 addr)
+read_value bytes UnsignedChar addr = read_word false (number_at bytes 1 addr)
 
 abbrev pub prefix_value : (ℕ → Option ℕ) → Prefix → ℕ → Bool → Value
 prefix_value bytes Negate n unsigned = Word ((2 ^ 32 - n) % 2 ^ 32) unsigned

@@ -43,7 +43,7 @@ fn push_name(names: &mut Vec<BareName>, first: u8, name: BareName) -> Result<(),
     Ok(())
 }
 
-/// The bare names of a text, in its order, by the tokens that it has as a condition; symbols play no part.
+/// The bare names of a text, in its order, by the tokens that it has as an expression; symbols play no part.
 pub fn bare_names(alloc: Global, text: &[u8]) -> Result<Vec<BareName>, AllocError>
     requires { length text.now < 2 ^ 32 }
     ensures names { IfOk result (λ v. v.items ≡ bare_names text.now) }

@@ -1,14 +1,15 @@
-//! What a condition is worth.
+//! What an expression is worth.
 
-ghost use Rattle.std.specs.Prelude.{◌≡◌, ◌<◌, ◌≤◌, ◌^◌, ◌||◌, ◌==◌, false};
+ghost use Rattle.std.specs.Prelude.{◌≡◌, ◌<◌, ◌^◌, ◌||◌, ◌==◌, false, IfOk};
 ghost use Rattle.cond_expr.specs.Term.{term_of};
-ghost use Rattle.cond_expr.specs.Value.{flag, leaf_value, byte_at, half_at, word_at, extended, read_value, prefix_value, less, quotient, remainder, shifted_right, words_value, divided, decided, value_of, IsBelow};
+ghost use Rattle.cond_expr.specs.Value.{flag, leaf_value, extended, read_word, read_short, read_value, prefix_value, less, quotient, remainder, shifted_right, words_value, divided, decided, value_of};
 
 use crate::token::{Binary, Leaf, Prefix, ReadType};
 use crate::tree::Node;
 use dbg_traits::View;
+use view_words::number_at;
 
-/// The value of a condition.
+/// The value of an expression.
 #[derive(Clone, Copy, Debug, PartialEq, Eq)]
 pub enum Value {
     /// A word, and whether it is unsigned.
@@ -35,43 +36,6 @@ fn leaf_value<V: View>(leaf: Leaf, view: &V) -> Value
     }
 }
 
-fn byte_at<V: View>(view: &V, addr: u32) -> Value
-    ensures value { result ≡ byte_at (V.bytes view.now) addr }
-    ensures small { IsBelow (2 ^ 8) result }
-{
-    match view.byte(addr) {
-        Some(byte) => Value::Word(u32::from(byte), false),
-        None => Value::Unread(addr),
-    }
-}
-
-/// The two bytes from an address on, little-endian.
-fn half_at<V: View>(view: &V, addr: u32) -> Value
-    ensures value { result ≡ half_at (V.bytes view.now) addr }
-    ensures small { IsBelow (2 ^ 16) result }
-{
-    match byte_at(view, addr) {
-        Value::Word(low, _) => match byte_at(view, addr.wrapping_add(1)) {
-            Value::Word(high, _) => Value::Word(low + 256 * high, false),
-            fault => fault,
-        },
-        fault => fault,
-    }
-}
-
-/// The four bytes from an address on, little-endian.
-fn word_at<V: View>(view: &V, addr: u32) -> Value
-    ensures { result ≡ word_at (V.bytes view.now) addr }
-{
-    match half_at(view, addr) {
-        Value::Word(low, _) => match half_at(view, addr.wrapping_add(2)) {
-            Value::Word(high, _) => Value::Word(low + 65536 * high, false),
-            fault => fault,
-        },
-        fault => fault,
-    }
-}
-
 /// 16 bits with their sign.
 fn extended(n: u32) -> u32
     requires { n < 2 ^ 16 }
@@ -80,22 +44,37 @@ fn extended(n: u32) -> u32
     if n < 0x8000 { n } else { n + 0xFFFF_0000 }
 }
 
+/// The word that was read, or the address of its first byte that isn't mapped.
+fn read_word(read: Result<u32, u32>, unsigned: bool) -> Value
+    ensures { result ≡ read_word unsigned read }
+{
+    match read {
+        Ok(n) => Value::Word(n, unsigned),
+        Err(addr) => Value::Unread(addr),
+    }
+}
+
+/// The same of 16 bits, with their sign.
+fn read_short(read: Result<u32, u32>) -> Value
+    requires { IfOk read (λ n. n < 2 ^ 16) }
+    ensures { result ≡ read_short read }
+{
+    match read {
+        Ok(n) => Value::Word(extended(n), false),
+        Err(addr) => Value::Unread(addr),
+    }
+}
+
 /// What memory holds at an address, as a type.
 fn read_value<V: View>(kind: ReadType, addr: u32, view: &V) -> Value
     ensures { result ≡ read_value (V.bytes view.now) kind addr }
 {
     match kind {
-        ReadType::Int => word_at(view, addr),
-        ReadType::UnsignedInt => match word_at(view, addr) {
-            Value::Word(n, _) => Value::Word(n, true),
-            fault => fault,
-        },
-        ReadType::Short => match half_at(view, addr) {
-            Value::Word(n, _) => Value::Word(extended(n), false),
-            fault => fault,
-        },
-        ReadType::UnsignedShort => half_at(view, addr),
-        ReadType::Char | ReadType::UnsignedChar => byte_at(view, addr),
+        ReadType::Int => read_word(number_at(view, addr, 4), false),
+        ReadType::UnsignedInt => read_word(number_at(view, addr, 4), true),
+        ReadType::Short => read_short(number_at(view, addr, 2)),
+        ReadType::UnsignedShort => read_word(number_at(view, addr, 2), false),
+        ReadType::Char | ReadType::UnsignedChar => read_word(number_at(view, addr, 1), false),
     }
 }
 

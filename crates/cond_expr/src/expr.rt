@@ -1,4 +1,4 @@
-//! A condition: its text, and the tree that it spells.
+//! An expression: its text, and the tree that it spells.
 
 ghost use Rattle.std.specs.Prelude.{◌≡◌, ℕ, ◌<◌, ◌≤◌, List, length, Some, Ok, Err, IfOk};
 ghost use Rattle.elf_symbols.specs.Names.{Names};
@@ -18,10 +18,10 @@ use dbg_traits::View;
 use elf_symbols::Symbols;
 use std::alloc::Global;
 
-/// The greatest length of a condition's text, in bytes.
+/// The greatest length of an expression's text, in bytes.
 const MAX_LENGTH: usize = 256;
 
-/// A condition that was parsed. Contracts see its text as `text_of`, its tree as `tree_of`.
+/// An expression that was parsed. Contracts see its text as `text_of`, its tree as `tree_of`.
 #[derive(Debug, Drop)]
 pub struct Expr {
     text: Vec<u8>,
@@ -44,7 +44,7 @@ impl Expr {
     }
 }
 
-/// The condition that a text spells, with the names of these symbols; of its faults the one at the least place,
+/// The expression that a text spells, with the names of these symbols; of its faults the one at the least place,
 /// and at one place the least kind. A text of more than 256 bytes is `Long`, at 256.
 pub fn parse(alloc: Global, text: &[u8], symbols: &Symbols) -> Result<Expr, ParseError>
     ensures long { 256 < length text.now → result ≡ Err (ParseError.Fault (record { kind = FaultKind.Long; at = 256 })) }
@@ -68,7 +68,8 @@ pub fn parse(alloc: Global, text: &[u8], symbols: &Symbols) -> Result<Expr, Pars
     Ok(Expr { text, root })
 }
 
-/// The value of a condition over the registers and the bytes of a view.
+/// The value of an expression over the registers and the bytes of a view: `DivZero` where a divisor is 0, `Unread` with the first
+/// address of a read that isn't mapped; of several the first in the order of evaluation.
 pub fn value<V: View>(e: &Expr, view: &V) -> Value
     ensures { result ≡ value_of (V.registers view.now) (V.bytes view.now) (tree_of e.now) }
 {

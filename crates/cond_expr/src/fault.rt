@@ -1,4 +1,4 @@
-//! Why a text is no condition.
+//! Why a text is no expression.
 
 ghost use Rattle.std.specs.Prelude.{◌≡◌};
 ghost use Rattle.cond_expr.specs.declared.fault.ParseError.TheVariants.{NoMemory};

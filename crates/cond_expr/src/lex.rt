@@ -1,7 +1,7 @@
-//! The tokens of a condition's text.
+//! The tokens of an expression's text.
 
 ghost use Rattle.std.specs.Prelude.{◌≡◌, ◌<◌, ◌≤◌, ◌^◌, ◌+◌, ℕ, List, [], ◌∷◌, length, IfOk, MatchOption, true, false, nat_lt};
-ghost use Rattle.cond_expr.specs.Lex.{either, either_of_two, is_digit, digit_value, number_from, number_at, register_at, signed_type, unsigned_type, braced, typed, unsigned_at, type_at, sign_at, token_at, named_at, spot_at, tokens_of, Sees, SeesAt, begins_with};
+ghost use Rattle.cond_expr.specs.Lex.{either, either_of_two, is_digit, digit_value, number_behind, number_at, register_at, signed_type, unsigned_type, braced, typed, unsigned_at, type_at, sign_at, token_at, named_at, spot_at, tokens_of, Sees, SeesAt, begins_with};
 
 use crate::register::register_of;
 use crate::token::{Binary, Leaf, ReadType, Spot, Token};
@@ -60,12 +60,11 @@ fn digit(bytes: &[u8], base: u8) -> Option<(u8, &[u8])>
     }
 }
 
-/// The number that these digits go on with.
-#[tactic(auto, unfolding(crate::specs::Lex::number_from))]
+/// The number that the digits in front go on with; from 2^32 on all count alike.
 fn digits(bytes: &[u8], base: u8, so_far: u64) -> (Token, &[u8])
     requires room { so_far ≤ 2 ^ 32 }
     requires few { base ≤ 16 }
-    ensures sees { Sees result (number_from base bytes.now so_far) }
+    ensures sees { Sees result (number_behind base so_far bytes.now) }
     ensures shorter { length result.1.now ≤ length bytes.now }
 {
     let mut value = so_far;

@@ -1,4 +1,5 @@
-//! Conditions of breakpoints: the tree that a text spells, and its value over one hart's registers and memory.
+//! Expressions, which conditions of breakpoints are too: the tree that a text spells, and its value over one hart's registers
+//! and memory.
 #![tactic(auto)]
 
 mod bare;

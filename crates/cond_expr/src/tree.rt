@@ -1,4 +1,4 @@
-//! The tree of a condition.
+//! The tree of an expression.
 
 ghost use Rattle.std.specs.Prelude.{◌≡◌, IfOk};
 ghost use Rattle.cond_expr.specs.Term.{term_of};
@@ -7,7 +7,7 @@ ghost use Rattle.cond_expr.specs.Term as term;
 use crate::token::{Binary, Leaf, Prefix};
 use std::alloc::{AllocError, Global};
 
-/// A condition's tree. Contracts see it as a `Term`, by `term_of`.
+/// An expression's tree. Contracts see it as a `Term`, by `term_of`.
 #[derive(Debug, Drop)]
 pub enum Node {
     Leaf(Leaf),
