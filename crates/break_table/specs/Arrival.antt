@@ -1,4 +1,5 @@
--- What the breakpoints do at an arrival of a hart, whose registers (32 is pc) and mapped bytes are given.
+-- What the breakpoints do at an arrival of a hart, whose registers (32 is pc) and mapped bytes are given (GDB manual, "Break
+-- Conditions"; what an arrival is is this project's own).
 use Rattle.std.specs.Prelude.{ℕ, ◌+◌, ◌-◌, ◌^◌, min, Bool, true, not, ◌==◌, ◌&&◌, nat_lt, nat_le, if◌then◌else◌, List, [], ◌∷◌, map, filter, Option, Some, None, option_and_then}
 use Rattle.std.specs.List.{list_any}
 use Rattle.std.specs.Option.{option_map}

@@ -1,4 +1,4 @@
--- The table of breakpoints, and what each call makes of it.
+-- The table of breakpoints, and what each call makes of it (GDB manual, "GDB/MI Breakpoint Commands").
 use Rattle.std.specs.Prelude.{◌≡◌, ℕ, ◌+◌, ◌<◌, ◌≤◌, Bool, true, false, not, ◌==◌, ◌&&◌, nat_le, if◌then◌else◌, List, [], ◌∷◌, ◌++◌, length, map, filter, replicate, slice_set, Option, Some, None, Result, Ok, Err}
 use Rattle.std.specs.List.{list_any}
 use Rattle.elf32_read.specs.Program.{Program}

@@ -57,6 +57,7 @@ fn fits(entry: &BreakEntry, hart: u32, pc: u32) -> bool
     entry.address == pc && entry.enabled && is_for(hart, entry.thread)
 }
 
+/// Whether an entry counts an arrival and lets the hart pass.
 pub fn counts(entry: &BreakEntry, hart: u32, pc: u32) -> bool
     ensures { result ≡ counts hart pc (entry_of entry.now) }
 {
@@ -91,6 +92,7 @@ fn is_met<V: View>(entry: &BreakEntry, view: &V) -> bool
     }
 }
 
+/// Whether an entry stops a hart that has arrived. Its condition is evaluated where all else fits.
 pub fn stops<V: View>(entry: &BreakEntry, hart: u32, view: &V) -> bool
     ensures { result ≡ stops hart (V.registers view.now) (V.bytes view.now) (entry_of entry.now) }
 {

@@ -92,6 +92,10 @@ impl BreakTable {
     }
 
     /// A new entry, with the next number.
+    ///
+    /// # Errors
+    /// `Place` where the address isn't a multiple of 4 in text, `Full` where 128 entries stand, and `Thread` where there is no
+    /// such thread; of several the first of these. Nothing changes then.
     pub fn insert(&mut self, spec: Spec) -> Result<u32, BreakFault>
         requires { self.old.given < 2 ^ 32 - 1 }
         ensures answer { Answers result (insert_fault self.old (asked_of spec)) }
@@ -119,7 +123,7 @@ impl BreakTable {
         Ok(number)
     }
 
-    /// The entry of a number goes.
+    /// The entry of a number goes. `NoNumber` where there is none, as of each change of an entry; nothing changes then.
     pub fn delete(&mut self, number: u32) -> Result<(), BreakFault>
         ensures answer { Answers result (missing number self.old.entries) }
         ensures done { OnOk result (self.new ≡ deleted number self.old) }
@@ -130,6 +134,7 @@ impl BreakTable {
         Ok(())
     }
 
+    /// The entry of a number counts and stops again.
     pub fn enable(&mut self, number: u32) -> Result<(), BreakFault>
         ensures answer { Answers result (missing number self.old.entries) }
         ensures done { OnOk result (self.new ≡ changed (with_enabled true) number self.old) }
@@ -138,6 +143,7 @@ impl BreakTable {
         change_entry(&mut self.entries, number, Change::Enabled(true))
     }
 
+    /// The entry of a number neither counts nor stops.
     pub fn disable(&mut self, number: u32) -> Result<(), BreakFault>
         ensures answer { Answers result (missing number self.old.entries) }
         ensures done { OnOk result (self.new ≡ changed (with_enabled false) number self.old) }
@@ -155,7 +161,7 @@ impl BreakTable {
         change_entry(&mut self.entries, number, Change::Condition(e))
     }
 
-    /// So many arrivals at the entry of a number are only counted.
+    /// So many arrivals at the entry of a number are only counted from now on, before one stops.
     pub fn after(&mut self, number: u32, count: u32) -> Result<(), BreakFault>
         ensures answer { Answers result (missing number self.old.entries) }
         ensures done { OnOk result (self.new ≡ changed (with_ignore count) number self.old) }

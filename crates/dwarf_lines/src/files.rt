@@ -6,12 +6,16 @@ ghost use Rattle.leb_read.specs.Leb.{is_text_byte};
 ghost use Rattle.file_names.specs.Texts.{text_from};
 
 use line_rows::Rows;
+use memchr::memchr;
 
-// How many bytes stand before the first zero byte.
+// How many bytes stand before the first zero byte; all where there is none.
 fn text_length(bytes: &[u8]) -> usize
     ensures { result ≡ length (take_while is_text_byte bytes.now) }
 {
-    bytes.iter().take_while(|b| **b != 0).count()
+    match memchr(0, bytes) {
+        Some(end) => end,
+        None => bytes.len(),
+    }
 }
 
 /// The bytes from a place up to the first zero byte.

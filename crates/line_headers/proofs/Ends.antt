@@ -1,16 +1,21 @@
 -- Where texts stand in a section.
-use Rattle.std.proofs.Common.{◌≡◌, ℕ, zero, suc, ◌+◌, ◌-◌, ◌<◌, ◌≤◌, Bool, true, false, List, [], ◌∷◌, ◌++◌, length, take, drop, get_or, refl, arith, ◌∙◌, ap, subst, sym}
+use Rattle.std.proofs.Common.{◌≡◌, ℕ, zero, suc, ◌+◌, ◌<◌, Bool, true, false, List, [], ◌∷◌, length, drop, get_or, None, Some, refl, arith, ◌∙◌, ap, sym}
 use Rattle.std.specs.Prelude.{is_ok, nat_lt, ◌==◌, if◌then◌else◌, Err}
 use Rattle.std.specs.List.{take_while}
-use Rattle.std.proofs.lemmas.Grind.{common_steps}
 use Rattle.std.proofs.lemmas.Bool.Decides.{nat_tests}
-use Rattle.std.proofs.lemmas.List.{take_more, length-take}
+use Rattle.std.proofs.lemmas.Bool.{false_from_ne_true}
 use Rattle.std.proofs.lemmas.List.Sums.{take_while-cons}
+use Rattle.memchr.specs.Find.{IsLastByte, is_byte}
 use Rattle.leb_read.specs.Leb.{found, is_text_byte, text_at}
 use Rattle.leb_read.specs.declared.fault.Leb.TheVariants.{Short}
 use Rattle.line_rows.specs.Sections.{Sections}
-use Rattle.line_headers.specs.Texts.{text_end, texts_before, texts_in}
+use Rattle.line_headers.specs.Texts.{EndsAt, texts_before, texts_in}
 use Rattle.line_headers.specs.declared.texts.TextEnds.{TextEnds}
+
+-- the place behind the last zero byte, or 0 where there is none
+abbrev text_end : List ℕ → ℕ
+text_end [] = 0
+text_end (b ∷ bs) = if nat_lt 0 (text_end bs) then text_end bs + 1 else (if b == 0 then 1 else 0)
 
 -- whether a zero byte ends the text at the front
 abbrev stands : List ℕ → Bool
@@ -47,41 +52,42 @@ stands_before (b ∷ bs) zero =
 stands_before (b ∷ bs) (suc at) = stands_before bs at ∙ suc_step at (text_end bs) (b == 0)
 
 -- a text stands exactly where it begins before the place behind the last zero byte
-pub text_stands : (bytes : List ℕ) (at : ℕ) → is_ok (text_at bytes at) ≡ nat_lt at (text_end bytes)
+text_stands : (bytes : List ℕ) (at : ℕ) → is_ok (text_at bytes at) ≡ nat_lt at (text_end bytes)
 text_stands bytes at = ok_text bytes at ∙ stands_before bytes at
 
-push_step : (last first : Bool) (z z' len : ℕ) → z' ≡ (if last then len + 1 else z)
-    → (if nat_lt 0 z' then z' + 1 else (if first then 1 else 0)) ≡ (if last then suc len + 1 else (if nat_lt 0 z then z + 1 else (if first then 1 else 0)))
-push_step true first z z' len e = grind (arith, nat_tests)
-push_step false first z z' len e = rw e refl
+-- the byte at each place isn't zero
+abbrev NoZero : List ℕ → Type 0
+NoZero bytes = (k : ℕ) → k < length bytes → (get_or bytes k 0 == 0) ≡ false
 
--- one more byte at the end
-text_end-push : (bytes : List ℕ) (b : ℕ) → text_end (bytes ++ b ∷ []) ≡ (if b == 0 then length bytes + 1 else text_end bytes)
-text_end-push [] b = refl
-text_end-push (x ∷ xs) b = push_step (b == 0) (x == 0) (text_end xs) (text_end (xs ++ b ∷ [])) (length xs) (text_end-push xs b)
+no_end : (bytes : List ℕ) → NoZero bytes → text_end bytes ≡ 0
+no_end [] h = refl
+no_end (b ∷ bs) h =
+    let rest = no_end bs (λ k lt. h (suc k) (omega arith)) in
+    let first : (b == 0) ≡ false = h 0 (omega arith) in
+    rw (rest, first) refl
 
-text_end-take_suc : (bytes : List ℕ) (n : ℕ) → n < length bytes
-    → text_end (take (n + 1) bytes) ≡ (if get_or bytes n 0 == 0 then n + 1 else text_end (take n bytes))
-text_end-take_suc bytes n within =
-    let len : length (take n bytes) ≡ n = grind (arith, common_steps) in
-    ap text_end (take_more bytes n 0 within) ∙ text_end-push (take n bytes) (get_or bytes n 0)
-    ∙ ap (λ (k : ℕ). if get_or bytes n 0 == 0 then k + 1 else text_end (take n bytes)) len
+end_of : (bytes : List ℕ) (k : ℕ) → k < length bytes → (get_or bytes k 0 == 0) ≡ true → ((j : ℕ) → k < j → j < length bytes → (get_or bytes j 0 == 0) ≡ false)
+    → text_end bytes ≡ k + 1
+end_of [] k lt is after = absurd (omega arith)
+end_of (b ∷ bs) zero lt is after =
+    let rest = no_end bs (λ k inside. after (suc k) (omega arith) (omega arith)) in
+    rw (rest, is) refl
+end_of (b ∷ bs) (suc k) lt is after =
+    let rest : text_end bs ≡ k + 1 = end_of bs k (omega arith) is (λ j up inside. after (suc j) (omega arith) (omega arith)) in
+    let some : nat_lt 0 (k + 1) ≡ true = grind (arith, nat_tests) in
+    rw (rest, some) (omega arith)
 
--- the last byte of the first n
-pub text_end-take : (bytes : List ℕ) (n : ℕ) → 0 < n → n ≤ length bytes
-    → text_end (take n bytes) ≡ (if get_or bytes (n - 1) 0 == 0 then n else text_end (take (n - 1) bytes))
-text_end-take bytes n some within =
-    let back : n - 1 + 1 ≡ n = omega arith in
-    let lt : n - 1 < length bytes = omega arith in
-    let P : ℕ → Type 0 = λ k. text_end (take k bytes) ≡ (if get_or bytes (n - 1) 0 == 0 then k else text_end (take (n - 1) bytes)) in
-    subst P back (text_end-take_suc bytes (n - 1) lt)
+-- without a zero byte no text stands
+pub no_text : (bytes : List ℕ) → IsLastByte (is_byte 0) bytes None → EndsAt bytes 0
+no_text bytes h at =
+    text_stands bytes at ∙ ap (λ (k : ℕ). nat_lt at k) (no_end bytes (λ k lt. false_from_ne_true _ (h k (omega arith) lt)))
 
--- a scan from the end
-pub ruleset last_zero = (text_end-take, length-take)
+-- texts stand up to the last zero byte
+pub last_text : (bytes : List ℕ) (k : ℕ) → IsLastByte (is_byte 0) bytes (Some k) → EndsAt bytes (k + 1)
+last_text bytes k h at =
+    text_stands bytes at
+    ∙ ap (λ (n : ℕ). nat_lt at n) (end_of bytes k h.0.high h.1 (λ j up lt. false_from_ne_true _ (h.0.after j (omega (arith, up)) lt)))
 
 -- the texts of two sections by their ends
-pub ends_tell : (s : Sections) (ends : TextEnds) → ends.line_str ≡ text_end s.line_str → ends.strs ≡ text_end s.strs → texts_before ends ≡ texts_in s
-ends_tell s ends e f =
-    let in_line_str : (at : ℕ) → nat_lt at ends.line_str ≡ is_ok (text_at s.line_str at) = λ at. ap (λ (k : ℕ). nat_lt at k) e ∙ sym (text_stands s.line_str at) in
-    let in_str : (at : ℕ) → nat_lt at ends.strs ≡ is_ok (text_at s.strs at) = λ at. ap (λ (k : ℕ). nat_lt at k) f ∙ sym (text_stands s.strs at) in
-    λ i. record { in_line_str = λ at. in_line_str at i; in_str = λ at. in_str at i }
+pub ends_tell : (s : Sections) (ends : TextEnds) → EndsAt s.line_str ends.line_str → EndsAt s.strs ends.strs → texts_before ends ≡ texts_in s
+ends_tell s ends e f = λ i. record { in_line_str = λ at. sym (e at) i; in_str = λ at. sym (f at) i }

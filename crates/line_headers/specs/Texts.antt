@@ -1,5 +1,5 @@
 -- The sections of texts that a file's name may stand in (DWARF 5, section 7.26).
-use Rattle.std.specs.Prelude.{ℕ, ◌+◌, ◌==◌, nat_lt, Bool, List, [], ◌∷◌, is_ok, if◌then◌else◌}
+use Rattle.std.specs.Prelude.{◌≡◌, ℕ, nat_lt, Bool, List, is_ok}
 use Rattle.leb_read.specs.Leb.{text_at}
 use Rattle.line_rows.specs.Sections.{Sections}
 use Rattle.line_headers.specs.declared.texts.TextEnds.{TextEnds}
@@ -16,7 +16,6 @@ texts_in s = record { in_line_str = λ at. is_ok (text_at s.line_str at); in_str
 abbrev pub texts_before : TextEnds → Texts
 texts_before ends = record { in_line_str = λ at. nat_lt at ends.line_str; in_str = λ at. nat_lt at ends.strs }
 
--- the place behind the last zero byte, or 0 where there is none
-abbrev pub text_end : List ℕ → ℕ
-text_end [] = 0
-text_end (b ∷ bs) = if nat_lt 0 (text_end bs) then text_end bs + 1 else (if b == 0 then 1 else 0)
+-- texts of a section stand where they begin before this place, and nowhere else
+abbrev pub EndsAt : List ℕ → ℕ → Type 0
+EndsAt section end = (at : ℕ) → is_ok (text_at section at) ≡ nat_lt at end

@@ -1,8 +1,9 @@
-ghost use Rattle.std.specs.Prelude.{◌≡◌, ◌+◌, ◌≤◌, length};
+ghost use Rattle.std.specs.Prelude.{◌≡◌};
 ghost use Rattle.line_rows.specs.Sections.{sections_shown};
-ghost use Rattle.line_headers.specs.Texts.{text_end, texts_before, texts_in};
+ghost use Rattle.line_headers.specs.Texts.{EndsAt, texts_before, texts_in};
 
 use line_rows::LineSections;
+use memchr::memrchr;
 
 /// How far texts stand in `.debug_line_str` and `.debug_str`: each place before has a zero byte at or behind it.
 #[derive(Clone, Copy, Debug, PartialEq, Eq)]
@@ -14,15 +15,13 @@ pub struct TextEnds {
 }
 
 // The place behind the last zero byte, or 0 where there is none.
-#[tactic(auto, using(crate::proofs::Ends::last_zero))]
 fn text_end(section: &[u8]) -> usize
-    ensures { result ≡ text_end section.now }
+    ensures { EndsAt section.now result }
 {
-    let mut end = section.len();
-    while end > 0 && section[end - 1] != 0 {
-        end -= 1;
+    match memrchr(0, section) {
+        Some(last) => last + 1,
+        None => 0,
     }
-    end
 }
 
 /// How far texts stand in the two sections. Found once, it tells of each offset whether a text stands there.

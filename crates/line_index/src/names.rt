@@ -5,20 +5,16 @@ ghost use Rattle.std.specs.Str.{bytes_eq};
 ghost use Rattle.line_index.specs.Lines.{file_name, is_called, last_part};
 
 use line_rows::Rows;
+use memchr::memrchr;
 
 /// The part of a name after its last `/`.
 pub fn last_part(name: &[u8]) -> &[u8]
     ensures { result.now ≡ last_part name.now }
 {
-    let mut part = name;
-    let mut rest = name;
-    'bytes: while let [b, tail @ ..] = rest {
-        if *b == b'/' {
-            part = tail;
-        }
-        rest = tail;
+    match memrchr(b'/', name) {
+        Some(last) => &name[last + 1..],
+        None => name,
     }
-    part
 }
 
 /// The end of a name, one byte longer than a file's: only there can the last part be the file.
