@@ -81,7 +81,7 @@ all_end (suc m) abbrevs at =
 -- a declaration ends behind its place, and its specifications begin within the bytes
 pub record Declares (abbrevs : List ℕ) (at : ℕ) (x : Option (ℕ × Declaration) × ℕ) : Type 0 where
   pub behind : IsBehind abbrevs at x.1
-  pub within : IfSome x.0 (λ d. d.1.attributes ≤ length abbrevs)
+  pub within : IfSome x.0 (λ d. d.1.attributes.at ≤ length abbrevs)
 
 pub declaration_ends : (abbrevs : List ℕ) (at : ℕ) → IfOk (declaration_at abbrevs at) (Declares abbrevs at)
 unfolding declaration_at
@@ -96,13 +96,13 @@ declaration_ends abbrevs at =
       within = l.within;
     })))))
 
-pub abbreviation_by : (abbrevs : List ℕ) (at code : ℕ) (r : Read (Option (ℕ × Declaration))) (rest : ℕ → Result Declaration InfoFault) → IfOk r (Declares abbrevs at) → ((next : ℕ) → IfOk (rest next) (λ d. d.attributes ≤ length abbrevs))
-    → IfOk (r >>= where_code code rest) (λ d. d.attributes ≤ length abbrevs)
+pub abbreviation_by : (abbrevs : List ℕ) (at code : ℕ) (r : Read (Option (ℕ × Declaration))) (rest : ℕ → Result Declaration InfoFault) → IfOk r (Declares abbrevs at) → ((next : ℕ) → IfOk (rest next) (λ d. d.attributes.at ≤ length abbrevs))
+    → IfOk (r >>= where_code code rest) (λ d. d.attributes.at ≤ length abbrevs)
 abbreviation_by abbrevs at code (Err e) rest h k = tt
 abbreviation_by abbrevs at code (Ok (None, next)) rest h k = tt
-abbreviation_by abbrevs at code (Ok (Some (other, d), next)) rest h k = either (λ d. d.attributes ≤ length abbrevs) (other == code) (Ok d) (rest next) h.within (k next)
+abbreviation_by abbrevs at code (Ok (Some (other, d), next)) rest h k = either (λ d. d.attributes.at ≤ length abbrevs) (other == code) (Ok d) (rest next) h.within (k next)
 
-pub abbreviation_within : (m : ℕ) (abbrevs : List ℕ) (code at : ℕ) → IfOk (abbreviation_of m abbrevs code at) (λ d. d.attributes ≤ length abbrevs)
+pub abbreviation_within : (m : ℕ) (abbrevs : List ℕ) (code at : ℕ) → IfOk (abbreviation_of m abbrevs code at) (λ d. d.attributes.at ≤ length abbrevs)
 abbreviation_within zero abbrevs code at = tt
 abbreviation_within (suc m) abbrevs code at =
     abbreviation_by abbrevs at code (declaration_at abbrevs at) (abbreviation_of m abbrevs code) (declaration_ends abbrevs at) (λ next. abbreviation_within m abbrevs code next)

@@ -190,20 +190,25 @@ run_flag abbrevs at next s rest run is form r flags behind end =
           ∙ ap (λ (n : ℕ). extended (with_flags a run.flags) (values_from (length abbrevs + 1) abbrevs strs info n from)) (sym behind);
     }
 
--- a run more
-pub runs_more : (abbrevs : List ℕ) (runs more : List Run) (run : Run) (at : ℕ) → length runs + at ≡ length abbrevs → more ≡ runs ++ run ∷ [] → AreRuns abbrevs runs → IsRun abbrevs at run → AreRuns abbrevs more
-runs_more abbrevs runs more run at count push all one k d h =
-    let size : length more ≡ length runs + 1 = ap length push ∙ length-append runs (run ∷ []) in
-    let most : k ≤ length runs = omega arith in
+-- what holds of each element of a list holds with one more
+pub one_more : {A : Type 0} (P : ℕ → A → Type 0) (xs more : List A) (x : A) → more ≡ xs ++ x ∷ [] → ((k : ℕ) (d : A) → k < length xs → P k (get_or xs k d)) → P (length xs) x → (k : ℕ) (d : A) → k < length more → P k (get_or more k d)
+one_more {A} P xs more x push all one k d h =
+    let size : length more ≡ length xs + 1 = ap length push ∙ length-append xs (x ∷ []) in
+    let most : k ≤ length xs = omega arith in
     elim (eq-or-lt_of_le most) [
       | inl e ↦ (
-          let here : get_or more k d ≡ run = ap (λ (xs : List Run). get_or xs k d) push ∙ ap (λ (n : ℕ). get_or (runs ++ run ∷ []) n d) e ∙ get_or-append_seam runs run [] d in
-          let place : length abbrevs - k ≡ at = omega arith in
-          rw (here, place) one)
+          let here : get_or more k d ≡ x = ap (λ (ys : List A). get_or ys k d) push ∙ ap (λ (n : ℕ). get_or (xs ++ x ∷ []) n d) e ∙ get_or-append_seam xs x [] d in
+          rw (here, e) one)
       | inr l ↦ (
-          let here : get_or more k d ≡ get_or runs k d = ap (λ (xs : List Run). get_or xs k d) push ∙ get_or_append_left runs (run ∷ []) d k l in
+          let here : get_or more k d ≡ get_or xs k d = ap (λ (ys : List A). get_or ys k d) push ∙ get_or_append_left xs (x ∷ []) d k l in
           rw here (all k d l))
     ]
+
+-- a run more
+pub runs_more : (abbrevs : List ℕ) (runs more : List Run) (run : Run) (at : ℕ) → length runs + at ≡ length abbrevs → more ≡ runs ++ run ∷ [] → AreRuns abbrevs runs → IsRun abbrevs at run → AreRuns abbrevs more
+runs_more abbrevs runs more run at count push all one =
+    one_more (λ k r. IsRun abbrevs (length abbrevs - k) r) runs more run push all
+    (let place : length abbrevs - length runs ≡ at = omega arith in rw place one)
 
 -- the run of a place
 pub run_of : (abbrevs : List ℕ) (runs : List Run) (at : ℕ) (d : Run) → AreRuns abbrevs runs → at ≤ length abbrevs → length abbrevs - at < length runs → IsRun abbrevs at (get_or runs (length abbrevs - at) d)

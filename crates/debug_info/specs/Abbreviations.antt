@@ -31,7 +31,7 @@ declaration_at abbrevs at = do
     tag ← read (uleb_at abbrevs code.1)
     children ← read (number_at 1 abbrevs tag.1)
     end ← specifications_end (length abbrevs + 1) abbrevs children.1
-    found (Some (code.0, record { tag = tag.0; has_children = not (children.0 == 0); attributes = children.1 })) end)
+    found (Some (code.0, record { tag = tag.0; has_children = not (children.0 == 0); attributes = record { at = children.1 } })) end)
 
 abbrev pub where_code : ℕ → (ℕ → Result Declaration InfoFault) → Option (ℕ × Declaration) × ℕ → Result Declaration InfoFault
 where_code code rest (None, next) = Err fault.Abbrev

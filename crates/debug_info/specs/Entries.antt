@@ -18,7 +18,7 @@ entry_at abbrevs strs info table unit level at = do
   if code.0 == 0 then found None code.1 else (do
     declaration ← abbreviation_of (length abbrevs + 1) abbrevs code.0 table
     if level == 64 then Err fault.Deep else (do
-      attributes ← attributes_at abbrevs strs info declaration.attributes code.1
+      attributes ← attributes_at abbrevs strs info declaration.attributes.at code.1
       found (Some (entry_of (at - unit) (level + 1) declaration attributes.0)) attributes.1))
 
 -- behind an entry with children these stand below it

@@ -5,6 +5,7 @@ pub mod Abbreviations
 pub mod Tables
 pub mod Attributes
 pub mod Index
+pub mod TextLengths
 pub mod Sources
 pub mod Entries
 pub mod Units

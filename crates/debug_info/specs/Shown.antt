@@ -2,9 +2,14 @@
 use Rattle.std.specs.Prelude.{◌≡◌, ℕ, Bool, false, nat_lt, List, [], ◌∷◌, map, Option, None, Some, if◌then◌else◌}
 use Rattle.std.specs.Borrow.{Bor}
 use Rattle.debug_info.specs.Scope as scope
+use Rattle.debug_info.specs.TextLengths.{AreLengths}
 use Rattle.debug_info.specs.declared.entry.Entry.{Entry}
 use Rattle.debug_info.specs.declared.scope.Texts.{Texts}
 use Rattle.debug_info.specs.declared.scope.Var.{Var}
+
+-- the lengths of shared texts are theirs
+abbrev pub AreTexts : Texts → Type 0
+AreTexts t = AreLengths t.strs.now t.lengths.now
 
 abbrev pub seen_texts : Texts → scope.Texts
 seen_texts t = record { info = t.info.now; strs = t.strs.now }

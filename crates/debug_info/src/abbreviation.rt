@@ -7,6 +7,7 @@ ghost use Rattle.debug_info.specs.Index.{IsIndex};
 
 use crate::fault::InfoFault;
 use crate::index::Index;
+use crate::offset::AbbrevOffset;
 use leb_read::{u8_at, uleb};
 
 /// What an abbreviation says of its entries.
@@ -15,7 +16,7 @@ pub struct Declaration {
     pub tag: u64,
     pub has_children: bool,
     /// Where its attributes' specifications begin.
-    pub attributes: usize,
+    pub attributes: AbbrevOffset,
 }
 
 /// The name of an attribute, and the code of its form.
@@ -64,7 +65,7 @@ pub fn declaration_at(
     let declaration = Declaration {
         tag,
         has_children: children != 0,
-        attributes,
+        attributes: AbbrevOffset { at: attributes },
     };
     Ok((Some((code, declaration)), end))
 }

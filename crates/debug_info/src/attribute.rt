@@ -10,7 +10,7 @@ use crate::abbreviation::specification_at;
 use crate::fault::InfoFault;
 use crate::form::{Value, value_at};
 use crate::index::Flags;
-use crate::offset::Source;
+use crate::offset::{AbbrevOffset, Source};
 
 /// The values of an entry's attributes.
 #[derive(Clone, Copy, Debug, PartialEq, Eq)]
@@ -98,17 +98,17 @@ fn with_flags(attributes: Attributes, flags: Flags) -> Attributes
 /// that has bytes.
 pub fn attributes_at(
     source: &Source<'_>,
-    specifications: usize,
+    specifications: AbbrevOffset,
     at: usize,
 ) -> Result<(Attributes, usize), InfoFault>
     requires source { IsSource source.now }
-    requires specifications { specifications ≤ length source.now.abbrevs.now }
+    requires specifications { specifications.at ≤ length source.now.abbrevs.now }
     requires within { at ≤ length source.now.info.now }
-    ensures value { result ≡ attributes_at source.now.abbrevs.now source.now.strs.now source.now.info.now specifications at }
+    ensures value { result ≡ attributes_at source.now.abbrevs.now source.now.strs.now source.now.info.now specifications.at at }
     ensures within { IfOk result (λ r. IsReadTo source.now.info.now at r.1) }
 {
     let mut attributes = no_attributes();
-    let mut specified = specifications;
+    let mut specified = specifications.at;
     let mut place = at;
     'specifications: loop {
         let run = source.index.run(source.abbrevs, specified);

@@ -4,7 +4,7 @@ ghost use Rattle.std.specs.Prelude.{◌≡◌, ◌<◌, ◌≤◌, IfOk, length}
 ghost use Rattle.leb_read.specs.Leb.{IsBehind, number_at};
 ghost use Rattle.debug_info.specs.Reading.{behind_run};
 ghost use Rattle.debug_info.specs.Forms.{IsReadTo, block_at, form_of, number_by, shared_at, signed_constant, value_at, value_by};
-ghost use Rattle.debug_info.specs.Sources.{IsSource, texts_end};
+ghost use Rattle.debug_info.specs.Sources.{IsSource};
 
 use crate::expression::{Operation, only_operation};
 use crate::fault::InfoFault;
@@ -151,19 +151,8 @@ fn block_at(width: Width, bytes: &[u8], at: usize) -> Result<(Value, usize), Inf
     Ok((Value::Block(only_operation(&bytes[start..past])), past))
 }
 
-/// The place behind the last zero byte of `.debug_str`.
-pub fn texts_end(strs: &[u8]) -> usize
-    ensures { result ≡ texts_end strs.now }
-{
-    let mut end = strs.len();
-    'bytes: while end > 0 && strs[end - 1] != 0 {
-        end -= 1;
-    }
-    end
-}
-
 // A text of `.debug_str`, by its offset.
-#[tactic(auto, using(crate::proofs::Texts::shared_text, crate::proofs::Texts::shared_short), unfolding(crate::specs::Forms::shared_at))]
+#[tactic(auto, unfolding(crate::specs::Forms::shared_at, leb_read::specs::Leb::text_at))]
 fn shared_at(source: &Source<'_>, at: usize) -> Result<(Value, usize), InfoFault>
     requires { IsSource source.now }
     ensures value { result ≡ shared_at source.now.strs.now source.now.info.now at }
@@ -173,7 +162,7 @@ fn shared_at(source: &Source<'_>, at: usize) -> Result<(Value, usize), InfoFault
     let place = StrOffset {
         at: offset as usize,
     };
-    if source.texts_end <= place.at {
+    if !source.lengths.is_ended(source.strs, place.at) {
         return Err(InfoFault::Short);
     }
     Ok((Value::Text(TextPlace::Shared(place)), next))

@@ -7,7 +7,7 @@ ghost use Rattle.debug_info.specs.Units.{header_at, unit_end};
 
 use crate::fault::{InfoFault, UnitFault};
 use crate::form::behind_run;
-use crate::offset::InfoOffset;
+use crate::offset::{AbbrevOffset, InfoOffset, Source};
 use dbg_traits::NoMemory;
 use leb_read::{u8_at, u16_at, u32_at};
 use std::alloc::Global;
@@ -40,23 +40,26 @@ fn unit_end(info: &[u8], at: usize) -> Result<usize, InfoFault>
 
 /// The place of the unit's abbreviations, and the next place; its version stands at a place.
 #[tactic(auto, unfolding(crate::specs::Units::header_at))]
-pub fn header_at(abbrevs: &[u8], info: &[u8], at: usize) -> Result<(usize, usize), InfoFault>
-    ensures value { result ≡ header_at abbrevs.now info.now at }
-    ensures abbrevs { IfOk result (λ r. r.0 ≤ length abbrevs.now) }
+pub fn header_at(source: &Source<'_>, at: usize) -> Result<(AbbrevOffset, usize), InfoFault>
+    ensures value { result ≡ header_at source.now.abbrevs.now source.now.info.now at }
+    ensures abbrevs { IfOk result (λ r. r.0.at ≤ length source.now.abbrevs.now) }
     ensures behind { IfOk result (λ r. at < r.1) }
-    ensures within { IfOk result (λ r. r.1 ≤ length info.now) }
+    ensures within { IfOk result (λ r. r.1 ≤ length source.now.info.now) }
 {
-    let (version, next) = u16_at(info, at)?;
+    let (version, next) = u16_at(source.info, at)?;
     if version < 2 || 4 < version {
         return Err(InfoFault::Version);
     }
-    let (offset, next) = u32_at(info, next)?;
-    if abbrevs.len() < offset as usize {
+    let (offset, next) = u32_at(source.info, next)?;
+    let abbrevs = AbbrevOffset {
+        at: offset as usize,
+    };
+    if source.abbrevs.len() < abbrevs.at {
         return Err(InfoFault::Abbrev);
     }
-    let (address_size, next) = u8_at(info, next)?;
+    let (address_size, next) = u8_at(source.info, next)?;
     if address_size == 4 {
-        Ok((offset as usize, next))
+        Ok((abbrevs, next))
     } else {
         Err(InfoFault::Version)
     }

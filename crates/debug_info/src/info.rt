@@ -6,11 +6,11 @@ ghost use Rattle.debug_info.specs.Shown.{shown_variables};
 
 use crate::entry::Entry;
 use crate::fault::UnitFault;
-use crate::form::texts_end;
 use crate::index::index_of;
 use crate::offset::{Sections, Source};
 use crate::scope::{Texts, Var, variables_in};
 use crate::table::{Step, function_at, functions_of, table_of};
+use crate::text_lengths::{TextLengths, text_lengths_of};
 use crate::unit::{Contents, Unit, contents_of};
 use dbg_traits::NoMemory;
 use std::alloc::Global;
@@ -25,6 +25,7 @@ pub struct Info {
     steps: Vec<Step>,
     info: Vec<u8>,
     strs: Vec<u8>,
+    lengths: TextLengths,
 }
 
 impl Model for Info {
@@ -47,12 +48,13 @@ pub fn read_info(alloc: Global, sections: &Sections<'_>) -> Result<Info, NoMemor
     ensures { IfOk result (λ info. info ≡ info_of sections.now.abbrevs.now sections.now.strs.now sections.now.info.now) }
 {
     let index = index_of(alloc, sections.abbrevs)?;
+    let lengths = text_lengths_of(alloc, sections.strs)?;
     let source = Source {
         info: sections.info,
         abbrevs: sections.abbrevs,
         index: &index,
         strs: sections.strs,
-        texts_end: texts_end(sections.strs),
+        lengths: &lengths,
     };
     let contents = contents_of(alloc, &source)?;
     let functions = functions_of(alloc, &contents.units)?;
@@ -62,6 +64,7 @@ pub fn read_info(alloc: Global, sections: &Sections<'_>) -> Result<Info, NoMemor
         steps,
         info: Vec::from_slice(alloc, sections.info)?,
         strs: Vec::from_slice(alloc, sections.strs)?,
+        lengths,
     })
 }
 
@@ -105,6 +108,7 @@ impl Info {
                 let texts = Texts {
                     info: &self.info,
                     strs: &self.strs,
+                    lengths: &self.lengths,
                 };
                 let entries = entries_of(&self.contents.units, function.unit);
                 let from = entries_from(entries, function.entry);

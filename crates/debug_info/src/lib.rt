@@ -17,6 +17,7 @@ mod order;
 mod scope;
 mod table;
 mod tables;
+mod text_lengths;
 mod unit;
 
 pub use entry::{Kind, Range};

@@ -1,6 +1,7 @@
 //! Places in the three sections, each with a type of its own.
 
 use crate::index::Index;
+use crate::text_lengths::TextLengths;
 
 /// An offset into `.debug_info`.
 #[derive(Clone, Copy, Debug, PartialEq, Eq)]
@@ -42,6 +43,6 @@ pub struct Source<'a> {
     pub index: &'a Index,
     /// `.debug_str`
     pub strs: &'a [u8],
-    /// Behind the last zero byte of `.debug_str`, where the last text ends.
-    pub texts_end: usize,
+    /// How long the texts of it are.
+    pub lengths: &'a TextLengths,
 }

@@ -4,11 +4,12 @@ ghost use Rattle.std.specs.Prelude.{◌≡◌, ◌==◌, ◌++◌, ◌∷◌, []
 ghost use Rattle.leb_read.specs.Leb.{is_text_byte};
 ghost use Rattle.debug_info.specs.Rising.{RisesFrom};
 ghost use Rattle.debug_info.specs.Scope.{by_depth, is_entered, is_modifier, is_named, is_own, is_unit_variable, is_within, kind_of, name_of, own_entries, own_kind, place_in, text_from, type_entry, variable_of, variables_in};
-ghost use Rattle.debug_info.specs.Shown.{IsEntrySplit, is_below, seen_texts, shown_variable, shown_variables, shut_by};
+ghost use Rattle.debug_info.specs.Shown.{AreTexts, IsEntrySplit, is_below, seen_texts, shown_variable, shown_variables, shut_by};
 
 use crate::entry::{Entry, Kind, Range, Tag};
 use crate::expression::{Base, Place};
 use crate::form::TextPlace;
+use crate::text_lengths::TextLengths;
 use dbg_traits::NoMemory;
 use std::alloc::Global;
 
@@ -31,6 +32,7 @@ pub struct Var<'a> {
 pub struct Texts<'a> {
     pub info: &'a [u8],
     pub strs: &'a [u8],
+    pub lengths: &'a TextLengths,
 }
 
 /// How many typedefs, consts and volatiles are followed.
@@ -58,12 +60,13 @@ fn text_from(section: &[u8], at: usize) -> &[u8]
 }
 
 fn name_of<'a>(texts: &Texts<'a>, place: Option<TextPlace>) -> &'a [u8]
+    requires { AreTexts texts.now }
     ensures { result.now ≡ name_of (seen_texts texts.now) place }
 {
     match place {
         None => &[],
         Some(TextPlace::Inline(offset)) => text_from(texts.info, offset.at),
-        Some(TextPlace::Shared(offset)) => text_from(texts.strs, offset.at),
+        Some(TextPlace::Shared(offset)) => texts.lengths.text(texts.strs, offset.at),
     }
 }
 
@@ -148,7 +151,8 @@ fn variable_of<'a>(
     listed: bool,
     entry: &Entry,
 ) -> Var<'a>
-    requires { RisesFrom 0 entries.now }
+    requires texts { AreTexts texts.now }
+    requires rising { RisesFrom 0 entries.now }
     ensures { shown_variable result ≡ variable_of (seen_texts texts.now) entries.now base listed entry.now }
 {
     Var {
@@ -254,7 +258,8 @@ fn push_level<'a>(
     own: &[Entry],
     level: u8,
 ) -> Result<(), NoMemory>
-    requires { RisesFrom 0 entries.now }
+    requires texts { AreTexts texts.now }
+    requires rising { RisesFrom 0 entries.now }
     ensures { OnOk result (shown_variables variables.new.items ≡ shown_variables variables.old.items ++ map (variable_of (seen_texts texts.now) entries.now base true) (filter (λ e. e.level == level) own.now)) }
 {
     for entry in own {
@@ -272,7 +277,8 @@ fn push_unit<'a>(
     entries: &[Entry],
     base: Base,
 ) -> Result<(), NoMemory>
-    requires { RisesFrom 0 entries.now }
+    requires texts { AreTexts texts.now }
+    requires rising { RisesFrom 0 entries.now }
     ensures { OnOk result (shown_variables variables.new.items ≡ shown_variables variables.old.items ++ map (variable_of (seen_texts texts.now) entries.now base false) (filter is_unit_variable entries.now)) }
 {
     for entry in entries {
@@ -301,7 +307,8 @@ pub fn variables_in<'a>(
     entries: &[Entry],
     from: &[Entry],
 ) -> Result<Vec<Var<'a>>, NoMemory>
-    requires { RisesFrom 0 entries.now }
+    requires texts { AreTexts texts.now }
+    requires rising { RisesFrom 0 entries.now }
     ensures { IfOk result (λ v. shown_variables v.items ≡ variables_in (seen_texts texts.now) pc entries.now from.now) }
 {
     let mut variables = Vec::new(alloc);

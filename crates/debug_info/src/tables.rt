@@ -14,6 +14,7 @@ ghost use Rattle.debug_info.specs.Tables.{IsDeclared, IsTable, LeadTo, end_of};
 use crate::abbreviation::{Declaration, declaration_at};
 use crate::fault::InfoFault;
 use crate::index::Index;
+use crate::offset::AbbrevOffset;
 use dbg_traits::NoMemory;
 use std::alloc::Global;
 use std::collections::BTreeMap;
@@ -183,15 +184,15 @@ impl Table {
         alloc: Global,
         abbrevs: &[u8],
         index: &Index,
-        at: usize,
+        place: AbbrevOffset,
     ) -> Result<(), NoMemory>
         requires index { IsIndex abbrevs.now index.now }
         requires table { IsTable abbrevs.now self.old }
-        requires within { at ≤ length abbrevs.now }
+        requires within { place.at ≤ length abbrevs.now }
         ensures table { OnOk result (IsTable abbrevs.now self.new) }
-        ensures place { OnOk result (self.new.at ≡ at) }
+        ensures place { OnOk result (self.new.at ≡ place.at) }
     {
-        let mut before = self.meet(alloc, abbrevs, index, at)?;
+        let mut before = self.meet(alloc, abbrevs, index, place.at)?;
         'declarations: while let Some(first) = before.pop() {
             self.put_first(abbrevs, first)?;
         }
@@ -202,7 +203,7 @@ impl Table {
     pub fn find(&self, abbrevs: &[u8], code: u64) -> Result<Declaration, InfoFault>
         requires { IsTable abbrevs.now self.now }
         ensures value { result ≡ abbreviation_of (length abbrevs.now + 1) abbrevs.now code self.now.at }
-        ensures within { IfOk result (λ d. d.attributes ≤ length abbrevs.now) }
+        ensures within { IfOk result (λ d. d.attributes.at ≤ length abbrevs.now) }
     {
         let _abbrevs = abbrevs;
         match self.declarations.get(&code) {

@@ -53,8 +53,8 @@ fn unit_entries(
     ensures rising { IfOk result (λ v. RisesFrom 0 v.items) }
     ensures value { Gives result (unit_entries source.now.abbrevs.now source.now.strs.now source.now.info.now at) }
 {
-    let (offset, next) = header_at(source.abbrevs, source.info, at + 4)?;
-    table.move_to(alloc, source.abbrevs, source.index, offset)?;
+    let (abbrevs, next) = header_at(source, at + 4)?;
+    table.move_to(alloc, source.abbrevs, source.index, abbrevs)?;
     entries_at(alloc, source, table, at, next)
 }
 

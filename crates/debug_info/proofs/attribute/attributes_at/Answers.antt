@@ -11,7 +11,7 @@ use Rattle.debug_info.proofs.attribute.attributes_at.Goals as goal
 pub specifications-init : goal.specifications-init
 specifications-init c =
     let s = c.args.source.now in
-    let left = values_from (length s.abbrevs.now + 1) s.abbrevs.now s.strs.now s.info.now c.args.specifications c.args.at in
+    let left = values_from (length s.abbrevs.now + 1) s.abbrevs.now s.strs.now s.info.now c.args.specifications.at c.args.at in
     record {
       read = all_extended left ∙ ap (λ (a : Attributes). extended a left) (sym c.no_attributes-attributes.ensures);
       specified = c.requires.specifications;

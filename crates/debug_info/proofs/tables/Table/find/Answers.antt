@@ -15,7 +15,7 @@ returns-in-Some c =
     found_in c.args.abbrevs.now t.end t.at c.args.code _ _ c.requires ∙ ap (looked_up t.end) (sym c.in-Some.ensures.value) in
     record {
       value = sym is;
-      within = subst (λ (r : Result Declaration InfoFault). IfOk r (λ d. d.attributes ≤ length c.args.abbrevs.now)) is (abbreviation_within (length c.args.abbrevs.now + 1) c.args.abbrevs.now c.args.code t.at);
+      within = subst (λ (r : Result Declaration InfoFault). IfOk r (λ d. d.attributes.at ≤ length c.args.abbrevs.now)) is (abbreviation_within (length c.args.abbrevs.now + 1) c.args.abbrevs.now c.args.code t.at);
     }
 
 pub returns-in-None : goal.returns-in-None

@@ -8,7 +8,7 @@ abbrev pub invariant-declarations : goal.invariant-declarations
 invariant-declarations l =
     record {
       table : IsTable l.abbrevs l.self;
-      before : LeadTo l.abbrevs l.at l.self.at (reverse l.before.items);
+      before : LeadTo l.abbrevs l.fn.place.at l.self.at (reverse l.before.items);
     }
 
 abbrev pub decreases-declarations : goal.decreases-declarations
