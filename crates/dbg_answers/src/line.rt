@@ -15,7 +15,7 @@ use crate::debuggee::Debuggee;
 use dbg_model::{Content, Refused};
 use dbg_traits::NoMemory;
 use mi_commands::{Command, CommandLine, Fault, Refusal};
-use mi_values::Token;
+use mi_text::Token;
 use std::alloc::Global;
 
 /// What is answered to a line, with its token, and what it changes.

@@ -5,7 +5,7 @@ ghost use Rattle.dbg_model.specs.Refusals.{kind_number, number, obstacle_number,
 use crate::{Breakpoint, FrameList, RowList, ShownFrame};
 use cond_expr::{ExprFault, FaultKind};
 use mi_commands::{ByteList, Displaced, Fault, Format, NumberList};
-use mi_values::Token;
+use mi_text::Token;
 use std::marker::Model;
 
 /// What a command finds that stands against it. Threads are counted from 1.

@@ -17,7 +17,8 @@ use Rattle.mi_commands.specs.declared.refusal.Fault.TheVariants as fault
 use Rattle.mi_commands.specs.Operations.{spelling, operation_of}
 use Rattle.mi_commands.specs.Words.{options, parameters, stands, value_in}
 use Rattle.mi_commands.specs.Numbers.{number}
-use Rattle.mi_commands.specs.Bytes.{bytes_of, repeated}
+use Rattle.mi_text.specs.Hexadecimal.{bytes_of}
+use Rattle.mi_commands.specs.Bytes.{repeated}
 use Rattle.mi_commands.specs.Registers.{Assignment, assignment, form, register}
 use Rattle.mi_commands.specs.Locations.{location_of}
 use Rattle.mi_commands.specs.Settings.{format_of, setting_of, set_command}

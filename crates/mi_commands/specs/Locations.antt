@@ -5,8 +5,8 @@ use Rattle.mi_commands.specs.declared.command.Location.{Location}
 use Rattle.mi_commands.specs.declared.command.Location.TheVariants as location
 use Rattle.mi_commands.specs.declared.location.Place.{Place}
 use Rattle.mi_commands.specs.declared.location.Place.TheVariants as place
-use Rattle.mi_commands.specs.Bytes.{between}
-use Rattle.mi_commands.specs.Numbers.{digits_number, number_of}
+use Rattle.mi_text.specs.Number.{digits_number, number_of}
+use Rattle.mi_commands.specs.Numbers.{between}
 
 -- behind a byte: the place of the last `:`, by that in what follows the byte
 abbrev pub last_colon_behind : ℕ → Option ℕ → Option ℕ

@@ -1,6 +1,8 @@
--- Numbers: decimal, or hexadecimal behind `0x`, below 2^32.
-use Rattle.std.specs.Prelude.{ℕ, ◌+◌, ◌-◌, ◌*◌, ◌^◌, List, [], ◌∷◌, Bool, false, not, ◌==◌, ◌&&◌, nat_lt, Option, Some, None, is_none, unwrap_or, if◌then◌else◌}
+-- Which words are to be numbers, and of which range.
+use Rattle.std.specs.Prelude.{ℕ, ◌+◌, ◌-◌, ◌^◌, List, [], ◌∷◌, Bool, false, not, ◌==◌, ◌&&◌, nat_le, Option, Some, None, is_none, unwrap_or, if◌then◌else◌}
 use Rattle.std.specs.Option.{option_and_then}
+use Rattle.mi_text.specs.Number.{number_of}
+use Rattle.mi_text.specs.Hexadecimal.{are_bytes}
 use Rattle.mi_input.specs.Parts.{WordView}
 use Rattle.mi_commands.specs.declared.operation.Operation.{Operation}
 use Rattle.mi_commands.specs.declared.operation.Operation.TheVariants as op
@@ -9,25 +11,10 @@ use Rattle.mi_commands.specs.declared.number.Range.{Range}
 use Rattle.mi_commands.specs.declared.number.Range.TheVariants as range
 use Rattle.mi_commands.specs.Operations.{or_else, is_named}
 use Rattle.mi_commands.specs.Words.{Given, options, parameters}
-use Rattle.mi_commands.specs.Bytes.{between, digit_value, are_bytes}
 use Rattle.mi_commands.specs.Registers.{assignment}
 
--- the number `n` with these digits behind it, if they are digits and it stays below 2^32
-unfoldable pub value_from : ℕ → ℕ → List ℕ → Option ℕ
-value_from base n [] = Some n
-value_from base n (d ∷ digits) =
-    if nat_lt (digit_value d) base && nat_lt (base * n + digit_value d) (2 ^ 32)
-    then value_from base (base * n + digit_value d) digits else None
-
--- one or more digits
-abbrev pub digits_number : ℕ → List ℕ → Option ℕ
-digits_number base [] = None
-digits_number base (d ∷ digits) = value_from base 0 (d ∷ digits)
-
-abbrev pub number_of : List ℕ → Option ℕ
-number_of [] = None
-number_of (a ∷ []) = digits_number 10 (a ∷ [])
-number_of (a ∷ x ∷ digits) = if (a == 48) && (x == 120) then digits_number 16 digits else digits_number 10 (a ∷ x ∷ digits)
+abbrev pub between : ℕ → ℕ → ℕ → Bool
+between low high n = nat_le low n && nat_le n high
 
 -- the least and the greatest number of a range
 abbrev pub least : Range → ℕ

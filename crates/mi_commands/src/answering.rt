@@ -12,7 +12,7 @@ ghost use Rattle.mi_commands.specs.Commands.{insertion, set_register, write_memo
 ghost use Rattle.mi_commands.specs.Registers.{assignment};
 ghost use Rattle.mi_commands.specs.Gives.{Answers, Commands, GivesAnswer};
 
-use crate::bytes::{bytes_of, repeated};
+use crate::bytes::repeated;
 use crate::command::{Command, CommandLine, Format, Insertion, Setting};
 use crate::counts::OptionName;
 use crate::lists::ByteList;
@@ -28,6 +28,7 @@ use crate::refusal::{Failure, Fault, Refusal};
 use crate::registers::{assignment, register};
 use crate::setting::{format_of, set_command, setting_of};
 use mi_input::{InputFault, Word, split};
+use mi_text::bytes_of;
 use std::alloc::{AllocError, Global};
 
 fn copy(alloc: Global, bytes: &[u8]) -> Result<ByteList, AllocError>

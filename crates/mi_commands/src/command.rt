@@ -1,7 +1,7 @@
 //! Typed commands.
 
 use crate::lists::{ByteList, NumberList};
-use mi_values::Token;
+use mi_text::Token;
 
 /// Which threads a command resumes or interrupts.
 #[derive(Clone, Copy, Debug, PartialEq, Eq)]

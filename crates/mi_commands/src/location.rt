@@ -6,7 +6,7 @@ ghost use Rattle.mi_commands.specs.Locations.{last_colon, line_of, location_of, 
 
 use crate::command::Location;
 use crate::lists::ByteList;
-use crate::number::{digits_number, number_of};
+use mi_text::{digits_number, number_of};
 use std::alloc::{AllocError, Global};
 
 /// A location whose texts stand in the line.

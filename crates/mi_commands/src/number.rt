@@ -1,9 +1,9 @@
-//! Numbers, and the ranges in which they lie.
+//! The ranges in which numbers lie.
 
-ghost use Rattle.std.specs.Prelude.{◌≡◌, ◌≤◌, ◌<◌, ◌^◌};
-ghost use Rattle.mi_commands.specs.Numbers.{value_from, digits_number, number_of, in_range, is_bad, number};
+ghost use Rattle.std.specs.Prelude.{◌≡◌};
+ghost use Rattle.mi_commands.specs.Numbers.{in_range, is_bad, number};
 
-use crate::bytes::digit_value;
+use mi_text::number_of;
 
 /// The numbers that a command takes at some place.
 #[derive(Clone, Copy, Debug, PartialEq, Eq)]
@@ -16,45 +16,6 @@ pub enum Range {
     Register,
     /// 1 to 4,096.
     Length,
-}
-
-/// The number with these digits behind it.
-#[tactic(auto, unfolding(crate::specs::Numbers::value_from))]
-fn value_from(base: u8, so_far: u32, digits: &[u8]) -> Option<u32>
-    requires { base ≤ 16 }
-    ensures { result ≡ value_from base so_far digits.now }
-{
-    let [first, rest @ ..] = digits else {
-        return Some(so_far);
-    };
-    let digit = digit_value(*first);
-    let value = u64::from(base) * u64::from(so_far) + u64::from(digit);
-    if digit < base && value < 1 << 32 {
-        value_from(base, value as u32, rest)
-    } else {
-        None
-    }
-}
-
-/// The number of one or more digits.
-pub fn digits_number(base: u8, digits: &[u8]) -> Option<u32>
-    requires { base ≤ 16 }
-    ensures { result ≡ digits_number base digits.now }
-{
-    if digits.is_empty() {
-        return None;
-    }
-    value_from(base, 0, digits)
-}
-
-/// The number of a word: decimal, or hexadecimal behind `0x`, below 2^32.
-pub fn number_of(word: &[u8]) -> Option<u32>
-    ensures { result ≡ number_of word.now }
-{
-    match word {
-        [b'0', b'x', digits @ ..] => digits_number(16, digits),
-        _ => digits_number(10, word),
-    }
 }
 
 /// The number of a word that is one.

@@ -9,7 +9,6 @@ ghost use Rattle.mi_commands.specs.Steps.{text};
 ghost use Rattle.mi_commands.specs.Commands.{first_number, second_number, rest_of, numbers, spaced, joined, joined_if_any, number_if_any, target_of};
 ghost use Rattle.mi_commands.specs.Operations.{or_else};
 
-use crate::bytes::are_bytes;
 use crate::command::Target;
 use crate::counts::OptionName;
 use crate::lists::{ByteList, NumberList};
@@ -21,6 +20,7 @@ use crate::registers::assignment;
 use crate::setting::{format_of, set_command, setting_of};
 use cond_expr::register_of;
 use mi_input::Word;
+use mi_text::are_bytes;
 use std::alloc::{AllocError, Global};
 
 /// The first word, or an empty one.

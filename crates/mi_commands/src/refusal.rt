@@ -5,8 +5,8 @@ ghost use Rattle.mi_commands.specs.Faults.{fault_number};
 ghost use Rattle.mi_commands.specs.declared.refusal.Failure.TheVariants as failures;
 
 use crate::lists::ByteList;
-use mi_values::Token;
-use std::alloc::{AllocError, AllocFailed};
+use mi_text::Token;
+use std::alloc::AllocError;
 use thiserror::Error;
 
 /// What is wrong with a line that has parts.
@@ -75,14 +75,6 @@ impl From<AllocError> for Failure {
     ghost from_gives = { λ _ e. e ≡ failures.NoMemory };
 
     fn from(_: AllocError) -> Failure {
-        Failure::NoMemory
-    }
-}
-
-impl<T: Drop> From<AllocFailed<T>> for Failure {
-    ghost from_gives = { λ _ e. e ≡ failures.NoMemory };
-
-    fn from(_: AllocFailed<T>) -> Failure {
         Failure::NoMemory
     }
 }

@@ -4,12 +4,16 @@ use Rattle.std.specs.Prelude.{Option, take_while}
 use Rattle.std.specs.List.{list_all, prefix_len}
 use Rattle.std.proofs.lemmas.Bool.{cases_eq, ne_eqb, eqb-true, le-leb}
 use Rattle.std.proofs.lemmas.List.{take-append-drop, length-take}
-use Rattle.mi_values.specs.Token.{is_digit, is_token}
+use Rattle.mi_text.specs.Digits.{is_digit}
+use Rattle.mi_text.specs.Token.{is_token}
+use Rattle.mi_text.specs.declared.fault.ReadFault.{ReadFault}
+use Rattle.mi_text.specs.declared.fault.ReadFault.TheVariants as reading
 use Rattle.mi_input.specs.declared.parts.Parts.{Parts}
 use Rattle.mi_input.specs.declared.parts.InputFault.{InputFault}
 use Rattle.mi_input.specs.declared.parts.InputFault.TheVariants as faults
 use Rattle.mi_input.specs.Parts.{is_blank, is_parted, after_blanks, begins, token_of, behind_token, is_operation, is_operation_byte, WordView, IsWords, IsCommand, HasOperation, HasParts, PartsView, is_cli}
 use Rattle.mi_input.specs.Split.{ReadsWords, IsOperation, ReadsCommand, HasNoParts, Splits, GivesParts, parts_view}
+use Rattle.mi_input.specs.Faults.{fault_of}
 use Rattle.mi_input.proofs.Words.{both, Stops, one_run, run_passes, run_stops, run_length, cut_back, kind_shorter, one_word}
 
 all_front : (p : ℕ → Bool) (xs : List ℕ) (m n : ℕ) → m ≤ n → list_all p (take n xs) ≡ true → list_all p (take m xs) ≡ true
@@ -56,13 +60,11 @@ not_parted bytes n counted fails operation words is =
     let p = one_operation bytes operation is.rest n counted is.spelled is.named is.parted in
     let parted : is_parted (take (length bytes - n) (drop n bytes)) ≡ true = ap is_parted (cut_back bytes n ∙ p.1) ∙ is.parted in absurd cc
 
-pub command_fails : (bytes : List ℕ) (n : ℕ) (f : InputFault) → n ≡ length (take_while is_operation_byte bytes) → ReadsWords (take (length bytes - n) (drop n bytes)) (Err f) → ReadsCommand bytes (Err f)
-command_fails bytes n faults.NoMemory counted h = tt
-command_fails bytes n faults.Syntax counted h = λ operation words is.
+pub command_fails : (bytes : List ℕ) (n : ℕ) (f : ReadFault) → n ≡ length (take_while is_operation_byte bytes) → ReadsWords (take (length bytes - n) (drop n bytes)) (Err f) → ReadsCommand bytes (Err f)
+command_fails bytes n reading.NoMemory counted h = tt
+command_fails bytes n reading.Text counted h = λ operation words is.
     let p = one_operation bytes operation is.rest n counted is.spelled is.named is.parted in
     h words (subst (λ (l : List ℕ). IsWords l words) (sym (cut_back bytes n ∙ p.1)) is.words_are)
-command_fails bytes n faults.Long counted h = h
-command_fails bytes n (faults.Cli t) counted h = h
 
 named_by : (bytes : List ℕ) (n : ℕ) → n ≡ prefix_len is_operation_byte bytes → (n ≡ 0 → ⊥) → list_all is_operation_byte (take n bytes) ≡ true → is_operation (take n bytes) ≡ true
 named_by [] n e some h = absurd (some e)
@@ -116,9 +118,9 @@ pub cli_splits : (line start behind token : List ℕ) (t : List ℕ) → length 
 cli_splits line start behind token t short e some quote b none is =
     (short, ap is_cli (sym e) ∙ cli_by start some quote false (ap (begins 45) (sym b) ∙ begins_not behind none), is ∙ ap token_of e)
 
-pub command_splits : (line start behind rest : List ℕ) (f : InputFault) → length line ≤ 4096 → start ≡ after_blanks line → false ≡ eqb (length start) 0 → ((x : List ℕ) → start ≡ 34 ∷ x → ⊥) → behind ≡ behind_token start → behind ≡ 45 ∷ rest → ReadsCommand rest (Err f) → Splits line (Err f)
-command_splits line start behind rest faults.NoMemory short e some quote b dash h = tt
-command_splits line start behind rest faults.Syntax short e some quote b dash h =
+pub command_splits : (line start behind rest : List ℕ) (f : ReadFault) → length line ≤ 4096 → start ≡ after_blanks line → false ≡ eqb (length start) 0 → ((x : List ℕ) → start ≡ 34 ∷ x → ⊥) → behind ≡ behind_token start → behind ≡ 45 ∷ rest → ReadsCommand rest (Err f) → Splits line (Err (fault_of f))
+command_splits line start behind rest reading.NoMemory short e some quote b dash h = tt
+command_splits line start behind rest reading.Text short e some quote b dash h =
     (short, no_parts line start e some none, ap is_cli (sym e) ∙ cli_by start some quote true (ap (begins 45) (sym b ∙ dash)))
   where
     none : (token operation : List ℕ) (words : List WordView) → IsCommand start token operation words → ⊥
@@ -126,8 +128,6 @@ command_splits line start behind rest faults.Syntax short e some quote b dash h 
         let f : 45 ∷ rest ≡ 45 ∷ (operation ++ is.rest) = sym dash ∙ b ∙ is.behind in
         let same : rest ≡ operation ++ is.rest = cc in
         h operation words (record { rest = is.rest; spelled = same; named = is.named; parted = is.parted; words_are = is.words_are })
-command_splits line start behind rest faults.Long short e some quote b dash h = absurd h
-command_splits line start behind rest (faults.Cli t) short e some quote b dash h = absurd h
 
 pub has_command : (line start behind rest token operation : List ℕ) (words : List WordView) → start ≡ after_blanks line → behind ≡ behind_token start → behind ≡ 45 ∷ rest → token ≡ token_of start → IsOperation rest operation words → IsCommand (after_blanks line) token operation words
 has_command line start behind rest token operation words e b dash t is =

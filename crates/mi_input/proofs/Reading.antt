@@ -9,11 +9,13 @@ use Rattle.std.proofs.lemmas.List.Folds.{length-prefix_len}
 use Rattle.mi_input.specs.declared.parts.Parts.{Parts}
 use Rattle.mi_input.specs.declared.parts.InputFault.{InputFault}
 use Rattle.mi_input.specs.declared.parts.InputFault.TheVariants as faults
-use Rattle.mi_input.specs.Parts.{PartsView, WordView, symbol, symbol_at, begins, is_blank, is_word_byte, is_plain, is_parted, after_blanks, token_of, behind_token, is_operation, is_operation_byte, IsText, IsWord, IsWordOf, IsWords, IsCommand, HasOperation, HasParts, is_cli}
+use Rattle.mi_input.specs.Parts.{PartsView, WordView, begins, is_blank, is_word_byte, is_plain, is_parted, after_blanks, token_of, behind_token, is_operation, is_operation_byte, IsWord, IsWordOf, IsWords, IsCommand, HasOperation, HasParts, is_cli}
 use Rattle.mi_input.specs.Split.{parts_view, Splits}
 use Rattle.mi_input.specs.Reading.{text_read, longer, parted_read, plain_run, word_read, words_read, with_words, operation_run, behind_operation, operation_parts, operation_read, command_read, blank_parts, parts_read, Reads}
 use Rattle.mi_input.proofs.Options.{bind_some, map_some, guard_some, same_some}
-use Rattle.mi_input.proofs.Words.{both, quote_spells_none, symbol_shorter, kind_shorter, one_word, one_run, Stops, run_passes, run_stops, cut_back, plain_read, blanks_end, view_of}
+use Rattle.mi_text.specs.Escape.{symbol, symbol_at, IsText}
+use Rattle.mi_text.proofs.Symbols.{quote_spells_none, symbol_shorter}
+use Rattle.mi_input.proofs.Words.{both, kind_shorter, one_word, one_run, Stops, run_passes, run_stops, cut_back, plain_read, blanks_end, view_of}
 use Rattle.mi_input.proofs.Commands.{operation_bytes, parted_ends, cli_no_parts}
 
 -- ---- a byte at the front

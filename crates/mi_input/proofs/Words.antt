@@ -1,118 +1,18 @@
 -- Reading the words of a line one after the other.
-use Rattle.std.proofs.Common.{◌≡◌, ℕ, suc, ◌+◌, ◌-◌, ◌*◌, ◌<◌, List, [], ◌∷◌, ◌++◌, length, take, drop, Bool, true, false, cond, not, ◌&&◌, eqb, None, Err, refl, sym, ap, subst, ◌∙◌, append_assoc, arith}
+use Rattle.std.proofs.Common.{◌≡◌, ℕ, suc, ◌+◌, ◌-◌, ◌<◌, List, [], ◌∷◌, ◌++◌, length, take, drop, Bool, true, false, cond, not, ◌&&◌, eqb, Err, refl, sym, ap, subst, ◌∙◌, arith}
 use Rattle.std.specs.Prelude.{take_while}
 use Rattle.std.specs.List.{list_all, prefix_len}
 use Rattle.std.proofs.lemmas.List.{append-nil, take-append-drop, length-append, length-drop}
 use Rattle.std.proofs.lemmas.Bool.{ne_eqb, eqb-true}
 use Rattle.std.proofs.Math.Seq.{take-length}
 use Rattle.std.proofs.lemmas.List.Folds.{length-prefix_len}
-use Rattle.std.proofs.lemmas.Option.{same_Some}
 use Rattle.mi_input.specs.declared.parts.Word.{Word}
-use Rattle.mi_input.specs.declared.parts.InputFault.{InputFault}
-use Rattle.mi_input.specs.declared.parts.InputFault.TheVariants as faults
-use Rattle.mi_values.specs.Reading.{is_octal}
-use Rattle.mi_input.specs.Parts.{Symbol, symbol, byte_of, third_digit, second_digit, octal_at, escape_at, symbol_at, IsText, is_blank, is_word_byte, is_plain, is_parted, after_blanks, WordView, IsWordOf, IsWord, IsWords}
-use Rattle.mi_input.specs.Split.{word_view, words_view, ReadsQuoted, ReadsWord, ReadsWords}
-
--- ---- a byte's spelling is taken off the front
-
-if_shorter : (t : Bool) (o p : Symbol) (k b : ℕ) (more : List ℕ) → cond t o p ≡ symbol b more → (o ≡ symbol b more → length more < k) → (p ≡ symbol b more → length more < k) → length more < k
-if_shorter true o p k b more e f g = f e
-if_shorter false o p k b more e f g = g e
-
-same_length : (a b : ℕ) (xs ys : List ℕ) → symbol a xs ≡ symbol b ys → length ys ≡ length xs
-same_length a b xs ys e = ap (λ (p : ℕ × List ℕ). length p.1) (sym (same_Some (a, xs) (b, ys) e))
-
-at_front : (a b k : ℕ) (xs ys : List ℕ) → length xs < k → symbol a xs ≡ symbol b ys → length ys < k
-at_front a b k xs ys lt e = let same = same_length a b xs ys e in omega arith
-
-none_shorter : (b k : ℕ) (more : List ℕ) → None ≡ symbol b more → length more < k
-none_shorter b k more e = absurd cc
-
-byte_shorter : (n b k : ℕ) (rest more : List ℕ) → length rest < k → byte_of n rest ≡ symbol b more → length more < k
-byte_shorter n b k rest more lt e = if_shorter _ (symbol n rest) None k b more e (at_front n b k rest more lt) (none_shorter b k more)
-
-third_shorter : (n b k : ℕ) (bytes more : List ℕ) → length bytes < k → third_digit n bytes ≡ symbol b more → length more < k
-third_shorter n b k [] more lt e = at_front n b k [] more lt e
-third_shorter n b k (c ∷ cs) more lt e =
-    if_shorter (is_octal c) (byte_of (8 * n + (c - 48)) cs) (symbol n (c ∷ cs)) k b more e (byte_shorter _ b k cs more (omega arith)) (at_front n b k (c ∷ cs) more lt)
-
-second_shorter : (n b k : ℕ) (bytes more : List ℕ) → length bytes < k → second_digit n bytes ≡ symbol b more → length more < k
-second_shorter n b k [] more lt e = at_front n b k [] more lt e
-second_shorter n b k (c ∷ cs) more lt e =
-    if_shorter (is_octal c) (third_digit (8 * n + (c - 48)) cs) (symbol n (c ∷ cs)) k b more e (third_shorter _ b k cs more (omega arith)) (at_front n b k (c ∷ cs) more lt)
-
-escape_shorter : (b k : ℕ) (bytes more : List ℕ) → length bytes < k → escape_at bytes ≡ symbol b more → length more < k
-unfolding escape_at
-escape_shorter b k [] more lt e = none_shorter b k more e
-escape_shorter b k (c ∷ cs) more lt e =
-    if_shorter (eqb c 34) (symbol 34 cs) _ k b more e (at_front 34 b k cs more (omega arith))
-    (λ e. if_shorter (eqb c 92) (symbol 92 cs) _ k b more e (at_front 92 b k cs more (omega arith))
-    (λ e. if_shorter (eqb c 110) (symbol 10 cs) _ k b more e (at_front 10 b k cs more (omega arith))
-    (λ e. if_shorter (eqb c 114) (symbol 13 cs) _ k b more e (at_front 13 b k cs more (omega arith))
-    (λ e. if_shorter (eqb c 116) (symbol 9 cs) (octal_at (c ∷ cs)) k b more e (at_front 9 b k cs more (omega arith))
-    (λ e. if_shorter (is_octal c) (second_digit (c - 48) cs) None k b more e (second_shorter _ b k cs more (omega arith)) (none_shorter b k more))))))
-
-pub symbol_shorter : (bytes more : List ℕ) (b : ℕ) → symbol_at bytes ≡ symbol b more → length more < length bytes
-unfolding symbol_at
-symbol_shorter [] more b e = none_shorter b (length {A = ℕ} []) more e
-symbol_shorter (c ∷ cs) more b e =
-    if_shorter (eqb c 34) None _ (length (c ∷ cs)) b more e (none_shorter b (length (c ∷ cs)) more)
-    (λ e. if_shorter (eqb c 92) (escape_at cs) (symbol c cs) (length (c ∷ cs)) b more e (escape_shorter b (length (c ∷ cs)) cs more (omega arith)) (at_front c b (length (c ∷ cs)) cs more (omega arith)))
-
-pub quote_spells_none : (rest : List ℕ) → symbol_at (34 ∷ rest) ≡ None
-unfolding symbol_at
-quote_spells_none rest = refl
-
--- ---- C strings
-
--- of bytes some were read as a text, and what is a whole text goes on with the rest
-pub record Quoting (bytes rest text : List ℕ) : Type 0 where
-  pub so_far : (t r : List ℕ) → IsText rest t r → IsText bytes (text ++ t) r
-  pub only : (t r : List ℕ) → IsText bytes t r → (u : List ℕ) × (t ≡ text ++ u) × IsText rest u r
-
-pub quoting_starts : (bytes text : List ℕ) → text ≡ [] → Quoting bytes bytes text
-quoting_starts bytes text e = subst (λ (t : List ℕ). Quoting bytes bytes t) (sym e) (record { so_far = λ t r h. h; only = λ t r h. (t, refl, h) })
-
-later_text : (rest more u r : List ℕ) (b : ℕ) → symbol_at rest ≡ symbol b more → IsText rest u r → (v : List ℕ) × (u ≡ b ∷ v) × IsText more v r
-later_text rest more [] r b found h = let e : symbol_at rest ≡ None = ap symbol_at h ∙ quote_spells_none r in absurd cc
-later_text rest more (c ∷ u) r b found h =
-    let same = same_Some (b, more) (c, h.0) (sym found ∙ h.1) in
-    let heads : b ≡ c = ap (λ (p : ℕ × List ℕ). p.0) same in
-    let rests : more ≡ h.0 = ap (λ (p : ℕ × List ℕ). p.1) same in
-    (u, ap (λ (n : ℕ). n ∷ u) (sym heads), subst (λ (l : List ℕ). IsText l u r) (sym rests) h.2)
-
-pub quoting_turns : (bytes rest more text text' : List ℕ) (b : ℕ) → Quoting bytes rest text → symbol_at rest ≡ symbol b more → text' ≡ text ++ b ∷ [] → Quoting bytes more text'
-quoting_turns bytes rest more text text' b q found e =
-    subst (λ (t : List ℕ). Quoting bytes more t) (sym e) (record {
-      so_far = λ t r h. subst (λ (l : List ℕ). IsText bytes l r) (sym (append_assoc text (b ∷ []) t)) (q.so_far (b ∷ t) r (more, found, h));
-      only = λ t r h.
-          let n = q.only t r h in
-          let v = later_text rest more n.0 r b found n.2 in
-          (v.0, n.1 ∙ ap (λ (l : List ℕ). text ++ l) v.1 ∙ sym (append_assoc text (b ∷ []) v.0), v.2);
-    })
-
-pub quoting_ends : (bytes rest text end : List ℕ) → Quoting bytes rest text → rest ≡ 34 ∷ end → IsText bytes text end
-quoting_ends bytes rest text end q e = subst (λ (l : List ℕ). IsText bytes l end) (append-nil text) (q.so_far [] end e)
-
-no_more : (rest u r : List ℕ) → ((x : List ℕ) → rest ≡ 34 ∷ x → ⊥) → symbol_at rest ≡ None → IsText rest u r → ⊥
-no_more rest [] r no_quote none h = no_quote r h
-no_more rest (c ∷ u) r no_quote none h = let e = h.1 in absurd cc
-
-pub quoting_fails : (bytes rest text : List ℕ) → Quoting bytes rest text → ((x : List ℕ) → rest ≡ 34 ∷ x → ⊥) → symbol_at rest ≡ None → (t r : List ℕ) → IsText bytes t r → ⊥
-quoting_fails bytes rest text q no_quote none t r h = let n = q.only t r h in no_more rest n.0 r no_quote none n.2
-
-one_quoted : (t u bytes x y : List ℕ) → IsText bytes t x → IsText bytes u y → (t ≡ u) × (x ≡ y)
-one_quoted [] [] bytes x y h g = (refl, cc)
-one_quoted [] (c ∷ u) bytes x y h g = let e : symbol_at bytes ≡ None = ap symbol_at h ∙ quote_spells_none x in let f = g.1 in absurd cc
-one_quoted (c ∷ t) [] bytes x y h g = let e : symbol_at bytes ≡ None = ap symbol_at g ∙ quote_spells_none y in let f = h.1 in absurd cc
-one_quoted (c ∷ t) (d ∷ u) bytes x y h g =
-    let same = same_Some (c, h.0) (d, g.0) (sym h.1 ∙ g.1) in
-    let heads : c ≡ d = ap (λ (p : ℕ × List ℕ). p.0) same in
-    let rests : h.0 ≡ g.0 = ap (λ (p : ℕ × List ℕ). p.1) same in
-    let ih = one_quoted t u g.0 x y (subst (λ (l : List ℕ). IsText l t x) rests h.2) g.2 in
-    let tails : t ≡ u = ih.0 in
-    (cc, ih.1)
+use Rattle.mi_text.specs.declared.fault.ReadFault.{ReadFault}
+use Rattle.mi_text.specs.declared.fault.ReadFault.TheVariants as reading
+use Rattle.mi_text.specs.Escape.{IsText}
+use Rattle.mi_text.proofs.Texts.{one_text, text_shorter}
+use Rattle.mi_input.specs.Parts.{is_blank, is_word_byte, is_plain, is_parted, after_blanks, WordView, IsWordOf, IsWord, IsWords}
+use Rattle.mi_input.specs.Split.{word_view, words_view, ReadsWord, ReadsWords}
 
 -- ---- runs of bytes that pass a test
 
@@ -218,15 +118,9 @@ quoted_only bytes inner e true text rest h =
     let same : h.0 ≡ inner = (let f : 34 ∷ h.0 ≡ 34 ∷ inner = sym h.1 ∙ e in cc) in subst (λ (l : List ℕ). IsText l text rest) same h.2
 quoted_only bytes inner e false text rest h = absurd (plain_not_quote bytes inner text rest e h.0 h.1)
 
-pub word_no_text : (bytes inner : List ℕ) (f : InputFault) → bytes ≡ 34 ∷ inner → ReadsQuoted inner (Err f) → ReadsWord bytes (Err f)
-word_no_text bytes inner faults.NoMemory e h = tt
-word_no_text bytes inner faults.Syntax e h = λ w rest is. h w.0 rest (quoted_only bytes inner e w.1 w.0 rest is.0)
-word_no_text bytes inner faults.Long e h = h
-word_no_text bytes inner (faults.Cli t) e h = h
-
 pub word_not_parted : (bytes inner text rest : List ℕ) → bytes ≡ 34 ∷ inner → IsText inner text rest → is_parted rest ≡ false → (w : WordView) (r : List ℕ) → IsWord bytes w r → ⊥
 word_not_parted bytes inner text rest e h fails w r is =
-    let same = one_quoted text w.0 inner rest r h (quoted_only bytes inner e w.1 w.0 r is.0) in
+    let same = one_text text w.0 inner rest r h (quoted_only bytes inner e w.1 w.0 r is.0) in
     let parted : is_parted rest ≡ true = ap is_parted same.1 ∙ is.1 in absurd cc
 
 plain_all : (t : List ℕ) → is_plain t ≡ true → list_all is_word_byte t ≡ true
@@ -240,7 +134,7 @@ one_kind : (bytes : List ℕ) (q r : Bool) (t u x y : List ℕ) → IsWordOf q b
 one_kind bytes true r t u x y h g px py = by_other r g
   where
     by_other : (r : Bool) → IsWordOf r bytes u y → (t ≡ u) × (true ≡ r) × (x ≡ y)
-    by_other true g = let p = one_quoted t u h.0 x y h.2 (quoted_only bytes h.0 h.1 true u y g) in (p.0, refl, p.1)
+    by_other true g = let p = one_text t u h.0 x y h.2 (quoted_only bytes h.0 h.1 true u y g) in (p.0, refl, p.1)
     by_other false g = absurd (plain_not_quote bytes h.0 u y h.1 g.0 g.1)
 one_kind bytes false r t u x y h g px py = by_other r g
   where
@@ -253,10 +147,6 @@ one_word bytes w v x y h g =
     let p = one_kind bytes w.1 v.1 w.0 v.0 x y h.0 g.0 h.1 g.1 in (view_same w.0 v.0 w.1 v.1 p.0 p.1, p.2)
 
 -- ---- the words of a line
-
-text_shorter : (text bytes rest : List ℕ) → IsText bytes text rest → length rest < length bytes
-text_shorter [] bytes rest h = omega (arith, ap length h)
-text_shorter (b ∷ text) bytes rest h = omega (arith, symbol_shorter bytes h.0 b h.1, text_shorter text h.0 rest h.2)
 
 pub kind_shorter : (q : Bool) (bytes text rest : List ℕ) → IsWordOf q bytes text rest → length rest < length bytes
 kind_shorter true bytes text rest h = omega (arith, text_shorter text h.0 rest h.2, ap length h.1)
@@ -302,11 +192,9 @@ no_word_there : (rest start : List ℕ) (ws : List WordView) → start ≡ after
 no_word_there rest start [] e some none g = let f : length start ≡ 0 = ap length (e ∙ g) in let t : eqb (length start) 0 ≡ true = ap (λ (n : ℕ). eqb n 0) f in absurd cc
 no_word_there rest start (v ∷ vs) e some none g = none v g.0 (subst (λ (l : List ℕ). IsWord l v g.0) (sym e) g.1)
 
-pub wording_fails : (bytes rest start : List ℕ) (words : List Word) (f : InputFault) → Wording bytes rest words → start ≡ after_blanks rest → false ≡ eqb (length start) 0 → ReadsWord start (Err f) → ReadsWords bytes (Err f)
-wording_fails bytes rest start words faults.NoMemory q e some h = tt
-wording_fails bytes rest start words faults.Syntax q e some h = λ ws g. let n = q.only ws g in no_word_there rest start n.0 e some h n.2
-wording_fails bytes rest start words faults.Long q e some h = h
-wording_fails bytes rest start words (faults.Cli t) q e some h = h
+pub wording_fails : (bytes rest start : List ℕ) (words : List Word) (f : ReadFault) → Wording bytes rest words → start ≡ after_blanks rest → false ≡ eqb (length start) 0 → ReadsWord start (Err f) → ReadsWords bytes (Err f)
+wording_fails bytes rest start words reading.NoMemory q e some h = tt
+wording_fails bytes rest start words reading.Text q e some h = λ ws g. let n = q.only ws g in no_word_there rest start n.0 e some h n.2
 
 unparted : (start : List ℕ) → Stops is_blank start → false ≡ eqb (length start) 0 → is_parted start ≡ false
 unfolding Stops

@@ -1,5 +1,5 @@
+pub mod Faults
 pub mod Lines
 pub mod Parts
 pub mod Split
-pub mod Gives
 pub mod Reading

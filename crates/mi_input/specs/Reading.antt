@@ -4,8 +4,9 @@ use Rattle.std.specs.Option.{option_map}
 use Rattle.mi_input.specs.declared.parts.Parts.{Parts}
 use Rattle.mi_input.specs.declared.parts.InputFault.{InputFault}
 use Rattle.mi_input.specs.declared.parts.InputFault.TheVariants.{NoMemory, Long, Syntax, Cli}
-use Rattle.mi_input.specs.Parts.{PartsView, WordView, begins, symbol_at, is_word_byte, is_parted, after_blanks, token_of, behind_token, is_operation, is_operation_byte}
+use Rattle.mi_input.specs.Parts.{PartsView, WordView, begins, is_word_byte, is_parted, after_blanks, token_of, behind_token, is_operation, is_operation_byte}
 use Rattle.mi_input.specs.Split.{parts_view}
+use Rattle.mi_text.specs.Escape.{symbol_at}
 
 -- a text, and what stands behind it
 abbrev pub TextRead : Type 0

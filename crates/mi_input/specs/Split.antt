@@ -3,11 +3,13 @@ use Rattle.std.specs.Prelude.{◌≡◌, ◌<◌, ◌≤◌, ℕ, List, ◌++◌
 use Rattle.std.specs.Option.{option_map}
 use Rattle.std.specs.Borrow.{Bor}
 use Rattle.std.specs.Global.{Vec}
+use Rattle.mi_text.specs.declared.fault.ReadFault.{ReadFault}
+use Rattle.mi_text.specs.declared.fault.ReadFault.TheVariants as reading
 use Rattle.mi_input.specs.declared.parts.Parts.{Parts}
 use Rattle.mi_input.specs.declared.parts.Word.{Word}
 use Rattle.mi_input.specs.declared.parts.InputFault.{InputFault}
 use Rattle.mi_input.specs.declared.parts.InputFault.TheVariants.{NoMemory, Long, Syntax, Cli}
-use Rattle.mi_input.specs.Parts.{PartsView, WordView, IsText, IsWord, IsWords, HasParts, is_cli, after_blanks, token_of, is_operation, is_parted}
+use Rattle.mi_input.specs.Parts.{PartsView, WordView, IsWord, IsWords, HasParts, is_cli, after_blanks, token_of, is_operation, is_parted}
 
 abbrev pub word_view : Word → WordView
 word_view w = (w.bytes.items, w.quoted)
@@ -18,27 +20,15 @@ words_view = map word_view
 abbrev pub parts_view : Parts → PartsView
 parts_view p = record { token = p.token; operation = option_map (λ v. v.items) p.operation; words = words_view p.words.items }
 
--- behind the opening `"`
-abbrev pub ReadsQuoted : List ℕ → Result (Vec ℕ × Bor (List ℕ)) InputFault → Type 0
-ReadsQuoted bytes (Ok r) = IsText bytes r.0.items r.1.now
-ReadsQuoted bytes (Err NoMemory) = Unit {0}
-ReadsQuoted bytes (Err Syntax) = (text rest : List ℕ) → IsText bytes text rest → ⊥
-ReadsQuoted bytes (Err Long) = ⊥
-ReadsQuoted bytes (Err (Cli t)) = ⊥
-
-abbrev pub ReadsWord : List ℕ → Result (Word × Bor (List ℕ)) InputFault → Type 0
+abbrev pub ReadsWord : List ℕ → Result (Word × Bor (List ℕ)) ReadFault → Type 0
 ReadsWord bytes (Ok r) = IsWord bytes (word_view r.0) r.1.now
-ReadsWord bytes (Err NoMemory) = Unit {0}
-ReadsWord bytes (Err Syntax) = (w : WordView) (rest : List ℕ) → IsWord bytes w rest → ⊥
-ReadsWord bytes (Err Long) = ⊥
-ReadsWord bytes (Err (Cli t)) = ⊥
+ReadsWord bytes (Err reading.NoMemory) = Unit {0}
+ReadsWord bytes (Err reading.Text) = (w : WordView) (rest : List ℕ) → IsWord bytes w rest → ⊥
 
-abbrev pub ReadsWords : List ℕ → Result (Vec Word) InputFault → Type 0
+abbrev pub ReadsWords : List ℕ → Result (Vec Word) ReadFault → Type 0
 ReadsWords bytes (Ok v) = IsWords bytes (words_view v.items)
-ReadsWords bytes (Err NoMemory) = Unit {0}
-ReadsWords bytes (Err Syntax) = (ws : List WordView) → IsWords bytes ws → ⊥
-ReadsWords bytes (Err Long) = ⊥
-ReadsWords bytes (Err (Cli t)) = ⊥
+ReadsWords bytes (Err reading.NoMemory) = Unit {0}
+ReadsWords bytes (Err reading.Text) = (ws : List WordView) → IsWords bytes ws → ⊥
 
 -- no line of any parts
 abbrev pub HasNoParts : List ℕ → Type 0
@@ -68,9 +58,7 @@ pub record IsOperation (bytes operation : List ℕ) (words : List WordView) : Ty
   pub parted : is_parted rest ≡ true
   pub words_are : IsWords rest words
 
-abbrev pub ReadsCommand : List ℕ → Result (Vec ℕ × Vec Word) InputFault → Type 0
+abbrev pub ReadsCommand : List ℕ → Result (Vec ℕ × Vec Word) ReadFault → Type 0
 ReadsCommand bytes (Ok r) = IsOperation bytes r.0.items (words_view r.1.items)
-ReadsCommand bytes (Err NoMemory) = Unit {0}
-ReadsCommand bytes (Err Syntax) = (operation : List ℕ) (words : List WordView) → IsOperation bytes operation words → ⊥
-ReadsCommand bytes (Err Long) = ⊥
-ReadsCommand bytes (Err (Cli t)) = ⊥
+ReadsCommand bytes (Err reading.NoMemory) = Unit {0}
+ReadsCommand bytes (Err reading.Text) = (operation : List ℕ) (words : List WordView) → IsOperation bytes operation words → ⊥

@@ -1,14 +1,15 @@
 //! A line, split into its parts.
 
 ghost use Rattle.std.specs.Prelude.{◌≡◌, ◌≤◌, length, take_while, true};
-ghost use Rattle.mi_values.specs.Token.{is_digit, is_token};
+ghost use Rattle.mi_text.specs.Digits.{is_digit};
+ghost use Rattle.mi_text.specs.Token.{is_token};
 ghost use Rattle.mi_input.specs.Parts.{PartsView, HasParts, is_operation_byte, token_of, behind_token};
 ghost use Rattle.mi_input.specs.Split.{Splits, GivesParts, ReadsCommand};
 ghost use Rattle.mi_input.specs.Reading.{Reads};
 
 use crate::parts::{InputFault, Parts, Word};
 use crate::word::{after_blanks, is_parted, words};
-use mi_values::{Token, after, is_digit};
+use mi_text::{ReadFault, Token, after, is_digit};
 use std::alloc::Global;
 
 /// The greatest length of a line.
@@ -45,16 +46,16 @@ fn operation_length(bytes: &[u8]) -> usize
 }
 
 /// The operation and the words behind a `-`.
-fn command(alloc: Global, bytes: &[u8]) -> Result<(Vec<u8>, Vec<Word>), InputFault>
+fn command(alloc: Global, bytes: &[u8]) -> Result<(Vec<u8>, Vec<Word>), ReadFault>
     ensures { ReadsCommand bytes.now result }
 {
     let end = operation_length(bytes);
     let rest = &bytes[end..];
     if end == 0 {
-        return Err(InputFault::Syntax);
+        return Err(ReadFault::Text);
     }
     if !is_parted(rest) {
-        return Err(InputFault::Syntax);
+        return Err(ReadFault::Text);
     }
     let operation = Vec::from_slice(alloc, &bytes[..end])?;
     let found = words(alloc, rest)?;

@@ -2,9 +2,10 @@
 
 ghost use Rattle.std.specs.Prelude.{◌≡◌};
 ghost use Rattle.mi_input.specs.declared.parts.InputFault.TheVariants as faults;
+ghost use Rattle.mi_input.specs.Faults.{fault_of};
 
-use mi_values::Token;
-use std::alloc::{AllocError, AllocFailed};
+use mi_text::{ReadFault, Token};
+use std::alloc::AllocError;
 use thiserror::Error;
 
 /// A word of a line.
@@ -48,10 +49,13 @@ impl From<AllocError> for InputFault {
     }
 }
 
-impl<T: Drop> From<AllocFailed<T>> for InputFault {
-    ghost from_gives = { λ _ e. e ≡ faults.NoMemory };
+impl From<ReadFault> for InputFault {
+    ghost from_gives = { λ fault e. e ≡ fault_of fault };
 
-    fn from(_: AllocFailed<T>) -> InputFault {
-        InputFault::NoMemory
+    fn from(fault: ReadFault) -> InputFault {
+        match fault {
+            ReadFault::NoMemory => InputFault::NoMemory,
+            ReadFault::Text => InputFault::Syntax,
+        }
     }
 }

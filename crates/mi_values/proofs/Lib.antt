@@ -1,7 +1,4 @@
-pub mod Letters
-pub mod Bytes
-pub mod Bodies
-pub mod Kept
+pub mod Spelled
 pub mod Written
 pub mod One
 pub mod Names
@@ -10,4 +7,3 @@ pub mod Lines
 pub mod Testing
 pub mod Fitting
 pub mod Joined
-pub mod Pieces

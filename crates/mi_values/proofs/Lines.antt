@@ -9,8 +9,8 @@ use Rattle.std.specs.Prelude.{position, ◌==◌}
 use Rattle.std.specs.List.{list_all, position_or_len}
 use Rattle.std.specs.Borrow.{Bor}
 use Rattle.std.specs.Global.{Vec}
-use Rattle.mi_values.specs.declared.fault.RecordFault.{RecordFault}
-use Rattle.mi_values.specs.declared.fault.RecordFault.TheVariants as failures
+use Rattle.mi_text.specs.declared.fault.ReadFault.{ReadFault}
+use Rattle.mi_text.specs.declared.fault.ReadFault.TheVariants as failures
 use Rattle.mi_values.specs.declared.line.Line.{Line}
 use Rattle.mi_values.specs.declared.line.Line.TheVariants as lines
 use Rattle.mi_values.specs.declared.line.Fields.{Fields as FieldList}
@@ -19,9 +19,10 @@ use Rattle.mi_values.specs.declared.sign.NoticeSign.TheVariants.{Exec, Notify}
 use Rattle.mi_values.specs.declared.sign.StreamSign.{StreamSign}
 use Rattle.mi_values.specs.declared.sign.StreamSign.TheVariants.{Target, Log}
 use Rattle.mi_values.specs.declared.value.Value.{Value}
-use Rattle.mi_values.specs.CString.{AreBytes, c_string}
+use Rattle.mi_text.specs.CString.{AreBytes, c_string}
 use Rattle.mi_values.specs.Name.{is_name, is_name_byte, are_name_bytes}
-use Rattle.mi_values.specs.Token.{is_token, is_digit}
+use Rattle.mi_text.specs.Digits.{is_digit}
+use Rattle.mi_text.specs.Token.{is_token}
 use Rattle.mi_values.specs.Tree.{Fields, no_field, field, fields_view}
 use Rattle.mi_values.specs.Proper.{AreProperFields}
 use Rattle.mi_values.specs.Spelling.{value_bytes, fields_from}
@@ -29,7 +30,7 @@ use Rattle.mi_values.specs.Reads.{ReadsFields, ReadsWord, StopsName}
 use Rattle.mi_values.specs.Record.{LineTree, result, notice, stream, prompt, Record, IsLine, line_bytes, class_bytes, notice_byte, stream_byte}
 use Rattle.mi_values.specs.Line.{line_view, Begins, ReadsLine, GivesLine}
 use Rattle.mi_values.specs.LineParts.{ReadsTail, ReadsClass, HasClass, ReadsNotice, ReadsStream, ReadsResult, prompt_text}
-use Rattle.mi_values.proofs.Bodies.{one_text_lem}
+use Rattle.mi_text.proofs.Texts.{one_c_string}
 use Rattle.mi_values.proofs.One.{both, apart, name_bytes, one_fields, no_name}
 
 -- ---- written
@@ -105,7 +106,7 @@ without_comma no_field bytes inner rest c e = absurd (apart 44 10 _ _ (sym c ∙
 without_comma (field n v fs) bytes inner rest c e =
     let g : 44 ∷ inner ≡ 44 ∷ ((n ++ (61 ∷ (value_bytes v ++ fields_from 10 true fs))) ++ rest) = sym c ∙ e in cc
 
-pub tail_read : (bytes inner : List ℕ) (r : Result (Vec (List ℕ × Value) × Bor (List ℕ)) RecordFault) → bytes ≡ 44 ∷ inner → ((x : List ℕ) → inner ≡ 10 ∷ x → ⊥) → ReadsFields 10 inner 16 r → ReadsTail bytes r
+pub tail_read : (bytes inner : List ℕ) (r : Result (Vec (List ℕ × Value) × Bor (List ℕ)) ReadFault) → bytes ≡ 44 ∷ inner → ((x : List ℕ) → inner ≡ 10 ∷ x → ⊥) → ReadsFields 10 inner 16 r → ReadsTail bytes r
 tail_read bytes inner (Ok p) c end h = (with_comma (fields_view p.0.items) bytes inner p.1.now c end h.0, h.1)
 tail_read bytes inner (Err failures.NoMemory) c end h = tt
 tail_read bytes inner (Err failures.Text) c end h = λ fs rest p e. h fs rest p (without_comma fs bytes inner rest c e)
@@ -135,11 +136,11 @@ no_class bytes stop (c ∷ class) fs h =
     let p = both (is_name_byte c) (are_name_bytes class) h.2 in
     let f = stop c (class ++ (fields_from 10 true fs ++ h.0)) (h.1 ∙ class_split (c ∷ class) fs h.0) in absurd cc
 
-pub class_no_word : (bytes : List ℕ) (f : RecordFault) → ReadsWord bytes (Err f) → ReadsClass bytes (Err f)
+pub class_no_word : (bytes : List ℕ) (f : ReadFault) → ReadsWord bytes (Err f) → ReadsClass bytes (Err f)
 class_no_word bytes failures.NoMemory h = tt
 class_no_word bytes failures.Text h = no_class bytes h
 
-pub class_no_tail : (bytes name rest : List ℕ) (f : RecordFault) → bytes ≡ name ++ rest → is_name name ≡ true → StopsName rest → ReadsTail rest (Err f) → ReadsClass bytes (Err f)
+pub class_no_tail : (bytes name rest : List ℕ) (f : ReadFault) → bytes ≡ name ++ rest → is_name name ≡ true → StopsName rest → ReadsTail rest (Err f) → ReadsClass bytes (Err f)
 class_no_tail bytes name rest failures.NoMemory e n stop h = tt
 class_no_tail bytes name rest failures.Text e n stop h = λ class fs has.
     let o = one_word name class rest (fields_from 10 true fs ++ has.0) (name_bytes name n) (name_bytes class has.2) stop (tail_stops fs has.0) (sym e ∙ has.1 ∙ class_split class fs has.0) in
@@ -172,7 +173,7 @@ stream_read sign bytes rest end text e h f = record {
 }
 
 pub stream_no_end : (bytes t rest : List ℕ) → bytes ≡ c_string t ++ rest → AreBytes t → ((x : List ℕ) → rest ≡ 10 ∷ x → ⊥) → (text end : List ℕ) → AreBytes text → bytes ≡ c_string text ++ 10 ∷ end → ⊥
-stream_no_end bytes t rest e h none text end b f = none end (one_text_lem t text rest (10 ∷ end) h b (sym e ∙ f)).1
+stream_no_end bytes t rest e h none text end b f = none end (one_c_string t text rest (10 ∷ end) h b (sym e ∙ f)).1
 
 -- ---- tokens and results
 
@@ -249,7 +250,7 @@ result_read bytes token rest class fields e t h =
       whole = e ∙ ap (λ (l : List ℕ). token ++ 94 ∷ l) h.1 ∙ sym (append_assoc token (94 ∷ tail) h.0);
     }
 
-pub result_no_class : (bytes t rest : List ℕ) (f : RecordFault) → bytes ≡ t ++ 94 ∷ rest → is_token t ≡ true → ReadsClass rest (Err f) → ReadsResult bytes (Err f)
+pub result_no_class : (bytes t rest : List ℕ) (f : ReadFault) → bytes ≡ t ++ 94 ∷ rest → is_token t ≡ true → ReadsClass rest (Err f) → ReadsResult bytes (Err f)
 result_no_class bytes t rest failures.NoMemory e h none = tt
 result_no_class bytes t rest failures.Text e h none = λ token class fields other is has f.
     let same = one_token t token rest other (token_digits t h) (token_digits token is) (sym e ∙ f) in
@@ -299,7 +300,7 @@ one_classed : (c d : List ℕ) (f g : Fields) (x y : List ℕ) → is_name c ≡
 one_classed c d f g x y hc hd hf hg e = one_class (class_bytes c f ++ x) c d f g (x, refl, hc, hf) (y, e, hd, hg)
 
 one_streamed : (t u x y : List ℕ) → AreBytes t → AreBytes u → (c_string t ++ 10 ∷ []) ++ x ≡ (c_string u ++ 10 ∷ []) ++ y → t ≡ u
-one_streamed t u x y ht hu e = (one_text_lem t u (10 ∷ x) (10 ∷ y) ht hu (sym (append_assoc (c_string t) (10 ∷ []) x) ∙ e ∙ append_assoc (c_string u) (10 ∷ []) y)).0
+one_streamed t u x y ht hu e = (one_c_string t u (10 ∷ x) (10 ∷ y) ht hu (sym (append_assoc (c_string t) (10 ∷ []) x) ∙ e ∙ append_assoc (c_string u) (10 ∷ []) y)).0
 
 one_by : (a b : LineTree) (x y : List ℕ) → IsLine a → IsLine b → kind_of a ≡ kind_of b → line_bytes a ++ x ≡ line_bytes b ++ y → a ≡ b
 unfolding line_bytes kind_of
@@ -325,7 +326,7 @@ pub one_line : (bytes : List ℕ) (a b : LineTree) → Begins bytes a → Begins
 one_line bytes a b x y =
     one_by a b x.rest y.rest x.line.line y.line.line (sym (kind_begins bytes a x) ∙ kind_begins bytes b y) (sym (spelled bytes a x) ∙ spelled bytes b y)
 
-pub gives_line : (bytes : List ℕ) (r : Result Line RecordFault) → ReadsLine bytes r → (tree : LineTree) (text rest : List ℕ) → Record text tree → bytes ≡ text ++ rest → GivesLine tree r
+pub gives_line : (bytes : List ℕ) (r : Result Line ReadFault) → ReadsLine bytes r → (tree : LineTree) (text rest : List ℕ) → Record text tree → bytes ≡ text ++ rest → GivesLine tree r
 gives_line bytes (Ok line) h tree text rest is e = one_line bytes (line_view line) tree h (record { front = text; rest = rest; line = is; whole = e })
 gives_line bytes (Err failures.NoMemory) h tree text rest is e = tt
 gives_line bytes (Err failures.Text) h tree text rest is e = h tree (record { front = text; rest = rest; line = is; whole = e })
@@ -351,7 +352,7 @@ first_byte : (b : ℕ) (bytes : List ℕ) → first (b ∷ bytes) ≡ b
 unfolding first
 first_byte b bytes = refl
 
-pub notice_whole : (sign : NoticeSign) (bytes rest : List ℕ) (s : ℕ) (r : Result Line RecordFault) → bytes ≡ s ∷ rest → s ≡ notice_byte sign → ReadsNotice sign rest r → ReadsLine bytes r
+pub notice_whole : (sign : NoticeSign) (bytes rest : List ℕ) (s : ℕ) (r : Result Line ReadFault) → bytes ≡ s ∷ rest → s ≡ notice_byte sign → ReadsNotice sign rest r → ReadsLine bytes r
 notice_whole sign bytes rest s (Ok line) e same h = subst (λ (l : List ℕ). Begins l (line_view line)) (sym (e ∙ ap (λ (n : ℕ). n ∷ rest) same)) h
 notice_whole sign bytes rest s (Err failures.NoMemory) e same h = tt
 notice_whole sign bytes rest s (Err failures.Text) e same h = λ tree b.
@@ -359,7 +360,7 @@ notice_whole sign bytes rest s (Err failures.Text) e same h = λ tree b.
     let kind = ap kind_byte (sym (first_byte (notice_byte sign) rest)) ∙ ap (λ (l : List ℕ). kind_byte (first l)) (sym whole) ∙ kind_begins bytes tree b in
     notice_only sign rest h tree b.rest b.line.line kind (sym whole ∙ spelled bytes tree b)
 
-pub stream_whole : (sign : StreamSign) (bytes rest : List ℕ) (s : ℕ) (r : Result Line RecordFault) → bytes ≡ s ∷ rest → s ≡ stream_byte sign → ReadsStream sign rest r → ReadsLine bytes r
+pub stream_whole : (sign : StreamSign) (bytes rest : List ℕ) (s : ℕ) (r : Result Line ReadFault) → bytes ≡ s ∷ rest → s ≡ stream_byte sign → ReadsStream sign rest r → ReadsLine bytes r
 stream_whole sign bytes rest s (Ok line) e same h = subst (λ (l : List ℕ). Begins l (line_view line)) (sym (e ∙ ap (λ (n : ℕ). n ∷ rest) same)) h
 stream_whole sign bytes rest s (Err failures.NoMemory) e same h = tt
 stream_whole sign bytes rest s (Err failures.Text) e same h = λ tree b.
@@ -382,7 +383,7 @@ result_only bytes n1 n2 n3 n4 n5 none (stream Target t) rest h e = n3 _ e
 result_only bytes n1 n2 n3 n4 n5 none (stream Log t) rest h e = n4 _ e
 result_only bytes n1 n2 n3 n4 n5 none prompt rest h e = n5 rest e
 
-pub result_whole : (bytes : List ℕ) (r : Result Line RecordFault) → ((x : List ℕ) → bytes ≡ 42 ∷ x → ⊥) → ((x : List ℕ) → bytes ≡ 61 ∷ x → ⊥) → ((x : List ℕ) → bytes ≡ 64 ∷ x → ⊥) → ((x : List ℕ) → bytes ≡ 38 ∷ x → ⊥) → ((x : List ℕ) → bytes ≡ prompt_text ++ x → ⊥)
+pub result_whole : (bytes : List ℕ) (r : Result Line ReadFault) → ((x : List ℕ) → bytes ≡ 42 ∷ x → ⊥) → ((x : List ℕ) → bytes ≡ 61 ∷ x → ⊥) → ((x : List ℕ) → bytes ≡ 64 ∷ x → ⊥) → ((x : List ℕ) → bytes ≡ 38 ∷ x → ⊥) → ((x : List ℕ) → bytes ≡ prompt_text ++ x → ⊥)
     → ReadsResult bytes r → ReadsLine bytes r
 result_whole bytes (Ok line) n1 n2 n3 n4 n5 h = h
 result_whole bytes (Err failures.NoMemory) n1 n2 n3 n4 n5 h = tt

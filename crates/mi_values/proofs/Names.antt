@@ -2,8 +2,8 @@
 use Rattle.std.proofs.Common.{◌≡◌, ℕ, ◌<◌, ◌≤◌, Err, List, [], ◌∷◌, ◌++◌, length, true, false, refl, sym, ap, subst, ◌∙◌, append_assoc, arith}
 use Rattle.std.proofs.lemmas.List.{length-append}
 use Rattle.mi_values.specs.Name.{is_name, is_name_byte, are_name_bytes}
-use Rattle.mi_values.specs.declared.fault.RecordFault.{RecordFault}
-use Rattle.mi_values.specs.declared.fault.RecordFault.TheVariants as failures
+use Rattle.mi_text.specs.declared.fault.ReadFault.{ReadFault}
+use Rattle.mi_text.specs.declared.fault.ReadFault.TheVariants as failures
 use Rattle.mi_values.specs.Reads.{ReadsWord, ReadsName, StopsName}
 use Rattle.mi_values.proofs.One.{both, no_sign, name_bytes}
 
@@ -53,7 +53,7 @@ no_word bytes stop [] r h e = cc
 no_word bytes stop (c ∷ m) r h e = let p = both (is_name_byte c) (are_name_bytes m) h in let f = stop c (m ++ 61 ∷ r) e in absurd cc
 
 -- by cases on why there is none
-pub no_name_read : (bytes : List ℕ) (f : RecordFault) → ReadsWord bytes (Err f) → ReadsName bytes (Err f)
+pub no_name_read : (bytes : List ℕ) (f : ReadFault) → ReadsWord bytes (Err f) → ReadsName bytes (Err f)
 no_name_read bytes failures.NoMemory h = tt
 no_name_read bytes failures.Text h = no_word bytes h
 

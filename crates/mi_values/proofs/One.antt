@@ -1,7 +1,7 @@
 -- No value's text begins another's.
 use Rattle.std.proofs.Common.{◌≡◌, ℕ, ◌-◌, List, [], ◌∷◌, ◌++◌, Bool, true, false, ◌&&◌, refl, sym, ap, ◌∙◌, append_assoc, eqb, ◌⊎◌, inl, inr, arith}
 use Rattle.std.proofs.lemmas.Bool.{cases_eq, eqb-true, eqb-false, ne_eqb}
-use Rattle.mi_values.proofs.Bodies.{one_text_lem}
+use Rattle.mi_text.proofs.Texts.{one_c_string}
 use Rattle.mi_values.specs.Name.{is_name, is_name_byte, are_name_bytes}
 use Rattle.mi_values.specs.Tree.{Tree, text, tuple, items, named, Trees, no_item, item, Fields, no_field, field, some_field}
 use Rattle.mi_values.specs.Spelling.{value_bytes, items_from, fields_from}
@@ -88,7 +88,7 @@ mutual
   unfolding value_bytes
 
   pub one_value : (a b : Tree) (d k : ℕ) (x y : List ℕ) → IsProper a d → IsProper b k → value_bytes a ++ x ≡ value_bytes b ++ y → (a ≡ b) × (x ≡ y)
-  one_value (text t) (text u) d k x y h g e = let p = one_text_lem t u x y h.1 g.1 e in (ap text p.0, p.1)
+  one_value (text t) (text u) d k x y h g e = let p = one_c_string t u x y h.1 g.1 e in (ap text p.0, p.1)
   one_value (text t) (tuple fs) d k x y h g e = absurd (apart 34 123 _ _ e refl)
   one_value (text t) (items vs) d k x y h g e = absurd (apart 34 91 _ _ e refl)
   one_value (text t) (named fs) d k x y h g e = absurd (apart 34 91 _ _ e refl)

@@ -2,11 +2,11 @@
 use Rattle.std.proofs.Common.{◌≡◌, ℕ, ◌-◌, ◌<◌, List, [], ◌∷◌, ◌++◌, true, false, refl, sym, ap, subst, ◌∙◌, append_assoc, arith, Err}
 use Rattle.std.proofs.lemmas.Bool.{ne_eqb}
 use Rattle.std.specs.Global.{Vec}
-use Rattle.mi_values.specs.CString.{c_string}
-use Rattle.mi_values.specs.declared.fault.RecordFault.{RecordFault}
-use Rattle.mi_values.specs.declared.fault.RecordFault.TheVariants as failures
-use Rattle.mi_values.specs.CString.{AreBytes}
-use Rattle.mi_values.specs.Body.{ReadsText}
+use Rattle.mi_text.specs.CString.{c_string}
+use Rattle.mi_text.specs.declared.fault.ReadFault.{ReadFault}
+use Rattle.mi_text.specs.declared.fault.ReadFault.TheVariants as failures
+use Rattle.mi_text.specs.CString.{AreBytes}
+use Rattle.mi_values.specs.Spelled.{ReadsText}
 use Rattle.mi_values.specs.Reads.{ReadsName, ReadsField, ReadsValue, ReadsItems, ReadsFields, begins_item, is_close}
 use Rattle.mi_values.specs.declared.value.Value.{Value, Text, Tuple, Items, Named}
 use Rattle.mi_values.proofs.Written.{view-Text, view-Tuple, view-Items, view-Named}
@@ -226,11 +226,11 @@ pub fields_fail : (close : ℕ) (bytes rest more : List ℕ) (d : ℕ) (fs : Lis
 fields_fail close bytes rest more d fs f l e hn h closed comma_not ws r g q =
     let n = l.only ws r g q in neither_field close more r n.later closed comma_not (behind_field close rest more r d f.0 (value_view f.1) e hn h n)
 
-pub fields_on_err : (close : ℕ) (bytes rest : List ℕ) (d : ℕ) (fs : List F) (f : RecordFault) → FieldListing close bytes rest d fs → ReadsField rest d (Err f) → ReadsFields close bytes d (Err f)
+pub fields_on_err : (close : ℕ) (bytes rest : List ℕ) (d : ℕ) (fs : List F) (f : ReadFault) → FieldListing close bytes rest d fs → ReadsField rest d (Err f) → ReadsFields close bytes d (Err f)
 fields_on_err close bytes rest d fs failures.NoMemory l none = tt
 fields_on_err close bytes rest d fs failures.Text l none = λ ws r g q. let n = l.only ws r g q in none n.name n.value (fields_from close true n.later ++ r) n.is_named n.is_proper n.spelled
 
-pub items_on_err : (bytes rest : List ℕ) (d : ℕ) (vs : List Value) (f : RecordFault) → Listing bytes rest d vs → ReadsValue rest d (Err f) → ReadsItems bytes d (Err f)
+pub items_on_err : (bytes rest : List ℕ) (d : ℕ) (vs : List Value) (f : ReadFault) → Listing bytes rest d vs → ReadsValue rest d (Err f) → ReadsItems bytes d (Err f)
 items_on_err bytes rest d vs failures.NoMemory l none = tt
 items_on_err bytes rest d vs failures.Text l none = no_next bytes rest d vs l none
 
@@ -240,11 +240,11 @@ empty_fields close bytes end d fs none e = subst (λ (l : List F). (bytes ≡ fi
 
 -- ---- a field
 
-pub field_no_name : (bytes : List ℕ) (d : ℕ) (f : RecordFault) → ReadsName bytes (Err f) → ReadsField bytes d (Err f)
+pub field_no_name : (bytes : List ℕ) (d : ℕ) (f : ReadFault) → ReadsName bytes (Err f) → ReadsField bytes d (Err f)
 field_no_name bytes d failures.NoMemory h = tt
 field_no_name bytes d failures.Text h = λ n v r hn hv e. h n (value_bytes v ++ r) hn e
 
-pub field_no_value : (bytes rest m : List ℕ) (d : ℕ) (f : RecordFault) → bytes ≡ m ++ 61 ∷ rest → is_name m ≡ true → ReadsValue rest d (Err f) → ReadsField bytes d (Err f)
+pub field_no_value : (bytes rest m : List ℕ) (d : ℕ) (f : ReadFault) → bytes ≡ m ++ 61 ∷ rest → is_name m ≡ true → ReadsValue rest d (Err f) → ReadsField bytes d (Err f)
 field_no_value bytes rest m d failures.NoMemory e hm h = tt
 field_no_value bytes rest m d failures.Text e hm h = λ n v r hn hv g. h v r hv (one_name m n rest (value_bytes v ++ r) hm hn (sym e ∙ g)).1
 
@@ -297,7 +297,7 @@ text_read bytes rest t d e h lt =
 tail_of : (a : ℕ) (xs ys zs : List ℕ) → zs ≡ a ∷ xs → zs ≡ a ∷ ys → xs ≡ ys
 tail_of a xs ys zs e f = cc
 
-pub tuple_on_err : (bytes inner : List ℕ) (d : ℕ) (f : RecordFault) → bytes ≡ 123 ∷ inner → ReadsFields 125 inner (d - 1) (Err f) → ReadsValue bytes d (Err f)
+pub tuple_on_err : (bytes inner : List ℕ) (d : ℕ) (f : ReadFault) → bytes ≡ 123 ∷ inner → ReadsFields 125 inner (d - 1) (Err f) → ReadsValue bytes d (Err f)
 unfolding value_bytes
 tuple_on_err bytes inner d failures.NoMemory e h = tt
 tuple_on_err bytes inner d failures.Text e h = by_value
@@ -330,7 +330,7 @@ begins-items (item (tuple fs) vs) r = refl
 begins-items (item (items ws) vs) r = refl
 begins-items (item (named fs) vs) r = refl
 
-pub items_value_on_err : (bytes inner : List ℕ) (d : ℕ) (f : RecordFault) → bytes ≡ 91 ∷ inner → begins_item inner ≡ true → ReadsItems inner (d - 1) (Err f) → ReadsValue bytes d (Err f)
+pub items_value_on_err : (bytes inner : List ℕ) (d : ℕ) (f : ReadFault) → bytes ≡ 91 ∷ inner → begins_item inner ≡ true → ReadsItems inner (d - 1) (Err f) → ReadsValue bytes d (Err f)
 unfolding value_bytes
 items_value_on_err bytes inner d failures.NoMemory e b h = tt
 items_value_on_err bytes inner d failures.Text e b h = by_value
@@ -341,7 +341,7 @@ items_value_on_err bytes inner d failures.Text e b h = by_value
     by_value (items vs) r p g = h vs r p.1 (tail_of 91 inner (items_from false vs ++ r) bytes e g)
     by_value (named fs) r p g = let same : begins_item inner ≡ begins_item (fields_from 93 false fs ++ r) = ap begins_item (tail_of 91 inner (fields_from 93 false fs ++ r) bytes e g) in let other = begins-fields fs (d - 1) r p.1 p.2 in absurd cc
 
-pub named_on_err : (bytes inner : List ℕ) (d : ℕ) (f : RecordFault) → bytes ≡ 91 ∷ inner → begins_item inner ≡ false → ReadsFields 93 inner (d - 1) (Err f) → ReadsValue bytes d (Err f)
+pub named_on_err : (bytes inner : List ℕ) (d : ℕ) (f : ReadFault) → bytes ≡ 91 ∷ inner → begins_item inner ≡ false → ReadsFields 93 inner (d - 1) (Err f) → ReadsValue bytes d (Err f)
 unfolding value_bytes
 named_on_err bytes inner d failures.NoMemory e b h = tt
 named_on_err bytes inner d failures.Text e b h = by_value
@@ -352,7 +352,7 @@ named_on_err bytes inner d failures.Text e b h = by_value
     by_value (items vs) r p g = let same : begins_item inner ≡ begins_item (items_from false vs ++ r) = ap begins_item (tail_of 91 inner (items_from false vs ++ r) bytes e g) in let other = begins-items vs r in absurd cc
     by_value (named fs) r p g = h fs r p.2 (tail_of 91 inner (fields_from 93 false fs ++ r) bytes e g)
 
-pub text_on_err : (bytes : List ℕ) (d : ℕ) (f : RecordFault) → ((r : List ℕ) → bytes ≡ 123 ∷ r → ⊥) → ((r : List ℕ) → bytes ≡ 91 ∷ r → ⊥) → ReadsText bytes (Err f) → ReadsValue bytes d (Err f)
+pub text_on_err : (bytes : List ℕ) (d : ℕ) (f : ReadFault) → ((r : List ℕ) → bytes ≡ 123 ∷ r → ⊥) → ((r : List ℕ) → bytes ≡ 91 ∷ r → ⊥) → ReadsText bytes (Err f) → ReadsValue bytes d (Err f)
 unfolding value_bytes
 text_on_err bytes d failures.NoMemory no_tuple no_list h = tt
 text_on_err bytes d failures.Text no_tuple no_list h = by_value

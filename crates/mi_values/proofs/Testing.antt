@@ -1,7 +1,7 @@
 -- The tests say what the types of lines say.
 use Rattle.std.proofs.Common.{◌≡◌, ℕ, ◌-◌, List, [], ◌∷◌, Bool, true, ltb, ◌&&◌, refl}
 use Rattle.std.proofs.lemmas.Bool.{ltb-true}
-use Rattle.mi_values.specs.CString.{AreBytes}
+use Rattle.mi_text.specs.CString.{AreBytes}
 use Rattle.mi_values.specs.Name.{is_name}
 use Rattle.mi_values.specs.Tree.{Tree, text, tuple, items, named, Trees, no_item, item, Fields, no_field, field, some_field}
 use Rattle.mi_values.specs.Proper.{IsProper, AreProperItems, AreProperFields}

@@ -3,7 +3,7 @@ use Rattle.std.proofs.Common.{◌≡◌, ℕ, ◌+◌, ◌<◌, ◌≤◌, List,
 use Rattle.std.proofs.lemmas.List.{drop_more}
 use Rattle.std.proofs.lemmas.Grind.{common_steps}
 use Rattle.std.specs.Global.{Vec}
-use Rattle.mi_values.specs.CString.{c_string}
+use Rattle.mi_text.specs.CString.{c_string}
 use Rattle.mi_values.specs.declared.value.Value.{Value, Text, Tuple, Items, Named, the_lemmas}
 use Rattle.mi_values.specs.Tree.{text, tuple, items, named, value_view, items_view, fields_view}
 use Rattle.mi_values.specs.Spelling.{comma, value_bytes, items_from, fields_from}

@@ -2,8 +2,8 @@
 use Rattle.std.specs.Prelude.{◌≡◌, ℕ, List, ◌++◌, Result, Ok, Err}
 use Rattle.mi_values.specs.declared.line.Line.{Line}
 use Rattle.mi_values.specs.declared.line.Line.TheVariants as lines
-use Rattle.mi_values.specs.declared.fault.RecordFault.{RecordFault}
-use Rattle.mi_values.specs.declared.fault.RecordFault.TheVariants.{NoMemory, Text}
+use Rattle.mi_text.specs.declared.fault.ReadFault.{ReadFault}
+use Rattle.mi_text.specs.declared.fault.ReadFault.TheVariants.{NoMemory, Text}
 use Rattle.mi_values.specs.Tree.{fields_view}
 use Rattle.mi_values.specs.Record.{LineTree, result, notice, stream, prompt, Record}
 
@@ -21,13 +21,13 @@ pub record Begins (bytes : List ℕ) (tree : LineTree) : Type 0 where
   pub whole : bytes ≡ front ++ rest
 
 -- the line that is read stands at the front; where none is read none stands there
-abbrev pub ReadsLine : List ℕ → Result Line RecordFault → Type 0
+abbrev pub ReadsLine : List ℕ → Result Line ReadFault → Type 0
 ReadsLine bytes (Ok line) = Begins bytes (line_view line)
 ReadsLine bytes (Err NoMemory) = Unit {0}
 ReadsLine bytes (Err Text) = (tree : LineTree) → Begins bytes tree → ⊥
 
 -- a reader gives this tree, unless memory is wanting
-abbrev pub GivesLine : LineTree → Result Line RecordFault → Type 0
+abbrev pub GivesLine : LineTree → Result Line ReadFault → Type 0
 GivesLine tree (Ok line) = line_view line ≡ tree
 GivesLine tree (Err NoMemory) = Unit {0}
 GivesLine tree (Err Text) = ⊥

@@ -4,9 +4,9 @@ use Rattle.mi_values.specs.declared.sign.NoticeSign.{NoticeSign}
 use Rattle.mi_values.specs.declared.sign.NoticeSign.TheVariants.{Exec, Notify}
 use Rattle.mi_values.specs.declared.sign.StreamSign.{StreamSign}
 use Rattle.mi_values.specs.declared.sign.StreamSign.TheVariants.{Target, Log}
-use Rattle.mi_values.specs.CString.{AreBytes, c_string}
+use Rattle.mi_text.specs.CString.{AreBytes, c_string}
 use Rattle.mi_values.specs.Name.{is_name}
-use Rattle.mi_values.specs.Token.{is_token}
+use Rattle.mi_text.specs.Token.{is_token}
 use Rattle.mi_values.specs.Tree.{Fields}
 use Rattle.mi_values.specs.Proper.{AreProperFields}
 use Rattle.mi_values.specs.Spelling.{fields_from}

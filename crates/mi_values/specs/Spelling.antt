@@ -1,6 +1,6 @@
 -- The one text of each value.
 use Rattle.std.specs.Prelude.{ℕ, List, [], ◌∷◌, ◌++◌, Bool, true, false}
-use Rattle.mi_values.specs.CString.{c_string}
+use Rattle.mi_text.specs.CString.{c_string}
 use Rattle.mi_values.specs.Tree.{Tree, text, tuple, items, named, Trees, no_item, item, Fields, no_field, field}
 
 abbrev pub comma : Bool → List ℕ
@@ -22,8 +22,3 @@ unfoldable mutual
   pub fields_from : ℕ → Bool → Fields → List ℕ
   fields_from close started no_field = close ∷ []
   fields_from close started (field n v fs) = comma started ++ (n ++ (61 ∷ (value_bytes v ++ fields_from close true fs)))
-
--- the fields of a line, each behind a comma
-unfoldable pub fields_after : Fields → List ℕ
-fields_after no_field = []
-fields_after (field n v fs) = 44 ∷ (n ++ (61 ∷ (value_bytes v ++ fields_after fs)))

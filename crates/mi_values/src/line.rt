@@ -6,8 +6,8 @@ ghost use Rattle.mi_values.specs.Proper.{AreProperFields, AreProperFields-prop};
 
 use crate::name::Name;
 use crate::sign::{NoticeSign, StreamSign};
-use crate::token::Token;
 use crate::value::Value;
+use mi_text::Token;
 use std::alloc::Global;
 
 /// The fields of a line: values nest at most 16 deep, and no list of fields in brackets is empty.

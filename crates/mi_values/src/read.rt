@@ -5,10 +5,9 @@ ghost use Rattle.mi_values.specs.Name.{is_name_byte};
 ghost use Rattle.mi_values.specs.Reads.{ReadsWord, ReadsName, ReadsField, ReadsValue, ReadsItems, ReadsFields, begins_item, is_close};
 
 use crate::c_string::read_c_string;
-use crate::fault::RecordFault;
-use crate::front::after;
 use crate::name::{Name, is_name_byte};
 use crate::value::Value;
+use mi_text::{ReadFault, after};
 use std::alloc::Global;
 
 fn name_byte(bytes: &[u8]) -> Option<(u8, &[u8])>
@@ -23,7 +22,7 @@ fn name_byte(bytes: &[u8]) -> Option<(u8, &[u8])>
 }
 
 /// The longest name at the front, and the bytes behind it.
-pub fn read_word(alloc: Global, bytes: &[u8]) -> Result<(Name, &[u8]), RecordFault>
+pub fn read_word(alloc: Global, bytes: &[u8]) -> Result<(Name, &[u8]), ReadFault>
     ensures reads { ReadsWord bytes.now result }
     ensures shorter { IfOk result (λ r. length r.1.now ≤ length bytes.now) }
 {
@@ -34,19 +33,19 @@ pub fn read_word(alloc: Global, bytes: &[u8]) -> Result<(Name, &[u8]), RecordFau
         rest = more;
     }
     if name.is_empty() {
-        return Err(RecordFault::Text);
+        return Err(ReadFault::Text);
     }
     Ok((Name::new(name), rest))
 }
 
 /// The name at the front, and the bytes behind its `=`.
-fn read_name(alloc: Global, bytes: &[u8]) -> Result<(Name, &[u8]), RecordFault>
+fn read_name(alloc: Global, bytes: &[u8]) -> Result<(Name, &[u8]), ReadFault>
     ensures reads { ReadsName bytes.now result }
     ensures shorter { IfOk result (λ r. length r.1.now < length bytes.now) }
 {
     let (name, rest) = read_word(alloc, bytes)?;
     let Some(end) = after(rest, b'=') else {
-        return Err(RecordFault::Text);
+        return Err(ReadFault::Text);
     };
     Ok((name, end))
 }
@@ -62,12 +61,12 @@ fn begins_item(bytes: &[u8]) -> bool
 
 /// The value at the front, and the bytes behind it. Values nest at most `depth` deep.
 #[cycle(read)]
-fn read_value(alloc: Global, bytes: &[u8], depth: u32) -> Result<(Value, &[u8]), RecordFault>
+fn read_value(alloc: Global, bytes: &[u8], depth: u32) -> Result<(Value, &[u8]), ReadFault>
     ensures reads { ReadsValue bytes.now depth result }
     ensures shorter { IfOk result (λ r. length r.1.now < length bytes.now) }
 {
     if depth == 0 {
-        return Err(RecordFault::Text);
+        return Err(ReadFault::Text);
     }
     if let Some(inner) = after(bytes, b'{') {
         let (fields, rest) = read_fields(alloc, inner, b'}', depth - 1)?;
@@ -87,7 +86,7 @@ fn read_value(alloc: Global, bytes: &[u8], depth: u32) -> Result<(Value, &[u8]),
 
 /// The values up to the closing bracket.
 #[cycle(read)]
-fn read_items(alloc: Global, bytes: &[u8], depth: u32) -> Result<(Vec<Value>, &[u8]), RecordFault>
+fn read_items(alloc: Global, bytes: &[u8], depth: u32) -> Result<(Vec<Value>, &[u8]), ReadFault>
     ensures reads { ReadsItems bytes.now depth result }
     ensures shorter { IfOk result (λ r. length r.1.now < length bytes.now) }
 {
@@ -103,7 +102,7 @@ fn read_items(alloc: Global, bytes: &[u8], depth: u32) -> Result<(Vec<Value>, &[
             return Ok((values, end));
         }
         let Some(next) = after(more, b',') else {
-            return Err(RecordFault::Text);
+            return Err(ReadFault::Text);
         };
         rest = next;
     }
@@ -111,11 +110,7 @@ fn read_items(alloc: Global, bytes: &[u8], depth: u32) -> Result<(Vec<Value>, &[
 
 /// The field at the front.
 #[cycle(read)]
-fn read_field(
-    alloc: Global,
-    bytes: &[u8],
-    depth: u32,
-) -> Result<((Name, Value), &[u8]), RecordFault>
+fn read_field(alloc: Global, bytes: &[u8], depth: u32) -> Result<((Name, Value), &[u8]), ReadFault>
     ensures reads { ReadsField bytes.now depth result }
     ensures shorter { IfOk result (λ r. length r.1.now < length bytes.now) }
 {
@@ -131,7 +126,7 @@ pub fn read_fields(
     bytes: &[u8],
     close: u8,
     depth: u32,
-) -> Result<(Vec<(Name, Value)>, &[u8]), RecordFault>
+) -> Result<(Vec<(Name, Value)>, &[u8]), ReadFault>
     requires { is_close close ≡ true }
     ensures reads { ReadsFields close bytes.now depth result }
     ensures shorter { IfOk result (λ r. length r.1.now < length bytes.now) }
@@ -148,7 +143,7 @@ pub fn read_fields(
             return Ok((fields, end));
         }
         let Some(next) = after(more, b',') else {
-            return Err(RecordFault::Text);
+            return Err(ReadFault::Text);
         };
         rest = next;
     }

@@ -6,37 +6,35 @@ ghost use Rattle.mi_values.specs.Line.{ReadsLine, GivesLine};
 ghost use Rattle.mi_values.specs.LineParts.{ReadsToken, ReadsTail, ReadsClass, ReadsNotice, ReadsStream, ReadsResult, prompt_text};
 
 use crate::c_string::read_c_string;
-use crate::fault::RecordFault;
-use crate::front::after;
 use crate::line::{Fields, Line};
 use crate::name::Name;
 use crate::read::{read_fields, read_word};
 use crate::sign::{NoticeSign, StreamSign};
-use crate::token::{Token, is_token};
 use crate::value::Value;
+use mi_text::{ReadFault, Token, after, is_token};
 use std::alloc::Global;
 
 /// How deep the values of a line nest.
 const DEPTH: u32 = 16;
 
 /// The fields behind a class, each behind a comma, up to LF.
-fn read_tail(alloc: Global, bytes: &[u8]) -> Result<(Vec<(Name, Value)>, &[u8]), RecordFault>
+fn read_tail(alloc: Global, bytes: &[u8]) -> Result<(Vec<(Name, Value)>, &[u8]), ReadFault>
     ensures { ReadsTail bytes.now result }
 {
     if let Some(rest) = after(bytes, b'\n') {
         return Ok((Vec::new(alloc), rest));
     }
     let Some(inner) = after(bytes, b',') else {
-        return Err(RecordFault::Text);
+        return Err(ReadFault::Text);
     };
     if let Some(_) = after(inner, b'\n') {
-        return Err(RecordFault::Text);
+        return Err(ReadFault::Text);
     }
     read_fields(alloc, inner, b'\n', DEPTH)
 }
 
 /// A class, its fields and LF.
-fn read_class(alloc: Global, bytes: &[u8]) -> Result<(Name, Fields), RecordFault>
+fn read_class(alloc: Global, bytes: &[u8]) -> Result<(Name, Fields), ReadFault>
     ensures { ReadsClass bytes.now result }
 {
     let (class, rest) = read_word(alloc, bytes)?;
@@ -45,7 +43,7 @@ fn read_class(alloc: Global, bytes: &[u8]) -> Result<(Name, Fields), RecordFault
 }
 
 /// The notice behind its sign.
-fn read_notice(alloc: Global, sign: NoticeSign, bytes: &[u8]) -> Result<Line, RecordFault>
+fn read_notice(alloc: Global, sign: NoticeSign, bytes: &[u8]) -> Result<Line, ReadFault>
     ensures { ReadsNotice sign bytes.now result }
 {
     let (class, fields) = read_class(alloc, bytes)?;
@@ -57,13 +55,13 @@ fn read_notice(alloc: Global, sign: NoticeSign, bytes: &[u8]) -> Result<Line, Re
 }
 
 /// The stream behind its sign.
-fn read_stream(alloc: Global, sign: StreamSign, bytes: &[u8]) -> Result<Line, RecordFault>
+fn read_stream(alloc: Global, sign: StreamSign, bytes: &[u8]) -> Result<Line, ReadFault>
     ensures { ReadsStream sign bytes.now result }
 {
     let (bytes, rest) = read_c_string(alloc, bytes)?;
     match after(rest, b'\n') {
         Some(_) => Ok(Line::Stream { sign, bytes }),
-        None => Err(RecordFault::Text),
+        None => Err(ReadFault::Text),
     }
 }
 
@@ -75,15 +73,15 @@ fn caret_at(bytes: &[u8]) -> Option<usize>
 }
 
 /// The token and what stands behind its `^`.
-fn read_token(alloc: Global, bytes: &[u8]) -> Result<(Token, &[u8]), RecordFault>
+fn read_token(alloc: Global, bytes: &[u8]) -> Result<(Token, &[u8]), ReadFault>
     ensures { ReadsToken bytes.now result }
 {
     let Some(end) = caret_at(bytes) else {
-        return Err(RecordFault::Text);
+        return Err(ReadFault::Text);
     };
     let digits = &bytes[..end];
     if !is_token(digits) {
-        return Err(RecordFault::Text);
+        return Err(ReadFault::Text);
     }
     Ok((
         Token::new(Vec::from_slice(alloc, digits)?),
@@ -92,7 +90,7 @@ fn read_token(alloc: Global, bytes: &[u8]) -> Result<(Token, &[u8]), RecordFault
 }
 
 /// The result at the front.
-fn read_result(alloc: Global, bytes: &[u8]) -> Result<Line, RecordFault>
+fn read_result(alloc: Global, bytes: &[u8]) -> Result<Line, ReadFault>
     ensures { ReadsResult bytes.now result }
 {
     let (token, rest) = read_token(alloc, bytes)?;
@@ -113,7 +111,7 @@ fn is_prompt(bytes: &[u8]) -> bool
     matches!(bytes, [b'(', b'g', b'd', b'b', b')', b'\n', ..])
 }
 
-fn line_at(alloc: Global, bytes: &[u8]) -> Result<Line, RecordFault>
+fn line_at(alloc: Global, bytes: &[u8]) -> Result<Line, ReadFault>
     ensures { ReadsLine bytes.now result }
 {
     if let Some(rest) = after(bytes, b'*') {
@@ -138,7 +136,7 @@ fn line_at(alloc: Global, bytes: &[u8]) -> Result<Line, RecordFault>
 ///
 /// # Errors
 /// `Text` where the bytes begin with no output line.
-pub fn read_line(alloc: Global, bytes: &[u8]) -> Result<Line, RecordFault>
+pub fn read_line(alloc: Global, bytes: &[u8]) -> Result<Line, ReadFault>
     ensures reads { ReadsLine bytes.now result }
 
     // What was written is read again, whatever follows it.

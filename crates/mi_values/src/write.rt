@@ -4,16 +4,16 @@ ghost use Rattle.std.specs.Prelude.{◌≡◌, ◌++◌, OnOk, OnErr, true, fals
 ghost use Rattle.mi_values.specs.Name.{is_name};
 ghost use Rattle.mi_values.specs.Tree.{value_view, items_view, fields_view};
 ghost use Rattle.mi_values.specs.Spelling.{comma, value_bytes, items_from, fields_from};
-ghost use Rattle.mi_values.specs.Keeps.{Keeps};
+ghost use Rattle.mi_text.specs.Keeps.{Keeps};
 ghost use Rattle.mi_values.specs.Record.{Record, IsLine, notice_byte, stream_byte, line_bytes, class_bytes};
 ghost use Rattle.mi_values.specs.Line.{line_view};
 
-use crate::c_string::write_c_string;
 use crate::line::{Fields, Line};
 use crate::name::Name;
 use crate::sign::{NoticeSign, StreamSign};
 use crate::value::Value;
 use dbg_traits::NoMemory;
+use mi_text::write_c_string;
 use std::alloc::AllocError;
 
 /// Puts the value's text at the end.
@@ -86,8 +86,8 @@ fn write_fields(
     Ok(())
 }
 
-/// The first byte of a notice.
-pub fn notice_byte(sign: NoticeSign) -> u8
+// The first byte of a notice.
+fn notice_byte(sign: NoticeSign) -> u8
     ensures { result ≡ notice_byte sign }
 {
     match sign {
@@ -96,8 +96,8 @@ pub fn notice_byte(sign: NoticeSign) -> u8
     }
 }
 
-/// The first byte of a stream.
-pub fn stream_byte(sign: StreamSign) -> u8
+// The first byte of a stream.
+fn stream_byte(sign: StreamSign) -> u8
     ensures { result ≡ stream_byte sign }
 {
     match sign {

@@ -7,4 +7,4 @@ returns-in_default c = plain_read c.args.bytes.now c.in_ok-plain.plain.items c.w
 
 pub returns-then-not-is_parted : goal.returns-then-not-is_parted
 returns-then-not-is_parted c =
-    word_not_parted c.args.bytes.now c.in-Some.inner.now c.in_ok-text.text.items c.in_ok-text.rest.now c.in-Some.ensures c.in_ok-text.ensures (sym c.if-not-is_parted.ensures)
+    word_not_parted c.args.bytes.now c.in-Some.inner.now c.in_ok-text.text.items c.in_ok-text.rest.now c.in-Some.ensures c.in_ok-text.ensures.reads (sym c.if-not-is_parted.ensures)

@@ -1,10 +1,10 @@
 use Rattle.std.proofs.Common.{ℕ, List, ◌++◌, ap, ◌∙◌, sym, arith}
 use Rattle.std.proofs.lemmas.Result.{on_ok_weaker}
-use Rattle.mi_values.specs.CString.{c_string}
+use Rattle.mi_text.specs.CString.{c_string}
 use Rattle.mi_values.specs.Tree.{value_view}
 use Rattle.mi_values.specs.Spelling.{value_bytes}
 use Rattle.mi_values.specs.declared.value.Value.{Value}
-use Rattle.mi_values.proofs.Kept.{keeps_more, keeps_on, keeps_pushed, keeps_still}
+use Rattle.mi_text.proofs.Kept.{keeps_more, keeps_on, keeps_pushed, keeps_still}
 use Rattle.mi_values.proofs.Written.{item_written, field_written, items_closed, fields_closed, opened, Text-bytes, Items-bytes, Tuple-bytes, Named-bytes}
 use Rattle.mi_values.proofs.write.+write.Goals as goal
 

@@ -1,5 +1,5 @@
 use Rattle.std.proofs.Common.{◌≡◌, ◌++◌, false, drop}
-use Rattle.mi_values.specs.Keeps.{Keeps}
+use Rattle.mi_text.specs.Keeps.{Keeps}
 use Rattle.mi_values.specs.Tree.{items_view, fields_view}
 use Rattle.mi_values.specs.Spelling.{items_from, fields_from}
 use Rattle.mi_values.proofs.write.+write.Given as goal

@@ -1,0 +1,4 @@
+pub mod Kept
+pub mod Spelled
+pub mod Symbols
+pub mod Texts

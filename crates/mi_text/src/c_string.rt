@@ -1,0 +1,69 @@
+//! C strings as they are written: one spelling for each text.
+
+ghost use Rattle.std.specs.Prelude.{◌≡◌, ◌++◌, OnOk};
+ghost use Rattle.std.specs.List.{list_all};
+ghost use Rattle.mi_text.specs.CString.{escaped, escapes, c_string, AreBytes, is_own};
+ghost use Rattle.mi_text.specs.Keeps.{Keeps};
+
+use std::alloc::AllocError;
+
+/// Puts one byte's spelling at the end.
+#[tactic(auto, unfolding(crate::specs::CString::escaped))]
+fn write_byte(b: u8, into: &mut Vec<u8>) -> Result<(), AllocError>
+    ensures written { OnOk result (into.new.items ≡ into.old.items ++ escaped b) }
+    ensures kept { Keeps into.old.items into.new.items }
+{
+    match b {
+        b'"' => into.extend_from_slice(b"\\\"")?,
+        b'\\' => into.extend_from_slice(b"\\\\")?,
+        b'\n' => into.extend_from_slice(b"\\n")?,
+        b'\r' => into.extend_from_slice(b"\\r")?,
+        b'\t' => into.extend_from_slice(b"\\t")?,
+        0x20..=0x7E => into.push(b)?,
+        _ => {
+            let octal = [b'\\', b'0' + b / 64, b'0' + b / 8 % 8, b'0' + b % 8];
+            into.extend_from_slice(&octal)?;
+        }
+    }
+    Ok(())
+}
+
+// Whether a byte's spelling is the byte.
+fn is_own(b: u8) -> bool
+    ensures { result ≡ is_own b }
+{
+    b != b'"' && b != b'\\' && 32 <= b && b <= 126
+}
+
+fn are_own(bytes: &[u8]) -> bool
+    ensures { result ≡ list_all is_own bytes.now }
+{
+    bytes.iter().all(|b| is_own(*b))
+}
+
+#[tactic(auto, using(std::proofs::lemmas::Grind::common_steps, crate::proofs::Spelled::own_escapes))]
+/// Puts the spellings of a text's bytes at the end. Most texts are spelled as they are.
+fn write_bytes(text: &[u8], into: &mut Vec<u8>) -> Result<(), AllocError>
+    ensures written { OnOk result (into.new.items ≡ into.old.items ++ escapes text.now) }
+    ensures kept { Keeps into.old.items into.new.items }
+{
+    if are_own(text) {
+        return into.extend_from_slice(text);
+    }
+    for b in text {
+        write_byte(*b, into)?;
+    }
+    Ok(())
+}
+
+/// Puts the C string of a text at the end.
+pub fn write_c_string(text: &[u8], into: &mut Vec<u8>) -> Result<(), AllocError>
+    ensures written { OnOk result (into.new.items ≡ into.old.items ++ c_string text.now) }
+    ensures bytes { OnOk result (AreBytes text.now) }
+    ensures kept { Keeps into.old.items into.new.items }
+{
+    into.push(b'"')?;
+    write_bytes(text, into)?;
+    into.push(b'"')?;
+    Ok(())
+}

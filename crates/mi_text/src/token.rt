@@ -1,0 +1,68 @@
+//! The token of a command and of its result: at most 18 digits.
+
+ghost use Rattle.std.specs.Prelude.{◌≡◌, [], true};
+ghost use Rattle.std.specs.List.{list_all};
+ghost use Rattle.mi_text.specs.Digits.{is_digit};
+ghost use Rattle.mi_text.specs.Token.{is_token};
+
+use crate::digits::is_digit;
+use std::alloc::Global;
+use std::marker::Model;
+
+/// A token as its digits, none where there is no token. Contracts see its digits.
+#[derive(Debug, Drop)]
+pub struct Token {
+    digits: Vec<u8>,
+}
+
+impl Model for Token {
+    ghost use Rattle.std.specs.Prelude.{ℕ, List, ◌≡◌, true};
+    ghost use Rattle.mi_text.specs.Token.{is_token};
+
+    ghost Value = { List ℕ };
+
+    ghost view = { λ t. t.digits.items };
+
+    ghost invariant = { λ t. is_token t.digits.items ≡ true };
+}
+
+impl Token {
+    /// The greatest number of digits.
+    pub const MOST: usize = 18;
+
+    pub fn new(digits: Vec<u8>) -> Token
+        requires { is_token digits.items ≡ true }
+        ensures { result ≡ digits.items }
+    {
+        Token { digits }
+    }
+
+    /// No token.
+    pub fn none(alloc: Global) -> Token
+        ensures { result ≡ [] }
+    {
+        Token {
+            digits: Vec::new(alloc),
+        }
+    }
+
+    pub fn as_bytes(&self) -> &[u8]
+        ensures value { result.now ≡ self.now }
+        ensures token { is_token self.now ≡ true }
+    {
+        self.digits.as_slice()
+    }
+}
+
+fn are_digits(bytes: &[u8]) -> bool
+    ensures { result ≡ list_all is_digit bytes.now }
+{
+    bytes.iter().all(|b| is_digit(*b))
+}
+
+/// Whether these bytes are a token: at most 18 digits.
+pub fn is_token(bytes: &[u8]) -> bool
+    ensures { result ≡ is_token bytes.now }
+{
+    bytes.len() <= Token::MOST && are_digits(bytes)
+}

@@ -1,6 +1,0 @@
-use Rattle.std.proofs.Common.{◌≡◌, ◌++◌, take}
-use Rattle.mi_values.specs.CString.{escapes}
-use Rattle.mi_values.proofs.c_string.write_bytes.Given as goal
-
-abbrev pub invariant-loop-b : goal.invariant-loop-b
-invariant-loop-b l = l.into.items ≡ l.fn.into.items ++ escapes (take l.b-index l.text)

@@ -1,5 +1,0 @@
-use Rattle.mi_values.proofs.Bytes.{are_bytes}
-use Rattle.mi_values.proofs.c_string.write_c_string.Goals as goal
-
-pub returns-clause-bytes : goal.returns-clause-bytes
-returns-clause-bytes c = are_bytes c.args.text.now c.type_inv.text
