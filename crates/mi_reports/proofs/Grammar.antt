@@ -13,14 +13,14 @@ use Rattle.dbg_model.specs.declared.reply.Reply.{Reply}
 use Rattle.dbg_model.specs.declared.frame.ShownFrame.{ShownFrame}
 use Rattle.dbg_model.specs.declared.reply.Content.{Content}
 use Rattle.dbg_model.specs.declared.reply.Content.TheVariants as content
-use Rattle.mi_values.specs.Token.{is_token}
+use Rattle.mi_text.specs.Token.{is_token}
 use Rattle.mi_values.specs.Tree.{Tree, fields_of}
-use Rattle.mi_values.specs.Pieces.{notice_of, result_of}
+use Rattle.mi_values.specs.FieldLists.{notice_of, result_of}
 use Rattle.mi_values.specs.Records.{AreLines, AreRecords}
 use Rattle.mi_values.specs.Record.{prompt}
 use Rattle.mi_values.specs.Testing.{are_bytes}
 use Rattle.mi_values.proofs.Testing.{fields_by, bytes_by}
-use Rattle.mi_values.proofs.Joined.{lines_joined, records_joined}
+use Rattle.mi_values.proofs.Joined.{lines_joined}
 use Rattle.mi_reports.specs.declared.words.Key.{Key}
 use Rattle.mi_reports.specs.declared.words.Key.TheVariants as key
 use Rattle.mi_reports.specs.declared.words.Phrase.TheVariants as phrase
@@ -30,7 +30,7 @@ use Rattle.mi_reports.specs.Bytes.{address_text}
 use Rattle.mi_reports.specs.Messages.{part_text}
 use Rattle.mi_reports.specs.Fits.{frame_fits, content_fits}
 use Rattle.mi_reports.specs.Errors.{condition_error, condition_message, error_fields}
-use Rattle.mi_reports.specs.Text.{thread_fields, thread_line, created_lines, opening_lines, stopped_line, signal_fields, end_fields, hit_fields, signal_name, signal_meaning, stop_lines, interrupt_lines, stepped_lines, finished_lines, condition_lines, break_lines, gone_lines, exit_fields, exit_lines, gone_trees, lefts_lines, stream_lines, stop_text, interrupt_text, stepped_text, finished_text, break_text, gone_text, gone_texts, exit_text, lefts_text, opening_text, stream_text}
+use Rattle.mi_reports.specs.Text.{thread_fields, thread_line, created_lines, opening_lines, stopped_line, signal_fields, end_fields, hit_fields, signal, stop_lines, interrupt_lines, stepped_lines, finished_lines, condition_lines, break_lines, gone_lines, exit_fields, exit_lines, gone_trees, lefts_lines, stream_lines, stop_text, interrupt_text, stepped_text, finished_text, break_text, lefts_text, opening_text, stream_text}
 use Rattle.mi_reports.specs.Replies.{running_line, error_lines, done_lines, content_lines, reply_lines, reply_text}
 use Rattle.mi_reports.specs.Refusals.{kind_name, refusal_lines, file_fields, usage_fields, bad_file, usage}
 use Rattle.mi_reports.proofs.Bytes.{decimal_bytes, address_bytes, joined_bytes}
@@ -54,7 +54,7 @@ unfolding stopped_line notice_of
 stopped_is fs g = ((key_name key.Stopped, fields_by (fields_of fs) 16 g.test), tt)
 
 pub stop_are : (cause : Cause) (h : ℕ) (frame : ShownFrame) → frame_fits frame ≡ true → AreLines (stop_lines cause h frame)
-stop_are cause h frame fit = stopped_is (signal_fields (signal_name cause) (signal_meaning cause) h frame) (signal_good (signal_name cause) (signal_meaning cause) h frame fit)
+stop_are cause h frame fit = stopped_is (signal_fields (signal cause).0 (signal cause).1 h frame) (signal_good (signal cause).0 (signal cause).1 h frame fit)
 
 pub interrupt_are : (h : ℕ) (frame : ShownFrame) → frame_fits frame ≡ true → AreLines (interrupt_lines h frame)
 interrupt_are h frame fit = stopped_is (signal_fields phrase.Sigint phrase.Interrupt h frame) (signal_good phrase.Sigint phrase.Interrupt h frame fit)
@@ -165,23 +165,22 @@ pub opening_records : (harts : ℕ) → AreRecords (opening_text harts) (opening
 unfolding opening_text
 opening_records harts = record { lines = opening_are harts; text = refl }
 
-gones_records : (es : List Entry) → AreRecords (gone_texts es) (gone_trees es)
-unfolding gone_text
-gones_records [] = record { lines = tt; text = refl }
-gones_records (Left h code ∷ es) = records_joined (gone_text h) (gone_texts es) (gone_lines h) (gone_trees es) (record { lines = gone_are h; text = refl }) (gones_records es)
-gones_records (Ran h n ∷ es) = gones_records es
-gones_records (Counted h ∷ es) = gones_records es
-gones_records (Stopped h why ∷ es) = gones_records es
-gones_records (Did line ∷ es) = gones_records es
-gones_records (Poked p ∷ es) = gones_records es
+gones_are : (es : List Entry) → AreLines (gone_trees es)
+gones_are [] = tt
+gones_are (Left h code ∷ es) = lines_joined (gone_lines h) (gone_trees es) (gone_are h) (gones_are es)
+gones_are (Ran h n ∷ es) = gones_are es
+gones_are (Counted h ∷ es) = gones_are es
+gones_are (Stopped h why ∷ es) = gones_are es
+gones_are (Did line ∷ es) = gones_are es
+gones_are (Poked p ∷ es) = gones_are es
 
-last_records : (all : Bool) (code : ℕ) → code < 256 → AreRecords (cond all (exit_text code) []) (cond all (exit_lines code) [])
-unfolding exit_text
-last_records true code small = record { lines = exit_are code small; text = refl }
-last_records Bool.false code small = record { lines = tt; text = refl }
+last_are : (all : Bool) (code : ℕ) → code < 256 → AreLines (cond all (exit_lines code) [])
+last_are true code small = exit_are code small
+last_are Bool.false code small = tt
 
 pub lefts_records : (es : List Entry) (all : Bool) (code : ℕ) → code < 256 → AreRecords (lefts_text es all code) (lefts_lines es all code)
-lefts_records es all code small = records_joined (gone_texts es) (cond all (exit_text code) []) (gone_trees es) (cond all (exit_lines code) []) (gones_records es) (last_records all code small)
+unfolding lefts_text
+lefts_records es all code small = record { lines = lines_joined (gone_trees es) (cond all (exit_lines code) []) (gones_are es) (last_are all code small); text = refl }
 
 kind_bytes : (k : ElfKind) → are_bytes (kind_name k) ≡ true
 kind_bytes kind.Short = refl

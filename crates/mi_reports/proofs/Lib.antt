@@ -1,4 +1,4 @@
-pub mod Pieces
+pub mod Seen
 pub mod Bytes
 pub mod Names
 pub mod Proper

@@ -16,14 +16,14 @@ use Rattle.mi_commands.specs.declared.command.Format.{Format}
 use Rattle.mi_commands.specs.declared.command.Format.TheVariants.{Hexadecimal, Decimal}
 use Rattle.hex.specs.Hex.{encode_lower}
 use Rattle.mi_values.specs.Tree.{items_of}
-use Rattle.mi_values.specs.Pieces.{tuple_of, in_brackets}
+use Rattle.mi_values.specs.FieldLists.{tuple_of, in_brackets}
 use Rattle.mi_values.specs.Testing.{are_bytes, is_proper, are_proper_items}
 use Rattle.mi_values.proofs.Testing.{both}
 use Rattle.mi_reports.specs.declared.words.Key.TheVariants as key
 use Rattle.mi_reports.specs.declared.words.Phrase.TheVariants as phrase
 use Rattle.mi_reports.specs.Words.{key_text, phrase_text, says, says_some}
 use Rattle.mi_reports.specs.Bytes.{address_text}
-use Rattle.mi_reports.specs.Fits.{text_fits, source_fits, place_fits, threads_fit, breakpoint_fits, row_fits, rows_fit, done_fits}
+use Rattle.mi_reports.specs.Fits.{are_fit, text_fits, source_fits, place_fits, threads_fit, breakpoint_fits, row_fits, rows_fit, done_fits}
 use Rattle.mi_reports.specs.Frames.{source_fields, frame_field}
 use Rattle.mi_reports.specs.Breakpoints.{disposition, enabled, for_thread, ignored, front_fields, place_fields, term_fields, count_fields, breakpoint_fields, breakpoint_field}
 use Rattle.mi_reports.specs.Table.{row_field, table_fields}
@@ -33,7 +33,7 @@ use Rattle.mi_reports.proofs.Bytes.{decimal_bytes, address_bytes, joined_bytes}
 use Rattle.mi_reports.proofs.Names.{phrase_bytes}
 use Rattle.mi_reports.proofs.Watching.{watch_good, listed_good}
 use Rattle.mi_reports.proofs.Worths.{signed_bytes, worth_bytes}
-use Rattle.mi_reports.proofs.Proper.{Good, none_good, join, value, says_good, some_good, tuple_good, brackets_good, source_good, frame_good, frames_good, pick}
+use Rattle.mi_reports.proofs.Proper.{Good, fit, none_good, join, value, says_good, some_good, tuple_good, brackets_good, source_good, frame_good, frames_good, pick}
 
 -- ---- breakpoints
 
@@ -150,7 +150,7 @@ block_good : (addr : ℕ) (bytes : List ℕ) → are_bytes (encode_lower bytes) 
 unfolding block_fields
 block_good addr bytes h =
     says_good key.Begin (address_text addr) _ 14 refl (address_bytes addr)
-    (says_good key.Offset _ _ 14 refl refl (says_good key.End (address_text ((addr + length bytes) % 2 ^ 32)) _ 14 refl (address_bytes ((addr + length bytes) % 2 ^ 32)) (says_good key.Contents (encode_lower bytes) [] 14 refl h (none_good 14))))
+    (says_good key.Offset (address_text 0) _ 14 refl (address_bytes 0) (says_good key.End (address_text ((addr + length bytes) % 2 ^ 32)) _ 14 refl (address_bytes ((addr + length bytes) % 2 ^ 32)) (says_good key.Contents (encode_lower bytes) [] 14 refl h (none_good 14))))
 
 memory_good : (addr : ℕ) (bytes : List ℕ) → are_bytes (encode_lower bytes) ≡ true → Good (memory_field addr bytes ∷ []) 16
 unfolding memory_field
@@ -200,3 +200,14 @@ done_good (content.Value word unsigned) h = says_good key.Value (worth_text word
 done_good (content.Setting v) h = says_good key.Value (phrase_text (setting v)) [] 16 refl (phrase_bytes (setting v)) (none_good 16)
 done_good content.Exit h = none_good 16
 done_good (content.Refused r) h = none_good 16
+
+-- ---- in a line
+
+pub running_fit : (t : ℕ) → are_fit (says key.ThreadId (decimal t) ∷ []) ≡ true
+running_fit t = fit (says key.ThreadId (decimal t) ∷ []) (running_good t)
+
+pub error_fit : (r : Refused) → are_bytes (message r) ≡ true → are_fit (error_fields r) ≡ true
+error_fit r h = fit (error_fields r) (error_good r h)
+
+pub done_fit : (c : Content) → done_fits c ≡ true → are_fit (done_fields c) ≡ true
+done_fit c h = fit (done_fields c) (done_good c h)

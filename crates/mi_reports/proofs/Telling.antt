@@ -29,7 +29,7 @@ use Rattle.dbg_model.proofs.Options.{bind_some, guard_some, map_some, same_some}
 use Rattle.dbg_model.proofs.Plainly.{plain_of, enter_plain}
 use Rattle.break_table.specs.declared.due.CondError.{CondError}
 use Rattle.mi_values.specs.Record.{LineTree, prompt}
-use Rattle.mi_values.specs.Pieces.{notice_of, result_of}
+use Rattle.mi_values.specs.FieldLists.{notice_of, result_of}
 use Rattle.mi_values.specs.Records.{streamed, streamed_by}
 use Rattle.mi_reports.specs.Text.{thread_line, created_lines, opening_lines, stopped_line, hit_fields, condition_lines, break_lines, gone_lines, exit_lines, stream_lines}
 use Rattle.mi_reports.specs.Replies.{running_line, content_lines}

@@ -2,7 +2,7 @@
 use Rattle.std.specs.Prelude.{ℕ, ◌==◌, Bool, List, [], ◌∷◌, ◌++◌, Option, Some, None, if◌then◌else◌, decimal}
 use Rattle.dbg_model.specs.declared.breakpoint.Breakpoint.{Breakpoint}
 use Rattle.mi_values.specs.Tree.{Tree}
-use Rattle.mi_values.specs.Pieces.{tuple_of}
+use Rattle.mi_values.specs.FieldLists.{tuple_of}
 use Rattle.mi_reports.specs.declared.words.Key.TheVariants as key
 use Rattle.mi_reports.specs.declared.words.Phrase.{Phrase}
 use Rattle.mi_reports.specs.declared.words.Phrase.TheVariants as phrase

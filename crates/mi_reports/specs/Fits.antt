@@ -10,8 +10,13 @@ use Rattle.dbg_model.specs.declared.reply.Thread.{Thread}
 use Rattle.dbg_model.specs.declared.reply.Content.{Content}
 use Rattle.dbg_model.specs.declared.reply.Content.TheVariants as content
 use Rattle.hex.specs.Hex.{encode_lower}
-use Rattle.mi_values.specs.Testing.{are_bytes}
+use Rattle.mi_values.specs.Tree.{Tree, fields_of}
+use Rattle.mi_values.specs.Testing.{are_bytes, are_proper_fields}
 use Rattle.mi_reports.specs.Errors.{message}
+
+-- fields that may stand in a line
+unfoldable pub are_fit : List (List ℕ × Tree) → Bool
+are_fit fs = are_proper_fields (fields_of fs) 16
 
 abbrev pub text_fits : Option (List ℕ) → Bool
 text_fits None = true

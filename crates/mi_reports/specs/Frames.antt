@@ -3,7 +3,7 @@ use Rattle.std.specs.Prelude.{ℕ, ◌+◌, List, [], ◌∷◌, ◌++◌, Optio
 use Rattle.dbg_model.specs.declared.frame.ShownFrame.{ShownFrame}
 use Rattle.dbg_model.specs.declared.frame.SourceLine.{SourceLine}
 use Rattle.mi_values.specs.Tree.{Tree, items, no_item}
-use Rattle.mi_values.specs.Pieces.{tuple_of, in_brackets}
+use Rattle.mi_values.specs.FieldLists.{tuple_of, in_brackets}
 use Rattle.mi_reports.specs.declared.words.Key.TheVariants as key
 use Rattle.mi_reports.specs.Words.{key_text, says, says_some}
 use Rattle.mi_reports.specs.Bytes.{address_text}

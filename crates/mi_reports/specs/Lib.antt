@@ -12,3 +12,4 @@ pub mod Triggers
 pub mod Said
 pub mod Refusals
 pub mod Fits
+pub mod Seen

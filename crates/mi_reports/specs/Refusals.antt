@@ -5,7 +5,7 @@ use Rattle.elf32_read.specs.declared.fault.ElfKind.TheVariants as kind
 use Rattle.elf32_read.specs.declared.fault.ElfFault.{ElfFault}
 use Rattle.mi_values.specs.Tree.{Tree}
 use Rattle.mi_values.specs.Record.{LineTree}
-use Rattle.mi_values.specs.Pieces.{result_of}
+use Rattle.mi_values.specs.FieldLists.{result_of}
 use Rattle.mi_values.specs.Records.{lines_bytes}
 use Rattle.mi_reports.specs.declared.words.Key.TheVariants as key
 use Rattle.mi_reports.specs.declared.parts.Part.TheVariants as parts

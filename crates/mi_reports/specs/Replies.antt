@@ -15,7 +15,7 @@ use Rattle.hex.specs.Hex.{encode_lower}
 use Rattle.mi_values.specs.declared.sign.NoticeSign.TheVariants.{Exec}
 use Rattle.mi_values.specs.Tree.{Tree, text, items, item, no_item, items_of}
 use Rattle.mi_values.specs.Record.{LineTree, prompt}
-use Rattle.mi_values.specs.Pieces.{tuple_of, notice_of, result_of}
+use Rattle.mi_values.specs.FieldLists.{tuple_of, notice_of, result_of}
 use Rattle.mi_values.specs.Records.{lines_bytes}
 use Rattle.mi_reports.specs.declared.words.Key.TheVariants as key
 use Rattle.mi_reports.specs.declared.words.Phrase.{Phrase}
@@ -93,7 +93,7 @@ registers_field f rs = (key_text key.RegisterValues, items (items_of (map (regis
 -- the bytes from an address on, as two lower-case hexadecimal digits each
 unfoldable pub block_fields : ℕ → List ℕ → List (List ℕ × Tree)
 block_fields addr bytes =
-    says key.Begin (address_text addr) ∷ says key.Offset (codes "0x00000000") ∷ says key.End (address_text ((addr + length bytes) % 2 ^ 32)) ∷
+    says key.Begin (address_text addr) ∷ says key.Offset (address_text 0) ∷ says key.End (address_text ((addr + length bytes) % 2 ^ 32)) ∷
     says key.Contents (encode_lower bytes) ∷ []
 
 unfoldable pub memory_field : ℕ → List ℕ → List ℕ × Tree

@@ -3,7 +3,7 @@ use Rattle.std.specs.Prelude.{ℕ, List, [], ◌∷◌, length, map, decimal}
 use Rattle.dbg_model.specs.declared.row.Row.{Row}
 use Rattle.dbg_model.specs.declared.row.Row.TheVariants as rows
 use Rattle.mi_values.specs.Tree.{Tree}
-use Rattle.mi_values.specs.Pieces.{in_brackets}
+use Rattle.mi_values.specs.FieldLists.{in_brackets}
 use Rattle.mi_reports.specs.declared.words.Key.TheVariants as key
 use Rattle.mi_reports.specs.Words.{key_text, says}
 use Rattle.mi_reports.specs.Breakpoints.{breakpoint_field}

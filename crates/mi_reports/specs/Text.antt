@@ -10,7 +10,7 @@ use Rattle.mi_values.specs.declared.sign.NoticeSign.TheVariants.{Exec, Notify}
 use Rattle.mi_values.specs.declared.sign.StreamSign.TheVariants.{Target, Log}
 use Rattle.mi_values.specs.Tree.{Tree, text, items, item, no_item}
 use Rattle.mi_values.specs.Record.{LineTree, stream, prompt}
-use Rattle.mi_values.specs.Pieces.{notice_of}
+use Rattle.mi_values.specs.FieldLists.{notice_of}
 use Rattle.mi_values.specs.Records.{lines_bytes}
 use Rattle.mi_reports.specs.declared.words.Key.{Key}
 use Rattle.mi_reports.specs.declared.words.Key.TheVariants as key
@@ -69,29 +69,20 @@ unfoldable pub hit_fields : Bool → ℕ → ℕ → ShownFrame → List (List �
 hit_fields temporary number h frame =
     says key.Reason (phrase_text phrase.BreakpointHit) ∷ says key.Disp (phrase_text (disposition temporary)) ∷ says key.BkptNumber (decimal number) ∷ place_fields h frame
 
-abbrev pub signal_name : Cause → Phrase
-signal_name FetchAlign = phrase.Sigbus
-signal_name LoadFault = phrase.Sigsegv
-signal_name StoreFault = phrase.Sigsegv
-signal_name LoadAlign = phrase.Sigbus
-signal_name StoreAlign = phrase.Sigbus
-signal_name Break = phrase.Sigtrap
-signal_name Illegal = phrase.Sigill
-signal_name FetchFault = phrase.Sigsegv
-
-abbrev pub signal_meaning : Cause → Phrase
-signal_meaning FetchAlign = phrase.BusError
-signal_meaning LoadFault = phrase.SegmentationFault
-signal_meaning StoreFault = phrase.SegmentationFault
-signal_meaning LoadAlign = phrase.BusError
-signal_meaning StoreAlign = phrase.BusError
-signal_meaning Break = phrase.Trap
-signal_meaning Illegal = phrase.IllegalInstruction
-signal_meaning FetchFault = phrase.SegmentationFault
+-- a fault's signal, and what it means
+abbrev pub signal : Cause → Phrase × Phrase
+signal FetchAlign = (phrase.Sigbus, phrase.BusError)
+signal LoadFault = (phrase.Sigsegv, phrase.SegmentationFault)
+signal StoreFault = (phrase.Sigsegv, phrase.SegmentationFault)
+signal LoadAlign = (phrase.Sigbus, phrase.BusError)
+signal StoreAlign = (phrase.Sigbus, phrase.BusError)
+signal Break = (phrase.Sigtrap, phrase.Trap)
+signal Illegal = (phrase.Sigill, phrase.IllegalInstruction)
+signal FetchFault = (phrase.Sigsegv, phrase.SegmentationFault)
 
 -- hart h stopped in this frame by a fault
 abbrev pub stop_lines : Cause → ℕ → ShownFrame → List LineTree
-stop_lines cause h frame = stopped_line (signal_fields (signal_name cause) (signal_meaning cause) h frame) ∷ []
+stop_lines cause h frame = stopped_line (signal_fields (signal cause).0 (signal cause).1 h frame) ∷ []
 
 unfoldable pub stop_text : Cause → ℕ → ShownFrame → List ℕ
 stop_text cause h frame = lines_bytes (stop_lines cause h frame)
@@ -135,9 +126,6 @@ break_text temporary number error h frame = lines_bytes (break_lines temporary n
 abbrev pub gone_lines : ℕ → List LineTree
 gone_lines h = thread_line key.ThreadExited h ∷ []
 
-unfoldable pub gone_text : ℕ → List ℕ
-gone_text h = lines_bytes (gone_lines h)
-
 -- the program has exited with a code
 unfoldable pub exit_fields : ℕ → List (List ℕ × Tree)
 exit_fields code =
@@ -147,24 +135,7 @@ exit_fields code =
 abbrev pub exit_lines : ℕ → List LineTree
 exit_lines code = stopped_line (exit_fields code) ∷ []
 
-unfoldable pub exit_text : ℕ → List ℕ
-exit_text code = lines_bytes (exit_lines code)
-
--- the texts of exits, without that of the program
-abbrev pub gone_texts : List Entry → List ℕ
-gone_texts [] = []
-gone_texts (Left h code ∷ es) = gone_text h ++ gone_texts es
-gone_texts (Ran h n ∷ es) = gone_texts es
-gone_texts (Counted h ∷ es) = gone_texts es
-gone_texts (Stopped h why ∷ es) = gone_texts es
-gone_texts (Did line ∷ es) = gone_texts es
-gone_texts (Poked p ∷ es) = gone_texts es
-
--- the texts of exits, of which the last may be that of the program
-abbrev pub lefts_text : List Entry → Bool → ℕ → List ℕ
-lefts_text es all code = gone_texts es ++ (if all then exit_text code else [])
-
--- the trees of these lines
+-- the exits among entries, without that of the program
 abbrev pub gone_trees : List Entry → List LineTree
 gone_trees [] = []
 gone_trees (Left h code ∷ es) = gone_lines h ++ gone_trees es
@@ -174,8 +145,12 @@ gone_trees (Stopped h why ∷ es) = gone_trees es
 gone_trees (Did line ∷ es) = gone_trees es
 gone_trees (Poked p ∷ es) = gone_trees es
 
+-- the exits, of which the last may be that of the program
 abbrev pub lefts_lines : List Entry → Bool → ℕ → List LineTree
 lefts_lines es all code = gone_trees es ++ (if all then exit_lines code else [])
+
+unfoldable pub lefts_text : List Entry → Bool → ℕ → List ℕ
+lefts_text es all code = lines_bytes (lefts_lines es all code)
 
 -- ---- output
 

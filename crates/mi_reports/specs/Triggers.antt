@@ -5,7 +5,7 @@ use Rattle.dbg_model.specs.declared.watch.Fired.{Fired}
 use Rattle.dbg_model.specs.declared.watch.Watch.{Watch}
 use Rattle.mi_values.specs.Tree.{Tree}
 use Rattle.mi_values.specs.Record.{LineTree}
-use Rattle.mi_values.specs.Pieces.{tuple_of}
+use Rattle.mi_values.specs.FieldLists.{tuple_of}
 use Rattle.mi_values.specs.Records.{lines_bytes}
 use Rattle.mi_reports.specs.declared.words.Key.TheVariants as key
 use Rattle.mi_reports.specs.declared.words.Phrase.TheVariants as phrase

@@ -2,7 +2,7 @@
 use Rattle.std.specs.Prelude.{ℕ, List, [], ◌∷◌, decimal}
 use Rattle.dbg_model.specs.declared.watch.Watch.{Watch}
 use Rattle.mi_values.specs.Tree.{Tree}
-use Rattle.mi_values.specs.Pieces.{tuple_of}
+use Rattle.mi_values.specs.FieldLists.{tuple_of}
 use Rattle.mi_reports.specs.declared.words.Key.TheVariants as key
 use Rattle.mi_reports.specs.declared.words.Phrase.TheVariants as phrase
 use Rattle.mi_reports.specs.Words.{key_text, phrase_text, says}

@@ -4,10 +4,11 @@ ghost use Rattle.mi_values.specs.Records.{lines_bytes};
 ghost use Rattle.mi_reports.specs.Errors.{condition_error, condition_message};
 ghost use Rattle.mi_reports.specs.Text.{condition_lines};
 
+use crate::lines::push_stream;
 use crate::numbers::{address_text, append_decimal};
 use crate::parts::{Part, fixed};
 use break_table::CondError;
-use mi_values::{StreamSign, stream_byte, write_c_string};
+use mi_values::StreamSign;
 use std::alloc::{AllocError, Global};
 
 fn push_error(into: &mut Vec<u8>, error: CondError) -> Result<(), AllocError>
@@ -36,7 +37,6 @@ fn push_message(into: &mut Vec<u8>, number: u32, error: CondError) -> Result<(),
 }
 
 /// Appends the line of the condition of that breakpoint; none where it had a value.
-#[tactic(auto, unfolding(mi_values::specs::Record::line_bytes))]
 pub fn push_condition(
     alloc: Global,
     into: &mut Vec<u8>,
@@ -50,8 +50,5 @@ pub fn push_condition(
     };
     let mut message = Vec::new(alloc);
     push_message(&mut message, number, error)?;
-    into.push(stream_byte(StreamSign::Log))?;
-    write_c_string(message.as_slice(), into)?;
-    into.push(b'\n')?;
-    Ok(())
+    push_stream(into, StreamSign::Log, message)
 }

@@ -1,19 +1,19 @@
 // Why a line is refused.
 ghost use Rattle.std.specs.Prelude.{◌≡◌, ◌++◌, decimal, OnOk, true};
-ghost use Rattle.mi_values.specs.Pieces.{pieces};
 ghost use Rattle.mi_values.specs.Testing.{are_bytes};
 ghost use Rattle.mi_reports.specs.Bytes.{address_text};
 ghost use Rattle.mi_reports.specs.Messages.{part_text};
+ghost use Rattle.mi_reports.specs.Seen.{seen};
 ghost use Rattle.mi_reports.specs.Errors.{fault_message, expression_message, obstacle_message, message, error_code, error_fields};
 
-use crate::fields::{push_phrase, push_text};
+use crate::fields::FieldList;
 use crate::numbers::{address_text, append_decimal};
 use crate::parts::{Part, fixed};
 use crate::words::{Key, Phrase};
 use cond_expr::{ExprFault, FaultKind};
 use dbg_model::{Obstacle, Refused};
 use mi_commands::Fault;
-use std::alloc::{AllocError, Global};
+use std::alloc::AllocError;
 
 fn push_fault(into: &mut Vec<u8>, fault: &Fault) -> Result<(), AllocError>
     ensures { OnOk result (into.new.items ≡ into.old.items ++ fault_message fault.now) }
@@ -138,27 +138,25 @@ fn push_message(into: &mut Vec<u8>, refused: &Refused) -> Result<(), AllocError>
 }
 
 // An operation that isn't known has a code.
-fn push_code(into: &mut Vec<u8>, refused: &Refused) -> Result<(), AllocError>
-    ensures { OnOk result (into.new.items ≡ into.old.items ++ pieces (error_code refused.now)) }
+fn push_code(fields: &mut FieldList, refused: &Refused) -> Result<(), AllocError>
+    ensures { OnOk result (seen fields.new ≡ seen fields.old ++ error_code refused.now) }
 {
     match refused {
-        Refused::Faulty(Fault::Undefined(_)) => push_phrase(
-            into,
-            Key::Code,
-            Phrase::UndefinedCommand,
-        ),
+        Refused::Faulty(Fault::Undefined(_)) => {
+            fields.push_phrase(Key::Code, Phrase::UndefinedCommand)
+        }
         _ => Ok(()),
     }
 }
 
 /// Appends the fields of the error that is answered to a line that is refused.
 #[tactic(auto, unfolding(crate::specs::Errors::error_fields))]
-pub fn push_error(alloc: Global, into: &mut Vec<u8>, refused: &Refused) -> Result<(), AllocError>
-    ensures written { OnOk result (into.new.items ≡ into.old.items ++ pieces (error_fields refused.now)) }
+pub fn push_error(fields: &mut FieldList, refused: &Refused) -> Result<(), AllocError>
+    ensures written { OnOk result (seen fields.new ≡ seen fields.old ++ error_fields refused.now) }
     ensures fits { OnOk result (are_bytes (message refused.now) ≡ true) }
 {
-    let mut message = Vec::new(alloc);
+    let mut message = Vec::new(fields.alloc);
     push_message(&mut message, refused)?;
-    push_text(into, Key::Message, message.as_slice())?;
-    push_code(into, refused)
+    fields.push_text(Key::Message, message.as_slice())?;
+    push_code(fields, refused)
 }

@@ -1,115 +1,154 @@
-// Fields behind what stands already.
-ghost use Rattle.std.specs.Prelude.{◌≡◌, ◌<◌, ◌+◌, ◌++◌, ◌∷◌, [], decimal, OnOk, true};
-ghost use Rattle.mi_values.specs.Tree.{Tree, text, items, no_item};
-ghost use Rattle.mi_values.specs.Pieces.{behind, piece, pieces};
+// Fields, built one behind the other.
+ghost use Rattle.std.specs.Prelude.{◌≡◌, ◌<◌, ◌++◌, ◌∷◌, [], map, decimal, IfOk, OnOk, true};
+ghost use Rattle.mi_values.specs.Tree.{text, items, items_of, no_item, value_view};
+ghost use Rattle.mi_values.specs.FieldLists.{tuple_of, in_brackets};
 ghost use Rattle.mi_values.specs.Testing.{are_bytes};
 ghost use Rattle.mi_reports.specs.Bytes.{address_text, exit_code};
 ghost use Rattle.mi_reports.specs.Fits.{text_fits};
+ghost use Rattle.mi_reports.specs.Seen.{seen};
 ghost use Rattle.mi_reports.specs.Words.{key_text, phrase_text, says, says_some};
 
 use crate::numbers::address_text;
-use crate::words::{Key, Phrase, name, wording};
+use crate::words::{Key, Phrase, owned_name, wording};
 use itoa::Buffer;
 use mi_commands::ByteList;
-use mi_values::{known_bytes, write_key, write_text};
-use std::alloc::AllocError;
+use mi_values::{Name, Value, known_bytes};
+use std::alloc::{AllocError, Global};
 
-/// Appends a name and `=`, behind a comma.
-pub fn open(into: &mut Vec<u8>, key: Key) -> Result<(), AllocError>
-    ensures { OnOk result (into.new.items ≡ into.old.items ++ (44 ∷ (key_text key ++ 61 ∷ []))) }
-{
-    into.push(b',')?;
-    write_key(name(key), into)
+/// Fields in order.
+#[derive(Drop)]
+pub struct FieldList {
+    pub alloc: Global,
+    pub items: Vec<(Name, Value)>,
 }
 
-/// Appends a field that is a text, the first among others.
-pub fn push_first(into: &mut Vec<u8>, key: Key, bytes: &[u8]) -> Result<(), AllocError>
-    ensures written { OnOk result (into.new.items ≡ into.old.items ++ piece (key_text key) (text bytes.now)) }
+/// A text.
+pub fn text(alloc: Global, bytes: &[u8]) -> Result<Value, AllocError>
+    ensures written { IfOk result (λ v. value_view v ≡ text bytes.now) }
     ensures fits { are_bytes bytes.now ≡ true }
 {
     known_bytes(bytes);
-    write_text(name(key), bytes, into)
+    Ok(Value::Text(Vec::from_slice(alloc, bytes)?))
 }
 
-/// Appends a field that is a text.
-pub fn push_text(into: &mut Vec<u8>, key: Key, bytes: &[u8]) -> Result<(), AllocError>
-    ensures written { OnOk result (into.new.items ≡ into.old.items ++ behind (says key bytes.now)) }
-    ensures fits { are_bytes bytes.now ≡ true }
+/// Fields in braces.
+#[tactic(auto, unfolding(crate::specs::Seen::seen, mi_values::specs::FieldLists::tuple_of))]
+pub fn tuple(fields: FieldList) -> Value
+    ensures { value_view result ≡ tuple_of (seen fields) }
 {
-    known_bytes(bytes);
-    into.push(b',')?;
-    write_text(name(key), bytes, into)
+    Value::Tuple(fields.items)
 }
 
-/// Appends a field that is a fixed text.
-pub fn push_phrase(into: &mut Vec<u8>, key: Key, phrase: Phrase) -> Result<(), AllocError>
-    ensures { OnOk result (into.new.items ≡ into.old.items ++ behind (says key (phrase_text phrase))) }
+/// Fields in brackets; where there is none, `[]`.
+#[tactic(auto, using(crate::proofs::Seen::in_brackets_some), unfolding(crate::specs::Seen::seen, mi_values::specs::FieldLists::in_brackets))]
+pub fn bracketed(fields: FieldList) -> Value
+    ensures { value_view result ≡ in_brackets (seen fields) }
 {
-    push_text(into, key, wording(phrase))
-}
-
-/// Appends a field that is a number in decimal, the first among others.
-pub fn push_first_number(into: &mut Vec<u8>, key: Key, n: u64) -> Result<(), AllocError>
-    ensures { OnOk result (into.new.items ≡ into.old.items ++ piece (key_text key) (text (decimal n))) }
-{
-    let mut buffer = Buffer::new();
-    push_first(into, key, buffer.format(n).as_bytes())
-}
-
-/// Appends a field that is a number in decimal.
-pub fn push_number(into: &mut Vec<u8>, key: Key, n: u64) -> Result<(), AllocError>
-    ensures { OnOk result (into.new.items ≡ into.old.items ++ behind (says key (decimal n))) }
-{
-    let mut buffer = Buffer::new();
-    push_text(into, key, buffer.format(n).as_bytes())
-}
-
-/// Appends a field that is a word in decimal.
-pub fn push_word(into: &mut Vec<u8>, key: Key, n: u32) -> Result<(), AllocError>
-    ensures { OnOk result (into.new.items ≡ into.old.items ++ behind (says key (decimal n))) }
-{
-    push_number(into, key, u64::from(n))
-}
-
-/// Appends a field that is an address.
-pub fn push_address(into: &mut Vec<u8>, key: Key, address: u32) -> Result<(), AllocError>
-    ensures { OnOk result (into.new.items ≡ into.old.items ++ behind (says key (address_text address))) }
-{
-    push_text(into, key, &address_text(address))
-}
-
-/// Appends a field that is a text; nothing where there is none.
-pub fn push_some(into: &mut Vec<u8>, key: Key, bytes: &Option<ByteList>) -> Result<(), AllocError>
-    ensures written { OnOk result (into.new.items ≡ into.old.items ++ pieces (says_some key bytes.now)) }
-    ensures fits { text_fits bytes.now ≡ true }
-{
-    let Some(bytes) = bytes else {
-        return Ok(());
-    };
-    push_text(into, key, bytes.as_slice())
-}
-
-/// Appends a field that is `[]`.
-#[tactic(auto, unfolding(mi_values::specs::Pieces::piece, mi_values::specs::Spelling::value_bytes, mi_values::specs::Spelling::items_from))]
-pub fn push_empty(into: &mut Vec<u8>, key: Key) -> Result<(), AllocError>
-    ensures { OnOk result (into.new.items ≡ into.old.items ++ behind (key_text key, items no_item)) }
-{
-    open(into, key)?;
-    into.extend_from_slice(b"[]")
-}
-
-/// Appends a field that is an exit code: `0` and octal digits without leading zeros.
-#[tactic(auto, unfolding(crate::specs::Bytes::exit_code))]
-pub fn push_exit_code(into: &mut Vec<u8>, key: Key, code: u32) -> Result<(), AllocError>
-    requires { code < 256 }
-    ensures { OnOk result (into.new.items ≡ into.old.items ++ behind (says key (exit_code code))) }
-{
-    let n = code as u8;
-    if n < 8 {
-        return push_text(into, key, &[b'0', 48 + n]);
+    if fields.items.is_empty() {
+        return Value::Items(Vec::new(fields.alloc));
     }
-    if n < 64 {
-        return push_text(into, key, &[b'0', 48 + n / 8, 48 + n % 8]);
+    Value::Named(fields.items)
+}
+
+/// Values in brackets.
+pub fn listed(values: Vec<Value>) -> Value
+    ensures { value_view result ≡ items (items_of (map value_view values.items)) }
+{
+    Value::Items(values)
+}
+
+impl FieldList {
+    /// No fields.
+    #[tactic(auto, unfolding(crate::specs::Seen::seen))]
+    pub fn new(alloc: Global) -> FieldList
+        ensures { seen result ≡ [] }
+    {
+        FieldList {
+            alloc,
+            items: Vec::new(alloc),
+        }
     }
-    push_text(into, key, &[b'0', 48 + n / 64, 48 + n / 8 % 8, 48 + n % 8])
+
+    /// Appends a field.
+    #[tactic(auto, using(std::proofs::lemmas::Grind::common_steps), unfolding(crate::specs::Seen::seen))]
+    pub fn push(&mut self, key: Key, value: Value) -> Result<(), AllocError>
+        ensures { OnOk result (seen self.new ≡ seen self.old ++ (key_text key, value_view value) ∷ []) }
+    {
+        let name = owned_name(self.alloc, key)?;
+        self.items.push((name, value))?;
+        Ok(())
+    }
+
+    /// Appends a field that is a text.
+    pub fn push_text(&mut self, key: Key, bytes: &[u8]) -> Result<(), AllocError>
+        ensures written { OnOk result (seen self.new ≡ seen self.old ++ says key bytes.now ∷ []) }
+        ensures fits { are_bytes bytes.now ≡ true }
+    {
+        let value = text(self.alloc, bytes)?;
+        self.push(key, value)
+    }
+
+    /// Appends a field that is a fixed text.
+    pub fn push_phrase(&mut self, key: Key, phrase: Phrase) -> Result<(), AllocError>
+        ensures { OnOk result (seen self.new ≡ seen self.old ++ says key (phrase_text phrase) ∷ []) }
+    {
+        self.push_text(key, wording(phrase))
+    }
+
+    /// Appends a field that is a number in decimal.
+    pub fn push_number(&mut self, key: Key, n: u64) -> Result<(), AllocError>
+        ensures { OnOk result (seen self.new ≡ seen self.old ++ says key (decimal n) ∷ []) }
+    {
+        let mut buffer = Buffer::new();
+        self.push_text(key, buffer.format(n).as_bytes())
+    }
+
+    /// Appends a field that is a word in decimal.
+    pub fn push_word(&mut self, key: Key, n: u32) -> Result<(), AllocError>
+        ensures { OnOk result (seen self.new ≡ seen self.old ++ says key (decimal n) ∷ []) }
+    {
+        self.push_number(key, u64::from(n))
+    }
+
+    /// Appends a field that is an address.
+    pub fn push_address(&mut self, key: Key, address: u32) -> Result<(), AllocError>
+        ensures { OnOk result (seen self.new ≡ seen self.old ++ says key (address_text address) ∷ []) }
+    {
+        self.push_text(key, &address_text(address))
+    }
+
+    /// Appends a field that is a text; nothing where there is none.
+    pub fn push_some(&mut self, key: Key, bytes: &Option<ByteList>) -> Result<(), AllocError>
+        ensures written { OnOk result (seen self.new ≡ seen self.old ++ says_some key bytes.now) }
+        ensures fits { text_fits bytes.now ≡ true }
+    {
+        let Some(bytes) = bytes else {
+            return Ok(());
+        };
+        self.push_text(key, bytes.as_slice())
+    }
+
+    /// Appends a field that is `[]`.
+    pub fn push_empty(&mut self, key: Key) -> Result<(), AllocError>
+        ensures { OnOk result (seen self.new ≡ seen self.old ++ (key_text key, items no_item) ∷ []) }
+    {
+        let none = listed(Vec::new(self.alloc));
+        self.push(key, none)
+    }
+
+    /// Appends a field that is an exit code: `0` and octal digits without leading zeros.
+    #[tactic(auto, unfolding(crate::specs::Bytes::exit_code))]
+    pub fn push_exit_code(&mut self, key: Key, code: u32) -> Result<(), AllocError>
+        requires { code < 256 }
+        ensures { OnOk result (seen self.new ≡ seen self.old ++ says key (exit_code code) ∷ []) }
+    {
+        let n = code as u8;
+        if n < 8 {
+            return self.push_text(key, &[b'0', 48 + n]);
+        }
+        if n < 64 {
+            return self.push_text(key, &[b'0', 48 + n / 8, 48 + n % 8]);
+        }
+        self.push_text(key, &[b'0', 48 + n / 64, 48 + n / 8 % 8, 48 + n % 8])
+    }
 }

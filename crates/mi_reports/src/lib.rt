@@ -1,6 +1,6 @@
 //! The lines that a session puts: those of its opening, of each entry of its journal, and of its refusals.
 //!
-//! Each is defined as trees of the grammar of `mi_values`, and written piece by piece.
+//! Each is built as trees of the grammar of `mi_values`, and written by its `write_line`.
 #![tactic(auto)]
 
 mod breakpoints;

@@ -1,49 +1,98 @@
-// The fronts and the ends of lines.
-ghost use Rattle.std.specs.Prelude.{◌≡◌, ◌++◌, ◌∷◌, [], OnOk};
-ghost use Rattle.mi_values.specs.Record.{notice_byte, line_bytes, prompt};
+// Lines, each written by `write_line`.
+ghost use Rattle.std.specs.Prelude.{◌≡◌, ◌++◌, IfOk, OnOk, true};
+ghost use Rattle.mi_values.specs.Line.{line_view};
+ghost use Rattle.mi_values.specs.FieldLists.{notice_of, result_of};
+ghost use Rattle.mi_values.specs.Record.{line_bytes, prompt, stream};
+ghost use Rattle.mi_values.specs.Tree.{fields_of, fields_view};
+ghost use Rattle.mi_reports.specs.Fits.{are_fit};
+ghost use Rattle.mi_reports.specs.Seen.{seen};
 ghost use Rattle.mi_reports.specs.Words.{key_text};
 
-use crate::words::{Key, name};
-use mi_values::{NoticeSign, notice_byte};
-use std::alloc::AllocError;
+use crate::fields::FieldList;
+use crate::words::{Key, owned_name};
+use mi_values::{Fields, Line, NoticeSign, StreamSign, Token, write_line};
+use std::alloc::{AllocError, Global};
 
-/// Appends the sign and the class of what happened.
-pub fn begin_notice(into: &mut Vec<u8>, sign: NoticeSign, class: Key) -> Result<(), AllocError>
-    ensures { OnOk result (into.new.items ≡ into.old.items ++ (notice_byte sign ∷ key_text class)) }
+fn push_line(into: &mut Vec<u8>, line: &Line) -> Result<(), AllocError>
+    ensures { OnOk result (into.new.items ≡ into.old.items ++ line_bytes (line_view line.now)) }
 {
-    into.push(notice_byte(sign))?;
-    into.extend_from_slice(name(class).as_bytes())
+    match write_line(line, into) {
+        Ok(()) => Ok(()),
+        Err(_) => Err(AllocError),
+    }
 }
 
-/// Appends the token, `^` and the class of an answer.
-pub fn begin_result(into: &mut Vec<u8>, token: &[u8], class: Key) -> Result<(), AllocError>
-    ensures { OnOk result (into.new.items ≡ into.old.items ++ (token.now ++ (94 ∷ key_text class))) }
+#[tactic(auto, unfolding(crate::specs::Seen::seen))]
+fn of_line(fields: FieldList) -> Fields
+    requires { are_fit (seen fields) ≡ true }
+    ensures { fields_view result.items.items ≡ fields_of (seen fields) }
 {
-    into.extend_from_slice(token)?;
-    into.push(b'^')?;
-    into.extend_from_slice(name(class).as_bytes())
+    Fields::new(fields.items)
 }
 
-/// Appends the end of a line.
-pub fn end_line(into: &mut Vec<u8>) -> Result<(), AllocError>
-    ensures { OnOk result (into.new.items ≡ into.old.items ++ 10 ∷ []) }
+/// Appends the line of what happened.
+#[tactic(auto, unfolding(mi_values::specs::FieldLists::notice_of))]
+pub fn push_notice(
+    into: &mut Vec<u8>,
+    sign: NoticeSign,
+    class: Key,
+    fields: FieldList,
+) -> Result<(), AllocError>
+    requires { are_fit (seen fields) ≡ true }
+    ensures { OnOk result (into.new.items ≡ into.old.items ++ line_bytes (notice_of sign (key_text class) (seen fields))) }
 {
-    into.push(b'\n')?;
-    Ok(())
+    let class = owned_name(fields.alloc, class)?;
+    let fields = of_line(fields);
+    push_line(
+        into,
+        &Line::Notice {
+            sign,
+            class,
+            fields,
+        },
+    )
+}
+
+fn copied(alloc: Global, token: &Token) -> Result<Token, AllocError>
+    ensures { IfOk result (λ t. t ≡ token.now) }
+{
+    Ok(Token::new(Vec::from_slice(alloc, token.as_bytes())?))
+}
+
+/// Appends the line of the answer to a command.
+#[tactic(auto, unfolding(mi_values::specs::FieldLists::result_of))]
+pub fn push_result(
+    into: &mut Vec<u8>,
+    token: &Token,
+    class: Key,
+    fields: FieldList,
+) -> Result<(), AllocError>
+    requires { are_fit (seen fields) ≡ true }
+    ensures { OnOk result (into.new.items ≡ into.old.items ++ line_bytes (result_of token.now (key_text class) (seen fields))) }
+{
+    let token = copied(fields.alloc, token)?;
+    let class = owned_name(fields.alloc, class)?;
+    let fields = of_line(fields);
+    push_line(
+        into,
+        &Line::Result {
+            token,
+            class,
+            fields,
+        },
+    )
+}
+
+/// Appends the line of a text.
+pub fn push_stream(into: &mut Vec<u8>, sign: StreamSign, bytes: Vec<u8>) -> Result<(), AllocError>
+    ensures { OnOk result (into.new.items ≡ into.old.items ++ line_bytes (stream sign bytes.items)) }
+{
+    push_line(into, &Line::Stream { sign, bytes })
 }
 
 /// Appends the prompt.
-#[tactic(auto, unfolding(mi_values::specs::Record::line_bytes))]
 pub fn push_prompt(into: &mut Vec<u8>) -> Result<(), AllocError>
     ensures { OnOk result (into.new.items ≡ into.old.items ++ line_bytes prompt) }
 {
-    into.extend_from_slice(b"(gdb)\n")
-}
-
-/// Appends the end of a line, and the prompt.
-pub fn end_with_prompt(into: &mut Vec<u8>) -> Result<(), AllocError>
-    ensures { OnOk result (into.new.items ≡ into.old.items ++ (10 ∷ line_bytes prompt)) }
-{
-    end_line(into)?;
-    push_prompt(into)
+    push_line(into, &Line::Prompt)
 }

@@ -1,10 +1,8 @@
 // Numbers as text.
 ghost use Rattle.std.specs.Prelude.{◌≡◌, ◌<◌, ◌++◌, decimal, OnOk};
-ghost use Rattle.mi_values.specs.CString.{c_string};
 ghost use Rattle.mi_reports.specs.Bytes.{hex_digit, address_text};
 
 use itoa::Buffer;
-use mi_values::write_c_string;
 use std::alloc::AllocError;
 
 fn hex_digit(d: u32) -> u8
@@ -39,12 +37,4 @@ pub fn append_decimal(into: &mut Vec<u8>, n: u64) -> Result<(), AllocError>
 {
     let mut buffer = Buffer::new();
     into.extend_from_slice(buffer.format(n).as_bytes())
-}
-
-/// Appends a number in decimal as a C string.
-pub fn push_c_number(into: &mut Vec<u8>, n: u64) -> Result<(), AllocError>
-    ensures { OnOk result (into.new.items ≡ into.old.items ++ c_string (decimal n)) }
-{
-    let mut buffer = Buffer::new();
-    write_c_string(buffer.format(n).as_bytes(), into)
 }

@@ -1,20 +1,19 @@
 // Registers, memory and values.
-ghost use Rattle.std.specs.Prelude.{◌≡◌, ◌∷◌, [], ◌++◌, map, IfOk, OnOk, true, false};
-ghost use Rattle.mi_values.specs.Tree.{text, items, items_of};
-ghost use Rattle.mi_values.specs.Pieces.{behind, pieces, between_commas};
+ghost use Rattle.std.specs.Prelude.{◌≡◌, ◌∷◌, [], ◌++◌, map, IfOk, OnOk, true};
+ghost use Rattle.mi_values.specs.Tree.{text, items, items_of, value_view};
 ghost use Rattle.hex.specs.Hex.{encode_lower};
 ghost use Rattle.mi_values.specs.Testing.{are_bytes};
-ghost use Rattle.mi_values.specs.Spelling.{value_bytes, items_from};
 ghost use Rattle.mi_reports.specs.declared.words.Key.TheVariants as keys;
+ghost use Rattle.mi_reports.specs.Seen.{seen};
 ghost use Rattle.mi_reports.specs.Words.{key_text, says};
 ghost use Rattle.mi_reports.specs.Replies.{signed_text, worth_text, value_text, names_field, register_fields, register_tree, registers_field, block_fields, memory_field};
 
-use crate::fields::{open, push_address, push_first, push_first_number, push_text};
-use crate::numbers::{address_text, append_decimal};
+use crate::fields::{FieldList, listed, text, tuple};
+use crate::numbers::append_decimal;
 use crate::words::{Key, Phrase, wording};
 use dbg_model::Register;
 use mi_commands::Format;
-use mi_values::write_c_string;
+use mi_values::Value;
 use std::alloc::{AllocError, Global};
 
 // The names of x0 to x31 and of pc.
@@ -24,46 +23,35 @@ const NAMES: [&str; 33] = [
     "t5", "t6", "pc",
 ];
 
-// Names behind others, and the end of the list.
-#[tactic(auto, unfolding(mi_values::specs::Spelling::items_from, mi_values::specs::Spelling::value_bytes))]
-fn push_more_names(into: &mut Vec<u8>, names: &[&'static str]) -> Result<(), AllocError>
-    ensures { OnOk result (into.new.items ≡ into.old.items ++ items_from true (items_of (map (λ n. text n.now) names.now))) }
+#[tactic(auto, using(std::proofs::lemmas::Grind::common_steps))]
+fn push_texts(
+    alloc: Global,
+    values: &mut Vec<Value>,
+    names: &[&'static str],
+) -> Result<(), AllocError>
+    ensures { OnOk result (map value_view values.new.items ≡ map value_view values.old.items ++ map (λ n. text n.now) names.now) }
 {
     let [name, rest @ ..] = names else {
-        return into.extend_from_slice(b"]");
+        return Ok(());
     };
-    into.push(b',')?;
-    write_c_string(name.as_bytes(), into)?;
-    push_more_names(into, rest)
+    values.push(text(alloc, name.as_bytes())?)?;
+    push_texts(alloc, values, rest)
 }
 
-// Names, and the end of their list.
-#[tactic(auto, unfolding(mi_values::specs::Spelling::items_from, mi_values::specs::Spelling::value_bytes))]
-fn push_name_list(into: &mut Vec<u8>, names: &[&'static str]) -> Result<(), AllocError>
-    ensures { OnOk result (into.new.items ≡ into.old.items ++ items_from false (items_of (map (λ n. text n.now) names.now))) }
+fn push_these(fields: &mut FieldList, names: &[&'static str]) -> Result<(), AllocError>
+    ensures { OnOk result (seen fields.new ≡ seen fields.old ++ (key_text keys.RegisterNames, items (items_of (map (λ n. text n.now) names.now))) ∷ []) }
 {
-    let [name, rest @ ..] = names else {
-        return into.extend_from_slice(b"]");
-    };
-    write_c_string(name.as_bytes(), into)?;
-    push_more_names(into, rest)
-}
-
-#[tactic(auto, unfolding(mi_values::specs::Pieces::piece, mi_values::specs::Spelling::value_bytes))]
-fn push_these(into: &mut Vec<u8>, names: &[&'static str]) -> Result<(), AllocError>
-    ensures { OnOk result (into.new.items ≡ into.old.items ++ behind (key_text keys.RegisterNames, items (items_of (map (λ n. text n.now) names.now)))) }
-{
-    open(into, Key::RegisterNames)?;
-    into.push(b'[')?;
-    push_name_list(into, names)
+    let mut values = Vec::new(fields.alloc);
+    push_texts(fields.alloc, &mut values, names)?;
+    fields.push(Key::RegisterNames, listed(values))
 }
 
 /// Appends the names of all registers.
 #[tactic(auto, unfolding(crate::specs::Replies::names_field))]
-pub fn push_names(into: &mut Vec<u8>) -> Result<(), AllocError>
-    ensures { OnOk result (into.new.items ≡ into.old.items ++ behind names_field) }
+pub fn push_names(fields: &mut FieldList) -> Result<(), AllocError>
+    ensures { OnOk result (seen fields.new ≡ seen fields.old ++ names_field ∷ []) }
 {
-    push_these(into, &NAMES)
+    push_these(fields, &NAMES)
 }
 
 // A word as a number by its sign.
@@ -94,142 +82,88 @@ pub fn worth_text(alloc: Global, word: u32, unsigned: bool) -> Result<Vec<u8>, A
 
 /// Appends a word as a number, by whether it is unsigned.
 pub fn push_worth(
-    alloc: Global,
-    into: &mut Vec<u8>,
+    fields: &mut FieldList,
+    key: Key,
     word: u32,
     unsigned: bool,
 ) -> Result<(), AllocError>
-    ensures { OnOk result (into.new.items ≡ into.old.items ++ behind (says keys.Value (worth_text word unsigned))) }
+    ensures { OnOk result (seen fields.new ≡ seen fields.old ++ says key (worth_text word unsigned) ∷ []) }
 {
-    push_text(
-        into,
-        Key::Value,
-        worth_text(alloc, word, unsigned)?.as_slice(),
-    )
+    let text = worth_text(fields.alloc, word, unsigned)?;
+    fields.push_text(key, text.as_slice())
 }
 
-fn push_value(
-    alloc: Global,
-    into: &mut Vec<u8>,
-    format: Format,
-    value: u32,
-) -> Result<(), AllocError>
-    ensures { OnOk result (into.new.items ≡ into.old.items ++ behind (says keys.Value (value_text format value))) }
+fn push_value(fields: &mut FieldList, format: Format, value: u32) -> Result<(), AllocError>
+    ensures { OnOk result (seen fields.new ≡ seen fields.old ++ says keys.Value (value_text format value) ∷ []) }
 {
     match format {
-        Format::Hexadecimal => push_address(into, Key::Value, value),
-        Format::Decimal => push_text(into, Key::Value, signed_text(alloc, value)?.as_slice()),
+        Format::Hexadecimal => fields.push_address(Key::Value, value),
+        Format::Decimal => push_worth(fields, Key::Value, value, false),
     }
 }
 
-#[tactic(auto, unfolding(crate::specs::Replies::register_fields))]
-fn push_fields(
-    alloc: Global,
-    into: &mut Vec<u8>,
-    format: Format,
-    register: Register,
-) -> Result<(), AllocError>
-    ensures { OnOk result (into.new.items ≡ into.old.items ++ between_commas (register_fields format register)) }
+#[tactic(auto, unfolding(crate::specs::Replies::register_tree, crate::specs::Replies::register_fields))]
+fn register_value(alloc: Global, format: Format, register: Register) -> Result<Value, AllocError>
+    ensures { IfOk result (λ v. value_view v ≡ register_tree format register) }
 {
-    push_first_number(into, Key::Number, u64::from(register.number))?;
-    push_value(alloc, into, format, register.value)
+    let mut fields = FieldList::new(alloc);
+    fields.push_word(Key::Number, register.number)?;
+    push_value(&mut fields, format, register.value)?;
+    Ok(tuple(fields))
 }
 
-#[tactic(auto, using(std::proofs::lemmas::Grind::common_steps, mi_values::proofs::Pieces::tuple_pieces), unfolding(crate::specs::Replies::register_tree))]
-fn push_register(
-    alloc: Global,
-    into: &mut Vec<u8>,
-    format: Format,
-    register: Register,
-) -> Result<(), AllocError>
-    ensures { OnOk result (into.new.items ≡ into.old.items ++ value_bytes (register_tree format register)) }
-{
-    into.push(b'{')?;
-    push_fields(alloc, into, format, register)?;
-    into.push(b'}')?;
-    Ok(())
-}
-
-// Registers behind others, and the end of the list.
-#[tactic(auto, unfolding(mi_values::specs::Spelling::items_from))]
-fn push_more(
-    alloc: Global,
-    into: &mut Vec<u8>,
-    format: Format,
-    registers: &[Register],
-) -> Result<(), AllocError>
-    ensures { OnOk result (into.new.items ≡ into.old.items ++ items_from true (items_of (map (register_tree format) registers.now))) }
-{
-    let [register, rest @ ..] = registers else {
-        return into.extend_from_slice(b"]");
-    };
-    into.push(b',')?;
-    push_register(alloc, into, format, *register)?;
-    push_more(alloc, into, format, rest)
-}
-
-// Registers, and the end of their list.
-#[tactic(auto, unfolding(mi_values::specs::Spelling::items_from))]
+#[tactic(auto, using(std::proofs::lemmas::Grind::common_steps))]
 fn push_list(
     alloc: Global,
-    into: &mut Vec<u8>,
+    values: &mut Vec<Value>,
     format: Format,
     registers: &[Register],
 ) -> Result<(), AllocError>
-    ensures { OnOk result (into.new.items ≡ into.old.items ++ items_from false (items_of (map (register_tree format) registers.now))) }
+    ensures { OnOk result (map value_view values.new.items ≡ map value_view values.old.items ++ map (register_tree format) registers.now) }
 {
     let [register, rest @ ..] = registers else {
-        return into.extend_from_slice(b"]");
+        return Ok(());
     };
-    push_register(alloc, into, format, *register)?;
-    push_more(alloc, into, format, rest)
+    values.push(register_value(alloc, format, *register)?)?;
+    push_list(alloc, values, format, rest)
 }
 
 /// Appends registers with their values in a format.
-#[tactic(auto, unfolding(crate::specs::Replies::registers_field, mi_values::specs::Pieces::piece, mi_values::specs::Spelling::value_bytes))]
+#[tactic(auto, unfolding(crate::specs::Replies::registers_field))]
 pub fn push_registers(
-    alloc: Global,
-    into: &mut Vec<u8>,
+    fields: &mut FieldList,
     format: Format,
     registers: &[Register],
 ) -> Result<(), AllocError>
-    ensures { OnOk result (into.new.items ≡ into.old.items ++ behind (registers_field format registers.now)) }
+    ensures { OnOk result (seen fields.new ≡ seen fields.old ++ registers_field format registers.now ∷ []) }
 {
-    open(into, Key::RegisterValues)?;
-    into.push(b'[')?;
-    push_list(alloc, into, format, registers)
+    let mut values = Vec::new(fields.alloc);
+    push_list(fields.alloc, &mut values, format, registers)?;
+    fields.push(Key::RegisterValues, listed(values))
 }
 
-#[tactic(auto, unfolding(crate::specs::Replies::block_fields))]
-fn push_block(
-    alloc: Global,
-    into: &mut Vec<u8>,
-    address: u32,
-    bytes: &[u8],
-) -> Result<(), AllocError>
-    ensures written { OnOk result (into.new.items ≡ into.old.items ++ between_commas (block_fields address bytes.now)) }
+#[tactic(auto, using(std::proofs::lemmas::Grind::common_steps), unfolding(crate::specs::Replies::block_fields))]
+fn push_block(fields: &mut FieldList, address: u32, bytes: &[u8]) -> Result<(), AllocError>
+    ensures written { OnOk result (seen fields.new ≡ seen fields.old ++ block_fields address bytes.now) }
     ensures fits { OnOk result (are_bytes (encode_lower bytes.now) ≡ true) }
 {
     let end = ((u64::from(address) + bytes.len() as u64) % 0x1_0000_0000) as u32;
-    push_first(into, Key::Begin, &address_text(address))?;
-    push_text(into, Key::Offset, b"0x00000000")?;
-    push_address(into, Key::End, end)?;
-    push_text(into, Key::Contents, hex::encode(alloc, bytes)?.as_bytes())
+    let contents = hex::encode(fields.alloc, bytes)?;
+    fields.push_address(Key::Begin, address)?;
+    fields.push_address(Key::Offset, 0)?;
+    fields.push_address(Key::End, end)?;
+    fields.push_text(Key::Contents, contents.as_bytes())
 }
 
 /// Appends the bytes from an address on.
-#[tactic(auto, using(std::proofs::lemmas::Grind::common_steps, mi_values::proofs::Pieces::tuple_pieces), unfolding(crate::specs::Replies::memory_field, mi_values::specs::Pieces::piece, mi_values::specs::Spelling::items_from))]
-pub fn push_memory(
-    alloc: Global,
-    into: &mut Vec<u8>,
-    address: u32,
-    bytes: &[u8],
-) -> Result<(), AllocError>
-    ensures written { OnOk result (into.new.items ≡ into.old.items ++ behind (memory_field address bytes.now)) }
+#[tactic(auto, using(std::proofs::lemmas::Grind::common_steps), unfolding(crate::specs::Replies::memory_field))]
+pub fn push_memory(fields: &mut FieldList, address: u32, bytes: &[u8]) -> Result<(), AllocError>
+    ensures written { OnOk result (seen fields.new ≡ seen fields.old ++ memory_field address bytes.now ∷ []) }
     ensures fits { OnOk result (are_bytes (encode_lower bytes.now) ≡ true) }
 {
-    open(into, Key::Memory)?;
-    into.extend_from_slice(b"[{")?;
-    push_block(alloc, into, address, bytes)?;
-    into.extend_from_slice(b"}]")
+    let mut block = FieldList::new(fields.alloc);
+    push_block(&mut block, address, bytes)?;
+    let mut values = Vec::new(fields.alloc);
+    values.push(tuple(block))?;
+    fields.push(Key::Memory, listed(values))
 }

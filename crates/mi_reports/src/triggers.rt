@@ -1,16 +1,16 @@
 // The line of a stop by a watch.
-ghost use Rattle.std.specs.Prelude.{◌≡◌, ◌++◌, IfOk, OnOk, true};
+ghost use Rattle.std.specs.Prelude.{◌≡◌, ◌∷◌, [], ◌++◌, IfOk, OnOk, true};
 ghost use Rattle.std.specs.Option.{option_copied};
-ghost use Rattle.mi_values.specs.Pieces.{behind, pieces, between_commas, tuple_of};
+ghost use Rattle.mi_values.specs.FieldLists.{tuple_of};
 ghost use Rattle.mi_values.specs.Records.{AreRecords};
 ghost use Rattle.mi_values.specs.Testing.{are_bytes};
 ghost use Rattle.mi_reports.specs.declared.words.Key.TheVariants as keys;
+ghost use Rattle.mi_reports.specs.Seen.{seen};
 ghost use Rattle.mi_reports.specs.Words.{key_text};
 ghost use Rattle.mi_reports.specs.Triggers.{watch_of, expression, is_unsigned, worth_fields, change_fields, trigger_fields, trigger_lines, trigger_text};
 
-use crate::fields::{open, push_first, push_phrase, push_text};
-use crate::lines::end_line;
-use crate::registers::worth_text;
+use crate::fields::{FieldList, tuple};
+use crate::registers::push_worth;
 use crate::report::{push_place, stopped};
 use crate::watches::push_watch;
 use crate::words::{Key, Phrase};
@@ -49,54 +49,28 @@ fn is_unsigned(watches: &[Watch], number: u32) -> bool
     }
 }
 
-#[tactic(auto, unfolding(crate::specs::Triggers::worth_fields))]
-fn push_worths(
-    alloc: Global,
-    into: &mut Vec<u8>,
-    unsigned: bool,
-    fired: Fired,
-) -> Result<(), AllocError>
-    ensures { OnOk result (into.new.items ≡ into.old.items ++ between_commas (worth_fields unsigned fired)) }
-{
-    let old = worth_text(alloc, fired.old, unsigned)?;
-    push_first(into, Key::Old, old.as_slice())?;
-    let new = worth_text(alloc, fired.new, unsigned)?;
-    push_text(into, Key::New, new.as_slice())
-}
-
 // What its bytes were worth before, and are since.
-#[tactic(auto, using(std::proofs::lemmas::Grind::common_steps, mi_values::proofs::Pieces::tuple_pieces), unfolding(mi_values::specs::Pieces::piece))]
-fn push_value(
-    alloc: Global,
-    into: &mut Vec<u8>,
-    unsigned: bool,
-    fired: Fired,
-) -> Result<(), AllocError>
-    ensures { OnOk result (into.new.items ≡ into.old.items ++ behind (key_text keys.Value, tuple_of (worth_fields unsigned fired))) }
+#[tactic(auto, unfolding(crate::specs::Triggers::worth_fields))]
+fn push_worths(fields: &mut FieldList, unsigned: bool, fired: Fired) -> Result<(), AllocError>
+    ensures { OnOk result (seen fields.new ≡ seen fields.old ++ (key_text keys.Value, tuple_of (worth_fields unsigned fired)) ∷ []) }
 {
-    open(into, Key::Value)?;
-    into.push(b'{')?;
-    push_worths(alloc, into, unsigned, fired)?;
-    into.push(b'}')?;
-    Ok(())
+    let mut inner = FieldList::new(fields.alloc);
+    push_worth(&mut inner, Key::Old, fired.old, unsigned)?;
+    push_worth(&mut inner, Key::New, fired.new, unsigned)?;
+    fields.push(Key::Value, tuple(inner))
 }
 
 #[tactic(auto, unfolding(crate::specs::Triggers::change_fields))]
-fn push_change(
-    alloc: Global,
-    into: &mut Vec<u8>,
-    watches: &[Watch],
-    fired: Fired,
-) -> Result<(), AllocError>
-    ensures written { let w = watch_of watches.now fired.number in OnOk result (into.new.items ≡ into.old.items ++ pieces (change_fields (expression w) (is_unsigned w) fired)) }
+fn push_change(fields: &mut FieldList, watches: &[Watch], fired: Fired) -> Result<(), AllocError>
+    ensures written { let w = watch_of watches.now fired.number in OnOk result (seen fields.new ≡ seen fields.old ++ change_fields (expression w) (is_unsigned w) fired) }
     ensures fits { OnOk result (are_bytes (expression (watch_of watches.now fired.number)) ≡ true) }
 {
-    push_watch(into, fired.number, expression(watches, fired.number))?;
-    push_value(alloc, into, is_unsigned(watches, fired.number), fired)
+    push_watch(fields, fired.number, expression(watches, fired.number))?;
+    push_worths(fields, is_unsigned(watches, fired.number), fired)
 }
 
 /// The line of a stop of a hart by the watch of these that fired, in this frame.
-#[tactic(auto, using(std::proofs::lemmas::Grind::common_steps, crate::proofs::Pieces::stopped_pieces, crate::proofs::Stopping::trigger_records), unfolding(crate::specs::Triggers::trigger_fields, crate::specs::Triggers::trigger_text))]
+#[tactic(auto, using(std::proofs::lemmas::Grind::common_steps, crate::proofs::Stopping::trigger_fit, crate::proofs::Stopping::trigger_records), unfolding(crate::specs::Triggers::trigger_fields, crate::specs::Triggers::trigger_text))]
 pub fn trigger_text(
     alloc: Global,
     watches: &[Watch],
@@ -107,10 +81,9 @@ pub fn trigger_text(
     ensures written { IfOk result (λ v. v.items ≡ trigger_text (watch_of watches.now fired.number) fired hart frame.now) }
     ensures grammar { let w = watch_of watches.now fired.number in IfOk result (λ v. AreRecords (trigger_text w fired hart frame.now) (trigger_lines w fired hart frame.now)) }
 {
-    let mut text = stopped(alloc)?;
-    push_phrase(&mut text, Key::Reason, Phrase::WatchpointTrigger)?;
-    push_change(alloc, &mut text, watches, fired)?;
-    push_place(&mut text, hart, frame)?;
-    end_line(&mut text)?;
-    Ok(text)
+    let mut fields = FieldList::new(alloc);
+    fields.push_phrase(Key::Reason, Phrase::WatchpointTrigger)?;
+    push_change(&mut fields, watches, fired)?;
+    push_place(&mut fields, hart, frame)?;
+    stopped(fields)
 }

@@ -1,7 +1,10 @@
 // The names and the fixed texts of lines.
-ghost use Rattle.std.specs.Prelude.{◌≡◌, true};
+ghost use Rattle.std.specs.Prelude.{◌≡◌, IfOk, true};
 ghost use Rattle.mi_values.specs.Name.{is_name};
 ghost use Rattle.mi_reports.specs.Words.{key_text, phrase_text};
+
+use mi_values::Name;
+use std::alloc::{AllocError, Global};
 
 /// A class, or the name of a field.
 #[derive(Clone, Copy)]
@@ -173,6 +176,13 @@ pub fn name(key: Key) -> &'static str
         Key::What => "what",
         Key::Wpt => "wpt",
     }
+}
+
+/// The text of a key, in memory of its own.
+pub fn owned_name(alloc: Global, key: Key) -> Result<Name, AllocError>
+    ensures { IfOk result (λ n. n ≡ key_text key) }
+{
+    Ok(Name::new(Vec::from_slice(alloc, name(key).as_bytes())?))
 }
 
 /// The bytes of a fixed text.
