@@ -3,10 +3,10 @@ ghost use Rattle.std.specs.Prelude.{◌≡◌, ◌<◌, length, slice_get, false
 ghost use Rattle.rv_exec.specs.Step.{store_len};
 ghost use Rattle.hart_machine.specs.Stepping.{AreCounted, IsByteCode, Steps, has_run};
 ghost use Rattle.hart_machine.specs.declared.hart.Core.{Core};
-ghost use Rattle.dbg_model.specs.Watches.{changed, fired_by, AreSized};
+ghost use Rattle.dbg_model.specs.Watches.{fired_by};
 ghost use Rattle.dbg_engine.specs.Watching.{is_near, stored_by, written};
 
-use dbg_model::{Fired, Watch, WatchList};
+use dbg_model::{Fired, WatchList};
 use hart_machine::Machine;
 use rv_decode::{Instr, StoreOp};
 use rv_exec::{Regs, Stepped};
@@ -85,46 +85,19 @@ pub fn is_near(machine: &Machine, h: u32, watches: &WatchList) -> bool
     }
 }
 
-// What fired of a watch of this number, whose bytes were worth this before and are worth that now.
-fn changed(number: u32, old: Option<u32>, new: Option<u32>) -> Option<Fired>
-    ensures { result ≡ changed number old new }
-{
-    let old = old?;
-    let new = new?;
-    if old == new {
-        return None;
-    }
-    Some(Fired { number, old, new })
-}
-
-// One step of the machine between two looks at each of these watches.
-fn step_between(machine: &mut Machine, h: u32, watches: &[Watch]) -> Watched
+// One step of the machine between two looks at what each watch is worth.
+fn step_between(machine: &mut Machine, h: u32, watches: &WatchList) -> Watched
     requires hart { h < length machine.old.cores }
-    requires sized { AreSized watches.now }
     ensures code { IsByteCode result.stepped }
     ensures counts { AreCounted machine.old.cores }
     ensures step { Steps result.stepped machine.old h machine.new }
     ensures stopped { has_run result.stepped ≡ false → machine.new ≡ machine.old }
     ensures fired { result.fired ≡ fired_by watches.now machine.old.memory machine.new.memory }
 {
-    let [watch, rest @ ..] = watches else {
-        return Watched {
-            stepped: machine.step(h),
-            fired: None,
-        };
-    };
-    let old = watch.worth(machine.data());
-    let watched = step_between(machine, h, rest);
-    if !watch.enabled {
-        return watched;
-    }
-    match changed(watch.number, old, watch.worth(machine.data())) {
-        Some(fired) => Watched {
-            stepped: watched.stepped,
-            fired: Some(fired),
-        },
-        None => watched,
-    }
+    let before = watches.worths(machine.data());
+    let stepped = machine.step(h);
+    let fired = watches.fired(&before, machine.data());
+    Watched { stepped, fired }
 }
 
 /// One step of the machine, as `Machine::step` makes it, and the watch that it makes fire. A watch is looked at only where
@@ -138,7 +111,7 @@ pub fn step_watched(machine: &mut Machine, h: u32, watches: &WatchList) -> Watch
     ensures fired { result.fired ≡ fired_by watches.now machine.old.memory machine.new.memory }
 {
     if is_near(machine, h, watches) {
-        return step_between(machine, h, watches.as_slice());
+        return step_between(machine, h, watches);
     }
     Watched {
         stepped: machine.step(h),

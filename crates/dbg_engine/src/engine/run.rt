@@ -1,10 +1,10 @@
 // Many instructions of a hart in one call.
-ghost use Rattle.std.specs.Prelude.{◌≡◌, ◌<◌, ◌≤◌, length, not};
-ghost use Rattle.dbg_model.specs.State.{is_off};
+ghost use Rattle.std.specs.Prelude.{◌≡◌, ◌<◌, ◌≤◌, length};
 ghost use Rattle.engine_facts.specs.Movers.{is_idle};
 ghost use Rattle.dbg_engine.specs.Several.{AllTurned, Rests, goes_alone, is_alone, is_unplanned};
 
 use super::Engine;
+use super::stepping::by_copies;
 use crate::going::{Course, go};
 use crate::journal::note_runs;
 use crate::minds::is_running;
@@ -12,7 +12,6 @@ use crate::moving::ran_mind;
 use crate::waiting::awaited;
 use elf32_read::Image;
 use engine_facts::{Hold, Mind, Phase};
-use mi_commands::Displaced;
 use step_plans::Plan;
 
 // Whether a hart steps over no breakpoint.
@@ -49,13 +48,6 @@ fn is_alone(image: &Image, mind: Mind, hold: Option<Hold>) -> bool
         && hold.is_none()
 }
 
-// Whether planted words are stepped over by copies, where there are slots.
-fn is_on(displaced: Displaced) -> bool
-    ensures { result ≡ not (is_off displaced) }
-{
-    !matches!(displaced, Displaced::Off)
-}
-
 impl Engine {
     ghost use Rattle.engine_facts.specs.Facts.{Facts};
 
@@ -85,7 +77,7 @@ impl Engine {
             watches: &self.watches,
             image: &self.opening.image,
             plan: mind.plan,
-            copies: is_on(self.displaced),
+            copies: by_copies(self.displaced, self.machine.slots()),
         };
         let progress = go(&mut self.machine, &course, limit, most as u32);
         if progress.instructions == 0 {

@@ -9,10 +9,17 @@ ghost use Rattle.dbg_engine.specs.Steps.{IsTurned};
 use super::Engine;
 use crate::Turned;
 use crate::homing::go_home;
-use crate::minds::with_phase;
 use crate::patching::{release, repatch};
 use engine_facts::{Activity, Hold, Mind, Phase};
 use mi_commands::Displaced;
+
+// Whether planted words are stepped over by copies: displaced stepping isn't off, and there are slots.
+pub(super) fn by_copies(displaced: Displaced, slots: u32) -> bool
+    ensures yes { result ≡ true → (is_off displaced ≡ false) × (0 < slots) }
+    ensures no { result ≡ false → 0 < slots → is_off displaced ≡ true }
+{
+    !matches!(displaced, Displaced::Off) && slots > 0
+}
 
 impl Engine {
     ghost use Rattle.engine_facts.specs.Facts.{Facts};
@@ -32,7 +39,7 @@ impl Engine {
         go_home(&mut self.machine, h, mind.phase);
         release(&mut self.machine, self.hold, &self.table);
         self.hold = None;
-        self.minds[h as usize] = with_phase(mind, Phase::Idle);
+        self.minds[h as usize].phase = Phase::Idle;
     }
 
     // The patch at the hart's pc is lifted.
@@ -45,7 +52,7 @@ impl Engine {
     {
         repatch(&mut self.machine, pc, false);
         self.hold = Some(Hold { hart: h, home: pc });
-        self.minds[h as usize] = with_phase(mind, Phase::Lifted { home: pc });
+        self.minds[h as usize].phase = Phase::Lifted { home: pc };
     }
 
     // The hart enters the least free slot with a copy of its word. False where all slots are out.
@@ -63,7 +70,7 @@ impl Engine {
         let Some(slot) = self.machine.begin_copy(h, word) else {
             return false;
         };
-        self.minds[h as usize] = with_phase(mind, Phase::Copied { slot, home: pc });
+        self.minds[h as usize].phase = Phase::Copied { slot, home: pc };
         true
     }
 
@@ -77,7 +84,7 @@ impl Engine {
         ensures code { IsTurned result }
         ensures facts { Facts self.new }
     {
-        if self.displaced == Displaced::Off || self.machine.slots() == 0 {
+        if !by_copies(self.displaced, self.machine.slots()) {
             self.lift(h, mind, pc);
             return Turned::Lifted;
         }
