@@ -41,4 +41,9 @@ pub trait Crew {
     /// Whether there is nothing left to do.
     fn over(&self) -> bool
         ensures { result ≡ is_over self.now };
+
+    /// Whether a worker that got `Again` finds nothing to do for a while. Else it asks again at once.
+    fn is_idle(&self) -> bool {
+        true
+    }
 }

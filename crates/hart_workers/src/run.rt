@@ -1,7 +1,7 @@
 ghost use Rattle.std.specs.Prelude.{◌≤◌};
 
-use crate::worker::Worker;
-use crate::{Crew, Duty};
+use crate::Crew;
+use crate::worker::{Next, Worker};
 use dbg_traits::Gate;
 use std::sync::{Mutex, Wait};
 use std::thread;
@@ -18,18 +18,19 @@ fn serve<R: Wait, C: Crew, G: Gate>(rt: &R, crew: &Mutex<C>, number: u32, gate: 
     };
     let mut kept = None;
     for _ in rt.forever() {
-        let duty = match kept {
+        let next = match kept {
             Some(job) => worker.work(job),
             None => worker.ask(),
         };
-        kept = match duty {
-            Duty::Job(job) => Some(job),
-            Duty::Again => {
+        kept = match next {
+            Next::Work(job) => Some(job),
+            Next::Ask => None,
+            Next::Rest => {
                 gate.idle(number);
                 thread::yield_now();
                 None
             }
-            Duty::Over => return,
+            Next::End => return,
         };
     }
     // No run comes here; a job that is kept is worked all the same.

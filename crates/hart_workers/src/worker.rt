@@ -5,18 +5,25 @@ use dbg_traits::Gate;
 use std::hint::spin_loop;
 use std::sync::{Mutex, MutexGuard, Wait};
 
-// How often a worker looks whether the lock is free while another has it, and how long it pauses before each look. All of it
-// takes as long as a few duties.
-const LOOKS: u32 = 40;
-
+// How long a worker pauses before it looks again whether the lock is free.
 const PAUSES: u32 = 4;
 
-// How often it rests before it waits in the lock itself, which is left to it in the end.
-const RESTS: u32 = 20;
+// How often it looks where it has something to hand in: several times as long as all the others together have the lock, each
+// for one duty. Whoever rests with a job in hand keeps its hart from going on.
+const PATIENT: u32 = 200;
 
-// The lock, if it comes free in a while.
-fn look<C>(crew: &Mutex<C>) -> Option<MutexGuard<'_, C>> {
-    for _ in 0..LOOKS {
+// And where it has nothing. What has to be done under the lock one worker does as fast as several.
+const BRIEF: u32 = 4;
+
+// How often it rests before it waits in the lock itself, which is left to it in the end.
+const RESTS: u32 = 200;
+
+// How many duties it asks for under one lock.
+const DUTIES: u32 = 32;
+
+// The lock, if it comes free in so many looks.
+fn look<C>(crew: &Mutex<C>, looks: u32) -> Option<MutexGuard<'_, C>> {
+    for _ in 0..looks {
         if let Some(held) = crew.try_lock() {
             return Some(held);
         }
@@ -25,6 +32,19 @@ fn look<C>(crew: &Mutex<C>) -> Option<MutexGuard<'_, C>> {
         }
     }
     None
+}
+
+/// What a worker does next.
+#[derive(Drop)]
+pub enum Next<J> {
+    /// It works a job.
+    Work(J),
+    /// It asks again.
+    Ask,
+    /// It finds nothing to do for a while.
+    Rest,
+    /// It ends.
+    End,
 }
 
 /// A worker of a crew.
@@ -39,9 +59,9 @@ pub struct Worker<'a, R: Wait, C: Crew, G: Gate> {
 impl<'a, R: Wait, C: Crew, G: Gate> Worker<'a, R, C, G> {
     // The lock. Where others have it for long the worker rests at the gate: whoever leaves a lock to one that sleeps in it
     // loses more time than a duty takes.
-    fn hold(&self) -> MutexGuard<'a, C> {
+    fn hold(&self, looks: u32) -> MutexGuard<'a, C> {
         for _ in 0..RESTS {
-            if let Some(held) = look(self.crew) {
+            if let Some(held) = look(self.crew, looks) {
                 return held;
             }
             self.gate.idle(self.number);
@@ -49,19 +69,35 @@ impl<'a, R: Wait, C: Crew, G: Gate> Worker<'a, R, C, G> {
         self.crew.lock(self.rt)
     }
 
-    /// Asks for a duty.
-    pub fn ask(&self) -> Duty<C::Job> {
-        let mut held = self.hold();
-        held.duty(self.number)
+    // Asks a crew for duties while it has something to do and gives no job.
+    fn next(&self, crew: &mut C) -> Next<C::Job> {
+        for _ in 0..DUTIES {
+            match crew.duty(self.number) {
+                Duty::Job(job) => return Next::Work(job),
+                Duty::Again => {
+                    if crew.is_idle() {
+                        return Next::Rest;
+                    }
+                }
+                Duty::Over => return Next::End,
+            }
+        }
+        Next::Ask
     }
 
-    /// Works a job outside of the lock. What was made of it is handed in and the next duty asked for under one lock.
-    pub fn work(&self, job: C::Job) -> Duty<C::Job> {
+    /// Asks for duties.
+    pub fn ask(&self) -> Next<C::Job> {
+        let mut held = self.hold(BRIEF);
+        self.next(&mut held)
+    }
+
+    /// Works a job outside of the lock. What was made of it is handed in and the next duties asked for under one lock.
+    pub fn work(&self, job: C::Job) -> Next<C::Job> {
         let hart = C::hart_of(&job);
         let done = C::work(job);
         self.gate.slice_ready(self.number, hart);
-        let mut held = self.hold();
+        let mut held = self.hold(PATIENT);
         held.take(done);
-        held.duty(self.number)
+        self.next(&mut held)
     }
 }
