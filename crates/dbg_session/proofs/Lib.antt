@@ -16,7 +16,12 @@ pub mod Passing
 pub mod Triggering
 pub mod Holding
 pub mod Heading
+pub mod Showing
+pub mod Summing
+pub mod Finishing
+pub mod Playing
 pub mod Picked
 pub mod Outs
 pub mod Sending
+pub mod Piecing
 pub mod Bringing

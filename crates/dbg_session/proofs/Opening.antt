@@ -8,17 +8,19 @@ use Rattle.dbg_traits.specs.Told.{Told, more, IsFresh}
 use Rattle.elf32_read.specs.Reading.{IsImage, Refused}
 use Rattle.elf32_read.specs.declared.fault.ElfFault.{ElfFault}
 use Rattle.dbg_model.specs.declared.opening.Opening.{Opening}
-use Rattle.dbg_session.specs.declared.file.Served.{Served}
-use Rattle.dbg_session.specs.Stage.{Stage}
+use Rattle.dbg_traits.specs.declared.settings.Settings.{Settings}
+use Rattle.elf_gen.specs.Generated.{generated_file}
+use Rattle.dbg_session.specs.declared.file.Source.TheVariants.{File, Generated}
 use Rattle.dbg_session.specs.Words.{served_words, ReadsAll, ReadsSome, named_of}
 use Rattle.dbg_session.specs.declared.file.FileError.TheVariants as error
-use Rattle.dbg_session.specs.Ties.{IsReady, IsEmpty, IsCut}
+use Rattle.dbg_session.specs.Scene.{AskFile, IsUnused, begun, told_by}
+use Rattle.dbg_session.specs.Ties.{IsEmpty, IsCut, IsUnread, IsUnpolled, MayBegin}
 use Rattle.dbg_session.specs.Puts.{PutsAll}
 use Rattle.mi_values.specs.Record.{LineTree}
 use Rattle.mi_values.specs.Records.{lines_bytes, AreRecords}
 use Rattle.mi_reports.specs.Refusals.{refusal_lines, file_fields, usage_fields}
 use Rattle.dbg_session.specs.declared.status.Status.TheVariants as status
-use Rattle.dbg_session.specs.Headline.{Early, Line, Silent, IsUnpolled, IsUnread, IsRead, IsReadIfAny, HasFault}
+use Rattle.dbg_session.specs.Headline.{Early, Line, Silent, IsRead, IsReadIfAny, HasFault}
 
 empty : {A : Type 0} (o : Option (List A)) → (o ≡ None) ⊎ (o ≡ Some []) → IsEmpty o
 empty o (inl is) = rw is tt
@@ -32,16 +34,33 @@ told_all : (o : Option (List ℕ)) (bytes : List ℕ) (P : List ℕ → Type 0) 
 told_all o bytes P (inl is) p = rw is tt
 told_all o bytes P (inr is) p = rw is p
 
-pub ready : (t u : Told) (words : List (List ℕ)) (served : Served) (bytes : List ℕ) (o : Opening) (r : Stage) → IsFresh t → words ≡ t.words → Some served ≡ served_words words → ReadsAll bytes served.name t u → IsImage bytes o.image → o.settings ≡ served.settings → r.opening ≡ o → r.journal ≡ [] → IsReady u r
-ready t u words served bytes o r fresh asked is reads image settings opening journal = rw reads.3 (record {
+-- nothing was written at the beginning
+pub silent : (t : Told) → IsFresh t → Silent t
+silent t fresh = nothing_in t.written fresh.written
+
+unpolled : (t : Told) → IsFresh t → IsUnpolled t
+unpolled t fresh = record { polls = fresh.polls; taken = fresh.input_length; polled = empty t.polled fresh.polled; asks = empty t.asks fresh.asks; faults = fresh.poll_faults; ended = fresh.poll_ended }
+
+unread : (t : Told) → IsFresh t → IsUnread t
+unread t fresh = record { name = fresh.named; taken = fresh.file_length; bytes = empty t.file_taken fresh.taken; faults = fresh.file_faults; ended = fresh.file_ended }
+
+-- the words ask for a session over the file of this name
+abbrev pub AsksFile : Told → List ℕ → Settings → Type 0
+AsksFile t name settings = served_words t.words ≡ Some (record { source = File name; settings = settings })
+
+-- a session over a file that was read may begin
+pub ready : (t u : Told) (bytes name : List ℕ) (o : Opening) → IsFresh t → AsksFile t name o.settings → ReadsAll bytes name t u → IsImage bytes o.image → MayBegin u o
+ready t u bytes name o fresh asked reads image r opening journal = rw reads.3 (record {
   opened = rw opening (record {
-    name = served.name;
-    asked = ap served_words (sym asked) ∙ (sym is ∙ ap (λ s. Some (record { name = served.name; settings = s })) (sym settings));
-    named = refl;
-    whole = reads.1;
-    taken = told_all t.file_taken bytes (λ b. length b ≡ length bytes) fresh.taken refl;
-    faults = fresh.file_faults;
-    image = told_all t.file_taken bytes (λ b. IsImage b o.image) fresh.taken image;
+    source = File name;
+    asked = asked;
+    comes = record {
+      named = refl;
+      whole = reads.1;
+      taken = told_all t.file_taken bytes (λ b. length b ≡ length bytes) fresh.taken refl;
+      faults = fresh.file_faults;
+      image = told_all t.file_taken bytes (λ b. IsImage b o.image) fresh.taken image;
+    };
   });
   clean = record { file = fresh.file_faults; poll = fresh.poll_faults; put = fresh.put_faults };
   polled = empty t.polled fresh.polled;
@@ -52,15 +71,22 @@ ready t u words served bytes o r fresh asked is reads image settings opening jou
   journal = journal;
 })
 
--- nothing was written at the beginning
-pub silent : (t : Told) → IsFresh t → Silent t
-silent t fresh = nothing_in t.written fresh.written
+-- and so may one over a script
+pub ready_script : (t : Told) (number : ℕ) (text : List ℕ) (o : Opening) → IsFresh t → served_words t.words ≡ Some (record { source = Generated number; settings = o.settings }) → IsImage (generated_file number) o.image → MayBegin (told_by (Some (begun number text)) t) o
+ready_script t number text o fresh asked image r opening journal = record {
+  opened = rw opening (record { source = Generated number; asked = asked; comes = (let h = unread t fresh in record { name = h.name; taken = h.taken; bytes = h.bytes; faults = h.faults; ended = h.ended }, image) });
+  clean = record { file = fresh.file_faults; poll = fresh.poll_faults; put = refl };
+  polled = refl;
+  taken = refl;
+  written = refl;
+  asks = tt;
+  running = refl;
+  journal = journal;
+}
 
-unpolled : (t : Told) → IsFresh t → IsUnpolled t
-unpolled t fresh = record { polls = fresh.polls; taken = fresh.input_length; polled = empty t.polled fresh.polled; asks = empty t.asks fresh.asks; faults = fresh.poll_faults; ended = fresh.poll_ended }
-
-unread : (t : Told) → IsFresh t → IsUnread t
-unread t fresh = record { name = fresh.named; taken = fresh.file_length; bytes = empty t.file_taken fresh.taken; faults = fresh.file_faults; ended = fresh.file_ended }
+-- the world wasn't used before
+pub unused : (t : Told) → IsFresh t → IsUnused t
+unused t fresh = record { unpolled = unpolled t fresh; written = empty t.written fresh.written; faults = fresh.put_faults }
 
 front_of : (o : Option (List ℕ)) (trees : List LineTree) (piece : List ℕ) (n : ℕ) → AreRecords piece trees → (o ≡ None) ⊎ (o ≡ Some []) → IfSome (more o (take n piece)) (λ written. IsCut written (lines_bytes trees))
 front_of o trees piece n are fresh = told_all o (take n piece) (λ written. IsCut written (lines_bytes trees)) fresh (drop n piece, take-append-drop n piece ∙ are.text)
@@ -106,73 +132,74 @@ early_words b t u words piece fresh asked is same puts = (
 pub early_memory : (t : Told) → IsFresh t → Early status.NoMemory t
 early_memory t fresh = (unpolled t fresh, inl fresh.named, fresh.file_faults, silent t fresh)
 
-served_is : (t : Told) (words : List (List ℕ)) (served : Served) → words ≡ t.words → Some served ≡ served_words words → served_words t.words ≡ Some served
-served_is t words served asked is = ap served_words (sym asked) ∙ sym is
-
 -- reading the file leaves the input and the output
 all_unpolled : (t u : Told) (bytes name : List ℕ) → ReadsAll bytes name t u → IsFresh t → IsUnpolled u
 all_unpolled t u bytes name reads fresh = let h = unpolled t fresh in rw reads.3 (record { polls = h.polls; taken = h.taken; polled = h.polled; asks = h.asks; faults = h.faults; ended = h.ended })
 
-all_read : (t u : Told) (words : List (List ℕ)) (served : Served) (bytes : List ℕ) → words ≡ t.words → Some served ≡ served_words words → ReadsAll bytes served.name t u → IsRead u
-all_read t u words served bytes asked is reads = rw reads.3 (record { served = served; words = served_is t words served asked is; name = refl })
+all_read : (t u : Told) (name : List ℕ) (settings : Settings) (bytes : List ℕ) → AsksFile t name settings → ReadsAll bytes name t u → IsRead u
+all_read t u name settings bytes asked reads = rw reads.3 (record { name = name; settings = settings; words = asked; named = refl })
 
 -- there was no memory once the file was read
-pub read_memory : (t u : Told) (words : List (List ℕ)) (served : Served) (bytes : List ℕ) → IsFresh t → words ≡ t.words → Some served ≡ served_words words → ReadsAll bytes served.name t u → Early status.NoMemory u
-read_memory t u words served bytes fresh asked is reads = (
-  all_unpolled t u bytes served.name reads fresh,
-  inr (all_read t u words served bytes asked is reads),
+pub read_memory : (t u : Told) (name : List ℕ) (settings : Settings) (bytes : List ℕ) → IsFresh t → AsksFile t name settings → ReadsAll bytes name t u → Early status.NoMemory u
+read_memory t u name settings bytes fresh asked reads = (
+  all_unpolled t u bytes name reads fresh,
+  inr (all_read t u name settings bytes asked reads),
   rw reads.3 fresh.file_faults,
   rw reads.3 (silent t fresh),
 )
 
 -- the file wasn't read whole
-pub early_read : (t u : Told) (words : List (List ℕ)) (served : Served) → IsFresh t → words ≡ t.words → Some served ≡ served_words words → ReadsSome error.Failed served.name t u → Early status.ReadFault u
-early_read t u words served fresh asked is reads =
+pub early_read : (t u : Told) (name : List ℕ) (settings : Settings) → IsFresh t → AsksFile t name settings → ReadsSome error.Failed name t u → Early status.ReadFault u
+early_read t u name settings fresh asked reads =
     let h = unpolled t fresh in
     let none = fresh.file_faults in
     let rose : 0 < reads.1 = omega (arith, none, reads.3) in
     rw reads.4 (
       record { polls = h.polls; taken = h.taken; polled = h.polled; asks = h.asks; faults = h.faults; ended = h.ended },
-      record { served = served; words = served_is t words served asked is; name = refl },
+      record { name = name; settings = settings; words = asked; named = refl },
       record { ended = fresh.file_ended; length = reads.2 },
       rose,
       silent t fresh,
     )
 
-name_by : (bytes : List ℕ) (t u : Told) (words : List (List ℕ)) (served : Served) → served_words u.words ≡ Some served → u.file_name ≡ named_of bytes served.name → IsReadIfAny u
-name_by [] t u words served is name = inl name
-name_by (b ∷ bs) t u words served is name = inr (record { served = served; words = is; name = name })
+name_by : (bytes : List ℕ) (u : Told) (name : List ℕ) (settings : Settings) → AsksFile u name settings → u.file_name ≡ named_of bytes name → IsReadIfAny u
+name_by [] u name settings asked named = inl named
+name_by (b ∷ bs) u name settings asked named = inr (record { name = name; settings = settings; words = asked; named = named })
 
-pub early_room : (t u : Told) (words : List (List ℕ)) (served : Served) → IsFresh t → words ≡ t.words → Some served ≡ served_words words → ReadsSome error.NoMemory served.name t u → Early status.NoMemory u
-early_room t u words served fresh asked is reads =
+pub early_room : (t u : Told) (name : List ℕ) (settings : Settings) → IsFresh t → AsksFile t name settings → ReadsSome error.NoMemory name t u → Early status.NoMemory u
+early_room t u name settings fresh asked reads =
     let h = unpolled t fresh in
-    let v : Told = record t { file_name = named_of reads.0 served.name; file_taken = more t.file_taken reads.0; file_length = length reads.0 } in
+    let v : Told = record t { file_name = named_of reads.0 name; file_taken = more t.file_taken reads.0; file_length = length reads.0 } in
     rw reads.2 (
       record { polls = h.polls; taken = h.taken; polled = h.polled; asks = h.asks; faults = h.faults; ended = h.ended },
-      name_by reads.0 t v words served (served_is t words served asked is) refl,
+      name_by reads.0 v name settings asked refl,
       fresh.file_faults,
       silent t fresh,
     )
 
 put_fault : (b : Bool) (t u : Told) (f : ElfFault) (piece : List ℕ) → PutsAll b piece t u → HasFault t f → HasFault u f
-put_fault true t u f piece puts h = rw puts (record { read = record { served = h.read.served; words = h.read.words; name = h.read.name }; whole = h.whole; faults = h.faults; length = h.length; fault = h.fault })
-put_fault false t u f piece puts h = rw puts.3 (record { read = record { served = h.read.served; words = h.read.words; name = h.read.name }; whole = h.whole; faults = h.faults; length = h.length; fault = h.fault })
+put_fault true t u f piece puts h = rw puts (record { read = record { name = h.read.name; settings = h.read.settings; words = h.read.words; named = h.read.named }; whole = h.whole; faults = h.faults; length = h.length; fault = h.fault })
+put_fault false t u f piece puts h = rw puts.3 (record { read = record { name = h.read.name; settings = h.read.settings; words = h.read.words; named = h.read.named }; whole = h.whole; faults = h.faults; length = h.length; fault = h.fault })
 
-read_fault : (t u : Told) (words : List (List ℕ)) (served : Served) (bytes : List ℕ) (f : ElfFault) → IsFresh t → words ≡ t.words → Some served ≡ served_words words → ReadsAll bytes served.name t u → Refused bytes f → HasFault u f
-read_fault t u words served bytes f fresh asked is reads fault = rw reads.3 (record {
-  read = record { served = served; words = served_is t words served asked is; name = refl };
+read_fault : (t u : Told) (name : List ℕ) (settings : Settings) (bytes : List ℕ) (f : ElfFault) → IsFresh t → AsksFile t name settings → ReadsAll bytes name t u → Refused bytes f → HasFault u f
+read_fault t u name settings bytes f fresh asked reads fault = rw reads.3 (record {
+  read = record { name = name; settings = settings; words = asked; named = refl };
   whole = reads.1;
   faults = fresh.file_faults;
   length = told_all t.file_taken bytes (λ b. length b ≡ length bytes) fresh.taken refl;
   fault = told_all t.file_taken bytes (λ b. Refused b f) fresh.taken fault;
 })
 
+-- the words name the file that was read
+pub asks_still : (t u : Told) (name : List ℕ) (settings : Settings) (bytes : List ℕ) → AsksFile t name settings → ReadsAll bytes name t u → AskFile u.words
+asks_still t u name settings bytes asked reads = rw reads.3 (record { name = name; settings = settings; served = asked })
+
 -- the file was refused
-pub early_file : (b : Bool) (t u v : Told) (words : List (List ℕ)) (served : Served) (bytes : List ℕ) (f : ElfFault) (piece : List ℕ) → IsFresh t → words ≡ t.words → Some served ≡ served_words words → ReadsAll bytes served.name t u → Refused bytes f → AreRecords piece (refusal_lines (file_fields f)) → PutsAll b piece u v → Early (status.File f) v
-early_file b t u v words served bytes f piece fresh asked is reads fault same puts =
+pub early_file : (b : Bool) (t u v : Told) (name : List ℕ) (settings : Settings) (bytes : List ℕ) (f : ElfFault) (piece : List ℕ) → IsFresh t → AsksFile t name settings → ReadsAll bytes name t u → Refused bytes f → AreRecords piece (refusal_lines (file_fields f)) → PutsAll b piece u v → Early (status.File f) v
+early_file b t u v name settings bytes f piece fresh asked reads fault same puts =
     let written : u.written ≡ t.written = ap (λ (x : Told). x.written) reads.3 in
     let none : u.put_faults ≡ 0 = ap (λ (x : Told). x.put_faults) reads.3 ∙ fresh.put_faults in (
-      put_unpolled b u v piece puts (all_unpolled t u bytes served.name reads fresh),
-      put_fault b u v f piece puts (read_fault t u words served bytes f fresh asked is reads fault),
+      put_unpolled b u v piece puts (all_unpolled t u bytes name reads fresh),
+      put_fault b u v f piece puts (read_fault t u name settings bytes f fresh asked reads fault),
       line_written b u v (refusal_lines (file_fields f)) piece same (rw written fresh.written) none puts,
     )

@@ -1,6 +1,7 @@
 -- A session goes to another thread: what each part of it holds may (needed of what stands under a lock).
 use denote.RattleType.{RattleType}
 use Rattle.dbg_traits.specs.declared.world.World as world
+use Rattle.dbg_session.specs.contracts.outside.Outside as outside
 use Rattle.dbg_session.specs.contracts.session.Session as session
 use denote.Param.Send.{IsSend, sendable}
 use denote.Hole.FixSend.{Sends, fix_send}
@@ -109,6 +110,9 @@ entry_send = search (sendable, crosses) depth 100 fits 100000
 
 engine_send : IsSend engine.the_field.row
 engine_send = search (sendable, crosses, opening_send, entry_send, machine_send, mind_send, breaktable_send, sourceindex_send) depth 100 fits 100000
+
+pub outside_send : (T : RattleType) (g : world.Ghosts T.Denot) → IsSend T → IsSend (outside.the_field T g).row
+outside_send T g t = search (sendable, crosses) depth 100 fits 100000
 
 pub session_send : (T : RattleType) (g : world.Ghosts T.Denot) → IsSend T → IsSend (session.the_field T g).row
 session_send T g t = search (sendable, crosses, engine_send) depth 100 fits 100000

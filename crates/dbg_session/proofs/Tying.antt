@@ -27,8 +27,11 @@ use Rattle.dbg_session.specs.Taking.{Gives, has_line, is_some_line}
 use Rattle.dbg_session.specs.InTime.{ToldInTime}
 use Rattle.dbg_session.specs.Steps.{lines_by, Says, Keeps, DoesLine, Goes, with_poll}
 use Rattle.dbg_model.specs.declared.opening.Opening.{Opening}
+use Rattle.elf32_read.specs.Program.{Program}
 use Rattle.dbg_session.specs.Words.{served_words}
-use Rattle.dbg_session.specs.Ties.{IsTied, IsHeld, Taken, Opened, Clean, GoesOn, IsCut, OverBy, IsReady, IsEmpty, IsCounted}
+use Rattle.dbg_session.specs.declared.file.Source.{Source}
+use Rattle.dbg_session.specs.declared.file.Source.TheVariants.{File, Generated}
+use Rattle.dbg_session.specs.Ties.{IsTied, IsHeld, Taken, ComesFrom, Opened, Clean, GoesOn, IsCut, OverBy, IsReady, IsEmpty, IsCounted}
 use Rattle.dbg_session.specs.Puts.{PutsAll}
 use Rattle.dbg_session.proofs.Timing.{told_line, told_goes, told_took, told_end, told_none}
 use Rattle.dbg_session.specs.declared.status.Status.{Status}
@@ -80,18 +83,28 @@ pub record IsQuiet (wait : Bool) (r : Stage) (i : Taken) : Type 0 where
 polled_so : (t : Told) (r : Stage) (i : Taken) → IsHeld t r i → i.ended ≡ false → IfSome t.polled (λ bytes. Gives false bytes (did r.journal) i.rest)
 polled_so t r i h un = subst (λ b. IfSome t.polled (λ bytes. Gives b bytes (did r.journal) i.rest)) un h.input
 
+-- a program comes from where it came, where the file is as it was
+comes_as : (s : Source) (t u : Told) (p : Program) → ComesFrom s t p → u.file_name ≡ t.file_name → u.file_taken ≡ t.file_taken → u.file_length ≡ t.file_length → u.file_ended ≡ t.file_ended → u.file_faults ≡ t.file_faults → ComesFrom s u p
+comes_as (File n) t u p h name taken long ended faults = record {
+  named = name ∙ h.named;
+  whole = rw (ended, long) h.whole;
+  taken = rw (taken, long) h.taken;
+  faults = faults ∙ h.faults;
+  image = rw taken h.image;
+}
+comes_as (Generated n) t u p h name taken long ended faults = (
+  record { name = name ∙ h.0.name; taken = long ∙ h.0.taken; bytes = rw taken h.0.bytes; faults = faults ∙ h.0.faults; ended = ended ∙ h.0.ended },
+  h.1,
+)
+
 -- what was opened stays so, where the words and the file are as they were
 opened_as : (t u : Told) (o p : Opening) → p ≡ o → Opened t o → u.words ≡ t.words → u.file_name ≡ t.file_name → u.file_taken ≡ t.file_taken → u.file_length ≡ t.file_length → u.file_ended ≡ t.file_ended → u.file_faults ≡ t.file_faults → Opened u p
 opened_as t u o p same h words name taken long ended faults =
     let P : Opening → Type 0 = λ q. Opened u q in
     subst P (sym same) (record {
-      name = h.name;
+      source = h.source;
       asked = ap served_words words ∙ h.asked;
-      named = name ∙ h.named;
-      whole = rw (ended, long) h.whole;
-      taken = rw (taken, long) h.taken;
-      faults = faults ∙ h.faults;
-      image = rw taken h.image;
+      comes = comes_as h.source t u o.image h.comes name taken long ended faults;
     })
 
 -- a poll alone changes nothing that is tied

@@ -1,5 +1,6 @@
 -- What the duties of a session are, and what becomes of the jobs that they give: this project's own rules.
-use Rattle.std.specs.Prelude.{◌≡◌, ◌⊎◌, ◌≤◌, ℕ, zero, suc, ◌&&◌, nat_lt, Bool, true, false, List, slice_set, Option, None, Some, is_none, is_some}
+use Rattle.std.specs.Prelude.{◌≡◌, ◌⊎◌, ◌≤◌, ◌-◌, ℕ, zero, suc, ◌&&◌, ◌==◌, nat_lt, Bool, true, false, cond, List, slice_set, Option, None, Some, is_none, is_some}
+use Rattle.std.specs.List.{slice_index_or}
 use Rattle.rv_exec.specs.Registers.{Registers}
 use Rattle.reg_slices.specs.declared.slice.Job.{Job}
 use Rattle.reg_slices.specs.declared.slice.Slice.{Slice}
@@ -17,10 +18,18 @@ use Rattle.dbg_session.specs.declared.status.Status.TheVariants as status
 abbrev pub gives_job : Stage → ℕ → Bool
 gives_job r h = gives_job_in r.opening r.state r.minds r.hold h
 
--- whether the hart that was picked in a round gives a job when the round is over
+-- how many rounds a hart still goes without a job
+abbrev pub pause_of : List ℕ → ℕ → ℕ
+pause_of pause h = slice_index_or pause h 0
+
+-- no hart pauses
+abbrev pub NonePauses : List ℕ → Type 0
+NonePauses pause = (h : ℕ) → pause_of pause h ≡ 0
+
+-- whether the hart that was picked in a round gives a job when the round is over, and doesn't pause
 abbrev pub has_job : Option ℕ → Moment → Bool
 has_job None q = false
-has_job (Some h) q = is_none q.status && gives_job q.run h
+has_job (Some h) q = is_none q.status && (gives_job q.run h && (pause_of q.pause h == 0))
 
 -- a job is of its hart as that stands
 abbrev pub IsJobOf : Stage → Job → Type 0
@@ -30,10 +39,15 @@ IsJobOf r job = IsJobIn r.opening r.state r.text job.hart job
 abbrev pub marked : Moment → ℕ → Bool → Moment
 marked p h mark = record p { out = slice_set p.out h mark }
 
--- the job of the hart that was picked is handed out, where that gives one, and it is out from then on
+-- the hart that was picked is one round nearer to its next job
+abbrev pub nearer : Option ℕ → Moment → Moment
+nearer None p = p
+nearer (Some h) p = record p { pause = slice_set p.pause h (pause_of p.pause h - 1) }
+
+-- the job of the hart that was picked is handed out, where that gives one and doesn't pause, and it is out from then on
 abbrev pub HandsOut : Option ℕ → Option Job → Moment → Moment → Type 0
-HandsOut pick None p q = (has_job pick p ≡ false) × (q ≡ p)
-HandsOut pick (Some job) p q = (has_job pick p ≡ true) × (pick ≡ Some job.hart) × IsJobOf p.run job × (q ≡ marked p job.hart true)
+HandsOut pick None p q = (has_job pick p ≡ false) × (q ≡ nearer pick p)
+HandsOut pick (Some job) p q = (has_job pick p ≡ true) × (pick ≡ Some job.hart) × IsJobOf p.run job × (q ≡ marked (nearer pick p) job.hart true)
 
 -- a round, and then what is handed out of the hart that was picked in it
 pub record Goes (job : Option Job) (p q : Moment) : Type 0 where
@@ -79,9 +93,17 @@ abbrev pub TakesBy : Bool → Slice → Moment → Moment → Type 0
 TakesBy true slice p q = Commits slice p q ⊎ (Forgets slice p q ⊎ (q ≡ record p { status = Some status.NoMemory }))
 TakesBy false slice p q = q ≡ p
 
--- what was made of a job is taken back: no job of its hart is out any more
+-- After a slice of fewer than 16 instructions its hart goes 255 rounds without a job.
+abbrev pub pause_after : ℕ → ℕ
+pause_after count = cond (nat_lt count 16) 255 0
+
+-- no job of its hart is out any more
+abbrev pub returned : Moment → Slice → Moment
+returned p slice = record p { out = slice_set p.out slice.hart false; pause = slice_set p.pause slice.hart (pause_after slice.count) }
+
+-- what was made of a job is taken back
 abbrev pub TakesBack : Slice → Moment → Moment → Type 0
-TakesBack slice p q = TakesBy (is_none p.status && nat_lt 0 slice.count) slice (marked p slice.hart false) q
+TakesBack slice p q = TakesBy (is_none p.status && nat_lt 0 slice.count) slice (returned p slice) q
 
 -- so many rounds, one after the other, in a session that goes on before each
 abbrev pub Rounds : ℕ → Moment → Moment → Type 0

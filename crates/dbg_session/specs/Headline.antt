@@ -6,6 +6,7 @@ use Rattle.elf32_read.specs.Reading.{IsImage}
 use Rattle.elf32_read.specs.Reading as reading
 use Rattle.plain_machine.specs.PlainRun.{PlainState, plain_run}
 use Rattle.dbg_traits.specs.Told.{Told}
+use Rattle.dbg_traits.specs.declared.settings.Settings.{Settings}
 use Rattle.mi_input.specs.Lines.{lines}
 use Rattle.mi_values.specs.Record.{LineTree}
 use Rattle.mi_values.specs.Records.{lines_bytes, streamed, AreLines}
@@ -18,18 +19,21 @@ use Rattle.dbg_model.specs.Limits as limits
 use Rattle.dbg_engine.specs.declared.engine.Closed.{Closed}
 use Rattle.engine_facts.specs.Facts.{Planted, Retired, CopiedOver}
 use Rattle.dbg_session.specs.Words.{served_words, IsWhole, most_file}
-use Rattle.dbg_session.specs.declared.file.Served.{Served}
+use Rattle.dbg_session.specs.declared.file.Source.{Source}
+use Rattle.dbg_session.specs.declared.file.Source.TheVariants.{File, Generated}
+use Rattle.dbg_session.specs.Source.{file_bytes, input_bytes, input_ended}
+use Rattle.dbg_session.specs.Summary.{summary}
 use Rattle.dbg_session.specs.Left.{core_registers, plain_registers}
 use Rattle.dbg_session.specs.InTime.{ToldInTime}
 use Rattle.dbg_session.specs.Triggered.{TellsChanges, StopsFirst}
-use Rattle.dbg_session.specs.Ties.{Opened, Written, IsCut, IsEmpty, Clean}
+use Rattle.dbg_session.specs.Ties.{Opened, Written, IsCut, IsUnread, IsUnpolled, Clean}
 use Rattle.dbg_session.specs.declared.status.Status.{Status}
 use Rattle.dbg_session.specs.declared.status.Status.TheVariants as status
 
 -- the input ended, each line of it was done, and no hart runs
-pub record IsDone (t : Told) (c : Closed) (s : State) : Type 0 where
-  pub ended : t.poll_ended ≡ true
-  pub all : IfSome t.polled (λ bytes. lines bytes true ≡ did c.journal)
+pub record IsDone (source : Source) (t : Told) (c : Closed) (s : State) : Type 0 where
+  pub ended : input_ended source t ≡ true
+  pub all : IfSome (input_bytes source t) (λ bytes. lines bytes true ≡ did c.journal)
   pub still : any_runs s.harts ≡ false
 
 -- no limit is reached: of instructions, of entries and of input
@@ -39,23 +43,50 @@ pub record IsBelow (t : Told) (c : Closed) : Type 0 where
   pub input : t.input_length < limits.input
 
 -- Why a session that was begun has its status. It is done by its input, or by a line that exits.
-abbrev pub Why : Status → Told → Closed → State → Type 0
-Why status.Done t c s = Clean t × IsBelow t c × (IsDone t c s ⊎ (s.exited ≡ true))
-Why status.Budget t c s = Clean t × (steps (erase c.journal) ≡ c.opening.settings.budget)
-Why status.History t c s = Clean t × (steps (erase c.journal) < c.opening.settings.budget) × ((limits.history ≤ noted c.journal) ⊎ (limits.input ≤ t.input_length))
-Why status.ReadFault t c s = 0 < t.poll_faults
-Why status.WriteFault t c s = 0 < t.put_faults
-Why status.NoMemory t c s = Unit {0}
-Why status.Words t c s = ⊥
-Why (status.File f) t c s = ⊥
+abbrev pub Why : Source → Status → Told → Closed → State → Type 0
+Why source status.Done t c s = Clean t × IsBelow t c × (IsDone source t c s ⊎ (s.exited ≡ true))
+Why source status.Budget t c s = Clean t × (steps (erase c.journal) ≡ c.opening.settings.budget)
+Why source status.History t c s = Clean t × (steps (erase c.journal) < c.opening.settings.budget) × ((limits.history ≤ noted c.journal) ⊎ (limits.input ≤ t.input_length))
+Why source status.ReadFault t c s = 0 < t.poll_faults
+Why source status.WriteFault t c s = 0 < t.put_faults
+Why source status.NoMemory t c s = Unit {0}
+Why source status.Words t c s = ⊥
+Why source (status.File f) t c s = ⊥
+
+-- With what status a run of a generated program ends: that with which it was over, unless a put of its summary failed or memory
+-- ran out.
+abbrev pub Becomes : Status → Status → Type 0
+Becomes status.WriteFault before = Unit {0}
+Becomes status.NoMemory before = Unit {0}
+Becomes s before = s ≡ before
+
+-- what it wrote: its summary; a front of that, where a put failed; nothing, where memory ran out
+abbrev pub SumsUp : Status → List ℕ → List ℕ → Type 0
+SumsUp status.WriteFault written text = IsCut written text
+SumsUp status.NoMemory written text = written ≡ []
+SumsUp s written text = written ≡ text
+
+-- A run of a generated program asks for no input of the world. It puts nothing before it is over, and then its summary, with the
+-- status that it had before that was put.
+pub record Summed (number : ℕ) (status : Status) (t : Told) (c : Closed) (s : State) : Type 0 where
+  pub unpolled : IsUnpolled t
+  pub before : Status
+  pub why : Why (Generated number) before (record t { put_faults = 0 }) c s
+  pub becomes : Becomes status before
+  pub written : IfSome t.written (λ written. SumsUp status written (summary number c.journal s.out before))
+
+-- What a run wrote: the text of its journal's lines, which are lines of the grammar; or, where its program was generated, a summary.
+abbrev pub Prints : Source → Status → Told → Closed → State → Type 0
+Prints (File name) status t c s = IfSome t.written (λ written. Written (Some status) written (said_lines c.opening c.journal))
+Prints (Generated n) status t c s = Summed n status t c s
 
 pub record Headline (status : Status) (t : Told) (c : Closed) : Type 0 where
-  -- the file
+  -- where the program and the lines come from, and the program
   pub opened : Opened t c.opening
   -- the input that was polled has the number of bytes that is told
   pub polled : IfSome t.polled (λ bytes. length bytes ≡ t.input_length)
   -- the lines that were done are a front of the input's lines
-  pub lines : IfSome t.polled (λ bytes. (rest : List (List ℕ)) × (did c.journal ++ rest ≡ lines bytes t.poll_ended))
+  pub lines : IfSome (input_bytes opened.source t) (λ bytes. (rest : List (List ℕ)) × (did c.journal ++ rest ≡ lines bytes (input_ended opened.source t)))
   -- each line was answered before further input was asked for, and input was waited for only while no hart ran
   pub in_time : ToldInTime c.opening c.journal t.polled t.asks
   -- the journal is lawful
@@ -78,12 +109,12 @@ pub record Headline (status : Status) (t : Told) (c : Closed) : Type 0 where
   pub retired : Retired c.machine.cores c.journal
   -- where there are slots, each hart executed by copies where a breakpoint stood, but for one instruction for each time that displaced stepping was switched on
   pub copied : CopiedOver c.opening.settings.slots c.machine.cores state
-  -- what was written is the text of the journal's lines, which are lines of the grammar
-  pub said : IfSome t.written (λ written. Written (Some status) written (said_lines c.opening c.journal))
-  -- the contents of its `@` lines, in order, are the program's output
+  -- what was written: the journal's lines or, of a generated program, the summary
+  pub said : Prints opened.source status t c state
+  -- the contents of the `@` lines, in order, are the program's output
   pub shown : streamed (said_lines c.opening c.journal) ≡ state.out
   -- why it has its status
-  pub why : Why status t c state
+  pub why : Why opened.source status t c state
 
 -- the text of these lines, which are lines of the grammar, was written; where a put failed, a front of it
 pub record Line (trees : List LineTree) (t : Told) : Type 0 where
@@ -95,28 +126,12 @@ pub record Line (trees : List LineTree) (t : Told) : Type 0 where
 abbrev pub Silent : Told → Type 0
 Silent t = IfSome t.written (λ written. written ≡ [])
 
--- no input was asked for
-pub record IsUnpolled (t : Told) : Type 0 where
-  pub polls : t.polls ≡ 0
-  pub taken : t.input_length ≡ 0
-  pub polled : IsEmpty t.polled
-  pub asks : IsEmpty t.asks
-  pub faults : t.poll_faults ≡ 0
-  pub ended : t.poll_ended ≡ false
-
--- no file was read
-pub record IsUnread (t : Told) : Type 0 where
-  pub name : t.file_name ≡ None
-  pub taken : t.file_length ≡ 0
-  pub bytes : IsEmpty t.file_taken
-  pub faults : t.file_faults ≡ 0
-  pub ended : t.file_ended ≡ false
-
 -- the words are served, and the file that was read is the one that they name
 pub record IsRead (t : Told) : Type 0 where
-  pub served : Served
-  pub words : served_words t.words ≡ Some served
-  pub name : t.file_name ≡ Some served.name
+  pub name : List ℕ
+  pub settings : Settings
+  pub words : served_words t.words ≡ Some (record { source = File name; settings = settings })
+  pub named : t.file_name ≡ Some name
 
 -- the file was read in part alone
 pub record IsPart (t : Told) : Type 0 where
@@ -150,9 +165,11 @@ Ends s t (Some c) = Headline s t c
 -- accepted words, an accepted file, and nothing has failed
 pub record Good (t : Told) : Type 0 where
   pub clean : Clean t
-  pub words : IsSome (served_words t.words)
+  pub source : Source
+  pub settings : Settings
+  pub words : served_words t.words ≡ Some (record { source = source; settings = settings })
   pub bytes : List ℕ
-  pub taken : t.file_taken ≡ Some bytes
+  pub taken : file_bytes source t ≡ Some bytes
   pub program : Program
   pub image : IsImage bytes program
 

@@ -1,5 +1,6 @@
 pub mod Stage
 pub mod Words
+pub mod Source
 pub mod Taking
 pub mod Turned
 pub mod Puts
@@ -10,7 +11,11 @@ pub mod Seen
 pub mod SessionInside
 pub mod Left
 pub mod Triggered
+pub mod Summary
+pub mod Scene
+pub mod OutsideInside
 pub mod Headline
+pub mod Over
 pub mod Numbers
 pub mod Round
 pub mod Crew

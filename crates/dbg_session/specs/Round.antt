@@ -25,9 +25,10 @@ pub record Moment : Type 0 where
   pub status : Option Status
   pub next : ℕ
   pub out : List Bool
+  pub pause : List ℕ
 
 abbrev pub moment : {W : Type 0} → (W → Told) → Seen W → Moment
-moment told s = record { told = told s.world; run = s.run; input = s.input; status = s.status; next = s.next; out = s.out }
+moment told s = record { told = told s.world; run = s.run; input = s.input; status = s.status; next = s.next; out = s.out; pause = s.pause }
 
 -- ---- input is taken
 

@@ -7,7 +7,7 @@ use Rattle.dbg_session.specs.Taking.{has_line}
 use Rattle.dbg_model.specs.State.{any_runs}
 use Rattle.dbg_session.specs.declared.status.Status.{Status}
 
--- the world, the engine, the rest of the input, the status, the hart after the one that was picked last, and the marks of the harts whose job is out
+-- the world, the engine, the rest of the input, the status, the hart after the one that was picked last, the marks of the harts whose job is out, and how many rounds each hart still goes without a job
 pub record Seen (W : Type 0) : Type 0 where
   pub world : W
   pub run : Stage
@@ -15,6 +15,7 @@ pub record Seen (W : Type 0) : Type 0 where
   pub status : Option Status
   pub next : ℕ
   pub out : List Bool
+  pub pause : List ℕ
 
 -- nothing but perhaps the world changed
 pub record Same {W : Type 0} (old new : Seen W) : Type 0 where
@@ -23,6 +24,7 @@ pub record Same {W : Type 0} (old new : Seen W) : Type 0 where
   pub status : new.status ≡ old.status
   pub next : new.next ≡ old.next
   pub out : new.out ≡ old.out
+  pub pause : new.pause ≡ old.pause
 
 -- of the harts from k on, as many as there are left, which can be moved
 abbrev pub movers_from : Stage → ℕ → ℕ → List Bool

@@ -2,6 +2,8 @@
 use Rattle.std.specs.Prelude.{◌≡◌, ◌⊎◌, ◌<◌, ◌≤◌, ℕ, ◌+◌, ◌-◌, ◌*◌, Bool, true, false, cond, List, [], ◌++◌, length, Option, Some, None, IfSome}
 use Rattle.dbg_traits.specs.Told.{Told}
 use Rattle.elf32_read.specs.Reading.{IsImage}
+use Rattle.elf32_read.specs.Program.{Program}
+use Rattle.elf_gen.specs.Generated.{generated_file}
 use Rattle.mi_input.specs.Lines.{lines}
 use Rattle.mi_values.specs.Record.{LineTree}
 use Rattle.mi_values.specs.Records.{lines_bytes, AreLines, AreRecords}
@@ -10,6 +12,8 @@ use Rattle.dbg_model.specs.State.{any_runs}
 use Rattle.dbg_model.specs.Journals.{did}
 use Rattle.dbg_session.specs.Stage.{Stage, work_of}
 use Rattle.dbg_session.specs.Words.{served_words, IsWhole}
+use Rattle.dbg_session.specs.declared.file.Source.{Source}
+use Rattle.dbg_session.specs.declared.file.Source.TheVariants.{File, Generated}
 use Rattle.dbg_session.specs.InTime.{ToldInTime}
 use Rattle.dbg_session.specs.Taking.{Gives}
 use Rattle.dbg_session.specs.Steps.{lines_by}
@@ -77,15 +81,46 @@ Cause (Some status.NoMemory) t r i = Unit {0}
 Cause (Some status.Words) t r i = ⊥
 Cause (Some (status.File f)) t r i = ⊥
 
--- The words name the file that was read, whole and without a fault, and the opening is its image with the settings of the words.
-pub record Opened (t : Told) (o : Opening) : Type 0 where
-  pub name : List ℕ
-  pub asked : served_words t.words ≡ Some (record { name = name; settings = o.settings })
+-- a list that is told is empty
+abbrev pub IsEmpty : {A : Type 0} → Option (List A) → Type 0
+IsEmpty None = Unit {0}
+IsEmpty (Some xs) = xs ≡ []
+
+-- no file was read
+pub record IsUnread (t : Told) : Type 0 where
+  pub name : t.file_name ≡ None
+  pub taken : t.file_length ≡ 0
+  pub bytes : IsEmpty t.file_taken
+  pub faults : t.file_faults ≡ 0
+  pub ended : t.file_ended ≡ false
+
+-- no input was asked for
+pub record IsUnpolled (t : Told) : Type 0 where
+  pub polls : t.polls ≡ 0
+  pub taken : t.input_length ≡ 0
+  pub polled : IsEmpty t.polled
+  pub asks : IsEmpty t.asks
+  pub faults : t.poll_faults ≡ 0
+  pub ended : t.poll_ended ≡ false
+
+-- the file of this name was read, whole and without a fault, and is this program
+pub record IsFileOf (t : Told) (name : List ℕ) (p : Program) : Type 0 where
   pub named : t.file_name ≡ Some name
   pub whole : IsWhole t
   pub taken : IfSome t.file_taken (λ bytes. length bytes ≡ t.file_length)
   pub faults : t.file_faults ≡ 0
-  pub image : IfSome t.file_taken (λ bytes. IsImage bytes o.image)
+  pub image : IfSome t.file_taken (λ bytes. IsImage bytes p)
+
+-- a program is that of the file, or that which is generated, and then no file was read
+abbrev pub ComesFrom : Source → Told → Program → Type 0
+ComesFrom (File name) t p = IsFileOf t name p
+ComesFrom (Generated n) t p = IsUnread t × IsImage (generated_file n) p
+
+-- The words name where the opening's program comes from, and give its settings.
+pub record Opened (t : Told) (o : Opening) : Type 0 where
+  pub source : Source
+  pub asked : served_words t.words ≡ Some (record { source = source; settings = o.settings })
+  pub comes : ComesFrom source t o.image
 
 -- what ties a session to its world, whatever its status
 pub record IsHeld (t : Told) (r : Stage) (i : Taken) : Type 0 where
@@ -112,11 +147,6 @@ abbrev pub IsCounted : Option Status → ℕ → Type 0
 IsCounted None count = count < limits.input
 IsCounted (Some s) count = count < limits.input + 4097
 
--- a list that is told is empty
-abbrev pub IsEmpty : {A : Type 0} → Option (List A) → Type 0
-IsEmpty None = Unit {0}
-IsEmpty (Some xs) = xs ≡ []
-
 -- a session may begin
 pub record IsReady (t : Told) (r : Stage) : Type 0 where
   pub opened : Opened t r.opening
@@ -127,3 +157,7 @@ pub record IsReady (t : Told) (r : Stage) : Type 0 where
   pub asks : IsEmpty t.asks
   pub running : t.poll_ended ≡ false
   pub journal : r.journal ≡ []
+
+-- a session over this opening may begin
+abbrev pub MayBegin : Told → Opening → Type 0
+MayBegin t o = (r : Stage) → r.opening ≡ o → r.journal ≡ [] → IsReady t r

@@ -1,22 +1,30 @@
--- The words of the command line that this session serves, and the reading of the file.
+-- The words of the command line that are served, and the reading of the file.
 use Rattle.std.specs.Prelude.{◌≡◌, ◌⊎◌, ◌<◌, ◌≤◌, ℕ, Bool, true, List, [], ◌∷◌, length, Option, Some, None, if◌then◌else◌}
 use Rattle.dbg_traits.specs.Told.{Told, more}
 use Rattle.dbg_traits.specs.Causes.{Rose}
+use Rattle.dbg_traits.specs.Names.{IsNamed}
 use Rattle.dbg_words.specs.Words.{Words, Asked, session, generated, checked}
 use Rattle.dbg_session.specs.declared.file.Served.{Served}
+use Rattle.dbg_session.specs.declared.file.Source.{Source}
+use Rattle.dbg_session.specs.declared.file.Source.TheVariants.{File, Generated}
 use Rattle.dbg_session.specs.declared.file.FileError.{FileError}
 use Rattle.dbg_session.specs.declared.file.FileError.TheVariants as error
 
--- a session over a file is served, with all settings; no log is written yet, no file generated and no log checked
+-- a session over a file or over what is generated from a number is served, with all settings; no log is written yet, and none checked
 abbrev pub served : Option Asked → Option Served
 served None = None
-served (Some (session name s has_log)) = if has_log then None else Some (record { name = name; settings = s })
-served (Some (generated n s)) = None
+served (Some (session name s has_log)) = if has_log then None else Some (record { source = File name; settings = s })
+served (Some (generated n s)) = Some (record { source = Generated n; settings = s })
 served (Some (checked name)) = None
 
 -- what the words ask for, where they are accepted
 abbrev pub served_words : List (List ℕ) → Option Served
 served_words words = served (Words words)
+
+-- a file's name is among the words, and a number in its range
+abbrev pub IsAmong : List (List ℕ) → Source → Type 0
+IsAmong words (File name) = IsNamed words name
+IsAmong words (Generated n) = (1 ≤ n) × (n ≤ 1000000)
 
 -- so many bytes of a file are read at most: one more than the largest file that is accepted
 abbrev pub most_file : ℕ

@@ -3,7 +3,7 @@ ghost use Rattle.std.specs.Prelude.{◌≡◌, ◌<◌, ◌≤◌, ℕ, IfOk, If
 ghost use Rattle.dbg_traits.specs.Names.{IsNamed};
 ghost use Rattle.dbg_traits.specs.Settings.{AreSettings};
 ghost use Rattle.dbg_words.specs.Request.{asked};
-ghost use Rattle.dbg_session.specs.Words.{served, served_words, ReadsAll, ReadsSome};
+ghost use Rattle.dbg_session.specs.Words.{IsAmong, served, served_words, ReadsAll, ReadsSome};
 
 use dbg_traits::{ArgText, FileRead, NoMemory, Settings, World};
 use dbg_words::{Request, read_words};
@@ -19,10 +19,19 @@ pub enum FileError {
     NoMemory,
 }
 
+/// Where the program and the lines of a run come from.
+#[derive(Drop)]
+pub enum Source {
+    /// From the file of this name, and from the input.
+    File(ArgText),
+    /// From this number, 1 to 1,000,000: both are generated.
+    Generated(u32),
+}
+
 /// What the words ask for, where they are accepted.
 #[derive(Drop)]
 pub struct Served {
-    pub name: ArgText,
+    pub source: Source,
     pub settings: Settings,
 }
 
@@ -38,10 +47,13 @@ fn serve(alloc: Global, request: Request<'_>) -> Result<Option<Served>, NoMemory
             if has_log {
                 return Ok(None);
             }
-            let name = ArgText::of(String::from_str(alloc, file)?);
-            Ok(Some(Served { name, settings }))
+            let source = Source::File(ArgText::of(String::from_str(alloc, file)?));
+            Ok(Some(Served { source, settings }))
         }
-        Request::Generated { .. } => Ok(None),
+        Request::Generated { number, settings } => {
+            let source = Source::Generated(number);
+            Ok(Some(Served { source, settings }))
+        }
         Request::Check { .. } => Ok(None),
     }
 }
@@ -49,7 +61,7 @@ fn serve(alloc: Global, request: Request<'_>) -> Result<Option<Served>, NoMemory
 /// What the words ask for, where they are accepted.
 pub fn served_words(alloc: Global, words: &[ArgText]) -> Result<Option<Served>, NoMemory>
     ensures served { IfOk result (λ r. r ≡ served_words words.now) }
-    ensures known { IfOk result (λ r. IfSome r (λ s. IsNamed words.now s.name)) }
+    ensures known { IfOk result (λ r. IfSome r (λ s. IsAmong words.now s.source)) }
     ensures ranges { IfOk result (λ r. IfSome r (λ s. AreSettings s.settings)) }
 {
     match read_words(alloc, words)? {

@@ -3,12 +3,16 @@
 
 mod ending;
 mod file;
+mod finish;
 mod known;
+mod outside;
 mod puts;
 mod run;
 mod session;
+mod shown;
 mod status;
 mod steps;
+mod summary;
 
 pub use dbg_engine::Closed;
 pub use ending::Ended;

@@ -1,17 +1,24 @@
 // The top call.
-ghost use Rattle.std.specs.Prelude.{◌≡◌, None, MatchResult};
+ghost use Rattle.std.specs.Prelude.{◌≡◌, ◌≤◌, None, Some, MatchResult};
+ghost use Rattle.dbg_traits.specs.Names.{IsNamed};
+ghost use Rattle.dbg_traits.specs.Settings.{AreSettings};
 ghost use Rattle.dbg_traits.specs.Told.{IsFresh};
 ghost use Rattle.elf32_read.specs.declared.fault.ElfFault.{ElfFault};
 ghost use Rattle.dbg_session.specs.Words.{served_words};
+ghost use Rattle.dbg_session.specs.Scene.{told_of};
+ghost use Rattle.dbg_session.specs.Ties.{MayBegin};
 ghost use Rattle.dbg_session.specs.Headline.{Early, Ends, Good, IsFine, IsWords, IsFile, Refused};
 
-use crate::file::{FileError, read_all, served_words};
+use crate::file::{FileError, Served, Source, read_all, served_words};
+use crate::finish::finish;
+use crate::outside::Outside;
 use crate::puts::put_all;
 use crate::{Ended, Session, Status};
 use dbg_engine::Engine;
 use dbg_model::Opening;
-use dbg_traits::{Gate, World};
-use elf32_read::{ElfReadError, read_image};
+use dbg_traits::{ArgText, Gate, Settings, World};
+use elf_gen::{generate, script};
+use elf32_read::{ElfReadError, Image, read_image};
 use hart_workers::run_crew;
 use mi_reports::{bad_file, opening_text, usage};
 use std::alloc::Global;
@@ -31,24 +38,46 @@ fn early<W: World>(status: Status, world: W) -> Ended<W>
     }
 }
 
-/// Begins a session: the words, the file and the opening lines.
-fn load<W: World>(alloc: Global, world: W) -> Result<Session<W>, Ended<W>>
-    requires { IsFresh (W.told world) }
+// Begins a session over what it talks to, with the opening lines.
+fn begin<W: World>(
+    alloc: Global,
+    outside: Outside<W>,
+    image: Image,
+    settings: Settings,
+) -> Result<Session<Outside<W>>, Ended<W>>
+    requires ranges { AreSettings settings }
+    requires ready { MayBegin (told_of W.told outside) (record { image = image; settings = settings }) }
+    requires early { Early Status.NoMemory (W.told outside.world) }
+    ensures { MatchResult result (λ _. Unit {0}) (λ e. (e.closed ≡ None) × Early e.status (W.told e.world)) }
+{
+    let Ok(text) = opening_text(alloc, settings.harts) else {
+        let (world, _script) = outside.into_parts();
+        return Err(early(Status::NoMemory, world));
+    };
+    match Engine::load(alloc, Opening { image, settings }) {
+        Ok(engine) => Ok(Session::open(alloc, outside, engine, text.as_slice())),
+        Err(_) => {
+            let (world, _script) = outside.into_parts();
+            Err(early(Status::NoMemory, world))
+        }
+    }
+}
+
+// Begins a session over the file of this name.
+fn load_file<W: World>(
+    alloc: Global,
+    world: W,
+    name: ArgText,
+    settings: Settings,
+) -> Result<Session<Outside<W>>, Ended<W>>
+    requires fresh { IsFresh (W.told world) }
+    requires asked { served_words (W.told world).words ≡ Some (record { source = Source.File name; settings = settings }) }
+    requires known { IsNamed (W.told world).words name }
+    requires ranges { AreSettings settings }
     ensures { MatchResult result (λ _. Unit {0}) (λ e. (e.closed ≡ None) × Early e.status (W.told e.world)) }
 {
     let mut world = world;
-    let served = match served_words(alloc, world.words()) {
-        Ok(Some(served)) => served,
-        Ok(None) => {
-            let Ok(line) = usage(alloc) else {
-                return Err(early(Status::NoMemory, world));
-            };
-            put_all(&mut world, line.as_slice());
-            return Err(early(Status::Words, world));
-        }
-        Err(_) => return Err(early(Status::NoMemory, world)),
-    };
-    let bytes = match read_all(alloc, &mut world, &served.name) {
+    let bytes = match read_all(alloc, &mut world, &name) {
         Ok(bytes) => bytes,
         Err(FileError::Failed) => return Err(early(Status::ReadFault, world)),
         Err(FileError::NoMemory) => return Err(early(Status::NoMemory, world)),
@@ -64,22 +93,66 @@ fn load<W: World>(alloc: Global, world: W) -> Result<Session<W>, Ended<W>>
         }
         Err(ElfReadError::Memory) => return Err(early(Status::NoMemory, world)),
     };
-    let settings = served.settings;
-    let Ok(text) = opening_text(alloc, settings.harts) else {
+    begin(alloc, Outside::handed(world), image, settings)
+}
+
+// Begins a session over the program and the lines that are generated from this number. The program is accepted, so that only
+// memory can be wanting.
+fn load_generated<W: World>(
+    alloc: Global,
+    world: W,
+    number: u32,
+    settings: Settings,
+) -> Result<Session<Outside<W>>, Ended<W>>
+    requires fresh { IsFresh (W.told world) }
+    requires asked { served_words (W.told world).words ≡ Some (record { source = Source.Generated number; settings = settings }) }
+    requires most { number ≤ 1000000 }
+    requires ranges { AreSettings settings }
+    ensures { MatchResult result (λ _. Unit {0}) (λ e. (e.closed ≡ None) × Early e.status (W.told e.world)) }
+{
+    let Ok(bytes) = generate(alloc, number) else {
         return Err(early(Status::NoMemory, world));
     };
-    match Engine::load(alloc, Opening { image, settings }) {
-        Ok(engine) => Ok(Session::open(alloc, world, engine, text.as_slice())),
-        Err(_) => Err(early(Status::NoMemory, world)),
+    let Ok(lines) = script(alloc, number) else {
+        return Err(early(Status::NoMemory, world));
+    };
+    let Ok(image) = read_image(alloc, bytes) else {
+        return Err(early(Status::NoMemory, world));
+    };
+    let outside = Outside::scripted(alloc, world, number, lines);
+    begin(alloc, outside, image, settings)
+}
+
+/// Begins a session: the words, the program and the opening lines.
+fn load<W: World>(alloc: Global, world: W) -> Result<Session<Outside<W>>, Ended<W>>
+    requires { IsFresh (W.told world) }
+    ensures { MatchResult result (λ _. Unit {0}) (λ e. (e.closed ≡ None) × Early e.status (W.told e.world)) }
+{
+    let mut world = world;
+    let served = match served_words(alloc, world.words()) {
+        Ok(Some(served)) => served,
+        Ok(None) => {
+            let Ok(line) = usage(alloc) else {
+                return Err(early(Status::NoMemory, world));
+            };
+            put_all(&mut world, line.as_slice());
+            return Err(early(Status::Words, world));
+        }
+        Err(_) => return Err(early(Status::NoMemory, world)),
+    };
+    let Served { source, settings } = served;
+    match source {
+        Source::File(name) => load_file(alloc, world, name, settings),
+        Source::Generated(number) => load_generated(alloc, world, number, settings),
     }
 }
 
 // The workers of a session, if it has any, serve it until it is over.
 fn serve<R: Threads + Wait + Sync, W: World + Send, G: Gate + Sync>(
     rt: &R,
-    session: Session<W>,
+    session: Session<Outside<W>>,
     gate: &G,
-) -> Session<W> {
+) -> Session<Outside<W>> {
     let workers = session.workers();
     if workers == 0 {
         return session;
@@ -112,7 +185,7 @@ pub fn debug_run<R: Threads + Wait + Sync, W: World + Send, G: Gate + Sync>(
         Ok(session) => {
             let mut session = serve(rt, session, gate);
             session.run_serial();
-            session.close()
+            finish(alloc, session.close())
         }
         Err(ended) => ended,
     }

@@ -4,6 +4,7 @@ ghost use Rattle.dbg_session.specs.Ties.{IsTied};
 ghost use Rattle.dbg_session.specs.Seen.{GotOn, work, no_input, no_line, is_open};
 ghost use Rattle.dbg_session.specs.Taking.{has_line};
 ghost use Rattle.dbg_session.specs.Round.{Takes, Lines, Settles, Round, moment};
+ghost use Rattle.dbg_session.specs.Crew.{NonePauses};
 ghost use Rattle.dbg_engine.specs.Steps.{NoneOut};
 ghost use Rattle.dbg_session.specs.Left.{IsLeft};
 ghost use Rattle.dbg_session.specs.Stage.{stage_of};
@@ -42,6 +43,8 @@ pub struct Session<W: World> {
     next: usize,
     // The harts whose job is out.
     out: [bool; HARTS],
+    // How many rounds each hart still goes without a job.
+    pause: [u32; HARTS],
     status: Option<Status>,
 }
 
@@ -87,6 +90,7 @@ impl<W: World> Session<W> {
         ensures input { result.input ≡ record { rest = []; count = 0; ended = false } }
         ensures next { result.next ≡ 0 }
         ensures out { NoneOut result.out }
+        ensures pause { NonePauses result.pause }
         ensures puts { PutsAll (is_none result.status) opening.now (W.told world) (W.told result.world) }
         ensures status { result.status ≡ (if is_none result.status then None else Some Status.WriteFault) }
     {
@@ -104,6 +108,7 @@ impl<W: World> Session<W> {
             known: Known::Open,
             next: 0,
             out: [false; HARTS],
+            pause: [0; HARTS],
             status,
         }
     }
@@ -135,7 +140,8 @@ impl<W: World> Session<W> {
         let wait = !self.engine.any_running();
         match input_once(&mut self.world, &mut self.buffer, &mut self.piece, wait) {
             Input::Took(n) => {
-                self.known = Known::Open;
+                let before = self.buffer.len() - n;
+                self.known = self.known.behind(&self.buffer[before..]);
                 self.count += n as u64;
                 self.status = over(&self.engine, self.count);
                 true
@@ -281,6 +287,7 @@ impl<W: World> Session<W> {
             known: _,
             next: _,
             out: _,
+            pause: _,
             status,
         } = self;
         let closed = Some(engine.close());

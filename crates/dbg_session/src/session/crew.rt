@@ -1,7 +1,7 @@
 // A session as a crew: its duties are rounds, its jobs the slices of harts.
-ghost use Rattle.std.specs.Prelude.{◌≡◌, ◌≢◌, ◌<◌, ◌≤◌, ◌↔◌, ◌&&◌, true, false, None, IfSome, is_none, is_some, nat_lt, slice_set};
+ghost use Rattle.std.specs.Prelude.{◌≡◌, ◌≢◌, ◌<◌, ◌≤◌, ◌-◌, ◌↔◌, ◌&&◌, ◌==◌, not, true, false, None, IfSome, is_none, is_some, nat_lt, slice_set};
 ghost use Rattle.dbg_engine.specs.Steps.{NoneOut};
-ghost use Rattle.dbg_session.specs.Crew.{Duties, HandsOut, IsWorkOf, ServesAlone, TakesBack, TakesBy};
+ghost use Rattle.dbg_session.specs.Crew.{Duties, HandsOut, IsWorkOf, ServesAlone, TakesBack, TakesBy, pause_after, pause_of};
 ghost use Rattle.dbg_session.specs.Round.{moment};
 ghost use Rattle.dbg_session.specs.Seen.{work};
 
@@ -12,6 +12,35 @@ use dbg_engine::{Commit, SPARE};
 use dbg_traits::World;
 use hart_workers::{Crew, Duty};
 use reg_slices::{Job, Slice, run_slice};
+
+// A slice of fewer instructions costs more than it saves, and so would the next one of its hart.
+const FEW: u32 = 16;
+
+// How many rounds its hart goes without a job then.
+const PAUSE: u32 = 255;
+
+// Brings a hart a round nearer to its next job. True where it pauses.
+fn draw_nearer(pause: &mut [u32], hart: u32) -> bool
+    ensures pauses { result ≡ not (pause_of pause.old hart == 0) }
+    ensures nearer { pause.new ≡ slice_set pause.old hart (pause_of pause.old hart - 1) }
+{
+    let at = hart as usize;
+    if at >= pause.len() {
+        return false;
+    }
+    let left = pause[at];
+    pause[at] = left.saturating_sub(1);
+    left > 0
+}
+
+// Notes how many rounds the hart of a slice of so many instructions goes without a job.
+fn note_pause(pause: &mut [u32], hart: u32, count: u32)
+    ensures { pause.new ≡ slice_set pause.old hart (pause_after count) }
+{
+    if (hart as usize) < pause.len() {
+        pause[hart as usize] = if count < FEW { PAUSE } else { 0 };
+    }
+}
 
 // Clears the mark of a hart, if it has one.
 fn clear(marks: &mut [bool], hart: u32)
@@ -31,13 +60,15 @@ impl<W: World> Session<W> {
         self.engine.settings().workers
     }
 
-    // The job of the hart that was picked, where the session goes on and the hart gives one. It is out from then on.
+    // The job of the hart that was picked, where the session goes on and the hart gives one and doesn't pause. It is out from
+    // then on.
     fn hand_out(&mut self, picked: Option<u32>) -> Option<Job>
         requires { IfSome picked (λ h. h < self.old.run.opening.settings.harts) }
-        ensures { HandsOut picked result (moment W.told self.old) (moment W.told self.new) }
+        ensures hands { HandsOut picked result (moment W.told self.old) (moment W.told self.new) }
+        ensures work { work self.new ≡ work self.old }
     {
         let hart = picked?;
-        if self.status.is_some() {
+        if draw_nearer(&mut self.pause, hart) || self.status.is_some() {
             return None;
         }
         let job = self.engine.check_out(hart)?;
@@ -99,7 +130,7 @@ impl<W: World> Crew for Session<W> {
 
     ghost is_over = { λ s. is_some s.status };
 
-    /// A round, where the status isn't set, and then a job of the hart that was picked, if it gives one.
+    /// A round, where the status isn't set, and then a job of the hart that was picked, if it gives one and doesn't pause.
     fn duty(&mut self, _worker: u32) -> Duty<Job>
         ensures over { (result ≡ Duty.Over) ↔ (is_some self.old.status ≡ true) }
         ensures stays { result ≡ Duty.Over → self.new ≡ self.old }
@@ -130,14 +161,16 @@ impl<W: World> Crew for Session<W> {
         run_slice(job)
     }
 
-    /// The slice's hart has no job out any more. Where the status isn't set the slice's instructions, if there are any, are
-    /// done in one, and no line is put. A slice that can't be taken any more is forgotten.
+    /// The slice's hart has no job out any more, and goes 255 rounds without one if the slice has fewer than 16 instructions.
+    /// Where the status isn't set the slice's instructions, if there are any, are done in one, and no line is put. A slice that
+    /// can't be taken any more is forgotten.
     fn take(&mut self, slice: Slice)
         ensures opening { self.new.run.opening ≡ self.old.run.opening }
         ensures takes { TakesBack slice (moment W.told self.old) (moment W.told self.new) }
         ensures less { work self.new ≤ work self.old }
     {
         clear(&mut self.out, slice.hart);
+        note_pause(&mut self.pause, slice.hart, slice.count);
         self.bring(&slice);
         let Slice {
             hart: _,
@@ -154,5 +187,12 @@ impl<W: World> Crew for Session<W> {
         ensures { result ≡ is_some self.now.status }
     {
         self.status.is_some()
+    }
+
+    /// Whether harts run, each of which has a job out, and no line is known that can be done meanwhile.
+    fn is_idle(&self) -> bool {
+        self.engine.any_running()
+            && self.must_wait()
+            && self.engine.next_running(self.next, &self.out).is_none()
     }
 }

@@ -1,11 +1,29 @@
-use Rattle.dbg_session.proofs.Heading.{ends, refuses}
+use Rattle.dbg_session.proofs.Heading.{early_ends, file_of, fine_of, words_of}
 use Rattle.dbg_session.proofs.run.debug_run.Goals as goal
 
-pub returns-in-Ok-clause-ends : goal.returns-in-Ok-clause-ends
-returns-in-Ok-clause-ends g c =
+pub finish-requires : goal.finish-requires
+finish-requires g c =
     let h = c.close.ensures in
     let s = c.run_serial.new.self in
-    rw h.world (ends c.close.result.status (g.W.World.told s.world) s.run s.input c.close.result.closed h.closed (rw h.status h.tied))
+    record { run = s.run; input = s.input; left = h.closed; tied = rw h.world (rw h.status h.tied) }
+
+pub returns-in-Ok-clause-words : goal.returns-in-Ok-clause-words
+returns-in-Ok-clause-words g c = λ none. words_of c.finish.result.status (g.W.World.told c.finish.result.world) c.finish.result.closed c.finish.ensures none
+
+pub returns-in-Ok-clause-file : goal.returns-in-Ok-clause-file
+returns-in-Ok-clause-file g c = λ f r. file_of c.finish.result.status (g.W.World.told c.finish.result.world) c.finish.result.closed f c.finish.ensures r
+
+pub returns-in-Ok-clause-complete : goal.returns-in-Ok-clause-complete
+returns-in-Ok-clause-complete g c = λ good. fine_of c.finish.result.status (g.W.World.told c.finish.result.world) c.finish.result.closed c.finish.ensures good
+
+pub returns-in-Err-clause-ends : goal.returns-in-Err-clause-ends
+returns-in-Err-clause-ends g c = early_ends c.in-Err.ended.status (g.W.World.told c.in-Err.ended.world) c.in-Err.ended.closed c.in-Err.ensures.0 c.in-Err.ensures.1
+
+pub returns-in-Err-clause-words : goal.returns-in-Err-clause-words
+returns-in-Err-clause-words g c = λ none. words_of c.in-Err.ended.status (g.W.World.told c.in-Err.ended.world) _ (early_ends c.in-Err.ended.status (g.W.World.told c.in-Err.ended.world) c.in-Err.ended.closed c.in-Err.ensures.0 c.in-Err.ensures.1) none
 
 pub returns-in-Err-clause-file : goal.returns-in-Err-clause-file
-returns-in-Err-clause-file g c = λ f r. refuses c.in-Err.ended.status (g.W.World.told c.in-Err.ended.world) f c.in-Err.ensures.1 r
+returns-in-Err-clause-file g c = λ f r. file_of c.in-Err.ended.status (g.W.World.told c.in-Err.ended.world) _ f (early_ends c.in-Err.ended.status (g.W.World.told c.in-Err.ended.world) c.in-Err.ended.closed c.in-Err.ensures.0 c.in-Err.ensures.1) r
+
+pub returns-in-Err-clause-complete : goal.returns-in-Err-clause-complete
+returns-in-Err-clause-complete g c = λ good. fine_of c.in-Err.ended.status (g.W.World.told c.in-Err.ended.world) _ (early_ends c.in-Err.ended.status (g.W.World.told c.in-Err.ended.world) c.in-Err.ended.closed c.in-Err.ensures.0 c.in-Err.ensures.1) good

@@ -1,7 +1,7 @@
 use denote.Param.Send.{sendable}
 use Rattle.std.proofs.Crossing.{crosses}
-use Rattle.dbg_session.proofs.Sending.{session_send}
+use Rattle.dbg_session.proofs.Sending.{outside_send, session_send}
 use Rattle.dbg_session.proofs.run.serve.Goals as goal
 
 pub run_crew-requires-send-C : goal.run_crew-requires-send-C
-run_crew-requires-send-C g c κs within = search (sendable, crosses, session_send) depth 100 fits 100000
+run_crew-requires-send-C g c κs within = search (sendable, crosses, outside_send, session_send) depth 100 fits 100000

@@ -1,12 +1,13 @@
-use Rattle.std.proofs.Common.{◌≡◌, ◌≤◌, ◌+◌, ◌++◌, ◌∙◌, length, drop, false, not, length-append, arith, ap, sym, subst, refl}
+use Rattle.std.proofs.Common.{◌≡◌, ◌≤◌, ◌+◌, ◌-◌, ◌++◌, ◌∙◌, length, drop, false, not, length-append, arith, ap, sym, subst, refl}
 use Rattle.std.specs.Prelude.{None, true}
+use Rattle.std.proofs.Math.Seq.{drop-append_seam}
 use Rattle.dbg_session.specs.Ties.{IsTied, Taken}
 use Rattle.dbg_session.specs.Seen.{Seen}
-use Rattle.dbg_session.specs.Taking.{has_line}
+use Rattle.dbg_session.specs.Taking.{has_line, IsKnown}
 use Rattle.dbg_session.specs.Stage.{stage_of}
 use Rattle.dbg_session.specs.SessionInside.{seen_of, taken_of}
 use Rattle.dbg_session.specs.Round.{Takes, moment}
-use Rattle.dbg_session.proofs.Tying.{tied_end, tied_took, quiet, drop_front, counted_by}
+use Rattle.dbg_session.proofs.Tying.{tied_end, tied_took, quiet, drop_front, counted_by, slice_from}
 use Rattle.dbg_session.proofs.Going.{took}
 use Rattle.dbg_session.proofs.session.Session.take_input.Goals as goal
 
@@ -42,13 +43,20 @@ invariant_of-self g c =
     let e = c.in-Took.ensures in
     let new = c.input_once.new.buffer.items in
     let within : start ≤ length items = omega (arith, c.self.invariant.1, c.self.inside.buffer.ok.0) in
+    let cut : length new - n ≡ length items = omega (arith, ap length e.4, length-append items bytes, e.2) in
+    let last : drop (length new - n) new ≡ bytes = ap (λ k. drop k new) cut ∙ (ap (drop (length items)) e.4 ∙ drop-append_seam items bytes) in
     let behind : drop start new ≡ drop start items ++ bytes = ap (drop start) e.4 ∙ drop_front start items bytes within in
+    let xs = c.deref.result.now in
+    let size : c.len.result ≡ length new = omega (arith, c.len.ensures, c.input_once.new.buffer.ok.0) in
+    let piece = slice_from new xs (c.len.result - n) c.deref.ensures.value ∙ (ap (λ k. drop (k - n) new) size ∙ last) in
+    let kept : IsKnown c.self.inside.known false (drop start items) = subst (λ b. IsKnown c.self.inside.known b (drop start items)) c.if-self.false c.self.invariant.3 in
+    let joined : IsKnown c.behind-self-inside.result false (drop start new) = subst (λ r. IsKnown c.behind-self-inside.result false r) (ap (λ p. drop start items ++ p) piece ∙ sym behind) (c.behind-self-inside.ensures (drop start items) kept) in
     let taken : Taken = record { rest = drop start new; count = c.self.inside.count + n; ended = c.self.inside.ended } in
     let grown : taken ≡ record { rest = drop start items ++ bytes; count = c.self.inside.count + n; ended = c.self.inside.ended } = ap (λ r. let t : Taken = record { rest = r; count = c.self.inside.count + n; ended = c.self.inside.ended } in t) behind in (
       tied_took c.over-self-inside.result (told c.self.inside.world) (told c.input_once.new.world) (stage_of c.self.inside.engine) (taken_of c.self.inside) taken (not c.any_running-wait.result) bytes n h q e.2 e.3 e.5 grown c.over-self-inside.ensures,
       omega (arith, within, c.input_once.new.buffer.ok.0, ap length e.4, length-append items bytes),
       counted_by c.over-self-inside.result (stage_of c.self.inside.engine) c.self.inside.count n few e.3 c.over-self-inside.ensures,
-      tt,
+      subst (λ b. IsKnown c.behind-self-inside.result b (drop start new)) (sym c.if-self.false) joined,
       c.self.invariant.4,
     )
 

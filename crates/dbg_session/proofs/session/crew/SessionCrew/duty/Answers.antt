@@ -10,7 +10,7 @@ returns-in-Some-clause-duties g c = record {
   pick = c.go_round-picked.result;
   between = moment g.W.World.told c.go_round-picked.new.self;
   round = c.go_round-picked.ensures.round;
-  hands = c.in-Some.ensures;
+  hands = c.in-Some.ensures.hands;
 }
 
 pub returns-in-None-clause-duties : goal.returns-in-None-clause-duties
@@ -19,5 +19,5 @@ returns-in-None-clause-duties g c = record {
   pick = c.go_round-picked.result;
   between = moment g.W.World.told c.go_round-picked.new.self;
   round = c.go_round-picked.ensures.round;
-  hands = c.in-None.ensures;
+  hands = c.in-None.ensures.hands;
 }

@@ -1,17 +1,19 @@
-use Rattle.std.proofs.Common.{Bool, List, subst, false}
-use Rattle.std.specs.Prelude.{◌&&◌, is_none, nat_lt}
+use Rattle.std.proofs.Common.{Bool, List, ℕ, subst, false}
+use Rattle.std.specs.Prelude.{◌&&◌, is_none, nat_lt, slice_set}
 use Rattle.dbg_session.specs.Seen.{Seen}
 use Rattle.dbg_session.specs.SessionInside.{seen_of}
 use Rattle.dbg_session.specs.Round.{moment}
-use Rattle.dbg_session.specs.Crew.{TakesBy, marked}
+use Rattle.dbg_session.specs.Crew.{TakesBy, returned}
 use Rattle.dbg_session.proofs.session.crew.SessionCrew.take.Goals as goal
 
 pub returns-clause-takes : goal.returns-clause-takes
 returns-clause-takes g c =
     let told = g.W.World.told in
     let slice = c.args.slice in
+    let old = moment told (seen_of c.self.inside) in
     let new = moment told c.bring.new.self in
     let wants = is_none c.self.inside.status && nat_lt 0 slice.count in
-    let X : List Bool → Type 0 = λ xs. TakesBy wants slice (record (moment told (seen_of c.self.inside)) { out = xs }) new in
-    let P : Seen g.row.W.Denot → Type 0 = λ s. TakesBy (is_none s.status && nat_lt 0 slice.count) slice (marked (moment told s) slice.hart false) new in
-    subst P c.self.view_is (subst X c.clear.ensures c.bring.ensures.takes)
+    let X : List Bool → Type 0 = λ xs. TakesBy wants slice (record old { out = xs; pause = c.note_pause.new.pause }) new in
+    let Y : List ℕ → Type 0 = λ ps. TakesBy wants slice (record old { out = slice_set old.out slice.hart false; pause = ps }) new in
+    let P : Seen g.row.W.Denot → Type 0 = λ s. TakesBy (is_none s.status && nat_lt 0 slice.count) slice (returned (moment told s) slice) new in
+    subst P c.self.view_is (subst Y c.note_pause.ensures (subst X c.clear.ensures c.bring.ensures.takes))
