@@ -1,11 +1,11 @@
 // Journals that are written down, and gone through.
 ghost use Rattle.dbg_traits.specs.Settings.{AreSettings};
 
-use crate::numbers::{before, number};
 use dbg_model::{Entry, Fired, Journal, Opening, Poke, Why};
 use dbg_replay::{ModelState, replay};
 use mi_commands::ByteList;
 use rv_exec::Cause;
+use script_rows::{before, number};
 use std::alloc::{AllocError, Global};
 
 // A watch of a number that fired, from 0 to 1.

@@ -9,7 +9,6 @@
 mod agreement;
 mod journals;
 mod moves;
-mod numbers;
 mod programs;
 mod rows;
 mod step;

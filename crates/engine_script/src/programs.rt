@@ -2,11 +2,11 @@
 ghost use Rattle.std.specs.Prelude.{IfSome, IsTrue};
 ghost use Rattle.dbg_traits.specs.Settings.{AreSettings};
 
-use crate::numbers::{before, number};
 use dbg_model::Opening;
 use dbg_traits::Settings;
 use elf_gen::{generate, plain};
 use elf32_read::{Image, read_image};
+use script_rows::{before, number};
 use std::alloc::Global;
 
 /// The settings of a program that is made.

@@ -1,6 +1,6 @@
 // What a line asks for.
-use crate::numbers::{before, number, two};
 use crate::programs::Load;
+use script_rows::{before, number, two};
 
 /// One thing that is done with an engine, or asked of it.
 #[derive(Clone, Copy)]

@@ -1,12 +1,14 @@
 // What a line asks for.
-use crate::numbers::number;
 use crate::table::TableStep;
+use script_rows::{before, number};
 
 /// One thing that is done, or asked. Numbers are in decimal, or behind 0x in hexadecimal.
 #[derive(Clone, Copy)]
 pub enum Step<'a> {
     /// `file BYTES`: the next program is that of an ELF file of these bytes, in hexadecimal.
     File(&'a str),
+    /// `generated NUMBER`: the next program is the generated one of this number.
+    Generated(u32),
     /// `words COUNT`: the next program has so many words of text from 0x10074 on, at most 256.
     Words(u32),
     /// `worth TEXT`: the value of an expression, or its first fault and the fault's place. Each register holds 100 and its
@@ -18,6 +20,16 @@ pub enum Step<'a> {
         char: char,
         text: &'a str,
     },
+    /// `watch TEXT`: the address, the size and whether there is a sign, of the bytes that a text asks to be watched, or why it
+    /// asks for none.
+    Watch(&'a str),
+    /// `blanks COUNT TEXT`: the same of a text behind so many blanks.
+    Blanks {
+        count: u32,
+        text: &'a str,
+    },
+    /// `want`: what is told where memory runs out.
+    Want,
     /// `table HARTS`: the next table of breakpoints is over the program, and empty.
     Table(u32),
     /// What else is done with the table.
@@ -46,7 +58,14 @@ impl<'a> Step<'a> {
             "file" => Some(Step::File(rest)),
             "words" => Some(Step::Words(number(rest)?)),
             "worth" => Some(Step::Worth(rest)),
+            "generated" => Some(Step::Generated(number(rest)?)),
             "repeat" => read_repeat(rest),
+            "watch" => Some(Step::Watch(rest)),
+            "blanks" => {
+                let (count, text) = before(rest)?;
+                Some(Step::Blanks { count, text })
+            }
+            "want" => Some(Step::Want),
             "table" => Some(Step::Table(number(rest)?)),
             _ => Some(Step::Entry(TableStep::read(word, rest)?)),
         }

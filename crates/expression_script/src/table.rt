@@ -1,11 +1,11 @@
 // Breakpoints.
 ghost use Rattle.std.specs.Prelude.{◌==◌, None, if◌then◌else◌};
 
-use crate::numbers::{number, two};
 use break_table::{BreakFault, BreakTable, Location, Spec};
 use cond_expr::{Expr, parse};
 use dbg_traits::View;
 use elf_symbols::Symbols;
+use script_rows::{number, two};
 use std::alloc::{AllocError, Global};
 
 /// The most numbers that are given.

@@ -46,17 +46,12 @@ pub fn worth(alloc: Global, names: &Symbols, text: &[u8]) -> Result<String, Allo
     }
 }
 
-/// The same of a text behind so many equal characters.
-pub fn worth_behind(
-    alloc: Global,
-    names: &Symbols,
-    (count, char): (u32, char),
-    text: &str,
-) -> Result<String, AllocError> {
+/// A text behind so many equal characters.
+pub fn behind(alloc: Global, count: u32, char: char, text: &str) -> Result<String, AllocError> {
     let mut whole = String::new(alloc);
     for _ in 0..count {
         whole.push(char)?;
     }
     whole.push_str(text)?;
-    worth(alloc, names, whole.as_str().as_bytes())
+    Ok(whole)
 }

@@ -1,8 +1,8 @@
 // The scratch slots of a machine, and the copies that harts execute there.
-use crate::numbers::{number, three, told, two};
 use crate::slots::told_use;
 use hart_machine::Machine;
 use rv_decode::decode;
+use script_rows::{number, three, told_number, two};
 use std::alloc::{AllocError, Global};
 
 /// A hart that leaves a slot.
@@ -86,7 +86,7 @@ fn begin(alloc: Global, machine: &mut Machine, hart: u32, word: u32) -> Result<S
     if (hart as usize) >= machine.harts() {
         return format!(in alloc; "no such hart");
     }
-    told(alloc, machine.begin_copy(hart, word))
+    told_number(alloc, machine.begin_copy(hart, word))
 }
 
 fn copy(alloc: Global, machine: &mut Machine, hart: u32, word: u32) -> Result<String, AllocError> {
@@ -136,7 +136,7 @@ fn leave_slot(alloc: Global, machine: &mut Machine, leave: Leave) -> Result<Stri
 /// What came of a step.
 pub fn answer(alloc: Global, machine: &mut Machine, step: CopyStep) -> Result<String, AllocError> {
     match step {
-        CopyStep::Claim { hart, word } => told(alloc, machine.claim(hart, word)),
+        CopyStep::Claim { hart, word } => told_number(alloc, machine.claim(hart, word)),
         CopyStep::Begin { hart, word } => begin(alloc, machine, hart, word),
         CopyStep::Copy { hart, word } => copy(alloc, machine, hart, word),
         CopyStep::Enter { hart, slot } => enter(alloc, machine, hart, slot),

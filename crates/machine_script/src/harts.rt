@@ -1,10 +1,11 @@
 // The harts of a machine.
 ghost use Rattle.std.specs.Prelude.{◌<◌, length};
 
-use crate::numbers::{number, told_words, two};
+use crate::words::told_words;
 use dbg_traits::View;
 use hart_machine::Machine;
 use reg_slices::{Slice, run_slice};
+use script_rows::{number, two};
 use std::alloc::{AllocError, Global};
 
 /// What is done with a hart, whose number is the first behind the word.

@@ -4,7 +4,6 @@
 //! The lines are those of `Step`. What begins with `#` is said again as it stands.
 #![tactic(auto)]
 
-mod bench;
 mod copies;
 mod harts;
 mod instructions;
@@ -12,35 +11,21 @@ mod laws;
 mod marks;
 mod memory;
 mod names;
-mod numbers;
 mod places;
 mod programs;
 mod slots;
 mod step;
+mod subject;
 mod text;
 mod together;
+mod words;
 
-use bench::Bench;
 use laws::call_all;
+use script_rows::play;
 use std::io;
-use step::Step;
+use subject::Subject;
 
 fn main(rt: HostRuntime) -> io::Result<()> {
     call_all();
-    let alloc = rt.alloc();
-    let mut bench = Bench::new();
-    for line in rt.lines(alloc) {
-        let line = line?;
-        let text = line.as_str();
-        if text.is_empty() || text.starts_with('#') {
-            println!(rt; "{text}")?;
-            continue;
-        }
-        let answer = match Step::read(text) {
-            Some(step) => bench.answer(alloc, step)?,
-            None => format!(in alloc; "no such step")?,
-        };
-        println!(rt; "{text}: {answer}")?;
-    }
-    Ok(())
+    play(&rt, rt.alloc(), &mut Subject::new())
 }

@@ -1,7 +1,7 @@
 // Data memory by itself.
-use crate::numbers::{number, three, told, two};
 use data_memory::DataMemory;
 use rv_exec::{AmoOp, DataPort};
+use script_rows::{number, three, told_number, two};
 use std::alloc::{AllocError, Global};
 
 /// What is asked of data memory. A length is 1, 2 or 4.
@@ -102,7 +102,7 @@ pub fn answer(
 ) -> Result<String, AllocError> {
     match step {
         MemoryStep::Byte(addr) => {
-            let byte = told(alloc, memory.byte(addr).map(u32::from))?;
+            let byte = told_number(alloc, memory.byte(addr).map(u32::from))?;
             let writable = memory.writable(addr);
             format!(in alloc; "{byte} {writable}")
         }
@@ -111,7 +111,7 @@ pub fn answer(
             format!(in alloc; "{mapped}")
         }
         MemoryStep::Unwritable { addr, count } => {
-            told(alloc, memory.first_unwritable(addr, count as usize))
+            told_number(alloc, memory.first_unwritable(addr, count as usize))
         }
         MemoryStep::Read(addr) => read(alloc, memory, addr),
         MemoryStep::Load { addr, len } => load(alloc, memory, addr, len),

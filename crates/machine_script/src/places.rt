@@ -1,7 +1,8 @@
 // The data and the text of a machine.
-use crate::numbers::{number, told, two, words_of};
+use crate::words::words_of;
 use dbg_traits::View;
 use hart_machine::Machine;
+use script_rows::{number, told_number, two};
 use std::alloc::{AllocError, Global};
 
 /// What is done at an address of a machine's data or text.
@@ -65,7 +66,7 @@ fn seen(alloc: Global, machine: &Machine, addr: u32) -> Result<String, AllocErro
     if machine.harts() < 2 {
         return format!(in alloc; "no such hart");
     }
-    told(alloc, machine.view(1).byte(addr).map(u32::from))
+    told_number(alloc, machine.view(1).byte(addr).map(u32::from))
 }
 
 fn read(alloc: Global, machine: &Machine, addr: u32) -> Result<String, AllocError> {
@@ -90,8 +91,8 @@ fn put(
 }
 
 fn word(alloc: Global, machine: &Machine, addr: u32) -> Result<String, AllocError> {
-    let stored = told(alloc, machine.word(addr))?;
-    let shown = told(alloc, machine.shown(addr))?;
+    let stored = told_number(alloc, machine.word(addr))?;
+    let shown = told_number(alloc, machine.shown(addr))?;
     format!(in alloc; "{stored} {shown}")
 }
 

@@ -1,5 +1,5 @@
 // Programs, and what is made of them.
-use crate::numbers::words_of;
+use crate::words::words_of;
 use data_memory::DataMemory;
 use dbg_traits::Settings;
 use elf_gen::plain;

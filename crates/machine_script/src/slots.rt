@@ -1,6 +1,6 @@
 // Scratch slots by themselves.
-use crate::numbers::{number, told, two};
 use scratch_slots::{SlotUse, Slots};
+use script_rows::{number, told_number, two};
 use std::alloc::{AllocError, Global};
 
 /// What is done with scratch slots.
@@ -71,7 +71,7 @@ pub fn answer(alloc: Global, slots: &mut Slots, step: SlotStep) -> Result<String
             *slots = Slots::new(count);
             format!(in alloc; "made")
         }
-        SlotStep::Claim { hart, word } => told(alloc, slots.claim(hart, word)),
+        SlotStep::Claim { hart, word } => told_number(alloc, slots.claim(hart, word)),
         SlotStep::Fill(word) => fill(alloc, slots, word),
         SlotStep::At(slot) => told_use(alloc, slots.at(slot)),
         SlotStep::Free(slot) => {

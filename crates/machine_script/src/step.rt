@@ -2,10 +2,10 @@
 use crate::copies::CopyStep;
 use crate::harts::HartStep;
 use crate::memory::MemoryStep;
-use crate::numbers::{number, three};
 use crate::places::PlaceStep;
 use crate::slots::SlotStep;
 use crate::text::TextStep;
+use script_rows::{number, three};
 
 /// One thing that is done, or asked. Numbers are in decimal, or behind 0x in hexadecimal.
 #[derive(Clone, Copy, Debug)]

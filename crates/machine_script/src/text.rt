@@ -1,6 +1,6 @@
 // The words of a program by themselves.
 use crate::instructions::told_instruction;
-use crate::numbers::{number, told};
+use script_rows::{number, told_number};
 use std::alloc::{AllocError, Global};
 use text_words::{Fetch, TextWords};
 
@@ -33,8 +33,8 @@ impl TextStep {
 }
 
 fn word(alloc: Global, text: &TextWords, addr: u32) -> Result<String, AllocError> {
-    let stored = told(alloc, text.word(addr))?;
-    let shown = told(alloc, text.shown(addr))?;
+    let stored = told_number(alloc, text.word(addr))?;
+    let shown = told_number(alloc, text.shown(addr))?;
     let planted = text.planted(addr);
     let fetched = match text.fetch(addr) {
         Fetch::Absent => format!(in alloc; "absent")?,

@@ -1,5 +1,5 @@
 //! Sessions over generated files, whose harts add to a counter in the function `work` of count.c.
-use crate::worlds::{LARGE, first_hart, run, shape, stepwise_world};
+use crate::worlds::{LARGE, Sizes, bare_world, first_hart, run, shape, stepwise_world};
 use dbg_session::Status;
 use elf_gen::generate;
 use std::test::Fail;
@@ -63,6 +63,53 @@ fn generated_files_are_run(rt: HostRuntime) -> Result<(), Fail> {
         assert!(rt; world.output().ends_with(ending.as_bytes()), "{cues:?}");
         assert_eq!(rt; shape(alloc, &closed)?.as_str(), journal, "{cues:?}");
         assert_eq!(rt; first_hart(&closed), Some(first), "{cues:?}");
+    }
+    Ok(())
+}
+
+// Each case: words, the number of the put that fails, and how the run ends: its status and what was written.
+type Summed<'a> = (&'a [&'a str], u64, Status, &'a str);
+
+const SUMMED: [Summed<'static>; 4] = [
+    (
+        &["--gen", "3"],
+        0,
+        Status::Done,
+        "gen 3\nretired 44\nstops 4\nleft 2\noutput 0\nstatus 0\n",
+    ),
+    (
+        &["--gen", "3", "--budget", "10"],
+        0,
+        Status::Budget,
+        "gen 3\nretired 10\nstops 2\nleft 0\noutput 0\nstatus 3\n",
+    ),
+    (
+        &["--gen", "3", "--slots", "0"],
+        0,
+        Status::Done,
+        "gen 3\nretired 44\nstops 4\nleft 2\noutput 0\nstatus 0\n",
+    ),
+    (
+        &["--gen", "3"],
+        3,
+        Status::WriteFault,
+        "gen 3\nretired 44\n",
+    ),
+];
+
+#[test]
+fn generated_runs_are_summed_up(rt: HostRuntime) -> Result<(), Fail> {
+    let alloc = rt.alloc();
+    for (words, failing_put, ends, output) in SUMMED {
+        let sizes = Sizes {
+            failing_put,
+            ..LARGE
+        };
+        let world = bare_world(alloc, words, sizes)?;
+        let (status, world, closed) = run(&rt, alloc, world);
+        assert_eq!(rt; status, ends, "{words:?}");
+        assert_eq!(rt; world.output(), output.as_bytes(), "{words:?}");
+        assert!(rt; closed.is_some(), "{words:?}");
     }
     Ok(())
 }

@@ -14,6 +14,9 @@ use std::thread::Threads;
 
 const SPINS: [u32; 1] = [0x0000_006F];
 
+// A load of the word 16 bytes below the top of the stack, an ADDI, and a jump back.
+const LOADS: [u32; 3] = [0xFF01_2703, 0x0016_8693, 0xFF9F_F06F];
+
 // Text begins at 0x00010074.
 const INTERRUPTED: &str = "*stopped,reason=\"signal-received\",signal-name=\"SIGINT\",\
     signal-meaning=\"Interrupt\",frame={addr=\"0x00010074\",args=[]},thread-id=\"1\",stopped-threads=[\"1\"]\n\
@@ -183,6 +186,31 @@ fn a_slice_comes_behind_each_round_of_a_worker(rt: HostRuntime) -> Result<(), Fa
         assert_eq!(rt; status, Status::Done, "{workers}");
         assert_eq!(rt; shape(alloc, &closed)?.as_str(), journal);
         assert_eq!(rt; first_hart(&closed), Some((0x1_0074, count, 0)));
+    }
+    Ok(())
+}
+
+// There are 301 rounds. Behind the first and behind the 257th comes a slice of 2 instructions, up to the load.
+#[test]
+fn a_short_slice_is_followed_by_rounds_without_one(rt: HostRuntime) -> Result<(), Fail> {
+    let alloc = rt.alloc();
+    for (workers, journal, at, count) in [
+        ("0", "D 0:19264 D S D ", 0x1_0078, 19264),
+        ("1", "D 0:19268 D S D ", 0x1_007C, 19268),
+    ] {
+        let file = program(&rt, alloc, &LOADS)?;
+        let cues = [
+            "-exec-continue\n",
+            "hundred -",
+            "hundred -",
+            "hundred -",
+            "-exec-interrupt\n-exec-wait\n",
+        ];
+        let world = world_of(alloc, &["--workers", workers], file, &cues, LARGE)?;
+        let (status, _, closed) = run(&rt, alloc, world);
+        assert_eq!(rt; status, Status::Done, "{workers}");
+        assert_eq!(rt; shape(alloc, &closed)?.as_str(), journal);
+        assert_eq!(rt; first_hart(&closed), Some((at, count, 0)));
     }
     Ok(())
 }

@@ -60,6 +60,18 @@ fn script_of(alloc: Global, cues: &[&str]) -> Result<Vec<Cue>, Fail> {
     Ok(script)
 }
 
+/// A world of these words, without a file and without input.
+pub fn bare_world(alloc: Global, options: &[&str], sizes: Sizes) -> Result<MemWorld, Fail>
+    ensures { IfOk result (λ w. IsFresh (told_of w)) }
+{
+    let mut words = Vec::new(alloc);
+    for word in options {
+        words.push(ArgText::of(String::from_str(alloc, *word)?))?;
+    }
+    let limits = limits_of(alloc, sizes)?;
+    Ok(MemWorld::new(alloc, words, Vec::new(alloc), Vec::new(alloc), limits))
+}
+
 /// A world whose command line is these words and `f`, which is the name of the file.
 pub fn scripted(
     alloc: Global,

@@ -2,9 +2,10 @@ ghost use Rattle.std.specs.Prelude.{◌≡◌, ◌≤◌, ◌<◌, ◌==◌, nat
 
 use dbg_traits::{Gate, OpenGate};
 use hart_workers::{Crew, Duty, run_crew};
-use std::sync::Mutex;
 use std::sync::atomic::{AtomicU64, Ordering};
+use std::sync::{Mutex, Wait};
 use std::test::*;
+use std::thread::Threads;
 
 const TURNS: u64 = 50_000_000;
 
@@ -322,4 +323,74 @@ fn each_worker_asks_by_its_number_and_stays_after_again(rt: HostRuntime) {
         }
         assert_eq!(rt; roll.taken, 20);
     }
+}
+
+// Answers so many asks with Again before it is over. Meanwhile it has something to do, or hasn't.
+#[derive(Drop)]
+struct Asked<const IDLE: bool> {
+    left: u32,
+}
+
+impl<const IDLE: bool> Crew for Asked<IDLE> {
+    type Job = u32;
+
+    type Done = u32;
+
+    ghost is_over = { λ c. c.left == 0 };
+
+    fn duty(&mut self, _worker: u32) -> Duty<u32> {
+        if self.left == 0 {
+            return Duty::Over;
+        }
+        self.left -= 1;
+        Duty::Again
+    }
+
+    fn hart_of(_job: &u32) -> u32 {
+        0
+    }
+
+    fn work(job: u32) -> u32 {
+        job
+    }
+
+    fn take(&mut self, _done: u32) {}
+
+    fn over(&self) -> bool {
+        self.left == 0
+    }
+
+    fn is_idle(&self) -> bool {
+        IDLE
+    }
+}
+
+// Counts how often workers rest.
+#[derive(Drop)]
+struct CountingGate {
+    idles: AtomicU64,
+}
+
+impl Gate for CountingGate {
+    fn slice_ready(&self, _worker: u32, _hart: u32) {}
+
+    fn idle(&self, _worker: u32) {
+        self.idles.fetch_add(1, Ordering::SeqCst);
+    }
+}
+
+// How often a worker rests over a crew.
+fn rests<R: Threads + Wait + Sync, C: Crew + Send + Drop>(rt: &R, crew: C) -> u64 {
+    let gate = CountingGate {
+        idles: AtomicU64::new(0),
+    };
+    let crew = Mutex::new(crew);
+    run_crew(rt, &crew, 1, &gate);
+    gate.idles.load(Ordering::SeqCst)
+}
+
+#[test]
+fn a_worker_rests_after_again_only_where_the_crew_is_idle(rt: HostRuntime) {
+    assert_eq!(rt; rests(&rt, Asked::<true> { left: 100 }), 100);
+    assert_eq!(rt; rests(&rt, Asked::<false> { left: 100 }), 0);
 }

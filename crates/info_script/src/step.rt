@@ -1,0 +1,68 @@
+// What a line asks for.
+
+/// One of the three sections.
+#[derive(Clone, Copy)]
+pub enum Section {
+    Info,
+    Abbrevs,
+    Strs,
+}
+
+/// One thing that is done, or asked. Numbers are in decimal, or behind 0x in hexadecimal.
+#[derive(Clone, Copy)]
+pub enum Step<'a> {
+    /// `info BYTES`, `abbrevs BYTES` or `strs BYTES`: that section, in hexadecimal with spaces or without; how many bytes it has.
+    /// The bytes aren't said again.
+    Section(Section, &'a str),
+    /// `read`: the sections are read; the units that have a fault, each by its offset.
+    Read,
+    /// `at ADDRESS`: the variables there, whose names count in the texts that follow.
+    At(u32),
+    /// `cfa ADDRESS` or `cfa none`: the CFA of the texts that follow.
+    Cfa(Option<u32>),
+    /// `becomes TEXT`: the text with its names replaced.
+    Becomes(&'a str),
+    /// `places TEXT`: each name's place and length, and those of what it is replaced by; then the place of the text that each
+    /// place of the new one counts as, its end too.
+    Places(&'a str),
+    /// `worth TEXT`: the value of the text with its names replaced, or its first fault and the fault's place. Each register
+    /// holds 100 and its number, and each byte 255.
+    Worth(&'a str),
+}
+
+fn number(text: &str) -> Option<u32> {
+    match text.strip_prefix("0x") {
+        Some(digits) => u32::from_str_radix(digits, 16).ok(),
+        None => text.parse().ok(),
+    }
+}
+
+impl<'a> Step<'a> {
+    /// What a line asks for. None where that is nothing that is known.
+    pub fn read(line: &'a str) -> Option<Step<'a>> {
+        let (word, rest) = line.split_once(' ').unwrap_or((line, ""));
+        match word {
+            "info" => Some(Step::Section(Section::Info, rest)),
+            "abbrevs" => Some(Step::Section(Section::Abbrevs, rest)),
+            "strs" => Some(Step::Section(Section::Strs, rest)),
+            "read" => Some(Step::Read),
+            "at" => Some(Step::At(number(rest)?)),
+            "cfa" if rest == "none" => Some(Step::Cfa(None)),
+            "cfa" => Some(Step::Cfa(Some(number(rest)?))),
+            "becomes" => Some(Step::Becomes(rest)),
+            "places" => Some(Step::Places(rest)),
+            "worth" => Some(Step::Worth(rest)),
+            _ => None,
+        }
+    }
+
+    /// What is said of the line before its answer.
+    pub fn label(&self, line: &'a str) -> &'a str {
+        match self {
+            Step::Section(Section::Info, _) => "info",
+            Step::Section(Section::Abbrevs, _) => "abbrevs",
+            Step::Section(Section::Strs, _) => "strs",
+            _ => line,
+        }
+    }
+}

@@ -1,0 +1,77 @@
+//! Numbers of debugging information, rows of `.debug_line` and look-ups in them, plans of steps, and frames, which rows of
+//! input ask for: each row is answered by what came of it.
+//!
+//! The rows are those of the modules' `answer`. Numbers are in decimal, or behind 0x in hexadecimal; bytes in hexadecimal.
+#![tactic(auto)]
+
+mod frames;
+mod hart;
+mod numbers;
+mod plans;
+mod programs;
+mod pushed;
+mod sections;
+mod table;
+mod told;
+
+use dwarf_frames::FrameIndex;
+use script_rows::{Bench, RowFault, play};
+use std::alloc::Global;
+use std::io;
+use table::Table;
+
+/// A program with its rows, and the rules of its frames.
+#[derive(Drop)]
+struct Source {
+    table: Option<Table>,
+    rules: Option<FrameIndex>,
+}
+
+impl Source {
+    // What came of a row that asks of the program.
+    fn of_program(&mut self, alloc: Global, word: &str, rest: &str) -> Result<String, RowFault> {
+        let Some(table) = &mut self.table else {
+            return Err(RowFault::Unknown);
+        };
+        match word {
+            "arrive" => plans::answer(alloc, table, rest),
+            "rule" | "covered" | "walk" | "last" | "innermost" => match &self.rules {
+                Some(rules) => frames::answer(alloc, &table.image, rules, word, rest),
+                None => Err(RowFault::Unknown),
+            },
+            _ => table.answer(alloc, word, rest),
+        }
+    }
+
+    // What came of a row that begins a program, or the rules of its frames.
+    fn begin(&mut self, alloc: Global, word: &str, rest: &str) -> Result<String, RowFault> {
+        if word == "frames" {
+            self.rules = Some(frames::read(alloc, rest)?);
+        } else {
+            self.table = Some(Table::load(alloc, word, rest)?);
+        }
+        Ok(format!(in alloc; "read")?)
+    }
+}
+
+impl Bench for Source {
+    fn answer(&mut self, alloc: Global, row: &str) -> Result<String, RowFault> {
+        let (word, rest) = row.split_once(' ').unwrap_or((row, ""));
+        match word {
+            "uleb" | "sleb" | "u8" | "u16" | "u32" | "text" => numbers::answer(alloc, word, rest),
+            "places" | "registers" | "wide" => programs::answer(alloc, word, rest),
+            "pushed" => pushed::answer(alloc, rest),
+            "section" | "counts" => sections::answer(alloc, word, rest),
+            "words" | "generated" | "frames" => self.begin(alloc, word, rest),
+            _ => self.of_program(alloc, word, rest),
+        }
+    }
+}
+
+fn main(rt: HostRuntime) -> io::Result<()> {
+    let mut source = Source {
+        table: None,
+        rules: None,
+    };
+    play(&rt, rt.alloc(), &mut source)
+}

@@ -1,0 +1,109 @@
+// Lines as commands.
+use mi_commands::{
+    ByteList, Command, CommandLine, Fault, Insertion, Location, Refusal, command_of,
+};
+use mi_values::Token;
+use script_rows::{RowFault, read_bytes};
+use std::alloc::{AllocError, Global};
+
+fn text_of(bytes: &[u8]) -> &str {
+    str::from_utf8(bytes).unwrap_or("no text")
+}
+
+fn option_of(bytes: &Option<ByteList>) -> Option<&str> {
+    match bytes {
+        Some(bytes) => Some(text_of(bytes.as_slice())),
+        None => None,
+    }
+}
+
+fn of_location(alloc: Global, location: &Location) -> Result<String, AllocError> {
+    match location {
+        Location::Line { file, line } => {
+            let file = text_of(file.as_slice());
+            format!(in alloc; "file {file} {line}")
+        }
+        Location::Name(name) => format!(in alloc; "name {}", text_of(name.as_slice())),
+        Location::Address(n) => format!(in alloc; "at {n}"),
+    }
+}
+
+// Its flags, its numbers, its condition, its location and the word that spells it.
+fn of_insertion(alloc: Global, i: &Insertion) -> Result<String, AllocError> {
+    let flags = (i.temporary, i.disabled);
+    let condition = option_of(&i.condition);
+    let location = of_location(alloc, &i.location)?;
+    let text = text_of(i.text.as_slice());
+    format!(in alloc;
+        "insert {flags:?} {} {:?} if {condition:?} {location} {text}",
+        i.ignore, i.thread
+    )
+}
+
+// Bytes are shown as texts.
+fn of_command(alloc: Global, command: &Command) -> Result<String, AllocError> {
+    match command {
+        Command::BreakInsert(insertion) => of_insertion(alloc, insertion),
+        Command::BreakCondition { number, condition } => {
+            let condition = option_of(condition);
+            format!(in alloc; "condition {number} {condition:?}")
+        }
+        Command::Evaluate { thread, expression } => {
+            let expression = text_of(expression.as_slice());
+            format!(in alloc; "evaluate {thread:?} {expression}")
+        }
+        Command::SetRegister {
+            thread,
+            name,
+            register,
+            value,
+        } => {
+            let name = text_of(name.as_slice());
+            format!(in alloc; "set {thread:?} {name} {register} {value}")
+        }
+        _ => format!(in alloc; "{command:?}"),
+    }
+}
+
+// The number of the fault's message, and what it names.
+fn of_fault(alloc: Global, fault: &Fault) -> Result<String, AllocError> {
+    let (word, thread) = match fault {
+        Fault::Undefined(word) | Fault::Parameters(word) | Fault::Number(word) => (
+            text_of(word.as_slice()),
+            None,
+        ),
+        Fault::Setting => ("", None),
+        Fault::Location { word, thread } => (text_of(word.as_slice()), *thread),
+    };
+    format!(in alloc; "{} {thread:?} {word}", fault.number())
+}
+
+fn behind(alloc: Global, token: &Token, text: &str) -> Result<String, AllocError> {
+    format!(in alloc; "{}:{text}", text_of(token.as_bytes()))
+}
+
+fn of_refusal(alloc: Global, refusal: &Refusal) -> Result<String, AllocError> {
+    match refusal {
+        Refusal::Faulty { token, fault } => {
+            let text = of_fault(alloc, fault)?;
+            behind(alloc, token, text.as_str())
+        }
+        Refusal::Cli(token) => behind(alloc, token, "3"),
+        _ => format!(in alloc; "{refusal:?}"),
+    }
+}
+
+fn of_line(alloc: Global, line: &CommandLine) -> Result<String, AllocError> {
+    let text = of_command(alloc, &line.command)?;
+    behind(alloc, &line.token, text.as_str())
+}
+
+/// What came of a row `command LINE`: the line's token, and its command or the number of its fault.
+pub fn answer(alloc: Global, line: &str) -> Result<String, RowFault> {
+    let line = read_bytes(alloc, line)?;
+    let told = match command_of(alloc, &line) {
+        Ok(line) => of_line(alloc, &line),
+        Err(refusal) => of_refusal(alloc, &refusal),
+    };
+    Ok(told?)
+}

@@ -1,0 +1,47 @@
+//! Words of the command line, lines of input, commands, records, and each text that a session puts, which rows of input ask
+//! for: each row is answered by what came of it.
+//!
+//! The rows are those of the modules' `answer`; in their texts `%` and two hexadecimal digits are a byte.
+#![tactic(auto)]
+
+mod commands;
+mod contents;
+mod errors;
+mod frames;
+mod input;
+mod listed;
+mod records;
+mod replies;
+mod session;
+mod stops;
+mod words;
+
+use script_rows::{Bench, RowFault, play};
+use std::alloc::Global;
+use std::io;
+
+/// Rows work on nothing but what they say.
+#[derive(Drop)]
+struct Interface;
+
+impl Bench for Interface {
+    fn answer(&mut self, alloc: Global, row: &str) -> Result<String, RowFault> {
+        let (word, rest) = row.split_once(' ').unwrap_or((row, ""));
+        match word {
+            "words" | "wordless" => words::answer(alloc, word, rest),
+            "split" | "long" | "next" => input::answer(alloc, word, rest),
+            "command" => commands::answer(alloc, rest),
+            "record" | "brackets" | "log" | "made" => records::answer(alloc, word, rest),
+            "reply" => replies::answer(alloc, rest),
+            "error" => errors::answer(alloc, rest),
+            "opening" | "left" | "stream" | "file" | "usage" => {
+                session::answer(alloc, word, rest)
+            }
+            _ => stops::answer(alloc, word, rest),
+        }
+    }
+}
+
+fn main(rt: HostRuntime) -> io::Result<()> {
+    play(&rt, rt.alloc(), &mut Interface)
+}

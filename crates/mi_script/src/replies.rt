@@ -1,0 +1,39 @@
+// Replies as they are put.
+use crate::contents::content;
+use crate::records::told_lines;
+use dbg_model::{Content, Reply};
+use mi_reports::reply_text;
+use mi_values::{Token, is_token};
+use script_rows::{RowFault, read_bytes};
+use std::alloc::Global;
+
+/// The token of these digits; `-` is none.
+pub fn token_of(alloc: Global, digits: &str) -> Result<Token, RowFault> {
+    if digits == "-" {
+        return Ok(Token::none(alloc));
+    }
+    let digits = read_bytes(alloc, digits)?;
+    if is_token(&digits) {
+        Ok(Token::new(digits))
+    } else {
+        Err(RowFault::Unknown)
+    }
+}
+
+fn lines_of(alloc: Global, reply: &Reply) -> Result<String, RowFault> {
+    told_lines(alloc, &reply_text(alloc, reply)?)
+}
+
+/// The lines of what is answered to a line with this token.
+pub fn told_reply(alloc: Global, token: Token, content: Content) -> Result<String, RowFault> {
+    let reply = Reply { token, content };
+    lines_of(alloc, &reply)
+}
+
+/// What came of a row `reply TOKEN CONTENT..`.
+pub fn answer(alloc: Global, text: &str) -> Result<String, RowFault> {
+    let (token, shown) = text.split_once(' ').ok_or(RowFault::Unknown)?;
+    let (word, rest) = shown.split_once(' ').unwrap_or((shown, ""));
+    let token = token_of(alloc, token)?;
+    told_reply(alloc, token, content(alloc, word, rest)?)
+}

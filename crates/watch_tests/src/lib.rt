@@ -1,5 +1,0 @@
-//! Tests of what can be watched.
-#![tactic(auto)]
-
-#[cfg(test)]
-mod watches;
