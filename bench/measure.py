@@ -22,9 +22,9 @@ def seconds(words, text=b"", written=subprocess.PIPE):
     return best, done.stdout, done.stderr
 
 
-def host_instructions(words, lines, folder):
+def host_instructions(words, lines, folder, workers=0):
     """The host's instructions of a whole session, by callgrind."""
     out = os.path.join(folder, "callgrind")
-    words = ["valgrind", "--tool=callgrind", "--callgrind-out-file=" + out, RVDBG, "--workers", "0", *words]
+    words = ["valgrind", "--tool=callgrind", "--callgrind-out-file=" + out, RVDBG, "--workers", str(workers), *words]
     done = subprocess.run(words, input=lines, stdout=subprocess.PIPE, stderr=subprocess.PIPE)
     return int(re.search(rb"Collected : (\d+)", done.stderr).group(1))
