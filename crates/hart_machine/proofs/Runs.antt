@@ -4,6 +4,7 @@ use Rattle.std.specs.Prelude.{Option, Some, None, is_some, slice_get, slice_set,
 use Rattle.rv_exec.specs.declared.effect.Stepped.{Stepped}
 use Rattle.rv_exec.specs.declared.effect.Stepped.TheVariants as stepped
 use Rattle.rv_exec.specs.Memory.{Memory}
+use Rattle.rv_exec.specs.Registers.{Registers}
 use Rattle.text_words.specs.Words.{Words, fetched}
 use Rattle.text_words.specs.declared.fetch.Fetch.TheVariants.{Instruction}
 use Rattle.rv_decode.specs.declared.instr.Instr.{Instr}
@@ -12,30 +13,36 @@ use Rattle.scratch_slots.specs.Table.{use_at}
 use Rattle.hart_machine.specs.declared.hart.Core.{Core}
 use Rattle.hart_machine.specs.Patched.{Patched}
 use Rattle.hart_machine.specs.Stepping.{CoreSteps, StepsTo, Steps, FetchGives, InstructionGives, copy_fetched, counted, fetched_by, is_at, is_in_slot}
-use Rattle.hart_machine.specs.Running.{AllRan, CoreAllRan}
+use Rattle.hart_machine.specs.Running.{AllRan, CoreAllRan, RegistersAllRan}
 use Rattle.hart_machine.proofs.Places.{same_some, set_known, set_twice, get-set_same}
 
--- one more step of a hart that has run
-pub one_more : (n : ℕ) (t : Words) (slots : List (Option SlotUse)) (old mid new : Core) (m q m' : Memory) → CoreAllRan n t slots old m mid q → mid.regs.pc < 2 ^ 32
-    → CoreSteps stepped.Ran (fetched_by t slots mid) mid new q m' → CoreAllRan (n + 1) t slots old m new m'
-one_more n t slots old mid new m q m' ran low step = rw add-one (record { core = mid; memory = q; before = ran; below = low; step = step })
+-- one more step of the registers of a hart that has run
+pub one_more : (n : ℕ) (t : Words) (old mid new : Registers) (m q m' : Memory) → RegistersAllRan n t old m mid q → mid.pc < 2 ^ 32
+    → FetchGives stepped.Ran (fetched t mid.pc) mid new q m' → RegistersAllRan (n + 1) t old m new m'
+one_more n t old mid new m q m' ran low gives = rw add-one (record { regs = mid; memory = q; before = ran; below = low; gives = gives })
 
 pub none_there : {A : Type 0} (o : Option A) → false ≡ is_some o → o ≡ None
 none_there None e = refl
 none_there (Some x) e = absurd (cc)
 
--- an instruction of the text, executed by a hart that has entered no slot
-pub text_step : (t : Words) (slots : List (Option SlotUse)) (c c' : Core) (m m' : Memory) (i : Instr) → c.entered ≡ None → fetched t c.regs.pc ≡ Instruction i → InstructionGives stepped.Ran i c.regs c'.regs m m'
+-- what stands at pc in the text, for a hart that has entered no slot
+pub fetched_step : (t : Words) (slots : List (Option SlotUse)) (c c' : Core) (m m' : Memory) → c.entered ≡ None → FetchGives stepped.Ran (fetched t c.regs.pc) c.regs c'.regs m m'
     → c'.retired ≡ counted stepped.Ran c.retired → c'.copied ≡ c.copied → c'.entered ≡ c.entered → CoreSteps stepped.Ran (fetched_by t slots c) c c' m m'
-text_step t slots c c' m m' i none found gives retired copied entered =
+fetched_step t slots c c' m m' none gives retired copied entered =
     let out : is_in_slot c ≡ false = ap (is_at c.regs.pc) none in
-    let finds : fetched_by t slots c ≡ Instruction i = ap (λ b. if b then copy_fetched (use_at slots c.regs.pc) else fetched t c.regs.pc) out ∙ found in
+    let finds : fetched_by t slots c ≡ fetched t c.regs.pc = ap (λ b. if b then copy_fetched (use_at slots c.regs.pc) else fetched t c.regs.pc) out in
     record {
       gives = subst (λ f. FetchGives stepped.Ran f c.regs c'.regs m m') (sym finds) gives;
       retired = retired;
       copied = copied ∙ sym (ap (λ b. if b then counted stepped.Ran c.copied else c.copied) out);
       entered = entered ∙ none;
     }
+
+-- an instruction of the text, executed by such a hart
+pub text_step : (t : Words) (slots : List (Option SlotUse)) (c c' : Core) (m m' : Memory) (i : Instr) → c.entered ≡ None → fetched t c.regs.pc ≡ Instruction i → InstructionGives stepped.Ran i c.regs c'.regs m m'
+    → c'.retired ≡ counted stepped.Ran c.retired → c'.copied ≡ c.copied → c'.entered ≡ c.entered → CoreSteps stepped.Ran (fetched_by t slots c) c c' m m'
+text_step t slots c c' m m' i none found gives retired copied entered =
+    fetched_step t slots c c' m m' none (subst (λ f. FetchGives stepped.Ran f c.regs c'.regs m m') (sym found) gives) retired copied entered
 
 module _ (old : Patched) (h : ℕ) (c : Core) (at : slice_get old.cores h ≡ Some c) where
   -- the machine with this hart and this memory

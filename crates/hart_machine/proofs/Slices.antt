@@ -6,7 +6,6 @@ use Rattle.std.proofs.lemmas.Bool.Decides.{nat_tests}
 use Rattle.rv_decode.specs.declared.instr.Instr.{Instr}
 use Rattle.rv_decode.specs.declared.instr.Instr.TheVariants.{Ebreak}
 use Rattle.rv_decode.specs.Decode.{decode}
-use Rattle.rv_decode.specs.Word as fields
 use Rattle.rv_exec.specs.Registers.{Registers}
 use Rattle.rv_exec.specs.Memory.{Memory, no_bytes}
 use Rattle.rv_exec.specs.Step.{Outcome, Done, Call, Trap, step}
@@ -24,12 +23,9 @@ use Rattle.hart_machine.specs.Stepping.{CoreSteps, InstructionGives, fetched_by,
 use Rattle.hart_machine.specs.Slices.{AllInPlace, AreStored, Fits, TakesSlice, taken_core}
 use Rattle.hart_machine.proofs.Places.{same_some, set_known, get-set_same}
 use Rattle.hart_machine.proofs.Runs.{lifted, text_step}
+use Rattle.hart_machine.proofs.Windows.{ebreak_is}
 
 -- ---- one instruction of a window
-
-ebreak_is : Some Ebreak ≡ decode ebreak
-unfolding decode fields.bits
-ebreak_is = refl
 
 record Moves (words : List ℕ) (addr : ℕ) (r r' : Registers) : Type 0 where
   word : ℕ
@@ -105,7 +101,7 @@ gives r r' i m h =
 
 -- ---- as many steps
 
-none_taken : (c : Core) (r : Registers) → c.retired < 2 ^ 64 → c.regs ≡ r → taken_core c 0 r ≡ c
+pub none_taken : (c : Core) (r : Registers) → c.retired < 2 ^ 64 → c.regs ≡ r → taken_core c 0 r ≡ c
 none_taken c r low same =
     let few : min (c.retired + 0) (2 ^ 64 - 1) ≡ c.retired = omega arith in
     ap (λ (q : Registers). let d : Core = record c { regs = q; retired = min (c.retired + 0) (2 ^ 64 - 1) } in d) (sym same)

@@ -1,10 +1,18 @@
 -- Windows of stored words.
-use Rattle.std.proofs.Common.{◌≡◌, ℕ, zero, suc, ◌+◌, ◌-◌, ◌*◌, ◌≤◌, length, take, arith, List, [], ◌∷◌, ◌++◌, ap, sym, ◌∙◌, subst, append_assoc, append-nil}
-use Rattle.std.specs.Prelude.{Some, None, Result, Ok, OnOk, slice_index}
+use Rattle.std.proofs.Common.{◌≡◌, ℕ, zero, suc, ◌+◌, ◌-◌, ◌*◌, ◌^◌, ◌<◌, ◌≤◌, length, take, arith, List, [], ◌∷◌, ◌++◌, ap, sym, ◌∙◌, refl, subst, append_assoc, append-nil, Bool, true, false, inl, inr, get_or-set_other, get_or-set_same}
+use Rattle.std.specs.Prelude.{Option, Some, None, Result, Ok, OnOk, slice_get, slice_index, slice_index_or, slice_set, unwrap_or, replicate, if◌then◌else◌}
+use Rattle.std.specs.Option.{option_and_then, option_map}
+use Rattle.std.proofs.lemmas.Bool.{cases_lt}
 use Rattle.std.proofs.Math.Seq.{take-suc}
-use Rattle.text_words.specs.Words.{Words, stored}
+use Rattle.rv_decode.specs.declared.instr.Instr.{Instr}
+use Rattle.rv_decode.specs.declared.instr.Instr.TheVariants.{Ebreak}
+use Rattle.rv_decode.specs.Decode.{decode}
+use Rattle.rv_decode.specs.Word as fields
+use Rattle.reg_slices.specs.Slices.{AreDecoded}
+use Rattle.text_words.specs.declared.fetch.Fetch.{Fetch}
+use Rattle.text_words.specs.Words.{Words, decoded_as, ebreak, fetched, fetched_as, is_planted, shown, stored}
 use Rattle.text_words.specs.Runs.{IsRun}
-use Rattle.hart_machine.specs.Slices.{word_then, words_from}
+use Rattle.hart_machine.specs.Slices.{instruction_of, window, window_room, word_then, words_from}
 
 -- one more word
 pub one_more : (t : Words) (addr next n k w : ℕ) (words all : List ℕ) → words ++ words_from t addr n ≡ all → n ≡ suc k → next ≡ addr + 4 → stored t addr ≡ Some w
@@ -33,3 +41,74 @@ near_words t addr room (suc n) words run few some =
 
 pub on_ok : {A E P : Type 0} (r : Result A E) (x : A) → r ≡ Ok x → OnOk r P → P
 on_ok {P = P} r x is h = subst (λ q. OnOk q P) is h
+
+-- ---- the instructions of a window
+
+pub ebreak_is : Some Ebreak ≡ decode ebreak
+unfolding decode fields.bits
+ebreak_is = refl
+
+by_decoded : (o : Option Instr) → unwrap_or o Ebreak ≡ instruction_of (decoded_as o)
+by_decoded None = refl
+by_decoded (Some i) = refl
+
+by_fetched : (o : Option ℕ) (b : Bool) → unwrap_or (option_and_then decode (option_map (λ w. if b then ebreak else w) o)) Ebreak ≡ instruction_of (fetched_as o b)
+by_fetched None b = refl
+by_fetched (Some w) true = ap (λ o. unwrap_or o Ebreak) (sym ebreak_is)
+by_fetched (Some w) false = by_decoded (decode w)
+
+pub stored_is : (t : Words) (addr : ℕ) (f : Fetch) (i : Instr) → fetched t addr ≡ f → i ≡ instruction_of f → i ≡ unwrap_or (option_and_then decode (stored t addr)) Ebreak
+stored_is t addr f i is same = same ∙ (ap instruction_of (sym is) ∙ sym (by_fetched (shown t addr) (is_planted t addr)))
+
+then_word : (t : Words) (addr : ℕ) (o : Option ℕ) (ws : List ℕ) (k : ℕ) → o ≡ stored t addr → ((j : ℕ) → j < length ws → slice_get ws j ≡ stored t (addr + 4 + 4 * j)) → k < length (word_then o ws)
+    → slice_get (word_then o ws) k ≡ stored t (addr + 4 * k)
+then_word t addr None ws k is each low = absurd (omega arith)
+then_word t addr (Some w) ws zero is each low = is ∙ ap (stored t) (let e : addr ≡ addr + 4 * 0 = omega arith in e)
+then_word t addr (Some w) ws (suc k) is each low = each k (omega arith) ∙ ap (stored t) (let e : addr + 4 + 4 * k ≡ addr + 4 * suc k = omega arith in e)
+
+-- the word at a place of the words from an address on
+pub word_is : (t : Words) (addr n k : ℕ) → k < length (words_from t addr n) → slice_get (words_from t addr n) k ≡ stored t (addr + 4 * k)
+word_is t addr zero k low = absurd (omega arith)
+word_is t addr (suc n) k low = then_word t addr (stored t addr) (words_from t (addr + 4) n) k refl (λ j l. word_is t (addr + 4) n j l) low
+
+then_few : (o : Option ℕ) (ws : List ℕ) (n : ℕ) → length ws ≤ n → length (word_then o ws) ≤ suc n
+then_few None ws n few = omega arith
+then_few (Some w) ws n few = omega arith
+
+pub few_words : (t : Words) (addr n : ℕ) → length (words_from t addr n) ≤ n
+few_words t addr zero = omega arith
+few_words t addr (suc n) = then_few (stored t addr) (words_from t (addr + 4) n) n (few_words t (addr + 4) n)
+
+-- no word of a window is past the last address
+pub within_room : (t : Words) (at i : ℕ) → at < 2 ^ 32 → i < length (window t at) → (i < 64) × (at + 4 * i < 2 ^ 32)
+within_room t at i low here = let few : length (window t at) ≤ window_room at = few_words t at (window_room at) in (omega arith, omega arith)
+
+past : (ws : List ℕ) (k : ℕ) → length ws ≤ k → slice_get ws k ≡ None
+past [] k high = refl
+past (w ∷ ws) zero high = absurd (omega arith)
+past (w ∷ ws) (suc k) high = past ws k (omega arith)
+
+pub none_decoded : (n k : ℕ) → slice_index_or (replicate n Ebreak) k Ebreak ≡ Ebreak
+none_decoded zero k = refl
+none_decoded (suc n) zero = refl
+none_decoded (suc n) (suc k) = none_decoded n k
+
+-- the next instruction is put in its place
+pub one_decoded : (words : List ℕ) (instructions : List Instr) (i k : ℕ) (v : Instr) → i < length instructions → v ≡ unwrap_or (option_and_then decode (slice_get words i)) Ebreak
+    → ((j : ℕ) → j < i → slice_index_or instructions j Ebreak ≡ unwrap_or (option_and_then decode (slice_get words j)) Ebreak) → k < i + 1
+    → slice_index_or (slice_set instructions i v) k Ebreak ≡ unwrap_or (option_and_then decode (slice_get words k)) Ebreak
+one_decoded words instructions i k v low is below more =
+    elim (cases_lt k i) [
+      | inl less ↦ get_or-set_other instructions i k v Ebreak (λ e. absurd (omega arith)) ∙ below k less
+      | inr last ↦
+          let at : k ≡ i = omega arith in
+          ap (λ j. slice_index_or (slice_set instructions i v) j Ebreak) at ∙ (get_or-set_same instructions i v Ebreak low ∙ (is ∙ sym (ap (λ j. unwrap_or (option_and_then decode (slice_get words j)) Ebreak) at)))
+    ]
+
+pub all_decoded : (words : List ℕ) (instructions : List Instr) (n : ℕ) → length words ≤ n → ((k : ℕ) → k < n → slice_index_or instructions k Ebreak ≡ unwrap_or (option_and_then decode (slice_get words k)) Ebreak)
+    → ((k : ℕ) → n ≤ k → slice_index_or instructions k Ebreak ≡ Ebreak) → AreDecoded words instructions
+all_decoded words instructions n few below above k =
+    elim (cases_lt k n) [
+      | inl low ↦ below k low
+      | inr high ↦ above k high ∙ sym (ap (λ o. unwrap_or (option_and_then decode o) Ebreak) (past words k (omega arith)))
+    ]

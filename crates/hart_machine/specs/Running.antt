@@ -11,7 +11,7 @@ use Rattle.text_words.specs.Words.{Words, fetched}
 use Rattle.scratch_slots.specs.declared.slots.SlotUse.{SlotUse}
 use Rattle.hart_machine.specs.declared.hart.Core.{Core}
 use Rattle.hart_machine.specs.Patched.{Patched}
-use Rattle.hart_machine.specs.Stepping.{CoreSteps, Steps, fetched_by}
+use Rattle.hart_machine.specs.Stepping.{CoreSteps, FetchGives, Steps, fetched_by}
 
 -- a step of hart h from a machine of which P holds
 pub record ThenSteps (P : Patched → Type 0) (s : Stepped) (h : ℕ) (new : Patched) : Type 0 where
@@ -36,6 +36,19 @@ pub record ThenCoreSteps (P : Core → Memory → Type 0) (s : Stepped) (t : Wor
 abbrev pub CoreAllRan : ℕ → Words → List (Option SlotUse) → Core → Memory → Core → Memory → Type 0
 CoreAllRan zero t slots old m new m' = (new ≡ old) × (m' ≡ m)
 CoreAllRan (suc n) t slots old m new m' = ThenCoreSteps (λ c q. CoreAllRan n t slots old m c q) stepped.Ran t slots new m'
+
+-- the same of registers and the memory alone, of a hart that is in no slot
+pub record ThenRuns (P : Registers → Memory → Type 0) (t : Words) (new : Registers) (m : Memory) : Type 0 where
+  pub regs : Registers
+  pub memory : Memory
+  pub before : P regs memory
+  -- pc is a word
+  pub below : regs.pc < 2 ^ 32
+  pub gives : FetchGives stepped.Ran (fetched t regs.pc) regs new memory m
+
+abbrev pub RegistersAllRan : ℕ → Words → Registers → Memory → Registers → Memory → Type 0
+RegistersAllRan zero t old m new m' = (new ≡ old) × (m' ≡ m)
+RegistersAllRan (suc n) t old m new m' = ThenRuns (λ r q. RegistersAllRan n t old m r q) t new m'
 
 -- an instruction asks the environment, or traps
 abbrev pub IsStop : Outcome → Type 0

@@ -1,7 +1,11 @@
 -- Windows of words that a hart executes apart from the machine, and what it brings back.
 use Rattle.std.specs.Prelude.{◌≡◌, ◌<◌, ℕ, zero, suc, ◌+◌, ◌-◌, ◌/◌, ◌^◌, min, false, List, [], ◌∷◌, Option, Some, None, IsSome, slice_get}
+use Rattle.rv_decode.specs.declared.instr.Instr.{Instr}
+use Rattle.rv_decode.specs.declared.instr.Instr.TheVariants.{Ebreak}
 use Rattle.rv_exec.specs.Registers.{Registers}
 use Rattle.rv_exec.specs.declared.effect.Stepped.TheVariants as stepped
+use Rattle.text_words.specs.declared.fetch.Fetch.{Fetch}
+use Rattle.text_words.specs.declared.fetch.Fetch.TheVariants as fetch
 pub use Rattle.text_words.specs.Words.{AreStored}
 use Rattle.text_words.specs.Words.{Words, stored, shown, is_planted}
 use Rattle.hart_machine.specs.declared.hart.Core.{Core}
@@ -24,6 +28,13 @@ window_room at = min 64 ((2 ^ 32 - 1 - at) / 4 + 1)
 
 abbrev pub window : Words → ℕ → List ℕ
 window t at = words_from t at (window_room at)
+
+-- what stands for a hart, as an instruction: EBREAK where a breakpoint is planted, and where there is no instruction
+abbrev pub instruction_of : Fetch → Instr
+instruction_of (fetch.Instruction i) = i
+instruction_of fetch.Absent = Ebreak
+instruction_of fetch.Planted = Ebreak
+instruction_of fetch.Illegal = Ebreak
 
 -- other registers, after n more instructions; the count stands still at the greatest of its type
 abbrev pub taken_core : Core → ℕ → Registers → Core

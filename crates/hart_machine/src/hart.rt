@@ -1,7 +1,7 @@
 // One hart, and one step of it.
 ghost use Rattle.std.specs.Prelude.{◌≡◌, ◌<◌, ◌≤◌, ◌^◌, List, Option, None, Some, true, false, length};
 ghost use Rattle.hart_machine.specs.Copying.{entered_core, settled_core, CopiesCore};
-ghost use Rattle.hart_machine.specs.Running.{IsStop, Stops};
+ghost use Rattle.hart_machine.specs.Running.{IsStop, StopsAt};
 ghost use Rattle.hart_machine.specs.Stepping.{CoreSteps, FetchGives, InstructionGives, IsByteCode, copy_fetched, counted, fetched_by, has_run};
 ghost use Rattle.rv_exec.specs.declared.effect.Stepped.TheVariants as stepped;
 ghost use Rattle.scratch_slots.specs.declared.slots.SlotUse as uses;
@@ -145,90 +145,68 @@ pub fn step_core(
     }
 }
 
-// Executes one instruction, and counts it. False where it asks the environment or traps; then nothing has changed.
+// Executes one instruction. False where it asks the environment or traps; then nothing has changed.
 #[inline(always)]
-fn execute_alone(instruction: Instr, core: &mut Core, memory: &mut DataMemory) -> bool
-    requires { core.old.copied ≤ core.old.retired }
-    ensures ran { result ≡ true → InstructionGives stepped.Ran instruction core.old.regs core.new.regs memory.old memory.new }
-    ensures retired { result ≡ true → core.new.retired ≡ counted stepped.Ran core.old.retired }
-    ensures copied { core.new.copied ≡ core.old.copied }
-    ensures copies { core.new.copied ≤ core.new.retired }
-    ensures entered { core.new.entered ≡ core.old.entered }
-    ensures kept { result ≡ false → (core.new ≡ core.old) × (memory.new ≡ memory.old) }
-    ensures stops { result ≡ false → IsStop (step instruction core.old.regs memory.old) }
+fn execute_alone(instruction: Instr, regs: &mut Regs, memory: &mut DataMemory) -> bool
+    ensures ran { result ≡ true → InstructionGives stepped.Ran instruction regs.old regs.new memory.old memory.new }
+    ensures kept { result ≡ false → (regs.new ≡ regs.old) × (memory.new ≡ memory.old) }
+    ensures stops { result ≡ false → IsStop (step instruction regs.old memory.old) }
 {
-    match execute(instruction, &mut core.regs, memory) {
-        Effect::Done => {
-            core.retired = core.retired.saturating_add(1);
-            true
-        }
+    match execute(instruction, regs, memory) {
+        Effect::Done => true,
         Effect::Call | Effect::Trap(_) => false,
     }
 }
 
-/// A step that answers `Ran`, by an instruction of the first section. False where another step is next; then nothing
-/// has changed.
+/// The registers' part of a step that answers `Ran`, by an instruction of the first section. False where another step is
+/// next; then nothing has changed.
 #[inline(always)]
-fn step_front(front: &Front<'_>, core: &mut Core, memory: &mut DataMemory) -> bool
+fn step_front(front: &Front<'_>, regs: &mut Regs, memory: &mut DataMemory) -> bool
     requires within { front.now.count ≤ length front.now.code.now }
-    requires copies { core.old.copied ≤ core.old.retired }
-    ensures pc { core.old.regs.pc < 2 ^ 32 }
-    ensures copies { core.new.copied ≤ core.new.retired }
-    ensures ran { (t : Words) (slots : List (Option uses.SlotUse)) → IsFront t front.now.address front.now.count front.now.code.now → result ≡ true → CoreSteps stepped.Ran (fetched_by t slots core.old) core.old core.new memory.old memory.new }
-    ensures kept { result ≡ false → (core.new ≡ core.old) × (memory.new ≡ memory.old) }
+    ensures pc { regs.old.pc < 2 ^ 32 }
+    ensures ran { (t : Words) → IsFront t front.now.address front.now.count front.now.code.now → result ≡ true → FetchGives stepped.Ran (fetched t regs.old.pc) regs.old regs.new memory.old memory.new }
+    ensures kept { result ≡ false → (regs.new ≡ regs.old) × (memory.new ≡ memory.old) }
 {
-    let pc = core.regs.pc();
-    if core.entered.is_some() {
-        return false;
-    }
-    match front.instruction(pc) {
-        Some(instruction) => execute_alone(instruction, core, memory),
+    match front.instruction(regs.pc()) {
+        Some(instruction) => execute_alone(instruction, regs, memory),
         None => false,
     }
 }
 
-/// A step that answers `Ran`, by an instruction of any section. False where another step is next; then nothing has
-/// changed.
+/// The same by an instruction of any section.
 #[cold]
 #[inline(never)]
-fn step_text(text: &TextWords, core: &mut Core, memory: &mut DataMemory) -> bool
-    requires { core.old.copied ≤ core.old.retired }
-    ensures pc { core.old.regs.pc < 2 ^ 32 }
-    ensures copies { core.new.copied ≤ core.new.retired }
-    ensures ran { (slots : List (Option uses.SlotUse)) → result ≡ true → CoreSteps stepped.Ran (fetched_by text.now slots core.old) core.old core.new memory.old memory.new }
-    ensures kept { result ≡ false → (core.new ≡ core.old) × (memory.new ≡ memory.old) }
-    ensures stops { result ≡ false → Stops text.now core.old memory.old }
+fn step_text(text: &TextWords, regs: &mut Regs, memory: &mut DataMemory) -> bool
+    ensures pc { regs.old.pc < 2 ^ 32 }
+    ensures ran { result ≡ true → FetchGives stepped.Ran (fetched text.now regs.old.pc) regs.old regs.new memory.old memory.new }
+    ensures kept { result ≡ false → (regs.new ≡ regs.old) × (memory.new ≡ memory.old) }
+    ensures stops { result ≡ false → StopsAt (fetched text.now regs.old.pc) regs.old memory.old }
 {
-    let pc = core.regs.pc();
-    if core.entered.is_some() {
-        return false;
-    }
-    match text.fetch(pc) {
-        Fetch::Instruction(instruction) => execute_alone(instruction, core, memory),
+    match text.fetch(regs.pc()) {
+        Fetch::Instruction(instruction) => execute_alone(instruction, regs, memory),
         Fetch::Absent | Fetch::Planted | Fetch::Illegal => false,
     }
 }
 
-/// A step that answers `Ran`. False where the hart is in a slot, or stops at its pc; then nothing has changed.
+/// The registers' part of a step that answers `Ran`, of a hart that is in no slot. False where it stops at its pc; then
+/// nothing has changed.
 #[inline(always)]
 pub fn step_ran(
     front: &Front<'_>,
     text: &TextWords,
-    core: &mut Core,
+    regs: &mut Regs,
     memory: &mut DataMemory,
 ) -> bool
     requires front { IsFront text.now front.now.address front.now.count front.now.code.now }
-    requires copies { core.old.copied ≤ core.old.retired }
-    ensures pc { core.old.regs.pc < 2 ^ 32 }
-    ensures copies { core.new.copied ≤ core.new.retired }
-    ensures ran { (slots : List (Option uses.SlotUse)) → result ≡ true → CoreSteps stepped.Ran (fetched_by text.now slots core.old) core.old core.new memory.old memory.new }
-    ensures kept { result ≡ false → (core.new ≡ core.old) × (memory.new ≡ memory.old) }
-    ensures stops { result ≡ false → Stops text.now core.old memory.old }
+    ensures pc { regs.old.pc < 2 ^ 32 }
+    ensures ran { result ≡ true → FetchGives stepped.Ran (fetched text.now regs.old.pc) regs.old regs.new memory.old memory.new }
+    ensures kept { result ≡ false → (regs.new ≡ regs.old) × (memory.new ≡ memory.old) }
+    ensures stops { result ≡ false → StopsAt (fetched text.now regs.old.pc) regs.old memory.old }
 {
-    if step_front(front, core, memory) {
+    if step_front(front, regs, memory) {
         return true;
     }
-    step_text(text, core, memory)
+    step_text(text, regs, memory)
 }
 
 /// Steps a hart by a copy of the instruction at a slot, and takes it home from there. False where it is in a slot, and
@@ -246,10 +224,11 @@ pub fn copy_core(instruction: &Instr, slot: u32, core: &mut Core, memory: &mut D
         return false;
     }
     core.regs.set_pc(slot);
-    if !execute_alone(*instruction, core, memory) {
+    if !execute_alone(*instruction, &mut core.regs, memory) {
         core.regs.set_pc(home);
         return false;
     }
+    core.retired = core.retired.saturating_add(1);
     core.copied = core.copied.saturating_add(1);
     fix(*instruction, slot, home, &mut core.regs, true);
     true

@@ -1,6 +1,6 @@
 -- Runs of instructions that touch registers alone: this project's own notion. Which ones do is read off the RISC-V
 -- Unprivileged ISA: all of RV32IM but loads, stores, ECALL and EBREAK, and no AMO.
-use Rattle.std.specs.Prelude.{ℕ, suc, zero, ◌-◌, ◌/◌, ◌%◌, ◌≡◌, Bool, true, false, ◌&&◌, ◌==◌, nat_le, List, slice_get, Option, Some, None, if◌then◌else◌}
+use Rattle.std.specs.Prelude.{ℕ, suc, zero, ◌-◌, ◌/◌, ◌%◌, ◌≡◌, Bool, true, false, ◌&&◌, ◌==◌, nat_le, List, slice_get, slice_index_or, Option, Some, None, unwrap_or, if◌then◌else◌}
 use Rattle.std.specs.Option.{option_and_then}
 use Rattle.rv_decode.specs.declared.instr.Instr.{Instr}
 use Rattle.rv_decode.specs.declared.instr.Instr.TheVariants.{Lui, Auipc, Jal, Jalr, Branch, Load, Store, OpImm, Op, MulDiv, Amo, Fence, FenceI, Ecall, Ebreak}
@@ -56,9 +56,9 @@ ran words at r (suc n) = option_and_then (moved words at) (ran words at r n)
 abbrev pub SliceOf : Registers → ℕ → List ℕ → ℕ → Registers → Type 0
 SliceOf r at words n r' = ran words at r n ≡ Some r'
 
--- each instruction that is known of a word is what the word decodes to
-abbrev pub AreKnown : List ℕ → List (Option Instr) → Type 0
-AreKnown words known = (k : ℕ) (i : Instr) → slice_get known k ≡ Some (Some i) → option_and_then decode (slice_get words k) ≡ Some i
+-- these are the instructions of the words: EBREAK where a word is none, and behind the last
+abbrev pub AreDecoded : List ℕ → List Instr → Type 0
+AreDecoded words instructions = (k : ℕ) → slice_index_or instructions k Ebreak ≡ unwrap_or (option_and_then decode (slice_get words k)) Ebreak
 
 -- the same outcome with another memory
 abbrev pub with_memory : Memory → Outcome → Outcome
