@@ -1,6 +1,7 @@
 -- The table of the commands: the operations' names, the options that each takes, and how many parameters.
 -- (GDB's manual, chapter "The GDB/MI Interface"; `exec-wait` is this project's own.)
-use Rattle.std.specs.Prelude.{ℕ, List, Bool, false, ◌==◌, ◌&&◌, ◌||◌, nat_le, Option, Some, None, codes, if◌then◌else◌}
+use Rattle.std.specs.Prelude.{ℕ, List, [], ◌∷◌, Bool, false, ◌==◌, ◌&&◌, ◌||◌, nat_le, Option, Some, None, find, codes}
+use Rattle.std.specs.Option.{option_map}
 use Rattle.std.specs.Str.{bytes_eq}
 use Rattle.mi_commands.specs.declared.operation.Operation.{Operation}
 use Rattle.mi_commands.specs.declared.operation.Operation.TheVariants as op
@@ -16,56 +17,31 @@ abbrev pub or_else : {X : Type 0} → Option X → Option X → Option X
 or_else (Some x) other = Some x
 or_else None other = other
 
-unfoldable pub break_operation : List ℕ → Option Operation
-break_operation name =
-    if bytes_eq name (codes "break-insert") then Some op.BreakInsert
-    else (if bytes_eq name (codes "break-delete") then Some op.BreakDelete
-    else (if bytes_eq name (codes "break-enable") then Some op.BreakEnable
-    else (if bytes_eq name (codes "break-disable") then Some op.BreakDisable
-    else (if bytes_eq name (codes "break-condition") then Some op.BreakCondition
-    else (if bytes_eq name (codes "break-after") then Some op.BreakAfter
-    else (if bytes_eq name (codes "break-list") then Some op.BreakList
-    else (if bytes_eq name (codes "break-watch") then Some op.BreakWatch
-    else None)))))))
+-- The operations by their names, without the `-` before them. `SetRegister` has none of its own: it is a form of `-gdb-set`.
+unfoldable pub operations : List (List ℕ × Operation)
+operations =
+    (codes "break-insert", op.BreakInsert) ∷ (codes "break-delete", op.BreakDelete) ∷
+    (codes "break-enable", op.BreakEnable) ∷ (codes "break-disable", op.BreakDisable) ∷
+    (codes "break-condition", op.BreakCondition) ∷ (codes "break-after", op.BreakAfter) ∷
+    (codes "break-list", op.BreakList) ∷ (codes "break-watch", op.BreakWatch) ∷
+    (codes "exec-continue", op.Continue) ∷ (codes "exec-interrupt", op.Interrupt) ∷
+    (codes "exec-step", op.Step) ∷ (codes "exec-next", op.Next) ∷
+    (codes "exec-step-instruction", op.StepInstruction) ∷ (codes "exec-next-instruction", op.NextInstruction) ∷
+    (codes "exec-finish", op.Finish) ∷ (codes "exec-wait", op.Wait) ∷
+    (codes "thread-info", op.ThreadInfo) ∷ (codes "thread-select", op.ThreadSelect) ∷
+    (codes "thread-list-ids", op.ThreadList) ∷ (codes "stack-list-frames", op.FrameList) ∷
+    (codes "stack-info-depth", op.FrameDepth) ∷ (codes "stack-info-frame", op.FrameInfo) ∷
+    (codes "data-list-register-names", op.RegisterNames) ∷ (codes "data-list-register-values", op.RegisterValues) ∷
+    (codes "data-read-memory-bytes", op.ReadMemory) ∷ (codes "data-write-memory-bytes", op.WriteMemory) ∷
+    (codes "data-evaluate-expression", op.Evaluate) ∷ (codes "gdb-set", op.Set) ∷
+    (codes "gdb-show", op.Show) ∷ (codes "gdb-exit", op.Exit) ∷ []
 
-unfoldable pub run_operation : List ℕ → Option Operation
-run_operation name =
-    if bytes_eq name (codes "exec-continue") then Some op.Continue
-    else (if bytes_eq name (codes "exec-interrupt") then Some op.Interrupt
-    else (if bytes_eq name (codes "exec-step") then Some op.Step
-    else (if bytes_eq name (codes "exec-next") then Some op.Next
-    else (if bytes_eq name (codes "exec-step-instruction") then Some op.StepInstruction
-    else (if bytes_eq name (codes "exec-next-instruction") then Some op.NextInstruction
-    else (if bytes_eq name (codes "exec-finish") then Some op.Finish
-    else (if bytes_eq name (codes "exec-wait") then Some op.Wait
-    else None)))))))
+-- the operation that a list has by a name
+abbrev pub named_in : List (List ℕ × Operation) → List ℕ → Option Operation
+named_in table name = option_map (λ p. p.1) (find (λ p. bytes_eq name p.0) table)
 
-unfoldable pub thread_operation : List ℕ → Option Operation
-thread_operation name =
-    if bytes_eq name (codes "thread-info") then Some op.ThreadInfo
-    else (if bytes_eq name (codes "thread-select") then Some op.ThreadSelect
-    else (if bytes_eq name (codes "thread-list-ids") then Some op.ThreadList
-    else (if bytes_eq name (codes "stack-list-frames") then Some op.FrameList
-    else (if bytes_eq name (codes "stack-info-depth") then Some op.FrameDepth
-    else (if bytes_eq name (codes "stack-info-frame") then Some op.FrameInfo
-    else None)))))
-
-unfoldable pub data_operation : List ℕ → Option Operation
-data_operation name =
-    if bytes_eq name (codes "data-list-register-names") then Some op.RegisterNames
-    else (if bytes_eq name (codes "data-list-register-values") then Some op.RegisterValues
-    else (if bytes_eq name (codes "data-read-memory-bytes") then Some op.ReadMemory
-    else (if bytes_eq name (codes "data-write-memory-bytes") then Some op.WriteMemory
-    else (if bytes_eq name (codes "data-evaluate-expression") then Some op.Evaluate
-    else (if bytes_eq name (codes "gdb-set") then Some op.Set
-    else (if bytes_eq name (codes "gdb-show") then Some op.Show
-    else (if bytes_eq name (codes "gdb-exit") then Some op.Exit
-    else None)))))))
-
--- the operation of a name without the `-` before it; the names differ, so that at most one of the four is there.
--- `SetRegister` has no name of its own: it is a form of `-gdb-set`.
 unfoldable pub operation_of : List ℕ → Option Operation
-operation_of name = or_else (break_operation name) (or_else (run_operation name) (or_else (thread_operation name) (data_operation name)))
+operation_of name = named_in operations name
 
 -- how an option is spelled
 unfoldable pub spelling : OptionName → List ℕ

@@ -1,7 +1,7 @@
 //! The table of operations: their names, and the options and parameters of each.
 
-ghost use Rattle.std.specs.Prelude.{◌≡◌};
-ghost use Rattle.mi_commands.specs.Operations.{break_operation, run_operation, thread_operation, data_operation, operation_of, shape};
+ghost use Rattle.std.specs.Prelude.{◌≡◌, map};
+ghost use Rattle.mi_commands.specs.Operations.{operation_of, named_in, shape};
 ghost use Rattle.mi_input.specs.Split.{words_view};
 ghost use Rattle.mi_commands.specs.Numbers.{range_at, first_and_others, has_bytes_at};
 ghost use Rattle.mi_commands.specs.Registers.{form};
@@ -49,100 +49,51 @@ pub enum Operation {
     Exit,
 }
 
-#[tactic(auto, unfolding(crate::specs::Operations::break_operation))]
-fn break_operation(name: &[u8]) -> Option<Operation>
-    ensures { result ≡ break_operation name.now }
-{
-    if name == b"break-insert".as_slice() {
-        Some(Operation::BreakInsert)
-    } else if name == b"break-delete".as_slice() {
-        Some(Operation::BreakDelete)
-    } else if name == b"break-enable".as_slice() {
-        Some(Operation::BreakEnable)
-    } else if name == b"break-disable".as_slice() {
-        Some(Operation::BreakDisable)
-    } else if name == b"break-condition".as_slice() {
-        Some(Operation::BreakCondition)
-    } else if name == b"break-after".as_slice() {
-        Some(Operation::BreakAfter)
-    } else if name == b"break-list".as_slice() {
-        Some(Operation::BreakList)
-    } else if name == b"break-watch".as_slice() {
-        Some(Operation::BreakWatch)
-    } else {
-        None
-    }
-}
+// The operations by their names.
+const OPERATIONS: [(&str, Operation); 30] = [
+    ("break-insert", Operation::BreakInsert),
+    ("break-delete", Operation::BreakDelete),
+    ("break-enable", Operation::BreakEnable),
+    ("break-disable", Operation::BreakDisable),
+    ("break-condition", Operation::BreakCondition),
+    ("break-after", Operation::BreakAfter),
+    ("break-list", Operation::BreakList),
+    ("break-watch", Operation::BreakWatch),
+    ("exec-continue", Operation::Continue),
+    ("exec-interrupt", Operation::Interrupt),
+    ("exec-step", Operation::Step),
+    ("exec-next", Operation::Next),
+    ("exec-step-instruction", Operation::StepInstruction),
+    ("exec-next-instruction", Operation::NextInstruction),
+    ("exec-finish", Operation::Finish),
+    ("exec-wait", Operation::Wait),
+    ("thread-info", Operation::ThreadInfo),
+    ("thread-select", Operation::ThreadSelect),
+    ("thread-list-ids", Operation::ThreadList),
+    ("stack-list-frames", Operation::FrameList),
+    ("stack-info-depth", Operation::FrameDepth),
+    ("stack-info-frame", Operation::FrameInfo),
+    ("data-list-register-names", Operation::RegisterNames),
+    ("data-list-register-values", Operation::RegisterValues),
+    ("data-read-memory-bytes", Operation::ReadMemory),
+    ("data-write-memory-bytes", Operation::WriteMemory),
+    ("data-evaluate-expression", Operation::Evaluate),
+    ("gdb-set", Operation::Set),
+    ("gdb-show", Operation::Show),
+    ("gdb-exit", Operation::Exit),
+];
 
-#[tactic(auto, unfolding(crate::specs::Operations::run_operation))]
-fn run_operation(name: &[u8]) -> Option<Operation>
-    ensures { result ≡ run_operation name.now }
+// The operation that a list has by a name.
+fn named_in(table: &[(&'static str, Operation)], name: &[u8]) -> Option<Operation>
+    ensures { result ≡ named_in (map (λ p. (p.0.now, p.1)) table.now) name.now }
 {
-    if name == b"exec-continue".as_slice() {
-        Some(Operation::Continue)
-    } else if name == b"exec-interrupt".as_slice() {
-        Some(Operation::Interrupt)
-    } else if name == b"exec-step".as_slice() {
-        Some(Operation::Step)
-    } else if name == b"exec-next".as_slice() {
-        Some(Operation::Next)
-    } else if name == b"exec-step-instruction".as_slice() {
-        Some(Operation::StepInstruction)
-    } else if name == b"exec-next-instruction".as_slice() {
-        Some(Operation::NextInstruction)
-    } else if name == b"exec-finish".as_slice() {
-        Some(Operation::Finish)
-    } else if name == b"exec-wait".as_slice() {
-        Some(Operation::Wait)
-    } else {
-        None
+    let [(known, operation), rest @ ..] = table else {
+        return None;
+    };
+    if name == known.as_bytes() {
+        return Some(*operation);
     }
-}
-
-#[tactic(auto, unfolding(crate::specs::Operations::thread_operation))]
-fn thread_operation(name: &[u8]) -> Option<Operation>
-    ensures { result ≡ thread_operation name.now }
-{
-    if name == b"thread-info".as_slice() {
-        Some(Operation::ThreadInfo)
-    } else if name == b"thread-select".as_slice() {
-        Some(Operation::ThreadSelect)
-    } else if name == b"thread-list-ids".as_slice() {
-        Some(Operation::ThreadList)
-    } else if name == b"stack-list-frames".as_slice() {
-        Some(Operation::FrameList)
-    } else if name == b"stack-info-depth".as_slice() {
-        Some(Operation::FrameDepth)
-    } else if name == b"stack-info-frame".as_slice() {
-        Some(Operation::FrameInfo)
-    } else {
-        None
-    }
-}
-
-#[tactic(auto, unfolding(crate::specs::Operations::data_operation))]
-fn data_operation(name: &[u8]) -> Option<Operation>
-    ensures { result ≡ data_operation name.now }
-{
-    if name == b"data-list-register-names".as_slice() {
-        Some(Operation::RegisterNames)
-    } else if name == b"data-list-register-values".as_slice() {
-        Some(Operation::RegisterValues)
-    } else if name == b"data-read-memory-bytes".as_slice() {
-        Some(Operation::ReadMemory)
-    } else if name == b"data-write-memory-bytes".as_slice() {
-        Some(Operation::WriteMemory)
-    } else if name == b"data-evaluate-expression".as_slice() {
-        Some(Operation::Evaluate)
-    } else if name == b"gdb-set".as_slice() {
-        Some(Operation::Set)
-    } else if name == b"gdb-show".as_slice() {
-        Some(Operation::Show)
-    } else if name == b"gdb-exit".as_slice() {
-        Some(Operation::Exit)
-    } else {
-        None
-    }
+    named_in(rest, name)
 }
 
 // The range of the first parameter, or that of the others.
@@ -154,20 +105,11 @@ fn first_and_others(first: Option<Range>, others: Option<Range>, place: usize) -
 
 impl Operation {
     /// The operation of a name without the `-` before it.
-    #[tactic(auto, unfolding(crate::specs::Operations::operation_of))]
+    #[tactic(auto, unfolding(crate::specs::Operations::operations, crate::specs::Operations::operation_of))]
     pub fn named(name: &[u8]) -> Option<Operation>
         ensures { result ≡ operation_of name.now }
     {
-        if let Some(operation) = break_operation(name) {
-            return Some(operation);
-        }
-        if let Some(operation) = run_operation(name) {
-            return Some(operation);
-        }
-        if let Some(operation) = thread_operation(name) {
-            return Some(operation);
-        }
-        data_operation(name)
+        named_in(&OPERATIONS, name)
     }
 
     /// Its options and the number of its parameters.

@@ -1,11 +1,9 @@
 //! The parts of a line, and why a line has none.
 
 ghost use Rattle.std.specs.Prelude.{◌≡◌};
-ghost use Rattle.mi_input.specs.declared.parts.InputFault.TheVariants as faults;
 ghost use Rattle.mi_input.specs.Faults.{fault_of};
 
 use mi_text::{ReadFault, Token};
-use std::alloc::AllocError;
 use thiserror::Error;
 
 /// A word of a line.
@@ -39,14 +37,6 @@ pub enum InputFault {
     /// A line that is no command of the machine interface, with its token.
     #[error("the line is no command of the machine interface")]
     Cli(Token),
-}
-
-impl From<AllocError> for InputFault {
-    ghost from_gives = { λ _ e. e ≡ faults.NoMemory };
-
-    fn from(_: AllocError) -> InputFault {
-        InputFault::NoMemory
-    }
 }
 
 impl From<ReadFault> for InputFault {

@@ -4,7 +4,7 @@ use Rattle.std.proofs.lemmas.Bool.Decides.{nat_tests}
 use Rattle.std.specs.Fmt.{digits, decimal, digits_onto, digit_glyph}
 use Rattle.mi_values.specs.Testing.{is_byte, are_bytes}
 use Rattle.mi_values.proofs.Testing.{both}
-use Rattle.mi_reports.specs.Bytes.{hex_digit, address_text, exit_code}
+use Rattle.mi_text.specs.Numeral.{hex_digit, address_text, exit_code}
 
 glyph_byte : (n : ℕ) → is_byte (digit_glyph false (n % 10)) ≡ true
 glyph_byte n = grind (arith, nat_tests)

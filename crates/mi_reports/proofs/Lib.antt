@@ -5,7 +5,6 @@ pub mod Proper
 pub mod Worths
 pub mod Watching
 pub mod Replying
-pub mod Grammar
 pub mod Stopping
 pub mod Saying
 pub mod Telling

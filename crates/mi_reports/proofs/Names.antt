@@ -2,13 +2,10 @@
 use Rattle.std.proofs.Common.{◌≡◌, true, refl}
 use Rattle.mi_values.specs.Name.{is_name}
 use Rattle.mi_values.specs.Testing.{are_bytes}
-use Rattle.mi_reports.specs.declared.parts.Part.{Part}
-use Rattle.mi_reports.specs.declared.parts.Part.TheVariants as parts
 use Rattle.mi_reports.specs.declared.words.Key.{Key}
 use Rattle.mi_reports.specs.declared.words.Key.TheVariants as key
 use Rattle.mi_reports.specs.declared.words.Phrase.{Phrase}
 use Rattle.mi_reports.specs.declared.words.Phrase.TheVariants as phrase
-use Rattle.mi_reports.specs.Messages.{part_text}
 use Rattle.mi_reports.specs.Words.{key_text, phrase_text}
 
 pub key_name : (k : Key) → is_name (key_text k) ≡ true
@@ -90,7 +87,6 @@ phrase_bytes phrase.Hart = refl
 phrase_bytes phrase.IllegalInstruction = refl
 phrase_bytes phrase.Interrupt = refl
 phrase_bytes phrase.Kept = refl
-phrase_bytes phrase.Minus = refl
 phrase_bytes phrase.No = refl
 phrase_bytes phrase.Off = refl
 phrase_bytes phrase.On = refl
@@ -108,44 +104,3 @@ phrase_bytes phrase.UndefinedCommand = refl
 phrase_bytes phrase.WatchpointTrigger = refl
 phrase_bytes phrase.WatchpointType = refl
 phrase_bytes phrase.Yes = refl
-
-pub part_bytes : (p : Part) → are_bytes (part_text p) ≡ true
-unfolding part_text
-part_bytes parts.AtPlace = refl
-part_bytes parts.BadFile = refl
-part_bytes parts.BadLocation = refl
-part_bytes parts.BadNumber = refl
-part_bytes parts.CannotWatch = refl
-part_bytes parts.Cli = refl
-part_bytes parts.Colon = refl
-part_bytes parts.ConditionError = refl
-part_bytes parts.DivisionByZero = refl
-part_bytes parts.ExpressionDeep = refl
-part_bytes parts.ExpressionName = refl
-part_bytes parts.ExpressionNumber = refl
-part_bytes parts.ExpressionSyntax = refl
-part_bytes parts.FixedRegister = refl
-part_bytes parts.Function = refl
-part_bytes parts.HasExited = refl
-part_bytes parts.InFile = refl
-part_bytes parts.IsRunning = refl
-part_bytes parts.LongExpression = refl
-part_bytes parts.LongLine = refl
-part_bytes parts.NoBreakpoint = refl
-part_bytes parts.NoCaller = refl
-part_bytes parts.NoInstruction = refl
-part_bytes parts.NoLine = refl
-part_bytes parts.NoLineInformation = refl
-part_bytes parts.NotDefined = refl
-part_bytes parts.NotRunning = refl
-part_bytes parts.Parameters = refl
-part_bytes parts.Setting = refl
-part_bytes parts.Syntax = refl
-part_bytes parts.Thread = refl
-part_bytes parts.TooManyBreakpoints = refl
-part_bytes parts.TooManyWatches = refl
-part_bytes parts.Undefined = refl
-part_bytes parts.UnknownThread = refl
-part_bytes parts.Unreadable = refl
-part_bytes parts.Unwritable = refl
-part_bytes parts.Usage = refl

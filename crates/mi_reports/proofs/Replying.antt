@@ -22,13 +22,13 @@ use Rattle.mi_values.proofs.Testing.{both}
 use Rattle.mi_reports.specs.declared.words.Key.TheVariants as key
 use Rattle.mi_reports.specs.declared.words.Phrase.TheVariants as phrase
 use Rattle.mi_reports.specs.Words.{key_text, phrase_text, says, says_some}
-use Rattle.mi_reports.specs.Bytes.{address_text}
+use Rattle.mi_text.specs.Numeral.{address_text, worth_text}
 use Rattle.mi_reports.specs.Fits.{are_fit, text_fits, source_fits, place_fits, threads_fit, breakpoint_fits, row_fits, rows_fit, done_fits}
 use Rattle.mi_reports.specs.Frames.{source_fields, frame_field}
 use Rattle.mi_reports.specs.Breakpoints.{disposition, enabled, for_thread, ignored, front_fields, place_fields, term_fields, count_fields, breakpoint_fields, breakpoint_field}
 use Rattle.mi_reports.specs.Table.{row_field, table_fields}
 use Rattle.mi_reports.specs.Errors.{message, error_code, error_fields}
-use Rattle.mi_reports.specs.Replies.{state_fields, thread_fields, thread_tree, threads_fields, number_field, numbers_fields, names_field, worth_text, value_text, register_fields, register_tree, registers_field, block_fields, memory_field, setting, done_fields}
+use Rattle.mi_reports.specs.Replies.{state_fields, thread_fields, thread_tree, threads_fields, number_field, numbers_fields, names_field, value_text, register_fields, register_tree, registers_field, block_fields, memory_field, setting, done_fields}
 use Rattle.mi_reports.proofs.Bytes.{decimal_bytes, address_bytes, joined_bytes}
 use Rattle.mi_reports.proofs.Names.{phrase_bytes}
 use Rattle.mi_reports.proofs.Watching.{watch_good, listed_good}

@@ -7,19 +7,17 @@ use Rattle.dbg_model.specs.Watches.{is_of, risen}
 use Rattle.break_table.specs.Arrival.{raised}
 use Rattle.mi_values.specs.Record.{LineTree}
 use Rattle.mi_values.specs.Testing.{are_bytes}
-use Rattle.mi_values.specs.Records.{AreRecords}
 use Rattle.mi_reports.specs.declared.words.Key.TheVariants as key
 use Rattle.mi_reports.specs.declared.words.Phrase.TheVariants as phrase
 use Rattle.mi_reports.specs.Words.{phrase_text, says}
 use Rattle.mi_reports.specs.Fits.{are_fit, frame_fits}
 use Rattle.mi_reports.specs.Text.{place_fields, stopped_line}
-use Rattle.mi_reports.specs.Replies.{worth_text}
-use Rattle.mi_reports.specs.Triggers.{watch_of, expression, is_unsigned, worth_fields, change_fields, trigger_fields, trigger_lines, trigger_text}
+use Rattle.mi_text.specs.Numeral.{worth_text}
+use Rattle.mi_reports.specs.Triggers.{watch_of, expression, is_unsigned, worth_fields, change_fields, trigger_fields, trigger_lines}
 use Rattle.mi_reports.proofs.Names.{phrase_bytes}
 use Rattle.mi_reports.proofs.Proper.{Good, fit, none_good, value, says_good, tuple_good, place_good}
 use Rattle.mi_reports.proofs.Worths.{worth_bytes}
 use Rattle.mi_reports.proofs.Watching.{watch_good}
-use Rattle.mi_reports.proofs.Grammar.{stopped_is}
 
 worths_good : (unsigned : Bool) (f : Fired) → Good (worth_fields unsigned f) 15
 unfolding worth_fields
@@ -35,10 +33,6 @@ trigger_good w f h frame is fit =
 
 pub trigger_fit : (w : Option Watch) (f : Fired) (h : ℕ) (frame : ShownFrame) → are_bytes (expression w) ≡ true → frame_fits frame ≡ true → are_fit (trigger_fields w f h frame) ≡ true
 trigger_fit w f h frame is fits = fit (trigger_fields w f h frame) (trigger_good w f h frame is fits)
-
-pub trigger_records : (w : Option Watch) (f : Fired) (h : ℕ) (frame : ShownFrame) → are_bytes (expression w) ≡ true → frame_fits frame ≡ true → AreRecords (trigger_text w f h frame) (trigger_lines w f h frame)
-unfolding trigger_text
-trigger_records w f h frame is fit = record { lines = stopped_is (trigger_fields w f h frame) (trigger_good w f h frame is fit); text = refl }
 
 -- ---- what is told of a watch stays the same where its times rise
 

@@ -7,7 +7,7 @@ use Rattle.mi_reports.specs.declared.words.Key.TheVariants as key
 use Rattle.mi_reports.specs.declared.words.Phrase.{Phrase}
 use Rattle.mi_reports.specs.declared.words.Phrase.TheVariants as phrase
 use Rattle.mi_reports.specs.Words.{key_text, phrase_text, says, says_some}
-use Rattle.mi_reports.specs.Bytes.{address_text}
+use Rattle.mi_text.specs.Numeral.{address_text}
 use Rattle.mi_reports.specs.Frames.{source_fields}
 
 -- what becomes of a breakpoint that is hit

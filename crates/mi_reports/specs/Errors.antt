@@ -14,7 +14,7 @@ use Rattle.mi_values.specs.Tree.{Tree}
 use Rattle.mi_reports.specs.declared.parts.Part.TheVariants as parts
 use Rattle.mi_reports.specs.declared.words.Key.TheVariants as key
 use Rattle.mi_reports.specs.declared.words.Phrase.TheVariants as phrase
-use Rattle.mi_reports.specs.Bytes.{address_text}
+use Rattle.mi_text.specs.Numeral.{address_text}
 use Rattle.mi_reports.specs.Messages.{part_text}
 use Rattle.mi_reports.specs.Words.{phrase_text, says}
 

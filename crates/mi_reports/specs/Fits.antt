@@ -12,7 +12,6 @@ use Rattle.dbg_model.specs.declared.reply.Content.TheVariants as content
 use Rattle.hex.specs.Hex.{encode_lower}
 use Rattle.mi_values.specs.Tree.{Tree, fields_of}
 use Rattle.mi_values.specs.Testing.{are_bytes, are_proper_fields}
-use Rattle.mi_reports.specs.Errors.{message}
 
 -- fields that may stand in a line
 unfoldable pub are_fit : List (List ℕ × Tree) → Bool
@@ -70,8 +69,3 @@ done_fits (content.Value word unsigned) = true
 done_fits (content.Setting value) = true
 done_fits content.Exit = true
 done_fits (content.Refused r) = true
-
--- what a reply shows
-abbrev pub content_fits : Content → Bool
-content_fits (content.Refused r) = are_bytes (message r)
-content_fits c = done_fits c

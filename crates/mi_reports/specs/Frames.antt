@@ -6,7 +6,7 @@ use Rattle.mi_values.specs.Tree.{Tree, items, no_item}
 use Rattle.mi_values.specs.FieldLists.{tuple_of, in_brackets}
 use Rattle.mi_reports.specs.declared.words.Key.TheVariants as key
 use Rattle.mi_reports.specs.Words.{key_text, says, says_some}
-use Rattle.mi_reports.specs.Bytes.{address_text}
+use Rattle.mi_text.specs.Numeral.{address_text}
 
 -- a line of a file
 abbrev pub source_fields : Option SourceLine → List (List ℕ × Tree)

@@ -1,4 +1,3 @@
-pub mod Bytes
 pub mod Words
 pub mod Messages
 pub mod Frames
@@ -11,5 +10,6 @@ pub mod Replies
 pub mod Triggers
 pub mod Said
 pub mod Refusals
+pub mod Events
 pub mod Fits
 pub mod Seen

@@ -6,7 +6,6 @@ use Rattle.elf32_read.specs.declared.fault.ElfFault.{ElfFault}
 use Rattle.mi_values.specs.Tree.{Tree}
 use Rattle.mi_values.specs.Record.{LineTree}
 use Rattle.mi_values.specs.FieldLists.{result_of}
-use Rattle.mi_values.specs.Records.{lines_bytes}
 use Rattle.mi_reports.specs.declared.words.Key.TheVariants as key
 use Rattle.mi_reports.specs.declared.parts.Part.TheVariants as parts
 use Rattle.mi_reports.specs.Words.{key_text, says}
@@ -34,12 +33,6 @@ refusal_lines fields = result_of [] (key_text key.Error) fields ∷ []
 unfoldable pub file_fields : ElfFault → List (List ℕ × Tree)
 file_fields f = says key.Message (part_text parts.BadFile ++ kind_name f.kind ++ part_text parts.AtPlace ++ decimal f.place) ∷ []
 
-unfoldable pub bad_file : ElfFault → List ℕ
-bad_file f = lines_bytes (refusal_lines (file_fields f))
-
 -- the words of the command line are refused
 unfoldable pub usage_fields : List (List ℕ × Tree)
 usage_fields = says key.Message (part_text parts.Usage) ∷ []
-
-unfoldable pub usage : List ℕ
-usage = lines_bytes (refusal_lines usage_fields)

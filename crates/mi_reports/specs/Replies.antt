@@ -1,6 +1,6 @@
 -- The lines of a reply (GDB manual, "GDB/MI Result Records", "GDB/MI Thread Commands", "GDB/MI Data Manipulation",
--- "GDB/MI Stack Manipulation Commands", "GDB/MI Breakpoint Commands", "GDB/MI Miscellaneous Commands"), and its text.
-use Rattle.std.specs.Prelude.{ℕ, ◌+◌, ◌-◌, ◌%◌, ◌^◌, Bool, List, [], ◌∷◌, ◌++◌, length, map, Option, Some, None, if◌then◌else◌, nat_lt, decimal, codes}
+-- "GDB/MI Stack Manipulation Commands", "GDB/MI Breakpoint Commands", "GDB/MI Miscellaneous Commands").
+use Rattle.std.specs.Prelude.{ℕ, ◌+◌, ◌-◌, ◌%◌, ◌^◌, List, [], ◌∷◌, ◌++◌, length, map, Option, Some, None, decimal, codes}
 use Rattle.mi_commands.specs.declared.command.Displaced.{Displaced}
 use Rattle.mi_commands.specs.declared.command.Displaced.TheVariants as displaced
 use Rattle.mi_commands.specs.declared.command.Format.{Format}
@@ -16,12 +16,11 @@ use Rattle.mi_values.specs.declared.sign.NoticeSign.TheVariants.{Exec}
 use Rattle.mi_values.specs.Tree.{Tree, text, items, item, no_item, items_of}
 use Rattle.mi_values.specs.Record.{LineTree, prompt}
 use Rattle.mi_values.specs.FieldLists.{tuple_of, notice_of, result_of}
-use Rattle.mi_values.specs.Records.{lines_bytes}
 use Rattle.mi_reports.specs.declared.words.Key.TheVariants as key
 use Rattle.mi_reports.specs.declared.words.Phrase.{Phrase}
 use Rattle.mi_reports.specs.declared.words.Phrase.TheVariants as phrase
 use Rattle.mi_reports.specs.Words.{key_text, phrase_text, says}
-use Rattle.mi_reports.specs.Bytes.{address_text}
+use Rattle.mi_text.specs.Numeral.{address_text, signed_text, worth_text}
 use Rattle.mi_reports.specs.Frames.{frame_field, stack_tree}
 use Rattle.mi_reports.specs.Breakpoints.{breakpoint_field}
 use Rattle.mi_reports.specs.Watches.{watch_field}
@@ -68,14 +67,6 @@ register_names =
 
 unfoldable pub names_field : List ℕ × Tree
 names_field = (key_text key.RegisterNames, items (items_of (map text register_names)))
-
--- a word as a number by its sign
-abbrev pub signed_text : ℕ → List ℕ
-signed_text v = if nat_lt v (2 ^ 31) then decimal v else phrase_text phrase.Minus ++ decimal (2 ^ 32 - v)
-
--- a word as a number, by whether it is unsigned
-abbrev pub worth_text : ℕ → Bool → List ℕ
-worth_text v unsigned = if unsigned then decimal v else signed_text v
 
 abbrev pub value_text : Format → ℕ → List ℕ
 value_text Hexadecimal v = address_text v
@@ -148,6 +139,3 @@ content_lines token c = done_lines token (done_fields c)
 -- the lines of a reply
 abbrev pub reply_lines : Reply → List LineTree
 reply_lines r = content_lines r.token r.content
-
-unfoldable pub reply_text : Reply → List ℕ
-reply_text r = lines_bytes (reply_lines r)

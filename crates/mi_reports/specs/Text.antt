@@ -1,4 +1,4 @@
--- The lines of what entries show (GDB manual, "GDB/MI Async Records", "GDB/MI Stream Records"), and their texts.
+-- The lines of what entries show (GDB manual, "GDB/MI Async Records", "GDB/MI Stream Records").
 use Rattle.std.specs.Prelude.{ℕ, zero, suc, ◌+◌, ◌==◌, Bool, List, [], ◌∷◌, ◌++◌, Option, Some, None, if◌then◌else◌, decimal}
 use Rattle.rv_exec.specs.declared.effect.Cause.{Cause}
 use Rattle.rv_exec.specs.declared.effect.Cause.TheVariants.{FetchAlign, LoadFault, StoreFault, LoadAlign, StoreAlign, Break, Illegal, FetchFault}
@@ -11,13 +11,12 @@ use Rattle.mi_values.specs.declared.sign.StreamSign.TheVariants.{Target, Log}
 use Rattle.mi_values.specs.Tree.{Tree, text, items, item, no_item}
 use Rattle.mi_values.specs.Record.{LineTree, stream, prompt}
 use Rattle.mi_values.specs.FieldLists.{notice_of}
-use Rattle.mi_values.specs.Records.{lines_bytes}
 use Rattle.mi_reports.specs.declared.words.Key.{Key}
 use Rattle.mi_reports.specs.declared.words.Key.TheVariants as key
 use Rattle.mi_reports.specs.declared.words.Phrase.{Phrase}
 use Rattle.mi_reports.specs.declared.words.Phrase.TheVariants as phrase
 use Rattle.mi_reports.specs.Words.{key_text, phrase_text, says}
-use Rattle.mi_reports.specs.Bytes.{exit_code}
+use Rattle.mi_text.specs.Numeral.{exit_code}
 use Rattle.mi_reports.specs.Frames.{frame_field}
 use Rattle.mi_reports.specs.Breakpoints.{disposition}
 use Rattle.mi_reports.specs.Errors.{condition_message}
@@ -40,9 +39,6 @@ created_lines (suc n) = created_lines n ++ thread_line key.ThreadCreated n ∷ [
 -- the lines that a session of so many harts opens with
 abbrev pub opening_lines : ℕ → List LineTree
 opening_lines harts = created_lines harts ++ prompt ∷ []
-
-unfoldable pub opening_text : ℕ → List ℕ
-opening_text harts = lines_bytes (opening_lines harts)
 
 -- ---- stops
 
@@ -84,29 +80,17 @@ signal FetchFault = (phrase.Sigsegv, phrase.SegmentationFault)
 abbrev pub stop_lines : Cause → ℕ → ShownFrame → List LineTree
 stop_lines cause h frame = stopped_line (signal_fields (signal cause).0 (signal cause).1 h frame) ∷ []
 
-unfoldable pub stop_text : Cause → ℕ → ShownFrame → List ℕ
-stop_text cause h frame = lines_bytes (stop_lines cause h frame)
-
 -- hart h stopped in this frame by an interrupt that was asked of it
 abbrev pub interrupt_lines : ℕ → ShownFrame → List LineTree
 interrupt_lines h frame = stopped_line (signal_fields phrase.Sigint phrase.Interrupt h frame) ∷ []
-
-unfoldable pub interrupt_text : ℕ → ShownFrame → List ℕ
-interrupt_text h frame = lines_bytes (interrupt_lines h frame)
 
 -- hart h stopped in this frame where its step ends
 abbrev pub stepped_lines : ℕ → ShownFrame → List LineTree
 stepped_lines h frame = stopped_line (end_fields phrase.EndSteppingRange h frame) ∷ []
 
-unfoldable pub stepped_text : ℕ → ShownFrame → List ℕ
-stepped_text h frame = lines_bytes (stepped_lines h frame)
-
 -- hart h stopped in this frame, to which the function that it was to finish has returned
 abbrev pub finished_lines : ℕ → ShownFrame → List LineTree
 finished_lines h frame = stopped_line (end_fields phrase.FunctionFinished h frame) ∷ []
-
-unfoldable pub finished_text : ℕ → ShownFrame → List ℕ
-finished_text h frame = lines_bytes (finished_lines h frame)
 
 -- the line of the condition of that breakpoint; none where it had a value
 abbrev pub condition_lines : ℕ → Option CondError → List LineTree
@@ -116,9 +100,6 @@ condition_lines number (Some e) = stream Log (condition_message number e) ∷ []
 -- hart h stopped in this frame by the breakpoint of that number, whose condition had this error
 abbrev pub break_lines : Bool → ℕ → Option CondError → ℕ → ShownFrame → List LineTree
 break_lines temporary number error h frame = condition_lines number error ++ stopped_line (hit_fields temporary number h frame) ∷ []
-
-unfoldable pub break_text : Bool → ℕ → Option CondError → ℕ → ShownFrame → List ℕ
-break_text temporary number error h frame = lines_bytes (break_lines temporary number error h frame)
 
 -- ---- exits
 
@@ -149,15 +130,9 @@ gone_trees (Poked p ∷ es) = gone_trees es
 abbrev pub lefts_lines : List Entry → Bool → ℕ → List LineTree
 lefts_lines es all code = gone_trees es ++ (if all then exit_lines code else [])
 
-unfoldable pub lefts_text : List Entry → Bool → ℕ → List ℕ
-lefts_text es all code = lines_bytes (lefts_lines es all code)
-
 -- ---- output
 
 -- the bytes that an instruction wrote; no line where it wrote none
 abbrev pub stream_lines : List ℕ → List LineTree
 stream_lines [] = []
 stream_lines (b ∷ bs) = stream Target (b ∷ bs) ∷ []
-
-unfoldable pub stream_text : List ℕ → List ℕ
-stream_text bytes = lines_bytes (stream_lines bytes)

@@ -6,12 +6,11 @@ use Rattle.dbg_model.specs.declared.watch.Watch.{Watch}
 use Rattle.mi_values.specs.Tree.{Tree}
 use Rattle.mi_values.specs.Record.{LineTree}
 use Rattle.mi_values.specs.FieldLists.{tuple_of}
-use Rattle.mi_values.specs.Records.{lines_bytes}
 use Rattle.mi_reports.specs.declared.words.Key.TheVariants as key
 use Rattle.mi_reports.specs.declared.words.Phrase.TheVariants as phrase
 use Rattle.mi_reports.specs.Words.{key_text, phrase_text, says}
 use Rattle.mi_reports.specs.Text.{place_fields, stopped_line}
-use Rattle.mi_reports.specs.Replies.{worth_text}
+use Rattle.mi_text.specs.Numeral.{worth_text}
 use Rattle.mi_reports.specs.Watches.{watch_field}
 
 -- the watch of that number
@@ -41,6 +40,3 @@ trigger_fields w f h frame = says key.Reason (phrase_text phrase.WatchpointTrigg
 
 abbrev pub trigger_lines : Option Watch → Fired → ℕ → ShownFrame → List LineTree
 trigger_lines w f h frame = stopped_line (trigger_fields w f h frame) ∷ []
-
-unfoldable pub trigger_text : Option Watch → Fired → ℕ → ShownFrame → List ℕ
-trigger_text w f h frame = lines_bytes (trigger_lines w f h frame)

@@ -1,15 +1,15 @@
 // The line of a condition whose value can't be had.
 ghost use Rattle.std.specs.Prelude.{◌≡◌, ◌++◌, OnOk};
-ghost use Rattle.mi_values.specs.Records.{lines_bytes};
 ghost use Rattle.mi_reports.specs.Errors.{condition_error, condition_message};
+ghost use Rattle.mi_reports.specs.Seen.{trees};
 ghost use Rattle.mi_reports.specs.Text.{condition_lines};
 
-use crate::lines::push_stream;
-use crate::numbers::{address_text, append_decimal};
+use crate::lines::LineList;
 use crate::parts::{Part, fixed};
 use break_table::CondError;
+use mi_text::{address_text, write_decimal};
 use mi_values::StreamSign;
-use std::alloc::{AllocError, Global};
+use std::alloc::AllocError;
 
 fn push_error(into: &mut Vec<u8>, error: CondError) -> Result<(), AllocError>
     ensures { OnOk result (into.new.items ≡ into.old.items ++ condition_error error) }
@@ -29,7 +29,7 @@ fn push_message(into: &mut Vec<u8>, number: u32, error: CondError) -> Result<(),
     ensures { OnOk result (into.new.items ≡ into.old.items ++ condition_message number error) }
 {
     into.extend_from_slice(fixed(Part::ConditionError))?;
-    append_decimal(into, u64::from(number))?;
+    write_decimal(u64::from(number), into)?;
     into.extend_from_slice(fixed(Part::Colon))?;
     push_error(into, error)?;
     into.push(b'\n')?;
@@ -38,17 +38,16 @@ fn push_message(into: &mut Vec<u8>, number: u32, error: CondError) -> Result<(),
 
 /// Appends the line of the condition of that breakpoint; none where it had a value.
 pub fn push_condition(
-    alloc: Global,
-    into: &mut Vec<u8>,
+    lines: &mut LineList,
     number: u32,
     error: Option<CondError>,
 ) -> Result<(), AllocError>
-    ensures { OnOk result (into.new.items ≡ into.old.items ++ lines_bytes (condition_lines number error)) }
+    ensures { OnOk result (trees lines.new ≡ trees lines.old ++ condition_lines number error) }
 {
     let Some(error) = error else {
         return Ok(());
     };
-    let mut message = Vec::new(alloc);
+    let mut message = Vec::new(lines.alloc);
     push_message(&mut message, number, error)?;
-    push_stream(into, StreamSign::Log, message)
+    lines.push_stream(StreamSign::Log, message)
 }

@@ -1,18 +1,18 @@
 // Why a line is refused.
 ghost use Rattle.std.specs.Prelude.{◌≡◌, ◌++◌, decimal, OnOk, true};
 ghost use Rattle.mi_values.specs.Testing.{are_bytes};
-ghost use Rattle.mi_reports.specs.Bytes.{address_text};
+ghost use Rattle.mi_text.specs.Numeral.{address_text};
 ghost use Rattle.mi_reports.specs.Messages.{part_text};
 ghost use Rattle.mi_reports.specs.Seen.{seen};
 ghost use Rattle.mi_reports.specs.Errors.{fault_message, expression_message, obstacle_message, message, error_code, error_fields};
 
 use crate::fields::FieldList;
-use crate::numbers::{address_text, append_decimal};
 use crate::parts::{Part, fixed};
 use crate::words::{Key, Phrase};
 use cond_expr::{ExprFault, FaultKind};
 use dbg_model::{Obstacle, Refused};
 use mi_commands::Fault;
+use mi_text::{address_text, write_decimal};
 use std::alloc::AllocError;
 
 fn push_fault(into: &mut Vec<u8>, fault: &Fault) -> Result<(), AllocError>
@@ -50,7 +50,7 @@ fn push_counted(into: &mut Vec<u8>, head: Part, n: u32) -> Result<(), AllocError
     ensures { OnOk result (into.new.items ≡ into.old.items ++ (part_text head ++ decimal n)) }
 {
     push(into, head)?;
-    append_decimal(into, u64::from(n))
+    write_decimal(u64::from(n), into)
 }
 
 // An address behind a text.
@@ -80,17 +80,17 @@ fn push_obstacle(into: &mut Vec<u8>, obstacle: Obstacle) -> Result<(), AllocErro
         Obstacle::UnknownThread(thread) => push_counted(into, Part::UnknownThread, thread),
         Obstacle::HasExited(thread) => {
             push(into, Part::Thread)?;
-            append_decimal(into, u64::from(thread))?;
+            write_decimal(u64::from(thread), into)?;
             push(into, Part::HasExited)
         }
         Obstacle::IsRunning(thread) => {
             push(into, Part::Thread)?;
-            append_decimal(into, u64::from(thread))?;
+            write_decimal(u64::from(thread), into)?;
             push(into, Part::IsRunning)
         }
         Obstacle::NotRunning(thread) => {
             push(into, Part::Thread)?;
-            append_decimal(into, u64::from(thread))?;
+            write_decimal(u64::from(thread), into)?;
             push(into, Part::NotRunning)
         }
         Obstacle::NoBreakpoint(number) => push_counted(into, Part::NoBreakpoint, number),

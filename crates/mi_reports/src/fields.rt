@@ -1,17 +1,17 @@
 // Fields, built one behind the other.
-ghost use Rattle.std.specs.Prelude.{◌≡◌, ◌<◌, ◌++◌, ◌∷◌, [], map, decimal, IfOk, OnOk, true};
+ghost use Rattle.std.specs.Prelude.{◌≡◌, ◌++◌, ◌∷◌, [], map, decimal, IfOk, OnOk, true};
 ghost use Rattle.mi_values.specs.Tree.{text, items, items_of, no_item, value_view};
 ghost use Rattle.mi_values.specs.FieldLists.{tuple_of, in_brackets};
 ghost use Rattle.mi_values.specs.Testing.{are_bytes};
-ghost use Rattle.mi_reports.specs.Bytes.{address_text, exit_code};
+ghost use Rattle.mi_text.specs.Numeral.{address_text, exit_code};
 ghost use Rattle.mi_reports.specs.Fits.{text_fits};
 ghost use Rattle.mi_reports.specs.Seen.{seen};
 ghost use Rattle.mi_reports.specs.Words.{key_text, phrase_text, says, says_some};
 
-use crate::numbers::address_text;
 use crate::words::{Key, Phrase, owned_name, wording};
 use itoa::Buffer;
 use mi_commands::ByteList;
+use mi_text::{address_text, write_exit_code};
 use mi_values::{Name, Value, known_bytes};
 use std::alloc::{AllocError, Global};
 
@@ -136,19 +136,12 @@ impl FieldList {
         self.push(key, none)
     }
 
-    /// Appends a field that is an exit code: `0` and octal digits without leading zeros.
-    #[tactic(auto, unfolding(crate::specs::Bytes::exit_code))]
-    pub fn push_exit_code(&mut self, key: Key, code: u32) -> Result<(), AllocError>
-        requires { code < 256 }
+    /// Appends a field that is an exit code.
+    pub fn push_exit_code(&mut self, key: Key, code: u8) -> Result<(), AllocError>
         ensures { OnOk result (seen self.new ≡ seen self.old ++ says key (exit_code code) ∷ []) }
     {
-        let n = code as u8;
-        if n < 8 {
-            return self.push_text(key, &[b'0', 48 + n]);
-        }
-        if n < 64 {
-            return self.push_text(key, &[b'0', 48 + n / 8, 48 + n % 8]);
-        }
-        self.push_text(key, &[b'0', 48 + n / 64, 48 + n / 8 % 8, 48 + n % 8])
+        let mut text = Vec::new(self.alloc);
+        write_exit_code(code, &mut text)?;
+        self.push_text(key, text.as_slice())
     }
 }

@@ -1,25 +1,26 @@
-// Lines, each written by `write_line`.
-ghost use Rattle.std.specs.Prelude.{◌≡◌, ◌++◌, IfOk, OnOk, true};
+// Lines, built one behind the other, and written by `write_line`.
+ghost use Rattle.std.specs.Prelude.{◌≡◌, ◌∷◌, [], ◌++◌, map, IfOk, OnOk, OnErr, true};
+ghost use Rattle.mi_text.specs.Keeps.{Keeps};
 ghost use Rattle.mi_values.specs.Line.{line_view};
 ghost use Rattle.mi_values.specs.FieldLists.{notice_of, result_of};
-ghost use Rattle.mi_values.specs.Record.{line_bytes, prompt, stream};
+ghost use Rattle.mi_values.specs.Record.{prompt, stream};
+ghost use Rattle.mi_values.specs.Records.{lines_bytes, AreLines};
 ghost use Rattle.mi_values.specs.Tree.{fields_of, fields_view};
 ghost use Rattle.mi_reports.specs.Fits.{are_fit};
-ghost use Rattle.mi_reports.specs.Seen.{seen};
+ghost use Rattle.mi_reports.specs.Seen.{seen, trees};
 ghost use Rattle.mi_reports.specs.Words.{key_text};
 
 use crate::fields::FieldList;
 use crate::words::{Key, owned_name};
+use dbg_traits::NoMemory;
 use mi_values::{Fields, Line, NoticeSign, StreamSign, Token, write_line};
 use std::alloc::{AllocError, Global};
 
-fn push_line(into: &mut Vec<u8>, line: &Line) -> Result<(), AllocError>
-    ensures { OnOk result (into.new.items ≡ into.old.items ++ line_bytes (line_view line.now)) }
-{
-    match write_line(line, into) {
-        Ok(()) => Ok(()),
-        Err(_) => Err(AllocError),
-    }
+/// Lines in order.
+#[derive(Drop)]
+pub struct LineList {
+    pub alloc: Global,
+    pub items: Vec<Line>,
 }
 
 #[tactic(auto, unfolding(crate::specs::Seen::seen))]
@@ -30,69 +31,100 @@ fn of_line(fields: FieldList) -> Fields
     Fields::new(fields.items)
 }
 
-/// Appends the line of what happened.
-#[tactic(auto, unfolding(mi_values::specs::FieldLists::notice_of))]
-pub fn push_notice(
-    into: &mut Vec<u8>,
-    sign: NoticeSign,
-    class: Key,
-    fields: FieldList,
-) -> Result<(), AllocError>
-    requires { are_fit (seen fields) ≡ true }
-    ensures { OnOk result (into.new.items ≡ into.old.items ++ line_bytes (notice_of sign (key_text class) (seen fields))) }
-{
-    let class = owned_name(fields.alloc, class)?;
-    let fields = of_line(fields);
-    push_line(
-        into,
-        &Line::Notice {
-            sign,
-            class,
-            fields,
-        },
-    )
-}
-
 fn copied(alloc: Global, token: &Token) -> Result<Token, AllocError>
     ensures { IfOk result (λ t. t ≡ token.now) }
 {
     Ok(Token::new(Vec::from_slice(alloc, token.as_bytes())?))
 }
 
-/// Appends the line of the answer to a command.
-#[tactic(auto, unfolding(mi_values::specs::FieldLists::result_of))]
-pub fn push_result(
-    into: &mut Vec<u8>,
-    token: &Token,
-    class: Key,
-    fields: FieldList,
-) -> Result<(), AllocError>
-    requires { are_fit (seen fields) ≡ true }
-    ensures { OnOk result (into.new.items ≡ into.old.items ++ line_bytes (result_of token.now (key_text class) (seen fields))) }
+// Puts the text of each line at the end.
+#[tactic(auto, using(std::proofs::lemmas::Grind::common_steps, mi_text::proofs::Kept::keeps_same, mi_text::proofs::Kept::keeps_more, mi_text::proofs::Kept::keeps_on))]
+fn write_all(lines: &[Line], into: &mut Vec<u8>) -> Result<(), NoMemory>
+    ensures written { OnOk result (into.new.items ≡ into.old.items ++ lines_bytes (map line_view lines.now)) }
+    ensures lines { OnOk result (AreLines (map line_view lines.now)) }
+    ensures kept { Keeps into.old.items into.new.items }
 {
-    let token = copied(fields.alloc, token)?;
-    let class = owned_name(fields.alloc, class)?;
-    let fields = of_line(fields);
-    push_line(
-        into,
-        &Line::Result {
+    let [line, rest @ ..] = lines else {
+        return Ok(());
+    };
+    write_line(line, into)?;
+    write_all(rest, into)
+}
+
+impl LineList {
+    #[tactic(auto, using(std::proofs::lemmas::Grind::common_steps), unfolding(crate::specs::Seen::trees))]
+    fn push(&mut self, line: Line) -> Result<(), AllocError>
+        ensures { OnOk result (trees self.new ≡ trees self.old ++ line_view line ∷ []) }
+    {
+        self.items.push(line)?;
+        Ok(())
+    }
+
+    /// Appends the line of what happened.
+    #[tactic(auto, unfolding(mi_values::specs::FieldLists::notice_of))]
+    pub fn push_notice(
+        &mut self,
+        sign: NoticeSign,
+        class: Key,
+        fields: FieldList,
+    ) -> Result<(), AllocError>
+        requires { are_fit (seen fields) ≡ true }
+        ensures { OnOk result (trees self.new ≡ trees self.old ++ notice_of sign (key_text class) (seen fields) ∷ []) }
+    {
+        let class = owned_name(self.alloc, class)?;
+        self.push(Line::Notice {
+            sign,
+            class,
+            fields: of_line(fields),
+        })
+    }
+
+    /// Appends the line of the answer to a command.
+    #[tactic(auto, unfolding(mi_values::specs::FieldLists::result_of))]
+    pub fn push_result(
+        &mut self,
+        token: &Token,
+        class: Key,
+        fields: FieldList,
+    ) -> Result<(), AllocError>
+        requires { are_fit (seen fields) ≡ true }
+        ensures { OnOk result (trees self.new ≡ trees self.old ++ result_of token.now (key_text class) (seen fields) ∷ []) }
+    {
+        let token = copied(self.alloc, token)?;
+        let class = owned_name(self.alloc, class)?;
+        self.push(Line::Result {
             token,
             class,
-            fields,
-        },
-    )
-}
+            fields: of_line(fields),
+        })
+    }
 
-/// Appends the line of a text.
-pub fn push_stream(into: &mut Vec<u8>, sign: StreamSign, bytes: Vec<u8>) -> Result<(), AllocError>
-    ensures { OnOk result (into.new.items ≡ into.old.items ++ line_bytes (stream sign bytes.items)) }
-{
-    push_line(into, &Line::Stream { sign, bytes })
-}
+    /// Appends the line of a text.
+    pub fn push_stream(&mut self, sign: StreamSign, bytes: Vec<u8>) -> Result<(), AllocError>
+        ensures { OnOk result (trees self.new ≡ trees self.old ++ stream sign bytes.items ∷ []) }
+    {
+        self.push(Line::Stream { sign, bytes })
+    }
 
-/// Appends the prompt.
-pub fn push_prompt(into: &mut Vec<u8>) -> Result<(), AllocError>
-    ensures { OnOk result (into.new.items ≡ into.old.items ++ line_bytes prompt) }
-{
-    push_line(into, &Line::Prompt)
+    /// Appends the prompt.
+    pub fn push_prompt(&mut self) -> Result<(), AllocError>
+        ensures { OnOk result (trees self.new ≡ trees self.old ++ prompt ∷ []) }
+    {
+        self.push(Line::Prompt)
+    }
+
+    /// Puts the text of each line at the end. After want of memory the buffer is as before.
+    #[tactic(auto, unfolding(crate::specs::Seen::trees))]
+    pub fn write(&self, into: &mut Vec<u8>) -> Result<(), NoMemory>
+        ensures written { OnOk result (into.new.items ≡ into.old.items ++ lines_bytes (trees self.now)) }
+        ensures lines { OnOk result (AreLines (trees self.now)) }
+        ensures unchanged { OnErr result (into.new.items ≡ into.old.items) }
+    {
+        let before = into.len();
+        if let Err(error) = write_all(self.items.as_slice(), into) {
+            into.truncate(before);
+            return Err(error);
+        }
+        Ok(())
+    }
 }

@@ -2,17 +2,18 @@
 ghost use Rattle.std.specs.Prelude.{◌≡◌, ◌∷◌, [], ◌++◌, map, IfOk, OnOk, true};
 ghost use Rattle.mi_values.specs.Tree.{text, items, items_of, value_view};
 ghost use Rattle.hex.specs.Hex.{encode_lower};
+ghost use Rattle.mi_text.specs.Numeral.{worth_text};
 ghost use Rattle.mi_values.specs.Testing.{are_bytes};
 ghost use Rattle.mi_reports.specs.declared.words.Key.TheVariants as keys;
 ghost use Rattle.mi_reports.specs.Seen.{seen};
 ghost use Rattle.mi_reports.specs.Words.{key_text, says};
-ghost use Rattle.mi_reports.specs.Replies.{signed_text, worth_text, value_text, names_field, register_fields, register_tree, registers_field, block_fields, memory_field};
+ghost use Rattle.mi_reports.specs.Replies.{value_text, names_field, register_fields, register_tree, registers_field, block_fields, memory_field};
 
 use crate::fields::{FieldList, listed, text, tuple};
-use crate::numbers::append_decimal;
-use crate::words::{Key, Phrase, wording};
+use crate::words::Key;
 use dbg_model::Register;
 use mi_commands::Format;
+use mi_text::write_worth;
 use mi_values::Value;
 use std::alloc::{AllocError, Global};
 
@@ -54,32 +55,6 @@ pub fn push_names(fields: &mut FieldList) -> Result<(), AllocError>
     push_these(fields, &NAMES)
 }
 
-// A word as a number by its sign.
-fn signed_text(alloc: Global, value: u32) -> Result<Vec<u8>, AllocError>
-    ensures { IfOk result (λ v. v.items ≡ signed_text value) }
-{
-    let mut text = Vec::new(alloc);
-    if value < 0x8000_0000 {
-        append_decimal(&mut text, u64::from(value))?;
-        return Ok(text);
-    }
-    text.extend_from_slice(wording(Phrase::Minus))?;
-    append_decimal(&mut text, 0x1_0000_0000 - u64::from(value))?;
-    Ok(text)
-}
-
-/// A word as a number, by whether it is unsigned.
-pub fn worth_text(alloc: Global, word: u32, unsigned: bool) -> Result<Vec<u8>, AllocError>
-    ensures { IfOk result (λ v. v.items ≡ worth_text word unsigned) }
-{
-    if !unsigned {
-        return signed_text(alloc, word);
-    }
-    let mut text = Vec::new(alloc);
-    append_decimal(&mut text, u64::from(word))?;
-    Ok(text)
-}
-
 /// Appends a word as a number, by whether it is unsigned.
 pub fn push_worth(
     fields: &mut FieldList,
@@ -89,7 +64,8 @@ pub fn push_worth(
 ) -> Result<(), AllocError>
     ensures { OnOk result (seen fields.new ≡ seen fields.old ++ says key (worth_text word unsigned) ∷ []) }
 {
-    let text = worth_text(fields.alloc, word, unsigned)?;
+    let mut text = Vec::new(fields.alloc);
+    write_worth(word, unsigned, &mut text)?;
     fields.push_text(key, text.as_slice())
 }
 

@@ -1,18 +1,15 @@
 // The lines of replies.
-ghost use Rattle.std.specs.Prelude.{◌≡◌, ◌∷◌, [], ◌++◌, map, IfOk, OnOk, true};
-ghost use Rattle.mi_values.specs.Record.{line_bytes, prompt};
-ghost use Rattle.mi_values.specs.Testing.{are_bytes};
-ghost use Rattle.mi_values.specs.Records.{lines_bytes, AreRecords};
-ghost use Rattle.mi_reports.specs.Errors.{message};
-ghost use Rattle.mi_reports.specs.Fits.{done_fits, content_fits};
-ghost use Rattle.mi_reports.specs.Seen.{seen};
-ghost use Rattle.mi_reports.specs.Replies.{running_line, setting, content_lines, done_fields, done_lines, reply_lines, reply_text};
+ghost use Rattle.std.specs.Prelude.{◌≡◌, ◌∷◌, [], ◌++◌, map, OnOk, true};
+ghost use Rattle.mi_values.specs.Record.{prompt};
+ghost use Rattle.mi_reports.specs.Fits.{done_fits};
+ghost use Rattle.mi_reports.specs.Seen.{seen, trees};
+ghost use Rattle.mi_reports.specs.Replies.{running_line, setting, content_lines, done_fields, done_lines, reply_lines};
 
 use crate::breakpoints::push_breakpoint;
 use crate::errors::push_error;
 use crate::fields::FieldList;
 use crate::frames::{push_frame, push_stack};
-use crate::lines::{push_notice, push_prompt, push_result};
+use crate::lines::LineList;
 use crate::registers::{push_memory, push_names, push_registers, push_worth};
 use crate::table::push_table;
 use crate::threads::{push_numbers, push_threads};
@@ -21,63 +18,55 @@ use crate::words::{Key, Phrase};
 use dbg_model::{Content, Refused, Reply};
 use mi_commands::Displaced;
 use mi_values::{NoticeSign, Token};
-use std::alloc::{AllocError, Global};
+use std::alloc::AllocError;
 
 // A thread goes on.
 #[tactic(auto, using(std::proofs::lemmas::Grind::common_steps, crate::proofs::Replying::running_fit), unfolding(crate::specs::Replies::running_line))]
-fn push_running_line(alloc: Global, into: &mut Vec<u8>, thread: u32) -> Result<(), AllocError>
-    ensures { OnOk result (into.new.items ≡ into.old.items ++ line_bytes (running_line thread)) }
+fn push_running_line(lines: &mut LineList, thread: u32) -> Result<(), AllocError>
+    ensures { OnOk result (trees lines.new ≡ trees lines.old ++ running_line thread ∷ []) }
 {
-    let mut fields = FieldList::new(alloc);
+    let mut fields = FieldList::new(lines.alloc);
     fields.push_word(Key::ThreadId, thread)?;
-    push_notice(into, NoticeSign::Exec, Key::Running, fields)
+    lines.push_notice(NoticeSign::Exec, Key::Running, fields)
 }
 
 // The lines of threads that go on, and the prompt.
-fn push_running(alloc: Global, into: &mut Vec<u8>, threads: &[u32]) -> Result<(), AllocError>
-    ensures { OnOk result (into.new.items ≡ into.old.items ++ lines_bytes (map running_line threads.now ++ prompt ∷ [])) }
+#[tactic(auto, using(std::proofs::lemmas::Grind::common_steps))]
+fn push_running(lines: &mut LineList, threads: &[u32]) -> Result<(), AllocError>
+    ensures { OnOk result (trees lines.new ≡ trees lines.old ++ (map running_line threads.now ++ prompt ∷ [])) }
 {
     let [thread, rest @ ..] = threads else {
-        return push_prompt(into);
+        return lines.push_prompt();
     };
-    push_running_line(alloc, into, *thread)?;
-    push_running(alloc, into, rest)
+    push_running_line(lines, *thread)?;
+    push_running(lines, rest)
 }
 
 #[tactic(auto, using(std::proofs::lemmas::Grind::common_steps, crate::proofs::Proper::none_fit))]
-fn push_going_on(
-    alloc: Global,
-    into: &mut Vec<u8>,
-    token: &Token,
-    threads: &[u32],
-) -> Result<(), AllocError>
-    ensures { OnOk result (into.new.items ≡ into.old.items ++ lines_bytes (content_lines token.now (Content.Running threads.now))) }
+fn push_going_on(lines: &mut LineList, token: &Token, threads: &[u32]) -> Result<(), AllocError>
+    ensures { OnOk result (trees lines.new ≡ trees lines.old ++ content_lines token.now (Content.Running threads.now)) }
 {
-    push_result(into, token, Key::Running, FieldList::new(alloc))?;
-    push_running(alloc, into, threads)
+    let none = FieldList::new(lines.alloc);
+    lines.push_result(token, Key::Running, none)?;
+    push_running(lines, threads)
 }
 
 #[tactic(auto, using(std::proofs::lemmas::Grind::common_steps, crate::proofs::Proper::none_fit))]
-fn push_exit(alloc: Global, into: &mut Vec<u8>, token: &Token) -> Result<(), AllocError>
-    ensures { OnOk result (into.new.items ≡ into.old.items ++ lines_bytes (content_lines token.now Content.Exit)) }
+fn push_exit(lines: &mut LineList, token: &Token) -> Result<(), AllocError>
+    ensures { OnOk result (trees lines.new ≡ trees lines.old ++ content_lines token.now Content.Exit) }
 {
-    push_result(into, token, Key::Exit, FieldList::new(alloc))
+    let none = FieldList::new(lines.alloc);
+    lines.push_result(token, Key::Exit, none)
 }
 
 #[tactic(auto, using(std::proofs::lemmas::Grind::common_steps, crate::proofs::Replying::error_fit))]
-fn push_refused(
-    alloc: Global,
-    into: &mut Vec<u8>,
-    token: &Token,
-    refused: &Refused,
-) -> Result<(), AllocError>
-    ensures written { OnOk result (into.new.items ≡ into.old.items ++ lines_bytes (content_lines token.now (Content.Refused refused.now))) }
-    ensures fits { OnOk result (are_bytes (message refused.now) ≡ true) }
+fn push_refused(lines: &mut LineList, token: &Token, refused: &Refused) -> Result<(), AllocError>
+    ensures { OnOk result (trees lines.new ≡ trees lines.old ++ content_lines token.now (Content.Refused refused.now)) }
 {
-    let mut fields = FieldList::new(alloc);
+    let mut fields = FieldList::new(lines.alloc);
     push_error(&mut fields, refused)?;
-    push_result(into, token, Key::Error, fields)?;
-    push_prompt(into)
+    lines.push_result(token, Key::Error, fields)?;
+    lines.push_prompt()
 }
 
 fn setting(value: Displaced) -> Phrase
@@ -127,48 +116,30 @@ fn push_done(fields: &mut FieldList, content: &Content) -> Result<(), AllocError
 }
 
 #[tactic(auto, using(std::proofs::lemmas::Grind::common_steps, crate::proofs::Replying::done_fit))]
-fn push_answer(
-    alloc: Global,
-    into: &mut Vec<u8>,
-    token: &Token,
-    content: &Content,
-) -> Result<(), AllocError>
-    ensures written { OnOk result (into.new.items ≡ into.old.items ++ lines_bytes (done_lines token.now (done_fields content.now))) }
-    ensures fits { OnOk result (done_fits content.now ≡ true) }
+fn push_answer(lines: &mut LineList, token: &Token, content: &Content) -> Result<(), AllocError>
+    ensures { OnOk result (trees lines.new ≡ trees lines.old ++ done_lines token.now (done_fields content.now)) }
 {
-    let mut fields = FieldList::new(alloc);
+    let mut fields = FieldList::new(lines.alloc);
     push_done(&mut fields, content)?;
-    push_result(into, token, Key::Done, fields)?;
-    push_prompt(into)
+    lines.push_result(token, Key::Done, fields)?;
+    lines.push_prompt()
 }
 
-fn push_content(
-    alloc: Global,
-    into: &mut Vec<u8>,
-    token: &Token,
-    content: &Content,
-) -> Result<(), AllocError>
-    ensures written { OnOk result (into.new.items ≡ into.old.items ++ lines_bytes (content_lines token.now content.now)) }
-    ensures fits { OnOk result (content_fits content.now ≡ true) }
+fn push_content(lines: &mut LineList, token: &Token, content: &Content) -> Result<(), AllocError>
+    ensures { OnOk result (trees lines.new ≡ trees lines.old ++ content_lines token.now content.now) }
 {
     match content {
-        Content::Blank => push_prompt(into),
-        Content::Running(threads) => push_going_on(alloc, into, token, threads.as_slice()),
-        Content::Exit => push_exit(alloc, into, token),
-        Content::Refused(refused) => push_refused(alloc, into, token, refused),
-        _ => push_answer(alloc, into, token, content),
+        Content::Blank => lines.push_prompt(),
+        Content::Running(threads) => push_going_on(lines, token, threads.as_slice()),
+        Content::Exit => push_exit(lines, token),
+        Content::Refused(refused) => push_refused(lines, token, refused),
+        _ => push_answer(lines, token, content),
     }
 }
 
-/// The lines of a reply.
-#[tactic(auto, using(crate::proofs::Grammar::reply_records), unfolding(crate::specs::Replies::reply_text))]
-pub fn reply_text(alloc: Global, reply: &Reply) -> Result<Vec<u8>, AllocError>
-    ensures written { IfOk result (λ v. v.items ≡ reply_text reply.now) }
-    ensures grammar { IfOk result (λ v. AreRecords (reply_text reply.now) (reply_lines reply.now)) }
+/// Appends the lines of a reply.
+pub fn push_reply(lines: &mut LineList, reply: &Reply) -> Result<(), AllocError>
+    ensures { OnOk result (trees lines.new ≡ trees lines.old ++ reply_lines reply.now) }
 {
-    // A token is of digits.
-    let _digits = reply.token.as_bytes();
-    let mut lines = Vec::new(alloc);
-    push_content(alloc, &mut lines, &reply.token, &reply.content)?;
-    Ok(lines)
+    push_content(lines, &reply.token, &reply.content)
 }

@@ -9,9 +9,9 @@ ghost use Rattle.mi_reports.specs.Replies.{state_fields, thread_fields, thread_t
 
 use crate::fields::{FieldList, listed, tuple};
 use crate::frames::push_frame;
-use crate::numbers::append_decimal;
 use crate::words::{Key, Phrase, wording};
 use dbg_model::{ShownFrame, Thread};
+use mi_text::write_decimal;
 use mi_values::Value;
 use std::alloc::{AllocError, Global};
 
@@ -34,7 +34,7 @@ fn hart_name(alloc: Global, number: u32) -> Result<Vec<u8>, AllocError>
     ensures { IfOk result (λ v. v.items ≡ phrase_text phrases.Hart ++ decimal (number - 1)) }
 {
     let mut text = Vec::from_slice(alloc, wording(Phrase::Hart))?;
-    append_decimal(&mut text, u64::from(number.saturating_sub(1)))?;
+    write_decimal(u64::from(number.saturating_sub(1)), &mut text)?;
     Ok(text)
 }
 

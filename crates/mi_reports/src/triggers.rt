@@ -1,21 +1,21 @@
 // The line of a stop by a watch.
-ghost use Rattle.std.specs.Prelude.{◌≡◌, ◌∷◌, [], ◌++◌, IfOk, OnOk, true};
+ghost use Rattle.std.specs.Prelude.{◌≡◌, ◌∷◌, [], ◌++◌, OnOk, true};
 ghost use Rattle.std.specs.Option.{option_copied};
 ghost use Rattle.mi_values.specs.FieldLists.{tuple_of};
-ghost use Rattle.mi_values.specs.Records.{AreRecords};
 ghost use Rattle.mi_values.specs.Testing.{are_bytes};
 ghost use Rattle.mi_reports.specs.declared.words.Key.TheVariants as keys;
-ghost use Rattle.mi_reports.specs.Seen.{seen};
+ghost use Rattle.mi_reports.specs.Seen.{seen, trees};
 ghost use Rattle.mi_reports.specs.Words.{key_text};
-ghost use Rattle.mi_reports.specs.Triggers.{watch_of, expression, is_unsigned, worth_fields, change_fields, trigger_fields, trigger_lines, trigger_text};
+ghost use Rattle.mi_reports.specs.Triggers.{watch_of, expression, is_unsigned, worth_fields, change_fields, trigger_lines};
 
 use crate::fields::{FieldList, tuple};
+use crate::lines::LineList;
 use crate::registers::push_worth;
-use crate::report::{push_place, stopped};
+use crate::stops::{push_place, push_stopped};
 use crate::watches::push_watch;
 use crate::words::{Key, Phrase};
 use dbg_model::{Fired, ShownFrame, Watch};
-use std::alloc::{AllocError, Global};
+use std::alloc::AllocError;
 
 // The watch of that number.
 fn watch_of(watches: &[Watch], number: u32) -> Option<&Watch>
@@ -69,21 +69,20 @@ fn push_change(fields: &mut FieldList, watches: &[Watch], fired: Fired) -> Resul
     push_worths(fields, is_unsigned(watches, fired.number), fired)
 }
 
-/// The line of a stop of a hart by the watch of these that fired, in this frame.
-#[tactic(auto, using(std::proofs::lemmas::Grind::common_steps, crate::proofs::Stopping::trigger_fit, crate::proofs::Stopping::trigger_records), unfolding(crate::specs::Triggers::trigger_fields, crate::specs::Triggers::trigger_text))]
-pub fn trigger_text(
-    alloc: Global,
+/// Appends the line of a stop of a hart by the watch of these that fired, in this frame.
+#[tactic(auto, using(std::proofs::lemmas::Grind::common_steps, crate::proofs::Stopping::trigger_fit), unfolding(crate::specs::Triggers::trigger_fields))]
+pub fn push_trigger(
+    lines: &mut LineList,
     watches: &[Watch],
     fired: Fired,
     hart: u32,
     frame: &ShownFrame,
-) -> Result<Vec<u8>, AllocError>
-    ensures written { IfOk result (λ v. v.items ≡ trigger_text (watch_of watches.now fired.number) fired hart frame.now) }
-    ensures grammar { let w = watch_of watches.now fired.number in IfOk result (λ v. AreRecords (trigger_text w fired hart frame.now) (trigger_lines w fired hart frame.now)) }
+) -> Result<(), AllocError>
+    ensures { OnOk result (trees lines.new ≡ trees lines.old ++ trigger_lines (watch_of watches.now fired.number) fired hart frame.now) }
 {
-    let mut fields = FieldList::new(alloc);
+    let mut fields = FieldList::new(lines.alloc);
     fields.push_phrase(Key::Reason, Phrase::WatchpointTrigger)?;
     push_change(&mut fields, watches, fired)?;
     push_place(&mut fields, hart, frame)?;
-    stopped(fields)
+    push_stopped(lines, fields)
 }

@@ -88,7 +88,6 @@ pub enum Phrase {
     IllegalInstruction,
     Interrupt,
     Kept,
-    Minus,
     No,
     Off,
     On,
@@ -182,7 +181,7 @@ pub fn name(key: Key) -> &'static str
 pub fn owned_name(alloc: Global, key: Key) -> Result<Name, AllocError>
     ensures { IfOk result (λ n. n ≡ key_text key) }
 {
-    Ok(Name::new(Vec::from_slice(alloc, name(key).as_bytes())?))
+    Name::of(alloc, name(key).as_bytes())
 }
 
 /// The bytes of a fixed text.
@@ -205,7 +204,6 @@ pub fn wording(phrase: Phrase) -> &'static [u8]
         Phrase::IllegalInstruction => b"Illegal instruction",
         Phrase::Interrupt => b"Interrupt",
         Phrase::Kept => b"keep",
-        Phrase::Minus => b"-",
         Phrase::No => b"n",
         Phrase::Off => b"off",
         Phrase::On => b"on",

@@ -1,7 +1,8 @@
 //! Words of the command line, lines of input, commands, records, and each text that a session puts, which rows of input ask
 //! for: each row is answered by what came of it.
 //!
-//! The rows are those of the modules' `answer`; in their texts `%` and two hexadecimal digits are a byte.
+//! The rows are those of the modules' `answer`; in their texts `%` and two hexadecimal digits are a byte. A row `stored` asks of
+//! the lines of the file `data/lines`, which are all that the stored sessions put.
 #![tactic(auto)]
 
 mod commands;
@@ -18,11 +19,13 @@ mod words;
 
 use script_rows::{Bench, RowFault, play};
 use std::alloc::Global;
-use std::io;
+use std::{fs, io};
 
-/// Rows work on nothing but what they say.
+/// Rows work on nothing but what they say, and on the stored lines.
 #[derive(Drop)]
-struct Interface;
+struct Interface {
+    lines: Vec<u8>,
+}
 
 impl Bench for Interface {
     fn answer(&mut self, alloc: Global, row: &str) -> Result<String, RowFault> {
@@ -32,6 +35,7 @@ impl Bench for Interface {
             "split" | "long" | "next" => input::answer(alloc, word, rest),
             "command" => commands::answer(alloc, rest),
             "record" | "brackets" | "log" | "made" => records::answer(alloc, word, rest),
+            "stored" => records::told_stored(alloc, &self.lines),
             "reply" => replies::answer(alloc, rest),
             "error" => errors::answer(alloc, rest),
             "opening" | "left" | "stream" | "file" | "usage" => {
@@ -43,5 +47,6 @@ impl Bench for Interface {
 }
 
 fn main(rt: HostRuntime) -> io::Result<()> {
-    play(&rt, rt.alloc(), &mut Interface)
+    let lines = fs::read(&rt, "lines")?;
+    play(&rt, rt.alloc(), &mut Interface { lines })
 }

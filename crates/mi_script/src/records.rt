@@ -118,6 +118,27 @@ fn told_made(alloc: Global, classes: &str) -> Result<String, RowFault> {
     Ok(told_bytes(alloc, &out)?)
 }
 
+// Whether a line is read whole, and what is written of it is the line.
+fn is_kept(alloc: Global, text: &[u8]) -> Result<bool, RowFault> {
+    let Some(line) = front_line(alloc, text)? else {
+        return Ok(false);
+    };
+    Ok(written(alloc, &line)?.as_slice() == text)
+}
+
+/// How many stored lines there are, where each of them is read and written again as it is; else the first that isn't.
+pub fn told_stored(alloc: Global, text: &[u8]) -> Result<String, RowFault> {
+    let mut count = 0u32;
+    for line in text.split_inclusive(|b| *b == b'\n') {
+        if !is_kept(alloc, line)? {
+            let line = told_bytes(alloc, line)?;
+            return Ok(format!(in alloc; "not the same: {line}")?);
+        }
+        count = count.saturating_add(1);
+    }
+    Ok(format!(in alloc; "{count} lines, each read and written again as it is")?)
+}
+
 /// What came of a row: `record TEXT`, `brackets COUNT INNER`, `log BYTES` or `made RESULT NOTICE`.
 pub fn answer(alloc: Global, word: &str, rest: &str) -> Result<String, RowFault> {
     match word {

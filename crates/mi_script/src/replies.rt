@@ -1,8 +1,8 @@
 // Replies as they are put.
 use crate::contents::content;
-use crate::records::told_lines;
+use crate::session::told_event;
 use dbg_model::{Content, Reply};
-use mi_reports::reply_text;
+use mi_reports::Event;
 use mi_values::{Token, is_token};
 use script_rows::{RowFault, read_bytes};
 use std::alloc::Global;
@@ -20,14 +20,10 @@ pub fn token_of(alloc: Global, digits: &str) -> Result<Token, RowFault> {
     }
 }
 
-fn lines_of(alloc: Global, reply: &Reply) -> Result<String, RowFault> {
-    told_lines(alloc, &reply_text(alloc, reply)?)
-}
-
 /// The lines of what is answered to a line with this token.
 pub fn told_reply(alloc: Global, token: Token, content: Content) -> Result<String, RowFault> {
     let reply = Reply { token, content };
-    lines_of(alloc, &reply)
+    told_event(alloc, Event::Answered(&reply))
 }
 
 /// What came of a row `reply TOKEN CONTENT..`.

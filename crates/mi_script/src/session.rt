@@ -2,7 +2,7 @@
 use crate::records::told_lines;
 use dbg_model::Entry;
 use elf32_read::{ElfFault, ElfKind};
-use mi_reports::{bad_file, lefts_text, opening_text, stream_text, usage};
+use mi_reports::{Event, report};
 use script_rows::{RowFault, number, read_bytes};
 use std::alloc::Global;
 
@@ -31,38 +31,51 @@ fn kind(name: &str) -> Option<ElfKind> {
     }
 }
 
+/// The lines of an event. Where they are not what is written of them as they are read again, it is said.
+pub fn told_event(alloc: Global, event: Event<'_>) -> Result<String, RowFault> {
+    let mut lines = Vec::new(alloc);
+    report(event, &mut lines)?;
+    told_lines(alloc, &lines)
+}
+
 // The exits of threads 1 and 16 with a code, beside what else is in a journal.
-fn left(alloc: Global, rest: &str) -> Result<Vec<u8>, RowFault> {
+fn told_left(alloc: Global, rest: &str) -> Result<String, RowFault> {
     let (who, code) = rest.split_once(' ').ok_or(RowFault::Unknown)?;
-    let code = number(code).ok_or(RowFault::Unknown)?;
-    if code >= 256 {
-        return Err(RowFault::Unknown);
-    }
+    let byte: u8 = code.parse().ok().ok_or(RowFault::Unknown)?;
+    let code = u32::from(byte);
     let entries = [
         Entry::Left { hart: 0, code },
         Entry::Counted { hart: 1 },
         Entry::Left { hart: 15, code },
     ];
-    Ok(lefts_text(alloc, &entries, who == "all", code)?)
+    let left = Event::Left {
+        entries: &entries,
+        all: who == "all",
+        code: byte,
+    };
+    told_event(alloc, left)
 }
 
-fn file(alloc: Global, name: &str) -> Result<Vec<u8>, RowFault> {
-    let fault = ElfFault {
+fn fault(name: &str) -> Result<ElfFault, RowFault> {
+    Ok(ElfFault {
         kind: kind(name).ok_or(RowFault::Unknown)?,
         place: 33_554_432,
-    };
-    Ok(bad_file(alloc, fault)?)
+    })
+}
+
+fn told_opening(alloc: Global, harts: &str) -> Result<String, RowFault> {
+    let harts = number(harts).ok_or(RowFault::Unknown)?;
+    told_event(alloc, Event::Opening { harts })
 }
 
 /// What came of a row: `opening HARTS`, `left WHO CODE`, of which who is `all` or `some`, `stream BYTES`, `file KIND` or
 /// `usage`.
 pub fn answer(alloc: Global, word: &str, rest: &str) -> Result<String, RowFault> {
-    let text = match word {
-        "opening" => opening_text(alloc, number(rest).ok_or(RowFault::Unknown)?)?,
-        "left" => left(alloc, rest)?,
-        "stream" => stream_text(alloc, &read_bytes(alloc, rest)?)?,
-        "file" => file(alloc, rest)?,
-        _ => usage(alloc)?,
-    };
-    told_lines(alloc, &text)
+    match word {
+        "opening" => told_opening(alloc, rest),
+        "left" => told_left(alloc, rest),
+        "stream" => told_event(alloc, Event::Wrote(&read_bytes(alloc, rest)?)),
+        "file" => told_event(alloc, Event::BadFile(fault(rest)?)),
+        _ => told_event(alloc, Event::Usage),
+    }
 }

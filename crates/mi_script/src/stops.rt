@@ -1,12 +1,10 @@
 // Stops of hart 1, which is thread 2.
 use crate::frames::frame;
 use crate::listed::watch;
-use crate::records::told_lines;
+use crate::session::told_event;
 use break_table::CondError;
 use dbg_model::{Fired, ShownFrame, Watch};
-use mi_reports::{
-    Hit, break_text, finished_text, interrupt_text, stepped_text, stop_text, trigger_text,
-};
+use mi_reports::{Event, Hit, Stop};
 use rv_exec::Cause;
 use script_rows::{RowFault, number, three};
 use std::alloc::{AllocError, Global};
@@ -46,29 +44,39 @@ fn watches(alloc: Global) -> Result<Vec<Watch>, AllocError> {
     Ok(watches)
 }
 
-fn trigger(alloc: Global, frame: &ShownFrame, numbers: &str) -> Result<Vec<u8>, RowFault> {
+// The lines of a stop in a frame.
+fn told_stop(alloc: Global, frame: &ShownFrame, stop: Stop<'_>) -> Result<String, RowFault> {
+    let stopped = Event::Stopped {
+        stop,
+        hart: 1,
+        frame,
+    };
+    told_event(alloc, stopped)
+}
+
+fn told_trigger(alloc: Global, frame: &ShownFrame, numbers: &str) -> Result<String, RowFault> {
     let (number, old, new) = three(numbers).ok_or(RowFault::Unknown)?;
     let fired = Fired { number, old, new };
     let watches = watches(alloc)?;
-    Ok(trigger_text(alloc, &watches, fired, 1, frame)?)
+    let stop = Stop::Triggered {
+        watches: &watches,
+        fired,
+    };
+    told_stop(alloc, frame, stop)
 }
 
-fn broken(alloc: Global, frame: &ShownFrame, rest: &str) -> Result<Vec<u8>, RowFault> {
-    let (disposition, error) = rest.split_once(' ').unwrap_or((rest, ""));
-    let hit = hit(disposition, error).ok_or(RowFault::Unknown)?;
-    Ok(break_text(alloc, hit, 1, frame)?)
-}
-
-// The lines of a stop in a frame.
-fn text_of(alloc: Global, frame: &ShownFrame, word: &str, rest: &str) -> Result<Vec<u8>, RowFault> {
+// A stop that its words say all of.
+fn stop_of(word: &str, rest: &str) -> Option<Stop<'static>> {
     match word {
-        "fault" => Ok(stop_text(alloc, cause(rest).ok_or(RowFault::Unknown)?, 1, frame)?),
-        "hit" => broken(alloc, frame, rest),
-        "trigger" => trigger(alloc, frame, rest),
-        "interrupted" => Ok(interrupt_text(alloc, 1, frame)?),
-        "stepped" => Ok(stepped_text(alloc, 1, frame)?),
-        "finished" => Ok(finished_text(alloc, 1, frame)?),
-        _ => Err(RowFault::Unknown),
+        "fault" => Some(Stop::Fault(cause(rest)?)),
+        "hit" => {
+            let (disposition, error) = rest.split_once(' ').unwrap_or((rest, ""));
+            Some(Stop::Hit(hit(disposition, error)?))
+        }
+        "interrupted" => Some(Stop::Interrupted),
+        "stepped" => Some(Stop::Stepped),
+        "finished" => Some(Stop::Finished),
+        _ => None,
     }
 }
 
@@ -78,6 +86,9 @@ fn text_of(alloc: Global, frame: &ShownFrame, word: &str, rest: &str) -> Result<
 pub fn answer(alloc: Global, word: &str, rest: &str) -> Result<String, RowFault> {
     let (known, rest) = rest.split_once(' ').unwrap_or((rest, ""));
     let frame = frame(alloc, known)?;
-    let text = text_of(alloc, &frame, word, rest)?;
-    told_lines(alloc, &text)
+    if word == "trigger" {
+        return told_trigger(alloc, &frame, rest);
+    }
+    let stop = stop_of(word, rest).ok_or(RowFault::Unknown)?;
+    told_stop(alloc, &frame, stop)
 }

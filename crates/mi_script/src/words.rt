@@ -1,16 +1,8 @@
 // Words of the command line, and what they ask for.
-use dbg_traits::{ArgText, Settings};
+use dbg_traits::Settings;
 use dbg_words::{Request, read_words};
-use script_rows::RowFault;
+use script_rows::{RowFault, arguments};
 use std::alloc::{AllocError, Global};
-
-fn words_of(alloc: Global, text: &str) -> Result<Vec<ArgText>, AllocError> {
-    let mut words = Vec::new(alloc);
-    for word in text.split(' ') {
-        words.push(ArgText::of(String::from_str(alloc, word)?))?;
-    }
-    Ok(words)
-}
 
 // The settings in the order of their fields.
 fn told_settings(alloc: Global, settings: Settings) -> Result<String, AllocError> {
@@ -47,7 +39,7 @@ fn told(alloc: Global, request: &Request) -> Result<String, AllocError> {
 pub fn answer(alloc: Global, word: &str, text: &str) -> Result<String, RowFault> {
     let mut words = Vec::new(alloc);
     if word == "words" {
-        words = words_of(alloc, text)?;
+        words = arguments(alloc, text)?;
     }
     match read_words(alloc, &words) {
         Ok(Some(request)) => Ok(told(alloc, &request)?),

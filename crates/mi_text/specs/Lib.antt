@@ -5,4 +5,5 @@ pub mod CString
 pub mod Escape
 pub mod Text
 pub mod Number
+pub mod Numeral
 pub mod Hexadecimal

@@ -3,7 +3,6 @@
 ghost use Rattle.std.specs.Prelude.{◌≡◌};
 ghost use Rattle.mi_text.specs.declared.fault.ReadFault.TheVariants as faults;
 
-use dbg_traits::NoMemory;
 use std::alloc::{AllocError, AllocFailed};
 use thiserror::Error;
 
@@ -14,14 +13,6 @@ pub enum ReadFault {
     /// The bytes begin with nothing of the form that is read.
     #[error("nothing of this form stands there")]
     Text,
-}
-
-impl From<NoMemory> for ReadFault {
-    ghost from_gives = { λ _ e. e ≡ faults.NoMemory };
-
-    fn from(_: NoMemory) -> ReadFault {
-        ReadFault::NoMemory
-    }
 }
 
 impl From<AllocError> for ReadFault {

@@ -27,9 +27,11 @@ impl Model for Token {
 }
 
 impl Token {
-    /// The greatest number of digits.
+    /// The most digits that a token has.
     pub const MOST: usize = 18;
 
+    /// The token of at most 18 bytes, each a decimal digit (`is_token` tells whether they are); it keeps their memory. No bytes are no
+    /// token.
     pub fn new(digits: Vec<u8>) -> Token
         requires { is_token digits.items ≡ true }
         ensures { result ≡ digits.items }
@@ -37,7 +39,7 @@ impl Token {
         Token { digits }
     }
 
-    /// No token.
+    /// No token: no digits.
     pub fn none(alloc: Global) -> Token
         ensures { result ≡ [] }
     {
@@ -46,6 +48,7 @@ impl Token {
         }
     }
 
+    /// The digits, at most 18 bytes; none where there is no token.
     pub fn as_bytes(&self) -> &[u8]
         ensures value { result.now ≡ self.now }
         ensures token { is_token self.now ≡ true }

@@ -3,8 +3,7 @@
 ghost use Rattle.std.specs.Prelude.{◌≡◌, true, IfOk};
 ghost use Rattle.mi_values.specs.Name.{is_name, is_name_byte, are_name_bytes};
 
-use dbg_traits::NoMemory;
-use std::alloc::Global;
+use std::alloc::{AllocError, Global};
 use std::marker::Model;
 
 /// The name of a field, or a line's class. Contracts see its bytes.
@@ -25,6 +24,7 @@ impl Model for Name {
 }
 
 impl Name {
+    /// The name of one or more bytes that may stand in one (`is_name` tells whether they are a name); it keeps their memory.
     pub fn new(bytes: Vec<u8>) -> Name
         requires { is_name bytes.items ≡ true }
         ensures { result ≡ bytes.items }
@@ -32,8 +32,8 @@ impl Name {
         Name { bytes }
     }
 
-    /// The name of these bytes, as a literal of the caller.
-    pub fn of(alloc: Global, bytes: &[u8]) -> Result<Name, NoMemory>
+    /// The name of these bytes, as a literal of the caller, in memory of its own.
+    pub fn of(alloc: Global, bytes: &[u8]) -> Result<Name, AllocError>
         requires { is_name bytes.now ≡ true }
         ensures { IfOk result (λ name. name ≡ bytes.now) }
     {
@@ -42,6 +42,7 @@ impl Name {
         })
     }
 
+    /// Its bytes, one or more.
     pub fn as_bytes(&self) -> &[u8]
         ensures value { result.now ≡ self.now }
         ensures name { is_name self.now ≡ true }
@@ -50,6 +51,7 @@ impl Name {
     }
 }
 
+/// Whether this byte may stand in a name.
 pub fn is_name_byte(b: u8) -> bool
     ensures { result ≡ is_name_byte b }
 {

@@ -1,5 +1,5 @@
 -- Numbers as text: addresses as GDB writes them (GDB manual, "GDB/MI Output Syntax"), exit codes in octal ("GDB/MI Async Records").
-use Rattle.std.specs.Prelude.{ℕ, ◌+◌, ◌/◌, ◌%◌, List, [], ◌∷◌, ◌++◌, if◌then◌else◌, nat_lt, codes}
+use Rattle.std.specs.Prelude.{ℕ, ◌+◌, ◌-◌, ◌/◌, ◌%◌, ◌^◌, Bool, List, [], ◌∷◌, ◌++◌, if◌then◌else◌, nat_lt, decimal, codes}
 
 abbrev pub hex_digit : ℕ → ℕ
 hex_digit d = if nat_lt d 10 then 48 + d else 87 + d
@@ -16,3 +16,11 @@ exit_code n =
     48 ∷ (if nat_lt n 8 then (48 + n) ∷ []
     else if nat_lt n 64 then (48 + n / 8) ∷ (48 + n % 8) ∷ []
     else (48 + n / 64) ∷ (48 + n / 8 % 8) ∷ (48 + n % 8) ∷ [])
+
+-- a word as a number by its sign
+abbrev pub signed_text : ℕ → List ℕ
+signed_text v = if nat_lt v (2 ^ 31) then decimal v else codes "-" ++ decimal (2 ^ 32 - v)
+
+-- a word as a number, by whether it is unsigned
+abbrev pub worth_text : ℕ → Bool → List ℕ
+worth_text v unsigned = if unsigned then decimal v else signed_text v
