@@ -16,10 +16,9 @@ use Rattle.dbg_model.proofs.Options.{same_some}
 use Rattle.mi_values.specs.Record.{LineTree}
 use Rattle.mi_values.specs.Records.{lines_bytes, AreLines, AreRecords}
 use Rattle.mi_values.proofs.Joined.{records_joined}
-use Rattle.mi_reports.specs.Text.{opening_text}
+use Rattle.mi_reports.specs.Text.{opening_lines}
 use Rattle.mi_reports.specs.Said.{said, said_lines}
 use Rattle.mi_reports.proofs.Saying.{said_nothing}
-use Rattle.mi_reports.proofs.Grammar.{opening_records}
 use Rattle.dbg_model.specs.Reply.{done_by}
 use Rattle.dbg_engine.specs.Calls.{pokes_of}
 use Rattle.dbg_session.specs.Stage.{Stage}
@@ -345,9 +344,8 @@ some_put : (o : Option (List ℕ)) (text : List ℕ) (trees : List LineTree) (n 
 some_put None text trees n h are = tt
 some_put (Some bytes) text trees n h are = (are.lines, (drop n text, ap (λ t. (t ++ take n text) ++ drop n text) h ∙ (take-append-drop n text ∙ are.text)))
 
-opened_with : (r : Stage) → r.journal ≡ [] → AreRecords (opening_text r.opening.settings.harts) (lines_by r)
-opened_with r h =
-    subst (λ (trees : List LineTree). AreRecords (opening_text r.opening.settings.harts) trees) (sym (ap (said_lines r.opening) h ∙ said_nothing r.opening)) (opening_records r.opening.settings.harts)
+opened_with : (r : Stage) (text : List ℕ) → r.journal ≡ [] → AreRecords text (opening_lines r.opening.settings.harts) → AreRecords text (lines_by r)
+opened_with r text h are = subst (λ (trees : List LineTree). AreRecords text trees) (sym (ap (said_lines r.opening) h ∙ said_nothing r.opening)) are
 
 first_left : (o : Opening) (s : State) → Leaves o [] s → first_state o ≡ s
 unfolding replay
@@ -361,32 +359,32 @@ begins r leaves none ranges =
     let some = ranges.budget.0 in
     subst (λ (s : State). GoesOn (record r { state = s }) 0) is (record { below = record { budget = omega arith; history = omega arith; input = omega arith }; open_ = refl })
 
-pub tied_open : (b : Bool) (t u : Told) (r : Stage) → IsReady t r → GoesOn r 0 → PutsAll b (opening_text r.opening.settings.harts) t u → IsTied (cond b None (Some status.WriteFault)) u r (record { rest = []; count = 0; ended = false })
-tied_open true t u r h goes puts = rw puts (record {
+pub tied_open : (b : Bool) (t u : Told) (r : Stage) (text : List ℕ) → IsReady t r → GoesOn r 0 → AreRecords text (opening_lines r.opening.settings.harts) → PutsAll b text t u → IsTied (cond b None (Some status.WriteFault)) u r (record { rest = []; count = 0; ended = false })
+tied_open true t u r text h goes are puts = rw puts (record {
   held = record {
-    file = opened_as t (record t { written = more t.written (opening_text r.opening.settings.harts) }) r.opening r.opening refl h.opened refl refl refl refl refl refl;
+    file = opened_as t (record t { written = more t.written text }) r.opening r.opening refl h.opened refl refl refl refl refl refl;
     input = rw h.journal (gives_none t.polled h.polled);
     polled = count_none t.polled h.polled;
     count = h.taken;
     ended = h.running;
     asks = told_none r.opening r.journal t.polled t.asks h.asks;
   };
-  written = all_put t.written (opening_text r.opening.settings.harts) (lines_by r) h.written (opened_with r h.journal);
+  written = all_put t.written text (lines_by r) h.written (opened_with r text h.journal are);
   cause = (record { file = h.clean.file; poll = h.clean.poll; put = h.clean.put }, goes);
 })
-tied_open false t u r h goes puts =
+tied_open false t u r text h goes are puts =
     let c = h.clean.put in
     let rose : 0 < puts.1 = omega (arith, puts.2) in
     rw puts.3 (record {
       held = record {
-        file = opened_as t (record t { written = more t.written (take puts.0 (opening_text r.opening.settings.harts)); put_faults = puts.1 }) r.opening r.opening refl h.opened refl refl refl refl refl refl;
+        file = opened_as t (record t { written = more t.written (take puts.0 text); put_faults = puts.1 }) r.opening r.opening refl h.opened refl refl refl refl refl refl;
         input = rw h.journal (gives_none t.polled h.polled);
         polled = count_none t.polled h.polled;
         count = h.taken;
         ended = h.running;
         asks = told_none r.opening r.journal t.polled t.asks h.asks;
       };
-      written = some_put t.written (opening_text r.opening.settings.harts) (lines_by r) puts.0 h.written (opened_with r h.journal);
+      written = some_put t.written text (lines_by r) puts.0 h.written (opened_with r text h.journal are);
       cause = rose;
     })
 

@@ -1,10 +1,8 @@
 -- Texts that are written are lines.
-use Rattle.std.proofs.Common.{◌≡◌, ℕ, List, [], subst, sym}
+use Rattle.std.proofs.Common.{◌≡◌, ℕ, List, [], ◌++◌, ap, ◌∙◌}
 use Rattle.mi_values.specs.Record.{LineTree}
-use Rattle.mi_values.specs.Records.{AreRecords}
+use Rattle.mi_values.specs.Records.{AreLines, AreRecords, lines_bytes}
 
-pub written_as : (text written : List ℕ) (trees : List LineTree) → written ≡ text → AreRecords text trees → AreRecords written trees
-written_as text written trees same are = subst (λ (t : List ℕ). AreRecords t trees) (sym same) are
-
-pub nothing_written : (written : List ℕ) → written ≡ [] → AreRecords written []
-nothing_written written none = record { lines = tt; text = none }
+-- what was put into an empty buffer
+pub written_as : (piece new old : List ℕ) (trees : List LineTree) → piece ≡ new → new ≡ old ++ lines_bytes trees → old ≡ [] → AreLines trees → AreRecords piece trees
+written_as piece new old trees same put none are = record { lines = are; text = same ∙ (put ∙ ap (λ (t : List ℕ). t ++ lines_bytes trees) none) }

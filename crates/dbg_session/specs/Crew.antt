@@ -1,5 +1,5 @@
 -- What the duties of a session are, and what becomes of the jobs that they give: this project's own rules.
-use Rattle.std.specs.Prelude.{◌≡◌, ◌⊎◌, ◌≤◌, ◌-◌, ℕ, zero, suc, ◌&&◌, ◌==◌, nat_lt, Bool, true, false, cond, List, slice_set, Option, None, Some, is_none, is_some}
+use Rattle.std.specs.Prelude.{◌≡◌, ◌⊎◌, ◌≤◌, ◌-◌, ℕ, zero, suc, ◌&&◌, ◌==◌, nat_lt, Bool, true, false, cond, List, slice_set, Option, None, Some, is_none, is_some, if◌then◌else◌}
 use Rattle.std.specs.List.{slice_index_or}
 use Rattle.rv_exec.specs.Registers.{Registers}
 use Rattle.reg_slices.specs.declared.slice.Job.{Job}
@@ -7,11 +7,13 @@ use Rattle.reg_slices.specs.declared.slice.Slice.{Slice}
 use Rattle.reg_slices.specs.Slices.{SliceOf}
 use Rattle.hart_workers.specs.declared.crew.Duty.{Duty}
 use Rattle.hart_workers.specs.declared.crew.Duty.TheVariants as duties
+use Rattle.dbg_model.specs.State.{any_runs}
 use Rattle.dbg_engine.specs.Several.{lengthened_by}
 use Rattle.dbg_engine.specs.Slicing.{gives_job_in, IsJobIn, CanTakeIn}
-use Rattle.dbg_engine.specs.Steps.{NoneOut}
+use Rattle.dbg_engine.specs.Steps.{NoneOut, next_running}
 use Rattle.dbg_session.specs.Stage.{Stage}
 use Rattle.dbg_session.specs.Round.{Moment, Moved, Round}
+use Rattle.dbg_session.specs.Steps.{can_do}
 use Rattle.dbg_session.specs.declared.status.Status.TheVariants as status
 
 -- whether a hart gives a job
@@ -44,7 +46,12 @@ abbrev pub nearer : Option ℕ → Moment → Moment
 nearer None p = p
 nearer (Some h) p = record p { pause = slice_set p.pause h (pause_of p.pause h - 1) }
 
--- the job of the hart that was picked is handed out, where that gives one and doesn't pause, and it is out from then on
+-- the job of a hart is handed out, where that gives one, and it is out from then on
+abbrev pub Gives : ℕ → Option Job → Moment → Moment → Type 0
+Gives h None p q = (gives_job p.run h ≡ false) × (q ≡ p)
+Gives h (Some job) p q = (gives_job p.run h ≡ true) × (job.hart ≡ h) × IsJobOf p.run job × (q ≡ marked p h true)
+
+-- the job of the hart that was picked is handed out, where that gives one and doesn't pause
 abbrev pub HandsOut : Option ℕ → Option Job → Moment → Moment → Type 0
 HandsOut pick None p q = (has_job pick p ≡ false) × (q ≡ nearer pick p)
 HandsOut pick (Some job) p q = (has_job pick p ≡ true) × (pick ≡ Some job.hart) × IsJobOf p.run job × (q ≡ marked (nearer pick p) job.hart true)
@@ -56,6 +63,20 @@ pub record Goes (job : Option Job) (p q : Moment) : Type 0 where
   pub between : Moment
   pub round : Round pick p between
   pub hands : HandsOut pick job between q
+
+-- the hart that was picked, where the session goes on and the hart doesn't pause
+abbrev pub ready_of : Option ℕ → Moment → Option ℕ
+ready_of None p = None
+ready_of (Some h) p = if is_none p.status && (pause_of p.pause h == 0) then Some h else None
+
+-- a round up to what is handed out, and the hart that may give a job then
+pub record Reaches (found : Option ℕ) (p q : Moment) : Type 0 where
+  pub going : p.status ≡ None
+  pub pick : Option ℕ
+  pub between : Moment
+  pub round : Round pick p between
+  pub ready : found ≡ ready_of pick between
+  pub is : q ≡ nearer pick between
 
 -- One duty: it is over where the status was set when it began.
 abbrev pub Duties : Duty Job → Moment → Moment → Type 0
@@ -105,14 +126,25 @@ returned p slice = record p { out = slice_set p.out slice.hart false; pause = sl
 abbrev pub TakesBack : Slice → Moment → Moment → Type 0
 TakesBack slice p q = TakesBy (is_none p.status && nat_lt 0 slice.count) slice (returned p slice) q
 
--- so many rounds, one after the other, in a session that goes on before each
-abbrev pub Rounds : ℕ → Moment → Moment → Type 0
-Rounds zero p q = q ≡ p
-Rounds (suc n) p q = (m : Moment) × Rounds n p m × (m.status ≡ None) × ((pick : Option ℕ) × Round pick m q)
+-- one duty, and where it gave a job the work of that, which is taken back at once
+abbrev pub Serves : Option Job → Moment → Moment → Type 0
+Serves None p q = Goes None p q
+Serves (Some job) p q = (m : Moment) × Goes (Some job) p m × ((slice : Slice) × IsWorkOf job slice × TakesBack slice m q)
 
--- the session forgets whose jobs are out, and goes so many rounds, in which no job is given
+-- so many duties, one after the other
+abbrev pub ServesFor : ℕ → Moment → Moment → Type 0
+ServesFor zero p q = q ≡ p
+ServesFor (suc n) p q = (m : Moment) × ServesFor n p m × ((job : Option Job) × Serves job m q)
+
+-- the session forgets whose jobs are out, and does so many duties
 pub record ServesAlone (p q : Moment) : Type 0 where
   pub out : List Bool
   pub none : NoneOut out
   pub count : ℕ
-  pub rounds : Rounds count (record p { out = out }) q
+  pub serves : ServesFor count (record p { out = out }) q
+
+-- harts run, each of which has its job out, and no line can be done meanwhile
+pub record IsIdle (p : Moment) : Type 0 where
+  pub running : any_runs p.run.state.harts ≡ true
+  pub out : next_running p.run.minds p.out p.next ≡ None
+  pub waits : can_do p.run p.input.ended p.input.rest ≡ false

@@ -20,7 +20,7 @@ use dbg_traits::{ArgText, Gate, Settings, World};
 use elf_gen::{generate, script};
 use elf32_read::{ElfReadError, Image, read_image};
 use hart_workers::run_crew;
-use mi_reports::{bad_file, opening_text, usage};
+use mi_reports::{Event, report};
 use std::alloc::Global;
 use std::sync::{Mutex, Wait};
 use std::thread::Threads;
@@ -50,12 +50,16 @@ fn begin<W: World>(
     requires early { Early Status.NoMemory (W.told outside.world) }
     ensures { MatchResult result (λ _. Unit {0}) (λ e. (e.closed ≡ None) × Early e.status (W.told e.world)) }
 {
-    let Ok(text) = opening_text(alloc, settings.harts) else {
+    let mut lines = Vec::new(alloc);
+    let opening = Event::Opening {
+        harts: settings.harts,
+    };
+    let Ok(()) = report(opening, &mut lines) else {
         let (world, _script) = outside.into_parts();
         return Err(early(Status::NoMemory, world));
     };
     match Engine::load(alloc, Opening { image, settings }) {
-        Ok(engine) => Ok(Session::open(alloc, outside, engine, text.as_slice())),
+        Ok(engine) => Ok(Session::open(alloc, outside, engine, lines)),
         Err(_) => {
             let (world, _script) = outside.into_parts();
             Err(early(Status::NoMemory, world))
@@ -85,7 +89,8 @@ fn load_file<W: World>(
     let image = match read_image(alloc, bytes) {
         Ok(image) => image,
         Err(ElfReadError::Fault(fault)) => {
-            let Ok(text) = bad_file(alloc, fault) else {
+            let mut text = Vec::new(alloc);
+            let Ok(()) = report(Event::BadFile(fault), &mut text) else {
                 return Err(early(Status::NoMemory, world));
             };
             put_all(&mut world, text.as_slice());
@@ -132,7 +137,8 @@ fn load<W: World>(alloc: Global, world: W) -> Result<Session<Outside<W>>, Ended<
     let served = match served_words(alloc, world.words()) {
         Ok(Some(served)) => served,
         Ok(None) => {
-            let Ok(line) = usage(alloc) else {
+            let mut line = Vec::new(alloc);
+            let Ok(()) = report(Event::Usage, &mut line) else {
                 return Err(early(Status::NoMemory, world));
             };
             put_all(&mut world, line.as_slice());

@@ -35,6 +35,8 @@ pub struct Session<W: World> {
     piece: [u8; PIECE],
     buffer: Vec<u8>,
     start: usize,
+    // The lines that were put last, in memory that the next ones take over.
+    lines: Vec<u8>,
     count: u64,
     ended: bool,
     // What is known of the rest of the input, which begins at `start`.
@@ -76,26 +78,27 @@ impl<W: World> Model for Session<W> {
 impl<W: World> Session<W> {
     ghost use Rattle.dbg_session.specs.Ties.{IsReady};
     ghost use Rattle.dbg_session.specs.Stage.{stage_of};
-    ghost use Rattle.mi_reports.specs.Text.{opening_text};
+    ghost use Rattle.mi_values.specs.Records.{AreRecords};
+    ghost use Rattle.mi_reports.specs.Text.{opening_lines};
     ghost use Rattle.dbg_session.specs.Puts.{PutsAll};
     ghost use Rattle.std.specs.Prelude.{is_none};
     ghost use Rattle.engine_facts.specs.Facts.{Facts};
 
     /// A session over an engine, with its opening lines.
-    pub fn open(alloc: Global, world: W, engine: Engine, opening: &[u8]) -> Session<W>
+    pub fn open(alloc: Global, world: W, engine: Engine, opening: Vec<u8>) -> Session<W>
         requires ready { IsReady (W.told world) (stage_of engine) }
-        requires text { opening.now ≡ opening_text engine.opening.settings.harts }
+        requires lines { AreRecords opening.items (opening_lines engine.opening.settings.harts) }
         requires facts { Facts engine }
         ensures run { result.run ≡ stage_of engine }
         ensures input { result.input ≡ record { rest = []; count = 0; ended = false } }
         ensures next { result.next ≡ 0 }
         ensures out { NoneOut result.out }
         ensures pause { NonePauses result.pause }
-        ensures puts { PutsAll (is_none result.status) opening.now (W.told world) (W.told result.world) }
+        ensures puts { PutsAll (is_none result.status) opening.items (W.told world) (W.told result.world) }
         ensures status { result.status ≡ (if is_none result.status then None else Some Status.WriteFault) }
     {
         let mut world = world;
-        let status = status_of(put_all(&mut world, opening));
+        let status = status_of(put_all(&mut world, opening.as_slice()));
         Session {
             alloc,
             world,
@@ -103,6 +106,7 @@ impl<W: World> Session<W> {
             piece: [0u8; PIECE],
             buffer: Vec::new(alloc),
             start: 0,
+            lines: opening,
             count: 0,
             ended: false,
             known: Known::Open,
@@ -190,6 +194,7 @@ impl<W: World> Session<W> {
             &mut self.engine,
             &self.buffer[self.start..],
             self.ended,
+            &mut self.lines,
         );
         self.known = Known::Open;
         match done {
@@ -282,6 +287,7 @@ impl<W: World> Session<W> {
             piece: _,
             buffer: _,
             start: _,
+            lines: _,
             count: _,
             ended: _,
             known: _,

@@ -1,7 +1,9 @@
 // The steps of a session, over its parts.
-ghost use Rattle.std.specs.Prelude.{◌≡◌, ◌<◌, ◌≤◌, ◌+◌, length, IfOk, true, false};
+ghost use Rattle.std.specs.Prelude.{◌≡◌, ◌<◌, ◌≤◌, ◌+◌, ◌++◌, length, OnOk, true, false};
 ghost use Rattle.dbg_engine.specs.Steps.{IsTurned};
-ghost use Rattle.mi_values.specs.Records.{AreRecords};
+ghost use Rattle.mi_values.specs.Records.{lines_bytes, AreLines};
+ghost use Rattle.mi_reports.specs.Events.{stopping_lines};
+ghost use Rattle.dbg_model.specs.Places.{own_frame};
 ghost use Rattle.dbg_session.specs.Stage.{stage_of};
 ghost use Rattle.dbg_session.specs.Turned.{turned_lines, wrote_lines, left_lines, has_moved};
 ghost use Rattle.dbg_session.specs.Steps.{Turns, Goes, Does, Inputs};
@@ -15,11 +17,8 @@ use crate::puts::put_all;
 use dbg_engine::{Engine, SPARE, Turned, read_line};
 use dbg_traits::{NoMemory, Polled, World};
 use mi_input::next_line;
-use mi_reports::{
-    Hit, break_text, finished_text, interrupt_text, lefts_text, reply_text, stepped_text,
-    stop_text, stream_text, trigger_text,
-};
-use std::alloc::{AllocError, Global};
+use mi_reports::{Event, Hit, Stop, report};
+use std::alloc::Global;
 
 /// The most bytes of one poll.
 pub const PIECE: usize = 4096;
@@ -60,45 +59,76 @@ pub enum Input {
     NoMemory,
 }
 
-// The line of the bytes of a range.
-#[tactic(auto, using(crate::proofs::Writing::written_as, crate::proofs::Writing::nothing_written))]
-fn wrote_text(alloc: Global, engine: &Engine, addr: u32, len: u32) -> Result<Vec<u8>, AllocError>
-    ensures { IfOk result (λ v. AreRecords v.items (wrote_lines engine.now addr len)) }
+// Puts the line of the bytes of a range at the end.
+fn report_bytes(
+    alloc: Global,
+    engine: &Engine,
+    addr: u32,
+    len: u32,
+    into: &mut Vec<u8>,
+) -> Result<(), NoMemory>
+    ensures written { OnOk result (into.new.items ≡ into.old.items ++ lines_bytes (wrote_lines engine.now addr len)) }
+    ensures grammar { OnOk result (AreLines (wrote_lines engine.now addr len)) }
 {
     let mut bytes = vec![in alloc; 0u8; len as usize]?;
     match engine.read_range(addr, bytes.as_mut_slice()) {
-        Ok(()) => stream_text(alloc, bytes.as_slice()),
-        Err(_) => Ok(Vec::new(alloc)),
+        Ok(()) => report(Event::Wrote(bytes.as_slice()), into),
+        Err(_) => Ok(()),
     }
 }
 
-// The lines of the last exits of the journal.
-#[tactic(auto, using(crate::proofs::Writing::written_as, crate::proofs::Writing::nothing_written))]
-fn last_lefts(
-    alloc: Global,
+// Puts the lines of the last exits of the journal at the end.
+fn report_exits(
     engine: &Engine,
     count: usize,
     code: u32,
-) -> Result<Vec<u8>, AllocError>
+    into: &mut Vec<u8>,
+) -> Result<(), NoMemory>
     requires { code < 256 }
-    ensures { IfOk result (λ v. AreRecords v.items (left_lines engine.now count code)) }
+    ensures written { OnOk result (into.new.items ≡ into.old.items ++ lines_bytes (left_lines engine.now count code)) }
+    ensures grammar { OnOk result (AreLines (left_lines engine.now count code)) }
 {
     let entries = engine.entries();
-    let last = &entries[entries.len().saturating_sub(count)..];
-    lefts_text(alloc, last, engine.all_gone(), code)
+    let exits = Event::Left {
+        entries: &entries[entries.len().saturating_sub(count)..],
+        all: engine.all_gone(),
+        code: code as u8,
+    };
+    report(exits, into)
 }
 
-// The lines of a turn of a hart, which was at pc before.
-#[tactic(auto, using(crate::proofs::Writing::written_as, crate::proofs::Writing::nothing_written))]
-fn turned_text(
+// Puts the lines of a stop of a hart that is at pc at the end.
+fn report_stop(
+    engine: &Engine,
+    stop: Stop<'_>,
+    hart: u32,
+    pc: u32,
+    into: &mut Vec<u8>,
+) -> Result<(), NoMemory>
+    ensures written { OnOk result (into.new.items ≡ into.old.items ++ lines_bytes (stopping_lines stop.entry hart (own_frame engine.now.sources pc))) }
+    ensures grammar { OnOk result (AreLines (stopping_lines stop.entry hart (own_frame engine.now.sources pc))) }
+{
+    let frame = engine.frame(pc)?;
+    let stopped = Event::Stopped {
+        stop,
+        hart,
+        frame: &frame,
+    };
+    report(stopped, into)
+}
+
+// Puts the lines of a turn of a hart, which was at pc before, at the end.
+fn report_turn(
     alloc: Global,
     engine: &Engine,
     turned: Turned,
     hart: u32,
     pc: u32,
-) -> Result<Vec<u8>, AllocError>
+    into: &mut Vec<u8>,
+) -> Result<(), NoMemory>
     requires { IsTurned turned }
-    ensures { IfOk result (λ v. AreRecords v.items (turned_lines engine.now turned hart pc)) }
+    ensures written { OnOk result (into.new.items ≡ into.old.items ++ lines_bytes (turned_lines engine.now turned hart pc)) }
+    ensures grammar { OnOk result (AreLines (turned_lines engine.now turned hart pc)) }
 {
     match turned {
         Turned::Over
@@ -110,21 +140,18 @@ fn turned_text(
         | Turned::NoSlot
         | Turned::Lifted
         | Turned::Counted
-        | Turned::Ran => Ok(Vec::new(alloc)),
-        Turned::Wrote { addr, len } => wrote_text(alloc, engine, addr, len),
-        Turned::Left { code } => last_lefts(alloc, engine, 1, code),
-        Turned::AllLeft { code, count } => last_lefts(alloc, engine, count, code),
-        Turned::Stopped { cause } => stop_text(alloc, cause, hart, &engine.frame(pc)?),
-        Turned::Interrupted => interrupt_text(alloc, hart, &engine.frame(pc)?),
-        Turned::Stepped => stepped_text(alloc, hart, &engine.frame(pc)?),
-        Turned::Finished => finished_text(alloc, hart, &engine.frame(pc)?),
-        Turned::Triggered(fired) => trigger_text(
-            alloc,
-            engine.watches(),
-            fired,
-            hart,
-            &engine.frame(pc)?,
-        ),
+        | Turned::Ran => Ok(()),
+        Turned::Wrote { addr, len } => report_bytes(alloc, engine, addr, len, into),
+        Turned::Left { code } => report_exits(engine, 1, code, into),
+        Turned::AllLeft { code, count } => report_exits(engine, count, code, into),
+        Turned::Stopped { cause } => report_stop(engine, Stop::Fault(cause), hart, pc, into),
+        Turned::Interrupted => report_stop(engine, Stop::Interrupted, hart, pc, into),
+        Turned::Stepped => report_stop(engine, Stop::Stepped, hart, pc, into),
+        Turned::Finished => report_stop(engine, Stop::Finished, hart, pc, into),
+        Turned::Triggered(fired) => {
+            let watches = engine.watches();
+            report_stop(engine, Stop::Triggered { watches, fired }, hart, pc, into)
+        }
         Turned::Arrived {
             number,
             temporary,
@@ -135,7 +162,7 @@ fn turned_text(
                 temporary,
                 error,
             };
-            break_text(alloc, hit, hart, &engine.frame(pc)?)
+            report_stop(engine, Stop::Hit(hit), hart, pc, into)
         }
     }
 }
@@ -149,8 +176,14 @@ fn has_moved(turned: Turned) -> bool
     )
 }
 
-/// One turn of a hart, with its lines.
-pub fn turn_once<W: World>(alloc: Global, world: &mut W, engine: &mut Engine, hart: u32) -> Turn
+/// One turn of a hart, with its lines, which go through the memory of `lines`.
+pub fn turn_once<W: World>(
+    alloc: Global,
+    world: &mut W,
+    engine: &mut Engine,
+    hart: u32,
+    lines: &mut Vec<u8>,
+) -> Turn
     requires hart { hart < length engine.old.minds }
     requires facts { Facts engine.old }
     ensures facts { Facts engine.new }
@@ -167,23 +200,25 @@ pub fn turn_once<W: World>(alloc: Global, world: &mut W, engine: &mut Engine, ha
     if !has_moved(turned) {
         return Turn::Stood;
     }
-    let Ok(text) = turned_text(alloc, engine, turned, hart, pc) else {
+    lines.clear();
+    let Ok(()) = report_turn(alloc, engine, turned, hart, pc, lines) else {
         return Turn::NoMemory;
     };
-    if put_all(world, text.as_slice()) {
+    if put_all(world, lines.as_slice()) {
         Turn::Moved
     } else {
         Turn::Unput
     }
 }
 
-/// The next line of the rest of the input, with its reply, in a session that may go on.
+/// The next line of the rest of the input, with its reply, which goes through the memory of `lines`, in a session that may go on.
 pub fn line_once<W: World>(
     alloc: Global,
     world: &mut W,
     engine: &mut Engine,
     rest: &[u8],
     ended: bool,
+    lines: &mut Vec<u8>,
 ) -> Done
     requires may { may_go engine.old.opening (seen engine.old) ≡ true }
     requires facts { Facts engine.old }
@@ -205,7 +240,8 @@ pub fn line_once<W: World>(
     let Ok(reply) = engine.command(line, read) else {
         return Done::NoMemory;
     };
-    let Ok(lines) = reply_text(alloc, &reply) else {
+    lines.clear();
+    let Ok(()) = report(Event::Answered(&reply), lines) else {
         return Done::Unsaid(next);
     };
     if put_all(world, lines.as_slice()) {

@@ -10,7 +10,7 @@ use crate::Status;
 use crate::shown::shown_in;
 use dbg_model::Entry;
 use dbg_traits::NoMemory;
-use itoa::Buffer;
+use mi_text::write_decimal;
 use std::alloc::{AllocError, Global};
 
 fn is_stop(entry: &Entry) -> bool
@@ -62,10 +62,9 @@ fn retired(entries: &[Entry]) -> u64
 fn push_number(into: &mut Vec<u8>, name: &str, number: u64) -> Result<(), AllocError>
     ensures { OnOk result (into.new.items ≡ into.old.items ++ number_line name.now number) }
 {
-    let mut buffer = Buffer::new();
     into.extend_from_slice(name.as_bytes())?;
     into.push(b' ')?;
-    into.extend_from_slice(buffer.format(number).as_bytes())?;
+    write_decimal(number, into)?;
     into.push(b'\n')?;
     Ok(())
 }

@@ -1,7 +1,7 @@
 // A session as a crew: its duties are rounds, its jobs the slices of harts.
-ghost use Rattle.std.specs.Prelude.{◌≡◌, ◌≢◌, ◌<◌, ◌≤◌, ◌-◌, ◌↔◌, ◌&&◌, ◌==◌, not, true, false, None, IfSome, is_none, is_some, nat_lt, slice_set};
+ghost use Rattle.std.specs.Prelude.{◌≡◌, ◌≢◌, ◌<◌, ◌≤◌, ◌-◌, ◌↔◌, ◌&&◌, ◌==◌, not, true, false, None, IfSome, IsTrue, is_none, is_some, nat_lt, slice_set};
 ghost use Rattle.dbg_engine.specs.Steps.{NoneOut};
-ghost use Rattle.dbg_session.specs.Crew.{Duties, HandsOut, IsWorkOf, ServesAlone, TakesBack, TakesBy, pause_after, pause_of};
+ghost use Rattle.dbg_session.specs.Crew.{Duties, Gives, IsIdle, IsWorkOf, Reaches, ServesAlone, TakesBack, TakesBy, pause_after, pause_of};
 ghost use Rattle.dbg_session.specs.Round.{moment};
 ghost use Rattle.dbg_session.specs.Seen.{work};
 
@@ -60,17 +60,31 @@ impl<W: World> Session<W> {
         self.engine.settings().workers
     }
 
-    // The job of the hart that was picked, where the session goes on and the hart gives one and doesn't pause. It is out from
-    // then on.
-    fn hand_out(&mut self, picked: Option<u32>) -> Option<Job>
-        requires { IfSome picked (λ h. h < self.old.run.opening.settings.harts) }
-        ensures hands { HandsOut picked result (moment W.told self.old) (moment W.told self.new) }
-        ensures work { work self.new ≡ work self.old }
+    // One round, and then the hart that was picked, where the session goes on and the hart doesn't pause. The hart that was picked
+    // is a round nearer to its next job.
+    fn go(&mut self) -> Option<u32>
+        requires { self.old.status ≡ None }
+        ensures opening { self.new.run.opening ≡ self.old.run.opening }
+        ensures reaches { Reaches result (moment W.told self.old) (moment W.told self.new) }
+        ensures known { IfSome result (λ h. h < self.new.run.opening.settings.harts) }
+        ensures less { NoneOut self.old.out → work self.new < work self.old }
     {
-        let hart = picked?;
+        let hart = self.go_round()?;
         if draw_nearer(&mut self.pause, hart) || self.status.is_some() {
             return None;
         }
+        Some(hart)
+    }
+
+    // The job of a hart, if it gives one. It is out from then on. Few rounds come here, and a job is long.
+    #[cold]
+    #[inline(never)]
+    fn hand_out(&mut self, hart: u32) -> Option<Job>
+        requires { hart < self.old.run.opening.settings.harts }
+        ensures opening { self.new.run.opening ≡ self.old.run.opening }
+        ensures gives { Gives hart result (moment W.told self.old) (moment W.told self.new) }
+        ensures work { work self.new ≡ work self.old }
+    {
         let job = self.engine.check_out(hart)?;
         self.out[hart as usize] = true;
         Some(job)
@@ -109,16 +123,21 @@ impl<W: World> Session<W> {
         self.commit(slice);
     }
 
-    /// Forgets whose jobs are out, and goes rounds until the status is set. It gives no job: what a slice would execute comes
-    /// in the next round of its hart, in place.
+    /// Forgets whose jobs are out, and does duties until the status is set. Each job that is given is worked and taken at once. The
+    /// duties are those of `duty`, but no `Duty` is made of them: to move one through each round takes longer than the rest of it.
     pub fn run_serial(&mut self)
         ensures over { self.new.status ≢ None }
         ensures opening { self.new.run.opening ≡ self.old.run.opening }
         ensures serves { ServesAlone (moment W.told self.old) (moment W.told self.new) }
     {
         self.out = [false; HARTS];
-        while self.status.is_none() {
-            self.go_round();
+        'duties: while self.status.is_none() {
+            let Some(hart) = self.go() else { continue };
+            let Some(job) = self.hand_out(hart) else {
+                continue;
+            };
+            let slice = Self::work(job);
+            self.take(slice);
         }
     }
 }
@@ -141,8 +160,10 @@ impl<W: World> Crew for Session<W> {
         if self.status.is_some() {
             return Duty::Over;
         }
-        let picked = self.go_round();
-        match self.hand_out(picked) {
+        let Some(hart) = self.go() else {
+            return Duty::Again;
+        };
+        match self.hand_out(hart) {
             Some(job) => Duty::Job(job),
             None => Duty::Again,
         }
@@ -190,7 +211,9 @@ impl<W: World> Crew for Session<W> {
     }
 
     /// Whether harts run, each of which has a job out, and no line is known that can be done meanwhile.
-    fn is_idle(&self) -> bool {
+    fn is_idle(&self) -> bool
+        ensures { IsTrue result → IsIdle (moment W.told self.now) }
+    {
         self.engine.any_running()
             && self.must_wait()
             && self.engine.next_running(self.next, &self.out).is_none()

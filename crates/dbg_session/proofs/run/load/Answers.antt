@@ -1,4 +1,4 @@
-use Rattle.std.proofs.Common.{◌≡◌, ◌∙◌, None}
+use Rattle.std.proofs.Common.{◌≡◌, None}
 use Rattle.dbg_session.specs.Words.{served_words}
 use Rattle.dbg_session.proofs.Writing.{written_as}
 use Rattle.dbg_session.proofs.Opening.{early_words}
@@ -9,4 +9,4 @@ returns-in-Ok-None g c =
     let told = g.W.World.told in
     let e = c.early-in-Ok-None.ensures in
     let is : None ≡ served_words c.words.result.now = rw (← c.in-Ok-None.field-0-is) c.in-Ok-None.ensures.served in
-    (e.closed, rw (e.status, e.world) (early_words c.put_all.result (told c.args.world) (told c.put_all.new.world) c.words.result.now c.as_slice.result.now c.requires c.words.ensures is (written_as _ c.as_slice.result.now _ (c.as_slice.ensures.value ∙ c.in-Ok.ensures.written) c.in-Ok.ensures.grammar) c.put_all.ensures))
+    (e.closed, rw (e.status, e.world) (early_words c.put_all.result (told c.args.world) (told c.put_all.new.world) c.words.result.now c.as_slice.result.now c.requires c.words.ensures is (written_as c.as_slice.result.now _ _ _ c.as_slice.ensures.value c.in-Ok.ensures.written c.new-line.ensures.items c.in-Ok.ensures.grammar) c.put_all.ensures))

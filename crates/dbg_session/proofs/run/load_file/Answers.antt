@@ -59,11 +59,11 @@ returns-in-Err-Fault g c =
     let e = c.early-in-Err-Fault.ensures in
     let P : ElfReadError → Type 0 = λ x. Reads c.in-Ok.bytes.items (Err x) in
     let refused = subst P c.in-Err-Fault.field-0-is c.in-Err-Fault.ensures.read in
-    let written = rw c.in-Err-Fault.field-0-is at c.in-Ok-bad_file.ensures.written in
-    let grammar = rw c.in-Err-Fault.field-0-is at c.in-Ok-bad_file.ensures.grammar in (
+    let written = rw c.in-Err-Fault.field-0-is at c.in-Ok-report.ensures.written in
+    let grammar = rw c.in-Err-Fault.field-0-is at c.in-Ok-report.ensures.grammar in (
       e.closed,
       rw (e.status, e.world, c.in-Err-Fault.field-0-is) (early_file c.put_all.result (told c.args.world) (told c.read_all.new.world) (told c.put_all.new.world) c.args.name c.args.settings c.in-Ok.bytes.items c.in-Err-Fault.fault c.as_slice.result.now
-          c.requires.fresh c.requires.asked c.in-Ok.ensures refused (written_as _ c.as_slice.result.now _ (c.as_slice.ensures.value ∙ written) grammar) c.put_all.ensures),
+          c.requires.fresh c.requires.asked c.in-Ok.ensures refused (written_as c.as_slice.result.now _ _ _ c.as_slice.ensures.value written c.new-text.ensures.items grammar) c.put_all.ensures),
     )
 
 pub returns-in-Err-Memory : goal.returns-in-Err-Memory

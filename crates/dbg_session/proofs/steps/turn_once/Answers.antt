@@ -34,19 +34,19 @@ returns-then-put_all-clause-turns g c =
     let e = c.args.engine.now in
     let s = c.turn-turned.new.self in
     let d = moved c.turn-turned.result e c.reserve_journal.new.self s c.args.hart c.pc-pc.result c.reserve_journal.ensures.same c.requires.facts c.turn-turned.ensures.facts c.requires.hart c.pc-pc.ensures c.if-not-has_moved.ensures c.turn-turned.ensures.turns in
-    (says_as true (told c.args.world.now) (told c.put_all.new.world) (stage_of e) (stage_of s) (turned_lines s c.turn-turned.result c.args.hart c.pc-pc.result) c.as_slice.result.now (written_as _ c.as_slice.result.now _ c.as_slice.ensures.value c.in-Ok.ensures) d.said c.if-put_all.ensures, d.move)
+    (says_as true (told c.args.world.now) (told c.put_all.new.world) (stage_of e) (stage_of s) (turned_lines s c.turn-turned.result c.args.hart c.pc-pc.result) c.as_slice.result.now (written_as c.as_slice.result.now _ _ _ c.as_slice.ensures.value c.in-Ok.ensures.written c.clear.ensures.items c.in-Ok.ensures.grammar) d.said c.if-put_all.ensures, d.move)
 
-pub returns-clause-goes : goal.returns-clause-goes
-returns-clause-goes g c =
+pub returns-else-put_all-clause-goes : goal.returns-else-put_all-clause-goes
+returns-else-put_all-clause-goes g c =
     (moved c.turn-turned.result c.args.engine.now c.reserve_journal.new.self c.turn-turned.new.self c.args.hart c.pc-pc.result c.reserve_journal.ensures.same c.requires.facts c.turn-turned.ensures.facts c.requires.hart c.pc-pc.ensures c.if-not-has_moved.ensures c.turn-turned.ensures.turns).goes
 
-pub returns-clause-turns : goal.returns-clause-turns
-returns-clause-turns g c =
+pub returns-else-put_all-clause-turns : goal.returns-else-put_all-clause-turns
+returns-else-put_all-clause-turns g c =
     let told = g.W.World.told in
     let e = c.args.engine.now in
     let s = c.turn-turned.new.self in
     let d = moved c.turn-turned.result e c.reserve_journal.new.self s c.args.hart c.pc-pc.result c.reserve_journal.ensures.same c.requires.facts c.turn-turned.ensures.facts c.requires.hart c.pc-pc.ensures c.if-not-has_moved.ensures c.turn-turned.ensures.turns in
-    (says_as false (told c.args.world.now) (told c.put_all.new.world) (stage_of e) (stage_of s) (turned_lines s c.turn-turned.result c.args.hart c.pc-pc.result) c.as_slice.result.now (written_as _ c.as_slice.result.now _ c.as_slice.ensures.value c.in-Ok.ensures) d.said c.if-put_all.ensures, d.move)
+    (says_as false (told c.args.world.now) (told c.put_all.new.world) (stage_of e) (stage_of s) (turned_lines s c.turn-turned.result c.args.hart c.pc-pc.result) c.as_slice.result.now (written_as c.as_slice.result.now _ _ _ c.as_slice.ensures.value c.in-Ok.ensures.written c.clear.ensures.items c.in-Ok.ensures.grammar) d.said c.if-put_all.ensures, d.move)
 
 pub returns-then-put_all-clause-less : goal.returns-then-put_all-clause-less
 returns-then-put_all-clause-less g c =

@@ -1,33 +1,64 @@
-use Rattle.std.proofs.Common.{◌∙◌, Bool, List, ap, false, suc, subst, sym}
-use Rattle.std.specs.Prelude.{replicate}
+use Rattle.std.proofs.Common.{◌∙◌, Bool, List, ap, false, suc, subst, sym, ℕ}
+use Rattle.std.specs.Prelude.{Option, None, Some, replicate}
+use Rattle.reg_slices.specs.declared.slice.Job.{Job}
 use Rattle.dbg_engine.specs.Steps.{NoneOut}
 use Rattle.dbg_session.specs.Round.{Moment, moment}
 use Rattle.dbg_session.specs.Seen.{Seen}
-use Rattle.dbg_session.specs.SessionInside.{seen_of}
-use Rattle.dbg_session.proofs.Outs.{none_first, round_out}
-use Rattle.dbg_session.proofs.Passing.{unset}
+use Rattle.dbg_session.specs.Crew.{Gives, Reaches}
+use Rattle.dbg_session.proofs.Outs.{goes, goes_out, none_first, rests, served_out}
 use Rattle.dbg_session.proofs.session.Session.run_serial.Goals as goal
 
-pub loop-self-init : goal.loop-self-init
-loop-self-init g c =
+pub duties-init : goal.duties-init
+duties-init g c =
     let told = g.W.World.told in
     let out = replicate 16 false in
     record {
       opening = ap (λ (s : Seen g.row.W.Denot). s.run.opening) c.self.view_is;
       none = none_first 16;
-      serves = record { out = out; none = none_first 16; count = 0; rounds = ap (λ (s : Seen g.row.W.Denot). let m : Moment = record (moment told s) { out = out } in m) c.self.view_is };
+      serves = record { out = out; none = none_first 16; count = 0; serves = ap (λ (s : Seen g.row.W.Denot). let m : Moment = record (moment told s) { out = out } in m) c.self.view_is };
     }
 
-pub loop-self-preserved : goal.loop-self-preserved
-loop-self-preserved g c =
+pub duties-preserved-in_default : goal.duties-preserved-in_default
+duties-preserved-in_default g c =
     let told = g.W.World.told in
-    let i = c.loop-self.invariant in
-    let p = moment told c.loop-self.self in
-    let q = moment told c.go_round.new.self in
-    let none = unset (seen_of c.self-in-loop-self.inside) c.loop-self.self c.self-in-loop-self.view_is c.loop-self-test.ensures in
-    let round = c.go_round.ensures.round in
+    let i = c.duties.invariant in
+    let p = moment told c.duties.self in
+    let q = moment told c.go.new.self in
+    let gone = rests p q (subst (λ (o : Option ℕ). Reaches o p q) c.in_default.is c.go.ensures.reaches) in
     record {
-      opening = c.go_round.ensures.opening ∙ i.opening;
-      none = subst (λ (xs : List Bool). NoneOut xs) (sym (round_out c.go_round.result p q round)) i.none;
-      serves = record { out = i.serves.out; none = i.serves.none; count = suc i.serves.count; rounds = (p, i.serves.rounds, none, (c.go_round.result, round)) };
+      opening = c.go.ensures.opening ∙ i.opening;
+      none = subst (λ (xs : List Bool). NoneOut xs) (sym (goes_out p q gone)) i.none;
+      serves = record { out = i.serves.out; none = i.serves.none; count = suc i.serves.count; serves = (p, i.serves.serves, (None, gone)) };
+    }
+
+pub duties-preserved-in_default-hand_out : goal.duties-preserved-in_default-hand_out
+duties-preserved-in_default-hand_out g c =
+    let told = g.W.World.told in
+    let i = c.duties.invariant in
+    let p = moment told c.duties.self in
+    let m = moment told c.go.new.self in
+    let q = moment told c.hand_out.new.self in
+    let gone = goes c.in-Some.hart None p m q c.in-Some.ensures.reaches (subst (λ (o : Option Job). Gives c.in-Some.hart o m q) c.in_default-hand_out.is c.hand_out.ensures.gives) in
+    record {
+      opening = c.hand_out.ensures.opening ∙ (c.go.ensures.opening ∙ i.opening);
+      none = subst (λ (xs : List Bool). NoneOut xs) (sym (goes_out p q gone)) i.none;
+      serves = record { out = i.serves.out; none = i.serves.none; count = suc i.serves.count; serves = (p, i.serves.serves, (None, gone)) };
+    }
+
+pub duties-preserved : goal.duties-preserved
+duties-preserved g c =
+    let told = g.W.World.told in
+    let i = c.duties.invariant in
+    let p = moment told c.duties.self in
+    let m = moment told c.hand_out.new.self in
+    let q = moment told c.take.new.self in
+    let job = c.in-Some-hand_out.job in
+    let slice = c.work-slice.result in
+    let gone = goes c.in-Some.hart (Some job) p (moment told c.go.new.self) m c.in-Some.ensures.reaches c.in-Some-hand_out.ensures.gives in
+    let works = c.work-slice.ensures in
+    let takes = c.take.ensures.takes in
+    record {
+      opening = c.take.ensures.opening ∙ (c.hand_out.ensures.opening ∙ (c.go.ensures.opening ∙ i.opening));
+      none = served_out job slice p m q gone works takes i.none;
+      serves = record { out = i.serves.out; none = i.serves.none; count = suc i.serves.count; serves = (p, i.serves.serves, (Some job, (m, gone, (slice, works, takes)))) };
     }
