@@ -6,7 +6,7 @@ use dbg_model::Opening;
 use dbg_traits::Settings;
 use elf_gen::{generate, plain};
 use elf32_read::{Image, read_image};
-use script_rows::{before, number};
+use script_rows::{before, hex_words, number};
 use std::alloc::Global;
 
 /// The settings of a program that is made.
@@ -110,19 +110,10 @@ fn are_in_range(settings: Settings) -> bool
         && slice <= 1024
 }
 
-// The words of a text, in hexadecimal.
-fn words_of(alloc: Global, text: &str) -> Option<Vec<u32>> {
-    let mut words = Vec::new(alloc);
-    for word in text.split(' ') {
-        words.push(u32::from_str_radix(word, 16).ok()?).ok()?;
-    }
-    Some(words)
-}
-
 // The file of a program. None where it is none, or memory runs out.
 fn file_of(alloc: Global, source: Source<'_>) -> Option<Vec<u8>> {
     match source {
-        Source::Words(text) => plain(alloc, words_of(alloc, text)?.as_slice(), &[0; 4]).ok(),
+        Source::Words(text) => plain(alloc, hex_words(alloc, text).ok()?.as_slice(), &[0; 4]).ok(),
         Source::File(text) => hex::decode(alloc, text).ok(),
         Source::Number(number) => generate(alloc, number).ok(),
     }

@@ -1,8 +1,7 @@
 // The data and the text of a machine.
-use crate::words::words_of;
 use dbg_traits::View;
 use hart_machine::Machine;
-use script_rows::{number, told_number, two};
+use script_rows::{hex_words, number, told_number, two};
 use std::alloc::{AllocError, Global};
 
 /// What is done at an address of a machine's data or text.
@@ -97,12 +96,12 @@ fn word(alloc: Global, machine: &Machine, addr: u32) -> Result<String, AllocErro
 }
 
 fn stores(alloc: Global, machine: &Machine, addr: u32, words: &str) -> Result<String, AllocError> {
-    match words_of(alloc, words) {
-        Some(words) => {
+    match hex_words(alloc, words) {
+        Ok(words) => {
             let stored = machine.stores(addr, words.as_slice());
             format!(in alloc; "{stored}")
         }
-        None => format!(in alloc; "no words"),
+        Err(_) => format!(in alloc; "no words"),
     }
 }
 

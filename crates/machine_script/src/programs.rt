@@ -1,10 +1,10 @@
 // Programs, and what is made of them.
-use crate::words::words_of;
 use data_memory::DataMemory;
 use dbg_traits::Settings;
 use elf_gen::plain;
 use elf32_read::{Image, read_image};
 use hart_machine::Machine;
+use script_rows::hex_words;
 use std::alloc::Global;
 use text_words::TextWords;
 
@@ -31,7 +31,7 @@ const BYTES: [u8; 8] = [1, 2, 3, 4, 5, 6, 7, 0x88];
 
 /// The program of these words. None where it is no program, or memory runs out.
 pub fn image_of(alloc: Global, words: &str) -> Option<Image> {
-    let words = words_of(alloc, words)?;
+    let words = hex_words(alloc, words).ok()?;
     read_image(alloc, plain(alloc, words.as_slice(), &BYTES).ok()?).ok()
 }
 

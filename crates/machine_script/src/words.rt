@@ -1,17 +1,5 @@
-// Words of a program, and how they are said.
+// How words of a program are said.
 use std::alloc::{AllocError, Global};
-
-/// Words in hexadecimal, which spaces part. None too where memory runs out.
-pub fn words_of(alloc: Global, text: &str) -> Option<Vec<u32>> {
-    let mut words = Vec::new(alloc);
-    if text.is_empty() {
-        return Some(words);
-    }
-    for word in text.split(' ') {
-        words.push(u32::from_str_radix(word, 16).ok()?).ok()?;
-    }
-    Some(words)
-}
 
 /// Words in hexadecimal, with spaces between.
 pub fn told_words(alloc: Global, words: &[u32]) -> Result<String, AllocError> {

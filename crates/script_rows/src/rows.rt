@@ -10,26 +10,30 @@ pub trait Bench {
     fn answer(&mut self, alloc: Global, row: &str) -> Result<String, RowFault>;
 }
 
-fn said(alloc: Global, bench: &mut impl Bench, row: &str) -> Result<String, AllocError> {
-    match bench.answer(alloc, row) {
-        Ok(answer) => Ok(answer),
-        Err(RowFault::NoMemory) => Err(AllocError),
-        Err(RowFault::Unknown) => format!(in alloc; "no such row"),
+/// Whether a row asks for nothing: it is empty, or begins with `#`.
+pub fn is_remark(row: &str) -> bool {
+    row.is_empty() || row.starts_with('#')
+}
+
+/// Prints a row with what came of it.
+pub fn tell(rt: &impl Print, row: &str, answer: Result<String, RowFault>) -> io::Result<()> {
+    match answer {
+        Ok(answer) => println!(rt; "{row}: {answer}"),
+        Err(RowFault::NoMemory) => Err(io::Error::from(AllocError)),
+        Err(RowFault::Unknown) => println!(rt; "{row}: no such row"),
     }
 }
 
-/// Plays the lines of the input, and prints each with what came of it. An empty one, or one that begins with `#`, is printed
-/// as it stands.
+/// Plays the lines of the input, and prints each with what came of it. A remark is printed as it stands.
 pub fn play(rt: &(impl Input + Print), alloc: Global, bench: &mut impl Bench) -> io::Result<()> {
     for row in rt.lines(alloc) {
         let row = row?;
         let text = row.as_str();
-        if text.is_empty() || text.starts_with('#') {
+        if is_remark(text) {
             println!(rt; "{text}")?;
-            continue;
+        } else {
+            tell(rt, text, bench.answer(alloc, text))?;
         }
-        let answer = said(alloc, bench, text)?;
-        println!(rt; "{text}: {answer}")?;
     }
     Ok(())
 }

@@ -1,0 +1,91 @@
+// A gate that holds the first slice.
+use dbg_traits::Gate;
+use std::sync::atomic::{AtomicU64, Ordering};
+
+/// How often it is looked whether what is waited for has come.
+const TURNS: u64 = 50_000_000;
+
+/// What the first slice waits for.
+#[derive(Clone, Copy)]
+pub enum Waiting {
+    /// A slice of another hart.
+    Hart,
+    /// A worker that has nothing to do.
+    Idle,
+}
+
+impl Waiting {
+    /// `hart` or `idle`.
+    pub fn read(text: &str) -> Option<Waiting> {
+        match text {
+            "hart" => Some(Waiting::Hart),
+            "idle" => Some(Waiting::Idle),
+            _ => None,
+        }
+    }
+}
+
+/// Holds the first slice until what is waited for has come, or gives up after TURNS turns. Where nothing is, it holds none.
+#[derive(Drop)]
+pub struct Holding {
+    waiting: Option<Waiting>,
+    // The hart of the first slice and 1, or 0 before there is one.
+    first: AtomicU64,
+    came: AtomicU64,
+    gave_up: AtomicU64,
+}
+
+impl Holding {
+    /// Nothing has come yet.
+    pub fn new(waiting: Option<Waiting>) -> Holding {
+        Holding {
+            waiting,
+            first: AtomicU64::new(0),
+            came: AtomicU64::new(0),
+            gave_up: AtomicU64::new(0),
+        }
+    }
+
+    /// Whether what is waited for has come, and before it was given up.
+    pub fn was_met(&self) -> bool {
+        self.came.load(Ordering::SeqCst) == 1 && self.gave_up.load(Ordering::SeqCst) == 0
+    }
+
+    // Whether this hart's slice is the first.
+    fn is_first(&self, hart: u32) -> bool {
+        let me = u64::from(hart) + 1;
+        match self
+            .first
+            .compare_exchange(0, me, Ordering::SeqCst, Ordering::SeqCst)
+        {
+            Ok(_) => true,
+            Err(found) => {
+                if matches!(self.waiting, Some(Waiting::Hart)) && found != me {
+                    self.came.store(1, Ordering::SeqCst);
+                }
+                false
+            }
+        }
+    }
+}
+
+impl Gate for Holding {
+    fn slice_ready(&self, _worker: u32, hart: u32) {
+        if self.waiting.is_none() || !self.is_first(hart) {
+            return;
+        }
+        for _ in 0..TURNS {
+            if self.came.load(Ordering::SeqCst) != 0 {
+                return;
+            }
+            std::hint::spin_loop();
+        }
+        self.gave_up.store(1, Ordering::SeqCst);
+    }
+
+    fn idle(&self, _worker: u32) {
+        if matches!(self.waiting, Some(Waiting::Idle)) {
+            self.came.store(1, Ordering::SeqCst);
+        }
+    }
+}

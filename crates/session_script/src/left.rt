@@ -1,0 +1,123 @@
+// What is left of a session, and what rows ask of it.
+use dbg_model::Entry;
+use dbg_session::Closed;
+use hart_machine::Machine;
+use script_rows::RowFault;
+use std::alloc::{AllocError, Global};
+
+/// What was written, and what is left of the session, where one was begun.
+#[derive(Drop)]
+pub struct Left {
+    pub output: Vec<u8>,
+    pub closed: Option<Closed>,
+}
+
+// An entry of the journal: a `Ran` by its hart and count, and any other by its first letter.
+fn mark(alloc: Global, entry: &Entry) -> Result<String, AllocError> {
+    match entry {
+        Entry::Ran { hart, count } => format!(in alloc; "{hart}:{count}"),
+        Entry::Counted { .. } => String::from_str(alloc, "C"),
+        Entry::Stopped { .. } => String::from_str(alloc, "S"),
+        Entry::Left { .. } => String::from_str(alloc, "L"),
+        Entry::Did { .. } => String::from_str(alloc, "D"),
+        Entry::Poked { .. } => String::from_str(alloc, "P"),
+    }
+}
+
+// The journal's entries, with a space between.
+fn shape(alloc: Global, entries: &[Entry]) -> Result<String, AllocError> {
+    let mut shape = String::new(alloc);
+    for entry in entries {
+        if !shape.is_empty() {
+            shape.push(' ')?;
+        }
+        shape.push_str(mark(alloc, entry)?.as_str())?;
+    }
+    Ok(shape)
+}
+
+// How many entries have this mark.
+fn marked(alloc: Global, entries: &[Entry], wanted: &str) -> Result<u32, AllocError> {
+    let mut count = 0u32;
+    for entry in entries {
+        if mark(alloc, entry)?.as_str() == wanted {
+            count = count.saturating_add(1);
+        }
+    }
+    Ok(count)
+}
+
+// Where the first hart is, how many instructions it executed, and how many of them as copies.
+fn first_hart(alloc: Global, machine: &Machine) -> Result<String, AllocError> {
+    if machine.harts() == 0 {
+        return String::from_str(alloc, "no hart");
+    }
+    let (pc, executed, copied) = (machine.pc(0), machine.retired(0), machine.copied(0));
+    format!(in alloc; "{pc:#x} after {executed}, {copied} by copies")
+}
+
+// How many instructions all harts executed.
+fn executed(machine: &Machine) -> u64 {
+    let mut total = 0u64;
+    for hart in 0..16u32 {
+        if (hart as usize) < machine.harts() {
+            total = total.saturating_add(machine.retired(hart));
+        }
+    }
+    total
+}
+
+// What was written, beside a text.
+fn compared(alloc: Global, output: &[u8], text: &[u8]) -> Result<String, AllocError> {
+    if output == text {
+        String::from_str(alloc, "the text")
+    } else if output.ends_with(text) {
+        String::from_str(alloc, "ends with the text")
+    } else if text.starts_with(output) {
+        let count = output.len();
+        format!(in alloc; "{count} bytes of the text")
+    } else {
+        String::from_str(alloc, "another")
+    }
+}
+
+// What is asked of a session that was begun.
+fn told(alloc: Global, closed: &Closed, word: &str, rest: &str) -> Result<String, RowFault> {
+    let entries = closed.journal.entries();
+    Ok(match word {
+        "journal" => shape(alloc, entries)?,
+        "count" => {
+            let count = marked(alloc, entries, rest)?;
+            format!(in alloc; "{count}")?
+        }
+        "hart" => first_hart(alloc, &closed.machine)?,
+        "executed" => {
+            let executed = executed(&closed.machine);
+            format!(in alloc; "{executed}")?
+        }
+        _ => return Err(RowFault::Unknown),
+    })
+}
+
+impl Left {
+    /// What a row asks for: `size`, how many bytes were written; `output`, what was written, beside a text; `journal`, what was
+    /// done, an entry by an entry; `count MARK`, how many entries are so marked there; `hart`, where the first hart is, and how many
+    /// instructions it executed; `executed`, how many all harts did. Where no session was begun the last four say so.
+    pub fn answer(
+        &self,
+        alloc: Global,
+        word: &str,
+        rest: &str,
+        text: &[u8],
+    ) -> Result<String, RowFault> {
+        let size = self.output.len();
+        match word {
+            "size" => Ok(format!(in alloc; "{size}")?),
+            "output" => Ok(compared(alloc, self.output.as_slice(), text)?),
+            _ => match &self.closed {
+                Some(closed) => told(alloc, closed, word, rest),
+                None => Ok(String::from_str(alloc, "no session")?),
+            },
+        }
+    }
+}

@@ -1,0 +1,99 @@
+// Sessions, one after the other.
+use crate::holding::Holding;
+use crate::left::Left;
+use crate::plan::{Plan, Trial};
+use dbg_session::{Ended, Status, debug_run};
+use script_rows::{RowFault, read_bytes};
+use std::alloc::{AllocError, Global};
+use std::sync::Wait;
+use std::thread::Threads;
+
+/// The world of the next session, a text that outputs are put beside, and what is left of the last session.
+#[derive(Drop)]
+pub struct Sessions {
+    plan: Plan,
+    text: Vec<u8>,
+    last: Option<Left>,
+}
+
+// How a session ended, and whether what its first slice waited for came.
+fn told_end(
+    alloc: Global,
+    status: Status,
+    trial: Trial,
+    was_met: bool,
+) -> Result<String, AllocError> {
+    let came = match trial {
+        Trial::Held(_) if was_met => ", it came",
+        Trial::Held(_) => ", it didn't come",
+        _ => "",
+    };
+    format!(in alloc; "{status:?}{came}")
+}
+
+impl Sessions {
+    /// No session was run.
+    pub fn new(alloc: Global) -> Sessions {
+        Sessions {
+            plan: Plan::new(alloc),
+            text: Vec::new(alloc),
+            last: None,
+        }
+    }
+
+    // Runs a session, whose world and gate are as a row says.
+    fn run<R: Threads + Wait + Sync>(
+        &mut self,
+        rt: &R,
+        alloc: Global,
+        text: &str,
+    ) -> Result<String, RowFault> {
+        let trial = Trial::read(text).ok_or(RowFault::Unknown)?;
+        let world = self.plan.world(alloc, trial)?;
+        let gate = Holding::new(trial.waiting());
+        let Ended {
+            status,
+            world,
+            closed,
+        } = debug_run(rt, alloc, world, &gate);
+        let output = world.output().to_vec(alloc)?;
+        self.last = Some(Left { output, closed });
+        Ok(told_end(alloc, status, trial, gate.was_met())?)
+    }
+
+    // What is asked of the last session.
+    fn asked(&self, alloc: Global, word: &str, rest: &str) -> Result<String, RowFault> {
+        match &self.last {
+            Some(left) => left.answer(alloc, word, rest, self.text.as_slice()),
+            None => Err(RowFault::Unknown),
+        }
+    }
+
+    // Describes the next session, or what it is put beside.
+    fn set(&mut self, alloc: Global, word: &str, rest: &str) -> Result<String, RowFault> {
+        if word == "text" {
+            self.text = read_bytes(alloc, rest)?;
+        } else {
+            self.plan.set(alloc, word, rest)?;
+        }
+        Ok(String::from_str(alloc, "set")?)
+    }
+
+    /// What came of a row: `run TRIAL` runs a session, as `Trial::read` reads the rest; `text BYTES` is what outputs are put
+    /// beside; the others are rows of `Left` or of `Plan`.
+    pub fn answer<R: Threads + Wait + Sync>(
+        &mut self,
+        rt: &R,
+        alloc: Global,
+        row: &str,
+    ) -> Result<String, RowFault> {
+        let (word, rest) = row.split_once(' ').unwrap_or((row, ""));
+        match word {
+            "run" => self.run(rt, alloc, rest),
+            "size" | "output" | "journal" | "count" | "hart" | "executed" => {
+                self.asked(alloc, word, rest)
+            }
+            _ => self.set(alloc, word, rest),
+        }
+    }
+}
