@@ -125,7 +125,8 @@ impl Table {
     // Takes the declarations before a place away.
     fn drop_before(&mut self, abbrevs: &[u8], place: usize) -> Result<(), NoMemory>
         requires { IsTable abbrevs.now self.old }
-        ensures { OnOk result (IsTable abbrevs.now self.new) }
+        ensures table { OnOk result (IsTable abbrevs.now self.new) }
+        ensures past { OnOk result (0 < vec_len self.new.listed → place ≤ self.new.at) }
     {
         'declarations: while self.at < place && !self.listed.is_empty() {
             self.drop_first(abbrevs)?;

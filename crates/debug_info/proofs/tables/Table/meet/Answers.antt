@@ -13,7 +13,7 @@ places-preserved c =
     sym w.ensures.value ∙ ap (λ (o : Option (ℕ × Declaration)). found o w.next) w.field-0-0-is in
     let l : Listed = record { at = c.places.place; code = w.code; declaration = w.declaration; next = w.next; hidden = None } in
     record {
-      table = c.in_ok-drop_before.ensures;
+      table = c.in_ok-drop_before.ensures.table;
       before = lead_more c.args.abbrevs.now c.args.at l c.places.before.items _ c.places.invariant.before read c.in_ok-push-in-Ok-Some-default.ensures.items;
       within = w.ensures.within.within;
     }
