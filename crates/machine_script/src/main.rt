@@ -14,6 +14,7 @@ mod names;
 mod places;
 mod programs;
 mod slots;
+mod speed;
 mod step;
 mod subject;
 mod text;

@@ -35,6 +35,8 @@ pub enum Step<'a> {
         steps: u32,
         words: &'a str,
     },
+    /// `loop N`: at most so many instructions of a loop of seven, by themselves.
+    Loop(u32),
     /// `program WORDS..`: the next program has these words, in hexadecimal, in a text section at 0x10074, and at 0x20000 the
     /// bytes 1 to 7 and 0x88, which may be stored.
     Program(&'a str),
@@ -103,6 +105,7 @@ impl<'a> Step<'a> {
             "cause" => Some(Step::Cause(rest)),
             "marks" => Some(Step::Marks(rest)),
             "together" => read_together(rest),
+            "loop" => Some(Step::Loop(number(rest)?)),
             "program" => Some(Step::Program(rest)),
             "file" => Some(Step::File(rest)),
             "memory" => Some(Step::Memory(MemoryStep::read(rest)?)),

@@ -2,6 +2,7 @@
 use crate::instructions::{accessed, decoded, executed, numbered};
 use crate::marks::led;
 use crate::programs::{Loaded, image_in, image_of};
+use crate::speed::looped;
 use crate::step::Step;
 use crate::together::stepped;
 use crate::{copies, harts, memory, places, slots, text};
@@ -64,6 +65,7 @@ impl Subject {
             Step::Cause(name) => numbered(alloc, name),
             Step::Marks(names) => led(alloc, names),
             Step::Together { steps, words } => stepped(alloc, steps, words),
+            Step::Loop(limit) => looped(alloc, limit),
             Step::Program(words) => self.load(alloc, image_of(alloc, words)),
             Step::File(bytes) => self.load(alloc, image_in(alloc, bytes)),
             Step::Slots(step) => slots::answer(alloc, &mut self.slots, step),
