@@ -1,7 +1,8 @@
 -- A piece of input in which no line ends, behind a rest in which none does.
-use Rattle.std.proofs.Common.{◌≡◌, ℕ, Bool, true, false, List, [], ◌∷◌, ◌++◌, refl}
+use Rattle.std.proofs.Common.{◌≡◌, ℕ, Bool, true, false, List, [], ◌∷◌, ◌++◌, refl, sym, ◌∙◌}
 use Rattle.std.specs.Prelude.{Option, Some, None, ◌==◌, is_some, IfNone}
-use Rattle.mi_input.specs.Lines.{lines, lines_after, rest_line, without_cr}
+use Rattle.mi_input.specs.Lines.{lines, rest_line, without_cr}
+use Rattle.mi_input.proofs.Fronts.{lines_after, lines_by_byte}
 
 none_yet : (front : List ℕ) → rest_line false front ≡ []
 none_yet [] = refl
@@ -24,12 +25,14 @@ joined_by : (b : ℕ) (bs more front : List ℕ) (t : Bool) → (b == 10) ≡ t
 joined_by b bs more front true is ih h = absurd (let e : without_cr front ∷ lines_after [] bs false ≡ [] = rw is at h in cc)
 joined_by b bs more front false is ih h = rw is (ih (front ++ b ∷ []) (rw is at h))
 
-joined_after : (bs more front : List ℕ) → lines more false ≡ [] → lines_after front bs false ≡ [] → lines_after front (bs ++ more) false ≡ []
+joined_after : (bs more front : List ℕ) → lines_after [] more false ≡ [] → lines_after front bs false ≡ [] → lines_after front (bs ++ more) false ≡ []
 joined_after [] more front none h = for_any_front more [] front none
 joined_after (b ∷ bs) more front none h = joined_by b bs more front (b == 10) refl (λ f k. joined_after bs more f none k) h
 
 pub no_line_joined : (rest piece : List ℕ) → lines rest false ≡ [] → lines piece false ≡ [] → lines (rest ++ piece) false ≡ []
-no_line_joined rest piece h none = joined_after rest piece [] none h
+no_line_joined rest piece h none =
+    let apart = sym (lines_by_byte piece false) ∙ none in
+    lines_by_byte (rest ++ piece) false ∙ joined_after rest piece [] apart (sym (lines_by_byte rest false) ∙ h)
 
 pub no_line_in : (xs : List ℕ) (r : Option (ℕ × ℕ)) → is_some r ≡ false → IfNone r (lines xs false ≡ []) → lines xs false ≡ []
 no_line_in xs None h none = none

@@ -6,7 +6,8 @@ use mathlib.Core.Logic.{inl, inr}
 use mathlib.Core.List.{append-nil}
 use Rattle.std.proofs.lemmas.List.{take_all}
 use Rattle.dbg_traits.specs.Told.{Ask, told_length, more}
-use Rattle.mi_input.specs.Lines.{lines, lines_after, rest_line, without_cr}
+use Rattle.mi_input.specs.Lines.{lines, rest_line, without_cr}
+use Rattle.mi_input.proofs.Fronts.{lines_after, lines_by_byte}
 use Rattle.dbg_model.specs.declared.entry.Entry.{Entry}
 use Rattle.dbg_model.specs.declared.entry.Entry.TheVariants.{Ran, Counted, Stopped, Left, Did, Poked}
 use Rattle.dbg_model.specs.declared.entry.Poke.{Poke}
@@ -381,7 +382,7 @@ all_done : (polled : Option (List ℕ)) (done : List (List ℕ)) (rest : List �
 all_done None done rest none g = tt
 all_done (Some bytes) done rest none g =
     let here : lines bytes false ≡ done = ap (λ t. lines t false) (sym (append-nil bytes)) ∙ (g [] false ∙ (ap (λ t. done ++ lines t false) (append-nil rest) ∙ (ap (λ t. done ++ t) none ∙ append-nil done))) in
-    sym (feeds_lines [] bytes) ∙ ap length here
+    sym (feeds_lines [] bytes) ∙ ap length (sym (lines_by_byte bytes false) ∙ here)
 
 -- input was taken, where each whole line was done
 pub told_took : (r : Stage) (wait : Bool) (asks : Option (List Ask)) (polled written : Option (List ℕ)) (new rest : List ℕ) → ToldInTime r.opening r.journal polled asks → lines rest false ≡ [] → IfSome polled (λ bytes. Gives false bytes (did r.journal) rest) → IfSome written (λ w. w ≡ said r.opening r.journal)

@@ -1,4 +1,5 @@
 pub mod Options
+pub mod Fronts
 pub mod LineSplits
 pub mod Words
 pub mod Commands

@@ -5,7 +5,8 @@ use Rattle.std.specs.Option.{option_map}
 use mathlib.Core.List.{append-nil}
 use Rattle.std.proofs.lemmas.List.{drop_all, take-append-drop, take-append-le}
 use Rattle.std.proofs.Math.Seq.{take-length}
-use Rattle.mi_input.specs.Lines.{lines, lines_after, rest_line, without_cr, lf_at, IsNext, AreFirst}
+use Rattle.mi_input.specs.Lines.{lines, rest_line, without_cr, lf_at, IsNext, AreFirst}
+use Rattle.mi_input.proofs.Fronts.{lines_after, lines_by_byte}
 use Rattle.mi_input.proofs.Options.{map_some, same_some}
 
 map_none : {A B : Type 0} (f : A → B) (r : Option A) → option_map f r ≡ None → r ≡ None
@@ -45,11 +46,15 @@ pub no_lf : (bs front : List ℕ) (e : Bool) → lf_at bs ≡ None → lines_aft
 no_lf [] front e h = ap (rest_line e) (sym (append-nil front))
 no_lf (b ∷ bs) front e h = rest_by b bs (b == 10) h refl (λ f d g. no_lf bs f d g) front e
 
+cut_lines : (bs : List ℕ) (k : ℕ) (more : List ℕ) (e : Bool) → lf_at bs ≡ Some k → lines (bs ++ more) e ≡ without_cr (take k bs) ∷ lines (drop (suc k) bs ++ more) e
+cut_lines bs k more e h =
+    lines_by_byte (bs ++ more) e ∙ split_at_lf bs [] k more e h ∙ ap (λ (l : List (List ℕ)). without_cr (take k bs) ∷ l) (sym (lines_by_byte (drop (suc k) bs ++ more) e))
+
 -- the line up to an LF
 pub next_at : (ended : Bool) (rest : List ℕ) (k : ℕ) → lf_at rest ≡ Some k → IsNext ended rest (without_cr (take k rest)) (k + 1)
-next_at false rest k h = λ more e. rw add-one (split_at_lf rest [] k more e h)
+next_at false rest k h = λ more e. rw add-one (cut_lines rest k more e h)
 next_at true rest k h =
-    let g = split_at_lf rest [] k [] true h in
+    let g = cut_lines rest k [] true h in
     let same = append-nil (drop (suc k) rest) in
     rw add-one (ap (λ t. lines t true) (sym (append-nil rest)) ∙ (g ∙ ap (λ t. without_cr (take k rest) ∷ lines t true) same))
 
@@ -57,7 +62,7 @@ next_at true rest k h =
 pub next_rest : (b : ℕ) (bs : List ℕ) → lf_at (b ∷ bs) ≡ None → IsNext true (b ∷ bs) (b ∷ bs) (length (b ∷ bs))
 next_rest b bs h =
     let none : drop (length (b ∷ bs)) (b ∷ bs) ≡ [] = drop_all (length (b ∷ bs)) (b ∷ bs) (omega arith) in
-    rw none (no_lf (b ∷ bs) [] true h)
+    rw none (lines_by_byte (b ∷ bs) true ∙ no_lf (b ∷ bs) [] true h)
 
 within_by : (b : ℕ) (bs : List ℕ) (k : ℕ) (t : Bool) → cond t (Some 0) (option_map (λ j. j + 1) (lf_at bs)) ≡ Some k → ((j : ℕ) → lf_at bs ≡ Some j → j < length bs) → k < suc (length bs)
 within_by b bs k true h ih = let z = same_some 0 k h in omega arith
@@ -95,11 +100,13 @@ first_after [] front more e = (lines_after front more e, ap (λ (l : List (List 
 first_after (b ∷ bs) front more e = first_by b bs front more e (b == 10) refl (λ f. first_after bs f more e)
 
 pub are_first : (front more : List ℕ) (ended : Bool) → AreFirst front more ended
-are_first front more ended = first_after front [] more ended
+are_first front more ended =
+    let n = first_after front [] more ended in
+    (n.0, lines_by_byte (front ++ more) ended ∙ n.1 ∙ ap (λ (l : List (List ℕ)). l ++ n.0) (sym (lines_by_byte front false)))
 
 -- no whole line stands where no LF does, unless the input has ended
 pub no_line : (rest : List ℕ) (ended : Bool) → lf_at rest ≡ None → rest_line ended rest ≡ [] → lines rest ended ≡ []
-no_line rest ended h none = no_lf rest [] ended h ∙ none
+no_line rest ended h none = lines_by_byte rest ended ∙ no_lf rest [] ended h ∙ none
 
 pub no_rest : (rest : List ℕ) (ended : Bool) → ended ≡ false → rest_line ended rest ≡ []
 no_rest [] ended h = refl

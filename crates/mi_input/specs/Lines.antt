@@ -13,14 +13,25 @@ abbrev pub rest_line : Bool → List ℕ → List (List ℕ)
 rest_line ended [] = []
 rest_line ended (b ∷ bs) = if ended then (b ∷ bs) ∷ [] else []
 
--- front: the bytes of the line so far
-abbrev pub lines_after : List ℕ → List ℕ → Bool → List (List ℕ)
-lines_after front [] ended = rest_line ended front
-lines_after front (b ∷ bs) ended = if b == 10 then without_cr front ∷ lines_after [] bs ended else lines_after (front ++ b ∷ []) bs ended
+-- a byte more before the first piece
+abbrev pub before_first : ℕ → List (List ℕ) → List (List ℕ)
+before_first b [] = (b ∷ []) ∷ []
+before_first b (piece ∷ pieces) = (b ∷ piece) ∷ pieces
+
+-- the pieces between LFs, from that before the first one to that behind the last one
+abbrev pub pieces : List ℕ → List (List ℕ)
+pieces [] = [] ∷ []
+pieces (b ∷ bs) = if b == 10 then [] ∷ pieces bs else before_first b (pieces bs)
+
+-- each piece before an LF, without a CR at its end, and the rest behind the last LF
+abbrev pub lines_among : Bool → List (List ℕ) → List (List ℕ)
+lines_among ended [] = []
+lines_among ended (rest ∷ []) = rest_line ended rest
+lines_among ended (piece ∷ next ∷ others) = without_cr piece ∷ lines_among ended (next ∷ others)
 
 -- the texts of the lines: cut at each LF, one CR before it dropped; a rest after the last LF where the input has ended
 abbrev pub lines : List ℕ → Bool → List (List ℕ)
-lines bytes ended = lines_after [] bytes ended
+lines bytes ended = lines_among ended (pieces bytes)
 
 -- where the first LF stands
 abbrev pub lf_at : List ℕ → Option ℕ
