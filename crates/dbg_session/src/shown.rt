@@ -21,7 +21,7 @@ fn shown(line: Line) -> usize
     }
 }
 
-/// How many bytes of the program's output the records of a text show. The one error is want of memory.
+/// How many bytes of the program's output the records of a text show. The one error is out of memory.
 pub fn shown_in(alloc: Global, text: &[u8]) -> Result<usize, NoMemory>
     ensures { IfOk result (λ n. (trees : List LineTree) → AreRecords text.now trees → n ≡ length (streamed trees)) }
 {

@@ -69,7 +69,7 @@ fn push_number(into: &mut Vec<u8>, name: &str, number: u64) -> Result<(), AllocE
     Ok(())
 }
 
-/// The six lines of a generated run with this number, journal, records and status. The one error is want of memory.
+/// The six lines of a generated run with this number, journal, records and status. The one error is out of memory.
 #[tactic(auto, unfolding(crate::specs::Summary::summary))]
 pub fn summary_text(
     alloc: Global,

@@ -35,7 +35,7 @@ fn given_by<'a>(alloc: Global, words: &'a [ArgText]) -> Result<Option<Given<'a>>
     }
 }
 
-/// What the words of the command line ask for, or none where they are refused; an error is want of memory. The
+/// What the words of the command line ask for, or none where they are refused; the one error is out of memory. The
 /// words come without the program's name.
 ///
 /// They are FILE with `--harts` (1 to 16, else 1), `--workers` (0 to 16, else 2), `--slots` (0 to 512, else 16),

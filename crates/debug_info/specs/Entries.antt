@@ -50,7 +50,7 @@ pub record IsLevel (entry : Entry) : Type 0 where
   pub some : 1 ≤ entry.level
   pub most : entry.level ≤ 64
 
--- the entries that are read, or the fault; want of memory may come
+-- the entries that are read, or the fault; out of memory may come
 abbrev pub Gives : Result (Vec Entry) InfoError → Result (List Entry) InfoFault → Type 0
 Gives (Ok entries) want = want ≡ Ok entries.items
 Gives (Err (error.Fault fault)) want = want ≡ Err fault

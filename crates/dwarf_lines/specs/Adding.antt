@@ -55,7 +55,7 @@ shown s unit =
 abbrev pub shown_in : LineSections → UnitFound → UnitRows
 shown_in sections unit = shown (sections_shown sections) unit
 
--- what a unit gives, or the fault; want of memory may come
+-- what a unit gives, or the fault; out of memory may come
 abbrev pub GivesUnit : Sections → Result UnitFound LineError → Result UnitRows LineFault → Type 0
 GivesUnit s (Ok unit) want = want ≡ Ok (shown s unit)
 GivesUnit s (Err (error.Fault fault)) want = want ≡ Err fault

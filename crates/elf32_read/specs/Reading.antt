@@ -16,7 +16,7 @@ pub record IsImage (bytes : List ℕ) (program : Program) : Type 0 where
 abbrev pub Refused : List ℕ → ElfFault → Type 0
 Refused bytes fault = fault_of bytes ≡ Some fault
 
--- the first fault of the bytes, or want of memory
+-- the first fault of the bytes, or out of memory
 abbrev pub Fails : List ℕ → ElfReadError → Type 0
 Fails bytes (error.Fault fault) = Refused bytes fault
 Fails bytes error.Memory = Unit {0}

@@ -22,7 +22,7 @@ pub record AreRead (file : List ℕ) (t : Tables) : Type 0 where
   pub accepted : fault_of file ≡ None
   pub tables : AreTables file t
 
--- the tables of the file, or its first fault, or want of memory
+-- the tables of the file, or its first fault, or out of memory
 abbrev pub ReadsTables : List ℕ → Result Tables ElfReadError → Type 0
 ReadsTables file (Ok t) = AreRead file t
 ReadsTables file (Err e) = Fails file e

@@ -132,7 +132,7 @@ impl Image {
         self.tables.text.as_slice().len()
     }
 
-    /// Where the text sections stand, as a value that is kept apart from the image. Its one error is want of memory.
+    /// Where the text sections stand, as a value that is kept apart from the image. Its one error is out of memory.
     pub fn text_spans(&self, alloc: Global) -> Result<TextSpans, AllocError>
         ensures { IfOk result (λ spans. spans ≡ text_spans self.now) }
     {

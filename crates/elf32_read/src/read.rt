@@ -100,7 +100,7 @@ fn read_tables(alloc: Global, bytes: &[u8]) -> Result<Tables, ElfReadError>
 ///
 /// # Errors
 ///
-/// The first check that the bytes fail, or want of memory. The bytes are dropped then: a caller that needs them after
+/// The first check that the bytes fail, or out of memory. The bytes are dropped then: a caller that needs them after
 /// a fault keeps a copy.
 pub fn read_image(alloc: Global, bytes: Vec<u8>) -> Result<Image, ElfReadError>
     ensures read { Reads bytes.items result }

@@ -63,7 +63,7 @@ fn has_room(words: &[u32], bytes: &[u8]) -> bool
 /// The file of a program: its words of text at 0x10074, where it begins, and its bytes of data at 0x20000.
 ///
 /// Reading the file accepts it where there is a word, the text ends before the data begins, and the two fit the memory
-/// of a program. Files of 2 GiB of words or 1 GiB of bytes aren't made: for those it answers want of memory.
+/// of a program. Files of 2 GiB of words or 1 GiB of bytes aren't made: for those it answers out of memory.
 pub fn plain(alloc: Global, words: &[u32], bytes: &[u8]) -> Result<Vec<u8>, NoMemory>
     ensures bytes { IfOk result (λ file. file.items ≡ plain_file words.now bytes.now) }
     ensures image { IsPlain words.now bytes.now → IfOk result (λ file. IsImage file.items (plain_program words.now bytes.now)) }

@@ -112,7 +112,7 @@ fn put_debug(file: &mut Vec<u8>) -> Result<(), AllocError>
 /// The file of a program whose harts each add 1 to one counter, `number` times, in the function `work` of count.c.
 ///
 /// It has symbols, the rows of `work` and its call frame information. For `number` 0 the loop goes on for 2^32 turns.
-/// The one error is want of memory.
+/// The one error is out of memory.
 pub fn generate(alloc: Global, number: u32) -> Result<Vec<u8>, NoMemory>
     ensures bytes { IfOk result (λ file. file.items ≡ generated_file number) }
     ensures image { IfOk result (λ file. IsImage file.items (generated_program number)) }

@@ -15,7 +15,7 @@ const AFTER: &[u8] = b"\" count.c:13\n-exec-continue --all\n-exec-wait\n-thread-
     -exec-continue --all\n-exec-wait\n";
 
 /// The lines of a session of two harts over the file of `generate`, which stops once both have added `number`. The one
-/// error is want of memory.
+/// error is out of memory.
 pub fn script(alloc: Global, number: u32) -> Result<Vec<u8>, NoMemory>
     ensures { IfOk result (λ text. text.items ≡ script_text number) }
 {

@@ -296,7 +296,7 @@ impl Symbols {
         }
     }
 
-    /// Where the functions in text begin, in the symbol table's order. Its one error is want of memory.
+    /// Where the functions in text begin, in the symbol table's order. Its one error is out of memory.
     pub fn function_addresses(&self, alloc: Global) -> Result<Vec<u32>, AllocError>
         ensures { IfOk result (λ v. v.items ≡ map (λ s. s.address) self.now.functions) }
     {

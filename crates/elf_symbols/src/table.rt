@@ -85,7 +85,7 @@ fn is_code(image: &Image, entry: &SymbolEntry) -> bool
 }
 
 /// The symbols of an image: those of its first symbol table that have a section and a name, and none without a table.
-/// Its one error is want of memory.
+/// Its one error is out of memory.
 pub fn symbols(alloc: Global, image: &Image) -> Result<Symbols, NoMemory>
     ensures { IfOk result (λ s. s ≡ names_of image.now) }
 {

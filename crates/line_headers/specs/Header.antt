@@ -35,7 +35,7 @@ abbrev pub IsHeader : Header → List NamePlace → Reading (Header × List Name
 IsHeader header files (Ok r) = (header, files) ≡ r.0
 IsHeader header files (Err fault) = ⊥
 
--- the header and the files that are read, or the fault; want of memory may come
+-- the header and the files that are read, or the fault; out of memory may come
 abbrev pub GivesHeader : Result (Header × Vec NamePlace) LineError → Reading (Header × List NamePlace) → Type 0
 GivesHeader (Ok r) read = IsHeader r.0 r.1.items read
 GivesHeader (Err (error.Fault fault)) read = read ≡ Err fault

@@ -36,7 +36,7 @@ read_watched (Err f) = Err (Expr f)
 unfoldable pub watching : Names → List ℕ → Result Watched WatchFault
 watching names text = read_watched (parsed names text)
 
--- it is this, but for want of memory
+-- it is this, unless memory runs out
 abbrev pub GivesWatch : Result Watched WatchError → Result Watched WatchFault → Type 0
 GivesWatch (Ok w) r = r ≡ Ok w
 GivesWatch (Err failures.NoMemory) r = Unit {0}

@@ -76,6 +76,6 @@ Gives (Ok w) answer = Ok w ≡ answer
 Gives (Err failures.NoMemory) answer = Unit {0}
 Gives (Err (failures.Fault f)) answer = Err (failures.Fault f) ≡ answer
 
--- the answer comes only where the fact holds, and there nothing else but want of memory comes
+-- the answer comes only where the fact holds, and there nothing else comes unless memory runs out
 abbrev pub ExactlyWhere : Result Watched WatchError → Result Watched WatchError → Type 0 → Type 0
 ExactlyWhere given answer Fact = (given ≡ answer → Fact) × (Fact → Gives given answer)

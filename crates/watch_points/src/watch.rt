@@ -71,7 +71,7 @@ fn tree_watch(root: &Node) -> Result<Watched, WatchFault>
 /// What a text asks to be watched, with the names of these symbols: it is a type in braces and an address with neither
 /// a register nor a read, within any parentheses. Of its faults the first one of `WatchFault`.
 pub fn watch_of(alloc: Global, text: &[u8], symbols: &Symbols) -> Result<Watched, WatchError>
-    // Each answer comes exactly where its fact holds; want of memory may come in place of any.
+    // Each answer comes exactly where its fact holds; out of memory may come in place of any.
     ensures watched { (w : Watched) → ExactlyWhere result (Ok w) (SpellsTree text.now symbols.now (λ x. IsWatch x w)) }
     ensures expr { (f : ExprFault) → ExactlyWhere result (Err (WatchError.Fault (WatchFault.Expr f))) (expression_fault symbols.now text.now ≡ Some f) }
     ensures form { ExactlyWhere result (Err (WatchError.Fault WatchFault.Form)) (SpellsTree text.now symbols.now (λ x. ¬ (IsWatchable x))) }
