@@ -45,9 +45,10 @@ impl Model for FrameIndex {
 }
 
 impl FrameIndex {
-    /// The index of a section, of which it keeps a copy. It takes n log n time in the FDEs, and beside that time in
-    /// proportion to the section's length. A state of 2.4 KB is kept of each CIE of more than 16,384 bytes, and of each
-    /// 16,384 bytes of an FDE's program that is longer: less than a sixth of the section's length in all.
+    /// The index of a section, of which it keeps a copy. It takes n log n time in the FDEs, and time in proportion to the
+    /// section's length for the programs, of which it runs the long ones once. A state of 2.4 KB is kept of each CIE of
+    /// more than 16,384 bytes, and one of each 16,384 bytes of an FDE's program that is longer: these take less than a
+    /// third of the section's length.
     ///
     /// # Errors
     /// No memory for the copy, for the tables or for the states.
@@ -79,7 +80,8 @@ impl FrameIndex {
         }
     }
 
-    /// The rules at pc, by binary searches and a run of at most a part of a long program; None where no entry covers pc.
+    /// The rules at pc, by binary searches and a run of at most 16,384 bytes of each program; None where no entry covers
+    /// pc.
     ///
     /// # Errors
     /// The first FDE in the section's order that covers pc counts. A fault on the way to it comes first, then those
