@@ -21,7 +21,7 @@ told section None None = Ok None
 abbrev IsTold : ℕ → List ℕ → Entries → Type 0
 IsTold pc section rest = covering pc rest ≡ told section (value_among (fde_ranges rest) pc) (first_fault rest)
 
-at_place : (section body : List ℕ) (at next : ℕ) (d : Option Fde) → entry_at section at ≡ found body next → fde_of body ≡ Ok d → Ok d ≡ fde_at section at
+pub at_place : (section body : List ℕ) (at next : ℕ) (d : Option Fde) → entry_at section at ≡ found body next → fde_of body ≡ Ok d → Ok d ≡ fde_at section at
 unfolding fde_at
 at_place section body at next d h f = sym (ap (λ (r : Read (List ℕ)). r >>= (λ entry. fde_of entry.0)) h ∙ f)
 

@@ -2,15 +2,11 @@
 use Rattle.std.proofs.Common.{◌≡◌, ◌<◌, ◌≤◌, ◌+◌, ℕ, zero, suc, List, length, Err, refl, arith, sym, ◌∙◌, ap}
 use Rattle.std.proofs.lemmas.Bool.Decides.{nat_tests}
 use Rattle.dwarf_frames.specs.Reading.{found}
+use Rattle.dwarf_frames.specs.Marks.{Gives}
 use Rattle.dwarf_frames.specs.Operations.{Operations, Ends, Fails, Then, then_rest, operations, operations_from, operation_at}
 use Rattle.dwarf_frames.specs.declared.fault.FrameFault.{FrameFault}
 use Rattle.dwarf_frames.specs.declared.operation.Factors.{Factors}
 use Rattle.dwarf_frames.specs.declared.operation.Operation.{Operation}
-
-pub record Gives {X : Type 0} (answer : X) (f : Operations → X) (factors : Factors) (bytes : List ℕ) (at : ℕ) : Type 0 where
-  pub most : ℕ
-  pub enough : length bytes ≤ at + most
-  pub same : f (operations_from most factors bytes at) ≡ answer
 
 pub gives_start : {X : Type 0} (f : Operations → X) (factors : Factors) (bytes : List ℕ) → Gives (f (operations factors bytes)) f factors bytes 0
 unfolding operations

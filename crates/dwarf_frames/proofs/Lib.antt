@@ -6,3 +6,6 @@ pub mod Covering
 pub mod Named
 pub mod Places
 pub mod Kept
+pub mod Marking
+pub mod Described
+pub mod Found

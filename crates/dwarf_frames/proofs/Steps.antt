@@ -3,6 +3,7 @@ use Rattle.std.proofs.Common.{◌≡◌, ◌<◌, ◌≤◌, ℕ, Result, Ok, Er
 use Rattle.std.proofs.lemmas.Bool.Decides.{nat_tests}
 use Rattle.dwarf_frames.specs.Reading.{◌>>=◌}
 use Rattle.dwarf_frames.specs.Operations.{Operations, Ends, Fails, Then}
+use Rattle.dwarf_frames.specs.Marks.{fold_until}
 use Rattle.dwarf_frames.specs.Table.{State, apply, fold_operations, moved, operations_until}
 use Rattle.dwarf_frames.specs.declared.fault.FrameFault.{FrameFault}
 use Rattle.dwarf_frames.specs.declared.operation.Operation.{Operation}
@@ -24,10 +25,6 @@ until_above : (pc location : ℕ) (rest : Operations) → pc < location → oper
 until_above pc location Ends h = refl
 until_above pc location (Fails e) h = grind (arith, nat_tests)
 until_above pc location (Then o rest) h = grind (arith, nat_tests)
-
--- the operations up to pc, folded
-abbrev pub fold_until : Rules → ℕ → State → ℕ → Operations → Result State FrameFault
-fold_until restored pc s location rest = fold_operations restored s (operations_until pc location rest)
 
 pub fold_until_next : (restored : Rules) (pc location to : ℕ) (s after : State) (o : Operation) → location ≤ pc → to ≡ moved location o → apply restored s o ≡ Ok after → (rest : Operations) → fold_until restored pc s location (Then o rest) ≡ fold_until restored pc after to rest
 fold_until_next restored pc location to s after o h m e rest =

@@ -2,7 +2,7 @@
 use Rattle.std.specs.Prelude.{ℕ, ◌+◌, ◌==◌, Bool, false, List, [], ◌∷◌, ◌++◌, Option, None, Some, Result, Ok, Err, if◌then◌else◌}
 use Rattle.leb_read.specs.Leb as leb
 use Rattle.address_tables.specs.declared.entry.AddressRange.{AddressRange}
-use Rattle.dwarf_frames.specs.Entries.{Entries, Ends, Breaks, Then, Fde, fde_of}
+use Rattle.dwarf_frames.specs.Entries.{Entries, Ends, Breaks, Then, Fde, fde_at, fde_of}
 use Rattle.dwarf_frames.specs.declared.fault.FrameFault.{FrameFault}
 
 -- whether an entry begins as a CIE does
@@ -47,3 +47,9 @@ abbrev pub first_fault : Entries → Option FrameFault
 first_fault Ends = None
 first_fault (Breaks e) = Some e
 first_fault (Then at body rest) = fault_or (fde_of body) (first_fault rest)
+
+-- the FDE whose place is told
+abbrev pub fde_told : List ℕ → Result (Option ℕ) FrameFault → Result (Option Fde) FrameFault
+fde_told section (Ok (Some place)) = fde_at section place
+fde_told section (Ok None) = Ok None
+fde_told section (Err e) = Err e

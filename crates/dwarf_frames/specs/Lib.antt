@@ -6,5 +6,8 @@ pub mod Entries
 pub mod Rules
 pub mod Gives
 pub mod States
+pub mod Starts
+pub mod Marks
 pub mod Index
+pub mod Tabled
 pub mod Kept

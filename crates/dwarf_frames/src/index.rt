@@ -1,16 +1,23 @@
-ghost use Rattle.std.specs.Prelude.{◌≡◌, ◌<◌, IfOk, IfSome};
-ghost use Rattle.dwarf_frames.specs.Entries.{covering, entries};
-ghost use Rattle.dwarf_frames.specs.Gives.{GivesCie, GivesFde};
-ghost use Rattle.dwarf_frames.specs.Rules.{named_cie, rules_of};
+//! The index of a section, and what is kept in it of long programs.
+
+ghost use Rattle.std.specs.Prelude.{◌≡◌, ◌≤◌, IfOk, IfSome, Ok, Some};
+ghost use Rattle.dwarf_frames.specs.Entries.{fde_at};
+ghost use Rattle.dwarf_frames.specs.Gives.{seen_fde};
+ghost use Rattle.dwarf_frames.specs.Marks.{IsMark};
+ghost use Rattle.dwarf_frames.specs.Rules.{rules_of};
+ghost use Rattle.dwarf_frames.specs.Starts.{seen_start, start_at};
+ghost use Rattle.dwarf_frames.specs.States.{AreAllWithin, seen};
 ghost use Rattle.dwarf_frames.specs.Within.{AreWithin};
 
-use crate::cies::cie_places;
-use crate::entry::{Cie, Fde, cie_at, fde_at};
+use crate::entry::Fde;
 use crate::fault::FrameFault;
-use crate::fdes::fdes_of;
+use crate::mark::Mark;
+use crate::marks::{MarkedFde, last_good, marked_fdes};
 use crate::rules::Rules;
-use crate::running::rules_by;
-use address_tables::{Entry, table_of, value_at};
+use crate::running::rules_from;
+use crate::start::{KeptStart, Start};
+use crate::starts::{long_starts, start_at};
+use crate::tables::Tables;
 use dbg_traits::NoMemory;
 use std::alloc::Global;
 use std::marker::Model;
@@ -18,13 +25,11 @@ use std::marker::Model;
 /// A section `.debug_frame` for look-ups by an address. Contracts see it as the section's bytes.
 #[derive(Drop)]
 pub struct FrameIndex {
-    section: Vec<u8>,
-    /// Where the FDE begins that counts at an address, in bytes from the start of the section.
-    fdes: Vec<Entry<usize>>,
-    /// The first fault of the section, for an address that no FDE before it covers.
-    fault: Option<FrameFault>,
-    /// Where the CIEs begin, in bytes from the start of the section.
-    cies: Vec<usize>,
+    tables: Tables,
+    /// What the long CIEs give, in the section's order.
+    starts: Vec<KeptStart>,
+    /// The marks of the FDEs with long programs, in the section's order.
+    marked: Vec<MarkedFde>,
 }
 
 impl Model for FrameIndex {
@@ -40,59 +45,59 @@ impl Model for FrameIndex {
 }
 
 impl FrameIndex {
-    /// The index of a section, of which it keeps a copy. It takes n log n time in the FDEs.
+    /// The index of a section, of which it keeps a copy. It takes n log n time in the FDEs, and time in proportion to the
+    /// section's length for the programs, of which it runs the long ones once. A state of 2.4 KB is kept of each CIE of
+    /// more than 16,384 bytes, and one of each 16,384 bytes of an FDE's program that is longer: these take less than a
+    /// third of the section's length.
     ///
     /// # Errors
-    /// No memory for the copy or for the tables.
+    /// No memory for the copy, for the tables or for the states.
     pub fn build(alloc: Global, section: &[u8]) -> Result<FrameIndex, NoMemory>
         ensures { IfOk result (λ index. index ≡ section.now) }
     {
-        let fdes = fdes_of(alloc, section)?;
+        let tables = Tables::build(alloc, section)?;
+        let starts = long_starts(alloc, &tables)?;
+        let marked = marked_fdes(alloc, &tables, &starts)?;
         Ok(FrameIndex {
-            section: Vec::from_slice(alloc, section)?,
-            fdes: table_of(alloc, &fdes.ranges)?,
-            fault: fdes.fault,
-            cies: cie_places(alloc, section)?,
+            tables,
+            starts,
+            marked,
         })
     }
 
-    // The first FDE in the section's order that covers pc, or the fault that is met before.
-    fn covering(&self, pc: u32) -> Result<Option<Fde<'_>>, FrameFault>
-        ensures { GivesFde result (covering pc (entries self.now)) }
+    // Where a run of an FDE begins for pc.
+    fn mark_at(&self, place: usize, start: &Start, fde: &Fde<'_>, pc: u32) -> Mark
+        requires fde { fde_at self.now place ≡ Ok (Some (seen_fde fde.now)) }
+        requires start { start_at self.now fde.now.cie_pointer ≡ Ok (seen_start start.now) }
+        requires within { AreAllWithin (seen start.now.state) }
+        ensures mark { IsMark (seen_start start.now) (seen_fde fde.now) result }
+        ensures reached { result.reached ≤ pc }
     {
-        match (value_at(&self.fdes, u64::from(pc)), self.fault) {
-            (Some(place), _) => fde_at(&self.section, place),
-            (None, Some(fault)) => Err(fault),
-            (None, None) => Ok(None),
+        let count = self.marked.partition_point(|marked| marked.place < place);
+        match self.marked.get(count) {
+            Some(marked) if marked.place == place => last_good(&marked.marks, start, fde, pc),
+            _ => Mark::first(start, fde),
         }
     }
 
-    // The CIE that begins at a place.
-    fn named_cie(&self, place: u32) -> Result<Cie<'_>, FrameFault>
-        ensures value { GivesCie result (named_cie self.now place) }
-        ensures register { IfOk result (λ c. c.return_column < 32) }
-    {
-        let place = place as usize;
-        if self.cies.binary_search(&place).is_err() {
-            return Err(FrameFault::Short);
-        }
-        cie_at(&self.section, place)
-    }
-
-    /// The rules at pc, by two binary searches; None where no entry covers pc.
+    /// The rules at pc, by binary searches and a run of at most 16,384 bytes of each program; None where no entry covers
+    /// pc.
     ///
     /// # Errors
     /// The first FDE in the section's order that covers pc counts. A fault on the way to it comes first, then those
     /// of its CIE, then its own, each in the order of reading.
-    #[tactic(auto, unfolding(crate::specs::Rules::rules_of))]
     pub fn rules_at(&self, pc: u32) -> Result<Option<Rules>, FrameFault>
         ensures value { result ≡ rules_of self.now pc }
         ensures within { IfOk result (λ found. IfSome found AreWithin) }
     {
-        let Some(fde) = self.covering(pc)? else {
+        let Some(place) = self.tables.place_at(pc)? else {
             return Ok(None);
         };
-        let cie = self.named_cie(fde.cie_pointer)?;
-        Ok(Some(rules_by(&cie, &fde, pc)?))
+        let Some(fde) = self.tables.fde_at(place)? else {
+            return Ok(None);
+        };
+        let start = start_at(&self.tables, &self.starts, fde.cie_pointer as usize)?;
+        let mark = self.mark_at(place, &start, &fde, pc);
+        Ok(Some(rules_from(&start, &fde, pc, mark)?))
     }
 }

@@ -9,11 +9,16 @@ mod entry;
 mod fault;
 mod fdes;
 mod index;
+mod mark;
+mod marks;
 mod operand;
 mod operation;
 mod rules;
 mod running;
+mod start;
+mod starts;
 mod table;
+mod tables;
 
 pub use fault::FrameFault;
 pub use index::FrameIndex;

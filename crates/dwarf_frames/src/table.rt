@@ -33,6 +33,20 @@ impl State {
             remembered: ArrayVec::new(),
         }
     }
+
+    /// The same rules, and as many remembered.
+    pub fn copy(&self) -> State
+        ensures { seen result ≡ seen self.now }
+    {
+        let mut remembered = ArrayVec::new();
+        for rules in self.remembered.as_slice() {
+            remembered.push(*rules);
+        }
+        State {
+            rules: self.rules,
+            remembered,
+        }
+    }
 }
 
 // The rule of a register; one above 31 has none.

@@ -2,7 +2,7 @@ use Rattle.std.proofs.Common.{length, ◌-◌}
 use Rattle.dwarf_frames.specs.Operations.{operations}
 use Rattle.dwarf_frames.specs.States.{AreAllWithin, seen}
 use Rattle.dwarf_frames.specs.Table.{fold_operations}
-use Rattle.dwarf_frames.proofs.Fold.{Gives}
+use Rattle.dwarf_frames.specs.Marks.{Gives}
 use Rattle.dwarf_frames.proofs.running.run.Given as goal
 
 abbrev pub invariant-loop-at : goal.invariant-loop-at

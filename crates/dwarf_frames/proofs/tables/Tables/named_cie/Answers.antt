@@ -6,7 +6,7 @@ use Rattle.dwarf_frames.specs.Gives.{GivesCie}
 use Rattle.dwarf_frames.specs.Rules.{named_cie}
 use Rattle.dwarf_frames.specs.declared.fault.FrameFault.{FrameFault}
 use Rattle.dwarf_frames.proofs.Named.{cie_if, named_by}
-use Rattle.dwarf_frames.proofs.index.FrameIndex.named_cie.Goals as goal
+use Rattle.dwarf_frames.proofs.tables.Tables.named_cie.Goals as goal
 
 pub returns-then-is_err-clause-value : goal.returns-then-is_err-clause-value
 returns-then-is_err-clause-value c =
