@@ -1,16 +1,21 @@
-// What lines work on.
-use crate::names::{Given, becomes, places, worth};
-use crate::step::{Section, Step};
-use crate::variables::{faults_text, variables_text};
+// Variables that three sections of debugging information tell of, and their names in expressions. The rows are those of `Step`.
+mod hart;
+mod names;
+mod step;
+mod told;
+
+use crate::images::generated_image;
 use debug_info::{Info, Sections, Var, read_info};
-use elf_gen::generate;
 use elf_symbols::{Symbols, symbols};
-use elf32_read::read_image;
+use names::{Given, becomes, places, worth};
+use script_rows::{Bench, RowFault};
 use std::alloc::{AllocError, Global};
+use step::{Section, Step};
+use told::{faults_text, variables_text};
 
 /// The sections, what was read of them, and the place that counts.
 #[derive(Drop)]
-pub struct Bench {
+pub struct VariableBench {
     info: Vec<u8>,
     abbrevs: Vec<u8>,
     strs: Vec<u8>,
@@ -31,14 +36,13 @@ fn decoded(alloc: Global, text: &str) -> Option<Vec<u8>> {
 }
 
 fn generated_names(alloc: Global) -> Option<Symbols> {
-    let image = read_image(alloc, generate(alloc, 3).ok()?).ok()?;
-    symbols(alloc, &image).ok()
+    symbols(alloc, &generated_image(alloc, 3)?).ok()
 }
 
-impl Bench {
+impl VariableBench {
     /// No sections.
-    pub fn new(alloc: Global) -> Bench {
-        Bench {
+    pub fn new(alloc: Global) -> VariableBench {
+        VariableBench {
             info: Vec::new(alloc),
             abbrevs: Vec::new(alloc),
             strs: Vec::new(alloc),
@@ -106,8 +110,8 @@ impl Bench {
         }
     }
 
-    /// What came of a step.
-    pub fn answer(&mut self, alloc: Global, step: Step<'_>) -> Result<String, AllocError> {
+    // What came of a step.
+    fn done(&mut self, alloc: Global, step: Step<'_>) -> Result<String, AllocError> {
         match step {
             Step::Section(section, text) => self.set(alloc, section, text),
             Step::Read => self.read(alloc),
@@ -121,5 +125,20 @@ impl Bench {
             }
             _ => self.asked(alloc, step),
         }
+    }
+}
+
+impl Bench for VariableBench {
+    fn answer(&mut self, alloc: Global, row: &str) -> Result<String, RowFault> {
+        let step = Step::read(row).ok_or(RowFault::Unknown)?;
+        Ok(self.done(alloc, step)?)
+    }
+}
+
+/// What is said of a row before its answer: the row, or of one with a section's bytes its word alone.
+pub fn label(row: &str) -> &str {
+    match row.split_once(' ') {
+        Some((word, _)) if matches!(word, "info" | "abbrevs" | "strs") => word,
+        _ => row,
     }
 }

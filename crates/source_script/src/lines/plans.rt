@@ -1,6 +1,6 @@
 // Plans of steps, and what becomes of them.
-use crate::hart::arrived;
-use crate::table::Table;
+use crate::lines::hart::arrived;
+use crate::lines::table::Table;
 use rv_decode::decode;
 use script_rows::{RowFault, before, number, two};
 use std::alloc::Global;

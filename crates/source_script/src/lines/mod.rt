@@ -1,9 +1,5 @@
-//! Numbers of debugging information, rows of `.debug_line` and look-ups in them, plans of steps, and frames, which rows of
-//! input ask for: each row is answered by what came of it.
-//!
-//! The rows are those of the modules' `answer`. Numbers are in decimal, or behind 0x in hexadecimal; bytes in hexadecimal.
-#![tactic(auto)]
-
+// Numbers of debugging information, rows of `.debug_line` and look-ups in them, plans of steps, and frames. The rows are those of
+// the modules' `answer`.
 mod frames;
 mod hart;
 mod numbers;
@@ -15,19 +11,26 @@ mod table;
 mod told;
 
 use dwarf_frames::FrameIndex;
-use script_rows::{Bench, RowFault, play};
+use script_rows::{Bench, RowFault};
 use std::alloc::Global;
-use std::io;
 use table::Table;
 
 /// A program with its rows, and the rules of its frames.
 #[derive(Drop)]
-struct Source {
+pub struct LineBench {
     table: Option<Table>,
     rules: Option<FrameIndex>,
 }
 
-impl Source {
+impl LineBench {
+    /// No program.
+    pub fn new() -> LineBench {
+        LineBench {
+            table: None,
+            rules: None,
+        }
+    }
+
     // What came of a row that asks of the program.
     fn of_program(&mut self, alloc: Global, word: &str, rest: &str) -> Result<String, RowFault> {
         let Some(table) = &mut self.table else {
@@ -54,7 +57,7 @@ impl Source {
     }
 }
 
-impl Bench for Source {
+impl Bench for LineBench {
     fn answer(&mut self, alloc: Global, row: &str) -> Result<String, RowFault> {
         let (word, rest) = row.split_once(' ').unwrap_or((row, ""));
         match word {
@@ -66,12 +69,4 @@ impl Bench for Source {
             _ => self.of_program(alloc, word, rest),
         }
     }
-}
-
-fn main(rt: HostRuntime) -> io::Result<()> {
-    let mut source = Source {
-        table: None,
-        rules: None,
-    };
-    play(&rt, rt.alloc(), &mut source)
 }

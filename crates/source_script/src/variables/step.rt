@@ -1,4 +1,5 @@
 // What a line asks for.
+use script_rows::number;
 
 /// One of the three sections.
 #[derive(Clone, Copy)]
@@ -30,13 +31,6 @@ pub enum Step<'a> {
     Worth(&'a str),
 }
 
-fn number(text: &str) -> Option<u32> {
-    match text.strip_prefix("0x") {
-        Some(digits) => u32::from_str_radix(digits, 16).ok(),
-        None => text.parse().ok(),
-    }
-}
-
 impl<'a> Step<'a> {
     /// What a line asks for. None where that is nothing that is known.
     pub fn read(line: &'a str) -> Option<Step<'a>> {
@@ -53,16 +47,6 @@ impl<'a> Step<'a> {
             "places" => Some(Step::Places(rest)),
             "worth" => Some(Step::Worth(rest)),
             _ => None,
-        }
-    }
-
-    /// What is said of the line before its answer.
-    pub fn label(&self, line: &'a str) -> &'a str {
-        match self {
-            Step::Section(Section::Info, _) => "info",
-            Step::Section(Section::Abbrevs, _) => "abbrevs",
-            Step::Section(Section::Strs, _) => "strs",
-            _ => line,
         }
     }
 }

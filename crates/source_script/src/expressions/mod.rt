@@ -1,17 +1,18 @@
-// What lines work on.
-use crate::step::Step;
-use crate::table;
-use crate::watches::{told_want, watched};
-use crate::worth::{behind, worth};
+// Conditions, the breakpoints that they stand in, and texts of watches. The rows are those of `Step`.
+mod step;
+mod table;
+mod watches;
+mod worth;
+
+use crate::images::{generated_image, words_image};
 use break_table::BreakTable;
-use elf_gen::{generate, plain};
 use elf_symbols::{Symbols, symbols};
 use elf32_read::{Image, read_image};
 use script_rows::{Bench, RowFault};
 use std::alloc::{AllocError, Global};
-
-/// The most words of a program.
-const MOST_WORDS: u32 = 256;
+use step::Step;
+use watches::{told_want, watched};
+use worth::{behind, worth};
 
 /// A program, its names, and breakpoints in it.
 #[derive(Drop)]
@@ -23,27 +24,13 @@ struct Loaded {
 
 /// The program that was loaded last.
 #[derive(Drop)]
-pub struct Subject {
+pub struct ExpressionBench {
     loaded: Option<Loaded>,
 }
 
 // The program of an ELF file of these bytes, in hexadecimal. None where it is no program, or memory runs out.
 fn image_in(alloc: Global, bytes: &str) -> Option<Image> {
     read_image(alloc, hex::decode(alloc, bytes).ok()?).ok()
-}
-
-// The program of so many words of text.
-fn image_of(alloc: Global, count: u32) -> Option<Image> {
-    let mut words = Vec::new(alloc);
-    for _ in 0..count.min(MOST_WORDS) {
-        words.push(0x13).ok()?;
-    }
-    read_image(alloc, plain(alloc, words.as_slice(), b"").ok()?).ok()
-}
-
-// The generated program of a number.
-fn generated(alloc: Global, number: u32) -> Option<Image> {
-    read_image(alloc, generate(alloc, number).ok()?).ok()
 }
 
 fn load(alloc: Global, image: Option<Image>) -> Option<Loaded> {
@@ -82,10 +69,10 @@ fn answered(alloc: Global, loaded: &mut Loaded, step: Step<'_>) -> Result<String
     }
 }
 
-impl Subject {
+impl ExpressionBench {
     /// No program.
-    pub fn new() -> Subject {
-        Subject { loaded: None }
+    pub fn new() -> ExpressionBench {
+        ExpressionBench { loaded: None }
     }
 
     // Puts a program in place of the one before.
@@ -101,9 +88,9 @@ impl Subject {
     fn done(&mut self, alloc: Global, step: Step<'_>) -> Result<String, AllocError> {
         match step {
             Step::File(bytes) => self.load(alloc, image_in(alloc, bytes)),
-            Step::Generated(number) => self.load(alloc, generated(alloc, number)),
+            Step::Generated(number) => self.load(alloc, generated_image(alloc, number)),
             Step::Want => told_want(alloc),
-            Step::Words(count) => self.load(alloc, image_of(alloc, count)),
+            Step::Words(count) => self.load(alloc, words_image(alloc, count)),
             _ => match &mut self.loaded {
                 Some(loaded) => answered(alloc, loaded, step),
                 None => format!(in alloc; "no program is loaded"),
@@ -112,7 +99,7 @@ impl Subject {
     }
 }
 
-impl Bench for Subject {
+impl Bench for ExpressionBench {
     fn answer(&mut self, alloc: Global, row: &str) -> Result<String, RowFault> {
         let step = Step::read(row).ok_or(RowFault::Unknown)?;
         Ok(self.done(alloc, step)?)

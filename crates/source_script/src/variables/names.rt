@@ -1,5 +1,5 @@
 // Texts with names of variables.
-use crate::hart::Hart;
+use crate::variables::hart::Hart;
 use cond_expr::{ParseError, value};
 use debug_info::Var;
 use elf_symbols::Symbols;

@@ -1,27 +1,25 @@
-//! ELF files that are read, their symbols, and files that are made, which rows of input ask for: each row is answered by what
-//! came of it.
-//!
-//! The rows are those of `Files` and of the modules' `answer`. Numbers are in decimal, or behind 0x in hexadecimal; bytes in
-//! hexadecimal.
-#![tactic(auto)]
-
+// ELF files that are read, their symbols, and files that are made. The rows are those of `FileBench` and of the modules' `answer`.
 mod image;
 mod made;
 mod names;
 
 use elf_symbols::{Symbols, symbols};
 use elf32_read::{ElfReadError, Image, read_image};
-use script_rows::{Bench, RowFault, play, read_hex};
+use script_rows::{Bench, RowFault, read_hex};
 use std::alloc::Global;
-use std::io;
 
 /// The file that was read last.
 #[derive(Drop)]
-struct Files {
+pub struct FileBench {
     read: Option<(Image, Symbols)>,
 }
 
-impl Files {
+impl FileBench {
+    /// No file.
+    pub fn new() -> FileBench {
+        FileBench { read: None }
+    }
+
     // What came of a row `file BYTES`, or of the bytes of a made file.
     fn read(&mut self, alloc: Global, bytes: Vec<u8>) -> Result<String, RowFault> {
         self.read = None;
@@ -39,7 +37,7 @@ impl Files {
     }
 }
 
-impl Bench for Files {
+impl Bench for FileBench {
     fn answer(&mut self, alloc: Global, row: &str) -> Result<String, RowFault> {
         let (word, rest) = row.split_once(' ').unwrap_or((row, ""));
         match word {
@@ -53,8 +51,4 @@ impl Bench for Files {
             },
         }
     }
-}
-
-fn main(rt: HostRuntime) -> io::Result<()> {
-    play(&rt, rt.alloc(), &mut Files { read: None })
 }

@@ -1,5 +1,5 @@
 // Frames by the rules of `.debug_frame`.
-use crate::hart::{Stopped, in_work};
+use crate::lines::hart::{Stopped, in_work};
 use arrayvec::ArrayVec;
 use dwarf_frames::FrameIndex;
 use elf32_read::Image;

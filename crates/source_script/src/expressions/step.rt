@@ -1,5 +1,5 @@
 // What a line asks for.
-use crate::table::TableStep;
+use crate::expressions::table::TableStep;
 use script_rows::{before, number};
 
 /// One thing that is done, or asked. Numbers are in decimal, or behind 0x in hexadecimal.

@@ -1,5 +1,5 @@
 // Sections of `.debug_line`.
-use crate::told::told_rows;
+use crate::lines::told::told_rows;
 use dwarf_lines::rows;
 use line_rows::{LineSections, Rows};
 use script_rows::{RowFault, read_hex};

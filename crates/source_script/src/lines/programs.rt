@@ -1,7 +1,7 @@
 // Programs of `.debug_line`.
 ghost use Rattle.std.specs.Prelude.{◌<◌};
 
-use crate::told::{told_places, told_registers};
+use crate::lines::told::{told_places, told_registers};
 use line_programs::{Parameters, program_rows};
 use line_rows::{LineError, Rows};
 use script_rows::{RowFault, read_hex};

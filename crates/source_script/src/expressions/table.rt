@@ -5,7 +5,7 @@ use break_table::{BreakFault, BreakTable, Location, Spec};
 use cond_expr::{Expr, parse};
 use dbg_traits::View;
 use elf_symbols::Symbols;
-use script_rows::{number, two};
+use script_rows::{before, number, three, two};
 use std::alloc::{AllocError, Global};
 
 /// The most numbers that are given.
@@ -91,13 +91,6 @@ fn read_asked(text: &str) -> Option<Asked<'_>> {
     })
 }
 
-// How many, where the first is, and by how much each is behind the one before.
-fn read_row(text: &str) -> Option<(u32, u32, u32)> {
-    let (count, rest) = text.split_once(' ')?;
-    let (address, step) = two(rest)?;
-    Some((number(count)?, address, step))
-}
-
 fn read_at<'a>(word: &str, rest: &str) -> Option<TableStep<'a>> {
     let (hart, pc) = two(rest)?;
     match word {
@@ -108,7 +101,7 @@ fn read_at<'a>(word: &str, rest: &str) -> Option<TableStep<'a>> {
 }
 
 fn read_many<'a>(word: &str, rest: &str) -> Option<TableStep<'a>> {
-    let (count, address, step) = read_row(rest)?;
+    let (count, address, step) = three(rest)?;
     match word {
         "fill" => Some(TableStep::Fill {
             count,
@@ -125,11 +118,8 @@ fn read_many<'a>(word: &str, rest: &str) -> Option<TableStep<'a>> {
 }
 
 fn read_condition(text: &str) -> Option<TableStep<'_>> {
-    let (first, text) = text.split_once(' ').unwrap_or((text, ""));
-    Some(TableStep::Condition {
-        number: number(first)?,
-        text,
-    })
+    let (number, text) = before(text)?;
+    Some(TableStep::Condition { number, text })
 }
 
 fn read_after<'a>(text: &str) -> Option<TableStep<'a>> {

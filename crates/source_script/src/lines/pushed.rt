@@ -1,5 +1,5 @@
 // Rows that are pushed one by one.
-use crate::told::told_registers;
+use crate::lines::told::told_registers;
 use line_rows::{LineFault, Row, RowsBuilder, UnitFault};
 use script_rows::{RowFault, number};
 use std::alloc::Global;

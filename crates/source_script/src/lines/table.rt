@@ -1,16 +1,13 @@
 // A program, rows for it, and what is looked up in them.
+use crate::images::{generated_image, words_image};
 use dwarf_lines::rows;
-use elf_gen::{generate, plain};
 use elf_symbols::{Named, Symbols, symbols};
-use elf32_read::{Image, read_image};
+use elf32_read::Image;
 use line_index::LineIndex;
 use line_rows::{LineSections, Row, Rows, RowsBuilder};
 use script_rows::{RowFault, before, number, told_number, two};
 use std::alloc::{AllocError, Global};
 use std::mem;
-
-/// The most words of a program.
-const MOST_WORDS: u32 = 16;
 
 /// A program, the rows that are pushed for it, and the index that was built last.
 #[derive(Drop)]
@@ -21,16 +18,13 @@ pub struct Table {
     pub lines: LineIndex,
 }
 
-// The program of so many words of text, each ADDI x0, x0, 0, or the generated one. None too where memory runs out.
+// The program of so many words, or the generated one.
 fn image_of(alloc: Global, word: &str, count: u32) -> Option<Image> {
     if word == "generated" {
-        return read_image(alloc, generate(alloc, count).ok()?).ok();
+        generated_image(alloc, count)
+    } else {
+        words_image(alloc, count)
     }
-    let mut words = Vec::new(alloc);
-    for _ in 0..count.min(MOST_WORDS) {
-        words.push(0x13).ok()?;
-    }
-    read_image(alloc, plain(alloc, words.as_slice(), b"").ok()?).ok()
 }
 
 // A row of `ADDRESS:FILE:LINE:MARKS`, of which the marks are `s` for a statement and `p` for a prologue's end.
