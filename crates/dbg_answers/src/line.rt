@@ -69,8 +69,8 @@ fn answer_read(
             answer: answer_command(alloc, debuggee, line.command)?,
         }),
         Err(Refusal::NoMemory) => Err(NoMemory),
-        Err(Refusal::Long) => Ok(refusing(Token::none(alloc), Refused::Long)),
-        Err(Refusal::Syntax) => Ok(refusing(Token::none(alloc), Refused::Syntax)),
+        Err(Refusal::Long) => Ok(refusing(Token::none(), Refused::Long)),
+        Err(Refusal::Syntax) => Ok(refusing(Token::none(), Refused::Syntax)),
         Err(Refusal::Cli(token)) => Ok(refusing(token, Refused::Cli)),
         Err(Refusal::Faulty { token, fault }) => Ok(LineAnswer {
             token,

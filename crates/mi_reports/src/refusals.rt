@@ -39,8 +39,7 @@ fn push_refusal(lines: &mut LineList, message: &[u8]) -> Result<(), AllocError>
 {
     let mut fields = FieldList::new(lines.alloc);
     fields.push_text(Key::Message, message)?;
-    let token = Token::none(lines.alloc);
-    lines.push_result(&token, Key::Error, fields)
+    lines.push_result(&Token::none(), Key::Error, fields)
 }
 
 /// Appends the line of a file that is refused.
