@@ -34,7 +34,7 @@ outcome_of a = record { content = a.content; change = change_of a.effect }
 abbrev pub line_answer_of : LineAnswer → model.Answer
 line_answer_of l = record { token = l.token; outcome = outcome_of l.answer }
 
--- it is this, as f sees it, but for want of memory
+-- it is this, as f sees it, unless out of memory
 abbrev pub GivesAs : {A B : Type 0} → (A → B) → Result A Failure → Result B Refused → Type 0
 GivesAs f (Ok x) r = r ≡ Ok (f x)
 GivesAs f (Err failure.NoMemory) r = Unit {0}

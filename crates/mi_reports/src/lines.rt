@@ -106,7 +106,7 @@ impl LineList {
         self.push(Line::Prompt)
     }
 
-    /// Puts the text of each line at the end. After want of memory the buffer is as before.
+    /// Puts the text of each line at the end. Out of memory, the buffer is as before.
     #[tactic(auto, unfolding(crate::specs::Seen::trees))]
     pub fn write(&self, into: &mut Vec<u8>) -> Result<(), NoMemory>
         ensures written { OnOk result (into.new.items ≡ into.old.items ++ lines_bytes (trees self.now)) }
