@@ -6,7 +6,7 @@ ghost use Rattle.dbg_model.specs.Refusals.{Judges, against_asked};
 ghost use Rattle.dbg_model.specs.Reply.{answer_to, answering, is_wait, waits};
 ghost use Rattle.dbg_answers.specs.Debuggee.{seen};
 ghost use Rattle.dbg_answers.specs.Answer.{Gives, line_answer_of, outcome_of};
-ghost use Rattle.dbg_answers.specs.Reading.{AnswersRead, IsRead};
+ghost use Rattle.dbg_answers.specs.Reading.{AnswersRead, IsRead, RefusesInput};
 
 use crate::answer::{Answer, Failure, showing, told};
 use crate::breakpoints::known_thread;
@@ -15,6 +15,7 @@ use crate::debuggee::Debuggee;
 use dbg_model::{Content, Refused};
 use dbg_traits::NoMemory;
 use mi_commands::{Command, CommandLine, Fault, Refusal};
+use mi_input::InputFault;
 use mi_text::Token;
 use std::alloc::Global;
 
@@ -53,6 +54,18 @@ pub fn answer_fault(debuggee: &Debuggee<'_>, fault: Fault) -> Result<Answer, NoM
     told(refuse(debuggee, fault))
 }
 
+// What is answered to a line that has no parts.
+fn refuse_input(fault: InputFault) -> Result<LineAnswer, NoMemory>
+    ensures { IfOk result (λ a. RefusesInput fault (line_answer_of a)) }
+{
+    match fault {
+        InputFault::NoMemory => Err(NoMemory),
+        InputFault::Long => Ok(refusing(Token::none(), Refused::Long)),
+        InputFault::Syntax => Ok(refusing(Token::none(), Refused::Syntax)),
+        InputFault::Cli(token) => Ok(refusing(token, Refused::Cli)),
+    }
+}
+
 #[tactic(auto, unfolding(dbg_model::specs::Command::asked_reply))]
 fn answer_read(
     alloc: Global,
@@ -68,10 +81,7 @@ fn answer_read(
             token: line.token,
             answer: answer_command(alloc, debuggee, line.command)?,
         }),
-        Err(Refusal::NoMemory) => Err(NoMemory),
-        Err(Refusal::Long) => Ok(refusing(Token::none(alloc), Refused::Long)),
-        Err(Refusal::Syntax) => Ok(refusing(Token::none(alloc), Refused::Syntax)),
-        Err(Refusal::Cli(token)) => Ok(refusing(token, Refused::Cli)),
+        Err(Refusal::Input(fault)) => refuse_input(fault),
         Err(Refusal::Faulty { token, fault }) => Ok(LineAnswer {
             token,
             answer: answer_fault(debuggee, fault)?,

@@ -3,6 +3,7 @@ use Rattle.std.specs.Prelude.{◌≡◌, ◌<◌, ◌^◌, Bool, true, false, �
 use Rattle.text_words.specs.Words.{Words, shown}
 use Rattle.hart_machine.specs.Patched.{Patched}
 use Rattle.break_table.specs.Table.{Table}
+use Rattle.mi_input.specs.declared.parts.InputFault.TheVariants as input
 use Rattle.mi_commands.specs.Gives.{Commands}
 use Rattle.mi_commands.specs.declared.command.CommandLine.{CommandLine}
 use Rattle.mi_commands.specs.declared.refusal.Refusal.{Refusal}
@@ -18,9 +19,9 @@ use Rattle.engine_facts.specs.Facts.{Wants}
 use Rattle.engine_facts.specs.Seen.{Run, seen}
 use Rattle.engine_facts.specs.Tables.{ArePlanted}
 
--- memory was wanting when a line was read
+-- there was no memory to read a line
 abbrev pub lacks_memory : Result CommandLine Refusal → Bool
-lacks_memory (Err refusal.NoMemory) = true
+lacks_memory (Err (refusal.Input input.NoMemory)) = true
 lacks_memory _ = false
 
 -- what a line reads as, where memory was there to read it

@@ -19,6 +19,7 @@ use dbg_answers::{Debuggee, Effect, answer_line, waits};
 use dbg_model::{Hart, Mode, Opening, ThreadView};
 use dbg_traits::NoMemory;
 use mi_commands::{CommandLine, Refusal, command_of};
+use mi_input::InputFault;
 use std::alloc::{AllocError, Global};
 
 fn view(hart: Hart) -> ThreadView
@@ -49,7 +50,7 @@ fn read_line(alloc: Global, line: &[u8]) -> Result<Result<CommandLine, Refusal>,
 {
     match command_of(alloc, line) {
         Ok(command) => Ok(Ok(command)),
-        Err(Refusal::NoMemory) => Err(NoMemory),
+        Err(Refusal::Input(InputFault::NoMemory)) => Err(NoMemory),
         Err(refusal) => Ok(Err(refusal)),
     }
 }

@@ -206,26 +206,19 @@ fn answer(alloc: Global, operation: Option<Vec<u8>>, words: &[Word]) -> Result<C
 /// What one line of input, without its end, asks for.
 ///
 /// # Errors
-/// `Long` where the line has more than 4096 bytes; else `Syntax` where a command is malformed or the line begins with
-/// `"`; else `Cli`, with the token, where no `-` follows the token; else `Faulty`, with the token and the least fault
-/// in the order of `Fault`, where the operation isn't in the table or its words don't fit.
+/// `Input` where the line has no parts, as `mi_input::split` says; else `Faulty`, with the token and the least fault in
+/// the order of `Fault`, where the operation isn't in the table or its words don't fit.
 pub fn command_of(alloc: Global, line: &[u8]) -> Result<CommandLine, Refusal>
     ensures commands { Commands line.now result }
 
     // Whatever parts the line has, the answer is the answer to them.
     ensures only { (p : PartsView) → length line.now ≤ 4096 → HasParts line.now p → GivesAnswer p result }
 {
-    let parts = match split(alloc, line) {
-        Ok(parts) => parts,
-        Err(InputFault::NoMemory) => return Err(Refusal::NoMemory),
-        Err(InputFault::Long) => return Err(Refusal::Long),
-        Err(InputFault::Syntax) => return Err(Refusal::Syntax),
-        Err(InputFault::Cli(token)) => return Err(Refusal::Cli(token)),
-    };
+    let parts = split(alloc, line)?;
     let token = parts.token;
     match answer(alloc, parts.operation, &parts.words) {
         Ok(command) => Ok(CommandLine { token, command }),
-        Err(Failure::NoMemory) => Err(Refusal::NoMemory),
+        Err(Failure::NoMemory) => Err(Refusal::Input(InputFault::NoMemory)),
         Err(Failure::Faulty(fault)) => Err(Refusal::Faulty { token, fault }),
     }
 }

@@ -4,62 +4,38 @@ ghost use Rattle.std.specs.Prelude.{◌≡◌};
 
 use std::marker::Model;
 
-/// Bytes that contracts see as a list.
+/// Items that contracts see as a list.
 #[derive(Debug, Drop)]
-pub struct ByteList {
-    bytes: Vec<u8>,
+pub struct ItemList<T> {
+    items: Vec<T>,
 }
 
-impl Model for ByteList {
-    ghost use Rattle.std.specs.Prelude.{List, ℕ};
+impl<T> Model for ItemList<T> {
+    ghost use Rattle.std.specs.Prelude.{List};
 
-    ghost Value = { List ℕ };
+    ghost Value = { List T };
 
-    ghost view = { λ b. b.bytes.items };
+    ghost view = { λ l. l.items.items };
 }
 
-impl ByteList {
-    /// The bytes of a vector, which keeps its memory.
-    pub fn of(bytes: Vec<u8>) -> ByteList
-        ensures { result ≡ bytes.items }
+impl<T> ItemList<T> {
+    /// The items of a vector, which keeps its memory.
+    pub fn of(items: Vec<T>) -> ItemList<T>
+        ensures { result ≡ items.items }
     {
-        ByteList { bytes }
+        ItemList { items }
     }
 
-    /// The bytes in order.
-    pub fn as_slice(&self) -> &[u8]
+    /// The items in order.
+    pub fn as_slice(&self) -> &[T]
         ensures { result.now ≡ self.now }
     {
-        self.bytes.as_slice()
+        self.items.as_slice()
     }
 }
+
+/// Bytes that contracts see as a list.
+pub type ByteList = ItemList<u8>;
 
 /// Numbers that contracts see as a list.
-#[derive(Debug, Drop)]
-pub struct NumberList {
-    numbers: Vec<u32>,
-}
-
-impl Model for NumberList {
-    ghost use Rattle.std.specs.Prelude.{List, ℕ};
-
-    ghost Value = { List ℕ };
-
-    ghost view = { λ l. l.numbers.items };
-}
-
-impl NumberList {
-    /// The numbers of a vector, which keeps its memory.
-    pub fn of(numbers: Vec<u32>) -> NumberList
-        ensures { result ≡ numbers.items }
-    {
-        NumberList { numbers }
-    }
-
-    /// The numbers in order.
-    pub fn as_slice(&self) -> &[u32]
-        ensures { result.now ≡ self.now }
-    {
-        self.numbers.as_slice()
-    }
-}
+pub type NumberList = ItemList<u32>;

@@ -3,8 +3,10 @@
 ghost use Rattle.std.specs.Prelude.{◌≡◌};
 ghost use Rattle.mi_commands.specs.Faults.{fault_number};
 ghost use Rattle.mi_commands.specs.declared.refusal.Failure.TheVariants as failures;
+ghost use Rattle.mi_commands.specs.declared.refusal.Refusal.TheVariants as refusals;
 
 use crate::lists::ByteList;
+use mi_input::InputFault;
 use mi_text::Token;
 use std::alloc::AllocError;
 use thiserror::Error;
@@ -48,18 +50,20 @@ impl Fault {
 /// Why a line is no command.
 #[derive(Debug, Drop, Error)]
 pub enum Refusal {
-    #[error("out of memory")]
-    NoMemory,
-    #[error("the line is longer than 4096 bytes")]
-    Long,
-    #[error("the line is malformed")]
-    Syntax,
-    /// A line that is no command of the machine interface, with its token.
-    #[error("the line is no command of the machine interface")]
-    Cli(Token),
+    /// The line has no parts, or there is no memory for the command.
+    #[error(transparent)]
+    Input(InputFault),
     /// A line that has parts, with its token: the least of its faults in the order of `Fault`.
     #[error("the command is refused")]
     Faulty { token: Token, fault: Fault },
+}
+
+impl From<InputFault> for Refusal {
+    ghost from_gives = { λ fault e. e ≡ refusals.Input fault };
+
+    fn from(fault: InputFault) -> Refusal {
+        Refusal::Input(fault)
+    }
 }
 
 // Why parts are no command.

@@ -42,7 +42,7 @@ Splits bytes (Err Long) = 4096 < length bytes
 Splits bytes (Err Syntax) = (length bytes ≤ 4096) × HasNoParts bytes × (is_cli (after_blanks bytes) ≡ false)
 Splits bytes (Err (Cli token)) = (length bytes ≤ 4096) × (is_cli (after_blanks bytes) ≡ true) × (token ≡ token_of (after_blanks bytes))
 
--- a line of these parts gives them, unless memory is wanting
+-- a line of these parts gives them, unless out of memory
 abbrev pub GivesParts : PartsView → Result Parts InputFault → Type 0
 GivesParts p (Ok q) = parts_view q ≡ p
 GivesParts p (Err NoMemory) = Unit {0}

@@ -1,9 +1,8 @@
 //! A line, split into its parts.
 
-ghost use Rattle.std.specs.Prelude.{◌≡◌, ◌≤◌, length, take_while, true, MatchResult};
+ghost use Rattle.std.specs.Prelude.{◌≡◌, ◌≤◌, length, take_while, true};
 ghost use Rattle.mi_text.specs.Digits.{is_digit};
 ghost use Rattle.mi_text.specs.Token.{is_token};
-ghost use Rattle.mi_text.specs.declared.fault.ReadFault.TheVariants as faults;
 ghost use Rattle.mi_input.specs.Parts.{PartsView, HasParts, is_operation_byte, token_of, behind_token};
 ghost use Rattle.mi_input.specs.Split.{Splits, GivesParts, ReadsCommand};
 ghost use Rattle.mi_input.specs.Reading.{Reads};
@@ -31,13 +30,6 @@ fn cut_token(bytes: &[u8]) -> (&[u8], &[u8])
 {
     let end = digits(bytes).min(Token::MOST);
     (&bytes[..end], &bytes[end..])
-}
-
-fn owned_token(alloc: Global, digits: &[u8]) -> Result<Token, ReadFault>
-    requires { is_token digits.now ≡ true }
-    ensures { MatchResult result (λ token. token ≡ digits.now) (λ fault. fault ≡ faults.NoMemory) }
-{
-    Ok(Token::new(Vec::from_slice(alloc, digits)?))
 }
 
 fn is_operation_byte(b: u8) -> bool
@@ -79,7 +71,7 @@ fn split_line(alloc: Global, line: &[u8]) -> Result<Parts, InputFault>
     let start = after_blanks(line);
     if start.is_empty() {
         return Ok(Parts {
-            token: Token::none(alloc),
+            token: Token::none(),
             operation: None,
             words: Vec::new(alloc),
         });
@@ -88,7 +80,7 @@ fn split_line(alloc: Global, line: &[u8]) -> Result<Parts, InputFault>
         return Err(InputFault::Syntax);
     }
     let (digits, behind) = cut_token(start);
-    let token = owned_token(alloc, digits)?;
+    let token = Token::new(digits);
     let Some(rest) = after(behind, b'-') else {
         return Err(InputFault::Cli(token));
     };

@@ -6,7 +6,8 @@ use Rattle.mi_reports.specs.declared.words.Key.{Key}
 use Rattle.mi_reports.specs.declared.words.Key.TheVariants as key
 use Rattle.mi_reports.specs.declared.words.Phrase.{Phrase}
 use Rattle.mi_reports.specs.declared.words.Phrase.TheVariants as phrase
-use Rattle.mi_reports.specs.Words.{key_text, phrase_text}
+use Rattle.mi_reports.specs.Words.{key_text}
+use Rattle.mi_reports.specs.Phrases.{phrase_text}
 
 pub key_name : (k : Key) → is_name (key_text k) ≡ true
 unfolding key_text
@@ -73,25 +74,54 @@ key_name key.Wpt = refl
 
 pub phrase_bytes : (p : Phrase) → are_bytes (phrase_text p) ≡ true
 unfolding phrase_text
+phrase_bytes phrase.AtPlace = refl
 phrase_bytes phrase.Auto = refl
+phrase_bytes phrase.BadFile = refl
+phrase_bytes phrase.BadLocation = refl
+phrase_bytes phrase.BadNumber = refl
 phrase_bytes phrase.BreakpointHit = refl
 phrase_bytes phrase.BreakpointType = refl
 phrase_bytes phrase.BusError = refl
+phrase_bytes phrase.CannotWatch = refl
+phrase_bytes phrase.Cli = refl
+phrase_bytes phrase.Colon = refl
+phrase_bytes phrase.ConditionError = refl
 phrase_bytes phrase.Deleted = refl
+phrase_bytes phrase.DivisionByZero = refl
 phrase_bytes phrase.EndSteppingRange = refl
 phrase_bytes phrase.Exited = refl
 phrase_bytes phrase.ExitedNormally = refl
+phrase_bytes phrase.ExpressionDeep = refl
+phrase_bytes phrase.ExpressionName = refl
+phrase_bytes phrase.ExpressionNumber = refl
+phrase_bytes phrase.ExpressionSyntax = refl
+phrase_bytes phrase.FixedRegister = refl
+phrase_bytes phrase.Function = refl
 phrase_bytes phrase.FunctionFinished = refl
 phrase_bytes phrase.Group = refl
 phrase_bytes phrase.Hart = refl
+phrase_bytes phrase.HasExited = refl
 phrase_bytes phrase.IllegalInstruction = refl
+phrase_bytes phrase.InFile = refl
 phrase_bytes phrase.Interrupt = refl
+phrase_bytes phrase.IsRunning = refl
 phrase_bytes phrase.Kept = refl
+phrase_bytes phrase.LongExpression = refl
+phrase_bytes phrase.LongLine = refl
 phrase_bytes phrase.No = refl
+phrase_bytes phrase.NoBreakpoint = refl
+phrase_bytes phrase.NoCaller = refl
+phrase_bytes phrase.NoInstruction = refl
+phrase_bytes phrase.NoLine = refl
+phrase_bytes phrase.NoLineInformation = refl
+phrase_bytes phrase.NotDefined = refl
+phrase_bytes phrase.NotRunning = refl
 phrase_bytes phrase.Off = refl
 phrase_bytes phrase.On = refl
+phrase_bytes phrase.Parameters = refl
 phrase_bytes phrase.Running = refl
 phrase_bytes phrase.SegmentationFault = refl
+phrase_bytes phrase.Setting = refl
 phrase_bytes phrase.Sigbus = refl
 phrase_bytes phrase.Sigill = refl
 phrase_bytes phrase.Sigint = refl
@@ -99,8 +129,17 @@ phrase_bytes phrase.SignalReceived = refl
 phrase_bytes phrase.Sigsegv = refl
 phrase_bytes phrase.Sigtrap = refl
 phrase_bytes phrase.Stopped = refl
+phrase_bytes phrase.Syntax = refl
+phrase_bytes phrase.Thread = refl
+phrase_bytes phrase.TooManyBreakpoints = refl
+phrase_bytes phrase.TooManyWatches = refl
 phrase_bytes phrase.Trap = refl
+phrase_bytes phrase.Undefined = refl
 phrase_bytes phrase.UndefinedCommand = refl
+phrase_bytes phrase.UnknownThread = refl
+phrase_bytes phrase.Unreadable = refl
+phrase_bytes phrase.Unwritable = refl
+phrase_bytes phrase.Usage = refl
 phrase_bytes phrase.WatchpointTrigger = refl
 phrase_bytes phrase.WatchpointType = refl
 phrase_bytes phrase.Yes = refl

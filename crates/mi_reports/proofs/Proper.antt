@@ -12,7 +12,8 @@ use Rattle.mi_reports.specs.declared.words.Key.{Key}
 use Rattle.mi_reports.specs.declared.words.Key.TheVariants as key
 use Rattle.mi_reports.specs.declared.words.Phrase.{Phrase}
 use Rattle.mi_reports.specs.declared.words.Phrase.TheVariants as phrase
-use Rattle.mi_reports.specs.Words.{key_text, phrase_text, says, says_some}
+use Rattle.mi_reports.specs.Words.{key_text, says, says_some}
+use Rattle.mi_reports.specs.Phrases.{phrase_text}
 use Rattle.mi_text.specs.Numeral.{address_text, exit_code}
 use Rattle.mi_reports.specs.Fits.{are_fit, text_fits, source_fits, frame_fits, frames_fit}
 use Rattle.mi_reports.specs.Frames.{source_fields, frame_rest, frame_fields, frame_field, stack_fields, stack_tree}

@@ -21,7 +21,8 @@ use Rattle.mi_values.specs.Testing.{are_bytes, is_proper, are_proper_items}
 use Rattle.mi_values.proofs.Testing.{both}
 use Rattle.mi_reports.specs.declared.words.Key.TheVariants as key
 use Rattle.mi_reports.specs.declared.words.Phrase.TheVariants as phrase
-use Rattle.mi_reports.specs.Words.{key_text, phrase_text, says, says_some}
+use Rattle.mi_reports.specs.Words.{key_text, says, says_some}
+use Rattle.mi_reports.specs.Phrases.{phrase_text}
 use Rattle.mi_text.specs.Numeral.{address_text, worth_text}
 use Rattle.mi_reports.specs.Fits.{are_fit, text_fits, source_fits, place_fits, threads_fit, breakpoint_fits, row_fits, rows_fit, done_fits}
 use Rattle.mi_reports.specs.Frames.{source_fields, frame_field}

@@ -6,7 +6,7 @@ use Rattle.mi_values.specs.Tree.{Tree}
 use Rattle.mi_values.specs.Testing.{are_bytes}
 use Rattle.mi_reports.specs.declared.words.Key.TheVariants as key
 use Rattle.mi_reports.specs.declared.words.Phrase.TheVariants as phrase
-use Rattle.mi_reports.specs.Words.{phrase_text}
+use Rattle.mi_reports.specs.Phrases.{phrase_text}
 use Rattle.mi_reports.specs.Breakpoints.{enabled}
 use Rattle.mi_reports.specs.Watches.{told_fields, watch_field, listed_fields, listed_field}
 use Rattle.mi_reports.proofs.Bytes.{decimal_bytes}

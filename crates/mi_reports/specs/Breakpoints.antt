@@ -6,7 +6,8 @@ use Rattle.mi_values.specs.FieldLists.{tuple_of}
 use Rattle.mi_reports.specs.declared.words.Key.TheVariants as key
 use Rattle.mi_reports.specs.declared.words.Phrase.{Phrase}
 use Rattle.mi_reports.specs.declared.words.Phrase.TheVariants as phrase
-use Rattle.mi_reports.specs.Words.{key_text, phrase_text, says, says_some}
+use Rattle.mi_reports.specs.Words.{key_text, says, says_some}
+use Rattle.mi_reports.specs.Phrases.{phrase_text}
 use Rattle.mi_text.specs.Numeral.{address_text}
 use Rattle.mi_reports.specs.Frames.{source_fields}
 

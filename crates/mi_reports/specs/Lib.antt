@@ -1,5 +1,5 @@
 pub mod Words
-pub mod Messages
+pub mod Phrases
 pub mod Frames
 pub mod Breakpoints
 pub mod Watches

@@ -7,9 +7,9 @@ use Rattle.mi_values.specs.Tree.{Tree}
 use Rattle.mi_values.specs.Record.{LineTree}
 use Rattle.mi_values.specs.FieldLists.{result_of}
 use Rattle.mi_reports.specs.declared.words.Key.TheVariants as key
-use Rattle.mi_reports.specs.declared.parts.Part.TheVariants as parts
+use Rattle.mi_reports.specs.declared.words.Phrase.TheVariants as phrase
 use Rattle.mi_reports.specs.Words.{key_text, says}
-use Rattle.mi_reports.specs.Messages.{part_text}
+use Rattle.mi_reports.specs.Phrases.{phrase_text}
 
 abbrev pub kind_name : ElfKind → List ℕ
 kind_name kind.Short = codes "Short"
@@ -31,8 +31,8 @@ refusal_lines fields = result_of [] (key_text key.Error) fields ∷ []
 
 -- the file is refused
 unfoldable pub file_fields : ElfFault → List (List ℕ × Tree)
-file_fields f = says key.Message (part_text parts.BadFile ++ kind_name f.kind ++ part_text parts.AtPlace ++ decimal f.place) ∷ []
+file_fields f = says key.Message (phrase_text phrase.BadFile ++ kind_name f.kind ++ phrase_text phrase.AtPlace ++ decimal f.place) ∷ []
 
 -- the words of the command line are refused
 unfoldable pub usage_fields : List (List ℕ × Tree)
-usage_fields = says key.Message (part_text parts.Usage) ∷ []
+usage_fields = says key.Message (phrase_text phrase.Usage) ∷ []

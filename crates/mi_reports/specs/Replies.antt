@@ -19,7 +19,8 @@ use Rattle.mi_values.specs.FieldLists.{tuple_of, notice_of, result_of}
 use Rattle.mi_reports.specs.declared.words.Key.TheVariants as key
 use Rattle.mi_reports.specs.declared.words.Phrase.{Phrase}
 use Rattle.mi_reports.specs.declared.words.Phrase.TheVariants as phrase
-use Rattle.mi_reports.specs.Words.{key_text, phrase_text, says}
+use Rattle.mi_reports.specs.Words.{key_text, says}
+use Rattle.mi_reports.specs.Phrases.{phrase_text}
 use Rattle.mi_text.specs.Numeral.{address_text, signed_text, worth_text}
 use Rattle.mi_reports.specs.Frames.{frame_field, stack_tree}
 use Rattle.mi_reports.specs.Breakpoints.{breakpoint_field}

@@ -15,7 +15,8 @@ use Rattle.mi_reports.specs.declared.words.Key.{Key}
 use Rattle.mi_reports.specs.declared.words.Key.TheVariants as key
 use Rattle.mi_reports.specs.declared.words.Phrase.{Phrase}
 use Rattle.mi_reports.specs.declared.words.Phrase.TheVariants as phrase
-use Rattle.mi_reports.specs.Words.{key_text, phrase_text, says}
+use Rattle.mi_reports.specs.Words.{key_text, says}
+use Rattle.mi_reports.specs.Phrases.{phrase_text}
 use Rattle.mi_text.specs.Numeral.{exit_code}
 use Rattle.mi_reports.specs.Frames.{frame_field}
 use Rattle.mi_reports.specs.Breakpoints.{disposition}

@@ -8,7 +8,8 @@ use Rattle.mi_values.specs.Record.{LineTree}
 use Rattle.mi_values.specs.FieldLists.{tuple_of}
 use Rattle.mi_reports.specs.declared.words.Key.TheVariants as key
 use Rattle.mi_reports.specs.declared.words.Phrase.TheVariants as phrase
-use Rattle.mi_reports.specs.Words.{key_text, phrase_text, says}
+use Rattle.mi_reports.specs.Words.{key_text, says}
+use Rattle.mi_reports.specs.Phrases.{phrase_text}
 use Rattle.mi_reports.specs.Text.{place_fields, stopped_line}
 use Rattle.mi_text.specs.Numeral.{worth_text}
 use Rattle.mi_reports.specs.Watches.{watch_field}

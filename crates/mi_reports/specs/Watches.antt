@@ -5,7 +5,8 @@ use Rattle.mi_values.specs.Tree.{Tree}
 use Rattle.mi_values.specs.FieldLists.{tuple_of}
 use Rattle.mi_reports.specs.declared.words.Key.TheVariants as key
 use Rattle.mi_reports.specs.declared.words.Phrase.TheVariants as phrase
-use Rattle.mi_reports.specs.Words.{key_text, phrase_text, says}
+use Rattle.mi_reports.specs.Words.{key_text, says}
+use Rattle.mi_reports.specs.Phrases.{phrase_text}
 use Rattle.mi_reports.specs.Breakpoints.{enabled}
 
 -- its number, and the text by which its bytes were given

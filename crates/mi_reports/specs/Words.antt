@@ -1,13 +1,10 @@
--- The names and the fixed texts of lines (GDB manual, "GDB/MI Output Records", "GDB/MI Async Records", "GDB/MI Frame Information",
--- "GDB/MI Breakpoint Information", "GDB/MI Thread Information"), letter for letter.
+-- The classes of lines and the names of their fields (GDB manual, "GDB/MI Output Records", "GDB/MI Async Records",
+-- "GDB/MI Frame Information", "GDB/MI Breakpoint Information", "GDB/MI Thread Information"), letter for letter.
 use Rattle.std.specs.Prelude.{ℕ, List, Option, Some, None, [], ◌∷◌, codes}
 use Rattle.mi_values.specs.Tree.{Tree, text}
 use Rattle.mi_reports.specs.declared.words.Key.{Key}
 use Rattle.mi_reports.specs.declared.words.Key.TheVariants as key
-use Rattle.mi_reports.specs.declared.words.Phrase.{Phrase}
-use Rattle.mi_reports.specs.declared.words.Phrase.TheVariants as phrase
 
--- classes, and the names of fields
 unfoldable pub key_text : Key → List ℕ
 key_text key.Done = codes "done"
 key_text key.Running = codes "running"
@@ -69,40 +66,6 @@ key_text key.Type = codes "type"
 key_text key.Value = codes "value"
 key_text key.What = codes "what"
 key_text key.Wpt = codes "wpt"
-
--- values
-unfoldable pub phrase_text : Phrase → List ℕ
-phrase_text phrase.Auto = codes "auto"
-phrase_text phrase.BreakpointHit = codes "breakpoint-hit"
-phrase_text phrase.BreakpointType = codes "breakpoint"
-phrase_text phrase.BusError = codes "Bus error"
-phrase_text phrase.Deleted = codes "del"
-phrase_text phrase.EndSteppingRange = codes "end-stepping-range"
-phrase_text phrase.Exited = codes "exited"
-phrase_text phrase.ExitedNormally = codes "exited-normally"
-phrase_text phrase.FunctionFinished = codes "function-finished"
-phrase_text phrase.Group = codes "i1"
-phrase_text phrase.Hart = codes "Hart "
-phrase_text phrase.IllegalInstruction = codes "Illegal instruction"
-phrase_text phrase.Interrupt = codes "Interrupt"
-phrase_text phrase.Kept = codes "keep"
-phrase_text phrase.No = codes "n"
-phrase_text phrase.Off = codes "off"
-phrase_text phrase.On = codes "on"
-phrase_text phrase.Running = codes "running"
-phrase_text phrase.SegmentationFault = codes "Segmentation fault"
-phrase_text phrase.Sigbus = codes "SIGBUS"
-phrase_text phrase.Sigill = codes "SIGILL"
-phrase_text phrase.Sigint = codes "SIGINT"
-phrase_text phrase.SignalReceived = codes "signal-received"
-phrase_text phrase.Sigsegv = codes "SIGSEGV"
-phrase_text phrase.Sigtrap = codes "SIGTRAP"
-phrase_text phrase.Stopped = codes "stopped"
-phrase_text phrase.Trap = codes "Trace/breakpoint trap"
-phrase_text phrase.UndefinedCommand = codes "undefined-command"
-phrase_text phrase.WatchpointTrigger = codes "watchpoint-trigger"
-phrase_text phrase.WatchpointType = codes "watchpoint"
-phrase_text phrase.Yes = codes "y"
 
 -- a field that is a text
 abbrev pub says : Key → List ℕ → List ℕ × Tree

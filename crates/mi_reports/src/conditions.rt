@@ -5,7 +5,7 @@ ghost use Rattle.mi_reports.specs.Seen.{trees};
 ghost use Rattle.mi_reports.specs.Text.{condition_lines};
 
 use crate::lines::LineList;
-use crate::parts::{Part, fixed};
+use crate::words::{Phrase, wording};
 use break_table::CondError;
 use mi_text::{address_text, write_decimal};
 use mi_values::StreamSign;
@@ -15,9 +15,9 @@ fn push_error(into: &mut Vec<u8>, error: CondError) -> Result<(), AllocError>
     ensures { OnOk result (into.new.items ≡ into.old.items ++ condition_error error) }
 {
     match error {
-        CondError::DivZero => into.extend_from_slice(fixed(Part::DivisionByZero)),
+        CondError::DivZero => into.extend_from_slice(wording(Phrase::DivisionByZero)),
         CondError::Unread(address) => {
-            into.extend_from_slice(fixed(Part::Unreadable))?;
+            into.extend_from_slice(wording(Phrase::Unreadable))?;
             into.extend_from_slice(&address_text(address))
         }
     }
@@ -28,9 +28,9 @@ fn push_error(into: &mut Vec<u8>, error: CondError) -> Result<(), AllocError>
 fn push_message(into: &mut Vec<u8>, number: u32, error: CondError) -> Result<(), AllocError>
     ensures { OnOk result (into.new.items ≡ into.old.items ++ condition_message number error) }
 {
-    into.extend_from_slice(fixed(Part::ConditionError))?;
+    into.extend_from_slice(wording(Phrase::ConditionError))?;
     write_decimal(u64::from(number), into)?;
-    into.extend_from_slice(fixed(Part::Colon))?;
+    into.extend_from_slice(wording(Phrase::Colon))?;
     push_error(into, error)?;
     into.push(b'\n')?;
     Ok(())

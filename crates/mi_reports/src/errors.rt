@@ -2,13 +2,12 @@
 ghost use Rattle.std.specs.Prelude.{◌≡◌, ◌++◌, decimal, OnOk, true};
 ghost use Rattle.mi_values.specs.Testing.{are_bytes};
 ghost use Rattle.mi_text.specs.Numeral.{address_text};
-ghost use Rattle.mi_reports.specs.Messages.{part_text};
 ghost use Rattle.mi_reports.specs.Seen.{seen};
+ghost use Rattle.mi_reports.specs.Phrases.{phrase_text};
 ghost use Rattle.mi_reports.specs.Errors.{fault_message, expression_message, obstacle_message, message, error_code, error_fields};
 
 use crate::fields::FieldList;
-use crate::parts::{Part, fixed};
-use crate::words::{Key, Phrase};
+use crate::words::{Key, Phrase, wording};
 use cond_expr::{ExprFault, FaultKind};
 use dbg_model::{Obstacle, Refused};
 use mi_commands::Fault;
@@ -20,42 +19,42 @@ fn push_fault(into: &mut Vec<u8>, fault: &Fault) -> Result<(), AllocError>
 {
     match fault {
         Fault::Undefined(name) => {
-            push(into, Part::Undefined)?;
+            push(into, Phrase::Undefined)?;
             into.extend_from_slice(name.as_slice())
         }
         Fault::Parameters(name) => {
-            push(into, Part::Parameters)?;
+            push(into, Phrase::Parameters)?;
             into.extend_from_slice(name.as_slice())
         }
         Fault::Number(word) => {
-            push(into, Part::BadNumber)?;
+            push(into, Phrase::BadNumber)?;
             into.extend_from_slice(word.as_slice())
         }
-        Fault::Setting => push(into, Part::Setting),
+        Fault::Setting => push(into, Phrase::Setting),
         Fault::Location { word, .. } => {
-            push(into, Part::BadLocation)?;
+            push(into, Phrase::BadLocation)?;
             into.extend_from_slice(word.as_slice())
         }
     }
 }
 
-fn push(into: &mut Vec<u8>, part: Part) -> Result<(), AllocError>
-    ensures { OnOk result (into.new.items ≡ into.old.items ++ part_text part) }
+fn push(into: &mut Vec<u8>, phrase: Phrase) -> Result<(), AllocError>
+    ensures { OnOk result (into.new.items ≡ into.old.items ++ phrase_text phrase) }
 {
-    into.extend_from_slice(fixed(part))
+    into.extend_from_slice(wording(phrase))
 }
 
 // A number behind a text.
-fn push_counted(into: &mut Vec<u8>, head: Part, n: u32) -> Result<(), AllocError>
-    ensures { OnOk result (into.new.items ≡ into.old.items ++ (part_text head ++ decimal n)) }
+fn push_counted(into: &mut Vec<u8>, head: Phrase, n: u32) -> Result<(), AllocError>
+    ensures { OnOk result (into.new.items ≡ into.old.items ++ (phrase_text head ++ decimal n)) }
 {
     push(into, head)?;
     write_decimal(u64::from(n), into)
 }
 
 // An address behind a text.
-fn push_at(into: &mut Vec<u8>, head: Part, address: u32) -> Result<(), AllocError>
-    ensures { OnOk result (into.new.items ≡ into.old.items ++ (part_text head ++ address_text address)) }
+fn push_at(into: &mut Vec<u8>, head: Phrase, address: u32) -> Result<(), AllocError>
+    ensures { OnOk result (into.new.items ≡ into.old.items ++ (phrase_text head ++ address_text address)) }
 {
     push(into, head)?;
     into.extend_from_slice(&address_text(address))
@@ -65,11 +64,11 @@ fn push_expression(into: &mut Vec<u8>, fault: ExprFault) -> Result<(), AllocErro
     ensures { OnOk result (into.new.items ≡ into.old.items ++ expression_message fault.kind fault.at) }
 {
     match fault.kind {
-        FaultKind::Long => push(into, Part::LongExpression),
-        FaultKind::Text => push_counted(into, Part::ExpressionSyntax, fault.at),
-        FaultKind::Number => push_counted(into, Part::ExpressionNumber, fault.at),
-        FaultKind::Deep => push_counted(into, Part::ExpressionDeep, fault.at),
-        FaultKind::Name => push_counted(into, Part::ExpressionName, fault.at),
+        FaultKind::Long => push(into, Phrase::LongExpression),
+        FaultKind::Text => push_counted(into, Phrase::ExpressionSyntax, fault.at),
+        FaultKind::Number => push_counted(into, Phrase::ExpressionNumber, fault.at),
+        FaultKind::Deep => push_counted(into, Phrase::ExpressionDeep, fault.at),
+        FaultKind::Name => push_counted(into, Phrase::ExpressionName, fault.at),
     }
 }
 
@@ -77,32 +76,32 @@ fn push_obstacle(into: &mut Vec<u8>, obstacle: Obstacle) -> Result<(), AllocErro
     ensures { OnOk result (into.new.items ≡ into.old.items ++ obstacle_message obstacle) }
 {
     match obstacle {
-        Obstacle::UnknownThread(thread) => push_counted(into, Part::UnknownThread, thread),
+        Obstacle::UnknownThread(thread) => push_counted(into, Phrase::UnknownThread, thread),
         Obstacle::HasExited(thread) => {
-            push(into, Part::Thread)?;
+            push(into, Phrase::Thread)?;
             write_decimal(u64::from(thread), into)?;
-            push(into, Part::HasExited)
+            push(into, Phrase::HasExited)
         }
         Obstacle::IsRunning(thread) => {
-            push(into, Part::Thread)?;
+            push(into, Phrase::Thread)?;
             write_decimal(u64::from(thread), into)?;
-            push(into, Part::IsRunning)
+            push(into, Phrase::IsRunning)
         }
         Obstacle::NotRunning(thread) => {
-            push(into, Part::Thread)?;
+            push(into, Phrase::Thread)?;
             write_decimal(u64::from(thread), into)?;
-            push(into, Part::NotRunning)
+            push(into, Phrase::NotRunning)
         }
-        Obstacle::NoBreakpoint(number) => push_counted(into, Part::NoBreakpoint, number),
-        Obstacle::NoInstruction(address) => push_at(into, Part::NoInstruction, address),
-        Obstacle::TooManyBreakpoints => push(into, Part::TooManyBreakpoints),
+        Obstacle::NoBreakpoint(number) => push_counted(into, Phrase::NoBreakpoint, number),
+        Obstacle::NoInstruction(address) => push_at(into, Phrase::NoInstruction, address),
+        Obstacle::TooManyBreakpoints => push(into, Phrase::TooManyBreakpoints),
         Obstacle::Expression(fault) => push_expression(into, fault),
-        Obstacle::DivisionByZero => push(into, Part::DivisionByZero),
-        Obstacle::Unreadable(address) => push_at(into, Part::Unreadable, address),
-        Obstacle::NoLine(address) => push_at(into, Part::NoLineInformation, address),
-        Obstacle::NoCaller => push(into, Part::NoCaller),
-        Obstacle::Unwritable(address) => push_at(into, Part::Unwritable, address),
-        Obstacle::TooManyWatches => push(into, Part::TooManyWatches),
+        Obstacle::DivisionByZero => push(into, Phrase::DivisionByZero),
+        Obstacle::Unreadable(address) => push_at(into, Phrase::Unreadable, address),
+        Obstacle::NoLine(address) => push_at(into, Phrase::NoLineInformation, address),
+        Obstacle::NoCaller => push(into, Phrase::NoCaller),
+        Obstacle::Unwritable(address) => push_at(into, Phrase::Unwritable, address),
+        Obstacle::TooManyWatches => push(into, Phrase::TooManyWatches),
     }
 }
 
@@ -111,27 +110,27 @@ fn push_message(into: &mut Vec<u8>, refused: &Refused) -> Result<(), AllocError>
     ensures { OnOk result (into.new.items ≡ into.old.items ++ message refused.now) }
 {
     match refused {
-        Refused::Long => push(into, Part::LongLine),
-        Refused::Syntax => push(into, Part::Syntax),
-        Refused::Cli => push(into, Part::Cli),
+        Refused::Long => push(into, Phrase::LongLine),
+        Refused::Syntax => push(into, Phrase::Syntax),
+        Refused::Cli => push(into, Phrase::Cli),
         Refused::Faulty(fault) => push_fault(into, fault),
         Refused::Hindered(obstacle) => push_obstacle(into, *obstacle),
         Refused::UnknownName(name) => {
-            push(into, Part::Function)?;
+            push(into, Phrase::Function)?;
             into.extend_from_slice(name.as_slice())?;
-            push(into, Part::NotDefined)
+            push(into, Phrase::NotDefined)
         }
         Refused::UnknownLine { file, line } => {
-            push_counted(into, Part::NoLine, *line)?;
-            push(into, Part::InFile)?;
+            push_counted(into, Phrase::NoLine, *line)?;
+            push(into, Phrase::InFile)?;
             into.extend_from_slice(file.as_slice())
         }
         Refused::FixedRegister(name) => {
-            push(into, Part::FixedRegister)?;
+            push(into, Phrase::FixedRegister)?;
             into.extend_from_slice(name.as_slice())
         }
         Refused::Unwatchable(expression) => {
-            push(into, Part::CannotWatch)?;
+            push(into, Phrase::CannotWatch)?;
             into.extend_from_slice(expression.as_slice())
         }
     }

@@ -57,7 +57,7 @@ fn push_event(lines: &mut LineList, event: Event<'_>) -> Result<(), AllocError>
     }
 }
 
-/// Puts the lines of an event at the end. After want of memory, the one error, the buffer is as before.
+/// Puts the lines of an event at the end. Out of memory, the one error, the buffer is as before.
 #[tactic(auto, unfolding(crate::specs::Seen::trees))]
 pub fn report(event: Event<'_>, into: &mut Vec<u8>) -> Result<(), NoMemory>
     ensures written { OnOk result (into.new.items ≡ into.old.items ++ lines_bytes (event_lines event.entry)) }

@@ -6,7 +6,8 @@ ghost use Rattle.mi_values.specs.Testing.{are_bytes};
 ghost use Rattle.mi_text.specs.Numeral.{address_text, exit_code};
 ghost use Rattle.mi_reports.specs.Fits.{text_fits};
 ghost use Rattle.mi_reports.specs.Seen.{seen};
-ghost use Rattle.mi_reports.specs.Words.{key_text, phrase_text, says, says_some};
+ghost use Rattle.mi_reports.specs.Words.{key_text, says, says_some};
+ghost use Rattle.mi_reports.specs.Phrases.{phrase_text};
 
 use crate::words::{Key, Phrase, owned_name, wording};
 use itoa::Buffer;

@@ -12,7 +12,6 @@ mod fields;
 mod frames;
 mod laws;
 mod lines;
-mod parts;
 mod refusals;
 mod registers;
 mod replies;

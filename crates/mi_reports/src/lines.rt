@@ -1,5 +1,5 @@
 // Lines, built one behind the other, and written by `write_line`.
-ghost use Rattle.std.specs.Prelude.{◌≡◌, ◌∷◌, [], ◌++◌, map, IfOk, OnOk, OnErr, true};
+ghost use Rattle.std.specs.Prelude.{◌≡◌, ◌∷◌, [], ◌++◌, map, OnOk, OnErr, true};
 ghost use Rattle.mi_text.specs.Keeps.{Keeps};
 ghost use Rattle.mi_values.specs.Line.{line_view};
 ghost use Rattle.mi_values.specs.FieldLists.{notice_of, result_of};
@@ -29,12 +29,6 @@ fn of_line(fields: FieldList) -> Fields
     ensures { fields_view result.items.items ≡ fields_of (seen fields) }
 {
     Fields::new(fields.items)
-}
-
-fn copied(alloc: Global, token: &Token) -> Result<Token, AllocError>
-    ensures { IfOk result (λ t. t ≡ token.now) }
-{
-    Ok(Token::new(Vec::from_slice(alloc, token.as_bytes())?))
 }
 
 // Puts the text of each line at the end.
@@ -90,10 +84,9 @@ impl LineList {
         requires { are_fit (seen fields) ≡ true }
         ensures { OnOk result (trees self.new ≡ trees self.old ++ result_of token.now (key_text class) (seen fields) ∷ []) }
     {
-        let token = copied(self.alloc, token)?;
         let class = owned_name(self.alloc, class)?;
         self.push(Line::Result {
-            token,
+            token: token.copied(),
             class,
             fields: of_line(fields),
         })
@@ -113,7 +106,7 @@ impl LineList {
         self.push(Line::Prompt)
     }
 
-    /// Puts the text of each line at the end. After want of memory the buffer is as before.
+    /// Puts the text of each line at the end. Out of memory, the buffer is as before.
     #[tactic(auto, unfolding(crate::specs::Seen::trees))]
     pub fn write(&self, into: &mut Vec<u8>) -> Result<(), NoMemory>
         ensures written { OnOk result (into.new.items ≡ into.old.items ++ lines_bytes (trees self.now)) }

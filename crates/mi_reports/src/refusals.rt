@@ -7,8 +7,7 @@ ghost use Rattle.mi_reports.specs.Refusals.{kind_name, file_fields, usage_fields
 
 use crate::fields::FieldList;
 use crate::lines::LineList;
-use crate::parts::{Part, fixed};
-use crate::words::Key;
+use crate::words::{Key, Phrase, wording};
 use elf32_read::{ElfFault, ElfKind};
 use mi_text::write_decimal;
 use mi_values::Token;
@@ -40,8 +39,7 @@ fn push_refusal(lines: &mut LineList, message: &[u8]) -> Result<(), AllocError>
 {
     let mut fields = FieldList::new(lines.alloc);
     fields.push_text(Key::Message, message)?;
-    let token = Token::none(lines.alloc);
-    lines.push_result(&token, Key::Error, fields)
+    lines.push_result(&Token::none(), Key::Error, fields)
 }
 
 /// Appends the line of a file that is refused.
@@ -50,9 +48,9 @@ pub fn push_bad_file(lines: &mut LineList, fault: ElfFault) -> Result<(), AllocE
     ensures { OnOk result (trees lines.new ≡ trees lines.old ++ refusal_lines (file_fields fault)) }
 {
     let mut message = Vec::new(lines.alloc);
-    message.extend_from_slice(fixed(Part::BadFile))?;
+    message.extend_from_slice(wording(Phrase::BadFile))?;
     message.extend_from_slice(kind_name(fault.kind).as_bytes())?;
-    message.extend_from_slice(fixed(Part::AtPlace))?;
+    message.extend_from_slice(wording(Phrase::AtPlace))?;
     write_decimal(u64::from(fault.place), &mut message)?;
     push_refusal(lines, message.as_slice())
 }
@@ -62,5 +60,5 @@ pub fn push_bad_file(lines: &mut LineList, fault: ElfFault) -> Result<(), AllocE
 pub fn push_usage(lines: &mut LineList) -> Result<(), AllocError>
     ensures { OnOk result (trees lines.new ≡ trees lines.old ++ refusal_lines usage_fields) }
 {
-    push_refusal(lines, fixed(Part::Usage))
+    push_refusal(lines, wording(Phrase::Usage))
 }

@@ -4,7 +4,7 @@ ghost use Rattle.mi_values.specs.Tree.{value_view};
 ghost use Rattle.mi_reports.specs.declared.words.Phrase.TheVariants as phrases;
 ghost use Rattle.mi_reports.specs.Fits.{place_fits, threads_fit};
 ghost use Rattle.mi_reports.specs.Seen.{seen};
-ghost use Rattle.mi_reports.specs.Words.{phrase_text};
+ghost use Rattle.mi_reports.specs.Phrases.{phrase_text};
 ghost use Rattle.mi_reports.specs.Replies.{state_fields, thread_fields, thread_tree, threads_fields, number_field, numbers_fields};
 
 use crate::fields::{FieldList, listed, tuple};

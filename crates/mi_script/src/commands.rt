@@ -2,6 +2,7 @@
 use mi_commands::{
     ByteList, Command, CommandLine, Fault, Insertion, Location, Refusal, command_of,
 };
+use mi_input::InputFault;
 use mi_values::Token;
 use script_rows::{RowFault, read_bytes};
 use std::alloc::{AllocError, Global};
@@ -88,8 +89,8 @@ fn of_refusal(alloc: Global, refusal: &Refusal) -> Result<String, AllocError> {
             let text = of_fault(alloc, fault)?;
             behind(alloc, token, text.as_str())
         }
-        Refusal::Cli(token) => behind(alloc, token, "3"),
-        _ => format!(in alloc; "{refusal:?}"),
+        Refusal::Input(InputFault::Cli(token)) => behind(alloc, token, "3"),
+        Refusal::Input(fault) => format!(in alloc; "{fault:?}"),
     }
 }
 

@@ -92,7 +92,7 @@ fn name_of(alloc: Global, text: &str) -> Result<Name, RowFault> {
 
 fn push_result(alloc: Global, class: Name, into: &mut Vec<u8>) -> Result<(), RowFault> {
     let line = Line::Result {
-        token: Token::none(alloc),
+        token: Token::none(),
         class,
         fields: Fields::none(alloc),
     };

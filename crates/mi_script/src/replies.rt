@@ -10,11 +10,11 @@ use std::alloc::Global;
 /// The token of these digits; `-` is none.
 pub fn token_of(alloc: Global, digits: &str) -> Result<Token, RowFault> {
     if digits == "-" {
-        return Ok(Token::none(alloc));
+        return Ok(Token::none());
     }
     let digits = read_bytes(alloc, digits)?;
     if is_token(&digits) {
-        Ok(Token::new(digits))
+        Ok(Token::new(&digits))
     } else {
         Err(RowFault::Unknown)
     }

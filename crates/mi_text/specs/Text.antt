@@ -17,7 +17,7 @@ ReadsText bytes (Ok r) = IsText bytes r.0.items r.1.now
 ReadsText bytes (Err NoMemory) = Unit {0}
 ReadsText bytes (Err Text) = (text rest : List ℕ) → IsText bytes text rest → ⊥
 
--- a reader gives this text and this rest, unless memory is wanting
+-- a reader gives this text and this rest, unless out of memory
 abbrev pub GivesText : List ℕ → List ℕ → Result (Vec ℕ × Bor (List ℕ)) ReadFault → Type 0
 GivesText text rest (Ok r) = (r.0.items ≡ text) × (r.1.now ≡ rest)
 GivesText text rest (Err NoMemory) = Unit {0}

@@ -6,46 +6,56 @@ ghost use Rattle.mi_text.specs.Digits.{is_digit};
 ghost use Rattle.mi_text.specs.Token.{is_token};
 
 use crate::digits::is_digit;
-use std::alloc::Global;
+use arrayvec::ArrayVec;
 use std::marker::Model;
 
-/// A token as its digits, none where there is no token. Contracts see its digits.
+/// A token as its digits, none where there is no token. It needs no memory beside itself. Contracts see its digits.
 #[derive(Debug, Drop)]
 pub struct Token {
-    digits: Vec<u8>,
+    digits: ArrayVec<u8, 18>,
 }
 
 impl Model for Token {
     ghost use Rattle.std.specs.Prelude.{ℕ, List, ◌≡◌, true};
-    ghost use Rattle.mi_text.specs.Token.{is_token};
+    ghost use Rattle.std.specs.List.{list_all};
+    ghost use Rattle.mi_text.specs.Digits.{is_digit};
 
     ghost Value = { List ℕ };
 
     ghost view = { λ t. t.digits.items };
 
-    ghost invariant = { λ t. is_token t.digits.items ≡ true };
+    // There is room for 18.
+    ghost invariant = { λ t. list_all is_digit t.digits.items ≡ true };
 }
 
 impl Token {
     /// The most digits that a token has.
     pub const MOST: usize = 18;
 
-    /// The token of at most 18 bytes, each a decimal digit (`is_token` tells whether they are); it keeps their memory. No bytes are no
-    /// token.
-    pub fn new(digits: Vec<u8>) -> Token
-        requires { is_token digits.items ≡ true }
-        ensures { result ≡ digits.items }
+    /// The token of at most 18 bytes, each a decimal digit (`is_token` tells whether they are). No bytes are no token.
+    pub fn new(digits: &[u8]) -> Token
+        requires { is_token digits.now ≡ true }
+        ensures { result ≡ digits.now }
     {
-        Token { digits }
+        let mut kept = ArrayVec::new();
+        kept.try_extend_from_slice(digits).unwrap();
+        Token { digits: kept }
     }
 
     /// No token: no digits.
-    pub fn none(alloc: Global) -> Token
+    pub fn none() -> Token
         ensures { result ≡ [] }
     {
         Token {
-            digits: Vec::new(alloc),
+            digits: ArrayVec::new(),
         }
+    }
+
+    /// The same token once more.
+    pub fn copied(&self) -> Token
+        ensures { result ≡ self.now }
+    {
+        Token::new(self.as_bytes())
     }
 
     /// The digits, at most 18 bytes; none where there is no token.

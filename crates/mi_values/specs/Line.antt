@@ -26,7 +26,7 @@ ReadsLine bytes (Ok line) = Begins bytes (line_view line)
 ReadsLine bytes (Err NoMemory) = Unit {0}
 ReadsLine bytes (Err Text) = (tree : LineTree) → Begins bytes tree → ⊥
 
--- a reader gives this tree, unless memory is wanting
+-- a reader gives this tree, unless out of memory
 abbrev pub GivesLine : LineTree → Result Line ReadFault → Type 0
 GivesLine tree (Ok line) = line_view line ≡ tree
 GivesLine tree (Err NoMemory) = Unit {0}

@@ -1,5 +1,5 @@
 -- What reading the parts of a line gives: what is spelled at the front, or that nothing is spelled there.
-use Rattle.std.specs.Prelude.{◌≡◌, ℕ, List, [], ◌∷◌, ◌++◌, true, Result, Ok, Err}
+use Rattle.std.specs.Prelude.{◌≡◌, ℕ, List, [], ◌∷◌, ◌++◌, true, Option, Some, None, Result, Ok, Err}
 use Rattle.std.specs.Borrow.{Bor}
 use Rattle.std.specs.Global.{Vec}
 use Rattle.mi_text.specs.declared.fault.ReadFault.{ReadFault}
@@ -37,10 +37,9 @@ ReadsClass bytes (Err NoMemory) = Unit {0}
 ReadsClass bytes (Err Text) = (class : List ℕ) (fields : Fields) → HasClass bytes class fields → ⊥
 
 -- a token and its `^`
-abbrev pub ReadsToken : List ℕ → Result (List ℕ × Bor (List ℕ)) ReadFault → Type 0
-ReadsToken bytes (Ok r) = (bytes ≡ r.0 ++ 94 ∷ r.1.now) × (is_token r.0 ≡ true)
-ReadsToken bytes (Err NoMemory) = Unit {0}
-ReadsToken bytes (Err Text) = (token rest : List ℕ) → is_token token ≡ true → bytes ≡ token ++ 94 ∷ rest → ⊥
+abbrev pub ReadsToken : List ℕ → Option (List ℕ × Bor (List ℕ)) → Type 0
+ReadsToken bytes (Some r) = (bytes ≡ r.0 ++ 94 ∷ r.1.now) × (is_token r.0 ≡ true)
+ReadsToken bytes None = (token rest : List ℕ) → is_token token ≡ true → bytes ≡ token ++ 94 ∷ rest → ⊥
 
 -- behind the sign of a notice
 abbrev pub ReadsNotice : NoticeSign → List ℕ → Result Line ReadFault → Type 0

@@ -73,27 +73,24 @@ fn caret_at(bytes: &[u8]) -> Option<usize>
 }
 
 /// The token and what stands behind its `^`.
-fn read_token(alloc: Global, bytes: &[u8]) -> Result<(Token, &[u8]), ReadFault>
+fn read_token(bytes: &[u8]) -> Option<(Token, &[u8])>
     ensures { ReadsToken bytes.now result }
 {
-    let Some(end) = caret_at(bytes) else {
-        return Err(ReadFault::Text);
-    };
+    let end = caret_at(bytes)?;
     let digits = &bytes[..end];
     if !is_token(digits) {
-        return Err(ReadFault::Text);
+        return None;
     }
-    Ok((
-        Token::new(Vec::from_slice(alloc, digits)?),
-        &bytes[end + 1..],
-    ))
+    Some((Token::new(digits), &bytes[end + 1..]))
 }
 
 /// The result at the front.
 fn read_result(alloc: Global, bytes: &[u8]) -> Result<Line, ReadFault>
     ensures { ReadsResult bytes.now result }
 {
-    let (token, rest) = read_token(alloc, bytes)?;
+    let Some((token, rest)) = read_token(bytes) else {
+        return Err(ReadFault::Text);
+    };
     let (class, fields) = read_class(alloc, rest)?;
     Ok(Line::Result {
         token,

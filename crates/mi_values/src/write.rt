@@ -149,7 +149,7 @@ fn write_parts(line: &Line, into: &mut Vec<u8>) -> Result<(), AllocError>
     }
 }
 
-/// Puts the line's one text at the end. After want of memory the buffer is as before.
+/// Puts the line's one text at the end. Out of memory, the buffer is as before.
 pub fn write_line(line: &Line, into: &mut Vec<u8>) -> Result<(), NoMemory>
     ensures written { OnOk result (into.new.items ≡ into.old.items ++ line_bytes (line_view line.now)) }
     ensures record { OnOk result (Record (line_bytes (line_view line.now)) (line_view line.now)) }

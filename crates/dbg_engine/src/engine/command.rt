@@ -22,13 +22,14 @@ use dbg_answers::{Debuggee, Effect, LineAnswer, answer_line, waits};
 use dbg_model::{Entry, Poke, Reply};
 use dbg_traits::NoMemory;
 use mi_commands::{CommandLine, Displaced, Refusal, command_of};
+use mi_input::InputFault;
 use std::alloc::Global;
 
-// Whether memory was wanting when a line was read.
+// Whether there was no memory to read a line.
 fn lacks_memory(read: &Result<CommandLine, Refusal>) -> bool
     ensures { result ≡ lacks_memory read.now }
 {
-    matches!(read, Err(Refusal::NoMemory))
+    matches!(read, Err(Refusal::Input(InputFault::NoMemory)))
 }
 
 /// Reads a line, once, for `Engine::must_wait` and `Engine::command`: the command that it asks for, or why it is refused.
@@ -169,7 +170,7 @@ impl Engine {
     ///
     /// # Errors
     ///
-    /// `NoMemory` where memory is wanting for the answer or for the journal; then nothing changed.
+    /// `NoMemory` where out of memory for the answer or for the journal; then nothing changed.
     pub fn command(
         &mut self,
         line: &[u8],

@@ -12,24 +12,24 @@ use Rattle.mi_commands.proofs.answering.command_of.Goals as goal
 answer_to_parts : (p : Parts) (ws : List Word) (a : Result Command Fault) → ws ≡ p.words.items → answer_of (option_map (λ v. v.items) p.operation) (words_view ws) ≡ a → a ≡ answer (parts_view p)
 answer_to_parts p ws a same is = sym is ∙ ap (λ words. answer_of (option_map (λ v. v.items) p.operation) (words_view words)) same
 
-pub returns-in-Ok-answer-clause-commands : goal.returns-in-Ok-answer-clause-commands
-returns-in-Ok-answer-clause-commands c = (
-  c.in-Ok.ensures.splits.0,
+pub returns-in-Ok-clause-commands : goal.returns-in-Ok-clause-commands
+returns-in-Ok-clause-commands c = (
+  c.in_ok-parts.ensures.splits.0,
   record {
-    parts = parts_view c.in-Ok.parts;
-    are_parts = c.in-Ok.ensures.splits.1;
+    parts = parts_view c.in_ok-parts.parts;
+    are_parts = c.in_ok-parts.ensures.splits.1;
     token_is = refl;
-    answer_is = answer_to_parts c.in-Ok.parts _ _ c.deref.ensures.value c.in-Ok-answer.ensures;
+    answer_is = answer_to_parts c.in_ok-parts.parts _ _ c.deref.ensures.value c.in-Ok.ensures;
   },
 )
 
 pub returns-clause-commands : goal.returns-clause-commands
 returns-clause-commands c = (
-  c.in-Ok.ensures.splits.0,
+  c.in_ok-parts.ensures.splits.0,
   record {
-    parts = parts_view c.in-Ok.parts;
-    are_parts = c.in-Ok.ensures.splits.1;
+    parts = parts_view c.in_ok-parts.parts;
+    are_parts = c.in_ok-parts.ensures.splits.1;
     token_is = refl;
-    answer_is = answer_to_parts c.in-Ok.parts _ _ c.deref.ensures.value (rw c.in-Err-Faulty.field-0-is at c.in-Err-Faulty.ensures);
+    answer_is = answer_to_parts c.in_ok-parts.parts _ _ c.deref.ensures.value (rw c.in-Err-Faulty.field-0-is at c.in-Err-Faulty.ensures);
   },
 )
