@@ -24,7 +24,8 @@ fn run_at(tables: &Tables, place: usize) -> Result<Start, FrameFault>
 }
 
 fn kept_start(tables: &Tables, place: usize) -> KeptStart
-    ensures { IsKept tables.now result }
+    ensures kept { IsKept tables.now result }
+    ensures place { result.place ≡ place }
 {
     KeptStart {
         place,
