@@ -75,13 +75,22 @@ COUNTING_LINES = """
     00 00 00 05 02 8c 00 01 00 03 09 01 83 83 4b 83 02 0c 00 01 01
 """
 
-COUNTING_FRAMES = """
-    0c 00 00 00 ff ff ff ff 03 00 01 7c 01 0c 02 00
-    18 00 00 00 00 00 00 00 8c 00 01 00 28 00 00 00 44 0e 10 44 81 01 58 c1 44 0e 00 00
-"""
+
+def entry(*parts):
+    """An entry of `.debug_frame`: the length of its bytes, and they."""
+    content = b"".join(parts)
+    return struct.pack("<I", len(content)) + content
 
 
-def counting(number):
+def counting_frames(pairs):
+    """The frames of `work`. So many times its programs remember a state and restore it where that changes nothing."""
+    idle = bytes.fromhex("0a 0b") * pairs
+    cie = entry(bytes.fromhex("ff ff ff ff 03 00 01 7c 01 0c 02 00"), idle)
+    pushed, popped, left = (bytes.fromhex(it) for it in ("44 0e 10 44 81 01", "58 c1", "44 0e 00 00"))
+    return cie + entry(struct.pack("<III", 0, 0x1008C, 40), pushed, idle, popped, idle, left)
+
+
+def counting(number, pairs=0):
     """A program whose harts each add 1 to a counter so often, with its symbols, lines and frames."""
     symbols = [(1, 0x10074, 24, FUNCTION, 1), (8, 0x1008C, 40, FUNCTION, 1)]
     symbols += [(13, 0x20000, 4, OBJECT, 2), (19, 0x20004, 4, OBJECT, 2)]
@@ -90,7 +99,7 @@ def counting(number):
         Section(b".symtab", table, SYMTAB, link=4, info=1, alignment=4, entry=16),
         Section(b".strtab", b"\0_start\0work\0count\0limit\0", STRTAB),
         Section(b".debug_line", bytes.fromhex(COUNTING_LINES)),
-        Section(b".debug_frame", bytes.fromhex(COUNTING_FRAMES)),
+        Section(b".debug_frame", counting_frames(pairs)),
     ]
     return plain([int(word, 16) for word in COUNTING.split()], struct.pack("<II", 0, number), more)
 
