@@ -1,14 +1,2 @@
-pub mod Steps
 pub mod Changing
-pub mod Rows
-pub mod Calls
-pub mod Several
-pub mod Slicing
-pub mod Going
-pub mod Marks
 pub mod EngineInside
-pub mod Viewing
-pub mod Resuming
-pub mod Homing
-pub mod Writing
-pub mod Watching

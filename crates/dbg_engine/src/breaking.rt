@@ -1,22 +1,16 @@
 // The table of breakpoints, and the words of the machine that are planted for it.
-ghost use Rattle.std.specs.Prelude.{◌≡◌, ◌<◌, ◌-◌, ◌^◌, length, None, Some, IsSome, map, slice_get};
-ghost use Rattle.std.specs.Option.{option_map};
-ghost use Rattle.rv_exec.specs.Registers.{set_pc};
+ghost use Rattle.std.specs.Prelude.{◌≡◌, ◌<◌, ◌-◌, ◌^◌, None, Some, IsSome, map};
 ghost use Rattle.text_words.specs.Words.{shown};
-ghost use Rattle.hart_machine.specs.declared.hart.Core.{Core};
-ghost use Rattle.break_table.specs.Entry.{asked_of, condition_of, entry_of};
-ghost use Rattle.break_table.specs.Arrival.{due_of, settled};
-ghost use Rattle.break_table.specs.Table.{changed, deleted, insert_fault, inserted, with_condition, with_enabled, with_ignore};
+ghost use Rattle.break_table.specs.Entry.{asked_of, entry_of};
+ghost use Rattle.break_table.specs.Table.{changed, deleted, insert_fault, inserted, with_enabled};
 ghost use Rattle.dbg_answers.specs.Answer.{change_of};
-ghost use Rattle.dbg_model.specs.Breaks.{is_temporary, enabling, without};
-ghost use Rattle.dbg_model.specs.Views.{register, shown_byte};
+ghost use Rattle.dbg_model.specs.Breaks.{enabling, without};
 ghost use Rattle.engine_facts.specs.Tables.{number_place, ArePlanted};
-ghost use Rattle.dbg_engine.specs.Changing.{Applies, Retabled, wants_by};
+ghost use Rattle.engine_moves.specs.Changing.{Retabled, wants_by};
+ghost use Rattle.dbg_engine.specs.Changing.{Applies};
 ghost use Rattle.dbg_answers.specs.Table.{CanBeWatched, changed_table};
 ghost use Rattle.dbg_model.specs.Reply.{watches_after};
 
-use crate::patching::plant_as_wanted;
-use crate::view::ShownHart;
 use break_table::{BreakEntry, BreakTable, Due, Spec};
 use dbg_answers::{
     Effect, change_table as change_entries, delete_entry, enable_entry, insert_entry,
@@ -24,58 +18,9 @@ use dbg_answers::{
 use dbg_model::WatchList;
 use elf32_read::Image;
 use engine_facts::Hold;
+use engine_moves::patching::plant_as_wanted;
+use engine_moves::view::ShownHart;
 use hart_machine::Machine;
-
-/// What the breakpoints do with a hart that has just arrived, and shows its pc there.
-pub fn due_at(table: &BreakTable, image: &Image, machine: &Machine, h: u32, pc: u32) -> Due
-    requires { h < length machine.now.cores }
-    ensures { (c : Core) → slice_get machine.now.cores h ≡ Some c → result ≡ due_of h (register (set_pc c.regs pc)) (shown_byte image.now machine.now.memory) table.now.entries }
-{
-    let regs = &machine.cores()[h as usize].regs;
-    table.due(
-        h,
-        &ShownHart {
-            regs,
-            pc,
-            image,
-            machine,
-        },
-    )
-}
-
-/// The changes in the table of the arrival of a hart that shows its pc there.
-pub fn settle(table: &mut BreakTable, image: &Image, machine: &Machine, h: u32, pc: u32)
-    requires { h < length machine.now.cores }
-    ensures entries { (c : Core) → slice_get machine.now.cores h ≡ Some c → table.new.entries ≡ settled h (register (set_pc c.regs pc)) (shown_byte image.now machine.now.memory) table.old.entries }
-    ensures rest { table.new ≡ record table.old { entries = table.new.entries } }
-{
-    let regs = &machine.cores()[h as usize].regs;
-    table.settle_arrival(
-        h,
-        &ShownHart {
-            regs,
-            pc,
-            image,
-            machine,
-        },
-    );
-}
-
-/// Whether the breakpoint of that number is temporary.
-pub fn is_temporary(entries: &[BreakEntry], number: u32) -> bool
-    ensures { result ≡ is_temporary (map entry_of entries.now) number }
-{
-    match entries {
-        [] => false,
-        [first, rest @ ..] => {
-            if first.number == number {
-                first.temporary
-            } else {
-                is_temporary(rest, number)
-            }
-        }
-    }
-}
 
 // The address of the breakpoint of a number.
 fn place_of(entries: &[BreakEntry], number: u32) -> Option<u32>

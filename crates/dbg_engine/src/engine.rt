@@ -10,7 +10,7 @@ ghost use Rattle.dbg_model.specs.Lawful.{may_go};
 ghost use Rattle.engine_facts.specs.Minds.{runs};
 ghost use Rattle.engine_facts.specs.Facts.{InText, OneLifted};
 ghost use Rattle.engine_facts.specs.Seen.{seen};
-ghost use Rattle.dbg_engine.specs.Steps.{next_running};
+ghost use Rattle.engine_moves.specs.Steps.{next_running};
 
 mod command;
 mod notes;
@@ -19,16 +19,16 @@ mod slicing;
 mod stepping;
 mod turn;
 
-use crate::homing::go_home_each;
-use crate::minds::{all_gone, any_running, find_running, first_minds, is_running};
-use crate::patching::release;
-use crate::waiting::{Waiting, end_waits};
 use break_table::{BreakEntry, BreakTable};
 pub use command::read_line;
 use dbg_answers::shown_frame;
 use dbg_model::{Entry, HISTORY, Journal, Opening, ShownFrame, Watch, WatchList};
 use dbg_traits::{NoMemory, Settings};
 use engine_facts::{Activity, Hold, Mind, Phase};
+use engine_moves::homing::go_home_each;
+use engine_moves::minds::{all_gone, any_running, find_running, first_minds, is_running};
+use engine_moves::patching::release;
+use engine_moves::waiting::{Waiting, end_waits};
 use hart_machine::Machine;
 use mi_commands::Displaced;
 pub use slicing::Commit;
@@ -38,17 +38,6 @@ use std::marker::Model;
 
 /// So many entries find room before a turn.
 pub const SPARE: usize = 32;
-
-/// Why a session is over.
-#[derive(Clone, Copy, Debug, PartialEq, Eq)]
-pub enum End {
-    /// The retired instructions number the budget.
-    Budget,
-    /// The journal has the most entries other than `Ran`.
-    History,
-    /// A line ended it.
-    Exit,
-}
 
 /// Several harts of a machine, and the journal of what was done with them.
 #[derive(Drop)]
@@ -100,7 +89,7 @@ pub struct Closed {
 
 impl Engine {
     ghost use Rattle.engine_facts.specs.Facts.{Facts};
-    ghost use Rattle.dbg_engine.specs.Calls.{Of, OverBy, Closes};
+    ghost use Rattle.engine_moves.specs.Calls.{Of, OverBy, Closes};
 
     /// An engine before its first move: each hart is stopped at the entry.
     pub fn load(alloc: Global, opening: Opening) -> Result<Engine, NoMemory>

@@ -3,22 +3,11 @@
 
 mod breaking;
 mod engine;
-mod going;
-mod homing;
-mod journal;
-mod laws;
-mod minds;
-mod moving;
-mod patching;
 mod resuming;
-mod view;
-mod views;
-mod waiting;
-mod watching;
-mod writing;
 
-pub use engine::{Closed, Commit, End, Engine, SPARE, read_line};
+pub use engine::{Closed, Commit, Engine, SPARE, read_line};
 pub use engine_facts::{Activity, Hold, Mind, Phase};
-pub use laws::{moves_mark, one_instruction_or_none};
-pub use moving::Turned;
-pub use view::ShownHart;
+pub use engine_moves::ending::End;
+pub use engine_moves::laws::{moves_mark, one_instruction_or_none};
+pub use engine_moves::moving::Turned;
+pub use engine_moves::view::ShownHart;

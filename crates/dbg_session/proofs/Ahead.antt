@@ -7,8 +7,8 @@ use Rattle.std.proofs.lemmas.List.{drop-drop, get_or-drop}
 use Rattle.engine_facts.specs.declared.mind.Mind.{Mind}
 use Rattle.engine_facts.specs.Minds.{runs}
 use Rattle.dbg_model.proofs.Options.{same_some}
-use Rattle.dbg_engine.specs.Steps.{running_harts, some_or}
-use Rattle.dbg_engine.proofs.Picks.{least_of_all, next_of_all}
+use Rattle.engine_moves.specs.Steps.{running_harts, some_or}
+use Rattle.engine_moves.proofs.Picks.{least_of_all, next_of_all}
 use Rattle.dbg_session.specs.Stage.{Stage, moves_at}
 use Rattle.dbg_session.specs.Seen.{movers_from, movers, any_of, gap, ahead}
 

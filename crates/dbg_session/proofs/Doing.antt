@@ -19,7 +19,7 @@ use Rattle.dbg_session.specs.Steps.{lines_by, Says, Keeps, DoesLine, may_take}
 use Rattle.dbg_session.specs.Taking.{first_waits, has_line, is_some_line}
 use Rattle.dbg_session.specs.Ties.{GoesOn}
 use Rattle.dbg_model.specs.Lawful.{may_go}
-use Rattle.dbg_engine.proofs.Seeing.{may_go_by}
+use Rattle.engine_moves.proofs.Seeing.{may_go_by}
 use Rattle.dbg_session.proofs.Saying.{DoneSaid}
 
 first_line : (ended : Bool) (rest line : List ℕ) (next : ℕ) → IsNext ended rest line next → (more : List (List ℕ)) × (lines rest ended ≡ line ∷ more)

@@ -3,7 +3,7 @@ use Rattle.std.proofs.Common.{◌≡◌, ◌+◌, ℕ, zero, suc, Bool, true, fa
 use Rattle.std.specs.Prelude.{Option, Some, None, replicate, ◌&&◌, ◌==◌, if◌then◌else◌, is_none, is_some, nat_lt, slice_set}
 use mathlib.Core.Logic.{inl, inr}
 use Rattle.dbg_model.specs.State.{any_runs}
-use Rattle.dbg_engine.specs.Steps.{NoneOut}
+use Rattle.engine_moves.specs.Steps.{NoneOut}
 use Rattle.dbg_session.specs.declared.status.Status.{Status}
 use Rattle.dbg_session.specs.Steps.{can_do}
 use Rattle.dbg_session.specs.Taking.{has_line}

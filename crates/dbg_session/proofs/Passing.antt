@@ -7,7 +7,7 @@ use Rattle.engine_facts.specs.Seen.{Run, seen}
 use Rattle.engine_facts.specs.Facts.{Facts}
 use Rattle.engine_facts.proofs.Seeing.{any_seen}
 use Rattle.engine_facts.proofs.Movers.{some_mover}
-use Rattle.dbg_engine.proofs.Picks.{next_of_all}
+use Rattle.engine_moves.proofs.Picks.{next_of_all}
 use Rattle.dbg_session.specs.declared.status.Status.{Status}
 use Rattle.dbg_session.specs.Stage.{Stage, stage_of, moves_at}
 use Rattle.dbg_session.specs.Ties.{session_work}

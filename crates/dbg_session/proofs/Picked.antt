@@ -5,7 +5,7 @@ use mathlib.Core.Logic.{inl, inr, ◌⊎◌}
 use Rattle.dbg_model.proofs.Options.{same_some}
 use Rattle.engine_facts.specs.declared.mind.Mind.{Mind}
 use Rattle.engine_facts.specs.Minds.{runs}
-use Rattle.dbg_engine.specs.Steps.{running_harts, least_running, next_running, some_or}
+use Rattle.engine_moves.specs.Steps.{running_harts, least_running, next_running, some_or}
 
 found_first : (b : Bool) (k h : ℕ) (o : Option ℕ) → (if b then Some k else o) ≡ Some h → (k ≡ h) ⊎ (o ≡ Some h)
 found_first true k h o is = inl (same_some k h is)

@@ -15,7 +15,7 @@ use Rattle.engine_facts.specs.Minds.{runs}
 use Rattle.engine_facts.specs.Seen.{Run, seen, seen_regs, seen_harts}
 use Rattle.engine_facts.specs.Moves.{AreHome}
 use Rattle.engine_facts.specs.Facts.{Facts}
-use Rattle.dbg_engine.specs.Calls.{Closes}
+use Rattle.engine_moves.specs.Calls.{Closes}
 use Rattle.engine_facts.specs.Movers.{runs_at, is_free, are_out, waits_for_slot}
 use Rattle.engine_facts.proofs.Movers.{runs_mind}
 use Rattle.dbg_session.specs.Stage.{stage_of, moves_at}

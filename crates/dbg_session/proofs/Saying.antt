@@ -36,8 +36,8 @@ use Rattle.mi_reports.specs.Triggers.{trigger_lines, watch_of}
 use Rattle.mi_reports.proofs.Stopping.{trigger_risen}
 use Rattle.mi_reports.proofs.Saying.{said_added, said_lengthened}
 use Rattle.mi_reports.proofs.Leaving.{said_exits}
-use Rattle.dbg_engine.specs.declared.moving.Turned.{Turned}
-use Rattle.dbg_engine.specs.declared.moving.Turned.TheVariants as turned
+use Rattle.engine_moves.specs.declared.moving.Turned.{Turned}
+use Rattle.engine_moves.specs.declared.moving.Turned.TheVariants as turned
 use Rattle.engine_facts.specs.declared.mind.Mind.{Mind}
 use Rattle.engine_facts.specs.declared.mind.Hold.{Hold}
 use Rattle.step_over.specs.declared.phase.Phase.{Phase}
@@ -47,8 +47,8 @@ use Rattle.engine_facts.specs.Facts.{Facts}
 use Rattle.engine_facts.specs.Minds.{mode_of, is_active, with_phase, counted_mind}
 use Rattle.engine_facts.specs.Moves.{plan_for}
 use Rattle.engine_facts.proofs.Seeing.{seen_at}
-use Rattle.dbg_engine.specs.Several.{is_quiet}
-use Rattle.dbg_engine.specs.Calls.{Of, Turns, Runs, Exits, Halts, Counts, Rephases, Does, pokes_of, poked_after}
+use Rattle.engine_moves.specs.Several.{is_quiet}
+use Rattle.engine_moves.specs.Calls.{Of, Turns, Runs, Exits, Halts, Counts, Rephases, Does, pokes_of, poked_after}
 use Rattle.break_table.specs.declared.due.CondError.{CondError}
 use Rattle.engine_facts.specs.Movers.{runs_at, runs_as, is_free, is_idle, idle_as, waits_for_slot}
 use Rattle.dbg_session.specs.Stage.{stage_of, work_of, running, moves, moves_of, moves_left, moves_at}
@@ -61,7 +61,7 @@ use Rattle.dbg_session.specs.Turned.{turned_lines, left_lines, stream_tree, has_
 use Rattle.dbg_session.proofs.Timing.{did_line, Grown, grown_same, grown_more, grown_lengthened, grown_exits}
 use Rattle.dbg_session.proofs.Working.{one_works, one_runs, halt_runs, halts, count_notes, count_runs, done_retired, running_gone, running_most, moves_most, moves_set}
 use Rattle.dbg_session.proofs.Picking.{out_so}
-use Rattle.dbg_engine.proofs.Commanding.{harts_length}
+use Rattle.engine_moves.proofs.Commanding.{harts_length}
 
 -- what a turn that moved says, and leaves to do
 pub record Said (t : Turned) (r s : Run) (h pc : ℕ) : Type 0 where

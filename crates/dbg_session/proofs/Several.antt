@@ -8,11 +8,11 @@ use Rattle.dbg_model.specs.Journals.{lengthened}
 use Rattle.engine_facts.specs.Seen.{Run, seen}
 use Rattle.engine_facts.specs.Facts.{Facts}
 use Rattle.engine_facts.proofs.Bounding.{below}
-use Rattle.dbg_engine.specs.declared.moving.Turned.{Turned}
-use Rattle.dbg_engine.specs.declared.moving.Turned.TheVariants as turned
-use Rattle.dbg_engine.specs.Several.{AllRan, IsQuiet, TurnedBy, lengthened_by}
-use Rattle.dbg_engine.specs.Calls.{Turns as EngineTurns}
-use Rattle.dbg_engine.proofs.Quiet.{quiet_may}
+use Rattle.engine_moves.specs.declared.moving.Turned.{Turned}
+use Rattle.engine_moves.specs.declared.moving.Turned.TheVariants as turned
+use Rattle.engine_moves.specs.Several.{AllRan, IsQuiet, TurnedBy, lengthened_by}
+use Rattle.engine_moves.specs.Calls.{Turns as EngineTurns}
+use Rattle.engine_moves.proofs.Quiet.{quiet_may}
 use Rattle.dbg_session.specs.declared.status.Status.{Status}
 use Rattle.dbg_session.specs.declared.steps.Turn.TheVariants as turn
 use Rattle.dbg_session.specs.Puts.{with_text}

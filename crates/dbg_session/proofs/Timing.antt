@@ -24,7 +24,7 @@ use Rattle.mi_values.proofs.Joined.{bytes_joined}
 use Rattle.mi_reports.specs.Said.{said, said_lines, lines_from, entry_lines}
 use Rattle.mi_reports.specs.Text.{opening_lines}
 use Rattle.hart_machine.proofs.Places.{same_some}
-use Rattle.dbg_engine.specs.Calls.{pokes_of}
+use Rattle.engine_moves.specs.Calls.{pokes_of}
 use Rattle.dbg_session.specs.Ties.{IsEmpty}
 use Rattle.dbg_session.specs.Stage.{Stage}
 use Rattle.dbg_session.specs.Steps.{Goes}

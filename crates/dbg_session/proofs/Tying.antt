@@ -20,7 +20,7 @@ use Rattle.mi_reports.specs.Text.{opening_lines}
 use Rattle.mi_reports.specs.Said.{said, said_lines}
 use Rattle.mi_reports.proofs.Saying.{said_nothing}
 use Rattle.dbg_model.specs.Reply.{done_by}
-use Rattle.dbg_engine.specs.Calls.{pokes_of}
+use Rattle.engine_moves.specs.Calls.{pokes_of}
 use Rattle.dbg_session.specs.Stage.{Stage}
 use Rattle.dbg_session.specs.Taking.{Gives, has_line, is_some_line}
 use Rattle.dbg_session.specs.InTime.{ToldInTime}

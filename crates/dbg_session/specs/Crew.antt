@@ -8,9 +8,9 @@ use Rattle.reg_slices.specs.Slices.{SliceOf}
 use Rattle.hart_workers.specs.declared.crew.Duty.{Duty}
 use Rattle.hart_workers.specs.declared.crew.Duty.TheVariants as duties
 use Rattle.dbg_model.specs.State.{any_runs}
-use Rattle.dbg_engine.specs.Several.{lengthened_by}
-use Rattle.dbg_engine.specs.Slicing.{gives_job_in, IsJobIn, CanTakeIn}
-use Rattle.dbg_engine.specs.Steps.{NoneOut, next_running}
+use Rattle.engine_moves.specs.Several.{lengthened_by}
+use Rattle.engine_moves.specs.Slicing.{gives_job_in, IsJobIn, CanTakeIn}
+use Rattle.engine_moves.specs.Steps.{NoneOut, next_running}
 use Rattle.dbg_session.specs.Stage.{Stage}
 use Rattle.dbg_session.specs.Round.{Moment, Moved, Round}
 use Rattle.dbg_session.specs.Steps.{can_do}

@@ -2,7 +2,7 @@
 use Rattle.std.specs.Prelude.{◌≡◌, ◌⊎◌, ◌<◌, ◌≤◌, ◌+◌, ◌&&◌, not, ℕ, zero, suc, Bool, true, false, List, drop, Option, None, Some}
 use Rattle.dbg_traits.specs.Told.{Told}
 use Rattle.dbg_model.specs.State.{any_runs}
-use Rattle.dbg_engine.specs.Steps.{next_running}
+use Rattle.engine_moves.specs.Steps.{next_running}
 use Rattle.dbg_session.specs.Stage.{Stage, moves_at}
 use Rattle.dbg_session.specs.Steps.{Turns, Does, Inputs, can_do}
 use Rattle.dbg_session.specs.Taking.{has_line}

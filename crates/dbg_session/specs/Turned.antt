@@ -3,8 +3,8 @@ use Rattle.std.specs.Prelude.{ℕ, ◌-◌, Bool, true, false, List, [], length,
 use Rattle.data_memory.specs.Ranges.{bytes_at}
 use Rattle.dbg_model.specs.Places.{own_frame}
 use Rattle.dbg_model.specs.State.{all_gone}
-use Rattle.dbg_engine.specs.declared.moving.Turned.{Turned}
-use Rattle.dbg_engine.specs.declared.moving.Turned.TheVariants as turned
+use Rattle.engine_moves.specs.declared.moving.Turned.{Turned}
+use Rattle.engine_moves.specs.declared.moving.Turned.TheVariants as turned
 use Rattle.engine_facts.specs.Seen.{Run, seen}
 use Rattle.mi_values.specs.Record.{LineTree}
 use Rattle.mi_reports.specs.Triggers.{trigger_lines, watch_of}

@@ -5,7 +5,7 @@ ghost use Rattle.dbg_session.specs.Seen.{GotOn, work, no_input, no_line, is_open
 ghost use Rattle.dbg_session.specs.Taking.{has_line};
 ghost use Rattle.dbg_session.specs.Round.{Takes, Lines, Settles, Round, moment};
 ghost use Rattle.dbg_session.specs.Crew.{NonePauses};
-ghost use Rattle.dbg_engine.specs.Steps.{NoneOut};
+ghost use Rattle.engine_moves.specs.Steps.{NoneOut};
 ghost use Rattle.dbg_session.specs.Left.{IsLeft};
 ghost use Rattle.dbg_session.specs.Stage.{stage_of};
 

@@ -1,6 +1,6 @@
 // The steps of a session, over its parts.
 ghost use Rattle.std.specs.Prelude.{◌≡◌, ◌<◌, ◌≤◌, ◌+◌, ◌++◌, length, OnOk, true, false};
-ghost use Rattle.dbg_engine.specs.Steps.{IsTurned};
+ghost use Rattle.engine_moves.specs.Steps.{IsTurned};
 ghost use Rattle.mi_values.specs.Records.{lines_bytes, AreLines};
 ghost use Rattle.mi_reports.specs.Events.{stopping_lines};
 ghost use Rattle.dbg_model.specs.Places.{own_frame};

@@ -9,18 +9,19 @@ ghost use Rattle.dbg_model.specs.Reply.{answer_of, displaced_after, exited_after
 ghost use Rattle.dbg_answers.specs.Answer.{change_of, line_answer_of};
 ghost use Rattle.dbg_answers.specs.Reading.{IsRead};
 ghost use Rattle.engine_facts.specs.Seen.{seen};
-ghost use Rattle.dbg_engine.specs.Changing.{lacks_memory, HasRead, Makes};
+ghost use Rattle.engine_moves.specs.Changing.{Makes};
+ghost use Rattle.dbg_engine.specs.Changing.{lacks_memory, HasRead};
 
 use super::Engine;
 use crate::breaking::change_table;
-use crate::journal::{did, note};
 use crate::resuming::change_threads;
-use crate::views::views;
-use crate::waiting::{Waiting, rewait, waiting_of};
-use crate::writing::write;
 use dbg_answers::{Debuggee, Effect, LineAnswer, answer_line, waits};
 use dbg_model::{Entry, Poke, Reply};
 use dbg_traits::NoMemory;
+use engine_moves::journal::{did, note};
+use engine_moves::views::views;
+use engine_moves::waiting::{Waiting, rewait, waiting_of};
+use engine_moves::writing::write;
 use mi_commands::{CommandLine, Displaced, Refusal, command_of};
 use mi_input::InputFault;
 use std::alloc::Global;
@@ -75,7 +76,7 @@ fn exited_after(exited: bool, effect: &Effect) -> bool
 
 impl Engine {
     ghost use Rattle.engine_facts.specs.Facts.{Facts};
-    ghost use Rattle.dbg_engine.specs.Calls.{Does, Lines};
+    ghost use Rattle.engine_moves.specs.Calls.{Does, Lines};
 
     // What is answered to a line, with its token, and what it changes.
     fn answer_to(

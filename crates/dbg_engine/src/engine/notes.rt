@@ -4,18 +4,18 @@ ghost use Rattle.dbg_model.specs.Judging.{is_counted};
 ghost use Rattle.dbg_model.specs.Watches.{risen};
 
 use super::Engine;
-use crate::breaking::settle;
-use crate::journal::note;
-use crate::minds::{STOPPED, counted_mind};
-use crate::patching::{repatch, wants};
-use crate::waiting::{Waiting, changes, rewait, waiting_of};
 use dbg_model::{Entry, Judgement, Why, plan_after};
 use engine_facts::{Mind, Phase};
+use engine_moves::arrivals::settle;
+use engine_moves::journal::note;
+use engine_moves::minds::{STOPPED, counted_mind};
+use engine_moves::patching::{repatch, wants};
+use engine_moves::waiting::{Waiting, changes, rewait, waiting_of};
 use rv_exec::Cause;
 
 impl Engine {
     ghost use Rattle.engine_facts.specs.Facts.{Facts};
-    ghost use Rattle.dbg_engine.specs.Calls.{Of, Before, Halts, Interrupts, Counts, DueIs, StopsBy, Undue, TrapsAt};
+    ghost use Rattle.engine_moves.specs.Calls.{Of, Before, Halts, Interrupts, Counts, DueIs, StopsBy, Undue, TrapsAt};
 
     // A hart that steps over nothing stops by a fault.
     pub(crate) fn note_fault(&mut self, h: u32, mind: Mind, cause: Cause)

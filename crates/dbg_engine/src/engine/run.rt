@@ -1,17 +1,17 @@
 // Many instructions of a hart in one call.
 ghost use Rattle.std.specs.Prelude.{◌≡◌, ◌<◌, ◌≤◌, length};
 ghost use Rattle.engine_facts.specs.Movers.{is_idle};
-ghost use Rattle.dbg_engine.specs.Several.{AllTurned, Rests, goes_alone, is_alone, is_unplanned};
+ghost use Rattle.engine_moves.specs.Several.{AllTurned, Rests, goes_alone, is_alone, is_unplanned};
 
 use super::Engine;
 use super::stepping::by_copies;
-use crate::going::{Course, go};
-use crate::journal::note_runs;
-use crate::minds::is_running;
-use crate::moving::ran_mind;
-use crate::waiting::awaited;
 use elf32_read::Image;
 use engine_facts::{Hold, Mind, Phase};
+use engine_moves::going::{Course, go};
+use engine_moves::journal::note_runs;
+use engine_moves::minds::is_running;
+use engine_moves::moving::ran_mind;
+use engine_moves::waiting::awaited;
 use step_plans::Plan;
 
 // Whether a hart steps over no breakpoint.

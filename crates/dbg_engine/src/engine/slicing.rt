@@ -1,14 +1,14 @@
 // Slices of a hart's instructions that are executed apart from the engine.
 ghost use Rattle.std.specs.Prelude.{◌≡◌, ◌<◌, ◌≤◌, ◌↔◌, IfSome, IsTrue, Some, is_some, length, slice_get};
 ghost use Rattle.hart_machine.specs.declared.hart.Core.{Core};
-ghost use Rattle.dbg_engine.specs.Slicing.{CanTake, IsJobOf, Takes, gives_job, goes_apart, takes_slices};
+ghost use Rattle.engine_moves.specs.Slicing.{CanTake, IsJobOf, Takes, gives_job, goes_apart, takes_slices};
 
 use super::Engine;
 use super::run::is_idle;
-use crate::journal::note_runs;
-use crate::minds::{is_running, other_holder};
-use crate::moving::ran_mind;
 use engine_facts::Mind;
+use engine_moves::journal::note_runs;
+use engine_moves::minds::{is_running, other_holder};
+use engine_moves::moving::ran_mind;
 use hart_machine::Machine;
 use reg_slices::{Job, Slice};
 use rv_exec::Regs;

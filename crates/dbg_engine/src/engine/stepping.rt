@@ -4,13 +4,13 @@ ghost use Rattle.scratch_slots.specs.Table.{use_at, AllOut};
 ghost use Rattle.dbg_model.specs.State.{is_off};
 ghost use Rattle.engine_facts.specs.Minds.{slot_of};
 ghost use Rattle.engine_facts.specs.Facts.{other_holder};
-ghost use Rattle.dbg_engine.specs.Steps.{IsTurned};
+ghost use Rattle.engine_moves.specs.Steps.{IsTurned};
 
 use super::Engine;
 use crate::Turned;
-use crate::homing::go_home;
-use crate::patching::{release, repatch};
 use engine_facts::{Activity, Hold, Mind, Phase};
+use engine_moves::homing::go_home;
+use engine_moves::patching::{release, repatch};
 use mi_commands::Displaced;
 
 // Whether planted words are stepped over by copies: displaced stepping isn't off, and there are slots.
@@ -23,8 +23,8 @@ pub(super) fn by_copies(displaced: Displaced, slots: u32) -> bool
 
 impl Engine {
     ghost use Rattle.engine_facts.specs.Facts.{Facts};
-    ghost use Rattle.dbg_engine.specs.Calls.{AtPlanted, Rephases, Lifts, Copies, Turns};
-    ghost use Rattle.dbg_engine.specs.Rows.{Begins, row_of};
+    ghost use Rattle.engine_moves.specs.Calls.{AtPlanted, Rephases, Lifts, Copies, Turns};
+    ghost use Rattle.engine_moves.specs.Rows.{Begins, row_of};
 
     // A running hart steps over nothing any more: it comes home from its slot, which is free then, and a lifted patch is
     // planted again where a breakpoint stands.

@@ -4,19 +4,19 @@ ghost use Rattle.text_words.specs.Words.{is_planted};
 ghost use Rattle.dbg_model.specs.Judging.{is_due};
 ghost use Rattle.engine_facts.specs.Minds.{is_before};
 ghost use Rattle.engine_facts.specs.Moves.{stop_of};
-ghost use Rattle.dbg_engine.specs.Steps.{IsTurned, leaves};
+ghost use Rattle.engine_moves.specs.Steps.{IsTurned, leaves};
 
 use super::Engine;
 use crate::Turned;
-use crate::breaking::is_temporary;
-use crate::homing::{Leaving, go_home_at_exit, landed_pc};
-use crate::minds::{other_holder, with_phase};
-use crate::moving::{apply, exits_of, ran_mind};
-use crate::view::ShownHart;
-use crate::waiting::{Waiting, changes, rewait, waiting_of};
-use crate::watching::step_watched;
 use dbg_model::{Course, Judge, Judgement, Why, noted_with, plan_after};
 use engine_facts::{Activity, Mind, Phase};
+use engine_moves::arrivals::is_temporary;
+use engine_moves::homing::{Leaving, go_home_at_exit, landed_pc};
+use engine_moves::minds::{other_holder, with_phase};
+use engine_moves::moving::{apply, exits_of, ran_mind};
+use engine_moves::view::ShownHart;
+use engine_moves::waiting::{Waiting, changes, rewait, waiting_of};
+use engine_moves::watching::step_watched;
 use rv_exec::Stepped;
 use step_plans::{Plan, Verdict};
 
@@ -58,9 +58,9 @@ fn is_moved(old: Plan, new: Plan, stepped: Stepped) -> bool
 
 impl Engine {
     ghost use Rattle.engine_facts.specs.Facts.{Facts};
-    ghost use Rattle.dbg_engine.specs.Calls.{Of, Before, DueIs, GoesWith, Undue, Executes, Turns};
-    ghost use Rattle.dbg_engine.specs.Rows.{Row, Executes as EXECUTES, row_of, row_at, row_due};
-    ghost use Rattle.dbg_engine.specs.Steps.{Arrives, stopped_by};
+    ghost use Rattle.engine_moves.specs.Calls.{Of, Before, DueIs, GoesWith, Undue, Executes, Turns};
+    ghost use Rattle.engine_moves.specs.Rows.{Row, Executes as EXECUTES, row_of, row_at, row_due};
+    ghost use Rattle.engine_moves.specs.Steps.{Arrives, stopped_by};
 
     /// One move of a hart: that of the first row of the table of moves that fits.
     pub fn turn(&mut self, h: u32) -> Turned

@@ -1,7 +1,7 @@
 // How a hart is picked and moved.
 ghost use Rattle.std.specs.Prelude.{◌≡◌, ◌<◌, ◌≤◌, length, false, None, is_some, IsTrue, IfSome};
 ghost use Rattle.std.specs.Bool.{OnFalse};
-ghost use Rattle.dbg_engine.specs.Steps.{NoneOut};
+ghost use Rattle.engine_moves.specs.Steps.{NoneOut};
 ghost use Rattle.dbg_session.specs.Ties.{session_work};
 ghost use Rattle.dbg_session.specs.Seen.{GotOn, HasTurned, no_move};
 ghost use Rattle.dbg_session.specs.Round.{Moves, MovesOne, TurnsOne, Moved, moment};

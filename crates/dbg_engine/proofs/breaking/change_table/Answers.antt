@@ -11,8 +11,8 @@ use Rattle.dbg_answers.specs.declared.answer.Effect.{Effect}
 use Rattle.dbg_answers.specs.declared.answer.Effect.TheVariants as effect
 use Rattle.engine_facts.specs.declared.mind.Hold.{Hold}
 use Rattle.engine_facts.specs.Tables.{ArePlanted}
-use Rattle.dbg_engine.specs.Changing.{Retabled, wants_by}
-use Rattle.dbg_engine.proofs.Tabling.{kept_table}
+use Rattle.engine_moves.specs.Changing.{Retabled, wants_by}
+use Rattle.engine_moves.proofs.Tabling.{kept_table}
 use Rattle.dbg_engine.proofs.breaking.change_table.Goals as goal
 
 -- the same breakpoints want the same words

@@ -7,9 +7,9 @@ use Rattle.dbg_model.specs.Sight.{Sight}
 use Rattle.dbg_answers.specs.Answer.{line_answer_of}
 use Rattle.engine_facts.specs.Seen.{Run, seen}
 use Rattle.dbg_engine.specs.EngineInside.{run_of}
-use Rattle.dbg_engine.specs.Viewing.{own_views}
-use Rattle.dbg_engine.proofs.Commanding.{numbers_room}
-use Rattle.dbg_engine.proofs.Viewing.{sees, views_few}
+use Rattle.engine_moves.specs.Viewing.{own_views}
+use Rattle.engine_moves.proofs.Commanding.{numbers_room}
+use Rattle.engine_moves.proofs.Viewing.{sees, views_few}
 use Rattle.dbg_engine.proofs.engine.Engine.answer_to.Goals as goal
 
 pub answer_line-requires-clause-few : goal.answer_line-requires-clause-few

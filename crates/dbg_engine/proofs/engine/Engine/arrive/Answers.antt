@@ -1,11 +1,11 @@
 use Rattle.std.proofs.Common.{refl, sym, ap, ◌∙◌, subst}
-use Rattle.dbg_engine.specs.declared.moving.Turned.{Turned}
+use Rattle.engine_moves.specs.declared.moving.Turned.{Turned}
 use Rattle.engine_facts.specs.declared.mind.Mind.{Mind}
-use Rattle.dbg_engine.specs.Calls.{Turns}
+use Rattle.engine_moves.specs.Calls.{Turns}
 use Rattle.dbg_model.specs.State.{State}
 use Rattle.dbg_model.specs.Watches.{risen}
-use Rattle.dbg_engine.proofs.Arrivals.{stopped_turns}
-use Rattle.dbg_engine.proofs.Rows.{halts_behind}
+use Rattle.engine_moves.proofs.Arrivals.{stopped_turns}
+use Rattle.engine_moves.proofs.Rows.{halts_behind}
 use Rattle.dbg_engine.proofs.engine.Engine.arrive.Goals as goal
 
 pub returns-clause-turns : goal.returns-clause-turns

@@ -10,14 +10,15 @@ use Rattle.engine_facts.specs.declared.mind.Mind.{Mind}
 use Rattle.engine_facts.specs.Seen.{Run, seen}
 use Rattle.engine_facts.specs.Facts.{Facts}
 use Rattle.engine_facts.proofs.Breaking.{are_planted}
-use Rattle.dbg_engine.specs.Calls.{Lines}
+use Rattle.engine_moves.specs.Calls.{Lines}
 use Rattle.dbg_answers.specs.Answer.{change_of}
-use Rattle.dbg_engine.specs.Changing.{Makes}
+use Rattle.engine_moves.specs.Changing.{Makes}
 use Rattle.dbg_engine.specs.EngineInside.{run_of}
-use Rattle.dbg_engine.specs.Resuming.{minds_after}
-use Rattle.dbg_engine.proofs.Commanding.{applies, done_line, noted_low, numbers_room, watchable}
-use Rattle.dbg_engine.proofs.Holds.{Moved}
-use Rattle.dbg_engine.proofs.Rewaits.{rewaits, text_place, with_table}
+use Rattle.engine_moves.specs.Resuming.{minds_after}
+use Rattle.engine_moves.proofs.Commanding.{done_line, noted_low, numbers_room}
+use Rattle.dbg_engine.proofs.Applying.{applies, watchable}
+use Rattle.engine_moves.proofs.Holds.{Moved}
+use Rattle.engine_moves.proofs.Rewaits.{rewaits, text_place, with_table}
 use Rattle.dbg_engine.proofs.engine.Engine.change.Goals as goal
 use Rattle.dbg_engine.proofs.engine.Engine.change.Goals.{After-self-5-1}
 

@@ -3,10 +3,10 @@ use Rattle.std.specs.Prelude.{slice_get, vec_len, vec_capacity}
 use Rattle.std.proofs.lemmas.Option.{slice_get_within}
 use Rattle.hart_machine.specs.Slices.{TakesSlice}
 use Rattle.engine_facts.specs.Seen.{Run}
-use Rattle.dbg_engine.specs.Several.{lengthened_by}
+use Rattle.engine_moves.specs.Several.{lengthened_by}
 use Rattle.dbg_engine.specs.EngineInside.{run_of}
-use Rattle.dbg_engine.proofs.Aheads.{small_of}
-use Rattle.dbg_engine.proofs.Taking.{taken_at, taken_to}
+use Rattle.engine_moves.proofs.Aheads.{small_of}
+use Rattle.engine_moves.proofs.Taking.{taken_at, taken_to}
 use Rattle.dbg_engine.proofs.engine.Engine.commit.Goals as goal
 
 pub note_runs-requires-clause-last : goal.note_runs-requires-clause-last

@@ -4,9 +4,9 @@ use Rattle.step_over.specs.declared.phase.Phase.TheVariants as phase
 use Rattle.dbg_model.specs.Judging.{is_due}
 use Rattle.engine_facts.specs.Minds.{is_active}
 use Rattle.engine_facts.specs.Seen.{Run}
-use Rattle.dbg_engine.specs.Rows.{row_idle}
-use Rattle.dbg_engine.proofs.Holds.{unheld}
-use Rattle.dbg_engine.proofs.Rows.{row_arrives, row_steps, row_idles}
+use Rattle.engine_moves.specs.Rows.{row_idle}
+use Rattle.engine_moves.proofs.Holds.{unheld}
+use Rattle.engine_moves.proofs.Rows.{row_arrives, row_steps, row_idles}
 use Rattle.dbg_engine.proofs.engine.Engine.go_on.Goals as goal
 
 pub returns-then-is_due-clause-first : goal.returns-then-is_due-clause-first

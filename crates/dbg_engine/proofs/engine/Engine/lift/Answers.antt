@@ -6,9 +6,9 @@ use Rattle.engine_facts.specs.declared.mind.Mind.{Mind}
 use Rattle.engine_facts.specs.Minds.{with_phase}
 use Rattle.dbg_model.specs.State.{is_off}
 use Rattle.engine_facts.specs.Seen.{Run}
-use Rattle.dbg_engine.specs.Calls.{AtPlanted, Lifts}
+use Rattle.engine_moves.specs.Calls.{AtPlanted, Lifts}
 use Rattle.dbg_engine.specs.EngineInside.{run_of}
-use Rattle.dbg_engine.proofs.Holds.{Moved, lifted, planted_shown}
+use Rattle.engine_moves.proofs.Holds.{Moved, lifted, planted_shown}
 use Rattle.dbg_engine.proofs.engine.Engine.lift.Goals as goal
 
 pub repatch-requires-clause-planted : goal.repatch-requires-clause-planted

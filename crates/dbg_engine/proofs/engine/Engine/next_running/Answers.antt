@@ -1,6 +1,6 @@
 use Rattle.std.proofs.Common.{ap, ◌∙◌}
 use Rattle.engine_facts.specs.Seen.{Run}
-use Rattle.dbg_engine.proofs.Picks.{next_by}
+use Rattle.engine_moves.proofs.Picks.{next_by}
 use Rattle.dbg_engine.proofs.engine.Engine.next_running.Goals as goal
 
 pub returns-in-None : goal.returns-in-None

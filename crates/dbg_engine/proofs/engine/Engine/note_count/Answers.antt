@@ -12,10 +12,10 @@ use Rattle.dbg_engine.specs.EngineInside.{run_of}
 use Rattle.std.proofs.lemmas.Option.{slice_get_within}
 use Rattle.engine_facts.specs.Facts.{wanted}
 use Rattle.engine_facts.specs.Tables.{ArePlanted}
-use Rattle.dbg_engine.specs.Changing.{wants_by}
-use Rattle.dbg_engine.specs.Calls.{Counts, Of, DueIs}
-use Rattle.dbg_engine.proofs.Holds.{Moved, Settles, counted, planted_shown, wanted_text}
-use Rattle.dbg_engine.proofs.Rewaits.{rewaits, same_waits, text_place, with_table}
+use Rattle.engine_moves.specs.Changing.{wants_by}
+use Rattle.engine_moves.specs.Calls.{Counts, Of, DueIs}
+use Rattle.engine_moves.proofs.Holds.{Moved, Settles, counted, planted_shown, wanted_text}
+use Rattle.engine_moves.proofs.Rewaits.{rewaits, same_waits, text_place, with_table}
 use Rattle.dbg_engine.proofs.engine.Engine.note_count.Goals as goal
 
 pub settle-requires : goal.settle-requires

@@ -9,9 +9,9 @@ use Rattle.engine_facts.specs.Facts.{other_holder}
 use Rattle.engine_facts.proofs.Breaking.{are_planted}
 use Rattle.dbg_engine.specs.EngineInside.{run_of}
 use Rattle.dbg_model.specs.declared.entry.Why.TheVariants.{Fault}
-use Rattle.dbg_engine.specs.Calls.{Halts, Undue, TrapsAt}
-use Rattle.dbg_engine.proofs.Holds.{Moved, faulted}
-use Rattle.dbg_engine.proofs.Rewaits.{rewaits, text_place, with_table}
+use Rattle.engine_moves.specs.Calls.{Halts, Undue, TrapsAt}
+use Rattle.engine_moves.proofs.Holds.{Moved, faulted}
+use Rattle.engine_moves.proofs.Rewaits.{rewaits, text_place, with_table}
 use Rattle.dbg_engine.proofs.engine.Engine.note_fault.Goals as goal
 
 pub rewait-requires-clause-few : goal.rewait-requires-clause-few

@@ -8,9 +8,9 @@ use Rattle.engine_facts.specs.Seen.{Run, seen}
 use Rattle.engine_facts.specs.Facts.{other_holder}
 use Rattle.engine_facts.proofs.Breaking.{are_planted}
 use Rattle.dbg_engine.specs.EngineInside.{run_of}
-use Rattle.dbg_engine.specs.Calls.{Interrupts, Undue}
-use Rattle.dbg_engine.proofs.Holds.{Moved, interrupted}
-use Rattle.dbg_engine.proofs.Rewaits.{rewaits, text_place, with_table}
+use Rattle.engine_moves.specs.Calls.{Interrupts, Undue}
+use Rattle.engine_moves.proofs.Holds.{Moved, interrupted}
+use Rattle.engine_moves.proofs.Rewaits.{rewaits, text_place, with_table}
 use Rattle.dbg_engine.proofs.engine.Engine.note_interrupt.Goals as goal
 
 pub rewait-requires-clause-few : goal.rewait-requires-clause-few

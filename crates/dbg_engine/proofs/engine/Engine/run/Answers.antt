@@ -2,9 +2,9 @@ use Rattle.std.proofs.Common.{◌-◌, sym, ap, ◌∙◌, subst, arith}
 use Rattle.hart_machine.specs.Patched.{Patched}
 use Rattle.engine_facts.specs.Facts.{Facts}
 use Rattle.std.specs.Prelude.{vec_len, vec_capacity}
-use Rattle.dbg_engine.specs.Several.{lengthened_by}
+use Rattle.engine_moves.specs.Several.{lengthened_by}
 use Rattle.dbg_engine.specs.EngineInside.{run_of}
-use Rattle.dbg_engine.proofs.Aheads.{gone_to, none_gone, small_of, turned_at}
+use Rattle.engine_moves.proofs.Aheads.{gone_to, none_gone, small_of, turned_at}
 use Rattle.dbg_engine.proofs.engine.Engine.run.Goals as goal
 
 pub note_runs-requires-clause-last : goal.note_runs-requires-clause-last

@@ -4,7 +4,7 @@ use Rattle.engine_facts.specs.declared.mind.Activity.TheVariants as activity
 use Rattle.engine_facts.specs.Minds.{is_before}
 use Rattle.engine_facts.specs.Seen.{Run, seen}
 use Rattle.engine_facts.specs.Facts.{Sound, other_holder}
-use Rattle.dbg_engine.proofs.Rows.{row_waits, row_finishes}
+use Rattle.engine_moves.proofs.Rows.{row_waits, row_finishes}
 use Rattle.dbg_engine.proofs.engine.Engine.turn.Goals as goal
 
 pub returns-in-Some-clause-first : goal.returns-in-Some-clause-first

@@ -5,11 +5,11 @@ use Rattle.dbg_model.specs.Outcome.{pokes}
 use Rattle.dbg_model.specs.declared.entry.Entry.{Entry}
 use Rattle.dbg_model.specs.declared.entry.Entry.TheVariants.{Poked}
 use Rattle.engine_facts.specs.Seen.{Run, seen}
-use Rattle.dbg_engine.specs.Calls.{Lines}
-use Rattle.dbg_engine.specs.Changing.{Makes}
+use Rattle.engine_moves.specs.Calls.{Lines}
+use Rattle.engine_moves.specs.Changing.{Makes}
 use Rattle.dbg_engine.specs.EngineInside.{run_of}
-use Rattle.dbg_engine.proofs.Commanding.{can_poke, wrote_line, written_run}
-use Rattle.dbg_engine.proofs.Holds.{Moved}
+use Rattle.engine_moves.proofs.Commanding.{can_poke, wrote_line, written_run}
+use Rattle.engine_moves.proofs.Holds.{Moved}
 use Rattle.dbg_engine.proofs.engine.Engine.write.Goals as goal
 use Rattle.dbg_engine.proofs.engine.Engine.write.Goals.{After-self-1}
 

@@ -2,9 +2,9 @@ use Rattle.std.proofs.Common.{◌≡◌, ◌<◌, ◌≤◌, ◌∙◌, ap, sym,
 use Rattle.std.specs.Prelude.{Option, None}
 use mathlib.Core.Logic.{inl}
 use Rattle.engine_facts.specs.Seen.{Run}
-use Rattle.dbg_engine.specs.Several.{lengthened_by}
-use Rattle.dbg_engine.specs.Slicing.{CanTake}
-use Rattle.dbg_engine.proofs.Quiet.{ran_quiet}
+use Rattle.engine_moves.specs.Several.{lengthened_by}
+use Rattle.engine_moves.specs.Slicing.{CanTake}
+use Rattle.engine_moves.proofs.Quiet.{ran_quiet}
 use Rattle.dbg_session.specs.declared.status.Status.{Status}
 use Rattle.dbg_session.specs.Ties.{IsTied, session_work}
 use Rattle.dbg_session.specs.Seen.{Seen, work}

@@ -1,6 +1,6 @@
 use Rattle.std.proofs.Common.{◌∙◌, Bool, List, ap, subst, sym}
 use Rattle.std.specs.Prelude.{None, is_some}
-use Rattle.dbg_engine.specs.Steps.{NoneOut}
+use Rattle.engine_moves.specs.Steps.{NoneOut}
 use Rattle.dbg_session.specs.Seen.{Seen}
 use Rattle.dbg_session.specs.Round.{moment}
 use Rattle.dbg_session.proofs.Getting.{gets_on}

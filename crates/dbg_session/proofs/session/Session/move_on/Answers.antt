@@ -1,7 +1,7 @@
 use Rattle.std.proofs.Common.{◌≡◌, ◌<◌, ◌+◌, ◌∙◌, arith, refl, sym, ap, subst, true}
 use Rattle.std.specs.Prelude.{None, Some}
-use Rattle.dbg_engine.specs.Steps.{NoneOut, next_running}
-use Rattle.dbg_engine.proofs.Picks.{next_is, next_of_all}
+use Rattle.engine_moves.specs.Steps.{NoneOut, next_running}
+use Rattle.engine_moves.proofs.Picks.{next_is, next_of_all}
 use Rattle.dbg_session.specs.Seen.{Seen, no_move}
 use Rattle.dbg_session.specs.SessionInside.{seen_of}
 use Rattle.dbg_session.proofs.Passing.{still, turned_less}

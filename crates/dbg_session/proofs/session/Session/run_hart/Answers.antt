@@ -9,7 +9,7 @@ use Rattle.dbg_session.specs.Round.{Moved, moment}
 use Rattle.dbg_session.proofs.Doing.{minds_same}
 use Rattle.dbg_session.proofs.Tying.{counted_same}
 use Rattle.dbg_session.proofs.Several.{ran_on, standing}
-use Rattle.dbg_engine.proofs.Quiet.{turned_quiet}
+use Rattle.engine_moves.proofs.Quiet.{turned_quiet}
 use Rattle.dbg_session.proofs.session.Session.run_hart.Goals as goal
 
 pub invariant_of-self-then-count-gt0 : goal.invariant_of-self-then-count-gt0

@@ -1,7 +1,7 @@
 use Rattle.std.proofs.Common.{◌∙◌, Bool, List, ap, false, suc, subst, sym, ℕ}
 use Rattle.std.specs.Prelude.{Option, None, Some, replicate}
 use Rattle.reg_slices.specs.declared.slice.Job.{Job}
-use Rattle.dbg_engine.specs.Steps.{NoneOut}
+use Rattle.engine_moves.specs.Steps.{NoneOut}
 use Rattle.dbg_session.specs.Round.{Moment, moment}
 use Rattle.dbg_session.specs.Seen.{Seen}
 use Rattle.dbg_session.specs.Crew.{Gives, Reaches}

@@ -1,0 +1,117 @@
+-- A hart that arrives where it stops, or where breakpoints count it.
+use Rattle.std.proofs.Common.{◌≡◌, ℕ, Bool, true, false, cond, List, refl, sym, ap, ◌∙◌, not}
+use Rattle.std.specs.Prelude.{Option, Some, None, is_some, ◌||◌, ◌&&◌, slice_get}
+use Rattle.break_table.specs.Entry.{Entry as BreakEntry}
+use Rattle.break_table.specs.declared.due.CondError.{CondError}
+use Rattle.step_over.specs.declared.phase.Phase.TheVariants as phase
+use Rattle.step_plans.specs.declared.plan.Verdict.{Verdict}
+use Rattle.step_plans.specs.declared.plan.Verdict.TheVariants as verdicts
+use Rattle.dbg_model.specs.declared.entry.Why.{Why}
+use Rattle.dbg_model.specs.declared.entry.Why.TheVariants as whys
+use Rattle.dbg_model.specs.declared.judgement.Judgement.{Judgement}
+use Rattle.dbg_model.specs.declared.watch.Fired.{Fired}
+use Rattle.dbg_model.specs.declared.watch.Watch.{Watch}
+use Rattle.dbg_model.specs.Watches.{risen}
+use Rattle.dbg_model.specs.Breaks.{is_temporary}
+use Rattle.dbg_model.specs.Judging.{is_counted, is_due, is_end}
+use Rattle.dbg_model.specs.State.{State, due}
+use Rattle.engine_facts.specs.declared.mind.Mind.{Mind}
+use Rattle.engine_facts.specs.Moves.{stop_by, stop_of}
+use Rattle.engine_facts.specs.Seen.{Run, seen}
+use Rattle.engine_moves.specs.Calls.{DueIs, Halts, Rephases, StopsBy, Turns}
+use Rattle.engine_moves.specs.Rows.{Row, Counts, Stops, row_due, row_of}
+use Rattle.engine_moves.specs.Steps.{Arrives, IsTurned, stopped_by}
+
+-- ---- what stops it
+
+abbrev watch_of : Option Why → Option Fired
+watch_of (Some (whys.Watch f)) = Some f
+watch_of _ = None
+
+arrives_by : (stop : Option ℕ) (error : Option CondError) (fired : Option Fired) (v : Verdict) (why : Why) → Some why ≡ stop_by stop error fired v → Arrives why
+arrives_by stop error fired v (whys.Break n e) is = tt
+arrives_by stop error fired v (whys.Watch f) is = tt
+arrives_by stop error fired v whys.Stepped is = tt
+arrives_by stop error fired v whys.Finished is = tt
+arrives_by (Some number) error fired v whys.Interrupted is = absurd cc
+arrives_by None error (Some f) v whys.Interrupted is = absurd cc
+arrives_by None error None (verdicts.Go plan) whys.Interrupted is = absurd cc
+arrives_by None error None verdicts.Stepped whys.Interrupted is = absurd cc
+arrives_by None error None verdicts.Finished whys.Interrupted is = absurd cc
+arrives_by (Some number) error fired v (whys.Fault cause) is = absurd cc
+arrives_by None error (Some f) v (whys.Fault cause) is = absurd cc
+arrives_by None error None (verdicts.Go plan) (whys.Fault cause) is = absurd cc
+arrives_by None error None verdicts.Stepped (whys.Fault cause) is = absurd cc
+arrives_by None error None verdicts.Finished (whys.Fault cause) is = absurd cc
+
+-- an arrival stops a hart at a breakpoint, by a watch, or at the end of its plan
+pub arrives : (d : Judgement) (why : Why) → Some why ≡ stop_of d → Arrives why
+arrives d why is = arrives_by d.breaks.stop d.breaks.error d.fired d.verdict why is
+
+watched_by : (stop : Option ℕ) (error : Option CondError) (fired : Option Fired) (v : Verdict) (f : Fired) → Some (whys.Watch f) ≡ stop_by stop error fired v → fired ≡ Some f
+watched_by (Some number) error fired v f is = absurd cc
+watched_by None error (Some g) v f is = ap watch_of (sym is)
+watched_by None error None (verdicts.Go plan) f is = absurd cc
+watched_by None error None verdicts.Stepped f is = absurd cc
+watched_by None error None verdicts.Finished f is = absurd cc
+
+-- the watch that stops a hart fired
+watched : (d : Judgement) (f : Fired) → Some (whys.Watch f) ≡ stop_of d → d.fired ≡ Some f
+watched d f is = watched_by d.breaks.stop d.breaks.error d.fired d.verdict f is
+
+-- it is the same once the hart steps over nothing
+pub stops_behind : (r m : Run) (h : ℕ) (x : Mind) (d : Judgement) (why : Why) → DueIs r h d → Some why ≡ stop_of d → Rephases r m h x phase.Idle None → StopsBy m h why
+stops_behind r m h x d why due_is is u y there =
+    let there' : slice_get (seen r).harts h ≡ Some y = ap (λ (s : State). slice_get s.harts h) (sym u.seen) ∙ there in
+    ap (λ o. stop_of (due o.image (seen m) h y)) u.opening ∙ (ap (λ (s : State). stop_of (due r.opening.image s h y)) u.seen ∙ (ap stop_of (due_is y there') ∙ sym is))
+
+-- ---- what the turn is called
+
+row_by : (why : Why) (bs : List BreakEntry) → Arrives why → row_of (stopped_by why bs) ≡ Stops
+row_by (whys.Break number error) bs a = refl
+row_by (whys.Watch f) bs a = refl
+row_by whys.Stepped bs a = refl
+row_by whys.Finished bs a = refl
+row_by whys.Interrupted bs a = absurd a
+row_by (whys.Fault cause) bs a = absurd a
+
+pub stopped_row : (d : Judgement) (why : Why) (bs : List BreakEntry) (other : Row) → Some why ≡ stop_of d → row_of (stopped_by why bs) ≡ row_due d other
+stopped_row d why bs other is = row_by why bs (arrives d why is) ∙ ap (λ o. cond (is_some o) Stops (cond d.breaks.counts Counts other)) is
+
+-- the watches after the stop of a hart for which this fired
+risen_same : (d : Judgement) (fired : Option Fired) (f : Fired) (old new : List Watch) → d.fired ≡ fired → Some (whys.Watch f) ≡ stop_of d → new ≡ risen fired old → new ≡ risen (Some f) old
+risen_same d fired f old new same is rises = rises ∙ ap (λ o. risen o old) (sym same ∙ watched d f is)
+
+pub stopped_turns : (r n : Run) (h : ℕ) (d : Judgement) (fired : Option Fired) (why : Why) (bs : List BreakEntry) → bs ≡ r.breaks → d.fired ≡ fired → Some why ≡ stop_of d → n.watches ≡ risen fired r.watches → Halts r n h why → Turns (stopped_by why bs) r n h
+stopped_turns r n h d fired (whys.Break number error) bs same due is rises k = (k, ap (λ es. is_temporary es number) same)
+stopped_turns r n h d fired (whys.Watch f) bs same due is rises k = record { halts = k; watches = risen_same d fired f r.watches n.watches due is rises }
+stopped_turns r n h d fired whys.Stepped bs same due is rises k = k
+stopped_turns r n h d fired whys.Finished bs same due is rises k = k
+stopped_turns r n h d fired whys.Interrupted bs same due is rises k = absurd (arrives d whys.Interrupted is)
+stopped_turns r n h d fired (whys.Fault cause) bs same due is rises k = absurd (arrives d (whys.Fault cause) is)
+
+pub stopped_code : (why : Why) (bs : List BreakEntry) → IsTurned (stopped_by why bs)
+stopped_code (whys.Break number error) bs = tt
+stopped_code (whys.Watch f) bs = tt
+stopped_code whys.Stepped bs = tt
+stopped_code whys.Finished bs = tt
+stopped_code whys.Interrupted bs = tt
+stopped_code (whys.Fault cause) bs = tt
+
+-- ---- what only counts it
+
+only_by : (stop : Option ℕ) (counts : Bool) (fired : Option Fired) (v : Verdict) (error : Option CondError) → (is_some stop || (counts || (is_some fired || is_end v))) ≡ true → stop_by stop error fired v ≡ None
+    → (counts ≡ true) × (((not (is_some stop) && not (is_some fired)) && (not (is_end v) && counts)) ≡ true)
+only_by (Some number) counts fired v error some none = cc
+only_by None counts (Some f) v error some none = cc
+only_by None true None (verdicts.Go plan) error some none = (refl, refl)
+only_by None false None (verdicts.Go plan) error some none = cc
+only_by None counts None verdicts.Stepped error some none = cc
+only_by None counts None verdicts.Finished error some none = cc
+
+pub counts_only : (d : Judgement) → is_due d ≡ true → stop_of d ≡ None → (d.breaks.counts ≡ true) × (is_counted d ≡ true)
+counts_only d some none = only_by d.breaks.stop d.breaks.counts d.fired d.verdict d.breaks.error some none
+
+pub counted_row : (d : Judgement) (other : Row) → is_due d ≡ true → stop_of d ≡ None → Counts ≡ row_due d other
+counted_row d other some none =
+    sym (ap (λ o. cond (is_some o) Stops (cond d.breaks.counts Counts other)) none ∙ ap (λ b. cond b Counts other) (counts_only d some none).0)

@@ -1,0 +1,322 @@
+-- What the calls of an engine do.
+use Rattle.std.specs.Prelude.{◌≡◌, ◌<◌, ◌≤◌, ◌+◌, ℕ, true, false, List, [], ◌∷◌, ◌++◌, length, map, Option, Some, None, slice_get, slice_set}
+use Rattle.rv_exec.specs.declared.effect.Cause.{Cause}
+use Rattle.rv_exec.specs.declared.effect.Stepped.{Stepped}
+use Rattle.rv_exec.specs.declared.effect.Stepped.TheVariants as stepped
+use Rattle.data_memory.specs.Ranges.{bytes_at}
+use Rattle.plain_machine.specs.Environment.{Traps}
+use Rattle.plain_machine.specs.Plain.{plain}
+use Rattle.elf32_read.specs.Program.{text_word}
+use Rattle.scratch_slots.specs.Table.{use_at, AllOut}
+use Rattle.step_over.specs.declared.phase.Phase.{Phase}
+use Rattle.step_over.specs.declared.phase.Phase.TheVariants as phase
+use Rattle.hart_machine.specs.Patched.{Patched}
+use Rattle.hart_machine.specs.Stepping.{Steps}
+use Rattle.text_words.specs.Words.{is_planted}
+use Rattle.dbg_model.specs.declared.reply.Reply.{Reply}
+use Rattle.step_plans.specs.declared.plan.Plan.{Plan}
+use Rattle.dbg_model.specs.declared.entry.Entry.{Entry}
+use Rattle.dbg_model.specs.declared.entry.Entry.TheVariants.{Counted, Stopped, Did, Poked}
+use Rattle.dbg_model.specs.declared.entry.Poke.{Poke}
+use Rattle.dbg_model.specs.declared.opening.Opening.{Opening}
+use Rattle.dbg_model.specs.declared.entry.Why.{Why}
+use Rattle.dbg_model.specs.declared.entry.Why.TheVariants.{Break, Interrupted, Fault}
+use Rattle.dbg_model.specs.declared.entry.Why.TheVariants as whys
+use Rattle.dbg_model.specs.Limits.{history}
+use Rattle.dbg_model.specs.Breaks.{is_temporary}
+use Rattle.dbg_model.specs.Watches.{risen}
+use Rattle.dbg_model.specs.declared.watch.Fired.{Fired}
+use Rattle.dbg_model.specs.declared.hart.Hart.{Hart}
+use Rattle.dbg_model.specs.declared.judgement.Judgement.{Judgement}
+use Rattle.dbg_model.specs.Judging.{is_due}
+use Rattle.dbg_model.specs.State.{State, any_leaves, due, is_off}
+use Rattle.dbg_model.specs.Reply.{reply_of, done_by}
+use Rattle.dbg_model.specs.Lawful.{one, one_out, enter, may_go}
+use Rattle.dbg_model.specs.Leaving.{lefts_from, gone, LeaveWith}
+use Rattle.dbg_model.specs.Journals.{lengthened}
+use Rattle.engine_facts.specs.declared.mind.Hold.{Hold}
+use Rattle.engine_facts.specs.declared.mind.Mind.{Mind}
+use Rattle.engine_facts.specs.Minds.{after_step, runs, is_before, with_phase, counted_mind, first_mind}
+use Rattle.engine_facts.specs.Seen.{Run, seen}
+use Rattle.engine_facts.specs.Facts.{other_holder, Planted, Retired, CopiedOver}
+use Rattle.engine_facts.specs.Moves.{AreHome, plan_for, ran_by, stop_of}
+use Rattle.engine_facts.specs.declared.mind.Activity.TheVariants as activity
+use Rattle.engine_moves.specs.Steps.{left_minds}
+use Rattle.engine_moves.specs.Homing.{HomedBy}
+use Rattle.engine_moves.specs.declared.moving.Turned.{Turned}
+use Rattle.engine_moves.specs.declared.moving.Turned.TheVariants as turned
+use Rattle.engine_moves.specs.declared.ending.End.{End}
+use Rattle.engine_moves.specs.declared.ending.End.TheVariants as end
+
+-- a fact of what a hart shows
+abbrev pub Of : Run → ℕ → (Hart → Type 0) → Type 0
+Of r h P = (y : Hart) → slice_get (seen r).harts h ≡ Some y → P y
+
+-- what is judged of a hart
+abbrev pub DueIs : Run → ℕ → Judgement → Type 0
+DueIs r h j = Of r h (λ y. due r.opening.image (seen r) h y ≡ j)
+
+-- the plan with which a hart goes on
+abbrev pub GoesWith : Run → ℕ → Plan → Type 0
+GoesWith r h plan = Of r h (λ y. plan_for r h y ≡ plan)
+
+-- a hart stops where it has arrived, and why
+abbrev pub StopsBy : Run → ℕ → Why → Type 0
+StopsBy r h why = Of r h (λ y. stop_of (due r.opening.image (seen r) h y) ≡ Some why)
+
+-- nothing is due for a hart
+abbrev pub Undue : Run → ℕ → Type 0
+Undue r h = Of r h (λ y. is_due (due r.opening.image (seen r) h y) ≡ false)
+
+-- a running hart with no step over a breakpoint to finish, in a session that goes on, and no patch is lifted for another
+pub record Before (r : Run) (h : ℕ) (x : Mind) : Type 0 where
+  pub may : may_go r.opening (seen r) ≡ true
+  pub at : slice_get r.minds h ≡ Some x
+  pub runs : x.activity ≡ activity.Running
+  pub free : other_holder r.hold h ≡ None
+  pub before : is_before x.phase ≡ true
+
+-- one hart has another phase, and nothing changed that is seen
+pub record Rephases (old new : Run) (h : ℕ) (x : Mind) (p : Phase) (held : Option Hold) : Type 0 where
+  pub journal : new.journal ≡ old.journal
+  pub seen : seen new ≡ seen old
+  pub opening : new.opening ≡ old.opening
+  pub spare : new.spare ≡ old.spare
+  pub minds : new.minds ≡ slice_set old.minds h (with_phase x p)
+  pub hold : new.hold ≡ held
+
+-- a running hart is at a planted word where nothing is due, no interrupt is asked of it, and no patch is lifted for another
+pub record AtPlanted (r : Run) (h : ℕ) (x : Mind) (home : ℕ) : Type 0 where
+  pub may : may_go r.opening (seen r) ≡ true
+  pub at : slice_get r.minds h ≡ Some x
+  pub runs : runs x ≡ true
+  pub idle : x.phase ≡ phase.Idle
+  pub asked : x.asked ≡ false
+  pub free : r.hold ≡ None
+  pub pc : Of r h (λ y. y.regs.pc ≡ home)
+  pub undue : Undue r h
+  pub planted : is_planted r.machine.text home ≡ true
+
+-- the patch at the hart's pc was lifted, since displaced stepping is off or there are no slots
+pub record Lifts (old new : Run) (h : ℕ) : Type 0 where
+  pub mind : Mind
+  pub home : ℕ
+  pub before : AtPlanted old h mind home
+  pub only : 0 < old.opening.settings.slots → is_off old.displaced ≡ true
+  pub rephases : Rephases old new h mind (phase.Lifted home) (Some (record { hart = h; home = home }))
+
+-- the hart entered a slot with a copy of its word
+pub record Copies (old new : Run) (h : ℕ) : Type 0 where
+  pub mind : Mind
+  pub home : ℕ
+  pub slot : ℕ
+  pub word : ℕ
+  pub before : AtPlanted old h mind home
+  pub on : is_off old.displaced ≡ false
+  pub image : text_word old.opening.image home ≡ Some word
+  pub was : use_at old.machine.slots slot ≡ None
+  pub out : use_at new.machine.slots slot ≡ Some (record { hart = h; word = word })
+  pub rephases : Rephases old new h mind (phase.Copied slot home) None
+
+-- all slots are out
+pub record FindsNone (r : Run) (h : ℕ) : Type 0 where
+  pub mind : Mind
+  pub home : ℕ
+  pub before : AtPlanted r h mind home
+  pub on : is_off r.displaced ≡ false
+  pub some : 0 < r.opening.settings.slots
+  pub out : AllOut r.machine.slots
+
+-- the registers of a hart that has executed its copy were put right, and its slot is free
+pub record Fixes (old new : Run) (h : ℕ) : Type 0 where
+  pub mind : Mind
+  pub slot : ℕ
+  pub home : ℕ
+  pub may : may_go old.opening (seen old) ≡ true
+  pub runs : runs mind ≡ true
+  pub at : slice_get old.minds h ≡ Some mind
+  pub landed : mind.phase ≡ phase.Landed slot home
+  pub freed : use_at new.machine.slots slot ≡ None
+  pub rephases : Rephases old new h mind phase.Idle None
+
+-- the patch of a hart that has executed was planted again where a breakpoint stands
+pub record Plants (old new : Run) (h : ℕ) : Type 0 where
+  pub mind : Mind
+  pub home : ℕ
+  pub may : may_go old.opening (seen old) ≡ true
+  pub runs : runs mind ≡ true
+  pub at : slice_get old.minds h ≡ Some mind
+  pub ran : mind.phase ≡ phase.Ran home
+  pub rephases : Rephases old new h mind phase.Idle None
+
+-- one instruction of a hart, which wrote these bytes: one step of the machine
+pub record Runs (s : Stepped) (old new : Run) (h : ℕ) (out : List ℕ) : Type 0 where
+  pub mind : Mind
+  pub at : slice_get old.minds h ≡ Some mind
+  pub before : is_before mind.phase ≡ true
+  pub hart : Hart
+  pub shown : slice_get (seen old).harts h ≡ Some hart
+  pub machine : Patched
+  pub steps : Steps s old.machine h machine
+  -- patches are planted where harts wait then
+  pub patched : new.machine ≡ record machine { text = new.machine.text }
+  pub minds : new.minds ≡ slice_set old.minds h (ran_by old h hart machine.memory mind)
+  pub hold : new.hold ≡ old.hold
+  pub journal : new.journal ≡ lengthened old.journal h
+  pub one : one old.opening h (seen old) ≡ Some (seen new)
+  pub wrote : one_out old.opening h (seen old) ≡ out
+  pub opening : new.opening ≡ old.opening
+
+-- one instruction of a hart by which so many harts left, with this code: one step of the machine, after which those that
+-- leave came home
+pub record Exits (s : Stepped) (old new : Run) (h count code : ℕ) : Type 0 where
+  pub mind : Mind
+  pub at : slice_get old.minds h ≡ Some mind
+  pub before : is_before mind.phase ≡ true
+  pub hart : Hart
+  pub shown : slice_get (seen old).harts h ≡ Some hart
+  pub machine : Patched
+  pub steps : Steps s old.machine h machine
+  pub home : Patched
+  pub homed : HomedBy s machine home old.hold new.hold old.breaks old.waits h (after_step mind.phase) (slice_set old.minds h (ran_by old h hart machine.memory mind))
+  pub patched : new.machine ≡ record home { text = new.machine.text }
+  pub minds : new.minds ≡ left_minds s h (ran_by old h hart machine.memory mind) old.minds
+  pub between : State
+  pub codes : LeaveWith code between.harts
+  pub some : any_leaves between.harts ≡ true
+  pub one : one old.opening h (seen old) ≡ Some between
+  pub wrote : one_out old.opening h (seen old) ≡ []
+  pub journal : new.journal ≡ lengthened old.journal h ++ lefts_from 0 between.harts
+  pub harts : (seen new).harts ≡ map gone between.harts
+  pub counted : length (lefts_from 0 between.harts) ≡ count
+  pub retired : new.retired ≡ old.retired + 1
+  pub opening : new.opening ≡ old.opening
+
+-- a hart stopped: it steps over nothing any more, and no patch is lifted
+pub record Halts (old new : Run) (h : ℕ) (why : Why) : Type 0 where
+  pub minds : new.minds ≡ slice_set old.minds h first_mind
+  pub hold : new.hold ≡ None
+  pub journal : new.journal ≡ old.journal ++ Stopped h why ∷ []
+  pub enters : enter old.opening (seen old) (Stopped h why) ≡ Some (seen new)
+  pub opening : new.opening ≡ old.opening
+
+-- a hart was counted by the breakpoints that it has come to, and goes on
+pub record Counts (old new : Run) (h : ℕ) : Type 0 where
+  pub mind : Mind
+  pub at : slice_get old.minds h ≡ Some mind
+  pub fresh : mind.fresh ≡ true
+  pub hart : Hart
+  pub shown : slice_get (seen old).harts h ≡ Some hart
+  pub minds : new.minds ≡ slice_set old.minds h (counted_mind (plan_for old h hart) mind)
+  pub hold : new.hold ≡ old.hold
+  pub journal : new.journal ≡ old.journal ++ Counted h ∷ []
+  pub enters : enter old.opening (seen old) (Counted h) ≡ Some (seen new)
+  pub opening : new.opening ≡ old.opening
+
+-- a hart stopped by a fault
+abbrev pub Faults : Run → Run → ℕ → Cause → Type 0
+Faults old new h cause = Halts old new h (Fault cause)
+
+-- a hart that was interrupted stopped where it steps over nothing
+pub record Interrupts (old new : Run) (h : ℕ) : Type 0 where
+  pub mind : Mind
+  pub at : slice_get old.minds h ≡ Some mind
+  pub idle : mind.phase ≡ phase.Idle
+  pub asked : mind.asked ≡ true
+  pub halts : Halts old new h Interrupted
+
+-- a hart stopped by the watch that its instruction made fire, whose times rose
+pub record Triggers (old new : Run) (h : ℕ) (fired : Fired) : Type 0 where
+  pub halts : Halts old new h (whys.Watch fired)
+  pub watches : new.watches ≡ risen (Some fired) old.watches
+
+-- what a turn did
+abbrev pub Turns : Turned → Run → Run → ℕ → Type 0
+Turns turned.Over old new h = (new ≡ old) × (may_go old.opening (seen old) ≡ false)
+Turns turned.NotRunning old new h = (new ≡ old) × (may_go old.opening (seen old) ≡ true) × ((x : Mind) → slice_get old.minds h ≡ Some x → runs x ≡ false)
+Turns (turned.Held by) old new h = (new ≡ old) × (may_go old.opening (seen old) ≡ true) × ((x : Mind) → slice_get old.minds h ≡ Some x → runs x ≡ true) × (other_holder old.hold h ≡ Some by)
+Turns turned.Fixed old new h = Fixes old new h
+Turns turned.Planted old new h = Plants old new h
+Turns turned.Copied old new h = Copies old new h
+Turns turned.NoSlot old new h = (new ≡ old) × FindsNone old h
+Turns turned.Lifted old new h = Lifts old new h
+Turns turned.Ran old new h = Runs stepped.Ran old new h []
+Turns (turned.Wrote addr len) old new h = (out : List ℕ) × (0 < len) × (bytes_at new.machine.memory addr len ≡ Some out) × Runs (stepped.Wrote addr len) old new h out
+Turns (turned.Left code) old new h = Exits (stepped.HartExit code) old new h 1 code
+Turns (turned.AllLeft code count) old new h = Exits (stepped.AllExit code) old new h count code
+Turns (turned.Stopped cause) old new h = Faults old new h cause
+Turns turned.Interrupted old new h = Interrupts old new h
+Turns turned.Counted old new h = Counts old new h
+Turns (turned.Arrived number temporary error) old new h = Halts old new h (Break number error) × (temporary ≡ is_temporary old.breaks number)
+Turns (turned.Triggered fired) old new h = Triggers old new h fired
+Turns turned.Stepped old new h = Halts old new h whys.Stepped
+Turns turned.Finished old new h = Halts old new h whys.Finished
+
+-- the hart's instruction traps
+abbrev pub TrapsAt : Run → ℕ → Cause → Type 0
+TrapsAt r h cause = Of r h (λ y. plain r.opening.image y.regs (seen r).memory ≡ Traps cause)
+
+-- what an instruction did; at a trap nothing changed
+abbrev pub Executes : Turned → Run → Run → ℕ → Type 0
+Executes turned.Over old new h = ⊥
+Executes turned.NotRunning old new h = ⊥
+Executes (turned.Held by) old new h = ⊥
+Executes turned.Fixed old new h = ⊥
+Executes turned.Planted old new h = ⊥
+Executes turned.Copied old new h = ⊥
+Executes turned.NoSlot old new h = ⊥
+Executes turned.Lifted old new h = ⊥
+Executes turned.Ran old new h = Turns turned.Ran old new h
+Executes (turned.Wrote addr len) old new h = Turns (turned.Wrote addr len) old new h
+Executes (turned.Left code) old new h = Turns (turned.Left code) old new h
+Executes (turned.AllLeft code count) old new h = Turns (turned.AllLeft code count) old new h
+Executes (turned.Stopped cause) old new h = (new ≡ old) × TrapsAt old h cause
+Executes turned.Interrupted old new h = ⊥
+Executes turned.Counted old new h = ⊥
+Executes (turned.Arrived number temporary error) old new h = ⊥
+Executes (turned.Triggered fired) old new h = ⊥
+Executes turned.Stepped old new h = ⊥
+Executes turned.Finished old new h = ⊥
+
+-- what a line asks to be written, as an entry
+abbrev pub pokes_of : Option Poke → List Entry
+pokes_of None = []
+pokes_of (Some p) = Poked p ∷ []
+
+-- the state after that was written
+abbrev pub poked_after : Opening → State → Option Poke → Option State
+poked_after o s None = Some s
+poked_after o s (Some p) = enter o s (Poked p)
+
+-- the state after a line and after what it asks to be written, where it leaves this state
+abbrev pub settled : Opening → State → Option State
+settled o s = poked_after o s s.pending
+
+-- a line was done, and what it asks to be written was written
+pub record Does (old new : Run) (line : List ℕ) (reply : Reply) : Type 0 where
+  pub answers : reply ≡ reply_of old.opening (seen old) line
+  pub journal : new.journal ≡ old.journal ++ Did line ∷ pokes_of (done_by old.opening (seen old) line).pending
+  pub seen : settled old.opening (done_by old.opening (seen old) line) ≡ Some (seen new)
+  pub opening : new.opening ≡ old.opening
+
+-- the same, whatever is answered to it
+pub record Lines (old new : Run) (line : List ℕ) : Type 0 where
+  pub journal : new.journal ≡ old.journal ++ Did line ∷ pokes_of (done_by old.opening (seen old) line).pending
+  pub seen : settled old.opening (done_by old.opening (seen old) line) ≡ Some (seen new)
+  pub opening : new.opening ≡ old.opening
+
+-- why an engine is over: the first of these that holds
+abbrev pub OverBy : Option End → Run → Type 0
+OverBy None r = (r.retired < r.opening.settings.budget) × (r.noted < history) × (r.exited ≡ false)
+OverBy (Some end.Budget) r = r.opening.settings.budget ≤ r.retired
+OverBy (Some end.History) r = (r.retired < r.opening.settings.budget) × (history ≤ r.noted)
+OverBy (Some end.Exit) r = (r.retired < r.opening.settings.budget) × (r.noted < history) × (r.exited ≡ true)
+
+-- what is left at the end: each hart is home, no slot is out and no patch is lifted
+pub record Closes (r : Run) (m : Patched) : Type 0 where
+  pub cores : AreHome r.opening.image r.machine.cores r.minds m.cores
+  pub slots : (slot : ℕ) → use_at m.slots slot ≡ None
+  pub memory : m.memory ≡ r.machine.memory
+  pub text : Planted r.opening.image m.text (record { entries = r.breaks; waits = []; hold = None })
+  pub retired : Retired m.cores r.journal
+  pub copied : CopiedOver r.opening.settings.slots m.cores (seen r)

@@ -1,0 +1,28 @@
+-- What a line changes, and the words that are planted for it.
+use Rattle.std.specs.Prelude.{◌≡◌, ◌<◌, ◌^◌, ℕ, List, Option, None}
+use Rattle.hart_machine.specs.Patched.{Patched}
+use Rattle.break_table.specs.Table.{Table}
+use Rattle.dbg_model.specs.Outcome.{Change}
+use Rattle.dbg_model.specs.Reply.{answer_of}
+use Rattle.engine_facts.specs.declared.mind.Hold.{Hold}
+use Rattle.engine_facts.specs.Facts.{Wants}
+use Rattle.engine_facts.specs.Seen.{Run, seen}
+use Rattle.engine_facts.specs.Tables.{ArePlanted}
+
+-- the line makes this change
+abbrev pub Makes : Run → List ℕ → Change → Type 0
+Makes r line c = (answer_of r.opening (seen r) line).outcome.change ≡ c
+
+-- what patches are wanted for by a table, with this one lifted
+abbrev pub wants_by : Table → Option Hold → Wants
+wants_by t hold = record { entries = t.entries; waits = t.waits; hold = hold }
+
+-- a hart doesn't wait
+abbrev pub no_wait : Option ℕ
+no_wait = None
+
+-- the machine's patches are those that are wanted now, and nothing else changed
+pub record Retabled (old new : Patched) (w : Wants) : Type 0 where
+  pub planted : ArePlanted new.text w
+  pub words : new.text.words ≡ old.text.words
+  pub rest : new ≡ record old { text = new.text }

@@ -1,0 +1,13 @@
+pub mod Steps
+pub mod Rows
+pub mod Calls
+pub mod Several
+pub mod Slicing
+pub mod Going
+pub mod Marks
+pub mod Viewing
+pub mod Resuming
+pub mod Homing
+pub mod Writing
+pub mod Watching
+pub mod Changing

@@ -1,0 +1,84 @@
+-- The table of moves: what a hart does next is the first row that fits.
+use Rattle.std.specs.Prelude.{ℕ, Bool, Option, Some, None, is_some, slice_get, if◌then◌else◌}
+use Rattle.text_words.specs.Words.{is_planted}
+use Rattle.dbg_model.specs.declared.hart.Hart.{Hart}
+use Rattle.dbg_model.specs.declared.judgement.Judgement.{Judgement}
+use Rattle.dbg_model.specs.State.{due}
+use Rattle.dbg_model.specs.Lawful.{may_go}
+use Rattle.engine_facts.specs.declared.mind.Mind.{Mind}
+use Rattle.engine_facts.specs.Minds.{runs, is_before}
+use Rattle.engine_facts.specs.Movers.{is_idle}
+use Rattle.engine_facts.specs.Moves.{stop_of}
+use Rattle.engine_facts.specs.Seen.{Run, seen}
+use Rattle.engine_facts.specs.Facts.{other_holder}
+use Rattle.engine_moves.specs.declared.moving.Turned.{Turned}
+use Rattle.engine_moves.specs.declared.moving.Turned.TheVariants as turned
+
+-- the rows, in their order
+pub data Row : Type 0 where
+  -- the session is over
+  Over : Row
+  -- the hart doesn't run
+  Rests : Row
+  -- the patch of a breakpoint is lifted for another hart
+  Waits : (by : ℕ) → Row
+  -- it has executed a copy, or where its patch was lifted, and that step over a breakpoint is finished
+  Finishes : Row
+  -- it has come to a breakpoint that stops it, its instruction made a watch fire, or its plan is at its end
+  Stops : Row
+  -- it has come to breakpoints that only count it
+  Counts : Row
+  -- it steps over nothing, and an interrupt was asked of it
+  Interrupts : Row
+  -- it is at a planted word, and begins to step over it
+  Begins : Row
+  -- it executes one instruction
+  Executes : Row
+
+-- the row of an answer
+abbrev pub row_of : Turned → Row
+row_of turned.Over = Over
+row_of turned.NotRunning = Rests
+row_of (turned.Held by) = Waits by
+row_of turned.Fixed = Finishes
+row_of turned.Planted = Finishes
+row_of (turned.Arrived number temporary error) = Stops
+row_of (turned.Triggered fired) = Stops
+row_of turned.Stepped = Stops
+row_of turned.Finished = Stops
+row_of turned.Counted = Counts
+row_of turned.Interrupted = Interrupts
+row_of turned.Copied = Begins
+row_of turned.Lifted = Begins
+row_of turned.NoSlot = Begins
+row_of turned.Ran = Executes
+row_of (turned.Wrote addr len) = Executes
+row_of (turned.Left code) = Executes
+row_of (turned.AllLeft code count) = Executes
+row_of (turned.Stopped cause) = Executes
+
+-- breakpoints, watches and the plan come before the rest
+abbrev pub row_due : Judgement → Row → Row
+row_due j rest = if is_some (stop_of j) then Stops else if j.breaks.counts then Counts else rest
+
+-- of a hart that steps over nothing and for which nothing is due
+abbrev pub row_idle : (asked planted : Bool) → Row
+row_idle asked planted = if asked then Interrupts else if planted then Begins else Executes
+
+-- of a hart with no step over a breakpoint to finish
+abbrev pub row_before : Run → ℕ → Mind → Hart → Row
+row_before r h x y = row_due (due r.opening.image (seen r) h y) (if is_idle x.phase then row_idle x.asked (is_planted r.machine.text y.regs.pc) else Executes)
+
+-- of a running hart, where this other one holds it up
+abbrev pub row_running : Run → ℕ → Mind → Hart → Option ℕ → Row
+row_running r h x y (Some by) = Waits by
+row_running r h x y None = if is_before x.phase then row_before r h x y else Finishes
+
+abbrev pub row_hart : Run → ℕ → Option Mind → Option Hart → Row
+row_hart r h (Some x) (Some y) = if runs x then row_running r h x y (other_holder r.hold h) else Rests
+row_hart r h (Some x) None = Rests
+row_hart r h None y = Rests
+
+-- the first row that fits hart h
+abbrev pub row_at : Run → ℕ → Row
+row_at r h = if may_go r.opening (seen r) then row_hart r h (slice_get r.minds h) (slice_get (seen r).harts h) else Over

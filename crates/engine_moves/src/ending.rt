@@ -1,0 +1,12 @@
+// The ends of a session.
+
+/// Why a session is over.
+#[derive(Clone, Copy, Debug, PartialEq, Eq)]
+pub enum End {
+    /// The retired instructions number the budget.
+    Budget,
+    /// The journal has the most entries other than `Ran`.
+    History,
+    /// A line ended it.
+    Exit,
+}
