@@ -12,6 +12,20 @@ ghost use Rattle.engine_facts.specs.Facts.{InText, OneLifted};
 ghost use Rattle.engine_facts.specs.Seen.{seen};
 ghost use Rattle.engine_moves.specs.Steps.{next_running};
 
+// What the harts of an engine wait by. The parts are borrowed one by one, so that its machine and its table may change
+// meanwhile.
+macro_rules! waiting_of {
+    ($engine:expr) => {
+        Waiting {
+            image: &$engine.opening.image,
+            minds: $engine.minds.as_slice(),
+            hold: $engine.hold,
+        }
+    };
+}
+
+pub(crate) use waiting_of;
+
 mod command;
 mod notes;
 mod run;

@@ -49,7 +49,6 @@ use Rattle.engine_facts.proofs.Holding.{core_at, get_within}
 use Rattle.engine_facts.proofs.Stepping.{fact_of}
 use Rattle.engine_facts.proofs.Writing.{Writes, asking, writes_register, writes_bytes}
 use Rattle.engine_moves.specs.Changing.{Makes, Retabled, wants_by}
-use Rattle.dbg_answers.specs.Table.{changed_table}
 use Rattle.engine_moves.specs.Calls.{Lines, pokes_of, poked_after}
 use Rattle.engine_moves.specs.Writing.{CanPoke, Pokes}
 use Rattle.engine_moves.specs.Resuming.{minds_after}
@@ -245,7 +244,7 @@ wrote_line r spare line p j m f may is journal w =
 pub done_line : (r : Run) (spare : ℕ) (line : List ℕ) (c : Change) (j : List Entry) (m : Patched) (xs : List Mind) (selected : ℕ) (d : Displaced) (exited : Bool) (watches : List Watch) (old new : Table) → Sound r → may_do r.opening (seen r) line ≡ true → Makes r line c → pending_after None c ≡ None
     → r.breaks ≡ old.entries → r.given ≡ old.given → r.bounds ≡ old.text → r.waits ≡ old.waits
     → j ≡ r.journal ++ Did line ∷ [] → xs ≡ minds_after r.minds c → selected ≡ selected_after r.selected c → d ≡ displaced_after r.displaced c → exited ≡ exited_after r.exited c
-    → new ≡ changed_table old c → watches ≡ watches_after r.watches old.given c → Retabled r.machine m (wants_by new r.hold)
+    → new ≡ record old { entries = breaks_after old.entries old.given c; given = given_after old.given c } → watches ≡ watches_after r.watches old.given c → Retabled r.machine m (wants_by new r.hold)
     → LinedTo r (record r { journal = j; spare = spare; machine = m; minds = xs; watches = watches; breaks = new.entries; given = new.given; bounds = new.text; waits = new.waits; selected = selected; displaced = d; noted = r.noted + 1; exited = exited }) line
 done_line r spare line c j m xs selected d exited watches old new f may is none breaks given bounds waits same minds chosen set ended table watched w =
     let N : List Watch → List Entry → Patched → List Mind → ℕ → Displaced → Bool → List BreakEntry → ℕ → List Span → List (Option ℕ) → Type 0 =

@@ -4,7 +4,7 @@ ghost use Rattle.hart_machine.specs.Running.{HasStopped};
 ghost use Rattle.engine_moves.specs.Going.{Goes, Passes, is_kept};
 ghost use Rattle.engine_moves.specs.Watching.{WritesNear};
 
-use crate::arrivals::due_at;
+use crate::hits::due_at;
 use crate::watching::is_near;
 use break_table::BreakTable;
 use dbg_model::WatchList;

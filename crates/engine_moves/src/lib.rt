@@ -1,9 +1,9 @@
 //! The moves of the harts, over the parts of an engine: machine, what is kept of the harts, breakpoints, journal.
 #![tactic(auto)]
 
-pub mod arrivals;
 pub mod ending;
 pub mod going;
+pub mod hits;
 pub mod homing;
 pub mod journal;
 pub mod laws;

@@ -25,20 +25,6 @@ pub struct Waiting<'a> {
     pub hold: Option<Hold>,
 }
 
-/// What the harts of an engine wait by. The parts are borrowed one by one, so that its machine and its table may change
-/// meanwhile.
-macro_rules! waiting_of {
-    ($engine:expr) => {
-        Waiting {
-            image: &$engine.opening.image,
-            minds: $engine.minds.as_slice(),
-            hold: $engine.hold,
-        }
-    };
-}
-
-pub(crate) use waiting_of;
-
 // The address that a call returns to for which a plan waits.
 fn return_of(plan: Plan) -> Option<u32>
     ensures { result ≡ return_of plan }

@@ -14,13 +14,14 @@ ghost use Rattle.dbg_engine.specs.Changing.{lacks_memory, HasRead};
 
 use super::Engine;
 use crate::breaking::change_table;
+use crate::engine::waiting_of;
 use crate::resuming::change_threads;
 use dbg_answers::{Debuggee, Effect, LineAnswer, answer_line, waits};
 use dbg_model::{Entry, Poke, Reply};
 use dbg_traits::NoMemory;
 use engine_moves::journal::{did, note};
 use engine_moves::views::views;
-use engine_moves::waiting::{Waiting, rewait, waiting_of};
+use engine_moves::waiting::{Waiting, rewait};
 use engine_moves::writing::write;
 use mi_commands::{CommandLine, Displaced, Refusal, command_of};
 use mi_input::InputFault;

@@ -4,13 +4,14 @@ ghost use Rattle.dbg_model.specs.Judging.{is_counted};
 ghost use Rattle.dbg_model.specs.Watches.{risen};
 
 use super::Engine;
+use crate::engine::waiting_of;
 use dbg_model::{Entry, Judgement, Why, plan_after};
 use engine_facts::{Mind, Phase};
-use engine_moves::arrivals::settle;
+use engine_moves::hits::settle;
 use engine_moves::journal::note;
 use engine_moves::minds::{STOPPED, counted_mind};
 use engine_moves::patching::{repatch, wants};
-use engine_moves::waiting::{Waiting, changes, rewait, waiting_of};
+use engine_moves::waiting::{Waiting, changes, rewait};
 use rv_exec::Cause;
 
 impl Engine {

@@ -8,14 +8,15 @@ ghost use Rattle.engine_moves.specs.Steps.{IsTurned, leaves};
 
 use super::Engine;
 use crate::Turned;
+use crate::engine::waiting_of;
 use dbg_model::{Course, Judge, Judgement, Why, noted_with, plan_after};
 use engine_facts::{Activity, Mind, Phase};
-use engine_moves::arrivals::is_temporary;
+use engine_moves::hits::is_temporary;
 use engine_moves::homing::{Leaving, go_home_at_exit, landed_pc};
 use engine_moves::minds::{other_holder, with_phase};
 use engine_moves::moving::{apply, exits_of, ran_mind};
 use engine_moves::view::ShownHart;
-use engine_moves::waiting::{Waiting, changes, rewait, waiting_of};
+use engine_moves::waiting::{Waiting, changes, rewait};
 use engine_moves::watching::step_watched;
 use rv_exec::Stepped;
 use step_plans::{Plan, Verdict};

@@ -5,7 +5,7 @@ use Rattle.rv_exec.specs.Registers.{set_pc}
 use Rattle.hart_machine.specs.declared.hart.Core.{Core}
 use Rattle.break_table.specs.Arrival.{due_of}
 use Rattle.dbg_model.specs.Views.{register, shown_byte}
-use Rattle.engine_moves.proofs.arrivals.due_at.Goals as goal
+use Rattle.engine_moves.proofs.hits.due_at.Goals as goal
 
 pub returns : goal.returns
 returns c k at =

@@ -6,7 +6,7 @@ use Rattle.hart_machine.specs.declared.hart.Core.{Core}
 use Rattle.break_table.specs.Arrival.{settled}
 use Rattle.break_table.specs.Table.{Table}
 use Rattle.dbg_model.specs.Views.{register, shown_byte}
-use Rattle.engine_moves.proofs.arrivals.settle.Goals as goal
+use Rattle.engine_moves.proofs.hits.settle.Goals as goal
 
 pub returns-clause-entries : goal.returns-clause-entries
 returns-clause-entries c k at =
