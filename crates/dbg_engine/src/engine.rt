@@ -39,6 +39,7 @@ use dbg_answers::shown_frame;
 use dbg_model::{Entry, HISTORY, Journal, Opening, ShownFrame, Watch, WatchList};
 use dbg_traits::{NoMemory, Settings};
 use engine_facts::{Activity, Hold, Mind, Phase};
+use engine_moves::ending::End;
 use engine_moves::homing::go_home_each;
 use engine_moves::minds::{all_gone, any_running, find_running, first_minds, is_running};
 use engine_moves::patching::release;
