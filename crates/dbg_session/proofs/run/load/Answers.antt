@@ -1,7 +1,7 @@
 use Rattle.std.proofs.Common.{◌≡◌, None}
-use Rattle.dbg_session.specs.Words.{served_words}
-use Rattle.dbg_session.proofs.Writing.{written_as}
-use Rattle.dbg_session.proofs.Opening.{early_words}
+use Rattle.session_facts.specs.Words.{served_words}
+use Rattle.session_facts.proofs.Writing.{written_as}
+use Rattle.session_facts.proofs.Opening.{early_words}
 use Rattle.dbg_session.proofs.run.load.Goals as goal
 
 pub returns-in-Ok-None : goal.returns-in-Ok-None

@@ -4,12 +4,12 @@ use Rattle.dbg_traits.specs.Told.{Told}
 use Rattle.elf32_read.specs.declared.fault.ElfReadError.{ElfReadError}
 use Rattle.elf32_read.specs.Reading.{Reads}
 use Rattle.dbg_model.specs.declared.opening.Opening.{Opening}
-use Rattle.dbg_session.specs.Scene.{Play, told_by, told_of}
-use Rattle.dbg_session.specs.Ties.{MayBegin}
-use Rattle.dbg_session.specs.Words.{ReadsSome}
-use Rattle.dbg_session.specs.declared.file.FileError.{FileError}
-use Rattle.dbg_session.proofs.Writing.{written_as}
-use Rattle.dbg_session.proofs.Opening.{asks_still, early_file, early_read, early_room, read_memory, ready}
+use Rattle.session_facts.specs.Scene.{Play, told_by, told_of}
+use Rattle.session_facts.specs.Ties.{MayBegin}
+use Rattle.session_facts.specs.Words.{ReadsSome}
+use Rattle.session_facts.specs.declared.file.FileError.{FileError}
+use Rattle.session_facts.proofs.Writing.{written_as}
+use Rattle.session_facts.proofs.Opening.{asks_still, early_file, early_read, early_room, read_memory, ready}
 use Rattle.dbg_session.proofs.run.load_file.Goals as goal
 
 pub returns-in-Err-Failed : goal.returns-in-Err-Failed

@@ -3,9 +3,9 @@ use Rattle.std.specs.Prelude.{Option}
 use Rattle.dbg_traits.specs.Told.{Told}
 use Rattle.elf32_read.specs.Reading.{IsImage}
 use Rattle.dbg_model.specs.declared.opening.Opening.{Opening}
-use Rattle.dbg_session.specs.Scene.{Play, begun, told_by, told_of}
-use Rattle.dbg_session.specs.Ties.{MayBegin}
-use Rattle.dbg_session.proofs.Opening.{ready_script}
+use Rattle.session_facts.specs.Scene.{Play, begun, told_by, told_of}
+use Rattle.session_facts.specs.Ties.{MayBegin}
+use Rattle.session_facts.proofs.Opening.{ready_script}
 use Rattle.dbg_session.proofs.run.load_generated.Goals as goal
 
 pub begin-requires-clause-ready : goal.begin-requires-clause-ready

@@ -1,10 +1,10 @@
 use Rattle.std.proofs.Common.{take, refl, rules}
 use Rattle.std.specs.Prelude.{true, false}
-use Rattle.dbg_session.specs.Stage.{stage_of}
+use Rattle.session_facts.specs.Stage.{stage_of}
 use Rattle.mi_reports.specs.Replies.{reply_lines}
-use Rattle.dbg_session.proofs.Saying.{does_say}
-use Rattle.dbg_session.proofs.Writing.{written_as}
-use Rattle.dbg_session.proofs.Doing.{does_line, keeps, says_as, must_wait, stands}
+use Rattle.session_facts.proofs.Saying.{does_say}
+use Rattle.session_facts.proofs.Writing.{written_as}
+use Rattle.session_facts.proofs.Doing.{does_line, keeps, says_as, must_wait, stands}
 use Rattle.dbg_session.proofs.steps.line_once.Goals as goal
 
 pub returns-then-must_wait-clause-does : goal.returns-then-must_wait-clause-does
