@@ -15,9 +15,9 @@ use Rattle.session_facts.specs.Words.{served_words, ReadsAll, ReadsSome, named_o
 use Rattle.session_facts.specs.declared.file.FileError.TheVariants as error
 use Rattle.session_facts.specs.Scene.{AskFile, IsUnused, begun, told_by}
 use Rattle.session_facts.specs.Ties.{IsEmpty, IsCut, IsUnread, IsUnpolled, MayBegin}
-use Rattle.session_facts.specs.Puts.{PutsAll}
+use Rattle.session_facts.specs.Puts.{PutsAll, PutsLines}
 use Rattle.mi_values.specs.Record.{LineTree}
-use Rattle.mi_values.specs.Records.{lines_bytes, AreRecords}
+use Rattle.mi_values.specs.Records.{lines_bytes}
 use Rattle.mi_reports.specs.Refusals.{refusal_lines, file_fields, usage_fields}
 use Rattle.session_facts.specs.declared.status.Status.TheVariants as status
 use Rattle.session_facts.specs.Early.{Early, Line, Silent, IsRead, IsReadIfAny, HasFault}
@@ -88,21 +88,21 @@ ready_script t number text o fresh asked image r opening journal = record {
 pub unused : (t : Told) → IsFresh t → IsUnused t
 unused t fresh = record { unpolled = unpolled t fresh; written = empty t.written fresh.written; faults = fresh.put_faults }
 
-front_of : (o : Option (List ℕ)) (trees : List LineTree) (piece : List ℕ) (n : ℕ) → AreRecords piece trees → (o ≡ None) ⊎ (o ≡ Some []) → IfSome (more o (take n piece)) (λ written. IsCut written (lines_bytes trees))
-front_of o trees piece n are fresh = told_all o (take n piece) (λ written. IsCut written (lines_bytes trees)) fresh (drop n piece, take-append-drop n piece ∙ are.text)
+front_of : (o : Option (List ℕ)) (text : List ℕ) (n : ℕ) → (o ≡ None) ⊎ (o ≡ Some []) → IfSome (more o (take n text)) (λ written. IsCut written text)
+front_of o text n fresh = told_all o (take n text) (λ written. IsCut written text) fresh (drop n text, take-append-drop n text)
 
 -- the lines that were put
-pub line_written : (b : Bool) (t u : Told) (trees : List LineTree) (piece : List ℕ) → AreRecords piece trees → (t.written ≡ None) ⊎ (t.written ≡ Some []) → t.put_faults ≡ 0 → PutsAll b piece t u → Line trees u
-line_written true t u trees piece are fresh none puts = rw puts (record {
-  grammar = are.lines;
-  front = told_all t.written piece (λ written. IsCut written (lines_bytes trees)) fresh ([], append-nil piece ∙ are.text);
-  whole = λ _. told_all t.written piece (λ written. written ≡ lines_bytes trees) fresh are.text;
+pub line_written : (b : Bool) (t u : Told) (trees : List LineTree) → (t.written ≡ None) ⊎ (t.written ≡ Some []) → t.put_faults ≡ 0 → PutsLines b trees t u → Line trees u
+line_written true t u trees fresh none p = rw p.puts (record {
+  grammar = p.grammar;
+  front = told_all t.written (lines_bytes trees) (λ written. IsCut written (lines_bytes trees)) fresh ([], append-nil (lines_bytes trees));
+  whole = λ _. told_all t.written (lines_bytes trees) (λ written. written ≡ lines_bytes trees) fresh refl;
 })
-line_written false t u trees piece are fresh none puts =
-    let rose : 0 < puts.1 = omega (arith, none, puts.2) in
-    rw puts.3 (record {
-      grammar = are.lines;
-      front = front_of t.written trees piece puts.0 are fresh;
+line_written false t u trees fresh none p =
+    let rose : 0 < p.puts.1 = omega (arith, none, p.puts.2) in
+    rw p.puts.3 (record {
+      grammar = p.grammar;
+      front = front_of t.written (lines_bytes trees) p.puts.0 fresh;
       whole = λ zero. absurd (omega (arith, zero, rose));
     })
 
@@ -120,13 +120,14 @@ put_words true t u piece puts = ap (λ (v : Told). v.words) puts
 put_words false t u piece puts = ap (λ (v : Told). v.words) puts.3
 
 -- the words were refused
-pub early_words : (b : Bool) (t u : Told) (words : List (List ℕ)) (piece : List ℕ) → IsFresh t → words ≡ t.words → None ≡ served_words words → AreRecords piece (refusal_lines usage_fields) → PutsAll b piece t u → Early status.Words u
-early_words b t u words piece fresh asked is same puts = (
-  put_unpolled b t u piece puts (unpolled t fresh),
-  put_unread b t u piece puts (unread t fresh),
-  ap served_words (put_words b t u piece puts ∙ sym asked) ∙ sym is,
-  line_written b t u (refusal_lines usage_fields) piece same fresh.written fresh.put_faults puts,
-)
+pub early_words : (b : Bool) (t u : Told) → IsFresh t → None ≡ served_words t.words → PutsLines b (refusal_lines usage_fields) t u → Early status.Words u
+early_words b t u fresh is p =
+    let text = lines_bytes (refusal_lines usage_fields) in (
+      put_unpolled b t u text p.puts (unpolled t fresh),
+      put_unread b t u text p.puts (unread t fresh),
+      ap served_words (put_words b t u text p.puts) ∙ sym is,
+      line_written b t u (refusal_lines usage_fields) fresh.written fresh.put_faults p,
+    )
 
 -- there was no memory to read the words
 pub early_memory : (t : Told) → IsFresh t → Early status.NoMemory t
@@ -195,11 +196,12 @@ pub asks_still : (t u : Told) (name : List ℕ) (settings : Settings) (bytes : L
 asks_still t u name settings bytes asked reads = rw reads.3 (record { name = name; settings = settings; served = asked })
 
 -- the file was refused
-pub early_file : (b : Bool) (t u v : Told) (name : List ℕ) (settings : Settings) (bytes : List ℕ) (f : ElfFault) (piece : List ℕ) → IsFresh t → AsksFile t name settings → ReadsAll bytes name t u → Refused bytes f → AreRecords piece (refusal_lines (file_fields f)) → PutsAll b piece u v → Early (status.File f) v
-early_file b t u v name settings bytes f piece fresh asked reads fault same puts =
+pub early_file : (b : Bool) (t u v : Told) (name : List ℕ) (settings : Settings) (bytes : List ℕ) (f : ElfFault) → IsFresh t → AsksFile t name settings → ReadsAll bytes name t u → Refused bytes f → PutsLines b (refusal_lines (file_fields f)) u v → Early (status.File f) v
+early_file b t u v name settings bytes f fresh asked reads fault p =
+    let text = lines_bytes (refusal_lines (file_fields f)) in
     let written : u.written ≡ t.written = ap (λ (x : Told). x.written) reads.3 in
     let none : u.put_faults ≡ 0 = ap (λ (x : Told). x.put_faults) reads.3 ∙ fresh.put_faults in (
-      put_unpolled b u v piece puts (all_unpolled t u bytes name reads fresh),
-      put_fault b u v f piece puts (read_fault t u name settings bytes f fresh asked reads fault),
-      line_written b u v (refusal_lines (file_fields f)) piece same (rw written fresh.written) none puts,
+      put_unpolled b u v text p.puts (all_unpolled t u bytes name reads fresh),
+      put_fault b u v f text p.puts (read_fault t u name settings bytes f fresh asked reads fault),
+      line_written b u v (refusal_lines (file_fields f)) (rw written fresh.written) none p,
     )

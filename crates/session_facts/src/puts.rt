@@ -1,8 +1,10 @@
-// Putting a text, piece by piece.
-ghost use Rattle.std.specs.Prelude.{◌≡◌, ◌<◌, ◌≤◌, length};
-ghost use Rattle.session_facts.specs.Puts.{PutsAll};
+// Putting a text, piece by piece, and the lines of what is reported.
+ghost use Rattle.std.specs.Prelude.{◌≡◌, ◌<◌, ◌≤◌, length, MatchResult};
+ghost use Rattle.mi_reports.specs.Events.{event_lines};
+ghost use Rattle.session_facts.specs.Puts.{PutsAll, PutsLines};
 
-use dbg_traits::{Put, World};
+use dbg_traits::{NoMemory, Put, World};
+use mi_reports::{Event, report};
 
 // Where the line that begins at a place ends: behind its line feed, or with the text.
 fn line_end(text: &[u8], at: usize) -> usize
@@ -28,4 +30,18 @@ pub fn put_all<W: World>(world: &mut W, text: &[u8]) -> bool
         }
     }
     true
+}
+
+/// Puts the lines of an event, which go through the memory of `lines`. False where a put failed. Out of memory, the one error,
+/// nothing is put.
+pub fn put_event<W: World>(
+    world: &mut W,
+    event: Event<'_>,
+    lines: &mut Vec<u8>,
+) -> Result<bool, NoMemory>
+    ensures { MatchResult result (λ put. PutsLines put (event_lines event.entry) (W.told world.old) (W.told world.new)) (λ _. world.new ≡ world.old) }
+{
+    lines.clear();
+    report(event, lines)?;
+    Ok(put_all(world, lines.as_slice()))
 }
