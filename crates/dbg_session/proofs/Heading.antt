@@ -191,10 +191,6 @@ not_refused (Generated n) t p f h r = elim r.whole [
   | inr most ↦ let none = h.0.taken in absurd (omega (arith, most, none))
 ]
 
--- a run that ended before a session was begun
-pub early_ends : (s : Status) (t : Told) (c : Option Closed) → c ≡ None → Early s t → Ends s t c
-early_ends s t c none early = rw none early
-
 pub file_of : (s : Status) (t : Told) (c : Option Closed) (f : ElfFault) → Ends s t c → Refused t f → IsFile f s
 file_of s t None f h r = refuses s t f h r
 file_of s t (Some c) f h r = absurd (not_refused h.opened.source t c.opening.image f h.opened.comes r)

@@ -14,7 +14,7 @@ use Rattle.dbg_model.specs.declared.opening.Opening.{Opening}
 use Rattle.engine_facts.specs.Facts.{Facts}
 use Rattle.engine_facts.specs.Seen.{Run, seen}
 use Rattle.session_facts.specs.Stage.{Stage, stage_of}
-use Rattle.session_facts.specs.Puts.{PutsAll}
+use Rattle.session_facts.specs.Puts.{PutsAll, PutsLines}
 use Rattle.session_facts.specs.Steps.{lines_by, Says, Keeps, DoesLine, may_take}
 use Rattle.session_facts.specs.Taking.{first_waits, has_line, is_some_line}
 use Rattle.session_facts.specs.Ties.{GoesOn}
@@ -47,6 +47,9 @@ pub says_as : (put : Bool) (t u : Told) (r s : Stage) (trees : List LineTree) (p
 says_as put t u r s trees piece are is puts =
     let P : List ℕ → Type 0 = λ x. PutsAll put x t u in
     record { trees = trees; said = is; grammar = are.lines; puts = subst P are.text puts }
+
+pub says_put : (put : Bool) (t u : Told) (r s : Stage) (trees : List LineTree) → lines_by s ≡ lines_by r ++ trees → PutsLines put trees t u → Says t u r s put
+says_put put t u r s trees is p = record { trees = trees; said = is; grammar = p.grammar; puts = p.puts }
 
 pub record MustWait (r : Run) (ended : Bool) (rest : List ℕ) : Type 0 where
   pub waits : first_waits (lines rest ended) ≡ true

@@ -12,7 +12,10 @@ use Rattle.dbg_model.specs.declared.entry.Entry.TheVariants.{Ran, Counted, Stopp
 use Rattle.dbg_model.specs.declared.hart.Hart.{Hart}
 use Rattle.dbg_model.specs.State.{any_runs}
 use Rattle.dbg_model.specs.Reply.{done_by, is_wait}
+use Rattle.dbg_model.specs.declared.reply.Reply.{Reply}
+use Rattle.engine_facts.specs.Seen.{Run, seen}
 use Rattle.engine_moves.specs.Calls.{pokes_of}
+use Rattle.engine_moves.specs.Calls as calls
 use Rattle.dbg_model.specs.Leaving.{lefts_from}
 use Rattle.dbg_model.specs.Lawful.{may_go}
 use Rattle.dbg_model.specs.Journals.{did, lengthened}
@@ -101,6 +104,11 @@ pub record DoesLine (ended : Bool) (rest : List ℕ) (next : ℕ) (r s : Stage) 
   -- and what it asks to be written was written
   pub journal : s.journal ≡ r.journal ++ Did line ∷ pokes_of (done_by r.opening r.state line).pending
   pub did : did s.journal ≡ did r.journal ++ line ∷ []
+
+-- a line was done and has this reply; or it waits while a hart runs, and nothing changed
+abbrev pub Answers : List ℕ → Option Reply → Run → Run → Type 0
+Answers line None old new = ((any_runs (seen old).harts && is_wait line) ≡ true) × (new ≡ old)
+Answers line (Some reply) old new = ((any_runs (seen old).harts && is_wait line) ≡ false) × calls.Does old new line reply
 
 -- what the next line of the rest does, in a session that goes on
 abbrev pub Does : Done → Bool → List ℕ → Told → Told → Stage → Stage → Type 0
