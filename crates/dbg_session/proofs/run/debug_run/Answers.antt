@@ -18,10 +18,10 @@ pub returns-in-Ok-clause-complete : goal.returns-in-Ok-clause-complete
 returns-in-Ok-clause-complete g c = λ good. fine_of c.finish.result.status (g.W.World.told c.finish.result.world) c.finish.result.closed c.finish.ensures good
 
 pub returns-in-Err-clause-words : goal.returns-in-Err-clause-words
-returns-in-Err-clause-words g c = λ none. words_of c.in-Err.status (g.W.World.told c.in-Err.world) None (rw (← c.in-Err.status-is, ← c.in-Err.world-is) c.in-Err.ensures) none
+returns-in-Err-clause-words g c = λ none. words_of c.in-Err.field-0.status (g.W.World.told c.in-Err.field-0.world) None c.in-Err.ensures none
 
 pub returns-in-Err-clause-file : goal.returns-in-Err-clause-file
-returns-in-Err-clause-file g c = λ f r. file_of c.in-Err.status (g.W.World.told c.in-Err.world) None f (rw (← c.in-Err.status-is, ← c.in-Err.world-is) c.in-Err.ensures) r
+returns-in-Err-clause-file g c = λ f r. file_of c.in-Err.field-0.status (g.W.World.told c.in-Err.field-0.world) None f c.in-Err.ensures r
 
 pub returns-in-Err-clause-complete : goal.returns-in-Err-clause-complete
-returns-in-Err-clause-complete g c = λ good. fine_of c.in-Err.status (g.W.World.told c.in-Err.world) None (rw (← c.in-Err.status-is, ← c.in-Err.world-is) c.in-Err.ensures) good
+returns-in-Err-clause-complete g c = λ good. fine_of c.in-Err.field-0.status (g.W.World.told c.in-Err.field-0.world) None c.in-Err.ensures good
