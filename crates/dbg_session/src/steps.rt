@@ -176,11 +176,7 @@ pub fn turn_once<W: World>(
 }
 
 // Does a line, and answers it; it isn't done where it waits while a hart runs, and then has no reply.
-fn answer_line(
-    alloc: Global,
-    engine: &mut Engine,
-    line: &[u8],
-) -> Result<Option<Reply>, NoMemory>
+fn answer_line(alloc: Global, engine: &mut Engine, line: &[u8]) -> Result<Option<Reply>, NoMemory>
     requires may { may_go engine.old.opening (seen engine.old) ≡ true }
     requires facts { Facts engine.old }
     ensures facts { Facts engine.new }

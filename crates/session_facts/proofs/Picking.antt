@@ -9,7 +9,7 @@ use Rattle.mi_input.specs.Lines.{IsNext, lines}
 use Rattle.dbg_model.proofs.Options.{both_true}
 use Rattle.engine_facts.specs.declared.mind.Mind.{Mind}
 use Rattle.engine_facts.specs.Minds.{runs}
-use Rattle.engine_facts.specs.Seen.{Run, seen, seen_regs, seen_harts}
+use Rattle.engine_facts.specs.Seen.{Run, seen}
 use Rattle.engine_facts.specs.Facts.{Facts}
 use Rattle.engine_facts.specs.Movers.{runs_at, is_free, are_out, waits_for_slot}
 use Rattle.engine_facts.proofs.Movers.{runs_mind}

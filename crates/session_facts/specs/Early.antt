@@ -1,5 +1,5 @@
 -- How a run ends before a session was begun, and what it wrote.
-use Rattle.std.specs.Prelude.{◌≡◌, ◌⊎◌, ◌<◌, ℕ, false, List, [], length, Option, Some, None, IfSome}
+use Rattle.std.specs.Prelude.{◌≡◌, ◌⊎◌, ◌<◌, ℕ, false, List, [], length, Some, None, IfSome}
 use Rattle.elf32_read.specs.declared.fault.ElfFault.{ElfFault}
 use Rattle.elf32_read.specs.Reading as reading
 use Rattle.dbg_traits.specs.Told.{Told}
