@@ -8,17 +8,15 @@ use Rattle.plain_machine.specs.PlainRun.{PlainState, plain_run}
 use Rattle.dbg_traits.specs.Told.{Told}
 use Rattle.dbg_traits.specs.declared.settings.Settings.{Settings}
 use Rattle.mi_input.specs.Lines.{lines}
-use Rattle.mi_values.specs.Record.{LineTree}
-use Rattle.mi_values.specs.Records.{lines_bytes, streamed, AreLines}
+use Rattle.mi_values.specs.Records.{streamed}
 use Rattle.mi_reports.specs.Said.{said_lines}
-use Rattle.mi_reports.specs.Refusals.{refusal_lines, file_fields, usage_fields}
 use Rattle.dbg_model.specs.State.{State, any_runs}
 use Rattle.dbg_model.specs.Journals.{Leaves, did, noted}
 use Rattle.dbg_model.specs.Erase.{erase, steps}
 use Rattle.dbg_model.specs.Limits as limits
 use Rattle.dbg_engine.specs.declared.engine.Closed.{Closed}
 use Rattle.engine_facts.specs.Facts.{Planted, Retired, CopiedOver}
-use Rattle.session_facts.specs.Words.{served_words, IsWhole, most_file}
+use Rattle.session_facts.specs.Words.{served_words, IsWhole}
 use Rattle.session_facts.specs.declared.file.Source.{Source}
 use Rattle.session_facts.specs.declared.file.Source.TheVariants.{File, Generated}
 use Rattle.session_facts.specs.Source.{file_bytes, input_bytes, input_ended}
@@ -27,7 +25,7 @@ use Rattle.dbg_session.specs.Left.{core_registers, plain_registers}
 use Rattle.session_facts.specs.Early.{Early}
 use Rattle.session_facts.specs.InTime.{ToldInTime}
 use Rattle.session_facts.specs.Triggered.{TellsChanges, StopsFirst}
-use Rattle.session_facts.specs.Ties.{Opened, Written, IsCut, IsUnread, IsUnpolled, Clean}
+use Rattle.session_facts.specs.Ties.{Opened, Written, IsCut, IsUnpolled, Clean}
 use Rattle.session_facts.specs.declared.status.Status.{Status}
 use Rattle.session_facts.specs.declared.status.Status.TheVariants as status
 
