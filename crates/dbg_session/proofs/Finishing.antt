@@ -19,19 +19,19 @@ use Rattle.dbg_engine.specs.declared.engine.Closed.{Closed}
 use Rattle.dbg_session.specs.Headline.{Headline, IsDone, IsBelow, Why, Becomes, SumsUp}
 use Rattle.dbg_session.specs.Left.{IsLeft}
 use Rattle.dbg_session.specs.Over.{IsOver, IsPlayedOut, sums_up}
-use Rattle.dbg_session.specs.Puts.{PutsAll}
-use Rattle.dbg_session.specs.Scene.{Play, Plays, IsPlayed, told_by}
-use Rattle.dbg_session.specs.Stage.{Stage}
-use Rattle.dbg_session.specs.Summary.{summary}
-use Rattle.dbg_session.specs.Taking.{Gives}
-use Rattle.dbg_session.specs.Ties.{IsTied, IsHeld, IsEmpty, IsCut, IsUnread, IsUnpolled, AllDone, Taken}
-use Rattle.dbg_session.specs.declared.file.Source.TheVariants.{Generated}
-use Rattle.dbg_session.specs.declared.status.Status.{Status}
-use Rattle.dbg_session.specs.declared.status.Status.TheVariants as status
+use Rattle.session_facts.specs.Puts.{PutsAll}
+use Rattle.session_facts.specs.Scene.{Play, Plays, IsPlayed, told_by}
+use Rattle.session_facts.specs.Stage.{Stage}
+use Rattle.session_facts.specs.Summary.{summary}
+use Rattle.session_facts.specs.Taking.{Gives}
+use Rattle.session_facts.specs.Ties.{IsTied, IsHeld, IsEmpty, IsCut, IsUnread, IsUnpolled, AllDone, Taken}
+use Rattle.session_facts.specs.declared.file.Source.TheVariants.{Generated}
+use Rattle.session_facts.specs.declared.status.Status.{Status}
+use Rattle.session_facts.specs.declared.status.Status.TheVariants as status
 use Rattle.dbg_session.proofs.Heading.{heading, heading_file, named, numbers}
-use Rattle.dbg_session.proofs.Timing.{told_none}
-use Rattle.dbg_session.proofs.Tying.{gives_end}
-use Rattle.dbg_session.specs.Ties as ties
+use Rattle.session_facts.proofs.Timing.{told_none}
+use Rattle.session_facts.proofs.Tying.{gives_end}
+use Rattle.session_facts.specs.Ties as ties
 
 -- ---- the script
 

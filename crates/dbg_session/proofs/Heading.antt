@@ -14,11 +14,11 @@ use Rattle.dbg_model.proofs.Counting.{counted}
 use Rattle.dbg_model.proofs.Bounding.{within_budget}
 use Rattle.mi_reports.proofs.Telling.{said_output}
 use Rattle.dbg_engine.specs.declared.engine.Closed.{Closed}
-use Rattle.dbg_session.specs.Stage.{Stage}
-use Rattle.dbg_session.specs.Taking.{Gives}
+use Rattle.session_facts.specs.Stage.{Stage}
+use Rattle.session_facts.specs.Taking.{Gives}
 use Rattle.dbg_session.specs.Left.{IsLeft, hart_registers, plain_registers}
-use Rattle.dbg_session.specs.Ties.{IsTied, IsHeld, Opened, ComesFrom, IsFileOf, AllDone, Taken}
-use Rattle.dbg_session.specs.Ties as ties
+use Rattle.session_facts.specs.Ties.{IsTied, IsHeld, Opened, ComesFrom, IsFileOf, AllDone, Taken}
+use Rattle.session_facts.specs.Ties as ties
 use Rattle.elf32_read.specs.Checks.{fault_of}
 use Rattle.elf32_read.specs.Program.{Program}
 use Rattle.elf32_read.specs.Reading as reading
@@ -26,19 +26,20 @@ use Rattle.elf32_read.specs.declared.fault.ElfFault.{ElfFault}
 use Rattle.dbg_model.proofs.Options.{same_some}
 use Rattle.dbg_traits.specs.declared.settings.Settings.{Settings}
 use Rattle.dbg_model.specs.declared.opening.Opening.{Opening}
-use Rattle.dbg_session.specs.declared.file.Served.{Served}
-use Rattle.dbg_session.specs.declared.file.Source.{Source}
-use Rattle.dbg_session.specs.declared.file.Source.TheVariants.{File, Generated}
-use Rattle.dbg_session.specs.Source.{file_bytes, input_bytes, input_ended}
-use Rattle.dbg_session.specs.InTime.{ToldInTime}
-use Rattle.dbg_session.specs.Scene.{AskFile}
-use Rattle.dbg_session.specs.Words.{served_words, IsWhole}
-use Rattle.dbg_session.specs.Headline.{Headline, IsDone, IsBelow, Why, Prints, Early, IsPart, Refused, Good, IsFine, IsWords, IsFile, Ends}
-use Rattle.dbg_session.specs.declared.status.Status.{Status}
-use Rattle.dbg_session.specs.declared.status.Status.TheVariants as status
-use Rattle.dbg_session.proofs.Tying.{told_same}
-use Rattle.dbg_session.proofs.Triggering.{tells_changes}
-use Rattle.dbg_session.proofs.Holding.{stops_first}
+use Rattle.session_facts.specs.declared.file.Served.{Served}
+use Rattle.session_facts.specs.declared.file.Source.{Source}
+use Rattle.session_facts.specs.declared.file.Source.TheVariants.{File, Generated}
+use Rattle.session_facts.specs.Source.{file_bytes, input_bytes, input_ended}
+use Rattle.session_facts.specs.Early.{Early, IsPart}
+use Rattle.session_facts.specs.InTime.{ToldInTime}
+use Rattle.session_facts.specs.Scene.{AskFile}
+use Rattle.session_facts.specs.Words.{served_words, IsWhole}
+use Rattle.dbg_session.specs.Headline.{Headline, IsDone, IsBelow, Why, Prints, Refused, Good, IsFine, IsWords, IsFile, Ends}
+use Rattle.session_facts.specs.declared.status.Status.{Status}
+use Rattle.session_facts.specs.declared.status.Status.TheVariants as status
+use Rattle.session_facts.proofs.Tying.{told_same}
+use Rattle.session_facts.proofs.Triggering.{tells_changes}
+use Rattle.session_facts.proofs.Holding.{stops_first}
 
 front_lines : (ended : Bool) (bytes : List ℕ) (done : List (List ℕ)) (rest : List ℕ) → Gives ended bytes done rest → (more : List (List ℕ)) × (done ++ more ≡ lines bytes ended)
 front_lines true bytes done rest h = (lines rest true, sym h)
@@ -189,10 +190,6 @@ not_refused (Generated n) t p f h r = elim r.whole [
   | inl ended ↦ let e : false ≡ true = sym h.0.ended ∙ ended in absurd cc
   | inr most ↦ let none = h.0.taken in absurd (omega (arith, most, none))
 ]
-
--- a run that ended before a session was begun
-pub early_ends : (s : Status) (t : Told) (c : Option Closed) → c ≡ None → Early s t → Ends s t c
-early_ends s t c none early = rw none early
 
 pub file_of : (s : Status) (t : Told) (c : Option Closed) (f : ElfFault) → Ends s t c → Refused t f → IsFile f s
 file_of s t None f h r = refuses s t f h r

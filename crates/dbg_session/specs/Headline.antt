@@ -8,27 +8,26 @@ use Rattle.plain_machine.specs.PlainRun.{PlainState, plain_run}
 use Rattle.dbg_traits.specs.Told.{Told}
 use Rattle.dbg_traits.specs.declared.settings.Settings.{Settings}
 use Rattle.mi_input.specs.Lines.{lines}
-use Rattle.mi_values.specs.Record.{LineTree}
-use Rattle.mi_values.specs.Records.{lines_bytes, streamed, AreLines}
+use Rattle.mi_values.specs.Records.{streamed}
 use Rattle.mi_reports.specs.Said.{said_lines}
-use Rattle.mi_reports.specs.Refusals.{refusal_lines, file_fields, usage_fields}
 use Rattle.dbg_model.specs.State.{State, any_runs}
 use Rattle.dbg_model.specs.Journals.{Leaves, did, noted}
 use Rattle.dbg_model.specs.Erase.{erase, steps}
 use Rattle.dbg_model.specs.Limits as limits
 use Rattle.dbg_engine.specs.declared.engine.Closed.{Closed}
 use Rattle.engine_facts.specs.Facts.{Planted, Retired, CopiedOver}
-use Rattle.dbg_session.specs.Words.{served_words, IsWhole, most_file}
-use Rattle.dbg_session.specs.declared.file.Source.{Source}
-use Rattle.dbg_session.specs.declared.file.Source.TheVariants.{File, Generated}
-use Rattle.dbg_session.specs.Source.{file_bytes, input_bytes, input_ended}
-use Rattle.dbg_session.specs.Summary.{summary}
+use Rattle.session_facts.specs.Words.{served_words, IsWhole}
+use Rattle.session_facts.specs.declared.file.Source.{Source}
+use Rattle.session_facts.specs.declared.file.Source.TheVariants.{File, Generated}
+use Rattle.session_facts.specs.Source.{file_bytes, input_bytes, input_ended}
+use Rattle.session_facts.specs.Summary.{summary}
 use Rattle.dbg_session.specs.Left.{core_registers, plain_registers}
-use Rattle.dbg_session.specs.InTime.{ToldInTime}
-use Rattle.dbg_session.specs.Triggered.{TellsChanges, StopsFirst}
-use Rattle.dbg_session.specs.Ties.{Opened, Written, IsCut, IsUnread, IsUnpolled, Clean}
-use Rattle.dbg_session.specs.declared.status.Status.{Status}
-use Rattle.dbg_session.specs.declared.status.Status.TheVariants as status
+use Rattle.session_facts.specs.Early.{Early}
+use Rattle.session_facts.specs.InTime.{ToldInTime}
+use Rattle.session_facts.specs.Triggered.{TellsChanges, StopsFirst}
+use Rattle.session_facts.specs.Ties.{Opened, Written, IsCut, IsUnpolled, Clean}
+use Rattle.session_facts.specs.declared.status.Status.{Status}
+use Rattle.session_facts.specs.declared.status.Status.TheVariants as status
 
 -- the input ended, each line of it was done, and no hart runs
 pub record IsDone (source : Source) (t : Told) (c : Closed) (s : State) : Type 0 where
@@ -115,48 +114,6 @@ pub record Headline (status : Status) (t : Told) (c : Closed) : Type 0 where
   pub shown : streamed (said_lines c.opening c.journal) ≡ state.out
   -- why it has its status
   pub why : Why opened.source status t c state
-
--- the text of these lines, which are lines of the grammar, was written; where a put failed, a front of it
-pub record Line (trees : List LineTree) (t : Told) : Type 0 where
-  pub grammar : AreLines trees
-  pub front : IfSome t.written (λ written. IsCut written (lines_bytes trees))
-  pub whole : t.put_faults ≡ 0 → IfSome t.written (λ written. written ≡ lines_bytes trees)
-
--- nothing was written
-abbrev pub Silent : Told → Type 0
-Silent t = IfSome t.written (λ written. written ≡ [])
-
--- the words are served, and the file that was read is the one that they name
-pub record IsRead (t : Told) : Type 0 where
-  pub name : List ℕ
-  pub settings : Settings
-  pub words : served_words t.words ≡ Some (record { source = File name; settings = settings })
-  pub named : t.file_name ≡ Some name
-
--- the file was read in part alone
-pub record IsPart (t : Told) : Type 0 where
-  pub ended : t.file_ended ≡ false
-  pub length : t.file_length < most_file
-
--- the file that was read, if one was, is the one that the words name
-abbrev pub IsReadIfAny : Told → Type 0
-IsReadIfAny t = (t.file_name ≡ None) ⊎ IsRead t
-
--- a file that was read whole, without a failure, and has this fault
-pub record HasFault (t : Told) (f : ElfFault) : Type 0 where
-  pub read : IsRead t
-  pub whole : IsWhole t
-  pub faults : t.file_faults ≡ 0
-  pub length : IfSome t.file_taken (λ bytes. length bytes ≡ t.file_length)
-  pub fault : IfSome t.file_taken (λ bytes. reading.Refused bytes f)
-
--- Why a run ended before a session was begun, and what it wrote. No input was asked for.
-abbrev pub Early : Status → Told → Type 0
-Early status.Words t = IsUnpolled t × IsUnread t × (served_words t.words ≡ None) × Line (refusal_lines usage_fields) t
-Early (status.File f) t = IsUnpolled t × HasFault t f × Line (refusal_lines (file_fields f)) t
-Early status.ReadFault t = IsUnpolled t × IsRead t × IsPart t × (0 < t.file_faults) × Silent t
-Early status.NoMemory t = IsUnpolled t × IsReadIfAny t × (t.file_faults ≡ 0) × Silent t
-Early s t = ⊥
 
 abbrev pub Ends : Status → Told → Option Closed → Type 0
 Ends s t None = Early s t

@@ -7,7 +7,7 @@ use Rattle.dbg_model.specs.declared.hart.Hart.{Hart}
 use Rattle.dbg_model.specs.Journals.{Leaves}
 use Rattle.dbg_engine.specs.declared.engine.Closed.{Closed}
 use Rattle.engine_facts.specs.Facts.{Planted, Retired, CopiedOver}
-use Rattle.dbg_session.specs.Stage.{Stage}
+use Rattle.session_facts.specs.Stage.{Stage}
 
 -- the registers of harts, as the machine, the journal's state and the plain run have them
 abbrev pub core_registers : List Core → List Registers

@@ -3,11 +3,11 @@ use Rattle.std.specs.Prelude.{Bool, true, false, Option, Some, IsSomeAnd}
 use Rattle.dbg_traits.specs.Told.{Told}
 use Rattle.dbg_engine.specs.declared.engine.Closed.{Closed}
 use Rattle.dbg_session.specs.Left.{IsLeft}
-use Rattle.dbg_session.specs.Scene.{Play, IsPlayed, told_by}
-use Rattle.dbg_session.specs.Stage.{Stage}
-use Rattle.dbg_session.specs.Ties.{IsTied, Taken}
-use Rattle.dbg_session.specs.declared.status.Status.{Status}
-use Rattle.dbg_session.specs.declared.status.Status.TheVariants as status
+use Rattle.session_facts.specs.Scene.{Play, IsPlayed, told_by}
+use Rattle.session_facts.specs.Stage.{Stage}
+use Rattle.session_facts.specs.Ties.{IsTied, Taken}
+use Rattle.session_facts.specs.declared.status.Status.{Status}
+use Rattle.session_facts.specs.declared.status.Status.TheVariants as status
 
 -- what a session left, and what ties it to the world that it talked to
 pub record IsOver (s : Status) (t : Told) (c : Option Closed) : Type 0 where

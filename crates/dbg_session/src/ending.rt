@@ -1,7 +1,7 @@
 // How a session ends.
 ghost use Rattle.std.specs.Prelude.{◌≡◌, None, Some, if◌then◌else◌};
-ghost use Rattle.dbg_session.specs.Stage.{stage_of};
-ghost use Rattle.dbg_session.specs.Ties.{OverBy};
+ghost use Rattle.session_facts.specs.Stage.{stage_of};
+ghost use Rattle.session_facts.specs.Ties.{OverBy};
 
 use crate::Status;
 use dbg_engine::{Closed, End, Engine};

@@ -1,16 +1,14 @@
 // What a session left is handed back, and a generated run is summed up.
 ghost use Rattle.std.specs.Prelude.{◌≡◌};
 ghost use Rattle.dbg_session.specs.Headline.{Ends, Headline};
-ghost use Rattle.dbg_session.specs.OutsideInside.{play_of};
+ghost use Rattle.session_facts.specs.OutsideInside.{play_of};
 ghost use Rattle.dbg_session.specs.Over.{IsOver, IsPlayedOut, sums_up};
-ghost use Rattle.dbg_session.specs.Scene.{told_of};
+ghost use Rattle.session_facts.specs.Scene.{told_of};
 
-use crate::outside::{Outside, Script};
-use crate::puts::put_all;
-use crate::summary::summary_text;
 use crate::{Ended, Status};
 use dbg_engine::Closed;
 use dbg_traits::World;
+use session_facts::{Outside, Script, put_all, summary_text};
 use std::alloc::Global;
 
 // Whether a run that was over with this status is summed up: memory was found, and its records are whole.

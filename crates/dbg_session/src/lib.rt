@@ -2,20 +2,13 @@
 #![tactic(auto)]
 
 mod ending;
-mod file;
 mod finish;
-mod known;
-mod outside;
-mod puts;
 mod run;
 mod session;
-mod shown;
-mod status;
 mod steps;
-mod summary;
 
 pub use dbg_engine::Closed;
 pub use ending::Ended;
 pub use run::debug_run;
 pub use session::Session;
-pub use status::Status;
+pub use session_facts::Status;

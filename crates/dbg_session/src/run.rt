@@ -1,155 +1,55 @@
 // The top call.
-ghost use Rattle.std.specs.Prelude.{◌≡◌, ◌≤◌, None, Some, MatchResult};
-ghost use Rattle.dbg_traits.specs.Names.{IsNamed};
-ghost use Rattle.dbg_traits.specs.Settings.{AreSettings};
+ghost use Rattle.std.specs.Prelude.{◌≡◌, None, MatchResult};
 ghost use Rattle.dbg_traits.specs.Told.{IsFresh};
 ghost use Rattle.elf32_read.specs.declared.fault.ElfFault.{ElfFault};
-ghost use Rattle.dbg_session.specs.Words.{served_words};
-ghost use Rattle.dbg_session.specs.Scene.{told_of};
-ghost use Rattle.dbg_session.specs.Ties.{MayBegin};
-ghost use Rattle.dbg_session.specs.Headline.{Early, Ends, Good, IsFine, IsWords, IsFile, Refused};
+ghost use Rattle.session_facts.specs.Early.{Early};
+ghost use Rattle.session_facts.specs.Words.{served_words};
+ghost use Rattle.dbg_session.specs.Headline.{Ends, Good, IsFine, IsWords, IsFile, Refused};
 
-use crate::file::{FileError, Served, Source, read_all, served_words};
 use crate::finish::finish;
-use crate::outside::Outside;
-use crate::puts::put_all;
 use crate::{Ended, Session, Status};
 use dbg_engine::Engine;
 use dbg_model::Opening;
-use dbg_traits::{ArgText, Gate, Settings, World};
-use elf_gen::{generate, script};
-use elf32_read::{ElfReadError, Image, read_image};
+use dbg_traits::{Gate, World};
 use hart_workers::run_crew;
 use mi_reports::{Event, report};
+use session_facts::{Loaded, Outside, Unloaded, load};
 use std::alloc::Global;
 use std::sync::{Mutex, Wait};
 use std::thread::Threads;
 
-// A run that ended before a session was begun.
-fn early<W: World>(status: Status, world: W) -> Ended<W>
-    ensures status { result.status ≡ status }
-    ensures world { result.world ≡ world }
-    ensures closed { result.closed ≡ None }
+// There was no memory to begin a session.
+fn unbegun<W: World>(outside: Outside<W>) -> Unloaded<W>
+    ensures status { result.status ≡ Status.NoMemory }
+    ensures world { result.world ≡ outside.world }
 {
-    Ended {
-        status,
+    let (world, _script) = outside.into_parts();
+    Unloaded {
+        status: Status::NoMemory,
         world,
-        closed: None,
     }
 }
 
-// Begins a session over what it talks to, with the opening lines.
-fn begin<W: World>(
-    alloc: Global,
-    outside: Outside<W>,
-    image: Image,
-    settings: Settings,
-) -> Result<Session<Outside<W>>, Ended<W>>
-    requires ranges { AreSettings settings }
-    requires ready { MayBegin (told_of W.told outside) (record { image = image; settings = settings }) }
-    requires early { Early Status.NoMemory (W.told outside.world) }
-    ensures { MatchResult result (λ _. Unit {0}) (λ e. (e.closed ≡ None) × Early e.status (W.told e.world)) }
+// Begins a session: the words, the program, the engine and the opening lines.
+fn begin<W: World>(alloc: Global, world: W) -> Result<Session<Outside<W>>, Unloaded<W>>
+    requires { IsFresh (W.told world) }
+    ensures { MatchResult result (λ _. Unit {0}) (λ e. Early e.status (W.told e.world)) }
 {
+    let Loaded {
+        outside,
+        image,
+        settings,
+    } = load(alloc, world)?;
     let mut lines = Vec::new(alloc);
     let opening = Event::Opening {
         harts: settings.harts,
     };
     let Ok(()) = report(opening, &mut lines) else {
-        let (world, _script) = outside.into_parts();
-        return Err(early(Status::NoMemory, world));
+        return Err(unbegun(outside));
     };
     match Engine::load(alloc, Opening { image, settings }) {
         Ok(engine) => Ok(Session::open(alloc, outside, engine, lines)),
-        Err(_) => {
-            let (world, _script) = outside.into_parts();
-            Err(early(Status::NoMemory, world))
-        }
-    }
-}
-
-// Begins a session over the file of this name.
-fn load_file<W: World>(
-    alloc: Global,
-    world: W,
-    name: ArgText,
-    settings: Settings,
-) -> Result<Session<Outside<W>>, Ended<W>>
-    requires fresh { IsFresh (W.told world) }
-    requires asked { served_words (W.told world).words ≡ Some (record { source = Source.File name; settings = settings }) }
-    requires known { IsNamed (W.told world).words name }
-    requires ranges { AreSettings settings }
-    ensures { MatchResult result (λ _. Unit {0}) (λ e. (e.closed ≡ None) × Early e.status (W.told e.world)) }
-{
-    let mut world = world;
-    let bytes = match read_all(alloc, &mut world, &name) {
-        Ok(bytes) => bytes,
-        Err(FileError::Failed) => return Err(early(Status::ReadFault, world)),
-        Err(FileError::NoMemory) => return Err(early(Status::NoMemory, world)),
-    };
-    let image = match read_image(alloc, bytes) {
-        Ok(image) => image,
-        Err(ElfReadError::Fault(fault)) => {
-            let mut text = Vec::new(alloc);
-            let Ok(()) = report(Event::BadFile(fault), &mut text) else {
-                return Err(early(Status::NoMemory, world));
-            };
-            put_all(&mut world, text.as_slice());
-            return Err(early(Status::File(fault), world));
-        }
-        Err(ElfReadError::Memory) => return Err(early(Status::NoMemory, world)),
-    };
-    begin(alloc, Outside::handed(world), image, settings)
-}
-
-// Begins a session over the program and the lines that are generated from this number. The program is accepted, so that only
-// memory can be wanting.
-fn load_generated<W: World>(
-    alloc: Global,
-    world: W,
-    number: u32,
-    settings: Settings,
-) -> Result<Session<Outside<W>>, Ended<W>>
-    requires fresh { IsFresh (W.told world) }
-    requires asked { served_words (W.told world).words ≡ Some (record { source = Source.Generated number; settings = settings }) }
-    requires most { number ≤ 1000000 }
-    requires ranges { AreSettings settings }
-    ensures { MatchResult result (λ _. Unit {0}) (λ e. (e.closed ≡ None) × Early e.status (W.told e.world)) }
-{
-    let Ok(bytes) = generate(alloc, number) else {
-        return Err(early(Status::NoMemory, world));
-    };
-    let Ok(lines) = script(alloc, number) else {
-        return Err(early(Status::NoMemory, world));
-    };
-    let Ok(image) = read_image(alloc, bytes) else {
-        return Err(early(Status::NoMemory, world));
-    };
-    let outside = Outside::scripted(alloc, world, number, lines);
-    begin(alloc, outside, image, settings)
-}
-
-/// Begins a session: the words, the program and the opening lines.
-fn load<W: World>(alloc: Global, world: W) -> Result<Session<Outside<W>>, Ended<W>>
-    requires { IsFresh (W.told world) }
-    ensures { MatchResult result (λ _. Unit {0}) (λ e. (e.closed ≡ None) × Early e.status (W.told e.world)) }
-{
-    let mut world = world;
-    let served = match served_words(alloc, world.words()) {
-        Ok(Some(served)) => served,
-        Ok(None) => {
-            let mut line = Vec::new(alloc);
-            let Ok(()) = report(Event::Usage, &mut line) else {
-                return Err(early(Status::NoMemory, world));
-            };
-            put_all(&mut world, line.as_slice());
-            return Err(early(Status::Words, world));
-        }
-        Err(_) => return Err(early(Status::NoMemory, world)),
-    };
-    let Served { source, settings } = served;
-    match source {
-        Source::File(name) => load_file(alloc, world, name, settings),
-        Source::Generated(number) => load_generated(alloc, world, number, settings),
+        Err(_) => Err(unbegun(outside)),
     }
 }
 
@@ -187,12 +87,16 @@ pub fn debug_run<R: Threads + Wait + Sync, W: World + Send, G: Gate + Sync>(
     // With accepted words, an accepted file and no fault it runs to its end, unless memory runs out.
     ensures complete { Good (W.told result.world) → IsFine result.status }
 {
-    match load(alloc, world) {
+    match begin(alloc, world) {
         Ok(session) => {
             let mut session = serve(rt, session, gate);
             session.run_serial();
             finish(alloc, session.close())
         }
-        Err(ended) => ended,
+        Err(Unloaded { status, world }) => Ended {
+            status,
+            world,
+            closed: None,
+        },
     }
 }

@@ -1,25 +1,24 @@
 // A session, step by step.
 ghost use Rattle.std.specs.Prelude.{◌≡◌, ◌≢◌, ◌<◌, [], true, false, None, Some, if◌then◌else◌, IfSome, IsSomeAnd, IsTrue};
-ghost use Rattle.dbg_session.specs.Ties.{IsTied};
-ghost use Rattle.dbg_session.specs.Seen.{GotOn, work, no_input, no_line, is_open};
-ghost use Rattle.dbg_session.specs.Taking.{has_line};
-ghost use Rattle.dbg_session.specs.Round.{Takes, Lines, Settles, Round, moment};
-ghost use Rattle.dbg_session.specs.Crew.{NonePauses};
+ghost use Rattle.session_facts.specs.Ties.{IsTied};
+ghost use Rattle.session_facts.specs.Seen.{GotOn, work, no_input, no_line, is_open};
+ghost use Rattle.session_facts.specs.Taking.{has_line};
+ghost use Rattle.session_facts.specs.Round.{Takes, Lines, Settles, Round, moment};
+ghost use Rattle.session_facts.specs.Crew.{NonePauses};
 ghost use Rattle.engine_moves.specs.Steps.{NoneOut};
 ghost use Rattle.dbg_session.specs.Left.{IsLeft};
-ghost use Rattle.dbg_session.specs.Stage.{stage_of};
+ghost use Rattle.session_facts.specs.Stage.{stage_of};
 
 mod crew;
 mod moving;
 
 use crate::Status;
 use crate::ending::{Ended, over, status_of};
-use crate::known::Known;
-use crate::puts::put_all;
-use crate::steps::{Done, Input, PIECE, input_once, line_once};
+use crate::steps::line_once;
 use dbg_engine::Engine;
 use dbg_traits::World;
 use mi_input::next_line;
+use session_facts::{Done, Input, Known, PIECE, input_once, put_all};
 use std::alloc::Global;
 use std::marker::Model;
 
@@ -52,10 +51,10 @@ pub struct Session<W: World> {
 
 impl<W: World> Model for Session<W> {
     ghost use Rattle.std.specs.Prelude.{◌≤◌, ◌<◌, ◌^◌, length, drop, vec_len};
-    ghost use Rattle.dbg_session.specs.Seen.{Seen};
-    ghost use Rattle.dbg_session.specs.Ties.{IsTied, IsCounted};
-    ghost use Rattle.dbg_session.specs.Taking.{IsKnown};
-    ghost use Rattle.dbg_session.specs.Stage.{stage_of};
+    ghost use Rattle.session_facts.specs.Seen.{Seen};
+    ghost use Rattle.session_facts.specs.Ties.{IsTied, IsCounted};
+    ghost use Rattle.session_facts.specs.Taking.{IsKnown};
+    ghost use Rattle.session_facts.specs.Stage.{stage_of};
     ghost use Rattle.std.specs.Coded.{codes};
 
     ghost Value = { Seen W };
@@ -76,11 +75,11 @@ impl<W: World> Model for Session<W> {
 }
 
 impl<W: World> Session<W> {
-    ghost use Rattle.dbg_session.specs.Ties.{IsReady};
-    ghost use Rattle.dbg_session.specs.Stage.{stage_of};
+    ghost use Rattle.session_facts.specs.Ties.{IsReady};
+    ghost use Rattle.session_facts.specs.Stage.{stage_of};
     ghost use Rattle.mi_values.specs.Records.{AreRecords};
     ghost use Rattle.mi_reports.specs.Text.{opening_lines};
-    ghost use Rattle.dbg_session.specs.Puts.{PutsAll};
+    ghost use Rattle.session_facts.specs.Puts.{PutsAll};
     ghost use Rattle.std.specs.Prelude.{is_none};
     ghost use Rattle.engine_facts.specs.Facts.{Facts};
 

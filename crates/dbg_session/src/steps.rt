@@ -1,63 +1,27 @@
-// The steps of a session, over its parts.
-ghost use Rattle.std.specs.Prelude.{◌≡◌, ◌<◌, ◌≤◌, ◌+◌, ◌++◌, length, OnOk, true, false};
+// A turn of a hart and a line of input, over the parts of a session.
+ghost use Rattle.std.specs.Prelude.{◌≡◌, ◌<◌, ◌≤◌, ◌+◌, ◌++◌, length, OnOk, MatchResult, true};
 ghost use Rattle.engine_moves.specs.Steps.{IsTurned};
 ghost use Rattle.mi_values.specs.Records.{lines_bytes, AreLines};
 ghost use Rattle.mi_reports.specs.Events.{stopping_lines};
+ghost use Rattle.mi_reports.specs.Replies.{reply_lines};
+ghost use Rattle.session_facts.specs.Puts.{PutsLines};
 ghost use Rattle.dbg_model.specs.Places.{own_frame};
-ghost use Rattle.dbg_session.specs.Stage.{stage_of};
-ghost use Rattle.dbg_session.specs.Turned.{turned_lines, wrote_lines, left_lines, has_moved};
-ghost use Rattle.dbg_session.specs.Steps.{Turns, Goes, Does, Inputs};
-ghost use Rattle.dbg_session.specs.Stage.{work_of};
+ghost use Rattle.session_facts.specs.Stage.{stage_of};
+ghost use Rattle.session_facts.specs.Turned.{turned_lines, wrote_lines, left_lines, has_moved};
+ghost use Rattle.session_facts.specs.Steps.{Turns, Goes, Does, Answers};
+ghost use Rattle.session_facts.specs.Stage.{work_of};
 ghost use Rattle.dbg_model.specs.Lawful.{may_go};
-ghost use Rattle.dbg_session.specs.declared.steps.Turn.TheVariants as turn;
+ghost use Rattle.session_facts.specs.declared.turn.Turn.TheVariants as turn;
 ghost use Rattle.engine_facts.specs.Seen.{seen};
 ghost use Rattle.engine_facts.specs.Facts.{Facts};
 
-use crate::puts::put_all;
 use dbg_engine::{Engine, SPARE, Turned, read_line};
-use dbg_traits::{NoMemory, Polled, World};
+use dbg_model::Reply;
+use dbg_traits::{NoMemory, World};
 use mi_input::next_line;
 use mi_reports::{Event, Hit, Stop, report};
+use session_facts::{Done, Turn, put_all, put_event};
 use std::alloc::Global;
-
-/// The most bytes of one poll.
-pub const PIECE: usize = 4096;
-
-/// What one turn did.
-#[derive(Clone, Copy, Debug, PartialEq, Eq)]
-pub enum Turn {
-    /// The hart didn't move.
-    Stood,
-    /// It moved, and its lines are put.
-    Moved,
-    /// It moved, and a put of its lines failed.
-    Unput,
-    NoMemory,
-}
-
-/// What one line did. Each number is the place behind the line.
-#[derive(Clone, Copy, Debug, PartialEq, Eq)]
-pub enum Done {
-    Nothing,
-    /// It waits until no hart runs.
-    Waits,
-    Done(usize),
-    /// It was done, and a put of its reply failed.
-    Unput(usize),
-    /// It was done, and there was no memory for its reply.
-    Unsaid(usize),
-    NoMemory,
-}
-
-/// What one poll did.
-#[derive(Clone, Copy, Debug, PartialEq, Eq)]
-pub enum Input {
-    Took(usize),
-    Nothing,
-    End,
-    Failed,
-    NoMemory,
-}
 
 // Puts the line of the bytes of a range at the end.
 fn report_bytes(
@@ -211,6 +175,27 @@ pub fn turn_once<W: World>(
     }
 }
 
+// Does a line, and answers it; it isn't done where it waits while a hart runs, and then has no reply.
+fn answer_line(alloc: Global, engine: &mut Engine, line: &[u8]) -> Result<Option<Reply>, NoMemory>
+    requires may { may_go engine.old.opening (seen engine.old) ≡ true }
+    requires facts { Facts engine.old }
+    ensures facts { Facts engine.new }
+    ensures answers { MatchResult result (λ reply. Answers line.now reply engine.old engine.new) (λ _. engine.new ≡ engine.old) }
+{
+    let read = read_line(alloc, line)?;
+    if engine.must_wait(line, &read) {
+        return Ok(None);
+    }
+    Ok(Some(engine.command(line, read)?))
+}
+
+// Puts a reply, which is let go of here and nowhere else, since it is large.
+fn put_reply<W: World>(world: &mut W, reply: Reply, lines: &mut Vec<u8>) -> Result<bool, NoMemory>
+    ensures { MatchResult result (λ put. PutsLines put (reply_lines reply) (W.told world.old) (W.told world.new)) (λ _. world.new ≡ world.old) }
+{
+    put_event(world, Event::Answered(&reply), lines)
+}
+
 /// The next line of the rest of the input, with its reply, which goes through the memory of `lines`, in a session that may go on.
 pub fn line_once<W: World>(
     alloc: Global,
@@ -230,47 +215,13 @@ pub fn line_once<W: World>(
     let Some((text, next)) = next_line(rest, ended) else {
         return Done::Nothing;
     };
-    let line = &rest[..text];
-    let Ok(read) = read_line(alloc, line) else {
-        return Done::NoMemory;
-    };
-    if engine.must_wait(line, &read) {
-        return Done::Waits;
-    }
-    let Ok(reply) = engine.command(line, read) else {
-        return Done::NoMemory;
-    };
-    lines.clear();
-    let Ok(()) = report(Event::Answered(&reply), lines) else {
-        return Done::Unsaid(next);
-    };
-    if put_all(world, lines.as_slice()) {
-        Done::Done(next)
-    } else {
-        Done::Unput(next)
-    }
-}
-
-/// One poll, by way of the piece into the buffer.
-pub fn input_once<W: World>(
-    world: &mut W,
-    buffer: &mut Vec<u8>,
-    piece: &mut [u8; PIECE],
-    wait: bool,
-) -> Input
-    requires { (W.told world.old).poll_ended ≡ false }
-    ensures { Inputs result wait (W.told world.old) (W.told world.new) buffer.old.items buffer.new.items }
-{
-    if buffer.reserve(PIECE).is_err() {
-        return Input::NoMemory;
-    }
-    match world.poll(wait, &mut piece[..]) {
-        Polled::Took(n) => {
-            let _ = buffer.extend_from_slice(&piece[..n]);
-            Input::Took(n)
-        }
-        Polled::NotYet => Input::Nothing,
-        Polled::End => Input::End,
-        Polled::Failed => Input::Failed,
+    match answer_line(alloc, engine, &rest[..text]) {
+        Ok(Some(reply)) => match put_reply(world, reply, lines) {
+            Ok(true) => Done::Done(next),
+            Ok(false) => Done::Unput(next),
+            Err(NoMemory) => Done::Unsaid(next),
+        },
+        Ok(None) => Done::Waits,
+        Err(NoMemory) => Done::NoMemory,
     }
 }

@@ -2,17 +2,18 @@
 ghost use Rattle.std.specs.Prelude.{◌≡◌, ◌<◌, ◌≤◌, length, false, None, is_some, IsTrue, IfSome};
 ghost use Rattle.std.specs.Bool.{OnFalse};
 ghost use Rattle.engine_moves.specs.Steps.{NoneOut};
-ghost use Rattle.dbg_session.specs.Ties.{session_work};
-ghost use Rattle.dbg_session.specs.Seen.{GotOn, HasTurned, no_move};
-ghost use Rattle.dbg_session.specs.Round.{Moves, MovesOne, TurnsOne, Moved, moment};
-ghost use Rattle.dbg_session.specs.Stage.{moves_at};
+ghost use Rattle.session_facts.specs.Ties.{session_work};
+ghost use Rattle.session_facts.specs.Seen.{GotOn, HasTurned, no_move};
+ghost use Rattle.session_facts.specs.Round.{Moves, MovesOne, TurnsOne, Moved, moment};
+ghost use Rattle.session_facts.specs.Stage.{moves_at};
 
 use super::Session;
 use crate::Status;
 use crate::ending::over;
-use crate::steps::{Turn, turn_once};
+use crate::steps::turn_once;
 use dbg_engine::SPARE;
 use dbg_traits::World;
+use session_facts::Turn;
 
 impl<W: World> Session<W> {
     // Turns a hart once. True where it moved, or a status was set.

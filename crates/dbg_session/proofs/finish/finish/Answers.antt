@@ -1,7 +1,7 @@
 use Rattle.std.proofs.Common.{◌≡◌, ◌∙◌, Some, None, sym, ap}
 use Rattle.std.specs.Prelude.{Option, option_map}
-use Rattle.dbg_session.specs.OutsideInside.{play_of}
-use Rattle.dbg_session.specs.declared.outside.Script.{Script}
+use Rattle.session_facts.specs.OutsideInside.{play_of}
+use Rattle.session_facts.specs.declared.outside.Script.{Script}
 use Rattle.dbg_session.proofs.Finishing.{handed_back, played_out}
 use Rattle.dbg_session.proofs.finish.finish.Goals as goal
 use Rattle.dbg_session.proofs.finish.finish.Goals.{in-None, in-Some-script}

@@ -3,10 +3,10 @@ use Rattle.mi_values.specs.Record.{LineTree}
 use Rattle.mi_values.specs.Records.{AreRecords, streamed}
 use Rattle.dbg_model.specs.Erase.{erase, steps}
 use Rattle.dbg_model.specs.declared.entry.Entry.{Entry}
-use Rattle.dbg_session.specs.OutsideInside.{play_of}
+use Rattle.session_facts.specs.OutsideInside.{play_of}
 use Rattle.dbg_session.specs.Over.{sums_up}
-use Rattle.dbg_session.specs.Puts.{PutsAll}
-use Rattle.dbg_session.specs.Summary.{summary}
+use Rattle.session_facts.specs.Puts.{PutsAll}
+use Rattle.session_facts.specs.Summary.{summary}
 use Rattle.dbg_session.proofs.Finishing.{few_steps, headed_cut, headed_short, headed_whole, text_is}
 use Rattle.dbg_session.proofs.finish.sum_up.Goals as goal
 

@@ -1,4 +1,5 @@
-use Rattle.dbg_session.proofs.Heading.{early_ends, file_of, fine_of, words_of}
+use Rattle.std.specs.Prelude.{None}
+use Rattle.dbg_session.proofs.Heading.{file_of, fine_of, words_of}
 use Rattle.dbg_session.proofs.run.debug_run.Goals as goal
 
 pub finish-requires : goal.finish-requires
@@ -16,14 +17,11 @@ returns-in-Ok-clause-file g c = λ f r. file_of c.finish.result.status (g.W.Worl
 pub returns-in-Ok-clause-complete : goal.returns-in-Ok-clause-complete
 returns-in-Ok-clause-complete g c = λ good. fine_of c.finish.result.status (g.W.World.told c.finish.result.world) c.finish.result.closed c.finish.ensures good
 
-pub returns-in-Err-clause-ends : goal.returns-in-Err-clause-ends
-returns-in-Err-clause-ends g c = early_ends c.in-Err.ended.status (g.W.World.told c.in-Err.ended.world) c.in-Err.ended.closed c.in-Err.ensures.0 c.in-Err.ensures.1
-
 pub returns-in-Err-clause-words : goal.returns-in-Err-clause-words
-returns-in-Err-clause-words g c = λ none. words_of c.in-Err.ended.status (g.W.World.told c.in-Err.ended.world) _ (early_ends c.in-Err.ended.status (g.W.World.told c.in-Err.ended.world) c.in-Err.ended.closed c.in-Err.ensures.0 c.in-Err.ensures.1) none
+returns-in-Err-clause-words g c = λ none. words_of c.in-Err.field-0.status (g.W.World.told c.in-Err.field-0.world) None c.in-Err.ensures none
 
 pub returns-in-Err-clause-file : goal.returns-in-Err-clause-file
-returns-in-Err-clause-file g c = λ f r. file_of c.in-Err.ended.status (g.W.World.told c.in-Err.ended.world) _ f (early_ends c.in-Err.ended.status (g.W.World.told c.in-Err.ended.world) c.in-Err.ended.closed c.in-Err.ensures.0 c.in-Err.ensures.1) r
+returns-in-Err-clause-file g c = λ f r. file_of c.in-Err.field-0.status (g.W.World.told c.in-Err.field-0.world) None f c.in-Err.ensures r
 
 pub returns-in-Err-clause-complete : goal.returns-in-Err-clause-complete
-returns-in-Err-clause-complete g c = λ good. fine_of c.in-Err.ended.status (g.W.World.told c.in-Err.ended.world) _ (early_ends c.in-Err.ended.status (g.W.World.told c.in-Err.ended.world) c.in-Err.ended.closed c.in-Err.ensures.0 c.in-Err.ensures.1) good
+returns-in-Err-clause-complete g c = λ good. fine_of c.in-Err.field-0.status (g.W.World.told c.in-Err.field-0.world) None c.in-Err.ensures good

@@ -1,11 +1,11 @@
 use Rattle.std.proofs.Common.{refl}
 use Rattle.std.specs.Prelude.{true, false}
 use mathlib.Core.Logic.{inr}
-use Rattle.dbg_session.specs.Stage.{stage_of}
-use Rattle.dbg_session.specs.Turned.{turned_lines}
-use Rattle.dbg_session.proofs.Saying.{moved, stood}
-use Rattle.dbg_session.proofs.Doing.{keeps, says_as}
-use Rattle.dbg_session.proofs.Writing.{written_as}
+use Rattle.session_facts.specs.Stage.{stage_of}
+use Rattle.session_facts.specs.Turned.{turned_lines}
+use Rattle.session_facts.proofs.Saying.{moved, stood}
+use Rattle.session_facts.proofs.Doing.{keeps, says_as}
+use Rattle.session_facts.proofs.Writing.{written_as}
 use Rattle.dbg_session.proofs.steps.turn_once.Goals as goal
 
 pub returns-then-not-has_moved-clause-turns : goal.returns-then-not-has_moved-clause-turns

@@ -5,16 +5,16 @@ use Rattle.engine_facts.specs.Seen.{Run}
 use Rattle.engine_moves.specs.Several.{lengthened_by}
 use Rattle.engine_moves.specs.Slicing.{CanTake}
 use Rattle.engine_moves.proofs.Quiet.{ran_quiet}
-use Rattle.dbg_session.specs.declared.status.Status.{Status}
-use Rattle.dbg_session.specs.Ties.{IsTied, session_work}
-use Rattle.dbg_session.specs.Seen.{Seen, work}
-use Rattle.dbg_session.specs.Stage.{stage_of}
+use Rattle.session_facts.specs.declared.status.Status.{Status}
+use Rattle.session_facts.specs.Ties.{IsTied, session_work}
+use Rattle.session_facts.specs.Seen.{Seen, work}
+use Rattle.session_facts.specs.Stage.{stage_of}
 use Rattle.dbg_session.specs.SessionInside.{seen_of, taken_of}
-use Rattle.dbg_session.specs.Round.{Moved, moment}
-use Rattle.dbg_session.specs.Crew.{Commits}
-use Rattle.dbg_session.proofs.Getting.{less_work}
-use Rattle.dbg_session.proofs.Tying.{counted_same}
-use Rattle.dbg_session.proofs.Several.{ran_noted, ran_on, standing}
+use Rattle.session_facts.specs.Round.{Moved, moment}
+use Rattle.session_facts.specs.Crew.{Commits}
+use Rattle.session_facts.proofs.Getting.{less_work}
+use Rattle.session_facts.proofs.Tying.{counted_same}
+use Rattle.session_facts.proofs.Several.{ran_noted, ran_on, standing}
 use Rattle.dbg_session.proofs.session.Session.commit.Goals as goal
 
 pub invariant_of-self-in-Took : goal.invariant_of-self-in-Took

@@ -1,16 +1,16 @@
 use Rattle.std.proofs.Common.{◌≡◌, ◌+◌, ◌-◌, ◌∙◌, take, drop, length-drop, length, ap, sym, arith, subst, refl}
 use Rattle.std.specs.Prelude.{None, Some}
 use Rattle.std.proofs.lemmas.List.{drop-drop}
-use Rattle.dbg_session.specs.declared.status.Status.TheVariants as status
-use Rattle.dbg_session.specs.declared.steps.Done.TheVariants as done
-use Rattle.dbg_session.specs.Ties.{IsTied}
-use Rattle.dbg_session.specs.Seen.{Seen}
-use Rattle.dbg_session.specs.Stage.{stage_of}
+use Rattle.session_facts.specs.declared.status.Status.TheVariants as status
+use Rattle.session_facts.specs.declared.line.Done.TheVariants as done
+use Rattle.session_facts.specs.Ties.{IsTied}
+use Rattle.session_facts.specs.Seen.{Seen}
+use Rattle.session_facts.specs.Stage.{stage_of}
 use Rattle.dbg_session.specs.SessionInside.{seen_of, taken_of}
-use Rattle.dbg_session.specs.Round.{Lines, moment}
-use Rattle.dbg_session.proofs.Doing.{may}
-use Rattle.dbg_session.proofs.Going.{does}
-use Rattle.dbg_session.proofs.Tying.{line_done, line_unput, line_unsaid, slice_from, counted_same}
+use Rattle.session_facts.specs.Round.{Lines, moment}
+use Rattle.session_facts.proofs.Doing.{may}
+use Rattle.session_facts.proofs.Going.{does}
+use Rattle.session_facts.proofs.Tying.{line_done, line_unput, line_unsaid, slice_from, counted_same}
 use Rattle.dbg_session.proofs.session.Session.do_line.Goals as goal
 
 pub line_once-done-requires-clause-may : goal.line_once-done-requires-clause-may

@@ -2,16 +2,16 @@ use Rattle.std.proofs.Common.{◌≡◌, ◌∙◌, length, subst, refl, ap, ari
 use Rattle.std.specs.Prelude.{None, Some, false}
 use Rattle.dbg_model.specs.Lawful.{may_go}
 use Rattle.engine_facts.specs.Seen.{seen}
-use Rattle.dbg_session.specs.declared.status.Status.TheVariants as status
-use Rattle.dbg_session.specs.declared.steps.Turn.TheVariants as turn
-use Rattle.dbg_session.specs.Ties.{IsTied}
-use Rattle.dbg_session.specs.Seen.{Seen}
-use Rattle.dbg_session.specs.Stage.{stage_of, moves_at}
+use Rattle.session_facts.specs.declared.status.Status.TheVariants as status
+use Rattle.session_facts.specs.declared.turn.Turn.TheVariants as turn
+use Rattle.session_facts.specs.Ties.{IsTied}
+use Rattle.session_facts.specs.Seen.{Seen}
+use Rattle.session_facts.specs.Stage.{stage_of, moves_at}
 use Rattle.dbg_session.specs.SessionInside.{seen_of, taken_of}
-use Rattle.dbg_session.specs.Round.{TurnsOne, moment}
-use Rattle.dbg_session.proofs.Doing.{may, minds_same}
-use Rattle.dbg_session.proofs.Going.{same_moment, cannot_move}
-use Rattle.dbg_session.proofs.Tying.{turn_put, turn_unput, turn_unsaid, counted_same}
+use Rattle.session_facts.specs.Round.{TurnsOne, moment}
+use Rattle.session_facts.proofs.Doing.{may, minds_same}
+use Rattle.session_facts.proofs.Going.{same_moment, cannot_move}
+use Rattle.session_facts.proofs.Tying.{turn_put, turn_unput, turn_unsaid, counted_same}
 use Rattle.dbg_session.proofs.session.Session.move_hart.Goals as goal
 
 pub invariant_of-self-in-Moved : goal.invariant_of-self-in-Moved

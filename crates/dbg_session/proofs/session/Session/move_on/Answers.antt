@@ -2,10 +2,10 @@ use Rattle.std.proofs.Common.{◌≡◌, ◌<◌, ◌+◌, ◌∙◌, arith, ref
 use Rattle.std.specs.Prelude.{None, Some}
 use Rattle.engine_moves.specs.Steps.{NoneOut, next_running}
 use Rattle.engine_moves.proofs.Picks.{next_is, next_of_all}
-use Rattle.dbg_session.specs.Seen.{Seen, no_move}
+use Rattle.session_facts.specs.Seen.{Seen, no_move}
 use Rattle.dbg_session.specs.SessionInside.{seen_of}
-use Rattle.dbg_session.proofs.Passing.{still, turned_less}
-use Rattle.dbg_session.proofs.Picked.{picked_within}
+use Rattle.session_facts.proofs.Passing.{still, turned_less}
+use Rattle.session_facts.proofs.Picked.{picked_within}
 use Rattle.dbg_session.proofs.session.Session.move_on.Goals as goal
 
 pub turn_hart-requires-clause-known : goal.turn_hart-requires-clause-known

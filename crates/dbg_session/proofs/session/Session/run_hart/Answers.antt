@@ -1,14 +1,14 @@
 use Rattle.std.proofs.Common.{◌≡◌, ◌<◌, ◌∙◌, ap, length, sym, subst, arith}
 use Rattle.std.specs.Prelude.{Option, None}
-use Rattle.dbg_session.specs.declared.status.Status.{Status}
-use Rattle.dbg_session.specs.Ties.{IsTied, session_work}
-use Rattle.dbg_session.specs.Seen.{Seen}
-use Rattle.dbg_session.specs.Stage.{stage_of}
+use Rattle.session_facts.specs.declared.status.Status.{Status}
+use Rattle.session_facts.specs.Ties.{IsTied, session_work}
+use Rattle.session_facts.specs.Seen.{Seen}
+use Rattle.session_facts.specs.Stage.{stage_of}
 use Rattle.dbg_session.specs.SessionInside.{seen_of, taken_of}
-use Rattle.dbg_session.specs.Round.{Moved, moment}
-use Rattle.dbg_session.proofs.Doing.{minds_same}
-use Rattle.dbg_session.proofs.Tying.{counted_same}
-use Rattle.dbg_session.proofs.Several.{ran_on, standing}
+use Rattle.session_facts.specs.Round.{Moved, moment}
+use Rattle.session_facts.proofs.Doing.{minds_same}
+use Rattle.session_facts.proofs.Tying.{counted_same}
+use Rattle.session_facts.proofs.Several.{ran_on, standing}
 use Rattle.engine_moves.proofs.Quiet.{turned_quiet}
 use Rattle.dbg_session.proofs.session.Session.run_hart.Goals as goal
 

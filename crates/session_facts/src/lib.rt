@@ -1,0 +1,25 @@
+//! What a session keeps, beside its engine: its words and file, its input, what it puts, and how it ends; specifications and lemmas.
+#![tactic(auto)]
+
+mod file;
+mod input;
+mod known;
+mod line;
+mod loading;
+mod outside;
+mod puts;
+mod shown;
+mod status;
+mod summary;
+mod turn;
+
+pub use file::{FileError, Served, Source, read_all, served_words};
+pub use input::{Input, PIECE, input_once};
+pub use known::Known;
+pub use line::Done;
+pub use loading::{Loaded, Unloaded, load};
+pub use outside::{Outside, Script};
+pub use puts::{put_all, put_event};
+pub use status::Status;
+pub use summary::summary_text;
+pub use turn::Turn;
