@@ -8,7 +8,7 @@ use Rattle.elf32_read.proofs.Zeros.{AtLeast, none_in_front}
 use Rattle.elf_symbols.specs.Lookups.{IsLong}
 
 -- a name of fewer bytes than these, or none
-abbrev Shorter : ℕ → Option (List ℕ) → Type 0
+abbrev pub Shorter : ℕ → Option (List ℕ) → Type 0
 Shorter n None = Unit {0}
 Shorter n (Some name) = length name < n
 
@@ -17,7 +17,7 @@ shorter_step true x n o h = omega arith
 shorter_step false x n None h = tt
 shorter_step false x n (Some name) h = omega (arith, h)
 
-shorter : (bytes : List ℕ) → Shorter (length bytes) (name_from bytes)
+pub shorter : (bytes : List ℕ) → Shorter (length bytes) (name_from bytes)
 shorter [] = tt
 shorter (b ∷ bs) = shorter_step (b == 0) b (length bs) (name_from bs) (shorter bs)
 
