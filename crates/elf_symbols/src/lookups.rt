@@ -40,8 +40,8 @@ fn put_name(
     Ok(())
 }
 
-/// Puts a function at its address, unless the one that is there has the lesser name or the same. The strings end
-/// their last name at `end`.
+/// Puts a function at its address, unless what is compared of the name of the one that is there is less or the same.
+/// The strings end their last name at `end`.
 fn put_address(
     table: &mut BTreeMap<u32, SymbolEntry>,
     strings: &[u8],
