@@ -6,7 +6,7 @@ use Rattle.std.proofs.lemmas.Bool.Decides.{nat_tests}
 use Rattle.std.proofs.lemmas.List.Elements.{All-nil, All-cons}
 use Rattle.std.proofs.lemmas.List.Folds.{list_any_at, list_any_none}
 use Rattle.elf32_read.proofs.Rising.{find_first}
-use Rattle.elf_symbols.specs.Names.{best, better, bytes_before, foremost, is_nearer, is_preferred}
+use Rattle.elf_symbols.specs.Names.{best, better, bytes_before, foremost, is_nearer, is_preferred, leading}
 
 -- a strict weak order
 pub record IsOrder {A : Type 0} (before : A → A → Bool) : Type 0 where
@@ -225,7 +225,7 @@ preferred_order =
 pub nearer_order : IsOrder is_nearer
 nearer_order =
     record {
-      itself = λ x. last_itself x.address (bytes_before x.name x.name) (bytes_itself x.name);
-      along = λ x y z e f. last_along x.address y.address z.address _ _ _ (bytes_along x.name y.name z.name) e f;
-      between = λ x y z e f. last_between x.address y.address z.address _ _ _ (bytes_between x.name y.name z.name) e f;
+      itself = λ x. last_itself x.address (bytes_before (leading x.name) (leading x.name)) (bytes_itself (leading x.name));
+      along = λ x y z e f. last_along x.address y.address z.address _ _ _ (bytes_along (leading x.name) (leading y.name) (leading z.name)) e f;
+      between = λ x y z e f. last_between x.address y.address z.address _ _ _ (bytes_between (leading x.name) (leading y.name) (leading z.name)) e f;
     }

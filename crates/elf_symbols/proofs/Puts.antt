@@ -89,7 +89,7 @@ false_if true h = absurd (h refl)
 false_if false h = refl
 
 -- an entry with a long name, or with none, has no short one
-long_not_named : (name : List ℕ) (o : Option (List ℕ)) → IsLong o → length name ≤ 256 → option_map_or (bytes_eq name) o false ≡ false
+long_not_named : (name : List ℕ) (o : Option (List ℕ)) → IsLong o → length name ≤ 64 → option_map_or (bytes_eq name) o false ≡ false
 long_not_named name None h short = refl
 long_not_named name (Some m) h short =
     false_if (bytes_eq name m) (λ e. let same : length name ≡ length m = ap length ((bytes_decides name m).0 e) in absurd (omega arith))
@@ -100,21 +100,23 @@ keeps_long strings e m long b bs short =
     ap (λ (t : Bool). if t then better entry_preferred (at_name m (b ∷ bs)) e else at_name m (b ∷ bs))
     (sym (long_not_named (b ∷ bs) (name_at strings e.name) long short))
 
--- one that is preferred to what was there, or comes first
-pub taken_over : (e other : SymbolEntry) (o : Option SymbolEntry) → o ≡ Some other → entry_preferred e other ≡ true → better entry_preferred o e ≡ Some e
-taken_over e other o there preferred = ap (λ (x : Option SymbolEntry). better entry_preferred x e) there ∙ rw preferred refl
+same_or : {X : Type 0} (b : Bool) (x : X) → (if b then Some x else Some x) ≡ Some x
+same_or true x = refl
+same_or false x = refl
 
-stays_at : {X : Type 0} (f : List ℕ → X) (n q : List ℕ) (w : X) (b : Bool) → w ≡ f n → bytes_eq n q ≡ b → f q ≡ cond b w (f q)
-stays_at f n q w true e t = ap f (sym ((bytes_decides n q).0 t)) ∙ sym e
-stays_at f n q w false e t = refl
+-- an entry beside itself is the first one
+first_kept : (e : SymbolEntry) (o : Option SymbolEntry) → better entry_preferred (Some (unwrap_or o e)) e ≡ better entry_preferred o e
+first_kept e None = same_or (entry_preferred e e) e
+first_kept e (Some other) = refl
 
--- nothing changes where the one that is there is better
-pub keeps_name : (strings : List ℕ) (e other : SymbolEntry) (m : BTreeMap (Vec ℕ) SymbolEntry) (name : List ℕ)
-    → name ≡ unwrap_or (name_at strings e.name) [] → at_name m name ≡ Some other → entry_preferred e other ≡ false → AddsName strings e m m
-keeps_name strings e other m name is there worse =
-    let stays : better entry_preferred (at_name m name) e ≡ at_name m name =
-    ap (λ (o : Option SymbolEntry). better entry_preferred o e) there ∙ rw worse refl ∙ sym there in
-    adds_name strings e m m name is (λ q. stays_at (at_name m) name q _ (bytes_eq name q) stays refl)
+-- from the one that is there once the better one was written
+pub entered : (strings : List ℕ) (e kept done : SymbolEntry) (m n : BTreeMap (Vec ℕ) SymbolEntry) (name : List ℕ)
+    → name ≡ unwrap_or (name_at strings e.name) [] → kept ≡ unwrap_or (at_name m name) e → Some done ≡ better entry_preferred (Some kept) e
+    → ((q : List ℕ) → at_name n q ≡ cond (bytes_eq name q) (Some done) (at_name m q)) → AddsName strings e m n
+entered strings e kept done m n name is was better_one updates =
+    let value : Some done ≡ better entry_preferred (at_name m name) e =
+    better_one ∙ ap (λ (x : SymbolEntry). better entry_preferred (Some x) e) was ∙ first_kept e (at_name m name) in
+    adds_name strings e m n name is (λ q. updates q ∙ ap (λ (o : Option SymbolEntry). cond (bytes_eq name q) o (at_name m q)) value)
 
 number_same : (f : ℕ → Option SymbolEntry) (k q : ℕ) (b : Bool) (g : Option SymbolEntry → Option SymbolEntry) → (k == q) ≡ b
     → cond b (g (f k)) (f q) ≡ (if b then g (f q) else f q)

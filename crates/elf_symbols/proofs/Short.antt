@@ -8,7 +8,7 @@ use Rattle.elf32_read.proofs.Zeros.{AtLeast, none_in_front}
 use Rattle.elf_symbols.specs.Lookups.{IsLong}
 
 -- a name of fewer bytes than these, or none
-abbrev Shorter : ℕ → Option (List ℕ) → Type 0
+abbrev pub Shorter : ℕ → Option (List ℕ) → Type 0
 Shorter n None = Unit {0}
 Shorter n (Some name) = length name < n
 
@@ -17,13 +17,13 @@ shorter_step true x n o h = omega arith
 shorter_step false x n None h = tt
 shorter_step false x n (Some name) h = omega (arith, h)
 
-shorter : (bytes : List ℕ) → Shorter (length bytes) (name_from bytes)
+pub shorter : (bytes : List ℕ) → Shorter (length bytes) (name_from bytes)
 shorter [] = tt
 shorter (b ∷ bs) = shorter_step (b == 0) b (length bs) (name_from bs) (shorter bs)
 
-long_by : (n size : ℕ) (o : Option (List ℕ)) → n ≡ min size 257 → Shorter size o → AtLeast n o → IsLong o
+long_by : (n size : ℕ) (o : Option (List ℕ)) → n ≡ min size 65 → Shorter size o → AtLeast n o → IsLong o
 long_by n size None e below least = tt
 long_by n size (Some name) e below least = omega (arith, e, below, least)
 
-pub long_behind : (n : ℕ) (bytes : List ℕ) → n ≡ min (length bytes) 257 → IsFirstByte (is_byte 0) (take n bytes) None → IsLong (name_from bytes)
+pub long_behind : (n : ℕ) (bytes : List ℕ) → n ≡ min (length bytes) 65 → IsFirstByte (is_byte 0) (take n bytes) None → IsLong (name_from bytes)
 long_behind n bytes e h = long_by n (length bytes) (name_from bytes) e (shorter bytes) (none_in_front n bytes h)

@@ -1,5 +1,5 @@
 -- The symbols of a program, and what their look-ups answer.
-use Rattle.std.specs.Prelude.{ℕ, ◌+◌, ◌==◌, nat_le, nat_lt, ◌&&◌, ◌||◌, not, Bool, true, false, List, [], ◌∷◌, Option, None, Some, filter, find, fold, if◌then◌else◌, option_and_then}
+use Rattle.std.specs.Prelude.{ℕ, ◌+◌, ◌==◌, nat_le, nat_lt, ◌&&◌, ◌||◌, not, Bool, true, false, List, [], ◌∷◌, Option, None, Some, filter, find, fold, take, if◌then◌else◌, option_and_then}
 use Rattle.std.specs.List.{list_any}
 use Rattle.std.specs.Str.{bytes_eq}
 
@@ -46,10 +46,14 @@ abbrev pub address_of : Names → List ℕ → Option Symbol
 address_of names [] = None
 address_of names (b ∷ bs) = foremost is_preferred (filter (λ s. bytes_eq (b ∷ bs) s.name) names.symbols)
 
+-- what is compared of a name: as many bytes as a line of input has at most
+abbrev pub leading : List ℕ → List ℕ
+leading name = take 4096 name
+
 -- the greater address, and of equal ones the lesser name
 abbrev pub is_nearer : Symbol → Symbol → Bool
 is_nearer a b =
-    nat_lt b.address a.address || ((a.address == b.address) && bytes_before a.name b.name)
+    nat_lt b.address a.address || ((a.address == b.address) && bytes_before (leading a.name) (leading b.name))
 
 -- a symbol, unless it has a size and the address lies past it
 abbrev pub covering : ℕ → Symbol → Option Symbol

@@ -1,12 +1,25 @@
 // The tables of the look-ups.
-ghost use Rattle.std.specs.Prelude.{◌≡◌, OnOk, IfOk};
+ghost use Rattle.std.specs.Prelude.{◌≡◌, OnOk, IfOk, Some};
 ghost use Rattle.elf32_read.specs.Fields.{zero_end};
+ghost use Rattle.elf_symbols.specs.Entries.{entry_preferred};
 ghost use Rattle.elf_symbols.specs.Lookups.{AddsAddress, AddsName, IsAddressTable, IsNameTable};
+ghost use Rattle.elf_symbols.specs.Names.{better};
 
 use crate::entry::SymbolEntry;
 use crate::names::{is_nearer, is_preferred, short_name};
 use std::alloc::{AllocError, Global};
 use std::collections::BTreeMap;
+
+/// The entry that is preferred to the one that was there, or that one.
+fn preferred(entry: SymbolEntry, kept: SymbolEntry) -> SymbolEntry
+    ensures { Some result ≡ better entry_preferred (Some kept) entry }
+{
+    if is_preferred(&entry, &kept) {
+        entry
+    } else {
+        kept
+    }
+}
 
 /// Puts an entry at its name, unless the one that is there is preferred or equal, or the name isn't kept.
 fn put_name(
@@ -20,17 +33,15 @@ fn put_name(
     let Some(name) = short_name(strings, entry) else {
         return Ok(());
     };
-    match table.get(name) {
-        Some(other) if !is_preferred(entry, other) => Ok(()),
-        _ => {
-            table.insert(Vec::from_slice(alloc, name)?, *entry)?;
-            Ok(())
-        }
-    }
+    let kept = table
+        .entry(Vec::from_slice(alloc, name)?)?
+        .or_insert(*entry);
+    *kept = preferred(*entry, *kept);
+    Ok(())
 }
 
-/// Puts a function at its address, unless the one that is there has the lesser name or the same. The strings end
-/// their last name at `end`.
+/// Puts a function at its address, unless what is compared of the name of the one that is there is less or the same.
+/// The strings end their last name at `end`.
 fn put_address(
     table: &mut BTreeMap<u32, SymbolEntry>,
     strings: &[u8],
@@ -49,7 +60,7 @@ fn put_address(
     }
 }
 
-/// The preferred entry of each name of at most 256 bytes.
+/// The preferred entry of each name of at most 64 bytes.
 pub fn name_table(
     alloc: Global,
     strings: &[u8],

@@ -3,18 +3,21 @@ ghost use Rattle.std.specs.Option.{option_map, option_map_or};
 ghost use Rattle.elf32_read.specs.Fields.{name_at, name_from, zero_end};
 ghost use Rattle.elf_symbols.specs.Entries.{begins_by, entry_named, entry_nearer, entry_preferred, names_by, symbol_of};
 ghost use Rattle.elf_symbols.specs.Lookups.{FindsBefore, IsAddressTable, IsLong, IsNameTable};
-ghost use Rattle.elf_symbols.specs.Names.{address_of, best, bytes_before, covering, function_at};
+ghost use Rattle.elf_symbols.specs.Names.{address_of, best, bytes_before, covering, function_at, leading};
 ghost use Rattle.elf_symbols.specs.Views.{symbol_shown};
 
 use crate::entry::{STT_FUNC, SymbolEntry};
-use elf32_read::fields::{alike_front, begins_with_name};
+use elf32_read::fields::begins_with_name;
 use memchr::memchr;
 use std::alloc::{AllocError, Global};
 use std::collections::BTreeMap;
 use std::marker::Model;
 
 /// Longer names aren't kept in the table by name, since a string table can have many long ones in one.
-pub const MOST_KEPT: usize = 256;
+pub const MOST_KEPT: usize = 64;
+
+/// So many bytes of a name are compared, since a line of input has no more.
+const COMPARED: usize = 4096;
 
 /// A symbol that was found.
 #[derive(Clone, Copy, Debug)]
@@ -36,7 +39,7 @@ pub struct Symbols {
     /// In the symbol table's order.
     symbols: Vec<SymbolEntry>,
     functions: Vec<SymbolEntry>,
-    /// The preferred entry of each name of at most 256 bytes.
+    /// The preferred entry of each name of at most 64 bytes.
     by_name: BTreeMap<Vec<u8>, SymbolEntry>,
     /// The function of the least name at each address.
     by_address: BTreeMap<u32, SymbolEntry>,
@@ -64,7 +67,7 @@ fn first_name(bytes: &[u8]) -> &[u8]
     }
 }
 
-/// The bytes up to the first zero byte, where those are at most 256.
+/// The bytes up to the first zero byte, where those are at most 64.
 fn short_front(bytes: &[u8]) -> Option<&[u8]>
     ensures kept { IfSome result (λ name. name_from bytes.now ≡ Some name.now) }
     ensures passed { IfNone result (IsLong (name_from bytes.now)) }
@@ -76,7 +79,7 @@ fn short_front(bytes: &[u8]) -> Option<&[u8]>
     }
 }
 
-/// The name of an entry, where it has at most 256 bytes.
+/// The name of an entry, where it has at most 64 bytes.
 #[tactic(auto, unfolding(elf32_read::specs::Fields::name_at))]
 pub fn short_name<'a>(strings: &'a [u8], entry: &SymbolEntry) -> Option<&'a [u8]>
     ensures kept { IfSome result (λ name. name_at strings.now entry.now.name ≡ Some name.now) }
@@ -101,62 +104,37 @@ pub fn symbol_name<'a>(strings: &'a [u8], entry: &SymbolEntry) -> &'a [u8]
     }
 }
 
-/// Whether a name comes before another in the order of their bytes, by what stands from the start of each on. It
-/// reads little further than the first byte that differs, and what is alike many bytes at a time.
-fn name_before(left: &[u8], right: &[u8]) -> bool
-    requires left { is_some (name_from left.now) ≡ true }
-    requires right { is_some (name_from right.now) ≡ true }
-    ensures { result ≡ bytes_before (unwrap_or (name_from left.now) []) (unwrap_or (name_from right.now) []) }
+/// The bytes up to the first zero byte, which must be there, but no more than are compared. No others are read.
+fn leading_front(bytes: &[u8]) -> &[u8]
+    requires { is_some (name_from bytes.now) ≡ true }
+    ensures { result.now ≡ leading (unwrap_or (name_from bytes.now) []) }
 {
-    let front = alike_front(left, right);
-    differs_before(&left[front..], &right[front..])
-}
-
-/// The same, byte by byte.
-fn differs_before(left: &[u8], right: &[u8]) -> bool
-    requires left { is_some (name_from left.now) ≡ true }
-    requires right { is_some (name_from right.now) ≡ true }
-    ensures { result ≡ bytes_before (unwrap_or (name_from left.now) []) (unwrap_or (name_from right.now) []) }
-{
-    let mut left = left;
-    let mut right = right;
-    'bytes: loop {
-        let [b, right_rest @ ..] = right else {
-            return false;
-        };
-        let [a, left_rest @ ..] = left else {
-            return true;
-        };
-        if *b == 0 {
-            return false;
-        }
-        if *a == 0 {
-            return true;
-        }
-        if a != b {
-            return a < b;
-        }
-        left = left_rest;
-        right = right_rest;
+    let searched = bytes.len().min(COMPARED);
+    match memchr(0, &bytes[..searched]) {
+        Some(end) => &bytes[..end],
+        None => &bytes[..searched],
     }
 }
 
-/// Whether the name at one place of the strings, which end their last name at `end`, comes before that at another.
+/// What is compared of the name of an entry. The strings end their last name at `end`.
 #[tactic(auto, using(crate::proofs::Proper::proper_names), unfolding(elf32_read::specs::Fields::name_at))]
-fn place_before(strings: &[u8], end: usize, a: usize, b: usize) -> bool
+fn leading_name<'a>(strings: &'a [u8], end: usize, entry: &SymbolEntry) -> &'a [u8]
     requires { end ≡ zero_end strings.now }
-    ensures { result ≡ bytes_before (unwrap_or (name_at strings.now a) []) (unwrap_or (name_at strings.now b) []) }
+    ensures { result.now ≡ leading (unwrap_or (name_at strings.now entry.now.name) []) }
 {
-    if b >= end {
-        return false;
+    let start = entry.name as usize;
+    if start < end {
+        leading_front(&strings[start..])
+    } else {
+        &[]
     }
-    if a >= end {
-        return strings[b] != 0;
-    }
-    if a == b {
-        return false;
-    }
-    name_before(&strings[a..], &strings[b..])
+}
+
+/// Whether bytes come before others in their order.
+fn comes_before(left: &[u8], right: &[u8]) -> bool
+    ensures { result ≡ bytes_before left.now right.now }
+{
+    left.cmp(&right).is_lt()
 }
 
 pub fn is_preferred(a: &SymbolEntry, b: &SymbolEntry) -> bool
@@ -171,7 +149,8 @@ pub fn is_nearer(strings: &[u8], end: usize, a: &SymbolEntry, b: &SymbolEntry) -
     ensures { result ≡ entry_nearer strings.now a.now b.now }
 {
     b.address < a.address
-        || (a.address == b.address && place_before(strings, end, a.name as usize, b.name as usize))
+        || (a.address == b.address
+            && comes_before(leading_name(strings, end, a), leading_name(strings, end, b)))
 }
 
 #[tactic(auto, unfolding(elf32_read::specs::Fields::name_at))]

@@ -14,6 +14,22 @@ fn made(alloc: Global, text: &str) -> Result<Vec<u8>, RowFault> {
     Ok(plain(alloc, &words, &data)?)
 }
 
+/// The most times that a part of a file is repeated.
+const MOST_TIMES: u32 = 4096;
+
+/// The bytes of a row `file BYTES..`: parts, each as often as the number behind its `*` says.
+pub fn parts(alloc: Global, text: &str) -> Result<Vec<u8>, RowFault> {
+    let mut bytes = Vec::new(alloc);
+    for part in text.split_ascii_whitespace() {
+        let (digits, times) = part.split_once('*').unwrap_or((part, "1"));
+        let part = read_hex(alloc, digits)?;
+        for _ in 0..number(times).ok_or(RowFault::Unknown)?.min(MOST_TIMES) {
+            bytes.extend_from_slice(&part)?;
+        }
+    }
+    Ok(bytes)
+}
+
 /// The file of a row `generated NUMBER`, or of `plain WORDS..; BYTES`.
 pub fn file(alloc: Global, word: &str, rest: &str) -> Result<Vec<u8>, RowFault> {
     if word == "generated" {

@@ -5,7 +5,7 @@ mod names;
 
 use elf_symbols::{Symbols, symbols};
 use elf32_read::{ElfReadError, Image, read_image};
-use script_rows::{Bench, RowFault, read_hex};
+use script_rows::{Bench, RowFault};
 use std::alloc::Global;
 
 /// The file that was read last.
@@ -20,7 +20,7 @@ impl FileBench {
         FileBench { read: None }
     }
 
-    // What came of a row `file BYTES`, or of the bytes of a made file.
+    // What came of a row `file BYTES..`, or of the bytes of a made file.
     fn read(&mut self, alloc: Global, bytes: Vec<u8>) -> Result<String, RowFault> {
         self.read = None;
         match read_image(alloc, bytes) {
@@ -41,7 +41,7 @@ impl Bench for FileBench {
     fn answer(&mut self, alloc: Global, row: &str) -> Result<String, RowFault> {
         let (word, rest) = row.split_once(' ').unwrap_or((row, ""));
         match word {
-            "file" => self.read(alloc, read_hex(alloc, rest)?),
+            "file" => self.read(alloc, made::parts(alloc, rest)?),
             "generated" | "plain" => self.read(alloc, made::file(alloc, word, rest)?),
             "made" | "script" => made::answer(alloc, word, rest),
             _ => match &self.read {
