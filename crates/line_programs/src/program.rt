@@ -20,7 +20,8 @@ fn append(
 ) -> Result<Registers, LineError>
     ensures { Steps result (appended parameters.now registers rows.old) rows.new }
 {
-    rows.push_row(row_of(parameters, rows.name_count(), registers)?)?;
+    let row = row_of(parameters, rows, registers)?;
+    rows.push_row(row)?;
     Ok(Registers {
         prologue_end: false,
         previous_address: registers.address,
@@ -36,7 +37,7 @@ fn end(
 ) -> Result<Registers, LineError>
     ensures { Steps result (ended parameters.now registers rows.old) rows.new }
 {
-    let row = row_of(parameters, rows.name_count(), registers)?;
+    let row = row_of(parameters, rows, registers)?;
     rows.end_sequence(row.address)?;
     Ok(initial(parameters))
 }
@@ -79,7 +80,9 @@ fn step(
 /// unit's own table. A sequence that isn't ended gives no rows, nor does one without rows.
 ///
 /// # Errors
-/// The first fault that is met when the operations are read and done in order, or no memory for the rows.
+/// The first fault that is met when the operations are read and done in order, or no memory for the rows. A row for which
+/// there is no room is such a fault: each row that was appended takes room, and the row at the end of a sequence that has
+/// others. So do the rows of a sequence that isn't ended.
 pub fn program_rows(
     alloc: Global,
     parameters: &Parameters,

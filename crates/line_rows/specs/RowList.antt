@@ -1,5 +1,5 @@
 -- Line tables as lists (DWARF 5, section 6.2).
-use Rattle.std.specs.Prelude.{ℕ, ◌++◌, List, [], ◌∷◌}
+use Rattle.std.specs.Prelude.{ℕ, ◌+◌, ◌++◌, List, [], ◌∷◌, length, sum_by}
 use Rattle.line_rows.specs.declared.row.Row.{Row}
 use Rattle.line_rows.specs.declared.row.SequenceView.{SequenceView}
 use Rattle.line_rows.specs.declared.fault.UnitFault.{UnitFault}
@@ -28,6 +28,23 @@ pub record Building : Type 0 where
   pub pending : List Row
   pub names : List (List ℕ)
   pub faults : List UnitFault
+
+-- the rows of a sequence, and the one that ends it; a sequence without rows is none
+abbrev pub ended_count : List Row → ℕ
+ended_count [] = 0
+ended_count (row ∷ rows) = length rows + 2
+
+-- how many rows sequences have, with the row that ends each
+abbrev pub rows_among : List Sequence → ℕ
+rows_among sequences = sum_by (λ s. ended_count s.rows) sequences
+
+-- how many rows were appended so far, with those of a sequence that isn't ended
+abbrev pub row_count : Building → ℕ
+row_count b = rows_among b.sequences + length b.pending
+
+-- how many rows a table may have: as many as instructions can be mapped
+abbrev pub row_limit : ℕ
+row_limit = 4194304
 
 -- a sequence that isn't ended counts for nothing
 abbrev pub finished : Building → RowList

@@ -1,7 +1,7 @@
 //! The rows of a section, and how they are put together.
 
 ghost use Rattle.std.specs.Prelude.{◌≡◌, ◌+◌, ◌<◌, [], ◌∷◌, ◌++◌, Some, length, OnOk, OnErr, slice_get};
-ghost use Rattle.line_rows.specs.RowList.{ended_with, finished, no_rows, nothing_built, sequence_shown};
+ghost use Rattle.line_rows.specs.RowList.{ended_with, finished, no_rows, nothing_built, row_count, sequence_shown};
 
 use crate::fault::UnitFault;
 use crate::names::FileNames;
@@ -146,6 +146,13 @@ impl RowsBuilder {
     {
         self.faults.push(fault)?;
         Ok(())
+    }
+
+    /// How many rows were pushed, with one that ends each sequence.
+    pub fn row_count(&self) -> usize
+        ensures { result ≡ row_count self.now }
+    {
+        self.sequences.row_count()
     }
 
     /// How many sequences are ended.

@@ -1,5 +1,5 @@
 ghost use Rattle.std.specs.Prelude.{◌≡◌, ◌+◌, ◌<◌, [], ◌∷◌, ◌++◌, Some, length, OnOk, OnErr, slice_get};
-ghost use Rattle.line_rows.specs.RowList.{ended_with, sequence_shown};
+ghost use Rattle.line_rows.specs.RowList.{ended_with, rows_among, sequence_shown};
 
 use crate::row::{Row, SequenceView};
 use dbg_traits::NoMemory;
@@ -68,6 +68,13 @@ impl Sequences {
             self.pending = past;
         }
         Ok(())
+    }
+
+    /// How many rows there are, with the one that ends each sequence and those of the one that isn't ended.
+    pub fn row_count(&self) -> usize
+        ensures { result ≡ rows_among self.now.ended + length self.now.pending }
+    {
+        self.rows.len() + self.ranges.len()
     }
 
     /// How many sequences are ended.
