@@ -3,7 +3,7 @@ use Rattle.std.proofs.Common.{◌≡◌, ℕ, ◌+◌, ◌-◌, List, [], ◌∷
 use Rattle.std.specs.Prelude.{flat_map, Result, Ok, Err}
 use Rattle.std.proofs.lemmas.List.Sums.{fold-append, sum_by-append}
 use Rattle.std.proofs.lemmas.List.{length-map}
-use Rattle.line_rows.specs.RowList.{Building, Sequence, ended_count, ended_with, finished, row_limit, rows_among}
+use Rattle.line_rows.specs.RowList.{Building, Sequence, room_of, ended_with, finished, table_room, room_taken}
 use Rattle.line_rows.specs.Sections.{Sections}
 use Rattle.line_rows.specs.declared.row.Row.{Row}
 use Rattle.line_rows.specs.declared.fault.LineFault.{LineFault}
@@ -96,28 +96,28 @@ flat_append : {A B : Type 0} (f : A → List B) (xs ys : List A) → flat_map f 
 flat_append f [] ys = refl
 flat_append f (x ∷ xs) ys = ap (λ (l : List _). f x ++ l) (flat_append f xs ys) ∙ sym (append_assoc (f x) (flat_map f xs) (flat_map f ys))
 
-among_append : (ss more : List Sequence) → rows_among (ss ++ more) ≡ rows_among ss + rows_among more
-among_append ss more = sum_by-append (λ s. ended_count s.rows) ss more
+among_append : (ss more : List Sequence) → room_taken (ss ++ more) ≡ room_taken ss + room_taken more
+among_append ss more = sum_by-append (λ s. room_of s.rows) ss more
 
 -- a sequence has as many rows under the numbers of all names
-count_by : (unit : UnitRows) (all : List (List ℕ)) (rows : List Row) (end : ℕ) → rows_among (ended_with [] (map (numbered all unit) rows) end) ≡ ended_count rows
+count_by : (unit : UnitRows) (all : List (List ℕ)) (rows : List Row) (end : ℕ) → room_taken (ended_with [] (map (numbered all unit) rows) end) ≡ room_of rows
 count_by unit all [] end = refl
 count_by unit all (r ∷ rows) end = omega (arith, length-map rows (numbered all unit))
 
-sequences_counted : (unit : UnitRows) (all : List (List ℕ)) (ss : List Sequence) → rows_among (flat_map (numbered_sequence all unit) ss) ≡ rows_among ss
+sequences_counted : (unit : UnitRows) (all : List (List ℕ)) (ss : List Sequence) → room_taken (flat_map (numbered_sequence all unit) ss) ≡ room_taken ss
 sequences_counted unit all [] = refl
 sequences_counted unit all (s ∷ ss) =
     let first = among_append (numbered_sequence all unit s) (flat_map (numbered_sequence all unit) ss) in
     omega (arith, first, count_by unit all s.rows s.end, sequences_counted unit all ss, among_append (s ∷ []) ss)
 
 -- the room behind what a unit adds
-room_after : (all : List (List ℕ)) (done : List Sequence) (room : ℕ) (result : Result UnitRows LineFault) → room ≡ row_limit - rows_among done
-    → room_behind room result ≡ row_limit - rows_among (done ++ flat_map (numbered_sequences all) (rows_given result))
+room_after : (all : List (List ℕ)) (done : List Sequence) (room : ℕ) (result : Result UnitRows LineFault) → room ≡ table_room - room_taken done
+    → room_behind room result ≡ table_room - room_taken (done ++ flat_map (numbered_sequences all) (rows_given result))
 room_after all done room (Ok unit) e =
-    let counted : rows_among (numbered_sequences all unit ++ []) ≡ rows_among unit.sequences =
-    ap rows_among (append-nil (numbered_sequences all unit)) ∙ sequences_counted unit all unit.sequences in
+    let counted : room_taken (numbered_sequences all unit ++ []) ≡ room_taken unit.sequences =
+    ap room_taken (append-nil (numbered_sequences all unit)) ∙ sequences_counted unit all unit.sequences in
     omega (arith, e, counted, among_append done (numbered_sequences all unit ++ []))
-room_after all done room (Err f) e = e ∙ ap (λ (l : List Sequence). row_limit - rows_among l) (sym (append-nil done))
+room_after all done room (Err f) e = e ∙ ap (λ (l : List Sequence). table_room - room_taken l) (sym (append-nil done))
 
 -- what some units give
 abbrev given : List UnitGiven → List UnitRows
@@ -126,7 +126,7 @@ given units = flat_map (λ u. rows_given u.given) units
 abbrev blamed : List UnitGiven → List UnitFault
 blamed units = flat_map (λ u. fault_given u.place u.given) units
 
-units_added : (s : Sections) (room : ℕ) (done : List Sequence) (names : List (List ℕ)) (faults : List UnitFault) (units : List Unit) (all : List (List ℕ)) → room ≡ row_limit - rows_among done
+units_added : (s : Sections) (room : ℕ) (done : List Sequence) (names : List (List ℕ)) (faults : List UnitFault) (units : List Unit) (all : List (List ℕ)) → room ≡ table_room - room_taken done
     → all ≡ with_all names (flat_map names_of (given (units_given s room units)))
     → fold (add_unit_of s) (closed done names faults) units ≡ closed (done ++ flat_map (numbered_sequences all) (given (units_given s room units))) all (faults ++ blamed (units_given s room units))
 units_added s room done names faults [] all left e =
@@ -151,4 +151,4 @@ units_added s room done names faults (u ∷ units) all left e =
 
 pub declared : (s : Sections) → finished (added s) ≡ rows_of s
 unfolding added rows_of
-declared s = ap finished (units_added s row_limit [] [] [] (units_of s.line) (with_all [] (flat_map names_of (given (units_given s row_limit (units_of s.line))))) refl refl)
+declared s = ap finished (units_added s table_room [] [] [] (units_of s.line) (with_all [] (flat_map names_of (given (units_given s table_room (units_of s.line))))) refl refl)

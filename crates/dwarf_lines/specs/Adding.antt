@@ -1,6 +1,6 @@
 -- The rows of the units one after another, as they are added, and what the steps of that give.
 use Rattle.std.specs.Prelude.{◌≡◌, ⊤, ℕ, ◌-◌, List, [], ◌∷◌, ◌++◌, length, map, fold, nat_lt, slice_set, Option, Some, Result, Ok, Err, if◌then◌else◌}
-use Rattle.line_rows.specs.RowList.{Building, Sequence, ended_with, nothing_built, row_count, row_limit}
+use Rattle.line_rows.specs.RowList.{Building, Sequence, ended_with, nothing_built, room_used, table_room}
 use Rattle.line_rows.specs.Sections.{Sections, sections_shown}
 use Rattle.line_rows.specs.declared.row.Row.{Row}
 use Rattle.line_rows.specs.declared.fault.LineFault.{LineFault}
@@ -39,7 +39,7 @@ add_result place rows (Err e) = record rows { faults = rows.faults ++ record { o
 
 -- the room that is left behind some rows
 abbrev pub room_left : Building → ℕ
-room_left rows = row_limit - row_count rows
+room_left rows = table_room - room_used rows
 
 abbrev pub add_unit_of : Sections → Building → Unit → Building
 add_unit_of s rows unit = add_result unit.place rows (unit_of s (room_left rows) unit)

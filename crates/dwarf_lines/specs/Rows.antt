@@ -8,7 +8,7 @@ use Rattle.line_headers.specs.declared.header.Header.{Header}
 use Rattle.line_headers.specs.declared.places.NamePlace.{NamePlace}
 use Rattle.line_programs.specs.Machine.{program_of}
 use Rattle.line_programs.specs.declared.parameters.Parameters.{Parameters}
-use Rattle.line_rows.specs.RowList.{RowList, row_limit, rows_among}
+use Rattle.line_rows.specs.RowList.{RowList, table_room, room_taken}
 use Rattle.line_rows.specs.declared.fault.LineFault.{LineFault}
 use Rattle.line_rows.specs.declared.fault.UnitFault.{UnitFault}
 use Rattle.dwarf_lines.specs.Names.{name_in}
@@ -62,7 +62,7 @@ unit_of s room unit = within_end unit.end (λ end. rows_in (texts_in s) (up_to e
 
 -- the room behind a unit; one with a fault takes none
 abbrev pub room_behind : ℕ → Result UnitRows LineFault → ℕ
-room_behind room (Ok unit) = room - rows_among unit.sequences
+room_behind room (Ok unit) = room - room_taken unit.sequences
 room_behind room (Err e) = room
 
 -- where a unit begins, and what it gives
@@ -86,7 +86,7 @@ fault_given place (Err e) = record { offset = place; fault = e } ∷ []
 
 -- the units of a table, which has no more rows than it may
 abbrev pub table_units : Sections → List UnitGiven
-table_units s = units_given s row_limit (units_of s.line)
+table_units s = units_given s table_room (units_of s.line)
 
 -- what the units give that have no fault, and the names that their rows have
 abbrev pub read_units : Sections → List UnitRows

@@ -15,8 +15,8 @@ use line_headers::TextEnds;
 use line_rows::{LineError, LineSections, Row, RowsBuilder, UnitFault};
 use std::alloc::Global;
 
-/// How many rows a table may have.
-const MOST_ROWS: usize = 4_194_304;
+/// How many rows a table has room for.
+const TABLE_ROOM: u128 = 4_194_304;
 
 // Remembers the number of a file that is in the table.
 fn remember(known: &mut [Option<u32>], k: usize, number: u32)
@@ -108,10 +108,10 @@ fn add_unit(
     Ok(())
 }
 
-fn room_left(rows: &RowsBuilder) -> usize
+fn room_left(rows: &RowsBuilder) -> u128
     ensures { result ≡ room_left rows.now }
 {
-    MOST_ROWS.saturating_sub(rows.row_count())
+    TABLE_ROOM.saturating_sub(rows.room_used())
 }
 
 /// Adds what the unit at a place gives where the table has room for its rows, or its fault.

@@ -28,7 +28,7 @@ fn program_in(
     alloc: Global,
     header: Header,
     file_count: usize,
-    room: usize,
+    room: u128,
     bytes: &[u8],
 ) -> Result<Rows, LineError>
     requires { IsWithin bytes.now header }
@@ -56,7 +56,7 @@ pub fn read_unit(
     sections: &LineSections<'_>,
     at: usize,
     ends: TextEnds,
-    room: usize,
+    room: u128,
 ) -> Result<UnitFound, LineError>
     ensures { GivesUnit (sections_shown sections.now) result (rows_in (texts_before ends) (sections_shown sections.now) room at) }
 {

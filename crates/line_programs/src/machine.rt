@@ -119,13 +119,15 @@ fn file_number(parameters: &Parameters, defined: usize, file: u64) -> Option<u32
     }
 }
 
-/// The row that the registers show, behind others.
+/// The row that the registers show, if other rows leave so much room.
 pub fn row_of(
     parameters: &Parameters,
     rows: &RowsBuilder,
+    size: u128,
     registers: Registers,
 ) -> Result<Row, LineFault>
-    ensures { result ≡ row_of parameters.now rows.now registers }
+    requires { 0 < size }
+    ensures { result ≡ row_of parameters.now rows.now size registers }
 {
     let Some(file) = file_number(parameters, rows.name_count(), registers.file) else {
         return Err(LineFault::File);
@@ -133,7 +135,7 @@ pub fn row_of(
     if registers.address < registers.previous_address {
         return Err(LineFault::Falls);
     }
-    if rows.row_count() >= parameters.room {
+    if parameters.room.saturating_sub(rows.room_used()) < size {
         return Err(LineFault::Rows);
     }
     Ok(Row {

@@ -1,4 +1,4 @@
-/// What a unit's header says of its program (DWARF 5, section 6.2.4), and how many rows it may have. The lengths of the
+/// What a unit's header says of its program (DWARF 5, section 6.2.4), and the room for its rows. The lengths of the
 /// standard opcodes stand apart.
 #[derive(Clone, Copy, Debug)]
 pub struct Parameters {
@@ -16,6 +16,6 @@ pub struct Parameters {
     pub first_file: u32,
     /// How many files the header's table has.
     pub file_count: usize,
-    /// How many rows there may be, with the one that ends each sequence.
-    pub room: usize,
+    /// A row takes one of it, and the row that ends a sequence two.
+    pub room: u128,
 }

@@ -12,6 +12,11 @@ use crate::registers::Registers;
 use line_rows::{LineError, Rows, RowsBuilder};
 use std::alloc::Global;
 
+/// The room that a row takes, and that which the row at the end of a sequence takes.
+const ROW_SIZE: u128 = 1;
+
+const END_SIZE: u128 = 2;
+
 /// Appends the row that the registers show.
 fn append(
     parameters: &Parameters,
@@ -20,7 +25,7 @@ fn append(
 ) -> Result<Registers, LineError>
     ensures { Steps result (appended parameters.now registers rows.old) rows.new }
 {
-    let row = row_of(parameters, rows, registers)?;
+    let row = row_of(parameters, rows, ROW_SIZE, registers)?;
     rows.push_row(row)?;
     Ok(Registers {
         prologue_end: false,
@@ -37,7 +42,7 @@ fn end(
 ) -> Result<Registers, LineError>
     ensures { Steps result (ended parameters.now registers rows.old) rows.new }
 {
-    let row = row_of(parameters, rows, registers)?;
+    let row = row_of(parameters, rows, END_SIZE, registers)?;
     rows.end_sequence(row.address)?;
     Ok(initial(parameters))
 }
@@ -81,8 +86,7 @@ fn step(
 ///
 /// # Errors
 /// The first fault that is met when the operations are read and done in order, or no memory for the rows. A row for which
-/// there is no room is such a fault: each row that was appended takes room, and the row at the end of a sequence that has
-/// others. So do the rows of a sequence that isn't ended.
+/// there is no room is such a fault, also in a sequence that isn't ended, and a row that would end a sequence without rows.
 pub fn program_rows(
     alloc: Global,
     parameters: &Parameters,

@@ -29,22 +29,21 @@ pub record Building : Type 0 where
   pub names : List (List ℕ)
   pub faults : List UnitFault
 
--- the rows of a sequence, and the one that ends it; a sequence without rows is none
-abbrev pub ended_count : List Row → ℕ
-ended_count [] = 0
-ended_count (row ∷ rows) = length rows + 2
+-- a sequence takes room for its rows and, by the row that ends it, for two more; one without rows is none
+abbrev pub room_of : List Row → ℕ
+room_of [] = 0
+room_of (row ∷ rows) = length rows + 3
 
--- how many rows sequences have, with the row that ends each
-abbrev pub rows_among : List Sequence → ℕ
-rows_among sequences = sum_by (λ s. ended_count s.rows) sequences
+abbrev pub room_taken : List Sequence → ℕ
+room_taken sequences = sum_by (λ s. room_of s.rows) sequences
 
--- how many rows were appended so far, with those of a sequence that isn't ended
-abbrev pub row_count : Building → ℕ
-row_count b = rows_among b.sequences + length b.pending
+-- the room of what was appended so far, with the rows of a sequence that isn't ended
+abbrev pub room_used : Building → ℕ
+room_used b = room_taken b.sequences + length b.pending
 
--- how many rows a table may have: as many as instructions can be mapped
-abbrev pub row_limit : ℕ
-row_limit = 4194304
+-- a table has room for as many rows as instructions can be mapped
+abbrev pub table_room : ℕ
+table_room = 4194304
 
 -- a sequence that isn't ended counts for nothing
 abbrev pub finished : Building → RowList

@@ -1,7 +1,7 @@
 //! The rows of a section, and how they are put together.
 
 ghost use Rattle.std.specs.Prelude.{◌≡◌, ◌+◌, ◌<◌, [], ◌∷◌, ◌++◌, Some, length, OnOk, OnErr, slice_get};
-ghost use Rattle.line_rows.specs.RowList.{ended_with, finished, no_rows, nothing_built, row_count, sequence_shown};
+ghost use Rattle.line_rows.specs.RowList.{ended_with, finished, no_rows, nothing_built, room_used, sequence_shown};
 
 use crate::fault::UnitFault;
 use crate::names::FileNames;
@@ -148,11 +148,11 @@ impl RowsBuilder {
         Ok(())
     }
 
-    /// How many rows were pushed, with one that ends each sequence.
-    pub fn row_count(&self) -> usize
-        ensures { result ≡ row_count self.now }
+    /// How much room the rows take, with two for the end of each sequence.
+    pub fn room_used(&self) -> u128
+        ensures { result ≡ room_used self.now }
     {
-        self.sequences.row_count()
+        self.sequences.room_used()
     }
 
     /// How many sequences are ended.

@@ -2,7 +2,7 @@
 use Rattle.std.proofs.Common.{◌∙◌, ap, List, ◌++◌, ◌∷◌, [], arith}
 use Rattle.line_rows.specs.KeptSequences.{sequences_in}
 use Rattle.line_rows.specs.declared.row.Row.{Row}
-use Rattle.line_rows.specs.RowList.{SequenceList, rows_among}
+use Rattle.line_rows.specs.RowList.{SequenceList, room_taken}
 use Rattle.line_rows.proofs.Flat.{sequences_in-append, sequences_push}
 use Rattle.line_rows.proofs.sequences.Sequences.push.Goals as goal
 
@@ -14,7 +14,7 @@ invariant_of-self-2 c =
     record {
       ranges = kept.ranges;
       pending = omega (arith, kept.pending, c.in_ok-push.ensures.len);
-      whole = ap rows_among (same ∙ sequences_in-append i.rows.items (c.args.row ∷ []) i.pending i.ranges.items kept.pending kept.ranges) ∙ kept.whole;
+      whole = ap room_taken (same ∙ sequences_in-append i.rows.items (c.args.row ∷ []) i.pending i.ranges.items kept.pending kept.ranges) ∙ kept.whole;
     }
 
 pub returns-clause-ok : goal.returns-clause-ok
