@@ -29,7 +29,8 @@ fn up_to<'a>(sections: &LineSections<'a>, end: usize) -> LineSections<'a>
 /// rows have are numbered from 0, each once, in the order of the rows.
 ///
 /// # Errors
-/// No memory for the rows and their names. No bytes of the sections are an error.
+/// No memory for the rows and their names, or names for which `file_names` keeps none. No other bytes of the sections are an
+/// error.
 pub fn rows(alloc: Global, sections: &LineSections<'_>) -> Result<Rows, NoMemory>
     ensures { IfOk result (λ r. r ≡ rows_of (sections_shown sections.now)) }
 {
