@@ -1,5 +1,5 @@
 -- The state machine of a line number program (DWARF 4 and 5, sections 6.2.2 and 6.2.5).
-use Rattle.std.specs.Prelude.{◌≡◌, ℕ, ◌+◌, ◌-◌, ◌*◌, ◌/◌, ◌%◌, ◌^◌, Bool, true, false, not, ◌&&◌, nat_le, nat_lt, ℤ, pos, ◌+ℤ◌, List, [], ◌∷◌, ◌++◌, length, Result, Ok, Err, Option, Some, None, if◌then◌else◌}
+use Rattle.std.specs.Prelude.{◌≡◌, ℕ, ◌+◌, ◌-◌, ◌*◌, ◌/◌, ◌%◌, ◌^◌, Bool, true, false, not, ◌&&◌, nat_le, nat_lt, pos, ◌+ℤ◌, List, [], ◌∷◌, ◌++◌, length, Result, Ok, Err, Option, Some, None, if◌then◌else◌}
 use Rattle.leb_read.specs.Leb.{text_at}
 use Rattle.line_rows.specs.Reading.{in_unit}
 use Rattle.line_rows.specs.RowList.{Building, RowList, ended_with, finished, nothing_built, room_used}
