@@ -1,8 +1,9 @@
 -- The rows of all units, added one after another, are those that `rows_of` says at once.
-use Rattle.std.proofs.Common.{◌≡◌, ℕ, List, [], ◌∷◌, ◌++◌, Some, map, fold, refl, ◌∙◌, ap, sym, append_assoc, append-nil}
+use Rattle.std.proofs.Common.{◌≡◌, ℕ, ◌+◌, ◌-◌, List, [], ◌∷◌, ◌++◌, Some, map, fold, refl, ◌∙◌, ap, sym, append_assoc, append-nil, arith}
 use Rattle.std.specs.Prelude.{flat_map, Result, Ok, Err}
-use Rattle.std.proofs.lemmas.List.Sums.{fold-append}
-use Rattle.line_rows.specs.RowList.{Building, Sequence, ended_with, finished}
+use Rattle.std.proofs.lemmas.List.Sums.{fold-append, sum_by-append}
+use Rattle.std.proofs.lemmas.List.{length-map}
+use Rattle.line_rows.specs.RowList.{Building, Sequence, room_of, ended_with, finished, table_room, room_taken}
 use Rattle.line_rows.specs.Sections.{Sections}
 use Rattle.line_rows.specs.declared.row.Row.{Row}
 use Rattle.line_rows.specs.declared.fault.LineFault.{LineFault}
@@ -10,9 +11,9 @@ use Rattle.line_rows.specs.declared.fault.UnitFault.{UnitFault}
 use Rattle.file_names.specs.Numbers.{is_known, number_of, place_of, with_name}
 use Rattle.file_names.proofs.Known.{known_name}
 use Rattle.dwarf_lines.proofs.Added.{known_by, place_by}
-use Rattle.dwarf_lines.specs.Adding.{add_result, add_row, add_sequence, add_unit, add_unit_of, added}
+use Rattle.dwarf_lines.specs.Adding.{add_result, add_row, add_sequence, add_unit, add_unit_of, added, room_left}
 use Rattle.dwarf_lines.specs.Numbers.{UnitRows, file_name, names_of, names_used, numbered, numbered_sequence, numbered_sequences}
-use Rattle.dwarf_lines.specs.Rows.{fault_given, rows_given, rows_of, unit_of}
+use Rattle.dwarf_lines.specs.Rows.{UnitGiven, fault_given, room_behind, rows_given, rows_of, unit_of, units_given}
 use Rattle.dwarf_lines.specs.Units.{Unit, units_of}
 
 -- the names with some more
@@ -95,32 +96,59 @@ flat_append : {A B : Type 0} (f : A → List B) (xs ys : List A) → flat_map f 
 flat_append f [] ys = refl
 flat_append f (x ∷ xs) ys = ap (λ (l : List _). f x ++ l) (flat_append f xs ys) ∙ sym (append_assoc (f x) (flat_map f xs) (flat_map f ys))
 
+among_append : (ss more : List Sequence) → room_taken (ss ++ more) ≡ room_taken ss + room_taken more
+among_append ss more = sum_by-append (λ s. room_of s.rows) ss more
+
+-- a sequence has as many rows under the numbers of all names
+count_by : (unit : UnitRows) (all : List (List ℕ)) (rows : List Row) (end : ℕ) → room_taken (ended_with [] (map (numbered all unit) rows) end) ≡ room_of rows
+count_by unit all [] end = refl
+count_by unit all (r ∷ rows) end = omega (arith, length-map rows (numbered all unit))
+
+sequences_counted : (unit : UnitRows) (all : List (List ℕ)) (ss : List Sequence) → room_taken (flat_map (numbered_sequence all unit) ss) ≡ room_taken ss
+sequences_counted unit all [] = refl
+sequences_counted unit all (s ∷ ss) =
+    let first = among_append (numbered_sequence all unit s) (flat_map (numbered_sequence all unit) ss) in
+    omega (arith, first, count_by unit all s.rows s.end, sequences_counted unit all ss, among_append (s ∷ []) ss)
+
+-- the room behind what a unit adds
+room_after : (all : List (List ℕ)) (done : List Sequence) (room : ℕ) (result : Result UnitRows LineFault) → room ≡ table_room - room_taken done
+    → room_behind room result ≡ table_room - room_taken (done ++ flat_map (numbered_sequences all) (rows_given result))
+room_after all done room (Ok unit) e =
+    let counted : room_taken (numbered_sequences all unit ++ []) ≡ room_taken unit.sequences =
+    ap room_taken (append-nil (numbered_sequences all unit)) ∙ sequences_counted unit all unit.sequences in
+    omega (arith, e, counted, among_append done (numbered_sequences all unit ++ []))
+room_after all done room (Err f) e = e ∙ ap (λ (l : List Sequence). table_room - room_taken l) (sym (append-nil done))
+
 -- what some units give
-abbrev given : Sections → List Unit → List UnitRows
-given s units = flat_map (λ u. rows_given (unit_of s u)) units
+abbrev given : List UnitGiven → List UnitRows
+given units = flat_map (λ u. rows_given u.given) units
 
-abbrev blamed : Sections → List Unit → List UnitFault
-blamed s units = flat_map (λ u. fault_given u.place (unit_of s u)) units
+abbrev blamed : List UnitGiven → List UnitFault
+blamed units = flat_map (λ u. fault_given u.place u.given) units
 
-units_added : (s : Sections) (done : List Sequence) (names : List (List ℕ)) (faults : List UnitFault) (units : List Unit) (all : List (List ℕ)) → all ≡ with_all names (flat_map names_of (given s units))
-    → fold (add_unit_of s) (closed done names faults) units ≡ closed (done ++ flat_map (numbered_sequences all) (given s units)) all (faults ++ blamed s units)
-units_added s done names faults [] all e =
+units_added : (s : Sections) (room : ℕ) (done : List Sequence) (names : List (List ℕ)) (faults : List UnitFault) (units : List Unit) (all : List (List ℕ)) → room ≡ table_room - room_taken done
+    → all ≡ with_all names (flat_map names_of (given (units_given s room units)))
+    → fold (add_unit_of s) (closed done names faults) units ≡ closed (done ++ flat_map (numbered_sequences all) (given (units_given s room units))) all (faults ++ blamed (units_given s room units))
+units_added s room done names faults [] all left e =
     ap (λ (l : List Sequence). closed l names faults) (sym (append-nil done))
     ∙ ap (λ (l : List UnitFault). closed (done ++ []) names l) (sym (append-nil faults))
     ∙ ap (λ (l : List (List ℕ)). closed (done ++ []) l (faults ++ [])) (sym e)
-units_added s done names faults (u ∷ units) all e =
-    let result = unit_of s u in
+units_added s room done names faults (u ∷ units) all left e =
+    let result = unit_of s room u in
+    let rest = units_given s (room_behind room result) units in
     let mine = rows_given result in
     let used = flat_map names_of mine in
-    let later = flat_map names_of (given s units) in
-    let whole : all ≡ with_all (with_all names used) later = e ∙ ap (with_all names) (flat_append names_of mine (given s units)) ∙ fold-append with_name names used later in
-    ap (λ (b : Building). fold (add_unit_of s) b units) (result_added u.place done names faults result all later whole)
-    ∙ units_added s (done ++ flat_map (numbered_sequences all) mine) (with_all names used) (faults ++ fault_given u.place result) units all whole
-    ∙ ap (λ (l : List Sequence). closed l all (faults ++ fault_given u.place result ++ blamed s units))
-    (append_assoc done (flat_map (numbered_sequences all) mine) (flat_map (numbered_sequences all) (given s units))
-    ∙ ap (λ (l : List Sequence). done ++ l) (sym (flat_append (numbered_sequences all) mine (given s units))))
-    ∙ ap (λ (l : List UnitFault). closed (done ++ flat_map (numbered_sequences all) (given s (u ∷ units))) all l) (append_assoc faults (fault_given u.place result) (blamed s units))
+    let later = flat_map names_of (given rest) in
+    let whole : all ≡ with_all (with_all names used) later = e ∙ ap (with_all names) (flat_append names_of mine (given rest)) ∙ fold-append with_name names used later in
+    let here : room_left (closed done names faults) ≡ room = omega (arith, left) in
+    ap (λ (n : ℕ). fold (add_unit_of s) (add_result u.place (closed done names faults) (unit_of s n u)) units) here
+    ∙ ap (λ (b : Building). fold (add_unit_of s) b units) (result_added u.place done names faults result all later whole)
+    ∙ units_added s (room_behind room result) (done ++ flat_map (numbered_sequences all) mine) (with_all names used) (faults ++ fault_given u.place result) units all (room_after all done room result left) whole
+    ∙ ap (λ (l : List Sequence). closed l all (faults ++ fault_given u.place result ++ blamed rest))
+    (append_assoc done (flat_map (numbered_sequences all) mine) (flat_map (numbered_sequences all) (given rest))
+    ∙ ap (λ (l : List Sequence). done ++ l) (sym (flat_append (numbered_sequences all) mine (given rest))))
+    ∙ ap (λ (l : List UnitFault). closed (done ++ flat_map (numbered_sequences all) (given (units_given s room (u ∷ units)))) all l) (append_assoc faults (fault_given u.place result) (blamed rest))
 
 pub declared : (s : Sections) → finished (added s) ≡ rows_of s
 unfolding added rows_of
-declared s = ap finished (units_added s [] [] [] (units_of s.line) (with_all [] (flat_map names_of (given s (units_of s.line)))) refl)
+declared s = ap finished (units_added s table_room [] [] [] (units_of s.line) (with_all [] (flat_map names_of (given (units_given s table_room (units_of s.line))))) refl refl)

@@ -5,7 +5,7 @@ use Rattle.line_rows.specs.declared.fault.LineFault.{LineFault}
 use Rattle.line_rows.specs.Sections.{Sections}
 use Rattle.line_headers.specs.Texts.{Texts, texts_in}
 use Rattle.line_rows.specs.RowList.{Building, RowList, finished, nothing_built}
-use Rattle.dwarf_lines.specs.Adding.{add_result, add_unit_of, added, named}
+use Rattle.dwarf_lines.specs.Adding.{add_result, add_unit_of, added, named, room_left}
 use Rattle.dwarf_lines.specs.declared.numbers.NameNumbers.{NameNumbers}
 use Rattle.dwarf_lines.specs.Rows.{rows_in, rows_of, up_to}
 use Rattle.dwarf_lines.specs.Units.{Unit, unit_end, units_from}
@@ -26,13 +26,13 @@ begins s numbers rows none empty =
 
 -- behind a unit
 pub goes_on : (s unit : Sections) (texts : Texts) (at end : ℕ) (old new : Building) → at < length s.line → at + 4 ≤ end → Ok end ≡ unit_end s.line at → texts ≡ texts_in s → unit ≡ up_to end s
-    → new ≡ add_result at old (rows_in texts unit (at + 4)) → behind s old at ≡ behind s new end
+    → new ≡ add_result at old (rows_in texts unit (room_left old) (at + 4)) → behind s old at ≡ behind s new end
 goes_on s unit texts at end old new h after e same narrow is =
     let f : Building → Unit → Building = add_unit_of s in
-    let now : add_result at old (rows_in (texts_in s) (up_to end s) (at + 4)) ≡ new =
-    ap (λ (t : Texts). add_result at old (rows_in t (up_to end s) (at + 4))) (sym same) ∙ ap (λ (u : Sections). add_result at old (rows_in texts u (at + 4))) (sym narrow) ∙ sym is in
+    let given : Texts → Sections → Building = λ t u. add_result at old (rows_in t u (room_left old) (at + 4)) in
+    let now : given (texts_in s) (up_to end s) ≡ new = ap (λ (t : Texts). given t (up_to end s)) (sym same) ∙ ap (given texts) (sym narrow) ∙ sym is in
     ap (λ (us : List Unit). fold f old us) (units_at s.line at (Ok end) h (sym e))
-    ∙ ap (λ (us : List Unit). fold f (add_result at old (rows_in (texts_in s) (up_to end s) (at + 4))) us) (units_behind s.line at end h after)
+    ∙ ap (λ (us : List Unit). fold f (given (texts_in s) (up_to end s)) us) (units_behind s.line at end h after)
     ∙ ap (λ (r : Building). behind s r end) now
 
 -- a unit whose end can't be told is the last

@@ -1,6 +1,6 @@
 -- The rows of the units one after another, as they are added, and what the steps of that give.
-use Rattle.std.specs.Prelude.{◌≡◌, ⊤, ℕ, List, [], ◌∷◌, ◌++◌, length, map, fold, nat_lt, slice_set, Option, Some, Result, Ok, Err, if◌then◌else◌}
-use Rattle.line_rows.specs.RowList.{Building, Sequence, ended_with, nothing_built}
+use Rattle.std.specs.Prelude.{◌≡◌, ⊤, ℕ, ◌-◌, List, [], ◌∷◌, ◌++◌, length, map, fold, nat_lt, slice_set, Option, Some, Result, Ok, Err, if◌then◌else◌}
+use Rattle.line_rows.specs.RowList.{Building, Sequence, ended_with, nothing_built, room_used, table_room}
 use Rattle.line_rows.specs.Sections.{Sections, sections_shown}
 use Rattle.line_rows.specs.declared.row.Row.{Row}
 use Rattle.line_rows.specs.declared.fault.LineFault.{LineFault}
@@ -37,8 +37,12 @@ abbrev pub add_result : ℕ → Building → Result UnitRows LineFault → Build
 add_result place rows (Ok unit) = add_unit unit rows
 add_result place rows (Err e) = record rows { faults = rows.faults ++ record { offset = place; fault = e } ∷ [] }
 
+-- the room that is left behind some rows
+abbrev pub room_left : Building → ℕ
+room_left rows = table_room - room_used rows
+
 abbrev pub add_unit_of : Sections → Building → Unit → Building
-add_unit_of s rows unit = add_result unit.place rows (unit_of s unit)
+add_unit_of s rows unit = add_result unit.place rows (unit_of s (room_left rows) unit)
 
 -- all units; `rows_of` says the same of them at once
 unfoldable pub added : Sections → Building

@@ -4,7 +4,7 @@ ghost use Rattle.std.specs.Prelude.{◌≡◌, ◌+◌, ◌-◌, ◌<◌, ◌≤
 ghost use Rattle.std.specs.List.{slice_index_or};
 ghost use Rattle.line_rows.specs.Sections.{sections_shown};
 ghost use Rattle.line_headers.specs.Texts.{texts_before};
-ghost use Rattle.dwarf_lines.specs.Adding.{Adds, AddsUnit, AreKept, FindsNumber, add_result, add_row, add_sequence, add_unit, named, no_sequence, remembered, shown_in};
+ghost use Rattle.dwarf_lines.specs.Adding.{Adds, AddsUnit, AreKept, FindsNumber, add_result, add_row, add_sequence, add_unit, named, no_sequence, remembered, room_left, shown_in};
 ghost use Rattle.dwarf_lines.specs.Numbering.{AreNumbers};
 ghost use Rattle.dwarf_lines.specs.Rows.{rows_in};
 
@@ -14,6 +14,9 @@ use dbg_traits::NoMemory;
 use line_headers::TextEnds;
 use line_rows::{LineError, LineSections, Row, RowsBuilder, UnitFault};
 use std::alloc::Global;
+
+/// How many rows a table has room for.
+const TABLE_ROOM: u128 = 4_194_304;
 
 // Remembers the number of a file that is in the table.
 fn remember(known: &mut [Option<u32>], k: usize, number: u32)
@@ -105,7 +108,13 @@ fn add_unit(
     Ok(())
 }
 
-/// Adds what the unit at a place gives, or its fault.
+fn room_left(rows: &RowsBuilder) -> u128
+    ensures { result ≡ room_left rows.now }
+{
+    TABLE_ROOM.saturating_sub(rows.room_used())
+}
+
+/// Adds what the unit at a place gives where the table has room for its rows, or its fault.
 pub fn add_at(
     alloc: Global,
     sections: &LineSections<'_>,
@@ -116,9 +125,9 @@ pub fn add_at(
 ) -> Result<(), NoMemory>
     requires within { at + 4 ≤ length sections.now.line.now }
     requires numbers { AreNumbers (sections_shown sections.now) numbers.old }
-    ensures { OnOk result (AddsUnit (add_result at (named rows.old numbers.old) (rows_in (texts_before ends) (sections_shown sections.now) (at + 4))) (sections_shown sections.now) numbers.new rows.new) }
+    ensures { OnOk result (AddsUnit (add_result at (named rows.old numbers.old) (rows_in (texts_before ends) (sections_shown sections.now) (room_left rows.old) (at + 4))) (sections_shown sections.now) numbers.new rows.new) }
 {
-    match read_unit(alloc, sections, at + 4, ends) {
+    match read_unit(alloc, sections, at + 4, ends, room_left(rows)) {
         Ok(unit) => add_unit(alloc, sections, &unit, numbers, rows),
         Err(LineError::Fault(fault)) => rows.push_fault(UnitFault { offset: at, fault }),
         Err(LineError::NoMemory) => Err(NoMemory),

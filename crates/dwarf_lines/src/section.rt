@@ -24,11 +24,13 @@ fn up_to<'a>(sections: &LineSections<'a>, end: usize) -> LineSections<'a>
 /// The rows of the line tables of a program's sections.
 ///
 /// A unit with a fault gives no rows and stands in the list with the first fault that is met when its bytes are read in
-/// order. Behind a unit whose end can't be told nothing is read. A row's file is the number of a name: the names that
+/// order. A table has room for 4,194,304 rows, of which the end of each sequence takes two: a row without room is such a
+/// fault. Behind a unit whose end can't be told nothing is read. A row's file is the number of a name: the names that
 /// rows have are numbered from 0, each once, in the order of the rows.
 ///
 /// # Errors
-/// No memory for the rows and their names. No bytes of the sections are an error.
+/// No memory for the rows and their names, or names for which `file_names` keeps none. No other bytes of the sections are an
+/// error.
 pub fn rows(alloc: Global, sections: &LineSections<'_>) -> Result<Rows, NoMemory>
     ensures { IfOk result (λ r. r ≡ rows_of (sections_shown sections.now)) }
 {

@@ -7,6 +7,9 @@ use dbg_traits::NoMemory;
 use std::alloc::Global;
 use std::collections::BTreeMap;
 
+/// How many classes are kept at most: one for each byte of the names, of which those that end alike have their ends in common.
+const MOST_CLASSES: usize = 2_097_152;
+
 /// The classes of texts, and the numbers of those that are names.
 ///
 /// A link goes from a class by a byte to the class of the text with that byte in front. So a text costs a link a byte at
@@ -47,6 +50,17 @@ pub fn next_number(count: usize) -> Result<u32, NoMemory>
     Ok(count as u32)
 }
 
+/// The number of a further class. Classes of a long text of its own would take fifty times its size, so there is no memory for
+/// more than so many.
+fn next_class(count: usize) -> Result<u32, NoMemory>
+    ensures { IfOk result (λ n. n ≡ count) }
+{
+    if count >= MOST_CLASSES {
+        return Err(NoMemory);
+    }
+    next_number(count)
+}
+
 /// The class of a text by the class of what is behind its first byte. Without memory classes may have come to be, and no
 /// number.
 #[tactic(auto, using(crate::proofs::Grown::link_known))]
@@ -60,7 +74,7 @@ pub fn longer(classes: &mut Classes, class: u32, byte: u8) -> Result<u32, NoMemo
     if let Some(next) = classes.links.get(&key) {
         return Ok(*next);
     }
-    let next = next_number(classes.numbers.len())?;
+    let next = next_class(classes.numbers.len())?;
     classes.numbers.reserve(1)?;
     classes.links.insert(key, next)?;
     classes.numbers.push(None)?;

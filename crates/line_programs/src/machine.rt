@@ -6,7 +6,7 @@ ghost use Rattle.line_programs.specs.Machine.{advanced, initial, is_file, moved,
 use crate::operation::Operation;
 use crate::parameters::Parameters;
 use crate::registers::{Registers, residue};
-use line_rows::{LineFault, Row};
+use line_rows::{LineFault, Row, RowsBuilder};
 
 /// How a sequence begins.
 pub fn initial(parameters: &Parameters) -> Registers
@@ -119,19 +119,24 @@ fn file_number(parameters: &Parameters, defined: usize, file: u64) -> Option<u32
     }
 }
 
-/// The row that the registers show.
+/// The row that the registers show, if other rows leave so much room.
 pub fn row_of(
     parameters: &Parameters,
-    defined: usize,
+    rows: &RowsBuilder,
+    size: u128,
     registers: Registers,
 ) -> Result<Row, LineFault>
-    ensures { result ≡ row_of parameters.now defined registers }
+    requires { 0 < size }
+    ensures { result ≡ row_of parameters.now rows.now size registers }
 {
-    let Some(file) = file_number(parameters, defined, registers.file) else {
+    let Some(file) = file_number(parameters, rows.name_count(), registers.file) else {
         return Err(LineFault::File);
     };
     if registers.address < registers.previous_address {
         return Err(LineFault::Falls);
+    }
+    if parameters.room.saturating_sub(rows.room_used()) < size {
+        return Err(LineFault::Rows);
     }
     Ok(Row {
         address: registers.address,

@@ -1,5 +1,5 @@
 -- Line tables as lists (DWARF 5, section 6.2).
-use Rattle.std.specs.Prelude.{ℕ, ◌++◌, List, [], ◌∷◌}
+use Rattle.std.specs.Prelude.{ℕ, ◌+◌, ◌++◌, List, [], ◌∷◌, length, sum_by}
 use Rattle.line_rows.specs.declared.row.Row.{Row}
 use Rattle.line_rows.specs.declared.row.SequenceView.{SequenceView}
 use Rattle.line_rows.specs.declared.fault.UnitFault.{UnitFault}
@@ -28,6 +28,22 @@ pub record Building : Type 0 where
   pub pending : List Row
   pub names : List (List ℕ)
   pub faults : List UnitFault
+
+-- a sequence takes room for its rows and, by the row that ends it, for two more; one without rows is none
+abbrev pub room_of : List Row → ℕ
+room_of [] = 0
+room_of (row ∷ rows) = length rows + 3
+
+abbrev pub room_taken : List Sequence → ℕ
+room_taken sequences = sum_by (λ s. room_of s.rows) sequences
+
+-- the room of what was appended so far, with the rows of a sequence that isn't ended
+abbrev pub room_used : Building → ℕ
+room_used b = room_taken b.sequences + length b.pending
+
+-- a table has room for as many rows as instructions can be mapped
+abbrev pub table_room : ℕ
+table_room = 4194304
 
 -- a sequence that isn't ended counts for nothing
 abbrev pub finished : Building → RowList

@@ -1,7 +1,7 @@
 //! The rows of a section, and how they are put together.
 
 ghost use Rattle.std.specs.Prelude.{◌≡◌, ◌+◌, ◌<◌, [], ◌∷◌, ◌++◌, Some, length, OnOk, OnErr, slice_get};
-ghost use Rattle.line_rows.specs.RowList.{ended_with, finished, no_rows, nothing_built, sequence_shown};
+ghost use Rattle.line_rows.specs.RowList.{ended_with, finished, no_rows, nothing_built, room_used, sequence_shown};
 
 use crate::fault::UnitFault;
 use crate::names::FileNames;
@@ -146,6 +146,13 @@ impl RowsBuilder {
     {
         self.faults.push(fault)?;
         Ok(())
+    }
+
+    /// How much room the rows take, with two for the end of each sequence.
+    pub fn room_used(&self) -> u128
+        ensures { result ≡ room_used self.now }
+    {
+        self.sequences.room_used()
     }
 
     /// How many sequences are ended.

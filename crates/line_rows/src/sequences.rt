@@ -1,5 +1,5 @@
 ghost use Rattle.std.specs.Prelude.{◌≡◌, ◌+◌, ◌<◌, [], ◌∷◌, ◌++◌, Some, length, OnOk, OnErr, slice_get};
-ghost use Rattle.line_rows.specs.RowList.{ended_with, sequence_shown};
+ghost use Rattle.line_rows.specs.RowList.{ended_with, room_taken, sequence_shown};
 
 use crate::row::{Row, SequenceView};
 use dbg_traits::NoMemory;
@@ -68,6 +68,13 @@ impl Sequences {
             self.pending = past;
         }
         Ok(())
+    }
+
+    /// How much room the rows take, with two for the end of each sequence.
+    pub fn room_used(&self) -> u128
+        ensures { result ≡ room_taken self.now.ended + length self.now.pending }
+    {
+        self.rows.len() as u128 + 2 * self.ranges.len() as u128
     }
 
     /// How many sequences are ended.

@@ -62,9 +62,9 @@ impl Bench for LineBench {
         let (word, rest) = row.split_once(' ').unwrap_or((row, ""));
         match word {
             "uleb" | "sleb" | "u8" | "u16" | "u32" | "text" => numbers::answer(alloc, word, rest),
-            "places" | "registers" | "wide" => programs::answer(alloc, word, rest),
+            "places" | "registers" | "wide" | "within" => programs::answer(alloc, word, rest),
             "pushed" => pushed::answer(alloc, rest),
-            "section" | "counts" => sections::answer(alloc, word, rest),
+            "section" | "counts" | "units" => sections::answer(alloc, word, rest),
             "words" | "generated" | "frames" => self.begin(alloc, word, rest),
             _ => self.of_program(alloc, word, rest),
         }

@@ -1,8 +1,21 @@
 -- The rows of ended sequences stay.
-use Rattle.std.proofs.Common.{◌∙◌, ap, ◌++◌, ◌∷◌, []}
-use Rattle.line_rows.specs.RowList.{SequenceList}
-use Rattle.line_rows.proofs.Flat.{sequences_push}
+use Rattle.std.proofs.Common.{◌∙◌, ap, List, ◌++◌, ◌∷◌, [], arith}
+use Rattle.line_rows.specs.KeptSequences.{sequences_in}
+use Rattle.line_rows.specs.declared.row.Row.{Row}
+use Rattle.line_rows.specs.RowList.{SequenceList, room_taken}
+use Rattle.line_rows.proofs.Flat.{sequences_in-append, sequences_push}
 use Rattle.line_rows.proofs.sequences.Sequences.push.Goals as goal
+
+pub invariant_of-self-2 : goal.invariant_of-self-2
+invariant_of-self-2 c =
+    let i = c.self.inside in
+    let kept = c.self.invariant in
+    let same = ap (λ (rows : List Row). sequences_in rows i.ranges.items) c.in_ok-push.ensures.items in
+    record {
+      ranges = kept.ranges;
+      pending = omega (arith, kept.pending, c.in_ok-push.ensures.len);
+      whole = ap room_taken (same ∙ sequences_in-append i.rows.items (c.args.row ∷ []) i.pending i.ranges.items kept.pending kept.ranges) ∙ kept.whole;
+    }
 
 pub returns-clause-ok : goal.returns-clause-ok
 returns-clause-ok c =
