@@ -1,12 +1,16 @@
 ghost use Rattle.std.specs.Prelude.{◌≡◌, [], All, IfOk, drop, slice_get, unwrap_or};
-ghost use Rattle.debug_info.specs.Contents.{units_shown};
+ghost use Rattle.debug_info.specs.Contents.{contents_of, shown, units_shown};
+ghost use Rattle.debug_info.specs.Functions.{function_at};
 ghost use Rattle.debug_info.specs.Info.{info_of, scope};
 ghost use Rattle.debug_info.specs.Rising.{IsRising, RisesFrom};
 ghost use Rattle.debug_info.specs.Shown.{shown_variables};
+ghost use Rattle.debug_info.specs.Steps.{IsTable};
+ghost use Rattle.debug_info.specs.TextLengths.{AreLengths};
 
 use crate::entry::Entry;
 use crate::fault::UnitFault;
 use crate::index::index_of;
+use crate::limits::{ABBREVS, FUNCTIONS, SECTION, first};
 use crate::offset::{Sections, Source};
 use crate::scope::{Texts, Var, variables_in};
 use crate::table::{Step, function_at, functions_of, table_of};
@@ -47,25 +51,50 @@ impl Model for Info {
 pub fn read_info(alloc: Global, sections: &Sections<'_>) -> Result<Info, NoMemory>
     ensures { IfOk result (λ info. info ≡ info_of sections.now.abbrevs.now sections.now.strs.now sections.now.info.now) }
 {
-    let index = index_of(alloc, sections.abbrevs)?;
-    let lengths = text_lengths_of(alloc, sections.strs)?;
-    let source = Source {
-        info: sections.info,
-        abbrevs: sections.abbrevs,
-        index: &index,
-        strs: sections.strs,
-        lengths: &lengths,
-    };
-    let contents = contents_of(alloc, &source)?;
-    let functions = functions_of(alloc, &contents.units)?;
-    let steps = table_of(alloc, &functions)?;
+    let abbrevs = first(sections.abbrevs, ABBREVS);
+    let strs = first(sections.strs, SECTION);
+    let info = first(sections.info, SECTION);
+    let lengths = text_lengths_of(alloc, strs)?;
+    let contents = contents_by(alloc, abbrevs, strs, &lengths, info)?;
+    let steps = steps_of(alloc, &contents)?;
     Ok(Info {
         contents,
         steps,
-        info: Vec::from_slice(alloc, sections.info)?,
-        strs: Vec::from_slice(alloc, sections.strs)?,
+        info: Vec::from_slice(alloc, info)?,
+        strs: Vec::from_slice(alloc, strs)?,
         lengths,
     })
+}
+
+// What the units give. The index of `.debug_abbrev` is let go before anything else is built.
+fn contents_by(
+    alloc: Global,
+    abbrevs: &[u8],
+    strs: &[u8],
+    lengths: &TextLengths,
+    info: &[u8],
+) -> Result<Contents, NoMemory>
+    requires { AreLengths strs.now lengths.now }
+    ensures rising { IfOk result (λ contents. All IsRising contents.units.items) }
+    ensures value { IfOk result (λ contents. shown contents ≡ contents_of abbrevs.now strs.now info.now) }
+{
+    let index = index_of(alloc, abbrevs)?;
+    let source = Source {
+        info,
+        abbrevs,
+        index: &index,
+        strs,
+        lengths,
+    };
+    contents_of(alloc, &source)
+}
+
+// The table of the first functions.
+fn steps_of(alloc: Global, contents: &Contents) -> Result<Vec<Step>, NoMemory>
+    ensures { IfOk result (λ steps. IsTable steps.items (function_at (units_shown contents.now.units.items))) }
+{
+    let functions = functions_of(alloc, &contents.units)?;
+    Ok(table_of(alloc, first(&functions, FUNCTIONS))?)
 }
 
 fn entries_of(units: &[Unit], unit: usize) -> &[Entry]
