@@ -1,5 +1,5 @@
 -- The attributes of entries, and what they say (DWARF 4, sections 2.2, 2.5.5, 2.6, 2.17, 3.3, 5.1, 7.5.4 and 7.8).
-use Rattle.std.specs.Prelude.{ℕ, zero, suc, ◌+◌, ◌^◌, ◌==◌, ◌||◌, Bool, List, [], ◌∷◌, length, min, Option, None, Some, Ok, Err, if◌then◌else◌}
+use Rattle.std.specs.Prelude.{ℕ, zero, suc, ◌+◌, ◌^◌, ◌==◌, ◌||◌, nat_lt, Bool, List, [], ◌∷◌, length, min, Option, None, Some, Ok, Err, if◌then◌else◌}
 use Rattle.debug_info.specs.Reading.{◌>>=◌, Read, found}
 use Rattle.debug_info.specs.Abbreviations.{specification_at}
 use Rattle.debug_info.specs.Expressions.{base_of, place_of}
@@ -96,18 +96,19 @@ abbrev pub constant_of : Option Value → Option ℕ
 constant_of (Some (value.Constant n)) = Some n
 constant_of _ = None
 
+-- an offset of 32 bits
 abbrev pub reference_of : Option Value → Option ℕ
-reference_of (Some (value.Reference offset)) = Some offset
+reference_of (Some (value.Reference offset)) = if nat_lt offset (2 ^ 32) then Some offset else None
 reference_of _ = None
 
 abbrev pub expression_of : Option Value → Option Operation
 expression_of (Some (value.Block operation)) = operation
 expression_of _ = None
 
--- the high address is one, or a length from the low one
+-- the high address is one, or a length from the low one; it has 32 bits
 abbrev pub range_of : Option Value → Option Value → Option Range
 range_of (Some (value.Address low)) (Some (value.Address high)) = Some (record { low = low; end = high })
-range_of (Some (value.Address low)) (Some (value.Constant n)) = Some (record { low = low; end = min (low + n) (2 ^ 32) })
+range_of (Some (value.Address low)) (Some (value.Constant n)) = Some (record { low = low; end = min (low + n) 4294967295 })
 range_of _ _ = None
 
 abbrev pub is_size : ℕ → Bool

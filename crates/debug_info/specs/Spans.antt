@@ -34,7 +34,7 @@ entries_shown (Ok entries) = Ok entries.items
 entries_shown (Err e) = Err e
 
 abbrev pub reading_shown : Reading → Contents
-reading_shown r = one_unit r.at (entries_shown r.entries)
+reading_shown r = one_unit r.at.at (entries_shown r.entries)
 
 abbrev pub IsRisingReading : Reading → Type 0
 IsRisingReading r = IfOk r.entries (λ entries. RisesFrom 0 entries.items)

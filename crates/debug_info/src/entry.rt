@@ -49,27 +49,27 @@ pub enum Kind {
 #[derive(Clone, Copy, Debug, PartialEq, Eq)]
 pub struct Range {
     pub low: u32,
-    /// Behind the last one, at most 2^32.
-    pub end: u64,
+    /// Behind the last one.
+    pub end: u32,
 }
 
-/// An entry of a unit.
+/// An entry of a unit. Fields stand in the order in which they take the least room.
 #[derive(Clone, Copy, Debug, PartialEq, Eq)]
 pub struct Entry {
     /// From the unit's beginning.
-    pub offset: usize,
-    /// How deep it stands: the unit's own entry at 1, and each child one deeper.
-    pub level: u8,
-    pub has_children: bool,
-    pub tag: Tag,
+    pub offset: u32,
+    /// The offset of its type's entry, from the unit's beginning.
+    pub type_of: Option<u32>,
     pub name: Option<TextPlace>,
     pub range: Option<Range>,
     pub place: Place,
     pub base: Base,
     /// The kind of a base type.
     pub basic: Kind,
-    /// The offset of its type's entry, from the unit's beginning.
-    pub type_of: Option<u64>,
+    pub tag: Tag,
+    /// How deep it stands: the unit's own entry at 1, and each child one deeper.
+    pub level: u8,
+    pub has_children: bool,
 }
 
 /// Most levels.
@@ -110,11 +110,11 @@ fn constant_of(value: Option<Value>) -> Option<u64>
     }
 }
 
-fn reference_of(value: Option<Value>) -> Option<u64>
+fn reference_of(value: Option<Value>) -> Option<u32>
     ensures { result ≡ reference_of value }
 {
     match value {
-        Some(Value::Reference(offset)) => Some(offset),
+        Some(Value::Reference(offset)) => u32::try_from(offset).ok(),
         _ => None,
     }
 }
@@ -133,13 +133,12 @@ fn range_of(low: Option<Value>, high: Option<Value>) -> Option<Range>
     ensures { result ≡ range_of low high }
 {
     match (low, high) {
-        (Some(Value::Address(low)), Some(Value::Address(high))) => Some(Range {
-            low,
-            end: u64::from(high),
-        }),
+        (Some(Value::Address(low)), Some(Value::Address(high))) => Some(Range { low, end: high }),
         (Some(Value::Address(low)), Some(Value::Constant(length))) => Some(Range {
             low,
-            end: u64::from(low).saturating_add(length).min(1 << 32),
+            end: u64::from(low)
+                .saturating_add(length)
+                .min(u64::from(u32::MAX)) as u32,
         }),
         _ => None,
     }
@@ -156,7 +155,7 @@ fn basic_kind(encoding: Option<u64>, size: Option<u64>) -> Kind
     }
 }
 
-fn entry_of(offset: usize, level: u8, declaration: Declaration, attributes: Attributes) -> Entry
+fn entry_of(offset: u32, level: u8, declaration: Declaration, attributes: Attributes) -> Entry
     ensures { result ≡ entry_of offset level declaration attributes }
 {
     Entry {
@@ -189,6 +188,7 @@ fn entry_at(
     requires table { IsTable source.now.abbrevs.now table.now }
     requires level { level ≤ 64 }
     requires unit { unit ≤ at }
+    requires within { at ≤ length source.now.info.now }
     ensures value { result ≡ entry_at source.now.abbrevs.now source.now.strs.now source.now.info.now table.now.at unit level at }
     ensures behind { IfOk result (λ r. at < r.1) }
     ensures within { IfOk result (λ r. r.1 ≤ length source.now.info.now) }
@@ -204,7 +204,8 @@ fn entry_at(
         return Err(InfoFault::Deep);
     }
     let (attributes, next) = attributes_at(source, declaration.attributes, next)?;
-    let entry = entry_of(at - unit, level + 1, declaration, attributes);
+    let offset = (at - unit) as u32;
+    let entry = entry_of(offset, level + 1, declaration, attributes);
     Ok((Some(entry), next))
 }
 

@@ -52,10 +52,8 @@ pub fn header_at(source: &Source<'_>, at: usize) -> Result<(AbbrevOffset, usize)
         return Err(InfoFault::Version);
     }
     let (offset, next) = u32_at(source.info, next)?;
-    let abbrevs = AbbrevOffset {
-        at: offset as usize,
-    };
-    if source.abbrevs.len() < abbrevs.at {
+    let abbrevs = AbbrevOffset { at: offset };
+    if source.abbrevs.len() < offset as usize {
         return Err(InfoFault::Abbrev);
     }
     let (address_size, next) = u8_at(source.info, next)?;
@@ -67,15 +65,17 @@ pub fn header_at(source: &Source<'_>, at: usize) -> Result<(AbbrevOffset, usize)
 }
 
 fn fault_at(at: usize, fault: InfoFault) -> UnitFault
+    requires { at ≤ 33554432 }
     ensures { result ≡ fault_at at fault }
 {
-    let offset = InfoOffset { at };
+    let offset = InfoOffset { at: at as u32 };
     UnitFault { offset, fault }
 }
 
 /// Where the units of a section stand. Behind one that passes the section there is none, and none is read behind the last
 /// that may be.
 pub fn spans_of(alloc: Global, info: &[u8]) -> Result<Spans, NoMemory>
+    requires { length info.now ≤ 33554432 }
     ensures spans { IfOk result (λ r. All (IsSpan info.now) r.units.items) }
     ensures value { IfOk result (λ r. (abbrevs strs : List ℕ) → contents_of abbrevs strs info.now ≡ joined (all_joined (map (given abbrevs strs info.now) r.units.items)) (ended r.fault)) }
 {

@@ -1,4 +1,4 @@
-ghost use Rattle.std.specs.Prelude.{◌≡◌, [], All, IfOk, drop, slice_get, unwrap_or};
+ghost use Rattle.std.specs.Prelude.{◌≡◌, ◌≤◌, [], All, IfOk, drop, length, slice_get, unwrap_or};
 ghost use Rattle.debug_info.specs.Contents.{contents_of, shown, units_shown};
 ghost use Rattle.debug_info.specs.Functions.{function_at};
 ghost use Rattle.debug_info.specs.Info.{info_of, scope};
@@ -74,7 +74,9 @@ fn contents_by(
     lengths: &TextLengths,
     info: &[u8],
 ) -> Result<Contents, NoMemory>
-    requires { AreLengths strs.now lengths.now }
+    requires lengths { AreLengths strs.now lengths.now }
+    requires abbrevs { length abbrevs.now ≤ 4194304 }
+    requires info { length info.now ≤ 33554432 }
     ensures rising { IfOk result (λ contents. All IsRising contents.units.items) }
     ensures value { IfOk result (λ contents. shown contents ≡ contents_of abbrevs.now strs.now info.now) }
 {

@@ -67,12 +67,12 @@ fn name_of<'a>(texts: &Texts<'a>, place: Option<TextPlace>) -> &'a [u8]
 {
     match place {
         None => &[],
-        Some(TextPlace::Inline(offset)) => text_from(texts.info, offset.at),
-        Some(TextPlace::Shared(offset)) => texts.lengths.text(texts.strs, offset.at),
+        Some(TextPlace::Inline(offset)) => text_from(texts.info, offset.at as usize),
+        Some(TextPlace::Shared(offset)) => texts.lengths.text(texts.strs, offset.at as usize),
     }
 }
 
-fn entry_with(entries: &[Entry], offset: u64) -> Option<Entry>
+fn entry_with(entries: &[Entry], offset: u32) -> Option<Entry>
     requires { RisesFrom 0 entries.now }
     ensures { result ≡ find (λ e. e.offset == offset) entries.now }
 {
@@ -80,13 +80,13 @@ fn entry_with(entries: &[Entry], offset: u64) -> Option<Entry>
     let mut high = entries.len();
     while low < high {
         let middle = low + (high - low) / 2;
-        if (entries[middle].offset as u64) < offset {
+        if entries[middle].offset < offset {
             low = middle + 1;
         } else {
             high = middle;
         }
     }
-    if low < entries.len() && entries[low].offset as u64 == offset {
+    if low < entries.len() && entries[low].offset == offset {
         Some(entries[low])
     } else {
         None
@@ -94,7 +94,7 @@ fn entry_with(entries: &[Entry], offset: u64) -> Option<Entry>
 }
 
 // The entry at an offset from the unit's beginning.
-fn type_entry(entries: &[Entry], offset: Option<u64>) -> Option<Entry>
+fn type_entry(entries: &[Entry], offset: Option<u32>) -> Option<Entry>
     requires { RisesFrom 0 entries.now }
     ensures { result ≡ type_entry entries.now offset }
 {
@@ -178,7 +178,7 @@ fn is_within(pc: u32, range: Option<Range>) -> bool
 {
     match range {
         None => false,
-        Some(range) => range.low <= pc && u64::from(pc) < range.end,
+        Some(range) => range.low <= pc && pc < range.end,
     }
 }
 

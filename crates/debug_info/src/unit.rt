@@ -35,7 +35,7 @@ pub struct Contents {
 /// What was read of the unit at a place.
 #[derive(Drop)]
 pub struct Reading {
-    pub at: usize,
+    pub at: InfoOffset,
     pub entries: Result<Vec<Entry>, InfoFault>,
 }
 
@@ -79,9 +79,9 @@ fn reading_of(
         info: &source.info[..span.end],
         ..*source
     };
-    let at = span.at;
-    let most = most_entries(source.info.len(), span.end - at);
-    match unit_entries(alloc, &unit, at, most, table) {
+    let at = InfoOffset { at: span.at as u32 };
+    let most = most_entries(source.info.len(), span.end - span.at);
+    match unit_entries(alloc, &unit, span.at, most, table) {
         Ok(entries) => Ok(Reading {
             at,
             entries: Ok(entries),
@@ -99,7 +99,8 @@ fn unread(alloc: Global, count: usize) -> Result<Vec<Reading>, NoMemory>
     ensures { IfOk result (λ readings. length readings.items ≡ count) }
 {
     let mut readings = Vec::new(alloc);
-    for at in 0..count {
+    let at = InfoOffset { at: 0 };
+    'places: while readings.len() < count {
         readings.push(Reading {
             at,
             entries: Err(InfoFault::Short),
@@ -139,8 +140,7 @@ fn push_reading(contents: &mut Contents, reading: Reading) -> Result<(), NoMemor
             Ok(())
         }
         Err(fault) => {
-            let offset = InfoOffset { at };
-            contents.faults.push(UnitFault { offset, fault })?;
+            contents.faults.push(UnitFault { offset: at, fault })?;
             Ok(())
         }
     }
