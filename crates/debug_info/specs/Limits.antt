@@ -13,7 +13,7 @@ abbrevs_part abbrevs = take 4194304 abbrevs
 abbrev pub most_units : ℕ
 most_units = 262144
 
--- most entries of a unit of so many bytes in a section of so many: one for each byte, and in all no more than 4194304
+-- most entries of a unit of so many bytes in a section of so many: its share of fewer than 4194304
 abbrev pub most_entries : ℕ → ℕ → ℕ
 most_entries section bytes = bytes / (section / 4194304 + 1)
 

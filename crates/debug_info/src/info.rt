@@ -47,7 +47,8 @@ impl Model for Info {
 /// The variables that the three sections tell of, in versions 2 to 4.
 ///
 /// A unit with a fault gives nothing, and stands in the list of faults with the first that is met when its bytes are read
-/// in order. Behind a unit that passes the section nothing is read.
+/// in order. Behind a unit that passes the section nothing is read. How much counts of sections that no compiler writes,
+/// `specs/Limits.antt` says.
 pub fn read_info(alloc: Global, sections: &Sections<'_>) -> Result<Info, NoMemory>
     ensures { IfOk result (λ info. info ≡ info_of sections.now.abbrevs.now sections.now.strs.now sections.now.info.now) }
 {
@@ -129,7 +130,7 @@ impl Info {
     }
 
     /// The variables that can be seen at pc: those of the first function that covers it and of its blocks, deeper blocks
-    /// first, and last the unit's own with a fixed place. Of equal names the first counts.
+    /// first, and last the unit's own with a fixed place; of each the first 262,144. Of equal names the first counts.
     pub fn variables_at(&self, alloc: Global, pc: u32) -> Result<Vec<Var<'_>>, NoMemory>
         ensures { IfOk result (λ variables. shown_variables variables.items ≡ scope self.now pc) }
     {

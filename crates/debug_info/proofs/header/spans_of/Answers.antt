@@ -3,7 +3,7 @@ use Rattle.std.proofs.lemmas.List.Elements.{All-push, All-same}
 use Rattle.debug_info.specs.Limits.{most_units}
 use Rattle.debug_info.specs.Spans.{IsSpan}
 use Rattle.debug_info.specs.declared.header.Span.{Span}
-use Rattle.debug_info.proofs.Joined.{spanned_end, spanned_fault, spanned_many, spanned_next, spanned_start}
+use Rattle.debug_info.proofs.Joined.{spanned_end, spanned_fault, spanned_next, spanned_start}
 use Rattle.debug_info.proofs.header.spans_of.Goals as goal
 
 pub units-init : goal.units-init

@@ -1,6 +1,6 @@
 use Rattle.std.proofs.Common.{ℕ, List, ap, ◌∙◌}
 use Rattle.debug_info.specs.Contents.{Contents}
-use Rattle.debug_info.specs.Info.{Info, info_by}
+use Rattle.debug_info.specs.Info.{info_by}
 use Rattle.debug_info.specs.Limits.{abbrevs_part, section_part}
 use Rattle.debug_info.proofs.info.read_info.Goals as goal
 
