@@ -105,10 +105,10 @@ abbrev pub expression_of : Option Value → Option Operation
 expression_of (Some (value.Block operation)) = operation
 expression_of _ = None
 
--- the high address is one, or a length from the low one; it has 32 bits
+-- the high address is one, or a length from the low one
 abbrev pub range_of : Option Value → Option Value → Option Range
 range_of (Some (value.Address low)) (Some (value.Address high)) = Some (record { low = low; end = high })
-range_of (Some (value.Address low)) (Some (value.Constant n)) = Some (record { low = low; end = min (low + n) 4294967295 })
+range_of (Some (value.Address low)) (Some (value.Constant n)) = Some (record { low = low; end = min (low + n) (2 ^ 32) })
 range_of _ _ = None
 
 abbrev pub is_size : ℕ → Bool

@@ -49,8 +49,8 @@ pub enum Kind {
 #[derive(Clone, Copy, Debug, PartialEq, Eq)]
 pub struct Range {
     pub low: u32,
-    /// Behind the last one.
-    pub end: u32,
+    /// Behind the last one, at most 2^32.
+    pub end: u64,
 }
 
 /// An entry of a unit. Fields stand in the order in which they take the least room.
@@ -133,12 +133,13 @@ fn range_of(low: Option<Value>, high: Option<Value>) -> Option<Range>
     ensures { result ≡ range_of low high }
 {
     match (low, high) {
-        (Some(Value::Address(low)), Some(Value::Address(high))) => Some(Range { low, end: high }),
+        (Some(Value::Address(low)), Some(Value::Address(high))) => Some(Range {
+            low,
+            end: u64::from(high),
+        }),
         (Some(Value::Address(low)), Some(Value::Constant(length))) => Some(Range {
             low,
-            end: u64::from(low)
-                .saturating_add(length)
-                .min(u64::from(u32::MAX)) as u32,
+            end: u64::from(low).saturating_add(length).min(1 << 32),
         }),
         _ => None,
     }

@@ -178,7 +178,7 @@ fn is_within(pc: u32, range: Option<Range>) -> bool
 {
     match range {
         None => false,
-        Some(range) => range.low <= pc && pc < range.end,
+        Some(range) => range.low <= pc && u64::from(pc) < range.end,
     }
 }
 
