@@ -1,3 +1,4 @@
+pub mod Most
 pub mod Turns
 pub mod Declared
 pub mod Specified

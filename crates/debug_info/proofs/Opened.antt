@@ -2,6 +2,7 @@
 use Rattle.std.proofs.Common.{◌≡◌, ◌<◌, ◌≤◌, ◌+◌, ◌++◌, ℕ, suc, Bool, true, false, List, [], ◌∷◌, filter, take, drop, get_or, length, add-one, subst, cond, Option, None, Some, refl, arith, sym, ◌∙◌, ap, append-nil, append_assoc}
 use Rattle.std.specs.List.{prefix_len}
 use Rattle.std.proofs.Math.Seq.{drop-cons}
+use Rattle.std.proofs.lemmas.List.{drop_all}
 use Rattle.std.specs.Prelude.{nat_lt, not, ◌&&◌, if◌then◌else◌}
 use Rattle.std.proofs.lemmas.Bool.Decides.{nat_tests}
 use Rattle.debug_info.specs.Scope.{inner, is_entered, is_open, is_own, own_among}
@@ -127,3 +128,6 @@ seen_at pc function whole found pushed shut behind k d h deep far push o =
 pub over_at : (pc function : ℕ) (whole found : List Entry) (shut : Option ℕ) (behind : List Entry) (k : ℕ) (d : Entry) → k < length behind → (get_or behind k d).level ≤ function
     → Opened pc function whole found shut (drop k behind) → found ≡ whole
 over_at pc function whole found shut behind k d h past o = opened_over pc function whole found shut (get_or behind k d) (drop (suc k) behind) past (at_entry pc function whole found shut behind k d h o)
+
+pub ended : (pc function : ℕ) (whole found : List Entry) (shut : Option ℕ) (behind : List Entry) (k : ℕ) → length behind ≤ k → Opened pc function whole found shut (drop k behind) → found ≡ whole
+ended pc function whole found shut behind k h o = opened_end pc function whole found shut (subst (λ (es : List Entry). Opened pc function whole found shut es) (drop_all k behind h) o)

@@ -1,5 +1,5 @@
 -- The attributes of entries, and what they say (DWARF 4, sections 2.2, 2.5.5, 2.6, 2.17, 3.3, 5.1, 7.5.4 and 7.8).
-use Rattle.std.specs.Prelude.{ℕ, zero, suc, ◌+◌, ◌^◌, ◌==◌, ◌||◌, Bool, List, [], ◌∷◌, length, min, Option, None, Some, Ok, Err, if◌then◌else◌}
+use Rattle.std.specs.Prelude.{ℕ, zero, suc, ◌+◌, ◌^◌, ◌==◌, ◌||◌, nat_lt, Bool, List, [], ◌∷◌, length, min, Option, None, Some, Ok, Err, if◌then◌else◌}
 use Rattle.debug_info.specs.Reading.{◌>>=◌, Read, found}
 use Rattle.debug_info.specs.Abbreviations.{specification_at}
 use Rattle.debug_info.specs.Expressions.{base_of, place_of}
@@ -96,8 +96,9 @@ abbrev pub constant_of : Option Value → Option ℕ
 constant_of (Some (value.Constant n)) = Some n
 constant_of _ = None
 
+-- an offset of 32 bits
 abbrev pub reference_of : Option Value → Option ℕ
-reference_of (Some (value.Reference offset)) = Some offset
+reference_of (Some (value.Reference offset)) = if nat_lt offset (2 ^ 32) then Some offset else None
 reference_of _ = None
 
 abbrev pub expression_of : Option Value → Option Operation

@@ -1,5 +1,6 @@
 -- The functions of a section (DWARF 4, sections 2.17.2 and 3.3).
-use Rattle.std.specs.Prelude.{ℕ, ◌+◌, nat_le, nat_lt, ◌&&◌, Bool, List, [], ◌∷◌, ◌++◌, Option, Some, find}
+use Rattle.std.specs.Prelude.{ℕ, ◌+◌, nat_le, nat_lt, ◌&&◌, Bool, List, [], ◌∷◌, ◌++◌, Option, Some, find, take}
+use Rattle.debug_info.specs.Limits.{most_functions}
 use Rattle.debug_info.specs.declared.entry.Entry.{Entry}
 use Rattle.debug_info.specs.declared.entry.Range.{Range}
 use Rattle.debug_info.specs.declared.entry.Tag.{Tag}
@@ -27,6 +28,6 @@ abbrev pub functions_from : ℕ → List (List Entry) → List Function
 functions_from unit [] = []
 functions_from unit (entries ∷ units) = functions_in unit 0 entries ++ functions_from (unit + 1) units
 
--- the first function that covers an address
+-- the first function that covers an address, of so many in the section's order
 abbrev pub function_at : List (List Entry) → ℕ → Option Function
-function_at units pc = find (covers pc) (functions_from 0 units)
+function_at units pc = find (covers pc) (take most_functions (functions_from 0 units))

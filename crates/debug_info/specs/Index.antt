@@ -73,3 +73,4 @@ AreRuns abbrevs runs = (k : ℕ) (d : Run) → k < length runs → IsRun abbrevs
 pub record IsIndex (abbrevs : List ℕ) (index : Index) : Type 0 where
   pub runs : AreRuns abbrevs index.runs.items
   pub count : length index.runs.items ≡ length abbrevs + 1
+  pub short : length abbrevs ≤ 4194304

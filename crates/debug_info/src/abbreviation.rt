@@ -65,7 +65,9 @@ pub fn declaration_at(
     let declaration = Declaration {
         tag,
         has_children: children != 0,
-        attributes: AbbrevOffset { at: attributes },
+        attributes: AbbrevOffset {
+            at: attributes as u32,
+        },
     };
-    Ok((Some((code, declaration)), end))
+    Ok((Some((code, declaration)), end as usize))
 }

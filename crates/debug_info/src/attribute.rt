@@ -108,12 +108,12 @@ pub fn attributes_at(
     ensures within { IfOk result (λ r. IsReadTo source.now.info.now at r.1) }
 {
     let mut attributes = no_attributes();
-    let mut specified = specifications.at;
+    let mut specified = specifications.at as usize;
     let mut place = at;
     'specifications: loop {
         let run = source.index.run(source.abbrevs, specified);
         attributes = with_flags(attributes, run.flags);
-        let (specification, next) = specification_at(source.abbrevs, run.behind)?;
+        let (specification, next) = specification_at(source.abbrevs, run.behind as usize)?;
         let Some(specification) = specification else {
             return Ok((attributes, place));
         };

@@ -2,7 +2,7 @@
 
 ghost use Rattle.std.specs.Prelude.{◌≡◌, ◌<◌, ◌≤◌, ◌+◌, ◌-◌, IfOk, IfSome, OnOk, length, ◌++◌};
 ghost use Rattle.debug_info.specs.Attributes.{basic_kind, constant_of, entry_of, expression_of, range_of, reference_of, tag_of, text_of};
-ghost use Rattle.debug_info.specs.Entries.{Gives, IsLevel, entries_from, entry_at, entry_list, level_behind};
+ghost use Rattle.debug_info.specs.Entries.{Gives, IsLevel, entries_from, entry_at, entry_list, left_behind, level_behind};
 ghost use Rattle.debug_info.specs.Sources.{IsSource};
 ghost use Rattle.debug_info.specs.Rising.{RisesFrom};
 ghost use Rattle.debug_info.specs.Tables.{IsTable};
@@ -53,23 +53,23 @@ pub struct Range {
     pub end: u64,
 }
 
-/// An entry of a unit.
+/// An entry of a unit. Fields stand in the order in which they take the least room.
 #[derive(Clone, Copy, Debug, PartialEq, Eq)]
 pub struct Entry {
     /// From the unit's beginning.
-    pub offset: usize,
-    /// How deep it stands: the unit's own entry at 1, and each child one deeper.
-    pub level: u8,
-    pub has_children: bool,
-    pub tag: Tag,
+    pub offset: u32,
+    /// The offset of its type's entry, from the unit's beginning.
+    pub type_of: Option<u32>,
     pub name: Option<TextPlace>,
     pub range: Option<Range>,
     pub place: Place,
     pub base: Base,
     /// The kind of a base type.
     pub basic: Kind,
-    /// The offset of its type's entry, from the unit's beginning.
-    pub type_of: Option<u64>,
+    pub tag: Tag,
+    /// How deep it stands: the unit's own entry at 1, and each child one deeper.
+    pub level: u8,
+    pub has_children: bool,
 }
 
 /// Most levels.
@@ -110,11 +110,11 @@ fn constant_of(value: Option<Value>) -> Option<u64>
     }
 }
 
-fn reference_of(value: Option<Value>) -> Option<u64>
+fn reference_of(value: Option<Value>) -> Option<u32>
     ensures { result ≡ reference_of value }
 {
     match value {
-        Some(Value::Reference(offset)) => Some(offset),
+        Some(Value::Reference(offset)) => u32::try_from(offset).ok(),
         _ => None,
     }
 }
@@ -156,7 +156,7 @@ fn basic_kind(encoding: Option<u64>, size: Option<u64>) -> Kind
     }
 }
 
-fn entry_of(offset: usize, level: u8, declaration: Declaration, attributes: Attributes) -> Entry
+fn entry_of(offset: u32, level: u8, declaration: Declaration, attributes: Attributes) -> Entry
     ensures { result ≡ entry_of offset level declaration attributes }
 {
     Entry {
@@ -189,6 +189,7 @@ fn entry_at(
     requires table { IsTable source.now.abbrevs.now table.now }
     requires level { level ≤ 64 }
     requires unit { unit ≤ at }
+    requires within { at ≤ length source.now.info.now }
     ensures value { result ≡ entry_at source.now.abbrevs.now source.now.strs.now source.now.info.now table.now.at unit level at }
     ensures behind { IfOk result (λ r. at < r.1) }
     ensures within { IfOk result (λ r. r.1 ≤ length source.now.info.now) }
@@ -204,7 +205,8 @@ fn entry_at(
         return Err(InfoFault::Deep);
     }
     let (attributes, next) = attributes_at(source, declaration.attributes, next)?;
-    let entry = entry_of(at - unit, level + 1, declaration, attributes);
+    let offset = (at - unit) as u32;
+    let entry = entry_of(offset, level + 1, declaration, attributes);
     Ok((Some(entry), next))
 }
 
@@ -222,6 +224,16 @@ fn level_behind(level: u8, entry: &Option<Entry>) -> u8
     }
 }
 
+// How many may still come behind an entry, or behind an end of children.
+fn left_behind(left: usize, entry: &Option<Entry>) -> Result<usize, InfoFault>
+    ensures { result ≡ left_behind left entry.now }
+{
+    match entry {
+        None => Ok(left),
+        Some(_) => left.checked_sub(1).ok_or(InfoFault::Many),
+    }
+}
+
 fn push_entry(entries: &mut Vec<Entry>, entry: Option<Entry>) -> Result<(), NoMemory>
     ensures { OnOk result (entries.new.items ≡ entries.old.items ++ entry_list entry) }
 {
@@ -231,12 +243,13 @@ fn push_entry(entries: &mut Vec<Entry>, entry: Option<Entry>) -> Result<(), NoMe
     Ok(())
 }
 
-/// The entries of a unit, whose bytes end with the section's, from a place on.
+/// The entries of a unit, whose bytes end with the section's, from a place on, at most so many.
 pub fn entries_at(
     alloc: Global,
     source: &Source<'_>,
     table: &Table,
     unit: usize,
+    most: usize,
     at: usize,
 ) -> Result<Vec<Entry>, InfoError>
     requires source { IsSource source.now }
@@ -244,16 +257,19 @@ pub fn entries_at(
     requires unit { unit ≤ at }
     requires within { at ≤ length source.now.info.now }
     ensures rising { IfOk result (λ v. RisesFrom 0 v.items) }
-    ensures value { Gives result (entries_from (length source.now.info.now + 1) source.now.abbrevs.now source.now.strs.now source.now.info.now table.now.at unit 0 at) }
+    ensures value { Gives result (entries_from (length source.now.info.now + 1) source.now.abbrevs.now source.now.strs.now source.now.info.now table.now.at unit most 0 at) }
 {
     let mut entries = Vec::new(alloc);
+    let mut left = most;
     let mut level = 0;
     let mut place = at;
     'entries: while place < source.info.len() {
         let (entry, next) = entry_at(source, table, unit, level, place)?;
+        left = left_behind(left, &entry)?;
         level = level_behind(level, &entry);
         push_entry(&mut entries, entry)?;
         place = next;
     }
+    entries.shrink_to_fit();
     Ok(entries)
 }

@@ -159,10 +159,8 @@ fn shared_at(source: &Source<'_>, at: usize) -> Result<(Value, usize), InfoFault
     ensures within { IfOk result (λ r. IsReadTo source.now.info.now at r.1) }
 {
     let (offset, next) = u32_at(source.info, at)?;
-    let place = StrOffset {
-        at: offset as usize,
-    };
-    if !source.lengths.is_ended(source.strs, place.at) {
+    let place = StrOffset { at: offset };
+    if !source.lengths.is_ended(source.strs, offset as usize) {
         return Err(InfoFault::Short);
     }
     Ok((Value::Text(TextPlace::Shared(place)), next))
@@ -202,7 +200,8 @@ fn value_by(form: Form, source: &Source<'_>, at: usize) -> Result<(Value, usize)
         Form::Block(width) => block_at(width, bytes, at),
         Form::Inline => {
             let (_, next) = text_at(bytes, at)?;
-            Ok((Value::Text(TextPlace::Inline(InfoOffset { at })), next))
+            let place = InfoOffset { at: at as u32 };
+            Ok((Value::Text(TextPlace::Inline(place)), next))
         }
         Form::Shared => shared_at(source, at),
         Form::Reference(width) => {

@@ -33,9 +33,9 @@ pub struct Run {
     /// What those in front name that have no bytes in an entry.
     pub flags: Flags,
     /// The place of the first other one, or of their end.
-    pub behind: usize,
+    pub behind: u32,
     /// The place behind their end.
-    pub end: Result<usize, InfoFault>,
+    pub end: Result<u32, InfoFault>,
 }
 
 /// The specifications from each place on.
@@ -80,6 +80,7 @@ fn with_flag(flags: Flags, name: u64) -> Flags
 fn run_at(abbrevs: &[u8], later: &[Run], at: usize) -> Run
     requires runs { AreRuns abbrevs.now later.now }
     requires count { length later.now + at ≡ length abbrevs.now }
+    requires short { length abbrevs.now ≤ 4194304 }
     ensures { IsRun abbrevs.now at result }
 {
     match specification_at(abbrevs, at) {
@@ -92,24 +93,26 @@ fn run_at(abbrevs: &[u8], later: &[Run], at: usize) -> Run
                 lone_run(at, rest.end)
             }
         }
-        Ok((None, next)) => lone_run(at, Ok(next)),
+        Ok((None, next)) => lone_run(at, Ok(next as u32)),
         Err(fault) => lone_run(at, Err(fault)),
     }
 }
 
 // A run without flags.
-fn lone_run(at: usize, end: Result<usize, InfoFault>) -> Run
+fn lone_run(at: usize, end: Result<u32, InfoFault>) -> Run
+    requires { at ≤ 4194304 }
     ensures { result ≡ lone_run at end }
 {
     Run {
         flags: no_flags(),
-        behind: at,
+        behind: at as u32,
         end,
     }
 }
 
 /// The specifications from each place of the section on.
 pub fn index_of(alloc: Global, abbrevs: &[u8]) -> Result<Index, NoMemory>
+    requires { length abbrevs.now ≤ 4194304 }
     ensures { IfOk result (IsIndex abbrevs.now) }
 {
     let mut runs = Vec::with_capacity(alloc, abbrevs.len() + 1)?;

@@ -1,12 +1,16 @@
-ghost use Rattle.std.specs.Prelude.{◌≡◌, [], All, IfOk, drop, slice_get, unwrap_or};
-ghost use Rattle.debug_info.specs.Contents.{units_shown};
+ghost use Rattle.std.specs.Prelude.{◌≡◌, ◌≤◌, [], All, IfOk, drop, length, slice_get, unwrap_or};
+ghost use Rattle.debug_info.specs.Contents.{contents_of, shown, units_shown};
+ghost use Rattle.debug_info.specs.Functions.{function_at};
 ghost use Rattle.debug_info.specs.Info.{info_of, scope};
 ghost use Rattle.debug_info.specs.Rising.{IsRising, RisesFrom};
 ghost use Rattle.debug_info.specs.Shown.{shown_variables};
+ghost use Rattle.debug_info.specs.Steps.{IsTable};
+ghost use Rattle.debug_info.specs.TextLengths.{AreLengths};
 
 use crate::entry::Entry;
 use crate::fault::UnitFault;
 use crate::index::index_of;
+use crate::limits::{ABBREVS, FUNCTIONS, SECTION, first};
 use crate::offset::{Sections, Source};
 use crate::scope::{Texts, Var, variables_in};
 use crate::table::{Step, function_at, functions_of, table_of};
@@ -43,29 +47,57 @@ impl Model for Info {
 /// The variables that the three sections tell of, in versions 2 to 4.
 ///
 /// A unit with a fault gives nothing, and stands in the list of faults with the first that is met when its bytes are read
-/// in order. Behind a unit that passes the section nothing is read.
+/// in order. Behind a unit that passes the section nothing is read. How much counts of sections that no compiler writes,
+/// `specs/Limits.antt` says.
 pub fn read_info(alloc: Global, sections: &Sections<'_>) -> Result<Info, NoMemory>
     ensures { IfOk result (λ info. info ≡ info_of sections.now.abbrevs.now sections.now.strs.now sections.now.info.now) }
 {
-    let index = index_of(alloc, sections.abbrevs)?;
-    let lengths = text_lengths_of(alloc, sections.strs)?;
-    let source = Source {
-        info: sections.info,
-        abbrevs: sections.abbrevs,
-        index: &index,
-        strs: sections.strs,
-        lengths: &lengths,
-    };
-    let contents = contents_of(alloc, &source)?;
-    let functions = functions_of(alloc, &contents.units)?;
-    let steps = table_of(alloc, &functions)?;
+    let abbrevs = first(sections.abbrevs, ABBREVS);
+    let strs = first(sections.strs, SECTION);
+    let info = first(sections.info, SECTION);
+    let lengths = text_lengths_of(alloc, strs)?;
+    let contents = contents_by(alloc, abbrevs, strs, &lengths, info)?;
+    let steps = steps_of(alloc, &contents)?;
     Ok(Info {
         contents,
         steps,
-        info: Vec::from_slice(alloc, sections.info)?,
-        strs: Vec::from_slice(alloc, sections.strs)?,
+        info: Vec::from_slice(alloc, info)?,
+        strs: Vec::from_slice(alloc, strs)?,
         lengths,
     })
+}
+
+// What the units give. The index of `.debug_abbrev` is let go before anything else is built.
+fn contents_by(
+    alloc: Global,
+    abbrevs: &[u8],
+    strs: &[u8],
+    lengths: &TextLengths,
+    info: &[u8],
+) -> Result<Contents, NoMemory>
+    requires lengths { AreLengths strs.now lengths.now }
+    requires abbrevs { length abbrevs.now ≤ 4194304 }
+    requires info { length info.now ≤ 33554432 }
+    ensures rising { IfOk result (λ contents. All IsRising contents.units.items) }
+    ensures value { IfOk result (λ contents. shown contents ≡ contents_of abbrevs.now strs.now info.now) }
+{
+    let index = index_of(alloc, abbrevs)?;
+    let source = Source {
+        info,
+        abbrevs,
+        index: &index,
+        strs,
+        lengths,
+    };
+    contents_of(alloc, &source)
+}
+
+// The table of the first functions.
+fn steps_of(alloc: Global, contents: &Contents) -> Result<Vec<Step>, NoMemory>
+    ensures { IfOk result (λ steps. IsTable steps.items (function_at (units_shown contents.now.units.items))) }
+{
+    let functions = functions_of(alloc, &contents.units)?;
+    Ok(table_of(alloc, first(&functions, FUNCTIONS))?)
 }
 
 fn entries_of(units: &[Unit], unit: usize) -> &[Entry]
@@ -98,7 +130,7 @@ impl Info {
     }
 
     /// The variables that can be seen at pc: those of the first function that covers it and of its blocks, deeper blocks
-    /// first, and last the unit's own with a fixed place. Of equal names the first counts.
+    /// first, and last the unit's own with a fixed place; of each the first 262,144. Of equal names the first counts.
     pub fn variables_at(&self, alloc: Global, pc: u32) -> Result<Vec<Var<'_>>, NoMemory>
         ensures { IfOk result (λ variables. shown_variables variables.items ≡ scope self.now pc) }
     {

@@ -12,6 +12,7 @@ mod form;
 mod header;
 mod index;
 mod info;
+mod limits;
 mod offset;
 mod order;
 mod scope;

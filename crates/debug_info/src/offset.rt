@@ -6,19 +6,19 @@ use crate::text_lengths::TextLengths;
 /// An offset into `.debug_info`.
 #[derive(Clone, Copy, Debug, PartialEq, Eq)]
 pub struct InfoOffset {
-    pub at: usize,
+    pub at: u32,
 }
 
 /// An offset into `.debug_abbrev`.
 #[derive(Clone, Copy, Debug, PartialEq, Eq)]
 pub struct AbbrevOffset {
-    pub at: usize,
+    pub at: u32,
 }
 
 /// An offset into `.debug_str`.
 #[derive(Clone, Copy, Debug, PartialEq, Eq)]
 pub struct StrOffset {
-    pub at: usize,
+    pub at: u32,
 }
 
 /// The three sections, each empty where there is none.

@@ -1,7 +1,8 @@
 //! The variables that can be seen at an address.
 
-ghost use Rattle.std.specs.Prelude.{◌≡◌, ◌==◌, ◌++◌, ◌∷◌, [], IfOk, OnOk, true, false, filter, find, length, map, take_while};
+ghost use Rattle.std.specs.Prelude.{◌≡◌, ◌==◌, ◌++◌, ◌∷◌, [], IfOk, OnOk, true, false, filter, find, length, map, take, take_while};
 ghost use Rattle.leb_read.specs.Leb.{is_text_byte};
+ghost use Rattle.debug_info.specs.Limits.{most_variables};
 ghost use Rattle.debug_info.specs.Rising.{RisesFrom};
 ghost use Rattle.debug_info.specs.Scope.{by_depth, is_entered, is_modifier, is_named, is_own, is_unit_variable, is_within, kind_of, name_of, own_entries, own_kind, place_in, text_from, type_entry, variable_of, variables_in};
 ghost use Rattle.debug_info.specs.Shown.{AreTexts, IsEntrySplit, is_below, seen_texts, shown_variable, shown_variables, shut_by};
@@ -9,6 +10,7 @@ ghost use Rattle.debug_info.specs.Shown.{AreTexts, IsEntrySplit, is_below, seen_
 use crate::entry::{Entry, Kind, Range, Tag};
 use crate::expression::{Base, Place};
 use crate::form::TextPlace;
+use crate::limits::VARIABLES;
 use crate::text_lengths::TextLengths;
 use dbg_traits::NoMemory;
 use std::alloc::Global;
@@ -65,12 +67,12 @@ fn name_of<'a>(texts: &Texts<'a>, place: Option<TextPlace>) -> &'a [u8]
 {
     match place {
         None => &[],
-        Some(TextPlace::Inline(offset)) => text_from(texts.info, offset.at),
-        Some(TextPlace::Shared(offset)) => texts.lengths.text(texts.strs, offset.at),
+        Some(TextPlace::Inline(offset)) => text_from(texts.info, offset.at as usize),
+        Some(TextPlace::Shared(offset)) => texts.lengths.text(texts.strs, offset.at as usize),
     }
 }
 
-fn entry_with(entries: &[Entry], offset: u64) -> Option<Entry>
+fn entry_with(entries: &[Entry], offset: u32) -> Option<Entry>
     requires { RisesFrom 0 entries.now }
     ensures { result ≡ find (λ e. e.offset == offset) entries.now }
 {
@@ -78,13 +80,13 @@ fn entry_with(entries: &[Entry], offset: u64) -> Option<Entry>
     let mut high = entries.len();
     while low < high {
         let middle = low + (high - low) / 2;
-        if (entries[middle].offset as u64) < offset {
+        if entries[middle].offset < offset {
             low = middle + 1;
         } else {
             high = middle;
         }
     }
-    if low < entries.len() && entries[low].offset as u64 == offset {
+    if low < entries.len() && entries[low].offset == offset {
         Some(entries[low])
     } else {
         None
@@ -92,7 +94,7 @@ fn entry_with(entries: &[Entry], offset: u64) -> Option<Entry>
 }
 
 // The entry at an offset from the unit's beginning.
-fn type_entry(entries: &[Entry], offset: Option<u64>) -> Option<Entry>
+fn type_entry(entries: &[Entry], offset: Option<u32>) -> Option<Entry>
     requires { RisesFrom 0 entries.now }
     ensures { result ≡ type_entry entries.now offset }
 {
@@ -195,19 +197,22 @@ fn is_unit_variable(entry: &Entry) -> bool
         && matches!(entry.place, Place::Fixed(_))
 }
 
-// The parameters and variables of a function and of its blocks that cover pc, in the section's order.
+// The first parameters and variables of a function and of its blocks that cover pc, in the section's order.
 fn own_entries(
     alloc: Global,
     pc: u32,
     function: u8,
     behind: &[Entry],
 ) -> Result<Vec<Entry>, NoMemory>
-    ensures { IfOk result (λ found. found.items ≡ own_entries pc function behind.now) }
+    ensures { IfOk result (λ found. found.items ≡ take most_variables (own_entries pc function behind.now)) }
 {
     let mut found = Vec::new(alloc);
     let mut shut = None;
     for entry in behind {
         if entry.level <= function {
+            return Ok(found);
+        }
+        if found.len() == VARIABLES {
             return Ok(found);
         }
         if !is_below(shut, entry.level) {
@@ -270,7 +275,7 @@ fn push_level<'a>(
     Ok(())
 }
 
-// Adds the unit's own variables with a fixed place.
+// Adds the unit's own first variables with a fixed place.
 fn push_unit<'a>(
     variables: &mut Vec<Var<'a>>,
     texts: &Texts<'a>,
@@ -279,10 +284,15 @@ fn push_unit<'a>(
 ) -> Result<(), NoMemory>
     requires texts { AreTexts texts.now }
     requires rising { RisesFrom 0 entries.now }
-    ensures { OnOk result (shown_variables variables.new.items ≡ shown_variables variables.old.items ++ map (variable_of (seen_texts texts.now) entries.now base false) (filter is_unit_variable entries.now)) }
+    ensures { OnOk result (shown_variables variables.new.items ≡ shown_variables variables.old.items ++ map (variable_of (seen_texts texts.now) entries.now base false) (take most_variables (filter is_unit_variable entries.now))) }
 {
+    let mut left = VARIABLES;
     for entry in entries {
+        if left == 0 {
+            return Ok(());
+        }
         if is_unit_variable(entry) {
+            left -= 1;
             variables.push(variable_of(texts, entries, base, false, entry))?;
         }
     }

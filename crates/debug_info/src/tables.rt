@@ -22,11 +22,11 @@ use std::collections::BTreeMap;
 /// A declaration of a table.
 #[derive(Clone, Copy)]
 pub struct Listed {
-    pub at: usize,
     pub code: u64,
     pub declaration: Declaration,
+    pub at: u32,
     /// The place behind it.
-    pub next: usize,
+    pub next: u32,
     /// The first one of its code among those behind it.
     pub hidden: Option<Declaration>,
 }
@@ -103,7 +103,7 @@ impl Table {
             return Ok(());
         };
         set(&mut self.declarations, first.code, first.hidden)?;
-        self.at = first.next;
+        self.at = first.next as usize;
         Ok(())
     }
 
@@ -118,7 +118,7 @@ impl Table {
         let _abbrevs = abbrevs;
         let hidden = self.declarations.insert(first.code, first.declaration)?;
         self.listed.push(Listed { hidden, ..first })?;
-        self.at = first.at;
+        self.at = first.at as usize;
         Ok(())
     }
 
@@ -158,10 +158,10 @@ impl Table {
             match declaration_at(abbrevs, index, place) {
                 Ok((Some((code, declaration)), next)) => {
                     before.push(Listed {
-                        at: place,
                         code,
                         declaration,
-                        next,
+                        at: place as u32,
+                        next: next as u32,
                         hidden: None,
                     })?;
                     place = next;
@@ -193,7 +193,7 @@ impl Table {
         ensures table { OnOk result (IsTable abbrevs.now self.new) }
         ensures place { OnOk result (self.new.at ≡ place.at) }
     {
-        let mut before = self.meet(alloc, abbrevs, index, place.at)?;
+        let mut before = self.meet(alloc, abbrevs, index, place.at as usize)?;
         'declarations: while let Some(first) = before.pop() {
             self.put_first(abbrevs, first)?;
         }

@@ -13,15 +13,16 @@ use std::alloc::Global;
 #[derive(Drop)]
 pub struct TextLengths {
     /// The last place's first.
-    lengths: Vec<usize>,
+    lengths: Vec<u32>,
 }
 
 /// The lengths of the texts of a section.
 pub fn text_lengths_of(alloc: Global, section: &[u8]) -> Result<TextLengths, NoMemory>
+    requires { length section.now ≤ 33554432 }
     ensures { IfOk result (AreLengths section.now) }
 {
     let mut lengths = Vec::with_capacity(alloc, section.len() + 1)?;
-    let mut length = 0;
+    let mut length = 0u32;
     lengths.push(length)?;
     let mut left = section.len();
     'places: while left > 0 {
@@ -39,7 +40,7 @@ impl TextLengths {
         requires within { at ≤ length section.now }
         ensures { result ≡ length (text_from section.now at) }
     {
-        self.lengths[section.len() - at]
+        self.lengths[section.len() - at] as usize
     }
 
     /// The bytes of the section from a place up to the first zero byte.

@@ -12,6 +12,7 @@ ghost use Rattle.debug_info.specs.Units.{unit_entries};
 use crate::entry::{Entry, entries_at};
 use crate::fault::{InfoError, InfoFault, UnitFault};
 use crate::header::{Span, Spans, header_at, spans_of};
+use crate::limits::most_entries;
 use crate::offset::{InfoOffset, Source};
 use crate::order::turns_of;
 use crate::tables::Table;
@@ -34,16 +35,18 @@ pub struct Contents {
 /// What was read of the unit at a place.
 #[derive(Drop)]
 pub struct Reading {
-    pub at: usize,
+    pub at: InfoOffset,
     pub entries: Result<Vec<Entry>, InfoFault>,
 }
 
-// The entries of the unit at a place, whose bytes end with the section's. The table moves to its abbreviations.
+// The entries of the unit at a place, at most so many, whose bytes end with the section's. The table moves to its
+// abbreviations.
 #[tactic(auto, unfolding(crate::specs::Units::unit_entries))]
 fn unit_entries(
     alloc: Global,
     source: &Source<'_>,
     at: usize,
+    most: usize,
     table: &mut Table,
 ) -> Result<Vec<Entry>, InfoError>
     requires source { IsSource source.now }
@@ -51,11 +54,11 @@ fn unit_entries(
     requires table { IsTable source.now.abbrevs.now table.old }
     ensures table { IfRead result (IsTable source.now.abbrevs.now table.new) }
     ensures rising { IfOk result (λ v. RisesFrom 0 v.items) }
-    ensures value { Gives result (unit_entries source.now.abbrevs.now source.now.strs.now source.now.info.now at) }
+    ensures value { Gives result (unit_entries most source.now.abbrevs.now source.now.strs.now source.now.info.now at) }
 {
     let (abbrevs, next) = header_at(source, at + 4)?;
     table.move_to(alloc, source.abbrevs, source.index, abbrevs)?;
-    entries_at(alloc, source, table, at, next)
+    entries_at(alloc, source, table, at, most, next)
 }
 
 // What is read of a unit.
@@ -76,8 +79,9 @@ fn reading_of(
         info: &source.info[..span.end],
         ..*source
     };
-    let at = span.at;
-    match unit_entries(alloc, &unit, at, table) {
+    let at = InfoOffset { at: span.at as u32 };
+    let most = most_entries(source.info.len(), span.end - span.at);
+    match unit_entries(alloc, &unit, span.at, most, table) {
         Ok(entries) => Ok(Reading {
             at,
             entries: Ok(entries),
@@ -95,7 +99,8 @@ fn unread(alloc: Global, count: usize) -> Result<Vec<Reading>, NoMemory>
     ensures { IfOk result (λ readings. length readings.items ≡ count) }
 {
     let mut readings = Vec::new(alloc);
-    for at in 0..count {
+    let at = InfoOffset { at: 0 };
+    'places: while readings.len() < count {
         readings.push(Reading {
             at,
             entries: Err(InfoFault::Short),
@@ -135,8 +140,7 @@ fn push_reading(contents: &mut Contents, reading: Reading) -> Result<(), NoMemor
             Ok(())
         }
         Err(fault) => {
-            let offset = InfoOffset { at };
-            contents.faults.push(UnitFault { offset, fault })?;
+            contents.faults.push(UnitFault { offset: at, fault })?;
             Ok(())
         }
     }

@@ -5,7 +5,7 @@ use Rattle.debug_info.specs.Index.{extended}
 use Rattle.debug_info.specs.Reading.{found}
 use Rattle.debug_info.specs.declared.abbreviation.Specification.{Specification}
 use Rattle.debug_info.specs.declared.attribute.Attributes.{Attributes}
-use Rattle.debug_info.proofs.Runs.{all_extended, at_run, next_value, value_fault}
+use Rattle.debug_info.proofs.Runs.{all_extended, at_run, next_value, specification_fault, value_fault}
 use Rattle.debug_info.proofs.attribute.attributes_at.Goals as goal
 
 pub specifications-init : goal.specifications-init
@@ -17,6 +17,13 @@ specifications-init c =
       specified = c.requires.specifications;
       within = record { behind = omega arith; within = c.requires.within };
     }
+
+pub returns-in_err-specification-clause-value : goal.returns-in_err-specification-clause-value
+returns-in_err-specification-clause-value c =
+    let s = c.args.source.now in
+    let front = at_run _ s.abbrevs.now s.strs.now s.info.now _ _ c.specifications.specified c.specifications.place c.run-run.result c.specifications.invariant.read c.run-run.ensures c.with_flags-attributes.ensures in
+    let e = specification_fault _ s.abbrevs.now s.strs.now s.info.now _ c.run-run.result.behind c.specifications.place _ front (sym c.in_err-specification.ensures.value) in
+    search (rules, e)
 
 pub returns-in_err-value-clause-value : goal.returns-in_err-value-clause-value
 returns-in_err-value-clause-value c =
