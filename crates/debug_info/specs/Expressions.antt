@@ -1,5 +1,5 @@
 -- Expressions of exactly one operation (DWARF 4, sections 2.5.1, 2.6.1.1.2 and 7.7.1, figure 24).
-use Rattle.std.specs.Prelude.{ℕ, ℤ, pos, negsuc, ◌^◌, ◌-◌, ◌==◌, nat_le, nat_lt, ◌&&◌, List, [], ◌∷◌, length, Option, None, Some, Ok, Err, if◌then◌else◌}
+use Rattle.std.specs.Prelude.{ℕ, ◌-◌, ◌==◌, nat_le, ◌&&◌, List, [], ◌∷◌, length, Option, None, Some, Ok, Err, if◌then◌else◌}
 use Rattle.std.specs.Option.{option_map}
 use Rattle.leb_read.specs.Leb.{Read, number_at, sleb_at}
 use Rattle.debug_info.specs.declared.expression.Base.{Base}
@@ -14,12 +14,6 @@ abbrev pub operand : {A : Type 0} → Read A → List ℕ → Option A
 operand (Ok r) block = if r.1 == length block then Some r.0 else None
 operand (Err e) block = None
 
--- a number, if it has 32 bits; negsuc n is -(n + 1)
-abbrev pub narrow : Option ℤ → Option ℤ
-narrow None = None
-narrow (Some (pos n)) = if nat_lt n (2 ^ 31) then Some (pos n) else None
-narrow (Some (negsuc n)) = if nat_lt n (2 ^ 31) then Some (negsuc n) else None
-
 -- an operation without operands
 abbrev pub alone : Operation → List ℕ → Option Operation
 alone operation block = if length block == 1 then Some operation else None
@@ -29,8 +23,8 @@ abbrev pub operation_by : ℕ → List ℕ → Option Operation
 operation_by code block =
     if code == 0x03 then option_map Address (operand (number_at 4 block 1) block)
     else (if nat_le 0x50 code && nat_le code 0x6F then alone (Register (code - 0x50)) block
-    else (if nat_le 0x70 code && nat_le code 0x8F then option_map (RegisterOffset (code - 0x70)) (narrow (operand (sleb_at block 1) block))
-    else (if code == 0x91 then option_map FrameOffset (narrow (operand (sleb_at block 1) block))
+    else (if nat_le 0x70 code && nat_le code 0x8F then option_map (RegisterOffset (code - 0x70)) (operand (sleb_at block 1) block)
+    else (if code == 0x91 then option_map FrameOffset (operand (sleb_at block 1) block)
     else (if code == 0x9C then alone CallFrameCfa block
     else None))))
 

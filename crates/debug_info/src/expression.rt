@@ -1,7 +1,7 @@
 //! Expressions of one operation (DWARF 4, sections 2.5, 2.6.1.1 and 7.7.1, figure 24).
 
 ghost use Rattle.std.specs.Prelude.{◌≡◌, ◌<◌, [], ◌∷◌};
-ghost use Rattle.debug_info.specs.Expressions.{alone, base_of, narrow, only_operation, operand, operation_by, place_of};
+ghost use Rattle.debug_info.specs.Expressions.{alone, base_of, only_operation, operand, operation_by, place_of};
 
 use leb_read::{Leb, sleb, u32_at};
 
@@ -11,11 +11,11 @@ pub enum Operation {
     /// `DW_OP_addr`
     Address(u32),
     /// `DW_OP_fbreg`
-    FrameOffset(i32),
+    FrameOffset(i64),
     /// `DW_OP_reg0` to `DW_OP_reg31`
     Register(u8),
     /// `DW_OP_breg0` to `DW_OP_breg31`
-    RegisterOffset(u8, i32),
+    RegisterOffset(u8, i64),
     /// `DW_OP_call_frame_cfa`
     CallFrameCfa,
 }
@@ -28,7 +28,7 @@ pub enum Place {
     /// At an address.
     Fixed(u32),
     /// So many bytes from the frame's base.
-    Frame(i32),
+    Frame(i64),
     /// In a register.
     Reg(u8),
 }
@@ -39,7 +39,7 @@ pub enum Base {
     /// The CFA.
     Cfa,
     /// A register's content, and so many bytes.
-    Plus(u8, i32),
+    Plus(u8, i64),
     /// A register's content.
     Own(u8),
     /// Nothing that is known.
@@ -53,16 +53,6 @@ fn operand<T: Copy>(read: Result<(T, usize), Leb>, block: &[u8]) -> Option<T>
     match read {
         Ok((value, next)) if next == block.len() => Some(value),
         _ => None,
-    }
-}
-
-// A number, if it has 32 bits.
-fn narrow(number: Option<i64>) -> Option<i32>
-    ensures { result ≡ narrow number }
-{
-    match number {
-        None => None,
-        Some(number) => i32::try_from(number).ok(),
     }
 }
 
@@ -84,10 +74,10 @@ fn operation_by(code: u8, block: &[u8]) -> Option<Operation>
         0x03 => operand(u32_at(block, 1), block).map(Operation::Address),
         0x50..=0x6F => alone(Operation::Register(code - 0x50), block),
         0x70..=0x8F => {
-            let offset = narrow(operand(sleb(block, 1), block))?;
+            let offset = operand(sleb(block, 1), block)?;
             Some(Operation::RegisterOffset(code - 0x70, offset))
         }
-        0x91 => narrow(operand(sleb(block, 1), block)).map(Operation::FrameOffset),
+        0x91 => operand(sleb(block, 1), block).map(Operation::FrameOffset),
         0x9C => alone(Operation::CallFrameCfa, block),
         _ => None,
     }

@@ -40,7 +40,7 @@ fn base_address<V: View>(base: Base, view: &V, cfa: Option<u32>) -> Option<u32>
         Base::Cfa => cfa,
         Base::Plus(n, offset) => {
             let word = register_word(view, n)?;
-            Some(moved(word, i64::from(offset)))
+            Some(moved(word, offset))
         }
         Base::Own(n) => register_word(view, n),
         Base::Other => None,
@@ -57,7 +57,7 @@ pub fn holder_of<V: View>(var: &Var<'_>, view: &V, cfa: Option<u32>) -> Option<H
         Place::Fixed(address) => Some(Holder::Memory(address)),
         Place::Frame(offset) => {
             let base = base_address(var.base, view, cfa)?;
-            Some(Holder::Memory(moved(base, i64::from(offset))))
+            Some(Holder::Memory(moved(base, offset)))
         }
         Place::Reg(n) if n < 32 => Some(Holder::Register(n)),
         Place::Reg(_) => None,
