@@ -13,9 +13,9 @@ abbrevs_part abbrevs = take 4194304 abbrevs
 abbrev pub most_units : ℕ
 most_units = 262144
 
--- most entries of a unit of so many bytes in a section of so many: its share of fewer than 4194304
+-- most entries of a unit of so many bytes in a section of so many: its share of fewer than 3801088
 abbrev pub most_entries : ℕ → ℕ → ℕ
-most_entries section bytes = bytes / (section / 4194304 + 1)
+most_entries section bytes = bytes / (section / 3801088 + 1)
 
 -- most functions, and most variables of a function and of a unit
 abbrev pub most_functions : ℕ

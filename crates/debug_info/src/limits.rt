@@ -19,7 +19,7 @@ pub const FUNCTIONS: usize = 262_144;
 pub const VARIABLES: usize = 262_144;
 
 /// Most entries in all units.
-const ENTRIES: usize = 4_194_304;
+const ENTRIES: usize = 3_801_088;
 
 /// The first of a list, so many at most.
 #[tactic(auto, using(crate::proofs::Most::take_few, crate::proofs::Most::length_take))]
