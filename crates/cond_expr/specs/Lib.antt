@@ -1,4 +1,3 @@
-pub mod Registers
 pub mod Token
 pub mod Term
 pub mod Grammar

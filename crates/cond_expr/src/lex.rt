@@ -3,10 +3,10 @@
 ghost use Rattle.std.specs.Prelude.{◌≡◌, ◌<◌, ◌≤◌, ◌^◌, ◌+◌, ℕ, List, [], ◌∷◌, length, IfOk, MatchOption, true, false, nat_lt};
 ghost use Rattle.cond_expr.specs.Lex.{either, either_of_two, is_digit, digit_value, number_behind, number_at, register_at, signed_type, unsigned_type, braced, typed, unsigned_at, type_at, sign_at, token_at, named_at, spot_at, tokens_of, Sees, SeesAt, begins_with};
 
-use crate::register::register_of;
 use crate::token::{Binary, Leaf, ReadType, Spot, Token};
 use crate::word::{after_blanks, front, is_blank, is_name_start, run_length, word};
 use elf_symbols::Symbols;
+use register_names::register_of;
 use std::alloc::{AllocError, Global};
 
 /// One token if this byte is next, which it takes, and else another.

@@ -57,7 +57,7 @@ fn begin_alike(left: &[u8], right: &[u8]) -> bool
 }
 
 /// How many bytes at the front are the same and not zero; it may leave out up to 31 of them.
-pub fn alike_front(left: &[u8], right: &[u8]) -> usize
+fn alike_front(left: &[u8], right: &[u8]) -> usize
     ensures { IsAlike result left.now right.now }
 {
     let mut front = 0;

@@ -28,17 +28,6 @@ pub struct Watched {
     pub fired: Option<Fired>,
 }
 
-// How many bytes a store writes.
-fn length_of_store(op: StoreOp) -> u32
-    ensures { result ≡ store_len op }
-{
-    match op {
-        StoreOp::Sb => 1,
-        StoreOp::Sh => 2,
-        StoreOp::Sw => 4,
-    }
-}
-
 // The bytes that an instruction writes; stores and AMOs alone write.
 fn stored_by(instruction: Instr, regs: &Regs) -> Option<Stored>
     ensures { result ≡ stored_by regs.now instruction }

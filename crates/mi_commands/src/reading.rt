@@ -18,9 +18,9 @@ use crate::operation::Operation;
 use crate::options::{has, option_in_front, value_in};
 use crate::registers::assignment;
 use crate::setting::{format_of, set_command, setting_of};
-use cond_expr::register_of;
 use mi_input::Word;
 use mi_text::are_bytes;
+use register_names::register_of;
 use std::alloc::{AllocError, Global};
 
 /// The first word, or an empty one.

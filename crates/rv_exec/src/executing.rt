@@ -111,7 +111,7 @@ fn jump(regs: &mut Regs, rd: u32, target: u32) -> Effect
     Effect::Done
 }
 
-/// How many bytes it reads.
+/// How many bytes a load reads.
 #[inline(always)]
 fn length_of_load(op: LoadOp) -> u32
     ensures { result ≡ load_len op }
@@ -123,9 +123,9 @@ fn length_of_load(op: LoadOp) -> u32
     }
 }
 
-/// How many bytes it writes.
+/// How many bytes a store writes (RISC-V unprivileged ISA, "Load and Store Instructions").
 #[inline(always)]
-fn length_of_store(op: StoreOp) -> u32
+pub fn length_of_store(op: StoreOp) -> u32
     ensures { result ≡ store_len op }
 {
     match op {

@@ -10,7 +10,7 @@ mod regs;
 
 pub use alu::amo_value;
 pub use effect::{Cause, Effect, Stepped};
-pub use executing::execute;
+pub use executing::{execute, length_of_store};
 pub use no_bytes::NoBytes;
 pub use port::DataPort;
 pub use regs::Regs;

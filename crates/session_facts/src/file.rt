@@ -59,7 +59,7 @@ fn serve(alloc: Global, request: Request<'_>) -> Result<Option<Served>, NoMemory
 }
 
 /// What the words ask for, where they are accepted.
-pub fn served_words(alloc: Global, words: &[ArgText]) -> Result<Option<Served>, NoMemory>
+pub(crate) fn served_words(alloc: Global, words: &[ArgText]) -> Result<Option<Served>, NoMemory>
     ensures served { IfOk result (λ r. r ≡ served_words words.now) }
     ensures known { IfOk result (λ r. IfSome r (λ s. IsAmong words.now s.source)) }
     ensures ranges { IfOk result (λ r. IfSome r (λ s. AreSettings s.settings)) }
@@ -71,7 +71,7 @@ pub fn served_words(alloc: Global, words: &[ArgText]) -> Result<Option<Served>, 
 }
 
 /// The bytes of the file, to its end or to the most.
-pub fn read_all<W: World>(
+pub(crate) fn read_all<W: World>(
     alloc: Global,
     world: &mut W,
     name: &ArgText,

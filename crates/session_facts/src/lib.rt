@@ -13,7 +13,7 @@ mod status;
 mod summary;
 mod turn;
 
-pub use file::{FileError, Served, Source, read_all, served_words};
+pub use file::{FileError, Served, Source};
 pub use input::{Input, PIECE, input_once};
 pub use known::Known;
 pub use line::Done;

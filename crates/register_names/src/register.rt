@@ -2,7 +2,7 @@
 
 ghost use Rattle.std.specs.Prelude.{◌≡◌, ◌≤◌};
 ghost use Rattle.std.specs.Option.{option_map};
-ghost use Rattle.cond_expr.specs.Registers.{number_of, register_number, numbered, two_letters};
+ghost use Rattle.register_names.specs.Registers.{number_of, register_number, numbered, two_letters};
 
 use std::marker::Model;
 
