@@ -1,6 +1,5 @@
 // Watches over the machine: which instructions may change their bytes, and which watch one makes fire.
 ghost use Rattle.std.specs.Prelude.{◌≡◌, ◌<◌, length, slice_get, false, None};
-ghost use Rattle.rv_exec.specs.Step.{store_len};
 ghost use Rattle.hart_machine.specs.Stepping.{AreCounted, IsByteCode, Steps, has_run};
 ghost use Rattle.hart_machine.specs.declared.hart.Core.{Core};
 ghost use Rattle.dbg_model.specs.Watches.{fired_by};
@@ -8,8 +7,8 @@ ghost use Rattle.engine_moves.specs.Watching.{is_near, stored_by, written};
 
 use dbg_model::{Fired, WatchList};
 use hart_machine::Machine;
-use rv_decode::{Instr, StoreOp};
-use rv_exec::{Regs, Stepped};
+use rv_decode::Instr;
+use rv_exec::{Regs, Stepped, length_of_store};
 use text_words::Fetch;
 
 /// Bytes that an instruction writes.
