@@ -56,9 +56,9 @@ entry_address strings (b ∷ bs) symbols names some e =
     ∙ foremost_is is_preferred preferred_order (filter (λ s. bytes_eq (b ∷ bs) s.name) (map (symbol_of strings) symbols))
     ∙ ap (λ (xs : List Symbol). foremost is_preferred (filter (λ s. bytes_eq (b ∷ bs) s.name) xs)) e
 
--- the symbol of a name of at most 48 bytes, by their table
+-- the symbol of a name of at most 40 bytes, by their table
 pub found_address : (strings name : List ℕ) (symbols : List SymbolEntry) (names : Names) (table : BTreeMap (Vec ℕ) SymbolEntry)
-    → IsNameTable strings symbols table → length name ≤ 48 → (length name == 0) ≡ false → map (symbol_of strings) symbols ≡ names.symbols
+    → IsNameTable strings symbols table → length name ≤ 40 → (length name == 0) ≡ false → map (symbol_of strings) symbols ≡ names.symbols
     → option_map (symbol_of strings) (at_name table name) ≡ address_of names name
 found_address strings [] symbols names table kept short some e = cc
 found_address strings (b ∷ bs) symbols names table kept short some e =

@@ -89,7 +89,7 @@ false_if true h = absurd (h refl)
 false_if false h = refl
 
 -- an entry with a long name, or with none, has no short one
-long_not_named : (name : List ℕ) (o : Option (List ℕ)) → IsLong o → length name ≤ 48 → option_map_or (bytes_eq name) o false ≡ false
+long_not_named : (name : List ℕ) (o : Option (List ℕ)) → IsLong o → length name ≤ 40 → option_map_or (bytes_eq name) o false ≡ false
 long_not_named name None h short = refl
 long_not_named name (Some m) h short =
     false_if (bytes_eq name m) (λ e. let same : length name ≡ length m = ap length ((bytes_decides name m).0 e) in absurd (omega arith))

@@ -21,9 +21,9 @@ pub shorter : (bytes : List ℕ) → Shorter (length bytes) (name_from bytes)
 shorter [] = tt
 shorter (b ∷ bs) = shorter_step (b == 0) b (length bs) (name_from bs) (shorter bs)
 
-long_by : (n size : ℕ) (o : Option (List ℕ)) → n ≡ min size 49 → Shorter size o → AtLeast n o → IsLong o
+long_by : (n size : ℕ) (o : Option (List ℕ)) → n ≡ min size 41 → Shorter size o → AtLeast n o → IsLong o
 long_by n size None e below least = tt
 long_by n size (Some name) e below least = omega (arith, e, below, least)
 
-pub long_behind : (n : ℕ) (bytes : List ℕ) → n ≡ min (length bytes) 49 → IsFirstByte (is_byte 0) (take n bytes) None → IsLong (name_from bytes)
+pub long_behind : (n : ℕ) (bytes : List ℕ) → n ≡ min (length bytes) 41 → IsFirstByte (is_byte 0) (take n bytes) None → IsLong (name_from bytes)
 long_behind n bytes e h = long_by n (length bytes) (name_from bytes) e (shorter bytes) (none_in_front n bytes h)

@@ -20,15 +20,15 @@ at_address table addr = tree.get nat_cmp table addr
 abbrev pub begins_at : ℕ → SymbolEntry → Bool
 begins_at addr e = e.address == addr
 
--- a name of more than 48 bytes, or none
+-- a name of more than 40 bytes, or none
 abbrev pub IsLong : Option (List ℕ) → Type 0
 IsLong None = Unit {0}
-IsLong (Some name) = 48 < length name
+IsLong (Some name) = 40 < length name
 
--- each name of 1 to 48 bytes has the preferred one of its entries
+-- each name of 1 to 40 bytes has the preferred one of its entries
 abbrev pub IsNameTable : List ℕ → List SymbolEntry → BTreeMap (Vec ℕ) SymbolEntry → Type 0
 IsNameTable strings symbols table =
-    (b : ℕ) (bs : List ℕ) → length (b ∷ bs) ≤ 48 → at_name table (b ∷ bs) ≡ best entry_preferred (filter (entry_named strings (b ∷ bs)) symbols)
+    (b : ℕ) (bs : List ℕ) → length (b ∷ bs) ≤ 40 → at_name table (b ∷ bs) ≡ best entry_preferred (filter (entry_named strings (b ∷ bs)) symbols)
 
 -- each address has the nearest one of the functions that begin there
 abbrev pub IsAddressTable : List ℕ → List SymbolEntry → BTreeMap ℕ SymbolEntry → Type 0
@@ -38,7 +38,7 @@ IsAddressTable strings functions table =
 -- an entry more, in a table of names
 abbrev pub AddsName : List ℕ → SymbolEntry → BTreeMap (Vec ℕ) SymbolEntry → BTreeMap (Vec ℕ) SymbolEntry → Type 0
 AddsName strings e old new =
-    (b : ℕ) (bs : List ℕ) → length (b ∷ bs) ≤ 48 → at_name new (b ∷ bs) ≡ (if entry_named strings (b ∷ bs) e then better entry_preferred (at_name old (b ∷ bs)) e else at_name old (b ∷ bs))
+    (b : ℕ) (bs : List ℕ) → length (b ∷ bs) ≤ 40 → at_name new (b ∷ bs) ≡ (if entry_named strings (b ∷ bs) e then better entry_preferred (at_name old (b ∷ bs)) e else at_name old (b ∷ bs))
 
 -- a function more, in a table of addresses
 abbrev pub AddsAddress : List ℕ → SymbolEntry → BTreeMap ℕ SymbolEntry → BTreeMap ℕ SymbolEntry → Type 0

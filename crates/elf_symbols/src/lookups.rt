@@ -60,7 +60,7 @@ fn put_address(
     }
 }
 
-/// The preferred entry of each name of at most 48 bytes.
+/// The preferred entry of each name of at most 40 bytes.
 pub fn name_table(
     alloc: Global,
     strings: &[u8],

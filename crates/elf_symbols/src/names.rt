@@ -14,7 +14,7 @@ use std::collections::BTreeMap;
 use std::marker::Model;
 
 /// Longer names aren't kept in the table by name, since a string table can have many long ones in one.
-pub const MOST_KEPT: usize = 48;
+pub const MOST_KEPT: usize = 40;
 
 /// So many bytes of a name are compared, since a line of input has no more.
 const COMPARED: usize = 4096;
@@ -39,7 +39,7 @@ pub struct Symbols {
     /// In the symbol table's order.
     symbols: Vec<SymbolEntry>,
     functions: Vec<SymbolEntry>,
-    /// The preferred entry of each name of at most 48 bytes.
+    /// The preferred entry of each name of at most 40 bytes.
     by_name: BTreeMap<Vec<u8>, SymbolEntry>,
     /// The function of the least name at each address.
     by_address: BTreeMap<u32, SymbolEntry>,
@@ -67,7 +67,7 @@ fn first_name(bytes: &[u8]) -> &[u8]
     }
 }
 
-/// The bytes up to the first zero byte, where those are at most 48.
+/// The bytes up to the first zero byte, where those are at most 40.
 fn short_front(bytes: &[u8]) -> Option<&[u8]>
     ensures kept { IfSome result (λ name. name_from bytes.now ≡ Some name.now) }
     ensures passed { IfNone result (IsLong (name_from bytes.now)) }
@@ -79,7 +79,7 @@ fn short_front(bytes: &[u8]) -> Option<&[u8]>
     }
 }
 
-/// The name of an entry, where it has at most 48 bytes.
+/// The name of an entry, where it has at most 40 bytes.
 #[tactic(auto, unfolding(elf32_read::specs::Fields::name_at))]
 pub fn short_name<'a>(strings: &'a [u8], entry: &SymbolEntry) -> Option<&'a [u8]>
     ensures kept { IfSome result (λ name. name_at strings.now entry.now.name ≡ Some name.now) }
