@@ -32,7 +32,7 @@ numbered_place : (s : Sections) (old new : NameNumbers) (name : List ℕ) (n : �
 numbered_place s old new name n h =
     ap (λ (l : List (List ℕ)). place_of l name) h.names ∙ place_by old.names.names name (is_known old.names.names name) refl ∙ ap (λ (k : ℕ). Some k) (sym h.is)
 
-get_here : {X : Type 0} (xs : List X) (k : ℕ) (d : X) → k < length xs → slice_get xs k ≡ Some (get_or xs k d)
+pub get_here : {X : Type 0} (xs : List X) (k : ℕ) (d : X) → k < length xs → slice_get xs k ≡ Some (get_or xs k d)
 get_here [] k d h = absurd (omega arith)
 get_here (x ∷ xs) zero d h = refl
 get_here (x ∷ xs) (suc k) d h = get_here xs k d (omega arith)

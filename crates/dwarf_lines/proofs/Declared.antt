@@ -1,19 +1,20 @@
 -- The rows of all units, added one after another, are those that `rows_of` says at once.
-use Rattle.std.proofs.Common.{◌≡◌, ℕ, ◌+◌, ◌-◌, List, [], ◌∷◌, ◌++◌, Some, map, fold, refl, ◌∙◌, ap, sym, append_assoc, append-nil, arith}
-use Rattle.std.specs.Prelude.{flat_map, Result, Ok, Err}
+use Rattle.std.proofs.Common.{◌≡◌, Bool, true, false, ℕ, ◌+◌, ◌-◌, List, [], ◌∷◌, ◌++◌, Some, map, fold, refl, ◌∙◌, ap, sym, append_assoc, append-nil, arith}
+use Rattle.std.specs.Prelude.{flat_map, nat_lt, Result, Ok, Err, if◌then◌else◌}
 use Rattle.std.proofs.lemmas.List.Sums.{fold-append, sum_by-append}
 use Rattle.std.proofs.lemmas.List.{length-map}
 use Rattle.line_rows.specs.RowList.{Building, Sequence, room_of, ended_with, finished, table_room, room_taken}
 use Rattle.line_rows.specs.Sections.{Sections}
 use Rattle.line_rows.specs.declared.row.Row.{Row}
 use Rattle.line_rows.specs.declared.fault.LineFault.{LineFault}
+use Rattle.line_rows.specs.declared.fault.LineFault.TheVariants as fault
 use Rattle.line_rows.specs.declared.fault.UnitFault.{UnitFault}
-use Rattle.file_names.specs.Numbers.{is_known, number_of, place_of, with_name}
+use Rattle.file_names.specs.Numbers.{bytes_of, is_known, names_room, number_of, place_of, with_name}
 use Rattle.file_names.proofs.Known.{known_name}
 use Rattle.dwarf_lines.proofs.Added.{known_by, place_by}
-use Rattle.dwarf_lines.specs.Adding.{add_result, add_row, add_sequence, add_unit, add_unit_of, added, room_left}
+use Rattle.dwarf_lines.specs.Adding.{Built, add_fault, add_result, add_row, add_sequence, add_unit, add_units, added, built_by, room_left}
 use Rattle.dwarf_lines.specs.Numbers.{UnitRows, file_name, names_of, names_used, numbered, numbered_sequence, numbered_sequences}
-use Rattle.dwarf_lines.specs.Rows.{UnitGiven, fault_given, room_behind, rows_given, rows_of, unit_of, units_given}
+use Rattle.dwarf_lines.specs.Rows.{UnitGiven, fault_given, given_first, names_behind, room_behind, rows_given, rows_of, unit_of, units_given}
 use Rattle.dwarf_lines.specs.Units.{Unit, units_of}
 
 -- the names with some more
@@ -78,20 +79,6 @@ unit_added : (unit : UnitRows) (done : List Sequence) (names : List (List ℕ)) 
 unfolding add_unit
 unit_added unit done names faults all more e = sequences_added unit done names faults unit.sequences all more e
 
--- what one result adds, with the names of those behind it still to come
-result_added : (place : ℕ) (done : List Sequence) (names : List (List ℕ)) (faults : List UnitFault) (result : Result UnitRows LineFault) (all more : List (List ℕ)) → all ≡ with_all (with_all names (flat_map names_of (rows_given result))) more
-    → add_result place (closed done names faults) result
-    ≡ closed (done ++ flat_map (numbered_sequences all) (rows_given result)) (with_all names (flat_map names_of (rows_given result))) (faults ++ fault_given place result)
-result_added place done names faults (Ok unit) all more e =
-    let used : names_of unit ≡ names_of unit ++ [] = sym (append-nil (names_of unit)) in
-    let sequences : numbered_sequences all unit ≡ numbered_sequences all unit ++ [] = sym (append-nil (numbered_sequences all unit)) in
-    unit_added unit done names faults all more (e ∙ ap (λ (l : List (List ℕ)). with_all (with_all names l) more) (sym used))
-    ∙ ap (λ (l : List Sequence). closed (done ++ l) (with_all names (names_of unit)) faults) sequences
-    ∙ ap (λ (l : List (List ℕ)). closed (done ++ (numbered_sequences all unit ++ [])) (with_all names l) faults) used
-    ∙ ap (λ (l : List UnitFault). closed (done ++ (numbered_sequences all unit ++ [])) (with_all names (names_of unit ++ [])) l) (sym (append-nil faults))
-result_added place done names faults (Err f) all more e =
-    ap (λ (l : List Sequence). closed l names (faults ++ record { offset = place; fault = f } ∷ [])) (sym (append-nil done))
-
 flat_append : {A B : Type 0} (f : A → List B) (xs ys : List A) → flat_map f (xs ++ ys) ≡ flat_map f xs ++ flat_map f ys
 flat_append f [] ys = refl
 flat_append f (x ∷ xs) ys = ap (λ (l : List _). f x ++ l) (flat_append f xs ys) ∙ sym (append_assoc (f x) (flat_map f xs) (flat_map f ys))
@@ -111,13 +98,9 @@ sequences_counted unit all (s ∷ ss) =
     omega (arith, first, count_by unit all s.rows s.end, sequences_counted unit all ss, among_append (s ∷ []) ss)
 
 -- the room behind what a unit adds
-room_after : (all : List (List ℕ)) (done : List Sequence) (room : ℕ) (result : Result UnitRows LineFault) → room ≡ table_room - room_taken done
-    → room_behind room result ≡ table_room - room_taken (done ++ flat_map (numbered_sequences all) (rows_given result))
-room_after all done room (Ok unit) e =
-    let counted : room_taken (numbered_sequences all unit ++ []) ≡ room_taken unit.sequences =
-    ap room_taken (append-nil (numbered_sequences all unit)) ∙ sequences_counted unit all unit.sequences in
-    omega (arith, e, counted, among_append done (numbered_sequences all unit ++ []))
-room_after all done room (Err f) e = e ∙ ap (λ (l : List Sequence). table_room - room_taken l) (sym (append-nil done))
+room_after : (all : List (List ℕ)) (done : List Sequence) (room : ℕ) (unit : UnitRows) → room ≡ table_room - room_taken done
+    → room - room_taken unit.sequences ≡ table_room - room_taken (done ++ numbered_sequences all unit)
+room_after all done room unit e = omega (arith, e, sequences_counted unit all unit.sequences, among_append done (numbered_sequences all unit))
 
 -- what some units give
 abbrev given : List UnitGiven → List UnitRows
@@ -126,29 +109,62 @@ given units = flat_map (λ u. rows_given u.given) units
 abbrev blamed : List UnitGiven → List UnitFault
 blamed units = flat_map (λ u. fault_given u.place u.given) units
 
-units_added : (s : Sections) (room : ℕ) (done : List Sequence) (names : List (List ℕ)) (faults : List UnitFault) (units : List Unit) (all : List (List ℕ)) → room ≡ table_room - room_taken done
-    → all ≡ with_all names (flat_map names_of (given (units_given s room units)))
-    → fold (add_unit_of s) (closed done names faults) units ≡ closed (done ++ flat_map (numbered_sequences all) (given (units_given s room units))) all (faults ++ blamed (units_given s room units))
-units_added s room done names faults [] all left e =
+-- what is built of some units is what they give
+abbrev AreAdded : Sections → List Unit → Type 0
+AreAdded s units = (room : ℕ) (done : List Sequence) (names : List (List ℕ)) (faults : List UnitFault) (all : List (List ℕ)) → room ≡ table_room - room_taken done
+    → all ≡ with_all names (flat_map names_of (given (units_given s room names units)))
+    → add_units s units (closed done names faults) ≡ closed (done ++ flat_map (numbered_sequences all) (given (units_given s room names units))) all (faults ++ blamed (units_given s room names units))
+
+-- what a unit and others behind it give and build, by whether there is no room for its names
+abbrev first_by : Bool → ℕ → UnitRows → List UnitGiven → List UnitGiven
+first_by b place unit others = if b then record { place = place; given = Err fault.Names } ∷ [] else record { place = place; given = Ok unit } ∷ others
+
+abbrev fitting_by : Bool → ℕ → Building → Building → Built
+fitting_by b place rows more = if b then record { rows = add_fault place (record rows { pending = [] }) fault.Names; on = false } else record { rows = more; on = true }
+
+unit_by : (s : Sections) (room : ℕ) (done : List Sequence) (names : List (List ℕ)) (faults : List UnitFault) (place : ℕ) (unit : UnitRows) (units : List Unit) (all : List (List ℕ)) → AreAdded s units → room ≡ table_room - room_taken done
+    → (b : Bool) (others : List UnitGiven) → others ≡ units_given s (room - room_taken unit.sequences) (with_all names (names_of unit)) units
+    → all ≡ with_all names (flat_map names_of (given (first_by b place unit others)))
+    → built_by (fitting_by b place (closed done names faults) (add_unit unit (closed done names faults))) (add_units s units)
+    ≡ closed (done ++ flat_map (numbered_sequences all) (given (first_by b place unit others))) all (faults ++ blamed (first_by b place unit others))
+unit_by s room done names faults place unit units all rest left true others is e =
+    ap (λ (l : List Sequence). closed l names (faults ++ record { offset = place; fault = fault.Names } ∷ [])) (sym (append-nil done))
+    ∙ ap (λ (l : List (List ℕ)). closed (done ++ []) l (faults ++ record { offset = place; fault = fault.Names } ∷ [])) (sym e)
+unit_by s room done names faults place unit units all rest left false others is e =
+    let used = names_of unit in
+    let later = flat_map names_of (given others) in
+    let mine = numbered_sequences all unit in
+    let whole : all ≡ with_all (with_all names used) later = e ∙ fold-append with_name names used later in
+    let behind : all ≡ with_all (with_all names used) (flat_map names_of (given (units_given s (room - room_taken unit.sequences) (with_all names used) units))) =
+    whole ∙ ap (λ (l : List UnitGiven). with_all (with_all names used) (flat_map names_of (given l))) is in
+    ap (λ (b : Building). add_units s units b) (unit_added unit done names faults all later whole)
+    ∙ rest (room - room_taken unit.sequences) (done ++ mine) (with_all names used) faults all (room_after all done room unit left) behind
+    ∙ ap (λ (l : List UnitGiven). closed (done ++ mine ++ flat_map (numbered_sequences all) (given l)) all (faults ++ blamed l)) (sym is)
+    ∙ ap (λ (l : List Sequence). closed l all (faults ++ blamed others)) (append_assoc done mine (flat_map (numbered_sequences all) (given others)))
+
+result_by : (s : Sections) (room : ℕ) (done : List Sequence) (names : List (List ℕ)) (faults : List UnitFault) (place : ℕ) (units : List Unit) (all : List (List ℕ)) (result : Result UnitRows LineFault) → AreAdded s units → room ≡ table_room - room_taken done
+    → (let others = given_first place (names_behind names result) result (units_given s (room_behind room result) (names_behind names result) units) in
+    all ≡ with_all names (flat_map names_of (given others))
+    → built_by (add_result place (closed done names faults) result) (add_units s units) ≡ closed (done ++ flat_map (numbered_sequences all) (given others)) all (faults ++ blamed others))
+result_by s room done names faults place units all (Ok unit) rest left e =
+    let old = closed done names faults in
+    let same : (add_unit unit old).names ≡ with_all names (names_of unit) = ap (λ (b : Building). b.names) (unit_added unit done names faults (with_all names (names_of unit)) [] refl) in
+    ap (λ (l : List (List ℕ)). built_by (fitting_by (nat_lt names_room (bytes_of l)) place old (add_unit unit old)) (add_units s units)) same
+    ∙ unit_by s room done names faults place unit units all rest left (nat_lt names_room (bytes_of (with_all names (names_of unit)))) _ refl e
+result_by s room done names faults place units all (Err f) rest left e =
+    rest room done names (faults ++ record { offset = place; fault = f } ∷ []) all left e
+    ∙ ap (λ (l : List UnitFault). closed (done ++ flat_map (numbered_sequences all) (given (units_given s room names units))) all l) (append_assoc faults (record { offset = place; fault = f } ∷ []) (blamed (units_given s room names units)))
+
+units_added : (s : Sections) (units : List Unit) → AreAdded s units
+units_added s [] room done names faults all left e =
     ap (λ (l : List Sequence). closed l names faults) (sym (append-nil done))
     ∙ ap (λ (l : List UnitFault). closed (done ++ []) names l) (sym (append-nil faults))
     ∙ ap (λ (l : List (List ℕ)). closed (done ++ []) l (faults ++ [])) (sym e)
-units_added s room done names faults (u ∷ units) all left e =
-    let result = unit_of s room u in
-    let rest = units_given s (room_behind room result) units in
-    let mine = rows_given result in
-    let used = flat_map names_of mine in
-    let later = flat_map names_of (given rest) in
-    let whole : all ≡ with_all (with_all names used) later = e ∙ ap (with_all names) (flat_append names_of mine (given rest)) ∙ fold-append with_name names used later in
+units_added s (u ∷ units) room done names faults all left e =
     let here : room_left (closed done names faults) ≡ room = omega (arith, left) in
-    ap (λ (n : ℕ). fold (add_unit_of s) (add_result u.place (closed done names faults) (unit_of s n u)) units) here
-    ∙ ap (λ (b : Building). fold (add_unit_of s) b units) (result_added u.place done names faults result all later whole)
-    ∙ units_added s (room_behind room result) (done ++ flat_map (numbered_sequences all) mine) (with_all names used) (faults ++ fault_given u.place result) units all (room_after all done room result left) whole
-    ∙ ap (λ (l : List Sequence). closed l all (faults ++ fault_given u.place result ++ blamed rest))
-    (append_assoc done (flat_map (numbered_sequences all) mine) (flat_map (numbered_sequences all) (given rest))
-    ∙ ap (λ (l : List Sequence). done ++ l) (sym (flat_append (numbered_sequences all) mine (given rest))))
-    ∙ ap (λ (l : List UnitFault). closed (done ++ flat_map (numbered_sequences all) (given (units_given s room (u ∷ units)))) all l) (append_assoc faults (fault_given u.place result) (blamed rest))
+    ap (λ (n : ℕ). built_by (add_result u.place (closed done names faults) (unit_of s n u)) (add_units s units)) here
+    ∙ result_by s room done names faults u.place units all (unit_of s room u) (units_added s units) left e
 
 pub declared : (s : Sections) → finished (added s) ≡ rows_of s
 unfolding added rows_of
-declared s = ap finished (units_added s table_room [] [] [] (units_of s.line) (with_all [] (flat_map names_of (given (units_given s table_room (units_of s.line))))) refl refl)
+declared s = ap finished (units_added s (units_of s.line) table_room [] [] [] (with_all [] (flat_map names_of (given (units_given s table_room [] (units_of s.line))))) refl refl)

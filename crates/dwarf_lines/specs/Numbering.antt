@@ -1,7 +1,7 @@
 -- How the numbers of names are kept while the units are read: what the tables of the code hold.
 use Rattle.std.specs.Prelude.{◌≡◌, ℕ, List, [], Option, Some, slice_get}
 use Rattle.std.specs.List.{slice_index_or}
-use Rattle.file_names.specs.Numbers.{number_of, place_of, with_name}
+use Rattle.file_names.specs.Numbers.{IsOver, number_of, place_of, with_name}
 use Rattle.file_names.specs.Tables.{HasNumbers, IsSection}
 use Rattle.line_rows.specs.Sections.{Sections}
 use Rattle.dwarf_lines.specs.declared.numbers.NameNumbers.{NameNumbers}
@@ -17,6 +17,11 @@ pub record IsNumbered (s : Sections) (old new : NameNumbers) (name : List ℕ) (
   pub is : number ≡ number_of old.names.names name
   pub names : new.names.names ≡ with_name old.names.names name
   pub kept : AreNumbers s new
+
+-- there is no room for a name, and no name came
+pub record IsFull (old new : NameNumbers) (name : List ℕ) : Type 0 where
+  pub over : IsOver old.names.names name
+  pub names : new.names.names ≡ old.names.names
 
 -- what is remembered of a unit's files: the numbers of some
 abbrev pub AreKnown : List (List ℕ) → List (Option ℕ) → List (List ℕ) → Type 0

@@ -2,13 +2,14 @@
 
 ghost use Rattle.std.specs.Prelude.{◌≡◌, ◌++◌, [], IfOk, map};
 ghost use Rattle.std.specs.List.{slice_index_or};
+ghost use Rattle.file_names.specs.Faults.{OnFull};
 ghost use Rattle.line_rows.specs.Sections.{sections_shown};
 ghost use Rattle.dwarf_lines.specs.Names.{name_in};
-ghost use Rattle.dwarf_lines.specs.Numbering.{AreNumbers, IsNumbered};
+ghost use Rattle.dwarf_lines.specs.Numbering.{AreNumbers, IsFull, IsNumbered};
 
 use crate::files::{defined_name, text_from};
 use dbg_traits::NoMemory;
-use file_names::{Classes, SectionTexts, number_in, number_of};
+use file_names::{Classes, NameError, SectionTexts, number_in, number_of};
 use line_headers::NamePlace;
 use line_rows::{FileNames, LineSections, Rows};
 use std::alloc::Global;
@@ -36,15 +37,16 @@ pub fn no_numbers(alloc: Global, sections: &LineSections<'_>) -> Result<NameNumb
     })
 }
 
-// The number of the name at a place.
+// The number of the name at a place, where there is room for it.
 fn number_at(
     alloc: Global,
     sections: &LineSections<'_>,
     place: NamePlace,
     numbers: &mut NameNumbers,
-) -> Result<u32, NoMemory>
+) -> Result<u32, NameError>
     requires { AreNumbers (sections_shown sections.now) numbers.old }
-    ensures { IfOk result (λ n. IsNumbered (sections_shown sections.now) numbers.old numbers.new (name_in (sections_shown sections.now) place) n) }
+    ensures number { IfOk result (λ n. IsNumbered (sections_shown sections.now) numbers.old numbers.new (name_in (sections_shown sections.now) place) n) }
+    ensures full { OnFull result (IsFull numbers.old numbers.new (name_in (sections_shown sections.now) place)) }
 {
     match place {
         NamePlace::Empty => number_of(&mut numbers.classes, &mut numbers.names, &[]),
@@ -72,8 +74,8 @@ fn number_at(
     }
 }
 
-/// The number of the name of a unit's file, which is the next one where no row had the name before. Files are counted
-/// from the first: those of the header, and behind them those that the program defines.
+/// The number of the name of a unit's file, which is the next one where no row had the name before and there is room
+/// for it. Files are counted from the first: those of the header, and behind them those that the program defines.
 #[tactic(auto, using(crate::proofs::Known::header_name))]
 pub fn number_of_file(
     alloc: Global,
@@ -82,9 +84,10 @@ pub fn number_of_file(
     defined: &Rows,
     k: usize,
     numbers: &mut NameNumbers,
-) -> Result<u32, NoMemory>
+) -> Result<u32, NameError>
     requires { AreNumbers (sections_shown sections.now) numbers.old }
-    ensures { IfOk result (λ n. IsNumbered (sections_shown sections.now) numbers.old numbers.new (slice_index_or (map (name_in (sections_shown sections.now)) files.now ++ defined.now.names) k []) n) }
+    ensures number { IfOk result (λ n. IsNumbered (sections_shown sections.now) numbers.old numbers.new (slice_index_or (map (name_in (sections_shown sections.now)) files.now ++ defined.now.names) k []) n) }
+    ensures full { OnFull result (IsFull numbers.old numbers.new (slice_index_or (map (name_in (sections_shown sections.now)) files.now ++ defined.now.names) k [])) }
 {
     if k < files.len() {
         return number_at(alloc, sections, files[k], numbers);

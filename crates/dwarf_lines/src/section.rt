@@ -25,12 +25,12 @@ fn up_to<'a>(sections: &LineSections<'a>, end: usize) -> LineSections<'a>
 ///
 /// A unit with a fault gives no rows and stands in the list with the first fault that is met when its bytes are read in
 /// order. A table has room for 4,194,304 rows, of which the end of each sequence takes two: a row without room is such a
-/// fault. Behind a unit whose end can't be told nothing is read. A row's file is the number of a name: the names that
-/// rows have are numbered from 0, each once, in the order of the rows.
+/// fault. It has room for distinct names of 524,288 bytes together: a unit whose rows have names without room has that
+/// fault, unless it has another, and behind it nothing is read. Nor is it behind a unit whose end can't be told. A row's
+/// file is the number of a name: the names that rows have are numbered from 0, each once, in the order of the rows.
 ///
 /// # Errors
-/// No memory for the rows and their names, or names for which `file_names` keeps none. No other bytes of the sections are an
-/// error.
+/// No memory for the rows and their names. No bytes of the sections are an error.
 pub fn rows(alloc: Global, sections: &LineSections<'_>) -> Result<Rows, NoMemory>
     ensures { IfOk result (λ r. r ≡ rows_of (sections_shown sections.now)) }
 {
@@ -42,7 +42,10 @@ pub fn rows(alloc: Global, sections: &LineSections<'_>) -> Result<Rows, NoMemory
         match unit_end(sections.line, at) {
             Ok(end) => {
                 let unit = up_to(sections, end);
-                add_at(alloc, &unit, at, ends, &mut numbers, &mut rows)?;
+                if !add_at(alloc, &unit, at, ends, &mut numbers, &mut rows)? {
+                    rows.set_names(numbers.names);
+                    return Ok(rows.finish());
+                }
                 at = end;
             }
             Err(fault) => {

@@ -19,11 +19,11 @@ use Rattle.file_names.specs.declared.texts.Met.{Met}
 use Rattle.file_names.proofs.Links.{Puts, class_below, class_stays, numbers_stay, put_links}
 
 pub grows_none : (classes : Classes) → AreClasses classes → Grows classes classes
-grows_none classes h = record { classes = h; stays = λ text c e. e; numbers = λ text. refl }
+grows_none classes h = record { classes = h; room = refl; stays = λ text c e. e; numbers = λ text. refl }
 
 pub grows_twice : (a b c : Classes) → Grows a b → Grows b c → Grows a c
 grows_twice a b c g h =
-    record { classes = h.classes; stays = λ text k e. h.stays text k (g.stays text k e); numbers = λ text. h.numbers text ∙ g.numbers text }
+    record { classes = h.classes; room = h.room ∙ g.room; stays = λ text k e. h.stays text k (g.stays text k e); numbers = λ text. h.numbers text ∙ g.numbers text }
 
 -- a link that is there
 pub link_known : (classes : Classes) (c b next key : ℕ) → AreClasses classes → key ≡ 256 * c + b → Some next ≡ link_at classes.links key → Links classes classes c b next
@@ -34,12 +34,13 @@ puts_from old new key v h k = h.0 k ∙ ap (λ (b : Bool). if b then Some v else
 
 new_by : (old new : Classes) (c b next : ℕ) → AreClasses old → c < length old.numbers.items → b < 256 → next ≡ length old.numbers.items
     → None ≡ link_at old.links (256 * c + b) → Puts old.links new.links (256 * c + b) (length old.numbers.items) → new.numbers.items ≡ old.numbers.items ++ None ∷ []
-    → Links old new c b next
-new_by old new c b next h below byte is none puts pushed =
+    → new.room ≡ old.room → Links old new c b next
+new_by old new c b next h below byte is none puts pushed room =
     let count : length new.numbers.items ≡ length old.numbers.items + 1 = ap length pushed ∙ length_push old.numbers.items None in
     record {
       grows = record {
         classes = subst (λ (n : ℕ). AreLinks new.links n) (sym count) (put_links old.links new.links (length old.numbers.items) c b h below byte puts);
+        room = room;
         stays = λ text k e. class_stays old.links new.links (256 * c + b) (length old.numbers.items) puts (sym none) text k e;
         numbers = λ text. ap (λ (l : List (Option ℕ)). number_by l (class_of new.links text)) pushed
             ∙ numbers_stay old.links new.links (length old.numbers.items) (256 * c + b) old.numbers.items h puts (sym none) refl text;
@@ -50,12 +51,12 @@ new_by old new c b next h below byte is none puts pushed =
 -- a link that comes
 pub link_new : (old new : Classes) (c b next key : ℕ) → AreClasses old → c < length old.numbers.items → b < 256 → key ≡ 256 * c + b → next ≡ length old.numbers.items
     → None ≡ link_at old.links key → tree.Updates nat_cmp old.links new.links key (Some next) → new.numbers.items ≡ old.numbers.items ++ None ∷ []
-    → Links old new c b next
-link_new old new c b next key h below byte is count none updates pushed =
+    → new.room ≡ old.room → Links old new c b next
+link_new old new c b next key h below byte is count none updates pushed room =
     let P : ℕ → Type 0 = λ v. Puts old.links new.links (256 * c + b) v in
     let Q : ℕ → Type 0 = λ k. Puts old.links new.links k next in
     new_by old new c b next h below byte count (none ∙ ap (λ (k : ℕ). link_at old.links k) is)
-    (subst P count (subst Q is (puts_from old.links new.links key next updates))) pushed
+    (subst P count (subst Q is (puts_from old.links new.links key next updates))) pushed room
 
 -- a class behind one more byte
 pub linked_class : (links : BTreeMap ℕ ℕ) (c b v : ℕ) (text : List ℕ) → b < 256 → class_of links text ≡ Some c → link_at links (256 * c + b) ≡ Some v → class_of links (b ∷ text) ≡ Some v
@@ -76,7 +77,7 @@ class_more old mid new text start c b next within grows is byte low link =
 text_step : (section : List ℕ) (at : ℕ) → at < length section → text_from section at ≡ (if is_text_byte (get_or section at 0) then get_or section at 0 ∷ text_from section (at + 1) else [])
 text_step section at within = ap (λ (l : List ℕ). take_while is_text_byte l) (drop_front section at within) ∙ take_while-cons is_text_byte (get_or section at 0) (drop (at + 1) section)
 
-text_more : (section : List ℕ) (at b : ℕ) → at < length section → b ≡ get_or section at 0 → (b == 0) ≡ false → text_from section at ≡ b ∷ text_from section (at + 1)
+pub text_more : (section : List ℕ) (at b : ℕ) → at < length section → b ≡ get_or section at 0 → (b == 0) ≡ false → text_from section at ≡ b ∷ text_from section (at + 1)
 text_more section at b within byte some =
     let P : ℕ → Type 0 = λ x. text_from section at ≡ (if is_text_byte x then x ∷ text_from section (at + 1) else []) in
     subst P (sym byte) (text_step section at within) ∙ rw some refl

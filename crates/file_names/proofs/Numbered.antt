@@ -10,19 +10,37 @@ use Rattle.file_names.specs.declared.texts.Met.{Met}
 use Rattle.file_names.specs.declared.sections.SectionTexts.{SectionTexts}
 use Rattle.line_rows.specs.RowList.{NameList}
 use Rattle.file_names.specs.Links.{AreLinks, AreNumbers, class_of, number_by}
-use Rattle.file_names.specs.Numbers.{place_of}
+use Rattle.file_names.specs.Numbers.{IsOver, names_room, place_of}
 use Rattle.file_names.specs.Tables.{GoesOn, Grows, HasNumbers, IsSection, Keeps, Numbers, NumbersIn, Opens, Sets, StandsAt, StaysIn}
 use Rattle.file_names.specs.Texts.{AreMet, text_from}
 use Rattle.file_names.specs.declared.classes.Classes.{Classes}
 use Rattle.file_names.proofs.Known.{known_name, new_name, set_numbers}
 use Rattle.file_names.proofs.Links.{class_below}
+use Rattle.file_names.proofs.Rooms.{bytes_push, long_over, met_size, new_over}
 
 pub grown_numbers : (old new : Classes) (names : List (List ℕ)) → HasNumbers old names → Grows old new → HasNumbers new names
-grown_numbers old new names h g = record { classes = g.classes; numbers = λ q. g.numbers q ∙ h.numbers q }
+grown_numbers old new names h g = record { classes = g.classes; room = omega (arith, g.room, h.room); numbers = λ q. g.numbers q ∙ h.numbers q }
 
 -- where a name of a class stands in the list
 place_is : (classes : Classes) (names : List (List ℕ)) (name : List ℕ) (c : ℕ) (o : Option ℕ) → HasNumbers classes names → class_of classes.links name ≡ Some c → get_or classes.numbers.items c None ≡ o → place_of names name ≡ o
 place_is classes names name c o h is there = sym (h.numbers name) ∙ ap (λ (k : Option ℕ). number_by classes.numbers.items k) is ∙ there
+
+-- there is no room for a name without a number that is longer than what is left
+pub class_over : (old new : Classes) (names : List (List ℕ)) (name : List ℕ) (c : ℕ) → HasNumbers old names → Grows old new → class_of new.links name ≡ Some c → get_or new.numbers.items c None ≡ None → new.room < length name → IsOver names name
+class_over old new names name c h g is there long =
+    let table = grown_numbers old new names h g in
+    new_over names name new.room (place_is new names name c None table is there) table.room long
+
+-- nor for any that is longer than all may be together
+pub too_long : (classes : Classes) (names : List (List ℕ)) (name : List ℕ) → HasNumbers classes names → names_room < length name → IsOver names name
+too_long classes names name h long = long_over names name (omega (arith, h.room)) long
+
+-- nor for a text of a section without a number that is longer than what is left
+pub met_over : (old new : Classes) (names : List (List ℕ)) (section : List ℕ) (known : List (Option Met)) (at place : ℕ) (met : Met) → HasNumbers old names → text_from section place ≡ text_from section at → Keeps old new section known place met
+    → get_or new.numbers.items met.class None ≡ None → new.room < met.past - place → IsOver names (text_from section at)
+met_over old new names section known at place met h same k there long =
+    let is = k.meets.is in
+    subst (λ (l : List ℕ). IsOver names l) same (class_over old new names (text_from section place) met.class h k.meets.grows is.of_class there (omega (arith, long, met_size new.links section place met is)))
 
 -- a name that has a number
 pub known_number : (old new : Classes) (before after : NameList) (name : List ℕ) (c n : ℕ) → HasNumbers old before.names → Grows old new → class_of new.links name ≡ Some c → get_or new.numbers.items c None ≡ Some n
@@ -39,20 +57,21 @@ known_number old new before after name c n h g is there same on =
     }
 
 set_table : (mid new : Classes) (names : List (List ℕ)) (name : List ℕ) (c n : ℕ) → HasNumbers mid names → class_of mid.links name ≡ Some c → c < length mid.numbers.items → place_of names name ≡ None
-    → n ≡ length names → Sets mid new c n → HasNumbers new (names ++ name ∷ [])
+    → n ≡ length names → Sets mid new c n (length name) → HasNumbers new (names ++ name ∷ [])
 set_table mid new names name c n h is below absent count sets =
     let numbers : new.numbers.items ≡ slice_set mid.numbers.items c (Some (length names)) = sets.numbers ∙ ap (λ (k : ℕ). slice_set mid.numbers.items c (Some k)) count in
     let size : length new.numbers.items ≡ length mid.numbers.items = ap length numbers ∙ length-set mid.numbers.items c (Some (length names)) in
     let set = set_numbers mid.links mid.numbers.items names name (length mid.numbers.items) c h.classes h.numbers below is absent in
     record {
       classes = subst (λ (l : BTreeMap ℕ ℕ). AreLinks l (length new.numbers.items)) (sym sets.links) (subst (λ (k : ℕ). AreLinks mid.links k) (sym size) h.classes);
+      room = omega (arith, sets.room, h.room, bytes_push names name);
       numbers = subst (λ (l : BTreeMap ℕ ℕ). AreNumbers l new.numbers.items (names ++ name ∷ [])) (sym sets.links)
           (subst (λ (l : List (Option ℕ)). AreNumbers mid.links l (names ++ name ∷ [])) (sym numbers) set);
     }
 
 -- a name that is new
 pub new_number : (old mid new : Classes) (before after : NameList) (name : List ℕ) (c n : ℕ) → HasNumbers old before.names → Grows old mid → class_of mid.links name ≡ Some c → get_or mid.numbers.items c None ≡ None
-    → n ≡ length before.names → Sets mid new c n → after.names ≡ before.names ++ name ∷ [] → GoesOn before.texts after.texts → Numbers old new before after name n
+    → n ≡ length before.names → Sets mid new c n (length name) → after.names ≡ before.names ++ name ∷ [] → GoesOn before.texts after.texts → Numbers old new before after name n
 new_number old mid new before after name c n h g is there count sets pushed on =
     let table = grown_numbers old mid before.names h g in
     let below = class_below mid.links (length mid.numbers.items) g.classes name c is in
@@ -160,7 +179,7 @@ range_in texts section start i j stands order within =
 -- a name in a section that is new
 pub in_new : (old mid new : Classes) (before opened_names after : NameList) (section : List ℕ) (known : List (Option Met)) (opened table : SectionTexts) (start at place n : ℕ) (met : Met)
     → HasNumbers old before.names → Opens old.links before opened_names section opened start → text_from section place ≡ text_from section at → Keeps old mid section known place met
-    → get_or mid.numbers.items met.class None ≡ None → n ≡ length opened_names.names → Sets mid new met.class n
+    → get_or mid.numbers.items met.class None ≡ None → n ≡ length opened_names.names → Sets mid new met.class n (met.past - place)
     → after ≡ record opened_names { names = opened_names.names ++ slice_range opened_names.texts (start + place) (start + met.past) ∷ [] }
     → table.start ≡ opened.start → table.known.items ≡ known → NumbersIn old new before after section at table n
 in_new old mid new before opened_names after section known opened table start at place n met h o same k there count sets pushed begin items =
@@ -168,6 +187,7 @@ in_new old mid new before opened_names after section known opened table start at
     let text : slice_range opened_names.texts (start + place) (start + met.past) ≡ text_from section place =
     range_in opened_names.texts section start place met.past o.stands is.ordered is.within ∙ is.text in
     let size : n ≡ length before.names = count ∙ ap length o.names in
+    let taken : Sets mid new met.class n (length (text_from section place)) = subst (λ (k : ℕ). Sets mid new met.class n k) (sym (met_size mid.links section place met is)) sets in
     let names : after.names ≡ before.names ++ text_from section place ∷ [] =
     ap (λ (l : NameList). l.names) pushed ∙ ap (λ (t : List ℕ). opened_names.names ++ t ∷ []) text ∙ ap (λ (l : List (List ℕ)). l ++ text_from section place ∷ []) o.names in
     let texts : after.texts ≡ opened_names.texts = ap (λ (l : NameList). l.texts) pushed in
@@ -175,7 +195,7 @@ in_new old mid new before opened_names after section known opened table start at
     let in_mid = known_in old mid before opened_names section known opened table start place n met h o k begin items in
     record {
       numbers = subst (λ (l : List ℕ). Numbers old new before after l n) same
-          (new_number old mid new before after (text_from section place) met.class n h k.meets.grows is.of_class there size sets names on);
+          (new_number old mid new before after (text_from section place) met.class n h k.meets.grows is.of_class there size taken names on);
       in_section = subst (λ (l : BTreeMap ℕ ℕ). IsSection l after.texts section table) (sym sets.links) (subst (λ (l : List ℕ). IsSection mid.links l section table) (sym texts) in_mid);
     }
 
@@ -207,7 +227,7 @@ no_section links texts section table start known =
     }
 
 numbers_grow : (old new : Classes) (names : List (List ℕ)) → HasNumbers old names → Grows old new → HasNumbers new names
-numbers_grow old new names h g = record { classes = g.classes; numbers = λ name. g.numbers name ∙ h.numbers name }
+numbers_grow old new names h g = record { classes = g.classes; room = omega (arith, g.room, h.room); numbers = λ name. g.numbers name ∙ h.numbers name }
 
 -- no name came from a section, which may be kept
 pub stays_in : (old new : Classes) (before opened_names after : NameList) (section : List ℕ) (known : List (Option Met)) (opened table : SectionTexts) (start : ℕ)

@@ -1,4 +1,5 @@
 pub mod Numbers
+pub mod Faults
 pub mod Links
 pub mod Texts
 pub mod Tables

@@ -1,8 +1,8 @@
 -- The tables that numbers of names are found by.
-use Rattle.std.specs.Prelude.{◌≡◌, ◌<◌, ◌≤◌, ◌+◌, ◌*◌, ◌^◌, ◌++◌, ℕ, List, length, nat_lt, slice_range, slice_set, Option, Some, if◌then◌else◌}
+use Rattle.std.specs.Prelude.{◌≡◌, ◌<◌, ◌≤◌, ◌+◌, ◌-◌, ◌*◌, ◌^◌, ◌++◌, ℕ, List, length, nat_lt, slice_range, slice_set, Option, Some, if◌then◌else◌}
 use Rattle.std.specs.BTreeMap.{BTreeMap}
 use Rattle.file_names.specs.Links.{link_at, class_of, AreLinks, AreNumbers, number_by}
-use Rattle.file_names.specs.Numbers.{number_of, with_name}
+use Rattle.file_names.specs.Numbers.{bytes_of, names_room, number_of, with_name}
 use Rattle.line_rows.specs.RowList.{NameList}
 use Rattle.file_names.specs.Texts.{AreMet, IsMet, text_from}
 use Rattle.file_names.specs.declared.sections.SectionTexts.{SectionTexts}
@@ -16,6 +16,7 @@ AreClasses classes = AreLinks classes.links (length classes.numbers.items)
 -- classes came to be, and no number
 pub record Grows (old new : Classes) : Type 0 where
   pub classes : AreClasses new
+  pub room : new.room ≡ old.room
   pub stays : (text : List ℕ) (c : ℕ) → class_of old.links text ≡ Some c → class_of new.links text ≡ Some c
   pub numbers : (text : List ℕ) → number_by new.numbers.items (class_of new.links text) ≡ number_by old.numbers.items (class_of old.links text)
 
@@ -39,6 +40,7 @@ pub record Finds (links : BTreeMap ℕ ℕ) (section : List ℕ) (at : ℕ) (fou
   pub behind : at ≤ found.at
   pub within : found.at ≤ length section
   pub is : IsMet links section found.at found.met
+  pub size : length (text_from section at) ≡ found.at - at + length (text_from section found.at)
 
 -- a text of a section is met, and what was met before is kept
 pub record Keeps (old new : Classes) (section : List ℕ) (known : List (Option Met)) (at : ℕ) (met : Met) : Type 0 where
@@ -49,14 +51,16 @@ pub record Keeps (old new : Classes) (section : List ℕ) (known : List (Option 
 abbrev pub remembered : List (Option Met) → ℕ → Met → List (Option Met)
 remembered known k met = if nat_lt k (length known) then slice_set known k (Some met) else known
 
--- a number of classes is set
-pub record Sets (old new : Classes) (c number : ℕ) : Type 0 where
+-- a number of classes is set, and its text takes room
+pub record Sets (old new : Classes) (c number size : ℕ) : Type 0 where
   pub links : new.links ≡ old.links
+  pub room : new.room + size ≡ old.room
   pub numbers : new.numbers.items ≡ slice_set old.numbers.items c (Some number)
 
--- each name in the list has its number by its class
+-- each name in the list has its number by its class, and takes room
 pub record HasNumbers (c : Classes) (names : List (List ℕ)) : Type 0 where
   pub classes : AreClasses c
+  pub room : c.room + bytes_of names ≡ names_room
   pub numbers : AreNumbers c.links c.numbers.items names
 
 -- what is kept begins as it did

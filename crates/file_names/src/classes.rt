@@ -7,8 +7,9 @@ use dbg_traits::NoMemory;
 use std::alloc::Global;
 use std::collections::BTreeMap;
 
-/// How many classes are kept at most: one for each byte of the names, of which those that end alike have their ends in common.
-const MOST_CLASSES: usize = 2_097_152;
+/// How many bytes the names have room for together. A text costs a class a byte at most, so there are no more than twice as
+/// many classes: those of the names, and those of a last one for which there is no room.
+pub const NAMES_ROOM: usize = 524_288;
 
 /// The classes of texts, and the numbers of those that are names.
 ///
@@ -18,6 +19,8 @@ const MOST_CLASSES: usize = 2_097_152;
 pub struct Classes {
     pub links: BTreeMap<u64, u32>,
     pub numbers: Vec<Option<u32>>,
+    /// How many bytes more names have room for.
+    pub room: usize,
 }
 
 impl Classes {
@@ -30,6 +33,7 @@ impl Classes {
         Ok(Classes {
             links: BTreeMap::new(alloc),
             numbers,
+            room: NAMES_ROOM,
         })
     }
 }
@@ -50,17 +54,6 @@ pub fn next_number(count: usize) -> Result<u32, NoMemory>
     Ok(count as u32)
 }
 
-/// The number of a further class. Classes of a long text of its own would take fifty times its size, so there is no memory for
-/// more than so many.
-fn next_class(count: usize) -> Result<u32, NoMemory>
-    ensures { IfOk result (λ n. n ≡ count) }
-{
-    if count >= MOST_CLASSES {
-        return Err(NoMemory);
-    }
-    next_number(count)
-}
-
 /// The class of a text by the class of what is behind its first byte. Without memory classes may have come to be, and no
 /// number.
 #[tactic(auto, using(crate::proofs::Grown::link_known))]
@@ -74,7 +67,7 @@ pub fn longer(classes: &mut Classes, class: u32, byte: u8) -> Result<u32, NoMemo
     if let Some(next) = classes.links.get(&key) {
         return Ok(*next);
     }
-    let next = next_class(classes.numbers.len())?;
+    let next = next_number(classes.numbers.len())?;
     classes.numbers.reserve(1)?;
     classes.links.insert(key, next)?;
     classes.numbers.push(None)?;

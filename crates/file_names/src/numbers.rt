@@ -1,10 +1,13 @@
 //! The numbers of names.
 
 ghost use Rattle.std.specs.Prelude.{◌≡◌, ◌+◌, ◌<◌, ◌≤◌, IfOk, OnErr, None, Some, length, replicate, slice_index_or};
+ghost use Rattle.file_names.specs.Faults.{OnFull};
+ghost use Rattle.file_names.specs.Numbers.{IsOver};
 ghost use Rattle.file_names.specs.Tables.{HasNumbers, IsSection, IsShut, Numbers, NumbersIn, Opens, Sets, Stays, StaysIn};
 ghost use Rattle.file_names.specs.Texts.{text_from};
 
-use crate::classes::{Classes, class_of, next_number};
+use crate::classes::{Classes, NAMES_ROOM, class_of, next_number};
+use crate::fault::NameError;
 use crate::sections::SectionTexts;
 use crate::texts::{Met, met_at};
 use dbg_traits::NoMemory;
@@ -18,27 +21,41 @@ fn number_by(classes: &Classes, class: u32) -> Option<u32>
     classes.numbers[class as usize]
 }
 
-fn set_number(classes: &mut Classes, class: u32, number: u32)
-    requires { class < length classes.old.numbers.items }
-    ensures { Sets classes.old classes.new class number }
+// Sets the number of a class, whose text takes room.
+fn set_number(classes: &mut Classes, class: u32, number: u32, size: usize)
+    requires below { class < length classes.old.numbers.items }
+    requires fits { size ≤ classes.old.room }
+    ensures { Sets classes.old classes.new class number size }
 {
     classes.numbers[class as usize] = Some(number);
+    classes.room -= size;
 }
 
-/// The number of a name, which is the next one where the list had no such name. Without memory the names stay as they
-/// were, with their numbers.
-pub fn number_of(classes: &mut Classes, names: &mut FileNames, name: &[u8]) -> Result<u32, NoMemory>
+/// The number of a name, which is the next one where the list had no such name. Without memory, and for a new name where
+/// there is no room for it, the names stay as they were, with their numbers.
+pub fn number_of(
+    classes: &mut Classes,
+    names: &mut FileNames,
+    name: &[u8],
+) -> Result<u32, NameError>
     requires { HasNumbers classes.old names.old.names }
     ensures number { IfOk result (λ n. Numbers classes.old classes.new names.old names.new name.now n) }
+    ensures full { OnFull result (IsOver names.old.names name.now) }
     ensures err { OnErr result (Stays classes.old classes.new names.old names.new) }
 {
+    if name.len() > NAMES_ROOM {
+        return Err(NameError::Full);
+    }
     let class = class_of(classes, name)?;
     if let Some(number) = number_by(classes, class) {
         return Ok(number);
     }
+    if name.len() > classes.room {
+        return Err(NameError::Full);
+    }
     let number = next_number(names.count())?;
     names.push(name)?;
-    set_number(classes, class, number);
+    set_number(classes, class, number, name.len());
     Ok(number)
 }
 
@@ -85,7 +102,7 @@ fn within(section: &[u8], at: usize) -> usize
 }
 
 /// The number of the name that begins at a place of a section and ends before a zero byte, as `number_of`. Without memory
-/// the names stay as they were, with their numbers; the section may have been kept.
+/// or room the names stay as they were, with their numbers; the section may have been kept.
 pub fn number_in(
     alloc: Global,
     classes: &mut Classes,
@@ -93,10 +110,11 @@ pub fn number_in(
     table: &mut SectionTexts,
     section: &[u8],
     at: usize,
-) -> Result<u32, NoMemory>
+) -> Result<u32, NameError>
     requires numbers { HasNumbers classes.old names.old.names }
     requires kept { IsSection classes.old.links names.old.texts section.now table.old }
     ensures number { IfOk result (λ n. NumbersIn classes.old classes.new names.old names.new section.now at table.new n) }
+    ensures full { OnFull result (IsOver names.old.names (text_from section.now at)) }
     ensures err { OnErr result (StaysIn classes.old classes.new names.old names.new section.now table.new) }
 {
     let start = kept_at(alloc, classes, names, table, section)?;
@@ -105,8 +123,12 @@ pub fn number_in(
     if let Some(number) = number_by(classes, met.class) {
         return Ok(number);
     }
+    let size = (met.past - at) as usize;
+    if size > classes.room {
+        return Err(NameError::Full);
+    }
     let number = next_number(names.count())?;
     names.push_part(start + at as usize, start + met.past as usize)?;
-    set_number(classes, met.class, number);
+    set_number(classes, met.class, number, size);
     Ok(number)
 }

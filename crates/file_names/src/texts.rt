@@ -1,10 +1,13 @@
 //! Texts in a section, which can overlap.
 
-ghost use Rattle.std.specs.Prelude.{◌≡◌, ◌+◌, ◌^◌, ◌<◌, ◌≤◌, IfOk, IfSome, OnErr, length};
+ghost use Rattle.std.specs.Prelude.{◌≡◌, ◌+◌, ◌^◌, ◌<◌, ◌≤◌, IfNone, IfOk, IfSome, OnErr, length, slice_index_or};
 ghost use Rattle.file_names.specs.Tables.{AreClasses, Finds, Grows, Keeps, Meets, remembered};
-ghost use Rattle.file_names.specs.Texts.{AreMet, IsMet};
+ghost use Rattle.file_names.specs.Faults.{OnFull};
+ghost use Rattle.file_names.specs.Numbers.{names_room};
+ghost use Rattle.file_names.specs.Texts.{AreMet, IsMet, text_from};
 
-use crate::classes::{Classes, longer};
+use crate::classes::{Classes, NAMES_ROOM, longer};
+use crate::fault::NameError;
 use dbg_traits::NoMemory;
 
 /// A text in a section, by its class and by where it ends.
@@ -49,7 +52,8 @@ pub fn met_before(
 fn met_already(classes: &Classes, known: &[Option<Met>], section: &[u8], at: u32) -> Option<Met>
     requires within { at < length section.now }
     requires known { AreMet classes.now.links section.now known.now }
-    ensures { IfSome result (λ met. IsMet classes.now.links section.now at met) }
+    ensures met { IfSome result (λ met. IsMet classes.now.links section.now at met) }
+    ensures some { IfNone result (0 < slice_index_or section.now at 0) }
 {
     if let Some(Some(met)) = known.get(at as usize) {
         return Some(*met);
@@ -92,21 +96,26 @@ fn remember(known: &mut [Option<Met>], at: u32, met: Met)
     }
 }
 
-/// The text at a place. Each place of a section is gone over once, in whatever order texts are asked for.
+/// The text at a place. Each place of a section is gone over once, in whatever order texts are asked for. Of a text that
+/// is longer than all names may be together no class comes to be.
 pub fn met_at(
     classes: &mut Classes,
     known: &mut [Option<Met>],
     section: &[u8],
     at: u32,
-) -> Result<Met, NoMemory>
+) -> Result<Met, NameError>
     requires classes { AreClasses classes.old }
     requires within { at ≤ length section.now }
     requires fits { length section.now < 2 ^ 32 }
     requires known { AreMet classes.old.links section.now known.old }
     ensures keeps { IfOk result (λ met. Keeps classes.old classes.new section.now known.new at met) }
+    ensures full { OnFull result (names_room < length (text_from section.now at)) }
     ensures err { OnErr result (Grows classes.old classes.new × AreMet classes.new.links section.now known.new) }
 {
     let found = first_met(classes, known, section, at);
+    if (found.met.past - at) as usize > NAMES_ROOM {
+        return Err(NameError::Full);
+    }
     let mut place = found.at;
     let mut met = found.met;
     while place > at {

@@ -1,5 +1,5 @@
 -- How sequences are kept: their rows one after another in one list.
-use Rattle.std.specs.Prelude.{◌≡◌, ℕ, ◌+◌, ◌*◌, ◌≤◌, List, map, length, drop, slice_range, All}
+use Rattle.std.specs.Prelude.{◌≡◌, ℕ, ◌+◌, ◌*◌, ◌<◌, ◌≤◌, List, [], ◌∷◌, map, length, drop, slice_range, All}
 use Rattle.line_rows.specs.RowList.{Sequence, SequenceList, room_taken}
 use Rattle.line_rows.specs.declared.row.Row.{Row}
 use Rattle.line_rows.specs.declared.sequences.RowRange.{RowRange}
@@ -15,12 +15,18 @@ pub record IsRowRange (count : ℕ) (r : RowRange) : Type 0 where
   pub ordered : r.start ≤ r.past
   pub within : r.past ≤ count
 
+-- ranges stand one behind another, from a row up to another, each with rows
+abbrev pub Chained : ℕ → List RowRange → ℕ → Type 0
+Chained at [] past = at ≡ past
+Chained at (r ∷ rs) past = (r.start ≡ at) × (r.start < r.past) × Chained r.past rs past
+
 abbrev pub seen : Inside → SequenceList
 seen i = record { ended = sequences_in i.rows.items i.ranges.items; pending = drop i.pending i.rows.items }
 
 -- the rows of a sequence that isn't ended stand behind the others
 pub record IsKept (i : Inside) : Type 0 where
   pub ranges : All (IsRowRange i.pending) i.ranges.items
+  pub chained : Chained 0 i.ranges.items i.pending
   pub pending : i.pending ≤ length i.rows.items
   -- no row stands outside of a sequence, and no sequence is without rows
   pub whole : room_taken (sequences_in i.rows.items i.ranges.items) ≡ i.pending + 2 * length i.ranges.items

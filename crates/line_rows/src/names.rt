@@ -1,4 +1,4 @@
-ghost use Rattle.std.specs.Prelude.{◌≡◌, ◌+◌, ◌<◌, ◌≤◌, [], ◌∷◌, ◌++◌, Some, length, IfOk, OnOk, OnErr, slice_get, slice_range};
+ghost use Rattle.std.specs.Prelude.{◌≡◌, ◌+◌, ◌<◌, ◌≤◌, [], ◌∷◌, ◌++◌, Some, length, IfOk, OnOk, OnErr, slice_get, slice_range, take};
 ghost use Rattle.line_rows.specs.RowList.{NameList, no_names};
 
 use dbg_traits::NoMemory;
@@ -80,6 +80,13 @@ impl FileNames {
     {
         self.ranges.push(NameRange { start, past })?;
         Ok(())
+    }
+
+    /// Drops the names from a number on. The texts stay.
+    pub fn truncate(&mut self, count: usize)
+        ensures { self.new ≡ record self.old { names = take count self.old.names } }
+    {
+        self.ranges.truncate(count);
     }
 
     /// How many names there are.

@@ -1,6 +1,6 @@
 //! The rows of a section, and how they are put together.
 
-ghost use Rattle.std.specs.Prelude.{◌≡◌, ◌+◌, ◌<◌, [], ◌∷◌, ◌++◌, Some, length, OnOk, OnErr, slice_get};
+ghost use Rattle.std.specs.Prelude.{◌≡◌, ◌+◌, ◌<◌, [], ◌∷◌, ◌++◌, Some, length, OnOk, OnErr, slice_get, take};
 ghost use Rattle.line_rows.specs.RowList.{ended_with, finished, no_rows, nothing_built, room_used, sequence_shown};
 
 use crate::fault::UnitFault;
@@ -146,6 +146,13 @@ impl RowsBuilder {
     {
         self.faults.push(fault)?;
         Ok(())
+    }
+
+    /// Drops the sequences from a number on, and the rows of one that isn't ended.
+    pub fn truncate(&mut self, count: usize)
+        ensures { self.new ≡ record self.old { sequences = take count self.old.sequences; pending = [] } }
+    {
+        self.sequences.truncate(count);
     }
 
     /// How much room the rows take, with two for the end of each sequence.

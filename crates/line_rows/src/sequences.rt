@@ -1,4 +1,5 @@
-ghost use Rattle.std.specs.Prelude.{◌≡◌, ◌+◌, ◌<◌, [], ◌∷◌, ◌++◌, Some, length, OnOk, OnErr, slice_get};
+ghost use Rattle.std.specs.Prelude.{◌≡◌, ◌+◌, ◌<◌, ◌≤◌, [], ◌∷◌, ◌++◌, Some, length, OnOk, OnErr, slice_get, take};
+ghost use Rattle.line_rows.specs.KeptSequences.{Chained};
 ghost use Rattle.line_rows.specs.RowList.{ended_with, room_taken, sequence_shown};
 
 use crate::row::{Row, SequenceView};
@@ -35,6 +36,18 @@ impl Model for Sequences {
     ghost invariant = { IsKept };
 }
 
+// Where the ranges before a number end, of those that end at a place together.
+fn end_before(ranges: &[RowRange], past: usize, count: usize) -> usize
+    requires { Chained 0 ranges.now past }
+    ensures chained { Chained 0 (take count ranges.now) result }
+    ensures ordered { result ≤ past }
+{
+    if count < ranges.len() {
+        return ranges[count].start;
+    }
+    past
+}
+
 impl Sequences {
     /// No rows.
     pub fn new(alloc: Global) -> Sequences
@@ -68,6 +81,15 @@ impl Sequences {
             self.pending = past;
         }
         Ok(())
+    }
+
+    /// Drops the sequences from a number on, and the rows of one that isn't ended.
+    pub fn truncate(&mut self, count: usize)
+        ensures { self.new ≡ record { ended = take count self.old.ended; pending = [] } }
+    {
+        self.pending = end_before(&self.ranges, self.pending, count);
+        self.ranges.truncate(count);
+        self.rows.truncate(self.pending);
     }
 
     /// How much room the rows take, with two for the end of each sequence.

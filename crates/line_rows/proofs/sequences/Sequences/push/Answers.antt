@@ -13,6 +13,7 @@ invariant_of-self-2 c =
     let same = ap (λ (rows : List Row). sequences_in rows i.ranges.items) c.in_ok-push.ensures.items in
     record {
       ranges = kept.ranges;
+      chained = kept.chained;
       pending = omega (arith, kept.pending, c.in_ok-push.ensures.len);
       whole = ap room_taken (same ∙ sequences_in-append i.rows.items (c.args.row ∷ []) i.pending i.ranges.items kept.pending kept.ranges) ∙ kept.whole;
     }
