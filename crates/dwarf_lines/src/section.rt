@@ -25,7 +25,7 @@ fn up_to<'a>(sections: &LineSections<'a>, end: usize) -> LineSections<'a>
 ///
 /// A unit with a fault gives no rows and stands in the list with the first fault that is met when its bytes are read in
 /// order. A table has room for 4,194,304 rows, of which the end of each sequence takes two: a row without room is such a
-/// fault. It has room for distinct names of 524,288 bytes together: a unit whose rows have names without room has that
+/// fault. It has room for distinct names of 262,144 bytes together: a unit whose rows have names without room has that
 /// fault, unless it has another, and behind it nothing is read. Nor is it behind a unit whose end can't be told. A row's
 /// file is the number of a name: the names that rows have are numbered from 0, each once, in the order of the rows.
 ///

@@ -23,7 +23,7 @@ bytes_of names = sum_by length names
 
 -- names have room for so many bytes together
 abbrev pub names_room : ℕ
-names_room = 524288
+names_room = 262144
 
 -- with a name more there would be more bytes than room
 abbrev pub IsOver : List (List ℕ) → List ℕ → Type 0

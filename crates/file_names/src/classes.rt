@@ -9,7 +9,7 @@ use std::collections::BTreeMap;
 
 /// How many bytes the names have room for together. A text costs a class a byte at most, so there are no more than twice as
 /// many classes: those of the names, and those of a last one for which there is no room.
-pub const NAMES_ROOM: usize = 524_288;
+pub const NAMES_ROOM: usize = 262_144;
 
 /// The classes of texts, and the numbers of those that are names.
 ///

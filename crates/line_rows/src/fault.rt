@@ -32,7 +32,7 @@ pub enum LineFault {
     /// A row more than the table may have.
     #[error("too many rows")]
     Rows,
-    /// The distinct names of the rows' files would have more than 524,288 bytes together.
+    /// The distinct names of the rows' files would have more than 262,144 bytes together.
     #[error("the names of files are too long together")]
     Names,
 }
