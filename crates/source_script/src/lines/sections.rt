@@ -5,11 +5,8 @@ use line_rows::{LineSections, Rows};
 use script_rows::{RowFault, number, read_hex};
 use std::alloc::{AllocError, Global};
 
-/// A unit of version 2 behind its length, up to its program: the rows are of the file a.c.
-const HEAD: &[u8] = &[
-    2, 0, 26, 0, 0, 0, 1, 1, 251, 14, 13, 0, 1, 1, 1, 1, 0, 0, 0, 1, 0, 0, 1, 0, 97, 46, 99, 0, 0,
-    0, 0, 0,
-];
+/// The header of a unit of version 2, from behind its own length up to the name of its only file.
+const HEAD: &[u8] = &[1, 1, 251, 14, 13, 0, 1, 1, 1, 1, 0, 0, 0, 1, 0, 0, 1, 0];
 
 /// The special opcode of a row at the address and the line of the row before.
 const SAME_AGAIN: u8 = 18;
@@ -34,11 +31,18 @@ fn told(alloc: Global, rows: &Rows) -> Result<String, AllocError> {
     }
 }
 
-// A unit of one sequence of so many rows.
-fn push_unit(section: &mut Vec<u8>, count: u32) -> Result<(), AllocError> {
-    let size = count.saturating_add(35);
+// A unit of one sequence of so many rows, of a file whose name has so many letters.
+fn push_unit(section: &mut Vec<u8>, letters: u32, count: u32) -> Result<(), AllocError> {
+    let header = letters.saturating_add(23);
+    let size = header.saturating_add(count).saturating_add(9);
     section.extend_from_slice(&size.to_le_bytes())?;
+    section.extend_from_slice(&[2, 0])?;
+    section.extend_from_slice(&header.to_le_bytes())?;
     section.extend_from_slice(HEAD)?;
+    for _letter in 0..letters {
+        section.push(b'a')?;
+    }
+    section.extend_from_slice(&[0, 0, 0, 0, 0])?;
     for _row in 0..count {
         section.push(SAME_AGAIN)?;
     }
@@ -58,11 +62,16 @@ fn told_sizes(alloc: Global, rows: &Rows) -> Result<String, AllocError> {
     Ok(text)
 }
 
-// The section of units of so many rows each.
-fn sizes(alloc: Global, counts: &str) -> Result<String, RowFault> {
+// The section of units, each with so many rows or with a name of so many letters.
+fn sizes(alloc: Global, word: &str, counts: &str) -> Result<String, RowFault> {
     let mut line = Vec::new(alloc);
-    for count in counts.split_ascii_whitespace() {
-        push_unit(&mut line, number(count).ok_or(RowFault::Unknown)?)?;
+    for text in counts.split_ascii_whitespace() {
+        let count = number(text).ok_or(RowFault::Unknown)?;
+        if word == "units" {
+            push_unit(&mut line, 3, count)?;
+        } else {
+            push_unit(&mut line, count, 1)?;
+        }
     }
     let sections = LineSections {
         line: &line,
@@ -72,11 +81,12 @@ fn sizes(alloc: Global, counts: &str) -> Result<String, RowFault> {
     Ok(told_sizes(alloc, &rows(alloc, &sections)?)?)
 }
 
-/// What came of a row: `section LINE LINE_STR STRS`; `counts LINE LINE_STR STRS`, how many sequences and names there are; or
-/// `units COUNTS`, how many rows are left of units of so many each, and the faults.
+/// What came of a row: `section LINE LINE_STR STRS`; `counts LINE LINE_STR STRS`, how many sequences and names there are;
+/// `units COUNTS`, how many rows are left of units of so many each, and the faults; or `named LENGTHS`, the same of units
+/// of one row and a name of so many letters each.
 pub fn answer(alloc: Global, word: &str, rest: &str) -> Result<String, RowFault> {
-    if word == "units" {
-        return sizes(alloc, rest);
+    if word == "units" || word == "named" {
+        return sizes(alloc, word, rest);
     }
     let (line, rest) = rest.split_once(' ').ok_or(RowFault::Unknown)?;
     let (line_str, strs) = rest.split_once(' ').ok_or(RowFault::Unknown)?;
