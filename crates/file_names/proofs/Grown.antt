@@ -1,6 +1,6 @@
 -- Steps from text to text.
-use Rattle.std.proofs.Common.{◌≡◌, ℕ, zero, suc, ◌+◌, ◌-◌, ◌*◌, ◌≤◌, ◌<◌, Bool, true, false, List, [], ◌∷◌, ◌++◌, Option, None, Some, length, drop, take, refl, arith, ◌∙◌, ap, sym, subst, get_or, eqb-true}
-use Rattle.std.specs.Prelude.{OnErr, Result, Ok, Err, nat_lt, ◌==◌, slice_get, slice_set, slice_range, if◌then◌else◌}
+use Rattle.std.proofs.Common.{◌≡◌, ℕ, zero, suc, ◌+◌, ◌-◌, ◌*◌, ◌/◌, ◌%◌, ◌≤◌, ◌<◌, Bool, true, false, List, [], ◌∷◌, ◌++◌, Option, None, Some, length, drop, take, refl, arith, ◌∙◌, ap, sym, subst, get_or, eqb-true}
+use Rattle.std.specs.Prelude.{OnErr, Result, Ok, Err, nat_lt, ◌==◌, ◌&&◌, slice_get, slice_set, slice_range, if◌then◌else◌}
 use Rattle.std.specs.List.{take_while}
 use Rattle.std.specs.BTreeMap.{BTreeMap}
 use Rattle.std.specs.BTreeMap as tree
@@ -138,25 +138,34 @@ pub met_stays : (old new : Classes) (section : List ℕ) (at : ℕ) (met : Met) 
 met_stays old new section at met g is = record { of_class = g.stays (text_from section at) met.class is.of_class; text = is.text; ordered = is.ordered; within = is.within }
 
 pub all_stay : (old new : Classes) (section : List ℕ) (known : List (Option Met)) → Grows old new → AreMet old.links section known → AreMet new.links section known
-all_stay old new section known g are at met there = met_stays old new section at met g (are at met there)
+all_stay old new section known g are k met there = met_stays old new section (16 * k) met g (are k met there)
 
-set_met : (links : BTreeMap ℕ ℕ) (section : List ℕ) (known : List (Option Met)) (k : ℕ) (met : Met) → k < length known → AreMet links section known → IsMet links section k met
-    → (j : ℕ) (other : Met) (b : Bool) → (j == k) ≡ b → slice_get (slice_set known k (Some met)) j ≡ Some (Some other) → IsMet links section j other
+set_met : (links : BTreeMap ℕ ℕ) (section : List ℕ) (known : List (Option Met)) (k : ℕ) (met : Met) → k < length known → AreMet links section known → IsMet links section (16 * k) met
+    → (j : ℕ) (other : Met) (b : Bool) → (j == k) ≡ b → slice_get (slice_set known k (Some met)) j ≡ Some (Some other) → IsMet links section (16 * j) other
 set_met links section known k met room are is j other true same there =
     let at : Some (Some met) ≡ Some (Some other) = sym (get_set known k j (Some met) room ∙ rw same refl) ∙ there in
     let inner : Some met ≡ Some other = cc in
     let equal : met ≡ other = cc in
-    subst (λ (i : ℕ). IsMet links section i other) (sym (eqb-true j k same)) (subst (λ (m : Met). IsMet links section k m) equal is)
+    subst (λ (i : ℕ). IsMet links section (16 * i) other) (sym (eqb-true j k same)) (subst (λ (m : Met). IsMet links section (16 * k) m) equal is)
 set_met links section known k met room are is j other false apart there = are j other (sym (get_set known k j (Some met) room ∙ rw apart refl) ∙ there)
 
-kept_by : (links : BTreeMap ℕ ℕ) (section : List ℕ) (known : List (Option Met)) (k : ℕ) (met : Met) → AreMet links section known → IsMet links section k met
-    → (b : Bool) → nat_lt k (length known) ≡ b → AreMet links section (if b then slice_set known k (Some met) else known)
-kept_by links section known k met are is true room = λ j other there. set_met links section known k met (grind (arith, nat_tests)) are is j other (j == k) refl there
-kept_by links section known k met are is false full = are
+-- what is met at a place that is kept
+pub met_multiple : (links : BTreeMap ℕ ℕ) (section : List ℕ) (at : ℕ) (met : Met) → at % 16 ≡ 0 → IsMet links section at met → IsMet links section (16 * (at / 16)) met
+met_multiple links section at met multiple is = let same : at ≡ 16 * (at / 16) = omega arith in subst (λ (i : ℕ). IsMet links section i met) same is
+
+pub met_place : (links : BTreeMap ℕ ℕ) (section : List ℕ) (at : ℕ) (met : Met) → at % 16 ≡ 0 → IsMet links section (16 * (at / 16)) met → IsMet links section at met
+met_place links section at met multiple is = let same : 16 * (at / 16) ≡ at = omega arith in subst (λ (i : ℕ). IsMet links section i met) same is
+
+kept_by : (links : BTreeMap ℕ ℕ) (section : List ℕ) (known : List (Option Met)) (at : ℕ) (met : Met) → AreMet links section known → IsMet links section at met
+    → (b c : Bool) → (at % 16 == 0) ≡ b → nat_lt (at / 16) (length known) ≡ c → AreMet links section (if b && c then slice_set known (at / 16) (Some met) else known)
+kept_by links section known at met are is true true multiple room = λ j other there.
+    set_met links section known (at / 16) met (grind (arith, nat_tests)) are (met_multiple links section at met (grind (arith, nat_tests)) is) j other (j == at / 16) refl there
+kept_by links section known at met are is true false multiple full = are
+kept_by links section known at met are is false c apart room = are
 
 -- one text more is kept
-pub met_kept : (links : BTreeMap ℕ ℕ) (section : List ℕ) (known : List (Option Met)) (k : ℕ) (met : Met) → AreMet links section known → IsMet links section k met → AreMet links section (remembered known k met)
-met_kept links section known k met are is = kept_by links section known k met are is (nat_lt k (length known)) refl
+pub met_kept : (links : BTreeMap ℕ ℕ) (section : List ℕ) (known : List (Option Met)) (at : ℕ) (met : Met) → AreMet links section known → IsMet links section at met → AreMet links section (remembered known at met)
+met_kept links section known at met are is = kept_by links section known at met are is (at % 16 == 0) (nat_lt (at / 16) (length known)) refl refl
 
 get_here : {X : Type 0} (xs : List X) (k : ℕ) (d : X) → k < length xs → slice_get xs k ≡ Some (get_or xs k d)
 get_here [] k d h = absurd (omega arith)

@@ -1,5 +1,5 @@
 -- The number of a name by its class.
-use Rattle.std.proofs.Common.{◌≡◌, ℕ, zero, suc, ◌+◌, ◌-◌, ◌≤◌, ◌<◌, ◌^◌, List, [], ◌∷◌, ◌++◌, Option, None, Some, length, drop, take, replicate, refl, arith, ◌∙◌, ap, sym, subst, get_or}
+use Rattle.std.proofs.Common.{◌≡◌, ℕ, zero, suc, ◌+◌, ◌-◌, ◌*◌, ◌≤◌, ◌<◌, ◌^◌, List, [], ◌∷◌, ◌++◌, Option, None, Some, length, drop, take, replicate, refl, arith, ◌∙◌, ap, sym, subst, get_or}
 use Rattle.std.specs.Prelude.{slice_set, slice_get, slice_range}
 use Rattle.std.specs.BTreeMap.{BTreeMap}
 use Rattle.std.specs.List.{take_while}
@@ -214,7 +214,7 @@ stands_still old more new section start is h =
 pub section_stays : (old new : Classes) (before after : NameList) (name section : List ℕ) (n : ℕ) (table : SectionTexts) → Numbers old new before after name n → IsSection old.links before.texts section table → IsSection new.links after.texts section table
 section_stays old new before after name section n table h is =
     record {
-      met = λ at met there. let m = is.met at met there in record { of_class = h.stays (text_from section at) met.class m.of_class; text = m.text; ordered = m.ordered; within = m.within };
+      met = λ k met there. let m = is.met k met there in record { of_class = h.stays (text_from section (16 * k)) met.class m.of_class; text = m.text; ordered = m.ordered; within = m.within };
       kept = λ start there. stands_still before.texts h.texts.0 after.texts section start h.texts.1 (is.kept start there);
     }
 

@@ -1,5 +1,5 @@
 -- The tables that numbers of names are found by.
-use Rattle.std.specs.Prelude.{◌≡◌, ◌<◌, ◌≤◌, ◌+◌, ◌-◌, ◌*◌, ◌^◌, ◌++◌, ℕ, List, length, nat_lt, slice_range, slice_set, Option, Some, if◌then◌else◌}
+use Rattle.std.specs.Prelude.{◌≡◌, ◌<◌, ◌≤◌, ◌+◌, ◌-◌, ◌*◌, ◌/◌, ◌%◌, ◌^◌, ◌==◌, ◌&&◌, ◌++◌, ℕ, List, length, nat_lt, slice_range, slice_set, Option, Some, if◌then◌else◌}
 use Rattle.std.specs.BTreeMap.{BTreeMap}
 use Rattle.file_names.specs.Links.{link_at, class_of, AreLinks, AreNumbers, number_by}
 use Rattle.file_names.specs.Numbers.{bytes_of, names_room, number_of, with_name}
@@ -47,9 +47,9 @@ pub record Keeps (old new : Classes) (section : List ℕ) (known : List (Option 
   pub meets : Meets old new section at met
   pub kept : AreMet new.links section known
 
--- an entry at its place, where there is room
+-- an entry for a place, where it is kept and there is room
 abbrev pub remembered : List (Option Met) → ℕ → Met → List (Option Met)
-remembered known k met = if nat_lt k (length known) then slice_set known k (Some met) else known
+remembered known at met = if (at % 16 == 0) && nat_lt (at / 16) (length known) then slice_set known (at / 16) (Some met) else known
 
 -- a number of classes is set, and its text takes room
 pub record Sets (old new : Classes) (c number size : ℕ) : Type 0 where

@@ -1,5 +1,5 @@
 -- Texts in a section, and the classes of those that were met.
-use Rattle.std.specs.Prelude.{◌≡◌, ◌≤◌, ℕ, List, drop, length, take_while, slice_get, slice_range, Option, Some}
+use Rattle.std.specs.Prelude.{◌≡◌, ◌≤◌, ◌*◌, ℕ, List, drop, length, take_while, slice_get, slice_range, Option, Some}
 use Rattle.std.specs.BTreeMap.{BTreeMap}
 use Rattle.leb_read.specs.Leb.{is_text_byte}
 use Rattle.file_names.specs.Links.{class_of}
@@ -16,6 +16,6 @@ pub record IsMet (links : BTreeMap ℕ ℕ) (section : List ℕ) (at : ℕ) (met
   pub ordered : at ≤ met.past
   pub within : met.past ≤ length section
 
--- what is kept of the places of a section: some texts that were met
+-- what is kept of each 16th place of a section: some texts that were met
 abbrev pub AreMet : BTreeMap ℕ ℕ → List ℕ → List (Option Met) → Type 0
-AreMet links section known = (at : ℕ) → (met : Met) → slice_get known at ≡ Some (Some met) → IsMet links section at met
+AreMet links section known = (k : ℕ) → (met : Met) → slice_get known k ≡ Some (Some met) → IsMet links section (16 * k) met

@@ -9,7 +9,7 @@ ghost use Rattle.file_names.specs.Texts.{text_from};
 use crate::classes::{Classes, NAMES_ROOM, class_of, next_number};
 use crate::fault::NameError;
 use crate::sections::SectionTexts;
-use crate::texts::{Met, met_at};
+use crate::texts::{Met, STRIDE, met_at};
 use dbg_traits::NoMemory;
 use line_rows::FileNames;
 use std::alloc::Global;
@@ -84,7 +84,7 @@ fn kept_at(
     let start = names.kept();
     names.keep(section)?;
     let _end = names.kept();
-    table.known = no_texts(alloc, section.len())?;
+    table.known = no_texts(alloc, section.len() / STRIDE as usize + 1)?;
     table.start = Some(start);
     Ok(start)
 }

@@ -8,7 +8,7 @@ use std::alloc::Global;
 pub struct SectionTexts {
     /// Where the section stands in what is kept for names, if a name was asked for.
     pub start: Option<usize>,
-    /// The text at each place, if it was met.
+    /// The text at each place that is kept, if it was met.
     pub known: Vec<Option<Met>>,
 }
 

@@ -10,6 +10,9 @@ use crate::classes::{Classes, NAMES_ROOM, longer};
 use crate::fault::NameError;
 use dbg_traits::NoMemory;
 
+/// What is met at a place is kept where the place is a multiple of this, so that it takes less than a byte for each of a section.
+pub const STRIDE: u32 = 16;
+
 /// A text in a section, by its class and by where it ends.
 #[derive(Clone, Copy, Debug)]
 pub struct Met {
@@ -55,8 +58,10 @@ fn met_already(classes: &Classes, known: &[Option<Met>], section: &[u8], at: u32
     ensures met { IfSome result (λ met. IsMet classes.now.links section.now at met) }
     ensures some { IfNone result (0 < slice_index_or section.now at 0) }
 {
-    if let Some(Some(met)) = known.get(at as usize) {
-        return Some(*met);
+    if at % STRIDE == 0 {
+        if let Some(Some(met)) = known.get((at / STRIDE) as usize) {
+            return Some(*met);
+        }
     }
     if section[at as usize] == 0 {
         return Some(Met { class: 0, past: at });
@@ -90,14 +95,14 @@ fn first_met(classes: &Classes, known: &[Option<Met>], section: &[u8], at: u32) 
 fn remember(known: &mut [Option<Met>], at: u32, met: Met)
     ensures { known.new ≡ remembered known.old at met }
 {
-    let k = at as usize;
-    if k < known.len() {
+    let k = (at / STRIDE) as usize;
+    if at % STRIDE == 0 && k < known.len() {
         known[k] = Some(met);
     }
 }
 
-/// The text at a place. Each place of a section is gone over once, in whatever order texts are asked for. Of a text that
-/// is longer than all names may be together no class comes to be.
+/// The text at a place. Each place of a section is gone over once, but for some in front of each text that is asked for.
+/// Of a text that is longer than all names may be together no class comes to be.
 pub fn met_at(
     classes: &mut Classes,
     known: &mut [Option<Met>],

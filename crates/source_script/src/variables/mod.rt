@@ -35,6 +35,29 @@ fn decoded(alloc: Global, text: &str) -> Option<Vec<u8>> {
     hex::decode(alloc, digits.as_str()).ok()
 }
 
+/// A unit of version 4 without entries.
+const UNIT: &[u8] = &[7, 0, 0, 0, 4, 0, 0, 0, 0, 0, 4];
+
+// So many units without entries.
+fn units(alloc: Global, count: u32) -> Result<Vec<u8>, AllocError> {
+    let mut info = Vec::new(alloc);
+    for _unit in 0..count {
+        info.extend_from_slice(UNIT)?;
+    }
+    Ok(info)
+}
+
+// A unit of so many entries, each of them the code 1.
+fn entries(alloc: Global, count: u32) -> Result<Vec<u8>, AllocError> {
+    let mut info = Vec::new(alloc);
+    info.extend_from_slice(&count.saturating_add(7).to_le_bytes())?;
+    info.extend_from_slice(&UNIT[4..])?;
+    for _entry in 0..count {
+        info.push(1)?;
+    }
+    Ok(info)
+}
+
 fn generated_names(alloc: Global) -> Option<Symbols> {
     symbols(alloc, &generated_image(alloc, 3)?).ok()
 }
@@ -58,6 +81,10 @@ impl VariableBench {
         let Some(bytes) = decoded(alloc, text) else {
             return format!(in alloc; "no bytes");
         };
+        self.put(alloc, section, bytes)
+    }
+
+    fn put(&mut self, alloc: Global, section: Section, bytes: Vec<u8>) -> Result<String, AllocError> {
         let count = bytes.len();
         match section {
             Section::Info => self.info = bytes,
@@ -114,6 +141,8 @@ impl VariableBench {
     fn done(&mut self, alloc: Global, step: Step<'_>) -> Result<String, AllocError> {
         match step {
             Step::Section(section, text) => self.set(alloc, section, text),
+            Step::Units(count) => self.put(alloc, Section::Info, units(alloc, count)?),
+            Step::Entries(count) => self.put(alloc, Section::Info, entries(alloc, count)?),
             Step::Read => self.read(alloc),
             Step::Cfa(cfa) => {
                 self.cfa = cfa;

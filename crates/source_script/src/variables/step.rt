@@ -15,6 +15,10 @@ pub enum Step<'a> {
     /// `info BYTES`, `abbrevs BYTES` or `strs BYTES`: that section, in hexadecimal with spaces or without; how many bytes it has.
     /// The bytes aren't said again.
     Section(Section, &'a str),
+    /// `units COUNT`: `.debug_info` of so many units without entries; how many bytes it has.
+    Units(u32),
+    /// `entries COUNT`: `.debug_info` of one unit of so many entries of one byte each; how many bytes it has.
+    Entries(u32),
     /// `read`: the sections are read; the units that have a fault, each by its offset.
     Read,
     /// `at ADDRESS`: the variables there, whose names count in the texts that follow.
@@ -39,6 +43,8 @@ impl<'a> Step<'a> {
             "info" => Some(Step::Section(Section::Info, rest)),
             "abbrevs" => Some(Step::Section(Section::Abbrevs, rest)),
             "strs" => Some(Step::Section(Section::Strs, rest)),
+            "units" => Some(Step::Units(number(rest)?)),
+            "entries" => Some(Step::Entries(number(rest)?)),
             "read" => Some(Step::Read),
             "at" => Some(Step::At(number(rest)?)),
             "cfa" if rest == "none" => Some(Step::Cfa(None)),
