@@ -84,7 +84,12 @@ impl VariableBench {
         self.put(alloc, section, bytes)
     }
 
-    fn put(&mut self, alloc: Global, section: Section, bytes: Vec<u8>) -> Result<String, AllocError> {
+    fn put(
+        &mut self,
+        alloc: Global,
+        section: Section,
+        bytes: Vec<u8>,
+    ) -> Result<String, AllocError> {
         let count = bytes.len();
         match section {
             Section::Info => self.info = bytes,
