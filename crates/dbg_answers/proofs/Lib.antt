@@ -3,7 +3,5 @@ pub mod Judging
 pub mod Reading
 pub mod Ranges
 pub mod Lines
-pub mod Tables
 pub mod Showing
 pub mod Rows
-pub mod Changing

@@ -3,8 +3,6 @@ pub mod Live
 pub mod Answer
 pub mod Reading
 pub mod Each
-pub mod Named
 pub mod Steps
-pub mod Table
 pub mod Rows
 pub mod Subjects

@@ -2,58 +2,14 @@ ghost use Rattle.std.specs.Prelude.{◌≡◌};
 ghost use Rattle.std.specs.Prelude.{Result, IfOk};
 ghost use Rattle.dbg_model.specs.declared.reply.Refused.{Refused};
 ghost use Rattle.dbg_model.specs.Outcome.{Outcome, doing, showing, told};
-ghost use Rattle.dbg_answers.specs.Answer.{Gives, change_of, outcome_of};
+ghost use Rattle.dbg_answers.specs.Answer.{Gives, outcome_of};
+ghost use Rattle.dbg_effects.specs.Effect.{change_of};
 ghost use Rattle.dbg_answers.specs.declared.answer.Failure.TheVariants as failure;
 
-use break_table::Spec;
-use cond_expr::Expr;
-use dbg_model::{Content, Poke, Refused};
+use dbg_effects::Effect;
+use dbg_model::{Content, Refused};
 use dbg_traits::NoMemory;
-use mi_commands::{ByteList, Displaced, NumberList};
 use std::alloc::{AllocError, AllocFailed};
-use step_plans::Plan;
-use watch_points::Watched;
-
-/// What a command changes.
-#[derive(Drop)]
-pub enum Effect {
-    Nothing,
-    /// These threads go on with a plan.
-    Resume {
-        threads: NumberList,
-        plan: Plan,
-    },
-    /// An interrupt is asked of these threads.
-    Interrupt(NumberList),
-    /// This thread is selected.
-    Select(u32),
-    /// Displaced stepping is set.
-    Displace(Displaced),
-    /// A breakpoint is set.
-    Insert(Spec),
-    /// These bytes, which a text gave, are watched.
-    Watch {
-        text: ByteList,
-        watched: Watched,
-    },
-    Delete(NumberList),
-    Enable {
-        numbers: NumberList,
-        enabled: bool,
-    },
-    Condition {
-        number: u32,
-        condition: Option<Expr>,
-    },
-    After {
-        number: u32,
-        count: u32,
-    },
-    /// This is to be written into the program.
-    Poke(Poke),
-    /// The session ends.
-    Exit,
-}
 
 /// What is answered to a command, and what it changes.
 #[derive(Drop)]

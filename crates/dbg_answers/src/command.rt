@@ -6,7 +6,7 @@ ghost use Rattle.dbg_answers.specs.Debuggee.{seen};
 ghost use Rattle.dbg_answers.specs.Answer.{Gives, outcome_of};
 ghost use Rattle.dbg_answers.specs.Subjects.{is_setting};
 
-use crate::answer::{Answer, Effect, Failure, doing, showing, told};
+use crate::answer::{Answer, Failure, doing, showing, told};
 use crate::breakpoints::{after, change_condition, delete, enable, insert, list};
 use crate::debuggee::Debuggee;
 use crate::expressions::evaluate;
@@ -19,6 +19,7 @@ use crate::stepping::{FINISH, NEXT, NEXT_INSTRUCTION, STEP, STEP_INSTRUCTION, ta
 use crate::threads::{thread_info, thread_list, thread_select};
 use crate::watchpoints::watch;
 use crate::writing::{set_register, write_memory};
+use dbg_effects::Effect;
 use dbg_model::Content;
 use dbg_traits::NoMemory;
 use mi_commands::Command;

@@ -14,7 +14,7 @@ use crate::command::answer_command;
 use crate::debuggee::Debuggee;
 use dbg_model::{Content, Refused};
 use dbg_traits::NoMemory;
-use mi_commands::{Command, CommandLine, Fault, Refusal};
+use mi_commands::{Command, CommandLine, Fault, Refusal, command_of};
 use mi_input::InputFault;
 use mi_text::Token;
 use std::alloc::Global;
@@ -24,6 +24,22 @@ use std::alloc::Global;
 pub struct LineAnswer {
     pub token: Token,
     pub answer: Answer,
+}
+
+/// Reads a line, once, for `waits` and `answer_line`: the command that it asks for, or why it is refused.
+///
+/// # Errors
+///
+/// `NoMemory` where out of memory.
+pub fn read_line(alloc: Global, line: &[u8]) -> Result<Result<CommandLine, Refusal>, NoMemory>
+    ensures commands { IfOk result (λ read. Commands line.now read) }
+    ensures read { IfOk result (λ read. IsRead read) }
+{
+    match command_of(alloc, line) {
+        Ok(command) => Ok(Ok(command)),
+        Err(Refusal::Input(InputFault::NoMemory)) => Err(NoMemory),
+        Err(refusal) => Ok(Err(refusal)),
+    }
 }
 
 fn refusing(token: Token, refused: Refused) -> LineAnswer

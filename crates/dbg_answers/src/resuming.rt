@@ -5,9 +5,10 @@ ghost use Rattle.dbg_model.specs.Threads.{go_on, interrupt};
 ghost use Rattle.dbg_answers.specs.Debuggee.{seen};
 ghost use Rattle.dbg_answers.specs.Answer.{Gives, GivesAs, outcome_of};
 
-use crate::answer::{Answer, Effect, Failure, doing};
+use crate::answer::{Answer, Failure, doing};
 use crate::debuggee::Debuggee;
 use crate::each::each;
+use dbg_effects::Effect;
 use dbg_model::{Content, ThreadView};
 use mi_commands::{NumberList, Target};
 use std::alloc::{AllocError, Global};

@@ -4,8 +4,9 @@ ghost use Rattle.dbg_model.specs.Outcome.{exits, showing};
 ghost use Rattle.dbg_model.specs.Command.{setting_value};
 ghost use Rattle.dbg_answers.specs.Answer.{outcome_of};
 
-use crate::answer::{Answer, Effect, showing};
+use crate::answer::{Answer, showing};
 use crate::debuggee::Debuggee;
+use dbg_effects::Effect;
 use dbg_model::Content;
 use mi_commands::{Displaced, Setting};
 

@@ -4,10 +4,11 @@ ghost use Rattle.dbg_model.specs.Threads.{thread_info, thread_list, thread_selec
 ghost use Rattle.dbg_answers.specs.Debuggee.{seen};
 ghost use Rattle.dbg_answers.specs.Answer.{Gives, outcome_of};
 
-use crate::answer::{Answer, Effect, Failure, showing};
+use crate::answer::{Answer, Failure, showing};
 use crate::debuggee::Debuggee;
 use crate::each::each;
 use crate::live::{live_thread, show, show_all};
+use dbg_effects::Effect;
 use dbg_model::{Content, Thread, ThreadList, ThreadView};
 use mi_commands::NumberList;
 use std::alloc::{AllocError, Global};

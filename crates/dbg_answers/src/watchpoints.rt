@@ -5,10 +5,11 @@ ghost use Rattle.dbg_model.specs.Watchpoints.{all_read, are_data, watch, watch_r
 ghost use Rattle.dbg_answers.specs.Debuggee.{seen};
 ghost use Rattle.dbg_answers.specs.Answer.{Gives, GivesAs};
 
-use crate::answer::{Answer, Effect, Failure};
+use crate::answer::{Answer, Failure};
 use crate::bytes::bytes_of;
 use crate::debuggee::Debuggee;
 use data_memory::DataMemory;
+use dbg_effects::Effect;
 use dbg_model::{Content, MOST_WATCHES, Obstacle, Refused};
 use elf_symbols::Symbols;
 use mi_commands::ByteList;

@@ -5,8 +5,9 @@ ghost use Rattle.dbg_model.specs.Writes.{set_register, write_memory};
 ghost use Rattle.dbg_answers.specs.Debuggee.{seen};
 ghost use Rattle.dbg_answers.specs.Answer.{Gives};
 
-use crate::answer::{Answer, Effect, Failure, doing};
+use crate::answer::{Answer, Failure, doing};
 use crate::debuggee::Debuggee;
+use dbg_effects::Effect;
 use dbg_model::{Obstacle, Poke, Refused};
 use mi_commands::ByteList;
 

@@ -15,12 +15,12 @@ use Rattle.dbg_model.proofs.Founding.{IsFounded, IsThereOr, change_founded, chan
 use Rattle.engine_facts.specs.Seen.{Run, seen}
 use Rattle.engine_facts.specs.Facts.{Sound, IsThread, wants_of, InText}
 use Rattle.engine_facts.proofs.Planting.{text_shown}
-use Rattle.dbg_answers.specs.Answer.{change_of}
-use Rattle.dbg_answers.specs.declared.answer.Effect.{Effect}
-use Rattle.dbg_answers.specs.declared.answer.Effect.TheVariants as effect
+use Rattle.dbg_effects.specs.Effect.{change_of}
+use Rattle.dbg_effects.specs.declared.effect.Effect.{Effect}
+use Rattle.dbg_effects.specs.declared.effect.Effect.TheVariants as effect
 use Rattle.engine_moves.specs.Changing.{Makes}
 use Rattle.dbg_engine.specs.Changing.{Applies}
-use Rattle.dbg_answers.specs.Table.{CanBeWatched}
+use Rattle.dbg_effects.specs.Table.{CanBeWatched}
 use Rattle.engine_moves.proofs.Commanding.{harts_length, thread_within, word_place}
 
 thread_is : (o : Opening) (n : ℕ) (t : ℕ) → n ≡ o.settings.harts → IsThread o t → (nat_le 1 t && nat_le t n) ≡ true

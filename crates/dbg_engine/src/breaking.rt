@@ -3,16 +3,16 @@ ghost use Rattle.std.specs.Prelude.{◌≡◌, ◌<◌, ◌-◌, ◌^◌, None, 
 ghost use Rattle.text_words.specs.Words.{shown};
 ghost use Rattle.break_table.specs.Entry.{asked_of, entry_of};
 ghost use Rattle.break_table.specs.Table.{changed, deleted, insert_fault, inserted, with_enabled};
-ghost use Rattle.dbg_answers.specs.Answer.{change_of};
+ghost use Rattle.dbg_effects.specs.Effect.{change_of};
 ghost use Rattle.dbg_model.specs.Breaks.{enabling, without};
 ghost use Rattle.engine_facts.specs.Tables.{number_place, ArePlanted};
 ghost use Rattle.engine_moves.specs.Changing.{Retabled, wants_by};
 ghost use Rattle.dbg_engine.specs.Changing.{Applies};
-ghost use Rattle.dbg_answers.specs.Table.{CanBeWatched, changed_table};
+ghost use Rattle.dbg_effects.specs.Table.{CanBeWatched, changed_table};
 ghost use Rattle.dbg_model.specs.Reply.{watches_after};
 
 use break_table::{BreakEntry, BreakTable, Due, Spec};
-use dbg_answers::{
+use dbg_effects::{
     Effect, change_table as change_entries, delete_entry, enable_entry, insert_entry,
 };
 use dbg_model::WatchList;

@@ -4,13 +4,13 @@ ghost use Rattle.dbg_traits.specs.Settings.{AreSettings};
 ghost use Rattle.data_memory.specs.Ranges.{bytes_at, range_at};
 ghost use Rattle.text_words.specs.Words.{is_planted};
 ghost use Rattle.break_table.specs.Entry.{entry_of};
-ghost use Rattle.dbg_model.specs.Places.{own_frame};
 ghost use Rattle.dbg_model.specs.State.{first_state, any_runs, all_gone};
 ghost use Rattle.dbg_model.specs.Lawful.{may_go};
 ghost use Rattle.engine_facts.specs.Minds.{runs};
 ghost use Rattle.engine_facts.specs.Facts.{InText, OneLifted};
 ghost use Rattle.engine_facts.specs.Seen.{seen};
 ghost use Rattle.engine_moves.specs.Steps.{next_running};
+ghost use Rattle.engine_moves.specs.Viewing.{own_views};
 
 // What the harts of an engine wait by. The parts are borrowed one by one, so that its machine and its table may change
 // meanwhile.
@@ -26,7 +26,7 @@ macro_rules! waiting_of {
 
 pub(crate) use waiting_of;
 
-mod command;
+mod line;
 mod notes;
 mod run;
 mod slicing;
@@ -34,15 +34,16 @@ mod stepping;
 mod turn;
 
 use break_table::{BreakEntry, BreakTable};
-pub use command::read_line;
-use dbg_answers::shown_frame;
-use dbg_model::{Entry, HISTORY, Journal, Opening, ShownFrame, Watch, WatchList};
+use data_memory::DataMemory;
+use dbg_model::{Entry, HISTORY, Journal, Opening, ThreadView, Watch, WatchList};
 use dbg_traits::{NoMemory, Settings};
+use elf32_read::Image;
 use engine_facts::{Activity, Hold, Mind, Phase};
 use engine_moves::ending::End;
 use engine_moves::homing::go_home_each;
 use engine_moves::minds::{all_gone, any_running, find_running, first_minds, is_running};
 use engine_moves::patching::release;
+use engine_moves::views::views;
 use engine_moves::waiting::{Waiting, end_waits};
 use hart_machine::Machine;
 use mi_commands::Displaced;
@@ -238,14 +239,59 @@ impl Engine {
         }
     }
 
-    /// The frame of a hart that is at an address, with its place in the source as far as that is known.
+    /// The program.
+    pub fn image(&self) -> &Image
+        ensures { result.now ≡ self.now.opening.image }
+    {
+        &self.opening.image
+    }
+
+    /// What the program's file tells of its source.
+    pub fn sources(&self) -> &SourceIndex
+        ensures { result.now ≡ self.now.sources }
+    {
+        &self.sources
+    }
+
+    /// The data of the program as it is now.
+    pub fn memory(&self) -> &DataMemory
+        ensures { result.now ≡ self.now.machine.memory }
+    {
+        self.machine.data()
+    }
+
+    /// What a command may see of the harts: of those that are stopped, their registers.
     ///
     /// # Errors
-    /// No memory for the names.
-    pub fn frame(&self, pc: u32) -> Result<ShownFrame, AllocError>
-        ensures { IfOk result (λ f. f ≡ own_frame self.now.sources pc) }
+    ///
+    /// No memory for them.
+    pub fn threads(&self) -> Result<Vec<ThreadView>, AllocError>
+        ensures views { IfOk result (λ v. v.items ≡ own_views self.now.machine.cores self.now.minds) }
+        ensures facts { Facts self.now }
     {
-        shown_frame(self.alloc, &self.sources, pc, pc)
+        views(self.alloc, self.machine.cores(), self.minds.as_slice())
+    }
+
+    /// The breakpoints with what is asked of them, and how many numbers were given to breakpoints and watches.
+    pub fn table(&self) -> &BreakTable
+        ensures entries { result.now.entries ≡ self.now.breaks }
+        ensures given { result.now.given ≡ self.now.given }
+    {
+        &self.table
+    }
+
+    /// The selected thread.
+    pub fn selected(&self) -> u32
+        ensures { result ≡ self.now.selected }
+    {
+        self.selected
+    }
+
+    /// Whether harts step over breakpoints by copies.
+    pub fn displaced(&self) -> Displaced
+        ensures { result ≡ self.now.displaced }
+    {
+        self.displaced
     }
 
     /// The bytes from an address on; the first address that can't be read where there is one, and then nothing changed.

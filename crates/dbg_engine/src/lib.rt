@@ -5,7 +5,7 @@ mod breaking;
 mod engine;
 mod resuming;
 
-pub use engine::{Closed, Commit, Engine, SPARE, read_line};
+pub use engine::{Closed, Commit, Engine, SPARE};
 pub use engine_facts::{Activity, Hold, Mind, Phase};
 pub use engine_moves::ending::End;
 pub use engine_moves::laws::{moves_mark, one_instruction_or_none};

@@ -1,9 +1,9 @@
 // Threads that go on, threads that are interrupted, and what is forgotten of watches.
 ghost use Rattle.std.specs.Prelude.{◌≡◌, ◌≤◌, length, map};
-ghost use Rattle.dbg_answers.specs.Answer.{change_of};
+ghost use Rattle.dbg_effects.specs.Effect.{change_of};
 ghost use Rattle.engine_moves.specs.Resuming.{asked, forgetting, gone_on, minds_after};
 
-use dbg_answers::{Effect, on_threads};
+use dbg_effects::{Effect, on_threads};
 use dbg_model::unless_of;
 use engine_facts::{Activity, Mind, Phase};
 use step_plans::Plan;

@@ -1,20 +1,12 @@
 //! The debugger: it runs one program by lines from standard input, and writes records to standard output.
 #![tactic(auto)]
 
-mod again;
-mod feed;
-mod gate;
-mod reader;
-mod world;
-
 use dbg_session::{Ended, Status, debug_run};
 use dbg_traits::{ArgText, NoMemory};
-use gate::RestingGate;
-use reader::{Shared, pump};
 use std::io::ErrorKind;
 use std::process::ExitCode;
 use std::{env, fs, thread};
-use world::RealWorld;
+use system_world::{RealWorld, RestingGate, Shared, pump};
 
 // The words of the command line, without the program's name. Where one isn't UTF-8 there are none, which is refused.
 fn words(rt: &(impl env::Env + Alloc<A = std::alloc::Global>)) -> Result<Vec<ArgText>, NoMemory> {

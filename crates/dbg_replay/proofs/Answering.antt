@@ -19,10 +19,10 @@ use Rattle.dbg_model.specs.Reply.{answer_of, asked, changed_by, done_by, forgett
 use Rattle.dbg_model.proofs.Options.{both_true}
 use Rattle.dbg_model.proofs.Founding.{IsFounded, IsThereOr, change_founded, change_watchable}
 use Rattle.dbg_model.proofs.Naming.{length-on_threads}
-use Rattle.dbg_answers.specs.declared.answer.Effect.{Effect}
-use Rattle.dbg_answers.specs.declared.answer.Effect.TheVariants as effect
-use Rattle.dbg_answers.specs.Answer.{change_of}
-use Rattle.dbg_answers.specs.Table.{CanBeMade, CanBeWatched, changed_table}
+use Rattle.dbg_effects.specs.declared.effect.Effect.{Effect}
+use Rattle.dbg_effects.specs.declared.effect.Effect.TheVariants as effect
+use Rattle.dbg_effects.specs.Effect.{change_of}
+use Rattle.dbg_effects.specs.Table.{CanBeMade, CanBeWatched, changed_table}
 use Rattle.dbg_replay.specs.declared.state.Parts.{Parts}
 use Rattle.dbg_replay.specs.Parts.{shown}
 use Rattle.dbg_replay.specs.Going.{Kept}

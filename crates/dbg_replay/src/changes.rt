@@ -3,13 +3,13 @@ ghost use Rattle.std.specs.Prelude.{◌≡◌, ◌+◌, ◌-◌, ◌^◌, ◌<�
 ghost use Rattle.dbg_model.specs.Outcome.{enables};
 ghost use Rattle.dbg_model.specs.State.{is_off};
 ghost use Rattle.dbg_model.specs.Reply.{changed_by, displaced_after, exited_after, harts_after, selected_after, sets_after, sets_by};
-ghost use Rattle.dbg_answers.specs.Answer.{change_of};
-ghost use Rattle.dbg_answers.specs.Table.{CanBeMade, CanBeWatched, changed_table};
+ghost use Rattle.dbg_effects.specs.Effect.{change_of};
+ghost use Rattle.dbg_effects.specs.Table.{CanBeMade, CanBeWatched, changed_table};
 ghost use Rattle.dbg_replay.specs.Parts.{shown};
 
 use crate::modes::{asked, forget, resumed};
 use crate::state::Parts;
-use dbg_answers::{Effect, change_table, on_threads};
+use dbg_effects::{Effect, change_table, on_threads};
 use dbg_model::Hart;
 use mi_commands::Displaced;
 

@@ -5,7 +5,7 @@ ghost use Rattle.source_index.specs.Sources.{sources_of};
 ghost use Rattle.dbg_model.specs.Lawful.{may_do};
 ghost use Rattle.dbg_model.specs.Reply.{answer_of, done_by};
 ghost use Rattle.dbg_model.specs.Sight.{view_of};
-ghost use Rattle.dbg_answers.specs.Answer.{change_of};
+ghost use Rattle.dbg_effects.specs.Effect.{change_of};
 ghost use Rattle.dbg_answers.specs.Reading.{IsRead};
 ghost use Rattle.dbg_replay.specs.Parts.{shown};
 ghost use Rattle.dbg_replay.specs.Going.{Comes, Kept};
@@ -15,11 +15,11 @@ use crate::halt::Halt;
 use crate::modes::any_runs;
 use crate::movers::may_go;
 use crate::state::Parts;
-use dbg_answers::{Debuggee, Effect, answer_line, waits};
+use dbg_answers::{Debuggee, answer_line, read_line, waits};
+use dbg_effects::Effect;
 use dbg_model::{Hart, Mode, Opening, ThreadView};
 use dbg_traits::NoMemory;
-use mi_commands::{CommandLine, Refusal, command_of};
-use mi_input::InputFault;
+use mi_commands::{CommandLine, Refusal};
 use std::alloc::{AllocError, Global};
 
 fn view(hart: Hart) -> ThreadView
@@ -41,18 +41,6 @@ fn views(alloc: Global, harts: &[Hart]) -> Result<Vec<ThreadView>, AllocError>
         views.push(view(*hart))?;
     }
     Ok(views)
-}
-
-// What a line is, once it is read.
-fn read_line(alloc: Global, line: &[u8]) -> Result<Result<CommandLine, Refusal>, NoMemory>
-    ensures commands { IfOk result (λ read. Commands line.now read) }
-    ensures read { IfOk result (λ read. IsRead read) }
-{
-    match command_of(alloc, line) {
-        Ok(command) => Ok(Ok(command)),
-        Err(Refusal::Input(InputFault::NoMemory)) => Err(NoMemory),
-        Err(refusal) => Ok(Err(refusal)),
-    }
 }
 
 // Whether a line may be done; one that waits only where no hart runs.

@@ -1,4 +1,5 @@
 pub mod Leaving
+pub mod Answering
 pub mod Heading
 pub mod Finishing
 pub mod Sending

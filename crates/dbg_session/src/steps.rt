@@ -15,7 +15,9 @@ ghost use Rattle.session_facts.specs.declared.turn.Turn.TheVariants as turn;
 ghost use Rattle.engine_facts.specs.Seen.{seen};
 ghost use Rattle.engine_facts.specs.Facts.{Facts};
 
-use dbg_engine::{Engine, SPARE, Turned, read_line};
+use crate::lines::{command, must_wait};
+use dbg_answers::{read_line, shown_frame};
+use dbg_engine::{Engine, SPARE, Turned};
 use dbg_model::Reply;
 use dbg_traits::{NoMemory, World};
 use mi_input::next_line;
@@ -63,6 +65,7 @@ fn report_exits(
 
 // Puts the lines of a stop of a hart that is at pc at the end.
 fn report_stop(
+    alloc: Global,
     engine: &Engine,
     stop: Stop<'_>,
     hart: u32,
@@ -72,7 +75,7 @@ fn report_stop(
     ensures written { OnOk result (into.new.items ≡ into.old.items ++ lines_bytes (stopping_lines stop.entry hart (own_frame engine.now.sources pc))) }
     ensures grammar { OnOk result (AreLines (stopping_lines stop.entry hart (own_frame engine.now.sources pc))) }
 {
-    let frame = engine.frame(pc)?;
+    let frame = shown_frame(alloc, engine.sources(), pc, pc)?;
     let stopped = Event::Stopped {
         stop,
         hart,
@@ -108,13 +111,20 @@ fn report_turn(
         Turned::Wrote { addr, len } => report_bytes(alloc, engine, addr, len, into),
         Turned::Left { code } => report_exits(engine, 1, code, into),
         Turned::AllLeft { code, count } => report_exits(engine, count, code, into),
-        Turned::Stopped { cause } => report_stop(engine, Stop::Fault(cause), hart, pc, into),
-        Turned::Interrupted => report_stop(engine, Stop::Interrupted, hart, pc, into),
-        Turned::Stepped => report_stop(engine, Stop::Stepped, hart, pc, into),
-        Turned::Finished => report_stop(engine, Stop::Finished, hart, pc, into),
+        Turned::Stopped { cause } => report_stop(alloc, engine, Stop::Fault(cause), hart, pc, into),
+        Turned::Interrupted => report_stop(alloc, engine, Stop::Interrupted, hart, pc, into),
+        Turned::Stepped => report_stop(alloc, engine, Stop::Stepped, hart, pc, into),
+        Turned::Finished => report_stop(alloc, engine, Stop::Finished, hart, pc, into),
         Turned::Triggered(fired) => {
             let watches = engine.watches();
-            report_stop(engine, Stop::Triggered { watches, fired }, hart, pc, into)
+            report_stop(
+                alloc,
+                engine,
+                Stop::Triggered { watches, fired },
+                hart,
+                pc,
+                into,
+            )
         }
         Turned::Arrived {
             number,
@@ -126,7 +136,7 @@ fn report_turn(
                 temporary,
                 error,
             };
-            report_stop(engine, Stop::Hit(hit), hart, pc, into)
+            report_stop(alloc, engine, Stop::Hit(hit), hart, pc, into)
         }
     }
 }
@@ -183,10 +193,10 @@ fn answer_line(alloc: Global, engine: &mut Engine, line: &[u8]) -> Result<Option
     ensures answers { MatchResult result (λ reply. Answers line.now reply engine.old engine.new) (λ _. engine.new ≡ engine.old) }
 {
     let read = read_line(alloc, line)?;
-    if engine.must_wait(line, &read) {
+    if must_wait(engine, line, &read) {
         return Ok(None);
     }
-    Ok(Some(engine.command(line, read)?))
+    Ok(Some(command(alloc, engine, line, read)?))
 }
 
 // Puts a reply, which is let go of here and nowhere else, since it is large.

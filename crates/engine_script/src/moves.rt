@@ -1,8 +1,10 @@
 // What is done with an engine, and what came of it.
 ghost use Rattle.std.specs.Prelude.{◌<◌, ◌≤◌, IsTrue, length};
 
-use dbg_engine::{Commit, Engine, SPARE, read_line};
+use dbg_answers::read_line;
+use dbg_engine::{Commit, Engine, SPARE};
 use dbg_model::{Content, ShownFrame};
+use dbg_session::{command, must_wait};
 use mi_commands::ByteList;
 use reg_slices::{Slice, run_slice};
 use std::alloc::{AllocError, Global};
@@ -26,10 +28,10 @@ pub fn done(alloc: Global, engine: &mut Engine, line: &str) -> &'static str {
     let Ok(read) = read_line(alloc, line.as_bytes()) else {
         return "no memory";
     };
-    if engine.must_wait(line.as_bytes(), &read) {
+    if must_wait(engine, line.as_bytes(), &read) {
         return "waits";
     }
-    match engine.command(line.as_bytes(), read) {
+    match command(alloc, engine, line.as_bytes(), read) {
         Ok(reply) => match &reply.content {
             Content::Refused(_) => "refused",
             _ => "answered",

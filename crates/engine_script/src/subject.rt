@@ -6,6 +6,7 @@ use crate::journals::told_of;
 use crate::moves::{at, done, go, run, slice, told_frame, turn};
 use crate::programs::Load;
 use crate::step::Step;
+use dbg_answers::shown_frame;
 use dbg_engine::Engine;
 use dbg_model::Opening;
 use std::alloc::{AllocError, Global};
@@ -39,7 +40,10 @@ fn moved(alloc: Global, engine: &mut Engine, step: Step<'_>) -> Result<String, A
 fn shown(alloc: Global, engine: &Engine, step: Step<'_>) -> Result<String, AllocError> {
     match step {
         Step::At(hart) => at(alloc, engine, hart),
-        Step::Frame(address) => told_frame(alloc, &engine.frame(address)?),
+        Step::Frame(address) => told_frame(
+            alloc,
+            &shown_frame(alloc, engine.sources(), address, address)?,
+        ),
         Step::Planted(address) => {
             let planted = engine.planted(address);
             format!(in alloc; "{planted}")

@@ -5,10 +5,10 @@ use Rattle.hart_machine.specs.Patched.{Patched}
 use Rattle.break_table.specs.declared.entry.Spec.{Spec}
 use Rattle.break_table.specs.Entry.{condition_of}
 use Rattle.break_table.specs.Table.{Table, with_condition, with_ignore}
-use Rattle.dbg_answers.specs.Answer.{change_of}
-use Rattle.dbg_answers.specs.Table.{changed_table}
-use Rattle.dbg_answers.specs.declared.answer.Effect.{Effect}
-use Rattle.dbg_answers.specs.declared.answer.Effect.TheVariants as effect
+use Rattle.dbg_effects.specs.Effect.{change_of}
+use Rattle.dbg_effects.specs.Table.{changed_table}
+use Rattle.dbg_effects.specs.declared.effect.Effect.{Effect}
+use Rattle.dbg_effects.specs.declared.effect.Effect.TheVariants as effect
 use Rattle.engine_facts.specs.declared.mind.Hold.{Hold}
 use Rattle.engine_facts.specs.Tables.{ArePlanted}
 use Rattle.engine_moves.specs.Changing.{Retabled, wants_by}

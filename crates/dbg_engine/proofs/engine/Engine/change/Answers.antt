@@ -11,7 +11,7 @@ use Rattle.engine_facts.specs.Seen.{Run, seen}
 use Rattle.engine_facts.specs.Facts.{Facts}
 use Rattle.engine_facts.proofs.Breaking.{are_planted}
 use Rattle.engine_moves.specs.Calls.{Lines}
-use Rattle.dbg_answers.specs.Answer.{change_of}
+use Rattle.dbg_effects.specs.Effect.{change_of}
 use Rattle.engine_moves.specs.Changing.{Makes}
 use Rattle.dbg_engine.specs.EngineInside.{run_of}
 use Rattle.engine_moves.specs.Resuming.{minds_after}

@@ -1,5 +1,0 @@
-use Rattle.dbg_answers.proofs.Tables.{either_deleted}
-use Rattle.dbg_answers.proofs.table.delete_entry.Goals as goal
-
-pub returns : goal.returns
-returns c = either_deleted c.delete.result c.args.table.now c.delete.new.self c.args.number c.delete.ensures.answer c.delete.ensures.done c.delete.ensures.refused

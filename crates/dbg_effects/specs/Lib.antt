@@ -1,0 +1,3 @@
+pub mod Effect
+pub mod Table
+pub mod Threads

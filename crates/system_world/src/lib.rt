@@ -1,0 +1,12 @@
+//! The world of the operating system: a file, standard input by a thread of its own, standard output, and the clock by which idle workers rest.
+#![tactic(auto)]
+
+mod again;
+mod feed;
+mod gate;
+mod reader;
+mod world;
+
+pub use gate::RestingGate;
+pub use reader::{Shared, pump};
+pub use world::RealWorld;

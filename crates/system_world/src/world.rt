@@ -1,0 +1,132 @@
+// The real world: a file, standard input and standard output. It is the trusted edge, and tells no bytes.
+ghost use Rattle.std.specs.Prelude.{◌≡◌, ◌<◌, ◌≤◌, length, true};
+ghost use Rattle.system_world.specs.RealTold.{real_told, PollsWithin};
+ghost use Rattle.dbg_traits.specs.declared.world.Polled.TheVariants.{NotYet};
+
+use crate::again;
+use crate::reader::Shared;
+use dbg_traits::{ArgText, FileRead, NamePlace, Polled, Put, World, place_of};
+use std::alloc::Global;
+use std::fs;
+use std::rt::{Clock, Files};
+use std::sync::{Arc, Wait};
+
+/// A world of the operating system.
+#[derive(Drop)]
+pub struct RealWorld<R: Files + Input + Print + Clock + Wait> {
+    rt: R,
+    words: Vec<ArgText>,
+    input: Option<Arc<Shared, Global>>,
+    name: Option<NamePlace>,
+    file: Option<R::File>,
+    file_length: u64,
+    input_length: u64,
+    polls: u64,
+    file_faults: u64,
+    poll_faults: u64,
+    put_faults: u64,
+    file_ended: bool,
+    poll_ended: bool,
+}
+
+impl<R: Files + Input + Print + Clock + Wait> RealWorld<R> {
+    ghost use Rattle.dbg_traits.specs.Told.{IsFresh};
+
+    /// A world with these words, of which nothing was read, polled or put. Its input comes by the queue, where there is one.
+    pub fn new(rt: R, words: Vec<ArgText>, input: Option<Arc<Shared, Global>>) -> RealWorld<R>
+        ensures { IsFresh (real_told result.words.items result.name result.file_length result.input_length result.polls result.file_faults result.poll_faults result.put_faults result.file_ended result.poll_ended) }
+    {
+        RealWorld {
+            rt,
+            words,
+            input,
+            name: None,
+            file: None,
+            file_length: 0,
+            input_length: 0,
+            polls: 0,
+            file_faults: 0,
+            poll_faults: 0,
+            put_faults: 0,
+            file_ended: false,
+            poll_ended: false,
+        }
+    }
+
+    // The next bytes of the input: of the queue, or else of standard input itself, which waits.
+    fn next_bytes(&self, wait: bool, into: &mut [u8]) -> Polled
+        requires { 0 < length into.old }
+        ensures within { PollsWithin (length into.new) result }
+        ensures waits { wait ≡ true → result ≡ NotYet → ⊥ }
+    {
+        match &self.input {
+            Some(shared) => shared.poll(&self.rt, wait, into),
+            None => match again::read(&self.rt, &mut self.rt.reader(), into) {
+                Ok(0) => Polled::End,
+                Ok(n) => Polled::Took(n),
+                Err(_) => Polled::Failed,
+            },
+        }
+    }
+}
+
+impl<R: Files + Input + Print + Clock + Wait> World for RealWorld<R> {
+    ghost told = { λ w. real_told w.words.items w.name w.file_length w.input_length w.polls w.file_faults w.poll_faults w.put_faults w.file_ended w.poll_ended };
+
+    fn words(&self) -> &[ArgText] {
+        self.words.as_slice()
+    }
+
+    fn read_file(&mut self, name: &ArgText, into: &mut [u8]) -> FileRead {
+        self.name = Some(place_of(self.words.as_slice(), name));
+        if self.file.is_none() {
+            match fs::open(&self.rt, name.as_str()) {
+                Ok(file) => self.file = Some(file),
+                Err(_) => {
+                    self.file_faults = self.file_faults.saturating_add(1);
+                    return FileRead::Failed;
+                }
+            }
+        }
+        let answer = match &mut self.file {
+            Some(file) => again::read(&self.rt, file, into),
+            None => Ok(0),
+        };
+        match answer {
+            Ok(0) => {
+                self.file_ended = true;
+                FileRead::End
+            }
+            Ok(n) => {
+                self.file_length = self.file_length.saturating_add(n as u64);
+                FileRead::Took(n)
+            }
+            Err(_) => {
+                self.file_faults = self.file_faults.saturating_add(1);
+                FileRead::Failed
+            }
+        }
+    }
+
+    fn poll(&mut self, wait: bool, into: &mut [u8]) -> Polled {
+        self.polls = self.polls.saturating_add(1);
+        let polled = self.next_bytes(wait, into);
+        match polled {
+            Polled::Took(n) => self.input_length = self.input_length.saturating_add(n as u64),
+            Polled::NotYet => {}
+            Polled::End => self.poll_ended = true,
+            Polled::Failed => self.poll_faults = self.poll_faults.saturating_add(1),
+        }
+        polled
+    }
+
+    fn put(&mut self, piece: &[u8]) -> Put {
+        match again::write(&self.rt, piece) {
+            Ok(n) if n > 0 => Put::Took(n),
+            _ => {
+                self.put_faults = self.put_faults.saturating_add(1);
+                Put::Failed
+            }
+        }
+    }
+}
