@@ -1,12 +1,12 @@
 /// What counts from an address on, up to the next entry's. In a table the addresses of the entries don't fall.
-#[derive(Clone, Copy, Debug, PartialEq, Eq)]
+#[derive(Clone, Copy)]
 pub struct Entry<V> {
     pub address: u64,
     pub value: Option<V>,
 }
 
 /// A value that counts at the addresses of a range.
-#[derive(Clone, Copy, Debug, PartialEq, Eq)]
+#[derive(Clone, Copy)]
 pub struct AddressRange<V> {
     /// The least address.
     pub begin: u64,

@@ -15,7 +15,7 @@ pub trait Join<V> {
 }
 
 /// The first table's value, and where it has none the second one's.
-#[derive(Clone, Copy, Debug)]
+#[derive(Clone, Copy)]
 pub struct First;
 
 impl<V: Copy> Join<V> for First {

@@ -14,7 +14,7 @@ use dbg_traits::View;
 use thiserror::Error;
 
 /// Why the value of a condition can't be had.
-#[derive(Clone, Copy, Debug, PartialEq, Eq, Error)]
+#[derive(Clone, Copy, Debug, Error)]
 pub enum CondError {
     /// A divisor was 0.
     #[error("division by zero")]
@@ -25,7 +25,7 @@ pub enum CondError {
 }
 
 /// What the breakpoints do at an arrival.
-#[derive(Clone, Copy, Debug, PartialEq, Eq)]
+#[derive(Clone, Copy)]
 pub struct Due {
     /// The least number of an entry that stops.
     pub stop: Option<u32>,

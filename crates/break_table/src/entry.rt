@@ -4,7 +4,7 @@ use crate::location::Location;
 use cond_expr::Expr;
 
 /// What is asked of a new breakpoint.
-#[derive(Debug, Drop)]
+#[derive(Drop)]
 pub struct Spec {
     /// The instruction that it stands at.
     pub address: u32,
@@ -22,7 +22,7 @@ pub struct Spec {
 }
 
 /// A breakpoint.
-#[derive(Debug, Drop)]
+#[derive(Drop)]
 pub struct BreakEntry {
     /// From 1 on, and never used again.
     pub number: u32,

@@ -3,7 +3,7 @@ ghost use Rattle.std.specs.Prelude.{◌≡◌};
 use std::marker::Model;
 
 /// The text of a location, as it was given. Contracts see its bytes as a list.
-#[derive(Debug, Drop)]
+#[derive(Drop)]
 pub struct Location {
     bytes: Vec<u8>,
 }

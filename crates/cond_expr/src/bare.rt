@@ -10,7 +10,7 @@ use crate::word::{after_blanks, front, is_blank, is_name_start, word};
 use std::alloc::{AllocError, Global};
 
 /// A name with neither `$` nor, where an operand is wanted, `&` before it.
-#[derive(Clone, Copy, Debug, PartialEq, Eq)]
+#[derive(Clone, Copy)]
 pub struct BareName {
     /// The bytes of the text before it.
     pub at: usize,

@@ -10,7 +10,7 @@ use dbg_traits::View;
 use view_words::number_at;
 
 /// The value of an expression.
-#[derive(Clone, Copy, Debug, PartialEq, Eq)]
+#[derive(Clone, Copy, Debug)]
 pub enum Value {
     /// A word, and whether it is unsigned.
     Word(u32, bool),

@@ -22,7 +22,7 @@ use std::alloc::Global;
 const MAX_LENGTH: usize = 256;
 
 /// An expression that was parsed. Contracts see its text as `text_of`, its tree as `tree_of`.
-#[derive(Debug, Drop)]
+#[derive(Drop)]
 pub struct Expr {
     text: Vec<u8>,
     root: Node,

@@ -7,7 +7,7 @@ use std::alloc::{AllocError, AllocFailed};
 use thiserror::Error;
 
 /// What is wrong with a text. Of several faults at one place the first of these is told.
-#[derive(Clone, Copy, Debug, PartialEq, Eq)]
+#[derive(Clone, Copy, Debug)]
 pub enum FaultKind {
     /// The text is longer than 256 bytes.
     Long,
@@ -22,7 +22,7 @@ pub enum FaultKind {
 }
 
 /// A fault and its place.
-#[derive(Clone, Copy, Debug, PartialEq, Eq, Error)]
+#[derive(Clone, Copy, Debug, Error)]
 #[error("faulty expression: {kind:?} at {at}")]
 pub struct ExprFault {
     pub kind: FaultKind,
@@ -31,7 +31,7 @@ pub struct ExprFault {
 }
 
 /// Why a text gives no tree.
-#[derive(Clone, Copy, Debug, PartialEq, Eq, Error)]
+#[derive(Clone, Copy, Debug, Error)]
 pub enum ParseError {
     #[error("out of memory")]
     NoMemory,

@@ -7,7 +7,7 @@ use crate::fault::FaultKind;
 use register_names::Register;
 
 /// An operation of two sides, from the weakest level to the strongest.
-#[derive(Clone, Copy, Debug, PartialEq, Eq)]
+#[derive(Clone, Copy)]
 pub enum Binary {
     OrElse,
     AndThen,
@@ -30,7 +30,7 @@ pub enum Binary {
 }
 
 /// A type that memory is read as; `char` is unsigned.
-#[derive(Clone, Copy, Debug, PartialEq, Eq)]
+#[derive(Clone, Copy)]
 pub enum ReadType {
     Int,
     UnsignedInt,
@@ -41,7 +41,7 @@ pub enum ReadType {
 }
 
 /// An operation that stands before its one side.
-#[derive(Clone, Copy, Debug, PartialEq, Eq)]
+#[derive(Clone, Copy)]
 pub enum Prefix {
     Negate,
     Complement,
@@ -51,7 +51,7 @@ pub enum Prefix {
 }
 
 /// What an expression begins from.
-#[derive(Clone, Copy, Debug, PartialEq, Eq)]
+#[derive(Clone, Copy)]
 pub enum Leaf {
     Number(u32),
     Register(Register),
@@ -59,7 +59,7 @@ pub enum Leaf {
     Address(u32),
 }
 
-#[derive(Clone, Copy, Debug, PartialEq, Eq)]
+#[derive(Clone, Copy)]
 pub enum Token {
     Leaf(Leaf),
     /// A number from 2^32 on.
@@ -79,14 +79,14 @@ pub enum Token {
 }
 
 /// A token and the place of its first byte.
-#[derive(Clone, Copy, Debug, PartialEq, Eq)]
+#[derive(Clone, Copy)]
 pub struct Spot {
     pub token: Token,
     pub at: u32,
 }
 
 /// What a token is where an operand is wanted.
-#[derive(Clone, Copy, Debug, PartialEq, Eq)]
+#[derive(Clone, Copy)]
 pub enum Start {
     Operand(Leaf),
     Before(Prefix),
@@ -97,7 +97,7 @@ pub enum Start {
 }
 
 /// What a token is behind an operand.
-#[derive(Clone, Copy, Debug, PartialEq, Eq)]
+#[derive(Clone, Copy)]
 pub enum Follow {
     Joins(Binary),
     Closes,

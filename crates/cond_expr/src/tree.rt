@@ -8,7 +8,7 @@ use crate::token::{Binary, Leaf, Prefix};
 use std::alloc::{AllocError, Global};
 
 /// An expression's tree. Contracts see it as a `Term`, by `term_of`.
-#[derive(Debug, Drop)]
+#[derive(Drop)]
 pub enum Node {
     Leaf(Leaf),
     Prefix(Prefix, Box<Node>),

@@ -4,7 +4,7 @@ ghost use Rattle.rv_exec.specs.Memory.{IsLen};
 ghost use Rattle.data_memory.specs.Paged.{all_are, code, may_load, may_store};
 
 /// How a byte may be accessed.
-#[derive(Clone, Copy, Debug)]
+#[derive(Clone, Copy)]
 pub enum Access {
     Absent = 0,
     ReadOnly = 1,

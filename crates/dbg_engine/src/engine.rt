@@ -1,9 +1,8 @@
 // The engine as one value, and what is asked of it.
-ghost use Rattle.std.specs.Prelude.{◌≡◌, ◌<◌, ◌≤◌, ◌-◌, [], length, slice_get, None, IfOk, IfErr, OnOk, OnErr, MatchResult, Err, IsTrue, ◌↔◌, map, Some};
+ghost use Rattle.std.specs.Prelude.{◌≡◌, ◌<◌, ◌≤◌, ◌-◌, [], length, slice_get, None, IfOk, IfErr, OnOk, OnErr, MatchResult, Err, IsTrue, ◌↔◌, Some};
 ghost use Rattle.dbg_traits.specs.Settings.{AreSettings};
 ghost use Rattle.data_memory.specs.Ranges.{bytes_at, range_at};
 ghost use Rattle.text_words.specs.Words.{is_planted};
-ghost use Rattle.break_table.specs.Entry.{entry_of};
 ghost use Rattle.dbg_model.specs.State.{first_state, any_runs, all_gone};
 ghost use Rattle.dbg_model.specs.Lawful.{may_go};
 ghost use Rattle.engine_facts.specs.Minds.{runs};
@@ -33,7 +32,7 @@ mod slicing;
 mod stepping;
 mod turn;
 
-use break_table::{BreakEntry, BreakTable};
+use break_table::BreakTable;
 use data_memory::DataMemory;
 use dbg_model::{Entry, HISTORY, Journal, Opening, ThreadView, Watch, WatchList};
 use dbg_traits::{NoMemory, Settings};
@@ -272,10 +271,13 @@ impl Engine {
         views(self.alloc, self.machine.cores(), self.minds.as_slice())
     }
 
-    /// The breakpoints with what is asked of them, and how many numbers were given to breakpoints and watches.
+    /// The breakpoints with what is asked of them, how many numbers were given to breakpoints and watches, where text stands,
+    /// and where harts wait for a return.
     pub fn table(&self) -> &BreakTable
         ensures entries { result.now.entries ≡ self.now.breaks }
         ensures given { result.now.given ≡ self.now.given }
+        ensures text { result.now.text ≡ self.now.bounds }
+        ensures waits { result.now.waits ≡ self.now.waits }
     {
         &self.table
     }
@@ -332,13 +334,6 @@ impl Engine {
         ensures { result ≡ is_planted self.now.machine.text addr }
     {
         self.machine.planted(addr)
-    }
-
-    /// The breakpoints that the user set, in rising order of their numbers.
-    pub fn breakpoints(&self) -> &[BreakEntry]
-        ensures { map entry_of result.now ≡ self.now.breaks }
-    {
-        self.table.entries()
     }
 
     /// The watches that the user set, in rising order of their numbers.

@@ -17,7 +17,7 @@ pub enum Mode {
 }
 
 /// Why a hart stopped.
-#[derive(Clone, Copy, Debug, PartialEq, Eq)]
+#[derive(Clone, Copy)]
 pub enum Why {
     /// It came to the breakpoint of this number, of whose condition the value couldn't be had for this reason.
     Break {

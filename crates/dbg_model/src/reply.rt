@@ -9,7 +9,7 @@ use mi_text::Token;
 use std::marker::Model;
 
 /// What a command finds that stands against it. Threads are counted from 1.
-#[derive(Clone, Copy, Debug, PartialEq, Eq)]
+#[derive(Clone, Copy)]
 pub enum Obstacle {
     /// There is no such thread.
     UnknownThread(u32),
@@ -121,7 +121,7 @@ impl Refused {
 }
 
 /// A register and its value; 32 is pc.
-#[derive(Clone, Copy, Debug, PartialEq, Eq)]
+#[derive(Clone, Copy)]
 pub struct Register {
     pub number: u32,
     pub value: u32,

@@ -1,7 +1,7 @@
 use rv_exec::Regs;
 
 /// What a command may see of a thread. Of one that runs no answer shows a register.
-#[derive(Clone, Copy, Debug, PartialEq, Eq)]
+#[derive(Clone, Copy)]
 pub enum ThreadView {
     /// It is stopped, with these registers.
     Stopped(Regs),

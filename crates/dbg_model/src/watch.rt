@@ -29,7 +29,7 @@ pub struct Watch {
 }
 
 /// A watch whose bytes an instruction changed.
-#[derive(Clone, Copy, Debug, PartialEq, Eq)]
+#[derive(Clone, Copy, Debug)]
 pub struct Fired {
     /// The watch's number.
     pub number: u32,

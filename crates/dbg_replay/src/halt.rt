@@ -2,7 +2,7 @@ use dbg_traits::NoMemory;
 use std::alloc::AllocError;
 
 /// Why a journal isn't gone through to its end.
-#[derive(Clone, Copy, Debug, PartialEq, Eq)]
+#[derive(Clone, Copy)]
 pub enum Halt {
     /// Memory ran out.
     NoMemory,

@@ -5,7 +5,7 @@ ghost use Rattle.dbg_traits.specs.Names.{IsNamed, name_at};
 use crate::ArgText;
 
 /// The place of a name among the words: the number of the word, and where in it the name begins.
-#[derive(Clone, Copy, Debug, PartialEq, Eq)]
+#[derive(Clone, Copy)]
 pub struct NamePlace {
     pub word: usize,
     pub from: usize,

@@ -1,5 +1,5 @@
 /// The settings of a session, as the words of the command line give them.
-#[derive(Clone, Copy, Debug, PartialEq, Eq)]
+#[derive(Clone, Copy)]
 pub struct Settings {
     /// Harts of the machine, 1 to 16.
     pub harts: u32,

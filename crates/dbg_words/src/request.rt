@@ -9,7 +9,7 @@ use crate::given::{Given, number, setting};
 use dbg_traits::Settings;
 
 /// What the words of the command line ask for. A file's name is lent by the words.
-#[derive(Clone, Copy, Debug, PartialEq, Eq)]
+#[derive(Clone, Copy)]
 pub enum Request<'a> {
     /// A session over a file, and whether its log is wanted after its records.
     Session {

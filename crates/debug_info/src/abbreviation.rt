@@ -11,7 +11,7 @@ use crate::offset::AbbrevOffset;
 use leb_read::{u8_at, uleb};
 
 /// What an abbreviation says of its entries.
-#[derive(Clone, Copy, Debug, PartialEq, Eq)]
+#[derive(Clone, Copy)]
 pub struct Declaration {
     pub tag: u64,
     pub has_children: bool,
@@ -20,7 +20,7 @@ pub struct Declaration {
 }
 
 /// The name of an attribute, and the code of its form.
-#[derive(Clone, Copy, Debug, PartialEq, Eq)]
+#[derive(Clone, Copy)]
 pub struct Specification {
     pub name: u64,
     pub form: u64,

@@ -13,7 +13,7 @@ use crate::index::Flags;
 use crate::offset::{AbbrevOffset, Source};
 
 /// The values of an entry's attributes.
-#[derive(Clone, Copy, Debug, PartialEq, Eq)]
+#[derive(Clone, Copy)]
 pub struct Attributes {
     pub location: Option<Value>,
     pub name: Option<Value>,

@@ -19,7 +19,7 @@ use leb_read::uleb;
 use std::alloc::Global;
 
 /// What an entry stands for.
-#[derive(Clone, Copy, Debug, PartialEq, Eq)]
+#[derive(Clone, Copy)]
 pub enum Tag {
     Parameter,
     Block,
@@ -35,7 +35,7 @@ pub enum Tag {
 }
 
 /// What a variable's bytes are.
-#[derive(Clone, Copy, Debug, PartialEq, Eq)]
+#[derive(Clone, Copy)]
 pub enum Kind {
     /// A signed number of 1, 2 or 4 bytes.
     Signed(u8),
@@ -46,7 +46,7 @@ pub enum Kind {
 }
 
 /// The addresses of a function or a block.
-#[derive(Clone, Copy, Debug, PartialEq, Eq)]
+#[derive(Clone, Copy)]
 pub struct Range {
     pub low: u32,
     /// Behind the last one, at most 2^32.
@@ -54,7 +54,7 @@ pub struct Range {
 }
 
 /// An entry of a unit. Fields stand in the order in which they take the least room.
-#[derive(Clone, Copy, Debug, PartialEq, Eq)]
+#[derive(Clone, Copy)]
 pub struct Entry {
     /// From the unit's beginning.
     pub offset: u32,

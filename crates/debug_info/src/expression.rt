@@ -6,7 +6,7 @@ ghost use Rattle.debug_info.specs.Expressions.{alone, base_of, only_operation, o
 use leb_read::{Leb, sleb, u32_at};
 
 /// An operation that stands alone.
-#[derive(Clone, Copy, Debug, PartialEq, Eq)]
+#[derive(Clone, Copy)]
 pub enum Operation {
     /// `DW_OP_addr`
     Address(u32),
@@ -21,7 +21,7 @@ pub enum Operation {
 }
 
 /// Where a variable is.
-#[derive(Clone, Copy, Debug, PartialEq, Eq)]
+#[derive(Clone, Copy)]
 pub enum Place {
     /// Nowhere that is known.
     Absent,
@@ -34,7 +34,7 @@ pub enum Place {
 }
 
 /// What the places in a function's frame are relative to.
-#[derive(Clone, Copy, Debug, PartialEq, Eq)]
+#[derive(Clone, Copy)]
 pub enum Base {
     /// The CFA.
     Cfa,

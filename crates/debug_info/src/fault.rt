@@ -11,7 +11,7 @@ use std::alloc::{AllocError, AllocFailed};
 use thiserror::Error;
 
 /// What is wrong with a unit. Of several faults the first that is met in reading is told.
-#[derive(Clone, Copy, Debug, PartialEq, Eq, Error)]
+#[derive(Clone, Copy, Debug, Error)]
 pub enum InfoFault {
     /// The bytes end too early.
     #[error("the bytes end too early")]
@@ -37,7 +37,7 @@ pub enum InfoFault {
 }
 
 /// The first fault of a unit.
-#[derive(Clone, Copy, Debug, PartialEq, Eq)]
+#[derive(Clone, Copy, Debug)]
 pub struct UnitFault {
     /// Where the unit begins.
     pub offset: InfoOffset,
@@ -56,7 +56,7 @@ impl From<Leb> for InfoFault {
 }
 
 /// Why a unit wasn't read.
-#[derive(Clone, Copy, Debug, PartialEq, Eq, Error)]
+#[derive(Clone, Copy, Debug, Error)]
 pub enum InfoError {
     #[error(transparent)]
     Fault(InfoFault),

@@ -13,7 +13,7 @@ use byteorder::{ByteOrder, LittleEndian};
 use leb_read::{Leb, sleb, text_at, u8_at, u16_at, u32_at, uleb};
 
 /// How an unsigned number is written.
-#[derive(Clone, Copy, Debug, PartialEq, Eq)]
+#[derive(Clone, Copy)]
 pub enum Width {
     One,
     Two,
@@ -23,7 +23,7 @@ pub enum Width {
 }
 
 /// How a value is written.
-#[derive(Clone, Copy, Debug, PartialEq, Eq)]
+#[derive(Clone, Copy)]
 pub enum Form {
     Address,
     Constant(Width),
@@ -41,14 +41,14 @@ pub enum Form {
 }
 
 /// Where a text begins.
-#[derive(Clone, Copy, Debug, PartialEq, Eq)]
+#[derive(Clone, Copy, Debug)]
 pub enum TextPlace {
     Inline(InfoOffset),
     Shared(StrOffset),
 }
 
 /// The value of an attribute.
-#[derive(Clone, Copy, Debug, PartialEq, Eq)]
+#[derive(Clone, Copy)]
 pub enum Value {
     Address(u32),
     Constant(u64),

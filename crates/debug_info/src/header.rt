@@ -14,7 +14,7 @@ use leb_read::{u8_at, u16_at, u32_at};
 use std::alloc::Global;
 
 /// Where a unit begins, and where its bytes end.
-#[derive(Clone, Copy, Debug, PartialEq, Eq)]
+#[derive(Clone, Copy)]
 pub struct Span {
     pub at: usize,
     pub end: usize,

@@ -15,7 +15,7 @@ use std::alloc::Global;
 const FLAG_PRESENT: u64 = 0x19;
 
 /// The attributes that flags name.
-#[derive(Clone, Copy, Debug, PartialEq, Eq)]
+#[derive(Clone, Copy)]
 pub struct Flags {
     pub location: bool,
     pub name: bool,
@@ -28,7 +28,7 @@ pub struct Flags {
 }
 
 /// The specifications from a place on.
-#[derive(Clone, Copy, Debug, PartialEq, Eq)]
+#[derive(Clone, Copy)]
 pub struct Run {
     /// What those in front name that have no bytes in an entry.
     pub flags: Flags,

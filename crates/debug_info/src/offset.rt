@@ -4,25 +4,25 @@ use crate::index::Index;
 use crate::text_lengths::TextLengths;
 
 /// An offset into `.debug_info`.
-#[derive(Clone, Copy, Debug, PartialEq, Eq)]
+#[derive(Clone, Copy, Debug)]
 pub struct InfoOffset {
     pub at: u32,
 }
 
 /// An offset into `.debug_abbrev`.
-#[derive(Clone, Copy, Debug, PartialEq, Eq)]
+#[derive(Clone, Copy)]
 pub struct AbbrevOffset {
     pub at: u32,
 }
 
 /// An offset into `.debug_str`.
-#[derive(Clone, Copy, Debug, PartialEq, Eq)]
+#[derive(Clone, Copy, Debug)]
 pub struct StrOffset {
     pub at: u32,
 }
 
 /// The three sections, each empty where there is none.
-#[derive(Clone, Copy, Debug)]
+#[derive(Clone, Copy)]
 pub struct Sections<'a> {
     /// `.debug_info`
     pub info: &'a [u8],

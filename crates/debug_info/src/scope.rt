@@ -16,7 +16,7 @@ use dbg_traits::NoMemory;
 use std::alloc::Global;
 
 /// A variable that can be seen.
-#[derive(Clone, Copy, Debug)]
+#[derive(Clone, Copy)]
 pub struct Var<'a> {
     pub name: &'a [u8],
     pub kind: Kind,

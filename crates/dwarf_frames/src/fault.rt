@@ -7,7 +7,7 @@ use leb_read::Leb;
 use thiserror::Error;
 
 /// What is wrong with a section. Of several faults the first that is met in reading is told.
-#[derive(Clone, Copy, Debug, PartialEq, Eq, Error)]
+#[derive(Clone, Copy, Debug, Error)]
 pub enum FrameFault {
     /// The bytes end too early, or an FDE names a CIE that isn't there.
     #[error("the bytes end too early")]

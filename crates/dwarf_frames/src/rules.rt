@@ -5,7 +5,7 @@ ghost use Rattle.dwarf_frames.specs.Table.{first_rules};
 ghost use Rattle.dwarf_frames.specs.Within.{AreWithin};
 
 /// The canonical frame address (CFA): the value of a register, and an offset that is added to it modulo 2^32.
-#[derive(Clone, Copy, Debug, PartialEq, Eq)]
+#[derive(Clone, Copy)]
 pub struct CfaRule {
     /// The number of the register, below 32.
     pub register: u8,
@@ -31,7 +31,7 @@ pub enum RegisterRule {
 }
 
 /// The rules of a place in the code.
-#[derive(Clone, Copy, Debug, PartialEq, Eq)]
+#[derive(Clone, Copy)]
 pub struct Rules {
     pub cfa: CfaRule,
     /// The number of the register whose value in the caller is the return address, below 32.

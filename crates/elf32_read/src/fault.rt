@@ -5,7 +5,7 @@ use std::alloc::{AllocError, AllocFailed};
 use thiserror::Error;
 
 /// Which check a file fails.
-#[derive(Clone, Copy, Debug, PartialEq, Eq)]
+#[derive(Clone, Copy, Debug)]
 pub enum ElfKind {
     /// The file, or a table in it, ends too early.
     Short,
@@ -34,7 +34,7 @@ pub enum ElfKind {
 }
 
 /// The first check that a file fails, and the place in the file that it is told at.
-#[derive(Clone, Copy, Debug, PartialEq, Eq, Error)]
+#[derive(Clone, Copy, Debug, Error)]
 #[error("not an accepted ELF file: {kind:?} at {place}")]
 pub struct ElfFault {
     pub kind: ElfKind,
@@ -43,7 +43,7 @@ pub struct ElfFault {
 }
 
 /// Why a file wasn't read.
-#[derive(Clone, Copy, Debug, PartialEq, Eq, Error)]
+#[derive(Clone, Copy, Debug, Error)]
 pub enum ElfReadError {
     #[error(transparent)]
     Fault(ElfFault),

@@ -12,7 +12,7 @@ pub const FILE_LIMIT: usize = 33_554_432;
 const TEXT_FLAGS: u32 = SHF_ALLOC | SHF_EXECINSTR;
 
 /// The file's header (gABI, ELF Header), as far as it is used.
-#[derive(Clone, Copy, Debug)]
+#[derive(Clone, Copy)]
 pub struct FileHeader {
     /// `e_type`.
     pub kind: u16,
@@ -39,7 +39,7 @@ pub struct FileHeader {
 }
 
 /// A program header (gABI, Program Header), and its place in the file.
-#[derive(Clone, Copy, Debug)]
+#[derive(Clone, Copy)]
 pub struct ProgramHeader {
     /// Where the header itself stands, in bytes from the file's start.
     pub place: u32,
@@ -58,7 +58,7 @@ pub struct ProgramHeader {
 }
 
 /// A section header (gABI, Section Header), and its place in the file.
-#[derive(Clone, Copy, Debug)]
+#[derive(Clone, Copy)]
 pub struct SectionHeader {
     /// Where the header itself stands, in bytes from the file's start.
     pub place: u32,

@@ -9,7 +9,7 @@ use crate::header::{ProgramHeader, SectionHeader};
 use std::alloc::{AllocError, Global};
 
 /// The addresses of an entry of a table, as of a text section.
-#[derive(Clone, Copy, Debug)]
+#[derive(Clone, Copy)]
 pub struct Span {
     /// The first address.
     pub start: u32,

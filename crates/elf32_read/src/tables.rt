@@ -2,7 +2,7 @@ use crate::header::{FileHeader, ProgramHeader, SectionHeader};
 use crate::spans::Span;
 
 /// Where the words of a text section stand in the file.
-#[derive(Clone, Copy, Debug)]
+#[derive(Clone, Copy)]
 pub struct TextRange {
     pub address: u32,
     /// In bytes.

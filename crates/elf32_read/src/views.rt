@@ -1,7 +1,7 @@
 use byteorder::{ByteOrder, LittleEndian};
 
 /// A loadable segment of an image (gABI, Program Header, `PT_LOAD`).
-#[derive(Clone, Copy, Debug)]
+#[derive(Clone, Copy)]
 pub struct SegmentView<'a> {
     /// `p_vaddr`.
     pub address: u32,
@@ -14,7 +14,7 @@ pub struct SegmentView<'a> {
 }
 
 /// A text section of an image.
-#[derive(Clone, Copy, Debug)]
+#[derive(Clone, Copy)]
 pub struct TextView<'a> {
     /// A multiple of 4.
     pub address: u32,
@@ -23,7 +23,7 @@ pub struct TextView<'a> {
 }
 
 /// A section of an image (gABI, Sections).
-#[derive(Clone, Copy, Debug)]
+#[derive(Clone, Copy)]
 pub struct SectionView<'a> {
     /// `sh_type`.
     pub kind: u32,

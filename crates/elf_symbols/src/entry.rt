@@ -16,7 +16,7 @@ pub const STT_FUNC: u8 = 2;
 const SHN_UNDEF: u16 = 0;
 
 /// An entry of a symbol table (gABI, Symbol Table).
-#[derive(Clone, Copy, Debug)]
+#[derive(Clone, Copy)]
 pub struct SymbolEntry {
     /// `st_name`: where the name begins in the string table.
     pub name: u32,

@@ -20,7 +20,7 @@ pub const MOST_KEPT: usize = 40;
 const COMPARED: usize = 4096;
 
 /// A symbol that was found.
-#[derive(Clone, Copy, Debug)]
+#[derive(Clone, Copy)]
 pub struct Named<'a> {
     /// Without its zero byte.
     pub name: &'a [u8],

@@ -3,7 +3,7 @@ use step_over::Phase;
 use step_plans::Plan;
 
 /// What the debugger lets a hart do.
-#[derive(Clone, Copy, Debug, PartialEq, Eq)]
+#[derive(Clone, Copy)]
 pub enum Activity {
     Stopped,
     Running,
@@ -11,7 +11,7 @@ pub enum Activity {
 }
 
 /// What the debugger keeps of a hart.
-#[derive(Clone, Copy, Debug, PartialEq, Eq)]
+#[derive(Clone, Copy)]
 pub struct Mind {
     pub activity: Activity,
     /// An instruction of its own has just ended.
@@ -29,7 +29,7 @@ pub struct Mind {
 }
 
 /// The hart for which a patch is lifted, and its address. All other harts stand held meanwhile.
-#[derive(Clone, Copy, Debug, PartialEq, Eq)]
+#[derive(Clone, Copy)]
 pub struct Hold {
     pub hart: u32,
     pub home: u32,

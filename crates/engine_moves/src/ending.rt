@@ -1,7 +1,7 @@
 // The ends of a session.
 
 /// Why a session is over.
-#[derive(Clone, Copy, Debug, PartialEq, Eq)]
+#[derive(Clone, Copy, Debug)]
 pub enum End {
     /// The retired instructions number the budget.
     Budget,

@@ -91,7 +91,7 @@ fn shows(engine: &Engine, state: &ModelState) -> bool {
         }
         gone = gone && hart.mode == Mode::Exited;
     }
-    engine.all_gone() == gone && same_breakpoints(engine.breakpoints(), state.breakpoints())
+    engine.all_gone() == gone && same_breakpoints(engine.table().entries(), state.breakpoints())
 }
 
 /// Whether an engine shows the state that its journal leaves; false where the journal isn't lawful.

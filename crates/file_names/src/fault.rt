@@ -5,7 +5,7 @@ use dbg_traits::NoMemory;
 use thiserror::Error;
 
 /// Why a name has no number.
-#[derive(Clone, Copy, Debug, PartialEq, Eq, Error)]
+#[derive(Clone, Copy, Debug, Error)]
 pub enum NameError {
     /// With it the names would have more bytes than there is room for.
     #[error("the names are too long together")]

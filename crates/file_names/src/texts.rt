@@ -14,14 +14,14 @@ use dbg_traits::NoMemory;
 pub const STRIDE: u32 = 16;
 
 /// A text in a section, by its class and by where it ends.
-#[derive(Clone, Copy, Debug)]
+#[derive(Clone, Copy)]
 pub struct Met {
     pub class: u32,
     pub past: u32,
 }
 
 /// A text and where it begins.
-#[derive(Clone, Copy, Debug)]
+#[derive(Clone, Copy)]
 pub struct Found {
     pub at: u32,
     pub met: Met,

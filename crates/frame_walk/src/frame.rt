@@ -1,5 +1,5 @@
 /// One frame of a hart.
-#[derive(Clone, Copy, Debug, Default, PartialEq, Eq)]
+#[derive(Clone, Copy, Default)]
 pub struct Frame {
     /// The address of the next instruction.
     pub pc: u32,
@@ -10,7 +10,7 @@ pub struct Frame {
 }
 
 /// Where the innermost frame goes on.
-#[derive(Clone, Copy, Debug, PartialEq, Eq)]
+#[derive(Clone, Copy)]
 pub struct Caller {
     /// The canonical frame address of the innermost frame.
     pub cfa: u32,

@@ -1,7 +1,7 @@
 use thiserror::Error;
 
 /// Why no value stands at a place. Of both the first is told.
-#[derive(Clone, Copy, Debug, PartialEq, Eq, Error)]
+#[derive(Clone, Copy, Debug, Error)]
 pub enum Leb {
     /// The bytes end before the value does.
     #[error("the bytes end before the value does")]

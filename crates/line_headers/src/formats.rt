@@ -9,7 +9,7 @@ use line_rows::{LineError, LineFault, byte_at, unsigned_at};
 use std::alloc::Global;
 
 /// How a value is written.
-#[derive(Clone, Copy, Debug, PartialEq, Eq)]
+#[derive(Clone, Copy)]
 pub enum Form {
     /// A text in place, up to its zero byte.
     Text,
@@ -26,7 +26,7 @@ pub enum Form {
 }
 
 /// A value that each entry of a table has.
-#[derive(Clone, Copy, Debug, PartialEq, Eq)]
+#[derive(Clone, Copy)]
 pub struct Field {
     /// Whether it is the entry's name.
     pub is_path: bool,

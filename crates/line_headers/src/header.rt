@@ -12,7 +12,7 @@ use line_rows::LineError;
 use std::alloc::Global;
 
 /// The header of a unit, without its table of files.
-#[derive(Clone, Copy, Debug, PartialEq, Eq)]
+#[derive(Clone, Copy)]
 pub struct Header {
     pub lines: Lines,
     pub opcodes: Opcodes,

@@ -7,7 +7,7 @@ use crate::fields::run_at;
 use line_rows::{LineFault, byte_at, half_at, word_at};
 
 /// How a program steps through addresses and lines.
-#[derive(Clone, Copy, Debug, PartialEq, Eq)]
+#[derive(Clone, Copy)]
 pub struct Lines {
     /// What an advance of the address is counted in.
     pub minimum_length: u8,
@@ -19,7 +19,7 @@ pub struct Lines {
 }
 
 /// The opcodes of a program.
-#[derive(Clone, Copy, Debug, PartialEq, Eq)]
+#[derive(Clone, Copy)]
 pub struct Opcodes {
     /// The first special opcode, never 0.
     pub base: u8,

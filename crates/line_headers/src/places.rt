@@ -1,5 +1,5 @@
 /// Where the name of a file stands: up to the zero byte behind a place in one of the sections.
-#[derive(Clone, Copy, Debug, PartialEq, Eq)]
+#[derive(Clone, Copy)]
 pub enum NamePlace {
     /// No path is given, and the name is empty.
     Empty,

@@ -6,7 +6,7 @@ use line_rows::LineSections;
 use memchr::memrchr;
 
 /// How far texts stand in `.debug_line_str` and `.debug_str`: each place before has a zero byte at or behind it.
-#[derive(Clone, Copy, Debug, PartialEq, Eq)]
+#[derive(Clone, Copy)]
 pub struct TextEnds {
     /// In bytes from the start of `.debug_line_str`.
     pub line_str: usize,

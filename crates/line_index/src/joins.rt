@@ -25,7 +25,7 @@ pub fn later_of(a: Option<Row>, b: Option<Row>) -> Option<Row>
 }
 
 /// The later row, unless the other is ahead of it.
-#[derive(Clone, Copy, Debug)]
+#[derive(Clone, Copy)]
 pub struct Later;
 
 impl Join<Row> for Later {
@@ -43,7 +43,7 @@ impl Join<Row> for Later {
 }
 
 /// The first one's row where the second has one.
-#[derive(Clone, Copy, Debug)]
+#[derive(Clone, Copy)]
 pub struct Within;
 
 impl Join<Row> for Within {

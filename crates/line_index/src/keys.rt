@@ -16,7 +16,7 @@ const TAIL: usize = 64;
 const BASE: u64 = 1_099_511_628_211;
 
 /// A file by a key of its name or of the last part of it.
-#[derive(Clone, Copy, Debug)]
+#[derive(Clone, Copy)]
 pub struct FileKey {
     pub key: u64,
     /// The number of the file.

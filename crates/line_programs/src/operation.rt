@@ -1,5 +1,5 @@
 /// An operation of a line number program (DWARF 4 and 5, section 6.2.5).
-#[derive(Clone, Copy, Debug, PartialEq, Eq)]
+#[derive(Clone, Copy)]
 pub enum Operation {
     /// A special opcode, by how far it is above the first one: advances the address and the line, and appends a row.
     Special(u8),

@@ -1,6 +1,6 @@
 /// What a unit's header says of its program (DWARF 5, section 6.2.4), and the room for its rows. The lengths of the
 /// standard opcodes stand apart.
-#[derive(Clone, Copy, Debug)]
+#[derive(Clone, Copy)]
 pub struct Parameters {
     /// The bytes of the shortest instruction, by which operands of address advances are multiplied.
     pub minimum_instruction_length: u8,

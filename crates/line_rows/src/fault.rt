@@ -6,7 +6,7 @@ use std::alloc::{AllocError, AllocFailed};
 use thiserror::Error;
 
 /// Why a unit of a line table gives no rows.
-#[derive(Clone, Copy, Debug, PartialEq, Eq, Error)]
+#[derive(Clone, Copy, Debug, Error)]
 pub enum LineFault {
     /// A read passes the unit's end, or the section's.
     #[error("the unit ends too early")]
@@ -38,7 +38,7 @@ pub enum LineFault {
 }
 
 /// Why a unit wasn't read.
-#[derive(Clone, Copy, Debug, PartialEq, Eq, Error)]
+#[derive(Clone, Copy, Debug, Error)]
 pub enum LineError {
     /// The unit has a fault.
     #[error(transparent)]
@@ -81,7 +81,7 @@ impl<T: Drop> From<AllocFailed<T>> for LineError {
 }
 
 /// The first fault of a unit that is met in reading it.
-#[derive(Clone, Copy, Debug, PartialEq, Eq, Error)]
+#[derive(Clone, Copy, Debug, Error)]
 #[error("unit at {offset}: {fault}")]
 pub struct UnitFault {
     /// Where the unit begins, in bytes from the start of the section.

@@ -1,5 +1,5 @@
 /// The bytes of the sections that line tables are read from. One that a file doesn't have is empty.
-#[derive(Clone, Copy, Debug)]
+#[derive(Clone, Copy)]
 pub struct LineSections<'a> {
     /// `.debug_line`.
     pub line: &'a [u8],

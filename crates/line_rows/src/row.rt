@@ -1,5 +1,5 @@
 /// A row: the place in the source of the instructions from its address on.
-#[derive(Clone, Copy, Debug, PartialEq, Eq)]
+#[derive(Clone, Copy, Debug)]
 pub struct Row {
     /// Of the first instruction.
     pub address: u32,
@@ -14,7 +14,7 @@ pub struct Row {
 }
 
 /// A sequence of rows, one after another in the program.
-#[derive(Clone, Copy, Debug)]
+#[derive(Clone, Copy)]
 pub struct SequenceView<'a> {
     pub rows: &'a [Row],
     /// The address behind the last instruction.

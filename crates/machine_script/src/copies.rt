@@ -6,7 +6,7 @@ use script_rows::{number, three, told_number, two};
 use std::alloc::{AllocError, Global};
 
 /// A hart that leaves a slot.
-#[derive(Clone, Copy, Debug)]
+#[derive(Clone, Copy)]
 pub struct Leave {
     pub hart: u32,
     pub slot: u32,
@@ -18,7 +18,7 @@ pub struct Leave {
 }
 
 /// What is done with a machine's scratch slots.
-#[derive(Clone, Copy, Debug)]
+#[derive(Clone, Copy)]
 pub enum CopyStep {
     /// `claim HART WORD`
     Claim { hart: u32, word: u32 },

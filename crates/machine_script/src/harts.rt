@@ -9,7 +9,7 @@ use script_rows::{number, two};
 use std::alloc::{AllocError, Global};
 
 /// What is done with a hart, whose number is the first behind the word.
-#[derive(Clone, Copy, Debug)]
+#[derive(Clone, Copy)]
 pub enum HartStep {
     /// `step HART`
     Step,

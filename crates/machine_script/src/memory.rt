@@ -5,7 +5,7 @@ use script_rows::{number, three, told_number, two};
 use std::alloc::{AllocError, Global};
 
 /// What is asked of data memory. A length is 1, 2 or 4.
-#[derive(Clone, Copy, Debug)]
+#[derive(Clone, Copy)]
 pub enum MemoryStep {
     /// `byte ADDRESS`: the byte there, and whether it may be stored.
     Byte(u32),

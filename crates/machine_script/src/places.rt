@@ -5,7 +5,7 @@ use script_rows::{hex_words, number, told_number, two};
 use std::alloc::{AllocError, Global};
 
 /// What is done at an address of a machine's data or text.
-#[derive(Clone, Copy, Debug)]
+#[derive(Clone, Copy)]
 pub enum PlaceStep<'a> {
     /// `byte ADDRESS`: the byte that a reader of hart 1 sees.
     Byte(u32),

@@ -4,7 +4,7 @@ use script_rows::{number, told_number, two};
 use std::alloc::{AllocError, Global};
 
 /// What is done with scratch slots.
-#[derive(Clone, Copy, Debug)]
+#[derive(Clone, Copy)]
 pub enum SlotStep {
     /// `new COUNT`: so many slots, all free, in place of those before.
     New(u32),

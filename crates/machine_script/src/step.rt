@@ -8,7 +8,7 @@ use crate::text::TextStep;
 use script_rows::{number, three};
 
 /// One thing that is done, or asked. Numbers are in decimal, or behind 0x in hexadecimal.
-#[derive(Clone, Copy, Debug)]
+#[derive(Clone, Copy)]
 pub enum Step<'a> {
     /// `decode WORD`: the instruction's mnemonic and its operands, as an assembler orders them.
     Decode(u32),

@@ -5,7 +5,7 @@ use std::alloc::{AllocError, Global};
 use text_words::{Fetch, TextWords};
 
 /// What is done with a word of text, by its address.
-#[derive(Clone, Copy, Debug)]
+#[derive(Clone, Copy)]
 pub enum TextStep {
     /// `word ADDRESS`: the stored word and the program's, whether a breakpoint is planted there, and what a hart fetches.
     Word(u32),

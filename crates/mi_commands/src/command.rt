@@ -4,7 +4,7 @@ use crate::lists::{ByteList, NumberList};
 use mi_text::Token;
 
 /// Which threads a command resumes or interrupts.
-#[derive(Clone, Copy, Debug, PartialEq, Eq)]
+#[derive(Clone, Copy, Debug)]
 pub enum Target {
     /// The selected thread: neither `--thread` nor `--all` was given.
     Selected,
@@ -15,7 +15,7 @@ pub enum Target {
 }
 
 /// How registers are written.
-#[derive(Clone, Copy, Debug, PartialEq, Eq)]
+#[derive(Clone, Copy, Debug)]
 pub enum Format {
     /// `x`.
     Hexadecimal,
@@ -35,7 +35,7 @@ pub enum Location {
 }
 
 /// The values of `displaced-stepping`.
-#[derive(Clone, Copy, Debug, PartialEq, Eq)]
+#[derive(Clone, Copy, Debug)]
 pub enum Displaced {
     On,
     Off,
@@ -43,7 +43,7 @@ pub enum Displaced {
 }
 
 /// The settings that can be shown.
-#[derive(Clone, Copy, Debug, PartialEq, Eq)]
+#[derive(Clone, Copy, Debug)]
 pub enum Setting {
     NonStop,
     MiAsync,
@@ -170,7 +170,7 @@ pub enum Command {
 }
 
 /// A line's token, empty where there is none, and its command.
-#[derive(Debug, Drop)]
+#[derive(Drop)]
 pub struct CommandLine {
     pub token: Token,
     pub command: Command,

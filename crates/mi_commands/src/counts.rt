@@ -4,7 +4,7 @@ ghost use Rattle.std.specs.Prelude.{◌≡◌};
 ghost use Rattle.mi_commands.specs.Operations.{spelling, is_named, takes_value, allows, fits};
 
 /// An option that some command takes.
-#[derive(Clone, Copy, Debug, PartialEq, Eq)]
+#[derive(Clone, Copy)]
 pub enum OptionName {
     Temporary,
     Disabled,
@@ -18,7 +18,7 @@ pub enum OptionName {
 }
 
 /// Which options a command takes.
-#[derive(Clone, Copy, Debug, PartialEq, Eq)]
+#[derive(Clone, Copy)]
 pub enum Allowed {
     Nothing,
     /// Those of `-break-insert`.
@@ -30,7 +30,7 @@ pub enum Allowed {
 }
 
 /// How many parameters a command takes.
-#[derive(Clone, Copy, Debug, PartialEq, Eq)]
+#[derive(Clone, Copy)]
 pub enum Count {
     Zero,
     One,

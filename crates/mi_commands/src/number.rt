@@ -6,7 +6,7 @@ ghost use Rattle.mi_commands.specs.Numbers.{in_range, is_bad, number};
 use mi_text::number_of;
 
 /// The numbers that a command takes at some place.
-#[derive(Clone, Copy, Debug, PartialEq, Eq)]
+#[derive(Clone, Copy)]
 pub enum Range {
     /// 0 to 2^32 - 1.
     Any,

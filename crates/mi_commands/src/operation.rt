@@ -12,7 +12,7 @@ use crate::registers::assignment_of;
 use mi_input::Word;
 
 /// What a line asks for, by the operation's name.
-#[derive(Clone, Copy, Debug, PartialEq, Eq)]
+#[derive(Clone, Copy)]
 pub enum Operation {
     BreakInsert,
     BreakDelete,

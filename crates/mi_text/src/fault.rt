@@ -6,7 +6,7 @@ ghost use Rattle.mi_text.specs.declared.fault.ReadFault.TheVariants as faults;
 use std::alloc::{AllocError, AllocFailed};
 use thiserror::Error;
 
-#[derive(Clone, Copy, Debug, PartialEq, Eq, Error)]
+#[derive(Clone, Copy, Debug, Error)]
 pub enum ReadFault {
     #[error("out of memory")]
     NoMemory,

@@ -1,7 +1,7 @@
 //! The first byte of a notice and of a stream.
 
 /// What a notice tells of.
-#[derive(Clone, Copy, Debug, PartialEq, Eq)]
+#[derive(Clone, Copy)]
 pub enum NoticeSign {
     /// `*`: the state of execution changed.
     Exec,
@@ -10,7 +10,7 @@ pub enum NoticeSign {
 }
 
 /// Whose text a stream has.
-#[derive(Clone, Copy, Debug, PartialEq, Eq)]
+#[derive(Clone, Copy, Debug)]
 pub enum StreamSign {
     /// `@`: the program's output.
     Target,

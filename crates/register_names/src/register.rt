@@ -7,7 +7,7 @@ ghost use Rattle.register_names.specs.Registers.{number_of, register_number, num
 use std::marker::Model;
 
 /// The number of a register; 32 is pc. Contracts see it as that number.
-#[derive(Clone, Copy, Debug, PartialEq, Eq)]
+#[derive(Clone, Copy)]
 pub struct Register {
     number: u8,
 }

@@ -8,7 +8,7 @@ use std::marker::Model;
 const FIRST: u32 = 0xFFFF_F000;
 
 /// The hart that has a slot, and the word that stands there for it.
-#[derive(Clone, Copy, Debug, PartialEq, Eq)]
+#[derive(Clone, Copy)]
 pub struct SlotUse {
     pub hart: u32,
     pub word: u32,

@@ -2,7 +2,7 @@
 use dbg_traits::NoMemory;
 use std::alloc::{AllocError, AllocFailed};
 
-#[derive(Clone, Copy, Debug, PartialEq, Eq)]
+#[derive(Clone, Copy)]
 pub enum RowFault {
     NoMemory,
     /// It asks for nothing that is known.

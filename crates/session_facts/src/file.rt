@@ -13,7 +13,7 @@ use std::alloc::Global;
 pub const MOST_FILE: usize = 33_554_433;
 
 /// Why a file wasn't read.
-#[derive(Clone, Copy, Debug, PartialEq, Eq)]
+#[derive(Clone, Copy)]
 pub enum FileError {
     Failed,
     NoMemory,

@@ -8,7 +8,7 @@ use dbg_traits::{Polled, World};
 pub const PIECE: usize = 4096;
 
 /// What one poll did.
-#[derive(Clone, Copy, Debug, PartialEq, Eq)]
+#[derive(Clone, Copy)]
 pub enum Input {
     Took(usize),
     Nothing,

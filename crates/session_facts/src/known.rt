@@ -4,7 +4,7 @@ ghost use Rattle.session_facts.specs.Taking.{IsKnown};
 
 use mi_input::next_line;
 
-#[derive(Clone, Copy, Debug, PartialEq, Eq)]
+#[derive(Clone, Copy)]
 pub enum Known {
     /// Nothing.
     Open,

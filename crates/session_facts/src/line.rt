@@ -1,7 +1,7 @@
 // What comes of a line of the input.
 
 /// What one line did. Each number is the place behind the line.
-#[derive(Clone, Copy, Debug, PartialEq, Eq)]
+#[derive(Clone, Copy)]
 pub enum Done {
     Nothing,
     /// It waits until no hart runs.

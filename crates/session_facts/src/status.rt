@@ -4,7 +4,7 @@ ghost use Rattle.session_facts.specs.Numbers.{status_number};
 
 use elf32_read::ElfFault;
 
-#[derive(Clone, Copy, Debug, PartialEq, Eq)]
+#[derive(Clone, Copy, Debug)]
 pub enum Status {
     Done,
     Words,

@@ -1,7 +1,7 @@
 // What comes of a turn of a hart.
 
 /// What one turn did.
-#[derive(Clone, Copy, Debug, PartialEq, Eq)]
+#[derive(Clone, Copy)]
 pub enum Turn {
     /// The hart didn't move.
     Stood,

@@ -17,7 +17,7 @@ pub enum Phase {
 }
 
 /// What happens to a hart.
-#[derive(Clone, Copy, Debug, PartialEq, Eq)]
+#[derive(Clone, Copy)]
 pub enum Mark {
     /// The instruction at `home` is copied to the slot, and the hart enters it.
     Copy { slot: u32, home: u32 },

@@ -17,7 +17,7 @@ const STACK_POINTER: u32 = 2;
 const PC: u32 = 32;
 
 /// Whether an instruction goes to another function.
-#[derive(Clone, Copy, Debug, PartialEq, Eq)]
+#[derive(Clone, Copy)]
 pub enum Jump {
     /// With the address that it returns to.
     Call { back: u32 },
@@ -58,7 +58,7 @@ fn jump_by(last: Option<Last>) -> Jump
 }
 
 /// Where a hart has arrived, behind an instruction of its own.
-#[derive(Clone, Copy, Debug)]
+#[derive(Clone, Copy)]
 pub struct Arrival {
     pub pc: u32,
     /// The stack pointer.

@@ -4,7 +4,7 @@ ghost use Rattle.step_plans.specs.Verdicts.{asks};
 use rv_decode::Instr;
 
 /// An instruction that a hart has executed, and its address.
-#[derive(Clone, Copy, Debug, PartialEq, Eq)]
+#[derive(Clone, Copy)]
 pub struct Last {
     pub instruction: Instr,
     pub address: u32,
@@ -69,7 +69,7 @@ pub enum After {
 }
 
 /// What becomes of a plan at an arrival.
-#[derive(Clone, Copy, Debug, PartialEq, Eq)]
+#[derive(Clone, Copy, Debug)]
 pub enum Verdict {
     /// The hart goes on, with this plan.
     Go(Plan),

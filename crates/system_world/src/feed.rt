@@ -9,7 +9,7 @@ use std::collections::VecDeque;
 pub const ROOM: usize = 65_536;
 
 /// How far the input has come.
-#[derive(Clone, Copy, Debug, PartialEq, Eq)]
+#[derive(Clone, Copy)]
 pub enum Source {
     Open,
     Ended,

@@ -1,7 +1,7 @@
 use rv_decode::Instr;
 
 /// What stands at an address for a hart that executes it.
-#[derive(Clone, Copy, Debug, PartialEq, Eq)]
+#[derive(Clone, Copy)]
 pub enum Fetch {
     /// No word of text.
     Absent,

@@ -12,7 +12,7 @@ use rv_decode::{Instr, decode};
 use std::alloc::{AllocError, Global};
 
 /// Where the words of a text section are.
-#[derive(Clone, Copy, Debug)]
+#[derive(Clone, Copy)]
 pub struct Section {
     pub address: u32,
     /// The number of its words.

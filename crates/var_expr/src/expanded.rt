@@ -5,7 +5,7 @@ ghost use Rattle.std.specs.Option.{option_copied};
 ghost use Rattle.var_expr.specs.Places.{last_begun, length_of, names_of, place_behind, place_of, text_of};
 
 /// A name that was replaced. Places and lengths are in bytes.
-#[derive(Clone, Copy, Debug, PartialEq, Eq)]
+#[derive(Clone, Copy)]
 pub struct Replaced {
     /// Where it stands in the given text.
     pub at: usize,
@@ -17,7 +17,7 @@ pub struct Replaced {
 
 /// A text with its names replaced. Contracts see the new text as `text_of`, its names as `names_of`, and the length of the
 /// given text as `length_of`.
-#[derive(Debug, Drop)]
+#[derive(Drop)]
 pub struct Expanded {
     pub(crate) given_length: usize,
     pub(crate) text: Vec<u8>,

@@ -8,7 +8,7 @@ use dbg_traits::View;
 use debug_info::{Base, Place, Var};
 
 /// What holds a variable.
-#[derive(Clone, Copy, Debug, PartialEq, Eq)]
+#[derive(Clone, Copy)]
 pub enum Holder {
     /// The bytes from an address on.
     Memory(u32),

@@ -8,7 +8,7 @@ use cond_expr::{ExprFault, ParseError};
 use thiserror::Error;
 
 /// Why a text can't be watched. The first of these is told.
-#[derive(Clone, Copy, Debug, PartialEq, Eq, Error)]
+#[derive(Clone, Copy, Debug, Error)]
 pub enum WatchFault {
     /// The text is no expression.
     #[error("faulty expression at {}", .0.at)]
@@ -21,7 +21,7 @@ pub enum WatchFault {
     Value,
 }
 
-#[derive(Clone, Copy, Debug, PartialEq, Eq, Error)]
+#[derive(Clone, Copy, Debug, Error)]
 pub enum WatchError {
     #[error("out of memory")]
     NoMemory,

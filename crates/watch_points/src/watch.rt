@@ -14,7 +14,7 @@ use elf_symbols::Symbols;
 use std::alloc::Global;
 
 /// The bytes that are watched, and how they are shown.
-#[derive(Clone, Copy, Debug, PartialEq, Eq)]
+#[derive(Clone, Copy)]
 pub struct Watched {
     /// Where they begin. They go on modulo 2^32.
     pub address: u32,

@@ -15,7 +15,7 @@ use rv_exec::Regs;
 use step_plans::Plan;
 
 /// What became of a slice.
-#[derive(Clone, Copy, Debug, PartialEq, Eq)]
+#[derive(Clone, Copy, Debug)]
 pub enum Commit {
     /// Its instructions are done.
     Took,
