@@ -1,8 +1,8 @@
-ghost use Rattle.std.specs.Prelude.{◌≡◌, ◌<◌, ◌≤◌, ◌-◌, ◌^◌, ◌∷◌, [], IfOk, OnOk, length, map, Ok};
+ghost use Rattle.std.specs.Prelude.{◌≡◌, ◌<◌, ◌≤◌, ◌-◌, ◌+◌, ◌^◌, ◌∷◌, [], IfOk, OnOk, length, map, Ok};
 ghost use Rattle.std.specs.Option.{option_map};
 ghost use Rattle.elf_symbols.specs.Names.{address_of};
 ghost use Rattle.line_index.specs.Lines as tables;
-ghost use Rattle.break_table.specs.Entry.{condition_of, entry_of};
+ghost use Rattle.break_table.specs.Entry.{asked_of, condition_of, entry_of, new_entry};
 ghost use Rattle.break_table.specs.Table.{has_number};
 ghost use Rattle.dbg_model.specs.Breaks.{missing_number};
 ghost use Rattle.dbg_model.specs.Watches.{has_watch, missing_of};
@@ -291,6 +291,26 @@ fn room(debuggee: &Debuggee<'_>) -> Result<(), Refused>
     }
 }
 
+// The breakpoint that is asked for, as it is listed once it stands.
+fn asked_row(alloc: Global, debuggee: &Debuggee<'_>, asked: &Spec) -> Result<Breakpoint, AllocError>
+    requires { debuggee.now.table.now.given < 2 ^ 32 - 1 }
+    ensures { IfOk result (λ b. b ≡ listed debuggee.now.sources.now (new_entry (debuggee.now.table.now.given + 1) (asked_of asked.now))) }
+{
+    Ok(Breakpoint {
+        number: debuggee.table.given() + 1,
+        address: asked.address,
+        function: function_name(alloc, debuggee.sources, asked.address)?,
+        source: source_line(alloc, debuggee.sources, asked.address)?,
+        location: bytes_of(alloc, asked.location.as_slice())?,
+        temporary: asked.temporary,
+        enabled: asked.enabled,
+        ignore: asked.ignore,
+        condition: condition_text(alloc, &asked.condition)?,
+        thread: asked.thread,
+        times: 0,
+    })
+}
+
 // The breakpoint that is asked for at an address.
 fn inserting(
     alloc: Global,
@@ -302,31 +322,19 @@ fn inserting(
     requires { debuggee.now.table.now.given < 2 ^ 32 - 1 }
     ensures { IfOk result (λ a. outcome_of a ≡ inserting (seen debuggee.now) (asked_at address insertion.now (option_map condition_of condition))) }
 {
-    let content = Content::Inserted(Breakpoint {
-        number: debuggee.table.given() + 1,
+    let asked = Spec {
         address,
-        function: function_name(alloc, debuggee.sources, address)?,
-        source: source_line(alloc, debuggee.sources, address)?,
-        location: bytes_of(alloc, insertion.text.as_slice())?,
+        location: PlaceText::of(Vec::from_slice(alloc, insertion.text.as_slice())?),
         temporary: insertion.temporary,
         enabled: !insertion.disabled,
         ignore: insertion.ignore,
-        condition: condition_text(alloc, &condition)?,
+        condition,
         thread: insertion.thread,
-        times: 0,
-    });
-    let location = PlaceText::of(Vec::from_slice(alloc, insertion.text.as_slice())?);
+    };
+    let content = Content::Inserted(asked_row(alloc, debuggee, &asked)?);
     Ok(Answer {
         content,
-        effect: Effect::Insert(Spec {
-            address,
-            location,
-            temporary: insertion.temporary,
-            enabled: !insertion.disabled,
-            ignore: insertion.ignore,
-            condition,
-            thread: insertion.thread,
-        }),
+        effect: Effect::Insert(asked),
     })
 }
 

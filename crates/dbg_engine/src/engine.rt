@@ -114,10 +114,10 @@ impl Engine {
         ensures state { IfOk result (λ e. seen e ≡ first_state opening) }
         ensures facts { IfOk result Facts }
     {
-        let machine = Machine::load(alloc, &opening.image, opening.settings)?;
         let minds = first_minds(alloc, opening.settings.harts)?;
         let watches = WatchList::new(alloc)?;
         let table = BreakTable::new(alloc, &opening.image, opening.settings.harts)?;
+        let machine = Machine::load(alloc, &opening.image, opening.settings)?;
         let sources = SourceIndex::build(alloc, &opening.image)?;
         Ok(Engine {
             alloc,

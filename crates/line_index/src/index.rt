@@ -2,13 +2,13 @@ ghost use Rattle.std.specs.Prelude.{◌≡◌, IfOk};
 ghost use Rattle.elf_symbols.specs.Views.{symbol_shown};
 ghost use Rattle.line_index.specs.Lines.{Lines, address_of, begins, body_of, file_name, kept, lines_of, row_among, row_at, rows_of, starts};
 
-use crate::addresses::{in_order, least_from, prologues, statements};
+use crate::addresses::least_from;
 use crate::body::{body_among, function_end};
+use crate::building::{function_tables, statement_tables};
 use crate::files::soonest;
 use crate::keys::{FileKey, keys_of};
 use crate::names::name_of;
-use crate::statements::ordered_statements;
-use crate::table::{kept_rows, table_of};
+use crate::table::table_of;
 use address_tables::{Entry, value_at};
 use dbg_traits::NoMemory;
 use elf_symbols::{Named, Symbols};
@@ -67,22 +67,18 @@ impl LineIndex {
         let text = image.text_spans(alloc)?;
         // First, since it takes the most memory while it is made.
         let entries = table_of(alloc, &rows, &text, 0, rows.sequence_count())?;
-        let functions = symbols.function_addresses(alloc)?;
-        let starts = in_order(Vec::from_slice(alloc, &functions)?);
-        let kept = kept_rows(alloc, &rows, &text)?;
-        let prologues = prologues(alloc, &kept)?;
-        let statements = statements(alloc, &kept)?;
-        let lines = ordered_statements(rows.name_count(), kept);
         let keys = keys_of(alloc, &rows)?;
+        let functions = function_tables(alloc, symbols)?;
+        let statements = statement_tables(alloc, &rows, &text)?;
         Ok(LineIndex {
             rows,
-            functions,
-            starts,
+            functions: functions.functions,
+            starts: functions.starts,
             text,
-            lines,
+            lines: statements.lines,
             keys,
-            prologues,
-            statements,
+            prologues: statements.prologues,
+            statements: statements.statements,
             entries,
         })
     }

@@ -3,6 +3,7 @@
 
 mod addresses;
 mod body;
+mod building;
 mod files;
 mod index;
 mod joins;
