@@ -17,12 +17,16 @@ abbrev pub behind : Sections → Building → ℕ → Building
 behind s rows at = add_units s (units_from (length s.line - at) s.line at) rows
 
 -- before the first unit
-pub begins : (s : Sections) (numbers : NameNumbers) (rows : Building) → rows ≡ nothing_built → numbers.names.names ≡ [] → added s ≡ behind s (named rows numbers) 0
+pub begins : (s : Sections) (first : Building) → first ≡ nothing_built → added s ≡ behind s first 0
 unfolding added
-begins s numbers rows none empty =
-    let start : named rows numbers ≡ nothing_built = ap (λ (r : Building). named r numbers) none ∙ ap (λ (l : List (List ℕ)). record nothing_built { names = l }) empty in
+begins s first start =
     let whole : length s.line ≡ length s.line - 0 = omega arith in
     ap (λ (n : ℕ). add_units s (units_from n s.line 0) nothing_built) whole ∙ ap (λ (r : Building). behind s r 0) (sym start)
+
+-- nothing is built yet where there are no rows and no names
+pub none_named : (numbers : NameNumbers) (rows : Building) → rows ≡ nothing_built → numbers.names.names ≡ [] → named rows numbers ≡ nothing_built
+none_named numbers rows none empty =
+    ap (λ (r : Building). named r numbers) none ∙ ap (λ (l : List (List ℕ)). record nothing_built { names = l }) empty
 
 -- behind a unit
 behind_unit : (s unit : Sections) (texts : Texts) (at end : ℕ) (old new : Building) (on : Bool) → at < length s.line → at + 4 ≤ end → Ok end ≡ unit_end s.line at → texts ≡ texts_in s → unit ≡ up_to end s
@@ -40,31 +44,21 @@ goes_on s unit texts at end old new on h after e same narrow is more =
     behind_unit s unit texts at end old new on h after e same narrow is ∙ ap (λ (b : Bool). built_by (record { rows = new; on = b }) (λ rows. behind s rows end)) more
 
 -- behind a unit whose names have no room there is none
-pub halted : (s unit : Sections) (texts : Texts) (at end : ℕ) (numbers after_numbers : NameNumbers) (old new set : Building) (on : Bool) (rows : RowList) → at < length s.line → at + 4 ≤ end → Ok end ≡ unit_end s.line at → texts ≡ texts_in s → unit ≡ up_to end s
-    → added s ≡ behind s (named old numbers) at → record { rows = named new after_numbers; on = on } ≡ add_result at (named old numbers) (rows_in texts unit (room_left old) (at + 4)) → on ≡ false
-    → set ≡ record new { names = after_numbers.names.names } → rows ≡ finished set → rows ≡ rows_of s
-halted s unit texts at end numbers after_numbers old new set on rows h after e same narrow all is last set_is rows_is =
-    let here : behind s (named old numbers) at ≡ named new after_numbers =
-    behind_unit s unit texts at end (named old numbers) (named new after_numbers) on h after e same narrow is ∙ ap (λ (b : Bool). built_by (record { rows = named new after_numbers; on = b }) (λ rows. behind s rows end)) last in
-    rows_is ∙ ap finished set_is ∙ ap finished (sym (all ∙ here)) ∙ declared s
+pub halted : (s unit : Sections) (texts : Texts) (at end : ℕ) (old new : Building) (on : Bool) → at < length s.line → at + 4 ≤ end → Ok end ≡ unit_end s.line at → texts ≡ texts_in s → unit ≡ up_to end s
+    → record { rows = new; on = on } ≡ add_result at old (rows_in texts unit (room_left old) (at + 4)) → on ≡ false → behind s old at ≡ new
+halted s unit texts at end old new on h after e same narrow is last =
+    behind_unit s unit texts at end old new on h after e same narrow is ∙ ap (λ (b : Bool). built_by (record { rows = new; on = b }) (λ rows. behind s rows end)) last
 
 -- a unit whose end can't be told is the last
-stops : (s : Sections) (at : ℕ) (f : LineFault) (numbers : NameNumbers) (old pushed : Building) → at < length s.line → Err f ≡ unit_end s.line at
+pub stopped : (s : Sections) (at : ℕ) (f : LineFault) (numbers : NameNumbers) (old pushed : Building) → at < length s.line → Err f ≡ unit_end s.line at
     → pushed ≡ record old { faults = old.faults ++ record { offset = at; fault = f } ∷ [] } → behind s (named old numbers) at ≡ named pushed numbers
-stops s at f numbers old pushed h e push_is =
+stopped s at f numbers old pushed h e push_is =
     ap (λ (us : List Unit). add_units s us (named old numbers)) (units_at s.line at (Err f) h (sym e)) ∙ ap (λ (r : Building). named r numbers) (sym push_is)
 
-pub stopped : (s : Sections) (at : ℕ) (f : LineFault) (numbers : NameNumbers) (old pushed new : Building) (rows : RowList) → at < length s.line → Err f ≡ unit_end s.line at
-    → added s ≡ behind s (named old numbers) at → pushed ≡ record old { faults = old.faults ++ record { offset = at; fault = f } ∷ [] }
-    → new ≡ record pushed { names = numbers.names.names } → rows ≡ finished new → rows ≡ rows_of s
-stopped s at f numbers old pushed new rows h e all push_is new_is rows_is =
-    rows_is ∙ ap finished new_is ∙ ap finished (sym (all ∙ stops s at f numbers old pushed h e push_is)) ∙ declared s
-
-past_end : (s : Sections) (at : ℕ) (rows : Building) → length s.line ≤ at → behind s rows at ≡ rows
-past_end s at rows past = let none : length s.line - at ≡ 0 = omega arith in ap (λ (n : ℕ). add_units s (units_from n s.line at) rows) none
-
 -- behind the last unit
-pub ended : (s : Sections) (at : ℕ) (numbers : NameNumbers) (old new : Building) (rows : RowList) → length s.line ≤ at
-    → added s ≡ behind s (named old numbers) at → new ≡ record old { names = numbers.names.names } → rows ≡ finished new → rows ≡ rows_of s
-ended s at numbers old new rows past all new_is rows_is =
-    rows_is ∙ ap finished new_is ∙ ap finished (sym (all ∙ past_end s at (named old numbers) past)) ∙ declared s
+pub ended : (s : Sections) (at : ℕ) (rows : Building) → length s.line ≤ at → behind s rows at ≡ rows
+ended s at rows past = let none : length s.line - at ≡ 0 = omega arith in ap (λ (n : ℕ). add_units s (units_from n s.line at) rows) none
+
+-- the rows with their names
+pub named_rows : (s : Sections) (numbers : NameNumbers) (old new : Building) (rows : RowList) → added s ≡ named old numbers → new ≡ record old { names = numbers.names.names } → rows ≡ finished new → rows ≡ rows_of s
+named_rows s numbers old new rows all new_is rows_is = rows_is ∙ ap finished new_is ∙ ap finished (sym all) ∙ declared s

@@ -1,9 +1,12 @@
-ghost use Rattle.std.specs.Prelude.{◌≡◌, ◌≤◌, IfOk, length};
+ghost use Rattle.std.specs.Prelude.{◌≡◌, ◌≤◌, IfOk, OnOk, length};
+ghost use Rattle.line_rows.specs.RowList.{nothing_built};
 ghost use Rattle.line_rows.specs.Sections.{sections_shown};
+ghost use Rattle.dwarf_lines.specs.Adding.{added, named};
+ghost use Rattle.dwarf_lines.specs.Numbering.{AreNumbers};
 ghost use Rattle.dwarf_lines.specs.Rows.{rows_of, up_to};
 
 use crate::adding::add_at;
-use crate::numbers::no_numbers;
+use crate::numbers::{NameNumbers, no_numbers};
 use crate::units::unit_end;
 use dbg_traits::NoMemory;
 use line_headers::text_ends;
@@ -21,6 +24,33 @@ fn up_to<'a>(sections: &LineSections<'a>, end: usize) -> LineSections<'a>
     }
 }
 
+// Adds the units from the first on, up to one behind which nothing is read.
+fn add_units(
+    alloc: Global,
+    sections: &LineSections<'_>,
+    numbers: &mut NameNumbers,
+    rows: &mut RowsBuilder,
+) -> Result<(), NoMemory>
+    requires begins { named rows.old numbers.old ≡ nothing_built }
+    requires numbers { AreNumbers (sections_shown sections.now) numbers.old }
+    ensures { OnOk result (added (sections_shown sections.now) ≡ named rows.new numbers.new) }
+{
+    let ends = text_ends(sections);
+    let mut at = 0;
+    while at < sections.line.len() {
+        let end = match unit_end(sections.line, at) {
+            Ok(end) => end,
+            Err(fault) => return rows.push_fault(UnitFault { offset: at, fault }),
+        };
+        let unit = up_to(sections, end);
+        if !add_at(alloc, &unit, at, ends, numbers, rows)? {
+            return Ok(());
+        }
+        at = end;
+    }
+    Ok(())
+}
+
 /// The rows of the line tables of a program's sections.
 ///
 /// A unit with a fault gives no rows and stands in the list with the first fault that is met when its bytes are read in
@@ -34,27 +64,9 @@ fn up_to<'a>(sections: &LineSections<'a>, end: usize) -> LineSections<'a>
 pub fn rows(alloc: Global, sections: &LineSections<'_>) -> Result<Rows, NoMemory>
     ensures { IfOk result (λ r. r ≡ rows_of (sections_shown sections.now)) }
 {
-    let ends = text_ends(sections);
     let mut numbers = no_numbers(alloc, sections)?;
     let mut rows = RowsBuilder::new(alloc);
-    let mut at = 0;
-    while at < sections.line.len() {
-        match unit_end(sections.line, at) {
-            Ok(end) => {
-                let unit = up_to(sections, end);
-                if !add_at(alloc, &unit, at, ends, &mut numbers, &mut rows)? {
-                    rows.set_names(numbers.names);
-                    return Ok(rows.finish());
-                }
-                at = end;
-            }
-            Err(fault) => {
-                rows.push_fault(UnitFault { offset: at, fault })?;
-                rows.set_names(numbers.names);
-                return Ok(rows.finish());
-            }
-        }
-    }
+    add_units(alloc, sections, &mut numbers, &mut rows)?;
     rows.set_names(numbers.names);
     Ok(rows.finish())
 }

@@ -3,7 +3,7 @@ use Rattle.line_rows.specs.Sections.{sections_shown}
 use Rattle.dwarf_lines.specs.Adding.{added, named}
 use Rattle.dwarf_lines.specs.Numbering.{AreNumbers}
 use Rattle.dwarf_lines.proofs.Sections.{behind}
-use Rattle.dwarf_lines.proofs.section.rows.Given as goal
+use Rattle.dwarf_lines.proofs.section.add_units.Given as goal
 
 abbrev pub invariant-loop-at : goal.invariant-loop-at
 invariant-loop-at l =
