@@ -6,3 +6,4 @@ pub mod Puts
 pub mod Nearest
 pub mod Order
 pub mod Short
+pub mod Counting
