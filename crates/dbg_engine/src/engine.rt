@@ -26,6 +26,7 @@ macro_rules! waiting_of {
 pub(crate) use waiting_of;
 
 mod line;
+mod loading;
 mod notes;
 mod run;
 mod slicing;
@@ -40,11 +41,12 @@ use elf32_read::Image;
 use engine_facts::{Activity, Hold, Mind, Phase};
 use engine_moves::ending::End;
 use engine_moves::homing::go_home_each;
-use engine_moves::minds::{all_gone, any_running, find_running, first_minds, is_running};
+use engine_moves::minds::{all_gone, any_running, find_running, is_running};
 use engine_moves::patching::release;
 use engine_moves::views::views;
 use engine_moves::waiting::{Waiting, end_waits};
 use hart_machine::Machine;
+use loading::first_kept;
 use mi_commands::Displaced;
 pub use slicing::Commit;
 use source_index::SourceIndex;
@@ -114,9 +116,7 @@ impl Engine {
         ensures state { IfOk result (λ e. seen e ≡ first_state opening) }
         ensures facts { IfOk result Facts }
     {
-        let minds = first_minds(alloc, opening.settings.harts)?;
-        let watches = WatchList::new(alloc)?;
-        let table = BreakTable::new(alloc, &opening.image, opening.settings.harts)?;
+        let kept = first_kept(alloc, &opening)?;
         let machine = Machine::load(alloc, &opening.image, opening.settings)?;
         let sources = SourceIndex::build(alloc, &opening.image)?;
         Ok(Engine {
@@ -124,10 +124,10 @@ impl Engine {
             opening,
             entries: Vec::new(alloc),
             machine,
-            minds,
+            minds: kept.minds,
             hold: None,
-            watches,
-            table,
+            watches: kept.watches,
+            table: kept.table,
             sources,
             selected: 1,
             displaced: Displaced::Auto,
