@@ -19,10 +19,10 @@ use Rattle.session_facts.specs.Taking.{Gives}
 use Rattle.dbg_session.specs.Left.{IsLeft, hart_registers, plain_registers}
 use Rattle.session_facts.specs.Ties.{IsTied, IsHeld, Opened, ComesFrom, IsFileOf, AllDone, Taken}
 use Rattle.session_facts.specs.Ties as ties
-use Rattle.elf32_read.specs.Checks.{fault_of}
+use Rattle.elf_checks.specs.Checks.{fault_of}
 use Rattle.elf32_read.specs.Program.{Program}
-use Rattle.elf32_read.specs.Reading as reading
-use Rattle.elf32_read.specs.declared.fault.ElfFault.{ElfFault}
+use Rattle.elf_checks.specs.Reading as reading
+use Rattle.elf_checks.specs.declared.fault.ElfFault.{ElfFault}
 use Rattle.dbg_model.proofs.Options.{same_some}
 use Rattle.dbg_traits.specs.declared.settings.Settings.{Settings}
 use Rattle.dbg_model.specs.declared.opening.Opening.{Opening}

@@ -1,9 +1,9 @@
 -- The headline of a run, over the world that is handed back and what is left of the session.
 use Rattle.std.specs.Prelude.{◌≡◌, ◌⊎◌, ◌<◌, ◌≤◌, ℕ, true, false, List, [], ◌++◌, length, Option, Some, None, IfSome, IsSome}
-use Rattle.elf32_read.specs.declared.fault.ElfFault.{ElfFault}
+use Rattle.elf_checks.specs.declared.fault.ElfFault.{ElfFault}
 use Rattle.elf32_read.specs.Program.{Program}
-use Rattle.elf32_read.specs.Reading.{IsImage}
-use Rattle.elf32_read.specs.Reading as reading
+use Rattle.elf_checks.specs.Reading.{IsImage}
+use Rattle.elf_checks.specs.Reading as reading
 use Rattle.plain_machine.specs.PlainRun.{PlainState, plain_run}
 use Rattle.dbg_traits.specs.Told.{Told}
 use Rattle.dbg_traits.specs.declared.settings.Settings.{Settings}

@@ -1,7 +1,7 @@
 // The top call.
 ghost use Rattle.std.specs.Prelude.{◌≡◌, None, MatchResult};
 ghost use Rattle.dbg_traits.specs.Told.{IsFresh};
-ghost use Rattle.elf32_read.specs.declared.fault.ElfFault.{ElfFault};
+ghost use Rattle.elf_checks.specs.declared.fault.ElfFault.{ElfFault};
 ghost use Rattle.session_facts.specs.Early.{Early};
 ghost use Rattle.session_facts.specs.Words.{served_words};
 ghost use Rattle.dbg_session.specs.Headline.{Ends, Good, IsFine, IsWords, IsFile, Refused};

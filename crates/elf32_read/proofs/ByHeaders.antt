@@ -2,16 +2,8 @@
 use Rattle.std.proofs.Common.{◌≡◌, ℕ, Bool, true, false, cond, List, [], ◌∷◌, map, find, Option, None, Some, refl, ◌∙◌, ap}
 use Rattle.std.specs.Option.{option_map, option_map_or}
 use Rattle.elf32_read.specs.Program.{Segment, in_segment, byte_of, is_writable, mapped}
-use Rattle.elf32_read.specs.Headers.{loaded, text_headers, segment_of, program_of}
-use Rattle.elf32_read.specs.Ranges.{range_in, text_range, in_loaded, is_writable_header}
-use Rattle.elf32_read.specs.declared.tables.TextRange.{TextRange}
-use Rattle.elf32_read.specs.declared.header.ProgramHeader.{ProgramHeader}
-use Rattle.elf32_read.specs.declared.header.SectionHeader.{SectionHeader}
-
-pub ranged : (text : List TextRange) (segments : List ProgramHeader) (texts : List SectionHeader) (bytes : List ℕ)
-    → text ≡ map (range_in segments) texts → segments ≡ loaded bytes → texts ≡ text_headers bytes
-    → text ≡ map (text_range bytes) (text_headers bytes)
-ranged text segments texts bytes t s h = rw (← s, ← h) t
+use Rattle.elf32_read.specs.Headers.{loaded, segment_of, program_of}
+use Rattle.elf32_read.specs.Ranges.{in_loaded, is_writable_header}
 
 find_step : {X Y : Type 0} (b : Bool) (f : X → Y) (x : X) (o : Option Y) (found : Option X)
     → o ≡ option_map f found → cond b (Some (f x)) o ≡ option_map f (cond b (Some x) found)

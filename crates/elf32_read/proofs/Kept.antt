@@ -1,22 +1,24 @@
 -- What the tables that an image keeps say of its program.
 use Rattle.std.proofs.Common.{◌≡◌, ◌≢◌, ℕ, ◌%◌, Bool, true, false, List, [], ◌∷◌, length, map, find, None, refl, sym, ◌∙◌, ap, eq-eqb, ne_eqb}
-use Rattle.std.specs.Prelude.{◌==◌, ◌&&◌, not, option_and_then}
+use Rattle.std.specs.Prelude.{◌==◌, ◌&&◌, not, All, option_and_then}
 use Rattle.std.specs.List.{list_any}
 use Rattle.std.specs.Option.{option_map, option_map_or}
 use Rattle.std.proofs.lemmas.List.{length-map}
 use Rattle.elf32_read.specs.Program.{Program, Section, Segment, in_segment, in_words, is_writable, byte_of, mapped, in_text, text_word, writable, section, is_named}
 use Rattle.elf32_read.specs.Headers.{file_header, loaded, text_headers, section_headers, names, section_bytes, segment_of, text_of, section_of, program_of}
-use Rattle.elf32_read.specs.Checks.{fault_of}
-use Rattle.elf32_read.specs.Ranges.{text_range, in_loaded, in_range, is_called, is_writable_header}
+use Rattle.elf32_read.specs.Ranges.{text_fits, IsWithin, text_range, in_loaded, in_range, is_called, is_writable_header}
 use Rattle.elf32_read.specs.Views.{unnamed, range_shown}
 use Rattle.elf32_read.specs.Inside.{seen, IsKept}
 use Rattle.elf32_read.specs.TextSpans.{text_spans}
 use Rattle.elf32_read.specs.declared.image.Image.TheInside.{Inside}
 use Rattle.elf32_read.specs.declared.header.SectionHeader.{SectionHeader}
-use Rattle.elf32_read.proofs.Accepted.{passed, text_fit, are_within}
 use Rattle.elf32_read.proofs.Ordered.{are_text_spans}
 use Rattle.elf32_read.proofs.ByHeaders.{find-map, mapped-headers, writable-headers, option_map-twice}
 use Rattle.elf32_read.proofs.Texts.{any_text, found_word, shown_texts, word_at, word_of}
+
+-- the loaded segments' file parts are in the file
+within_all : (i : Inside) → IsKept i → All (IsWithin i.file.items) (loaded i.file.items)
+within_all i k = rw (← k.tables.segments) k.fits
 
 pub kept_entry : (i : Inside) (p : Program) → IsKept i → seen i ≡ p → i.tables.header.entry ≡ p.entry
 unfolding program_of
@@ -26,22 +28,20 @@ pub kept_mapped : (i : Inside) (p : Program) (addr : ℕ) → IsKept i → seen 
     → option_map (λ h. byte_of addr (segment_of i.file.items h)) (find (in_loaded addr) i.tables.segments.items) ≡ mapped p addr
 kept_mapped i p addr k v = rw k.tables.segments (sym (mapped-headers i.file.items addr)) ∙ ap (λ (q : Program). mapped q addr) v
 
-headers_text : (file : List ℕ) (addr : ℕ) → fault_of file ≡ None
+headers_text : (file : List ℕ) (addr : ℕ) → All (λ h. text_fits (loaded file) h ≡ true) (text_headers file) → All (IsWithin file) (loaded file)
     → list_any (in_range addr) (map (text_range file) (text_headers file)) ≡ in_text (program_of file) addr
 unfolding program_of
-headers_text file addr h =
-    sym (any_text file (text_headers file) addr (text_fit (loaded file) (text_headers file) (passed file h).text) (are_within file h))
+headers_text file addr fit all = sym (any_text file (text_headers file) addr fit all)
 
 pub kept_in_text : (i : Inside) (p : Program) (addr : ℕ) → IsKept i → seen i ≡ p
     → list_any (in_range addr) i.tables.text.items ≡ in_text p addr
-kept_in_text i p addr k v = rw k.tables.text (headers_text i.file.items addr k.accepted) ∙ ap (λ (q : Program). in_text q addr) v
+kept_in_text i p addr k v = rw k.tables.text (headers_text i.file.items addr k.texts (within_all i k)) ∙ ap (λ (q : Program). in_text q addr) v
 
-headers_word : (file : List ℕ) (addr : ℕ) → fault_of file ≡ None → addr % 4 ≡ 0
+headers_word : (file : List ℕ) (addr : ℕ) → All (λ h. text_fits (loaded file) h ≡ true) (text_headers file) → All (IsWithin file) (loaded file) → addr % 4 ≡ 0
     → option_map (word_at file addr) (find (in_range addr) (map (text_range file) (text_headers file)))
     ≡ option_and_then (word_of addr) (find (in_words addr) (program_of file).text)
 unfolding program_of
-headers_word file addr h four =
-    sym (found_word file (text_headers file) addr four (text_fit (loaded file) (text_headers file) (passed file h).text) (are_within file h))
+headers_word file addr fit all four = sym (found_word file (text_headers file) addr four fit all)
 
 aligned_word : (p : Program) (addr : ℕ) → addr % 4 ≡ 0 → option_and_then (word_of addr) (find (in_words addr) p.text) ≡ text_word p addr
 aligned_word p addr four =
@@ -50,7 +50,7 @@ aligned_word p addr four =
 pub kept_word : (i : Inside) (p : Program) (addr : ℕ) → IsKept i → seen i ≡ p → addr % 4 ≡ 0
     → option_map (word_at i.file.items addr) (find (in_range addr) i.tables.text.items) ≡ text_word p addr
 kept_word i p addr k v four =
-    rw k.tables.text (headers_word i.file.items addr k.accepted four)
+    rw k.tables.text (headers_word i.file.items addr k.texts (within_all i k) four)
     ∙ ap (λ (q : Program). option_and_then (word_of addr) (find (in_words addr) q.text)) v
     ∙ aligned_word p addr four
 
@@ -136,14 +136,14 @@ sections_counted i p k v =
     ∙ ap (λ (xs : List Section). length xs) (kept_sections i p k v)
     ∙ length-map p.sections unnamed
 
-texts_are : (file : List ℕ) → fault_of file ≡ None → map (range_shown file) (map (text_range file) (text_headers file)) ≡ (program_of file).text
+texts_are : (file : List ℕ) → All (λ h. text_fits (loaded file) h ≡ true) (text_headers file) → All (IsWithin file) (loaded file)
+    → map (range_shown file) (map (text_range file) (text_headers file)) ≡ (program_of file).text
 unfolding program_of
-texts_are file h =
-    shown_texts file (text_headers file) (text_fit (loaded file) (text_headers file) (passed file h).text) (are_within file h)
+texts_are file fit all = shown_texts file (text_headers file) fit all
 
 pub kept_texts : (i : Inside) (p : Program) → IsKept i → seen i ≡ p → map (range_shown i.file.items) i.tables.text.items ≡ p.text
-kept_texts i p k v = rw k.tables.text (texts_are i.file.items k.accepted) ∙ ap (λ (q : Program). q.text) v
+kept_texts i p k v = rw k.tables.text (texts_are i.file.items k.texts (within_all i k)) ∙ ap (λ (q : Program). q.text) v
 
 pub kept_text_spans : (i : Inside) (p : Program) → IsKept i → seen i ≡ p → i.tables.text_spans.items ≡ text_spans p
 kept_text_spans i p k v =
-    are_text_spans i.file.items i.tables.text.items i.tables.text_spans.items k.accepted k.tables.text k.tables.text_spans ∙ ap text_spans v
+    are_text_spans i.file.items i.tables.text.items i.tables.text_spans.items k.texts (within_all i k) k.tables.text k.tables.text_spans ∙ ap text_spans v

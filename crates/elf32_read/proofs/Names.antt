@@ -1,12 +1,9 @@
 -- Names in a string table.
-use Rattle.std.proofs.Common.{◌≡◌, ℕ, zero, suc, ◌+◌, Bool, true, false, List, [], ◌∷◌, drop, Option, None, Some, refl, arith, ◌∙◌, ap, map}
+use Rattle.std.proofs.Common.{◌≡◌, ℕ, zero, suc, ◌+◌, Bool, true, false, List, [], ◌∷◌, drop, Option, None, Some, refl, arith, ◌∙◌, ap}
 use Rattle.std.specs.Prelude.{is_some, nat_lt, ◌==◌, if◌then◌else◌}
 use Rattle.std.specs.Option.{option_map, option_map_or}
 use Rattle.std.specs.Str.{bytes_eq}
 use Rattle.std.proofs.lemmas.Bool.Decides.{nat_tests}
-use Rattle.elf32_read.specs.Checks.{Check, check, name_check}
-use Rattle.elf32_read.specs.declared.fault.ElfKind.TheVariants as kind
-use Rattle.elf32_read.specs.declared.header.SectionHeader.{SectionHeader}
 use Rattle.elf32_read.specs.Fields.{name_from, name_at, zero_end}
 
 -- whether the bytes begin with a name
@@ -43,13 +40,3 @@ ends_from (b ∷ bs) (suc at) = ends_from bs at ∙ suc_step at (zero_end bs) (b
 pub name_ends : (table : List ℕ) (at : ℕ) → is_some (name_at table at) ≡ nat_lt at (zero_end table)
 unfolding name_at
 name_ends table at = ends_from table at
-
--- a check that a name begins before the last zero byte
-abbrev pub end_check : ℕ → SectionHeader → Check
-end_check end h = check (nat_lt h.name end) kind.Section h.place
-
-pub ends-map : (table : List ℕ) (hs : List SectionHeader) → map (name_check table) hs ≡ map (end_check (zero_end table)) hs
-ends-map table [] = refl
-ends-map table (h ∷ hs) =
-    let head : name_check table h ≡ end_check (zero_end table) h = ap (λ (t : Bool). check t kind.Section h.place) (name_ends table h.name) in
-    ap (λ (c : Check). c ∷ map (name_check table) hs) head ∙ ap (λ (cs : List Check). end_check (zero_end table) h ∷ cs) (ends-map table hs)

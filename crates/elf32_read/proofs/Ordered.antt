@@ -1,5 +1,5 @@
 -- Ranges in the order of their addresses: where each begins before the next, one list has them.
-use Rattle.std.proofs.Common.{◌≡◌, ◌≢◌, ℕ, zero, suc, ◌+◌, ◌*◌, ◌<◌, ◌≤◌, Bool, true, false, List, [], ◌∷◌, length, get_or, map, None, refl, sym, ◌∙◌, ap, arith, inl, inr}
+use Rattle.std.proofs.Common.{◌≡◌, ◌≢◌, ℕ, zero, suc, ◌+◌, ◌*◌, ◌<◌, ◌≤◌, Bool, true, false, List, [], ◌∷◌, length, get_or, map, refl, sym, ◌∙◌, ap, arith, inl, inr}
 use Rattle.std.specs.Prelude.{◌⊎◌, ◌||◌, nat_lt, All, AllPairs, Contains, if◌then◌else◌}
 use Rattle.std.specs.List.{list_any}
 use Rattle.std.specs.List.Sorted.{IsPermutation}
@@ -8,16 +8,14 @@ use Rattle.std.proofs.lemmas.List.Elements.{All-head, All-tail}
 use Rattle.std.proofs.lemmas.List.Sorted.{IsPermutation-sym, All-permutation, Contains-permutation}
 use Rattle.elf32_read.specs.Program.{Program, Text, in_text, in_words}
 use Rattle.elf32_read.specs.Headers.{loaded, text_headers, text_of, program_of}
-use Rattle.elf32_read.specs.Checks.{fault_of, text_fits}
-use Rattle.elf32_read.specs.Ranges.{IsWithin, text_range}
+use Rattle.elf32_read.specs.Ranges.{IsWithin, text_fits, text_range}
 use Rattle.elf32_read.specs.Spans.{Apart, AreTexts, Rise, covers, numbered}
 use Rattle.elf32_read.specs.TextSpans.{in_order, placed, text_spans}
 use Rattle.elf32_read.specs.declared.header.SectionHeader.{SectionHeader}
 use Rattle.elf32_read.specs.declared.spans.Span.{Span}
 use Rattle.elf32_read.specs.declared.tables.TextRange.{TextRange}
-use Rattle.elf32_read.proofs.Accepted.{are_within, passed, text_fit}
 use Rattle.elf32_read.proofs.Found.{some_texts}
-use Rattle.elf32_read.proofs.Fronts.{span}
+use Rattle.elf32_read.proofs.Numbered.{span}
 use Rattle.elf32_read.proofs.Rising.{pairs-permutation, pairs_from, rise_later}
 use Rattle.elf32_read.proofs.Texts.{meets}
 
@@ -247,12 +245,13 @@ full_texts file k (h ∷ hs) some = full_cons (span h.address h.size k) _ (All-h
     full_cons s ss some rest zero d lt = some
     full_cons s ss some rest (suc i) d lt = rest i d (omega (arith, lt))
 
-pub are_text_spans : (file : List ℕ) (text : List TextRange) (ss : List Span) → fault_of file ≡ None → text ≡ map (text_range file) (text_headers file) → AreTexts text ss
+pub are_text_spans : (file : List ℕ) (text : List TextRange) (ss : List Span) → All (λ h. text_fits (loaded file) h ≡ true) (text_headers file)
+    → All (IsWithin file) (loaded file) → text ≡ map (text_range file) (text_headers file) → AreTexts text ss
     → ss ≡ text_spans (program_of file)
 unfolding text_spans program_of
-are_text_spans file text ss h is r =
+are_text_spans file text ss fit all is r =
     let hs = text_headers file in
-    let same = numbered-texts file 0 hs (text_fit (loaded file) hs (passed file h).text) (are_within file h) in
+    let same = numbered-texts file 0 hs fit all in
     let permuted = rw is at r.same in
     is_in_order _ ss permuted r.rise (full_texts file 0 hs (some_texts file)) ∙ sym (ap in_order same)
 

@@ -7,27 +7,19 @@ use Rattle.std.proofs.lemmas.Grind.{common_steps}
 use Rattle.std.proofs.lemmas.Bool.Decides.{nat_tests}
 use Rattle.std.proofs.lemmas.Bool.{cases_lt, eqb-false}
 use Rattle.std.proofs.lemmas.List.Edits.{swap_is, length-swap}
-use Rattle.std.specs.Bool.{MatchBool}
 use Rattle.std.specs.List.Sorted.{IsPartitionPoint}
-use Rattle.std.proofs.lemmas.List.Sorted.{IsPermutation-keeps, IsPermutation-sym}
+use Rattle.std.proofs.lemmas.List.Sorted.{IsPermutation-keeps}
 use Rattle.std.proofs.lemmas.List.Elements.{All-head, All-tail}
 use Rattle.std.proofs.lemmas.List.{get_or_default}
 use Rattle.elf32_read.specs.Fields.{overlap}
-use Rattle.elf32_read.specs.Spans.{Apart, Rise, covers, middle}
+use Rattle.elf32_read.specs.Spans.{Apart, Rise, covers}
 use Rattle.elf32_read.specs.declared.spans.Span.{Span}
-
-not_both : (a n b m : ℕ) → overlap a n b m ≡ false → (b + m ≤ a) ⊎ (a + n ≤ b)
-not_both a n b bs e = grind (arith, nat_tests)
 
 both_not : (a n b m : ℕ) → (b + m ≤ a) ⊎ (a + n ≤ b) → overlap a n b m ≡ false
 both_not a n b bs e = grind (arith, nat_tests)
 
 pub apart-sym : (a b : Span) → Apart a b → Apart b a
 apart-sym a b e = grind (arith, nat_tests)
-
--- two ranges that are apart stand in the order of their middles
-pub by_middles : (a b : Span) → Apart a b → middle a ≤ middle b → a.start + a.size ≤ b.start
-by_middles a b e m = elim (not_both a.start a.size b.start b.size e) [ inl low ↦ omega arith | inr high ↦ high ]
 
 -- where an element stood before a swap
 abbrev from : ℕ → ℕ → ℕ → ℕ
@@ -71,33 +63,6 @@ swapped ss i j hi hj h a b d lt within =
 pub pairs-permutation : (ss ts : List Span) → IsPermutation ss ts → AllPairs Apart ss → AllPairs Apart ts
 pairs-permutation ss ts p h = IsPermutation-keeps ss (AllPairs Apart) h swapped ts p
 
--- ranges by their middles, of which no two have an address in common, rise
-pub rise_from : (ss : List Span) → IsNonDecreasingBy middle ss → AllPairs Apart ss → Rise ss
-rise_from ss up h k d lt =
-    by_middles (get_or ss k d) (get_or ss (k + 1) d) (h k (k + 1) d (omega arith) lt) (up k (k + 1) d (omega arith) lt)
-
--- one more range that begins where the one before it has ended
-pub rises_on : (ss : List Span) (k : ℕ) (b : Span) → 1 ≤ k → k < length ss
-    → ((j : ℕ) (d : Span) → j + 1 < k → (get_or ss j d).start + (get_or ss j d).size ≤ (get_or ss (j + 1) d).start)
-    → (get_or ss (k - 1) b).start + (get_or ss (k - 1) b).size ≤ (get_or ss k b).start
-    → (j : ℕ) (d : Span) → j + 1 < k + 1 → (get_or ss j d).start + (get_or ss j d).size ≤ (get_or ss (j + 1) d).start
-rises_on ss k b some lt before here j d at =
-    elim (cases_lt (j + 1) k) [
-      | inl early ↦ before j d early
-      | inr late ↦ (
-          let same : j ≡ k - 1 = omega arith in
-          let next : j + 1 ≡ k = omega arith in
-          rw (next, same, get_or_default ss (k - 1) d b (omega arith), get_or_default ss k d b lt) here)
-    ]
-
--- two neighbours by their middles of which the later begins before the other has ended
-pub falls : (ss : List Span) (k : ℕ) (b : Span) → IsNonDecreasingBy middle ss → 1 ≤ k → k < length ss
-    → (get_or ss k b).start < (get_or ss (k - 1) b).start + (get_or ss (k - 1) b).size → AllPairs Apart ss → ⊥
-falls ss k b up some lt low h =
-    let next : k - 1 + 1 ≡ k = omega arith in
-    let r = rw next at (rise_from ss up h (k - 1) b (omega arith)) in
-    absurd (omega arith)
-
 -- ranges that rise end by the start of each later one
 pub rise_far : (ss : List Span) → Rise ss → (i n : ℕ) (d : Span) → i + 1 + n < length ss → (get_or ss i d).start + (get_or ss i d).size ≤ (get_or ss (i + 1 + n) d).start
 rise_far ss up i zero d lt = let e : i + 1 + 0 ≡ i + 1 = omega arith in rw e (up i d (omega arith))
@@ -118,11 +83,6 @@ pairs_from ss up i j d lt within =
     let a = get_or ss i d in
     let b = get_or ss j d in
     both_not a.start a.size b.start b.size (inr (rise_later ss up i j d lt within))
-
--- whether ranges are apart, by those in another order
-pub told : (b : Bool) (ss ts : List Span) → IsPermutation ss ts → MatchBool b (Rise ts) (AllPairs Apart ts → ⊥) → MatchBool b (AllPairs Apart ss) (AllPairs Apart ss → ⊥)
-told true ss ts p up = pairs-permutation ts ss (IsPermutation-sym ss ts p) (pairs_from ts up)
-told false ss ts p none = λ h. none (pairs-permutation ss ts p h)
 
 pub rise_starts : (ss : List Span) → Rise ss → IsNonDecreasingBy (λ s. s.start) ss
 rise_starts ss up i j d le within =

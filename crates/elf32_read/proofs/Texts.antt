@@ -9,10 +9,9 @@ use Rattle.std.proofs.lemmas.List.Elements.{All-head, All-tail}
 use Rattle.elf32_read.specs.Fields.{u32_at, entries, spans}
 use Rattle.elf32_read.specs.Program.{Text, in_words}
 use Rattle.elf32_read.specs.Headers.{loaded, holds_text, bytes_from, text_of}
-use Rattle.elf32_read.specs.Checks.{text_fits}
-use Rattle.elf32_read.specs.Ranges.{offset_of, text_range, in_range, IsWithin, IsRange}
+use Rattle.elf32_read.specs.Ranges.{offset_of, text_fits, text_range, in_range, IsWithin, IsRange}
 use Rattle.elf32_read.specs.Views.{range_shown}
-use Rattle.elf32_read.proofs.Accepted.{Holder, holder, holds_sizes, is_range, TextFit, text_parts}
+use Rattle.elf32_read.proofs.Held.{Holder, holder, holds_sizes, is_range, TextFit, text_parts}
 use Rattle.elf32_read.specs.declared.tables.TextRange.{TextRange}
 use Rattle.elf32_read.specs.declared.header.ProgramHeader.{ProgramHeader}
 use Rattle.elf32_read.specs.declared.header.SectionHeader.{SectionHeader}

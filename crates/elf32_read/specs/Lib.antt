@@ -2,8 +2,6 @@ pub mod Abi
 pub mod Fields
 pub mod Program
 pub mod Headers
-pub mod Checks
-pub mod Reading
 pub mod Views
 pub mod Ranges
 pub mod Spans

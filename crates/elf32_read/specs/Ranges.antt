@@ -1,10 +1,10 @@
 -- Where the words of text sections stand in the file.
-use Rattle.std.specs.Prelude.{◌≡◌, ℕ, ◌+◌, ◌-◌, ◌%◌, ◌≤◌, ◌==◌, Bool, true, false, List, length, find, bit_and}
+use Rattle.std.specs.Prelude.{◌≡◌, ℕ, ◌+◌, ◌-◌, ◌%◌, ◌≤◌, ◌==◌, nat_le, ◌&&◌, not, Bool, true, false, List, length, find, bit_and}
+use Rattle.std.specs.List.{list_any}
 use Rattle.std.specs.Option.{option_map_or}
 use Rattle.std.specs.Str.{bytes_eq}
-use Rattle.elf32_read.specs.Abi.{PF_W}
+use Rattle.elf32_read.specs.Abi.{PF_W, SHT_NOBITS}
 use Rattle.elf32_read.specs.Fields.{spans, name_at}
-use Rattle.elf32_read.specs.Checks.{segment_fits}
 use Rattle.elf32_read.specs.Headers.{loaded, holds_text}
 use Rattle.elf32_read.specs.declared.tables.TextRange.{TextRange}
 use Rattle.elf32_read.specs.declared.header.ProgramHeader.{ProgramHeader}
@@ -34,6 +34,17 @@ is_writable_header h = bit_and h.flags PF_W == PF_W
 
 abbrev pub in_range : ℕ → TextRange → Bool
 in_range addr t = spans t.address t.size addr
+
+-- the file part is in the file and no larger than the segment, which ends by 0xE0000000
+abbrev pub segment_fits : ℕ → ProgramHeader → Bool
+segment_fits size h =
+    nat_le h.file_size h.memory_size
+    && (nat_le (h.offset + h.file_size) size && nat_le (h.address + h.memory_size) 0xE0000000)
+
+-- whole words in the file part of one executable segment
+abbrev pub text_fits : List ProgramHeader → SectionHeader → Bool
+text_fits segments h =
+    ((h.address % 4 == 0) && (h.size % 4 == 0)) && (not (h.kind == SHT_NOBITS) && list_any (holds_text h) segments)
 
 -- the file part is in the file
 abbrev pub IsWithin : List ℕ → ProgramHeader → Type 0

@@ -1,11 +1,8 @@
 -- The tables of what stands in a file.
-use Rattle.std.specs.Prelude.{◌≡◌, ℕ, List, map, None, Result, Ok, Err}
+use Rattle.std.specs.Prelude.{◌≡◌, ℕ, ◌+◌, ◌*◌, ◌≤◌, ◌<◌, ◌⊎◌, true, List, length, map, All}
 use Rattle.elf32_read.specs.Headers.{file_header, loaded, text_headers, section_headers}
-use Rattle.elf32_read.specs.Checks.{fault_of}
-use Rattle.elf32_read.specs.Ranges.{text_range}
-use Rattle.elf32_read.specs.Reading.{Fails}
+use Rattle.elf32_read.specs.Ranges.{text_range, text_fits, IsWithin, IsRange}
 use Rattle.elf32_read.specs.Spans.{AreSegments, AreTexts}
-use Rattle.elf32_read.specs.declared.fault.ElfReadError.{ElfReadError}
 use Rattle.elf32_read.specs.declared.tables.Tables.{Tables}
 
 -- the tables are those of the file; those of addresses are in order
@@ -17,12 +14,12 @@ pub record AreTables (file : List ℕ) (t : Tables) : Type 0 where
   pub segment_spans : AreSegments t.segments.items t.segment_spans.items
   pub text_spans : AreTexts t.text.items t.text_spans.items
 
--- the file fails no check, and has these tables
-pub record AreRead (file : List ℕ) (t : Tables) : Type 0 where
-  pub accepted : fault_of file ≡ None
+-- the tables are those of the file, and what they name stands in it
+pub record AreWhole (file : List ℕ) (t : Tables) : Type 0 where
   pub tables : AreTables file t
-
--- the tables of the file, or its first fault, or out of memory
-abbrev pub ReadsTables : List ℕ → Result Tables ElfReadError → Type 0
-ReadsTables file (Ok t) = AreRead file t
-ReadsTables file (Err e) = Fails file e
+  pub fits : All (IsWithin file) t.segments.items
+  pub texts : All (λ h. text_fits (loaded file) h ≡ true) (text_headers file)
+  pub ranges : All (IsRange file) t.text.items
+  pub limit : length file ≤ 33554432
+  pub within : t.header.section_headers + 40 * t.header.section_header_count ≤ length file
+  pub named : (t.header.section_names ≡ 0) ⊎ (t.header.section_names < t.header.section_header_count)

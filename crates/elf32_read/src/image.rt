@@ -2,7 +2,7 @@ ghost use Rattle.std.specs.Prelude.{◌≡◌, ◌<◌, IfOk, Some, length, slic
 ghost use Rattle.std.specs.Option.{option_copied, option_map};
 ghost use Rattle.elf32_read.specs.Program.{in_text, mapped, section, text_word, writable};
 ghost use Rattle.elf32_read.specs.Headers.{program_of};
-ghost use Rattle.elf32_read.specs.Tables.{AreRead};
+ghost use Rattle.elf32_read.specs.Tables.{AreWhole};
 ghost use Rattle.elf32_read.specs.TextSpans.{text_spans};
 ghost use Rattle.elf32_read.specs.Views.{section_shown, segment_shown, text_shown, unnamed};
 
@@ -38,8 +38,9 @@ impl Model for Image {
 }
 
 impl Image {
-    pub(crate) fn of(file: Vec<u8>, tables: Tables) -> Image
-        requires { AreRead file.items tables }
+    /// The image of a file's bytes, with the tables of what stands in them. What a file must be for that is checked by `elf_checks`.
+    pub fn of(file: Vec<u8>, tables: Tables) -> Image
+        requires { AreWhole file.items tables }
         ensures { result ≡ program_of file.items }
     {
         Image { file, tables }

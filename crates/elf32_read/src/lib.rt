@@ -1,22 +1,18 @@
-//! Reads an ELF32 executable for RISC-V: the image of its bytes, or the first check that they fail.
+//! The image of an ELF32 executable for RISC-V: its program, and what stands where in it. `elf_checks` reads one from a file's bytes.
 #![tactic(auto)]
 
-mod abi;
-mod checks;
-mod fault;
+pub mod abi;
 pub mod fields;
-mod header;
+pub mod header;
 mod image;
 mod lookup;
-mod read;
-mod spans;
-mod tables;
+pub mod spans;
+pub mod tables;
 mod text_spans;
 mod views;
 
-pub use fault::{ElfFault, ElfKind, ElfReadError};
 pub use image::Image;
-pub use read::read_image;
+pub use lookup::segment_at;
 pub use spans::Span;
 pub use text_spans::TextSpans;
 pub use views::{SectionView, SegmentView, TextView};

@@ -3,13 +3,12 @@ ghost use Rattle.std.specs.List.{list_any};
 ghost use Rattle.std.specs.Option.{option_copied, option_map, option_map_or};
 ghost use Rattle.elf32_read.specs.Fields.{u32_at};
 ghost use Rattle.elf32_read.specs.Program.{byte_of};
-ghost use Rattle.elf32_read.specs.Headers.{holds_text, section_bytes, section_of, segment_of};
+ghost use Rattle.elf32_read.specs.Headers.{section_bytes, section_of, segment_of};
 ghost use Rattle.elf32_read.specs.Views.{range_shown, section_shown, segment_shown, text_shown, unnamed};
 ghost use Rattle.elf32_read.specs.Ranges.{IsRange, IsWithin, in_loaded, in_range, is_called, is_writable_header};
-ghost use Rattle.elf32_read.specs.Spans.{AreFilled, AreSegments, AreTexts};
+ghost use Rattle.elf32_read.specs.Spans.{AreSegments, AreTexts};
 
 use crate::abi::PF_W;
-use crate::checks::holds_text;
 use crate::fields::{begins_with_name, u32_at};
 use crate::header::{ProgramHeader, SectionHeader, section_bytes};
 use crate::spans::{Span, number_at};
@@ -31,7 +30,7 @@ fn byte_in(file: &[u8], h: &ProgramHeader, addr: u32) -> u8
 }
 
 /// The segment that has an address, by the segments' ranges.
-fn segment_at(segments: &[ProgramHeader], sorted: &[Span], addr: u32) -> Option<ProgramHeader>
+pub fn segment_at(segments: &[ProgramHeader], sorted: &[Span], addr: u32) -> Option<ProgramHeader>
     requires { AreSegments segments.now sorted.now }
     ensures { result ≡ find (in_loaded addr) segments.now }
 {
@@ -49,23 +48,6 @@ fn text_at(text: &[TextRange], sorted: &[Span], addr: u32) -> Option<TextRange>
     match number_at(sorted, addr) {
         Some(k) => Some(text[k]),
         None => None,
-    }
-}
-
-/// The segment that a text section lies in, which is the one that has its first byte.
-pub fn holder(
-    segments: &[ProgramHeader],
-    sorted: &[Span],
-    h: &SectionHeader,
-) -> Option<ProgramHeader>
-    requires sorted { AreSegments segments.now sorted.now }
-    requires filled { AreFilled segments.now }
-    requires some { 0 < h.now.size }
-    ensures { result ≡ find (holds_text h.now) segments.now }
-{
-    match segment_at(segments, sorted, h.address) {
-        Some(s) if holds_text(h, &s) => Some(s),
-        _ => None,
     }
 }
 

@@ -1,9 +1,9 @@
 -- A generated file fails no check, and which program it has. Both compute, since only four bytes of its data are open.
 use Rattle.std.proofs.Common.{◌≡◌, ℕ, None, refl}
-use Rattle.elf32_read.specs.Checks.{fault_of}
+use Rattle.elf_checks.specs.Checks.{fault_of}
 use Rattle.elf32_read.specs.Fields.{u16_at, u32_at, name_at}
 use Rattle.elf32_read.specs.Headers.{program_of}
-use Rattle.elf32_read.specs.Reading.{IsImage}
+use Rattle.elf_checks.specs.Reading.{IsImage}
 use Rattle.elf_gen.specs.Generated.{generated_file, generated_program}
 
 generated_accepted : (number : ℕ) → fault_of (generated_file number) ≡ None

@@ -5,11 +5,11 @@ use Rattle.std.proofs.lemmas.Bool.{le-ltb}
 use Rattle.std.proofs.Math.Seq.{drop-append_seam, take-append_seam}
 use Rattle.elf32_read.specs.Fields.{u16_at, u32_at, name_at}
 use Rattle.elf32_read.specs.Headers.{file_header, section_headers, loaded, text_headers, names, names_header, section_bytes}
-use Rattle.elf32_read.specs.Checks.{Check, check, first_fault, fault_of, size_checks, header_checks, by_earlier, segment_check, memory_check, section_check, name_check, name_checks, text_check, entry_checks, section_fits}
-use Rattle.elf32_read.proofs.Earlier.{by_earlier-memory, memory_from}
-use Rattle.elf32_read.proofs.Stages.{or_else, fault_of-stages}
-use Rattle.elf32_read.specs.declared.fault.ElfKind.TheVariants as kind
-use Rattle.elf32_read.specs.declared.fault.ElfFault.{ElfFault}
+use Rattle.elf_checks.specs.Checks.{Check, check, first_fault, fault_of, size_checks, header_checks, by_earlier, segment_check, memory_check, section_check, name_check, name_checks, text_check, entry_checks, section_fits}
+use Rattle.elf_checks.proofs.Earlier.{by_earlier-memory, memory_from}
+use Rattle.elf_checks.proofs.Stages.{or_else, fault_of-stages}
+use Rattle.elf_checks.specs.declared.fault.ElfKind.TheVariants as kind
+use Rattle.elf_checks.specs.declared.fault.ElfFault.{ElfFault}
 use Rattle.elf32_read.specs.declared.header.FileHeader.{FileHeader}
 use Rattle.elf32_read.specs.declared.header.ProgramHeader.{ProgramHeader}
 use Rattle.elf32_read.specs.declared.header.SectionHeader.{SectionHeader}

@@ -11,7 +11,7 @@ use Rattle.byteorder.specs.Numbers.{little_number-reads_back}
 use Rattle.elf32_read.specs.Fields.{u16_at, u32_at, name_at, entries}
 use Rattle.elf32_read.specs.Program.{Program, Segment, Section, Text}
 use Rattle.elf32_read.specs.Headers.{section_headers, loaded, text_headers, section_bytes, segment_of, text_of, section_of, program_of, bytes_from, holds_text}
-use Rattle.elf32_read.specs.Reading.{IsImage}
+use Rattle.elf_checks.specs.Reading.{IsImage}
 use Rattle.elf32_read.specs.declared.header.ProgramHeader.{ProgramHeader}
 use Rattle.elf32_read.specs.declared.header.SectionHeader.{SectionHeader}
 use Rattle.elf_gen.specs.Layout.{words_of, elf_header, segment_headers}

@@ -1,6 +1,6 @@
 ghost use Rattle.std.specs.Bool.{OnTrue};
 ghost use Rattle.std.specs.Prelude.{◌≡◌, ◌+◌, ◌*◌, ◌++◌, ◌<◌, ◌^◌, IfOk, OnOk, length};
-ghost use Rattle.elf32_read.specs.Reading.{IsImage};
+ghost use Rattle.elf_checks.specs.Reading.{IsImage};
 ghost use Rattle.elf_gen.specs.Plain.{IsPlain, plain_file, plain_names, plain_program, plain_sections};
 
 use crate::layout::{DATA, ENTRY, FRONT, put_header, put_segments};

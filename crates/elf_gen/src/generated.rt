@@ -1,5 +1,5 @@
 ghost use Rattle.std.specs.Prelude.{◌≡◌, ◌++◌, IfOk, OnOk};
-ghost use Rattle.elf32_read.specs.Reading.{IsImage};
+ghost use Rattle.elf_checks.specs.Reading.{IsImage};
 ghost use Rattle.elf_gen.specs.Generated.{debug_bytes, generated_file, generated_program, generated_sections, symbol, symbols};
 
 use crate::layout::{DATA, ENTRY, put_header, put_segments};

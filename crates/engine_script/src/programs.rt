@@ -5,7 +5,8 @@ ghost use Rattle.dbg_traits.specs.Settings.{AreSettings};
 use dbg_model::Opening;
 use dbg_traits::Settings;
 use elf_gen::{generate, plain};
-use elf32_read::{Image, read_image};
+use elf_checks::read_image;
+use elf32_read::Image;
 use script_rows::{before, hex_words, number};
 use std::alloc::Global;
 

@@ -2,7 +2,8 @@
 use data_memory::DataMemory;
 use dbg_traits::Settings;
 use elf_gen::plain;
-use elf32_read::{Image, read_image};
+use elf_checks::read_image;
+use elf32_read::Image;
 use hart_machine::Machine;
 use script_rows::hex_words;
 use std::alloc::Global;

@@ -4,7 +4,7 @@ ghost use Rattle.std.specs.Prelude.{◌≤◌};
 
 use data_memory::DataMemory;
 use elf_gen::plain;
-use elf32_read::read_image;
+use elf_checks::read_image;
 use rv_decode::{Instr, decode};
 use rv_exec::{DataPort, Effect, Regs, execute};
 use std::alloc::{AllocError, Global};

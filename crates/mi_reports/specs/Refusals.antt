@@ -1,8 +1,8 @@
 -- The one line of a session that isn't begun: this project's own.
 use Rattle.std.specs.Prelude.{ℕ, List, [], ◌∷◌, ◌++◌, decimal, codes}
-use Rattle.elf32_read.specs.declared.fault.ElfKind.{ElfKind}
-use Rattle.elf32_read.specs.declared.fault.ElfKind.TheVariants as kind
-use Rattle.elf32_read.specs.declared.fault.ElfFault.{ElfFault}
+use Rattle.elf_checks.specs.declared.fault.ElfKind.{ElfKind}
+use Rattle.elf_checks.specs.declared.fault.ElfKind.TheVariants as kind
+use Rattle.elf_checks.specs.declared.fault.ElfFault.{ElfFault}
 use Rattle.mi_values.specs.Tree.{Tree}
 use Rattle.mi_values.specs.Record.{LineTree}
 use Rattle.mi_values.specs.FieldLists.{result_of}

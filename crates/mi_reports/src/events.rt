@@ -11,7 +11,7 @@ use crate::replies::push_reply;
 use crate::stops::{Stop, push_stop};
 use dbg_model::{Entry, Reply, ShownFrame};
 use dbg_traits::NoMemory;
-use elf32_read::ElfFault;
+use elf_checks::ElfFault;
 use std::alloc::AllocError;
 
 /// What is reported.

@@ -8,7 +8,7 @@ ghost use Rattle.mi_reports.specs.Refusals.{kind_name, file_fields, usage_fields
 use crate::fields::FieldList;
 use crate::lines::LineList;
 use crate::words::{Key, Phrase, wording};
-use elf32_read::{ElfFault, ElfKind};
+use elf_checks::{ElfFault, ElfKind};
 use mi_text::write_decimal;
 use mi_values::Token;
 use std::alloc::AllocError;

@@ -1,7 +1,7 @@
 // Texts of a session's begin and of its threads' ends, and of what is refused before it begins.
 use crate::records::told_lines;
 use dbg_model::Entry;
-use elf32_read::{ElfFault, ElfKind};
+use elf_checks::{ElfFault, ElfKind};
 use mi_reports::{Event, report};
 use script_rows::{RowFault, number, read_bytes};
 use std::alloc::Global;

@@ -5,8 +5,8 @@ use mathlib.Core.List.{append-nil}
 use Rattle.std.specs.Prelude.{◌⊎◌, Option, Some, None, IfSome}
 use mathlib.Core.Logic.{inl, inr}
 use Rattle.dbg_traits.specs.Told.{Told, more, IsFresh}
-use Rattle.elf32_read.specs.Reading.{IsImage, Refused}
-use Rattle.elf32_read.specs.declared.fault.ElfFault.{ElfFault}
+use Rattle.elf_checks.specs.Reading.{IsImage, Refused}
+use Rattle.elf_checks.specs.declared.fault.ElfFault.{ElfFault}
 use Rattle.dbg_model.specs.declared.opening.Opening.{Opening}
 use Rattle.dbg_traits.specs.declared.settings.Settings.{Settings}
 use Rattle.elf_gen.specs.Generated.{generated_file}

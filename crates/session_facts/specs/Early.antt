@@ -1,7 +1,7 @@
 -- How a run ends before a session was begun, and what it wrote.
 use Rattle.std.specs.Prelude.{◌≡◌, ◌⊎◌, ◌<◌, ℕ, false, List, [], length, Some, None, IfSome}
-use Rattle.elf32_read.specs.declared.fault.ElfFault.{ElfFault}
-use Rattle.elf32_read.specs.Reading as reading
+use Rattle.elf_checks.specs.declared.fault.ElfFault.{ElfFault}
+use Rattle.elf_checks.specs.Reading as reading
 use Rattle.dbg_traits.specs.Told.{Told}
 use Rattle.dbg_traits.specs.declared.settings.Settings.{Settings}
 use Rattle.mi_values.specs.Record.{LineTree}

@@ -1,7 +1,7 @@
 -- What ties a session to its world.
 use Rattle.std.specs.Prelude.{◌≡◌, ◌⊎◌, ◌<◌, ◌≤◌, ℕ, ◌+◌, ◌-◌, ◌*◌, Bool, true, false, cond, List, [], ◌++◌, length, Option, Some, None, IfSome}
 use Rattle.dbg_traits.specs.Told.{Told}
-use Rattle.elf32_read.specs.Reading.{IsImage}
+use Rattle.elf_checks.specs.Reading.{IsImage}
 use Rattle.elf32_read.specs.Program.{Program}
 use Rattle.elf_gen.specs.Generated.{generated_file}
 use Rattle.mi_input.specs.Lines.{lines}

@@ -13,8 +13,9 @@ use crate::outside::Outside;
 use crate::puts::put_event;
 use crate::status::Status;
 use dbg_traits::{ArgText, Settings, World};
+use elf_checks::{ElfReadError, read_image};
 use elf_gen::{generate, script};
-use elf32_read::{ElfReadError, Image, read_image};
+use elf32_read::Image;
 use mi_reports::Event;
 use std::alloc::Global;
 

@@ -2,7 +2,7 @@
 ghost use Rattle.std.specs.Prelude.{◌≡◌};
 ghost use Rattle.session_facts.specs.Numbers.{status_number};
 
-use elf32_read::ElfFault;
+use elf_checks::ElfFault;
 
 #[derive(Clone, Copy, Debug)]
 pub enum Status {

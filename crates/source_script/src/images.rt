@@ -1,6 +1,7 @@
 // Programs that rows of several benches ask for.
 use elf_gen::{generate, plain};
-use elf32_read::{Image, read_image};
+use elf_checks::read_image;
+use elf32_read::Image;
 use std::alloc::Global;
 
 /// The most words of a program.

@@ -4,7 +4,8 @@ mod made;
 mod names;
 
 use elf_symbols::{Symbols, symbols};
-use elf32_read::{ElfReadError, Image, read_image};
+use elf_checks::{ElfReadError, read_image};
+use elf32_read::Image;
 use script_rows::{Bench, RowFault};
 use std::alloc::Global;
 

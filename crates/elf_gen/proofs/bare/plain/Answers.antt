@@ -1,7 +1,7 @@
 -- The file is the definition's, which has this program.
 use Rattle.std.proofs.Common.{ℕ, List, sym, subst}
 use Rattle.std.proofs.Math.Facts.{Fits-lt-pow}
-use Rattle.elf32_read.specs.Reading.{IsImage}
+use Rattle.elf_checks.specs.Reading.{IsImage}
 use Rattle.elf_gen.specs.Plain.{plain_program}
 use Rattle.elf_gen.proofs.Shown.{plain_image, AreWords}
 use Rattle.elf_gen.proofs.bare.plain.Goals as goal

@@ -1,6 +1,6 @@
 -- The file is the definition's, which has this program.
 use Rattle.std.proofs.Common.{◌≡◌, ℕ, List, rules, sym, subst}
-use Rattle.elf32_read.specs.Reading.{IsImage}
+use Rattle.elf_checks.specs.Reading.{IsImage}
 use Rattle.elf_gen.specs.Generated.{generated_file, generated_program}
 use Rattle.elf_gen.proofs.Accepted.{generated_image}
 use Rattle.elf_gen.proofs.generated.generate.Goals as goal

@@ -1,8 +1,8 @@
 use Rattle.std.proofs.Common.{◌≡◌, ◌∙◌, sym, ap, subst, rules}
 use Rattle.std.specs.Prelude.{Err, Option}
 use Rattle.dbg_traits.specs.Told.{Told}
-use Rattle.elf32_read.specs.declared.fault.ElfReadError.{ElfReadError}
-use Rattle.elf32_read.specs.Reading.{Reads}
+use Rattle.elf_checks.specs.declared.fault.ElfReadError.{ElfReadError}
+use Rattle.elf_checks.specs.Reading.{Reads}
 use Rattle.dbg_model.specs.declared.opening.Opening.{Opening}
 use Rattle.session_facts.specs.Scene.{Play, told_by, told_of}
 use Rattle.session_facts.specs.Ties.{MayBegin}

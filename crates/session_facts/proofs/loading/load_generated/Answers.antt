@@ -1,7 +1,7 @@
 use Rattle.std.proofs.Common.{◌≡◌, ◌∙◌, ℕ, List, Some, sym, ap, subst}
 use Rattle.std.specs.Prelude.{Option}
 use Rattle.dbg_traits.specs.Told.{Told}
-use Rattle.elf32_read.specs.Reading.{IsImage}
+use Rattle.elf_checks.specs.Reading.{IsImage}
 use Rattle.dbg_model.specs.declared.opening.Opening.{Opening}
 use Rattle.session_facts.specs.Scene.{Play, begun, told_by, told_of}
 use Rattle.session_facts.specs.Ties.{MayBegin}

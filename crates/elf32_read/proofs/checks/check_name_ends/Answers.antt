@@ -1,7 +1,0 @@
-use Rattle.std.proofs.Common.{ap}
-use Rattle.elf32_read.specs.Checks.{first_fault}
-use Rattle.elf32_read.proofs.Names.{ends-map}
-use Rattle.elf32_read.proofs.checks.check_name_ends.Goals as goal
-
-pub loop-h-init : goal.loop-h-init
-loop-h-init c = rw c.zero_end-end.ensures (ap first_fault (ends-map c.args.table.now c.args.sections.now))

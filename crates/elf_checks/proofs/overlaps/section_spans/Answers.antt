@@ -1,0 +1,9 @@
+use Rattle.std.proofs.Common.{◌∙◌, sym}
+use Rattle.elf32_read.specs.declared.header.SectionHeader.{SectionHeader}
+use Rattle.elf_checks.proofs.Fronts.{numbered-more}
+use Rattle.elf_checks.proofs.overlaps.section_spans.Goals as goal
+
+pub loop-number-preserved : goal.loop-number-preserved
+loop-number-preserved c =
+    (rw c.loop-number.invariant at c.in_ok-push.ensures.items)
+    ∙ sym (numbered-more (λ (h : SectionHeader). h.address) (λ (h : SectionHeader). h.size) c.args.sections.now c.loop-number.number _ c.loop-number-test.true)
