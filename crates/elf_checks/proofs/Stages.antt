@@ -2,7 +2,7 @@
 use Rattle.std.proofs.Common.{◌≡◌, ℕ, Bool, true, false, List, [], ◌∷◌, ◌++◌, length, map, Option, None, Some, refl, ◌∙◌, ap}
 use Rattle.std.specs.Prelude.{◌==◌, ◌||◌, nat_lt, if◌then◌else◌}
 use Rattle.elf32_read.specs.Headers.{file_header, loaded, text_headers, section_headers}
-use Rattle.elf_checks.specs.Checks.{Check, check, first_fault, fault_of, size_checks, header_checks, table_checks, by_earlier, segment_check, memory_check, section_check, name_checks, text_check, entry_checks}
+use Rattle.elf_checks.specs.Checks.{Check, check, first_fault, fault_of, size_checks, kind_checks, extent_checks, header_checks, table_checks, by_earlier, segment_check, memory_check, section_check, name_checks, text_check, entry_checks}
 use Rattle.elf_checks.specs.declared.fault.ElfKind.TheVariants as kind
 use Rattle.elf_checks.specs.declared.fault.ElfFault.{ElfFault}
 
@@ -67,6 +67,12 @@ pub fault_of-stages : (bytes : List ℕ)
 fault_of-stages bytes =
     fault_of-parts bytes
     ∙ ap (λ (o : Option ElfFault). or_else (first_fault (size_checks bytes)) (or_else (first_fault (header_checks bytes)) o)) (first_fault-table_checks bytes)
+
+pub first_fault-header_checks : (bytes : List ℕ)
+    → first_fault (header_checks bytes) ≡ or_else (first_fault (kind_checks bytes)) (first_fault (extent_checks bytes))
+first_fault-header_checks bytes = first_fault-append (kind_checks bytes) (extent_checks bytes)
+
+pub ruleset header = (first_fault-header_checks)
 
 pub ruleset parts = (fault_of-parts)
 

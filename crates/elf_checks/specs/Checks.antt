@@ -42,9 +42,9 @@ size_checks bytes =
     ∷ check (nat_le 52 (length bytes)) kind.Short (length bytes)
     ∷ []
 
--- the file's header: magic, class, order of bytes, type, machine, flags, and the headers' sizes (gABI, ELF Header)
-abbrev pub header_checks : List ℕ → List Check
-header_checks bytes =
+-- magic, class, order of bytes, type, machine and flags (gABI, ELF Header)
+abbrev pub kind_checks : List ℕ → List Check
+kind_checks bytes =
     let h = file_header bytes in
     check (is_magic bytes) kind.Magic 0
     ∷ check (slice_index bytes 4 == ELFCLASS32) kind.Class 4
@@ -52,11 +52,21 @@ header_checks bytes =
     ∷ check (h.kind == ET_EXEC) kind.Kind 16
     ∷ check (h.machine == EM_RISCV) kind.Machine 18
     ∷ check (bit_and h.flags RVC_OR_RVE == 0) kind.Flags 36
-    ∷ check ((h.program_header_count == 0) || (h.program_header_size == 32)) kind.Segment 42
+    ∷ []
+
+-- the sizes of the headers, and where their tables end
+abbrev pub extent_checks : List ℕ → List Check
+extent_checks bytes =
+    let h = file_header bytes in
+    check ((h.program_header_count == 0) || (h.program_header_size == 32)) kind.Segment 42
     ∷ check ((h.section_header_count == 0) || (h.section_header_size == 40)) kind.Section 46
     ∷ check (nat_le (h.program_headers + 32 * h.program_header_count) (length bytes)) kind.Short h.program_headers
     ∷ check (nat_le (h.section_headers + 40 * h.section_header_count) (length bytes)) kind.Short h.section_headers
     ∷ []
+
+-- the file's header
+abbrev pub header_checks : List ℕ → List Check
+header_checks bytes = kind_checks bytes ++ extent_checks bytes
 
 abbrev pub segments_overlap : ProgramHeader → ProgramHeader → Bool
 segments_overlap h other = overlap h.address h.memory_size other.address other.memory_size

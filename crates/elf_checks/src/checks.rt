@@ -5,7 +5,7 @@ ghost use Rattle.std.specs.Result.{result_err};
 ghost use Rattle.elf32_read.specs.Headers.{file_header, loaded, text_headers, section_headers, names, names_header};
 ghost use Rattle.elf32_read.specs.Ranges.{segment_fits, text_fits};
 ghost use Rattle.elf32_read.specs.Spans.{AreSegments};
-ghost use Rattle.elf_checks.specs.Checks.{segments_overlap, sections_overlap, by_earlier, check, first_fault, is_magic, size_checks, header_checks, table_checks, segment_check, memory_check, section_fits, section_check, name_check, name_checks, entry_checks, text_check, in_section};
+ghost use Rattle.elf_checks.specs.Checks.{segments_overlap, sections_overlap, by_earlier, check, first_fault, is_magic, size_checks, kind_checks, extent_checks, header_checks, table_checks, segment_check, memory_check, section_fits, section_check, name_check, name_checks, entry_checks, text_check, in_section};
 ghost use Rattle.elf_checks.specs.Overlaps.{AreFilled, AreSome, IsApartFront, IsSpanTable, section_spans, segment_spans};
 
 use crate::fault::{ElfFault, ElfKind};
@@ -59,11 +59,24 @@ fn is_magic(bytes: &[u8]) -> bool
     bytes[0] == 0x7F && (bytes[1] == 0x45 && (bytes[2] == 0x4C && bytes[3] == 0x46))
 }
 
-/// What the file's header says, and the sizes of the tables that it names.
-pub fn check_header(bytes: &[u8], header: &FileHeader) -> Result<(), ElfFault>
+/// What kind of file the header says that it is.
+fn check_kind(bytes: &[u8], header: &FileHeader) -> Result<(), ElfFault>
     requires header { header.now ≡ file_header bytes.now }
     requires least { FILE_HEADER_SIZE ≤ length bytes.now }
-    ensures checks { result_err result ≡ first_fault (header_checks bytes.now) }
+    ensures { result_err result ≡ first_fault (kind_checks bytes.now) }
+{
+    check(is_magic(bytes), ElfKind::Magic, 0)?;
+    check(bytes[EI_CLASS] == ELFCLASS32, ElfKind::Class, 4)?;
+    check(bytes[EI_DATA] == ELFDATA2LSB, ElfKind::Order, 5)?;
+    check(header.kind == ET_EXEC, ElfKind::Kind, 16)?;
+    check(header.machine == EM_RISCV, ElfKind::Machine, 18)?;
+    check(header.flags & REFUSED_FLAGS == 0, ElfKind::Flags, 36)
+}
+
+/// The sizes of the headers that the file's header names, and where their tables end.
+fn check_extents(bytes: &[u8], header: &FileHeader) -> Result<(), ElfFault>
+    requires header { header.now ≡ file_header bytes.now }
+    ensures checks { result_err result ≡ first_fault (extent_checks bytes.now) }
     ensures programs { IfOk result (λ _. header.now.program_headers + 32 * header.now.program_header_count ≤ length bytes.now) }
     ensures sections { IfOk result (λ _. header.now.section_headers + 40 * header.now.section_header_count ≤ length bytes.now) }
 {
@@ -71,12 +84,6 @@ pub fn check_header(bytes: &[u8], header: &FileHeader) -> Result<(), ElfFault>
         + ProgramHeader::SIZE * header.program_header_count as usize;
     let sections_end = header.section_headers as usize
         + SectionHeader::SIZE * header.section_header_count as usize;
-    check(is_magic(bytes), ElfKind::Magic, 0)?;
-    check(bytes[EI_CLASS] == ELFCLASS32, ElfKind::Class, 4)?;
-    check(bytes[EI_DATA] == ELFDATA2LSB, ElfKind::Order, 5)?;
-    check(header.kind == ET_EXEC, ElfKind::Kind, 16)?;
-    check(header.machine == EM_RISCV, ElfKind::Machine, 18)?;
-    check(header.flags & REFUSED_FLAGS == 0, ElfKind::Flags, 36)?;
     check(
         header.program_header_count == 0
             || header.program_header_size as usize == ProgramHeader::SIZE,
@@ -99,6 +106,19 @@ pub fn check_header(bytes: &[u8], header: &FileHeader) -> Result<(), ElfFault>
         ElfKind::Short,
         header.section_headers,
     )
+}
+
+/// What the file's header says, and the sizes of the tables that it names.
+#[tactic(auto, using(crate::proofs::Stages::header))]
+pub fn check_header(bytes: &[u8], header: &FileHeader) -> Result<(), ElfFault>
+    requires header { header.now ≡ file_header bytes.now }
+    requires least { FILE_HEADER_SIZE ≤ length bytes.now }
+    ensures checks { result_err result ≡ first_fault (header_checks bytes.now) }
+    ensures programs { IfOk result (λ _. header.now.program_headers + 32 * header.now.program_header_count ≤ length bytes.now) }
+    ensures sections { IfOk result (λ _. header.now.section_headers + 40 * header.now.section_header_count ≤ length bytes.now) }
+{
+    check_kind(bytes, header)?;
+    check_extents(bytes, header)
 }
 
 fn segment_fits(size: usize, h: &ProgramHeader) -> bool
