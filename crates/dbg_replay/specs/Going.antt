@@ -85,8 +85,12 @@ halted_by o s h why (Some x) =
 abbrev pub state_of : Place → State
 state_of p = p.state
 
+-- the journal isn't lawful, or memory ran out
+abbrev pub Misses : Halt → Option State → Type 0
+Misses Unlawful left = left ≡ None
+Misses NoMemory left = Unit {0}
+
 -- the journal leaves the state of these parts, or it isn't lawful
 abbrev pub Ends : Result (Unit {0}) Halt → Option State → Parts → Type 0
 Ends (Ok u) left p = left ≡ Some (shown p)
-Ends (Err Unlawful) left p = left ≡ None
-Ends (Err NoMemory) left p = Unit {0}
+Ends (Err halt) left p = Misses halt left

@@ -35,6 +35,24 @@ fn forget_disabled(harts: &mut [Hart], numbers: &[u32], enabled: bool)
     }
 }
 
+// Makes the change of a line in the harts.
+fn change_harts(harts: &mut [Hart], effect: &Effect)
+    requires few { length harts.old ≤ 16 }
+    ensures { harts.new ≡ harts_after harts.old (change_of effect.now) }
+{
+    match effect {
+        Effect::Resume { threads, plan } => {
+            on_threads(harts, threads.as_slice(), |hart| resumed(*plan, hart));
+        }
+        Effect::Interrupt(threads) => on_threads(harts, threads.as_slice(), asked),
+        Effect::Delete(numbers) => forget(harts, numbers.as_slice()),
+        Effect::Enable { numbers, enabled } => {
+            forget_disabled(harts, numbers.as_slice(), *enabled);
+        }
+        _ => {}
+    }
+}
+
 // Makes the change of a line in all but the breakpoints, the watches and what is to be written.
 fn change(parts: &mut Parts, effect: &Effect)
     requires sets { parts.old.sets < 2 ^ 64 - 1 }
@@ -42,20 +60,8 @@ fn change(parts: &mut Parts, effect: &Effect)
     ensures rest { parts.new ≡ record parts.old { harts = parts.new.harts; selected = selected_after parts.old.selected (change_of effect.now); displaced = displaced_after parts.old.displaced (change_of effect.now); sets = sets_after parts.old.sets (change_of effect.now); exited = exited_after parts.old.exited (change_of effect.now) } }
     ensures harts { parts.new.harts.items ≡ harts_after parts.old.harts.items (change_of effect.now) }
 {
+    change_harts(parts.harts.as_mut_slice(), effect);
     match effect {
-        Effect::Resume { threads, plan } => {
-            let harts = parts.harts.as_mut_slice();
-            on_threads(harts, threads.as_slice(), |hart| resumed(*plan, hart));
-        }
-        Effect::Interrupt(threads) => {
-            on_threads(parts.harts.as_mut_slice(), threads.as_slice(), asked);
-        }
-        Effect::Delete(numbers) => forget(parts.harts.as_mut_slice(), numbers.as_slice()),
-        Effect::Enable { numbers, enabled } => forget_disabled(
-            parts.harts.as_mut_slice(),
-            numbers.as_slice(),
-            *enabled,
-        ),
         Effect::Displace(displaced) => {
             parts.sets = sets_by(parts.sets, *displaced);
             parts.displaced = *displaced;

@@ -6,6 +6,7 @@ mod changes;
 mod entries;
 mod halt;
 mod lines;
+mod loading;
 mod modes;
 mod movers;
 mod pokes;

@@ -52,24 +52,25 @@ fn may_do(opening: &Opening, parts: &Parts, read: &Result<CommandLine, Refusal>)
     may_go(opening, parts) && !must_wait
 }
 
-// What a line changes.
+// What a line changes, from what is seen of the harts.
 fn effect_of<'a>(
     alloc: Global,
     opening: &'a Opening,
     parts: &'a Parts,
+    threads: &'a [ThreadView],
     read: Result<CommandLine, Refusal>,
 ) -> Result<Effect, NoMemory>
     requires few { length parts.now.harts.items ≤ 16 }
     requires given { parts.now.table.given < 2 ^ 32 - 1 }
     requires sources { parts.now.sources ≡ sources_of opening.now.image }
+    requires threads { threads.now ≡ map view_of parts.now.harts.items }
     ensures { (line : List ℕ) → Commands line read → IfOk result (λ e. change_of e ≡ (answer_of opening.now (shown parts.now) line).outcome.change) }
 {
-    let threads = views(alloc, parts.harts.as_slice())?;
     let debuggee = Debuggee {
         image: &opening.image,
         sources: &parts.sources,
         memory: &parts.memory,
-        threads: threads.as_slice(),
+        threads,
         table: &parts.table,
         watches: parts.watches.as_slice(),
         selected: parts.selected,
@@ -80,17 +81,34 @@ fn effect_of<'a>(
     Ok(answer.effect)
 }
 
-/// A line of the input.
-pub fn do_line(alloc: Global, opening: &Opening, parts: &mut Parts, line: &[u8]) -> Result<(), Halt>
+// A line of the input, from what is seen of the harts.
+fn do_seen(
+    alloc: Global,
+    opening: &Opening,
+    parts: &mut Parts,
+    threads: &[ThreadView],
+    line: &[u8],
+) -> Result<(), Halt>
     requires kept { Kept opening.now parts.old }
     requires room { parts.old.noted < 2 ^ 64 - 1 }
+    requires threads { threads.now ≡ map view_of parts.old.harts.items }
     ensures { Comes opening.now result (if may_do opening.now (shown parts.old) line.now then Some (done_by opening.now (shown parts.old) line.now) else None) parts.new }
 {
     let read = read_line(alloc, line)?;
     if !may_do(opening, parts, &read) {
         return Err(Halt::Unlawful);
     }
-    let effect = effect_of(alloc, opening, parts, read)?;
+    let effect = effect_of(alloc, opening, parts, threads, read)?;
     make(parts, effect);
     Ok(())
+}
+
+/// A line of the input.
+pub fn do_line(alloc: Global, opening: &Opening, parts: &mut Parts, line: &[u8]) -> Result<(), Halt>
+    requires kept { Kept opening.now parts.old }
+    requires room { parts.old.noted < 2 ^ 64 - 1 }
+    ensures { Comes opening.now result (if may_do opening.now (shown parts.old) line.now then Some (done_by opening.now (shown parts.old) line.now) else None) parts.new }
+{
+    let threads = views(alloc, parts.harts.as_slice())?;
+    do_seen(alloc, opening, parts, threads.as_slice(), line)
 }

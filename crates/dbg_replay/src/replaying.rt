@@ -1,77 +1,19 @@
 // A whole journal.
-ghost use Rattle.std.specs.Prelude.{◌≡◌, ◌≤◌, IfOk, replicate};
+ghost use Rattle.std.specs.Prelude.{◌≡◌, IfOk, Option};
 ghost use Rattle.std.specs.Option.{option_map};
 ghost use Rattle.dbg_traits.specs.Settings.{AreSettings};
-ghost use Rattle.dbg_model.specs.State.{first_harts, first_state};
+ghost use Rattle.dbg_model.specs.State.{State, first_state};
 ghost use Rattle.dbg_model.specs.Journals.{follows, ran_hart, replay};
 ghost use Rattle.dbg_replay.specs.Parts.{shown};
-ghost use Rattle.dbg_replay.specs.Going.{Kept, Ends, state_of};
+ghost use Rattle.dbg_replay.specs.Going.{Ends, Kept, Misses, state_of};
 
 use crate::entries::enter;
 use crate::halt::Halt;
+use crate::loading::first_parts;
 use crate::state::{ModelState, Parts};
-use break_table::BreakTable;
-use data_memory::DataMemory;
-use dbg_model::{Entry, Hart, Journal, Mode, Opening, WatchList};
+use dbg_model::{Entry, Journal, Opening};
 use dbg_traits::NoMemory;
-use elf32_read::Image;
-use mi_commands::Displaced;
-use plain_machine::first_registers;
-use source_index::SourceIndex;
-use std::alloc::{AllocError, Global};
-use step_plans::Plan;
-
-fn first_harts(alloc: Global, image: &Image, harts: u32) -> Result<Vec<Hart>, AllocError>
-    requires { harts ≤ 16 }
-    ensures { IfOk result (λ v. v.items ≡ first_harts image.now harts harts) }
-{
-    let mut all = Vec::new(alloc);
-    for hart in 0..harts {
-        all.push(Hart {
-            regs: first_registers(image.entry(), harts, hart),
-            mode: Mode::Stopped,
-            fresh: false,
-            asked: false,
-            plan: Plan::Free,
-            last: None,
-            fired: None,
-        })?;
-    }
-    Ok(all)
-}
-
-fn no_counts(alloc: Global, harts: usize) -> Result<Vec<u64>, AllocError>
-    ensures { IfOk result (λ v. v.items ≡ replicate harts 0) }
-{
-    let mut counts = Vec::new(alloc);
-    counts.resize(harts, 0)?;
-    Ok(counts)
-}
-
-// Where a session begins.
-fn first_parts(alloc: Global, opening: &Opening) -> Result<Parts, NoMemory>
-    requires { AreSettings opening.now.settings }
-    ensures state { IfOk result (λ p. shown p ≡ first_state opening.now) }
-    ensures kept { IfOk result (λ p. Kept opening.now p) }
-{
-    let harts = opening.settings.harts;
-    Ok(Parts {
-        sources: SourceIndex::build(alloc, &opening.image)?,
-        harts: first_harts(alloc, &opening.image, harts)?,
-        memory: DataMemory::load(alloc, &opening.image, harts)?,
-        out: Vec::new(alloc),
-        table: BreakTable::new(alloc, &opening.image, harts)?,
-        watches: WatchList::new(alloc)?,
-        selected: 1,
-        displaced: Displaced::Auto,
-        sets: 0,
-        passed: no_counts(alloc, harts as usize)?,
-        pending: None,
-        retired: 0,
-        noted: 0,
-        exited: false,
-    })
-}
+use std::alloc::Global;
 
 // Whether an entry may come behind one that has this hart where it is a `Ran`.
 fn follows(prev: Option<u32>, entry: &Entry) -> bool
@@ -117,6 +59,26 @@ fn go_through(
     Ok(())
 }
 
+// What is answered where a journal isn't gone through to its end.
+fn missed(halt: Halt) -> Result<Option<ModelState>, NoMemory>
+    ensures { (left : Option State) → Misses halt left → IfOk result (λ r. r ≡ left) }
+{
+    match halt {
+        Halt::Unlawful => Ok(None),
+        Halt::NoMemory => Err(NoMemory),
+    }
+}
+
+// What is answered where going through a journal ended so, at these parts.
+fn answered(ended: Result<(), Halt>, parts: Parts) -> Result<Option<ModelState>, NoMemory>
+    ensures { (left : Option State) → Ends ended left parts → IfOk result (λ r. r ≡ left) }
+{
+    match ended {
+        Ok(()) => Ok(Some(ModelState::of(parts))),
+        Err(halt) => missed(halt),
+    }
+}
+
 /// Goes through a journal, entry by entry: the state that it leaves, and none exactly where it isn't lawful.
 ///
 /// Fails where memory runs out.
@@ -129,9 +91,6 @@ pub fn replay(
     ensures { IfOk result (λ r. r ≡ option_map (λ p. p.state) (replay opening.now journal.now)) }
 {
     let mut parts = first_parts(alloc, opening)?;
-    match go_through(alloc, opening, &mut parts, journal.entries()) {
-        Ok(()) => Ok(Some(ModelState::of(parts))),
-        Err(Halt::Unlawful) => Ok(None),
-        Err(Halt::NoMemory) => Err(NoMemory),
-    }
+    let ended = go_through(alloc, opening, &mut parts, journal.entries());
+    answered(ended, parts)
 }

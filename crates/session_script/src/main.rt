@@ -1,28 +1,33 @@
-//! Sessions over worlds in memory, which rows of input describe and run: each row is answered by what came of it.
+//! The interface, engines and sessions, which rows of input drive: words, lines and texts; engines with their journals and
+//! frames; and sessions over worlds in memory. Each row is answered by what came of it.
 //!
-//! The rows are those of `Plan` and of `Sessions`. What begins with `#` is said again as it stands.
+//! A row `in interface`, `in engines` or `in sessions` says which of these modules answers the rows behind it, up to the next
+//! such row. What begins with `#` is said again as it stands.
 #![tactic(auto)]
 
-mod holding;
-mod input;
-mod left;
-mod plan;
+mod engines;
+mod interface;
+mod programs;
 mod sessions;
+mod topics;
 
+use dbg_engine::{moves_mark, one_instruction_or_none};
 use script_rows::{is_remark, tell};
-use sessions::Sessions;
-use std::io;
+use std::{fs, io};
+use topics::Benches;
 
 fn main(rt: HostRuntime) -> io::Result<()> {
+    moves_mark();
+    one_instruction_or_none();
     let alloc = rt.alloc();
-    let mut sessions = Sessions::new(alloc);
+    let mut benches = Benches::new(alloc, fs::read(&rt, "lines")?);
     for row in rt.lines(alloc) {
         let row = row?;
         let text = row.as_str();
         if is_remark(text) {
             println!(rt; "{text}")?;
         } else {
-            tell(&rt, text, sessions.answer(&rt, alloc, text))?;
+            tell(&rt, text, benches.answer(&rt, alloc, text))?;
         }
     }
     Ok(())

@@ -1,10 +1,7 @@
-//! Words of the command line, lines of input, commands, records, and each text that a session puts, which rows of input ask
-//! for: each row is answered by what came of it.
-//!
-//! The rows are those of the modules' `answer`; in their texts `%` and two hexadecimal digits are a byte. A row `stored` asks of
-//! the lines of the file `data/lines`, which are all that the stored sessions put.
-#![tactic(auto)]
-
+// Words of the command line, lines of input, commands, records, and each text that a session puts.
+//
+// The rows are those of the modules' `answer`; in their texts `%` and two hexadecimal digits are a byte. A row `stored` asks of
+// the lines of the file `data/lines`, which are all that the stored sessions put.
 mod commands;
 mod contents;
 mod errors;
@@ -17,17 +14,23 @@ mod session;
 mod stops;
 mod words;
 
-use script_rows::{Bench, RowFault, play};
+use script_rows::{Bench, RowFault};
 use std::alloc::Global;
-use std::{fs, io};
 
 /// Rows work on nothing but what they say, and on the stored lines.
 #[derive(Drop)]
-struct Interface {
+pub struct InterfaceBench {
     lines: Vec<u8>,
 }
 
-impl Bench for Interface {
+impl InterfaceBench {
+    /// These are the stored lines.
+    pub fn new(lines: Vec<u8>) -> InterfaceBench {
+        InterfaceBench { lines }
+    }
+}
+
+impl Bench for InterfaceBench {
     fn answer(&mut self, alloc: Global, row: &str) -> Result<String, RowFault> {
         let (word, rest) = row.split_once(' ').unwrap_or((row, ""));
         match word {
@@ -44,9 +47,4 @@ impl Bench for Interface {
             _ => stops::answer(alloc, word, rest),
         }
     }
-}
-
-fn main(rt: HostRuntime) -> io::Result<()> {
-    let lines = fs::read(&rt, "lines")?;
-    play(&rt, rt.alloc(), &mut Interface { lines })
 }

@@ -1,5 +1,5 @@
 // Texts of a session's begin and of its threads' ends, and of what is refused before it begins.
-use crate::records::told_lines;
+use crate::interface::records::told_lines;
 use dbg_model::Entry;
 use elf_checks::{ElfFault, ElfKind};
 use mi_reports::{Event, report};

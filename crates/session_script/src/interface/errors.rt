@@ -1,6 +1,6 @@
 // Errors, by the number of their messages.
-use crate::frames::bytes;
-use crate::replies::{token_of, told_reply};
+use crate::interface::frames::bytes;
+use crate::interface::replies::{token_of, told_reply};
 use cond_expr::{ExprFault, FaultKind};
 use dbg_model::{Content, Obstacle, Refused};
 use mi_commands::{ByteList, Fault};

@@ -1,5 +1,5 @@
 // Breakpoints and watches as they are listed.
-use crate::frames::{bytes, source};
+use crate::interface::frames::{bytes, source};
 use dbg_model::{Breakpoint, Content, Row, RowList, Watch};
 use script_rows::{RowFault, number};
 use std::alloc::{AllocError, Global};

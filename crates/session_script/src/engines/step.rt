@@ -1,5 +1,5 @@
 // What a line asks for.
-use crate::programs::Load;
+use crate::engines::programs::Load;
 use script_rows::{before, number, two};
 
 /// One thing that is done with an engine, or asked of it.

@@ -1,7 +1,7 @@
 // Stops of hart 1, which is thread 2.
-use crate::frames::frame;
-use crate::listed::watch;
-use crate::session::told_event;
+use crate::interface::frames::frame;
+use crate::interface::listed::watch;
+use crate::interface::session::told_event;
 use break_table::CondError;
 use dbg_model::{Fired, ShownFrame, Watch};
 use mi_reports::{Event, Hit, Stop};

@@ -2,7 +2,7 @@ use Rattle.std.proofs.Common.{◌≡◌, true, rules, sym, ◌∙◌}
 use Rattle.dbg_model.specs.Lawful.{may_do}
 use Rattle.dbg_replay.specs.Parts.{shown}
 use Rattle.dbg_replay.proofs.Answering.{can_be_made, can_be_watched, line_comes, numbers_low}
-use Rattle.dbg_replay.proofs.lines.do_line.Goals as goal
+use Rattle.dbg_replay.proofs.lines.do_seen.Goals as goal
 
 pub effect_of-requires-clause-given : goal.effect_of-requires-clause-given
 effect_of-requires-clause-given c =

@@ -1,11 +1,11 @@
 // An engine, with what its journal is gone through by.
 ghost use Rattle.dbg_traits.specs.Settings.{AreSettings};
 
-use crate::agreement::agrees;
-use crate::journals::told_of;
-use crate::moves::{at, done, go, run, slice, told_frame, turn};
-use crate::programs::Load;
-use crate::step::Step;
+use crate::engines::agreement::agrees;
+use crate::engines::journals::told_of;
+use crate::engines::moves::{at, done, go, run, slice, told_frame, turn};
+use crate::engines::programs::Load;
+use crate::engines::step::Step;
 use dbg_answers::shown_frame;
 use dbg_engine::Engine;
 use dbg_model::Opening;

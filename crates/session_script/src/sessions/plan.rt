@@ -3,11 +3,12 @@ ghost use Rattle.std.specs.Prelude.{◌<◌, IfOk};
 ghost use Rattle.dbg_traits.specs.Told.{IsFresh};
 ghost use Rattle.dbg_traits.specs.MemWorld.{told_of};
 
-use crate::holding::Waiting;
-use crate::input;
+use crate::programs::words_file;
+use crate::sessions::holding::Waiting;
+use crate::sessions::input;
 use dbg_traits::{ArgText, Cue, Limits, MemWorld, NoMemory};
-use elf_gen::{generate, plain};
-use script_rows::{RowFault, arguments, hex_words, number, three};
+use elf_gen::generate;
+use script_rows::{RowFault, arguments, number, three};
 use std::alloc::{AllocError, Global};
 
 /// The greatest length of a read, a poll and a put, where rows give none.
@@ -58,12 +59,6 @@ pub struct Plan {
     input: Vec<Cue>,
     // The greatest lengths of one read, one poll and one put.
     most: (u32, u32, u32),
-}
-
-// The file of a program of these words.
-fn program(alloc: Global, words: &str) -> Result<Vec<u8>, RowFault> {
-    let words = hex_words(alloc, words)?;
-    Ok(plain(alloc, words.as_slice(), &[0; 4])?)
 }
 
 // The file of the generated program of a number.
@@ -129,7 +124,7 @@ impl Plan {
     /// greatest lengths of one read, one poll and one put; and rows of `input`.
     pub fn set(&mut self, alloc: Global, word: &str, rest: &str) -> Result<(), RowFault> {
         match word {
-            "program" => self.begin(alloc, Some(program(alloc, rest)?)),
+            "program" => self.begin(alloc, Some(words_file(alloc, rest)?)),
             "generated" => self.begin(alloc, Some(generated(alloc, rest)?)),
             "fileless" => self.begin(alloc, None),
             "length" => self.file = Some(lengthened(self.file.take(), rest)?),

@@ -1,16 +1,21 @@
-// Sessions, one after the other.
-use crate::holding::Holding;
-use crate::left::Left;
-use crate::plan::{Plan, Trial};
+// Sessions over worlds in memory, one after the other. The rows are those of `Plan` and of `SessionBench`.
+mod holding;
+mod input;
+mod left;
+mod plan;
+
 use dbg_session::{Ended, Status, debug_run};
-use script_rows::{RowFault, read_bytes};
+use holding::Holding;
+use left::Left;
+use plan::{Plan, Trial};
+use script_rows::{Bench, RowFault, read_bytes};
 use std::alloc::{AllocError, Global};
 use std::sync::Wait;
 use std::thread::Threads;
 
 /// The world of the next session, a text that outputs are put beside, and what is left of the last session.
 #[derive(Drop)]
-pub struct Sessions {
+pub struct SessionBench {
     plan: Plan,
     text: Vec<u8>,
     last: Option<Left>,
@@ -31,18 +36,18 @@ fn told_end(
     format!(in alloc; "{status:?}{came}")
 }
 
-impl Sessions {
+impl SessionBench {
     /// No session was run.
-    pub fn new(alloc: Global) -> Sessions {
-        Sessions {
+    pub fn new(alloc: Global) -> SessionBench {
+        SessionBench {
             plan: Plan::new(alloc),
             text: Vec::new(alloc),
             last: None,
         }
     }
 
-    // Runs a session, whose world and gate are as a row says.
-    fn run<R: Threads + Wait + Sync>(
+    /// Runs a session, whose world and gate are as the rest of a row `run TRIAL` says, which `Trial::read` reads.
+    pub fn run<R: Threads + Wait + Sync>(
         &mut self,
         rt: &R,
         alloc: Global,
@@ -78,18 +83,14 @@ impl Sessions {
         }
         Ok(String::from_str(alloc, "set")?)
     }
+}
 
-    /// What came of a row: `run TRIAL` runs a session, as `Trial::read` reads the rest; `text BYTES` is what outputs are put
-    /// beside; the others are rows of `Left` or of `Plan`.
-    pub fn answer<R: Threads + Wait + Sync>(
-        &mut self,
-        rt: &R,
-        alloc: Global,
-        row: &str,
-    ) -> Result<String, RowFault> {
+impl Bench for SessionBench {
+    /// What came of a row that runs no session: `text BYTES` is what outputs are put beside; the others are rows of `Left` or
+    /// of `Plan`.
+    fn answer(&mut self, alloc: Global, row: &str) -> Result<String, RowFault> {
         let (word, rest) = row.split_once(' ').unwrap_or((row, ""));
         match word {
-            "run" => self.run(rt, alloc, rest),
             "size" | "output" | "journal" | "count" | "hart" | "executed" => {
                 self.asked(alloc, word, rest)
             }

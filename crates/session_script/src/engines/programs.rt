@@ -2,12 +2,13 @@
 ghost use Rattle.std.specs.Prelude.{IfSome, IsTrue};
 ghost use Rattle.dbg_traits.specs.Settings.{AreSettings};
 
+use crate::programs::words_file;
 use dbg_model::Opening;
 use dbg_traits::Settings;
-use elf_gen::{generate, plain};
 use elf_checks::read_image;
+use elf_gen::generate;
 use elf32_read::Image;
-use script_rows::{before, hex_words, number};
+use script_rows::{before, number};
 use std::alloc::Global;
 
 /// The settings of a program that is made.
@@ -114,7 +115,7 @@ fn are_in_range(settings: Settings) -> bool
 // The file of a program. None where it is none, or memory runs out.
 fn file_of(alloc: Global, source: Source<'_>) -> Option<Vec<u8>> {
     match source {
-        Source::Words(text) => plain(alloc, hex_words(alloc, text).ok()?.as_slice(), &[0; 4]).ok(),
+        Source::Words(text) => words_file(alloc, text).ok(),
         Source::File(text) => hex::decode(alloc, text).ok(),
         Source::Number(number) => generate(alloc, number).ok(),
     }

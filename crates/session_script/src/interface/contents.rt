@@ -1,6 +1,6 @@
 // What is answered to lines.
-use crate::frames::frame;
-use crate::listed;
+use crate::interface::frames::frame;
+use crate::interface::listed;
 use dbg_model::{Content, FrameList, Register, RegisterList, Thread, ThreadList};
 use mi_commands::{ByteList, Displaced, Format, NumberList};
 use script_rows::{RowFault, before, number, read_bytes};

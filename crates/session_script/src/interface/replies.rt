@@ -1,6 +1,6 @@
 // Replies as they are put.
-use crate::contents::content;
-use crate::session::told_event;
+use crate::interface::contents::content;
+use crate::interface::session::told_event;
 use dbg_model::{Content, Reply};
 use mi_reports::Event;
 use mi_values::{Token, is_token};

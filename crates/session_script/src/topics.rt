@@ -1,0 +1,74 @@
+// What rows are about, and what answers them.
+use crate::engines::EngineBench;
+use crate::interface::InterfaceBench;
+use crate::sessions::SessionBench;
+use script_rows::{Bench, RowFault};
+use std::alloc::Global;
+use std::sync::Wait;
+use std::thread::Threads;
+
+/// What the rows that follow are about.
+#[derive(Clone, Copy)]
+enum Topic {
+    Interface,
+    Engines,
+    Sessions,
+}
+
+impl Topic {
+    // The topic of a row `in TOPIC`.
+    fn named(name: &str) -> Option<Topic> {
+        match name {
+            "interface" => Some(Topic::Interface),
+            "engines" => Some(Topic::Engines),
+            "sessions" => Some(Topic::Sessions),
+            _ => None,
+        }
+    }
+}
+
+/// A bench for each topic, and the topic whose bench answers.
+#[derive(Drop)]
+pub struct Benches {
+    interface: InterfaceBench,
+    engines: EngineBench,
+    sessions: SessionBench,
+    topic: Topic,
+}
+
+impl Benches {
+    /// Benches on which nothing was done, over the lines that the stored sessions put.
+    pub fn new(alloc: Global, lines: Vec<u8>) -> Benches {
+        Benches {
+            interface: InterfaceBench::new(lines),
+            engines: EngineBench::new(),
+            sessions: SessionBench::new(alloc),
+            topic: Topic::Interface,
+        }
+    }
+
+    // Turns to a topic.
+    fn turn_to(&mut self, alloc: Global, name: &str) -> Result<String, RowFault> {
+        self.topic = Topic::named(name).ok_or(RowFault::Unknown)?;
+        Ok(format!(in alloc; "from here on")?)
+    }
+
+    /// What came of a row, as a text of one line.
+    pub fn answer<R: Threads + Wait + Sync>(
+        &mut self,
+        rt: &R,
+        alloc: Global,
+        row: &str,
+    ) -> Result<String, RowFault> {
+        let (word, rest) = row.split_once(' ').unwrap_or((row, ""));
+        if word == "in" {
+            return self.turn_to(alloc, rest);
+        }
+        match self.topic {
+            Topic::Interface => self.interface.answer(alloc, row),
+            Topic::Engines => self.engines.answer(alloc, row),
+            Topic::Sessions if word == "run" => self.sessions.run(rt, alloc, rest),
+            Topic::Sessions => self.sessions.answer(alloc, row),
+        }
+    }
+}
