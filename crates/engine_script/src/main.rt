@@ -13,6 +13,7 @@ mod programs;
 mod rows;
 mod step;
 mod subject;
+mod turns;
 
 use dbg_engine::{moves_mark, one_instruction_or_none};
 use programs::Load;
