@@ -1,7 +1,7 @@
 // The ends of a session.
 
 /// Why a session is over.
-#[derive(Clone, Copy, Debug)]
+#[derive(Clone, Copy)]
 pub enum End {
     /// The retired instructions number the budget.
     Budget,

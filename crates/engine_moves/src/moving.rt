@@ -13,7 +13,7 @@ use rv_exec::{Cause, Stepped};
 use step_plans::Plan;
 
 /// What a turn of a hart did.
-#[derive(Clone, Copy, Debug)]
+#[derive(Clone, Copy)]
 pub enum Turned {
     /// The session is over.
     Over,

@@ -8,6 +8,7 @@ mod moves;
 mod programs;
 mod step;
 mod subject;
+mod turns;
 
 use programs::Load;
 use script_rows::{Bench, RowFault};

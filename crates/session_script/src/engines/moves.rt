@@ -1,6 +1,7 @@
 // What is done with an engine, and what came of it.
 ghost use Rattle.std.specs.Prelude.{◌<◌, ◌≤◌, IsTrue, length};
 
+use crate::engines::turns::told_turn;
 use dbg_answers::read_line;
 use dbg_engine::{Commit, Engine, SPARE};
 use dbg_model::{Content, ShownFrame};
@@ -45,8 +46,7 @@ pub fn turn(alloc: Global, engine: &mut Engine, hart: u32) -> Result<String, All
     if !is_ready(engine, hart) {
         return format!(in alloc; "no such hart");
     }
-    let turned = engine.turn(hart);
-    format!(in alloc; "{turned:?}")
+    told_turn(alloc, engine.turn(hart))
 }
 
 /// Turns of a hart in one call.

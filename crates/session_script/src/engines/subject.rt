@@ -6,6 +6,7 @@ use crate::engines::journals::told_of;
 use crate::engines::moves::{at, done, go, run, slice, told_frame, turn};
 use crate::engines::programs::Load;
 use crate::engines::step::Step;
+use crate::engines::turns::told_end;
 use dbg_answers::shown_frame;
 use dbg_engine::Engine;
 use dbg_model::Opening;
@@ -53,8 +54,8 @@ fn shown(alloc: Global, engine: &Engine, step: Step<'_>) -> Result<String, Alloc
             format!(in alloc; "{next:?}")
         }
         Step::Over => {
-            let end = engine.over();
-            format!(in alloc; "{end:?}")
+            let told = told_end(engine.over());
+            format!(in alloc; "{told}")
         }
         _ => format!(in alloc; "loaded"),
     }
