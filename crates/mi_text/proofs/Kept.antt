@@ -1,6 +1,7 @@
 -- What was there before a writing stays at the front.
 use Rattle.std.proofs.Common.{◌≡◌, ℕ, List, [], ◌∷◌, ◌++◌, sym, ap, ◌∙◌, append_assoc, take, length, refl}
 use Rattle.std.proofs.lemmas.List.{append-nil}
+use Rattle.std.specs.Prelude.{Bool, true, false, if◌then◌else◌}
 use Rattle.mi_text.specs.Keeps.{Keeps}
 
 pub keeps_same : (a b : List ℕ) → b ≡ a → Keeps a b
@@ -17,6 +18,11 @@ keeps_pushed a b c x k e = keeps_on a b c k (keeps_more b c x e)
 
 pub keeps_still : (a b c : List ℕ) → Keeps a b → c ≡ b → Keeps a c
 keeps_still a b c k e = keeps_on a b c k (keeps_same b c e)
+
+-- more came, or nothing changed
+pub keeps_either : (a b x : List ℕ) (more : Bool) → b ≡ (if more then a ++ x else a) → Keeps a b
+keeps_either a b x true e = keeps_more a b x e
+keeps_either a b x false e = keeps_same a b e
 
 -- cut to its old length, the list is the old one
 pub keeps_front : (a b : List ℕ) → Keeps a b → take (length a) b ≡ a

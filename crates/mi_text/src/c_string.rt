@@ -1,31 +1,38 @@
 //! C strings as they are written: one spelling for each text.
 
-ghost use Rattle.std.specs.Prelude.{◌≡◌, ◌++◌, OnOk};
+ghost use Rattle.std.specs.Prelude.{◌≡◌, ◌+◌, ◌/◌, ◌%◌, [], ◌∷◌, ◌++◌, OnOk};
 ghost use Rattle.std.specs.List.{list_all};
 ghost use Rattle.mi_text.specs.CString.{escaped, escapes, c_string, AreBytes, is_own};
 ghost use Rattle.mi_text.specs.Keeps.{Keeps};
 
 use std::alloc::AllocError;
 
-/// Puts one byte's spelling at the end.
+// How a byte is spelled, where `own` is the byte itself and `octal` a `\` and its three octal digits.
 #[tactic(auto, unfolding(crate::specs::CString::escaped))]
+fn spelled<'a>(b: u8, own: &'a [u8], octal: &'a [u8]) -> &'a [u8]
+    requires itself { own.now ≡ b ∷ [] }
+    requires digits { octal.now ≡ 92 ∷ (48 + b / 64) ∷ (48 + b / 8 % 8) ∷ (48 + b % 8) ∷ [] }
+    ensures { result.now ≡ escaped b }
+{
+    match b {
+        b'"' => b"\\\"",
+        b'\\' => b"\\\\",
+        b'\n' => b"\\n",
+        b'\r' => b"\\r",
+        b'\t' => b"\\t",
+        0x20..=0x7E => own,
+        _ => octal,
+    }
+}
+
+/// Puts one byte's spelling at the end.
 fn write_byte(b: u8, into: &mut Vec<u8>) -> Result<(), AllocError>
     ensures written { OnOk result (into.new.items ≡ into.old.items ++ escaped b) }
     ensures kept { Keeps into.old.items into.new.items }
 {
-    match b {
-        b'"' => into.extend_from_slice(b"\\\"")?,
-        b'\\' => into.extend_from_slice(b"\\\\")?,
-        b'\n' => into.extend_from_slice(b"\\n")?,
-        b'\r' => into.extend_from_slice(b"\\r")?,
-        b'\t' => into.extend_from_slice(b"\\t")?,
-        0x20..=0x7E => into.push(b)?,
-        _ => {
-            let octal = [b'\\', b'0' + b / 64, b'0' + b / 8 % 8, b'0' + b % 8];
-            into.extend_from_slice(&octal)?;
-        }
-    }
-    Ok(())
+    let own = [b];
+    let octal = [b'\\', b'0' + b / 64, b'0' + b / 8 % 8, b'0' + b % 8];
+    into.extend_from_slice(spelled(b, &own, &octal))
 }
 
 // Whether a byte's spelling is the byte.
