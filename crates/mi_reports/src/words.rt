@@ -147,10 +147,17 @@ pub enum Phrase {
 }
 
 /// The text of a key, which is a name.
-#[tactic(auto, unfolding(crate::specs::Words::key_text))]
 pub fn name(key: Key) -> &'static str
     ensures text { result.now ≡ key_text key }
     ensures name { is_name result.now ≡ true }
+{
+    text_of(key)
+}
+
+// The text of a key. That it is a name is proved of all of them at once.
+#[tactic(auto, unfolding(crate::specs::Words::key_text))]
+fn text_of(key: Key) -> &'static str
+    ensures { result.now ≡ key_text key }
 {
     match key {
         Key::Done => "done",
