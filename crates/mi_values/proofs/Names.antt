@@ -1,6 +1,5 @@
 -- Reading a name as far as it goes.
-use Rattle.std.proofs.Common.{◌≡◌, ℕ, ◌<◌, ◌≤◌, Err, List, [], ◌∷◌, ◌++◌, length, true, false, refl, sym, ap, subst, ◌∙◌, append_assoc, arith}
-use Rattle.std.proofs.lemmas.List.{length-append}
+use Rattle.std.proofs.Common.{◌≡◌, ℕ, ◌<◌, Err, List, [], ◌∷◌, ◌++◌, length, true, false, refl, sym, ap, subst, ◌∙◌, append_assoc, arith}
 use Rattle.mi_values.specs.Name.{is_name, is_name_byte, are_name_bytes}
 use Rattle.mi_text.specs.declared.fault.ReadFault.{ReadFault}
 use Rattle.mi_text.specs.declared.fault.ReadFault.TheVariants as failures
@@ -39,9 +38,6 @@ munch (c ∷ a) (d ∷ b) rest r ha hb stop e =
     let q = both (is_name_byte d) (are_name_bytes b) hb in
     let ih = munch a b rest r p.1 q.1 stop cc in
     let heads : c ≡ d = cc in let tails : a ≡ b = ih.0 in (cc, ih.1)
-
-pub name_shorter : (bytes rest name : List ℕ) → Naming bytes rest name → length rest ≤ length bytes
-name_shorter bytes rest name n = omega (arith, ap length n.so_far, length-append name rest)
 
 -- nothing was read, and no name goes on
 pub empty_word : (bytes rest name : List ℕ) → Naming bytes rest name → length name ≡ 0 → StopsName rest → StopsName bytes

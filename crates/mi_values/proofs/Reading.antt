@@ -1,6 +1,7 @@
 -- Reading values one after the other.
-use Rattle.std.proofs.Common.{◌≡◌, ℕ, ◌-◌, ◌<◌, List, [], ◌∷◌, ◌++◌, true, false, refl, sym, ap, subst, ◌∙◌, append_assoc, arith, Err}
+use Rattle.std.proofs.Common.{◌≡◌, ℕ, ◌-◌, ◌<◌, List, [], ◌∷◌, ◌++◌, length, true, false, refl, sym, ap, subst, ◌∙◌, append_assoc, arith, Err}
 use Rattle.std.proofs.lemmas.Bool.{ne_eqb}
+use Rattle.std.proofs.lemmas.List.{length-append}
 use Rattle.std.specs.Global.{Vec}
 use Rattle.mi_text.specs.CString.{c_string}
 use Rattle.mi_text.specs.declared.fault.ReadFault.{ReadFault}
@@ -86,6 +87,10 @@ listing_turns bytes rest more next d vs vs' v l e h comma_is pushed =
       are_proper = proper-push vs v d l.are_proper h;
       only = λ ws r g f. let n = l.only ws r g f in later_next next r d n.later n.are_proper (sym comma_is ∙ behind_value rest more r d (value_view v) e h n);
     })
+
+-- a turn goes forward
+pub value_later : (rest more next : List ℕ) (v : Tree) → rest ≡ value_bytes v ++ more → more ≡ 44 ∷ next → length next < length rest
+value_later rest more next v e f = omega (arith, ap length e, length-append (value_bytes v) more, ap length f)
 
 closes_with : (end : List ℕ) → 93 ∷ end ≡ items_from true no_item ++ end
 unfolding value_bytes
@@ -204,6 +209,9 @@ fields_turn close bytes rest more next d fs fs' f c l e hn h comma_is pushed =
       are_proper = fields_proper-push fs f d l.are_proper hn h;
       only = λ ws r g q. let n = l.only ws r g q in later_field close next r d n.later c n.are_proper (sym comma_is ∙ behind_field close rest more r d f.0 (value_view f.1) e hn h n);
     })
+
+pub field_later : (rest more next n : List ℕ) (v : Tree) → rest ≡ field_text n v more → more ≡ 44 ∷ next → length next < length rest
+field_later rest more next n v e f = omega (arith, ap length e, length-append n (61 ∷ (value_bytes v ++ more)), length-append (value_bytes v) more, ap length f)
 
 closes_fields : (close : ℕ) (end : List ℕ) → close ∷ end ≡ fields_from close true no_field ++ end
 unfolding value_bytes

@@ -48,14 +48,13 @@ fields-more close started xs i x lt e =
     let here : drop i xs ≡ x ∷ drop (i + 1) xs = drop_more xs i x lt ∙ ap (λ (y : F). y ∷ drop (i + 1) xs) (sym e) in
     ap (λ (ys : List F). fields_from close started (fields_view ys)) here
 
-pub field_written : (close : ℕ) (started : Bool) (xs : List F) (i : ℕ) (x : F) (old middle with_name with_sign new total : List ℕ) → i < length xs → x ≡ get_or xs i x → middle ≡ old ++ comma started → with_name ≡ middle ++ x.0
-    → with_sign ≡ with_name ++ 61 ∷ [] → new ≡ with_sign ++ value_bytes (value_view x.1)
+pub field_written : (close : ℕ) (started : Bool) (xs : List F) (i : ℕ) (x : F) (old signed new total : List ℕ) → i < length xs → x ≡ get_or xs i x → signed ≡ old ++ (comma started ++ (x.0 ++ 61 ∷ [])) → new ≡ signed ++ value_bytes (value_view x.1)
     → old ++ fields_from close started (fields_view (drop i xs)) ≡ total → new ++ fields_from close true (fields_view (drop (i + 1) xs)) ≡ total
-field_written close started xs i x old middle with_name with_sign new total lt e one two three four so_far =
+field_written close started xs i x old signed new total lt e one two so_far =
     let later = fields_from close true (fields_view (drop (i + 1) xs)) in
     let mine = value_bytes (value_view x.1) in
     let joined : new ++ later ≡ old ++ (comma started ++ (x.0 ++ (61 ∷ (mine ++ later)))) =
-    ap (λ (l : List ℕ). l ++ later) (four ∙ ap (λ (l : List ℕ). l ++ mine) (three ∙ ap (λ (l : List ℕ). l ++ 61 ∷ []) (two ∙ ap (λ (l : List ℕ). l ++ x.0) one))) ∙ simp append_assoc in
+    ap (λ (l : List ℕ). l ++ later) (two ∙ ap (λ (l : List ℕ). l ++ mine) one) ∙ simp append_assoc in
     joined ∙ ap (λ (l : List ℕ). old ++ l) (sym (fields-more close started xs i x lt e)) ∙ so_far
 
 pub Text-bytes : (t : Vec ℕ) → value_bytes (value_view (Text t)) ≡ c_string t.items
@@ -78,16 +77,16 @@ pub opened : (b : ℕ) (old middle new rest total : List ℕ) → middle ≡ old
 opened b old middle new rest total one two three =
     three ∙ ap (λ (l : List ℕ). l ++ rest) one ∙ append_assoc old (b ∷ []) rest ∙ ap (λ (l : List ℕ). old ++ l) (sym two)
 
-pub items_closed : (started : Bool) (xs ys : List Value) (i : ℕ) (old new total : List ℕ) → length xs ≤ i → new ≡ old ++ 93 ∷ [] → old ++ items_from started (items_view (drop i xs)) ≡ total ++ items_from false (items_view xs) → xs ≡ ys
+pub items_closed : (started : Bool) (xs ys : List Value) (i : ℕ) (old new total : List ℕ) → length xs ≤ i → old ++ items_from started (items_view (drop i xs)) ≡ total ++ items_from false (items_view xs) → xs ≡ ys → new ≡ old ++ 93 ∷ []
     → new ≡ total ++ items_from false (items_view ys)
 unfolding value_bytes
-items_closed started xs ys i old new total le e so_far same =
+items_closed started xs ys i old new total le so_far same e =
     e ∙ ap (λ (l : List Value). old ++ items_from started (items_view l)) (sym (drop_past xs i le)) ∙ so_far ∙ ap (λ (l : List Value). total ++ items_from false (items_view l)) same
 
-pub fields_closed : (close : ℕ) (first started : Bool) (xs ys : List F) (i : ℕ) (old new total : List ℕ) → length xs ≤ i → new ≡ old ++ close ∷ [] → old ++ fields_from close started (fields_view (drop i xs)) ≡ total ++ fields_from close first (fields_view xs) → xs ≡ ys
+pub fields_closed : (close : ℕ) (first started : Bool) (xs ys : List F) (i : ℕ) (old new total : List ℕ) → length xs ≤ i → old ++ fields_from close started (fields_view (drop i xs)) ≡ total ++ fields_from close first (fields_view xs) → xs ≡ ys → new ≡ old ++ close ∷ []
     → new ≡ total ++ fields_from close first (fields_view ys)
 unfolding value_bytes
-fields_closed close first started xs ys i old new total le e so_far same =
+fields_closed close first started xs ys i old new total le so_far same e =
     e ∙ ap (λ (l : List F). old ++ fields_from close started (fields_view l)) (sym (drop_past xs i le)) ∙ so_far ∙ ap (λ (l : List F). total ++ fields_from close first (fields_view l)) same
 
 pub after_sign : (old front signed new token rest total : List ℕ) (sign : ℕ) → total ≡ token ++ (sign ∷ rest) → front ≡ old ++ token → signed ≡ front ++ sign ∷ [] → new ≡ signed ++ rest → new ≡ old ++ total

@@ -1,6 +1,6 @@
 //! Values, read from the front.
 
-ghost use Rattle.std.specs.Prelude.{◌≡◌, ℕ, ◌<◌, ◌≤◌, List, ◌∷◌, length, IfOk, MatchOption, true, false};
+ghost use Rattle.std.specs.Prelude.{◌≡◌, ℕ, List, ◌∷◌, MatchOption, true, false};
 ghost use Rattle.mi_values.specs.Name.{is_name_byte};
 ghost use Rattle.mi_values.specs.Reads.{ReadsWord, ReadsName, ReadsField, ReadsValue, ReadsItems, ReadsFields, begins_item, is_close};
 
@@ -23,8 +23,7 @@ fn name_byte(bytes: &[u8]) -> Option<(u8, &[u8])>
 
 /// The longest name at the front, and the bytes behind it.
 pub fn read_word(alloc: Global, bytes: &[u8]) -> Result<(Name, &[u8]), ReadFault>
-    ensures reads { ReadsWord bytes.now result }
-    ensures shorter { IfOk result (λ r. length r.1.now ≤ length bytes.now) }
+    ensures { ReadsWord bytes.now result }
 {
     let mut name = Vec::new(alloc);
     let mut rest = bytes;
@@ -40,8 +39,7 @@ pub fn read_word(alloc: Global, bytes: &[u8]) -> Result<(Name, &[u8]), ReadFault
 
 /// The name at the front, and the bytes behind its `=`.
 fn read_name(alloc: Global, bytes: &[u8]) -> Result<(Name, &[u8]), ReadFault>
-    ensures reads { ReadsName bytes.now result }
-    ensures shorter { IfOk result (λ r. length r.1.now < length bytes.now) }
+    ensures { ReadsName bytes.now result }
 {
     let (name, rest) = read_word(alloc, bytes)?;
     let Some(end) = after(rest, b'=') else {
@@ -62,8 +60,7 @@ fn begins_item(bytes: &[u8]) -> bool
 /// The value at the front, and the bytes behind it. Values nest at most `depth` deep.
 #[cycle(read)]
 fn read_value(alloc: Global, bytes: &[u8], depth: u32) -> Result<(Value, &[u8]), ReadFault>
-    ensures reads { ReadsValue bytes.now depth result }
-    ensures shorter { IfOk result (λ r. length r.1.now < length bytes.now) }
+    ensures { ReadsValue bytes.now depth result }
 {
     if depth == 0 {
         return Err(ReadFault::Text);
@@ -87,8 +84,7 @@ fn read_value(alloc: Global, bytes: &[u8], depth: u32) -> Result<(Value, &[u8]),
 /// The values up to the closing bracket.
 #[cycle(read)]
 fn read_items(alloc: Global, bytes: &[u8], depth: u32) -> Result<(Vec<Value>, &[u8]), ReadFault>
-    ensures reads { ReadsItems bytes.now depth result }
-    ensures shorter { IfOk result (λ r. length r.1.now < length bytes.now) }
+    ensures { ReadsItems bytes.now depth result }
 {
     let mut values = Vec::new(alloc);
     if let Some(end) = after(bytes, b']') {
@@ -111,8 +107,7 @@ fn read_items(alloc: Global, bytes: &[u8], depth: u32) -> Result<(Vec<Value>, &[
 /// The field at the front.
 #[cycle(read)]
 fn read_field(alloc: Global, bytes: &[u8], depth: u32) -> Result<((Name, Value), &[u8]), ReadFault>
-    ensures reads { ReadsField bytes.now depth result }
-    ensures shorter { IfOk result (λ r. length r.1.now < length bytes.now) }
+    ensures { ReadsField bytes.now depth result }
 {
     let (name, rest) = read_name(alloc, bytes)?;
     let (value, rest) = read_value(alloc, rest, depth)?;
@@ -128,8 +123,7 @@ pub fn read_fields(
     depth: u32,
 ) -> Result<(Vec<(Name, Value)>, &[u8]), ReadFault>
     requires { is_close close ≡ true }
-    ensures reads { ReadsFields close bytes.now depth result }
-    ensures shorter { IfOk result (λ r. length r.1.now < length bytes.now) }
+    ensures { ReadsFields close bytes.now depth result }
 {
     let mut fields = Vec::new(alloc);
     if let Some(end) = after(bytes, close) {

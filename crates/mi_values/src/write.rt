@@ -1,6 +1,6 @@
 //! Writing.
 
-ghost use Rattle.std.specs.Prelude.{◌≡◌, ◌++◌, OnOk, OnErr, true, false};
+ghost use Rattle.std.specs.Prelude.{◌≡◌, [], ◌∷◌, ◌++◌, OnOk, OnErr, true, false};
 ghost use Rattle.mi_values.specs.Name.{is_name};
 ghost use Rattle.mi_values.specs.Tree.{value_view, items_view, fields_view};
 ghost use Rattle.mi_values.specs.Spelling.{comma, value_bytes, items_from, fields_from};
@@ -49,6 +49,25 @@ fn separate(started: bool, into: &mut Vec<u8>) -> Result<(), AllocError>
     Ok(())
 }
 
+/// Puts a byte at the end.
+fn write_byte(byte: u8, into: &mut Vec<u8>) -> Result<(), AllocError>
+    ensures written { OnOk result (into.new.items ≡ into.old.items ++ byte ∷ []) }
+    ensures kept { Keeps into.old.items into.new.items }
+{
+    into.push(byte)?;
+    Ok(())
+}
+
+/// Puts a field's name and its `=` at the end.
+fn write_name(started: bool, name: &Name, into: &mut Vec<u8>) -> Result<(), AllocError>
+    ensures written { OnOk result (into.new.items ≡ into.old.items ++ (comma started ++ (name.now ++ 61 ∷ []))) }
+    ensures kept { Keeps into.old.items into.new.items }
+{
+    separate(started, into)?;
+    into.extend_from_slice(name.as_bytes())?;
+    write_byte(b'=', into)
+}
+
 #[cycle(write)]
 fn write_items(values: &Vec<Value>, into: &mut Vec<u8>) -> Result<(), AllocError>
     ensures written { OnOk result (into.new.items ≡ into.old.items ++ items_from false (items_view values.now.items)) }
@@ -60,8 +79,7 @@ fn write_items(values: &Vec<Value>, into: &mut Vec<u8>) -> Result<(), AllocError
         write_value(value, into)?;
         started = true;
     }
-    into.push(b']')?;
-    Ok(())
+    write_byte(b']', into)
 }
 
 /// Puts the fields and the closing byte at the end; a comma comes before the first where one stands before.
@@ -76,14 +94,11 @@ fn write_fields(
     ensures kept { Keeps into.old.items into.new.items }
 {
     for field in fields {
-        separate(started, into)?;
-        into.extend_from_slice(field.0.as_bytes())?;
-        into.push(b'=')?;
+        write_name(started, &field.0, into)?;
         write_value(&field.1, into)?;
         started = true;
     }
-    into.push(close)?;
-    Ok(())
+    write_byte(close, into)
 }
 
 // The first byte of a notice.

@@ -11,4 +11,4 @@ pub returns-in-Some-after-2 : goal.returns-in-Some-after-2
 returns-in-Some-after-2 c = tail_bare c.args.bytes.now c.in-Some-after.inner.now c.in-Some-after-2.field-0.now c.in-Some-after.ensures c.in-Some-after-2.ensures
 
 pub returns : goal.returns
-returns c = tail_read c.args.bytes.now c.in-Some-after.inner.now c.read_fields.result c.in-Some-after.ensures c.in_default-after-2.ensures c.read_fields.ensures.reads
+returns c = tail_read c.args.bytes.now c.in-Some-after.inner.now c.read_fields.result c.in-Some-after.ensures c.in_default-after-2.ensures c.read_fields.ensures

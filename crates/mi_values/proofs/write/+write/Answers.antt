@@ -4,24 +4,22 @@ use Rattle.mi_text.specs.CString.{c_string}
 use Rattle.mi_values.specs.Tree.{value_view}
 use Rattle.mi_values.specs.Spelling.{value_bytes}
 use Rattle.mi_values.specs.declared.value.Value.{Value}
-use Rattle.mi_text.proofs.Kept.{keeps_more, keeps_on, keeps_pushed, keeps_still}
+use Rattle.mi_text.proofs.Kept.{keeps_more, keeps_on}
 use Rattle.mi_values.proofs.Written.{item_written, field_written, items_closed, fields_closed, opened, Text-bytes, Items-bytes, Tuple-bytes, Named-bytes}
 use Rattle.mi_values.proofs.write.+write.Goals as goal
 
 pub write_fields-loop-field-preserved : goal.write_fields-loop-field-preserved
-write_fields-loop-field-preserved t c =
-    let e = c.in_ok-extend_from_slice.ensures.items in
-    let separated = keeps_on _ _ _ c.loop-field.invariant.1 c.in_ok-separate.ensures.kept in
-    let signed = keeps_pushed _ _ _ _ (keeps_pushed _ _ _ _ separated e) c.in_ok-push.ensures.items in (
-      field_written c.args.close c.loop-field.started c.deref-field-items.result.now c.loop-field.field-index c.field-item.result _ _ _ _ _ _ (omega arith) c.field-item.is c.in_ok-separate.ensures.written (rw (← c.as_bytes.ensures.value) e)
-          c.in_ok-push.ensures.items c.in_ok-write_value.ensures.written c.loop-field.invariant.0,
-      keeps_on _ _ _ signed c.in_ok-write_value.ensures.kept,
-    )
+write_fields-loop-field-preserved t c = (
+  field_written c.args.close c.loop-field.started c.deref-field-items.result.now c.loop-field.field-index c.field-item.result _ _ _ _ (omega arith) c.field-item.is c.in_ok-write_name.ensures.written c.in_ok-write_value.ensures.written
+      c.loop-field.invariant.0,
+  keeps_on _ _ _ (keeps_on _ _ _ c.loop-field.invariant.1 c.in_ok-write_name.ensures.kept) c.in_ok-write_value.ensures.kept,
+)
 
 pub write_fields-returns : goal.write_fields-returns
 write_fields-returns t c = record {
-  written = fields_closed c.args.close c.args.started c.loop-field.started c.deref-field-items.result.now _ c.loop-field.field-index _ _ _ (omega arith) c.in_ok-push-2.ensures.items c.loop-field.invariant.0 c.deref-field-items.ensures.value;
-  kept = keeps_pushed _ _ _ _ c.loop-field.invariant.1 c.in_ok-push-2.ensures.items;
+  written = on_ok_weaker c.write_byte.result (fields_closed c.args.close c.args.started c.loop-field.started c.deref-field-items.result.now _ c.loop-field.field-index _ _ _ (omega arith) c.loop-field.invariant.0 c.deref-field-items.ensures.value)
+      c.write_byte.ensures.written;
+  kept = keeps_on _ _ _ c.loop-field.invariant.1 c.write_byte.ensures.kept;
 }
 
 pub write_items-loop-value-preserved : goal.write_items-loop-value-preserved
@@ -32,30 +30,16 @@ write_items-loop-value-preserved t c = (
 
 pub write_items-returns : goal.write_items-returns
 write_items-returns t c = record {
-  written = items_closed c.loop-value.started c.deref-value-items.result.now _ c.loop-value.value-index _ _ _ (omega arith) c.in_ok-push.ensures.items c.loop-value.invariant.0 c.deref-value-items.ensures.value;
-  kept = keeps_pushed _ _ _ _ c.loop-value.invariant.1 c.in_ok-push.ensures.items;
+  written = on_ok_weaker c.write_byte.result (items_closed c.loop-value.started c.deref-value-items.result.now _ c.loop-value.value-index _ _ _ (omega arith) c.loop-value.invariant.0 c.deref-value-items.ensures.value) c.write_byte.ensures.written;
+  kept = keeps_on _ _ _ c.loop-value.invariant.1 c.write_byte.ensures.kept;
 }
 
-pub write_fields-returns-in_err-separate-clause-kept : goal.write_fields-returns-in_err-separate-clause-kept
-write_fields-returns-in_err-separate-clause-kept t c = keeps_on _ _ _ c.loop-field.invariant.1 c.in_err-separate.ensures.kept
-
-pub write_fields-returns-in_err-extend_from_slice-clause-kept : goal.write_fields-returns-in_err-extend_from_slice-clause-kept
-write_fields-returns-in_err-extend_from_slice-clause-kept t c =
-    keeps_still _ _ _ (keeps_on _ _ _ c.loop-field.invariant.1 c.in_ok-separate.ensures.kept) c.in_err-extend_from_slice.ensures.items
-
-pub write_fields-returns-in_err-push-clause-kept : goal.write_fields-returns-in_err-push-clause-kept
-write_fields-returns-in_err-push-clause-kept t c =
-    let separated = keeps_on _ _ _ c.loop-field.invariant.1 c.in_ok-separate.ensures.kept in
-    keeps_still _ _ _ (keeps_pushed _ _ _ _ separated c.in_ok-extend_from_slice.ensures.items) c.in_err-push.ensures.items
+pub write_fields-returns-in_err-write_name-clause-kept : goal.write_fields-returns-in_err-write_name-clause-kept
+write_fields-returns-in_err-write_name-clause-kept t c = keeps_on _ _ _ c.loop-field.invariant.1 c.in_err-write_name.ensures.kept
 
 pub write_fields-returns-in_err-write_value-clause-kept : goal.write_fields-returns-in_err-write_value-clause-kept
 write_fields-returns-in_err-write_value-clause-kept t c =
-    let separated = keeps_on _ _ _ c.loop-field.invariant.1 c.in_ok-separate.ensures.kept in
-    let signed = keeps_pushed _ _ _ _ (keeps_pushed _ _ _ _ separated c.in_ok-extend_from_slice.ensures.items) c.in_ok-push.ensures.items in
-    keeps_on _ _ _ signed c.in_err-write_value.ensures.kept
-
-pub write_fields-returns-in_err-push-2-clause-kept : goal.write_fields-returns-in_err-push-2-clause-kept
-write_fields-returns-in_err-push-2-clause-kept t c = keeps_still _ _ _ c.loop-field.invariant.1 c.in_err-push-2.ensures.items
+    keeps_on _ _ _ (keeps_on _ _ _ c.loop-field.invariant.1 c.in_ok-write_name.ensures.kept) c.in_err-write_value.ensures.kept
 
 pub write_items-returns-in_err-separate-clause-kept : goal.write_items-returns-in_err-separate-clause-kept
 write_items-returns-in_err-separate-clause-kept t c = keeps_on _ _ _ c.loop-value.invariant.1 c.in_err-separate.ensures.kept
@@ -63,9 +47,6 @@ write_items-returns-in_err-separate-clause-kept t c = keeps_on _ _ _ c.loop-valu
 pub write_items-returns-in_err-write_value-clause-kept : goal.write_items-returns-in_err-write_value-clause-kept
 write_items-returns-in_err-write_value-clause-kept t c =
     keeps_on _ _ _ (keeps_on _ _ _ c.loop-value.invariant.1 c.in_ok-separate.ensures.kept) c.in_err-write_value.ensures.kept
-
-pub write_items-returns-in_err-push-clause-kept : goal.write_items-returns-in_err-push-clause-kept
-write_items-returns-in_err-push-clause-kept t c = keeps_still _ _ _ c.loop-value.invariant.1 c.in_err-push.ensures.items
 
 pub write_value-returns-in-Text-clause-written : goal.write_value-returns-in-Text-clause-written
 write_value-returns-in-Text-clause-written t c =
