@@ -1,7 +1,7 @@
 -- What was there before a writing stays at the front.
-use Rattle.std.proofs.Common.{◌≡◌, ℕ, List, [], ◌∷◌, ◌++◌, sym, ap, ◌∙◌, append_assoc, take, length, refl}
+use Rattle.std.proofs.Common.{◌≡◌, ℕ, Bool, true, false, List, [], ◌∷◌, ◌++◌, sym, ap, ◌∙◌, append_assoc, take, length, refl}
 use Rattle.std.proofs.lemmas.List.{append-nil}
-use Rattle.std.specs.Prelude.{Bool, true, false, if◌then◌else◌}
+use Rattle.std.specs.Prelude.{if◌then◌else◌}
 use Rattle.mi_text.specs.Keeps.{Keeps}
 
 pub keeps_same : (a b : List ℕ) → b ≡ a → Keeps a b
@@ -12,12 +12,6 @@ keeps_more a b x e = record { more = x; is = e }
 
 pub keeps_on : (a b c : List ℕ) → Keeps a b → Keeps b c → Keeps a c
 keeps_on a b c k l = record { more = k.more ++ l.more; is = l.is ∙ ap (λ (x : List ℕ). x ++ l.more) k.is ∙ append_assoc a k.more l.more }
-
-pub keeps_pushed : (a b c x : List ℕ) → Keeps a b → c ≡ b ++ x → Keeps a c
-keeps_pushed a b c x k e = keeps_on a b c k (keeps_more b c x e)
-
-pub keeps_still : (a b c : List ℕ) → Keeps a b → c ≡ b → Keeps a c
-keeps_still a b c k e = keeps_on a b c k (keeps_same b c e)
 
 -- more came, or nothing changed
 pub keeps_either : (a b x : List ℕ) (more : Bool) → b ≡ (if more then a ++ x else a) → Keeps a b
