@@ -46,7 +46,7 @@ use engine_moves::patching::release;
 use engine_moves::views::views;
 use engine_moves::waiting::{Waiting, end_waits};
 use hart_machine::Machine;
-use loading::first_kept;
+use loading::first_parts;
 use mi_commands::Displaced;
 pub use slicing::Commit;
 use source_index::SourceIndex;
@@ -116,19 +116,17 @@ impl Engine {
         ensures state { IfOk result (λ e. seen e ≡ first_state opening) }
         ensures facts { IfOk result Facts }
     {
-        let kept = first_kept(alloc, &opening)?;
-        let machine = Machine::load(alloc, &opening.image, opening.settings)?;
-        let sources = SourceIndex::build(alloc, &opening.image)?;
+        let parts = first_parts(alloc, &opening)?;
         Ok(Engine {
             alloc,
             opening,
             entries: Vec::new(alloc),
-            machine,
-            minds: kept.minds,
+            machine: parts.machine,
+            minds: parts.kept.minds,
             hold: None,
-            watches: kept.watches,
-            table: kept.table,
-            sources,
+            watches: parts.kept.watches,
+            table: parts.kept.table,
+            sources: parts.sources,
             selected: 1,
             displaced: Displaced::Auto,
             retired: 0,

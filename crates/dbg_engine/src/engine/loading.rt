@@ -1,14 +1,19 @@
-// What an engine keeps beside its machine before its first move.
+// The parts of an engine before its first move.
 ghost use Rattle.std.specs.Prelude.{◌≡◌, ℕ, [], IfOk, replicate};
 ghost use Rattle.break_table.specs.Table.{first_table};
 ghost use Rattle.break_table.specs.Text.{is_instruction, is_place};
+ghost use Rattle.dbg_traits.specs.Settings.{AreSettings};
 ghost use Rattle.engine_facts.specs.Minds.{first_mind};
+ghost use Rattle.hart_machine.specs.Stepping.{loaded};
+ghost use Rattle.source_index.specs.Sources.{sources_of};
 
 use break_table::BreakTable;
 use dbg_model::{Opening, WatchList};
 use dbg_traits::NoMemory;
 use engine_facts::Mind;
 use engine_moves::minds::first_minds;
+use hart_machine::Machine;
+use source_index::SourceIndex;
 use std::alloc::Global;
 
 /// What is known of each hart, and what the user has set.
@@ -19,8 +24,16 @@ pub(crate) struct Kept {
     pub table: BreakTable,
 }
 
-/// Each hart is stopped, and there is no breakpoint and no watch.
-pub(crate) fn first_kept(alloc: Global, opening: &Opening) -> Result<Kept, NoMemory>
+/// What an engine has of its opening.
+#[derive(Drop)]
+pub(crate) struct Parts {
+    pub kept: Kept,
+    pub machine: Machine,
+    pub sources: SourceIndex,
+}
+
+// Each hart is stopped, and there is no breakpoint and no watch.
+fn first_kept(alloc: Global, opening: &Opening) -> Result<Kept, NoMemory>
     ensures minds { IfOk result (λ k. k.minds.items ≡ replicate opening.now.settings.harts first_mind) }
     ensures watches { IfOk result (λ k. k.watches ≡ []) }
     ensures table { IfOk result (λ k. k.table ≡ first_table opening.now.image opening.now.settings.harts) }
@@ -30,5 +43,22 @@ pub(crate) fn first_kept(alloc: Global, opening: &Opening) -> Result<Kept, NoMem
         minds: first_minds(alloc, opening.settings.harts)?,
         watches: WatchList::new(alloc)?,
         table: BreakTable::new(alloc, &opening.image, opening.settings.harts)?,
+    })
+}
+
+/// The parts of an engine before its first move.
+pub(crate) fn first_parts(alloc: Global, opening: &Opening) -> Result<Parts, NoMemory>
+    requires { AreSettings opening.now.settings }
+    ensures minds { IfOk result (λ p. p.kept.minds.items ≡ replicate opening.now.settings.harts first_mind) }
+    ensures watches { IfOk result (λ p. p.kept.watches ≡ []) }
+    ensures table { IfOk result (λ p. p.kept.table ≡ first_table opening.now.image opening.now.settings.harts) }
+    ensures places { IfOk result (λ p. (addr : ℕ) → is_place p.kept.table.text addr ≡ is_instruction opening.now.image addr) }
+    ensures machine { IfOk result (λ p. p.machine ≡ loaded opening.now.image opening.now.settings.harts opening.now.settings.slots) }
+    ensures sources { IfOk result (λ p. p.sources ≡ sources_of opening.now.image) }
+{
+    Ok(Parts {
+        kept: first_kept(alloc, opening)?,
+        machine: Machine::load(alloc, &opening.image, opening.settings)?,
+        sources: SourceIndex::build(alloc, &opening.image)?,
     })
 }

@@ -17,10 +17,10 @@ use Rattle.dbg_engine.specs.EngineInside.{run_of}
 use Rattle.engine_moves.specs.Resuming.{minds_after}
 use Rattle.engine_moves.proofs.Commanding.{done_line, noted_low, numbers_room}
 use Rattle.dbg_engine.proofs.Applying.{applies, watchable}
-use Rattle.engine_moves.proofs.Holds.{Moved}
+use Rattle.engine_moves.proofs.Holds.{Moved, Noted}
 use Rattle.engine_moves.proofs.Rewaits.{rewaits, text_place, with_table}
 use Rattle.dbg_engine.proofs.engine.Engine.change.Goals as goal
-use Rattle.dbg_engine.proofs.engine.Engine.change.Goals.{After-self-5-1}
+use Rattle.dbg_engine.proofs.engine.Engine.change.Goals.{After-self-5-1, After-waiting-3-1}
 
 pub change_threads-requires : goal.change_threads-requires
 change_threads-requires c =
@@ -47,62 +47,37 @@ change_table-requires-clause-watch c =
     let P : Run → Type 0 = λ q. Makes q c.args.line.now (change_of c.args.effect) in
     watchable (run_of c.self.inside) c.args.line.now c.args.effect (subst P (sym c.self.view_is) c.requires.makes)
 
-abbrev new_run : After-self-5-1 → List Mind → Run
-new_run c xs =
+-- the engine after the change, before harts wait elsewhere
+abbrev changed_run : After-waiting-3-1 → Run
+changed_run c =
     let r = run_of c.self.inside in
     let t = c.change_table.new.table in
-    record r { journal = c.did.new.entries.items; spare = vec_capacity c.did.new.entries - vec_len c.did.new.entries; machine = c.change_table.new.machine; minds = xs; watches = c.change_table.new.watches; breaks = t.entries; given = t.given; bounds = t.text; waits = t.waits; selected = c.selected_after-self-inside.result; displaced = c.displaced_after-self-inside.result; noted = r.noted + 1; exited = c.exited_after-self-inside.result }
+    record r { journal = c.did.new.entries.items; spare = vec_capacity c.did.new.entries - vec_len c.did.new.entries; machine = c.change_table.new.machine; minds = c.change_threads.new.minds; watches = c.change_table.new.watches; breaks = t.entries; given = t.given; bounds = t.text; waits = t.waits; selected = c.selected_after-self-inside.result; displaced = c.displaced_after-self-inside.result; noted = r.noted + 1; exited = c.exited_after-self-inside.result }
 
--- the minds, written back
-minds_are : (c : After-self-5-1) → c.change_threads.new.minds ≡ (with_items c.self.inside.minds c.change_threads.new.minds).items
-minds_are c =
-    let a = c.change_threads.auto.minds in
-    let b = c.deref_mut.ensures in
-    sym (with_items_is c.self.inside.minds c.change_threads.new.minds (a ∙ b.len))
-
-done : (c : After-self-5-1) → (let new = with_table (new_run c c.change_threads.new.minds) c.rewait.new.machine c.rewait.new.table in Moved new (Lines (run_of c.self.inside) new c.args.line.now))
-done c =
+-- the change is the line's, whatever patches are planted for the harts that wait then
+changed : (c : After-waiting-3-1) → Noted (changed_run c) (λ n. Lines (run_of c.self.inside) n c.args.line.now)
+changed c =
     let r = run_of c.self.inside in
-    let f = c.self.invariant.facts.sound in
     let d = change_of c.args.effect in
     let P : Run → Type 0 = λ q. Makes q c.args.line.now d in
     let minds = c.change_threads.ensures ∙ ap (λ xs. minds_after xs d) c.deref_mut.ensures.value in
-    let n =
-    done_line r (vec_capacity c.did.new.entries - vec_len c.did.new.entries) c.args.line.now d c.did.new.entries.items c.change_table.new.machine c.change_threads.new.minds c.selected_after-self-inside.result c.displaced_after-self-inside.result c.exited_after-self-inside.result c.change_table.new.watches c.self.inside.table c.change_table.new.table f
+    done_line r (vec_capacity c.did.new.entries - vec_len c.did.new.entries) c.args.line.now d c.did.new.entries.items c.change_table.new.machine c.change_threads.new.minds c.selected_after-self-inside.result c.displaced_after-self-inside.result c.exited_after-self-inside.result c.change_table.new.watches c.self.inside.table c.change_table.new.table c.self.invariant.facts.sound
     (ap (λ (q : Run). may_do q.opening (seen q) c.args.line.now) c.self.view_is ∙ c.requires.may) (subst P (sym c.self.view_is) c.requires.makes) c.requires.asks refl refl refl refl
-    c.in_ok-did.ensures.done minds c.selected_after-self-inside.ensures c.displaced_after-self-inside.ensures c.exited_after-self-inside.ensures c.change_table.ensures.table c.change_table.ensures.watches c.change_table.ensures.machine in
-    let t = c.change_table.new.table in
-    let all : List Mind → Table = λ xs. record t { waits = map (awaited r.opening.image) xs } in
-    rewaits (λ n. Lines r n c.args.line.now) (new_run c c.change_threads.new.minds) c.rewait.new.machine c.rewait.new.table n (record { table = c.rewait.ensures.table ∙ ap all (c.as_slice.ensures.value ∙ sym (minds_are c)); machine = c.rewait.ensures.machine })
+    c.in_ok-did.ensures.done minds c.selected_after-self-inside.ensures c.displaced_after-self-inside.ensures c.exited_after-self-inside.ensures c.change_table.ensures.table c.change_table.ensures.watches c.change_table.ensures.machine
+
+-- how many minds there are, written back
+count_is : (c : After-waiting-3-1) → length c.as_slice.result.now ≡ length c.change_threads.new.minds
+count_is c = ap (λ (xs : List Mind). length xs) (c.as_slice.ensures.value ∙ with_items_is c.self.inside.minds c.change_threads.new.minds (c.change_threads.auto.minds ∙ c.deref_mut.ensures.len))
 
 pub rewait-requires-clause-few : goal.rewait-requires-clause-few
 rewait-requires-clause-few c =
-    let r = run_of c.self.inside in
-    let f = c.self.invariant.facts.sound in
-    let d = change_of c.args.effect in
-    let P : Run → Type 0 = λ q. Makes q c.args.line.now d in
-    let minds = c.change_threads.ensures ∙ ap (λ xs. minds_after xs d) c.deref_mut.ensures.value in
-    let n =
-    done_line r (vec_capacity c.did.new.entries - vec_len c.did.new.entries) c.args.line.now d c.did.new.entries.items c.change_table.new.machine c.change_threads.new.minds c.selected_after-self-inside.result c.displaced_after-self-inside.result c.exited_after-self-inside.result c.change_table.new.watches c.self.inside.table c.change_table.new.table f
-    (ap (λ (q : Run). may_do q.opening (seen q) c.args.line.now) c.self.view_is ∙ c.requires.may) (subst P (sym c.self.view_is) c.requires.makes) c.requires.asks refl refl refl refl
-    c.in_ok-did.ensures.done minds c.selected_after-self-inside.ensures c.displaced_after-self-inside.ensures c.exited_after-self-inside.ensures c.change_table.ensures.table c.change_table.ensures.watches c.change_table.ensures.machine in
-    let back = (let a = c.change_threads.auto.minds in let b = c.deref_mut.ensures in sym (with_items_is c.self.inside.minds c.change_threads.new.minds (a ∙ b.len))) in
-    let l = ap (λ (xs : List Mind). length xs) (c.as_slice.ensures.value ∙ sym back) in
-    omega (arith, n.sound.count, f.settings.harts.1, l)
+    let f = (changed c).sound in
+    omega (arith, f.count, f.settings.harts.1, count_is c)
 
 pub rewait-requires-clause-many : goal.rewait-requires-clause-many
 rewait-requires-clause-many c =
-    let r = run_of c.self.inside in
-    let f = c.self.invariant.facts.sound in
-    let d = change_of c.args.effect in
-    let P : Run → Type 0 = λ q. Makes q c.args.line.now d in
-    let minds = c.change_threads.ensures ∙ ap (λ xs. minds_after xs d) c.deref_mut.ensures.value in
-    let n =
-    done_line r (vec_capacity c.did.new.entries - vec_len c.did.new.entries) c.args.line.now d c.did.new.entries.items c.change_table.new.machine c.change_threads.new.minds c.selected_after-self-inside.result c.displaced_after-self-inside.result c.exited_after-self-inside.result c.change_table.new.watches c.self.inside.table c.change_table.new.table f
-    (ap (λ (q : Run). may_do q.opening (seen q) c.args.line.now) c.self.view_is ∙ c.requires.may) (subst P (sym c.self.view_is) c.requires.makes) c.requires.asks refl refl refl refl
-    c.in_ok-did.ensures.done minds c.selected_after-self-inside.ensures c.displaced_after-self-inside.ensures c.exited_after-self-inside.ensures c.change_table.ensures.table c.change_table.ensures.watches c.change_table.ensures.machine in
-    let back = (let a = c.change_threads.auto.minds in let b = c.deref_mut.ensures in sym (with_items_is c.self.inside.minds c.change_threads.new.minds (a ∙ b.len))) in
-    n.sound.many ∙ (sym n.sound.count ∙ sym (ap (λ (xs : List Mind). length xs) (c.as_slice.ensures.value ∙ sym back)))
+    let f = (changed c).sound in
+    f.many ∙ (sym f.count ∙ sym (count_is c))
 
 pub rewait-requires-clause-words : goal.rewait-requires-clause-words
 rewait-requires-clause-words c = c.change_table.ensures.machine.words ∙ c.self.invariant.facts.sound.planted.words
@@ -113,18 +88,36 @@ rewait-requires-clause-places c a is = ap (λ (t : Table). is_place t.text a) c.
 pub rewait-requires-clause-planted : goal.rewait-requires-clause-planted
 rewait-requires-clause-planted c = c.change_table.ensures.machine.planted
 
+abbrev new_run : After-self-5-1 → List Mind → Run
+new_run c xs =
+    let r = run_of c.self.inside in
+    let t = c.change_table.new.table in
+    record r { journal = c.did.new.entries.items; spare = vec_capacity c.did.new.entries - vec_len c.did.new.entries; machine = c.change_table.new.machine; minds = xs; watches = c.change_table.new.watches; breaks = t.entries; given = t.given; bounds = t.text; waits = t.waits; selected = c.selected_after-self-inside.result; displaced = c.displaced_after-self-inside.result; noted = r.noted + 1; exited = c.exited_after-self-inside.result }
+
+-- the minds, written back
+minds_are : (c : After-self-5-1) → c.change_threads.new.minds ≡ (with_items c.self.inside.minds c.change_threads.new.minds).items
+minds_are c = sym (with_items_is c.self.inside.minds c.change_threads.new.minds (c.change_threads.auto.minds ∙ c.deref_mut.ensures.len))
+
+-- the harts wait where they are to
+done : (c : After-self-5-1) → Noted (new_run c c.change_threads.new.minds) (λ n. Lines (run_of c.self.inside) n c.args.line.now)
+    → (let new = with_table (new_run c c.change_threads.new.minds) c.rewait.new.machine c.rewait.new.table in Moved new (Lines (run_of c.self.inside) new c.args.line.now))
+done c n =
+    let r = run_of c.self.inside in
+    let all : List Mind → Table = λ xs. record c.change_table.new.table { waits = map (awaited r.opening.image) xs } in
+    rewaits (λ n. Lines r n c.args.line.now) (new_run c c.change_threads.new.minds) c.rewait.new.machine c.rewait.new.table n (record { table = c.rewait.ensures.table ∙ ap all (c.as_slice.ensures.value ∙ sym (minds_are c)); machine = c.rewait.ensures.machine })
+
 pub invariant_of-self-2 : goal.invariant_of-self-2
 invariant_of-self-2 c =
     let P : List Mind → Type 0 = λ xs. Facts (with_table (new_run c xs) c.rewait.new.machine c.rewait.new.table) in
-    record { facts = subst P (minds_are c) (done c).facts }
+    record { facts = subst P (minds_are c) (done c (changed (goal.at.invariant_of-self-2 c).After-waiting-3-1)).facts }
 
 pub returns-clause-lines : goal.returns-clause-lines
 returns-clause-lines c =
     let P : List Mind → Type 0 = λ xs. Lines c.args.self.now (with_table (new_run c xs) c.rewait.new.machine c.rewait.new.table) c.args.line.now in
     let Q : Run → Type 0 = λ q. Lines q (with_table (new_run c c.change_threads.new.minds) c.rewait.new.machine c.rewait.new.table) c.args.line.now in
-    subst P (minds_are c) (subst Q c.self.view_is (done c).does)
+    subst P (minds_are c) (subst Q c.self.view_is (done c (changed (goal.at.returns-clause-lines c).After-waiting-3-1)).does)
 
 pub returns-clause-facts : goal.returns-clause-facts
 returns-clause-facts c =
     let P : List Mind → Type 0 = λ xs. Facts (with_table (new_run c xs) c.rewait.new.machine c.rewait.new.table) in
-    subst P (minds_are c) (done c).facts
+    subst P (minds_are c) (done c (changed (goal.at.returns-clause-facts c).After-waiting-3-1)).facts

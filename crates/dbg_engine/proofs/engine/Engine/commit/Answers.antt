@@ -1,12 +1,12 @@
-use Rattle.std.proofs.Common.{◌-◌, refl, ap, ◌∙◌, subst, arith}
-use Rattle.std.specs.Prelude.{slice_get, vec_len, vec_capacity}
+use Rattle.std.proofs.Common.{◌+◌, ◌-◌, refl, ap, ◌∙◌, subst, arith}
+use Rattle.std.specs.Prelude.{slice_get, slice_set, vec_len, vec_capacity}
 use Rattle.std.proofs.lemmas.Option.{slice_get_within}
 use Rattle.hart_machine.specs.Slices.{TakesSlice}
 use Rattle.engine_facts.specs.Seen.{Run}
 use Rattle.engine_moves.specs.Several.{lengthened_by}
 use Rattle.dbg_engine.specs.EngineInside.{run_of}
 use Rattle.engine_moves.proofs.Aheads.{small_of}
-use Rattle.engine_moves.proofs.Taking.{taken_at, taken_to}
+use Rattle.engine_moves.proofs.Taking.{Taken, taken_at, taken_to}
 use Rattle.dbg_engine.proofs.engine.Engine.commit.Goals as goal
 
 pub note_runs-requires-clause-last : goal.note_runs-requires-clause-last
@@ -19,28 +19,27 @@ note_runs-requires-clause-last c =
 pub index_mut-requires : goal.index_mut-requires
 index_mut-requires c = let within = slice_get_within c.self.inside.minds.items c.args.slice.now.hart c.mind-mind.result (ap (λ (q : Run). slice_get q.minds c.args.slice.now.hart) c.self.view_is ∙ c.mind-mind.ensures) in omega (arith, within)
 
-pub invariant_of-self : goal.invariant_of-self
-invariant_of-self c =
+-- the engine with the slice's instructions done
+abbrev new_run : goal.After-self-2-1 → Run
+new_run c =
     let r = run_of c.self.inside in
-    let k =
-    taken_to r c.args.self.now c.args.slice.now (vec_capacity c.note_runs.new.entries - vec_len c.note_runs.new.entries) c.mind-mind.result c.ran_mind.result c.take_slice.new.self c.note_runs.new.entries.items c.from-count.result c.self.view_is (omega (arith, c.requires.some)) c.self.invariant.facts
-    (c.if-not-can_take.ensures.0 refl) c.mind-mind.ensures c.take_slice.ensures.steps (c.note_runs.ensures.entries ∙ ap (λ n. lengthened_by n r.journal c.args.slice.now.hart) c.from-count.ensures) c.ran_mind.ensures c.from-count.ensures in
-    record { facts = k.facts }
+    record r { journal = c.note_runs.new.entries.items; spare = vec_capacity c.note_runs.new.entries - vec_len c.note_runs.new.entries; machine = c.take_slice.new.self; minds = slice_set r.minds c.args.slice.now.hart c.ran_mind.result; retired = r.retired + c.from-count.result }
+
+taken : (c : goal.After-self-2-1) → Taken c.args.slice.now.count (run_of c.self.inside) (new_run c) c.args.slice.now.hart
+taken c =
+    let r = run_of c.self.inside in
+    let slice = c.args.slice.now in
+    taken_to r c.args.self.now slice (vec_capacity c.note_runs.new.entries - vec_len c.note_runs.new.entries) c.mind-mind.result c.ran_mind.result c.take_slice.new.self c.note_runs.new.entries.items c.from-count.result c.self.view_is (omega (arith, c.requires.some)) c.self.invariant.facts
+    (c.if-not-can_take.ensures.0 refl) c.mind-mind.ensures c.take_slice.ensures.steps (c.note_runs.ensures.entries ∙ ap (λ n. lengthened_by n r.journal slice.hart) c.from-count.ensures) c.ran_mind.ensures c.from-count.ensures
+
+pub invariant_of-self : goal.invariant_of-self
+invariant_of-self c = record { facts = (taken c).facts }
 
 pub returns-clause-facts : goal.returns-clause-facts
-returns-clause-facts c =
-    let r = run_of c.self.inside in
-    let k =
-    taken_to r c.args.self.now c.args.slice.now (vec_capacity c.note_runs.new.entries - vec_len c.note_runs.new.entries) c.mind-mind.result c.ran_mind.result c.take_slice.new.self c.note_runs.new.entries.items c.from-count.result c.self.view_is (omega (arith, c.requires.some)) c.self.invariant.facts
-    (c.if-not-can_take.ensures.0 refl) c.mind-mind.ensures c.take_slice.ensures.steps (c.note_runs.ensures.entries ∙ ap (λ n. lengthened_by n r.journal c.args.slice.now.hart) c.from-count.ensures) c.ran_mind.ensures c.from-count.ensures in
-    k.facts
+returns-clause-facts c = (taken c).facts
 
 pub returns-clause-took : goal.returns-clause-took
 returns-clause-took c took =
-    let r = run_of c.self.inside in
     let slice = c.args.slice.now in
-    let k =
-    taken_to r c.args.self.now slice (vec_capacity c.note_runs.new.entries - vec_len c.note_runs.new.entries) c.mind-mind.result c.ran_mind.result c.take_slice.new.self c.note_runs.new.entries.items c.from-count.result c.self.view_is (omega (arith, c.requires.some)) c.self.invariant.facts
-    (c.if-not-can_take.ensures.0 refl) c.mind-mind.ensures c.take_slice.ensures.steps (c.note_runs.ensures.entries ∙ ap (λ n. lengthened_by n r.journal slice.hart) c.from-count.ensures) c.ran_mind.ensures c.from-count.ensures in
     let M : Run → Type 0 = λ q. TakesSlice q.machine slice.hart slice.count slice.after c.take_slice.new.self in
-    record { ran = taken_at slice.count r c.args.self.now _ slice.hart c.self.view_is k.ran; machine = subst M c.self.view_is c.take_slice.ensures.taken }
+    record { ran = taken_at slice.count (run_of c.self.inside) c.args.self.now (new_run c) slice.hart c.self.view_is (taken c).ran; machine = subst M c.self.view_is c.take_slice.ensures.taken }

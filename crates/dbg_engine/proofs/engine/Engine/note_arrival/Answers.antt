@@ -14,9 +14,10 @@ use Rattle.engine_facts.specs.Facts.{wanted}
 use Rattle.engine_facts.specs.Tables.{ArePlanted}
 use Rattle.engine_moves.specs.Changing.{wants_by}
 use Rattle.engine_moves.specs.Calls.{Halts, Of, StopsBy}
-use Rattle.engine_moves.proofs.Holds.{Moved, Settles, arrived, planted_shown, wanted_text}
+use Rattle.engine_moves.proofs.Holds.{Moved, Noted, Settles, arrived, planted_shown, wanted_text}
 use Rattle.engine_moves.proofs.Rewaits.{rewaits, text_place, with_table}
 use Rattle.dbg_engine.proofs.engine.Engine.note_arrival.Goals as goal
+use Rattle.dbg_engine.proofs.engine.Engine.note_arrival.Goals.{After-self-2-1, After-waiting-3-1}
 
 pub settle-requires : goal.settle-requires
 settle-requires c =
@@ -53,46 +54,46 @@ rewait-requires-clause-words c = c.repatch.ensures.text.words ∙ c.self.invaria
 pub rewait-requires-clause-places : goal.rewait-requires-clause-places
 rewait-requires-clause-places c a is = ap (λ (t : Table). is_place t.text a) c.settle.ensures.rest ∙ text_place (run_of c.self.inside) c.self.invariant.facts.sound a is
 
+-- the engine then, before harts wait elsewhere
+abbrev arrived_run : After-waiting-3-1 → Run
+arrived_run c = let r = run_of c.self.inside in record r { journal = c.note.new.entries.items; spare = vec_capacity c.note.new.entries - vec_len c.note.new.entries; machine = c.repatch.new.machine; minds = slice_set r.minds c.args.h first_mind; watches = c.rise.new.self; breaks = c.settle.new.table.entries; noted = r.noted + 1 }
+
+-- the hart has stopped, whatever patches are planted for the harts that wait then
+arrived_at : (c : After-waiting-3-1) → Noted (arrived_run c) (λ n. Halts (run_of c.self.inside) n c.args.h c.args.why)
+arrived_at c =
+    let r = run_of c.self.inside in
+    let mind : slice_get r.minds c.args.h ≡ Some c.args.mind = ap (λ (q : Run). slice_get q.minds c.args.h) c.self.view_is ∙ c.requires.before.at in
+    let P : Run → Type 0 = λ q. StopsBy q c.args.h c.args.why in
+    let Q : Run → Type 0 = λ q. Of q c.args.h (λ y. y.regs.pc ≡ c.args.pc) in
+    let settles : Settles r c.args.h c.args.pc c.settle.new.table.entries = λ k at. c.settle.ensures.entries k at in
+    arrived r c.args.h c.args.pc (vec_capacity c.note.new.entries - vec_len c.note.new.entries) c.args.why c.args.mind c.note.new.entries.items c.repatch.new.machine c.settle.new.table.entries c.rise.new.self c.wants-wants.result c.self.invariant.facts.sound mind
+    c.requires.idle c.requires.before.runs (ap (λ (q : Run). other_holder q.hold c.args.h) c.self.view_is ∙ c.requires.before.free) (subst Q (sym c.self.view_is) c.requires.pc) (subst P (sym c.self.view_is) c.requires.stops) (ap (λ (q : Run). may_go q.opening (seen q)) c.self.view_is ∙ c.requires.before.may)
+    c.note.ensures.entries settles c.rise.ensures (c.wants-wants.ensures ∙ ap (λ (t : Table). wanted (wants_by t r.hold) c.args.pc) c.settle.ensures.rest) c.repatch.ensures.text c.repatch.ensures.rest
+
 pub rewait-requires-clause-planted : goal.rewait-requires-clause-planted
 rewait-requires-clause-planted c =
     let r = run_of c.self.inside in
-    let f = c.self.invariant.facts.sound in
-    let mind : slice_get r.minds c.args.h ≡ Some c.args.mind = ap (λ (q : Run). slice_get q.minds c.args.h) c.self.view_is ∙ c.requires.before.at in
-    let P : Run → Type 0 = λ q. StopsBy q c.args.h c.args.why in
-    let Q : Run → Type 0 = λ q. Of q c.args.h (λ y. y.regs.pc ≡ c.args.pc) in
-    let settles : Settles r c.args.h c.args.pc c.settle.new.table.entries = λ k at. c.settle.ensures.entries k at in
-    let n =
-    arrived r c.args.h c.args.pc (vec_capacity c.note.new.entries - vec_len c.note.new.entries) c.args.why c.args.mind c.note.new.entries.items c.repatch.new.machine c.settle.new.table.entries c.rise.new.self c.wants-wants.result f mind
-    c.requires.idle c.requires.before.runs (ap (λ (q : Run). other_holder q.hold c.args.h) c.self.view_is ∙ c.requires.before.free) (subst Q (sym c.self.view_is) c.requires.pc) (subst P (sym c.self.view_is) c.requires.stops) (ap (λ (q : Run). may_go q.opening (seen q)) c.self.view_is ∙ c.requires.before.may)
-    c.note.ensures.entries settles c.rise.ensures (c.wants-wants.ensures ∙ ap (λ (t : Table). wanted (wants_by t r.hold) c.args.pc) c.settle.ensures.rest) c.repatch.ensures.text c.repatch.ensures.rest in
-    let q : Run = record r { journal = c.note.new.entries.items; spare = vec_capacity c.note.new.entries - vec_len c.note.new.entries; machine = c.repatch.new.machine; minds = slice_set r.minds c.args.h first_mind; watches = c.rise.new.self; breaks = c.settle.new.table.entries; noted = r.noted + 1 } in
     let P : Table → Type 0 = λ t. ArePlanted c.repatch.new.machine.text (wants_by t r.hold) in
-    subst P (sym c.settle.ensures.rest) (are_planted q n.sound)
+    subst P (sym c.settle.ensures.rest) (are_planted (arrived_run c) (arrived_at c).sound)
 
-abbrev new_run : goal.After-self-2-1 → Run
+abbrev new_run : After-self-2-1 → Run
 new_run c = let r = run_of c.self.inside in record r { journal = c.note.new.entries.items; spare = vec_capacity c.note.new.entries - vec_len c.note.new.entries; machine = c.repatch.new.machine; minds = slice_set r.minds c.args.h first_mind; watches = c.rise.new.self; breaks = c.settle.new.table.entries; noted = r.noted + 1 }
 
-move : (c : goal.After-self-2-1) → (let r = run_of c.self.inside in let n = with_table (new_run c) c.rewait.new.machine c.rewait.new.table in Moved n (Halts r n c.args.h c.args.why))
-move c =
+move : (c : After-self-2-1) → Noted (new_run c) (λ n. Halts (run_of c.self.inside) n c.args.h c.args.why)
+    → (let r = run_of c.self.inside in let n = with_table (new_run c) c.rewait.new.machine c.rewait.new.table in Moved n (Halts r n c.args.h c.args.why))
+move c n =
     let r = run_of c.self.inside in
-    let f = c.self.invariant.facts.sound in
-    let mind : slice_get r.minds c.args.h ≡ Some c.args.mind = ap (λ (q : Run). slice_get q.minds c.args.h) c.self.view_is ∙ c.requires.before.at in
-    let P : Run → Type 0 = λ q. StopsBy q c.args.h c.args.why in
-    let Q : Run → Type 0 = λ q. Of q c.args.h (λ y. y.regs.pc ≡ c.args.pc) in
-    let settles : Settles r c.args.h c.args.pc c.settle.new.table.entries = λ k at. c.settle.ensures.entries k at in
-    let n =
-    arrived r c.args.h c.args.pc (vec_capacity c.note.new.entries - vec_len c.note.new.entries) c.args.why c.args.mind c.note.new.entries.items c.repatch.new.machine c.settle.new.table.entries c.rise.new.self c.wants-wants.result f mind
-    c.requires.idle c.requires.before.runs (ap (λ (q : Run). other_holder q.hold c.args.h) c.self.view_is ∙ c.requires.before.free) (subst Q (sym c.self.view_is) c.requires.pc) (subst P (sym c.self.view_is) c.requires.stops) (ap (λ (q : Run). may_go q.opening (seen q)) c.self.view_is ∙ c.requires.before.may)
-    c.note.ensures.entries settles c.rise.ensures (c.wants-wants.ensures ∙ ap (λ (t : Table). wanted (wants_by t r.hold) c.args.pc) c.settle.ensures.rest) c.repatch.ensures.text c.repatch.ensures.rest in
     let all : List Mind → Table = λ xs. record c.self.inside.table { entries = c.settle.new.table.entries; waits = map (awaited r.opening.image) xs } in
     let before = ap (λ (t : Table). let u : Table = record t { waits = map (awaited r.opening.image) c.as_slice.result.now } in u) c.settle.ensures.rest in
     rewaits (λ n. Halts r n c.args.h c.args.why) (new_run c) c.rewait.new.machine c.rewait.new.table n (record { table = c.rewait.ensures.table ∙ (before ∙ ap all c.as_slice.ensures.value); machine = c.rewait.ensures.machine })
 
 pub invariant_of-self : goal.invariant_of-self
-invariant_of-self c = record { facts = (move c).facts }
+invariant_of-self c = record { facts = (move c (arrived_at (goal.at.invariant_of-self c).After-waiting-3-1)).facts }
 
 pub returns-clause-halts : goal.returns-clause-halts
-returns-clause-halts c = rw (← c.self.view_is) (move c).does
+returns-clause-halts c =
+    let Q : Run → Type 0 = λ q. Halts q (with_table (new_run c) c.rewait.new.machine c.rewait.new.table) c.args.h c.args.why in
+    subst Q c.self.view_is (move c (arrived_at (goal.at.returns-clause-halts c).After-waiting-3-1)).does
 
 pub returns-clause-facts : goal.returns-clause-facts
-returns-clause-facts c = (move c).facts
+returns-clause-facts c = (move c (arrived_at (goal.at.returns-clause-facts c).After-waiting-3-1)).facts

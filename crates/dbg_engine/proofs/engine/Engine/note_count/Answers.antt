@@ -14,9 +14,10 @@ use Rattle.engine_facts.specs.Facts.{wanted}
 use Rattle.engine_facts.specs.Tables.{ArePlanted}
 use Rattle.engine_moves.specs.Changing.{wants_by}
 use Rattle.engine_moves.specs.Calls.{Counts, Of, DueIs}
-use Rattle.engine_moves.proofs.Holds.{Moved, Settles, counted, planted_shown, wanted_text}
+use Rattle.engine_moves.proofs.Holds.{Moved, Noted, Settles, counted, planted_shown, wanted_text}
 use Rattle.engine_moves.proofs.Rewaits.{rewaits, same_waits, text_place, with_table}
 use Rattle.dbg_engine.proofs.engine.Engine.note_count.Goals as goal
+use Rattle.dbg_engine.proofs.engine.Engine.note_count.Goals.{After-self-2-1, After-waiting-3-1}
 
 pub settle-requires : goal.settle-requires
 settle-requires c =
@@ -53,21 +54,27 @@ rewait-requires-clause-words c = c.repatch.ensures.text.words ∙ c.self.invaria
 pub rewait-requires-clause-places : goal.rewait-requires-clause-places
 rewait-requires-clause-places c a is = ap (λ (t : Table). is_place t.text a) c.settle.ensures.rest ∙ text_place (run_of c.self.inside) c.self.invariant.facts.sound a is
 
-pub rewait-requires-clause-planted : goal.rewait-requires-clause-planted
-rewait-requires-clause-planted c =
+-- the engine then, before harts wait elsewhere
+abbrev counted_run : After-waiting-3-1 → Run
+counted_run c = let r = run_of c.self.inside in record r { journal = c.note.new.entries.items; spare = vec_capacity c.note.new.entries - vec_len c.note.new.entries; machine = c.repatch.new.machine; minds = slice_set r.minds c.args.h c.counted_mind.result; breaks = c.settle.new.table.entries; noted = r.noted + 1 }
+
+-- the hart is counted, whatever patches are planted for the harts that wait then
+counted_at : (c : After-waiting-3-1) → Noted (counted_run c) (λ n. Counts (run_of c.self.inside) n c.args.h)
+counted_at c =
     let r = run_of c.self.inside in
-    let f = c.self.invariant.facts.sound in
     let mind : slice_get r.minds c.args.h ≡ Some c.args.mind = ap (λ (q : Run). slice_get q.minds c.args.h) c.self.view_is ∙ c.requires.before.at in
     let P : Run → Type 0 = λ q. DueIs q c.args.h c.args.due in
     let Q : Run → Type 0 = λ q. Of q c.args.h (λ y. y.regs.pc ≡ c.args.pc) in
     let settles : Settles r c.args.h c.args.pc c.settle.new.table.entries = λ k at. c.settle.ensures.entries k at in
-    let n =
-    counted r c.args.h c.args.pc (vec_capacity c.note.new.entries - vec_len c.note.new.entries) c.args.due c.args.mind c.counted_mind.result c.plan_after-plan.result c.note.new.entries.items c.repatch.new.machine c.settle.new.table.entries c.wants-wants.result f mind
+    counted r c.args.h c.args.pc (vec_capacity c.note.new.entries - vec_len c.note.new.entries) c.args.due c.args.mind c.counted_mind.result c.plan_after-plan.result c.note.new.entries.items c.repatch.new.machine c.settle.new.table.entries c.wants-wants.result c.self.invariant.facts.sound mind
     c.requires.before.before c.requires.before.runs (subst Q (sym c.self.view_is) c.requires.pc) (subst P (sym c.self.view_is) c.requires.due) c.requires.counts (ap (λ (q : Run). may_go q.opening (seen q)) c.self.view_is ∙ c.requires.before.may)
-    c.note.ensures.entries settles (c.wants-wants.ensures ∙ ap (λ (t : Table). wanted (wants_by t r.hold) c.args.pc) c.settle.ensures.rest) c.repatch.ensures.text c.repatch.ensures.rest c.counted_mind.ensures c.plan_after-plan.ensures c.requires.fresh in
-    let q : Run = record r { journal = c.note.new.entries.items; spare = vec_capacity c.note.new.entries - vec_len c.note.new.entries; machine = c.repatch.new.machine; minds = slice_set r.minds c.args.h c.counted_mind.result; breaks = c.settle.new.table.entries; noted = r.noted + 1 } in
+    c.note.ensures.entries settles (c.wants-wants.ensures ∙ ap (λ (t : Table). wanted (wants_by t r.hold) c.args.pc) c.settle.ensures.rest) c.repatch.ensures.text c.repatch.ensures.rest c.counted_mind.ensures c.plan_after-plan.ensures c.requires.fresh
+
+pub rewait-requires-clause-planted : goal.rewait-requires-clause-planted
+rewait-requires-clause-planted c =
+    let r = run_of c.self.inside in
     let P : Table → Type 0 = λ t. ArePlanted c.repatch.new.machine.text (wants_by t r.hold) in
-    subst P (sym c.settle.ensures.rest) (are_planted q n.sound)
+    subst P (sym c.settle.ensures.rest) (are_planted (counted_run c) (counted_at c).sound)
 
 pub rewait-requires-clause-stays : goal.rewait-requires-clause-stays
 rewait-requires-clause-stays c off =
@@ -75,30 +82,24 @@ rewait-requires-clause-stays c off =
     let mind : slice_get r.minds c.args.h ≡ Some c.args.mind = ap (λ (q : Run). slice_get q.minds c.args.h) c.self.view_is ∙ c.requires.before.at in
     ap (λ (t : Table). t.waits) c.settle.ensures.rest ∙ (waits_same r c.args.h c.args.mind c.counted_mind.result c.self.invariant.facts mind (ap (awaited r.opening.image) c.counted_mind.ensures ∙ same_waits r.opening.image c.args.mind (counted_mind c.plan_after-plan.result c.args.mind) refl (c.changes-moved.ensures off)) ∙ ap (map (awaited r.opening.image)) (sym c.as_slice.ensures.value))
 
-abbrev new_run : goal.After-self-2-1 → Run
+abbrev new_run : After-self-2-1 → Run
 new_run c = let r = run_of c.self.inside in record r { journal = c.note.new.entries.items; spare = vec_capacity c.note.new.entries - vec_len c.note.new.entries; machine = c.repatch.new.machine; minds = slice_set r.minds c.args.h c.counted_mind.result; breaks = c.settle.new.table.entries; noted = r.noted + 1 }
 
-move : (c : goal.After-self-2-1) → (let r = run_of c.self.inside in let n = with_table (new_run c) c.rewait.new.machine c.rewait.new.table in Moved n (Counts r n c.args.h))
-move c =
+move : (c : After-self-2-1) → Noted (new_run c) (λ n. Counts (run_of c.self.inside) n c.args.h)
+    → (let r = run_of c.self.inside in let n = with_table (new_run c) c.rewait.new.machine c.rewait.new.table in Moved n (Counts r n c.args.h))
+move c n =
     let r = run_of c.self.inside in
-    let f = c.self.invariant.facts.sound in
-    let mind : slice_get r.minds c.args.h ≡ Some c.args.mind = ap (λ (q : Run). slice_get q.minds c.args.h) c.self.view_is ∙ c.requires.before.at in
-    let P : Run → Type 0 = λ q. DueIs q c.args.h c.args.due in
-    let Q : Run → Type 0 = λ q. Of q c.args.h (λ y. y.regs.pc ≡ c.args.pc) in
-    let settles : Settles r c.args.h c.args.pc c.settle.new.table.entries = λ k at. c.settle.ensures.entries k at in
-    let n =
-    counted r c.args.h c.args.pc (vec_capacity c.note.new.entries - vec_len c.note.new.entries) c.args.due c.args.mind c.counted_mind.result c.plan_after-plan.result c.note.new.entries.items c.repatch.new.machine c.settle.new.table.entries c.wants-wants.result f mind
-    c.requires.before.before c.requires.before.runs (subst Q (sym c.self.view_is) c.requires.pc) (subst P (sym c.self.view_is) c.requires.due) c.requires.counts (ap (λ (q : Run). may_go q.opening (seen q)) c.self.view_is ∙ c.requires.before.may)
-    c.note.ensures.entries settles (c.wants-wants.ensures ∙ ap (λ (t : Table). wanted (wants_by t r.hold) c.args.pc) c.settle.ensures.rest) c.repatch.ensures.text c.repatch.ensures.rest c.counted_mind.ensures c.plan_after-plan.ensures c.requires.fresh in
     let all : List Mind → Table = λ xs. record c.self.inside.table { entries = c.settle.new.table.entries; waits = map (awaited r.opening.image) xs } in
     let before = ap (λ (t : Table). let u : Table = record t { waits = map (awaited r.opening.image) c.as_slice.result.now } in u) c.settle.ensures.rest in
     rewaits (λ n. Counts r n c.args.h) (new_run c) c.rewait.new.machine c.rewait.new.table n (record { table = c.rewait.ensures.table ∙ (before ∙ ap all c.as_slice.ensures.value); machine = c.rewait.ensures.machine })
 
 pub invariant_of-self : goal.invariant_of-self
-invariant_of-self c = record { facts = (move c).facts }
+invariant_of-self c = record { facts = (move c (counted_at (goal.at.invariant_of-self c).After-waiting-3-1)).facts }
 
 pub returns-clause-counts : goal.returns-clause-counts
-returns-clause-counts c = rw (← c.self.view_is) (move c).does
+returns-clause-counts c =
+    let Q : Run → Type 0 = λ q. Counts q (with_table (new_run c) c.rewait.new.machine c.rewait.new.table) c.args.h in
+    subst Q c.self.view_is (move c (counted_at (goal.at.returns-clause-counts c).After-waiting-3-1)).does
 
 pub returns-clause-facts : goal.returns-clause-facts
-returns-clause-facts c = (move c).facts
+returns-clause-facts c = (move c (counted_at (goal.at.returns-clause-facts c).After-waiting-3-1)).facts

@@ -54,7 +54,9 @@ pub invariant_of-self : goal.invariant_of-self
 invariant_of-self c = record { facts = (move c).facts }
 
 pub returns-clause-halts : goal.returns-clause-halts
-returns-clause-halts c = rw (← c.self.view_is) (move c).does
+returns-clause-halts c =
+    let Q : Run → Type 0 = λ q. Halts q (with_table (new_run c) c.rewait.new.machine c.rewait.new.table) c.args.h (Fault c.args.cause) in
+    subst Q c.self.view_is (move c).does
 
 pub returns-clause-facts : goal.returns-clause-facts
 returns-clause-facts c = (move c).facts

@@ -52,7 +52,9 @@ pub invariant_of-self : goal.invariant_of-self
 invariant_of-self c = record { facts = (move c).facts }
 
 pub returns-clause-interrupts : goal.returns-clause-interrupts
-returns-clause-interrupts c = rw (← c.self.view_is) (move c).does
+returns-clause-interrupts c =
+    let Q : Run → Type 0 = λ q. Interrupts q (with_table (new_run c) c.rewait.new.machine c.rewait.new.table) c.args.h in
+    subst Q c.self.view_is (move c).does
 
 pub returns-clause-facts : goal.returns-clause-facts
 returns-clause-facts c = (move c).facts

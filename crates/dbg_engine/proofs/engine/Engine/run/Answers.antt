@@ -1,10 +1,12 @@
-use Rattle.std.proofs.Common.{◌-◌, sym, ap, ◌∙◌, subst, arith}
+use Rattle.std.proofs.Common.{◌+◌, ◌-◌, sym, ap, ◌∙◌, subst, arith}
 use Rattle.hart_machine.specs.Patched.{Patched}
+use Rattle.engine_facts.specs.Seen.{Run}
 use Rattle.engine_facts.specs.Facts.{Facts}
-use Rattle.std.specs.Prelude.{vec_len, vec_capacity}
+use Rattle.std.specs.Prelude.{slice_set, vec_len, vec_capacity}
 use Rattle.engine_moves.specs.Several.{lengthened_by}
 use Rattle.dbg_engine.specs.EngineInside.{run_of}
 use Rattle.engine_moves.proofs.Aheads.{gone_to, none_gone, small_of, turned_at}
+use Rattle.engine_moves.proofs.Passing.{Ahead}
 use Rattle.dbg_engine.proofs.engine.Engine.run.Goals as goal
 
 pub note_runs-requires-clause-last : goal.note_runs-requires-clause-last
@@ -27,32 +29,25 @@ invariant_of-self c =
     let M : Patched → Type 0 = λ m. Facts (record r { machine = m }) in
     record { facts = subst M (sym (none_gone r.opening.image r.breaks r.watches c.args.h c.min-most.result p.turns p.instructions c.mind-mind.result.plan c.by_copies.result r.machine c.go-progress.new.machine c.if-progress-eq0.true c.go-progress.ensures.goes)) c.self.invariant.facts }
 
-pub invariant_of-self-2 : goal.invariant_of-self-2
-invariant_of-self-2 c =
+-- the engine so many turns on
+abbrev new_run : goal.After-self-2-1 → Run
+new_run c =
+    let r = run_of c.self.inside in
+    record r { journal = c.note_runs.new.entries.items; spare = vec_capacity c.note_runs.new.entries - vec_len c.note_runs.new.entries; machine = c.go-progress.new.machine; minds = slice_set r.minds c.args.h c.ran_mind.result; retired = r.retired + c.from-count.result }
+
+gone : (c : goal.After-self-2-1) → Ahead c.go-progress.result.turns (run_of c.self.inside) (new_run c) c.args.h
+gone c =
     let r = run_of c.self.inside in
     let p = c.go-progress.result in
-    let k =
-    gone_to r c.args.self.now c.args.h (vec_capacity c.note_runs.new.entries - vec_len c.note_runs.new.entries) c.min-most.result p.turns p.instructions _ c.mind-mind.result c.ran_mind.result c.go-progress.new.machine c.note_runs.new.entries.items c.from-count.result
+    gone_to r c.args.self.now c.args.h (vec_capacity c.note_runs.new.entries - vec_len c.note_runs.new.entries) c.min-most.result p.turns p.instructions c.by_copies.result c.mind-mind.result c.ran_mind.result c.go-progress.new.machine c.note_runs.new.entries.items c.from-count.result
     c.self.view_is (omega arith) c.self.invariant.facts (sym c.if-not-may_go.ensures) c.mind-mind.ensures (sym c.if-not-is_alone.ensures) (omega (arith, c.min-most.ensures)) (λ e. (c.by_copies.ensures.yes e).0) c.go-progress.ensures.goes
-    (c.note_runs.ensures.entries ∙ ap (λ n. lengthened_by n r.journal c.args.h) c.from-count.ensures) c.ran_mind.ensures c.from-count.ensures in
-    record { facts = k.facts }
+    (c.note_runs.ensures.entries ∙ ap (λ n. lengthened_by n r.journal c.args.h) c.from-count.ensures) c.ran_mind.ensures c.from-count.ensures
+
+pub invariant_of-self-2 : goal.invariant_of-self-2
+invariant_of-self-2 c = record { facts = (gone c).facts }
 
 pub returns-clause-facts : goal.returns-clause-facts
-returns-clause-facts c =
-    let r = run_of c.self.inside in
-    let p = c.go-progress.result in
-    let k =
-    gone_to r c.args.self.now c.args.h (vec_capacity c.note_runs.new.entries - vec_len c.note_runs.new.entries) c.min-most.result p.turns p.instructions _ c.mind-mind.result c.ran_mind.result c.go-progress.new.machine c.note_runs.new.entries.items c.from-count.result
-    c.self.view_is (omega arith) c.self.invariant.facts (sym c.if-not-may_go.ensures) c.mind-mind.ensures (sym c.if-not-is_alone.ensures) (omega (arith, c.min-most.ensures)) (λ e. (c.by_copies.ensures.yes e).0) c.go-progress.ensures.goes
-    (c.note_runs.ensures.entries ∙ ap (λ n. lengthened_by n r.journal c.args.h) c.from-count.ensures) c.ran_mind.ensures c.from-count.ensures in
-    k.facts
+returns-clause-facts c = (gone c).facts
 
 pub returns-clause-turns : goal.returns-clause-turns
-returns-clause-turns c =
-    let r = run_of c.self.inside in
-    let p = c.go-progress.result in
-    let k =
-    gone_to r c.args.self.now c.args.h (vec_capacity c.note_runs.new.entries - vec_len c.note_runs.new.entries) c.min-most.result p.turns p.instructions _ c.mind-mind.result c.ran_mind.result c.go-progress.new.machine c.note_runs.new.entries.items c.from-count.result
-    c.self.view_is (omega arith) c.self.invariant.facts (sym c.if-not-may_go.ensures) c.mind-mind.ensures (sym c.if-not-is_alone.ensures) (omega (arith, c.min-most.ensures)) (λ e. (c.by_copies.ensures.yes e).0) c.go-progress.ensures.goes
-    (c.note_runs.ensures.entries ∙ ap (λ n. lengthened_by n r.journal c.args.h) c.from-count.ensures) c.ran_mind.ensures c.from-count.ensures in
-    turned_at c.go-progress.result.turns r c.args.self.now _ c.args.h c.self.view_is k.turns
+returns-clause-turns c = turned_at c.go-progress.result.turns (run_of c.self.inside) c.args.self.now (new_run c) c.args.h c.self.view_is (gone c).turns
