@@ -4,6 +4,7 @@ ghost use Rattle.std.specs.Prelude.{◌≡◌, ◌+◌, ◌-◌, ◌^◌, ◌<�
 ghost use Rattle.std.specs.Option.{option_map};
 ghost use Rattle.break_table.specs.Entry.{asked_of, condition_of, entry_of};
 ghost use Rattle.break_table.specs.Arrival.{due_of, settled, stays};
+ghost use Rattle.break_table.specs.Changes.{made};
 ghost use Rattle.break_table.specs.Text.{is_instruction, is_place};
 ghost use Rattle.break_table.specs.Table.{changed, deleted, drawn, first_table, insert_fault, inserted, missing, stands, waits, with_condition, with_enabled, with_ignore, with_wait, Answers, IsRising};
 
@@ -134,13 +135,22 @@ impl BreakTable {
         Ok(())
     }
 
+    // The entry of a number is changed.
+    fn change_one(&mut self, number: u32, change: Change) -> Result<(), BreakFault>
+        ensures answer { Answers result (missing number self.old.entries) }
+        ensures done { OnOk result (self.new ≡ changed (made change) number self.old) }
+        ensures refused { OnErr result (self.new ≡ self.old) }
+    {
+        change_entry(&mut self.entries, number, change)
+    }
+
     /// The entry of a number counts and stops again.
     pub fn enable(&mut self, number: u32) -> Result<(), BreakFault>
         ensures answer { Answers result (missing number self.old.entries) }
         ensures done { OnOk result (self.new ≡ changed (with_enabled true) number self.old) }
         ensures refused { OnErr result (self.new ≡ self.old) }
     {
-        change_entry(&mut self.entries, number, Change::Enabled(true))
+        self.change_one(number, Change::Enabled(true))
     }
 
     /// The entry of a number neither counts nor stops.
@@ -149,7 +159,7 @@ impl BreakTable {
         ensures done { OnOk result (self.new ≡ changed (with_enabled false) number self.old) }
         ensures refused { OnErr result (self.new ≡ self.old) }
     {
-        change_entry(&mut self.entries, number, Change::Enabled(false))
+        self.change_one(number, Change::Enabled(false))
     }
 
     /// The entry of a number gets another condition, or none.
@@ -158,7 +168,7 @@ impl BreakTable {
         ensures done { OnOk result (self.new ≡ changed (with_condition (option_map condition_of e)) number self.old) }
         ensures refused { OnErr result (self.new ≡ self.old) }
     {
-        change_entry(&mut self.entries, number, Change::Condition(e))
+        self.change_one(number, Change::Condition(e))
     }
 
     /// So many arrivals at the entry of a number are only counted from now on, before one stops.
@@ -167,7 +177,7 @@ impl BreakTable {
         ensures done { OnOk result (self.new ≡ changed (with_ignore count) number self.old) }
         ensures refused { OnErr result (self.new ≡ self.old) }
     {
-        change_entry(&mut self.entries, number, Change::Ignore(count))
+        self.change_one(number, Change::Ignore(count))
     }
 
     /// The user entries in rising order of number.
