@@ -1,8 +1,8 @@
 // Programs, and what is made of them.
 use data_memory::DataMemory;
 use dbg_traits::Settings;
-use elf_gen::plain;
 use elf_checks::read_image;
+use elf_gen::plain;
 use elf32_read::Image;
 use hart_machine::Machine;
 use script_rows::hex_words;

@@ -3,8 +3,8 @@
 ghost use Rattle.std.specs.Prelude.{◌≤◌};
 
 use data_memory::DataMemory;
-use elf_gen::plain;
 use elf_checks::read_image;
+use elf_gen::plain;
 use rv_decode::{Instr, decode};
 use rv_exec::{DataPort, Effect, Regs, execute};
 use std::alloc::{AllocError, Global};

@@ -1,6 +1,6 @@
 // Programs that rows of several benches ask for.
-use elf_gen::{generate, plain};
 use elf_checks::read_image;
+use elf_gen::{generate, plain};
 use elf32_read::Image;
 use std::alloc::Global;
 

@@ -6,8 +6,8 @@ mod worth;
 
 use crate::images::{generated_image, words_image};
 use break_table::BreakTable;
-use elf_symbols::{Symbols, symbols};
 use elf_checks::read_image;
+use elf_symbols::{Symbols, symbols};
 use elf32_read::Image;
 use script_rows::{Bench, RowFault};
 use std::alloc::{AllocError, Global};

@@ -3,8 +3,8 @@ mod image;
 mod made;
 mod names;
 
-use elf_symbols::{Symbols, symbols};
 use elf_checks::{ElfReadError, read_image};
+use elf_symbols::{Symbols, symbols};
 use elf32_read::Image;
 use script_rows::{Bench, RowFault};
 use std::alloc::Global;
