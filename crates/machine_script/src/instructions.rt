@@ -59,27 +59,37 @@ fn memory_of(alloc: Global, stored: u32) -> Option<DataMemory> {
     Some(memory)
 }
 
+// What an instruction does over a memory, where x5 and x2 are these.
+fn told_access(
+    alloc: Global,
+    instruction: Instr,
+    [x5, x2]: [u32; 2],
+    memory: &mut DataMemory,
+) -> Result<String, AllocError> {
+    let mut regs = Regs::new(HOME);
+    regs.set(2, x2);
+    regs.set(5, x5);
+    let effect = execute(instruction, &mut regs, memory);
+    let x1 = regs.get(1);
+    match memory.load(DATA, 4) {
+        Ok(after) => format!(in alloc; "{effect:?} {x1:#x} {after:#x}"),
+        Err(cause) => format!(in alloc; "{effect:?} {x1:#x} {cause:?}"),
+    }
+}
+
 /// What an instruction does where x5 and x2 are these and data begins with a word: its effect, x1, and the word then.
 pub fn accessed(
     alloc: Global,
     word: u32,
-    [x5, x2]: [u32; 2],
+    given: [u32; 2],
     stored: u32,
 ) -> Result<String, AllocError> {
     let Some(instruction) = decode(word) else {
         return format!(in alloc; "no instruction");
     };
-    let Some(mut memory) = memory_of(alloc, stored) else {
-        return format!(in alloc; "no memory");
-    };
-    let mut regs = Regs::new(HOME);
-    regs.set(2, x2);
-    regs.set(5, x5);
-    let effect = execute(instruction, &mut regs, &mut memory);
-    let x1 = regs.get(1);
-    match memory.load(DATA, 4) {
-        Ok(after) => format!(in alloc; "{effect:?} {x1:#x} {after:#x}"),
-        Err(cause) => format!(in alloc; "{effect:?} {x1:#x} {cause:?}"),
+    match memory_of(alloc, stored) {
+        Some(mut memory) => told_access(alloc, instruction, given, &mut memory),
+        None => format!(in alloc; "no memory"),
     }
 }
 

@@ -30,6 +30,13 @@ fn answered(alloc: Global, loaded: &mut Loaded, step: Step<'_>) -> Result<String
     }
 }
 
+fn loaded_of(alloc: Global, image: Option<Image>) -> Option<Loaded> {
+    match &image {
+        Some(image) => Loaded::load(alloc, image),
+        None => None,
+    }
+}
+
 impl Subject {
     /// No program, and no slot.
     pub fn new() -> Subject {
@@ -39,15 +46,18 @@ impl Subject {
         }
     }
 
-    // Puts a program in place of the one before.
+    // Puts a program in place of the one before, and whether it is one.
+    fn put(&mut self, loaded: Option<Loaded>) -> bool {
+        let is_loaded = loaded.is_some();
+        self.loaded = loaded;
+        is_loaded
+    }
+
     fn load(&mut self, alloc: Global, image: Option<Image>) -> Result<String, AllocError> {
-        self.loaded = match &image {
-            Some(image) => Loaded::load(alloc, image),
-            None => None,
-        };
-        match self.loaded {
-            Some(_) => format!(in alloc; "loaded"),
-            None => format!(in alloc; "not loaded"),
+        if self.put(loaded_of(alloc, image)) {
+            format!(in alloc; "loaded")
+        } else {
+            format!(in alloc; "not loaded")
         }
     }
 

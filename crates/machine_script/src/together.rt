@@ -3,6 +3,7 @@ ghost use Rattle.std.specs.Prelude.{◌<◌, length};
 
 use crate::programs::{DATA, SETTINGS, image_of};
 use dbg_traits::View;
+use elf32_read::Image;
 use hart_machine::Machine;
 use plain_machine::Plain;
 use rv_exec::Stepped;
@@ -41,29 +42,65 @@ fn shown(alloc: Global, machine: &Machine, answer: Stepped) -> Result<String, Al
     format!(in alloc; "{answer:?}, {retired} executed, {pc:#x} {a0:#x} {a1:#x} {a2:#x} {a3:#x}")
 }
 
-/// So many steps of hart 1 on both machines, which do the same at each, unless it is said that they don't.
-pub fn stepped(alloc: Global, steps: u32, words: &str) -> Result<String, AllocError> {
-    let Some(image) = image_of(alloc, words) else {
-        return format!(in alloc; "no program");
-    };
-    let (Ok(mut machine), Ok(mut plain)) = (
-        Machine::load(alloc, &image, SETTINGS),
-        Plain::load(alloc, &image, SETTINGS),
-    ) else {
-        return format!(in alloc; "no memory");
-    };
+// What came of steps on both machines.
+#[derive(Clone, Copy)]
+enum Together {
+    // Both did the same at each, and this at the last one.
+    Same(Stepped),
+    Differ,
+    NoHart,
+}
+
+// So many steps of hart 1 on both machines.
+fn step_both(machine: &mut Machine, plain: &mut Plain<'_>, steps: u32) -> Together {
     let mut answer = Stepped::Hit;
     for _ in 0..steps {
         if machine.harts() < 2 || plain.harts() < 2 {
-            return format!(in alloc; "no such hart");
+            return Together::NoHart;
         }
         answer = machine.step(1);
-        if plain.step(1) != answer || !same(&machine, &plain) {
-            return format!(in alloc; "the machines differ");
+        if plain.step(1) != answer || !same(machine, plain) {
+            return Together::Differ;
         }
     }
-    if machine.harts() < 2 {
-        return format!(in alloc; "no such hart");
+    Together::Same(answer)
+}
+
+fn told(alloc: Global, machine: &Machine, together: Together) -> Result<String, AllocError> {
+    match together {
+        Together::Same(answer) if machine.harts() > 1 => shown(alloc, machine, answer),
+        Together::Differ => format!(in alloc; "the machines differ"),
+        _ => format!(in alloc; "no such hart"),
     }
-    shown(alloc, &machine, answer)
+}
+
+// The machines are owned by functions with one way out each: what is let go of at many costs the proof as often.
+fn beside_plain(
+    alloc: Global,
+    image: &Image,
+    machine: &mut Machine,
+    steps: u32,
+) -> Result<String, AllocError> {
+    match Plain::load(alloc, image, SETTINGS) {
+        Ok(mut plain) => {
+            let together = step_both(machine, &mut plain, steps);
+            told(alloc, machine, together)
+        }
+        Err(_) => format!(in alloc; "no memory"),
+    }
+}
+
+fn over(alloc: Global, image: &Image, steps: u32) -> Result<String, AllocError> {
+    match Machine::load(alloc, image, SETTINGS) {
+        Ok(mut machine) => beside_plain(alloc, image, &mut machine, steps),
+        Err(_) => format!(in alloc; "no memory"),
+    }
+}
+
+/// So many steps of hart 1 on both machines, which do the same at each, unless it is said that they don't.
+pub fn stepped(alloc: Global, steps: u32, words: &str) -> Result<String, AllocError> {
+    match image_of(alloc, words) {
+        Some(image) => over(alloc, &image, steps),
+        None => format!(in alloc; "no program"),
+    }
 }
