@@ -12,23 +12,13 @@ mod sessions;
 mod topics;
 
 use dbg_engine::{moves_mark, one_instruction_or_none};
-use script_rows::{is_remark, tell};
 use std::{fs, io};
-use topics::Benches;
+use topics::{Benches, play_on};
 
 fn main(rt: HostRuntime) -> io::Result<()> {
     moves_mark();
     one_instruction_or_none();
     let alloc = rt.alloc();
-    let mut benches = Benches::new(alloc, fs::read(&rt, "lines")?);
-    for row in rt.lines(alloc) {
-        let row = row?;
-        let text = row.as_str();
-        if is_remark(text) {
-            println!(rt; "{text}")?;
-        } else {
-            tell(&rt, text, benches.answer(&rt, alloc, text))?;
-        }
-    }
-    Ok(())
+    let lines = fs::read(&rt, "lines")?;
+    play_on(&rt, alloc, &mut Benches::new(alloc, lines))
 }

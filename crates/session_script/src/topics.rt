@@ -2,8 +2,10 @@
 use crate::engines::EngineBench;
 use crate::interface::InterfaceBench;
 use crate::sessions::SessionBench;
-use script_rows::{Bench, RowFault};
+use script_rows::{Bench, RowFault, is_remark, tell};
 use std::alloc::Global;
+use std::io;
+use std::io::{Input, Print};
 use std::sync::Wait;
 use std::thread::Threads;
 
@@ -53,13 +55,19 @@ impl Benches {
         Ok(format!(in alloc; "from here on")?)
     }
 
-    /// What came of a row, as a text of one line.
-    pub fn answer<R: Threads + Wait + Sync>(
-        &mut self,
-        rt: &R,
-        alloc: Global,
-        row: &str,
-    ) -> Result<String, RowFault> {
+    // What a row `run TRIAL` says of its session. None for any other row.
+    fn trial_of<'a>(&self, row: &'a str) -> Option<&'a str> {
+        let (word, rest) = row.split_once(' ').unwrap_or((row, ""));
+        match self.topic {
+            Topic::Sessions if word == "run" => Some(rest),
+            _ => None,
+        }
+    }
+}
+
+impl Bench for Benches {
+    /// What came of a row that runs no session.
+    fn answer(&mut self, alloc: Global, row: &str) -> Result<String, RowFault> {
         let (word, rest) = row.split_once(' ').unwrap_or((row, ""));
         if word == "in" {
             return self.turn_to(alloc, rest);
@@ -67,8 +75,27 @@ impl Benches {
         match self.topic {
             Topic::Interface => self.interface.answer(alloc, row),
             Topic::Engines => self.engines.answer(alloc, row),
-            Topic::Sessions if word == "run" => self.sessions.run(rt, alloc, rest),
             Topic::Sessions => self.sessions.answer(alloc, row),
         }
     }
+}
+
+/// Plays the lines of the input, and prints each with what came of it. A remark is printed as it stands.
+pub fn play_on<R: Input + Print + Threads + Wait + Sync>(
+    rt: &R,
+    alloc: Global,
+    benches: &mut Benches,
+) -> io::Result<()> {
+    for row in rt.lines(alloc) {
+        let row = row?;
+        let text = row.as_str();
+        if is_remark(text) {
+            println!(rt; "{text}")?;
+        } else if let Some(trial) = benches.trial_of(text) {
+            tell(rt, text, benches.sessions.run(rt, alloc, trial))?;
+        } else {
+            tell(rt, text, benches.answer(alloc, text))?;
+        }
+    }
+    Ok(())
 }

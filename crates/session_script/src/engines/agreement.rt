@@ -94,14 +94,34 @@ fn shows(engine: &Engine, state: &ModelState) -> bool {
     engine.all_gone() == gone && same_breakpoints(engine.table().entries(), state.breakpoints())
 }
 
+fn shows_left(
+    engine: &Engine,
+    left: &Result<Option<ModelState>, NoMemory>,
+) -> Result<bool, AllocError> {
+    match left {
+        Ok(Some(state)) => Ok(shows(engine, state)),
+        Ok(None) => Ok(false),
+        Err(NoMemory) => Err(AllocError),
+    }
+}
+
+// The state is let go of here and nowhere else, since it is large.
+fn shows_replayed(
+    alloc: Global,
+    opening: &Opening,
+    engine: &Engine,
+    journal: &Journal,
+) -> Result<bool, AllocError>
+    requires { AreSettings opening.now.settings }
+{
+    let left = replay(alloc, opening, journal);
+    shows_left(engine, &left)
+}
+
 /// Whether an engine shows the state that its journal leaves; false where the journal isn't lawful.
 pub fn agrees(alloc: Global, opening: &Opening, engine: &Engine) -> Result<bool, AllocError>
     requires { AreSettings opening.now.settings }
 {
     let journal = journal_of(alloc, engine)?;
-    match replay(alloc, opening, &journal) {
-        Ok(Some(state)) => Ok(shows(engine, &state)),
-        Ok(None) => Ok(false),
-        Err(NoMemory) => Err(AllocError),
-    }
+    shows_replayed(alloc, opening, engine, &journal)
 }

@@ -1,8 +1,10 @@
 // Journals that are written down, and gone through.
 ghost use Rattle.dbg_traits.specs.Settings.{AreSettings};
 
-use dbg_model::{Entry, Fired, Journal, Opening, Poke, Why};
+use break_table::BreakEntry;
+use dbg_model::{Entry, Fired, Hart, Journal, Opening, Poke, Why};
 use dbg_replay::{ModelState, replay};
+use dbg_traits::NoMemory;
 use mi_commands::ByteList;
 use rv_exec::Cause;
 use script_rows::{before, number};
@@ -78,17 +80,14 @@ fn byte(alloc: Global, address: &str) -> Option<Entry> {
     })
 }
 
-// An entry: one of a hart, `did LINE`, or a write, `byte ADDRESS` or `register HART NUMBER`.
-fn read_entry(alloc: Global, text: &str) -> Option<Entry> {
-    let (word, rest) = text.split_once(' ')?;
-    if word == "did" {
-        return Some(Entry::Did {
-            line: ByteList::of(rest.as_bytes().to_vec(alloc).ok()?),
-        });
-    }
-    if word == "byte" {
-        return byte(alloc, rest);
-    }
+fn did(alloc: Global, line: &str) -> Option<Entry> {
+    Some(Entry::Did {
+        line: ByteList::of(line.as_bytes().to_vec(alloc).ok()?),
+    })
+}
+
+// An entry of a hart, or a write of its register, `register HART NUMBER`.
+fn read_of_hart(word: &str, rest: &str) -> Option<Entry> {
     let (hart, rest) = before(rest)?;
     if word == "register" {
         return register(hart, rest);
@@ -96,52 +95,105 @@ fn read_entry(alloc: Global, text: &str) -> Option<Entry> {
     entry_of(word, hart, rest)
 }
 
-fn read_journal(alloc: Global, text: &str) -> Option<Journal> {
-    let mut entries = Vec::new(alloc);
+// An entry: one of a hart, `did LINE`, or a write, `byte ADDRESS` or `register HART NUMBER`.
+fn read_entry(alloc: Global, text: &str) -> Option<Entry> {
+    let (word, rest) = text.split_once(' ')?;
+    match word {
+        "did" => did(alloc, rest),
+        "byte" => byte(alloc, rest),
+        _ => read_of_hart(word, rest),
+    }
+}
+
+fn push_entry(alloc: Global, text: &str, into: &mut Vec<Entry>) -> Option<()> {
+    into.push(read_entry(alloc, text)?).ok()
+}
+
+fn push_entries(alloc: Global, text: &str, into: &mut Vec<Entry>) -> Option<()> {
     for one in text.split(';') {
         if !one.is_empty() {
-            entries.push(read_entry(alloc, one)?).ok()?;
+            push_entry(alloc, one, into)?;
         }
     }
+    Some(())
+}
+
+fn read_journal(alloc: Global, text: &str) -> Option<Journal> {
+    let mut entries = Vec::new(alloc);
+    push_entries(alloc, text, &mut entries)?;
     Some(Journal::of(entries))
+}
+
+fn told_hart(alloc: Global, hart: &Hart) -> Result<String, AllocError> {
+    let mode = hart.mode;
+    let (a0, a7, pc) = (hart.regs.get(10), hart.regs.get(17), hart.regs.pc());
+    format!(in alloc; "{mode:?} a0 {a0} a7 {a7} pc {pc:#x}")
+}
+
+fn with_counts(alloc: Global, told: &str, state: &ModelState) -> Result<String, AllocError> {
+    let (retired, selected) = (state.retired(), state.selected());
+    let (written, passed) = (state.output().len(), state.passed());
+    format!(in alloc;
+        "{told}, {retired} retired, thread {selected}, {written} written, passed {passed:?}"
+    )
+}
+
+fn with_breakpoint(alloc: Global, told: &str, entry: &BreakEntry) -> Result<String, AllocError> {
+    let (number, address, times) = (entry.number, entry.address, entry.times);
+    format!(in alloc; "{told}, breakpoint {number} at {address:#x} {times} times")
+}
+
+fn with_first_breakpoint(
+    alloc: Global,
+    told: String,
+    breakpoints: &[BreakEntry],
+) -> Result<String, AllocError> {
+    match breakpoints.first() {
+        Some(entry) => with_breakpoint(alloc, &told, entry),
+        None => Ok(told),
+    }
+}
+
+fn with_first_hart(alloc: Global, hart: &Hart, state: &ModelState) -> Result<String, AllocError> {
+    let told = told_hart(alloc, hart)?;
+    with_counts(alloc, &told, state)
 }
 
 // What a journal leaves: of the first hart its mode, a0, a7 and pc; the instructions, the selected thread, how many bytes
 // were written, how often breakpoints were stepped over, and of the first breakpoint its number, place and times.
 fn left(alloc: Global, state: &ModelState) -> Result<String, AllocError> {
     let Some(hart) = state.harts().first() else {
-        return format!(in alloc; "no hart");
+        return String::from_str(alloc, "no hart");
     };
-    let (mode, a0, a7, pc) = (
-        hart.mode,
-        hart.regs.get(10),
-        hart.regs.get(17),
-        hart.regs.pc(),
-    );
-    let (retired, selected) = (state.retired(), state.selected());
-    let (written, passed) = (state.output().len(), state.passed());
-    let harts = format!(in alloc;
-        "{mode:?} a0 {a0} a7 {a7} pc {pc:#x}, {retired} retired, thread {selected}, {written} written, passed {passed:?}"
-    )?;
-    match state.breakpoints().first() {
-        Some(entry) => {
-            let (number, address, times) = (entry.number, entry.address, entry.times);
-            format!(in alloc; "{harts}, breakpoint {number} at {address:#x} {times} times")
-        }
-        None => Ok(harts),
+    let told = with_first_hart(alloc, hart, state)?;
+    with_first_breakpoint(alloc, told, state.breakpoints())
+}
+
+fn told_left(
+    alloc: Global,
+    replayed: &Result<Option<ModelState>, NoMemory>,
+) -> Result<String, AllocError> {
+    match replayed {
+        Ok(Some(state)) => left(alloc, state),
+        Ok(None) => String::from_str(alloc, "unlawful"),
+        Err(NoMemory) => String::from_str(alloc, "no memory"),
     }
+}
+
+// The state is let go of here and nowhere else, since it is large.
+fn told_replayed(alloc: Global, opening: &Opening, journal: &Journal) -> Result<String, AllocError>
+    requires { AreSettings opening.now.settings }
+{
+    let replayed = replay(alloc, opening, journal);
+    told_left(alloc, &replayed)
 }
 
 /// Whether entries, which `;` parts, are a lawful journal, and then what it leaves.
 pub fn told_of(alloc: Global, opening: &Opening, text: &str) -> Result<String, AllocError>
     requires { AreSettings opening.now.settings }
 {
-    let Some(journal) = read_journal(alloc, text) else {
-        return format!(in alloc; "no such entry");
-    };
-    match replay(alloc, opening, &journal) {
-        Ok(Some(state)) => left(alloc, &state),
-        Ok(None) => format!(in alloc; "unlawful"),
-        Err(_) => format!(in alloc; "no memory"),
+    match read_journal(alloc, text) {
+        Some(journal) => told_replayed(alloc, opening, &journal),
+        None => String::from_str(alloc, "no such entry"),
     }
 }

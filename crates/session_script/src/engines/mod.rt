@@ -12,7 +12,7 @@ mod turns;
 
 use programs::Load;
 use script_rows::{Bench, RowFault};
-use std::alloc::Global;
+use std::alloc::{AllocError, Global};
 use subject::Subject;
 
 /// The engine over the program of the last row that loads one. None where that couldn't be loaded.
@@ -26,16 +26,25 @@ impl EngineBench {
     pub fn new() -> EngineBench {
         EngineBench { subject: None }
     }
+
+    // The engine that was there is let go of here and nowhere else, since it is large.
+    fn load(&mut self, alloc: Global, load: Load<'_>) {
+        self.subject = Subject::load(alloc, load);
+    }
+}
+
+fn told(alloc: Global, subject: &mut Option<Subject>, row: &str) -> Result<String, AllocError> {
+    match subject {
+        Some(subject) => subject.answer(alloc, row),
+        None => String::from_str(alloc, "no program is loaded"),
+    }
 }
 
 impl Bench for EngineBench {
     fn answer(&mut self, alloc: Global, row: &str) -> Result<String, RowFault> {
         if let Some(load) = Load::read(row) {
-            self.subject = Subject::load(alloc, load);
+            self.load(alloc, load);
         }
-        match &mut self.subject {
-            Some(subject) => Ok(subject.answer(alloc, row)?),
-            None => Ok(format!(in alloc; "no program is loaded")?),
-        }
+        Ok(told(alloc, &mut self.subject, row)?)
     }
 }

@@ -54,6 +54,29 @@ fn read_settings(text: &str) -> Option<(Settings, &str)> {
     Some((settings, text))
 }
 
+fn load_words(text: &str) -> Option<Load<'_>> {
+    let (settings, words) = read_settings(text)?;
+    Some(Load {
+        settings,
+        source: Source::Words(words),
+    })
+}
+
+fn load_file(text: &str) -> Option<Load<'_>> {
+    let (settings, bytes) = read_settings(text)?;
+    Some(Load {
+        settings,
+        source: Source::File(bytes),
+    })
+}
+
+fn load_generated(text: &str) -> Option<Load<'_>> {
+    Some(Load {
+        settings: ONE_HART,
+        source: Source::Number(number(text)?),
+    })
+}
+
 impl<'a> Load<'a> {
     /// The program that a line loads. None where it loads none.
     ///
@@ -61,22 +84,12 @@ impl<'a> Load<'a> {
     /// bytes of an ELF file, and `generate N` the number of a program that is made, for one hart and no slot.
     pub fn read(line: &'a str) -> Option<Load<'a>> {
         let (word, rest) = line.split_once(' ')?;
-        if word == "generate" {
-            return Some(Load {
-                settings: ONE_HART,
-                source: Source::Number(number(rest)?),
-            });
+        match word {
+            "load" => load_words(rest),
+            "file" => load_file(rest),
+            "generate" => load_generated(rest),
+            _ => None,
         }
-        if word != "load" && word != "file" {
-            return None;
-        }
-        let (settings, rest) = read_settings(rest)?;
-        let source = if word == "load" {
-            Source::Words(rest)
-        } else {
-            Source::File(rest)
-        };
-        Some(Load { settings, source })
     }
 
     /// The opening over the program. None where its settings or it are none, or memory runs out.

@@ -49,6 +49,32 @@ fn read_slice(text: &str) -> Option<Step<'_>> {
     Some(Step::Slice { hart, lines })
 }
 
+// What a line of a word and a number asks for.
+fn read_numbered(word: &str, text: &str) -> Option<Step<'static>> {
+    let number = number(text)?;
+    match word {
+        "turn" => Some(Step::Turn(number)),
+        "at" => Some(Step::At(number)),
+        "planted" => Some(Step::Planted(number)),
+        "next" => Some(Step::Next(number)),
+        "frame" => Some(Step::Frame(number)),
+        _ => None,
+    }
+}
+
+// What a line asks for that loads no program.
+fn read_worded<'a>(word: &str, rest: &'a str) -> Option<Step<'a>> {
+    match word {
+        "line" => Some(Step::Line(rest)),
+        "run" => read_run(rest),
+        "go" => read_go(rest),
+        "slice" => read_slice(rest),
+        "over" => Some(Step::Over),
+        "journal" => Some(Step::Journal(rest)),
+        _ => read_numbered(word, rest),
+    }
+}
+
 impl<'a> Step<'a> {
     /// What a line asks for. None where that is nothing that is known.
     pub fn read(line: &'a str) -> Option<Step<'a>> {
@@ -56,19 +82,6 @@ impl<'a> Step<'a> {
             return Some(Step::Loaded);
         }
         let (word, rest) = line.split_once(' ').unwrap_or((line, ""));
-        match word {
-            "line" => Some(Step::Line(rest)),
-            "turn" => Some(Step::Turn(number(rest)?)),
-            "run" => read_run(rest),
-            "go" => read_go(rest),
-            "slice" => read_slice(rest),
-            "at" => Some(Step::At(number(rest)?)),
-            "planted" => Some(Step::Planted(number(rest)?)),
-            "next" => Some(Step::Next(number(rest)?)),
-            "over" => Some(Step::Over),
-            "frame" => Some(Step::Frame(number(rest)?)),
-            "journal" => Some(Step::Journal(rest)),
-            _ => None,
-        }
+        read_worded(word, rest)
     }
 }

@@ -25,10 +25,7 @@ pub struct Subject {
 // What came of a step that changes the engine.
 fn moved(alloc: Global, engine: &mut Engine, step: Step<'_>) -> Result<String, AllocError> {
     match step {
-        Step::Line(line) => {
-            let told = done(alloc, engine, line);
-            format!(in alloc; "{told}")
-        }
+        Step::Line(line) => String::from_str(alloc, done(alloc, engine, line)),
         Step::Turn(hart) => turn(alloc, engine, hart),
         Step::Run { hart, limit } => run(alloc, engine, hart, limit),
         Step::Go { hart, limit } => go(alloc, engine, hart, limit),
@@ -37,28 +34,35 @@ fn moved(alloc: Global, engine: &mut Engine, step: Step<'_>) -> Result<String, A
     }
 }
 
+fn told_planted(alloc: Global, engine: &Engine, address: u32) -> Result<String, AllocError> {
+    let planted = engine.planted(address);
+    format!(in alloc; "{planted}")
+}
+
+fn told_next(alloc: Global, engine: &Engine, from: u32) -> Result<String, AllocError> {
+    let next = engine.next_running(from as usize, &[]);
+    format!(in alloc; "{next:?}")
+}
+
+fn told_frame_at(alloc: Global, engine: &Engine, address: u32) -> Result<String, AllocError> {
+    let frame = shown_frame(alloc, engine.sources(), address, address)?;
+    told_frame(alloc, &frame)
+}
+
 // What is asked of an engine.
 fn shown(alloc: Global, engine: &Engine, step: Step<'_>) -> Result<String, AllocError> {
     match step {
         Step::At(hart) => at(alloc, engine, hart),
-        Step::Frame(address) => told_frame(
-            alloc,
-            &shown_frame(alloc, engine.sources(), address, address)?,
-        ),
-        Step::Planted(address) => {
-            let planted = engine.planted(address);
-            format!(in alloc; "{planted}")
-        }
-        Step::Next(from) => {
-            let next = engine.next_running(from as usize, &[]);
-            format!(in alloc; "{next:?}")
-        }
-        Step::Over => {
-            let told = told_end(engine.over());
-            format!(in alloc; "{told}")
-        }
-        _ => format!(in alloc; "loaded"),
+        Step::Frame(address) => told_frame_at(alloc, engine, address),
+        Step::Planted(address) => told_planted(alloc, engine, address),
+        Step::Next(from) => told_next(alloc, engine, from),
+        Step::Over => String::from_str(alloc, told_end(engine.over())),
+        _ => String::from_str(alloc, "loaded"),
     }
+}
+
+fn otherwise(alloc: Global, told: &str) -> Result<String, AllocError> {
+    format!(in alloc; "{told}, and the journal leaves another state")
 }
 
 impl Subject {
@@ -80,21 +84,29 @@ impl Subject {
         }
     }
 
-    /// What came of a line; and where it noted something, whether the journal leaves what the engine shows, if it doesn't.
-    pub fn answer(&mut self, alloc: Global, line: &str) -> Result<String, AllocError> {
-        let Some(step) = Step::read(line) else {
-            return format!(in alloc; "no such step");
-        };
-        let told = self.told(alloc, step)?;
+    // Whether the journal leaves what the engine shows, where something was noted since that was last asked.
+    fn still_agrees(&mut self, alloc: Global) -> Result<bool, AllocError> {
         let entries = self.engine.entries().len();
         if entries == self.compared {
-            return Ok(told);
+            return Ok(true);
         }
         self.compared = entries;
-        if agrees(alloc, &self.opening, &self.engine)? {
-            Ok(told)
-        } else {
-            format!(in alloc; "{told}, and the journal leaves another state")
+        agrees(alloc, &self.opening, &self.engine)
+    }
+
+    fn told_compared(&mut self, alloc: Global, step: Step<'_>) -> Result<String, AllocError> {
+        let told = self.told(alloc, step)?;
+        if self.still_agrees(alloc)? {
+            return Ok(told);
+        }
+        otherwise(alloc, &told)
+    }
+
+    /// What came of a line; and where it noted something, whether the journal leaves what the engine shows, if it doesn't.
+    pub fn answer(&mut self, alloc: Global, line: &str) -> Result<String, AllocError> {
+        match Step::read(line) {
+            Some(step) => self.told_compared(alloc, step),
+            None => String::from_str(alloc, "no such step"),
         }
     }
 }

@@ -41,28 +41,52 @@ fn of_insertion(alloc: Global, i: &Insertion) -> Result<String, AllocError> {
     )
 }
 
+fn of_condition(
+    alloc: Global,
+    number: u32,
+    condition: &Option<ByteList>,
+) -> Result<String, AllocError> {
+    let condition = option_of(condition);
+    format!(in alloc; "condition {number} {condition:?}")
+}
+
+fn of_evaluation(
+    alloc: Global,
+    thread: Option<u32>,
+    expression: &ByteList,
+) -> Result<String, AllocError> {
+    let expression = text_of(expression.as_slice());
+    format!(in alloc; "evaluate {thread:?} {expression}")
+}
+
+// A register is set, of this number and to this value.
+fn of_setting(
+    alloc: Global,
+    thread: Option<u32>,
+    name: &ByteList,
+    (register, value): (u32, u32),
+) -> Result<String, AllocError> {
+    let name = text_of(name.as_slice());
+    format!(in alloc; "set {thread:?} {name} {register} {value}")
+}
+
+fn of_textless(alloc: Global, command: &Command) -> Result<String, AllocError> {
+    format!(in alloc; "{command:?}")
+}
+
 // Bytes are shown as texts.
 fn of_command(alloc: Global, command: &Command) -> Result<String, AllocError> {
     match command {
         Command::BreakInsert(insertion) => of_insertion(alloc, insertion),
-        Command::BreakCondition { number, condition } => {
-            let condition = option_of(condition);
-            format!(in alloc; "condition {number} {condition:?}")
-        }
-        Command::Evaluate { thread, expression } => {
-            let expression = text_of(expression.as_slice());
-            format!(in alloc; "evaluate {thread:?} {expression}")
-        }
+        Command::BreakCondition { number, condition } => of_condition(alloc, *number, condition),
+        Command::Evaluate { thread, expression } => of_evaluation(alloc, *thread, expression),
         Command::SetRegister {
             thread,
             name,
             register,
             value,
-        } => {
-            let name = text_of(name.as_slice());
-            format!(in alloc; "set {thread:?} {name} {register} {value}")
-        }
-        _ => format!(in alloc; "{command:?}"),
+        } => of_setting(alloc, *thread, name, (*register, *value)),
+        _ => of_textless(alloc, command),
     }
 }
 
@@ -99,12 +123,21 @@ fn of_line(alloc: Global, line: &CommandLine) -> Result<String, AllocError> {
     behind(alloc, &line.token, text.as_str())
 }
 
+fn of_read(alloc: Global, read: &Result<CommandLine, Refusal>) -> Result<String, AllocError> {
+    match read {
+        Ok(line) => of_line(alloc, line),
+        Err(refusal) => of_refusal(alloc, refusal),
+    }
+}
+
+// What was read is let go of here and nowhere else, since it is large.
+fn told(alloc: Global, line: &[u8]) -> Result<String, AllocError> {
+    let read = command_of(alloc, line);
+    of_read(alloc, &read)
+}
+
 /// What came of a row `command LINE`: the line's token, and its command or the number of its fault.
 pub fn answer(alloc: Global, line: &str) -> Result<String, RowFault> {
     let line = read_bytes(alloc, line)?;
-    let told = match command_of(alloc, &line) {
-        Ok(line) => of_line(alloc, &line),
-        Err(refusal) => of_refusal(alloc, &refusal),
-    };
-    Ok(told?)
+    Ok(told(alloc, &line)?)
 }

@@ -31,13 +31,50 @@ fn thread(alloc: Global, number: u32, state: &str) -> Result<Thread, RowFault> {
     Ok(Thread { number, stopped_at })
 }
 
+fn push_thread(
+    alloc: Global,
+    number: u32,
+    state: &str,
+    into: &mut Vec<Thread>,
+) -> Result<(), RowFault> {
+    Ok(into.push(thread(alloc, number, state)?)?)
+}
+
 // Threads whose numbers count from 1.
+fn push_threads(alloc: Global, states: &str, into: &mut Vec<Thread>) -> Result<(), RowFault> {
+    let mut number = 1u32;
+    for state in states.split_ascii_whitespace() {
+        push_thread(alloc, number, state, into)?;
+        number = number.saturating_add(1);
+    }
+    Ok(())
+}
+
 fn threads(alloc: Global, states: &str) -> Result<ThreadList, RowFault> {
     let mut threads = Vec::new(alloc);
-    for (number, state) in (1..=u32::MAX).zip(states.split_ascii_whitespace()) {
-        threads.push(thread(alloc, number, state)?)?;
-    }
+    push_threads(alloc, states, &mut threads)?;
     Ok(ThreadList::of(threads))
+}
+
+fn with_threads(alloc: Global, selected: u32, states: &str) -> Result<Content, RowFault> {
+    Ok(Content::Threads {
+        threads: threads(alloc, states)?,
+        selected,
+    })
+}
+
+fn with_numbers(alloc: Global, selected: u32, words: &str) -> Result<Content, RowFault> {
+    Ok(Content::ThreadNumbers {
+        numbers: numbers(alloc, words)?,
+        selected,
+    })
+}
+
+fn memory(alloc: Global, address: u32, text: &str) -> Result<Content, RowFault> {
+    Ok(Content::Memory {
+        address,
+        bytes: ByteList::of(read_bytes(alloc, text)?),
+    })
 }
 
 // The registers a0 and pc.
@@ -74,18 +111,9 @@ fn numbered(alloc: Global, word: &str, rest: &str) -> Result<Content, RowFault> 
     match word {
         "selected" => Ok(Content::Selected(first)),
         "depth" => Ok(Content::Depth(first)),
-        "threads" => Ok(Content::Threads {
-            threads: threads(alloc, rest)?,
-            selected: first,
-        }),
-        "numbers" => Ok(Content::ThreadNumbers {
-            numbers: numbers(alloc, rest)?,
-            selected: first,
-        }),
-        "memory" => Ok(Content::Memory {
-            address: first,
-            bytes: ByteList::of(read_bytes(alloc, rest)?),
-        }),
+        "threads" => with_threads(alloc, first, rest),
+        "numbers" => with_numbers(alloc, first, rest),
+        "memory" => memory(alloc, first, rest),
         _ => Ok(Content::Value {
             word: first,
             unsigned: word == "unsigned",

@@ -5,7 +5,7 @@ use cond_expr::{ExprFault, FaultKind};
 use dbg_model::{Content, Obstacle, Refused};
 use mi_commands::{ByteList, Fault};
 use script_rows::{RowFault, before, read_bytes};
-use std::alloc::Global;
+use std::alloc::{AllocError, Global};
 
 // What is wrong with an expression, by the number of its message.
 fn fault(number: u32) -> Option<ExprFault> {
@@ -58,26 +58,43 @@ fn worded(number: u32, word: ByteList) -> Option<Refused> {
     }
 }
 
+fn refused_word(alloc: Global, number: u32, word: &str) -> Result<Refused, RowFault> {
+    let word = ByteList::of(read_bytes(alloc, word)?);
+    worded(number, word).ok_or(RowFault::Unknown)
+}
+
+fn hindered(number: u32) -> Option<Refused> {
+    Some(Refused::Hindered(obstacle(number)?))
+}
+
 fn refused(alloc: Global, number: u32, word: &str) -> Result<Refused, RowFault> {
     match number {
         1 => Ok(Refused::Long),
         2 => Ok(Refused::Syntax),
         3 => Ok(Refused::Cli),
         7 => Ok(Refused::Faulty(Fault::Setting)),
-        4..=6 | 13..=15 | 28 | 31 => {
-            let word = ByteList::of(read_bytes(alloc, word)?);
-            worded(number, word).ok_or(RowFault::Unknown)
-        }
-        _ => Ok(Refused::Hindered(obstacle(number).ok_or(RowFault::Unknown)?)),
+        4..=6 | 13..=15 | 28 | 31 => refused_word(alloc, number, word),
+        _ => hindered(number).ok_or(RowFault::Unknown),
     }
+}
+
+fn told_number(alloc: Global, number: u32, lines: &str) -> Result<String, AllocError> {
+    format!(in alloc; "{number} {lines}")
+}
+
+// The lines of a line with the token 17.
+fn told_lines(alloc: Global, refused: Refused) -> Result<String, RowFault> {
+    told_reply(alloc, token_of(alloc, "17")?, Content::Refused(refused))
+}
+
+fn told(alloc: Global, refused: Refused) -> Result<String, RowFault> {
+    let number = refused.number();
+    let lines = told_lines(alloc, refused)?;
+    Ok(told_number(alloc, number, &lines)?)
 }
 
 /// What came of a row `error NUMBER WORD`: the error's own number, and the lines of a line with the token 17.
 pub fn answer(alloc: Global, text: &str) -> Result<String, RowFault> {
     let (number, word) = before(text).ok_or(RowFault::Unknown)?;
-    let token = token_of(alloc, "17")?;
-    let refused = refused(alloc, number, word)?;
-    let number = refused.number();
-    let lines = told_reply(alloc, token, Content::Refused(refused))?;
-    Ok(format!(in alloc; "{number} {lines}")?)
+    told(alloc, refused(alloc, number, word)?)
 }

@@ -1,24 +1,42 @@
 // Lines of input, and their parts.
-use mi_input::{InputFault, Parts, next_line, split};
+use mi_input::{InputFault, Parts, Word, next_line, split};
 use script_rows::{RowFault, number, read_bytes, told_bytes};
 use std::alloc::{AllocError, Global};
 
-// The parts as one text: token, operation, and each word, a C string with a `"` before it.
-fn told_parts(alloc: Global, parts: &Parts) -> Result<String, AllocError> {
-    let mut out = Vec::from_slice(alloc, parts.token.as_bytes())?;
+fn push_operation(operation: &[u8], into: &mut Vec<u8>) -> Result<(), AllocError> {
+    into.push(b'-')?;
+    Ok(into.extend_from_slice(operation)?)
+}
+
+fn push_word(word: &Word, into: &mut Vec<u8>) -> Result<(), AllocError> {
+    into.push(b'|')?;
+    if word.quoted {
+        into.push(b'"')?;
+    }
+    Ok(into.extend_from_slice(&word.bytes)?)
+}
+
+// What is behind the token: the operation, and each word, a C string with a `"` before it.
+fn push_parts(parts: &Parts, into: &mut Vec<u8>) -> Result<(), AllocError> {
     if let Some(operation) = &parts.operation {
-        out.push(b'-')?;
-        out.extend_from_slice(operation)?;
+        push_operation(operation, into)?;
     }
     for word in &parts.words {
-        out.push(b'|')?;
-        if word.quoted {
-            out.push(b'"')?;
-        }
-        out.extend_from_slice(&word.bytes)?;
+        push_word(word, into)?;
     }
-    let text = told_bytes(alloc, &out)?;
+    Ok(())
+}
+
+fn bracketed(alloc: Global, bytes: &[u8]) -> Result<String, AllocError> {
+    let text = told_bytes(alloc, bytes)?;
     format!(in alloc; "[{text}]")
+}
+
+// The parts as one text.
+fn told_parts(alloc: Global, parts: &Parts) -> Result<String, AllocError> {
+    let mut out = Vec::from_slice(alloc, parts.token.as_bytes())?;
+    push_parts(parts, &mut out)?;
+    bracketed(alloc, &out)
 }
 
 fn told_fault(alloc: Global, fault: &InputFault) -> Result<String, RowFault> {
@@ -33,11 +51,21 @@ fn told_fault(alloc: Global, fault: &InputFault) -> Result<String, RowFault> {
     }
 }
 
-fn told_split(alloc: Global, line: &[u8]) -> Result<String, RowFault> {
-    match split(alloc, line) {
-        Ok(parts) => Ok(told_parts(alloc, &parts)?),
-        Err(fault) => told_fault(alloc, &fault),
+fn told_result(alloc: Global, read: &Result<Parts, InputFault>) -> Result<String, RowFault> {
+    match read {
+        Ok(parts) => Ok(told_parts(alloc, parts)?),
+        Err(fault) => told_fault(alloc, fault),
     }
+}
+
+fn told_line(alloc: Global, line: &[u8]) -> Result<String, RowFault> {
+    let read = split(alloc, line);
+    told_result(alloc, &read)
+}
+
+fn told_split(alloc: Global, text: &str) -> Result<String, RowFault> {
+    let line = read_bytes(alloc, text)?;
+    told_line(alloc, &line)
 }
 
 // Whether a line of so many bytes has parts.
@@ -63,7 +91,7 @@ fn told_next(alloc: Global, rest: &str) -> Result<String, RowFault> {
 /// What came of a row: `split LINE`, `long BYTES`, or `next STATE INPUT`, of which the state is `open` or `ended`.
 pub fn answer(alloc: Global, word: &str, rest: &str) -> Result<String, RowFault> {
     match word {
-        "split" => told_split(alloc, &read_bytes(alloc, rest)?),
+        "split" => told_split(alloc, rest),
         "long" => told_long(alloc, number(rest).ok_or(RowFault::Unknown)?),
         _ => told_next(alloc, rest),
     }

@@ -30,21 +30,26 @@ impl InterfaceBench {
     }
 }
 
+// What is put of an event.
+fn told_event(alloc: Global, word: &str, rest: &str) -> Result<String, RowFault> {
+    match word {
+        "reply" => replies::answer(alloc, rest),
+        "error" => errors::answer(alloc, rest),
+        "opening" | "left" | "stream" | "file" | "usage" => session::answer(alloc, word, rest),
+        _ => stops::answer(alloc, word, rest),
+    }
+}
+
 impl Bench for InterfaceBench {
     fn answer(&mut self, alloc: Global, row: &str) -> Result<String, RowFault> {
         let (word, rest) = row.split_once(' ').unwrap_or((row, ""));
         match word {
+            "stored" => records::told_stored(alloc, &self.lines),
             "words" | "wordless" => words::answer(alloc, word, rest),
             "split" | "long" | "next" => input::answer(alloc, word, rest),
             "command" => commands::answer(alloc, rest),
             "record" | "brackets" | "log" | "made" => records::answer(alloc, word, rest),
-            "stored" => records::told_stored(alloc, &self.lines),
-            "reply" => replies::answer(alloc, rest),
-            "error" => errors::answer(alloc, rest),
-            "opening" | "left" | "stream" | "file" | "usage" => {
-                session::answer(alloc, word, rest)
-            }
-            _ => stops::answer(alloc, word, rest),
+            _ => told_event(alloc, word, rest),
         }
     }
 }

@@ -65,19 +65,30 @@ fn told_trigger(alloc: Global, frame: &ShownFrame, numbers: &str) -> Result<Stri
     told_stop(alloc, frame, stop)
 }
 
+fn stop_of_hit(text: &str) -> Option<Stop<'static>> {
+    let (disposition, error) = text.split_once(' ').unwrap_or((text, ""));
+    Some(Stop::Hit(hit(disposition, error)?))
+}
+
 // A stop that its words say all of.
 fn stop_of(word: &str, rest: &str) -> Option<Stop<'static>> {
     match word {
         "fault" => Some(Stop::Fault(cause(rest)?)),
-        "hit" => {
-            let (disposition, error) = rest.split_once(' ').unwrap_or((rest, ""));
-            Some(Stop::Hit(hit(disposition, error)?))
-        }
+        "hit" => stop_of_hit(rest),
         "interrupted" => Some(Stop::Interrupted),
         "stepped" => Some(Stop::Stepped),
         "finished" => Some(Stop::Finished),
         _ => None,
     }
+}
+
+// The lines of a stop of these words in a frame.
+fn told(alloc: Global, frame: &ShownFrame, word: &str, rest: &str) -> Result<String, RowFault> {
+    if word == "trigger" {
+        return told_trigger(alloc, frame, rest);
+    }
+    let stop = stop_of(word, rest).ok_or(RowFault::Unknown)?;
+    told_stop(alloc, frame, stop)
 }
 
 /// What came of a row: `fault FRAME CAUSE`, `hit FRAME DISPOSITION ERROR`, `trigger FRAME WATCH OLD NEW`, `interrupted FRAME`,
@@ -86,9 +97,5 @@ fn stop_of(word: &str, rest: &str) -> Option<Stop<'static>> {
 pub fn answer(alloc: Global, word: &str, rest: &str) -> Result<String, RowFault> {
     let (known, rest) = rest.split_once(' ').unwrap_or((rest, ""));
     let frame = frame(alloc, known)?;
-    if word == "trigger" {
-        return told_trigger(alloc, &frame, rest);
-    }
-    let stop = stop_of(word, rest).ok_or(RowFault::Unknown)?;
-    told_stop(alloc, &frame, stop)
+    told(alloc, &frame, word, rest)
 }

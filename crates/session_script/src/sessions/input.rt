@@ -12,12 +12,17 @@ fn copied_cue(alloc: Global, cue: &Cue) -> Result<Cue, AllocError> {
     })
 }
 
+fn push_copies(alloc: Global, cues: &[Cue], into: &mut Vec<Cue>) -> Result<(), AllocError> {
+    for cue in cues {
+        into.push(copied_cue(alloc, cue)?)?;
+    }
+    Ok(())
+}
+
 /// The same cues once more.
 pub fn copied(alloc: Global, cues: &[Cue]) -> Result<Vec<Cue>, AllocError> {
     let mut copies = Vec::new(alloc);
-    for cue in cues {
-        copies.push(copied_cue(alloc, cue)?)?;
-    }
+    push_copies(alloc, cues, &mut copies)?;
     Ok(copies)
 }
 
@@ -29,33 +34,58 @@ fn push_blanks(input: &mut Vec<u8>, blanks: u32) -> Result<(), AllocError> {
     Ok(input.push(b'\n')?)
 }
 
+// So many lines of so many blanks, and a last one of `last`, at the end of an input.
+fn push_lines(
+    input: &mut Vec<u8>,
+    (count, blanks, last): (u32, u32, u32),
+) -> Result<(), AllocError> {
+    for _ in 0..count {
+        push_blanks(input, blanks)?;
+    }
+    push_blanks(input, last)
+}
+
 // `COUNT BLANKS LAST`: so many lines of so many blanks, and a last one of LAST.
 fn blank_lines(alloc: Global, text: &str) -> Result<Vec<u8>, RowFault> {
-    let (count, blanks, last) = three(text).ok_or(RowFault::Unknown)?;
+    let lengths = three(text).ok_or(RowFault::Unknown)?;
     let mut input = Vec::new(alloc);
-    for _ in 0..count {
-        push_blanks(&mut input, blanks)?;
-    }
-    push_blanks(&mut input, last)?;
+    push_lines(&mut input, lengths)?;
     Ok(input)
+}
+
+fn generated(alloc: Global, text: &str) -> Result<Vec<u8>, RowFault> {
+    let number = number(text).ok_or(RowFault::Unknown)?;
+    Ok(script(alloc, number)?)
+}
+
+fn piece(alloc: Global, word: &str, rest: &str) -> Result<Vec<u8>, RowFault> {
+    match word {
+        "piece" => Ok(read_bytes(alloc, rest)?),
+        "lines" => blank_lines(alloc, rest),
+        "script" => generated(alloc, rest),
+        _ => Err(RowFault::Unknown),
+    }
+}
+
+fn cue(alloc: Global, word: &str, rest: &str) -> Result<Cue, RowFault> {
+    match word {
+        "fault" => Ok(Cue::Fault),
+        _ => Ok(Cue::Piece(piece(alloc, word, rest)?)),
+    }
 }
 
 /// Adds what a row says behind an input: `piece BYTES`; `lines COUNT BLANKS LAST`, a piece of so many lines of so many blanks
 /// and of a last one; `script NUMBER`, the lines of a generated run; `quiet COUNT`, so many polls that find nothing; or
 /// `fault`, a poll that fails.
 pub fn add(alloc: Global, input: &mut Vec<Cue>, word: &str, rest: &str) -> Result<(), RowFault> {
-    let cue = match word {
-        "piece" => Cue::Piece(read_bytes(alloc, rest)?),
-        "lines" => Cue::Piece(blank_lines(alloc, rest)?),
-        "script" => Cue::Piece(script(alloc, number(rest).ok_or(RowFault::Unknown)?)?),
-        "fault" => Cue::Fault,
-        "quiet" => return add_quiet(input, number(rest).ok_or(RowFault::Unknown)?),
-        _ => return Err(RowFault::Unknown),
-    };
-    Ok(input.push(cue)?)
+    if word == "quiet" {
+        return add_quiet(input, rest);
+    }
+    Ok(input.push(cue(alloc, word, rest)?)?)
 }
 
-fn add_quiet(input: &mut Vec<Cue>, count: u32) -> Result<(), RowFault> {
+fn add_quiet(input: &mut Vec<Cue>, count: &str) -> Result<(), RowFault> {
+    let count = number(count).ok_or(RowFault::Unknown)?;
     for _ in 0..count {
         input.push(Cue::Quiet)?;
     }

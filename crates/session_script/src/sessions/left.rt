@@ -1,6 +1,7 @@
 // What is left of a session, and what rows ask of it.
 use dbg_model::Entry;
 use dbg_session::Closed;
+use dbg_traits::MemWorld;
 use hart_machine::Machine;
 use script_rows::RowFault;
 use std::alloc::{AllocError, Global};
@@ -12,10 +13,14 @@ pub struct Left {
     pub closed: Option<Closed>,
 }
 
+fn ran_mark(alloc: Global, hart: u32, count: u64) -> Result<String, AllocError> {
+    format!(in alloc; "{hart}:{count}")
+}
+
 // An entry of the journal: a `Ran` by its hart and count, and any other by its first letter.
 fn mark(alloc: Global, entry: &Entry) -> Result<String, AllocError> {
     match entry {
-        Entry::Ran { hart, count } => format!(in alloc; "{hart}:{count}"),
+        Entry::Ran { hart, count } => ran_mark(alloc, *hart, *count),
         Entry::Counted { .. } => String::from_str(alloc, "C"),
         Entry::Stopped { .. } => String::from_str(alloc, "S"),
         Entry::Left { .. } => String::from_str(alloc, "L"),
@@ -24,27 +29,47 @@ fn mark(alloc: Global, entry: &Entry) -> Result<String, AllocError> {
     }
 }
 
+fn push_mark(alloc: Global, entry: &Entry, into: &mut String) -> Result<(), AllocError> {
+    if !into.is_empty() {
+        into.push(' ')?;
+    }
+    let mark = mark(alloc, entry)?;
+    Ok(into.push_str(mark.as_str())?)
+}
+
+fn push_marks(alloc: Global, entries: &[Entry], into: &mut String) -> Result<(), AllocError> {
+    for entry in entries {
+        push_mark(alloc, entry, into)?;
+    }
+    Ok(())
+}
+
 // The journal's entries, with a space between.
 fn shape(alloc: Global, entries: &[Entry]) -> Result<String, AllocError> {
     let mut shape = String::new(alloc);
-    for entry in entries {
-        if !shape.is_empty() {
-            shape.push(' ')?;
-        }
-        shape.push_str(mark(alloc, entry)?.as_str())?;
-    }
+    push_marks(alloc, entries, &mut shape)?;
     Ok(shape)
+}
+
+fn has_mark(alloc: Global, entry: &Entry, wanted: &str) -> Result<bool, AllocError> {
+    let mark = mark(alloc, entry)?;
+    Ok(mark.as_str() == wanted)
 }
 
 // How many entries have this mark.
 fn marked(alloc: Global, entries: &[Entry], wanted: &str) -> Result<u32, AllocError> {
     let mut count = 0u32;
     for entry in entries {
-        if mark(alloc, entry)?.as_str() == wanted {
+        if has_mark(alloc, entry, wanted)? {
             count = count.saturating_add(1);
         }
     }
     Ok(count)
+}
+
+fn told_marked(alloc: Global, entries: &[Entry], wanted: &str) -> Result<String, AllocError> {
+    let count = marked(alloc, entries, wanted)?;
+    format!(in alloc; "{count}")
 }
 
 // Where the first hart is, how many instructions it executed, and how many of them as copies.
@@ -67,6 +92,16 @@ fn executed(machine: &Machine) -> u64 {
     total
 }
 
+fn told_executed(alloc: Global, machine: &Machine) -> Result<String, AllocError> {
+    let executed = executed(machine);
+    format!(in alloc; "{executed}")
+}
+
+fn told_begun(alloc: Global, output: &[u8]) -> Result<String, AllocError> {
+    let count = output.len();
+    format!(in alloc; "{count} bytes of the text")
+}
+
 // What was written, beside a text.
 fn compared(alloc: Global, output: &[u8], text: &[u8]) -> Result<String, AllocError> {
     if output == text {
@@ -74,8 +109,7 @@ fn compared(alloc: Global, output: &[u8], text: &[u8]) -> Result<String, AllocEr
     } else if output.ends_with(text) {
         String::from_str(alloc, "ends with the text")
     } else if text.starts_with(output) {
-        let count = output.len();
-        format!(in alloc; "{count} bytes of the text")
+        told_begun(alloc, output)
     } else {
         String::from_str(alloc, "another")
     }
@@ -84,22 +118,28 @@ fn compared(alloc: Global, output: &[u8], text: &[u8]) -> Result<String, AllocEr
 // What is asked of a session that was begun.
 fn told(alloc: Global, closed: &Closed, word: &str, rest: &str) -> Result<String, RowFault> {
     let entries = closed.journal.entries();
-    Ok(match word {
-        "journal" => shape(alloc, entries)?,
-        "count" => {
-            let count = marked(alloc, entries, rest)?;
-            format!(in alloc; "{count}")?
-        }
-        "hart" => first_hart(alloc, &closed.machine)?,
-        "executed" => {
-            let executed = executed(&closed.machine);
-            format!(in alloc; "{executed}")?
-        }
+    let told = match word {
+        "journal" => shape(alloc, entries),
+        "count" => told_marked(alloc, entries, rest),
+        "hart" => first_hart(alloc, &closed.machine),
+        "executed" => told_executed(alloc, &closed.machine),
         _ => return Err(RowFault::Unknown),
-    })
+    };
+    Ok(told?)
+}
+
+fn told_size(alloc: Global, output: &[u8]) -> Result<String, AllocError> {
+    let size = output.len();
+    format!(in alloc; "{size}")
 }
 
 impl Left {
+    /// What is left of a session in a world.
+    pub fn of(alloc: Global, world: &MemWorld, closed: Option<Closed>) -> Result<Left, AllocError> {
+        let output = world.output().to_vec(alloc)?;
+        Ok(Left { output, closed })
+    }
+
     /// What a row asks for: `size`, how many bytes were written; `output`, what was written, beside a text; `journal`, what was
     /// done, an entry by an entry; `count MARK`, how many entries are so marked there; `hart`, where the first hart is, and how many
     /// instructions it executed; `executed`, how many all harts did. Where no session was begun the last four say so.
@@ -110,9 +150,8 @@ impl Left {
         rest: &str,
         text: &[u8],
     ) -> Result<String, RowFault> {
-        let size = self.output.len();
         match word {
-            "size" => Ok(format!(in alloc; "{size}")?),
+            "size" => Ok(told_size(alloc, self.output.as_slice())?),
             "output" => Ok(compared(alloc, self.output.as_slice(), text)?),
             _ => match &self.closed {
                 Some(closed) => told(alloc, closed, word, rest),

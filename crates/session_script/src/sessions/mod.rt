@@ -4,7 +4,8 @@ mod input;
 mod left;
 mod plan;
 
-use dbg_session::{Ended, Status, debug_run};
+use dbg_session::{Closed, Ended, Status, debug_run};
+use dbg_traits::MemWorld;
 use holding::Holding;
 use left::Left;
 use plan::{Plan, Trial};
@@ -46,6 +47,33 @@ impl SessionBench {
         }
     }
 
+    // What was left before is let go of here and nowhere else, since it is large.
+    fn leave(&mut self, left: Left) {
+        self.last = Some(left);
+    }
+
+    fn keep(
+        &mut self,
+        alloc: Global,
+        world: &MemWorld,
+        closed: Option<Closed>,
+    ) -> Result<(), AllocError> {
+        let left = Left::of(alloc, world, closed)?;
+        self.leave(left);
+        Ok(())
+    }
+
+    // Keeps what is left of a session that ended. The world is let go of here and nowhere else, since it is large.
+    fn end(&mut self, alloc: Global, ended: Ended<MemWorld>) -> Result<Status, AllocError> {
+        let Ended {
+            status,
+            world,
+            closed,
+        } = ended;
+        self.keep(alloc, &world, closed)?;
+        Ok(status)
+    }
+
     /// Runs a session, whose world and gate are as the rest of a row `run TRIAL` says, which `Trial::read` reads.
     pub fn run<R: Threads + Wait + Sync>(
         &mut self,
@@ -56,13 +84,8 @@ impl SessionBench {
         let trial = Trial::read(text).ok_or(RowFault::Unknown)?;
         let world = self.plan.world(alloc, trial)?;
         let gate = Holding::new(trial.waiting());
-        let Ended {
-            status,
-            world,
-            closed,
-        } = debug_run(rt, alloc, world, &gate);
-        let output = world.output().to_vec(alloc)?;
-        self.last = Some(Left { output, closed });
+        let ended = debug_run(rt, alloc, world, &gate);
+        let status = self.end(alloc, ended)?;
         Ok(told_end(alloc, status, trial, gate.was_met())?)
     }
 
@@ -74,12 +97,16 @@ impl SessionBench {
         }
     }
 
+    fn set_text(&mut self, alloc: Global, text: &str) -> Result<(), AllocError> {
+        self.text = read_bytes(alloc, text)?;
+        Ok(())
+    }
+
     // Describes the next session, or what it is put beside.
     fn set(&mut self, alloc: Global, word: &str, rest: &str) -> Result<String, RowFault> {
-        if word == "text" {
-            self.text = read_bytes(alloc, rest)?;
-        } else {
-            self.plan.set(alloc, word, rest)?;
+        match word {
+            "text" => self.set_text(alloc, rest)?,
+            _ => self.plan.set(alloc, word, rest)?,
         }
         Ok(String::from_str(alloc, "set")?)
     }

@@ -67,24 +67,27 @@ fn generated(alloc: Global, text: &str) -> Result<Vec<u8>, RowFault> {
     Ok(generate(alloc, number)?)
 }
 
-// The bytes of a file and zeros behind them, so many in all.
-fn lengthened(file: Option<Vec<u8>>, text: &str) -> Result<Vec<u8>, RowFault> {
-    let length = number(text).ok_or(RowFault::Unknown)?;
-    let mut file = file.ok_or(RowFault::Unknown)?;
-    file.resize(length as usize, 0)?;
-    Ok(file)
-}
-
 fn file_name(alloc: Global) -> Result<ArgText, AllocError> {
     Ok(ArgText::of(String::from_str(alloc, "f")?))
+}
+
+// A file with its name.
+fn named(alloc: Global, file: &[u8]) -> Result<(ArgText, Vec<u8>), AllocError> {
+    let bytes = file.to_vec(alloc)?;
+    Ok((file_name(alloc)?, bytes))
 }
 
 impl Plan {
     /// No words, no file and no input.
     pub fn new(alloc: Global) -> Plan {
+        Plan::over(alloc, None)
+    }
+
+    // No words and no input, but this file or none.
+    fn over(alloc: Global, file: Option<Vec<u8>>) -> Plan {
         Plan {
             words: Vec::new(alloc),
-            file: None,
+            file,
             input: Vec::new(alloc),
             most: (WHOLE, WHOLE, WHOLE),
         }
@@ -92,19 +95,52 @@ impl Plan {
 
     // Begins again, with this file or none.
     fn begin(&mut self, alloc: Global, file: Option<Vec<u8>>) {
-        *self = Plan::new(alloc);
-        self.file = file;
+        *self = Plan::over(alloc, file);
+    }
+
+    fn begin_program(&mut self, alloc: Global, words: &str) -> Result<(), RowFault> {
+        let file = words_file(alloc, words)?;
+        self.begin(alloc, Some(file));
+        Ok(())
+    }
+
+    fn begin_generated(&mut self, alloc: Global, text: &str) -> Result<(), RowFault> {
+        let file = generated(alloc, text)?;
+        self.begin(alloc, Some(file));
+        Ok(())
+    }
+
+    // Puts zeros behind the file, so that it has so many bytes.
+    fn lengthen(&mut self, text: &str) -> Result<(), RowFault> {
+        let length = number(text).ok_or(RowFault::Unknown)?;
+        let file = self.file.as_mut().ok_or(RowFault::Unknown)?;
+        Ok(file.resize(length as usize, 0)?)
+    }
+
+    fn set_options(&mut self, alloc: Global, text: &str) -> Result<(), AllocError> {
+        self.words = arguments(alloc, text)?;
+        Ok(())
+    }
+
+    fn set_most(&mut self, text: &str) -> Result<(), RowFault> {
+        self.most = three(text).ok_or(RowFault::Unknown)?;
+        Ok(())
+    }
+
+    fn push_words(&self, alloc: Global, into: &mut Vec<ArgText>) -> Result<(), NoMemory> {
+        for word in &self.words {
+            into.push(word.copy()?)?;
+        }
+        if self.file.is_some() {
+            into.push(file_name(alloc)?)?;
+        }
+        Ok(())
     }
 
     // The words and the name of the file.
     fn words(&self, alloc: Global) -> Result<Vec<ArgText>, NoMemory> {
         let mut words = Vec::new(alloc);
-        for word in &self.words {
-            words.push(word.copy()?)?;
-        }
-        if self.file.is_some() {
-            words.push(file_name(alloc)?)?;
-        }
+        self.push_words(alloc, &mut words)?;
         Ok(words)
     }
 
@@ -112,8 +148,7 @@ impl Plan {
     fn files(&self, alloc: Global) -> Result<Vec<(ArgText, Vec<u8>)>, AllocError> {
         let mut files = Vec::new(alloc);
         if let Some(file) = &self.file {
-            let bytes = file.as_slice().to_vec(alloc)?;
-            files.push((file_name(alloc)?, bytes))?;
+            files.push(named(alloc, file.as_slice())?)?;
         }
         Ok(files)
     }
@@ -124,15 +159,14 @@ impl Plan {
     /// greatest lengths of one read, one poll and one put; and rows of `input`.
     pub fn set(&mut self, alloc: Global, word: &str, rest: &str) -> Result<(), RowFault> {
         match word {
-            "program" => self.begin(alloc, Some(words_file(alloc, rest)?)),
-            "generated" => self.begin(alloc, Some(generated(alloc, rest)?)),
-            "fileless" => self.begin(alloc, None),
-            "length" => self.file = Some(lengthened(self.file.take(), rest)?),
-            "options" => self.words = arguments(alloc, rest)?,
-            "most" => self.most = three(rest).ok_or(RowFault::Unknown)?,
-            _ => input::add(alloc, &mut self.input, word, rest)?,
+            "program" => self.begin_program(alloc, rest),
+            "generated" => self.begin_generated(alloc, rest),
+            "fileless" => Ok(self.begin(alloc, None)),
+            "length" => self.lengthen(rest),
+            "options" => Ok(self.set_options(alloc, rest)?),
+            "most" => self.set_most(rest),
+            _ => input::add(alloc, &mut self.input, word, rest),
         }
-        Ok(())
     }
 
     fn limits(&self, alloc: Global, trial: Trial) -> Result<Limits, RowFault> {
@@ -151,14 +185,27 @@ impl Plan {
         })
     }
 
+    // The world of a trial, with these words and files.
+    fn world_of(
+        &self,
+        alloc: Global,
+        trial: Trial,
+        words: Vec<ArgText>,
+        files: Vec<(ArgText, Vec<u8>)>,
+    ) -> Result<MemWorld, RowFault>
+        ensures { IfOk result (λ w. IsFresh (told_of w)) }
+    {
+        let input = input::copied(alloc, &self.input)?;
+        let limits = self.limits(alloc, trial)?;
+        Ok(MemWorld::new(alloc, words, files, input, limits))
+    }
+
     /// The world of a trial.
     pub fn world(&self, alloc: Global, trial: Trial) -> Result<MemWorld, RowFault>
         ensures { IfOk result (λ w. IsFresh (told_of w)) }
     {
         let words = self.words(alloc)?;
         let files = self.files(alloc)?;
-        let input = input::copied(alloc, &self.input)?;
-        let limits = self.limits(alloc, trial)?;
-        Ok(MemWorld::new(alloc, words, files, input, limits))
+        self.world_of(alloc, trial, words, files)
     }
 }
