@@ -10,15 +10,15 @@ mod expressions;
 mod files;
 mod images;
 mod lines;
+mod texts;
 mod topics;
 mod variables;
 
 use cond_expr::parsed_is_tree;
 use std::io;
-use topics::{Benches, play_on};
+use topics::play_rows;
 
 fn main(rt: HostRuntime) -> io::Result<()> {
     parsed_is_tree();
-    let alloc = rt.alloc();
-    play_on(&rt, alloc, &mut Benches::new(alloc))
+    play_rows(&rt, rt.alloc())
 }

@@ -32,7 +32,7 @@ impl Topic {
 
 /// A bench for each topic, and the topic whose bench answers.
 #[derive(Drop)]
-pub struct Benches {
+struct Benches {
     files: FileBench,
     expressions: ExpressionBench,
     lines: LineBench,
@@ -41,8 +41,8 @@ pub struct Benches {
 }
 
 impl Benches {
-    /// Benches on which nothing was done.
-    pub fn new(alloc: Global) -> Benches {
+    // Benches on which nothing was done.
+    fn new(alloc: Global) -> Benches {
         Benches {
             files: FileBench::new(),
             expressions: ExpressionBench::new(),
@@ -52,8 +52,8 @@ impl Benches {
         }
     }
 
-    /// What is said of a row before its answer.
-    pub fn label<'a>(&self, row: &'a str) -> &'a str {
+    // What is said of a row before its answer.
+    fn label<'a>(&self, row: &'a str) -> &'a str {
         match self.topic {
             Topic::Variables => label(row),
             _ => row,
@@ -76,8 +76,8 @@ impl Bench for Benches {
     }
 }
 
-/// Plays the lines of the input, and prints each with what came of it. A remark is printed as it stands.
-pub fn play_on(rt: &(impl Input + Print), alloc: Global, benches: &mut Benches) -> io::Result<()> {
+// Plays the lines of the input, and prints each with what came of it. A remark is printed as it stands.
+fn play_on(rt: &(impl Input + Print), alloc: Global, benches: &mut Benches) -> io::Result<()> {
     for row in rt.lines(alloc) {
         let row = row?;
         let text = row.as_str();
@@ -88,4 +88,10 @@ pub fn play_on(rt: &(impl Input + Print), alloc: Global, benches: &mut Benches) 
         }
     }
     Ok(())
+}
+
+/// Plays the lines of the input on benches on which nothing was done. The benches are let go of here alone.
+pub fn play_rows(rt: &(impl Input + Print), alloc: Global) -> io::Result<()> {
+    let mut benches = Benches::new(alloc);
+    play_on(rt, alloc, &mut benches)
 }

@@ -45,6 +45,21 @@ fn load(alloc: Global, image: Option<Image>) -> Option<Loaded> {
     })
 }
 
+// The table of before is let go of here alone.
+fn put_table(loaded: &mut Loaded, table: BreakTable) {
+    loaded.table = table;
+}
+
+fn emptied(alloc: Global, loaded: &mut Loaded, harts: u32) -> Result<String, AllocError> {
+    match BreakTable::new(alloc, &loaded.image, harts) {
+        Ok(table) => {
+            put_table(loaded, table);
+            format!(in alloc; "empty")
+        }
+        Err(_) => format!(in alloc; "no memory"),
+    }
+}
+
 // What came of a step of a program.
 fn answered(alloc: Global, loaded: &mut Loaded, step: Step<'_>) -> Result<String, AllocError> {
     match step {
@@ -58,13 +73,7 @@ fn answered(alloc: Global, loaded: &mut Loaded, step: Step<'_>) -> Result<String
             let text = behind(alloc, count, ' ', text)?;
             watched(alloc, &loaded.names, text.as_str().as_bytes())
         }
-        Step::Table(harts) => match BreakTable::new(alloc, &loaded.image, harts) {
-            Ok(table) => {
-                loaded.table = table;
-                format!(in alloc; "empty")
-            }
-            Err(_) => format!(in alloc; "no memory"),
-        },
+        Step::Table(harts) => emptied(alloc, loaded, harts),
         Step::Entry(step) => table::answer(alloc, &loaded.names, &mut loaded.table, step),
         _ => format!(in alloc; "no step of a program"),
     }

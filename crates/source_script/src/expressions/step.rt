@@ -37,17 +37,28 @@ pub enum Step<'a> {
 }
 
 fn read_repeat(text: &str) -> Option<Step<'_>> {
-    let (count, rest) = text.split_once(' ')?;
+    let (count, rest) = before(text)?;
     let (first, text) = rest.split_once(' ')?;
     let char = match first.chars().next()? {
         '_' => ' ',
         other => other,
     };
-    Some(Step::Repeat {
-        count: number(count)?,
-        char,
-        text,
-    })
+    Some(Step::Repeat { count, char, text })
+}
+
+fn read_blanks(text: &str) -> Option<Step<'_>> {
+    let (count, text) = before(text)?;
+    Some(Step::Blanks { count, text })
+}
+
+fn read_one<'a>(word: &str, rest: &str) -> Option<Step<'a>> {
+    let number = number(rest)?;
+    match word {
+        "words" => Some(Step::Words(number)),
+        "generated" => Some(Step::Generated(number)),
+        "table" => Some(Step::Table(number)),
+        _ => None,
+    }
 }
 
 impl<'a> Step<'a> {
@@ -56,17 +67,12 @@ impl<'a> Step<'a> {
         let (word, rest) = line.split_once(' ').unwrap_or((line, ""));
         match word {
             "file" => Some(Step::File(rest)),
-            "words" => Some(Step::Words(number(rest)?)),
+            "words" | "generated" | "table" => read_one(word, rest),
             "worth" => Some(Step::Worth(rest)),
-            "generated" => Some(Step::Generated(number(rest)?)),
             "repeat" => read_repeat(rest),
             "watch" => Some(Step::Watch(rest)),
-            "blanks" => {
-                let (count, text) = before(rest)?;
-                Some(Step::Blanks { count, text })
-            }
+            "blanks" => read_blanks(rest),
             "want" => Some(Step::Want),
-            "table" => Some(Step::Table(number(rest)?)),
             _ => Some(Step::Entry(TableStep::read(word, rest)?)),
         }
     }

@@ -1,6 +1,7 @@
 // Breakpoints.
 ghost use Rattle.std.specs.Prelude.{◌==◌, None, if◌then◌else◌};
 
+use crate::texts::push_told;
 use break_table::{BreakFault, BreakTable, Location, Spec};
 use cond_expr::{Expr, parse};
 use dbg_traits::View;
@@ -72,21 +73,25 @@ pub enum TableStep<'a> {
     Disable(u32),
 }
 
+// The thread of a word, of which `all` is none.
+fn thread_of(word: &str) -> Option<Option<u32>> {
+    match word {
+        "all" => Some(None),
+        digits => number(digits).map(Some),
+    }
+}
+
 fn read_asked(text: &str) -> Option<Asked<'_>> {
-    let (address, text) = text.split_once(' ')?;
+    let (address, text) = before(text)?;
     let (kind, text) = text.split_once(' ')?;
-    let (ignore, text) = text.split_once(' ')?;
+    let (ignore, text) = before(text)?;
     let (thread, condition) = text.split_once(' ').unwrap_or((text, ""));
-    let thread = match thread {
-        "all" => None,
-        digits => Some(number(digits)?),
-    };
     Some(Asked {
-        address: number(address)?,
+        address,
         temporary: kind == "temporary",
         enabled: kind != "disabled",
-        ignore: number(ignore)?,
-        thread,
+        ignore,
+        thread: thread_of(thread)?,
         condition,
     })
 }
@@ -127,6 +132,17 @@ fn read_after<'a>(text: &str) -> Option<TableStep<'a>> {
     Some(TableStep::After { number, count })
 }
 
+fn read_one<'a>(word: &str, rest: &str) -> Option<TableStep<'a>> {
+    let number = number(rest)?;
+    match word {
+        "stands" => Some(TableStep::Stands(number)),
+        "delete" => Some(TableStep::Delete(number)),
+        "enable" => Some(TableStep::Enable(number)),
+        "disable" => Some(TableStep::Disable(number)),
+        _ => None,
+    }
+}
+
 impl<'a> TableStep<'a> {
     /// What a line asks for. None where that is nothing that is known.
     pub fn read(word: &str, rest: &'a str) -> Option<TableStep<'a>> {
@@ -134,14 +150,10 @@ impl<'a> TableStep<'a> {
             "insert" => Some(TableStep::Insert(read_asked(rest)?)),
             "fill" | "each" => read_many(word, rest),
             "due" | "arrive" => read_at(word, rest),
-            "stands" => Some(TableStep::Stands(number(rest)?)),
             "entries" => Some(TableStep::Entries),
             "condition" => read_condition(rest),
             "after" => read_after(rest),
-            "delete" => Some(TableStep::Delete(number(rest)?)),
-            "enable" => Some(TableStep::Enable(number(rest)?)),
-            "disable" => Some(TableStep::Disable(number(rest)?)),
-            _ => None,
+            _ => read_one(word, rest),
         }
     }
 }
@@ -227,8 +239,7 @@ fn entries(alloc: Global, table: &BreakTable) -> Result<String, AllocError> {
     let mut text = String::new(alloc);
     for entry in table.entries() {
         let (number, times, ignore) = (entry.number, entry.times, entry.ignore);
-        let one = format!(in alloc; "({number} {times} {ignore})")?;
-        text.push_str(one.as_str())?;
+        push_told(&mut text, format!(in alloc; "({number} {times} {ignore})"))?;
     }
     Ok(text)
 }

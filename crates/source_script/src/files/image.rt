@@ -1,5 +1,6 @@
 // What an image shows.
-use elf32_read::Image;
+use crate::texts::push_told;
+use elf32_read::{Image, SectionView, SegmentView, TextSpans};
 use script_rows::{RowFault, number, told_number};
 use std::alloc::{AllocError, Global};
 
@@ -24,45 +25,56 @@ fn told_place(alloc: Global, image: &Image, address: u32) -> Result<String, Allo
     )
 }
 
+fn told_segment(alloc: Global, s: SegmentView<'_>) -> Result<String, AllocError> {
+    let size = s.bytes.len();
+    format!(in alloc; "{:#x} {} {} {size}; ", s.address, s.size, s.flags)
+}
+
 fn told_segments(alloc: Global, image: &Image) -> Result<String, AllocError> {
     let mut text = String::new(alloc);
     for k in 0..image.segment_count() {
-        let s = image.segment(k);
-        let told = format!(in alloc;
-            "{:#x} {} {} {}; ",
-            s.address,
-            s.size,
-            s.flags,
-            s.bytes.len()
-        )?;
-        text.push_str(told.as_str())?;
+        push_told(&mut text, told_segment(alloc, image.segment(k)))?;
     }
     Ok(text)
+}
+
+fn push_texts(
+    alloc: Global,
+    image: &Image,
+    spans: &TextSpans,
+    into: &mut String,
+) -> Result<(), AllocError> {
+    for k in 0..image.text_count() {
+        let s = image.text(k);
+        let end = spans.end_at(s.address);
+        push_told(
+            into,
+            format!(in alloc; "{:#x} {} {end:?}; ", s.address, s.bytes.len()),
+        )?;
+    }
+    Ok(())
 }
 
 // The address, the size and the end of each section of text.
 fn told_texts(alloc: Global, image: &Image) -> Result<String, AllocError> {
     let spans = image.text_spans(alloc)?;
     let mut text = String::new(alloc);
-    for k in 0..image.text_count() {
-        let s = image.text(k);
-        let end = spans.end_at(s.address);
-        let told = format!(in alloc; "{:#x} {} {end:?}; ", s.address, s.bytes.len())?;
-        text.push_str(told.as_str())?;
-    }
+    push_texts(alloc, image, &spans, &mut text)?;
     Ok(text)
+}
+
+fn told_header(alloc: Global, s: SectionView<'_>) -> Result<String, AllocError> {
+    let size = s.bytes.len();
+    format!(in alloc;
+        "{:#x} {} {:#x} {} {size}; ",
+        s.kind, s.flags, s.address, s.link
+    )
 }
 
 fn told_sections(alloc: Global, image: &Image) -> Result<String, AllocError> {
     let mut text = String::new(alloc);
     for k in 0..image.section_count() {
-        let s = image.section_at(k);
-        let size = s.bytes.len();
-        let told = format!(in alloc;
-            "{:#x} {} {:#x} {} {size}; ",
-            s.kind, s.flags, s.address, s.link
-        )?;
-        text.push_str(told.as_str())?;
+        push_told(&mut text, told_header(alloc, image.section_at(k)))?;
     }
     Ok(text)
 }
@@ -88,17 +100,24 @@ fn told_section(
     }
 }
 
+fn told(alloc: Global, image: &Image, word: &str, rest: &str) -> Result<String, AllocError> {
+    match word {
+        "entry" => format!(in alloc; "{:#x}", image.entry()),
+        "segments" => told_segments(alloc, image),
+        "texts" => told_texts(alloc, image),
+        "sections" => told_sections(alloc, image),
+        "last" => told_last(alloc, image),
+        _ => told_section(alloc, image, word, rest),
+    }
+}
+
 /// What came of a row: `entry`, `place ADDRESS`, `segments` with their addresses, sizes, flags and sizes in the file, `texts`,
 /// `sections` with their types, flags, addresses, links and sizes in the file, `size NAME` or `bytes NAME` of a section, or
 /// `last`.
 pub fn answer(alloc: Global, image: &Image, word: &str, rest: &str) -> Result<String, RowFault> {
-    match word {
-        "entry" => Ok(format!(in alloc; "{:#x}", image.entry())?),
-        "place" => Ok(told_place(alloc, image, number(rest).ok_or(RowFault::Unknown)?)?),
-        "segments" => Ok(told_segments(alloc, image)?),
-        "texts" => Ok(told_texts(alloc, image)?),
-        "sections" => Ok(told_sections(alloc, image)?),
-        "last" => Ok(told_last(alloc, image)?),
-        _ => Ok(told_section(alloc, image, word, rest)?),
+    if word == "place" {
+        let address = number(rest).ok_or(RowFault::Unknown)?;
+        return Ok(told_place(alloc, image, address)?);
     }
+    Ok(told(alloc, image, word, rest)?)
 }

@@ -1,5 +1,6 @@
 // Frames by the rules of `.debug_frame`.
 use crate::lines::hart::{Stopped, in_work};
+use crate::texts::push_told;
 use arrayvec::ArrayVec;
 use dwarf_frames::FrameIndex;
 use elf32_read::Image;
@@ -44,6 +45,15 @@ fn told_frame(alloc: Global, frame: &Frame) -> Result<String, AllocError> {
     format!(in alloc; "{:#x} {:#x} {cfa}", frame.pc, frame.lookup)
 }
 
+fn told_frames(alloc: Global, frames: &[Frame]) -> Result<String, AllocError> {
+    let mut text = String::new(alloc);
+    for frame in frames {
+        push_told(&mut text, told_frame(alloc, frame))?;
+        text.push_str("; ")?;
+    }
+    Ok(text)
+}
+
 // Each frame, and whether the innermost has a caller.
 fn told_walk(
     alloc: Global,
@@ -53,14 +63,9 @@ fn told_walk(
 ) -> Result<String, AllocError> {
     let mut frames = ArrayVec::new();
     walk(rules, image, hart, &mut frames);
-    let mut text = String::new(alloc);
-    for frame in frames.as_slice() {
-        let told = told_frame(alloc, frame)?;
-        text.push_str(format!(in alloc; "{told}; ")?.as_str())?;
-    }
+    let told = told_frames(alloc, frames.as_slice())?;
     let called = caller(rules, image, hart).is_some();
-    text.push_str(format!(in alloc; "{called}")?.as_str())?;
-    Ok(text)
+    format!(in alloc; "{told}{called}")
 }
 
 // How many frames there are, and the outermost.
@@ -95,6 +100,21 @@ fn told_innermost(
     }
 }
 
+// What is told of a hart.
+fn told_hart(
+    alloc: Global,
+    image: &Image,
+    rules: &FrameIndex,
+    word: &str,
+    hart: &Stopped,
+) -> Result<String, AllocError> {
+    match word {
+        "walk" => told_walk(alloc, image, rules, hart),
+        "last" => told_last(alloc, image, rules, hart),
+        _ => told_innermost(alloc, image, rules, hart),
+    }
+}
+
 /// What came of a row: `rule PC REGISTER` or `covered PC`, which ask the rules; or `walk WORD END`, `last WORD END` or `innermost
 /// WORD END`, of a hart in `work`, each of whose words below an address is this one.
 pub fn answer(
@@ -109,11 +129,8 @@ pub fn answer(
         return Ok(told_covered(alloc, rules, pc)?);
     }
     let (first, second) = two(rest).ok_or(RowFault::Unknown)?;
-    let hart = in_work(first, second);
-    match word {
-        "rule" => Ok(told_rule(alloc, rules, first, second)?),
-        "walk" => Ok(told_walk(alloc, image, rules, &hart)?),
-        "last" => Ok(told_last(alloc, image, rules, &hart)?),
-        _ => Ok(told_innermost(alloc, image, rules, &hart)?),
+    if word == "rule" {
+        return Ok(told_rule(alloc, rules, first, second)?);
     }
+    Ok(told_hart(alloc, image, rules, word, &in_work(first, second))?)
 }

@@ -46,12 +46,33 @@ impl LineBench {
         }
     }
 
+    // Rules are let go of here alone, and programs in the next one.
+    fn put_rules(&mut self, rules: FrameIndex) {
+        self.rules = Some(rules);
+    }
+
+    fn put_table(&mut self, table: Table) {
+        self.table = Some(table);
+    }
+
+    fn begin_rules(&mut self, alloc: Global, digits: &str) -> Result<(), RowFault> {
+        let rules = frames::read(alloc, digits)?;
+        self.put_rules(rules);
+        Ok(())
+    }
+
+    fn begin_program(&mut self, alloc: Global, word: &str, count: &str) -> Result<(), RowFault> {
+        let table = Table::load(alloc, word, count)?;
+        self.put_table(table);
+        Ok(())
+    }
+
     // What came of a row that begins a program, or the rules of its frames.
     fn begin(&mut self, alloc: Global, word: &str, rest: &str) -> Result<String, RowFault> {
         if word == "frames" {
-            self.rules = Some(frames::read(alloc, rest)?);
+            self.begin_rules(alloc, rest)?;
         } else {
-            self.table = Some(Table::load(alloc, word, rest)?);
+            self.begin_program(alloc, word, rest)?;
         }
         Ok(format!(in alloc; "read")?)
     }

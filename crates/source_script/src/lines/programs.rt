@@ -64,18 +64,28 @@ fn told(alloc: Global, word: &str, rows: &Rows) -> Result<String, AllocError> {
     }
 }
 
-/// What came of a row: `places PROGRAM`, `registers PROGRAM` or `within ROOM PROGRAM` under a usual header, or `wide PROGRAM`
-/// under another one.
-pub fn answer(alloc: Global, word: &str, rest: &str) -> Result<String, RowFault> {
-    let (room, digits) = if word == "within" {
-        before(rest).ok_or(RowFault::Unknown)?
-    } else {
-        (ROOM, rest)
-    };
-    let unit = read_hex(alloc, digits)?;
-    match read(alloc, word, room, &unit) {
+// What came of a row with this program.
+fn of_unit(alloc: Global, word: &str, room: u32, unit: &[u8]) -> Result<String, RowFault> {
+    match read(alloc, word, room, unit) {
         Ok(rows) => Ok(told(alloc, word, &rows)?),
         Err(LineError::NoMemory) => Err(RowFault::NoMemory),
         Err(LineError::Fault(fault)) => Ok(format!(in alloc; "{fault:?}")?),
     }
+}
+
+// The room and the digits of a row.
+fn room_and_digits<'a>(word: &str, rest: &'a str) -> Option<(u32, &'a str)> {
+    if word == "within" {
+        before(rest)
+    } else {
+        Some((ROOM, rest))
+    }
+}
+
+/// What came of a row: `places PROGRAM`, `registers PROGRAM` or `within ROOM PROGRAM` under a usual header, or `wide PROGRAM`
+/// under another one.
+pub fn answer(alloc: Global, word: &str, rest: &str) -> Result<String, RowFault> {
+    let (room, digits) = room_and_digits(word, rest).ok_or(RowFault::Unknown)?;
+    let unit = read_hex(alloc, digits)?;
+    of_unit(alloc, word, room, &unit)
 }

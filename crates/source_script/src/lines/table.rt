@@ -1,5 +1,6 @@
 // A program, rows for it, and what is looked up in them.
 use crate::images::{generated_image, words_image};
+use dbg_traits::NoMemory;
 use dwarf_lines::rows;
 use elf_symbols::{Named, Symbols, symbols};
 use elf32_read::Image;
@@ -19,7 +20,8 @@ pub struct Table {
 }
 
 // The program of so many words, or the generated one.
-fn image_of(alloc: Global, word: &str, count: u32) -> Option<Image> {
+fn image_of(alloc: Global, word: &str, count: &str) -> Option<Image> {
+    let count = number(count)?;
     if word == "generated" {
         generated_image(alloc, count)
     } else {
@@ -77,13 +79,18 @@ fn told_line(alloc: Global, lines: &LineIndex, rest: &str) -> Result<String, Row
     Ok(told_number(alloc, lines.address_of(file.as_bytes(), line))?)
 }
 
+// The names of a program, and an index without rows.
+fn first_look_ups(alloc: Global, image: &Image) -> Result<(Symbols, LineIndex), NoMemory> {
+    let names = symbols(alloc, image)?;
+    let lines = LineIndex::build(alloc, Rows::new(alloc), &names, image)?;
+    Ok((names, lines))
+}
+
 impl Table {
     /// The program of a row `words COUNT` or `generated COUNT`, without rows.
     pub fn load(alloc: Global, word: &str, count: &str) -> Result<Table, RowFault> {
-        let count = number(count).ok_or(RowFault::Unknown)?;
         let image = image_of(alloc, word, count).ok_or(RowFault::Unknown)?;
-        let names = symbols(alloc, &image)?;
-        let lines = LineIndex::build(alloc, Rows::new(alloc), &names, &image)?;
+        let (names, lines) = first_look_ups(alloc, &image)?;
         Ok(Table {
             image,
             names,

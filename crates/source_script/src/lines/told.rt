@@ -1,4 +1,5 @@
 // Rows of line tables as they are told.
+use crate::texts::push_told;
 use line_rows::{Row, Rows, SequenceView};
 use script_rows::told_bytes;
 use std::alloc::{AllocError, Global};
@@ -19,6 +20,10 @@ fn told_row(alloc: Global, rows: &Rows, row: &Row) -> Result<String, AllocError>
     format!(in alloc; "{name} {} {:#x}{mark}, ", row.line, row.address)
 }
 
+fn told_end(alloc: Global, end: u32) -> Result<String, AllocError> {
+    format!(in alloc; "end {end:#x}; ")
+}
+
 fn push_sequence(
     alloc: Global,
     rows: &Rows,
@@ -26,9 +31,9 @@ fn push_sequence(
     into: &mut String,
 ) -> Result<(), AllocError> {
     for row in sequence.rows {
-        into.push_str(told_row(alloc, rows, row)?.as_str())?;
+        push_told(into, told_row(alloc, rows, row))?;
     }
-    into.push_str(format!(in alloc; "end {:#x}; ", sequence.end)?.as_str())
+    push_told(into, told_end(alloc, sequence.end))
 }
 
 /// The rows of each sequence and its end.
@@ -40,33 +45,49 @@ pub fn told_rows(alloc: Global, rows: &Rows) -> Result<String, AllocError> {
     Ok(text)
 }
 
+fn push_places(
+    alloc: Global,
+    sequence: SequenceView<'_>,
+    into: &mut String,
+) -> Result<(), AllocError> {
+    for row in sequence.rows {
+        push_told(into, format!(in alloc; "{} {:#x}, ", row.line, row.address))?;
+    }
+    push_told(into, told_end(alloc, sequence.end))
+}
+
 /// The address and the line of each row, and the end of each sequence.
 pub fn told_places(alloc: Global, rows: &Rows) -> Result<String, AllocError> {
     let mut text = String::new(alloc);
     for k in 0..rows.sequence_count() {
-        let sequence = rows.sequence(k);
-        for row in sequence.rows {
-            let place = format!(in alloc; "{} {:#x}, ", row.line, row.address)?;
-            text.push_str(place.as_str())?;
-        }
-        text.push_str(format!(in alloc; "end {:#x}; ", sequence.end)?.as_str())?;
+        push_places(alloc, rows.sequence(k), &mut text)?;
     }
     Ok(text)
+}
+
+fn push_names(alloc: Global, rows: &Rows, into: &mut String) -> Result<(), AllocError> {
+    for k in 0..rows.name_count() {
+        push_told(into, told_bytes(alloc, rows.name(k)))?;
+        into.push_str("; ")?;
+    }
+    Ok(())
+}
+
+// The rows of each sequence with all that they show, and its end.
+fn push_registers(alloc: Global, rows: &Rows, into: &mut String) -> Result<(), AllocError> {
+    for k in 0..rows.sequence_count() {
+        let sequence = rows.sequence(k);
+        push_told(into, format!(in alloc; "{:?} ", sequence.rows))?;
+        push_told(into, told_end(alloc, sequence.end))?;
+    }
+    Ok(())
 }
 
 /// The names, the rows of each sequence with all that they show and its end, and the units with a fault.
 pub fn told_registers(alloc: Global, rows: &Rows) -> Result<String, AllocError> {
     let mut text = String::new(alloc);
-    for k in 0..rows.name_count() {
-        let name = told_bytes(alloc, rows.name(k))?;
-        text.push_str(format!(in alloc; "{name}; ")?.as_str())?;
-    }
-    for k in 0..rows.sequence_count() {
-        let sequence = rows.sequence(k);
-        let told = format!(in alloc; "{:?} end {:#x}; ", sequence.rows, sequence.end)?;
-        text.push_str(told.as_str())?;
-    }
-    let faults = format!(in alloc; "{:?}", rows.faults())?;
-    text.push_str(faults.as_str())?;
+    push_names(alloc, rows, &mut text)?;
+    push_registers(alloc, rows, &mut text)?;
+    push_told(&mut text, format!(in alloc; "{:?}", rows.faults()))?;
     Ok(text)
 }

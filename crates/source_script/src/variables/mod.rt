@@ -84,6 +84,15 @@ impl VariableBench {
         self.put(alloc, section, bytes)
     }
 
+    // The bytes of before are let go of here alone.
+    fn put_bytes(&mut self, section: Section, bytes: Vec<u8>) {
+        match section {
+            Section::Info => self.info = bytes,
+            Section::Abbrevs => self.abbrevs = bytes,
+            Section::Strs => self.strs = bytes,
+        }
+    }
+
     fn put(
         &mut self,
         alloc: Global,
@@ -91,28 +100,36 @@ impl VariableBench {
         bytes: Vec<u8>,
     ) -> Result<String, AllocError> {
         let count = bytes.len();
-        match section {
-            Section::Info => self.info = bytes,
-            Section::Abbrevs => self.abbrevs = bytes,
-            Section::Strs => self.strs = bytes,
-        }
+        self.put_bytes(section, bytes);
         format!(in alloc; "{count} bytes")
     }
 
-    // Reads the sections.
-    fn read(&mut self, alloc: Global) -> Result<String, AllocError> {
+    // What the sections tell. None where memory runs out.
+    fn told_info(&self, alloc: Global) -> Option<Info> {
         let sections = Sections {
             info: &self.info,
             abbrevs: &self.abbrevs,
             strs: &self.strs,
         };
-        match read_info(alloc, &sections) {
-            Ok(info) => {
-                let text = faults_text(alloc, &info)?;
-                self.read = Some(info);
-                Ok(text)
-            }
-            Err(_) => format!(in alloc; "no memory"),
+        read_info(alloc, &sections).ok()
+    }
+
+    // What was read before is let go of here alone.
+    fn put_read(&mut self, info: Info) {
+        self.read = Some(info);
+    }
+
+    fn put_info(&mut self, alloc: Global, info: Info) -> Result<String, AllocError> {
+        let text = faults_text(alloc, &info)?;
+        self.put_read(info);
+        Ok(text)
+    }
+
+    // Reads the sections.
+    fn read(&mut self, alloc: Global) -> Result<String, AllocError> {
+        match self.told_info(alloc) {
+            Some(info) => self.put_info(alloc, info),
+            None => format!(in alloc; "no memory"),
         }
     }
 
@@ -124,21 +141,31 @@ impl VariableBench {
         }
     }
 
-    // What is asked of the variables at the place that counts.
-    fn asked(&self, alloc: Global, step: Step<'_>) -> Result<String, AllocError> {
-        let Some(variables) = self.variables(alloc) else {
-            return format!(in alloc; "nothing was read");
-        };
+    // What is asked of these variables.
+    fn asked_of(
+        &self,
+        alloc: Global,
+        variables: &[Var<'_>],
+        step: Step<'_>,
+    ) -> Result<String, AllocError> {
         let given = |text| Given {
             text,
-            variables: &variables,
+            variables,
             cfa: self.cfa,
         };
         match (step, &self.names) {
             (Step::Becomes(text), _) => becomes(alloc, given(text)),
             (Step::Places(text), _) => places(alloc, given(text)),
             (Step::Worth(text), Some(names)) => worth(alloc, given(text), names),
-            _ => variables_text(alloc, &variables),
+            _ => variables_text(alloc, variables),
+        }
+    }
+
+    // What is asked of the variables at the place that counts.
+    fn asked(&self, alloc: Global, step: Step<'_>) -> Result<String, AllocError> {
+        match self.variables(alloc) {
+            Some(variables) => self.asked_of(alloc, &variables, step),
+            None => format!(in alloc; "nothing was read"),
         }
     }
 

@@ -35,6 +35,24 @@ pub enum Step<'a> {
     Worth(&'a str),
 }
 
+fn read_one<'a>(word: &str, rest: &str) -> Option<Step<'a>> {
+    let number = number(rest)?;
+    match word {
+        "units" => Some(Step::Units(number)),
+        "entries" => Some(Step::Entries(number)),
+        "at" => Some(Step::At(number)),
+        _ => None,
+    }
+}
+
+fn read_cfa<'a>(text: &str) -> Option<Step<'a>> {
+    if text == "none" {
+        return Some(Step::Cfa(None));
+    }
+    let cfa = number(text)?;
+    Some(Step::Cfa(Some(cfa)))
+}
+
 impl<'a> Step<'a> {
     /// What a line asks for. None where that is nothing that is known.
     pub fn read(line: &'a str) -> Option<Step<'a>> {
@@ -43,12 +61,9 @@ impl<'a> Step<'a> {
             "info" => Some(Step::Section(Section::Info, rest)),
             "abbrevs" => Some(Step::Section(Section::Abbrevs, rest)),
             "strs" => Some(Step::Section(Section::Strs, rest)),
-            "units" => Some(Step::Units(number(rest)?)),
-            "entries" => Some(Step::Entries(number(rest)?)),
+            "units" | "entries" | "at" => read_one(word, rest),
             "read" => Some(Step::Read),
-            "at" => Some(Step::At(number(rest)?)),
-            "cfa" if rest == "none" => Some(Step::Cfa(None)),
-            "cfa" => Some(Step::Cfa(Some(number(rest)?))),
+            "cfa" => read_cfa(rest),
             "becomes" => Some(Step::Becomes(rest)),
             "places" => Some(Step::Places(rest)),
             "worth" => Some(Step::Worth(rest)),

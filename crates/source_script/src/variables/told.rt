@@ -1,4 +1,5 @@
 // Variables and faults as text.
+use crate::texts::push_told;
 use debug_info::{Base, Info, Kind, Place, Var};
 use std::alloc::{AllocError, Global};
 use std::str::from_utf8;
@@ -41,12 +42,11 @@ fn variable_text(alloc: Global, variable: &Var<'_>) -> Result<String, AllocError
 }
 
 // One more of several, behind those before.
-fn push(texts: &mut String, text: &str) -> Result<(), AllocError> {
+fn push(texts: &mut String, told: Result<String, AllocError>) -> Result<(), AllocError> {
     if !texts.as_str().is_empty() {
         texts.push_str("; ")?;
     }
-    texts.push_str(text)?;
-    Ok(())
+    push_told(texts, told)
 }
 
 /// The variables of a place: each one's name, kind, place and base.
@@ -56,7 +56,7 @@ pub fn variables_text(alloc: Global, variables: &[Var<'_>]) -> Result<String, Al
     }
     let mut texts = String::new(alloc);
     for variable in variables {
-        push(&mut texts, variable_text(alloc, variable)?.as_str())?;
+        push(&mut texts, variable_text(alloc, variable))?;
     }
     Ok(texts)
 }
@@ -68,8 +68,10 @@ pub fn faults_text(alloc: Global, info: &Info) -> Result<String, AllocError> {
     }
     let mut texts = String::new(alloc);
     for unit in info.faults() {
-        let text = format!(in alloc; "{} {:?}", unit.offset.at, unit.fault)?;
-        push(&mut texts, text.as_str())?;
+        push(
+            &mut texts,
+            format!(in alloc; "{} {:?}", unit.offset.at, unit.fault),
+        )?;
     }
     Ok(texts)
 }
