@@ -39,6 +39,11 @@ insert_fault t a =
     else (if nat_le 128 (length t.entries) then Some Full
     else (if is_thread (length t.waits) a.thread then None else Some Thread))
 
+-- where no fault is found there is room for one more
+abbrev pub LeavesRoom : Option BreakFault → Table → Type 0
+LeavesRoom None t = length t.entries < 128
+LeavesRoom (Some fault) t = Unit {0}
+
 abbrev pub inserted : Table → Asked → Table
 inserted t a = record t { entries = t.entries ++ new_entry (t.given + 1) a ∷ []; given = t.given + 1 }
 

@@ -6,7 +6,7 @@ ghost use Rattle.break_table.specs.Entry.{asked_of, condition_of, entry_of};
 ghost use Rattle.break_table.specs.Arrival.{due_of, settled, stays};
 ghost use Rattle.break_table.specs.Changes.{made};
 ghost use Rattle.break_table.specs.Text.{is_instruction, is_place};
-ghost use Rattle.break_table.specs.Table.{changed, deleted, drawn, first_table, insert_fault, inserted, missing, stands, waits, with_condition, with_enabled, with_ignore, with_wait, Answers, IsRising};
+ghost use Rattle.break_table.specs.Table.{changed, deleted, drawn, first_table, insert_fault, inserted, LeavesRoom, missing, stands, waits, with_condition, with_enabled, with_ignore, with_wait, Answers, IsRising};
 
 use crate::change::{Change, change_entry, remove};
 use crate::due::{Due, due_among};
@@ -76,12 +76,16 @@ impl BreakTable {
         ensures table { IfOk result (λ t. t ≡ first_table image.now harts) }
         ensures places { IfOk result (λ t. (addr : ℕ) → is_place t.text addr ≡ is_instruction image.now addr) }
     {
+        let waits = no_waits(alloc, harts as usize)?;
+        let text = image.text_spans(alloc)?;
+        let places = Vec::with_capacity(alloc, MOST)?;
+        let entries = Vec::with_capacity(alloc, MOST)?;
         Ok(BreakTable {
-            entries: Vec::with_capacity(alloc, MOST)?,
-            places: Vec::with_capacity(alloc, MOST)?,
+            entries,
+            places,
             given: 0,
-            text: image.text_spans(alloc)?,
-            waits: no_waits(alloc, harts as usize)?,
+            text,
+            waits,
         })
     }
 
@@ -90,6 +94,41 @@ impl BreakTable {
         ensures { result ≡ self.now.given }
     {
         self.given
+    }
+
+    // Why an entry can't be made, if it can't.
+    fn refusal(&self, spec: &Spec) -> Option<BreakFault>
+        ensures fault { result ≡ insert_fault self.now (asked_of spec.now) }
+        ensures room { LeavesRoom result self.now }
+    {
+        if !is_place(&self.text, spec.address) {
+            return Some(BreakFault::Place);
+        }
+        if self.entries.len() >= MOST {
+            return Some(BreakFault::Full);
+        }
+        if !has_thread(self.waits.len(), spec.thread) {
+            return Some(BreakFault::Thread);
+        }
+        None
+    }
+
+    // A new entry, where one can be made.
+    fn add(&mut self, spec: Spec) -> u32
+        requires given { self.old.given < 2 ^ 32 - 1 }
+        requires room { length self.old.entries < 128 }
+        ensures number { result ≡ self.old.given + 1 }
+        ensures done { self.new ≡ inserted self.old (asked_of spec) }
+    {
+        self.given += 1;
+        let number = self.given;
+        let place = Place {
+            address: spec.address,
+            index: self.entries.len(),
+        };
+        add_place(&mut self.places, place);
+        let _ = self.entries.push(BreakEntry::new(number, spec));
+        number
     }
 
     /// A new entry, with the next number.
@@ -104,24 +143,10 @@ impl BreakTable {
         ensures done { OnOk result (self.new ≡ inserted self.old (asked_of spec)) }
         ensures refused { OnErr result (self.new ≡ self.old) }
     {
-        if !is_place(&self.text, spec.address) {
-            return Err(BreakFault::Place);
+        match self.refusal(&spec) {
+            Some(fault) => Err(fault),
+            None => Ok(self.add(spec)),
         }
-        if self.entries.len() >= MOST {
-            return Err(BreakFault::Full);
-        }
-        if !has_thread(self.waits.len(), spec.thread) {
-            return Err(BreakFault::Thread);
-        }
-        self.given += 1;
-        let number = self.given;
-        let place = Place {
-            address: spec.address,
-            index: self.entries.len(),
-        };
-        add_place(&mut self.places, place);
-        let _ = self.entries.push(BreakEntry::new(number, spec));
-        Ok(number)
     }
 
     /// The entry of a number goes. `NoNumber` where there is none, as of each change of an entry; nothing changes then.

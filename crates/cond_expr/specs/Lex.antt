@@ -12,7 +12,7 @@ use Rattle.cond_expr.specs.declared.token.Leaf.TheVariants.{Number, Register, Ad
 use Rattle.cond_expr.specs.declared.token.Token.{Token}
 use Rattle.cond_expr.specs.declared.token.Token.TheVariants.{Leaf, Large, Unknown, Operator, Tilde, Bang, Cast, Broken, Open, Close, Stray}
 use Rattle.cond_expr.specs.declared.token.Spot.{Spot}
-use Rattle.register_names.specs.Registers.{between, register_number}
+use Rattle.rv_decode.specs.Registers.{between, register_number}
 use Rattle.cond_expr.specs.Token.{wants_behind}
 
 -- what a reader returned is a token and the bytes behind it

@@ -12,7 +12,7 @@ use Rattle.cond_expr.specs.declared.token.Leaf.TheVariants.{Number, Register, Ad
 use Rattle.cond_expr.specs.declared.evaluating.Value.{Value}
 use Rattle.cond_expr.specs.declared.evaluating.Value.TheVariants.{Word, DivZero, Unread}
 use Rattle.cond_expr.specs.Term.{Term, leaf, prefix, binary}
-use Rattle.view_words.specs.Numbers.{number_at}
+use Rattle.dbg_traits.specs.Numbers.{number_at}
 
 -- a word read as a signed number
 abbrev pub signed : ℕ → ℤ

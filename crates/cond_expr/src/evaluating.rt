@@ -6,8 +6,7 @@ ghost use Rattle.cond_expr.specs.Value.{flag, leaf_value, extended, read_word, r
 
 use crate::token::{Binary, Leaf, Prefix, ReadType};
 use crate::tree::Node;
-use dbg_traits::View;
-use view_words::number_at;
+use dbg_traits::{View, number_at};
 
 /// The value of an expression.
 #[derive(Clone, Copy, Debug)]

@@ -6,7 +6,7 @@ ghost use Rattle.cond_expr.specs.Lex.{either, either_of_two, is_digit, digit_val
 use crate::token::{Binary, Leaf, ReadType, Spot, Token};
 use crate::word::{after_blanks, front, is_blank, is_name_start, run_length, word};
 use elf_symbols::Symbols;
-use register_names::register_of;
+use rv_decode::register_of;
 use std::alloc::{AllocError, Global};
 
 /// One token if this byte is next, which it takes, and else another.

@@ -4,7 +4,7 @@ ghost use Rattle.std.specs.Prelude.{◌≡◌, ◌≤◌};
 ghost use Rattle.cond_expr.specs.Token.{strength, start_of, follow_of, wants_behind};
 
 use crate::fault::FaultKind;
-use register_names::Register;
+use rv_decode::Register;
 
 /// An operation of two sides, from the weakest level to the strongest.
 #[derive(Clone, Copy)]

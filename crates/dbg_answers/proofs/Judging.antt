@@ -8,7 +8,7 @@ use Rattle.line_index.specs.Lines.{row_at}
 use Rattle.line_index.specs.Lines as tables
 use Rattle.frame_walk.specs.declared.frame.Caller.{Caller}
 use Rattle.step_plans.specs.declared.plan.Plan.{Plan}
-use Rattle.source_index.specs.Sources.{Sources}
+use Rattle.dbg_model.specs.Sources.{Sources}
 use Rattle.cond_expr.specs.declared.evaluating.Value.{Value}
 use Rattle.cond_expr.specs.declared.evaluating.Value.TheVariants as worth
 use Rattle.cond_expr.specs.declared.fault.ExprFault.{ExprFault}

@@ -1,7 +1,7 @@
 -- Live threads as they are shown.
 use Rattle.std.proofs.Common.{◌≡◌, ℕ, ◌+◌, List, [], ◌∷◌, map, refl, ap}
 use Rattle.std.specs.Prelude.{Some, None}
-use Rattle.source_index.specs.Sources.{Sources}
+use Rattle.dbg_model.specs.Sources.{Sources}
 use Rattle.dbg_model.specs.declared.thread_view.ThreadView.{ThreadView}
 use Rattle.dbg_model.specs.declared.thread_view.ThreadView.TheVariants as view
 use Rattle.dbg_model.specs.Sight.{each, shown}

@@ -19,9 +19,10 @@ use crate::frames::{function_name, source_line};
 use break_table::{BreakEntry, Location as PlaceText, Spec};
 use cond_expr::Expr;
 use dbg_effects::Effect;
-use dbg_model::{Breakpoint, Content, MOST_BREAKPOINTS, Obstacle, Refused, Row, RowList, Watch};
+use dbg_model::{
+    Breakpoint, Content, MOST_BREAKPOINTS, Obstacle, Refused, Row, RowList, SourceIndex, Watch,
+};
 use mi_commands::{ByteList, Insertion, Location, NumberList};
-use source_index::SourceIndex;
 use std::alloc::{AllocError, Global};
 
 fn has_number(entries: &[BreakEntry], number: u32) -> bool

@@ -1,10 +1,10 @@
-ghost use Rattle.std.specs.Prelude.{◌≡◌, true, ◌<◌, ◌≤◌, ◌-◌, ◌^◌, IfOk, length};
+ghost use Rattle.std.specs.Prelude.{◌≡◌, true, false, ◌<◌, ◌≤◌, ◌-◌, ◌^◌, IfOk, length};
 ghost use Rattle.dbg_model.specs.Outcome.{told};
 ghost use Rattle.dbg_model.specs.Command.{reply};
 ghost use Rattle.dbg_model.specs.Refusals.{Judges, against};
 ghost use Rattle.dbg_answers.specs.Debuggee.{seen};
 ghost use Rattle.dbg_answers.specs.Answer.{Gives, outcome_of};
-ghost use Rattle.dbg_answers.specs.Subjects.{is_setting};
+ghost use Rattle.dbg_answers.specs.Subjects.{is_break, is_move, is_setting};
 
 use crate::answer::{Answer, Failure, doing, showing, told};
 use crate::breakpoints::{after, change_condition, delete, enable, insert, list};
@@ -46,6 +46,52 @@ fn set(debuggee: &Debuggee<'_>, command: Command) -> Result<Answer, Failure>
     }
 }
 
+// What is answered to a command of threads that go on, or further ones.
+#[tactic(auto, unfolding(dbg_model::specs::Command::reply))]
+fn go(alloc: Global, debuggee: &Debuggee<'_>, command: Command) -> Result<Answer, Failure>
+    requires subject { is_move command ≡ true }
+    requires few { length debuggee.now.threads.now ≤ 16 }
+    ensures { Gives result (reply (seen debuggee.now) command) }
+{
+    match command {
+        Command::Continue(target) => go_on(alloc, debuggee, target),
+        Command::Interrupt(target) => interrupt(alloc, debuggee, target),
+        Command::Step { thread } => take_step(alloc, debuggee, thread, STEP),
+        Command::Next { thread } => take_step(alloc, debuggee, thread, NEXT),
+        Command::StepInstruction { thread } => take_step(alloc, debuggee, thread, STEP_INSTRUCTION),
+        Command::NextInstruction { thread } => take_step(alloc, debuggee, thread, NEXT_INSTRUCTION),
+        Command::Finish { thread } => take_step(alloc, debuggee, thread, FINISH),
+        other => set(debuggee, other),
+    }
+}
+
+// What is answered to a command that looks at threads, registers and memory, or to further ones.
+#[tactic(auto, unfolding(dbg_model::specs::Command::reply))]
+fn look(alloc: Global, debuggee: &Debuggee<'_>, command: Command) -> Result<Answer, Failure>
+    requires subject { is_break command ≡ false }
+    requires few { length debuggee.now.threads.now ≤ 16 }
+    ensures { Gives result (reply (seen debuggee.now) command) }
+{
+    match command {
+        Command::ThreadInfo { thread } => thread_info(alloc, debuggee, thread),
+        Command::ThreadSelect { thread } => thread_select(debuggee, thread),
+        Command::ThreadList => Ok(thread_list(alloc, debuggee)?),
+        Command::FrameList { thread } => frame_list(alloc, debuggee, thread),
+        Command::FrameDepth { thread } => frame_depth(debuggee, thread),
+        Command::FrameInfo { thread } => frame_info(alloc, debuggee, thread),
+        Command::RegisterNames => Ok(showing(Content::RegisterNames)),
+        Command::RegisterValues {
+            thread,
+            format,
+            numbers,
+        } => register_values(alloc, debuggee, thread, format, &numbers),
+        Command::ReadMemory { address, count } => read_memory(alloc, debuggee, address, count),
+        Command::WriteMemory { address, bytes } => write_memory(debuggee, address, bytes),
+        Command::Evaluate { thread, expression } => evaluate(alloc, debuggee, thread, &expression),
+        other => go(alloc, debuggee, other),
+    }
+}
+
 #[tactic(auto, unfolding(dbg_model::specs::Command::reply))]
 fn reply(alloc: Global, debuggee: &Debuggee<'_>, command: Command) -> Result<Answer, Failure>
     requires few { length debuggee.now.threads.now ≤ 16 }
@@ -64,29 +110,7 @@ fn reply(alloc: Global, debuggee: &Debuggee<'_>, command: Command) -> Result<Ans
         Command::BreakAfter { number, count } => after(debuggee, number, count),
         Command::BreakList => Ok(list(alloc, debuggee)?),
         Command::BreakWatch { expression } => watch(alloc, debuggee, expression),
-        Command::Continue(target) => go_on(alloc, debuggee, target),
-        Command::Interrupt(target) => interrupt(alloc, debuggee, target),
-        Command::Step { thread } => take_step(alloc, debuggee, thread, STEP),
-        Command::Next { thread } => take_step(alloc, debuggee, thread, NEXT),
-        Command::StepInstruction { thread } => take_step(alloc, debuggee, thread, STEP_INSTRUCTION),
-        Command::NextInstruction { thread } => take_step(alloc, debuggee, thread, NEXT_INSTRUCTION),
-        Command::Finish { thread } => take_step(alloc, debuggee, thread, FINISH),
-        Command::ThreadInfo { thread } => thread_info(alloc, debuggee, thread),
-        Command::ThreadSelect { thread } => thread_select(debuggee, thread),
-        Command::ThreadList => Ok(thread_list(alloc, debuggee)?),
-        Command::FrameList { thread } => frame_list(alloc, debuggee, thread),
-        Command::FrameDepth { thread } => frame_depth(debuggee, thread),
-        Command::FrameInfo { thread } => frame_info(alloc, debuggee, thread),
-        Command::RegisterNames => Ok(showing(Content::RegisterNames)),
-        Command::RegisterValues {
-            thread,
-            format,
-            numbers,
-        } => register_values(alloc, debuggee, thread, format, &numbers),
-        Command::ReadMemory { address, count } => read_memory(alloc, debuggee, address, count),
-        Command::WriteMemory { address, bytes } => write_memory(debuggee, address, bytes),
-        Command::Evaluate { thread, expression } => evaluate(alloc, debuggee, thread, &expression),
-        other => set(debuggee, other),
+        other => look(alloc, debuggee, other),
     }
 }
 

@@ -7,11 +7,10 @@ ghost use Rattle.dbg_answers.specs.Live.{live_shown};
 use crate::live::{LiveThread, live_thread};
 use break_table::BreakTable;
 use data_memory::DataMemory;
-use dbg_model::{Obstacle, Refused, ThreadView, Watch};
+use dbg_model::{Obstacle, Refused, SourceIndex, ThreadView, Watch};
 use elf32_read::Image;
 use mi_commands::Displaced;
 use rv_exec::Regs;
-use source_index::SourceIndex;
 
 /// What a command may see.
 #[derive(Clone, Copy)]

@@ -11,13 +11,12 @@ use crate::bytes::bytes_of;
 use crate::debuggee::Debuggee;
 use crate::view::SeenHart;
 use arrayvec::ArrayVec;
-use dbg_model::{Content, FrameList, ShownFrame, SourceLine};
+use dbg_model::{Content, FrameList, ShownFrame, SourceIndex, SourceLine};
 use frame_walk::{Frame, walk};
 use line_index::LineIndex;
 use line_rows::Row;
 use mi_commands::ByteList;
 use rv_exec::Regs;
-use source_index::SourceIndex;
 use std::alloc::{AllocError, Global};
 
 // ---- places in the source

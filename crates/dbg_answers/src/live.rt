@@ -3,9 +3,8 @@ ghost use Rattle.std.specs.Option.{option_map};
 ghost use Rattle.dbg_answers.specs.Live.{frame_at, live_shown, live_thread};
 
 use crate::frames::shown_frame;
-use dbg_model::{ShownFrame, Thread, ThreadView};
+use dbg_model::{ShownFrame, SourceIndex, Thread, ThreadView};
 use rv_exec::Regs;
-use source_index::SourceIndex;
 use std::alloc::{AllocError, Global};
 
 /// A live thread.

@@ -12,9 +12,9 @@ use Rattle.dbg_model.specs.declared.opening.Opening.{Opening}
 use Rattle.dbg_model.specs.declared.hart.Hart.{Hart}
 use Rattle.dbg_model.specs.declared.watch.Watch.{Watch}
 use Rattle.dbg_model.proofs.Founding.{IsFounded, IsThereOr, change_founded, change_watchable}
-use Rattle.engine_facts.specs.Seen.{Run, seen}
-use Rattle.engine_facts.specs.Facts.{Sound, IsThread, wants_of, InText}
-use Rattle.engine_facts.proofs.Planting.{text_shown}
+use Rattle.engine_moves.specs.Seen.{Run, seen}
+use Rattle.engine_moves.specs.Facts.{Sound, IsThread, wants_of, InText}
+use Rattle.engine_moves.proofs.Planting.{text_shown}
 use Rattle.dbg_effects.specs.Effect.{change_of}
 use Rattle.dbg_effects.specs.declared.effect.Effect.{Effect}
 use Rattle.dbg_effects.specs.declared.effect.Effect.TheVariants as effect

@@ -13,15 +13,15 @@ use Rattle.hart_machine.specs.Stepping.{AreCounted, Steps, StepsTo, has_run}
 use Rattle.dbg_model.specs.Judging.{noted_with}
 use Rattle.dbg_model.specs.Watches.{fired_by}
 use Rattle.dbg_model.specs.declared.watch.Fired.{Fired}
-use Rattle.engine_facts.specs.declared.mind.Hold.{Hold}
-use Rattle.engine_facts.specs.declared.mind.Mind.{Mind}
-use Rattle.engine_facts.specs.Homing.{IsSlotted}
-use Rattle.engine_facts.specs.Minds.{ran_mind}
-use Rattle.engine_facts.specs.Moves.{HeldInText}
-use Rattle.engine_facts.specs.Seen.{Run}
-use Rattle.engine_facts.specs.Facts.{Sound}
-use Rattle.engine_facts.proofs.Bounding.{Small}
-use Rattle.engine_facts.proofs.Stepping.{ran_of}
+use Rattle.engine_moves.specs.declared.mind.Hold.{Hold}
+use Rattle.engine_moves.specs.declared.mind.Mind.{Mind}
+use Rattle.engine_moves.specs.Homecoming.{IsSlotted}
+use Rattle.engine_moves.specs.Minds.{ran_mind}
+use Rattle.engine_moves.specs.Moves.{HeldInText}
+use Rattle.engine_moves.specs.Seen.{Run}
+use Rattle.engine_moves.specs.Facts.{Sound}
+use Rattle.engine_moves.proofs.Bounding.{Small}
+use Rattle.engine_moves.proofs.Stepping.{ran_of}
 use Rattle.engine_moves.specs.Steps.{Parts, applied}
 use Rattle.engine_moves.specs.Homing.{HomedBy}
 use Rattle.engine_moves.specs.Calls.{Before, GoesWith, Of, Undue}

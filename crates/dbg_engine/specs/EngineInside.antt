@@ -1,8 +1,8 @@
 -- An engine's fields.
 use Rattle.std.specs.Prelude.{◌-◌, vec_len, vec_capacity}
 use Rattle.dbg_engine.specs.declared.engine.Engine.TheInside.{Inside}
-use Rattle.engine_facts.specs.Seen.{Run}
-use Rattle.engine_facts.specs.Facts.{Facts}
+use Rattle.engine_moves.specs.Seen.{Run}
+use Rattle.engine_moves.specs.Facts.{Facts}
 
 abbrev pub run_of : Inside → Run
 run_of e = record {

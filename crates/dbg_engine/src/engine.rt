@@ -5,9 +5,9 @@ ghost use Rattle.data_memory.specs.Ranges.{bytes_at, range_at};
 ghost use Rattle.text_words.specs.Words.{is_planted};
 ghost use Rattle.dbg_model.specs.State.{first_state, any_runs, all_gone};
 ghost use Rattle.dbg_model.specs.Lawful.{may_go};
-ghost use Rattle.engine_facts.specs.Minds.{runs};
-ghost use Rattle.engine_facts.specs.Facts.{InText, OneLifted};
-ghost use Rattle.engine_facts.specs.Seen.{seen};
+ghost use Rattle.engine_moves.specs.Minds.{runs};
+ghost use Rattle.engine_moves.specs.Facts.{InText, OneLifted};
+ghost use Rattle.engine_moves.specs.Seen.{seen};
 ghost use Rattle.engine_moves.specs.Steps.{next_running};
 ghost use Rattle.engine_moves.specs.Viewing.{own_views};
 
@@ -35,21 +35,20 @@ mod turn;
 
 use break_table::BreakTable;
 use data_memory::DataMemory;
-use dbg_model::{Entry, HISTORY, Journal, Opening, ThreadView, Watch, WatchList};
+use dbg_model::{Entry, HISTORY, Journal, Opening, SourceIndex, ThreadView, Watch, WatchList};
 use dbg_traits::{NoMemory, Settings};
 use elf32_read::Image;
-use engine_facts::{Activity, Hold, Mind, Phase};
-use engine_moves::ending::End;
+use engine_moves::ending::{Closed, End};
 use engine_moves::homing::go_home_each;
 use engine_moves::minds::{all_gone, any_running, find_running, is_running};
 use engine_moves::patching::release;
 use engine_moves::views::views;
 use engine_moves::waiting::{Waiting, end_waits};
+use engine_moves::{Activity, Hold, Mind, Phase};
 use hart_machine::Machine;
 use loading::first_parts;
 use mi_commands::Displaced;
 pub use slicing::Commit;
-use source_index::SourceIndex;
 use std::alloc::{AllocError, Global};
 use std::marker::Model;
 
@@ -76,7 +75,7 @@ pub struct Engine {
 }
 
 impl Model for Engine {
-    ghost use Rattle.engine_facts.specs.Seen.{Run};
+    ghost use Rattle.engine_moves.specs.Seen.{Run};
     ghost use Rattle.std.specs.Coded.{codes};
     ghost use Rattle.data_memory.specs.Maps.{memory_code};
     ghost use Rattle.text_words.specs.Words.{words_code};
@@ -93,19 +92,8 @@ impl Model for Engine {
     ghost invariant = { Keeps };
 }
 
-/// What is left of an engine.
-#[derive(Drop)]
-pub struct Closed {
-    /// What the session began with.
-    pub opening: Opening,
-    /// What was done.
-    pub journal: Journal,
-    /// The machine as it stands at the end.
-    pub machine: Machine,
-}
-
 impl Engine {
-    ghost use Rattle.engine_facts.specs.Facts.{Facts};
+    ghost use Rattle.engine_moves.specs.Facts.{Facts};
     ghost use Rattle.engine_moves.specs.Calls.{Of, OverBy, Closes};
 
     /// An engine before its first move: each hart is stopped at the entry.

@@ -5,9 +5,9 @@ mod breaking;
 mod engine;
 mod resuming;
 
-pub use engine::{Closed, Commit, Engine, SPARE};
-pub use engine_facts::{Activity, Hold, Mind, Phase};
-pub use engine_moves::ending::End;
+pub use engine::{Commit, Engine, SPARE};
+pub use engine_moves::ending::{Closed, End};
 pub use engine_moves::laws::{moves_mark, one_instruction_or_none};
 pub use engine_moves::moving::Turned;
 pub use engine_moves::view::ShownHart;
+pub use engine_moves::{Activity, Hold, Mind, Phase};

@@ -5,7 +5,7 @@ ghost use Rattle.engine_moves.specs.Resuming.{asked, forgetting, gone_on, minds_
 
 use dbg_effects::{Effect, on_threads};
 use dbg_model::unless_of;
-use engine_facts::{Activity, Mind, Phase};
+use engine_moves::{Activity, Mind, Phase};
 use step_plans::Plan;
 
 // A stopped hart goes on with a plan.

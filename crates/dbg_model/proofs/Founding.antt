@@ -16,7 +16,7 @@ use Rattle.mi_commands.specs.declared.command.Target.{Target}
 use Rattle.mi_commands.specs.declared.command.Target.TheVariants as target
 use Rattle.mi_commands.specs.declared.refusal.Fault.{Fault}
 use Rattle.mi_commands.specs.declared.refusal.Fault.TheVariants as fault
-use Rattle.source_index.specs.Sources.{Sources}
+use Rattle.dbg_model.specs.Sources.{Sources}
 use Rattle.elf_symbols.specs.Names.{Names}
 use Rattle.watch_points.specs.declared.watch.Watched.{Watched}
 use Rattle.watch_points.specs.declared.fault.WatchFault.{WatchFault}

@@ -4,7 +4,7 @@ use Rattle.std.specs.Prelude.{List, Option}
 use Rattle.elf32_read.specs.Program.{Program}
 use Rattle.break_table.specs.Arrival.{due_of}
 use Rattle.break_table.specs.Entry.{Entry}
-use Rattle.source_index.specs.Sources.{Sources}
+use Rattle.dbg_model.specs.Sources.{Sources}
 use Rattle.step_plans.specs.declared.plan.Plan.TheVariants as plans
 use Rattle.step_plans.specs.declared.plan.Verdict.TheVariants as verdicts
 use Rattle.dbg_model.specs.declared.judgement.Course.{Course}

@@ -5,7 +5,7 @@ use Rattle.elf32_read.specs.Program.{text_word}
 use Rattle.elf_symbols.specs.Names.{Names, Symbol}
 use Rattle.elf_symbols.specs.Names as symbols
 use Rattle.line_index.specs.Lines as tables
-use Rattle.source_index.specs.Sources.{Sources}
+use Rattle.dbg_model.specs.Sources.{Sources}
 use Rattle.cond_expr.specs.declared.fault.ExprFault.{ExprFault}
 use Rattle.cond_expr.specs.Term.{Term}
 use Rattle.break_table.specs.Entry.{Asked, Condition, Entry, new_entry}

@@ -4,7 +4,7 @@ use Rattle.std.specs.Prelude.{ℕ, List, length, map, Option, Result, Ok}
 use Rattle.rv_exec.specs.Registers.{Registers}
 use Rattle.frame_walk.specs.declared.frame.Frame.{Frame}
 use Rattle.frame_walk.specs.Frames.{frames_of}
-use Rattle.source_index.specs.Sources.{Sources}
+use Rattle.dbg_model.specs.Sources.{Sources}
 use Rattle.dbg_model.specs.declared.frame.ShownFrame.{ShownFrame}
 use Rattle.dbg_model.specs.declared.reply.Content.TheVariants as content
 use Rattle.dbg_model.specs.declared.reply.Refused.{Refused}

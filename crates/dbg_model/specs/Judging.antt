@@ -5,7 +5,7 @@ use Rattle.std.specs.Option.{option_map}
 use Rattle.rv_decode.specs.Decode.{decode}
 use Rattle.rv_decode.specs.declared.instr.Instr.{Instr}
 use Rattle.elf32_read.specs.Program.{Program, text_word}
-use Rattle.source_index.specs.Sources.{Sources}
+use Rattle.dbg_model.specs.Sources.{Sources}
 use Rattle.break_table.specs.Arrival.{due_of}
 use Rattle.break_table.specs.Entry.{Entry}
 use Rattle.step_plans.specs.declared.plan.Last.{Last}

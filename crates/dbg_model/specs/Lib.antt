@@ -23,3 +23,4 @@ pub mod Lawful
 pub mod Journals
 pub mod Erase
 pub mod Leaving
+pub mod Sources

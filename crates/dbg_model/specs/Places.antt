@@ -4,7 +4,7 @@ use Rattle.std.specs.Option.{option_map}
 use Rattle.elf_symbols.specs.Names.{Symbol, function_at}
 use Rattle.line_rows.specs.declared.row.Row.{Row}
 use Rattle.line_index.specs.Lines.{Lines, file_name, row_at}
-use Rattle.source_index.specs.Sources.{Sources}
+use Rattle.dbg_model.specs.Sources.{Sources}
 use Rattle.dbg_model.specs.declared.frame.ShownFrame.{ShownFrame}
 use Rattle.dbg_model.specs.declared.frame.SourceLine.{SourceLine}
 

@@ -3,7 +3,7 @@ use Rattle.std.specs.Prelude.{ℕ, zero, suc, ◌+◌, List, [], ◌∷◌, ◌+
 use Rattle.rv_exec.specs.Registers.{Registers}
 use Rattle.rv_exec.specs.Memory.{Memory}
 use Rattle.elf32_read.specs.Program.{Program}
-use Rattle.source_index.specs.Sources.{Sources, sources_of}
+use Rattle.dbg_model.specs.Sources.{Sources, sources_of}
 use Rattle.break_table.specs.Entry.{Entry}
 use Rattle.mi_commands.specs.declared.command.Displaced.{Displaced}
 use Rattle.dbg_model.specs.declared.entry.Mode.{Mode}

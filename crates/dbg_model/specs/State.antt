@@ -9,7 +9,7 @@ use Rattle.break_table.specs.Entry.{Entry}
 use Rattle.break_table.specs.Arrival.{settled}
 use Rattle.mi_commands.specs.declared.command.Displaced.{Displaced}
 use Rattle.mi_commands.specs.declared.command.Displaced.TheVariants as displaced
-use Rattle.source_index.specs.Sources.{sources_of}
+use Rattle.dbg_model.specs.Sources.{sources_of}
 use Rattle.step_plans.specs.declared.plan.Plan.TheVariants as plans
 use Rattle.dbg_model.specs.declared.entry.Mode.{Mode}
 use Rattle.dbg_model.specs.declared.entry.Mode.TheVariants as mode

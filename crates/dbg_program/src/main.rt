@@ -2,30 +2,9 @@
 #![tactic(auto)]
 
 use dbg_session::{Ended, Status, debug_run};
-use dbg_traits::{ArgText, NoMemory};
-use std::io::ErrorKind;
 use std::process::ExitCode;
-use std::{env, fs, thread};
-use system_world::{RealWorld, RestingGate, Shared, pump};
-
-// The words of the command line, without the program's name. Where one isn't UTF-8 there are none, which is refused.
-fn words(rt: &(impl env::Env + Alloc<A = std::alloc::Global>)) -> Result<Vec<ArgText>, NoMemory> {
-    let mut words = Vec::new(rt.alloc());
-    let mut args = match env::args(rt) {
-        Ok(args) => args,
-        Err(error) => {
-            if error.kind() == ErrorKind::InvalidData {
-                return Ok(words);
-            }
-            return Err(NoMemory);
-        }
-    };
-    let _ = args.next();
-    for word in args {
-        words.push(ArgText::of(word))?;
-    }
-    Ok(words)
-}
+use std::{fs, thread};
+use system_world::{RealWorld, RestingGate, Shared, pump, words};
 
 fn main(rt: HostRuntime) -> ExitCode {
     // A folder can be neither read nor written as a file. So it stands in for a standard descriptor that was closed.

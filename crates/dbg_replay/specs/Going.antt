@@ -18,7 +18,7 @@ use Rattle.dbg_model.specs.Watches.{is_fired}
 use Rattle.dbg_model.specs.State.{State, due}
 use Rattle.dbg_model.specs.Lawful.{may_move, with_arrival, with_leavers}
 use Rattle.dbg_model.specs.Journals.{Place}
-use Rattle.source_index.specs.Sources.{sources_of}
+use Rattle.dbg_model.specs.Sources.{sources_of}
 use Rattle.dbg_replay.specs.declared.halt.Halt.{Halt}
 use Rattle.dbg_replay.specs.declared.halt.Halt.TheVariants.{NoMemory, Unlawful}
 use Rattle.dbg_replay.specs.declared.state.Parts.{Parts}

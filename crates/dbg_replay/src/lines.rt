@@ -1,7 +1,7 @@
 // Lines: whether each may be done, and what it changes.
 ghost use Rattle.std.specs.Prelude.{◌≡◌, ◌≤◌, ◌<◌, ◌-◌, ◌^◌, ℕ, List, IfOk, None, Some, if◌then◌else◌, length, map};
 ghost use Rattle.mi_commands.specs.Gives.{Commands};
-ghost use Rattle.source_index.specs.Sources.{sources_of};
+ghost use Rattle.dbg_model.specs.Sources.{sources_of};
 ghost use Rattle.dbg_model.specs.Lawful.{may_do};
 ghost use Rattle.dbg_model.specs.Reply.{answer_of, done_by};
 ghost use Rattle.dbg_model.specs.Sight.{view_of};

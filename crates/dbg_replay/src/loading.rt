@@ -2,7 +2,7 @@
 ghost use Rattle.std.specs.Prelude.{◌≡◌, ◌≤◌, ℕ, [], IfOk, replicate};
 ghost use Rattle.dbg_traits.specs.Settings.{AreSettings};
 ghost use Rattle.data_memory.specs.Start.{start_memory};
-ghost use Rattle.source_index.specs.Sources.{sources_of};
+ghost use Rattle.dbg_model.specs.Sources.{sources_of};
 ghost use Rattle.break_table.specs.Table.{first_table};
 ghost use Rattle.break_table.specs.Text.{is_instruction, is_place};
 ghost use Rattle.dbg_model.specs.State.{first_harts, first_state};
@@ -12,12 +12,11 @@ ghost use Rattle.dbg_replay.specs.Going.{Kept};
 use crate::state::Parts;
 use break_table::BreakTable;
 use data_memory::DataMemory;
-use dbg_model::{Hart, Mode, Opening, WatchList};
+use dbg_model::{Hart, Mode, Opening, SourceIndex, WatchList};
 use dbg_traits::NoMemory;
 use elf32_read::Image;
 use mi_commands::Displaced;
 use plain_machine::first_registers;
-use source_index::SourceIndex;
 use std::alloc::{AllocError, Global};
 use step_plans::Plan;
 

@@ -1,6 +1,6 @@
 // Which hart may move, and what is judged of it.
 ghost use Rattle.std.specs.Prelude.{◌≡◌, IsTrue, IfOk};
-ghost use Rattle.source_index.specs.Sources.{sources_of};
+ghost use Rattle.dbg_model.specs.Sources.{sources_of};
 ghost use Rattle.dbg_model.specs.State.{due, arrived};
 ghost use Rattle.dbg_model.specs.Lawful.{may_go, may_move, may_run};
 ghost use Rattle.dbg_replay.specs.Parts.{shown};

@@ -3,9 +3,8 @@ ghost use Rattle.break_table.specs.Entry.{entry_of};
 
 use break_table::{BreakEntry, BreakTable};
 use data_memory::DataMemory;
-use dbg_model::{Hart, Poke, Watch, WatchList};
+use dbg_model::{Hart, Poke, SourceIndex, Watch, WatchList};
 use mi_commands::Displaced;
-use source_index::SourceIndex;
 use std::marker::Model;
 
 /// What a replay keeps: what a state is made of, and what the program's file tells of its source.

@@ -2,14 +2,14 @@
 use Rattle.std.proofs.Common.{◌≡◌, ℕ, List}
 use Rattle.elf32_read.specs.Program.{Program}
 use Rattle.rv_exec.specs.Memory.{Memory}
-use Rattle.source_index.specs.Sources.{Sources}
+use Rattle.dbg_model.specs.Sources.{Sources}
 use Rattle.break_table.specs.Entry.{Entry}
 use Rattle.mi_commands.specs.declared.command.Displaced.{Displaced}
 use Rattle.dbg_model.specs.declared.thread_view.ThreadView.{ThreadView}
 use Rattle.dbg_model.specs.declared.watch.Watch.{Watch}
 use Rattle.dbg_model.specs.Sight.{Sight, sight_of}
-use Rattle.engine_facts.specs.Facts.{Sound}
-use Rattle.engine_facts.specs.Seen.{Run, seen}
+use Rattle.engine_moves.specs.Facts.{Sound}
+use Rattle.engine_moves.specs.Seen.{Run, seen}
 use Rattle.engine_moves.specs.Viewing.{own_views}
 use Rattle.engine_moves.proofs.Viewing.{sees}
 

@@ -1,5 +1,2 @@
-pub mod Leaving
 pub mod Answering
-pub mod Heading
-pub mod Finishing
 pub mod Sending

@@ -1,4 +1,1 @@
 pub mod SessionInside
-pub mod Left
-pub mod Headline
-pub mod Over

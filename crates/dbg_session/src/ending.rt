@@ -3,18 +3,9 @@ ghost use Rattle.std.specs.Prelude.{◌≡◌, None, Some, if◌then◌else◌};
 ghost use Rattle.session_facts.specs.Stage.{stage_of};
 ghost use Rattle.session_facts.specs.Ties.{OverBy};
 
-use crate::Status;
-use dbg_engine::{Closed, End, Engine};
+use dbg_engine::{End, Engine};
 use dbg_model::MOST_INPUT;
-
-/// How a run ended: the world is handed back.
-pub struct Ended<W> {
-    /// Why it ended.
-    pub status: Status,
-    pub world: W,
-    /// What is left of the session; None where none was begun.
-    pub closed: Option<Closed>,
-}
+use session_facts::Status;
 
 /// The status after a put.
 pub fn status_of(put: bool) -> Option<Status>

@@ -2,15 +2,13 @@
 #![tactic(auto)]
 
 mod ending;
-mod finish;
 mod lines;
 mod run;
 mod session;
 mod steps;
 
 pub use dbg_engine::Closed;
-pub use ending::Ended;
 pub use lines::{command, must_wait};
 pub use run::debug_run;
 pub use session::Session;
-pub use session_facts::Status;
+pub use session_facts::{Ended, Status};

@@ -6,19 +6,18 @@ ghost use Rattle.session_facts.specs.Taking.{has_line};
 ghost use Rattle.session_facts.specs.Round.{Takes, Lines, Settles, Round, moment};
 ghost use Rattle.session_facts.specs.Crew.{NonePauses};
 ghost use Rattle.engine_moves.specs.Steps.{NoneOut};
-ghost use Rattle.dbg_session.specs.Left.{IsLeft};
+ghost use Rattle.session_facts.specs.Left.{IsLeft};
 ghost use Rattle.session_facts.specs.Stage.{stage_of};
 
 mod crew;
 mod moving;
 
-use crate::Status;
-use crate::ending::{Ended, over, status_of};
+use crate::ending::{over, status_of};
 use crate::steps::line_once;
 use dbg_engine::Engine;
 use dbg_traits::World;
 use mi_input::next_line;
-use session_facts::{Done, Input, Known, PIECE, input_once, put_all};
+use session_facts::{Done, Ended, Input, Known, PIECE, Status, input_once, put_all};
 use std::alloc::Global;
 use std::marker::Model;
 
@@ -69,7 +68,7 @@ impl<W: World> Model for Session<W> {
 
     ghost view = { seen_of };
 
-    ghost use Rattle.engine_facts.specs.Facts.{Facts};
+    ghost use Rattle.engine_moves.specs.Facts.{Facts};
 
     ghost invariant = { λ s. IsTied s.status (W.told s.world) (stage_of s.engine) (taken_of s) × (s.start ≤ vec_len s.buffer) × IsCounted s.status s.count × IsKnown s.known s.ended (drop s.start s.buffer.items) × Facts s.engine };
 }
@@ -81,7 +80,7 @@ impl<W: World> Session<W> {
     ghost use Rattle.mi_reports.specs.Text.{opening_lines};
     ghost use Rattle.session_facts.specs.Puts.{PutsAll};
     ghost use Rattle.std.specs.Prelude.{is_none};
-    ghost use Rattle.engine_facts.specs.Facts.{Facts};
+    ghost use Rattle.engine_moves.specs.Facts.{Facts};
 
     /// A session over an engine, with its opening lines.
     pub fn open(alloc: Global, world: W, engine: Engine, opening: Vec<u8>) -> Session<W>

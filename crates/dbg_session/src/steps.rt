@@ -3,8 +3,6 @@ ghost use Rattle.std.specs.Prelude.{◌≡◌, ◌<◌, ◌≤◌, ◌+◌, ◌+
 ghost use Rattle.engine_moves.specs.Steps.{IsTurned};
 ghost use Rattle.mi_values.specs.Records.{lines_bytes, AreLines};
 ghost use Rattle.mi_reports.specs.Events.{stopping_lines};
-ghost use Rattle.mi_reports.specs.Replies.{reply_lines};
-ghost use Rattle.session_facts.specs.Puts.{PutsLines};
 ghost use Rattle.dbg_model.specs.Places.{own_frame};
 ghost use Rattle.session_facts.specs.Stage.{stage_of};
 ghost use Rattle.session_facts.specs.Turned.{turned_lines, wrote_lines, left_lines, has_moved};
@@ -12,8 +10,8 @@ ghost use Rattle.session_facts.specs.Steps.{Turns, Goes, Does, Answers};
 ghost use Rattle.session_facts.specs.Stage.{work_of};
 ghost use Rattle.dbg_model.specs.Lawful.{may_go};
 ghost use Rattle.session_facts.specs.declared.turn.Turn.TheVariants as turn;
-ghost use Rattle.engine_facts.specs.Seen.{seen};
-ghost use Rattle.engine_facts.specs.Facts.{Facts};
+ghost use Rattle.engine_moves.specs.Seen.{seen};
+ghost use Rattle.engine_moves.specs.Facts.{Facts};
 
 use crate::lines::{command, must_wait};
 use dbg_answers::{read_line, shown_frame};
@@ -22,7 +20,7 @@ use dbg_model::Reply;
 use dbg_traits::{NoMemory, World};
 use mi_input::next_line;
 use mi_reports::{Event, Hit, Stop, report};
-use session_facts::{Done, Turn, put_all, put_event};
+use session_facts::{Done, Turn, put_all, put_reply};
 use std::alloc::Global;
 
 // Puts the line of the bytes of a range at the end.
@@ -197,13 +195,6 @@ fn answer_line(alloc: Global, engine: &mut Engine, line: &[u8]) -> Result<Option
         return Ok(None);
     }
     Ok(Some(command(alloc, engine, line, read)?))
-}
-
-// Puts a reply, which is let go of here and nowhere else, since it is large.
-fn put_reply<W: World>(world: &mut W, reply: Reply, lines: &mut Vec<u8>) -> Result<bool, NoMemory>
-    ensures { MatchResult result (λ put. PutsLines put (reply_lines reply) (W.told world.old) (W.told world.new)) (λ _. world.new ≡ world.old) }
-{
-    put_event(world, Event::Answered(&reply), lines)
 }
 
 /// The next line of the rest of the input, with its reply, which goes through the memory of `lines`, in a session that may go on.

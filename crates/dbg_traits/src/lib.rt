@@ -1,17 +1,15 @@
-//! The outside of the debugger, as traits, and a world in memory.
+//! The outside of the debugger, as traits, with numbers in the memory that a view shows.
 #![tactic(auto)]
 
-mod memory;
 mod names;
-mod script;
+mod numbers;
 mod settings;
 mod text;
 mod view;
 mod world;
 
-pub use memory::{Limits, MemWorld};
 pub use names::{NamePlace, place_of};
-pub use script::Cue;
+pub use numbers::number_at;
 pub use settings::Settings;
 pub use text::{ArgText, NoMemory};
 pub use view::View;

@@ -18,12 +18,20 @@ file_rule = record (new_rule (codes "FILE")) { action = Some Set }
 abbrev pub settled_app : App → App
 settled_app a = record a { top = record a.top { no_binary_name = true; disable_help_flag = true } }
 
+-- with the options of the machine
+abbrev pub of_machine : App
+of_machine = with_rule (with_rule (with_rule (settled_app (new_app (codes "rvdbg")))
+    (option_rule (codes "harts"))) (option_rule (codes "workers"))) (option_rule (codes "slots"))
+
+-- and those of its run
+abbrev pub of_run : App
+of_run = with_rule (with_rule (with_rule of_machine
+    (option_rule (codes "budget"))) (option_rule (codes "slice"))) (option_rule (codes "gen"))
+
+-- and all else
 unfoldable pub rvdbg : App
-rvdbg = with_rule (with_rule (with_rule (with_rule (with_rule (with_rule (with_rule (with_rule (with_rule (settled_app (new_app (codes "rvdbg")))
-    (option_rule (codes "harts"))) (option_rule (codes "workers"))) (option_rule (codes "slots")))
-    (option_rule (codes "budget"))) (option_rule (codes "slice"))) (option_rule (codes "gen"))) (option_rule (codes "check")))
-    (flag_rule (codes "log")))
-    file_rule
+rvdbg = with_rule (with_rule (with_rule of_run
+    (option_rule (codes "check"))) (flag_rule (codes "log"))) file_rule
 
 -- why clap refuses the words: none, where it takes them
 unfoldable pub clap_faults : List (List ℕ) → Kinds

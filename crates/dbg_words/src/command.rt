@@ -1,7 +1,7 @@
 // The command, and what clap makes of the words.
 ghost use Rattle.std.specs.Prelude.{◌≡◌, ◌≢◌, IfOk, IfSome, IfNone, [], false};
 ghost use Rattle.clap.specs.Words.{app_of, rule_of, rows_of, found_of};
-ghost use Rattle.dbg_words.specs.Command.{rvdbg, option_rule, flag_rule, file_rule, clap_faults, clap_rows};
+ghost use Rattle.dbg_words.specs.Command.{rvdbg, of_machine, of_run, option_rule, flag_rule, file_rule, clap_faults, clap_rows};
 
 use clap::error::ErrorKind;
 use clap::{Arg, ArgAction, ArgMatches, Command};
@@ -29,18 +29,34 @@ fn file<'a>(alloc: Global) -> Arg<'a>
     Arg::new(alloc, "FILE").action(ArgAction::Set)
 }
 
-fn command<'a>(alloc: Global) -> Result<Command<'a>, AllocError>
-    ensures { IfOk result (λ c. app_of c ≡ rvdbg) }
+// With the options of the machine.
+fn of_machine<'a>(alloc: Global) -> Result<Command<'a>, AllocError>
+    ensures { IfOk result (λ c. app_of c ≡ of_machine) }
 {
     let bare = Command::new(alloc, "rvdbg")
         .no_binary_name(true)
         .disable_help_flag(true);
     bare.arg(option(alloc, "harts"))?
         .arg(option(alloc, "workers"))?
-        .arg(option(alloc, "slots"))?
+        .arg(option(alloc, "slots"))
+}
+
+// And those of its run.
+fn of_run<'a>(alloc: Global) -> Result<Command<'a>, AllocError>
+    ensures { IfOk result (λ c. app_of c ≡ of_run) }
+{
+    let command = of_machine(alloc)?;
+    command
         .arg(option(alloc, "budget"))?
         .arg(option(alloc, "slice"))?
-        .arg(option(alloc, "gen"))?
+        .arg(option(alloc, "gen"))
+}
+
+fn command<'a>(alloc: Global) -> Result<Command<'a>, AllocError>
+    ensures { IfOk result (λ c. app_of c ≡ rvdbg) }
+{
+    let command = of_run(alloc)?;
+    command
         .arg(option(alloc, "check"))?
         .arg(flag(alloc, "log"))?
         .arg(file(alloc))

@@ -20,20 +20,20 @@ use Rattle.dbg_model.specs.declared.entry.Entry.{Entry}
 use Rattle.dbg_model.specs.Limits.{history}
 use Rattle.dbg_model.specs.declared.hart.Hart.{Hart}
 use Rattle.step_plans.specs.declared.plan.Plan.{Plan}
-use Rattle.engine_facts.specs.declared.mind.Activity.TheVariants as activity
-use Rattle.engine_facts.specs.declared.mind.Hold.{Hold}
-use Rattle.engine_facts.specs.declared.mind.Mind.{Mind}
-use Rattle.engine_facts.specs.Minds.{after_step, entered_of, is_active, is_before, is_copied, runs, with_phase}
-use Rattle.engine_facts.specs.Movers.{is_idle}
-use Rattle.engine_facts.specs.declared.mind.Activity.{Activity}
+use Rattle.engine_moves.specs.declared.mind.Activity.TheVariants as activity
+use Rattle.engine_moves.specs.declared.mind.Hold.{Hold}
+use Rattle.engine_moves.specs.declared.mind.Mind.{Mind}
+use Rattle.engine_moves.specs.Minds.{after_step, entered_of, is_active, is_before, is_copied, runs, with_phase}
+use Rattle.engine_moves.specs.Movers.{is_idle}
+use Rattle.engine_moves.specs.declared.mind.Activity.{Activity}
 use Rattle.dbg_model.proofs.Options.{both_true}
-use Rattle.engine_facts.specs.Seen.{Run, seen, seen_hart}
-use Rattle.engine_facts.specs.Facts.{Facts, Sound, other_holder}
-use Rattle.engine_facts.proofs.Keeping.{Mover, hart_at}
-use Rattle.engine_facts.proofs.Holding.{clear_stands, core_at}
-use Rattle.engine_facts.proofs.Awaiting.{wait_at}
-use Rattle.engine_facts.proofs.Bounding.{Small, below, may_go_by, small_at}
-use Rattle.engine_facts.proofs.Stepping.{fact_of}
+use Rattle.engine_moves.specs.Seen.{Run, seen, seen_hart}
+use Rattle.engine_moves.specs.Facts.{Facts, Sound, other_holder}
+use Rattle.engine_moves.proofs.Keeping.{Mover, hart_at}
+use Rattle.engine_moves.proofs.Holding.{clear_stands, core_at}
+use Rattle.engine_moves.proofs.Awaiting.{wait_at}
+use Rattle.engine_moves.proofs.Bounding.{Small, below, may_go_by, small_at}
+use Rattle.engine_moves.proofs.Stepping.{fact_of}
 use Rattle.elf32_read.specs.Program.{Program}
 use Rattle.break_table.specs.Entry.{Entry as BreakEntry}
 use Rattle.dbg_model.specs.Judging.{is_due}

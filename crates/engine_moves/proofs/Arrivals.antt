@@ -15,9 +15,9 @@ use Rattle.dbg_model.specs.Watches.{risen}
 use Rattle.dbg_model.specs.Breaks.{is_temporary}
 use Rattle.dbg_model.specs.Judging.{is_counted, is_due, is_end}
 use Rattle.dbg_model.specs.State.{State, due}
-use Rattle.engine_facts.specs.declared.mind.Mind.{Mind}
-use Rattle.engine_facts.specs.Moves.{stop_by, stop_of}
-use Rattle.engine_facts.specs.Seen.{Run, seen}
+use Rattle.engine_moves.specs.declared.mind.Mind.{Mind}
+use Rattle.engine_moves.specs.Moves.{stop_by, stop_of}
+use Rattle.engine_moves.specs.Seen.{Run, seen}
 use Rattle.engine_moves.specs.Calls.{DueIs, Halts, Rephases, StopsBy, Turns}
 use Rattle.engine_moves.specs.Rows.{Row, Counts, Stops, row_due, row_of}
 use Rattle.engine_moves.specs.Steps.{Arrives, IsTurned, stopped_by}

@@ -33,21 +33,21 @@ use Rattle.dbg_model.specs.Lawful.{enter, may_go, may_do}
 use Rattle.dbg_model.proofs.Founding.{IsFounded, IsStoppedHart, IsWritable, change_founded, change_writable}
 use Rattle.dbg_model.proofs.Numbering.{given_within}
 use Rattle.dbg_model.proofs.Options.{both_true}
-use Rattle.engine_facts.specs.declared.mind.Mind.{Mind}
-use Rattle.engine_facts.specs.declared.mind.Activity.{Activity}
-use Rattle.engine_facts.specs.declared.mind.Activity.TheVariants as activity
-use Rattle.engine_facts.specs.Minds.{awaited, entered_of, is_active, is_lifted, mode_of}
-use Rattle.engine_facts.specs.Seen.{Run, seen, seen_with, told_of, seen_hart, seen_harts}
-use Rattle.engine_facts.specs.Facts.{Facts, Sound, IsThread, wants_of, Planted, AreInText, pending}
-use Rattle.engine_facts.specs.Moves.{lined, poked}
-use Rattle.engine_facts.specs.Tables.{ArePlanted}
-use Rattle.engine_facts.proofs.Stopping.{lines}
-use Rattle.engine_facts.proofs.Bounding.{below}
-use Rattle.engine_facts.proofs.Breaking.{planted_again}
-use Rattle.engine_facts.proofs.Keeping.{Enters, Mover, hart_at}
-use Rattle.engine_facts.proofs.Holding.{core_at, get_within}
-use Rattle.engine_facts.proofs.Stepping.{fact_of}
-use Rattle.engine_facts.proofs.Writing.{Writes, asking, writes_register, writes_bytes}
+use Rattle.engine_moves.specs.declared.mind.Mind.{Mind}
+use Rattle.engine_moves.specs.declared.mind.Activity.{Activity}
+use Rattle.engine_moves.specs.declared.mind.Activity.TheVariants as activity
+use Rattle.engine_moves.specs.Minds.{awaited, entered_of, is_active, is_lifted, mode_of}
+use Rattle.engine_moves.specs.Seen.{Run, seen, seen_with, told_of, seen_hart, seen_harts}
+use Rattle.engine_moves.specs.Facts.{Facts, Sound, IsThread, wants_of, Planted, AreInText, pending}
+use Rattle.engine_moves.specs.Moves.{lined, poked}
+use Rattle.engine_moves.specs.Tables.{ArePlanted}
+use Rattle.engine_moves.proofs.Stopping.{lines}
+use Rattle.engine_moves.proofs.Bounding.{below}
+use Rattle.engine_moves.proofs.Breaking.{planted_again}
+use Rattle.engine_moves.proofs.Keeping.{Enters, Mover, hart_at}
+use Rattle.engine_moves.proofs.Holding.{core_at, get_within}
+use Rattle.engine_moves.proofs.Stepping.{fact_of}
+use Rattle.engine_moves.proofs.Asking.{Writes, asking, writes_register, writes_bytes}
 use Rattle.engine_moves.specs.Changing.{Makes, Retabled, wants_by}
 use Rattle.engine_moves.specs.Calls.{Lines, pokes_of, poked_after}
 use Rattle.engine_moves.specs.Writing.{CanPoke, Pokes}

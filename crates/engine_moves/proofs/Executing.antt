@@ -32,23 +32,23 @@ use Rattle.dbg_model.specs.Watches.{fired_by}
 use Rattle.dbg_model.specs.declared.watch.Fired.{Fired}
 use Rattle.dbg_model.specs.Lawful.{may_go, may_move, may_run}
 use Rattle.dbg_model.specs.Journals.{lengthened}
-use Rattle.engine_facts.specs.declared.mind.Activity.TheVariants as activity
-use Rattle.engine_facts.specs.declared.mind.Hold.{Hold}
-use Rattle.engine_facts.specs.declared.mind.Mind.{Mind}
-use Rattle.engine_facts.specs.Minds.{after_step, is_before, is_copied, slot_of, entered_of, gone_mind, ran_mind, lefts_live}
-use Rattle.engine_facts.specs.Seen.{Run, seen, seen_hart, seen_regs, running_regs}
-use Rattle.engine_facts.specs.Facts.{Sound, Harts, Placed, Planted, called, other_holder, wants_of}
-use Rattle.engine_facts.specs.Moves.{HeldInText, executed, departed, plan_for}
-use Rattle.engine_facts.specs.Homing.{IsSlotted, home_core, GoesHome, AllGoHome}
-use Rattle.engine_facts.proofs.Counting.{adds}
-use Rattle.engine_facts.proofs.Keeping.{Mover, hart_at}
-use Rattle.engine_facts.proofs.Holding.{core_at, released, unholds, own_seen, clear_stands, held_text}
-use Rattle.engine_facts.proofs.Homing.{slotted_by, home_is, home_counts, home_out, home_known, home_slots, home_rest, all_are_home, all_are_free, all_ready, all_slotted}
-use Rattle.engine_facts.proofs.Bounding.{Small, small_at}
-use Rattle.engine_facts.proofs.Planting.{no_hit}
-use Rattle.engine_facts.proofs.Stepping.{after_regs, after_slot, executes, fact_of, gives_seen, one_seen, ran_harts, ran_of}
-use Rattle.engine_facts.proofs.Exiting.{Departs, departs_alone, departs_all}
-use Rattle.engine_facts.proofs.Stopping.{may_by}
+use Rattle.engine_moves.specs.declared.mind.Activity.TheVariants as activity
+use Rattle.engine_moves.specs.declared.mind.Hold.{Hold}
+use Rattle.engine_moves.specs.declared.mind.Mind.{Mind}
+use Rattle.engine_moves.specs.Minds.{after_step, is_before, is_copied, slot_of, entered_of, gone_mind, ran_mind, lefts_live}
+use Rattle.engine_moves.specs.Seen.{Run, seen, seen_hart, seen_regs, running_regs}
+use Rattle.engine_moves.specs.Facts.{Sound, Harts, Placed, Planted, called, other_holder, wants_of}
+use Rattle.engine_moves.specs.Moves.{HeldInText, executed, departed, plan_for}
+use Rattle.engine_moves.specs.Homecoming.{IsSlotted, home_core, GoesHome, AllGoHome}
+use Rattle.engine_moves.proofs.Counting.{adds}
+use Rattle.engine_moves.proofs.Keeping.{Mover, hart_at}
+use Rattle.engine_moves.proofs.Holding.{core_at, released, unholds, own_seen, clear_stands, held_text}
+use Rattle.engine_moves.proofs.Homecoming.{slotted_by, home_is, home_counts, home_out, home_known, home_slots, home_rest, all_are_home, all_are_free, all_ready, all_slotted}
+use Rattle.engine_moves.proofs.Bounding.{Small, small_at}
+use Rattle.engine_moves.proofs.Planting.{no_hit}
+use Rattle.engine_moves.proofs.Stepping.{after_regs, after_slot, executes, fact_of, gives_seen, one_seen, ran_harts, ran_of}
+use Rattle.engine_moves.proofs.Exiting.{Departs, departs_alone, departs_all}
+use Rattle.engine_moves.proofs.Stopping.{may_by}
 use Rattle.engine_moves.specs.declared.moving.Turned.TheVariants as turned
 use Rattle.engine_moves.specs.Steps.{Parts, applied, exits_of, leaves, turned_of, left_minds}
 use Rattle.engine_moves.specs.Homing.{ComesHome, HomedBy}

@@ -13,15 +13,15 @@ use Rattle.dbg_model.specs.Outcome.{Change, stays, resumes, selects, inserts, ad
 use Rattle.dbg_model.specs.Reply.{harts_after, is_named, on_threads, resumed}
 use Rattle.dbg_model.specs.Reply as model
 use Rattle.dbg_model.proofs.Naming.{length-on_threads, named, on_threads-get}
-use Rattle.engine_facts.specs.declared.mind.Activity.{Activity}
-use Rattle.engine_facts.specs.declared.mind.Activity.TheVariants as activity
-use Rattle.engine_facts.specs.declared.mind.Hold.{Hold}
-use Rattle.engine_facts.specs.declared.mind.Mind.{Mind}
-use Rattle.engine_facts.specs.Minds.{is_active, slot_of}
-use Rattle.engine_facts.specs.Seen.{seen_hart, seen_harts}
-use Rattle.engine_facts.specs.Facts.{HartFact, Harts, HasSlot}
-use Rattle.engine_facts.proofs.Holding.{get_within}
-use Rattle.engine_facts.proofs.Stopping.{resumed_fact, asked_fact, phase_of}
+use Rattle.engine_moves.specs.declared.mind.Activity.{Activity}
+use Rattle.engine_moves.specs.declared.mind.Activity.TheVariants as activity
+use Rattle.engine_moves.specs.declared.mind.Hold.{Hold}
+use Rattle.engine_moves.specs.declared.mind.Mind.{Mind}
+use Rattle.engine_moves.specs.Minds.{is_active, slot_of}
+use Rattle.engine_moves.specs.Seen.{seen_hart, seen_harts}
+use Rattle.engine_moves.specs.Facts.{HartFact, Harts, HasSlot}
+use Rattle.engine_moves.proofs.Holding.{get_within}
+use Rattle.engine_moves.proofs.Stopping.{resumed_fact, asked_fact, phase_of}
 use Rattle.engine_moves.specs.Resuming.{gone_on, gone_on_by, asked, asked_by, forgetting, minds_after}
 
 -- ---- what becomes of one hart

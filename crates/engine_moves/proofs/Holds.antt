@@ -38,31 +38,31 @@ use Rattle.dbg_model.specs.Watches.{risen}
 use Rattle.dbg_model.specs.Judging.{is_due, is_counted, judgement_of, no_arrival, plan_after}
 use Rattle.dbg_model.specs.declared.opening.Opening.{Opening}
 use Rattle.dbg_model.specs.State.{State, due, is_off, arrived as after_arrival}
-use Rattle.source_index.specs.Sources.{Sources, sources_of}
+use Rattle.dbg_model.specs.Sources.{Sources, sources_of}
 use Rattle.dbg_model.specs.Lawful.{may_go}
-use Rattle.engine_facts.specs.declared.mind.Activity.{Activity}
-use Rattle.engine_facts.specs.declared.mind.Activity.TheVariants as activity
-use Rattle.engine_facts.specs.declared.mind.Hold.{Hold}
-use Rattle.engine_facts.specs.declared.mind.Mind.{Mind}
-use Rattle.engine_facts.specs.Minds.{awaited, is_before, slot_of, with_phase, first_mind, counted_mind}
-use Rattle.engine_facts.specs.Seen.{Run, seen, seen_hart, seen_regs, running_regs, landed_regs}
-use Rattle.engine_facts.specs.Facts.{Facts, Sound, AreInText, InText, Planted, Retired, AreCopied, CopiedOver, Wants, called, is_home, pending, wanted, wants_of, other_holder}
-use Rattle.engine_facts.specs.Moves.{Repatched, Released, HeldInText, Takes, AreHome, stop_of}
-use Rattle.engine_facts.specs.Homing.{GoesHome, AllGoHome}
+use Rattle.engine_moves.specs.declared.mind.Activity.{Activity}
+use Rattle.engine_moves.specs.declared.mind.Activity.TheVariants as activity
+use Rattle.engine_moves.specs.declared.mind.Hold.{Hold}
+use Rattle.engine_moves.specs.declared.mind.Mind.{Mind}
+use Rattle.engine_moves.specs.Minds.{awaited, is_before, slot_of, with_phase, first_mind, counted_mind}
+use Rattle.engine_moves.specs.Seen.{Run, seen, seen_hart, seen_regs, running_regs, landed_regs}
+use Rattle.engine_moves.specs.Facts.{Facts, Sound, AreInText, InText, Planted, Retired, AreCopied, CopiedOver, Wants, called, is_home, pending, wanted, wants_of, other_holder}
+use Rattle.engine_moves.specs.Moves.{Repatched, Released, HeldInText, Takes, AreHome, stop_of}
+use Rattle.engine_moves.specs.Homecoming.{GoesHome, AllGoHome}
 use Rattle.dbg_model.proofs.Options.{both_true}
-use Rattle.engine_facts.specs.Tables.{ArePlanted}
-use Rattle.engine_facts.proofs.Awaiting.{waits_same}
-use Rattle.engine_facts.proofs.Breaking.{same_shown}
-use Rattle.engine_facts.proofs.Keeping.{hart_at}
-use Rattle.engine_facts.proofs.Updating.{home_at, none_held}
-use Rattle.engine_facts.proofs.Holding.{core_at, released, planted_text, stands_text, own_seen, no_hold}
-use Rattle.engine_facts.proofs.Copying.{copies}
-use Rattle.engine_facts.proofs.Homing.{unwound, home_rest, all_are_home, all_are_free, all_ready}
-use Rattle.engine_facts.proofs.Exiting.{retired_home}
-use Rattle.engine_facts.proofs.Planting.{text_shown, shown_image}
-use Rattle.engine_facts.proofs.Stepping.{fact_of, lifts}
-use Rattle.engine_facts.proofs.Arriving.{text-arrived}
-use Rattle.engine_facts.proofs.Stopping.{goes_with, halts_fault, halts_interrupt, halts_arrival, counts, may_by}
+use Rattle.engine_moves.specs.Tables.{ArePlanted}
+use Rattle.engine_moves.proofs.Awaiting.{waits_same}
+use Rattle.engine_moves.proofs.Breaking.{same_shown}
+use Rattle.engine_moves.proofs.Keeping.{hart_at}
+use Rattle.engine_moves.proofs.Updating.{home_at, none_held}
+use Rattle.engine_moves.proofs.Holding.{core_at, released, planted_text, stands_text, own_seen, no_hold}
+use Rattle.engine_moves.proofs.Copying.{copies}
+use Rattle.engine_moves.proofs.Homecoming.{unwound, home_rest, all_are_home, all_are_free, all_ready}
+use Rattle.engine_moves.proofs.Exiting.{retired_home}
+use Rattle.engine_moves.proofs.Planting.{text_shown, shown_image}
+use Rattle.engine_moves.proofs.Stepping.{fact_of, lifts}
+use Rattle.engine_moves.proofs.Arriving.{text-arrived}
+use Rattle.engine_moves.proofs.Stopping.{goes_with, halts_fault, halts_interrupt, halts_arrival, counts, may_by}
 use Rattle.engine_moves.specs.Calls.{Of, DueIs, StopsBy, Undue, TrapsAt, AtPlanted, Rephases, Lifts, Copies, Halts, Interrupts, Counts, Closes}
 use Rattle.engine_moves.specs.Changing.{Retabled, no_wait}
 use Rattle.engine_moves.proofs.Executing.{of_hart, own_pc, moves_by, rewoven, same_hart}

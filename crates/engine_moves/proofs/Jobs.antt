@@ -13,14 +13,14 @@ use Rattle.hart_machine.specs.Slices.{AreStored, window}
 use Rattle.dbg_model.specs.declared.hart.Hart.{Hart}
 use Rattle.dbg_model.specs.Lawful.{may_go}
 use Rattle.dbg_model.proofs.Options.{both_true}
-use Rattle.engine_facts.specs.declared.mind.Mind.{Mind}
-use Rattle.engine_facts.specs.Minds.{slot_of}
-use Rattle.engine_facts.specs.Movers.{is_free}
-use Rattle.engine_facts.specs.Seen.{Run, seen, seen_hart}
-use Rattle.engine_facts.specs.Facts.{InText, Sound, other_holder}
-use Rattle.engine_facts.proofs.Bounding.{below}
-use Rattle.engine_facts.proofs.Keeping.{Mover, hart_at}
-use Rattle.engine_facts.proofs.Holding.{and_off, core_at, own_seen}
+use Rattle.engine_moves.specs.declared.mind.Mind.{Mind}
+use Rattle.engine_moves.specs.Minds.{slot_of}
+use Rattle.engine_moves.specs.Movers.{is_free}
+use Rattle.engine_moves.specs.Seen.{Run, seen, seen_hart}
+use Rattle.engine_moves.specs.Facts.{InText, Sound, other_holder}
+use Rattle.engine_moves.proofs.Bounding.{below}
+use Rattle.engine_moves.proofs.Keeping.{Mover, hart_at}
+use Rattle.engine_moves.proofs.Holding.{and_off, core_at, own_seen}
 use Rattle.engine_moves.specs.Slicing.{CanTake, IsJobOf, gives_job, goes_apart, is_ready, is_word}
 use Rattle.engine_moves.proofs.Executing.{same_hart}
 use Rattle.engine_moves.proofs.Taking.{apart_so, begun}

@@ -13,7 +13,7 @@ use Rattle.break_table.specs.Arrival.{due_of}
 use Rattle.break_table.specs.Entry.{Entry as BreakEntry}
 use Rattle.break_table.specs.Table.{is_wait, stands}
 use Rattle.break_table.specs.declared.due.Due.{Due}
-use Rattle.source_index.specs.Sources.{Sources, sources_of}
+use Rattle.dbg_model.specs.Sources.{Sources, sources_of}
 use Rattle.step_plans.specs.Arrivals.{arrival_of}
 use Rattle.step_plans.specs.Verdicts.{judged, returned}
 use Rattle.step_plans.specs.declared.arrival.Arrival.{Arrival}
@@ -29,11 +29,11 @@ use Rattle.dbg_model.specs.declared.watch.Fired.{Fired}
 use Rattle.dbg_model.specs.Judging.{is_due, is_end, judgement_of, last_at, no_arrival, noted_with, plan_after, verdict_behind}
 use Rattle.dbg_model.specs.State.{State, course_of, due}
 use Rattle.dbg_model.specs.Watches.{fired_by}
-use Rattle.engine_facts.specs.declared.mind.Mind.{Mind}
-use Rattle.engine_facts.specs.Minds.{awaited, in_place, ran_mind, return_of, runs}
-use Rattle.engine_facts.specs.Seen.{Run, seen, seen_hart}
-use Rattle.engine_facts.proofs.Arriving.{due_breaks, due_fired, undue}
-use Rattle.engine_facts.proofs.Stepping.{ran_of}
+use Rattle.engine_moves.specs.declared.mind.Mind.{Mind}
+use Rattle.engine_moves.specs.Minds.{awaited, in_place, ran_mind, return_of, runs}
+use Rattle.engine_moves.specs.Seen.{Run, seen, seen_hart}
+use Rattle.engine_moves.proofs.Arriving.{due_breaks, due_fired, undue}
+use Rattle.engine_moves.proofs.Stepping.{ran_of}
 use Rattle.engine_moves.specs.Going.{is_kept, meets}
 use Rattle.engine_moves.specs.Several.{goes_alone, is_unplanned}
 use Rattle.engine_moves.specs.Slicing.{is_word, takes_slices}

@@ -7,10 +7,10 @@ use Rattle.step_over.specs.declared.phase.Phase.TheVariants.{Idle, Copied, Lande
 use Rattle.step_over.specs.declared.phase.Mark.TheVariants.{Copy, Lift, Run, Fix, Plant, End}
 use Rattle.step_over.specs.Phases.{after, IsIdle}
 use Rattle.step_over.proofs.Marks.{not_idle, same}
-use Rattle.engine_facts.specs.declared.mind.Mind.{Mind}
-use Rattle.engine_facts.specs.Minds.{after_step, is_before, first_mind, counted_mind, gone_mind, with_phase}
-use Rattle.engine_facts.specs.Moves.{plan_for, ran_by}
-use Rattle.engine_facts.specs.Seen.{Run as Engine}
+use Rattle.engine_moves.specs.declared.mind.Mind.{Mind}
+use Rattle.engine_moves.specs.Minds.{after_step, is_before, first_mind, counted_mind, gone_mind, with_phase}
+use Rattle.engine_moves.specs.Moves.{plan_for, ran_by}
+use Rattle.engine_moves.specs.Seen.{Run as Engine}
 use Rattle.engine_moves.specs.declared.moving.Turned.{Turned}
 use Rattle.engine_moves.specs.declared.moving.Turned.TheVariants as turned
 use Rattle.engine_moves.specs.Marks.{Ends, Leaves, Marks, MovesMark, MovesToIdle, OneInstructionOrNone, executed, executed_by}

@@ -22,21 +22,21 @@ use Rattle.dbg_model.specs.Breaks.{nothing_due}
 use Rattle.dbg_model.specs.Judging.{is_due}
 use Rattle.dbg_model.specs.State.{State, due, is_off}
 use Rattle.dbg_model.specs.Watches.{fired_by}
-use Rattle.engine_facts.specs.declared.mind.Activity.TheVariants as activity
-use Rattle.engine_facts.specs.declared.mind.Hold.{Hold}
-use Rattle.engine_facts.specs.declared.mind.Mind.{Mind}
-use Rattle.engine_facts.specs.Minds.{after_step, is_active, is_before, runs, with_phase}
-use Rattle.engine_facts.specs.Moves.{Released}
-use Rattle.engine_facts.specs.Homing.{GoesHome, OwnsRun}
-use Rattle.engine_facts.specs.Seen.{Run, seen, seen_hart}
-use Rattle.engine_facts.specs.Facts.{Facts, other_holder}
-use Rattle.engine_facts.proofs.Arriving.{due_breaks, due_fired}
-use Rattle.engine_facts.proofs.Awaiting.{waits_same}
-use Rattle.engine_facts.proofs.Keeping.{Mover}
-use Rattle.engine_facts.proofs.Stepping.{ran_of}
-use Rattle.engine_facts.proofs.Holding.{core_at}
-use Rattle.engine_facts.proofs.Homing.{is_slotted}
-use Rattle.engine_facts.proofs.Bounding.{may_go_by}
+use Rattle.engine_moves.specs.declared.mind.Activity.TheVariants as activity
+use Rattle.engine_moves.specs.declared.mind.Hold.{Hold}
+use Rattle.engine_moves.specs.declared.mind.Mind.{Mind}
+use Rattle.engine_moves.specs.Minds.{after_step, is_active, is_before, runs, with_phase}
+use Rattle.engine_moves.specs.Moves.{Released}
+use Rattle.engine_moves.specs.Homecoming.{GoesHome, OwnsRun}
+use Rattle.engine_moves.specs.Seen.{Run, seen, seen_hart}
+use Rattle.engine_moves.specs.Facts.{Facts, other_holder}
+use Rattle.engine_moves.proofs.Arriving.{due_breaks, due_fired}
+use Rattle.engine_moves.proofs.Awaiting.{waits_same}
+use Rattle.engine_moves.proofs.Keeping.{Mover}
+use Rattle.engine_moves.proofs.Stepping.{ran_of}
+use Rattle.engine_moves.proofs.Holding.{core_at}
+use Rattle.engine_moves.proofs.Homecoming.{is_slotted}
+use Rattle.engine_moves.proofs.Bounding.{may_go_by}
 use Rattle.engine_moves.specs.Calls.{Of, Undue, DueIs, AtPlanted, Turns}
 use Rattle.engine_moves.specs.Going.{Passes, is_kept, meets}
 use Rattle.engine_moves.specs.Rows.{Begins, row_at, row_idle}

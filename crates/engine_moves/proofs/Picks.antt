@@ -1,7 +1,7 @@
 -- The pick of a hart where no job is out.
 use Rattle.std.proofs.Common.{◌≡◌, ℕ, Bool, true, false, List, [], ◌∷◌, refl, ap, ◌∙◌}
 use Rattle.std.specs.Prelude.{Option, Some, None, find, nat_le, not, ◌&&◌, if◌then◌else◌}
-use Rattle.engine_facts.specs.declared.mind.Mind.{Mind}
+use Rattle.engine_moves.specs.declared.mind.Mind.{Mind}
 use Rattle.engine_moves.specs.Steps.{NoneOut, is_out, least_running, next_running, running_harts, some_or}
 
 -- the least running hart at or above a number, whosever jobs are out

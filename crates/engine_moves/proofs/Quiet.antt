@@ -8,7 +8,7 @@ use Rattle.dbg_model.specs.Judging.{is_due}
 use Rattle.dbg_model.specs.Lawful.{may_go, may_move, may_run, one, one_by, set_out, stepped_by}
 use Rattle.dbg_model.specs.State.{State, due, is_running}
 use Rattle.dbg_model.proofs.Options.{both_true, guard_some}
-use Rattle.engine_facts.specs.Seen.{Run, seen}
+use Rattle.engine_moves.specs.Seen.{Run, seen}
 use Rattle.engine_moves.specs.Calls.{Turns}
 use Rattle.engine_moves.specs.Several.{AllRan, AllTurned, HasRan, IsQuiet, IsQuietRow, TurnedBy, is_quiet}
 use Rattle.engine_moves.specs.declared.moving.Turned.{Turned}

@@ -8,11 +8,11 @@ use Rattle.text_words.proofs.Below.{word_above, word_below}
 use Rattle.break_table.specs.Text.{is_place}
 use Rattle.hart_machine.specs.Patched.{Patched}
 use Rattle.break_table.specs.Table.{Table}
-use Rattle.engine_facts.specs.declared.mind.Mind.{Mind}
-use Rattle.engine_facts.specs.Minds.{awaited, in_place, return_of, runs}
-use Rattle.engine_facts.specs.Seen.{Run}
-use Rattle.engine_facts.specs.Facts.{Sound}
-use Rattle.engine_facts.proofs.Awaiting.{rewaited}
+use Rattle.engine_moves.specs.declared.mind.Mind.{Mind}
+use Rattle.engine_moves.specs.Minds.{awaited, in_place, return_of, runs}
+use Rattle.engine_moves.specs.Seen.{Run}
+use Rattle.engine_moves.specs.Facts.{Sound}
+use Rattle.engine_moves.proofs.Awaiting.{rewaited}
 use Rattle.engine_moves.specs.Changing.{Retabled, wants_by}
 use Rattle.engine_moves.proofs.Commanding.{word_place}
 use Rattle.engine_moves.proofs.Holds.{Moved, Noted}

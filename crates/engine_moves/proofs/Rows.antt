@@ -18,15 +18,15 @@ use Rattle.dbg_model.specs.Judging.{is_due, is_end}
 use Rattle.dbg_model.specs.State.{due, any_leaves}
 use Rattle.dbg_model.proofs.Options.{both_true}
 use Rattle.dbg_model.specs.Lawful.{enter, may_go}
-use Rattle.engine_facts.specs.declared.mind.Activity.TheVariants as activity
-use Rattle.engine_facts.specs.declared.mind.Mind.{Mind}
-use Rattle.engine_facts.specs.Minds.{runs, is_active, is_before, first_mind, with_phase}
-use Rattle.engine_facts.specs.Movers.{is_idle}
-use Rattle.engine_facts.specs.Moves.{stop_by}
-use Rattle.engine_facts.specs.Seen.{Run, seen, seen_hart}
-use Rattle.engine_facts.specs.Facts.{Sound, other_holder}
-use Rattle.engine_facts.proofs.Keeping.{hart_at}
-use Rattle.engine_facts.proofs.Holding.{core_at}
+use Rattle.engine_moves.specs.declared.mind.Activity.TheVariants as activity
+use Rattle.engine_moves.specs.declared.mind.Mind.{Mind}
+use Rattle.engine_moves.specs.Minds.{runs, is_active, is_before, first_mind, with_phase}
+use Rattle.engine_moves.specs.Movers.{is_idle}
+use Rattle.engine_moves.specs.Moves.{stop_by}
+use Rattle.engine_moves.specs.Seen.{Run, seen, seen_hart}
+use Rattle.engine_moves.specs.Facts.{Sound, other_holder}
+use Rattle.engine_moves.proofs.Keeping.{hart_at}
+use Rattle.engine_moves.proofs.Holding.{core_at}
 use Rattle.engine_moves.specs.Rows.{Row, Over, Rests, Waits, Finishes, Stops, Counts, Executes, row_at, row_hart, row_running, row_before, row_due, row_idle}
 use Rattle.engine_moves.specs.Calls.{Of, Before, DueIs, Undue, Rephases, Halts}
 use Rattle.engine_moves.proofs.Executing.{of_hart}

@@ -2,8 +2,8 @@
 use Rattle.std.proofs.Common.{◌≡◌, true, false}
 use Rattle.std.specs.Prelude.{Some, None}
 use Rattle.dbg_model.specs.Lawful.{may_go}
-use Rattle.engine_facts.specs.Seen.{Run, seen}
-use Rattle.engine_facts.proofs.Bounding as bounding
+use Rattle.engine_moves.specs.Seen.{Run, seen}
+use Rattle.engine_moves.proofs.Bounding as bounding
 use Rattle.engine_moves.specs.declared.ending.End.{End}
 use Rattle.engine_moves.specs.declared.ending.End.TheVariants as end
 use Rattle.engine_moves.specs.Calls.{OverBy}

@@ -6,11 +6,11 @@ use Rattle.hart_machine.specs.Patched.{Patched}
 use Rattle.break_table.specs.declared.entry.BreakEntry.{BreakEntry as Kept}
 use Rattle.break_table.specs.Entry.{Entry as BreakEntry, Asked, entry_of, new_entry}
 use Rattle.break_table.specs.Table.{Table, inserted, deleted, changed, with_enabled, IsRising, stands, stands_at}
-use Rattle.engine_facts.specs.declared.mind.Hold.{Hold}
-use Rattle.engine_facts.specs.Facts.{Wants, wanted}
-use Rattle.engine_facts.specs.Moves.{Repatched}
-use Rattle.engine_facts.specs.Tables.{number_place, ArePlanted, HaveWords}
-use Rattle.engine_facts.proofs.Breaking.{stands-added, stands-deleted, stands-enabled, stands-kept, absent-deleted, absent-changed, words-added, words-filter, words-changed, replanted_words, kept_words}
+use Rattle.engine_moves.specs.declared.mind.Hold.{Hold}
+use Rattle.engine_moves.specs.Facts.{Wants, wanted}
+use Rattle.engine_moves.specs.Moves.{Repatched}
+use Rattle.engine_moves.specs.Tables.{number_place, ArePlanted, HaveWords}
+use Rattle.engine_moves.proofs.Breaking.{stands-added, stands-deleted, stands-enabled, stands-kept, absent-deleted, absent-changed, words-added, words-filter, words-changed, replanted_words, kept_words}
 use Rattle.engine_moves.specs.Changing.{Retabled, wants_by}
 
 -- a change after which one word is patched as it is wanted now

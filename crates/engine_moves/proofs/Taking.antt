@@ -13,14 +13,14 @@ use Rattle.dbg_model.specs.declared.watch.Watch.{Watch}
 use Rattle.dbg_model.proofs.Firing.{none_fires}
 use Rattle.rv_exec.specs.Memory.{Memory}
 use Rattle.dbg_model.proofs.Options.{both_true, same_some}
-use Rattle.engine_facts.specs.declared.mind.Mind.{Mind}
-use Rattle.engine_facts.specs.Minds.{entered_of, lifted_of, runs, slot_of}
-use Rattle.engine_facts.specs.Movers.{is_idle}
-use Rattle.engine_facts.specs.Seen.{Run, seen_hart}
-use Rattle.engine_facts.specs.Facts.{Facts, Sound, other_holder}
-use Rattle.engine_facts.proofs.Holding.{core_at, no_hold, own_seen}
-use Rattle.engine_facts.proofs.Bounding.{below}
-use Rattle.engine_facts.proofs.Stepping.{fact_of}
+use Rattle.engine_moves.specs.declared.mind.Mind.{Mind}
+use Rattle.engine_moves.specs.Minds.{entered_of, lifted_of, runs, slot_of}
+use Rattle.engine_moves.specs.Movers.{is_idle}
+use Rattle.engine_moves.specs.Seen.{Run, seen_hart}
+use Rattle.engine_moves.specs.Facts.{Facts, Sound, other_holder}
+use Rattle.engine_moves.proofs.Holding.{core_at, no_hold, own_seen}
+use Rattle.engine_moves.proofs.Bounding.{below}
+use Rattle.engine_moves.proofs.Stepping.{fact_of}
 use Rattle.engine_moves.specs.Calls.{Turns}
 use Rattle.engine_moves.specs.Several.{AllRan, lengthened_by}
 use Rattle.engine_moves.specs.Slicing.{CanTake, goes_apart, takes_slices}

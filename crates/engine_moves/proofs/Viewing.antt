@@ -6,12 +6,12 @@ use Rattle.hart_machine.specs.declared.hart.Core.{Core}
 use Rattle.dbg_model.specs.declared.thread_view.ThreadView.{ThreadView}
 use Rattle.dbg_model.specs.declared.watch.Watch.{Watch}
 use Rattle.dbg_model.specs.Sight.{Sight, sight_of, view_by, view_of}
-use Rattle.engine_facts.specs.declared.mind.Activity.{Activity}
-use Rattle.engine_facts.specs.declared.mind.Activity.TheVariants as activity
-use Rattle.engine_facts.specs.declared.mind.Mind.{Mind}
-use Rattle.engine_facts.specs.Minds.{mode_of}
-use Rattle.engine_facts.specs.Facts.{Sound}
-use Rattle.engine_facts.specs.Seen.{Run, seen, seen_hart, seen_harts, seen_regs}
+use Rattle.engine_moves.specs.declared.mind.Activity.{Activity}
+use Rattle.engine_moves.specs.declared.mind.Activity.TheVariants as activity
+use Rattle.engine_moves.specs.declared.mind.Mind.{Mind}
+use Rattle.engine_moves.specs.Minds.{mode_of}
+use Rattle.engine_moves.specs.Facts.{Sound}
+use Rattle.engine_moves.specs.Seen.{Run, seen, seen_hart, seen_harts, seen_regs}
 use Rattle.engine_moves.specs.Viewing.{own_views}
 
 one_view : (p : Program) (c : Core) (x : Mind) (a : Activity) → view_by c.regs (mode_of a) ≡ view_by (seen_regs p c.regs a x.phase) (mode_of a)

@@ -8,15 +8,15 @@ use Rattle.text_words.specs.Words.{Words, shown, unpatched}
 use Rattle.hart_machine.specs.Patched.{Patched}
 use Rattle.hart_machine.proofs.Places.{same_place, same_some, set_known, set_twice, get-set_same, get-set_other}
 use Rattle.break_table.specs.Table.{Table, is_wait, with_wait}
-use Rattle.engine_facts.specs.declared.mind.Hold.{Hold}
-use Rattle.engine_facts.specs.declared.mind.Mind.{Mind}
-use Rattle.engine_facts.specs.Minds.{awaited, in_place, return_of, runs}
-use Rattle.engine_facts.specs.Facts.{wanted}
-use Rattle.engine_facts.specs.Moves.{Repatched}
-use Rattle.engine_facts.specs.Tables.{ArePlanted}
-use Rattle.engine_facts.proofs.Awaiting.{rewaited_words}
-use Rattle.engine_facts.proofs.Breaking.{same_shown}
-use Rattle.engine_facts.proofs.Holding.{get_within}
+use Rattle.engine_moves.specs.declared.mind.Hold.{Hold}
+use Rattle.engine_moves.specs.declared.mind.Mind.{Mind}
+use Rattle.engine_moves.specs.Minds.{awaited, in_place, return_of, runs}
+use Rattle.engine_moves.specs.Facts.{wanted}
+use Rattle.engine_moves.specs.Moves.{Repatched}
+use Rattle.engine_moves.specs.Tables.{ArePlanted}
+use Rattle.engine_moves.proofs.Awaiting.{rewaited_words}
+use Rattle.engine_moves.proofs.Breaking.{same_shown}
+use Rattle.engine_moves.proofs.Holding.{get_within}
 use Rattle.engine_moves.proofs.Tabling.{retabled_twice}
 use Rattle.engine_moves.specs.Changing.{Retabled, wants_by}
 

@@ -3,8 +3,8 @@ use Rattle.std.proofs.Common.{◌≡◌, ℕ, Bool, true, false, sym, ap, subst}
 use Rattle.std.specs.FinSet as set
 use Rattle.text_words.specs.Words.{Words}
 use Rattle.hart_machine.specs.Patched.{Patched}
-use Rattle.engine_facts.specs.Moves.{Repatched}
-use Rattle.engine_facts.proofs.Planting.{patched_in, patched_out}
+use Rattle.engine_moves.specs.Moves.{Repatched}
+use Rattle.engine_moves.proofs.Planting.{patched_in, patched_out}
 
 pub repatched_in : (m n : Patched) (a : ℕ) (is : Bool) → is ≡ true → n ≡ record m { text = record m.text { planted = set.insert m.text.planted a } } → Repatched m.text n.text a is
 repatched_in m n a is wants e =

@@ -34,13 +34,13 @@ use Rattle.dbg_model.specs.Reply.{reply_of, done_by}
 use Rattle.dbg_model.specs.Lawful.{one, one_out, enter, may_go}
 use Rattle.dbg_model.specs.Leaving.{lefts_from, gone, LeaveWith}
 use Rattle.dbg_model.specs.Journals.{lengthened}
-use Rattle.engine_facts.specs.declared.mind.Hold.{Hold}
-use Rattle.engine_facts.specs.declared.mind.Mind.{Mind}
-use Rattle.engine_facts.specs.Minds.{after_step, runs, is_before, with_phase, counted_mind, first_mind}
-use Rattle.engine_facts.specs.Seen.{Run, seen}
-use Rattle.engine_facts.specs.Facts.{other_holder, Planted, Retired, CopiedOver}
-use Rattle.engine_facts.specs.Moves.{AreHome, plan_for, ran_by, stop_of}
-use Rattle.engine_facts.specs.declared.mind.Activity.TheVariants as activity
+use Rattle.engine_moves.specs.declared.mind.Hold.{Hold}
+use Rattle.engine_moves.specs.declared.mind.Mind.{Mind}
+use Rattle.engine_moves.specs.Minds.{after_step, runs, is_before, with_phase, counted_mind, first_mind}
+use Rattle.engine_moves.specs.Seen.{Run, seen}
+use Rattle.engine_moves.specs.Facts.{other_holder, Planted, Retired, CopiedOver}
+use Rattle.engine_moves.specs.Moves.{AreHome, plan_for, ran_by, stop_of}
+use Rattle.engine_moves.specs.declared.mind.Activity.TheVariants as activity
 use Rattle.engine_moves.specs.Steps.{left_minds}
 use Rattle.engine_moves.specs.Homing.{HomedBy}
 use Rattle.engine_moves.specs.declared.moving.Turned.{Turned}

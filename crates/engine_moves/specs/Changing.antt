@@ -4,10 +4,10 @@ use Rattle.hart_machine.specs.Patched.{Patched}
 use Rattle.break_table.specs.Table.{Table}
 use Rattle.dbg_model.specs.Outcome.{Change}
 use Rattle.dbg_model.specs.Reply.{answer_of}
-use Rattle.engine_facts.specs.declared.mind.Hold.{Hold}
-use Rattle.engine_facts.specs.Facts.{Wants}
-use Rattle.engine_facts.specs.Seen.{Run, seen}
-use Rattle.engine_facts.specs.Tables.{ArePlanted}
+use Rattle.engine_moves.specs.declared.mind.Hold.{Hold}
+use Rattle.engine_moves.specs.Facts.{Wants}
+use Rattle.engine_moves.specs.Seen.{Run, seen}
+use Rattle.engine_moves.specs.Tables.{ArePlanted}
 
 -- the line makes this change
 abbrev pub Makes : Run → List ℕ → Change → Type 0

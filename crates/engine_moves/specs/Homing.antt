@@ -4,11 +4,11 @@ use Rattle.rv_exec.specs.declared.effect.Stepped.{Stepped}
 use Rattle.rv_exec.specs.declared.effect.Stepped.TheVariants as stepped
 use Rattle.hart_machine.specs.Patched.{Patched}
 use Rattle.break_table.specs.Entry.{Entry as BreakEntry}
-use Rattle.engine_facts.specs.declared.mind.Hold.{Hold}
-use Rattle.engine_facts.specs.declared.mind.Mind.{Mind}
+use Rattle.engine_moves.specs.declared.mind.Hold.{Hold}
+use Rattle.engine_moves.specs.declared.mind.Mind.{Mind}
 use Rattle.step_over.specs.declared.phase.Phase.{Phase}
-use Rattle.engine_facts.specs.Moves.{Released}
-use Rattle.engine_facts.specs.Homing.{GoesHome, AllGoHome}
+use Rattle.engine_moves.specs.Moves.{Released}
+use Rattle.engine_moves.specs.Homecoming.{GoesHome, AllGoHome}
 
 -- the machine after the harts that leave came home, before a lifted patch is planted again
 pub record ComesHome (m n : Patched) (hold hold' : Option Hold) (bs : List BreakEntry) (ws : List (Option ℕ)) (Home : Patched → Type 0) : Type 0 where

@@ -1,3 +1,10 @@
+pub mod Minds
+pub mod Seen
+pub mod Facts
+pub mod Moves
+pub mod Homecoming
+pub mod Tables
+pub mod Movers
 pub mod Steps
 pub mod Rows
 pub mod Calls

@@ -4,10 +4,10 @@ use Rattle.step_plans.specs.declared.plan.Plan.{Plan}
 use Rattle.dbg_model.specs.Outcome.{Change, deletes, enables, resumes, interrupts}
 use Rattle.dbg_model.specs.Reply.{on_threads}
 use Rattle.dbg_model.specs.Watches.{unless_of}
-use Rattle.engine_facts.specs.declared.mind.Activity.{Activity}
-use Rattle.engine_facts.specs.declared.mind.Activity.TheVariants as activity
-use Rattle.engine_facts.specs.declared.mind.Mind.{Mind}
-use Rattle.engine_facts.specs.Minds.{resumed_mind, asked_mind}
+use Rattle.engine_moves.specs.declared.mind.Activity.{Activity}
+use Rattle.engine_moves.specs.declared.mind.Activity.TheVariants as activity
+use Rattle.engine_moves.specs.declared.mind.Mind.{Mind}
+use Rattle.engine_moves.specs.Minds.{resumed_mind, asked_mind}
 
 abbrev pub gone_on_by : Plan → Mind → Activity → Mind
 gone_on_by plan x activity.Stopped = resumed_mind plan x

@@ -7,12 +7,12 @@ use Rattle.dbg_model.specs.Lawful.{may_go}
 use Rattle.elf32_read.specs.Program.{Program}
 use Rattle.step_plans.specs.declared.plan.Plan.{Plan}
 use Rattle.step_plans.specs.declared.plan.Plan.TheVariants as plans
-use Rattle.engine_facts.specs.declared.mind.Hold.{Hold}
-use Rattle.engine_facts.specs.declared.mind.Mind.{Mind}
-use Rattle.engine_facts.specs.Minds.{awaited, runs}
-use Rattle.engine_facts.specs.Movers.{is_idle}
-use Rattle.engine_facts.specs.Seen.{Run, seen}
-use Rattle.engine_facts.specs.Facts.{Facts}
+use Rattle.engine_moves.specs.declared.mind.Hold.{Hold}
+use Rattle.engine_moves.specs.declared.mind.Mind.{Mind}
+use Rattle.engine_moves.specs.Minds.{awaited, runs}
+use Rattle.engine_moves.specs.Movers.{is_idle}
+use Rattle.engine_moves.specs.Seen.{Run, seen}
+use Rattle.engine_moves.specs.Facts.{Facts}
 use Rattle.engine_moves.specs.declared.moving.Turned.{Turned}
 use Rattle.engine_moves.specs.declared.moving.Turned.TheVariants as turned
 use Rattle.engine_moves.specs.Rows.{row_at, row_of}

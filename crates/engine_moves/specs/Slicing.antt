@@ -12,11 +12,11 @@ use Rattle.dbg_model.specs.declared.hart.Hart.{Hart}
 use Rattle.dbg_model.specs.declared.opening.Opening.{Opening}
 use Rattle.dbg_model.specs.Lawful.{may_go}
 use Rattle.dbg_model.specs.State.{State}
-use Rattle.engine_facts.specs.declared.mind.Hold.{Hold}
-use Rattle.engine_facts.specs.declared.mind.Mind.{Mind}
-use Rattle.engine_facts.specs.Minds.{runs}
-use Rattle.engine_facts.specs.Movers.{is_free, is_idle}
-use Rattle.engine_facts.specs.Seen.{Run, seen}
+use Rattle.engine_moves.specs.declared.mind.Hold.{Hold}
+use Rattle.engine_moves.specs.declared.mind.Mind.{Mind}
+use Rattle.engine_moves.specs.Minds.{runs}
+use Rattle.engine_moves.specs.Movers.{is_free, is_idle}
+use Rattle.engine_moves.specs.Seen.{Run, seen}
 use Rattle.engine_moves.specs.Several.{AllRan}
 
 -- a plan that looks at no arrival, but for a return at a word that is planted for it

@@ -3,8 +3,8 @@ use Rattle.std.specs.Prelude.{List, [], ◌∷◌}
 use Rattle.hart_machine.specs.declared.hart.Core.{Core}
 use Rattle.dbg_model.specs.declared.thread_view.ThreadView.{ThreadView}
 use Rattle.dbg_model.specs.Sight.{view_by}
-use Rattle.engine_facts.specs.declared.mind.Mind.{Mind}
-use Rattle.engine_facts.specs.Minds.{mode_of}
+use Rattle.engine_moves.specs.declared.mind.Mind.{Mind}
+use Rattle.engine_moves.specs.Minds.{mode_of}
 
 -- A hart that is stopped steps over nothing, and shows the registers that it has.
 abbrev pub own_view : Core → Mind → ThreadView

@@ -1,4 +1,6 @@
 // The ends of a session.
+use dbg_model::{Journal, Opening};
+use hart_machine::Machine;
 
 /// Why a session is over.
 #[derive(Clone, Copy)]
@@ -9,4 +11,15 @@ pub enum End {
     History,
     /// A line ended it.
     Exit,
+}
+
+/// What is left of an engine.
+#[derive(Drop)]
+pub struct Closed {
+    /// What the session began with.
+    pub opening: Opening,
+    /// What was done.
+    pub journal: Journal,
+    /// The machine as it stands at the end.
+    pub machine: Machine,
 }

@@ -2,14 +2,14 @@
 ghost use Rattle.std.specs.Prelude.{◌≡◌, ◌<◌, ◌≤◌, ◌+◌, ◌^◌, ℕ, length, slice_get, None, Some, true};
 ghost use Rattle.rv_exec.specs.Registers.{Registers};
 ghost use Rattle.hart_machine.specs.Copying.{settled_regs};
-ghost use Rattle.engine_facts.specs.declared.mind.Mind.{Mind};
-ghost use Rattle.engine_facts.specs.Moves.{HeldInText, Released};
-ghost use Rattle.engine_facts.specs.Homing.{IsSlotted, GoesHome, AllGoHome};
+ghost use Rattle.engine_moves.specs.declared.mind.Mind.{Mind};
+ghost use Rattle.engine_moves.specs.Moves.{HeldInText, Released};
+ghost use Rattle.engine_moves.specs.Homecoming.{IsSlotted, GoesHome, AllGoHome};
 ghost use Rattle.engine_moves.specs.Homing.{HomedBy};
 
 use crate::patching::release;
+use crate::{Hold, Mind, Phase};
 use break_table::BreakTable;
-use engine_facts::{Hold, Mind, Phase};
 use hart_machine::Machine;
 use rv_decode::{Instr, decode};
 use rv_exec::Stepped;

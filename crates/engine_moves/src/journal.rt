@@ -3,10 +3,10 @@ ghost use Rattle.std.specs.Prelude.{◌≡◌, ◌≤◌, ◌<◌, ◌+◌, ◌-
 ghost use Rattle.dbg_model.specs.Journals.{last_count, ran_count};
 ghost use Rattle.dbg_model.specs.declared.entry.Entry.TheVariants.{Did};
 ghost use Rattle.engine_moves.specs.Several.{lengthened_by};
-ghost use Rattle.engine_facts.specs.Minds.{lefts_live};
+ghost use Rattle.engine_moves.specs.Minds.{lefts_live};
 
+use crate::{Activity, Mind};
 use dbg_model::Entry;
-use engine_facts::{Activity, Mind};
 use mi_commands::ByteList;
 use std::alloc::{AllocError, Global};
 

@@ -1,4 +1,5 @@
-//! The moves of the harts, over the parts of an engine: machine, what is kept of the harts, breakpoints, journal.
+//! What an engine keeps of several harts, the facts that each move keeps, and the moves, over the parts of an engine: machine, minds,
+//! breakpoints, journal.
 #![tactic(auto)]
 
 pub mod ending;
@@ -7,6 +8,7 @@ pub mod hits;
 pub mod homing;
 pub mod journal;
 pub mod laws;
+mod mind;
 pub mod minds;
 pub mod moving;
 pub mod patching;
@@ -15,3 +17,6 @@ pub mod views;
 pub mod waiting;
 pub mod watching;
 pub mod writing;
+
+pub use mind::{Activity, Hold, Mind};
+pub use step_over::Phase;

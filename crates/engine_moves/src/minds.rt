@@ -1,11 +1,11 @@
 // What is kept of the harts.
 ghost use Rattle.std.specs.Prelude.{◌≡◌, ◌≤◌, ◌+◌, ◌&&◌, length, replicate, IfOk, find, nat_le, not};
 ghost use Rattle.std.specs.List.{list_any, list_all};
-ghost use Rattle.engine_facts.specs.Minds.{first_mind, counted_mind, runs, has_gone, with_phase};
-ghost use Rattle.engine_facts.specs.Facts.{other_holder};
+ghost use Rattle.engine_moves.specs.Minds.{first_mind, counted_mind, runs, has_gone, with_phase};
+ghost use Rattle.engine_moves.specs.Facts.{other_holder};
 ghost use Rattle.engine_moves.specs.Steps.{is_out, running_harts};
 
-use engine_facts::{Activity, Hold, Mind, Phase};
+use crate::{Activity, Hold, Mind, Phase};
 use std::alloc::{AllocError, Global};
 use step_plans::Plan;
 

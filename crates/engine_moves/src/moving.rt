@@ -2,13 +2,13 @@
 ghost use Rattle.std.specs.Prelude.{◌≡◌, ◌≤◌, ◌<◌, ◌+◌, ◌-◌, ◌^◌, true, map, length, slice_set, vec_len, vec_capacity};
 ghost use Rattle.dbg_model.specs.Journals.{lengthened, last_count};
 ghost use Rattle.hart_machine.specs.Stepping.{IsByteCode, has_run};
-ghost use Rattle.engine_facts.specs.Minds.{gone_mind, ran_mind, after_step};
+ghost use Rattle.engine_moves.specs.Minds.{gone_mind, ran_mind, after_step};
 ghost use Rattle.engine_moves.specs.Steps.{applied, exits_of, turned_of, IsTurned};
 
 use crate::journal::{note, note_lefts, note_runs};
+use crate::{Activity, Mind, Phase};
 use break_table::CondError;
 use dbg_model::{Entry, Fired};
-use engine_facts::{Activity, Mind, Phase};
 use rv_exec::{Cause, Stepped};
 use step_plans::Plan;
 

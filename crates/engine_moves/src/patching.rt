@@ -1,12 +1,12 @@
 // The planted words of the machine.
 ghost use Rattle.std.specs.Prelude.{◌≡◌, ◌<◌, ◌^◌, IsSome, true};
 ghost use Rattle.text_words.specs.Words.{shown, is_planted};
-ghost use Rattle.engine_facts.specs.Facts.{called, wanted};
+ghost use Rattle.engine_moves.specs.Facts.{called, wanted};
 ghost use Rattle.engine_moves.specs.Changing.{wants_by};
-ghost use Rattle.engine_facts.specs.Moves.{Repatched, HeldInText, Released};
+ghost use Rattle.engine_moves.specs.Moves.{Repatched, HeldInText, Released};
 
+use crate::Hold;
 use break_table::BreakTable;
-use engine_facts::Hold;
 use hart_machine::Machine;
 
 /// The word of an address is patched, or is so no more, if there is one.

@@ -2,8 +2,8 @@
 ghost use Rattle.std.specs.Prelude.{◌≡◌, IfOk};
 ghost use Rattle.engine_moves.specs.Viewing.{own_view, own_views};
 
+use crate::{Activity, Mind};
 use dbg_model::ThreadView;
-use engine_facts::{Activity, Mind};
 use hart_machine::Core;
 use std::alloc::{AllocError, Global};
 

@@ -3,15 +3,15 @@ ghost use Rattle.std.specs.Prelude.{◌≡◌, ◌<◌, ◌≤◌, ℕ, length, 
 ghost use Rattle.text_words.specs.Words.{shown, unpatched};
 ghost use Rattle.break_table.specs.Table.{with_wait};
 ghost use Rattle.break_table.specs.Text.{is_place};
-ghost use Rattle.engine_facts.specs.Minds.{awaited, return_of};
-ghost use Rattle.engine_facts.specs.Tables.{ArePlanted};
+ghost use Rattle.engine_moves.specs.Minds.{awaited, return_of};
+ghost use Rattle.engine_moves.specs.Tables.{ArePlanted};
 ghost use Rattle.engine_moves.specs.Changing.{Retabled, no_wait, wants_by};
 
 use crate::minds::is_running;
 use crate::patching::plant_as_wanted;
+use crate::{Hold, Mind};
 use break_table::BreakTable;
 use elf32_read::Image;
-use engine_facts::{Hold, Mind};
 use hart_machine::Machine;
 use step_plans::Plan;
 

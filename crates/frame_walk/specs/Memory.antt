@@ -2,7 +2,7 @@
 use Rattle.std.specs.Prelude.{ℕ, Option, None, if◌then◌else◌}
 use Rattle.std.specs.Result.{result_ok}
 use Rattle.elf32_read.specs.Program.{Program, in_text}
-use Rattle.view_words.specs.Numbers.{number_at}
+use Rattle.dbg_traits.specs.Numbers.{number_at}
 
 -- the bytes that a program can load: those of text it can't
 abbrev pub data_bytes : Program → (ℕ → Option ℕ) → ℕ → Option ℕ

@@ -3,9 +3,8 @@
 ghost use Rattle.std.specs.Prelude.{◌≡◌};
 ghost use Rattle.frame_walk.specs.Memory.{data_bytes, word_at};
 
-use dbg_traits::View;
+use dbg_traits::{View, number_at};
 use elf32_read::Image;
-use view_words::number_at;
 
 /// A view without the bytes of text, which no program can load.
 #[derive(Drop)]

@@ -4,11 +4,10 @@ ghost use Rattle.line_index.specs.Lines.{Lines, address_of, begins, body_of, fil
 
 use crate::addresses::least_from;
 use crate::body::{body_among, function_end};
-use crate::building::{function_tables, statement_tables};
+use crate::building::{Tables, tables_of};
 use crate::files::soonest;
-use crate::keys::{FileKey, keys_of};
+use crate::keys::FileKey;
 use crate::names::name_of;
-use crate::table::table_of;
 use address_tables::{Entry, value_at};
 use dbg_traits::NoMemory;
 use elf_symbols::{Named, Symbols};
@@ -64,22 +63,23 @@ impl LineIndex {
     ) -> Result<LineIndex, NoMemory>
         ensures { IfOk result (λ index. index ≡ lines_of rows symbols.now image.now) }
     {
-        let text = image.text_spans(alloc)?;
-        // First, since it takes the most memory while it is made.
-        let entries = table_of(alloc, &rows, &text, 0, rows.sequence_count())?;
-        let keys = keys_of(alloc, &rows)?;
-        let functions = function_tables(alloc, symbols)?;
-        let statements = statement_tables(alloc, &rows, &text)?;
+        let tables = tables_of(alloc, &rows, symbols, image)?;
+        let Tables {
+            text,
+            rows: of_rows,
+            functions,
+            statements,
+        } = tables;
         Ok(LineIndex {
             rows,
             functions: functions.functions,
             starts: functions.starts,
             text,
             lines: statements.lines,
-            keys,
+            keys: of_rows.keys,
             prologues: statements.prologues,
             statements: statements.statements,
-            entries,
+            entries: of_rows.entries,
         })
     }
 

@@ -5,9 +5,9 @@ use crate::programs::{DATA, SETTINGS, image_of};
 use dbg_traits::View;
 use elf32_read::Image;
 use hart_machine::Machine;
-use plain_machine::Plain;
 use rv_exec::Stepped;
 use std::alloc::{AllocError, Global};
+use unpatched_machine::Plain;
 
 // Whether the registers of both harts and the data are the same.
 fn same(machine: &Machine, plain: &Plain<'_>) -> bool {

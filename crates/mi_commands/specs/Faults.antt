@@ -11,7 +11,7 @@ use Rattle.mi_commands.specs.declared.refusal.Fault.TheVariants as fault
 use Rattle.mi_commands.specs.Operations.{or_else}
 use Rattle.mi_commands.specs.Words.{options, parameters, value_in, words_fit}
 use Rattle.mi_commands.specs.Numbers.{number, bad_number}
-use Rattle.register_names.specs.Registers.{register_number}
+use Rattle.rv_decode.specs.Registers.{register_number}
 use Rattle.mi_commands.specs.Registers.{assignment}
 use Rattle.mi_commands.specs.Locations.{location_of}
 use Rattle.mi_commands.specs.Settings.{format_of, setting_of, set_command}

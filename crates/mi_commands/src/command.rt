@@ -24,7 +24,7 @@ pub enum Format {
 }
 
 /// Where a breakpoint is wanted.
-#[derive(Debug, Drop)]
+#[derive(Drop)]
 pub enum Location {
     /// `*N`.
     Address(u32),
@@ -51,7 +51,7 @@ pub enum Setting {
 }
 
 /// What `-break-insert` asks for.
-#[derive(Debug, Drop)]
+#[derive(Drop)]
 pub struct Insertion {
     /// `-t`.
     pub temporary: bool,
@@ -69,7 +69,7 @@ pub struct Insertion {
 }
 
 /// A line's command. A `thread` is the number of `--thread`, or none for the selected one; none is looked up.
-#[derive(Debug, Drop)]
+#[derive(Drop)]
 pub enum Command {
     /// A line of blanks.
     Blank,

@@ -20,7 +20,7 @@ use crate::registers::assignment;
 use crate::setting::{format_of, set_command, setting_of};
 use mi_input::Word;
 use mi_text::are_bytes;
-use register_names::register_of;
+use rv_decode::register_of;
 use std::alloc::{AllocError, Global};
 
 /// The first word, or an empty one.

@@ -5,7 +5,7 @@ ghost use Rattle.std.specs.Option.{option_map};
 ghost use Rattle.mi_commands.specs.Registers.{assignment, assignment_of, first_equals, register};
 ghost use Rattle.mi_commands.specs.Steps.{assignment_view};
 
-use register_names::register_of;
+use rv_decode::register_of;
 
 /// The two texts of `$NAME=VALUE`, which stand in the line.
 #[derive(Clone, Copy)]

@@ -7,7 +7,7 @@ use Rattle.dbg_model.specs.declared.entry.Entry.TheVariants.{Ran, Counted, Stopp
 use Rattle.dbg_model.specs.declared.frame.ShownFrame.{ShownFrame}
 use Rattle.dbg_model.specs.declared.opening.Opening.{Opening}
 use Rattle.dbg_model.specs.Breaks.{is_temporary}
-use Rattle.source_index.specs.Sources.{sources_of}
+use Rattle.dbg_model.specs.Sources.{sources_of}
 use Rattle.dbg_model.specs.Places.{own_frame}
 use Rattle.dbg_model.specs.declared.hart.Hart.{Hart}
 use Rattle.dbg_model.specs.State.{State, all_gone}

@@ -2,4 +2,3 @@ pub mod Environment
 pub mod Plain
 pub mod PlainRun
 pub mod Answers
-pub mod Unpatched

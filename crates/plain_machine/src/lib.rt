@@ -1,9 +1,8 @@
-//! The unpatched machine: what one instruction of a hart does, a whole run, and a slow machine that does it. It
-//! knows no debugger.
+//! The unpatched machine: what one instruction of a hart does, and a whole run. It knows no debugger.
 #![tactic(auto)]
 
 mod environment;
-mod plain;
+mod registers;
 
 pub use environment::call;
-pub use plain::{Plain, first_registers};
+pub use registers::first_registers;

@@ -4,8 +4,8 @@ use Rattle.std.specs.Prelude.{Option, Some, None, ◌||◌, slice_get, find, nat
 use Rattle.std.specs.List.{list_any}
 use Rattle.std.proofs.lemmas.Bool.Decides.{nat_tests}
 use Rattle.std.proofs.lemmas.List.{drop-drop, get_or-drop}
-use Rattle.engine_facts.specs.declared.mind.Mind.{Mind}
-use Rattle.engine_facts.specs.Minds.{runs}
+use Rattle.engine_moves.specs.declared.mind.Mind.{Mind}
+use Rattle.engine_moves.specs.Minds.{runs}
 use Rattle.dbg_model.proofs.Options.{same_some}
 use Rattle.engine_moves.specs.Steps.{running_harts, some_or}
 use Rattle.engine_moves.proofs.Picks.{least_of_all, next_of_all}

@@ -11,8 +11,8 @@ use Rattle.dbg_model.specs.State.{any_runs}
 use Rattle.dbg_model.specs.Reply.{is_wait}
 use Rattle.dbg_model.proofs.Options.{both_true}
 use Rattle.dbg_model.specs.declared.opening.Opening.{Opening}
-use Rattle.engine_facts.specs.Facts.{Facts}
-use Rattle.engine_facts.specs.Seen.{Run, seen}
+use Rattle.engine_moves.specs.Facts.{Facts}
+use Rattle.engine_moves.specs.Seen.{Run, seen}
 use Rattle.session_facts.specs.Stage.{Stage, stage_of}
 use Rattle.session_facts.specs.Puts.{PutsAll, PutsLines}
 use Rattle.session_facts.specs.Steps.{lines_by, Says, Keeps, DoesLine, may_take}

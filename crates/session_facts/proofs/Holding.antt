@@ -14,7 +14,7 @@ use Rattle.plain_machine.specs.Environment.{Answer, Traps, Goes, Leave, Stays, L
 use Rattle.plain_machine.specs.Plain.{plain}
 use Rattle.plain_machine.specs.PlainRun.{is_settable}
 use Rattle.step_plans.specs.declared.plan.Plan.{Plan}
-use Rattle.source_index.specs.Sources.{sources_of}
+use Rattle.dbg_model.specs.Sources.{sources_of}
 use Rattle.break_table.specs.Arrival.{due_of}
 use Rattle.dbg_model.specs.declared.entry.Mode.{Mode}
 use Rattle.dbg_model.specs.declared.entry.Mode.TheVariants as mode

@@ -23,3 +23,6 @@ pub mod Outs
 pub mod Piecing
 pub mod Bringing
 pub mod Sending
+pub mod Leaving
+pub mod Heading
+pub mod Finishing

@@ -3,10 +3,10 @@ use Rattle.std.proofs.Common.{◌≡◌, ◌<◌, ◌≤◌, ℕ, zero, suc, ◌
 use Rattle.std.specs.Prelude.{Option, Some, None, is_some}
 use mathlib.Core.Logic.{inl, inr}
 use Rattle.dbg_model.specs.State.{any_runs}
-use Rattle.engine_facts.specs.Seen.{Run, seen}
-use Rattle.engine_facts.specs.Facts.{Facts}
-use Rattle.engine_facts.proofs.Seeing.{any_seen}
-use Rattle.engine_facts.proofs.Movers.{some_mover}
+use Rattle.engine_moves.specs.Seen.{Run, seen}
+use Rattle.engine_moves.specs.Facts.{Facts}
+use Rattle.engine_moves.proofs.Showing.{any_seen}
+use Rattle.engine_moves.proofs.Movers.{some_mover}
 use Rattle.engine_moves.proofs.Picks.{next_of_all}
 use Rattle.session_facts.specs.declared.status.Status.{Status}
 use Rattle.session_facts.specs.Stage.{Stage, stage_of, moves_at}

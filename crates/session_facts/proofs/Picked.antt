@@ -3,8 +3,8 @@ use Rattle.std.proofs.Common.{◌≡◌, ◌<◌, ℕ, ◌+◌, Bool, true, fals
 use Rattle.std.specs.Prelude.{Option, Some, None, find, if◌then◌else◌}
 use mathlib.Core.Logic.{inl, inr, ◌⊎◌}
 use Rattle.dbg_model.proofs.Options.{same_some}
-use Rattle.engine_facts.specs.declared.mind.Mind.{Mind}
-use Rattle.engine_facts.specs.Minds.{runs}
+use Rattle.engine_moves.specs.declared.mind.Mind.{Mind}
+use Rattle.engine_moves.specs.Minds.{runs}
 use Rattle.engine_moves.specs.Steps.{running_harts, least_running, next_running, some_or}
 
 found_first : (b : Bool) (k h : ℕ) (o : Option ℕ) → (if b then Some k else o) ≡ Some h → (k ≡ h) ⊎ (o ≡ Some h)

@@ -7,12 +7,12 @@ use Rattle.scratch_slots.specs.declared.slots.SlotUse.{SlotUse}
 use Rattle.scratch_slots.specs.Table.{least_free, AllOut}
 use Rattle.mi_input.specs.Lines.{IsNext, lines}
 use Rattle.dbg_model.proofs.Options.{both_true}
-use Rattle.engine_facts.specs.declared.mind.Mind.{Mind}
-use Rattle.engine_facts.specs.Minds.{runs}
-use Rattle.engine_facts.specs.Seen.{Run, seen}
-use Rattle.engine_facts.specs.Facts.{Facts}
-use Rattle.engine_facts.specs.Movers.{runs_at, is_free, are_out, waits_for_slot}
-use Rattle.engine_facts.proofs.Movers.{runs_mind}
+use Rattle.engine_moves.specs.declared.mind.Mind.{Mind}
+use Rattle.engine_moves.specs.Minds.{runs}
+use Rattle.engine_moves.specs.Seen.{Run, seen}
+use Rattle.engine_moves.specs.Facts.{Facts}
+use Rattle.engine_moves.specs.Movers.{runs_at, is_free, are_out, waits_for_slot}
+use Rattle.engine_moves.proofs.Movers.{runs_mind}
 use Rattle.session_facts.specs.Stage.{stage_of, moves_at}
 use Rattle.session_facts.specs.Taking.{has_line, is_some_line}
 

@@ -27,7 +27,7 @@ use Rattle.dbg_model.proofs.Options.{same_some}
 use Rattle.dbg_model.proofs.Counting.{poked_adds}
 use Rattle.dbg_model.proofs.Adding.{came_by, lengthens}
 use Rattle.dbg_model.proofs.Ending.{one_open}
-use Rattle.source_index.specs.Sources.{Sources, sources_of}
+use Rattle.dbg_model.specs.Sources.{Sources, sources_of}
 use Rattle.mi_values.specs.Record.{LineTree}
 use Rattle.mi_reports.specs.Text.{stream_lines, stop_lines, interrupt_lines, break_lines, stepped_lines, finished_lines, lefts_lines}
 use Rattle.mi_reports.specs.Replies.{reply_lines}
@@ -38,24 +38,24 @@ use Rattle.mi_reports.proofs.Saying.{said_added, said_lengthened}
 use Rattle.mi_reports.proofs.Leaving.{said_exits}
 use Rattle.engine_moves.specs.declared.moving.Turned.{Turned}
 use Rattle.engine_moves.specs.declared.moving.Turned.TheVariants as turned
-use Rattle.engine_facts.specs.declared.mind.Mind.{Mind}
-use Rattle.engine_facts.specs.declared.mind.Hold.{Hold}
+use Rattle.engine_moves.specs.declared.mind.Mind.{Mind}
+use Rattle.engine_moves.specs.declared.mind.Hold.{Hold}
 use Rattle.step_over.specs.declared.phase.Phase.{Phase}
 use Rattle.step_over.specs.declared.phase.Phase.TheVariants as phase
-use Rattle.engine_facts.specs.Seen.{Run, seen, seen_hart}
-use Rattle.engine_facts.specs.Facts.{Facts}
-use Rattle.engine_facts.specs.Minds.{mode_of, is_active, with_phase, counted_mind}
-use Rattle.engine_facts.specs.Moves.{plan_for}
-use Rattle.engine_facts.proofs.Seeing.{seen_at}
+use Rattle.engine_moves.specs.Seen.{Run, seen, seen_hart}
+use Rattle.engine_moves.specs.Facts.{Facts}
+use Rattle.engine_moves.specs.Minds.{mode_of, is_active, with_phase, counted_mind}
+use Rattle.engine_moves.specs.Moves.{plan_for}
+use Rattle.engine_moves.proofs.Showing.{seen_at}
 use Rattle.engine_moves.specs.Several.{is_quiet}
 use Rattle.engine_moves.specs.Calls.{Of, Turns, Runs, Exits, Halts, Counts, Rephases, Does, pokes_of, poked_after}
 use Rattle.break_table.specs.declared.due.CondError.{CondError}
-use Rattle.engine_facts.specs.Movers.{runs_at, runs_as, is_free, is_idle, idle_as, waits_for_slot}
+use Rattle.engine_moves.specs.Movers.{runs_at, runs_as, is_free, is_idle, idle_as, waits_for_slot}
 use Rattle.session_facts.specs.Stage.{stage_of, work_of, running, moves, moves_of, moves_left, moves_at}
 use Rattle.dbg_model.specs.State.{is_running}
 use Rattle.dbg_model.specs.Lawful.{may_go}
-use Rattle.engine_facts.specs.declared.mind.Activity.{Activity}
-use Rattle.engine_facts.specs.declared.mind.Activity.TheVariants as activity
+use Rattle.engine_moves.specs.declared.mind.Activity.{Activity}
+use Rattle.engine_moves.specs.declared.mind.Activity.TheVariants as activity
 use Rattle.session_facts.specs.Steps.{lines_by, Goes, IsMove}
 use Rattle.session_facts.specs.Turned.{turned_lines, left_lines, stream_tree, has_moved}
 use Rattle.session_facts.proofs.Timing.{did_line, Grown, grown_same, grown_more, grown_lengthened, grown_exits}

@@ -18,7 +18,7 @@ use Rattle.rv_decode.specs.contracts.instr.Instr as instr
 use Rattle.text_words.specs.contracts.fetch.Fetch as fetch
 use Rattle.text_words.specs.contracts.text.TextWords as textwords
 use Rattle.step_plans.specs.contracts.plan.Plan as plan
-use Rattle.engine_facts.specs.contracts.mind.Mind as mind
+use Rattle.engine_moves.specs.contracts.mind.Mind as mind
 use Rattle.cond_expr.specs.contracts.expr.Expr as expr
 use Rattle.break_table.specs.contracts.entry.BreakEntry as breakentry
 use Rattle.break_table.specs.contracts.table.BreakTable as breaktable
@@ -26,7 +26,7 @@ use Rattle.elf_symbols.specs.contracts.entry.SymbolEntry as symbolentry
 use Rattle.elf_symbols.specs.contracts.names.Symbols as symbols
 use Rattle.line_index.specs.contracts.index.LineIndex as lineindex
 use Rattle.dwarf_frames.specs.contracts.index.FrameIndex as frameindex
-use Rattle.source_index.specs.contracts.index.SourceIndex as sourceindex
+use Rattle.dbg_model.specs.contracts.source_index.SourceIndex as sourceindex
 use Rattle.data_memory.specs.contracts.memory.DataMemory as datamemory
 use Rattle.hart_machine.specs.contracts.machine.Machine as machine
 use Rattle.elf32_read.specs.contracts.image.Image as image

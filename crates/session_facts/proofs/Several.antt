@@ -5,9 +5,9 @@ use mathlib.Core.List.{append-nil}
 use Rattle.dbg_traits.specs.Told.{Told, more}
 use Rattle.dbg_model.specs.Lawful.{may_go}
 use Rattle.dbg_model.specs.Journals.{lengthened}
-use Rattle.engine_facts.specs.Seen.{Run, seen}
-use Rattle.engine_facts.specs.Facts.{Facts}
-use Rattle.engine_facts.proofs.Bounding.{below}
+use Rattle.engine_moves.specs.Seen.{Run, seen}
+use Rattle.engine_moves.specs.Facts.{Facts}
+use Rattle.engine_moves.proofs.Bounding.{below}
 use Rattle.engine_moves.specs.declared.moving.Turned.{Turned}
 use Rattle.engine_moves.specs.declared.moving.Turned.TheVariants as turned
 use Rattle.engine_moves.specs.Several.{AllRan, IsQuiet, TurnedBy, lengthened_by}

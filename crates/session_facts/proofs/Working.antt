@@ -23,10 +23,10 @@ use Rattle.dbg_model.specs.Reply.{done_by}
 use Rattle.dbg_model.specs.Lawful.{one, one_by, enter, may_go, may_move, may_run, stepped_by, stepped, stopped, with_stop, faulted_by, stopped_by, counted, counted_by, set_out, with_arrival, with_count, with_leavers, leaving, leaving_at, with_step}
 use Rattle.dbg_model.specs.Leaving.{gone, gone_by}
 use Rattle.dbg_model.proofs.Options.{guard_some, same_some, both_true}
-use Rattle.engine_facts.specs.declared.mind.Mind.{Mind}
+use Rattle.engine_moves.specs.declared.mind.Mind.{Mind}
 use Rattle.step_over.specs.declared.phase.Phase.{Phase}
 use Rattle.step_over.specs.declared.phase.Phase.TheVariants as phase
-use Rattle.engine_facts.specs.Movers.{runs_at, runs_as}
+use Rattle.engine_moves.specs.Movers.{runs_at, runs_as}
 use Rattle.session_facts.specs.Stage.{running, moves, moves_of, moves_left}
 
 abbrev one_if : Bool → ℕ

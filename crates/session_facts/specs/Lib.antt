@@ -16,3 +16,6 @@ pub mod OutsideInside
 pub mod Numbers
 pub mod Round
 pub mod Crew
+pub mod Left
+pub mod Headline
+pub mod Over

@@ -6,12 +6,12 @@ use Rattle.dbg_model.specs.declared.entry.Entry.{Entry}
 use Rattle.dbg_model.specs.declared.opening.Opening.{Opening}
 use Rattle.dbg_model.specs.declared.hart.Hart.{Hart}
 use Rattle.dbg_model.specs.State.{State, hart_runs}
-use Rattle.engine_facts.specs.declared.mind.Hold.{Hold}
-use Rattle.engine_facts.specs.declared.mind.Mind.{Mind}
+use Rattle.engine_moves.specs.declared.mind.Hold.{Hold}
+use Rattle.engine_moves.specs.declared.mind.Mind.{Mind}
 use Rattle.step_over.specs.declared.phase.Phase.{Phase}
 use Rattle.step_over.specs.declared.phase.Phase.TheVariants as phase
-use Rattle.engine_facts.specs.Movers.{moves_in}
-use Rattle.engine_facts.specs.Seen.{Run, seen}
+use Rattle.engine_moves.specs.Movers.{moves_in}
+use Rattle.engine_moves.specs.Seen.{Run, seen}
 
 -- how the session began, its journal, the state that the journal leaves, where its harts are in steps over breakpoints, who has which scratch slot, and the text as it is stored
 pub record Stage : Type 0 where

@@ -13,13 +13,13 @@ use Rattle.dbg_model.specs.declared.hart.Hart.{Hart}
 use Rattle.dbg_model.specs.State.{any_runs}
 use Rattle.dbg_model.specs.Reply.{done_by, is_wait}
 use Rattle.dbg_model.specs.declared.reply.Reply.{Reply}
-use Rattle.engine_facts.specs.Seen.{Run, seen}
+use Rattle.engine_moves.specs.Seen.{Run, seen}
 use Rattle.engine_moves.specs.Calls.{pokes_of}
 use Rattle.engine_moves.specs.Calls as calls
 use Rattle.dbg_model.specs.Leaving.{lefts_from}
 use Rattle.dbg_model.specs.Lawful.{may_go}
 use Rattle.dbg_model.specs.Journals.{did, lengthened}
-use Rattle.engine_facts.specs.declared.mind.Mind.{Mind}
+use Rattle.engine_moves.specs.declared.mind.Mind.{Mind}
 use Rattle.session_facts.specs.InTime.{through, until}
 use Rattle.session_facts.specs.Taking.{first_waits, has_line}
 use Rattle.session_facts.specs.Stage.{Stage, moves_at}

@@ -5,7 +5,7 @@ use Rattle.dbg_model.specs.Places.{own_frame}
 use Rattle.dbg_model.specs.State.{all_gone}
 use Rattle.engine_moves.specs.declared.moving.Turned.{Turned}
 use Rattle.engine_moves.specs.declared.moving.Turned.TheVariants as turned
-use Rattle.engine_facts.specs.Seen.{Run, seen}
+use Rattle.engine_moves.specs.Seen.{Run, seen}
 use Rattle.mi_values.specs.Record.{LineTree}
 use Rattle.mi_reports.specs.Triggers.{trigger_lines, watch_of}
 use Rattle.mi_reports.specs.Text.{stop_lines, interrupt_lines, break_lines, stepped_lines, finished_lines, stream_lines, lefts_lines}

@@ -1,6 +1,8 @@
 //! What a session keeps, beside its engine: its words and file, its input, what it puts, and how it ends; specifications and lemmas.
 #![tactic(auto)]
 
+mod closing;
+mod ending;
 mod file;
 mod input;
 mod known;
@@ -13,13 +15,15 @@ mod status;
 mod summary;
 mod turn;
 
+pub use closing::finish;
+pub use ending::Ended;
 pub use file::{FileError, Served, Source};
 pub use input::{Input, PIECE, input_once};
 pub use known::Known;
 pub use line::Done;
 pub use loading::{Loaded, Unloaded, load};
 pub use outside::{Outside, Script};
-pub use puts::{put_all, put_event};
+pub use puts::{put_all, put_event, put_reply};
 pub use status::Status;
 pub use summary::summary_text;
 pub use turn::Turn;

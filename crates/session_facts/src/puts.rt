@@ -1,8 +1,10 @@
 // Putting a text, piece by piece, and the lines of what is reported.
 ghost use Rattle.std.specs.Prelude.{◌≡◌, ◌<◌, ◌≤◌, length, MatchResult};
 ghost use Rattle.mi_reports.specs.Events.{event_lines};
+ghost use Rattle.mi_reports.specs.Replies.{reply_lines};
 ghost use Rattle.session_facts.specs.Puts.{PutsAll, PutsLines};
 
+use dbg_model::Reply;
 use dbg_traits::{NoMemory, Put, World};
 use mi_reports::{Event, report};
 
@@ -44,4 +46,15 @@ pub fn put_event<W: World>(
     lines.clear();
     report(event, lines)?;
     Ok(put_all(world, lines.as_slice()))
+}
+
+/// Puts the lines of a reply, which is let go of here. False where a put failed. Out of memory, the one error, nothing is put.
+pub fn put_reply<W: World>(
+    world: &mut W,
+    reply: Reply,
+    lines: &mut Vec<u8>,
+) -> Result<bool, NoMemory>
+    ensures { MatchResult result (λ put. PutsLines put (reply_lines reply) (W.told world.old) (W.told world.new)) (λ _. world.new ≡ world.old) }
+{
+    put_event(world, Event::Answered(&reply), lines)
 }

@@ -15,7 +15,7 @@ pub struct Last {
 /// A `file` is the number of a file name, as a row of the line tables has it: equal names have equal numbers. A `ret` is
 /// the address that a call returns to, and an `sp` the least stack pointer (x2) at which it has returned; an inner call
 /// that returns to the same address has a lower one.
-#[derive(Clone, Copy, Debug, PartialEq, Eq)]
+#[derive(Clone, Copy, PartialEq, Eq)]
 pub enum Plan {
     /// Nothing: the hart goes on.
     Free,
@@ -60,7 +60,7 @@ impl Plan {
 }
 
 /// What follows the return of a call that is passed over.
-#[derive(Clone, Copy, Debug, PartialEq, Eq)]
+#[derive(Clone, Copy, PartialEq, Eq)]
 pub enum After {
     /// The stop.
     Stop,
@@ -69,7 +69,7 @@ pub enum After {
 }
 
 /// What becomes of a plan at an arrival.
-#[derive(Clone, Copy, Debug)]
+#[derive(Clone, Copy)]
 pub enum Verdict {
     /// The hart goes on, with this plan.
     Go(Plan),

@@ -2,11 +2,13 @@
 #![tactic(auto)]
 
 mod again;
+mod arguments;
 mod feed;
 mod gate;
 mod reader;
 mod world;
 
+pub use arguments::words;
 pub use gate::RestingGate;
 pub use reader::{Shared, pump};
 pub use world::RealWorld;

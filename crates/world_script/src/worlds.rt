@@ -1,9 +1,10 @@
 // Worlds in memory, whose calls rows ask for.
 ghost use Rattle.std.specs.Prelude.{◌≡◌, ◌<◌, [], ◌∷◌, IfOk, false};
-ghost use Rattle.dbg_traits.specs.MemWorld.{told_first, told_of};
+ghost use Rattle.memory_world.specs.MemWorld.{told_first, told_of};
 ghost use Rattle.dbg_traits.specs.Names.{IsNamed, IsSameName};
 
-use dbg_traits::{ArgText, Cue, FileRead, Limits, MemWorld, Polled, Put, World};
+use dbg_traits::{ArgText, FileRead, Polled, Put, World};
+use memory_world::{Cue, Limits, MemWorld};
 use script_rows::{RowFault, before, number, told_bytes};
 use std::alloc::{AllocError, Global};
 use std::convert::AsStr;

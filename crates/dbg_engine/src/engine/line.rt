@@ -4,7 +4,7 @@ ghost use Rattle.dbg_model.specs.Lawful.{may_do};
 ghost use Rattle.dbg_model.specs.Outcome.{pokes};
 ghost use Rattle.dbg_model.specs.Reply.{displaced_after, exited_after, pending_after, selected_after};
 ghost use Rattle.dbg_effects.specs.Effect.{change_of};
-ghost use Rattle.engine_facts.specs.Seen.{seen};
+ghost use Rattle.engine_moves.specs.Seen.{seen};
 ghost use Rattle.engine_moves.specs.Changing.{Makes};
 
 use super::Engine;
@@ -50,7 +50,7 @@ fn exited_after(exited: bool, effect: &Effect) -> bool
 }
 
 impl Engine {
-    ghost use Rattle.engine_facts.specs.Facts.{Facts};
+    ghost use Rattle.engine_moves.specs.Facts.{Facts};
     ghost use Rattle.engine_moves.specs.Calls.{Lines};
 
     // Does a line that asks for a write, and writes.

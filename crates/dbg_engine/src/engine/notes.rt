@@ -6,16 +6,16 @@ ghost use Rattle.dbg_model.specs.Watches.{risen};
 use super::Engine;
 use crate::engine::waiting_of;
 use dbg_model::{Entry, Judgement, Why, plan_after};
-use engine_facts::{Mind, Phase};
 use engine_moves::hits::settle;
 use engine_moves::journal::note;
 use engine_moves::minds::{STOPPED, counted_mind};
 use engine_moves::patching::{repatch, wants};
 use engine_moves::waiting::{Waiting, changes, rewait};
+use engine_moves::{Mind, Phase};
 use rv_exec::Cause;
 
 impl Engine {
-    ghost use Rattle.engine_facts.specs.Facts.{Facts};
+    ghost use Rattle.engine_moves.specs.Facts.{Facts};
     ghost use Rattle.engine_moves.specs.Calls.{Of, Before, Halts, Interrupts, Counts, DueIs, StopsBy, Undue, TrapsAt};
 
     // A hart that steps over nothing stops by a fault.

@@ -5,7 +5,7 @@ ghost use Rattle.engine_moves.specs.Slicing.{CanTake, IsJobOf, Takes, gives_job,
 
 use super::Engine;
 use super::run::is_idle;
-use engine_facts::Mind;
+use engine_moves::Mind;
 use engine_moves::journal::note_runs;
 use engine_moves::minds::{is_running, other_holder};
 use engine_moves::moving::ran_mind;
@@ -49,7 +49,7 @@ fn has_registers(machine: &Machine, h: u32, regs: &Regs) -> bool
 }
 
 impl Engine {
-    ghost use Rattle.engine_facts.specs.Facts.{Facts};
+    ghost use Rattle.engine_moves.specs.Facts.{Facts};
 
     /// What a hart is to execute apart from the engine, if it can: its registers, and the stored words from its pc on. None
     /// exactly where slices are off, the session is over, a patch is lifted for another hart, or the hart doesn't run, is in

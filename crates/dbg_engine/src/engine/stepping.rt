@@ -2,15 +2,15 @@
 ghost use Rattle.std.specs.Prelude.{◌≡◌, ◌<◌, ℕ, None, Some, IsTrue, slice_get, true, false};
 ghost use Rattle.scratch_slots.specs.Table.{use_at, AllOut};
 ghost use Rattle.dbg_model.specs.State.{is_off};
-ghost use Rattle.engine_facts.specs.Minds.{slot_of};
-ghost use Rattle.engine_facts.specs.Facts.{other_holder};
+ghost use Rattle.engine_moves.specs.Minds.{slot_of};
+ghost use Rattle.engine_moves.specs.Facts.{other_holder};
 ghost use Rattle.engine_moves.specs.Steps.{IsTurned};
 
 use super::Engine;
 use crate::Turned;
-use engine_facts::{Activity, Hold, Mind, Phase};
 use engine_moves::homing::go_home;
 use engine_moves::patching::{release, repatch};
+use engine_moves::{Activity, Hold, Mind, Phase};
 use mi_commands::Displaced;
 
 // Whether planted words are stepped over by copies: displaced stepping isn't off, and there are slots.
@@ -22,7 +22,7 @@ pub(super) fn by_copies(displaced: Displaced, slots: u32) -> bool
 }
 
 impl Engine {
-    ghost use Rattle.engine_facts.specs.Facts.{Facts};
+    ghost use Rattle.engine_moves.specs.Facts.{Facts};
     ghost use Rattle.engine_moves.specs.Calls.{AtPlanted, Rephases, Lifts, Copies, Turns};
     ghost use Rattle.engine_moves.specs.Rows.{Begins, row_of};
 

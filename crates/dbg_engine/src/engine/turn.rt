@@ -2,15 +2,14 @@
 ghost use Rattle.std.specs.Prelude.{◌≡◌, ◌<◌, ◌≤◌, Some, None, length, slice_get, true, false};
 ghost use Rattle.text_words.specs.Words.{is_planted};
 ghost use Rattle.dbg_model.specs.Judging.{is_due};
-ghost use Rattle.engine_facts.specs.Minds.{is_before};
-ghost use Rattle.engine_facts.specs.Moves.{stop_of};
+ghost use Rattle.engine_moves.specs.Minds.{is_before};
+ghost use Rattle.engine_moves.specs.Moves.{stop_of};
 ghost use Rattle.engine_moves.specs.Steps.{IsTurned, leaves};
 
 use super::Engine;
 use crate::Turned;
 use crate::engine::waiting_of;
 use dbg_model::{Course, Judge, Judgement, Why, noted_with, plan_after};
-use engine_facts::{Activity, Mind, Phase};
 use engine_moves::hits::is_temporary;
 use engine_moves::homing::{Leaving, go_home_at_exit, landed_pc};
 use engine_moves::minds::{other_holder, with_phase};
@@ -18,6 +17,7 @@ use engine_moves::moving::{apply, exits_of, ran_mind};
 use engine_moves::view::ShownHart;
 use engine_moves::waiting::{Waiting, changes, rewait};
 use engine_moves::watching::step_watched;
+use engine_moves::{Activity, Mind, Phase};
 use rv_exec::Stepped;
 use step_plans::{Plan, Verdict};
 
@@ -58,7 +58,7 @@ fn is_moved(old: Plan, new: Plan, stepped: Stepped) -> bool
 }
 
 impl Engine {
-    ghost use Rattle.engine_facts.specs.Facts.{Facts};
+    ghost use Rattle.engine_moves.specs.Facts.{Facts};
     ghost use Rattle.engine_moves.specs.Calls.{Of, Before, DueIs, GoesWith, Undue, Executes, Turns};
     ghost use Rattle.engine_moves.specs.Rows.{Row, Executes as EXECUTES, row_of, row_at, row_due};
     ghost use Rattle.engine_moves.specs.Steps.{Arrives, stopped_by};

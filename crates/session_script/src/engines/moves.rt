@@ -3,7 +3,7 @@ ghost use Rattle.std.specs.Prelude.{◌≡◌, ◌<◌, ◌≤◌, true, IsTrue,
 ghost use Rattle.mi_commands.specs.Gives.{Commands};
 ghost use Rattle.dbg_model.specs.Lawful.{may_do, may_go};
 ghost use Rattle.dbg_answers.specs.Reading.{IsRead};
-ghost use Rattle.engine_facts.specs.Seen.{seen};
+ghost use Rattle.engine_moves.specs.Seen.{seen};
 
 use crate::engines::turns::told_turn;
 use dbg_answers::read_line;

@@ -1,6 +1,7 @@
 // Lines as commands.
 use mi_commands::{
-    ByteList, Command, CommandLine, Fault, Insertion, Location, Refusal, command_of,
+    ByteList, Command, CommandLine, Fault, Format, Insertion, Location, NumberList, Refusal,
+    Target, command_of,
 };
 use mi_input::InputFault;
 use mi_values::Token;
@@ -70,13 +71,86 @@ fn of_setting(
     format!(in alloc; "set {thread:?} {name} {register} {value}")
 }
 
-fn of_textless(alloc: Global, command: &Command) -> Result<String, AllocError> {
-    format!(in alloc; "{command:?}")
+fn of_word(alloc: Global, word: &str) -> Result<String, AllocError> {
+    format!(in alloc; "{word}")
+}
+
+fn of_text(alloc: Global, word: &str, text: &ByteList) -> Result<String, AllocError> {
+    format!(in alloc; "{word} {}", text_of(text.as_slice()))
+}
+
+fn of_pair(alloc: Global, word: &str, (first, second): (u32, u32)) -> Result<String, AllocError> {
+    format!(in alloc; "{word} {first} {second}")
+}
+
+fn of_numbers(alloc: Global, word: &str, numbers: &NumberList) -> Result<String, AllocError> {
+    format!(in alloc; "{word} {:?}", numbers.as_slice())
+}
+
+fn of_target(alloc: Global, word: &str, target: Target) -> Result<String, AllocError> {
+    format!(in alloc; "{word} {target:?}")
+}
+
+fn of_thread(alloc: Global, word: &str, thread: Option<u32>) -> Result<String, AllocError> {
+    format!(in alloc; "{word} {thread:?}")
+}
+
+fn of_values(
+    alloc: Global,
+    thread: Option<u32>,
+    form: Format,
+    numbers: &NumberList,
+) -> Result<String, AllocError> {
+    format!(in alloc; "values {thread:?} {form:?} {:?}", numbers.as_slice())
+}
+
+fn of_write(alloc: Global, address: u32, bytes: &ByteList) -> Result<String, AllocError> {
+    format!(in alloc; "write {address} {:?}", bytes.as_slice())
+}
+
+// Commands without parameters, or with a thread alone.
+fn of_short(alloc: Global, command: &Command) -> Result<String, AllocError> {
+    match command {
+        Command::BreakList => of_word(alloc, "list"),
+        Command::Wait => of_word(alloc, "wait"),
+        Command::ThreadList => of_word(alloc, "threads"),
+        Command::RegisterNames => of_word(alloc, "names"),
+        Command::SetNonStop => of_word(alloc, "set non-stop"),
+        Command::SetMiAsync => of_word(alloc, "set mi-async"),
+        Command::Exit => of_word(alloc, "exit"),
+        Command::Step { thread } => of_thread(alloc, "step", *thread),
+        Command::Next { thread } => of_thread(alloc, "next", *thread),
+        Command::StepInstruction { thread } => of_thread(alloc, "stepi", *thread),
+        Command::NextInstruction { thread } => of_thread(alloc, "nexti", *thread),
+        Command::Finish { thread } => of_thread(alloc, "finish", *thread),
+        Command::ThreadInfo { thread } => of_thread(alloc, "info", *thread),
+        Command::FrameList { thread } => of_thread(alloc, "frames", *thread),
+        Command::FrameDepth { thread } => of_thread(alloc, "depth", *thread),
+        Command::FrameInfo { thread } => of_thread(alloc, "frame", *thread),
+        _ => of_word(alloc, "blank"),
+    }
 }
 
 // Bytes are shown as texts.
 fn of_command(alloc: Global, command: &Command) -> Result<String, AllocError> {
     match command {
+        Command::BreakDelete(numbers) => of_numbers(alloc, "delete", numbers),
+        Command::BreakEnable(numbers) => of_numbers(alloc, "enable", numbers),
+        Command::BreakDisable(numbers) => of_numbers(alloc, "disable", numbers),
+        Command::BreakAfter { number, count } => of_pair(alloc, "after", (*number, *count)),
+        Command::BreakWatch { expression } => of_text(alloc, "watch", expression),
+        Command::Continue(target) => of_target(alloc, "continue", *target),
+        Command::Interrupt(target) => of_target(alloc, "interrupt", *target),
+        Command::ThreadSelect { thread } => of_thread(alloc, "select", Some(*thread)),
+        Command::RegisterValues {
+            thread,
+            format,
+            numbers,
+        } => of_values(alloc, *thread, *format, numbers),
+        Command::ReadMemory { address, count } => of_pair(alloc, "read", (*address, *count)),
+        Command::WriteMemory { address, bytes } => of_write(alloc, *address, bytes),
+        Command::SetDisplaced(value) => format!(in alloc; "set displaced {value:?}"),
+        Command::Show(setting) => format!(in alloc; "show {setting:?}"),
         Command::BreakInsert(insertion) => of_insertion(alloc, insertion),
         Command::BreakCondition { number, condition } => of_condition(alloc, *number, condition),
         Command::Evaluate { thread, expression } => of_evaluation(alloc, *thread, expression),
@@ -86,7 +160,7 @@ fn of_command(alloc: Global, command: &Command) -> Result<String, AllocError> {
             register,
             value,
         } => of_setting(alloc, *thread, name, (*register, *value)),
-        _ => of_textless(alloc, command),
+        _ => of_short(alloc, command),
     }
 }
 

@@ -1,6 +1,6 @@
 // The input of a world, as rows describe it.
-use dbg_traits::Cue;
 use elf_gen::script;
+use memory_world::Cue;
 use script_rows::{RowFault, number, read_bytes, three};
 use std::alloc::{AllocError, Global};
 

@@ -1,8 +1,8 @@
 // What is left of a session, and what rows ask of it.
 use dbg_model::Entry;
 use dbg_session::Closed;
-use dbg_traits::MemWorld;
 use hart_machine::Machine;
+use memory_world::MemWorld;
 use script_rows::RowFault;
 use std::alloc::{AllocError, Global};
 

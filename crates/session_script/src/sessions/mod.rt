@@ -5,9 +5,9 @@ mod left;
 mod plan;
 
 use dbg_session::{Closed, Ended, Status, debug_run};
-use dbg_traits::MemWorld;
 use holding::Holding;
 use left::Left;
+use memory_world::MemWorld;
 use plan::{Plan, Trial};
 use script_rows::{Bench, RowFault, read_bytes};
 use std::alloc::{AllocError, Global};

@@ -1,13 +1,14 @@
 // Worlds, as rows describe them.
 ghost use Rattle.std.specs.Prelude.{◌<◌, IfOk};
 ghost use Rattle.dbg_traits.specs.Told.{IsFresh};
-ghost use Rattle.dbg_traits.specs.MemWorld.{told_of};
+ghost use Rattle.memory_world.specs.MemWorld.{told_of};
 
 use crate::programs::words_file;
 use crate::sessions::holding::Waiting;
 use crate::sessions::input;
-use dbg_traits::{ArgText, Cue, Limits, MemWorld, NoMemory};
+use dbg_traits::{ArgText, NoMemory};
 use elf_gen::generate;
+use memory_world::{Cue, Limits, MemWorld};
 use script_rows::{RowFault, arguments, number, three};
 use std::alloc::{AllocError, Global};
 

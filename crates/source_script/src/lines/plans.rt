@@ -3,7 +3,7 @@ use crate::lines::hart::arrived;
 use crate::lines::table::Table;
 use rv_decode::decode;
 use script_rows::{RowFault, before, number, two};
-use std::alloc::Global;
+use std::alloc::{AllocError, Global};
 use step_plans::{After, Last, Plan, Verdict, arrive};
 
 // What follows a return: `stop`, `step FILE LINE` or `next FILE LINE`.
@@ -91,9 +91,43 @@ fn verdict(table: &Table, text: &str) -> Option<Verdict> {
     Some(arrive(plan(rest)?, Some(last), &hart, &table.lines, &table.names))
 }
 
+// What follows a return, as a row has it.
+fn told_after(alloc: Global, after: After) -> Result<String, AllocError> {
+    match after {
+        After::Stop => format!(in alloc; "stop"),
+        After::Line { file, line, into } => format!(in alloc; "line {file} {line} {into}"),
+    }
+}
+
+fn told_return(alloc: Global, ret: u32, sp: u32, after: After) -> Result<String, AllocError> {
+    let after = told_after(alloc, after)?;
+    format!(in alloc; "return {ret} {sp} {after}")
+}
+
+fn told_plan(alloc: Global, plan: Plan) -> Result<String, AllocError> {
+    match plan {
+        Plan::Free => format!(in alloc; "free"),
+        Plan::One { over } => format!(in alloc; "one {over}"),
+        Plan::Line { file, line, into } => format!(in alloc; "line {file} {line} {into}"),
+        Plan::ToReturn { ret, sp, after } => told_return(alloc, ret, sp, after),
+        Plan::Finish { ret, sp } => format!(in alloc; "finish {ret} {sp}"),
+        Plan::ToBody {
+            at,
+            ret,
+            sp,
+            file,
+            line,
+        } => format!(in alloc; "body {at} {ret} {sp} {file} {line}"),
+    }
+}
+
 /// What came of a row `arrive WORD ADDRESS PC SP PLAN..`: what becomes of the plan of a hart that has executed the instruction
 /// of this word at this address, and has arrived at a pc with a stack pointer.
 pub fn answer(alloc: Global, table: &Table, text: &str) -> Result<String, RowFault> {
-    let verdict = verdict(table, text).ok_or(RowFault::Unknown)?;
-    Ok(format!(in alloc; "{verdict:?}")?)
+    let told = match verdict(table, text).ok_or(RowFault::Unknown)? {
+        Verdict::Go(plan) => told_plan(alloc, plan)?,
+        Verdict::Stepped => format!(in alloc; "stepped")?,
+        Verdict::Finished => format!(in alloc; "finished")?,
+    };
+    Ok(told)
 }

@@ -1,5 +1,5 @@
 use Rattle.std.specs.Prelude.{None, Some}
-use Rattle.engine_facts.proofs.Breaking.{place-shown}
+use Rattle.engine_moves.proofs.Breaking.{place-shown}
 use Rattle.engine_moves.proofs.Tabling.{number_at, deleted_words, none_deleted}
 use Rattle.dbg_engine.proofs.breaking.delete.Goals as goal
 

@@ -1,6 +1,6 @@
 use Rattle.std.specs.Prelude.{None, Some}
 use Rattle.break_table.specs.Table.{with_enabled}
-use Rattle.engine_facts.proofs.Breaking.{place-shown}
+use Rattle.engine_moves.proofs.Breaking.{place-shown}
 use Rattle.engine_moves.proofs.Tabling.{number_at, enabled_words, none_changed}
 use Rattle.dbg_engine.proofs.breaking.enable.Goals as goal
 

@@ -1,20 +1,12 @@
 use Rattle.std.proofs.Common.{ap, ap₂, ◌∙◌}
 use Rattle.std.proofs.lemmas.Result.{IfOk-weaker}
 use Rattle.clap.specs.Words.{with_rule}
-use Rattle.dbg_words.specs.Command.{rvdbg, settled_app}
-use Rattle.dbg_words.proofs.Building.{settled_is}
+use Rattle.dbg_words.specs.Command.{rvdbg}
 use Rattle.dbg_words.proofs.command.command.Goals as goal
 
 pub returns : goal.returns
 unfolding rvdbg
 returns c =
-    let zero = settled_is _ _ _ c.no_binary_name.ensures c.disable_help_flag-bare.ensures ∙ ap settled_app c.new.ensures.app in
-    let one = c.in_ok-arg.ensures.shape c.option.ensures.local ∙ ap₂ with_rule zero c.option.ensures.rule in
-    let two = c.in_ok-arg-2.ensures.shape c.option-2.ensures.local ∙ ap₂ with_rule one c.option-2.ensures.rule in
-    let three = c.in_ok-arg-3.ensures.shape c.option-3.ensures.local ∙ ap₂ with_rule two c.option-3.ensures.rule in
-    let four = c.in_ok-arg-4.ensures.shape c.option-4.ensures.local ∙ ap₂ with_rule three c.option-4.ensures.rule in
-    let five = c.in_ok-arg-5.ensures.shape c.option-5.ensures.local ∙ ap₂ with_rule four c.option-5.ensures.rule in
-    let six = c.in_ok-arg-6.ensures.shape c.option-6.ensures.local ∙ ap₂ with_rule five c.option-6.ensures.rule in
-    let seven = c.in_ok-arg-7.ensures.shape c.option-7.ensures.local ∙ ap₂ with_rule six c.option-7.ensures.rule in
-    let eight = c.in_ok-arg-8.ensures.shape c.flag.ensures.local ∙ ap₂ with_rule seven c.flag.ensures.rule in
-    IfOk-weaker c.arg-9.result _ _ (λ r h. h.shape c.file.ensures.local ∙ ap₂ with_rule eight c.file.ensures.rule) c.arg-9.ensures
+    let one = c.in_ok-arg.ensures.shape c.option.ensures.local ∙ ap₂ with_rule c.in_ok-command.ensures c.option.ensures.rule in
+    let two = c.in_ok-arg-2.ensures.shape c.flag.ensures.local ∙ ap₂ with_rule one c.flag.ensures.rule in
+    IfOk-weaker c.arg-3.result _ _ (λ r h. h.shape c.file.ensures.local ∙ ap₂ with_rule two c.file.ensures.rule) c.arg-3.ensures

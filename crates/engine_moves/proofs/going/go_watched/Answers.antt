@@ -1,5 +1,5 @@
 use Rattle.std.proofs.Common.{◌≡◌, sym, ◌∙◌, arith}
-use Rattle.engine_facts.proofs.Holding.{get_within}
+use Rattle.engine_moves.proofs.Holding.{get_within}
 use Rattle.engine_moves.proofs.Gone.{unfired_more}
 use Rattle.engine_moves.proofs.Nearing.{ran_far}
 use Rattle.engine_moves.proofs.going.go_watched.Goals as goal

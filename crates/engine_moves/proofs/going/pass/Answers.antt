@@ -1,5 +1,5 @@
 use Rattle.std.proofs.Common.{◌≡◌, true, false, sym, ap, ◌∙◌, arith, rules}
-use Rattle.engine_facts.proofs.Holding.{get_within}
+use Rattle.engine_moves.proofs.Holding.{get_within}
 use Rattle.engine_moves.specs.Going.{meets}
 use Rattle.engine_moves.proofs.Gone.{passes_at, unmet}
 use Rattle.engine_moves.proofs.going.pass.Goals as goal

@@ -1,10 +1,10 @@
 use Rattle.std.proofs.Common.{◌≡◌, ◌<◌, ◌+◌, ◌∷◌, ℕ, length, get_or, sym, ap, subst, arith}
 use Rattle.std.specs.Prelude.{Some, List, slice_get, take, drop, ◌-◌}
 use Rattle.std.proofs.lemmas.Option.{slice_get-get_or}
-use Rattle.engine_facts.specs.declared.mind.Mind.{Mind}
-use Rattle.engine_facts.specs.Minds.{first_mind}
-use Rattle.engine_facts.specs.Homing.{IsSlotted, AllGoHome}
-use Rattle.engine_facts.proofs.Homing.{all_home_next, rest_slotted, home_rest}
+use Rattle.engine_moves.specs.declared.mind.Mind.{Mind}
+use Rattle.engine_moves.specs.Minds.{first_mind}
+use Rattle.engine_moves.specs.Homecoming.{IsSlotted, AllGoHome}
+use Rattle.engine_moves.proofs.Homecoming.{all_home_next, rest_slotted, home_rest}
 use Rattle.engine_moves.proofs.Homes.{first_of}
 use Rattle.engine_moves.proofs.homing.+go_home_each.Goals as goal
 

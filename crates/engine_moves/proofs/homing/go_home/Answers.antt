@@ -1,7 +1,7 @@
 use Rattle.std.proofs.Common.{true, false, refl, sym, subst}
 use Rattle.step_over.specs.declared.phase.Phase.{Phase}
 use Rattle.step_over.specs.declared.phase.Phase.TheVariants as phase
-use Rattle.engine_facts.specs.Homing.{IsSlotted, GoesHome, Owns}
+use Rattle.engine_moves.specs.Homecoming.{IsSlotted, GoesHome, Owns}
 use Rattle.engine_moves.proofs.Homes.{left_slot}
 use Rattle.engine_moves.proofs.homing.go_home.Goals as goal
 

@@ -2,8 +2,8 @@ use Rattle.std.proofs.Common.{◌≡◌, ◌+◌, ℕ, ap, sym, subst, arith}
 use Rattle.rv_exec.specs.declared.effect.Stepped.{Stepped}
 use Rattle.text_words.specs.Words.{Words}
 use Rattle.hart_machine.specs.Patched.{Patched}
-use Rattle.engine_facts.specs.Moves.{HeldInText}
-use Rattle.engine_facts.specs.Homing.{IsSlotted}
+use Rattle.engine_moves.specs.Moves.{HeldInText}
+use Rattle.engine_moves.specs.Homecoming.{IsSlotted}
 use Rattle.engine_moves.specs.Homing.{HomedBy}
 use Rattle.engine_moves.proofs.Holds.{home_held}
 use Rattle.engine_moves.proofs.homing.go_home_at_exit.Goals as goal

@@ -1,5 +1,5 @@
 use Rattle.std.proofs.Common.{◌≡◌, replicate}
-use Rattle.engine_facts.specs.Minds.{first_mind}
+use Rattle.engine_moves.specs.Minds.{first_mind}
 use Rattle.engine_moves.proofs.minds.first_minds.Given as goal
 
 abbrev pub invariant-loop-hart : goal.invariant-loop-hart

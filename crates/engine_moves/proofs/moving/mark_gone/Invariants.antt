@@ -1,5 +1,5 @@
 use Rattle.std.proofs.Common.{◌≡◌, ◌++◌, map, take, drop}
-use Rattle.engine_facts.specs.Minds.{gone_mind}
+use Rattle.engine_moves.specs.Minds.{gone_mind}
 use Rattle.engine_moves.proofs.moving.mark_gone.Given as goal
 
 abbrev pub invariant-loop-k : goal.invariant-loop-k

@@ -1,5 +1,5 @@
 use Rattle.std.proofs.Common.{subst, Bool}
-use Rattle.engine_facts.specs.Moves.{Repatched}
+use Rattle.engine_moves.specs.Moves.{Repatched}
 use Rattle.engine_moves.proofs.patching.plant_as_wanted.Goals as goal
 
 pub repatch-requires-clause-wants : goal.repatch-requires-clause-wants

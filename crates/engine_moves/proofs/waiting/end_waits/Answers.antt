@@ -1,5 +1,5 @@
 use Rattle.std.proofs.Common.{arith}
-use Rattle.engine_facts.specs.declared.mind.Mind.{Mind}
+use Rattle.engine_moves.specs.declared.mind.Mind.{Mind}
 use Rattle.engine_moves.specs.Changing.{no_wait}
 use Rattle.engine_moves.proofs.Waitings.{partly_all, partly_more, partly_none}
 use Rattle.engine_moves.proofs.waiting.end_waits.Goals as goal

@@ -1,4 +1,4 @@
-use Rattle.engine_facts.specs.declared.mind.Mind.{Mind}
+use Rattle.engine_moves.specs.declared.mind.Mind.{Mind}
 use Rattle.engine_moves.specs.Changing.{no_wait}
 use Rattle.engine_moves.proofs.Waitings.{Partly}
 use Rattle.engine_moves.proofs.waiting.end_waits.Given as goal

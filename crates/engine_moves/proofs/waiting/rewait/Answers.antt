@@ -1,7 +1,7 @@
 use Rattle.std.proofs.Common.{ap, ◌∙◌, arith}
 use Rattle.break_table.specs.Table.{Table}
 use Rattle.break_table.specs.Text.{is_place}
-use Rattle.engine_facts.specs.Minds.{awaited}
+use Rattle.engine_moves.specs.Minds.{awaited}
 use Rattle.engine_moves.proofs.Waitings.{partly_all, partly_more, partly_none}
 use Rattle.engine_moves.proofs.waiting.rewait.Goals as goal
 

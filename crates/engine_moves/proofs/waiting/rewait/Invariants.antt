@@ -1,4 +1,4 @@
-use Rattle.engine_facts.specs.Minds.{awaited}
+use Rattle.engine_moves.specs.Minds.{awaited}
 use Rattle.engine_moves.proofs.Waitings.{Partly}
 use Rattle.engine_moves.proofs.waiting.rewait.Given as goal
 

@@ -4,8 +4,8 @@ use Rattle.text_words.specs.Words.{unpatched}
 use Rattle.break_table.specs.Table.{Table, with_wait}
 use Rattle.break_table.specs.Text.{is_place}
 use Rattle.hart_machine.proofs.Places.{same_some, get-set_same}
-use Rattle.engine_facts.specs.Minds.{awaited}
-use Rattle.engine_facts.proofs.Holding.{get_within}
+use Rattle.engine_moves.specs.Minds.{awaited}
+use Rattle.engine_moves.proofs.Holding.{get_within}
 use Rattle.engine_moves.specs.Changing.{wants_by}
 use Rattle.engine_moves.proofs.Tabling.{retabled_twice}
 use Rattle.engine_moves.proofs.Waitings.{awaited_text, waits_twice}

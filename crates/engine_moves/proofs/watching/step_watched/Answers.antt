@@ -1,5 +1,5 @@
 use Rattle.std.proofs.Common.{sym, ◌∙◌}
-use Rattle.engine_facts.proofs.Holding.{get_within}
+use Rattle.engine_moves.proofs.Holding.{get_within}
 use Rattle.engine_moves.proofs.Nearing.{far_fires}
 use Rattle.engine_moves.proofs.watching.step_watched.Goals as goal
 

@@ -1,5 +1,5 @@
 use Rattle.std.proofs.Common.{◌≡◌, false}
-use Rattle.dbg_traits.specs.MemWorld.{told_of}
+use Rattle.memory_world.specs.MemWorld.{told_of}
 use Rattle.world_script.proofs.worlds.poll_all.Given as goal
 
 abbrev pub invariant-loop-wait : goal.invariant-loop-wait

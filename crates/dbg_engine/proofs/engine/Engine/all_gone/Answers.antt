@@ -1,9 +1,9 @@
 use Rattle.std.proofs.Common.{ap, ◌∙◌}
 use Rattle.std.specs.List.{list_all}
 use Rattle.dbg_model.specs.State.{all_gone}
-use Rattle.engine_facts.specs.Minds.{has_gone}
-use Rattle.engine_facts.specs.Seen.{Run, seen}
-use Rattle.engine_facts.proofs.Seeing.{all_seen}
+use Rattle.engine_moves.specs.Minds.{has_gone}
+use Rattle.engine_moves.specs.Seen.{Run, seen}
+use Rattle.engine_moves.proofs.Showing.{all_seen}
 use Rattle.dbg_engine.proofs.engine.Engine.all_gone.Goals as goal
 
 pub returns : goal.returns

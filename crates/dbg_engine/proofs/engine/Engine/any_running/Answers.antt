@@ -1,9 +1,9 @@
 use Rattle.std.proofs.Common.{ap, ◌∙◌}
 use Rattle.std.specs.List.{list_any}
 use Rattle.dbg_model.specs.State.{any_runs}
-use Rattle.engine_facts.specs.Minds.{runs}
-use Rattle.engine_facts.specs.Seen.{Run, seen}
-use Rattle.engine_facts.proofs.Seeing.{any_seen}
+use Rattle.engine_moves.specs.Minds.{runs}
+use Rattle.engine_moves.specs.Seen.{Run, seen}
+use Rattle.engine_moves.proofs.Showing.{any_seen}
 use Rattle.dbg_engine.proofs.engine.Engine.any_running.Goals as goal
 
 pub returns : goal.returns

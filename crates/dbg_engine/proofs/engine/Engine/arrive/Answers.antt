@@ -1,6 +1,6 @@
 use Rattle.std.proofs.Common.{refl, sym, ap, ◌∙◌, subst}
 use Rattle.engine_moves.specs.declared.moving.Turned.{Turned}
-use Rattle.engine_facts.specs.declared.mind.Mind.{Mind}
+use Rattle.engine_moves.specs.declared.mind.Mind.{Mind}
 use Rattle.engine_moves.specs.Calls.{Turns}
 use Rattle.dbg_model.specs.State.{State}
 use Rattle.dbg_model.specs.Watches.{risen}

@@ -2,14 +2,14 @@ use Rattle.std.proofs.Common.{◌≡◌, ◌-◌, ◌+◌, List, sym, ap, ◌∙
 use Rattle.std.specs.Prelude.{length, map, vec_len, vec_capacity}
 use Rattle.break_table.specs.Table.{Table}
 use Rattle.break_table.specs.Text.{is_place}
-use Rattle.engine_facts.specs.Minds.{awaited}
+use Rattle.engine_moves.specs.Minds.{awaited}
 use Rattle.std.specs.Vec.{with_items}
 use Rattle.std.proofs.lemmas.List.{with_items_is}
 use Rattle.dbg_model.specs.Lawful.{may_do}
-use Rattle.engine_facts.specs.declared.mind.Mind.{Mind}
-use Rattle.engine_facts.specs.Seen.{Run, seen}
-use Rattle.engine_facts.specs.Facts.{Facts}
-use Rattle.engine_facts.proofs.Breaking.{are_planted}
+use Rattle.engine_moves.specs.declared.mind.Mind.{Mind}
+use Rattle.engine_moves.specs.Seen.{Run, seen}
+use Rattle.engine_moves.specs.Facts.{Facts}
+use Rattle.engine_moves.proofs.Breaking.{are_planted}
 use Rattle.engine_moves.specs.Calls.{Lines}
 use Rattle.dbg_effects.specs.Effect.{change_of}
 use Rattle.engine_moves.specs.Changing.{Makes}

@@ -2,7 +2,7 @@ use Rattle.std.proofs.Common.{◌+◌, ◌-◌, refl, ap, ◌∙◌, subst, arit
 use Rattle.std.specs.Prelude.{slice_get, slice_set, vec_len, vec_capacity}
 use Rattle.std.proofs.lemmas.Option.{slice_get_within}
 use Rattle.hart_machine.specs.Slices.{TakesSlice}
-use Rattle.engine_facts.specs.Seen.{Run}
+use Rattle.engine_moves.specs.Seen.{Run}
 use Rattle.engine_moves.specs.Several.{lengthened_by}
 use Rattle.dbg_engine.specs.EngineInside.{run_of}
 use Rattle.engine_moves.proofs.Aheads.{small_of}

@@ -2,8 +2,8 @@ use Rattle.std.proofs.Common.{◌≡◌, true, false, sym, ap, ◌∙◌, rules}
 use Rattle.text_words.specs.Words.{is_planted}
 use Rattle.step_over.specs.declared.phase.Phase.TheVariants as phase
 use Rattle.dbg_model.specs.Judging.{is_due}
-use Rattle.engine_facts.specs.Minds.{is_active}
-use Rattle.engine_facts.specs.Seen.{Run}
+use Rattle.engine_moves.specs.Minds.{is_active}
+use Rattle.engine_moves.specs.Seen.{Run}
 use Rattle.engine_moves.specs.Rows.{row_idle}
 use Rattle.engine_moves.proofs.Holds.{unheld}
 use Rattle.engine_moves.proofs.Rows.{row_arrives, row_steps, row_idles}

@@ -1,7 +1,7 @@
 use Rattle.std.proofs.Common.{subst}
-use Rattle.engine_facts.specs.Seen.{Run}
-use Rattle.engine_facts.specs.Facts.{OneLifted}
-use Rattle.engine_facts.proofs.Holding.{one_lifted}
+use Rattle.engine_moves.specs.Seen.{Run}
+use Rattle.engine_moves.specs.Facts.{OneLifted}
+use Rattle.engine_moves.proofs.Holding.{one_lifted}
 use Rattle.dbg_engine.specs.EngineInside.{run_of}
 use Rattle.dbg_engine.proofs.engine.Engine.hold.Goals as goal
 

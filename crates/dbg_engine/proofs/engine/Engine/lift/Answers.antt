@@ -2,10 +2,10 @@ use Rattle.std.proofs.Common.{◌≡◌, ◌<◌, sym, ap, ◌∙◌, subst, tru
 use Rattle.std.specs.Prelude.{Some, slice_set}
 use Rattle.std.proofs.lemmas.Option.{get_or_from_slice_get}
 use Rattle.step_over.specs.declared.phase.Phase.TheVariants.{Lifted}
-use Rattle.engine_facts.specs.declared.mind.Mind.{Mind}
-use Rattle.engine_facts.specs.Minds.{with_phase}
+use Rattle.engine_moves.specs.declared.mind.Mind.{Mind}
+use Rattle.engine_moves.specs.Minds.{with_phase}
 use Rattle.dbg_model.specs.State.{is_off}
-use Rattle.engine_facts.specs.Seen.{Run}
+use Rattle.engine_moves.specs.Seen.{Run}
 use Rattle.engine_moves.specs.Calls.{AtPlanted, Lifts}
 use Rattle.dbg_engine.specs.EngineInside.{run_of}
 use Rattle.engine_moves.proofs.Holds.{Moved, lifted, planted_shown}

@@ -1,5 +1,5 @@
 use Rattle.std.proofs.Common.{ap, ◌∙◌}
-use Rattle.engine_facts.specs.Seen.{Run}
+use Rattle.engine_moves.specs.Seen.{Run}
 use Rattle.engine_moves.proofs.Picks.{next_by}
 use Rattle.dbg_engine.proofs.engine.Engine.next_running.Goals as goal
 

@@ -3,15 +3,15 @@ use Rattle.std.specs.Prelude.{Some, slice_get, slice_set, vec_len, vec_capacity}
 use Rattle.break_table.specs.Table.{Table}
 use Rattle.break_table.specs.Text.{is_place}
 use Rattle.dbg_model.specs.Lawful.{may_go}
-use Rattle.engine_facts.specs.declared.mind.Mind.{Mind}
-use Rattle.engine_facts.specs.Minds.{awaited, counted_mind}
-use Rattle.engine_facts.specs.Seen.{Run, seen}
-use Rattle.engine_facts.proofs.Awaiting.{waits_same}
-use Rattle.engine_facts.proofs.Breaking.{are_planted}
+use Rattle.engine_moves.specs.declared.mind.Mind.{Mind}
+use Rattle.engine_moves.specs.Minds.{awaited, counted_mind}
+use Rattle.engine_moves.specs.Seen.{Run, seen}
+use Rattle.engine_moves.proofs.Awaiting.{waits_same}
+use Rattle.engine_moves.proofs.Breaking.{are_planted}
 use Rattle.dbg_engine.specs.EngineInside.{run_of}
 use Rattle.std.proofs.lemmas.Option.{slice_get_within}
-use Rattle.engine_facts.specs.Facts.{wanted}
-use Rattle.engine_facts.specs.Tables.{ArePlanted}
+use Rattle.engine_moves.specs.Facts.{wanted}
+use Rattle.engine_moves.specs.Tables.{ArePlanted}
 use Rattle.engine_moves.specs.Changing.{wants_by}
 use Rattle.engine_moves.specs.Calls.{Counts, Of, DueIs}
 use Rattle.engine_moves.proofs.Holds.{Moved, Noted, Settles, counted, planted_shown, wanted_text}

@@ -2,11 +2,11 @@ use Rattle.std.proofs.Common.{◌≡◌, ◌-◌, ◌+◌, List, length, map, sy
 use Rattle.std.specs.Prelude.{Some, slice_get, slice_set, vec_len, vec_capacity}
 use Rattle.break_table.specs.Table.{Table}
 use Rattle.dbg_model.specs.Lawful.{may_go}
-use Rattle.engine_facts.specs.declared.mind.Mind.{Mind}
-use Rattle.engine_facts.specs.Minds.{awaited, first_mind}
-use Rattle.engine_facts.specs.Seen.{Run, seen}
-use Rattle.engine_facts.specs.Facts.{other_holder}
-use Rattle.engine_facts.proofs.Breaking.{are_planted}
+use Rattle.engine_moves.specs.declared.mind.Mind.{Mind}
+use Rattle.engine_moves.specs.Minds.{awaited, first_mind}
+use Rattle.engine_moves.specs.Seen.{Run, seen}
+use Rattle.engine_moves.specs.Facts.{other_holder}
+use Rattle.engine_moves.proofs.Breaking.{are_planted}
 use Rattle.dbg_engine.specs.EngineInside.{run_of}
 use Rattle.engine_moves.specs.Calls.{Interrupts, Undue}
 use Rattle.engine_moves.proofs.Holds.{Moved, interrupted}

@@ -1,7 +1,7 @@
 use Rattle.std.proofs.Common.{◌+◌, ◌-◌, sym, ap, ◌∙◌, subst, arith}
 use Rattle.hart_machine.specs.Patched.{Patched}
-use Rattle.engine_facts.specs.Seen.{Run}
-use Rattle.engine_facts.specs.Facts.{Facts}
+use Rattle.engine_moves.specs.Seen.{Run}
+use Rattle.engine_moves.specs.Facts.{Facts}
 use Rattle.std.specs.Prelude.{slice_set, vec_len, vec_capacity}
 use Rattle.engine_moves.specs.Several.{lengthened_by}
 use Rattle.dbg_engine.specs.EngineInside.{run_of}

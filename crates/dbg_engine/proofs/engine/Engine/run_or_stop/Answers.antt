@@ -1,6 +1,6 @@
 use Rattle.std.proofs.Common.{subst}
 use Rattle.dbg_model.specs.declared.entry.Why.TheVariants.{Fault}
-use Rattle.engine_facts.specs.Seen.{Run}
+use Rattle.engine_moves.specs.Seen.{Run}
 use Rattle.engine_moves.specs.Calls.{Halts}
 use Rattle.engine_moves.proofs.Rows.{halts_behind}
 use Rattle.dbg_engine.proofs.engine.Engine.run_or_stop.Goals as goal

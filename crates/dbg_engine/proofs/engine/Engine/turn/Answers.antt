@@ -1,9 +1,9 @@
 use Rattle.std.proofs.Common.{◌≡◌, true, sym, ap, ◌∙◌, subst, rules}
 use Rattle.dbg_model.specs.Lawful.{may_go}
-use Rattle.engine_facts.specs.declared.mind.Activity.TheVariants as activity
-use Rattle.engine_facts.specs.Minds.{is_before}
-use Rattle.engine_facts.specs.Seen.{Run, seen}
-use Rattle.engine_facts.specs.Facts.{Sound, other_holder}
+use Rattle.engine_moves.specs.declared.mind.Activity.TheVariants as activity
+use Rattle.engine_moves.specs.Minds.{is_before}
+use Rattle.engine_moves.specs.Seen.{Run, seen}
+use Rattle.engine_moves.specs.Facts.{Sound, other_holder}
 use Rattle.engine_moves.proofs.Rows.{row_waits, row_finishes}
 use Rattle.dbg_engine.proofs.engine.Engine.turn.Goals as goal
 

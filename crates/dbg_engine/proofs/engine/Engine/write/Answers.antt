@@ -4,7 +4,7 @@ use Rattle.dbg_model.specs.Lawful.{may_do}
 use Rattle.dbg_model.specs.Outcome.{pokes}
 use Rattle.dbg_model.specs.declared.entry.Entry.{Entry}
 use Rattle.dbg_model.specs.declared.entry.Entry.TheVariants.{Poked}
-use Rattle.engine_facts.specs.Seen.{Run, seen}
+use Rattle.engine_moves.specs.Seen.{Run, seen}
 use Rattle.engine_moves.specs.Calls.{Lines}
 use Rattle.engine_moves.specs.Changing.{Makes}
 use Rattle.dbg_engine.specs.EngineInside.{run_of}

@@ -1,7 +1,7 @@
 use Rattle.std.proofs.Common.{subst}
-use Rattle.dbg_session.specs.Left.{IsLeft}
+use Rattle.session_facts.specs.Left.{IsLeft}
 use Rattle.session_facts.specs.Seen.{Seen}
-use Rattle.dbg_session.proofs.Leaving.{left}
+use Rattle.session_facts.proofs.Leaving.{left}
 use Rattle.dbg_session.proofs.session.Session.close.Goals as goal
 
 pub returns-clause-closed : goal.returns-clause-closed

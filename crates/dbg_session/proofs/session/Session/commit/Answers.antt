@@ -1,7 +1,7 @@
 use Rattle.std.proofs.Common.{◌≡◌, ◌<◌, ◌≤◌, ◌∙◌, ap, sym, subst, refl, arith}
 use Rattle.std.specs.Prelude.{Option, None}
 use mathlib.Core.Logic.{inl}
-use Rattle.engine_facts.specs.Seen.{Run}
+use Rattle.engine_moves.specs.Seen.{Run}
 use Rattle.engine_moves.specs.Several.{lengthened_by}
 use Rattle.engine_moves.specs.Slicing.{CanTake}
 use Rattle.engine_moves.proofs.Quiet.{ran_quiet}

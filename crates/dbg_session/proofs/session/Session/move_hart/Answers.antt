@@ -1,7 +1,7 @@
 use Rattle.std.proofs.Common.{◌≡◌, ◌∙◌, length, subst, refl, ap, arith}
 use Rattle.std.specs.Prelude.{None, Some, false}
 use Rattle.dbg_model.specs.Lawful.{may_go}
-use Rattle.engine_facts.specs.Seen.{seen}
+use Rattle.engine_moves.specs.Seen.{seen}
 use Rattle.session_facts.specs.declared.status.Status.TheVariants as status
 use Rattle.session_facts.specs.declared.turn.Turn.TheVariants as turn
 use Rattle.session_facts.specs.Ties.{IsTied}

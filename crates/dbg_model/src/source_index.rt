@@ -1,0 +1,93 @@
+ghost use Rattle.std.specs.Prelude.{◌≡◌, IfOk, codes};
+ghost use Rattle.line_rows.specs.Sections.{sections_shown};
+ghost use Rattle.dbg_model.specs.Sources.{line_sections, section_bytes, sources_of};
+
+use dbg_traits::NoMemory;
+use dwarf_frames::FrameIndex;
+use dwarf_lines::rows;
+use elf_symbols::{Symbols, symbols};
+use elf32_read::Image;
+use line_index::LineIndex;
+use line_rows::LineSections;
+use std::alloc::Global;
+use std::marker::Model;
+
+/// The symbols, the line tables and the frames of a program. Contracts see it as `Sources`.
+#[derive(Drop)]
+pub struct SourceIndex {
+    symbols: Symbols,
+    lines: LineIndex,
+    frames: FrameIndex,
+}
+
+impl Model for SourceIndex {
+    ghost use Rattle.dbg_model.specs.Sources.{Sources};
+
+    ghost Value = { Sources };
+
+    ghost view = { λ i. record { names = i.symbols; lines = i.lines; frames = i.frames } };
+}
+
+// The bytes of the first section of a name, and nothing where there is no such section.
+fn section_bytes<'a>(image: &'a Image, name: &[u8]) -> &'a [u8]
+    ensures { result.now ≡ section_bytes image.now name.now }
+{
+    match image.section(name) {
+        Some(bytes) => bytes,
+        None => &[],
+    }
+}
+
+fn line_sections(image: &Image) -> LineSections<'_>
+    ensures { sections_shown result ≡ line_sections image.now }
+{
+    LineSections {
+        line: section_bytes(image, b".debug_line"),
+        line_str: section_bytes(image, b".debug_line_str"),
+        strs: section_bytes(image, b".debug_str"),
+    }
+}
+
+impl SourceIndex {
+    /// The index of a program. It takes n log n time in the symbols, the line rows and the frame entries. A unit of
+    /// `.debug_line` with a fault gives no rows, and a fault of `.debug_frame` is met where frames are looked up: no file
+    /// is refused for them.
+    ///
+    /// # Errors
+    /// No memory for the tables.
+    #[tactic(auto, unfolding(crate::specs::Sources::sources_of))]
+    pub fn build(alloc: Global, image: &Image) -> Result<SourceIndex, NoMemory>
+        ensures { IfOk result (λ index. index ≡ sources_of image.now) }
+    {
+        let symbols = symbols(alloc, image)?;
+        let rows = rows(alloc, &line_sections(image))?;
+        let lines = LineIndex::build(alloc, rows, &symbols, image)?;
+        let frames = FrameIndex::build(alloc, section_bytes(image, b".debug_frame"))?;
+        Ok(SourceIndex {
+            symbols,
+            lines,
+            frames,
+        })
+    }
+
+    /// The symbols of the program.
+    pub fn symbols(&self) -> &Symbols
+        ensures { result.now ≡ self.now.names }
+    {
+        &self.symbols
+    }
+
+    /// The line tables of the program.
+    pub fn lines(&self) -> &LineIndex
+        ensures { result.now ≡ self.now.lines }
+    {
+        &self.lines
+    }
+
+    /// The call frame information of the program.
+    pub fn frames(&self) -> &FrameIndex
+        ensures { result.now ≡ self.now.frames }
+    {
+        &self.frames
+    }
+}

@@ -1,9 +1,0 @@
-use Rattle.std.proofs.Common.{length, ◌-◌, ◌≡◌}
-use Rattle.dbg_traits.specs.Script.{bytes_before}
-use Rattle.dbg_traits.proofs.script.next_place.Given as goal
-
-abbrev pub invariant-loop-place : goal.invariant-loop-place
-invariant-loop-place l = bytes_before l.script l.place ≡ bytes_before l.script l.initial.place
-
-abbrev pub decreases-loop-place : goal.decreases-loop-place
-decreases-loop-place l = length l.script - l.place.cue

@@ -1,6 +1,0 @@
-//! Numbers in the memory that a view shows.
-#![tactic(auto)]
-
-mod numbers;
-
-pub use numbers::number_at;
