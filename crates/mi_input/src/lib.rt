@@ -8,6 +8,6 @@ mod lines;
 mod parts;
 mod word;
 
-pub use line_parts::split;
+pub use line_parts::{parts_read_is_grammar, split};
 pub use lines::next_line;
 pub use parts::{InputFault, Parts, Word};

@@ -1,11 +1,11 @@
 //! A line, split into its parts.
 
-ghost use Rattle.std.specs.Prelude.{◌≡◌, ◌≤◌, length, take_while, true};
+ghost use Rattle.std.specs.Prelude.{◌≡◌, ◌≤◌, ℕ, List, Some, length, take_while, true};
 ghost use Rattle.mi_text.specs.Digits.{is_digit};
 ghost use Rattle.mi_text.specs.Token.{is_token};
 ghost use Rattle.mi_input.specs.Parts.{PartsView, HasParts, is_operation_byte, token_of, behind_token};
 ghost use Rattle.mi_input.specs.Split.{Splits, GivesParts, ReadsCommand};
-ghost use Rattle.mi_input.specs.Reading.{Reads};
+ghost use Rattle.mi_input.specs.Reading.{Reads, parts_read};
 
 use crate::parts::{InputFault, Parts, Word};
 use crate::word::{after_blanks, is_parted, words};
@@ -108,3 +108,10 @@ pub fn split(alloc: Global, line: &[u8]) -> Result<Parts, InputFault>
 {
     split_line(alloc, line)
 }
+
+/// A law: the parts of a line as a function of it are its parts by the grammar, and it has no others.
+#[tactic(auto, using(crate::proofs::Reading::parts_sound, crate::proofs::Reading::parts_complete))]
+pub fn parts_read_is_grammar()
+    ensures sound { (line : List ℕ) (p : PartsView) → parts_read line ≡ Some p → HasParts line p }
+    ensures complete { (line : List ℕ) (p : PartsView) → HasParts line p → parts_read line ≡ Some p }
+{}

@@ -2,3 +2,4 @@ pub mod Kept
 pub mod Spelled
 pub mod Symbols
 pub mod Texts
+pub mod Decoding

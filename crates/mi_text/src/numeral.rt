@@ -1,6 +1,6 @@
 //! Numbers, as they are written.
 
-ghost use Rattle.std.specs.Prelude.{◌≡◌, ◌<◌, ◌++◌, decimal, OnOk};
+ghost use Rattle.std.specs.Prelude.{◌≡◌, ◌<◌, ◌++◌, decimal, OnErr, OnOk};
 ghost use Rattle.mi_text.specs.Numeral.{hex_digit, address_text, exit_code, signed_text, worth_text};
 
 use itoa::Buffer;
@@ -32,9 +32,10 @@ pub fn address_text(n: u32) -> [u8; 10]
     ]
 }
 
-/// Puts a number in decimal at the end.
+/// Puts a number in decimal at the end. Out of memory, the one error, nothing is put.
 pub fn write_decimal(n: u64, into: &mut Vec<u8>) -> Result<(), AllocError>
-    ensures { OnOk result (into.new.items ≡ into.old.items ++ decimal n) }
+    ensures written { OnOk result (into.new.items ≡ into.old.items ++ decimal n) }
+    ensures unchanged { OnErr result (into.new.items ≡ into.old.items) }
 {
     let mut buffer = Buffer::new();
     into.extend_from_slice(buffer.format(n).as_bytes())
@@ -42,18 +43,25 @@ pub fn write_decimal(n: u64, into: &mut Vec<u8>) -> Result<(), AllocError>
 
 // Puts a word at the end as a number by its sign.
 fn write_signed(word: u32, into: &mut Vec<u8>) -> Result<(), AllocError>
-    ensures { OnOk result (into.new.items ≡ into.old.items ++ signed_text word) }
+    ensures written { OnOk result (into.new.items ≡ into.old.items ++ signed_text word) }
+    ensures unchanged { OnErr result (into.new.items ≡ into.old.items) }
 {
     if word < 0x8000_0000 {
         return write_decimal(u64::from(word), into);
     }
-    into.extend_from_slice(b"-")?;
-    write_decimal(0x1_0000_0000 - u64::from(word), into)
+    let before = into.len();
+    into.push(b'-')?;
+    let written = write_decimal(0x1_0000_0000 - u64::from(word), into);
+    if written.is_err() {
+        into.truncate(before);
+    }
+    written
 }
 
-/// Puts a word at the end as a number, by whether it is unsigned.
+/// Puts a word at the end as a number, by whether it is unsigned. Out of memory, the one error, nothing is put.
 pub fn write_worth(word: u32, unsigned: bool, into: &mut Vec<u8>) -> Result<(), AllocError>
-    ensures { OnOk result (into.new.items ≡ into.old.items ++ worth_text word unsigned) }
+    ensures written { OnOk result (into.new.items ≡ into.old.items ++ worth_text word unsigned) }
+    ensures unchanged { OnErr result (into.new.items ≡ into.old.items) }
 {
     if unsigned {
         return write_decimal(u64::from(word), into);
@@ -61,10 +69,11 @@ pub fn write_worth(word: u32, unsigned: bool, into: &mut Vec<u8>) -> Result<(), 
     write_signed(word, into)
 }
 
-/// Puts an exit code at the end: `0` and octal digits without leading zeros.
+/// Puts an exit code at the end: `0` and octal digits without leading zeros. Out of memory, the one error, nothing is put.
 #[tactic(auto, unfolding(crate::specs::Numeral::exit_code))]
 pub fn write_exit_code(code: u8, into: &mut Vec<u8>) -> Result<(), AllocError>
-    ensures { OnOk result (into.new.items ≡ into.old.items ++ exit_code code) }
+    ensures written { OnOk result (into.new.items ≡ into.old.items ++ exit_code code) }
+    ensures unchanged { OnErr result (into.new.items ≡ into.old.items) }
 {
     if code < 8 {
         return into.extend_from_slice(&[b'0', 48 + code]);
