@@ -55,12 +55,12 @@ use Rattle.dbg_model.specs.Steps.{caller_at, finish_plan, finish_step, line_plan
 use Rattle.dbg_model.specs.Watchpoints.{adding, all_read, are_data, watch, watch_room, watched, watched_as}
 use Rattle.dbg_model.specs.Writes.{none_unwritable, set_register, settable}
 use Rattle.dbg_model.specs.Command.{asked_reply, reply}
-use Rattle.dbg_model.specs.Refusals.{Judges, absent, absent_from_both, against, against_asked, against_evaluate, against_insert, against_live, against_named, against_running, against_step, against_stopped, against_target, against_watch, failed, has_exited, is_stopped, kind_number, no_data, no_plan, no_text, no_value, number, runs, unknown, unreadable, unwatched_bytes, unwritable, when}
+use Rattle.dbg_model.specs.Refusals.{Judges, absent, absent_from_both, against, against_asked, against_evaluate, against_insert, against_live, against_named, against_running, against_step, against_stopped, against_target, against_watch, failed, is_exited_view, is_stopped_view, kind_number, no_data, no_plan, no_text, no_value, number, is_running_view, unknown, unreadable, unwatched_bytes, unwritable, when}
 use Rattle.dbg_answers.proofs.Tests.{From, UpTo, alone, both_from, chain, ensured_judged, ensured_up, failed_judged, first, less_from, none_from, one_from, then_done, up_then, when_from}
 
 -- ---- threads
 
-live_by : (sources : Sources) (t : ℕ) (x : Option ThreadView) → Judges (live_as sources t x) (when (not (is_some x)) (UnknownThread t) ++ when (has_exited x) (HasExited t))
+live_by : (sources : Sources) (t : ℕ) (x : Option ThreadView) → Judges (live_as sources t x) (when (not (is_some x)) (UnknownThread t) ++ when (is_exited_view x) (HasExited t))
 live_by sources t None = alone _
 live_by sources t (Some (view.Stopped r)) = refl
 live_by sources t (Some view.Running) = refl
@@ -69,7 +69,7 @@ live_by sources t (Some view.Exited) = alone _
 live_judged : (s : Sight) (t : ℕ) → Judges (live s t) (against_live s t)
 live_judged s t = live_by s.sources t (thread_at s.threads t)
 
-stopped_by : (t : ℕ) (x : Option ThreadView) → Judges (stopped_as t x) ((when (not (is_some x)) (UnknownThread t) ++ when (has_exited x) (HasExited t)) ++ when (runs x) (IsRunning t))
+stopped_by : (t : ℕ) (x : Option ThreadView) → Judges (stopped_as t x) ((when (not (is_some x)) (UnknownThread t) ++ when (is_exited_view x) (HasExited t)) ++ when (is_running_view x) (IsRunning t))
 stopped_by t None = alone _
 stopped_by t (Some (view.Stopped r)) = refl
 stopped_by t (Some view.Running) = alone _
@@ -78,7 +78,7 @@ stopped_by t (Some view.Exited) = alone _
 stopped_judged : (s : Sight) (t : ℕ) → Judges (stopped s t) (against_stopped s t)
 stopped_judged s t = stopped_by t (thread_at s.threads t)
 
-running_by : (t : ℕ) (x : Option ThreadView) → Judges (running_as t x) ((when (not (is_some x)) (UnknownThread t) ++ when (has_exited x) (HasExited t)) ++ when (is_stopped x) (NotRunning t))
+running_by : (t : ℕ) (x : Option ThreadView) → Judges (running_as t x) ((when (not (is_some x)) (UnknownThread t) ++ when (is_exited_view x) (HasExited t)) ++ when (is_stopped_view x) (NotRunning t))
 running_by t None = alone _
 running_by t (Some (view.Stopped r)) = alone _
 running_by t (Some view.Running) = refl

@@ -12,15 +12,14 @@ ghost use Rattle.dbg_answers.specs.Debuggee.{seen};
 ghost use Rattle.dbg_answers.specs.Answer.{Gives, GivesAs, outcome_of};
 
 use crate::answer::{Answer, Failure, doing, showing};
-use crate::bytes::bytes_of;
 use crate::debuggee::Debuggee;
 use crate::expressions::condition;
-use crate::frames::{function_name, source_line};
 use break_table::{BreakEntry, Location as PlaceText, Spec};
 use cond_expr::Expr;
 use dbg_effects::Effect;
 use dbg_model::{
     Breakpoint, Content, MOST_BREAKPOINTS, Obstacle, Refused, Row, RowList, SourceIndex, Watch,
+    bytes_of, function_name, source_line,
 };
 use mi_commands::{ByteList, Insertion, Location, NumberList};
 use std::alloc::{AllocError, Global};

@@ -1,80 +1,19 @@
+// The frames of a thread.
 ghost use Rattle.std.specs.Prelude.{◌≡◌, IfOk, map};
 ghost use Rattle.frame_walk.specs.Frames.{frames_of};
 ghost use Rattle.dbg_model.specs.Views.{register, shown_byte};
-ghost use Rattle.dbg_model.specs.Places.{function_name, line_of_row, place_frame, source_line};
 ghost use Rattle.dbg_model.specs.Frames.{frame_depth, frame_info, frame_list, frame_shown};
 ghost use Rattle.dbg_answers.specs.Debuggee.{seen};
 ghost use Rattle.dbg_answers.specs.Answer.{Gives};
 
 use crate::answer::{Answer, Failure, showing};
-use crate::bytes::bytes_of;
 use crate::debuggee::Debuggee;
 use crate::view::SeenHart;
 use arrayvec::ArrayVec;
-use dbg_model::{Content, FrameList, ShownFrame, SourceIndex, SourceLine};
+use dbg_model::{Content, FrameList, ShownFrame, SourceIndex, shown_frame};
 use frame_walk::{Frame, walk};
-use line_index::LineIndex;
-use line_rows::Row;
-use mi_commands::ByteList;
 use rv_exec::Regs;
 use std::alloc::{AllocError, Global};
-
-// ---- places in the source
-
-/// The name of the function that an address lies in.
-pub fn function_name(
-    alloc: Global,
-    sources: &SourceIndex,
-    address: u32,
-) -> Result<Option<ByteList>, AllocError>
-    ensures { IfOk result (λ name. name ≡ function_name sources.now address) }
-{
-    let function = sources.symbols().function_at(address);
-    function
-        .map(|named| bytes_of(alloc, named.name))
-        .transpose()
-}
-
-fn line_of_row(alloc: Global, lines: &LineIndex, row: Row) -> Result<SourceLine, AllocError>
-    ensures { IfOk result (λ line. line ≡ line_of_row lines.now row) }
-{
-    Ok(SourceLine {
-        file: bytes_of(alloc, lines.file_name(row.file))?,
-        line: row.line,
-    })
-}
-
-/// The line of the source that an address belongs to.
-pub fn source_line(
-    alloc: Global,
-    sources: &SourceIndex,
-    address: u32,
-) -> Result<Option<SourceLine>, AllocError>
-    ensures { IfOk result (λ line. line ≡ source_line sources.now address) }
-{
-    let row = sources.lines().row_at(address);
-    row.map(|row| line_of_row(alloc, sources.lines(), row))
-        .transpose()
-}
-
-/// A frame at an address, with the function and the line of another one: a frame that called one is looked up before its
-/// address.
-pub fn shown_frame(
-    alloc: Global,
-    sources: &SourceIndex,
-    address: u32,
-    lookup: u32,
-) -> Result<ShownFrame, AllocError>
-    ensures { IfOk result (λ f. f ≡ place_frame sources.now address lookup) }
-{
-    Ok(ShownFrame {
-        address,
-        function: function_name(alloc, sources, lookup)?,
-        source: source_line(alloc, sources, lookup)?,
-    })
-}
-
-// ---- the frames of a thread
 
 // The frames of a hart, the innermost first.
 fn frames_of(debuggee: &Debuggee<'_>, regs: &Regs) -> ArrayVec<Frame, 64>

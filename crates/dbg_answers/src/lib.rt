@@ -3,7 +3,6 @@
 
 mod answer;
 mod breakpoints;
-mod bytes;
 mod command;
 mod debuggee;
 mod each;
@@ -24,7 +23,6 @@ mod writing;
 pub use answer::Answer;
 pub use command::answer_command;
 pub use debuggee::Debuggee;
-pub use frames::shown_frame;
 pub use line::{LineAnswer, answer_fault, answer_line, read_line, waits};
 pub use view::SeenHart;
 pub use writing::is_settable;

@@ -2,8 +2,7 @@ ghost use Rattle.std.specs.Prelude.{◌≡◌, IfOk, map};
 ghost use Rattle.std.specs.Option.{option_map};
 ghost use Rattle.dbg_answers.specs.Live.{frame_at, live_shown, live_thread};
 
-use crate::frames::shown_frame;
-use dbg_model::{ShownFrame, SourceIndex, Thread, ThreadView};
+use dbg_model::{ShownFrame, SourceIndex, Thread, ThreadView, shown_frame};
 use rv_exec::Regs;
 use std::alloc::{AllocError, Global};
 

@@ -6,11 +6,10 @@ ghost use Rattle.dbg_answers.specs.Debuggee.{seen};
 ghost use Rattle.dbg_answers.specs.Answer.{Gives, GivesAs};
 
 use crate::answer::{Answer, Failure};
-use crate::bytes::bytes_of;
 use crate::debuggee::Debuggee;
 use data_memory::DataMemory;
 use dbg_effects::Effect;
-use dbg_model::{Content, MOST_WATCHES, Obstacle, Refused};
+use dbg_model::{Content, MOST_WATCHES, Obstacle, Refused, bytes_of};
 use elf_symbols::Symbols;
 use mi_commands::ByteList;
 use std::alloc::Global;

@@ -10,7 +10,7 @@ use Rattle.step_plans.specs.declared.plan.Plan.{Plan}
 use Rattle.hart_machine.specs.declared.hart.Core.{Core}
 use Rattle.hart_machine.specs.Patched.{Patched}
 use Rattle.hart_machine.specs.Stepping.{AreCounted, Steps, StepsTo, has_run}
-use Rattle.dbg_model.specs.Judging.{noted_with}
+use Rattle.dbg_model.specs.Courses.{noted_with}
 use Rattle.dbg_model.specs.Watches.{fired_by}
 use Rattle.dbg_model.specs.declared.watch.Fired.{Fired}
 use Rattle.engine_moves.specs.declared.mind.Hold.{Hold}
@@ -19,7 +19,7 @@ use Rattle.engine_moves.specs.Homecoming.{IsSlotted}
 use Rattle.engine_moves.specs.Minds.{ran_mind}
 use Rattle.engine_moves.specs.Moves.{HeldInText}
 use Rattle.engine_moves.specs.Seen.{Run}
-use Rattle.engine_moves.specs.Facts.{Sound}
+use Rattle.engine_moves.specs.Facts.{Sound, wants_of}
 use Rattle.engine_moves.proofs.Bounding.{Small}
 use Rattle.engine_moves.proofs.Stepping.{ran_of}
 use Rattle.engine_moves.specs.Steps.{Parts, applied}
@@ -77,10 +77,10 @@ pub parts_is : (s : Stepped) (h : ℕ) (z : Mind) (r : Run) (p : Parts) (xs : Li
 parts_is s h z r p xs d same is = is ∙ (ap (λ ys. applied s h z (record { journal = r.journal; minds = ys })) same ∙ applied_twice s h z (parts_of r) d)
 
 -- the engine then, where harts that left came home and this is noted
-pub ended : (s : Stepped) (r : Run) (h spare : ℕ) (x z : Mind) (new m : Patched) (hold : Option Hold) (xs ys : List Mind) (p : Parts) → Known s r h x z new → xs ≡ slice_set r.minds h z → HomedBy s new m r.hold hold r.breaks r.waits h z.phase xs
+pub ended : (s : Stepped) (r : Run) (h spare : ℕ) (x z : Mind) (new m : Patched) (hold : Option Hold) (xs ys : List Mind) (p : Parts) → Known s r h x z new → xs ≡ slice_set r.minds h z → HomedBy s (wants_of r) hold (record { hart = h; phase = z.phase; minds = xs }) new m
     → ys ≡ slice_set r.minds h z → p ≡ applied s h z (record { journal = r.journal; minds = ys }) → Executed s r (run_with r m p (noted_by s h z r.minds r.noted) hold spare) h z
 ended s r h spare x z new m hold xs ys p k same homed again is =
-    let H : List Mind → Type 0 = λ xs. HomedBy s new m r.hold hold r.breaks r.waits h z.phase xs in
-    let E : Mind → Type 0 = λ z. HomedBy s new m r.hold hold r.breaks r.waits h z.phase (slice_set r.minds h z) → p ≡ applied s h z (parts_of r) → Executed s r (run_with r m p (noted_by s h z r.minds r.noted) hold spare) h z in
+    let H : List Mind → Type 0 = λ xs. HomedBy s (wants_of r) hold (record { hart = h; phase = z.phase; minds = xs }) new m in
+    let E : Mind → Type 0 = λ z. HomedBy s (wants_of r) hold (record { hart = h; phase = z.phase; minds = slice_set r.minds h z }) new m → p ≡ applied s h z (parts_of r) → Executed s r (run_with r m p (noted_by s h z r.minds r.noted) hold spare) h z in
     let z' : Mind = ran_of r h k.core x new.memory in
     subst E (sym k.kept) (λ a b. executed_to s r h spare k.core x new m hold p (noted_by s h z' r.minds r.noted) k.done k.ready k.step a b refl) (subst H same homed) (parts_is s h z r p ys k.done again is)

@@ -23,6 +23,7 @@ run_of e = record {
   retired = e.retired;
   noted = e.noted;
   exited = e.exited;
+  temporary = e.temporary;
 }
 
 pub record Keeps (e : Inside) : Type 0 where

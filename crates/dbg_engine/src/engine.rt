@@ -29,6 +29,7 @@ mod line;
 mod loading;
 mod notes;
 mod run;
+mod showing;
 mod slicing;
 mod stepping;
 mod turn;
@@ -43,7 +44,6 @@ use engine_moves::homing::go_home_each;
 use engine_moves::minds::{all_gone, any_running, find_running, is_running};
 use engine_moves::patching::release;
 use engine_moves::views::views;
-use engine_moves::waiting::{Waiting, end_waits};
 use engine_moves::{Activity, Hold, Mind, Phase};
 use hart_machine::Machine;
 use loading::first_parts;
@@ -72,6 +72,7 @@ pub struct Engine {
     retired: u64,
     noted: u64,
     exited: bool,
+    temporary: bool,
 }
 
 impl Model for Engine {
@@ -120,6 +121,7 @@ impl Engine {
             retired: 0,
             noted: 0,
             exited: false,
+            temporary: false,
         })
     }
 
@@ -345,7 +347,8 @@ impl Engine {
         self.hold
     }
 
-    /// Ends it: each hart comes home from its slot, and a lifted patch is planted again where a breakpoint stands.
+    /// Ends it: each hart comes home from its slot, and a lifted patch is planted again where a breakpoint stands or a hart waits
+    /// for a return. Where running harts wait, patches stay planted.
     pub fn close(self) -> Closed
         ensures opening { result.opening ≡ self.opening }
         ensures journal { result.journal ≡ self.journal }
@@ -367,16 +370,10 @@ impl Engine {
             retired: _,
             noted: _,
             exited: _,
+            temporary: _,
         } = self;
         let mut machine = machine;
-        let mut table = table;
         go_home_each(&mut machine, minds.as_slice(), 0);
-        let waiting = Waiting {
-            image: &opening.image,
-            minds: minds.as_slice(),
-            hold,
-        };
-        end_waits(&mut machine, &mut table, &waiting);
         release(&mut machine, hold, &table);
         Closed {
             opening,

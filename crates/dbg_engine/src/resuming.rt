@@ -4,7 +4,6 @@ ghost use Rattle.dbg_effects.specs.Effect.{change_of};
 ghost use Rattle.engine_moves.specs.Resuming.{asked, forgetting, gone_on, minds_after};
 
 use dbg_effects::{Effect, on_threads};
-use dbg_model::unless_of;
 use engine_moves::{Activity, Mind, Phase};
 use step_plans::Plan;
 
@@ -15,10 +14,9 @@ fn gone_on(mind: Mind, plan: Plan) -> Mind
     match mind.activity {
         Activity::Stopped => Mind {
             activity: Activity::Running,
-            fresh: false,
             asked: false,
             phase: Phase::Idle,
-            plan,
+            course: mind.course.after_resume(plan),
             ..mind
         },
         Activity::Running | Activity::Exited => mind,
@@ -43,7 +41,7 @@ fn forgetting(mind: Mind, numbers: &[u32]) -> Mind
     ensures { result ≡ forgetting numbers.now mind }
 {
     Mind {
-        fired: unless_of(numbers, mind.fired),
+        course: mind.course.after_forgetting(numbers),
         ..mind
     }
 }

@@ -7,7 +7,7 @@ use Rattle.break_table.specs.Entry.{Entry}
 use Rattle.dbg_model.specs.Sources.{Sources}
 use Rattle.step_plans.specs.declared.plan.Plan.TheVariants as plans
 use Rattle.step_plans.specs.declared.plan.Verdict.TheVariants as verdicts
-use Rattle.dbg_model.specs.declared.judgement.Course.{Course}
+use Rattle.dbg_model.specs.declared.course.Course.{Course}
 use Rattle.dbg_model.specs.Judging.{judgement_of, no_arrival, verdict_behind}
 
 -- a hart without a plan goes on

@@ -24,15 +24,15 @@ use Rattle.dbg_model.specs.declared.entry.Entry.TheVariants.{Ran, Counted, Stopp
 use Rattle.dbg_model.specs.declared.opening.Opening.{Opening}
 use Rattle.dbg_model.specs.Breaks.{is_stop}
 use Rattle.step_plans.specs.declared.plan.Plan.{Plan}
-use Rattle.step_plans.specs.declared.plan.Plan.TheVariants as plans
 use Rattle.dbg_model.specs.declared.hart.Hart.{Hart}
+use Rattle.dbg_model.specs.Courses.{at_stop}
 use Rattle.dbg_model.specs.Judging.{ends_function, ends_step, fires, is_counted, is_due}
 use Rattle.dbg_model.specs.Watches.{fired_by, is_fired}
 use Rattle.dbg_model.specs.Pokes.{bytes_poked, is_pending, item_of, register_poked, with_poke, with_register, written}
 use Rattle.dbg_model.specs.State.{State, first_state, first_harts, is_running, is_stopped, due}
 use Rattle.dbg_model.specs.Outcome.{Change, deletes, enables, resumes, interrupts}
 use Rattle.dbg_model.specs.Reply.{done_by, answer_of, changed_by, resumed, resumed_by, asked_by, asked, forgetting, is_named, on_threads, harts_after}
-use Rattle.dbg_model.specs.Lawful.{enter, one, one_by, ran, may_run, may_move, may_go, may_do, stepped_by, stepped, leaving, leaving_at, with_leavers, with_stop, stopped, faulted_by, stopped_by, counted, counted_by, with_arrival, with_count, set_out, left_by, leaver_from, leaver_or, exited, exited_at, poked_by, with_step}
+use Rattle.dbg_model.specs.Lawful.{enter, one, one_by, ran, may_run, may_move, may_go, may_do, stepped_by, stepped, leaving, leaving_at, with_leavers, with_stop, stopped_hart, faulted_by, stopped_by, counted, counted_by, with_arrival, with_count, set_out, left_by, leaver_from, leaver_or, exited, exited_at, poked_by, with_step}
 use Rattle.dbg_model.specs.Journals.{Place, come, follows, ran_hart, replay_from, replay, first_place, Leaves}
 use Rattle.dbg_model.specs.Erase.{erase, erase_one}
 use Rattle.dbg_model.proofs.Options.{map_some, bind_some, guard_some, bind_bind, bind_return, same_some, both_true}
@@ -164,8 +164,8 @@ same_harts s harts noted t same is =
 fault_plain : (a : Answer) (cause : Cause) (s t : State) (h : ℕ) (x : Hart) → slice_get s.harts h ≡ Some x → is_gone x.mode ≡ false → faulted_by a cause s h x ≡ Some t → plain_of s ≡ plain_of t
 fault_plain (Traps met) cause s t h x at runs is =
     let g = guard_some (cause_number met == cause_number cause) (Some (with_stop s h x)) t is in
-    let same : plain_hart (stopped x) ≡ plain_hart x = ap (λ b. let y : PlainHart = record { regs = x.regs; has_exited = b } in y) (sym runs) in
-    same_harts s (slice_set s.harts h (stopped x)) (s.noted + 1) t (same_plain s.harts h x (stopped x) at same) (same_some (with_stop s h x) t g.1)
+    let same : plain_hart (stopped_hart x) ≡ plain_hart x = ap (λ b. let y : PlainHart = record { regs = x.regs; has_exited = b } in y) (sym runs) in
+    same_harts s (slice_set s.harts h (stopped_hart x)) (s.noted + 1) t (same_plain s.harts h x (stopped_hart x) at same) (same_some (with_stop s h x) t g.1)
 fault_plain (Goes r m out leave) cause s t h x at runs is = cc
 
 -- a hart stops where it has arrived
@@ -174,8 +174,8 @@ arrival_plain o s t h x stops at is =
     let u = with_arrival o s h x in
     let g = guard_some (may_move o s x && stops) (Some u) t is in
     let runs = runs_moves o s x (both_true (may_move o s x) stops g.0).0 in
-    let same : plain_hart (stopped x) ≡ plain_hart x = ap (λ b. let y : PlainHart = record { regs = x.regs; has_exited = b } in y) (sym runs) in
-    ap (λ ys. let p : PlainState = record { harts = ys; memory = s.memory; out = s.out } in p) (sym (same_plain s.harts h x (stopped x) at same)) ∙ ap plain_of (same_some u t g.1)
+    let same : plain_hart (stopped_hart x) ≡ plain_hart x = ap (λ b. let y : PlainHart = record { regs = x.regs; has_exited = b } in y) (sym runs) in
+    ap (λ ys. let p : PlainState = record { harts = ys; memory = s.memory; out = s.out } in p) (sym (same_plain s.harts h x (stopped_hart x) at same)) ∙ ap plain_of (same_some u t g.1)
 
 stop_plain : (o : Opening) (s t : State) (h : ℕ) (why : Why) (r : Option Hart) → slice_get s.harts h ≡ r → stopped_by o s h why r ≡ Some t → plain_of s ≡ plain_of t
 stop_plain o s t h (Break number error) None at is = cc
@@ -190,8 +190,8 @@ stop_plain o s t h Interrupted None at is = cc
 stop_plain o s t h Interrupted (Some x) at is =
     let g = guard_some (may_run o s h x && x.asked) (Some (with_stop s h x)) t is in
     let runs = runs_runs o s h x (both_true (may_run o s h x) x.asked g.0).0 in
-    let same : plain_hart (stopped x) ≡ plain_hart x = ap (λ b. let y : PlainHart = record { regs = x.regs; has_exited = b } in y) (sym runs) in
-    same_harts s (slice_set s.harts h (stopped x)) (s.noted + 1) t (same_plain s.harts h x (stopped x) at same) (same_some (with_stop s h x) t g.1)
+    let same : plain_hart (stopped_hart x) ≡ plain_hart x = ap (λ b. let y : PlainHart = record { regs = x.regs; has_exited = b } in y) (sym runs) in
+    same_harts s (slice_set s.harts h (stopped_hart x)) (s.noted + 1) t (same_plain s.harts h x (stopped_hart x) at same) (same_some (with_stop s h x) t g.1)
 stop_plain o s t h (Fault cause) None at is = cc
 stop_plain o s t h (Fault cause) (Some x) at is =
     let g = guard_some (may_run o s h x) (faulted_by (plain o.image x.regs s.memory) cause s h x) t is in
@@ -347,7 +347,7 @@ map-append f (x ∷ xs) ys = ap (λ t. f x ∷ t) (map-append f xs ys)
 start_harts : (p : Program) (harts n : ℕ) → machine.first_harts p harts n ≡ map plain_hart (first_harts p harts n)
 start_harts p harts zero = refl
 start_harts p harts (suc n) =
-    let x : Hart = record { regs = first_registers p.entry harts n; mode = mode.Stopped; fresh = false; asked = false; plan = plans.Free; last = None; fired = None } in
+    let x : Hart = record { regs = first_registers p.entry harts n; mode = mode.Stopped; asked = false; course = at_stop } in
     ap (λ t. t ++ plain_hart x ∷ []) (start_harts p harts n) ∙ sym (map-append plain_hart (first_harts p harts n) (x ∷ []))
 
 starts_plain : (o : Opening) → plain_start o.image o.settings.harts ≡ plain_of (first_state o)

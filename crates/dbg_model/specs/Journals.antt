@@ -1,8 +1,9 @@
 -- Which journals are lawful, and the state that one leaves.
-use Rattle.std.specs.Prelude.{◌≡◌, ℕ, ◌+◌, Bool, true, List, [], ◌∷◌, ◌++◌, Option, Some, None, option_and_then, if◌then◌else◌, ◌==◌, not}
+use Rattle.std.specs.Prelude.{◌≡◌, ℕ, ◌+◌, ◌-◌, Bool, true, List, [], ◌∷◌, ◌++◌, length, drop, Option, Some, None, option_and_then, if◌then◌else◌, ◌==◌, not}
 use Rattle.std.specs.Option.{option_map}
 use Rattle.dbg_model.specs.declared.entry.Entry.{Entry}
 use Rattle.dbg_model.specs.declared.entry.Entry.TheVariants.{Ran, Counted, Stopped, Left, Did, Poked}
+use Rattle.dbg_model.specs.declared.entry.Why.{Why}
 use Rattle.dbg_model.specs.declared.opening.Opening.{Opening}
 use Rattle.dbg_model.specs.State.{State, first_state}
 use Rattle.dbg_model.specs.Lawful.{enter}
@@ -110,3 +111,17 @@ noted_one (Poked p) = 1
 abbrev pub noted : List Entry → ℕ
 noted [] = 0
 noted (e ∷ es) = noted_one e + noted es
+
+-- the last n entries
+abbrev pub last_entries : ℕ → List Entry → List Entry
+last_entries n j = drop (length j - n) j
+
+-- why a hart stopped, where the last entry says that one did
+abbrev pub why_of : Entry → Option Why
+why_of (Stopped h why) = Some why
+why_of _ = None
+
+abbrev pub last_why : List Entry → Option Why
+last_why [] = None
+last_why (e ∷ []) = why_of e
+last_why (e ∷ f ∷ es) = last_why (f ∷ es)

@@ -13,8 +13,8 @@ use Rattle.step_plans.specs.declared.plan.Plan.{Plan}
 use Rattle.step_plans.specs.declared.plan.Plan.TheVariants as plans
 use Rattle.step_plans.specs.declared.plan.Verdict.{Verdict}
 use Rattle.step_plans.specs.declared.plan.Verdict.TheVariants as verdicts
-use Rattle.step_plans.specs.Verdicts.{asks, verdict}
-use Rattle.dbg_model.specs.declared.judgement.Course.{Course}
+use Rattle.step_plans.specs.Verdicts.{verdict}
+use Rattle.dbg_model.specs.declared.course.Course.{Course}
 use Rattle.dbg_model.specs.declared.judgement.Judgement.{Judgement}
 use Rattle.dbg_model.specs.declared.watch.Fired.{Fired}
 use Rattle.dbg_model.specs.Breaks.{nothing_due}
@@ -32,10 +32,6 @@ last_at p addr = option_map (λ i. record { instruction = i; address = addr }) (
 -- what becomes of a plan behind the instruction that was noted, with the registers as they are now
 unfoldable pub verdict_behind : Program → Sources → Plan → (ℕ → ℕ) → Option ℕ → Verdict
 verdict_behind p sources plan registers noted = verdict plan (option_and_then (last_at p) noted) registers sources.lines sources.names
-
--- the address of an instruction, which is noted where the plan asks for it
-abbrev pub noted_with : Plan → ℕ → Option ℕ
-noted_with plan pc = if asks plan then Some pc else None
 
 -- ---- the judgement
 

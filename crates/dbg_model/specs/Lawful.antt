@@ -14,14 +14,14 @@ use Rattle.dbg_model.specs.declared.entry.Why.TheVariants.{Break, Watch, Stepped
 use Rattle.dbg_model.specs.declared.entry.Entry.{Entry}
 use Rattle.dbg_model.specs.declared.entry.Entry.TheVariants.{Ran, Counted, Stopped, Left, Did, Poked}
 use Rattle.dbg_model.specs.declared.entry.Poke.{Poke}
-use Rattle.step_plans.specs.declared.plan.Plan.TheVariants as plans
 use Rattle.dbg_model.specs.declared.hart.Hart.{Hart}
 use Rattle.dbg_model.specs.declared.judgement.Judgement.{Judgement}
 use Rattle.dbg_model.specs.declared.opening.Opening.{Opening}
 use Rattle.dbg_model.specs.declared.watch.Fired.{Fired}
 use Rattle.dbg_model.specs.Limits.{history}
 use Rattle.dbg_model.specs.Breaks.{is_stop}
-use Rattle.dbg_model.specs.Judging.{ends_function, ends_step, fires, is_counted, is_due, noted_with, plan_after}
+use Rattle.dbg_model.specs.Courses.{after_count, after_instruction, at_stop, noted_with, with_plan}
+use Rattle.dbg_model.specs.Judging.{ends_function, ends_step, fires, is_counted, is_due, plan_after}
 use Rattle.break_table.specs.Table.{stands}
 use Rattle.dbg_model.specs.State.{State, is_running, has_exited, is_off, any_runs, any_leaves, due, arrived}
 use Rattle.dbg_model.specs.Watches.{fired_by, is_fired, risen}
@@ -47,11 +47,11 @@ may_run o s h x = may_move o s x && not (is_due (due o.image s h x))
 
 -- a hart goes on with the plan that its arrival gave it
 abbrev pub set_out : Judgement → Hart → Hart
-set_out j x = record x { plan = plan_after j.verdict }
+set_out j x = record x { course = with_plan (plan_after j.verdict) x.course }
 
 -- a hart after an instruction that left these registers, and made this watch fire
 abbrev pub stepped : Hart → Registers → Option Fired → Hart
-stepped x r fired = record x { regs = r; fresh = true; last = noted_with x.plan x.regs.pc; fired = fired }
+stepped x r fired = record x { regs = r; course = after_instruction (noted_with x.course.plan x.regs.pc) fired x.course }
 
 -- a live hart leaves
 abbrev pub leaving : ℕ → Hart → Hart
@@ -102,11 +102,11 @@ abbrev pub ran : Opening → ℕ → State → ℕ → Option State
 ran o h s zero = Some s
 ran o h s (suc n) = option_and_then (one o h) (ran o h s n)
 
-abbrev pub stopped : Hart → Hart
-stopped x = record x { mode = mode.Stopped; fresh = false; asked = false; plan = plans.Free; last = None; fired = None }
+abbrev pub stopped_hart : Hart → Hart
+stopped_hart x = record x { mode = mode.Stopped; asked = false; course = at_stop }
 
 abbrev pub with_stop : State → ℕ → Hart → State
-with_stop s h x = record s { harts = slice_set s.harts h (stopped x); noted = s.noted + 1 }
+with_stop s h x = record s { harts = slice_set s.harts h (stopped_hart x); noted = s.noted + 1 }
 
 -- the instruction traps with this cause
 abbrev pub faulted_by : Answer → Cause → State → ℕ → Hart → Option State
@@ -115,7 +115,7 @@ faulted_by (Goes r m out leave) cause s h x = None
 
 -- a hart stops where it has arrived, with the changes of the breakpoints there and of the watch that fired
 abbrev pub with_arrival : Opening → State → ℕ → Hart → State
-with_arrival o s h x = record (with_stop s h x) { breaks = arrived o.image s h x; watches = risen x.fired s.watches }
+with_arrival o s h x = record (with_stop s h x) { breaks = arrived o.image s h x; watches = risen x.course.fired s.watches }
 
 -- a hart stops: at a breakpoint that it has just come to, by a watch that fired, at the end of its step or of its function, by an interrupt that
 -- was asked, or by a trap
@@ -131,7 +131,7 @@ stopped_by o s h (Fault cause) (Some x) = if may_run o s h x then faulted_by (pl
 
 -- a hart that was counted has arrived, and isn't fresh any more
 abbrev pub counted : Hart → Hart
-counted x = record x { fresh = false }
+counted x = record x { course = after_count x.course }
 
 abbrev pub with_count : Opening → State → ℕ → Hart → State
 with_count o s h x = record s { harts = slice_set s.harts h (counted (set_out (due o.image s h x) x)); breaks = arrived o.image s h x; noted = s.noted + 1 }
@@ -142,10 +142,8 @@ counted_by o s h None = None
 counted_by o s h (Some x) = if may_move o s x && is_counted (due o.image s h x) then Some (with_count o s h x) else None
 
 abbrev pub leaver_or : ℕ → Mode → Option (ℕ × ℕ) → Option (ℕ × ℕ)
-leaver_or k mode.Stopped rest = rest
-leaver_or k mode.Running rest = rest
 leaver_or k (mode.Leaving code) rest = Some (k, code)
-leaver_or k mode.Exited rest = rest
+leaver_or k _ rest = rest
 
 -- the least hart that leaves, counted from k, with its code
 abbrev pub leaver_from : ℕ → List Hart → Option (ℕ × ℕ)

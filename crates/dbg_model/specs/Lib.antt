@@ -3,6 +3,7 @@ pub mod Breaks
 pub mod Views
 pub mod Judging
 pub mod Watches
+pub mod Courses
 pub mod WatchKept
 pub mod State
 pub mod Places
@@ -23,4 +24,5 @@ pub mod Lawful
 pub mod Journals
 pub mod Erase
 pub mod Leaving
+pub mod Shown
 pub mod Sources

@@ -88,32 +88,32 @@ abbrev pub failed : {A : Type 0} → Result A Refused → List Refused
 failed (Ok x) = []
 failed (Err r) = r ∷ []
 
-abbrev pub has_exited : Option ThreadView → Bool
-has_exited (Some view.Exited) = true
-has_exited _ = false
+abbrev pub is_exited_view : Option ThreadView → Bool
+is_exited_view (Some view.Exited) = true
+is_exited_view _ = false
 
-abbrev pub runs : Option ThreadView → Bool
-runs (Some view.Running) = true
-runs _ = false
+abbrev pub is_running_view : Option ThreadView → Bool
+is_running_view (Some view.Running) = true
+is_running_view _ = false
 
-abbrev pub is_stopped : Option ThreadView → Bool
-is_stopped (Some (view.Stopped r)) = true
-is_stopped _ = false
+abbrev pub is_stopped_view : Option ThreadView → Bool
+is_stopped_view (Some (view.Stopped r)) = true
+is_stopped_view _ = false
 
 abbrev pub unknown : Sight → ℕ → List Refused
 unknown s thread = when (not (is_some (thread_at s.threads thread))) (UnknownThread thread)
 
 -- against a thread that has to be live
 abbrev pub against_live : Sight → ℕ → List Refused
-against_live s thread = unknown s thread ++ when (has_exited (thread_at s.threads thread)) (HasExited thread)
+against_live s thread = unknown s thread ++ when (is_exited_view (thread_at s.threads thread)) (HasExited thread)
 
 -- against a thread that has to be stopped
 abbrev pub against_stopped : Sight → ℕ → List Refused
-against_stopped s thread = against_live s thread ++ when (runs (thread_at s.threads thread)) (IsRunning thread)
+against_stopped s thread = against_live s thread ++ when (is_running_view (thread_at s.threads thread)) (IsRunning thread)
 
 -- against a thread that has to run
 abbrev pub against_running : Sight → ℕ → List Refused
-against_running s thread = against_live s thread ++ when (is_stopped (thread_at s.threads thread)) (NotRunning thread)
+against_running s thread = against_live s thread ++ when (is_stopped_view (thread_at s.threads thread)) (NotRunning thread)
 
 -- against the threads of a target
 abbrev pub against_target : (ℕ → List Refused) → Sight → Target → List Refused

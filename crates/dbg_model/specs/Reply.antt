@@ -20,9 +20,10 @@ use Rattle.step_plans.specs.declared.plan.Plan.{Plan}
 use Rattle.dbg_model.specs.declared.hart.Hart.{Hart}
 use Rattle.dbg_model.specs.declared.opening.Opening.{Opening}
 use Rattle.dbg_model.specs.Breaks.{without, enabling}
+use Rattle.dbg_model.specs.Courses.{after_forgetting, after_resume}
 use Rattle.dbg_model.specs.Sight.{Sight, sight_of}
 use Rattle.dbg_model.specs.declared.watch.Watch.{Watch}
-use Rattle.dbg_model.specs.Watches.{new_watch, switched, unless_of, unwatched}
+use Rattle.dbg_model.specs.Watches.{new_watch, switched, unwatched}
 use Rattle.dbg_model.specs.Outcome.{Change, Outcome, adds_watch, conditions, deletes, displaces, enables, exits, ignores, inserts, interrupts, pokes, resumes, selects, told}
 use Rattle.dbg_model.specs.Command.{asked_reply}
 use Rattle.dbg_model.specs.State.{State, is_off}
@@ -70,7 +71,7 @@ is_wait line = if nat_lt 4096 (length line) then false else parts_wait (parts_re
 
 -- a stopped hart goes on with a plan
 abbrev pub resumed_by : Plan → Hart → Mode → Hart
-resumed_by plan x mode.Stopped = record x { mode = mode.Running; fresh = false; asked = false; plan = plan }
+resumed_by plan x mode.Stopped = record x { mode = mode.Running; asked = false; course = after_resume plan x.course }
 resumed_by plan x _ = x
 
 abbrev pub resumed : Plan → Hart → Hart
@@ -95,7 +96,7 @@ on_threads f threads n (x ∷ xs) = (if is_named threads n then f x else x) ∷ 
 
 -- a watch of these numbers has no longer fired for a hart
 abbrev pub forgetting : List ℕ → Hart → Hart
-forgetting ns x = record x { fired = unless_of ns x.fired }
+forgetting ns x = record x { course = after_forgetting ns x.course }
 
 -- the harts after a change: some go on, or an interrupt is asked of some; what a watch that is deleted or disabled did is
 -- forgotten

@@ -10,15 +10,14 @@ use Rattle.break_table.specs.Arrival.{settled}
 use Rattle.mi_commands.specs.declared.command.Displaced.{Displaced}
 use Rattle.mi_commands.specs.declared.command.Displaced.TheVariants as displaced
 use Rattle.dbg_model.specs.Sources.{sources_of}
-use Rattle.step_plans.specs.declared.plan.Plan.TheVariants as plans
 use Rattle.dbg_model.specs.declared.entry.Mode.{Mode}
 use Rattle.dbg_model.specs.declared.entry.Mode.TheVariants as mode
 use Rattle.dbg_model.specs.declared.entry.Poke.{Poke}
 use Rattle.dbg_model.specs.declared.hart.Hart.{Hart}
-use Rattle.dbg_model.specs.declared.judgement.Course.{Course}
 use Rattle.dbg_model.specs.declared.judgement.Judgement.{Judgement}
 use Rattle.dbg_model.specs.declared.opening.Opening.{Opening}
 use Rattle.dbg_model.specs.declared.watch.Watch.{Watch}
+use Rattle.dbg_model.specs.Courses.{at_stop}
 use Rattle.dbg_model.specs.Judging.{judgement_of}
 use Rattle.dbg_model.specs.Views.{register, shown_byte}
 
@@ -52,27 +51,19 @@ pub record State : Type 0 where
 
 abbrev pub is_stopped : Mode → Bool
 is_stopped mode.Stopped = true
-is_stopped mode.Running = false
-is_stopped (mode.Leaving code) = false
-is_stopped mode.Exited = false
+is_stopped _ = false
 
 abbrev pub is_running : Mode → Bool
-is_running mode.Stopped = false
 is_running mode.Running = true
-is_running (mode.Leaving code) = false
-is_running mode.Exited = false
+is_running _ = false
 
 abbrev pub is_leaving : Mode → Bool
-is_leaving mode.Stopped = false
-is_leaving mode.Running = false
 is_leaving (mode.Leaving code) = true
-is_leaving mode.Exited = false
+is_leaving _ = false
 
 abbrev pub has_exited : Mode → Bool
-has_exited mode.Stopped = false
-has_exited mode.Running = false
-has_exited (mode.Leaving code) = false
 has_exited mode.Exited = true
+has_exited _ = false
 
 abbrev pub hart_runs : Hart → Bool
 hart_runs x = is_running x.mode
@@ -92,20 +83,16 @@ abbrev pub hart_gone : Hart → Bool
 hart_gone x = has_exited x.mode
 
 abbrev pub is_off : Displaced → Bool
-is_off displaced.On = false
 is_off displaced.Off = true
-is_off displaced.Auto = false
+is_off _ = false
 
 -- no hart is live
 abbrev pub all_gone : List Hart → Bool
 all_gone xs = list_all hart_gone xs
 
-abbrev pub course_of : Hart → Course
-course_of x = record { fresh = x.fresh; plan = x.plan; last = x.last; fired = x.fired }
-
 -- what is judged of a hart
 unfoldable pub due : Program → State → ℕ → Hart → Judgement
-due p s h x = judgement_of p (sources_of p) s.breaks h (course_of x) (register x.regs) (shown_byte p s.memory)
+due p s h x = judgement_of p (sources_of p) s.breaks h x.course (register x.regs) (shown_byte p s.memory)
 
 -- the breakpoints after a due arrival of a hart
 unfoldable pub arrived : Program → State → ℕ → Hart → List Entry
@@ -114,7 +101,7 @@ arrived p s h x = settled h (register x.regs) (shown_byte p s.memory) s.breaks
 -- the first n of so many harts, as a session begins with them
 abbrev pub first_harts : Program → ℕ → ℕ → List Hart
 first_harts p harts zero = []
-first_harts p harts (suc n) = first_harts p harts n ++ record { regs = first_registers p.entry harts n; mode = mode.Stopped; fresh = false; asked = false; plan = plans.Free; last = None; fired = None } ∷ []
+first_harts p harts (suc n) = first_harts p harts n ++ record { regs = first_registers p.entry harts n; mode = mode.Stopped; asked = false; course = at_stop } ∷ []
 
 -- where a session begins
 abbrev pub first_state : Opening → State

@@ -1,26 +1,13 @@
 // What is judged where a hart has just arrived.
 ghost use Rattle.std.specs.Prelude.{◌≡◌, option_and_then};
-ghost use Rattle.dbg_model.specs.Judging.{ends_function, ends_step, fires, is_counted, is_due, is_end, is_finished, is_stepped, judgement_of, last_at, no_stop, noted_with, plan_after, verdict_behind};
+ghost use Rattle.dbg_model.specs.Judging.{ends_function, ends_step, fires, is_counted, is_due, is_end, is_finished, is_stepped, judgement_of, last_at, no_stop, plan_after, verdict_behind};
 
-use crate::{Fired, SourceIndex};
+use crate::{Course, Fired, SourceIndex};
 use break_table::{BreakTable, Due};
 use dbg_traits::View;
 use elf32_read::Image;
 use rv_decode::decode;
 use step_plans::{Last, Plan, Verdict, arrive};
-
-/// How a hart goes on.
-#[derive(Clone, Copy)]
-pub struct Course {
-    /// An instruction of its own has just ended.
-    pub fresh: bool,
-    /// What it is to come to before it stops.
-    pub plan: Plan,
-    /// Where the plan asks for it: the address of the instruction of its own that has just ended.
-    pub last: Option<u32>,
-    /// The watch whose bytes that instruction changed.
-    pub fired: Option<Fired>,
-}
 
 /// What is judged of a hart where it has just arrived.
 #[derive(Clone, Copy)]
@@ -97,13 +84,6 @@ pub fn plan_after(verdict: Verdict) -> Plan
         Verdict::Go(plan) => plan,
         Verdict::Stepped | Verdict::Finished => Plan::Free,
     }
-}
-
-/// The address of an instruction, which is noted where the plan asks for it.
-pub fn noted_with(plan: Plan, pc: u32) -> Option<u32>
-    ensures { result ≡ noted_with plan pc }
-{
-    if plan.asks() { Some(pc) } else { None }
 }
 
 // The instruction at an address, as it is noted.

@@ -2,14 +2,17 @@
 #![tactic(auto)]
 
 mod breakpoint;
+mod course;
 mod entry;
 mod frame;
 mod hart;
 mod judgement;
 mod limits;
 mod opening;
+mod places;
 mod reply;
 mod row;
+mod shown;
 mod source_index;
 mod thread_view;
 mod watch;
@@ -17,14 +20,17 @@ mod watch_list;
 mod words;
 
 pub use breakpoint::Breakpoint;
+pub use course::{Course, noted_with};
 pub use entry::{Entry, Journal, Mode, Poke, Why};
 pub use frame::{FrameList, ShownFrame, SourceLine};
 pub use hart::Hart;
-pub use judgement::{Course, Judge, Judgement, noted_with, plan_after};
+pub use judgement::{Judge, Judgement, plan_after};
 pub use limits::{HISTORY, MOST_BREAKPOINTS, MOST_INPUT, MOST_WATCHES};
 pub use opening::Opening;
+pub use places::{bytes_of, function_name, shown_frame, source_line};
 pub use reply::{Content, Obstacle, Refused, Register, RegisterList, Reply, Thread, ThreadList};
 pub use row::{Row, RowList};
+pub use shown::{Shown, ShownWatch};
 pub use source_index::SourceIndex;
 pub use thread_view::ThreadView;
 pub use watch::{Fired, Watch, is_one_of, unless_of};

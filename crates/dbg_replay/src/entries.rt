@@ -9,7 +9,7 @@ ghost use Rattle.dbg_replay.specs.Going.{Comes, Kept, halted_by, is_reason, trap
 
 use crate::halt::Halt;
 use crate::lines::do_line;
-use crate::modes::{counted, exited, find, leaver_from, set_out, stopped};
+use crate::modes::{counted, exited, find, leaver_from, set_out, stopped_hart};
 use crate::movers::{due, mover, runner, settle};
 use crate::pokes::write;
 use crate::state::Parts;
@@ -111,8 +111,8 @@ fn stop_at(opening: &Opening, parts: &mut Parts, h: u32, why: Why) -> Result<(),
         return Err(Halt::Unlawful);
     }
     settle(opening, parts, h, &hart);
-    parts.watches.rise(hart.fired);
-    parts.harts[h as usize] = stopped(hart);
+    parts.watches.rise(hart.course.fired);
+    parts.harts[h as usize] = stopped_hart(hart);
     parts.noted += 1;
     Ok(())
 }
@@ -126,7 +126,7 @@ fn interrupt(opening: &Opening, parts: &mut Parts, h: u32) -> Result<(), Halt>
     if !hart.asked {
         return Err(Halt::Unlawful);
     }
-    parts.harts[h as usize] = stopped(hart);
+    parts.harts[h as usize] = stopped_hart(hart);
     parts.noted += 1;
     Ok(())
 }
@@ -151,7 +151,7 @@ fn stop_by(opening: &Opening, parts: &mut Parts, h: u32, cause: Cause) -> Result
     if !traps_with(stepped, cause) {
         return Err(Halt::Unlawful);
     }
-    parts.harts[h as usize] = stopped(hart);
+    parts.harts[h as usize] = stopped_hart(hart);
     parts.noted += 1;
     Ok(())
 }

@@ -12,13 +12,12 @@ ghost use Rattle.dbg_replay.specs.Going.{Kept};
 use crate::state::Parts;
 use break_table::BreakTable;
 use data_memory::DataMemory;
-use dbg_model::{Hart, Mode, Opening, SourceIndex, WatchList};
+use dbg_model::{Course, Hart, Mode, Opening, SourceIndex, WatchList};
 use dbg_traits::NoMemory;
 use elf32_read::Image;
 use mi_commands::Displaced;
 use plain_machine::first_registers;
 use std::alloc::{AllocError, Global};
-use step_plans::Plan;
 
 // The harts with their counts, and what the user has set.
 #[derive(Drop)]
@@ -45,11 +44,8 @@ fn first_harts(alloc: Global, image: &Image, harts: u32) -> Result<Vec<Hart>, Al
         all.push(Hart {
             regs: first_registers(image.entry(), harts, hart),
             mode: Mode::Stopped,
-            fresh: false,
             asked: false,
-            plan: Plan::Free,
-            last: None,
-            fired: None,
+            course: Course::AT_STOP,
         })?;
     }
     Ok(all)

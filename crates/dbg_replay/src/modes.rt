@@ -1,10 +1,10 @@
 // What the harts are at.
 ghost use Rattle.std.specs.Prelude.{◌≡◌, ◌+◌, ◌≤◌, length, map, slice_get};
 ghost use Rattle.dbg_model.specs.State.{any_runs, any_leaves, is_running, is_leaving};
-ghost use Rattle.dbg_model.specs.Lawful.{leaver_from, leaving, exited, counted, set_out, stepped, stopped};
+ghost use Rattle.dbg_model.specs.Lawful.{leaver_from, leaving, exited, counted, set_out, stepped, stopped_hart};
 ghost use Rattle.dbg_model.specs.Reply.{asked, forgetting, resumed};
 
-use dbg_model::{Fired, Hart, Judgement, Mode, noted_with, plan_after, unless_of};
+use dbg_model::{Course, Fired, Hart, Judgement, Mode, noted_with, plan_after};
 use rv_exec::Regs;
 use step_plans::Plan;
 
@@ -103,22 +103,19 @@ pub fn counted(hart: Hart) -> Hart
     ensures { result ≡ counted hart }
 {
     Hart {
-        fresh: false,
+        course: hart.course.after_count(),
         ..hart
     }
 }
 
 /// A hart that stopped.
-pub fn stopped(hart: Hart) -> Hart
-    ensures { result ≡ stopped hart }
+pub fn stopped_hart(hart: Hart) -> Hart
+    ensures { result ≡ stopped_hart hart }
 {
     Hart {
         mode: Mode::Stopped,
-        fresh: false,
         asked: false,
-        plan: Plan::Free,
-        last: None,
-        fired: None,
+        course: Course::AT_STOP,
         ..hart
     }
 }
@@ -128,7 +125,7 @@ pub fn set_out(judgement: Judgement, hart: Hart) -> Hart
     ensures { result ≡ set_out judgement hart }
 {
     Hart {
-        plan: plan_after(judgement.verdict),
+        course: hart.course.with_plan(plan_after(judgement.verdict)),
         ..hart
     }
 }
@@ -137,11 +134,10 @@ pub fn set_out(judgement: Judgement, hart: Hart) -> Hart
 pub fn stepped(hart: Hart, regs: Regs, fired: Option<Fired>) -> Hart
     ensures { result ≡ stepped hart regs fired }
 {
+    let noted = noted_with(hart.course.plan, hart.regs.pc());
     Hart {
         regs,
-        fresh: true,
-        last: noted_with(hart.plan, hart.regs.pc()),
-        fired,
+        course: hart.course.after_instruction(noted, fired),
         ..hart
     }
 }
@@ -153,9 +149,8 @@ pub fn resumed(plan: Plan, hart: Hart) -> Hart
     match hart.mode {
         Mode::Stopped => Hart {
             mode: Mode::Running,
-            fresh: false,
             asked: false,
-            plan,
+            course: hart.course.after_resume(plan),
             ..hart
         },
         Mode::Running | Mode::Leaving(_) | Mode::Exited => hart,
@@ -180,7 +175,7 @@ fn forgetting(numbers: &[u32], hart: Hart) -> Hart
     ensures { result ≡ forgetting numbers.now hart }
 {
     Hart {
-        fired: unless_of(numbers, hart.fired),
+        course: hart.course.after_forgetting(numbers),
         ..hart
     }
 }

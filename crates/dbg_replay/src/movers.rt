@@ -56,7 +56,7 @@ pub fn due(opening: &Opening, parts: &Parts, h: u32, hart: &Hart) -> Judgement
         image: &opening.image,
         memory: &parts.memory,
     };
-    judge.judge(h, hart.course(), &seen)
+    judge.judge(h, hart.course, &seen)
 }
 
 /// The hart of a number, where it may execute: nothing is due first.

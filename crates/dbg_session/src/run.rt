@@ -11,7 +11,7 @@ use dbg_engine::Engine;
 use dbg_model::Opening;
 use dbg_traits::{Gate, World};
 use hart_workers::run_crew;
-use mi_reports::{Event, report};
+use mi_reports::report_opening;
 use session_facts::{Ended, Loaded, Outside, Status, Unloaded, finish, load};
 use std::alloc::Global;
 use std::sync::{Mutex, Wait};
@@ -40,10 +40,7 @@ fn begin<W: World>(alloc: Global, world: W) -> Result<Session<Outside<W>>, Unloa
         settings,
     } = load(alloc, world)?;
     let mut lines = Vec::new(alloc);
-    let opening = Event::Opening {
-        harts: settings.harts,
-    };
-    let Ok(()) = report(opening, &mut lines) else {
+    let Ok(()) = report_opening(settings.harts, &mut lines) else {
         return Err(unbegun(outside));
     };
     match Engine::load(alloc, Opening { image, settings }) {

@@ -1,156 +1,87 @@
 // A turn of a hart and a line of input, over the parts of a session.
 ghost use Rattle.std.specs.Prelude.{◌≡◌, ◌<◌, ◌≤◌, ◌+◌, ◌++◌, length, OnOk, MatchResult, true};
-ghost use Rattle.engine_moves.specs.Steps.{IsTurned};
-ghost use Rattle.mi_values.specs.Records.{lines_bytes, AreLines};
-ghost use Rattle.mi_reports.specs.Events.{stopping_lines};
-ghost use Rattle.dbg_model.specs.Places.{own_frame};
-ghost use Rattle.session_facts.specs.Stage.{stage_of};
-ghost use Rattle.session_facts.specs.Turned.{turned_lines, wrote_lines, left_lines, has_moved};
-ghost use Rattle.session_facts.specs.Steps.{Turns, Goes, Does, Answers};
-ghost use Rattle.session_facts.specs.Stage.{work_of};
 ghost use Rattle.dbg_model.specs.Lawful.{may_go};
-ghost use Rattle.session_facts.specs.declared.turn.Turn.TheVariants as turn;
 ghost use Rattle.engine_moves.specs.Seen.{seen};
 ghost use Rattle.engine_moves.specs.Facts.{Facts};
+ghost use Rattle.mi_values.specs.Records.{lines_bytes, AreLines};
+ghost use Rattle.mi_reports.specs.Replies.{reply_lines};
+ghost use Rattle.session_facts.specs.Puts.{PutsLines};
+ghost use Rattle.session_facts.specs.Reported.{AreMoved, Notes, NotesLine, is_last, move_lines, shown_lines};
+ghost use Rattle.session_facts.specs.Stage.{stage_of, work_of};
+ghost use Rattle.session_facts.specs.Steps.{Turns, Goes, Does, Answers};
+ghost use Rattle.session_facts.specs.declared.turn.Turn.TheVariants as turn;
 
 use crate::lines::{command, must_wait};
-use dbg_answers::{read_line, shown_frame};
-use dbg_engine::{Engine, SPARE, Turned};
-use dbg_model::Reply;
+use dbg_answers::read_line;
+use dbg_engine::{Engine, Move, SPARE, Turned};
+use dbg_model::{Entry, Reply, Shown};
 use dbg_traits::{NoMemory, World};
 use mi_input::next_line;
-use mi_reports::{Event, Hit, Stop, report};
-use session_facts::{Done, Turn, put_all, put_reply};
+use mi_reports::report;
+use session_facts::{Done, Turn, put_all, put_entry};
 use std::alloc::Global;
 
-// Puts the line of the bytes of a range at the end.
-fn report_bytes(
-    alloc: Global,
-    engine: &Engine,
-    addr: u32,
-    len: u32,
-    into: &mut Vec<u8>,
-) -> Result<(), NoMemory>
-    ensures written { OnOk result (into.new.items ≡ into.old.items ++ lines_bytes (wrote_lines engine.now addr len)) }
-    ensures grammar { OnOk result (AreLines (wrote_lines engine.now addr len)) }
+// Whether nothing is noted behind an entry.
+fn is_last(behind: &[Entry]) -> bool
+    ensures { result ≡ is_last behind.now }
 {
-    let mut bytes = vec![in alloc; 0u8; len as usize]?;
-    match engine.read_range(addr, bytes.as_mut_slice()) {
-        Ok(()) => report(Event::Wrote(bytes.as_slice()), into),
-        Err(_) => Ok(()),
+    match behind {
+        [] => true,
+        [_, ..] => false,
     }
 }
 
-// Puts the lines of the last exits of the journal at the end.
-fn report_exits(
+// Puts the lines of entries at the end that this move noted, or lengthened by an instruction. Behind them nothing is noted.
+#[tactic(auto, using(std::proofs::lemmas::Grind::common_steps, session_facts::proofs::Noting::shows_may, mi_values::proofs::Joined::lines_joined))]
+fn report_entries(
     engine: &Engine,
-    count: usize,
-    code: u32,
+    moved: Move,
+    entries: &[Entry],
     into: &mut Vec<u8>,
 ) -> Result<(), NoMemory>
-    requires { code < 256 }
-    ensures written { OnOk result (into.new.items ≡ into.old.items ++ lines_bytes (left_lines engine.now count code)) }
-    ensures grammar { OnOk result (AreLines (left_lines engine.now count code)) }
+    requires { AreMoved (length engine.now.minds) entries.now }
+    ensures written { OnOk result (into.new.items ≡ into.old.items ++ lines_bytes (shown_lines engine.now moved entries.now)) }
+    ensures grammar { OnOk result (AreLines (shown_lines engine.now moved entries.now)) }
 {
-    let entries = engine.entries();
-    let exits = Event::Left {
-        entries: &entries[entries.len().saturating_sub(count)..],
-        all: engine.all_gone(),
-        code: code as u8,
-    };
-    report(exits, into)
-}
-
-// Puts the lines of a stop of a hart that is at pc at the end.
-fn report_stop(
-    alloc: Global,
-    engine: &Engine,
-    stop: Stop<'_>,
-    hart: u32,
-    pc: u32,
-    into: &mut Vec<u8>,
-) -> Result<(), NoMemory>
-    ensures written { OnOk result (into.new.items ≡ into.old.items ++ lines_bytes (stopping_lines stop.entry hart (own_frame engine.now.sources pc))) }
-    ensures grammar { OnOk result (AreLines (stopping_lines stop.entry hart (own_frame engine.now.sources pc))) }
-{
-    let frame = shown_frame(alloc, engine.sources(), pc, pc)?;
-    let stopped = Event::Stopped {
-        stop,
-        hart,
-        frame: &frame,
-    };
-    report(stopped, into)
-}
-
-// Puts the lines of a turn of a hart, which was at pc before, at the end.
-fn report_turn(
-    alloc: Global,
-    engine: &Engine,
-    turned: Turned,
-    hart: u32,
-    pc: u32,
-    into: &mut Vec<u8>,
-) -> Result<(), NoMemory>
-    requires { IsTurned turned }
-    ensures written { OnOk result (into.new.items ≡ into.old.items ++ lines_bytes (turned_lines engine.now turned hart pc)) }
-    ensures grammar { OnOk result (AreLines (turned_lines engine.now turned hart pc)) }
-{
-    match turned {
-        Turned::Over
-        | Turned::NotRunning
-        | Turned::Held { .. }
-        | Turned::Fixed
-        | Turned::Planted
-        | Turned::Copied
-        | Turned::NoSlot
-        | Turned::Lifted
-        | Turned::Counted
-        | Turned::Ran => Ok(()),
-        Turned::Wrote { addr, len } => report_bytes(alloc, engine, addr, len, into),
-        Turned::Left { code } => report_exits(engine, 1, code, into),
-        Turned::AllLeft { code, count } => report_exits(engine, count, code, into),
-        Turned::Stopped { cause } => report_stop(alloc, engine, Stop::Fault(cause), hart, pc, into),
-        Turned::Interrupted => report_stop(alloc, engine, Stop::Interrupted, hart, pc, into),
-        Turned::Stepped => report_stop(alloc, engine, Stop::Stepped, hart, pc, into),
-        Turned::Finished => report_stop(alloc, engine, Stop::Finished, hart, pc, into),
-        Turned::Triggered(fired) => {
-            let watches = engine.watches();
-            report_stop(
-                alloc,
-                engine,
-                Stop::Triggered { watches, fired },
-                hart,
-                pc,
-                into,
-            )
-        }
-        Turned::Arrived {
-            number,
-            temporary,
-            error,
-        } => {
-            let hit = Hit {
-                number,
-                temporary,
-                error,
-            };
-            report_stop(alloc, engine, Stop::Hit(hit), hart, pc, into)
+    match entries {
+        [] => Ok(()),
+        [entry, rest @ ..] => {
+            let shown = engine.shown(moved, entry, is_last(rest))?;
+            report(entry, &shown, into)?;
+            report_entries(engine, moved, rest, into)
         }
     }
 }
 
-fn has_moved(turned: Turned) -> bool
-    ensures { result ≡ has_moved turned }
+// Puts the lines of a move of a hart at the end, before which so many entries were noted.
+fn report_move(
+    engine: &Engine,
+    moved: Move,
+    hart: u32,
+    before: u64,
+    into: &mut Vec<u8>,
+) -> Result<(), NoMemory>
+    requires { Notes engine.now before }
+    ensures written { OnOk result (into.new.items ≡ into.old.items ++ lines_bytes (move_lines engine.now moved hart before)) }
+    ensures grammar { OnOk result (AreLines (move_lines engine.now moved hart before)) }
 {
-    !matches!(
-        turned,
-        Turned::Over | Turned::NotRunning | Turned::Held { .. } | Turned::NoSlot
-    )
+    match moved {
+        Move::Wrote { .. } => {
+            let ran = [Entry::Ran { hart, count: 1 }];
+            report_entries(engine, moved, &ran, into)
+        }
+        Move::Left | Move::AllLeft | Move::Stopped => {
+            let count = (engine.noted() - before) as usize;
+            report_entries(engine, moved, engine.last_noted(count), into)
+        }
+        Move::Ran | Move::Counted | Move::Copied | Move::Lifted | Move::Fixed | Move::Planted => {
+            Ok(())
+        }
+    }
 }
 
 /// One turn of a hart, with its lines, which go through the memory of `lines`.
 pub fn turn_once<W: World>(
-    alloc: Global,
     world: &mut W,
     engine: &mut Engine,
     hart: u32,
@@ -167,13 +98,12 @@ pub fn turn_once<W: World>(
     if engine.reserve_journal(SPARE).is_err() {
         return Turn::NoMemory;
     }
-    let pc = engine.pc(hart);
-    let turned = engine.turn(hart);
-    if !has_moved(turned) {
+    let before = engine.noted();
+    let Turned::Moved(moved) = engine.turn(hart) else {
         return Turn::Stood;
-    }
+    };
     lines.clear();
-    let Ok(()) = report_turn(alloc, engine, turned, hart, pc, lines) else {
+    let Ok(()) = report_move(engine, moved, hart, before, lines) else {
         return Turn::NoMemory;
     };
     if put_all(world, lines.as_slice()) {
@@ -197,6 +127,25 @@ fn answer_line(alloc: Global, engine: &mut Engine, line: &[u8]) -> Result<Option
     Ok(Some(command(alloc, engine, line, read)?))
 }
 
+// Puts the lines of a line that was done, before which so many entries were noted, with its reply. False where a put failed.
+// Out of memory, the one error, nothing is put.
+fn put_done<W: World>(
+    world: &mut W,
+    engine: &Engine,
+    before: u64,
+    reply: Reply,
+    lines: &mut Vec<u8>,
+) -> Result<bool, NoMemory>
+    requires { NotesLine engine.now before }
+    ensures { MatchResult result (λ put. PutsLines put (reply_lines reply) (W.told world.old) (W.told world.new)) (λ _. world.new ≡ world.old) }
+{
+    let count = (engine.noted() - before) as usize;
+    match engine.last_noted(count) {
+        [done, ..] => put_entry(world, done, &Shown::Answer { reply }, lines),
+        [] => unreachable!(),
+    }
+}
+
 /// The next line of the rest of the input, with its reply, which goes through the memory of `lines`, in a session that may go on.
 pub fn line_once<W: World>(
     alloc: Global,
@@ -216,8 +165,9 @@ pub fn line_once<W: World>(
     let Some((text, next)) = next_line(rest, ended) else {
         return Done::Nothing;
     };
+    let before = engine.noted();
     match answer_line(alloc, engine, &rest[..text]) {
-        Ok(Some(reply)) => match put_reply(world, reply, lines) {
+        Ok(Some(reply)) => match put_done(world, engine, before, reply, lines) {
             Ok(true) => Done::Done(next),
             Ok(false) => Done::Unput(next),
             Err(NoMemory) => Done::Unsaid(next),

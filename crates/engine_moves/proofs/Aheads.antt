@@ -43,14 +43,15 @@ use Rattle.dbg_model.specs.declared.watch.Fired.{Fired}
 use Rattle.dbg_model.specs.declared.watch.Watch.{Watch}
 use Rattle.break_table.specs.Table.{is_wait, stands}
 use Rattle.std.specs.List.{list_any}
-use Rattle.engine_moves.specs.Going.{Way, InPlace, ByCopy, Goes, GoesBy, Passes, is_kept, turns_of}
+use Rattle.engine_moves.specs.Going.{Way, InPlace, ByCopy, Goes, GoesBy, Passes, SurroundingsView, is_kept, turns_of}
 use Rattle.engine_moves.specs.Several.{AllTurned, goes_alone, is_alone, lengthened_by}
 use Rattle.engine_moves.specs.Slicing.{is_word}
 use Rattle.engine_moves.specs.Calls.{Before, Of, Turns, Undue}
 use Rattle.engine_moves.specs.Rows.{Executes, row_at}
 use Rattle.engine_moves.specs.declared.moving.Turned.TheVariants as turned
+use Rattle.engine_moves.specs.declared.moving.Move.TheVariants as move
 use Rattle.engine_moves.proofs.Kept.{alone_takes, kept_at, kept_ran, kept_undue}
-use Rattle.engine_moves.proofs.Passing.{Ahead, Alone, Apart, Going, kept_executed, kept_facts, passed}
+use Rattle.engine_moves.proofs.Passing.{around, Ahead, Alone, Apart, Going, kept_executed, kept_facts, passed}
 use Rattle.engine_moves.proofs.Rows.{row_executes, not_so, open_by}
 use Rattle.engine_moves.proofs.Executing.{own_pc, ran_to, ready, same_hart}
 
@@ -102,7 +103,7 @@ pub apart_after : (n : ℕ) (x : Mind) → Apart x → Apart (mind_after n x)
 apart_after zero x a = a
 apart_after (suc n) x a = record { idle = ap after_step a.idle; runs = refl; plan = a.plan; unfired = refl }
 
-plan_after : (n : ℕ) (x : Mind) → (mind_after n x).plan ≡ x.plan
+plan_after : (n : ℕ) (x : Mind) → (mind_after n x).course.plan ≡ x.course.plan
 plan_after zero x = refl
 plan_after (suc n) x = refl
 
@@ -134,7 +135,7 @@ record Undisturbed (q : Run) (h : ℕ) (x : Mind) : Type 0 where
   mover : Mover q h core x
   unplanted : is_planted q.machine.text core.regs.pc ≡ false
   pc : Of q h (λ y. y.regs.pc ≡ core.regs.pc)
-  kept : is_kept x.plan (seen_hart q.opening.image core x).regs.pc ≡ true
+  kept : is_kept x.course.plan (seen_hart q.opening.image core x).regs.pc ≡ true
   undue : Undue q h
   before : Before q h x
 
@@ -150,9 +151,9 @@ undisturbed q h x m f at a none going steps =
     let own = own_pc q c x a.idle in
     let called = none_called (stands c.regs.pc q.breaks) (list_any (is_wait c.regs.pc) q.waits) (clear_stands q h c x f.sound k.1 free a.idle ran.1) in
     let word : is_word q.opening.image c.regs.pc ≡ true = ap (λ (ws : WordMap). is_some (map.get ws c.regs.pc)) (sym f.sound.planted.words) ∙ ran.0 in
-    let kept : is_kept x.plan c.regs.pc ≡ true = kept_at q.opening.image x c.regs.pc h q.waits (ap is_active a.runs) a.plan word (wait_at q h x f at) called.1 in
+    let kept : is_kept x.course.plan c.regs.pc ≡ true = kept_at q.opening.image x c.regs.pc h q.waits (ap is_active a.runs) a.plan word (wait_at q h x f at) called.1 in
     let y = seen_hart q.opening.image c x in
-    let kept' : is_kept x.plan y.regs.pc ≡ true = ap (is_kept x.plan) own ∙ kept in
+    let kept' : is_kept x.course.plan y.regs.pc ≡ true = ap (is_kept x.course.plan) own ∙ kept in
     let quiet = kept_undue q.opening.image (seen q) h y kept' a.unfired (ap (λ p. stands p q.breaks) own ∙ called.0) in
     record {
       core = c;
@@ -167,7 +168,7 @@ undisturbed q h x m f at a none going steps =
 -- one instruction that the machine executed, as a turn
 pub record OneTurn (q new : Run) (h : ℕ) : Type 0 where
   pub facts : Facts new
-  pub does : Turns turned.Ran q new h
+  pub does : Turns (turned.Moved move.Ran) q new h
 
 pub one_turn : (q : Run) (h spare : ℕ) (x : Mind) (m : Patched) → Facts q → slice_get q.minds h ≡ Some x → Apart x → q.hold ≡ None → Going q → fired_by q.watches q.machine.memory m.memory ≡ None → ((c : Core) → slice_get q.machine.cores h ≡ Some c → StepsTo stepped.Ran q.machine h c m)
     → OneTurn q (ran_to stepped.Ran q h (kept_ran x) m q.hold spare) h
@@ -176,7 +177,7 @@ one_turn q h spare x m f at a none going unfired steps =
     let c = u.core in
     let go = ready q h x c.regs.pc f.sound at (ap is_before a.idle) a.runs u.before.free u.pc u.undue (λ e. u.unplanted) u.before.may (λ d there is. idle_copies x.phase (d.copied ≤ d.retired) a.idle is) in
     let same : c ≡ go.0 = same_some c go.0 (sym u.mover.core ∙ go.1.mover.core) in
-    let kept = subst (λ (d : Core). is_kept x.plan (seen_hart q.opening.image d x).regs.pc ≡ true) same u.kept in
+    let kept = subst (λ (d : Core). is_kept x.course.plan (seen_hart q.opening.image d x).regs.pc ≡ true) same u.kept in
     let e = kept_executed q h spare go.0 x m kept unfired go.1 (steps go.0 go.1.mover.core) in
     record { facts = kept_facts q h spare x m f at (ap is_active a.runs) e; does = e.does m.text q.waits }
 
@@ -186,13 +187,13 @@ first_row q h x m f at a none going steps =
     let u = undisturbed q h x m f at (apart_of x a) none going steps in
     row_executes q h u.core.regs.pc x f.sound u.before u.undue u.pc a.idle a.asked u.unplanted
 
-turned_on : {p : Program} {bs : List BreakEntry} {vs : List Watch} {h : ℕ} {q : Plan} {on : Bool} {m n : Patched} → Passes p bs vs h q on m n → Passes p bs vs h q true m n
+turned_on : {a : SurroundingsView} {m n : Patched} → Passes a m n → Passes (record a { copies = true }) m n
 turned_on s = record { unwatched = s.unwatched; is_on = refl; kept = s.kept; core = s.core; word = s.word; at = s.at; low = s.low; planted = s.planted; word_is = s.word_is; undue = s.undue; counted = s.counted; steps = s.steps }
 
 -- what a hart did in one call, as turns
 pub ahead : (ws : List Way) (r : Run) (h spare most : ℕ) (copies : Bool) (x : Mind) (m : Patched) → Facts r → slice_get r.minds h ≡ Some x → Alone x → r.hold ≡ None → r.retired + most ≤ r.opening.settings.budget → r.noted < history → r.exited ≡ false
     → (copies ≡ true → is_off r.displaced ≡ false)
-    → GoesBy r.opening.image r.breaks r.watches h x.plan copies most ws r.machine m → Ahead (turns_of ws) r (run_after (length ws) r h x m spare) h
+    → GoesBy (around r h x.course.plan copies) most ws r.machine m → Ahead (turns_of ws) r (run_after (length ws) r h x m spare) h
 ahead [] r h spare most copies x m f at a none budget low still on went =
     let same : run_after zero r h x m spare ≡ r = ap (λ (u : Patched). let q : Run = record r { machine = u; retired = r.retired + 0 } in q) went ∙ ap (λ (k : ℕ). let q : Run = record r { retired = k } in q) (omega arith) in
     record { facts = subst Facts (sym same) f; turns = same }
@@ -206,16 +207,16 @@ ahead (InPlace ∷ ws) r h spare most copies x m f at a none budget low still on
     let e = one_turn q h spare y m before.facts at' (apart_of y (alone_after n x a)) none goes went.1.step.unfired went.1.step.steps in
     let first = first_row q h y m before.facts at' (alone_after n x a) none goes went.1.step.steps in
     let next = run_next n r h x went.1.machine m spare a.idle in
-    let P : Run → Type 0 = λ u. Turns turned.Ran q u h in
+    let P : Run → Type 0 = λ u. Turns (turned.Moved move.Ran) q u h in
     record {
       facts = subst Facts next e.facts;
-      turns = record { run = q; before = before.turns; facts = before.facts; answer = turned.Ran; fits = record { quiet = refl; first = first }; turn = subst P next e.does };
+      turns = record { run = q; before = before.turns; facts = before.facts; answer = turned.Moved move.Ran; fits = record { quiet = refl; first = first }; turn = subst P next e.does };
     }
 ahead (ByCopy ∷ ws) r h spare most copies x m f at a none budget low still on went =
     let n = length ws in
     let q = run_after n r h x went.1.machine spare in
     let before = ahead ws r h spare most copies x went.1.machine f at a none budget low still on went.1.before in
-    let e = passed (turns_of ws) r q h spare (mind_after n x) m before.turns before.facts (at_after n r.minds h x at) (alone_after n x a) none (record { budget = omega (arith, went.0); history = low; going = still }) (omega (arith, went.0)) (on went.1.step.is_on) (subst (λ (u : Plan). Passes r.opening.image r.breaks r.watches h u true went.1.machine m) (sym (plan_after n x)) (turned_on went.1.step)) in
+    let e = passed (turns_of ws) r q h spare (mind_after n x) m before.turns before.facts (at_after n r.minds h x at) (alone_after n x a) none (record { budget = omega (arith, went.0); history = low; going = still }) (omega (arith, went.0)) (on went.1.step.is_on) (subst (λ (u : Plan). Passes (around r h u true) went.1.machine m) (sym (plan_after n x)) (turned_on went.1.step)) in
     let next = run_next n r h x went.1.machine m spare a.idle in
     let P : Run → Type 0 = λ u. Ahead (suc (suc (suc (turns_of ws)))) r u h in
     subst P next e
@@ -229,8 +230,8 @@ after_is (suc n) r h spare x y m j k some ej ey ek =
     ∙ (ap (λ (z : Mind). let q : Run = record r { journal = j; spare = spare; machine = m; minds = slice_set r.minds h z; retired = r.retired + suc n } in q) (sym ey)
     ∙ ap (λ (i : ℕ). let q : Run = record r { journal = j; spare = spare; machine = m; minds = slice_set r.minds h y; retired = r.retired + i } in q) (sym ek))
 
-pub ahead_to : (r s : Run) (h spare most turns n : ℕ) (copies : Bool) (x y : Mind) (m : Patched) (j : List Entry) (k : ℕ) → r ≡ s → 0 < n → Facts r → slice_get s.minds h ≡ Some x → x.phase ≡ phase.Idle → x.activity ≡ activity.Running → x.asked ≡ false → goes_alone r.opening.image x ≡ true → x.fired ≡ None → r.hold ≡ None
-    → r.retired + most ≤ r.opening.settings.budget → r.noted < history → r.exited ≡ false → (copies ≡ true → is_off r.displaced ≡ false) → Goes r.opening.image r.breaks r.watches h x.plan copies most turns n r.machine m → j ≡ lengthened_by n r.journal h → y ≡ kept_ran x → k ≡ n
+pub ahead_to : (r s : Run) (h spare most turns n : ℕ) (copies : Bool) (x y : Mind) (m : Patched) (j : List Entry) (k : ℕ) → r ≡ s → 0 < n → Facts r → slice_get s.minds h ≡ Some x → x.phase ≡ phase.Idle → x.activity ≡ activity.Running → x.asked ≡ false → goes_alone r.opening.image x ≡ true → x.course.fired ≡ None → r.hold ≡ None
+    → r.retired + most ≤ r.opening.settings.budget → r.noted < history → r.exited ≡ false → (copies ≡ true → is_off r.displaced ≡ false) → Goes (around r h x.course.plan copies) most turns n r.machine m → j ≡ lengthened_by n r.journal h → y ≡ kept_ran x → k ≡ n
     → Ahead turns r (record r { journal = j; spare = spare; machine = m; minds = slice_set r.minds h y; retired = r.retired + k }) h
 ahead_to r s h spare most turns n copies x y m j k same some f at idle runs unasked free unfired none budget low still on went ej ey ek =
     let ws = went.ways in
@@ -239,14 +240,14 @@ ahead_to r s h spare most turns n copies x y m j k same some f at idle runs unas
     let T : ℕ → Type 0 = λ t. Ahead t r (record r { journal = j; spare = spare; machine = m; minds = slice_set r.minds h y; retired = r.retired + k }) h in
     subst T (sym went.turns_are) (subst (λ (q : Run). Ahead (turns_of ws) r q h) is base)
 
-none_by : (p : Program) (bs : List BreakEntry) (vs : List Watch) (h most : ℕ) (plan : Plan) (copies : Bool) (ws : List Way) (old new : Patched) → length ws ≡ 0 → GoesBy p bs vs h plan copies most ws old new → new ≡ old
-none_by p bs vs h most plan copies [] old new none went = went
-none_by p bs vs h most plan copies (InPlace ∷ ws) old new none went = absurd (omega arith)
-none_by p bs vs h most plan copies (ByCopy ∷ ws) old new none went = absurd (omega arith)
+none_by : (a : SurroundingsView) (most : ℕ) (ws : List Way) (old new : Patched) → length ws ≡ 0 → GoesBy a most ws old new → new ≡ old
+none_by a most [] old new none went = went
+none_by a most (InPlace ∷ ws) old new none went = absurd (omega arith)
+none_by a most (ByCopy ∷ ws) old new none went = absurd (omega arith)
 
 -- where no instruction was executed, nothing has changed
-pub none_gone : (p : Program) (bs : List BreakEntry) (vs : List Watch) (h most turns n : ℕ) (plan : Plan) (copies : Bool) (old new : Patched) → n ≡ 0 → Goes p bs vs h plan copies most turns n old new → new ≡ old
-none_gone p bs vs h most turns n plan copies old new none went = none_by p bs vs h most plan copies went.ways old new (sym went.instructions_are ∙ none) went.goes
+pub none_gone : (a : SurroundingsView) (most turns n : ℕ) (old new : Patched) → n ≡ 0 → Goes a most turns n old new → new ≡ old
+none_gone a most turns n old new none went = none_by a most went.ways old new (sym went.instructions_are ∙ none) went.goes
 
 pub running_so : (a : Activity) → is_active a ≡ true → a ≡ activity.Running
 running_so activity.Stopped e = cc
@@ -274,21 +275,21 @@ record IsAlone (p : Program) (x : Mind) (hold : Option Hold) : Type 0 where
   runs : x.activity ≡ activity.Running
   asked : x.asked ≡ false
   plan : goes_alone p x ≡ true
-  unfired : x.fired ≡ None
+  unfired : x.course.fired ≡ None
   none : hold ≡ None
 
 alone_so : (p : Program) (x : Mind) (hold : Option Hold) → is_alone p x hold ≡ true → IsAlone p x hold
 alone_so p x hold is =
-    let a = both_true ((((runs x && is_idle x.phase) && not x.asked) && goes_alone p x) && is_none x.fired) (is_none hold) is in
-    let e = both_true (((runs x && is_idle x.phase) && not x.asked) && goes_alone p x) (is_none x.fired) a.0 in
+    let a = both_true ((((runs x && is_idle x.phase) && not x.asked) && goes_alone p x) && is_none x.course.fired) (is_none hold) is in
+    let e = both_true (((runs x && is_idle x.phase) && not x.asked) && goes_alone p x) (is_none x.course.fired) a.0 in
     let d = both_true ((runs x && is_idle x.phase) && not x.asked) (goes_alone p x) e.0 in
     let b = both_true (runs x && is_idle x.phase) (not x.asked) d.0 in
     let c = both_true (runs x) (is_idle x.phase) b.0 in
-    record { idle = idle_so x.phase c.1; runs = running_so x.activity c.0; asked = not_so x.asked b.1; plan = d.1; unfired = unfired_so x.fired e.1; none = none_so hold a.1 }
+    record { idle = idle_so x.phase c.1; runs = running_so x.activity c.0; asked = not_so x.asked b.1; plan = d.1; unfired = unfired_so x.course.fired e.1; none = none_so hold a.1 }
 
 -- the engine after a call, by its parts
 pub gone_to : (r s : Run) (h spare most turns n : ℕ) (copies : Bool) (x y : Mind) (m : Patched) (j : List Entry) (k : ℕ) → r ≡ s → 0 < n → Facts r → may_go s.opening (seen s) ≡ true → slice_get s.minds h ≡ Some x → is_alone r.opening.image x r.hold ≡ true
-    → r.retired + most ≤ r.opening.settings.budget → (copies ≡ true → is_off r.displaced ≡ false) → Goes r.opening.image r.breaks r.watches h x.plan copies most turns n r.machine m → j ≡ lengthened_by n r.journal h → y ≡ kept_ran x → k ≡ n
+    → r.retired + most ≤ r.opening.settings.budget → (copies ≡ true → is_off r.displaced ≡ false) → Goes (around r h x.course.plan copies) most turns n r.machine m → j ≡ lengthened_by n r.journal h → y ≡ kept_ran x → k ≡ n
     → Ahead turns r (record r { journal = j; spare = spare; machine = m; minds = slice_set r.minds h y; retired = r.retired + k }) h
 gone_to r s h spare most turns n copies x y m j k same some f may at alone budget on went ej ey ek =
     let go : may_go r.opening (seen r) ≡ true = ap (λ (q : Run). may_go q.opening (seen q)) same ∙ may in

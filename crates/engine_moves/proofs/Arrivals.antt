@@ -1,28 +1,36 @@
 -- A hart that arrives where it stops, or where breakpoints count it.
-use Rattle.std.proofs.Common.{◌≡◌, ℕ, Bool, true, false, cond, List, refl, sym, ap, ◌∙◌, not}
+use Rattle.std.proofs.Common.{◌≡◌, ℕ, Bool, true, false, cond, List, [], ◌∷◌, ◌++◌, refl, sym, ap, ◌∙◌, not}
 use Rattle.std.specs.Prelude.{Option, Some, None, is_some, ◌||◌, ◌&&◌, slice_get}
-use Rattle.break_table.specs.Entry.{Entry as BreakEntry}
 use Rattle.break_table.specs.declared.due.CondError.{CondError}
 use Rattle.step_over.specs.declared.phase.Phase.TheVariants as phase
 use Rattle.step_plans.specs.declared.plan.Verdict.{Verdict}
 use Rattle.step_plans.specs.declared.plan.Verdict.TheVariants as verdicts
+use Rattle.dbg_model.specs.declared.entry.Entry.{Entry}
+use Rattle.dbg_model.specs.declared.entry.Entry.TheVariants.{Stopped}
 use Rattle.dbg_model.specs.declared.entry.Why.{Why}
 use Rattle.dbg_model.specs.declared.entry.Why.TheVariants as whys
 use Rattle.dbg_model.specs.declared.judgement.Judgement.{Judgement}
 use Rattle.dbg_model.specs.declared.watch.Fired.{Fired}
 use Rattle.dbg_model.specs.declared.watch.Watch.{Watch}
 use Rattle.dbg_model.specs.Watches.{risen}
-use Rattle.dbg_model.specs.Breaks.{is_temporary}
 use Rattle.dbg_model.specs.Judging.{is_counted, is_due, is_end}
 use Rattle.dbg_model.specs.State.{State, due}
+use Rattle.dbg_model.specs.Journals.{last_why}
 use Rattle.engine_moves.specs.declared.mind.Mind.{Mind}
 use Rattle.engine_moves.specs.Moves.{stop_by, stop_of}
 use Rattle.engine_moves.specs.Seen.{Run, seen}
-use Rattle.engine_moves.specs.Calls.{DueIs, Halts, Rephases, StopsBy, Turns}
-use Rattle.engine_moves.specs.Rows.{Row, Counts, Stops, row_due, row_of}
-use Rattle.engine_moves.specs.Steps.{Arrives, IsTurned, stopped_by}
+use Rattle.engine_moves.specs.Calls.{DueIs, Halts, Rephases, StopsBy, StopsFor, Turns}
+use Rattle.engine_moves.specs.Rows.{Row, Counts, Stops, row_due, row_of, row_stopped}
+use Rattle.engine_moves.specs.declared.moving.Turned.TheVariants as turned
+use Rattle.engine_moves.specs.declared.moving.Move.TheVariants as move
 
 -- ---- what stops it
+
+-- a hart stops where it has arrived
+abbrev Arrives : Why → Type 0
+Arrives whys.Interrupted = ⊥
+Arrives (whys.Fault cause) = ⊥
+Arrives _ = Unit {0}
 
 abbrev watch_of : Option Why → Option Fired
 watch_of (Some (whys.Watch f)) = Some f
@@ -45,7 +53,7 @@ arrives_by None error None verdicts.Stepped (whys.Fault cause) is = absurd cc
 arrives_by None error None verdicts.Finished (whys.Fault cause) is = absurd cc
 
 -- an arrival stops a hart at a breakpoint, by a watch, or at the end of its plan
-pub arrives : (d : Judgement) (why : Why) → Some why ≡ stop_of d → Arrives why
+arrives : (d : Judgement) (why : Why) → Some why ≡ stop_of d → Arrives why
 arrives d why is = arrives_by d.breaks.stop d.breaks.error d.fired d.verdict why is
 
 watched_by : (stop : Option ℕ) (error : Option CondError) (fired : Option Fired) (v : Verdict) (f : Fired) → Some (whys.Watch f) ≡ stop_by stop error fired v → fired ≡ Some f
@@ -67,36 +75,49 @@ stops_behind r m h x d why due_is is u y there =
 
 -- ---- what the turn is called
 
-row_by : (why : Why) (bs : List BreakEntry) → Arrives why → row_of (stopped_by why bs) ≡ Stops
-row_by (whys.Break number error) bs a = refl
-row_by (whys.Watch f) bs a = refl
-row_by whys.Stepped bs a = refl
-row_by whys.Finished bs a = refl
-row_by whys.Interrupted bs a = absurd a
-row_by (whys.Fault cause) bs a = absurd a
+row_by : (why : Why) → Arrives why → row_stopped why ≡ Stops
+row_by (whys.Break number error) a = refl
+row_by (whys.Watch f) a = refl
+row_by whys.Stepped a = refl
+row_by whys.Finished a = refl
+row_by whys.Interrupted a = absurd a
+row_by (whys.Fault cause) a = absurd a
 
-pub stopped_row : (d : Judgement) (why : Why) (bs : List BreakEntry) (other : Row) → Some why ≡ stop_of d → row_of (stopped_by why bs) ≡ row_due d other
-stopped_row d why bs other is = row_by why bs (arrives d why is) ∙ ap (λ o. cond (is_some o) Stops (cond d.breaks.counts Counts other)) is
+last_noted : (j : List Entry) (h : ℕ) (why : Why) → last_why (j ++ Stopped h why ∷ []) ≡ Some why
+last_noted [] h why = refl
+last_noted (e ∷ []) h why = refl
+last_noted (e ∷ f ∷ es) h why = last_noted (f ∷ es) h why
+
+-- the row of a stop is that of its reason
+pub halts_row : (r n : Run) (h : ℕ) (why : Why) → Halts r n h why → row_of (turned.Moved move.Stopped) (last_why n.journal) ≡ row_stopped why
+halts_row r n h why k = ap (row_of (turned.Moved move.Stopped)) (ap last_why k.journal ∙ last_noted r.journal h why)
+
+pub stopped_row : (r n : Run) (h : ℕ) (d : Judgement) (why : Why) (other : Row) → Some why ≡ stop_of d → Halts r n h why → row_of (turned.Moved move.Stopped) (last_why n.journal) ≡ row_due d other
+stopped_row r n h d why other is k = halts_row r n h why k ∙ (row_by why (arrives d why is) ∙ ap (λ o. cond (is_some o) Stops (cond d.breaks.counts Counts other)) is)
 
 -- the watches after the stop of a hart for which this fired
 risen_same : (d : Judgement) (fired : Option Fired) (f : Fired) (old new : List Watch) → d.fired ≡ fired → Some (whys.Watch f) ≡ stop_of d → new ≡ risen fired old → new ≡ risen (Some f) old
 risen_same d fired f old new same is rises = rises ∙ ap (λ o. risen o old) (sym same ∙ watched d f is)
 
-pub stopped_turns : (r n : Run) (h : ℕ) (d : Judgement) (fired : Option Fired) (why : Why) (bs : List BreakEntry) → bs ≡ r.breaks → d.fired ≡ fired → Some why ≡ stop_of d → n.watches ≡ risen fired r.watches → Halts r n h why → Turns (stopped_by why bs) r n h
-stopped_turns r n h d fired (whys.Break number error) bs same due is rises k = (k, ap (λ es. is_temporary es number) same)
-stopped_turns r n h d fired (whys.Watch f) bs same due is rises k = record { halts = k; watches = risen_same d fired f r.watches n.watches due is rises }
-stopped_turns r n h d fired whys.Stepped bs same due is rises k = k
-stopped_turns r n h d fired whys.Finished bs same due is rises k = k
-stopped_turns r n h d fired whys.Interrupted bs same due is rises k = absurd (arrives d whys.Interrupted is)
-stopped_turns r n h d fired (whys.Fault cause) bs same due is rises k = absurd (arrives d (whys.Fault cause) is)
+stops_by : (r n : Run) (h : ℕ) (d : Judgement) (fired : Option Fired) (why : Why) → d.fired ≡ fired → Some why ≡ stop_of d → n.watches ≡ risen fired r.watches → Halts r n h why → StopsFor why r n h
+stops_by r n h d fired (whys.Break number error) due is rises k = k
+stops_by r n h d fired (whys.Watch f) due is rises k = record { halts = k; watches = risen_same d fired f r.watches n.watches due is rises }
+stops_by r n h d fired whys.Stepped due is rises k = k
+stops_by r n h d fired whys.Finished due is rises k = k
+stops_by r n h d fired whys.Interrupted due is rises k = absurd (arrives d whys.Interrupted is)
+stops_by r n h d fired (whys.Fault cause) due is rises k = absurd (arrives d (whys.Fault cause) is)
 
-pub stopped_code : (why : Why) (bs : List BreakEntry) → IsTurned (stopped_by why bs)
-stopped_code (whys.Break number error) bs = tt
-stopped_code (whys.Watch f) bs = tt
-stopped_code whys.Stepped bs = tt
-stopped_code whys.Finished bs = tt
-stopped_code whys.Interrupted bs = tt
-stopped_code (whys.Fault cause) bs = tt
+pub stopped_turns : (r n : Run) (h : ℕ) (d : Judgement) (fired : Option Fired) (why : Why) → d.fired ≡ fired → Some why ≡ stop_of d → n.watches ≡ risen fired r.watches → Halts r n h why → Turns (turned.Moved move.Stopped) r n h
+stopped_turns r n h d fired why due is rises k = (why, stops_by r n h d fired why due is rises k)
+
+-- a hart that stopped for a reason stopped
+pub stopped_halts : (why : Why) (r n : Run) (h : ℕ) → StopsFor why r n h → Halts r n h why
+stopped_halts (whys.Break number error) r n h k = k
+stopped_halts (whys.Watch f) r n h k = k.halts
+stopped_halts whys.Stepped r n h k = k
+stopped_halts whys.Finished r n h k = k
+stopped_halts whys.Interrupted r n h k = k.halts
+stopped_halts (whys.Fault cause) r n h k = k
 
 -- ---- what only counts it
 

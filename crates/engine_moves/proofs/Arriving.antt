@@ -17,11 +17,11 @@ use Rattle.break_table.specs.Arrival.{is_for, fits, counts, stops, is_met, stays
 use Rattle.dbg_model.specs.Breaks.{nothing_due}
 use Rattle.dbg_model.specs.Views.{register, shown_byte}
 use Rattle.dbg_model.specs.declared.hart.Hart.{Hart}
-use Rattle.dbg_model.specs.declared.judgement.Course.{Course}
+use Rattle.dbg_model.specs.declared.course.Course.{Course}
 use Rattle.dbg_model.specs.declared.judgement.Judgement.{Judgement}
 use Rattle.dbg_model.specs.declared.watch.Fired.{Fired}
 use Rattle.dbg_model.specs.Judging.{is_due, judgement_of, no_arrival, verdict_behind}
-use Rattle.dbg_model.specs.State.{State, course_of, due, arrived}
+use Rattle.dbg_model.specs.State.{State, due, arrived}
 use Rattle.dbg_model.proofs.Judged.{free_goes}
 use Rattle.dbg_model.proofs.Options.{both_true}
 use Rattle.engine_moves.specs.Facts.{AreInText, InText}
@@ -146,9 +146,9 @@ breaks_by true d f v plan = refl
 breaks_by false d f v plan = refl
 
 -- what the breakpoints do with a hart
-pub due_breaks : (p : Program) (s : State) (h : ℕ) (x : Hart) → (due p s h x).breaks ≡ cond x.fresh (due_of h (register x.regs) (shown_byte p s.memory) s.breaks) nothing_due
+pub due_breaks : (p : Program) (s : State) (h : ℕ) (x : Hart) → (due p s h x).breaks ≡ cond x.course.fresh (due_of h (register x.regs) (shown_byte p s.memory) s.breaks) nothing_due
 unfolding due judgement_of
-due_breaks p s h x = breaks_by x.fresh (due_of h (register x.regs) (shown_byte p s.memory) s.breaks) x.fired (verdict_behind p (sources_of p) x.plan (register x.regs) x.last) x.plan
+due_breaks p s h x = breaks_by x.course.fresh (due_of h (register x.regs) (shown_byte p s.memory) s.breaks) x.course.fired (verdict_behind p (sources_of p) x.course.plan (register x.regs) x.course.last) x.course.plan
 
 fired_as : (b : Bool) (d : Due) (f : Option Fired) (v : Verdict) (plan : Plan) → f ≡ None → (let j : Judgement = record { breaks = d; fired = f; verdict = v } in (cond b j (no_arrival plan)).fired) ≡ None
 fired_as true d f v plan none = none
@@ -159,9 +159,9 @@ pub unwatched : (p : Program) (sources : Sources) (es : List BreakEntry) (h : �
 unfolding judgement_of
 unwatched p sources es h c rs bytes none = fired_as c.fresh (due_of h rs bytes es) c.fired (verdict_behind p sources c.plan rs c.last) c.plan none
 
-pub due_fired : (p : Program) (s : State) (h : ℕ) (x : Hart) → x.fired ≡ None → (due p s h x).fired ≡ None
+pub due_fired : (p : Program) (s : State) (h : ℕ) (x : Hart) → x.course.fired ≡ None → (due p s h x).fired ≡ None
 unfolding due
-due_fired p s h x none = unwatched p (sources_of p) s.breaks h (course_of x) (register x.regs) (shown_byte p s.memory) none
+due_fired p s h x none = unwatched p (sources_of p) s.breaks h x.course (register x.regs) (shown_byte p s.memory) none
 
 free_by : (b : Bool) (d : Due) (f : Option Fired) (v : Verdict) → v ≡ verdicts.Go plans.Free → (let j : Judgement = record { breaks = d; fired = f; verdict = v } in (cond b j (no_arrival plans.Free)).verdict) ≡ verdicts.Go plans.Free
 free_by true d f v is = is
@@ -174,9 +174,9 @@ free_course p sources es h c rs bytes free =
     subst P (sym free) (free_by c.fresh (due_of h rs bytes es) c.fired (verdict_behind p sources plans.Free rs c.last) (free_goes p sources rs c.last))
 
 -- a hart without a plan goes on without one
-pub free_verdict : (p : Program) (s : State) (h : ℕ) (x : Hart) → x.plan ≡ plans.Free → (due p s h x).verdict ≡ verdicts.Go plans.Free
+pub free_verdict : (p : Program) (s : State) (h : ℕ) (x : Hart) → x.course.plan ≡ plans.Free → (due p s h x).verdict ≡ verdicts.Go plans.Free
 unfolding due
-free_verdict p s h x free = free_course p (sources_of p) s.breaks h (course_of x) (register x.regs) (shown_byte p s.memory) free
+free_verdict p s h x free = free_course p (sources_of p) s.breaks h x.course (register x.regs) (shown_byte p s.memory) free
 
 quiet_by : (p : Program) (s : State) (h : ℕ) (x : Hart) (fresh : Bool) → stands x.regs.pc s.breaks ≡ false → cond fresh (due_of h (register x.regs) (shown_byte p s.memory) s.breaks) nothing_due ≡ nothing_due
 quiet_by p s h x true off = quiet_due h (register x.regs) (shown_byte p s.memory) s.breaks off
@@ -186,5 +186,5 @@ undue_as : (j : Judgement) → j.breaks ≡ nothing_due → j.fired ≡ None →
 undue_as j breaks none goes = rw (breaks, none, goes) refl
 
 -- nothing is due for a hart without a plan where no breakpoint stands and no watch fired
-pub undue : (p : Program) (s : State) (h : ℕ) (x : Hart) → x.plan ≡ plans.Free → x.fired ≡ None → stands x.regs.pc s.breaks ≡ false → is_due (due p s h x) ≡ false
-undue p s h x free none off = undue_as (due p s h x) (due_breaks p s h x ∙ quiet_by p s h x x.fresh off) (due_fired p s h x none) (free_verdict p s h x free)
+pub undue : (p : Program) (s : State) (h : ℕ) (x : Hart) → x.course.plan ≡ plans.Free → x.course.fired ≡ None → stands x.regs.pc s.breaks ≡ false → is_due (due p s h x) ≡ false
+undue p s h x free none off = undue_as (due p s h x) (due_breaks p s h x ∙ quiet_by p s h x x.course.fresh off) (due_fired p s h x none) (free_verdict p s h x free)

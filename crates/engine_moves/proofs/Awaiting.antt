@@ -78,8 +78,8 @@ place_by : (p : Program) (a : ℕ) (o : Option ℕ) → is_wait a (in_place p o)
 place_by p a None e = cc
 place_by p a (Some ret) e = some_by p a ret (is_some (shown (unpatched p) ret)) refl e
 
-wait_by : (p : Program) (a : ℕ) (x : Mind) (b : Bool) → is_wait a (cond b (in_place p (return_of x.plan)) None) ≡ true → InText p a
-wait_by p a x true e = place_by p a (return_of x.plan) e
+wait_by : (p : Program) (a : ℕ) (x : Mind) (b : Bool) → is_wait a (cond b (in_place p (return_of x.course.plan)) None) ≡ true → InText p a
+wait_by p a x true e = place_by p a (return_of x.course.plan) e
 wait_by p a x false e = cc
 
 any_by : (p : Program) (a : ℕ) (x : Mind) (xs : List Mind) (b : Bool) → is_wait a (awaited p x) ≡ b → (b || list_any (is_wait a) (map (awaited p) xs)) ≡ true → (list_any (is_wait a) (map (awaited p) xs) ≡ true → InText p a) → InText p a

@@ -54,6 +54,7 @@ run_at o spare j m xs ws t sources =
       retired = 0;
       noted = 0;
       exited = false;
+      temporary = false;
     }
 
 abbrev pub first_run : Opening → ℕ → Run

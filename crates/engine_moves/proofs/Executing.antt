@@ -25,7 +25,8 @@ use Rattle.hart_machine.proofs.Places.{same_some, set_twice, get-set_same}
 use Rattle.dbg_model.specs.declared.entry.Entry.{Entry}
 use Rattle.dbg_model.specs.declared.entry.Entry.TheVariants.{Left}
 use Rattle.dbg_model.specs.declared.hart.Hart.{Hart}
-use Rattle.dbg_model.specs.Judging.{is_due, noted_with}
+use Rattle.dbg_model.specs.Courses.{noted_with}
+use Rattle.dbg_model.specs.Judging.{is_due}
 use Rattle.step_plans.specs.declared.plan.Plan.{Plan}
 use Rattle.dbg_model.specs.State.{due}
 use Rattle.dbg_model.specs.Watches.{fired_by}
@@ -49,8 +50,7 @@ use Rattle.engine_moves.proofs.Planting.{no_hit}
 use Rattle.engine_moves.proofs.Stepping.{after_regs, after_slot, executes, fact_of, gives_seen, one_seen, ran_harts, ran_of}
 use Rattle.engine_moves.proofs.Exiting.{Departs, departs_alone, departs_all}
 use Rattle.engine_moves.proofs.Stopping.{may_by}
-use Rattle.engine_moves.specs.declared.moving.Turned.TheVariants as turned
-use Rattle.engine_moves.specs.Steps.{Parts, applied, exits_of, leaves, turned_of, left_minds}
+use Rattle.engine_moves.specs.Steps.{Parts, applied, exits_of, leaves, left_minds}
 use Rattle.engine_moves.specs.Homing.{ComesHome, HomedBy}
 use Rattle.engine_moves.specs.Calls.{Of, GoesWith, Undue, Executes, Runs, Exits, TrapsAt}
 
@@ -261,7 +261,7 @@ rewoven r t ws = record r { machine = record r.machine { text = t }; waits = ws 
 -- what an instruction of a hart keeps, whatever patches are planted for the harts that wait then
 pub record Executed (s : Stepped) (r new : Run) (h : ℕ) (z : Mind) : Type 0 where
   pub facts : Sound new
-  pub does : (t : Words) (ws : List (Option ℕ)) → Executes (turned_of s h z r.minds) r (rewoven new t ws) h
+  pub does : (t : Words) (ws : List (Option ℕ)) → Executes s r (rewoven new t ws) h
 
 -- the machine after an instruction, before harts come home
 abbrev stepped_to : Run → ℕ → Core → Memory → Patched
@@ -296,7 +296,7 @@ record Leaving (s : Stepped) (r : Run) (h : ℕ) (c : Core) (x : Mind) (m : Patc
   before : is_before x.phase ≡ true
   machine : Patched
   steps : Steps s r.machine h machine
-  homed : HomedBy s machine m r.hold None r.breaks r.waits h (after_step x.phase) (slice_set r.minds h (ran_of r h c x machine.memory))
+  homed : HomedBy s (wants_of r) None (record { hart = h; phase = after_step x.phase; minds = slice_set r.minds h (ran_of r h c x machine.memory) }) machine m
   minds : xs ≡ left_minds s h (ran_of r h c x machine.memory) r.minds
 
 exits_as : (s : Stepped) (r : Run) (h code count spare : ℕ) (c : Core) (x : Mind) (cs : List Core) (xs : List Mind) (mem : Memory) (t : Words) (slots : List (Option SlotUse)) (es : List Entry) → length es ≡ count
@@ -348,7 +348,7 @@ parts_home old between new cs slots rest cores text =
 
 -- this hart left
 left_alone : (r : Run) (h spare code : ℕ) (c : Core) (x : Mind) (new m : Patched) (hold : Option Hold) → Ready r h c x → (t : StepsTo (stepped.HartExit code) r.machine h c new)
-    → ComesHome (stepped_to r h t.core t.memory) m r.hold hold r.breaks r.waits (λ k. GoesHome (stepped_to r h t.core t.memory) k h (after_step x.phase)) → Executed (stepped.HartExit code) r (ran_to (stepped.HartExit code) r h (ran_of r h c x t.memory) m hold spare) h (ran_of r h c x t.memory)
+    → ComesHome (stepped_to r h t.core t.memory) m (wants_of r) hold (λ k. GoesHome (stepped_to r h t.core t.memory) k h (after_step x.phase)) → Executed (stepped.HartExit code) r (ran_to (stepped.HartExit code) r h (ran_of r h c x t.memory) m hold spare) h (ran_of r h c x t.memory)
 left_alone r h spare code c x new m hold k t rel =
     let p = r.opening.image in
     let s = stepped.HartExit code in
@@ -373,14 +373,14 @@ left_alone r h spare code c x new m hold k t rel =
     (home_out p r.machine.slots h t.core q fact.placed (λ without. n.entered)) (unholds r.hold h k.free) free one.slots_len texts in
     let end : Patched = record { text = m.text; cores = slice_set r.machine.cores h d; memory = t.memory; slots = g.slots } in
     let parts = parts_home mid g m (slice_set r.machine.cores h d) g.slots one.rest cores rel.rest in
-    let P : Patched → Option Hold → Type 0 = λ n o. ComesHome mid n r.hold o r.breaks r.waits (λ k. GoesHome mid k h q) in
+    let P : Patched → Option Hold → Type 0 = λ n o. ComesHome mid n (wants_of r) o (λ k. GoesHome mid k h q) in
     let homed = subst (λ (o : Option Hold). P end o) rel.none (subst (λ (n : Patched). P n hold) parts rel) in
     let l : Leaving s r h c x end (slice_set r.minds h (gone_mind z)) = record { mover = k.mover; before = k.before; machine = mid; steps = stepped_as s r h c x new k.mover t; homed = homed; minds = refl } in
-    whole s r h spare z end m hold rel.none parts (record { facts = e.facts; does = exits_as s r h code 1 spare c x (slice_set r.machine.cores h d) (slice_set r.minds h (gone_mind z)) t.memory m.text g.slots (Left h code ∷ []) refl l e })
+    whole s r h spare z end m hold rel.none parts (record { facts = e.facts; does = λ u ws. (code, exits_as s r h code 1 spare c x (slice_set r.machine.cores h d) (slice_set r.minds h (gone_mind z)) t.memory m.text g.slots (Left h code ∷ []) refl l e u ws) })
 
 -- all harts left
 left_all : (r : Run) (h spare code : ℕ) (c : Core) (x : Mind) (new m : Patched) (hold : Option Hold) → Ready r h c x → (t : StepsTo (stepped.AllExit code) r.machine h c new)
-    → ComesHome (stepped_to r h t.core t.memory) m r.hold hold r.breaks r.waits (λ k. AllGoHome (stepped_to r h t.core t.memory) k 0 (slice_set r.minds h (ran_of r h c x t.memory)))
+    → ComesHome (stepped_to r h t.core t.memory) m (wants_of r) hold (λ k. AllGoHome (stepped_to r h t.core t.memory) k 0 (slice_set r.minds h (ran_of r h c x t.memory)))
     → Executed (stepped.AllExit code) r (ran_to (stepped.AllExit code) r h (ran_of r h c x t.memory) m hold spare) h (ran_of r h c x t.memory)
 left_all r h spare code c x new m hold k t rel =
     let p = r.opening.image in
@@ -399,13 +399,13 @@ left_all r h spare code c x new m hold k t rel =
     let e = departs_all r h spare code c t.core x g.cores t.memory m.text g.slots k.facts k.mover k.runs k.before k.none k.may (plain_gives s r h c x new k t) n.retired n.copied home free rel.home.slots_len cores texts in
     let end : Patched = record { text = m.text; cores = g.cores; memory = t.memory; slots = g.slots } in
     let parts = parts_home mid g m g.cores g.slots rel.home.rest refl rel.rest in
-    let P : Patched → Option Hold → Type 0 = λ n o. ComesHome mid n r.hold o r.breaks r.waits (λ k. AllGoHome mid k 0 xs) in
+    let P : Patched → Option Hold → Type 0 = λ n o. ComesHome mid n (wants_of r) o (λ k. AllGoHome mid k 0 xs) in
     let homed = subst (λ (o : Option Hold). P end o) rel.none (subst (λ (n : Patched). P n hold) parts rel) in
     let l : Leaving s r h c x end (map gone_mind xs) = record { mover = k.mover; before = k.before; machine = mid; steps = stepped_as s r h c x new k.mover t; homed = homed; minds = refl } in
-    whole s r h spare z end m hold rel.none parts (record { facts = e.facts; does = exits_as s r h code (length es) spare c x g.cores (map gone_mind xs) t.memory m.text g.slots es refl l e })
+    whole s r h spare z end m hold rel.none parts (record { facts = e.facts; does = λ u ws. (code, length es, exits_as s r h code (length es) spare c x g.cores (map gone_mind xs) t.memory m.text g.slots es refl l e u ws) })
 
 executed_by : (s : Stepped) (r : Run) (h spare : ℕ) (c : Core) (x : Mind) (new m : Patched) (hold : Option Hold) → has_run s ≡ true → Ready r h c x → (t : StepsTo s r.machine h c new)
-    → HomedBy s (stepped_to r h t.core t.memory) m r.hold hold r.breaks r.waits h (after_step x.phase) (slice_set r.minds h (ran_of r h c x t.memory)) → Executed s r (ran_to s r h (ran_of r h c x t.memory) m hold spare) h (ran_of r h c x t.memory)
+    → HomedBy s (wants_of r) hold (record { hart = h; phase = after_step x.phase; minds = slice_set r.minds h (ran_of r h c x t.memory) }) (stepped_to r h t.core t.memory) m → Executed s r (ran_to s r h (ran_of r h c x t.memory) m hold spare) h (ran_of r h c x t.memory)
 executed_by stepped.Ran r h spare c x new m hold d k t rel =
     let g = ran_on r h spare c t.core x t.memory [] stepped.Ran k (counts stepped.Ran r h c x new d k t) (plain_gives stepped.Ran r h c x new k t) (stepped_as stepped.Ran r h c x new k.mover t) in
     kept_by stepped.Ran r h spare (ran_of r h c x t.memory) (stepped_to r h t.core t.memory) m hold rel (record { facts = g.facts; does = g.runs })
@@ -420,21 +420,21 @@ executed_by stepped.Hit r h spare c x new m hold d k t rel = cc
 executed_by (stepped.Trap cause) r h spare c x new m hold d k t rel = cc
 
 pub executed_to : (s : Stepped) (r : Run) (h spare : ℕ) (c : Core) (x : Mind) (new m : Patched) (hold : Option Hold) (q : Parts) (noted : ℕ) → has_run s ≡ true → Ready r h c x → StepsTo s r.machine h c new
-    → HomedBy s new m r.hold hold r.breaks r.waits h (after_step x.phase) (slice_set r.minds h (ran_of r h c x new.memory)) → q ≡ applied s h (ran_of r h c x new.memory) (parts_of r) → noted ≡ noted_by s h (ran_of r h c x new.memory) r.minds r.noted
+    → HomedBy s (wants_of r) hold (record { hart = h; phase = after_step x.phase; minds = slice_set r.minds h (ran_of r h c x new.memory) }) new m → q ≡ applied s h (ran_of r h c x new.memory) (parts_of r) → noted ≡ noted_by s h (ran_of r h c x new.memory) r.minds r.noted
     → Executed s r (run_with r m q noted hold spare) h (ran_of r h c x new.memory)
 executed_to s r h spare c x new m hold q noted d k t rel is count =
     let Z : Patched → Mind = λ n. ran_of r h c x n.memory in
     let Q : Parts → Type 0 = λ u. Executed s r (run_with r m u noted hold spare) h (Z new) in
     let N : ℕ → Type 0 = λ n. Executed s r (run_with r m (applied s h (Z new) (parts_of r)) n hold spare) h (Z new) in
-    let R : Patched → Type 0 = λ n. HomedBy s n m r.hold hold r.breaks r.waits h (after_step x.phase) (slice_set r.minds h (Z n)) in
+    let R : Patched → Type 0 = λ n. HomedBy s (wants_of r) hold (record { hart = h; phase = after_step x.phase; minds = slice_set r.minds h (Z n) }) n m in
     let E : Patched → Type 0 = λ n. Executed s r (ran_to s r h (Z n) m hold spare) h (Z n) in
     subst Q (sym is) (subst N (sym count) (subst E (sym t.machine) (executed_by s r h spare c x new m hold d k t (subst R t.machine rel))))
 
 -- what holds of the engine then, where this is kept of the hart
 pub executed_as : (s : Stepped) (r : Run) (h spare : ℕ) (c : Core) (x z : Mind) (new m : Patched) (hold : Option Hold) (q : Parts) → has_run s ≡ true → Ready r h c x → StepsTo s r.machine h c new → ran_of r h c x new.memory ≡ z
-    → HomedBy s new m r.hold hold r.breaks r.waits h z.phase (slice_set r.minds h z) → q ≡ applied s h z (parts_of r) → Sound (run_with r m q (noted_by s h z r.minds r.noted) hold spare)
+    → HomedBy s (wants_of r) hold (record { hart = h; phase = z.phase; minds = slice_set r.minds h z }) new m → q ≡ applied s h z (parts_of r) → Sound (run_with r m q (noted_by s h z r.minds r.noted) hold spare)
 executed_as s r h spare c x z new m hold q d k t same rel is =
-    let P : Mind → Type 0 = λ z. HomedBy s new m r.hold hold r.breaks r.waits h z.phase (slice_set r.minds h z) → q ≡ applied s h z (parts_of r) → Sound (run_with r m q (noted_by s h z r.minds r.noted) hold spare) in
+    let P : Mind → Type 0 = λ z. HomedBy s (wants_of r) hold (record { hart = h; phase = z.phase; minds = slice_set r.minds h z }) new m → q ≡ applied s h z (parts_of r) → Sound (run_with r m q (noted_by s h z r.minds r.noted) hold spare) in
     subst P same (λ rel is. (executed_to s r h spare c x new m hold q (noted_by s h (ran_of r h c x new.memory) r.minds r.noted) d k t rel is refl).facts) rel is
 
 -- what is kept of the harts where none leaves
@@ -455,16 +455,16 @@ applied_twice (stepped.AllExit code) h z p done = ap (λ xs. let q : Parts = rec
 applied_twice stepped.Hit h z p done = cc
 applied_twice (stepped.Trap cause) h z p done = cc
 
-pub turned_twice : (s : Stepped) (h : ℕ) (z : Mind) (xs : List Mind) → turned_of s h z (slice_set xs h z) ≡ turned_of s h z xs
-turned_twice stepped.Ran h z xs = refl
-turned_twice (stepped.Wrote addr len) h z xs = refl
-turned_twice (stepped.HartExit code) h z xs = refl
-turned_twice (stepped.AllExit code) h z xs = ap (λ ys. turned.AllLeft code (length (lefts_live code 0 ys))) (set_twice xs h z z)
-turned_twice stepped.Hit h z xs = refl
-turned_twice (stepped.Trap cause) h z xs = refl
+pub exits_twice : (s : Stepped) (h : ℕ) (z : Mind) (xs : List Mind) → exits_of s h z (slice_set xs h z) ≡ exits_of s h z xs
+exits_twice stepped.Ran h z xs = refl
+exits_twice (stepped.Wrote addr len) h z xs = refl
+exits_twice (stepped.HartExit code) h z xs = refl
+exits_twice (stepped.AllExit code) h z xs = ap (λ ys. length (lefts_live code 0 ys)) (set_twice xs h z z)
+exits_twice stepped.Hit h z xs = refl
+exits_twice (stepped.Trap cause) h z xs = refl
 
 -- each hart that left is noted
-pub exits_noted : (s : Stepped) (h : ℕ) (z : Mind) (xs : List Mind) (n : ℕ) → n + exits_of (turned_of s h z xs) ≡ noted_by s h z xs n
+pub exits_noted : (s : Stepped) (h : ℕ) (z : Mind) (xs : List Mind) (n : ℕ) → n + exits_of s h z xs ≡ noted_by s h z xs n
 exits_noted stepped.Ran h z xs n = omega arith
 exits_noted (stepped.Wrote addr len) h z xs n = omega arith
 exits_noted (stepped.HartExit code) h z xs n = refl

@@ -1,18 +1,18 @@
--- Threads that go on, or of which an interrupt is asked, as they are kept and as they are seen.
+-- What a line makes of the harts, as they are kept and as they are seen.
 use Rattle.std.proofs.Common.{◌≡◌, ℕ, zero, suc, ◌+◌, Bool, true, false, cond, List, [], ◌∷◌, length, refl, sym, ap, ◌∙◌, subst, arith}
-use Rattle.std.specs.Prelude.{Option, Some, None, map, slice_get}
+use Rattle.std.specs.Prelude.{Option, Some, map, slice_get}
 use Rattle.std.proofs.lemmas.Option.{slice_get_within}
-use Rattle.std.specs.Option.{option_map}
 use Rattle.elf32_read.specs.Program.{Program}
 use Rattle.scratch_slots.specs.declared.slots.SlotUse.{SlotUse}
 use Rattle.hart_machine.specs.declared.hart.Core.{Core}
 use Rattle.hart_machine.proofs.Places.{same_some}
 use Rattle.step_plans.specs.declared.plan.Plan.{Plan}
 use Rattle.dbg_model.specs.declared.hart.Hart.{Hart}
+use Rattle.dbg_model.specs.Courses.{after_forgetting}
 use Rattle.dbg_model.specs.Outcome.{Change, stays, resumes, selects, inserts, adds_watch, deletes, enables, conditions, ignores, interrupts, displaces, pokes, exits}
 use Rattle.dbg_model.specs.Reply.{harts_after, is_named, on_threads, resumed}
 use Rattle.dbg_model.specs.Reply as model
-use Rattle.dbg_model.proofs.Naming.{length-on_threads, named, on_threads-get}
+use Rattle.dbg_model.proofs.Naming.{named}
 use Rattle.engine_moves.specs.declared.mind.Activity.{Activity}
 use Rattle.engine_moves.specs.declared.mind.Activity.TheVariants as activity
 use Rattle.engine_moves.specs.declared.mind.Hold.{Hold}
@@ -21,138 +21,92 @@ use Rattle.engine_moves.specs.Minds.{is_active, slot_of}
 use Rattle.engine_moves.specs.Seen.{seen_hart, seen_harts}
 use Rattle.engine_moves.specs.Facts.{HartFact, Harts, HasSlot}
 use Rattle.engine_moves.proofs.Holding.{get_within}
-use Rattle.engine_moves.proofs.Stopping.{resumed_fact, asked_fact, phase_of}
+use Rattle.engine_moves.proofs.Stopping.{going_fact, phase_at, phase_of, resumed_fact}
 use Rattle.engine_moves.specs.Resuming.{gone_on, gone_on_by, asked, asked_by, forgetting, minds_after}
 
--- ---- what becomes of one hart
+-- ---- one hart
 
-gone_on_seen : (p : Program) (c : Core) (x : Mind) (plan : Plan) (a : Activity) → x.activity ≡ a → seen_hart p c (gone_on plan x) ≡ resumed plan (seen_hart p c x)
-gone_on_seen p c x plan activity.Stopped is = rw is refl
-gone_on_seen p c x plan activity.Running is = rw is refl
-gone_on_seen p c x plan activity.Exited is = rw is refl
+-- y is kept of a hart of which x was kept, and it stays where it is
+record Keeps (p : Program) (slots : List (Option SlotUse)) (hold : Option Hold) (h : ℕ) (c : Core) (x y : Mind) : Type 0 where
+  fact : HartFact p slots hold h c y
+  phase : y.phase ≡ x.phase
 
-gone_on_fact : (p : Program) (slots : List (Option SlotUse)) (hold : Option Hold) (h : ℕ) (c : Core) (x : Mind) (plan : Plan) (a : Activity) → x.activity ≡ a → HartFact p slots hold h c x → HartFact p slots hold h c (gone_on_by plan x a)
-gone_on_fact p slots hold h c x plan activity.Stopped is f = resumed_fact p slots hold h c x plan f (ap is_active is)
-gone_on_fact p slots hold h c x plan activity.Running is f = f
-gone_on_fact p slots hold h c x plan activity.Exited is f = f
-
-gone_phase : (p : Program) (slots : List (Option SlotUse)) (hold : Option Hold) (h : ℕ) (c : Core) (x : Mind) (plan : Plan) (a : Activity) → x.activity ≡ a → HartFact p slots hold h c x → (gone_on_by plan x a).phase ≡ x.phase
-gone_phase p slots hold h c x plan activity.Stopped is f = sym (f.idle (ap is_active is))
-gone_phase p slots hold h c x plan activity.Running is f = refl
-gone_phase p slots hold h c x plan activity.Exited is f = refl
-
-asked_seen : (p : Program) (c : Core) (x : Mind) (a : Activity) → x.activity ≡ a → seen_hart p c (asked x) ≡ model.asked (seen_hart p c x)
-asked_seen p c x activity.Stopped is = rw is refl
-asked_seen p c x activity.Running is = rw is refl
-asked_seen p c x activity.Exited is = rw is refl
-
-asked_by_fact : (p : Program) (slots : List (Option SlotUse)) (hold : Option Hold) (h : ℕ) (c : Core) (x : Mind) (a : Activity) → HartFact p slots hold h c x → HartFact p slots hold h c (asked_by x a)
-asked_by_fact p slots hold h c x activity.Stopped f = f
-asked_by_fact p slots hold h c x activity.Running f = asked_fact p slots hold h c x f
-asked_by_fact p slots hold h c x activity.Exited f = f
-
-asked_phase : (x : Mind) (a : Activity) → (asked_by x a).phase ≡ x.phase
-asked_phase x activity.Stopped = refl
-asked_phase x activity.Running = refl
-asked_phase x activity.Exited = refl
-
--- A change of what is kept of a hart is seen as this, and keeps what is known of the hart and where it is in a step over a
--- breakpoint.
-record Orders (f : Mind → Mind) (g : Hart → Hart) : Type 0 where
+-- what f makes of what is kept of a hart is seen as what g makes of the hart, which stays where it is
+record Order (f : Mind → Mind) (g : Hart → Hart) : Type 0 where
   sees : (p : Program) (c : Core) (x : Mind) → seen_hart p c (f x) ≡ g (seen_hart p c x)
-  fact : (p : Program) (slots : List (Option SlotUse)) (hold : Option Hold) (h : ℕ) (c : Core) (x : Mind) → HartFact p slots hold h c x → HartFact p slots hold h c (f x)
-  phase : (p : Program) (slots : List (Option SlotUse)) (hold : Option Hold) (h : ℕ) (c : Core) (x : Mind) → HartFact p slots hold h c x → (f x).phase ≡ x.phase
+  keeps : (p : Program) (slots : List (Option SlotUse)) (hold : Option Hold) (h : ℕ) (c : Core) (x : Mind) → HartFact p slots hold h c x → Keeps p slots hold h c x (f x)
 
-goes_on : (plan : Plan) → Orders (gone_on plan) (resumed plan)
-goes_on plan = record {
-  sees = λ p c x. gone_on_seen p c x plan x.activity refl;
-  fact = λ p slots hold h c x f. gone_on_fact p slots hold h c x plan x.activity refl f;
-  phase = λ p slots hold h c x f. gone_phase p slots hold h c x plan x.activity refl f;
-}
+resumed_sees : (p : Program) (c : Core) (x : Mind) (plan : Plan) (a : Activity) → x.activity ≡ a → seen_hart p c (gone_on plan x) ≡ resumed plan (seen_hart p c x)
+resumed_sees p c x plan activity.Stopped is = rw is refl
+resumed_sees p c x plan activity.Running is = rw is refl
+resumed_sees p c x plan activity.Exited is = rw is refl
 
-is_asked : Orders asked model.asked
-is_asked = record {
-  sees = λ p c x. asked_seen p c x x.activity refl;
-  fact = λ p slots hold h c x f. asked_by_fact p slots hold h c x x.activity f;
-  phase = λ p slots hold h c x f. asked_phase x x.activity;
-}
+resumed_keeps : (p : Program) (slots : List (Option SlotUse)) (hold : Option Hold) (h : ℕ) (c : Core) (x : Mind) (plan : Plan) (a : Activity) → x.activity ≡ a → HartFact p slots hold h c x → Keeps p slots hold h c x (gone_on_by plan x a)
+resumed_keeps p slots hold h c x plan activity.Stopped is f = let idle = ap is_active is in record { fact = resumed_fact p slots hold h c x plan f idle; phase = sym (f.idle idle) }
+resumed_keeps p slots hold h c x plan activity.Running is f = record { fact = f; phase = refl }
+resumed_keeps p slots hold h c x plan activity.Exited is f = record { fact = f; phase = refl }
 
--- ---- what is seen of them
+asked_sees : (p : Program) (c : Core) (x : Mind) (a : Activity) → x.activity ≡ a → seen_hart p c (asked x) ≡ model.asked (seen_hart p c x)
+asked_sees p c x activity.Stopped is = rw is refl
+asked_sees p c x activity.Running is = rw is refl
+asked_sees p c x activity.Exited is = rw is refl
 
-seen_one : (f : Mind → Mind) (g : Hart → Hart) → Orders f g → (p : Program) (c : Core) (x : Mind) (b : Bool) → seen_hart p c (cond b (f x) x) ≡ cond b (g (seen_hart p c x)) (seen_hart p c x)
-seen_one f g o p c x true = o.sees p c x
-seen_one f g o p c x false = refl
+asked_keeps : (p : Program) (slots : List (Option SlotUse)) (hold : Option Hold) (h : ℕ) (c : Core) (x : Mind) (a : Activity) → HartFact p slots hold h c x → Keeps p slots hold h c x (asked_by x a)
+asked_keeps p slots hold h c x activity.Stopped f = record { fact = f; phase = refl }
+asked_keeps p slots hold h c x activity.Running f = record { fact = going_fact p slots hold h c x true x.course f; phase = refl }
+asked_keeps p slots hold h c x activity.Exited f = record { fact = f; phase = refl }
 
-seen_threads : (f : Mind → Mind) (g : Hart → Hart) → Orders f g → (p : Program) (ts : List ℕ) (n : ℕ) (cs : List Core) (xs : List Mind) → seen_harts p cs (on_threads f ts n xs) ≡ on_threads g ts n (seen_harts p cs xs)
-seen_threads f g o p ts n [] xs = refl
-seen_threads f g o p ts n (c ∷ cs) [] = refl
-seen_threads f g o p ts n (c ∷ cs) (x ∷ xs) =
-    ap (λ y. y ∷ seen_harts p cs (on_threads f ts (n + 1) xs)) (seen_one f g o p c x (is_named ts n))
-    ∙ ap (λ ys. named g ts n (seen_hart p c x) ∷ ys) (seen_threads f g o p ts (n + 1) cs xs)
+resume : (plan : Plan) → Order (gone_on plan) (resumed plan)
+resume plan = record { sees = λ p c x. resumed_sees p c x plan x.activity refl; keeps = λ p slots hold h c x f. resumed_keeps p slots hold h c x plan x.activity refl f }
 
--- ---- what is known of the harts stays
+ask : Order asked model.asked
+ask = record { sees = λ p c x. asked_sees p c x x.activity refl; keeps = λ p slots hold h c x f. asked_keeps p slots hold h c x x.activity f }
 
--- a hart behind the change, and before it
-record Before (f : Mind → Mind) (xs : List Mind) (h : ℕ) (y : Mind) : Type 0 where
+forget : (ns : List ℕ) → Order (forgetting ns) (model.forgetting ns)
+forget ns = record { sees = λ p c x. refl; keeps = λ p slots hold h c x f. record { fact = going_fact p slots hold h c x x.asked (after_forgetting ns x.course) f; phase = refl } }
+
+if_so : (f : Mind → Mind) (g : Hart → Hart) (b : Bool) → Order f g → Order (λ x. cond b (f x) x) (λ y. cond b (g y) y)
+if_so f g true o = record { sees = o.sees; keeps = o.keeps }
+if_so f g false o = record { sees = λ p c x. refl; keeps = λ p slots hold h c x f. record { fact = f; phase = refl } }
+
+-- ---- each hart, by the number of its thread
+
+abbrev each_by : {A : Type 0} → (ℕ → A → A) → ℕ → List A → List A
+each_by f n [] = []
+each_by f n (x ∷ xs) = f n x ∷ each_by f (n + 1) xs
+
+each_thread : {A : Type 0} (f : A → A) (ts : List ℕ) (n : ℕ) (xs : List A) → on_threads f ts n xs ≡ each_by (named f ts) n xs
+each_thread f ts n [] = refl
+each_thread f ts n (x ∷ xs) = ap (λ t. named f ts n x ∷ t) (each_thread f ts (n + 1) xs)
+
+each_hart : {A : Type 0} (f : A → A) (n : ℕ) (xs : List A) → map f xs ≡ each_by (λ k. f) n xs
+each_hart f n [] = refl
+each_hart f n (x ∷ xs) = ap (λ t. f x ∷ t) (each_hart f (n + 1) xs)
+
+each_length : (f : ℕ → Mind → Mind) (n : ℕ) (xs : List Mind) → length (each_by f n xs) ≡ length xs
+each_length f n [] = refl
+each_length f n (x ∷ xs) = ap suc (each_length f (n + 1) xs)
+
+-- a hart before the change
+record Before (f : ℕ → Mind → Mind) (xs : List Mind) (h : ℕ) (y : Mind) : Type 0 where
   mind : Mind
   at : slice_get xs h ≡ Some mind
-  chosen : Bool
-  is : cond chosen (f mind) mind ≡ y
+  thread : ℕ
+  is : f thread mind ≡ y
 
-before_by : (f : Mind → Mind) (ts : List ℕ) (n : ℕ) (xs : List Mind) (h : ℕ) (y : Mind) (r : Option Mind) → slice_get xs h ≡ r → option_map (named f ts n) r ≡ Some y → Before f xs h y
-before_by f ts n xs h y None at e = cc
-before_by f ts n xs h y (Some x) at e = record { mind = x; at = at; chosen = is_named ts n; is = same_some (named f ts n x) y e }
+before : (f : ℕ → Mind → Mind) (n : ℕ) (xs : List Mind) (h : ℕ) (y : Mind) → slice_get (each_by f n xs) h ≡ Some y → Before f xs h y
+before f n [] h y at = cc
+before f n (x ∷ xs) zero y at = record { mind = x; at = refl; thread = n; is = same_some (f n x) y at }
+before f n (x ∷ xs) (suc h) y at = let b = before f (n + 1) xs h y at in record { mind = b.mind; at = b.at; thread = b.thread; is = b.is }
 
-before : (f : Mind → Mind) (ts : List ℕ) (xs : List Mind) (h : ℕ) (y : Mind) → slice_get (on_threads f ts 1 xs) h ≡ Some y → Before f xs h y
-before f ts xs h y at = before_by f ts (1 + h) xs h y (slice_get xs h) refl (sym (on_threads-get f ts 1 h xs) ∙ at)
+each_seen : (f : ℕ → Mind → Mind) (g : ℕ → Hart → Hart) → ((n : ℕ) → Order (f n) (g n)) → (p : Program) (n : ℕ) (cs : List Core) (xs : List Mind) → seen_harts p cs (each_by f n xs) ≡ each_by g n (seen_harts p cs xs)
+each_seen f g o p n [] xs = refl
+each_seen f g o p n (c ∷ cs) [] = refl
+each_seen f g o p n (c ∷ cs) (x ∷ xs) = ap (λ y. y ∷ seen_harts p cs (each_by f (n + 1) xs)) ((o n).sees p c x) ∙ ap (λ ys. g n (seen_hart p c x) ∷ ys) (each_seen f g o p (n + 1) cs xs)
 
-one_fact : (f : Mind → Mind) (g : Hart → Hart) → Orders f g → (p : Program) (slots : List (Option SlotUse)) (hold : Option Hold) (h : ℕ) (c : Core) (x : Mind) (b : Bool) → HartFact p slots hold h c x → HartFact p slots hold h c (cond b (f x) x)
-one_fact f g o p slots hold h c x true k = o.fact p slots hold h c x k
-one_fact f g o p slots hold h c x false k = k
-
-one_phase : (f : Mind → Mind) (g : Hart → Hart) → Orders f g → (p : Program) (slots : List (Option SlotUse)) (hold : Option Hold) (h : ℕ) (c : Core) (x : Mind) (b : Bool) → HartFact p slots hold h c x → (cond b (f x) x).phase ≡ x.phase
-one_phase f g o p slots hold h c x true k = o.phase p slots hold h c x k
-one_phase f g o p slots hold h c x false k = refl
-
--- a hart with a mind has a core
-core_of : (p : Program) (cs : List Core) (slots : List (Option SlotUse)) (xs : List Mind) (hold : Option Hold) (h : ℕ) (x : Mind) → Harts p cs slots xs hold → slice_get xs h ≡ Some x → (c : Core) × (slice_get cs h ≡ Some c)
-core_of p cs slots xs hold h x hs at = get_within cs h (omega (arith, slice_get_within xs h x at, hs.len))
-
-used_still : (f : Mind → Mind) (g : Hart → Hart) → Orders f g → (p : Program) (cs : List Core) (slots : List (Option SlotUse)) (xs : List Mind) (hold : Option Hold) (ts : List ℕ) (slot : ℕ) (k : ℕ) → Harts p cs slots xs hold → HasSlot xs k slot → HasSlot (on_threads f ts 1 xs) k slot
-used_still f g o p cs slots xs hold ts slot k hs has =
-    let c = core_of p cs slots xs hold k has.mind hs has.at in
-    let fact = hs.each k c.0 has.mind c.1 has.at in
-    let y = named f ts (1 + k) has.mind in
-    record {
-      mind = y;
-      at = on_threads-get f ts 1 k xs ∙ ap (option_map (named f ts (1 + k))) has.at;
-      has = ap slot_of (one_phase f g o p slots hold k c.0 has.mind (is_named ts (1 + k)) fact) ∙ has.has;
-    }
-
-harts_threads : (f : Mind → Mind) (g : Hart → Hart) → Orders f g → (p : Program) (cs : List Core) (slots : List (Option SlotUse)) (xs : List Mind) (hold : Option Hold) (ts : List ℕ) → Harts p cs slots xs hold → Harts p cs slots (on_threads f ts 1 xs) hold
-harts_threads f g o p cs slots xs hold ts hs =
-    let len = length-on_threads f ts 1 xs in
-    record {
-      len = hs.len ∙ sym len;
-      each = λ h c y ec ey.
-          let b = before f ts xs h y ey in
-          subst (λ (z : Mind). HartFact p slots hold h c z) b.is (one_fact f g o p slots hold h c b.mind b.chosen (hs.each h c b.mind ec b.at));
-      holder = λ d e. omega (arith, hs.holder d e, len);
-      used = λ slot u e. used_still f g o p cs slots xs hold ts slot u.hart hs (hs.used slot u e);
-    }
-
--- ---- the phases stay
-
-phases_from : (f : Mind → Mind) (ts : List ℕ) (n : ℕ) (xs : List Mind) → ((h : ℕ) (x : Mind) → slice_get xs h ≡ Some x → (b : Bool) → (cond b (f x) x).phase ≡ x.phase) → map phase_of (on_threads f ts n xs) ≡ map phase_of xs
-phases_from f ts n [] each = refl
-phases_from f ts n (x ∷ xs) each =
-    ap (λ q. q ∷ map phase_of (on_threads f ts (n + 1) xs)) (each 0 x refl (is_named ts n))
-    ∙ ap (λ qs. x.phase ∷ qs) (phases_from f ts (n + 1) xs (λ h y at b. each (suc h) y at b))
-
-phases_threads : (f : Mind → Mind) (g : Hart → Hart) → Orders f g → (p : Program) (cs : List Core) (slots : List (Option SlotUse)) (xs : List Mind) (hold : Option Hold) (ts : List ℕ) → Harts p cs slots xs hold → map phase_of (on_threads f ts 1 xs) ≡ map phase_of xs
-phases_threads f g o p cs slots xs hold ts hs =
-    phases_from f ts 1 xs
-    (λ h x at b. let c = core_of p cs slots xs hold h x hs at in one_phase f g o p slots hold h c.0 x b (hs.each h c.0 x c.1 at))
+each_phase : (f : ℕ → Mind → Mind) (n : ℕ) (xs : List Mind) → ((h k : ℕ) (x : Mind) → slice_get xs h ≡ Some x → (f k x).phase ≡ x.phase) → map phase_of (each_by f n xs) ≡ map phase_of xs
+each_phase f n [] same = refl
+each_phase f n (x ∷ xs) same = ap (λ q. q ∷ map phase_of (each_by f (n + 1) xs)) (same 0 n x refl) ∙ ap (λ qs. x.phase ∷ qs) (each_phase f (n + 1) xs (λ h k y at. same (suc h) k y at))
 
 -- ---- the change of a line
 
@@ -163,65 +117,37 @@ pub record Ordered (p : Program) (cs : List Core) (slots : List (Option SlotUse)
   pub phases : map phase_of ys ≡ map phase_of xs
   pub len : length ys ≡ length xs
 
-by_orders : (f : Mind → Mind) (g : Hart → Hart) → Orders f g → (p : Program) (cs : List Core) (slots : List (Option SlotUse)) (hold : Option Hold) (xs : List Mind) (ts : List ℕ) (c : Change) → harts_after (seen_harts p cs xs) c ≡ on_threads g ts 1 (seen_harts p cs xs)
-    → Harts p cs slots xs hold → Ordered p cs slots hold xs (on_threads f ts 1 xs) c
-by_orders f g o p cs slots hold xs ts c is hs =
-    record {
-      sees = seen_threads f g o p ts 1 cs xs ∙ sym is;
-      harts = harts_threads f g o p cs slots xs hold ts hs;
-      phases = phases_threads f g o p cs slots xs hold ts hs;
-      len = length-on_threads f ts 1 xs;
-    }
+ordered : (f : ℕ → Mind → Mind) (g : ℕ → Hart → Hart) → ((n : ℕ) → Order (f n) (g n)) → (p : Program) (cs : List Core) (slots : List (Option SlotUse)) (hold : Option Hold) (xs ys : List Mind) (c : Change)
+    → each_by f 1 xs ≡ ys → harts_after (seen_harts p cs xs) c ≡ each_by g 1 (seen_harts p cs xs) → Harts p cs slots xs hold → Ordered p cs slots hold xs ys c
+ordered f g o p cs slots hold xs ys c is becomes hs =
+    let core : (h : ℕ) (x : Mind) → slice_get xs h ≡ Some x → (d : Core) × (slice_get cs h ≡ Some d) = λ h x at. get_within cs h (omega (arith, slice_get_within xs h x at, hs.len)) in
+    let same = each_phase f 1 xs (λ h k x at. let d = core h x at in ((o k).keeps p slots hold h d.0 x (hs.each h d.0 x d.1 at)).phase) in
+    let len = each_length f 1 xs in
+    subst (λ (zs : List Mind). Ordered p cs slots hold xs zs c) is
+    (record {
+      sees = each_seen f g o p 1 cs xs ∙ sym becomes;
+      harts = record {
+        len = hs.len ∙ sym len;
+        each = λ h d y ed ey. let b = before f 1 xs h y ey in subst (λ (z : Mind). HartFact p slots hold h d z) b.is ((o b.thread).keeps p slots hold h d b.mind (hs.each h d b.mind ed b.at)).fact;
+        holder = λ d e. omega (arith, hs.holder d e, len);
+        used = λ slot u e.
+            let has = hs.used slot u e in
+            let k = phase_at xs (each_by f 1 xs) u.hart has.mind (sym same) has.at in
+            record { mind = k.mind; at = k.at; has = ap slot_of k.same ∙ has.has };
+      };
+      phases = same;
+      len = len;
+    })
 
--- ---- what is forgotten of watches
-
-seen_forgotten : (p : Program) (ns : List ℕ) (cs : List Core) (xs : List Mind) → seen_harts p cs (map (forgetting ns) xs) ≡ map (model.forgetting ns) (seen_harts p cs xs)
-seen_forgotten p ns [] xs = refl
-seen_forgotten p ns (c ∷ cs) [] = refl
-seen_forgotten p ns (c ∷ cs) (x ∷ xs) = ap (λ ys. model.forgetting ns (seen_hart p c x) ∷ ys) (seen_forgotten p ns cs xs)
-
-forgotten_get : (ns : List ℕ) (xs : List Mind) (h : ℕ) (x : Mind) → slice_get xs h ≡ Some x → slice_get (map (forgetting ns) xs) h ≡ Some (forgetting ns x)
-forgotten_get ns [] h x at = cc
-forgotten_get ns (z ∷ zs) zero x at = ap (λ u. Some (forgetting ns u)) (same_some z x at)
-forgotten_get ns (z ∷ zs) (suc h) x at = forgotten_get ns zs h x at
-
--- a hart behind it, and before it
-record Forgotten (ns : List ℕ) (xs : List Mind) (h : ℕ) (y : Mind) : Type 0 where
-  mind : Mind
-  at : slice_get xs h ≡ Some mind
-  is : forgetting ns mind ≡ y
-
-forgotten_from : (ns : List ℕ) (xs : List Mind) (h : ℕ) (y : Mind) → slice_get (map (forgetting ns) xs) h ≡ Some y → Forgotten ns xs h y
-forgotten_from ns [] h y at = cc
-forgotten_from ns (z ∷ zs) zero y at = record { mind = z; at = refl; is = same_some (forgetting ns z) y at }
-forgotten_from ns (z ∷ zs) (suc h) y at = let r = forgotten_from ns zs h y at in record { mind = r.mind; at = r.at; is = r.is }
-
-forgotten_fact : (p : Program) (slots : List (Option SlotUse)) (hold : Option Hold) (h : ℕ) (c : Core) (x : Mind) (ns : List ℕ) → HartFact p slots hold h c x → HartFact p slots hold h c (forgetting ns x)
-forgotten_fact p slots hold h c x ns k = record { placed = k.placed; entered = k.entered; held = k.held; idle = k.idle }
-
-forgotten_length : (ns : List ℕ) (xs : List Mind) → length (map (forgetting ns) xs) ≡ length xs
-forgotten_length ns [] = refl
-forgotten_length ns (x ∷ xs) = ap suc (forgotten_length ns xs)
-
-forgotten_phases : (ns : List ℕ) (xs : List Mind) → map phase_of (map (forgetting ns) xs) ≡ map phase_of xs
-forgotten_phases ns [] = refl
-forgotten_phases ns (x ∷ xs) = ap (λ qs. x.phase ∷ qs) (forgotten_phases ns xs)
+by_threads : (f : Mind → Mind) (g : Hart → Hart) → Order f g → (p : Program) (cs : List Core) (slots : List (Option SlotUse)) (hold : Option Hold) (xs : List Mind) (ts : List ℕ) (c : Change)
+    → harts_after (seen_harts p cs xs) c ≡ on_threads g ts 1 (seen_harts p cs xs) → Harts p cs slots xs hold → Ordered p cs slots hold xs (on_threads f ts 1 xs) c
+by_threads f g o p cs slots hold xs ts c is hs =
+    ordered (named f ts) (named g ts) (λ n. if_so f g (is_named ts n) o) p cs slots hold xs (on_threads f ts 1 xs) c (sym (each_thread f ts 1 xs)) (is ∙ each_thread g ts 1 (seen_harts p cs xs)) hs
 
 by_forgetting : (p : Program) (cs : List Core) (slots : List (Option SlotUse)) (hold : Option Hold) (xs : List Mind) (ns : List ℕ) (c : Change) → harts_after (seen_harts p cs xs) c ≡ map (model.forgetting ns) (seen_harts p cs xs)
     → Harts p cs slots xs hold → Ordered p cs slots hold xs (map (forgetting ns) xs) c
 by_forgetting p cs slots hold xs ns c is hs =
-    let len = forgotten_length ns xs in
-    record {
-      sees = seen_forgotten p ns cs xs ∙ sym is;
-      harts = record {
-        len = hs.len ∙ sym len;
-        each = λ h d y ed ey. let b = forgotten_from ns xs h y ey in subst (λ (z : Mind). HartFact p slots hold h d z) b.is (forgotten_fact p slots hold h d b.mind ns (hs.each h d b.mind ed b.at));
-        holder = λ d e. omega (arith, hs.holder d e, len);
-        used = λ slot u e. let has = hs.used slot u e in record { mind = forgetting ns has.mind; at = forgotten_get ns xs u.hart has.mind has.at; has = has.has };
-      };
-      phases = forgotten_phases ns xs;
-      len = len;
-    }
+    ordered (λ n. forgetting ns) (λ n. model.forgetting ns) (λ n. forget ns) p cs slots hold xs (map (forgetting ns) xs) c (sym (each_hart (forgetting ns) 1 xs)) (is ∙ each_hart (model.forgetting ns) 1 (seen_harts p cs xs)) hs
 
 -- none is meant
 none_ordered : (p : Program) (cs : List Core) (slots : List (Option SlotUse)) (hold : Option Hold) (xs : List Mind) (c : Change) → harts_after (seen_harts p cs xs) c ≡ seen_harts p cs xs → Harts p cs slots xs hold → Ordered p cs slots hold xs xs c
@@ -229,7 +155,7 @@ none_ordered p cs slots hold xs c is hs = record { sees = sym is; harts = hs; ph
 
 pub line_ordered : (p : Program) (cs : List Core) (slots : List (Option SlotUse)) (hold : Option Hold) (xs : List Mind) (c : Change) → Harts p cs slots xs hold → Ordered p cs slots hold xs (minds_after xs c) c
 line_ordered p cs slots hold xs stays hs = none_ordered p cs slots hold xs stays refl hs
-line_ordered p cs slots hold xs (resumes ts plan) hs = by_orders (gone_on plan) (resumed plan) (goes_on plan) p cs slots hold xs ts (resumes ts plan) refl hs
+line_ordered p cs slots hold xs (resumes ts plan) hs = by_threads (gone_on plan) (resumed plan) (resume plan) p cs slots hold xs ts (resumes ts plan) refl hs
 line_ordered p cs slots hold xs (selects t) hs = none_ordered p cs slots hold xs (selects t) refl hs
 line_ordered p cs slots hold xs (inserts a) hs = none_ordered p cs slots hold xs (inserts a) refl hs
 line_ordered p cs slots hold xs (adds_watch text b) hs = none_ordered p cs slots hold xs (adds_watch text b) refl hs
@@ -238,7 +164,7 @@ line_ordered p cs slots hold xs (enables true ns) hs = none_ordered p cs slots h
 line_ordered p cs slots hold xs (enables false ns) hs = by_forgetting p cs slots hold xs ns (enables false ns) refl hs
 line_ordered p cs slots hold xs (conditions n k) hs = none_ordered p cs slots hold xs (conditions n k) refl hs
 line_ordered p cs slots hold xs (ignores n k) hs = none_ordered p cs slots hold xs (ignores n k) refl hs
-line_ordered p cs slots hold xs (interrupts ts) hs = by_orders asked model.asked is_asked p cs slots hold xs ts (interrupts ts) refl hs
+line_ordered p cs slots hold xs (interrupts ts) hs = by_threads asked model.asked ask p cs slots hold xs ts (interrupts ts) refl hs
 line_ordered p cs slots hold xs (displaces value) hs = none_ordered p cs slots hold xs (displaces value) refl hs
 line_ordered p cs slots hold xs (pokes w) hs = none_ordered p cs slots hold xs (pokes w) refl hs
 line_ordered p cs slots hold xs exits hs = none_ordered p cs slots hold xs exits refl hs

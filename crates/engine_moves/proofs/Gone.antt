@@ -3,7 +3,6 @@ use Rattle.std.proofs.Common.{◌≡◌, ◌<◌, ◌≤◌, ℕ, zero, suc, ◌
 use Rattle.std.proofs.lemmas.Bool.Decides.{nat_tests}
 use Rattle.std.specs.Prelude.{◌^◌, ◌==◌, true, false, Some, None, is_some, slice_get}
 use Rattle.rv_exec.specs.Registers.{set_pc}
-use Rattle.elf32_read.specs.Program.{Program}
 use Rattle.text_words.specs.Words.{shown, is_planted}
 use Rattle.hart_machine.specs.declared.hart.Core.{Core}
 use Rattle.hart_machine.specs.Copying.{StepsByCopy}
@@ -17,9 +16,7 @@ use Rattle.dbg_model.specs.Views.{register, shown_byte}
 use Rattle.break_table.specs.declared.due.Due.{Due}
 use Rattle.hart_machine.specs.Patched.{Patched}
 use Rattle.hart_machine.specs.Running.{AllRan}
-use Rattle.break_table.specs.Entry.{Entry as BreakEntry}
-use Rattle.step_plans.specs.declared.plan.Plan.{Plan}
-use Rattle.engine_moves.specs.Going.{Way, InPlace, ByCopy, Goes, GoesBy, Passes, is_kept, meets, turns_of}
+use Rattle.engine_moves.specs.Going.{Way, InPlace, ByCopy, Goes, GoesBy, Passes, SurroundingsView, is_kept, meets, turns_of}
 
 abbrev in_place : ℕ → List Way → List Way
 in_place zero ws = ws
@@ -37,14 +34,14 @@ turns_more : (n : ℕ) (ws : List Way) → turns_of (in_place n ws) ≡ turns_of
 turns_more zero ws = omega arith
 turns_more (suc n) ws = let ih = turns_more n ws in omega arith
 
-module _ (p : Program) (bs : List BreakEntry) (vs : List Watch) (h : ℕ) (plan : Plan) (most : ℕ) (on : Bool) (old : Patched) where
-  more_by : (n : ℕ) (ws : List Way) (mid new : Patched) → vs ≡ [] → length ws + n ≤ most → GoesBy p bs vs h plan on most ws old mid → AllRan n mid h new → GoesBy p bs vs h plan on most (in_place n ws) old new
-  more_by zero ws mid new none room went ran = subst (λ (m : Patched). GoesBy p bs vs h plan on most ws old m) (sym ran) went
+module _ (a : SurroundingsView) (most : ℕ) (old : Patched) where
+  more_by : (n : ℕ) (ws : List Way) (mid new : Patched) → a.watches ≡ [] → length ws + n ≤ most → GoesBy a most ws old mid → AllRan n mid a.hart new → GoesBy a most (in_place n ws) old new
+  more_by zero ws mid new none room went ran = subst (λ (m : Patched). GoesBy a most ws old m) (sym ran) went
   more_by (suc n) ws mid new none room went ran =
-      (let len = length_more n ws in omega arith, record { machine = ran.machine; before = more_by n ws mid ran.machine none (omega arith) went ran.before; step = record { steps = ran.step; unfired = none_fire vs ran.machine.memory new.memory none } })
+      (let len = length_more n ws in omega arith, record { machine = ran.machine; before = more_by n ws mid ran.machine none (omega arith) went ran.before; step = record { steps = ran.step; unfired = none_fire a.watches ran.machine.memory new.memory none } })
 
   -- n more instructions in their places
-  pub ran_more : (t i n : ℕ) (mid new : Patched) → vs ≡ [] → i + n ≤ most → Goes p bs vs h plan on most t i old mid → AllRan n mid h new → Goes p bs vs h plan on most (t + n) (i + n) old new
+  pub ran_more : (t i n : ℕ) (mid new : Patched) → a.watches ≡ [] → i + n ≤ most → Goes a most t i old mid → AllRan n mid a.hart new → Goes a most (t + n) (i + n) old new
   ran_more t i n mid new none room went ran =
       let ws = went.ways in
       record {
@@ -55,7 +52,7 @@ module _ (p : Program) (bs : List BreakEntry) (vs : List Watch) (h : ℕ) (plan 
       }
 
   -- and one by a copy
-  pub passed_more : (t i : ℕ) (mid new : Patched) → i + 1 < most → Goes p bs vs h plan on most t i old mid → Passes p bs vs h plan on mid new → Goes p bs vs h plan on most (t + 3) (i + 1) old new
+  pub passed_more : (t i : ℕ) (mid new : Patched) → i + 1 < most → Goes a most t i old mid → Passes a mid new → Goes a most (t + 3) (i + 1) old new
   passed_more t i mid new room went passes =
       record {
         ways = ByCopy ∷ went.ways;
@@ -65,10 +62,10 @@ module _ (p : Program) (bs : List BreakEntry) (vs : List Watch) (h : ℕ) (plan 
       }
 
   -- and one that made no watch fire
-  pub unfired_more : (i n : ℕ) (mid new : Patched) → n ≡ 1 → i < most → Goes p bs vs h plan on most i i old mid → AllRan n mid h new → fired_by vs mid.memory new.memory ≡ None → Goes p bs vs h plan on most (i + 1) (i + 1) old new
+  pub unfired_more : (i n : ℕ) (mid new : Patched) → n ≡ 1 → i < most → Goes a most i i old mid → AllRan n mid a.hart new → fired_by a.watches mid.memory new.memory ≡ None → Goes a most (i + 1) (i + 1) old new
   unfired_more i n mid new one room went ran none =
-      let r : AllRan 1 mid h new = subst (λ k. AllRan k mid h new) one ran in
-      let step : Steps stepped.Ran mid h new = subst (λ (m : Patched). Steps stepped.Ran m h new) r.before r.step in
+      let r : AllRan 1 mid a.hart new = subst (λ k. AllRan k mid a.hart new) one ran in
+      let step : Steps stepped.Ran mid a.hart new = subst (λ (m : Patched). Steps stepped.Ran m a.hart new) r.before r.step in
       record {
         ways = InPlace ∷ went.ways;
         turns_are = let e = went.turns_are in omega arith;
@@ -76,18 +73,18 @@ module _ (p : Program) (bs : List BreakEntry) (vs : List Watch) (h : ℕ) (plan 
         goes = (let e = went.instructions_are in omega arith, record { machine = mid; before = went.goes; step = record { steps = step; unfired = none } });
       }
 
-  pub none_yet : Goes p bs vs h plan on most 0 0 old old
+  pub none_yet : Goes a most 0 0 old old
   none_yet = record { ways = []; turns_are = refl; instructions_are = refl; goes = refl }
 
 -- a planted word that was passed, by the pc of its hart
-pub passes_at : (p : Program) (bs : List BreakEntry) (vs : List Watch) (h : ℕ) (plan : Plan) (on : Bool) (m new : Patched) (pc word : ℕ) (k : Core) → vs ≡ [] → slice_get m.cores h ≡ Some k → pc ≡ k.regs.pc → pc < 2 ^ 32 → on ≡ true → is_planted m.text pc ≡ true → Some word ≡ shown m.text pc
-    → meets (due_of h (register (set_pc k.regs pc)) (shown_byte p m.memory) bs) ≡ false → is_kept plan pc ≡ true → AreCounted m.cores → StepsByCopy m h word new → Passes p bs vs h plan on m new
-passes_at p bs vs h plan on m new pc word k none at is low is_on planted found undue kept counted steps =
-    let A : ℕ → Type 0 = λ a. a < 2 ^ 32 in
-    let B : ℕ → Type 0 = λ a. is_planted m.text a ≡ true in
-    let C : ℕ → Type 0 = λ a. Some word ≡ shown m.text a in
-    let D : ℕ → Type 0 = λ a. meets (due_of h (register (set_pc k.regs a)) (shown_byte p m.memory) bs) ≡ false in
-    let K : ℕ → Type 0 = λ a. is_kept plan a ≡ true in
+pub passes_at : (a : SurroundingsView) (m new : Patched) (pc word : ℕ) (k : Core) → a.watches ≡ [] → slice_get m.cores a.hart ≡ Some k → pc ≡ k.regs.pc → pc < 2 ^ 32 → a.copies ≡ true → is_planted m.text pc ≡ true → Some word ≡ shown m.text pc
+    → meets (due_of a.hart (register (set_pc k.regs pc)) (shown_byte a.image m.memory) a.breaks) ≡ false → is_kept a.plan pc ≡ true → AreCounted m.cores → StepsByCopy m a.hart word new → Passes a m new
+passes_at a m new pc word k none at is low is_on planted found undue kept counted steps =
+    let A : ℕ → Type 0 = λ b. b < 2 ^ 32 in
+    let B : ℕ → Type 0 = λ b. is_planted m.text b ≡ true in
+    let C : ℕ → Type 0 = λ b. Some word ≡ shown m.text b in
+    let D : ℕ → Type 0 = λ b. meets (due_of a.hart (register (set_pc k.regs b)) (shown_byte a.image m.memory) a.breaks) ≡ false in
+    let K : ℕ → Type 0 = λ b. is_kept a.plan b ≡ true in
     record { unwatched = none; is_on = is_on; kept = subst K is kept; core = k; word = word; at = at; low = subst A is low; planted = subst B is planted; word_is = subst C is found; undue = subst D is undue; counted = counted; steps = steps }
 
 -- neither a stop nor a count

@@ -28,10 +28,12 @@ use Rattle.dbg_model.specs.declared.entry.Entry.{Entry}
 use Rattle.dbg_model.specs.declared.entry.Entry.TheVariants.{Counted, Stopped}
 use Rattle.dbg_model.specs.declared.entry.Why.{Why}
 use Rattle.dbg_model.specs.declared.entry.Why.TheVariants.{Interrupted, Fault}
+use Rattle.dbg_model.specs.declared.entry.Why.TheVariants as whys
+use Rattle.dbg_model.specs.Shown.{stops_once}
 use Rattle.step_plans.specs.declared.plan.Plan.{Plan}
 use Rattle.dbg_model.specs.Views.{register, shown_byte}
 use Rattle.dbg_model.specs.declared.hart.Hart.{Hart}
-use Rattle.dbg_model.specs.declared.judgement.Course.{Course}
+use Rattle.dbg_model.specs.declared.course.Course.{Course}
 use Rattle.dbg_model.specs.declared.judgement.Judgement.{Judgement}
 use Rattle.dbg_model.specs.declared.watch.Watch.{Watch}
 use Rattle.dbg_model.specs.Watches.{risen}
@@ -50,7 +52,6 @@ use Rattle.engine_moves.specs.Facts.{Facts, Sound, AreInText, InText, Planted, R
 use Rattle.engine_moves.specs.Moves.{Repatched, Released, HeldInText, Takes, AreHome, stop_of}
 use Rattle.engine_moves.specs.Homecoming.{GoesHome, AllGoHome}
 use Rattle.dbg_model.proofs.Options.{both_true}
-use Rattle.engine_moves.specs.Tables.{ArePlanted}
 use Rattle.engine_moves.proofs.Awaiting.{waits_same}
 use Rattle.engine_moves.proofs.Breaking.{same_shown}
 use Rattle.engine_moves.proofs.Keeping.{hart_at}
@@ -63,8 +64,7 @@ use Rattle.engine_moves.proofs.Planting.{text_shown, shown_image}
 use Rattle.engine_moves.proofs.Stepping.{fact_of, lifts}
 use Rattle.engine_moves.proofs.Arriving.{text-arrived}
 use Rattle.engine_moves.proofs.Stopping.{goes_with, halts_fault, halts_interrupt, halts_arrival, counts, may_by}
-use Rattle.engine_moves.specs.Calls.{Of, DueIs, StopsBy, Undue, TrapsAt, AtPlanted, Rephases, Lifts, Copies, Halts, Interrupts, Counts, Closes}
-use Rattle.engine_moves.specs.Changing.{Retabled, no_wait}
+use Rattle.engine_moves.specs.Calls.{Of, DueIs, StopsBy, Undue, TrapsAt, AtPlanted, Rephases, Lifts, Copies, Halts, Interrupts, StopsFor, MayStop, Counts, Closes}
 use Rattle.engine_moves.proofs.Executing.{of_hart, own_pc, moves_by, rewoven, same_hart}
 
 -- the facts hold after a move of one hart, which waits where it did before
@@ -251,32 +251,51 @@ unheld r h x f at idle free =
     let k = core_at r h x f at in
     no_hold r.hold h free (none_held r.hold h x.phase (fact_of r h k.0 x f k.1).held idle)
 
+-- nothing that holds of an engine hangs on what stopped a hart last
+sound_once : (r : Run) (once : Bool) → Sound r → Sound (record r { temporary = once })
+sound_once r once s = record { leaves = s.leaves; settings = s.settings; count = s.count; selected = s.selected; harts = s.harts; slots = s.slots; planted = s.planted; texts = s.texts; places = s.places; many = s.many; awaits = s.awaits; sources = s.sources; retired = s.retired; copied = s.copied }
+
+-- an engine in which a hart stopped where nothing was due
+abbrev pub halted_run : Run → ℕ → ℕ → List Entry → Run
+halted_run r h spare j = record r { journal = j; spare = spare; minds = slice_set r.minds h first_mind; noted = r.noted + 1; temporary = false }
+
 -- a hart stopped by an interrupt
-pub interrupted : (r : Run) (h spare : ℕ) (x : Mind) (j : List Entry) → Sound r → slice_get r.minds h ≡ Some x → x.phase ≡ phase.Idle → x.activity ≡ activity.Running → other_holder r.hold h ≡ None → x.asked ≡ true → Undue r h → may_go r.opening (seen r) ≡ true
-    → j ≡ r.journal ++ Stopped h Interrupted ∷ [] → (let new : Run = record r { journal = j; spare = spare; minds = slice_set r.minds h first_mind; noted = r.noted + 1 } in Noted new (λ n. Interrupts r n h))
-interrupted r h spare x j f at idle runs free asked none may same =
+interrupted : (r : Run) (h spare : ℕ) (x : Mind) → Sound r → slice_get r.minds h ≡ Some x → x.phase ≡ phase.Idle → x.activity ≡ activity.Running → other_holder r.hold h ≡ None → x.asked ≡ true → Undue r h → may_go r.opening (seen r) ≡ true
+    → Noted (halted_run r h spare (r.journal ++ Stopped h Interrupted ∷ [])) (λ n. Interrupts r n h)
+interrupted r h spare x f at idle runs free asked none may =
     let k = core_at r h x f at in
     let c = k.0 in
     let y = seen_hart r.opening.image c x in
     let may' = may_by r.opening (seen r) h y (moves_by r c x may runs) (of_hart r h c x (λ y. is_due (due r.opening.image (seen r) h y) ≡ false) k.1 none) in
     let e = halts_interrupt r h spare c x f k.1 idle asked may' in
-    let N : List Entry → Run = λ es. record r { journal = es; spare = spare; minds = slice_set r.minds h first_mind; noted = r.noted + 1 } in
-    let P : List Entry → Type 0 = λ es. Noted (N es) (λ n. Interrupts r n h) in
-    subst P (sym same) (record { sound = e.facts; does = λ t ws. record { mind = x; at = at; idle = idle; asked = asked; halts = record { minds = refl; hold = unheld r h x f at idle free; journal = refl; enters = e.comes; opening = refl } } })
+    record { sound = sound_once _ false e.facts; does = λ t ws. record { mind = x; at = at; idle = idle; asked = asked; halts = record { minds = refl; hold = unheld r h x f at idle free; journal = refl; enters = e.comes; temporary = refl; opening = refl } } }
 
 -- a hart stopped by a fault
-pub faulted : (r : Run) (h spare : ℕ) (x : Mind) (cause : Cause) (j : List Entry) → Sound r → slice_get r.minds h ≡ Some x → x.phase ≡ phase.Idle → x.activity ≡ activity.Running → other_holder r.hold h ≡ None → Undue r h → TrapsAt r h cause
-    → may_go r.opening (seen r) ≡ true → j ≡ r.journal ++ Stopped h (Fault cause) ∷ []
-    → (let new : Run = record r { journal = j; spare = spare; minds = slice_set r.minds h first_mind; noted = r.noted + 1 } in Noted new (λ n. Halts r n h (Fault cause)))
-faulted r h spare x cause j f at idle runs free none traps may same =
+faulted : (r : Run) (h spare : ℕ) (x : Mind) (cause : Cause) → Sound r → slice_get r.minds h ≡ Some x → x.phase ≡ phase.Idle → x.activity ≡ activity.Running → other_holder r.hold h ≡ None → Undue r h → TrapsAt r h cause → may_go r.opening (seen r) ≡ true
+    → Noted (halted_run r h spare (r.journal ++ Stopped h (Fault cause) ∷ [])) (λ n. Halts r n h (Fault cause))
+faulted r h spare x cause f at idle runs free none traps may =
     let k = core_at r h x f at in
     let c = k.0 in
     let may' = may_by r.opening (seen r) h (seen_hart r.opening.image c x) (moves_by r c x may runs) (of_hart r h c x (λ y. is_due (due r.opening.image (seen r) h y) ≡ false) k.1 none) in
     let trap = of_hart r h c x (λ y. plain r.opening.image y.regs (seen r).memory ≡ Traps cause) k.1 traps in
     let e = halts_fault r h spare c x cause f k.1 idle may' trap in
-    let N : List Entry → Run = λ es. record r { journal = es; spare = spare; minds = slice_set r.minds h first_mind; noted = r.noted + 1 } in
-    let P : List Entry → Type 0 = λ es. Noted (N es) (λ n. Halts r n h (Fault cause)) in
-    subst P (sym same) (record { sound = e.facts; does = λ t ws. record { minds = refl; hold = unheld r h x f at idle free; journal = refl; enters = e.comes; opening = refl } })
+    record { sound = sound_once _ false e.facts; does = λ t ws. record { minds = refl; hold = unheld r h x f at idle free; journal = refl; enters = e.comes; temporary = refl; opening = refl } }
+
+stopped_by : (why : Why) (r : Run) (h spare : ℕ) (x : Mind) → Sound r → slice_get r.minds h ≡ Some x → x.phase ≡ phase.Idle → x.activity ≡ activity.Running → other_holder r.hold h ≡ None → Undue r h → MayStop why r h x → may_go r.opening (seen r) ≡ true
+    → Noted (halted_run r h spare (r.journal ++ Stopped h why ∷ [])) (λ n. StopsFor why r n h)
+stopped_by whys.Interrupted r h spare x f at idle runs free none by may = interrupted r h spare x f at idle runs free by none may
+stopped_by (whys.Fault cause) r h spare x f at idle runs free none by may = faulted r h spare x cause f at idle runs free none by may
+stopped_by (whys.Break number error) r h spare x f at idle runs free none by may = absurd by
+stopped_by (whys.Watch fired) r h spare x f at idle runs free none by may = absurd by
+stopped_by whys.Stepped r h spare x f at idle runs free none by may = absurd by
+stopped_by whys.Finished r h spare x f at idle runs free none by may = absurd by
+
+-- a hart for which nothing is due stopped
+pub stopped : (r : Run) (h spare : ℕ) (x : Mind) (why : Why) (j : List Entry) → Sound r → slice_get r.minds h ≡ Some x → x.phase ≡ phase.Idle → x.activity ≡ activity.Running → other_holder r.hold h ≡ None → Undue r h → MayStop why r h x
+    → may_go r.opening (seen r) ≡ true → j ≡ r.journal ++ Stopped h why ∷ [] → Noted (halted_run r h spare j) (λ n. StopsFor why r n h)
+stopped r h spare x why j f at idle runs free none by may same =
+    let P : List Entry → Type 0 = λ es. Noted (halted_run r h spare es) (λ n. StopsFor why r n h) in
+    subst P (sym same) (stopped_by why r h spare x f at idle runs free none by may)
 
 -- the registers that a hart shows before an instruction, where it shows this pc
 shown_by : (p : Program) (c : Core) (x : Mind) (pc : ℕ) (q : Phase) → x.phase ≡ q → x.activity ≡ activity.Running → is_before q ≡ true → (seen_hart p c x).regs.pc ≡ pc → (seen_hart p c x).regs ≡ set_pc c.regs pc
@@ -306,11 +325,11 @@ after_is r h pc c x bs runs before here settles at =
     settles c at ∙ ap (λ q. settled h (register q) (shown_byte r.opening.image r.machine.memory) r.breaks) (sym (shown_is r.opening.image c x pc runs before here))
 
 -- a hart stopped where it had arrived
-pub arrived : (r : Run) (h pc spare : ℕ) (why : Why) (x : Mind) (j : List Entry) (m : Patched) (bs : List BreakEntry) (ws : List Watch) (want : Bool) → Sound r → slice_get r.minds h ≡ Some x → x.phase ≡ phase.Idle → x.activity ≡ activity.Running → other_holder r.hold h ≡ None
-    → Of r h (λ y. y.regs.pc ≡ pc) → StopsBy r h why → may_go r.opening (seen r) ≡ true → j ≡ r.journal ++ Stopped h why ∷ [] → Settles r h pc bs → ws ≡ risen x.fired r.watches → want ≡ wanted (record (wants_of r) { entries = bs }) pc
+pub arrived : (r : Run) (h pc spare : ℕ) (why : Why) (x : Mind) (j : List Entry) (m : Patched) (bs : List BreakEntry) (ws : List Watch) (want once : Bool) → once ≡ stops_once r.breaks why → Sound r → slice_get r.minds h ≡ Some x → x.phase ≡ phase.Idle → x.activity ≡ activity.Running → other_holder r.hold h ≡ None
+    → Of r h (λ y. y.regs.pc ≡ pc) → StopsBy r h why → may_go r.opening (seen r) ≡ true → j ≡ r.journal ++ Stopped h why ∷ [] → Settles r h pc bs → ws ≡ risen x.course.fired r.watches → want ≡ wanted (record (wants_of r) { entries = bs }) pc
     → Repatched r.machine.text m.text pc want → Retexted r m
-    → (let new : Run = record r { journal = j; spare = spare; machine = m; minds = slice_set r.minds h first_mind; watches = ws; breaks = bs; noted = r.noted + 1 } in Noted new (λ n. Halts r n h why))
-arrived r h pc spare why x j m bs ws want f at idle runs free is stops may same settles rises wants w texts =
+    → (let new : Run = record r { journal = j; spare = spare; machine = m; minds = slice_set r.minds h first_mind; watches = ws; breaks = bs; noted = r.noted + 1; temporary = once } in Noted new (λ n. Halts r n h why))
+arrived r h pc spare why x j m bs ws want once temporary f at idle runs free is stops may same settles rises wants w texts =
     let before : is_before x.phase ≡ true = ap is_before idle in
     let k = core_at r h x f at in
     let c = k.0 in
@@ -323,17 +342,17 @@ arrived r h pc spare why x j m bs ws want f at idle runs free is stops may same 
     let V : ℕ → Type 0 = λ a. Repatched r.machine.text m.text a (wanted (record (wants_of r) { entries = after }) a) in
     let w' = subst V (sym here) (subst W (wants ∙ ap (λ cs. wanted (record (wants_of r) { entries = cs }) pc) bs_is) w) in
     let e = halts_arrival r h spare why c x m.text f k.1 idle may' stops' w' in
-    let N : List Entry → Patched → List BreakEntry → List Watch → Run = λ es n cs vs. record r { journal = es; spare = spare; machine = n; minds = slice_set r.minds h first_mind; watches = vs; breaks = cs; noted = r.noted + 1 } in
+    let N : List Entry → Patched → List BreakEntry → List Watch → Run = λ es n cs vs. record r { journal = es; spare = spare; machine = n; minds = slice_set r.minds h first_mind; watches = vs; breaks = cs; noted = r.noted + 1; temporary = once } in
     let P : List Entry → Patched → List BreakEntry → List Watch → Type 0 = λ es n cs vs. Noted (N es n cs vs) (λ n. Halts r n h why) in
     let m' : Patched = record r.machine { text = m.text } in
     let es = r.journal ++ Stopped h why ∷ [] in
-    let vs = risen x.fired r.watches in
-    let base : P es m' after vs = record { sound = e.facts; does = λ t ws. record { minds = refl; hold = unheld r h x f at idle free; journal = refl; enters = e.comes; opening = refl } } in
+    let vs = risen x.course.fired r.watches in
+    let base : P es m' after vs = record { sound = sound_once _ once e.facts; does = λ t ws. record { minds = refl; hold = unheld r h x f at idle free; journal = refl; enters = e.comes; temporary = temporary; opening = refl } } in
     subst (λ (ls : List Entry). P ls m bs ws) (sym same) (subst (λ (n : Patched). P es n bs ws) (sym texts) (subst (λ (cs : List BreakEntry). P es m' cs ws) (sym bs_is) (subst (λ (us : List Watch). P es m' after us) (sym rises) base)))
 
 -- a hart was counted by breakpoints
 pub counted : (r : Run) (h pc spare : ℕ) (d : Judgement) (x y : Mind) (plan : Plan) (j : List Entry) (m : Patched) (bs : List BreakEntry) (want : Bool) → Sound r → slice_get r.minds h ≡ Some x → is_before x.phase ≡ true → x.activity ≡ activity.Running → Of r h (λ y. y.regs.pc ≡ pc)
-    → DueIs r h d → is_counted d ≡ true → may_go r.opening (seen r) ≡ true → j ≡ r.journal ++ Counted h ∷ [] → Settles r h pc bs → want ≡ wanted (record (wants_of r) { entries = bs }) pc → Repatched r.machine.text m.text pc want → Retexted r m → y ≡ counted_mind plan x → plan ≡ plan_after d.verdict → x.fresh ≡ true
+    → DueIs r h d → is_counted d ≡ true → may_go r.opening (seen r) ≡ true → j ≡ r.journal ++ Counted h ∷ [] → Settles r h pc bs → want ≡ wanted (record (wants_of r) { entries = bs }) pc → Repatched r.machine.text m.text pc want → Retexted r m → y ≡ counted_mind plan x → plan ≡ plan_after d.verdict → x.course.fresh ≡ true
     → (let new : Run = record r { journal = j; spare = spare; machine = m; minds = slice_set r.minds h y; breaks = bs; noted = r.noted + 1 } in Noted new (λ n. Counts r n h))
 counted r h pc spare d x y plan j m bs want f at before runs is due_is counting may same settles wants w texts mind goes fresh =
     let k = core_at r h x f at in
@@ -387,40 +406,26 @@ copied_home p count cs xs ds d s home f some k e ek =
     let had : slice_index s.passed k + pending d a.mind.phase ≤ a.core.copied + s.sets = f some k a.core a.mind a.core_at a.mind_at in
     omega (arith, had, a.home.copied)
 
--- no hart waits any more
-no_waits : (xs : List Mind) (a : ℕ) → list_any (is_wait a) (map (λ (x : Mind). no_wait) xs) ≡ false
-no_waits [] a = refl
-no_waits (x ∷ xs) a = no_waits xs a
-
--- what is planted where none waits
-pub unwaited : (p : Program) (t : Words) (v : Wants) (xs : List Mind) → t.words ≡ (unpatched p).words → ArePlanted t (record v { waits = map (λ (x : Mind). no_wait) xs }) → Planted p t (record v { waits = [] })
-unwaited p t v xs words f = record { words = words; patches = λ a. f.patches a ∙ ap (λ b. (stands a v.entries || b) && not (is_home v.hold a)) (no_waits xs a) }
-
-released_none : (t t' : Words) (bs : List BreakEntry) (xs : List Mind) (hold : Option Hold) → Released t t' bs (map (λ (x : Mind). no_wait) xs) hold → Released t t' bs [] hold
-released_none t t' bs xs None w = w
-released_none t t' bs xs (Some d) w = let P : Bool → Type 0 = λ b. Repatched t t' d.home b in subst P (ap (λ b. stands d.home bs || b) (no_waits xs d.home)) w
-
 -- a lifted word is there as long as the words are the same
 pub same_held : (t t' : Words) (hold : Option Hold) → t'.words ≡ t.words → HeldInText t hold → HeldInText t' hold
 same_held t t' None same held = tt
 same_held t t' (Some d) same held = same_shown t t' d.home same held
 
 -- the end of an engine
-pub closed : (r : Run) (g u m : Patched) → Sound r → AllGoHome r.machine g 0 r.minds → Retabled g u (record (wants_of r) { waits = map (λ (x : Mind). no_wait) r.minds }) → Released u.text m.text r.breaks (map (λ (x : Mind). no_wait) r.minds) r.hold
-    → m ≡ record u { text = m.text } → Closes r m
-closed r g u m f all ends w same =
+pub closed : (r : Run) (g m : Patched) → Sound r → AllGoHome r.machine g 0 r.minds → Released g.text m.text r.breaks r.waits r.hold → m ≡ record g { text = m.text } → Closes r m
+closed r g m f all w is =
     let p = r.opening.image in
     let home = all_are_home p r.machine g r.minds f.harts.len (all_ready p r.machine.cores r.machine.slots r.minds r.hold f.harts) all in
     let free = all_are_free r.machine g r.minds f.harts.used all in
-    let is : m ≡ record g { text = m.text } = same ∙ ap (λ (n : Patched). let q : Patched = record n { text = m.text } in q) ends.rest in
     let cores : g.cores ≡ m.cores = ap (λ (n : Patched). n.cores) (sym is) in
     let slots : m.slots ≡ g.slots = ap (λ (n : Patched). n.slots) is in
-    let words : u.text.words ≡ (unpatched p).words = ends.words ∙ (ap (λ (n : Patched). n.text.words) all.rest ∙ f.planted.words) in
+    let P : Words → Type 0 = λ t. Planted p t (wants_of r) in
+    let planted = subst P (ap (λ (n : Patched). n.text) (sym all.rest)) f.planted in
     record {
       cores = subst (λ (cs : List Core). AreHome p r.machine.cores r.minds cs) cores home;
       slots = λ slot. ap (λ ss. use_at ss slot) slots ∙ free slot;
       memory = ap (λ (n : Patched). n.memory) is ∙ ap (λ (n : Patched). n.memory) all.rest;
-      text = released p u.text m.text (record (wants_of r) { waits = [] }) (unwaited p u.text (wants_of r) r.minds words ends.planted) (released_none u.text m.text r.breaks r.minds r.hold w);
+      text = released p g.text m.text (wants_of r) planted w;
       retired = subst (λ (cs : List Core). Retired cs r.journal) cores (retired_home p r.machine.cores r.minds g.cores r.journal home f.retired);
       copied = subst (λ (cs : List Core). CopiedOver r.opening.settings.slots cs (seen r)) cores (copied_home p r.opening.settings.slots r.machine.cores r.minds g.cores r.displaced (seen r) home f.copied);
     }
@@ -433,16 +438,16 @@ shown_at r s h x P same f at each =
 
 -- what is judged of a hart, as its registers and what is kept of it have it
 judged_as : (p : Program) (s : State) (h pc : ℕ) (c : Core) (x : Mind) (sources : Sources) → sources ≡ sources_of p → (seen_hart p c x).regs ≡ set_pc c.regs pc
-    → due p s h (seen_hart p c x) ≡ judgement_of p sources s.breaks h (record { fresh = x.fresh; plan = x.plan; last = x.last; fired = x.fired }) (register (set_pc c.regs pc)) (shown_byte p s.memory)
+    → due p s h (seen_hart p c x) ≡ judgement_of p sources s.breaks h x.course (register (set_pc c.regs pc)) (shown_byte p s.memory)
 unfolding due
 judged_as p s h pc c x sources same is =
-    let y : Course = record { fresh = x.fresh; plan = x.plan; last = x.last; fired = x.fired } in
+    let y = x.course in
     ap (λ (q : Registers). judgement_of p (sources_of p) s.breaks h y (register q) (shown_byte p s.memory)) is
     ∙ ap (λ (z : Sources). judgement_of p z s.breaks h y (register (set_pc c.regs pc)) (shown_byte p s.memory)) (sym same)
 
 -- what is judged of a hart before an instruction
 pub judged : (r s : Run) (h pc : ℕ) (x : Mind) (d : Judgement) → r ≡ s → Sound r → slice_get s.minds h ≡ Some x → x.activity ≡ activity.Running → is_before x.phase ≡ true → Of s h (λ y. y.regs.pc ≡ pc)
-    → ((c : Core) → slice_get r.machine.cores h ≡ Some c → d ≡ judgement_of r.opening.image r.sources r.breaks h (record { fresh = x.fresh; plan = x.plan; last = x.last; fired = x.fired }) (register (set_pc c.regs pc)) (shown_byte r.opening.image r.machine.memory)) → DueIs s h d
+    → ((c : Core) → slice_get r.machine.cores h ≡ Some c → d ≡ judgement_of r.opening.image r.sources r.breaks h x.course (register (set_pc c.regs pc)) (shown_byte r.opening.image r.machine.memory)) → DueIs s h d
 judged r s h pc x d same f at runs before here is =
     let R : Run → Type 0 = λ q. slice_get q.minds h ≡ Some x → Of q h (λ y. y.regs.pc ≡ pc) → DueIs q h d in
     subst R same

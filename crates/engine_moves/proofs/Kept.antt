@@ -23,11 +23,12 @@ use Rattle.step_plans.specs.declared.plan.Verdict.{Verdict}
 use Rattle.step_plans.specs.declared.plan.Verdict.TheVariants as verdicts
 use Rattle.dbg_model.specs.Views.{register, shown_byte}
 use Rattle.dbg_model.specs.declared.hart.Hart.{Hart}
-use Rattle.dbg_model.specs.declared.judgement.Course.{Course}
+use Rattle.dbg_model.specs.declared.course.Course.{Course}
 use Rattle.dbg_model.specs.declared.judgement.Judgement.{Judgement}
 use Rattle.dbg_model.specs.declared.watch.Fired.{Fired}
-use Rattle.dbg_model.specs.Judging.{is_due, is_end, judgement_of, last_at, no_arrival, noted_with, plan_after, verdict_behind}
-use Rattle.dbg_model.specs.State.{State, course_of, due}
+use Rattle.dbg_model.specs.Courses.{noted_with, with_plan}
+use Rattle.dbg_model.specs.Judging.{is_due, is_end, judgement_of, last_at, no_arrival, plan_after, verdict_behind}
+use Rattle.dbg_model.specs.State.{State, due}
 use Rattle.dbg_model.specs.Watches.{fired_by}
 use Rattle.engine_moves.specs.declared.mind.Mind.{Mind}
 use Rattle.engine_moves.specs.Minds.{awaited, in_place, ran_mind, return_of, runs}
@@ -63,9 +64,9 @@ unfolding judgement_of
 course_kept p sources es h c rs bytes kept = kept_by c.fresh (due_of h rs bytes es) c.fired (verdict_behind p sources c.plan rs c.last) c.plan (behind_kept p sources c.plan rs c.last kept)
 
 -- what is judged of such a plan
-pub kept_verdict : (p : Program) (s : State) (h : ℕ) (x : Hart) → is_kept x.plan x.regs.pc ≡ true → (due p s h x).verdict ≡ verdicts.Go x.plan
+pub kept_verdict : (p : Program) (s : State) (h : ℕ) (x : Hart) → is_kept x.course.plan x.regs.pc ≡ true → (due p s h x).verdict ≡ verdicts.Go x.course.plan
 unfolding due
-kept_verdict p s h x kept = course_kept p (sources_of p) s.breaks h (course_of x) (register x.regs) (shown_byte p s.memory) kept
+kept_verdict p s h x kept = course_kept p (sources_of p) s.breaks h x.course (register x.regs) (shown_byte p s.memory) kept
 
 or_off : (b : Bool) → (b || false) ≡ b
 or_off true = refl
@@ -83,18 +84,18 @@ met_by false true c e = cc
 met_by false false c e = refl
 
 -- nothing is due where no breakpoint stands and no watch fired
-pub kept_undue : (p : Program) (s : State) (h : ℕ) (x : Hart) → is_kept x.plan x.regs.pc ≡ true → x.fired ≡ None → stands x.regs.pc s.breaks ≡ false → is_due (due p s h x) ≡ false
+pub kept_undue : (p : Program) (s : State) (h : ℕ) (x : Hart) → is_kept x.course.plan x.regs.pc ≡ true → x.course.fired ≡ None → stands x.regs.pc s.breaks ≡ false → is_due (due p s h x) ≡ false
 kept_undue p s h x kept unwatched off =
-    let y : Hart = record x { plan = plans.Free } in
+    let y : Hart = record x { course = with_plan plans.Free x.course } in
     let free = undue p s h y refl unwatched off in
     let j = due p s h y in
     let none : meets j.breaks ≡ false = met_by (is_some j.breaks.stop) j.breaks.counts (is_some j.fired || is_end j.verdict) free in
     let same : (due p s h x).breaks ≡ j.breaks = due_breaks p s h x ∙ sym (due_breaks p s h y) in
-    quiet_as (due p s h x) x.plan (ap meets same ∙ none) (due_fired p s h x unwatched) (kept_verdict p s h x kept)
+    quiet_as (due p s h x) x.course.plan (ap meets same ∙ none) (due_fired p s h x unwatched) (kept_verdict p s h x kept)
 
 -- what is kept of a hart whose plan stays after an instruction that made no watch fire
 abbrev pub kept_ran : Mind → Mind
-kept_ran x = ran_mind x.plan None None x
+kept_ran x = ran_mind x.course.plan None None x
 
 unnoted : (q : Plan) (pc at : ℕ) → is_kept q pc ≡ true → noted_with q at ≡ None
 unnoted plans.Free pc at kept = refl
@@ -104,11 +105,11 @@ unnoted (plans.ToReturn ret sp after) pc at kept = refl
 unnoted (plans.ToBody a ret sp file line) pc at kept = cc
 unnoted (plans.Finish ret sp) pc at kept = refl
 
-pub ran_kept : (q : Run) (h : ℕ) (c : Core) (x : Mind) (m : Memory) → is_kept x.plan (seen_hart q.opening.image c x).regs.pc ≡ true → fired_by q.watches q.machine.memory m ≡ None → ran_of q h c x m ≡ kept_ran x
+pub ran_kept : (q : Run) (h : ℕ) (c : Core) (x : Mind) (m : Memory) → is_kept x.course.plan (seen_hart q.opening.image c x).regs.pc ≡ true → fired_by q.watches q.machine.memory m ≡ None → ran_of q h c x m ≡ kept_ran x
 ran_kept q h c x m kept none =
     let y = seen_hart q.opening.image c x in
     let f = fired_by q.watches q.machine.memory m in
-    ap (λ (v : Verdict). ran_mind (plan_after v) (noted_with (plan_after v) y.regs.pc) f x) (kept_verdict q.opening.image (seen q) h y kept) ∙ (ap (λ o. ran_mind x.plan o f x) (unnoted x.plan y.regs.pc y.regs.pc kept) ∙ ap (λ w. ran_mind x.plan None w x) none)
+    ap (λ (v : Verdict). ran_mind (plan_after v) (noted_with (plan_after v) y.regs.pc) f x) (kept_verdict q.opening.image (seen q) h y kept) ∙ (ap (λ o. ran_mind x.course.plan o f x) (unnoted x.course.plan y.regs.pc y.regs.pc kept) ∙ ap (λ w. ran_mind x.course.plan None w x) none)
 
 -- ---- a hart that waits isn't where it waits
 
@@ -142,10 +143,10 @@ plan_kept p (plans.ToBody a ret sp file line) pc h ws takes on at none = cc
 plan_kept p (plans.Finish ret sp) pc h ws takes on at none = place_kept (is_word p) ret pc h ws (is_word p ret) refl on at none
 
 -- where no patch is called for, a plan that takes slices stays as it is at each word of text
-pub kept_at : (p : Program) (x : Mind) (pc h : ℕ) (ws : List (Option ℕ)) → runs x ≡ true → takes_slices x.plan ≡ true → is_word p pc ≡ true → slice_get ws h ≡ Some (awaited p x) → list_any (is_wait pc) ws ≡ false → is_kept x.plan pc ≡ true
+pub kept_at : (p : Program) (x : Mind) (pc h : ℕ) (ws : List (Option ℕ)) → runs x ≡ true → takes_slices x.course.plan ≡ true → is_word p pc ≡ true → slice_get ws h ≡ Some (awaited p x) → list_any (is_wait pc) ws ≡ false → is_kept x.course.plan pc ≡ true
 kept_at p x pc h ws run takes on at none =
-    let wait : awaited p x ≡ in_place p (return_of x.plan) = ap (λ b. cond b (in_place p (return_of x.plan)) None) run in
-    plan_kept p x.plan pc h ws takes on (at ∙ ap Some wait) none
+    let wait : awaited p x ≡ in_place p (return_of x.course.plan) = ap (λ b. cond b (in_place p (return_of x.course.plan)) None) run in
+    plan_kept p x.course.plan pc h ws takes on (at ∙ ap Some wait) none
 
 alone_by : (p : Program) (q : Plan) (run : Bool) → (is_unplanned q || is_some (cond run (in_place p (return_of q)) None)) ≡ true → takes_slices q ≡ true
 alone_by p plans.Free run goes = refl
@@ -159,5 +160,5 @@ alone_by p (plans.ToBody a ret sp file line) false goes = cc
 alone_by p (plans.Finish ret sp) run goes = refl
 
 -- a hart that goes alone has such a plan
-pub alone_takes : (p : Program) (x : Mind) → goes_alone p x ≡ true → takes_slices x.plan ≡ true
-alone_takes p x goes = alone_by p x.plan (runs x) goes
+pub alone_takes : (p : Program) (x : Mind) → goes_alone p x ≡ true → takes_slices x.course.plan ≡ true
+alone_takes p x goes = alone_by p x.course.plan (runs x) goes

@@ -39,5 +39,6 @@ pub mod Kept
 pub mod Rewaits
 pub mod Picks
 pub mod Quiet
+pub mod Shown
 pub mod Taking
 pub mod Jobs

@@ -13,6 +13,9 @@ use Rattle.engine_moves.specs.Moves.{plan_for, ran_by}
 use Rattle.engine_moves.specs.Seen.{Run as Engine}
 use Rattle.engine_moves.specs.declared.moving.Turned.{Turned}
 use Rattle.engine_moves.specs.declared.moving.Turned.TheVariants as turned
+use Rattle.engine_moves.specs.declared.moving.Move.TheVariants as move
+use Rattle.engine_moves.specs.Calls.{Turns}
+use Rattle.engine_moves.proofs.Arrivals.{stopped_halts}
 use Rattle.engine_moves.specs.Marks.{Ends, Leaves, Marks, MovesMark, MovesToIdle, OneInstructionOrNone, executed, executed_by}
 
 -- ---- one move
@@ -59,56 +62,47 @@ phase_is : (x y : Mind) → y ≡ x → y.phase ≡ x.phase
 phase_is x y is = ap (λ (z : Mind). z.phase) is
 
 pub moves : MovesMark
-moves turned.Over r s h x y m at there = kept r s h x y m.0 at there
-moves turned.NotRunning r s h x y m at there = kept r s h x y m.0 at there
-moves (turned.Held by) r s h x y m at there = kept r s h x y m.0 at there
-moves turned.NoSlot r s h x y m at there = kept r s h x y m.0 at there
-moves turned.Counted r s h x y m at there =
+moves (turned.Stood why) r s h x y m at there = kept r s h x y m.0 at there
+moves (turned.Moved move.Counted) r s h x y m at there =
     (let z = counted_mind (plan_for r h m.hart) m.mind in phase_is z y (set_here r.minds s.minds h m.mind y z m.minds m.at there)) ∙ phase_is x m.mind (same_mind r.minds h x m.mind at m.at)
-moves turned.Copied r s h x y m at there =
+moves (turned.Moved move.Copied) r s h x y m at there =
     let q = phase_is (with_phase m.mind (Copied m.slot m.home)) y (set_here r.minds s.minds h m.mind y (with_phase m.mind (Copied m.slot m.home)) m.rephases.minds m.before.at there) in
     let p = sym (phase_is x m.mind (same_mind r.minds h x m.mind at m.before.at)) ∙ m.before.idle in
     (m.slot, m.home, ap (λ u. after u (Copy m.slot m.home)) p ∙ ap Some (sym q))
-moves turned.Lifted r s h x y m at there =
+moves (turned.Moved move.Lifted) r s h x y m at there =
     let q = phase_is (with_phase m.mind (Lifted m.home)) y (set_here r.minds s.minds h m.mind y (with_phase m.mind (Lifted m.home)) m.rephases.minds m.before.at there) in
     let p = sym (phase_is x m.mind (same_mind r.minds h x m.mind at m.before.at)) ∙ m.before.idle in
     (m.home, ap (λ u. after u (Lift m.home)) p ∙ ap Some (sym q))
-moves turned.Fixed r s h x y m at there =
+moves (turned.Moved move.Fixed) r s h x y m at there =
     let q = phase_is (with_phase m.mind Idle) y (set_here r.minds s.minds h m.mind y (with_phase m.mind Idle) m.rephases.minds m.at there) in
     let p = sym (phase_is x m.mind (same_mind r.minds h x m.mind at m.at)) ∙ m.landed in
     ap (λ u. after u Fix) p ∙ ap Some (sym q)
-moves turned.Planted r s h x y m at there =
+moves (turned.Moved move.Planted) r s h x y m at there =
     let q = phase_is (with_phase m.mind Idle) y (set_here r.minds s.minds h m.mind y (with_phase m.mind Idle) m.rephases.minds m.at there) in
     let p = sym (phase_is x m.mind (same_mind r.minds h x m.mind at m.at)) ∙ m.ran in
     ap (λ u. after u Plant) p ∙ ap Some (sym q)
-moves turned.Ran r s h x y m at there =
+moves (turned.Moved move.Ran) r s h x y m at there =
     let p = phase_is x m.mind (same_mind r.minds h x m.mind at m.at) in
     let z = ran_by r h m.hart m.machine.memory m.mind in
     let q = phase_is z y (set_here r.minds s.minds h m.mind y z m.minds m.at there) in
     runs_in x.phase y.phase (ap is_before (sym p) ∙ m.before) (q ∙ ap after_step p)
-moves (turned.Wrote addr len) r s h x y (out, some, bytes, m) at there =
+moves (turned.Moved (move.Wrote addr len)) r s h x y (out, some, bytes, m) at there =
     let p = phase_is x m.mind (same_mind r.minds h x m.mind at m.at) in
     let z = ran_by r h m.hart m.machine.memory m.mind in
     let q = phase_is z y (set_here r.minds s.minds h m.mind y z m.minds m.at there) in
     runs_in x.phase y.phase (ap is_before (sym p) ∙ m.before) (q ∙ ap after_step p)
-moves (turned.Left code) r s h x y m at there =
+moves (turned.Moved move.Left) r s h x y (code, m) at there =
     let p = phase_is x m.mind (same_mind r.minds h x m.mind at m.at) in
     let z = gone_mind (ran_by r h m.hart m.machine.memory m.mind) in
     leaves_in x.phase y.phase (ap is_before (sym p) ∙ m.before) (phase_is z y (set_here r.minds s.minds h m.mind y z m.minds m.at there))
-moves (turned.AllLeft code count) r s h x y m at there =
+moves (turned.Moved move.AllLeft) r s h x y (code, count, m) at there =
     let p = phase_is x m.mind (same_mind r.minds h x m.mind at m.at) in
     let z = ran_by r h m.hart m.machine.memory m.mind in
     let set = get-set_same r.minds h z m.mind m.at in
     let is = same_some y (gone_mind z) (sym there ∙ (ap (λ (us : List Mind). slice_get us h) m.minds ∙ gone_get (slice_set r.minds h z) h z set)) in
     leaves_in x.phase y.phase (ap is_before (sym p) ∙ m.before) (phase_is (gone_mind z) y is)
-moves (turned.Stopped cause) r s h x y m at there = ends_in x.phase y.phase (phase_is first_mind y (set_here r.minds s.minds h x y first_mind m.minds at there))
-moves turned.Interrupted r s h x y m at there =
-    (sym (phase_is x m.mind (same_mind r.minds h x m.mind at m.at)) ∙ m.idle, phase_is first_mind y (set_here r.minds s.minds h x y first_mind m.halts.minds at there))
-moves (turned.Arrived number temporary error) r s h x y m at there =
-    ends_in x.phase y.phase (phase_is first_mind y (set_here r.minds s.minds h x y first_mind m.0.minds at there))
-moves (turned.Triggered fired) r s h x y m at there = ends_in x.phase y.phase (phase_is first_mind y (set_here r.minds s.minds h x y first_mind m.halts.minds at there))
-moves turned.Stepped r s h x y m at there = ends_in x.phase y.phase (phase_is first_mind y (set_here r.minds s.minds h x y first_mind m.minds at there))
-moves turned.Finished r s h x y m at there = ends_in x.phase y.phase (phase_is first_mind y (set_here r.minds s.minds h x y first_mind m.minds at there))
+moves (turned.Moved move.Stopped) r s h x y (why, m) at there =
+    ends_in x.phase y.phase (phase_is first_mind y (set_here r.minds s.minds h x y first_mind (stopped_halts why r s h m).minds at there))
 
 -- ---- from one Idle to the next
 
@@ -136,25 +130,17 @@ run_fits (Ran home) q e = absurd cc
 
 -- an instruction is executed only before one
 fits : (t : Turned) (p q : Phase) → Marks t p q → executed t ≤ rest p
-fits turned.Over p q m = omega arith
-fits turned.NotRunning p q m = omega arith
-fits (turned.Held by) p q m = omega arith
-fits turned.NoSlot p q m = omega arith
-fits turned.Counted p q m = omega arith
-fits turned.Copied p q m = omega arith
-fits turned.Lifted p q m = omega arith
-fits turned.Fixed p q m = omega arith
-fits turned.Planted p q m = omega arith
-fits turned.Ran p q m = run_fits p q m
-fits (turned.Wrote addr len) p q m = run_fits p q m
-fits (turned.Left code) p q m = run_fits p m.0 m.1
-fits (turned.AllLeft code count) p q m = run_fits p m.0 m.1
-fits (turned.Stopped cause) p q m = omega arith
-fits turned.Interrupted p q m = omega arith
-fits (turned.Arrived number temporary error) p q m = omega arith
-fits (turned.Triggered fired) p q m = omega arith
-fits turned.Stepped p q m = omega arith
-fits turned.Finished p q m = omega arith
+fits (turned.Stood why) p q m = omega arith
+fits (turned.Moved move.Counted) p q m = omega arith
+fits (turned.Moved move.Copied) p q m = omega arith
+fits (turned.Moved move.Lifted) p q m = omega arith
+fits (turned.Moved move.Fixed) p q m = omega arith
+fits (turned.Moved move.Planted) p q m = omega arith
+fits (turned.Moved move.Ran) p q m = run_fits p q m
+fits (turned.Moved (move.Wrote addr len)) p q m = run_fits p q m
+fits (turned.Moved move.Left) p q m = run_fits p m.0 m.1
+fits (turned.Moved move.AllLeft) p q m = run_fits p m.0 m.1
+fits (turned.Moved move.Stopped) p q m = omega arith
 
 -- an end leads to Idle
 end_idle : (p q : Phase) → after p End ≡ Some q → (IsIdle q → ⊥) → ⊥
@@ -208,25 +194,17 @@ run_goes (Ran home) q e ne = absurd cc
 
 -- and then none until the next Idle
 goes : (t : Turned) (p q : Phase) → Marks t p q → (IsIdle q → ⊥) → executed t + rest q ≤ rest p
-goes turned.Over p q m ne = let e = ap rest m in omega arith
-goes turned.NotRunning p q m ne = let e = ap rest m in omega arith
-goes (turned.Held by) p q m ne = let e = ap rest m in omega arith
-goes turned.NoSlot p q m ne = let e = ap rest m in omega arith
-goes turned.Counted p q m ne = let e = ap rest m in omega arith
-goes turned.Copied p q (slot, home, e) ne = omega (arith, copy_before p q slot home e, rest_most q)
-goes turned.Lifted p q (home, e) ne = omega (arith, lift_before p q home e, rest_most q)
-goes turned.Fixed p q m ne = absurd (fix_idle p q m ne)
-goes turned.Planted p q m ne = absurd (plant_idle p q m ne)
-goes turned.Ran p q m ne = run_goes p q m ne
-goes (turned.Wrote addr len) p q m ne = run_goes p q m ne
-goes (turned.Left code) p q m ne = absurd (ends_idle m.0 q m.2 ne)
-goes (turned.AllLeft code count) p q m ne = absurd (ends_idle m.0 q m.2 ne)
-goes (turned.Stopped cause) p q m ne = absurd (ends_idle p q m ne)
-goes turned.Interrupted p q m ne = absurd (is_idle q m.1 ne)
-goes (turned.Arrived number temporary error) p q m ne = absurd (ends_idle p q m ne)
-goes (turned.Triggered fired) p q m ne = absurd (ends_idle p q m ne)
-goes turned.Stepped p q m ne = absurd (ends_idle p q m ne)
-goes turned.Finished p q m ne = absurd (ends_idle p q m ne)
+goes (turned.Stood why) p q m ne = let e = ap rest m in omega arith
+goes (turned.Moved move.Counted) p q m ne = let e = ap rest m in omega arith
+goes (turned.Moved move.Copied) p q (slot, home, e) ne = omega (arith, copy_before p q slot home e, rest_most q)
+goes (turned.Moved move.Lifted) p q (home, e) ne = omega (arith, lift_before p q home e, rest_most q)
+goes (turned.Moved move.Fixed) p q m ne = absurd (fix_idle p q m ne)
+goes (turned.Moved move.Planted) p q m ne = absurd (plant_idle p q m ne)
+goes (turned.Moved move.Ran) p q m ne = run_goes p q m ne
+goes (turned.Moved (move.Wrote addr len)) p q m ne = run_goes p q m ne
+goes (turned.Moved move.Left) p q m ne = absurd (ends_idle m.0 q m.2 ne)
+goes (turned.Moved move.AllLeft) p q m ne = absurd (ends_idle m.0 q m.2 ne)
+goes (turned.Moved move.Stopped) p q m ne = absurd (ends_idle p q m ne)
 
 few : (p : Phase) (ts : List Turned) → MovesToIdle p ts → executed_by ts ≤ rest p
 few p [] m = absurd m

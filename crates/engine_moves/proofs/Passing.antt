@@ -5,6 +5,7 @@ use Rattle.std.proofs.lemmas.Option.{slice_get_within}
 use Rattle.rv_exec.specs.Registers.{Registers, set_pc}
 use Rattle.rv_exec.specs.declared.effect.Stepped.TheVariants as stepped
 use Rattle.elf32_read.specs.Program.{Program}
+use Rattle.step_plans.specs.declared.plan.Plan.{Plan}
 use Rattle.text_words.specs.Words.{is_planted}
 use Rattle.step_over.specs.declared.phase.Phase.TheVariants as phase
 use Rattle.hart_machine.specs.declared.hart.Core.{Core}
@@ -38,12 +39,13 @@ use Rattle.engine_moves.proofs.Holding.{core_at}
 use Rattle.engine_moves.proofs.Homecoming.{is_slotted}
 use Rattle.engine_moves.proofs.Bounding.{may_go_by}
 use Rattle.engine_moves.specs.Calls.{Of, Undue, DueIs, AtPlanted, Turns}
-use Rattle.engine_moves.specs.Going.{Passes, is_kept, meets}
+use Rattle.engine_moves.specs.Going.{Passes, SurroundingsView, is_kept, meets}
 use Rattle.engine_moves.specs.Rows.{Begins, row_at, row_idle}
 use Rattle.engine_moves.specs.Several.{AllTurned}
 use Rattle.engine_moves.specs.Slicing.{takes_slices}
 use Rattle.engine_moves.specs.Steps.{applied}
 use Rattle.engine_moves.specs.declared.moving.Turned.TheVariants as turned
+use Rattle.engine_moves.specs.declared.moving.Move.TheVariants as move
 use Rattle.engine_moves.proofs.Executing.{Executed, Ready, executed_to, of_hart, own_pc, parts_of, ran_to, ready, same_hart}
 use Rattle.engine_moves.proofs.Holds.{Claims, copied, shown_is, unwound_to}
 use Rattle.engine_moves.proofs.Gone.{none_fire}
@@ -56,16 +58,16 @@ use Rattle.engine_moves.proofs.Rows.{row_at_copy, row_finishes, row_idles}
 pub record Apart (x : Mind) : Type 0 where
   pub idle : x.phase ≡ phase.Idle
   pub runs : x.activity ≡ activity.Running
-  pub plan : takes_slices x.plan ≡ true
-  pub unfired : x.fired ≡ None
+  pub plan : takes_slices x.course.plan ≡ true
+  pub unfired : x.course.fired ≡ None
 
 -- and while no interrupt is asked of it
 pub record Alone (x : Mind) : Type 0 where
   pub idle : x.phase ≡ phase.Idle
   pub runs : x.activity ≡ activity.Running
   pub asked : x.asked ≡ false
-  pub plan : takes_slices x.plan ≡ true
-  pub unfired : x.fired ≡ None
+  pub plan : takes_slices x.course.plan ≡ true
+  pub unfired : x.course.fired ≡ None
 
 -- an engine that isn't over
 pub record Going (r : Run) : Type 0 where
@@ -79,7 +81,7 @@ pub record Ahead (n : ℕ) (r new : Run) (h : ℕ) : Type 0 where
   pub turns : AllTurned n r new h
 
 -- its instruction
-pub kept_executed : (q : Run) (h spare : ℕ) (c : Core) (x : Mind) (m : Patched) → is_kept x.plan (seen_hart q.opening.image c x).regs.pc ≡ true → fired_by q.watches q.machine.memory m.memory ≡ None → Ready q h c x → StepsTo stepped.Ran q.machine h c m → Executed stepped.Ran q (ran_to stepped.Ran q h (kept_ran x) m q.hold spare) h (kept_ran x)
+pub kept_executed : (q : Run) (h spare : ℕ) (c : Core) (x : Mind) (m : Patched) → is_kept x.course.plan (seen_hart q.opening.image c x).regs.pc ≡ true → fired_by q.watches q.machine.memory m.memory ≡ None → Ready q h c x → StepsTo stepped.Ran q.machine h c m → Executed stepped.Ran q (ran_to stepped.Ran q h (kept_ran x) m q.hold spare) h (kept_ran x)
 kept_executed q h spare c x m kept none k t =
     let P : Mind → Type 0 = λ z. Executed stepped.Ran q (ran_to stepped.Ran q h z m q.hold spare) h z in
     subst P (ran_kept q h c x m.memory kept none) (executed_to stepped.Ran q h spare c x m m q.hold (applied stepped.Ran h (ran_of q h c x m.memory) (parts_of q)) q.noted refl k t (refl, refl) refl refl)
@@ -93,20 +95,24 @@ met_by : (d : Due) (b : Bool) → meets d ≡ false → meets (cond b d nothing_
 met_by d true none = none
 met_by d false none = refl
 
-quiet_by : (p : Program) (s : State) (h : ℕ) (c : Core) (x : Mind) → x.fired ≡ None → is_kept x.plan (seen_hart p c x).regs.pc ≡ true → (seen_hart p c x).regs ≡ set_pc c.regs c.regs.pc → meets (due_of h (register (set_pc c.regs c.regs.pc)) (shown_byte p s.memory) s.breaks) ≡ false
+quiet_by : (p : Program) (s : State) (h : ℕ) (c : Core) (x : Mind) → x.course.fired ≡ None → is_kept x.course.plan (seen_hart p c x).regs.pc ≡ true → (seen_hart p c x).regs ≡ set_pc c.regs c.regs.pc → meets (due_of h (register (set_pc c.regs c.regs.pc)) (shown_byte p s.memory) s.breaks) ≡ false
     → is_due (due p s h (seen_hart p c x)) ≡ false
 quiet_by p s h c x unfired kept is none =
     let y = seen_hart p c x in
     let P : Registers → Type 0 = λ q. meets (due_of h (register q) (shown_byte p s.memory) s.breaks) ≡ false in
-    let met = met_by (due_of h (register y.regs) (shown_byte p s.memory) s.breaks) y.fresh (subst P (sym is) none) in
-    quiet_as (due p s h y) x.plan (ap meets (due_breaks p s h y) ∙ met) (due_fired p s h y unfired) (kept_verdict p s h y kept)
+    let met = met_by (due_of h (register y.regs) (shown_byte p s.memory) s.breaks) y.course.fresh (subst P (sym is) none) in
+    quiet_as (due p s h y) x.course.plan (ap meets (due_breaks p s h y) ∙ met) (due_fired p s h y unfired) (kept_verdict p s h y kept)
+
+-- a hart of an engine that goes on
+abbrev pub around : Run → ℕ → Plan → Bool → SurroundingsView
+around r h plan copies = record { hart = h; plan = plan; image = r.opening.image; breaks = r.breaks; watches = r.watches; copies = copies }
 
 -- a hart at a planted word that it passes
 record Comes (q : Run) (h : ℕ) (x : Mind) (pc : ℕ) : Type 0 where
   before : AtPlanted q h x pc
   row : row_at q h ≡ Begins
 
-comes : (q : Run) (h : ℕ) (x : Mind) (m : Patched) → Facts q → slice_get q.minds h ≡ Some x → Alone x → q.hold ≡ None → Going q → (s : Passes q.opening.image q.breaks q.watches h x.plan true q.machine m) → Comes q h x s.core.regs.pc
+comes : (q : Run) (h : ℕ) (x : Mind) (m : Patched) → Facts q → slice_get q.minds h ≡ Some x → Alone x → q.hold ≡ None → Going q → (s : Passes (around q h x.course.plan true) q.machine m) → Comes q h x s.core.regs.pc
 comes q h x m f at a none going s =
     let p = q.opening.image in
     let c = s.core in
@@ -116,7 +122,7 @@ comes q h x m f at a none going s =
     let may : may_go q.opening (seen q) ≡ true = may_go_by q going.budget going.history going.going in
     let free : other_holder q.hold h ≡ None = ap (λ (o : Option Hold). other_holder o h) none in
     let before : is_before x.phase ≡ true = ap is_before a.idle in
-    let kept : is_kept x.plan (seen_hart p c x).regs.pc ≡ true = ap (is_kept x.plan) own ∙ s.kept in
+    let kept : is_kept x.course.plan (seen_hart p c x).regs.pc ≡ true = ap (is_kept x.course.plan) own ∙ s.kept in
     let d = due p (seen q) h (seen_hart p c x) in
     let quiet : is_due d ≡ false = quiet_by p (seen q) h c x a.unfired kept (shown_is p c x c.regs.pc a.runs before own) s.undue in
     let is : DueIs q h d = λ y e. ap (due p (seen q) h) (sym (same_hart q h c x y mover e)) in
@@ -128,7 +134,7 @@ comes q h x m f at a none going s =
     }
 
 pub passed : (n : ℕ) (r q : Run) (h spare : ℕ) (x : Mind) (m : Patched) → AllTurned n r q h → Facts q → slice_get q.minds h ≡ Some x → Alone x → q.hold ≡ None → Going q → q.retired + 1 < q.opening.settings.budget → is_off q.displaced ≡ false
-    → Passes q.opening.image q.breaks q.watches h x.plan true q.machine m → Ahead (suc (suc (suc n))) r (ran_to stepped.Ran q h (kept_ran x) m q.hold spare) h
+    → Passes (around q h x.course.plan true) q.machine m → Ahead (suc (suc (suc n))) r (ran_to stepped.Ran q h (kept_ran x) m q.hold spare) h
 passed n r q h spare x m ahead f at a none going low on s =
     let c = s.core in
     let pc = c.regs.pc in
@@ -152,7 +158,7 @@ passed n r q h spare x m ahead f at a none going low on s =
     let E : Core → Type 0 = λ d. d.copied ≤ d.retired in
     -- and executed the word
     let go = ready q1 h x1 pc one.facts.sound at1 refl a.runs free1 pc1 undue1 (λ e. cc) may1 (λ d there is. subst E (same_some b d (sym at_b ∙ there)) (s.counted h c s.at)) in
-    let kept1 : is_kept x1.plan (seen_hart q1.opening.image go.0 x1).regs.pc ≡ true = ap (is_kept x.plan) (of_hart q1 h go.0 x1 (λ y. y.regs.pc ≡ pc) go.1.mover pc1) ∙ s.kept in
+    let kept1 : is_kept x1.course.plan (seen_hart q1.opening.image go.0 x1).regs.pc ≡ true = ap (is_kept x.course.plan) (of_hart q1 h go.0 x1 (λ y. y.regs.pc ≡ pc) go.1.mover pc1) ∙ s.kept in
     let two = kept_executed q1 h spare go.0 x1 k.ran kept1 (none_fire q.watches k.begun.memory k.ran.memory s.unwatched) go.1 (k.steps go.0 go.1.mover.core) in
     let facts2 = kept_facts q1 h spare x1 k.ran one.facts at1 (ap is_active a.runs) two in
     let q2 : Run = ran_to stepped.Ran q1 h (kept_ran x1) k.ran q1.hold spare in
@@ -171,19 +177,19 @@ passed n r q h spare x m ahead f at a none going low on s =
     let q3 : Run = record q2 { machine = m; minds = slice_set q2.minds h (with_phase x2 phase.Idle); hold = None } in
     let may2 : may_go q2.opening (seen q2) ≡ true = may_go_by q2 low going.history going.going in
     let first2 = row_finishes q2 h x2 facts2.sound may2 at2 refl free2 refl in
-    let fixes : Turns turned.Fixed q2 q3 h = record { mind = x2; slot = slot; home = pc; may = may2; runs = refl; at = at2; landed = refl; freed = three.does.freed slot refl; rephases = three.does.home } in
+    let fixes : Turns (turned.Moved move.Fixed) q2 q3 h = record { mind = x2; slot = slot; home = pc; may = may2; runs = refl; at = at2; landed = refl; freed = three.does.freed slot refl; rephases = three.does.home } in
     let turns : AllTurned (suc (suc (suc n))) r q3 h = record {
       run = q2;
       before = record {
         run = q1;
-        before = record { run = q; before = ahead; facts = f; answer = turned.Copied; fits = record { quiet = refl; first = start.row }; turn = one.does };
+        before = record { run = q; before = ahead; facts = f; answer = turned.Moved move.Copied; fits = record { quiet = refl; first = start.row }; turn = one.does };
         facts = one.facts;
-        answer = turned.Ran;
+        answer = turned.Moved move.Ran;
         fits = record { quiet = refl; first = first1 };
         turn = two.does k.ran.text q1.waits;
       };
       facts = facts2;
-      answer = turned.Fixed;
+      answer = turned.Moved move.Fixed;
       fits = record { quiet = refl; first = first2 };
       turn = fixes;
     } in

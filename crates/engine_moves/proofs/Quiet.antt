@@ -13,6 +13,7 @@ use Rattle.engine_moves.specs.Calls.{Turns}
 use Rattle.engine_moves.specs.Several.{AllRan, AllTurned, HasRan, IsQuiet, IsQuietRow, TurnedBy, is_quiet}
 use Rattle.engine_moves.specs.declared.moving.Turned.{Turned}
 use Rattle.engine_moves.specs.declared.moving.Turned.TheVariants as turned
+use Rattle.engine_moves.specs.declared.moving.Move.TheVariants as move
 use Rattle.engine_moves.proofs.Rows.{Goes, open_by}
 
 went_by : (o : Opening) (s t : State) (h : ℕ) (y : Option Hart) → one_by o s h y ≡ Some t → may_go o s ≡ true
@@ -30,25 +31,17 @@ goes_by : (q : Run) → may_go q.opening (seen q) ≡ true → Goes q
 goes_by q may = record { may = may; going = open_by q may }
 
 pub quiet_may : (t : Turned) (q s : Run) (h : ℕ) → is_quiet t ≡ true → Turns t q s h → Goes q
-quiet_may turned.Ran q s h quiet k = goes_by q (went q.opening (seen q) (seen s) h k.one)
-quiet_may turned.Copied q s h quiet k = goes_by q k.before.may
-quiet_may turned.Fixed q s h quiet k = goes_by q k.may
-quiet_may turned.Lifted q s h quiet k = goes_by q k.before.may
-quiet_may turned.Planted q s h quiet k = goes_by q k.may
-quiet_may turned.Over q s h quiet k = cc
-quiet_may turned.NotRunning q s h quiet k = cc
-quiet_may (turned.Held by) q s h quiet k = cc
-quiet_may turned.NoSlot q s h quiet k = cc
-quiet_may (turned.Wrote addr len) q s h quiet k = cc
-quiet_may (turned.Left code) q s h quiet k = cc
-quiet_may (turned.AllLeft code count) q s h quiet k = cc
-quiet_may (turned.Stopped cause) q s h quiet k = cc
-quiet_may turned.Interrupted q s h quiet k = cc
-quiet_may turned.Counted q s h quiet k = cc
-quiet_may (turned.Arrived number temporary error) q s h quiet k = cc
-quiet_may (turned.Triggered fired) q s h quiet k = cc
-quiet_may turned.Stepped q s h quiet k = cc
-quiet_may turned.Finished q s h quiet k = cc
+quiet_may (turned.Moved move.Ran) q s h quiet k = goes_by q (went q.opening (seen q) (seen s) h k.one)
+quiet_may (turned.Moved move.Copied) q s h quiet k = goes_by q k.before.may
+quiet_may (turned.Moved move.Fixed) q s h quiet k = goes_by q k.may
+quiet_may (turned.Moved move.Lifted) q s h quiet k = goes_by q k.before.may
+quiet_may (turned.Moved move.Planted) q s h quiet k = goes_by q k.may
+quiet_may (turned.Moved (move.Wrote addr len)) q s h quiet k = cc
+quiet_may (turned.Moved move.Left) q s h quiet k = cc
+quiet_may (turned.Moved move.AllLeft) q s h quiet k = cc
+quiet_may (turned.Moved move.Counted) q s h quiet k = cc
+quiet_may (turned.Moved move.Stopped) q s h quiet k = cc
+quiet_may (turned.Stood why) q s h quiet k = cc
 
 -- of another kind of turn, where each of the one kind is of the other
 also : (P Q : Run → Turned → Type 0) → ((r : Run) (t : Turned) → P r t → Q r t) → (n : ℕ) (r s : Run) (h : ℕ) → TurnedBy P n r s h → TurnedBy Q n r s h

@@ -36,8 +36,8 @@ rewaits Did q m t n w =
     subst (λ (u : Table). P m u) (sym w.table) (subst (λ (k : Patched). P k t') (sym planted.rest) base)
 
 -- one that stays as active, with the same plan, waits where it did
-pub same_waits : (p : Program) (x y : Mind) → runs y ≡ runs x → y.plan ≡ x.plan → awaited p y ≡ awaited p x
-same_waits p x y active plan = ap (λ b. cond b (in_place p (return_of y.plan)) None) active ∙ ap (λ q. cond (runs x) (in_place p (return_of q)) None) plan
+pub same_waits : (p : Program) (x y : Mind) → runs y ≡ runs x → y.course.plan ≡ x.course.plan → awaited p y ≡ awaited p x
+same_waits p x y active plan = ap (λ b. cond b (in_place p (return_of y.course.plan)) None) active ∙ ap (λ q. cond (runs x) (in_place p (return_of q)) None) plan
 
 -- a word of text is an instruction's place, as the table of breakpoints knows it
 word_by : (p : Program) (a : ℕ) → (a < 2 ^ 32) ⊎ (2 ^ 32 ≤ a) → IsSome (shown (unpatched p) a) → is_some (text_word p a) ≡ true

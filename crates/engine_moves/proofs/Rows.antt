@@ -15,7 +15,8 @@ use Rattle.dbg_model.specs.declared.hart.Hart.{Hart}
 use Rattle.dbg_model.specs.declared.judgement.Judgement.{Judgement}
 use Rattle.dbg_model.specs.declared.watch.Fired.{Fired}
 use Rattle.dbg_model.specs.Judging.{is_due, is_end}
-use Rattle.dbg_model.specs.State.{due, any_leaves}
+use Rattle.dbg_model.specs.Shown.{stops_once}
+use Rattle.dbg_model.specs.State.{State, due, any_leaves}
 use Rattle.dbg_model.proofs.Options.{both_true}
 use Rattle.dbg_model.specs.Lawful.{enter, may_go}
 use Rattle.engine_moves.specs.declared.mind.Activity.TheVariants as activity
@@ -155,6 +156,7 @@ halts_behind r m n h x why u k =
       hold = k.hold;
       journal = k.journal ∙ ap (λ j. j ++ Stopped h why ∷ []) u.journal;
       enters = sym (ap (λ o. enter o (seen m) (Stopped h why)) u.opening ∙ ap (λ s. enter r.opening s (Stopped h why)) u.seen) ∙ k.enters;
+      temporary = k.temporary ∙ ap (λ (s : State). stops_once s.breaks why) u.seen;
       opening = k.opening ∙ u.opening;
     }
 

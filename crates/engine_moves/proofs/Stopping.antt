@@ -32,15 +32,17 @@ use Rattle.dbg_model.specs.declared.hart.Hart.{Hart}
 use Rattle.dbg_model.specs.declared.judgement.Judgement.{Judgement}
 use Rattle.dbg_model.specs.declared.watch.Fired.{Fired}
 use Rattle.dbg_model.specs.declared.watch.Watch.{Watch as Watchpoint}
+use Rattle.dbg_model.specs.declared.course.Course.{Course}
+use Rattle.dbg_model.specs.Courses.{after_count, with_plan}
 use Rattle.dbg_model.specs.Judging.{ends_function, ends_step, fires, is_counted, is_due}
 use Rattle.dbg_model.specs.State.{State, due, arrived}
 use Rattle.dbg_model.specs.Watches.{is_fired, risen}
-use Rattle.dbg_model.specs.Lawful.{enter, may_move, may_run, stopped, with_arrival, with_stop, with_count}
+use Rattle.dbg_model.specs.Lawful.{enter, may_move, may_run, stopped_hart, with_arrival, with_stop, with_count}
 use Rattle.dbg_model.specs.Journals.{ran_hart}
 use Rattle.dbg_model.proofs.Adding.{added}
 use Rattle.engine_moves.specs.declared.mind.Hold.{Hold}
 use Rattle.engine_moves.specs.declared.mind.Mind.{Mind}
-use Rattle.engine_moves.specs.Minds.{first_mind, resumed_mind, asked_mind, counted_mind, lifted_of, slot_of, entered_of, runs}
+use Rattle.engine_moves.specs.Minds.{first_mind, resumed_mind, counted_mind, lifted_of, slot_of, entered_of, runs}
 use Rattle.engine_moves.specs.Seen.{Run, seen, seen_with, told_of, seen_hart, seen_harts, seen_regs}
 use Rattle.engine_moves.specs.Facts.{Sound, Harts, HartFact, Planted, AreInText, AreCopied, Wants, wanted, wants_of, is_home, held_by, pending, IsThread}
 use Rattle.engine_moves.specs.Moves.{Repatched, halted, lined, plan_for, stop_by, stop_of}
@@ -106,14 +108,14 @@ stopped_rests : (r : Run) (x : Mind) → x.phase ≡ phase.Idle → Rests r x fi
 stopped_rests r x idle = record { slot = sym (ap slot_of idle); pending = λ some. let z = idle_pending r.displaced in omega arith }
 
 -- it is seen as it is
-stopped_seen : (p : Program) (c : Core) (x : Mind) → x.phase ≡ phase.Idle → stopped (seen_hart p c x) ≡ seen_hart p c first_mind
+stopped_seen : (p : Program) (c : Core) (x : Mind) → x.phase ≡ phase.Idle → stopped_hart (seen_hart p c x) ≡ seen_hart p c first_mind
 stopped_seen p c x idle =
     let regs : seen_regs p c.regs x.activity x.phase ≡ c.regs = ap (seen_regs p c.regs x.activity) idle ∙ idle_seen p c.regs x.activity in
     ap (λ q. let y : Hart = record (seen_hart p c first_mind) { regs = q } in y) regs
 
--- what is known of a hart that is counted, which stays in its phase
-counted_fact : (r : Run) (h : ℕ) (c : Core) (x : Mind) (plan : Plan) → Sound r → Mover r h c x → HartFact r.opening.image r.machine.slots r.hold h c (counted_mind plan x)
-counted_fact r h c x plan f m = let k = fact_of r h c x f m in record { placed = k.placed; entered = k.entered; held = k.held; idle = k.idle }
+-- what is known of a hart stays, whether an interrupt is asked of it and however it goes on
+pub going_fact : (p : Program) (slots : List (Option SlotUse)) (hold : Option Hold) (h : ℕ) (c : Core) (x : Mind) (asked : Bool) (course : Course) → HartFact p slots hold h c x → HartFact p slots hold h c (record x { asked = asked; course = course })
+going_fact p slots hold h c x asked course k = record { placed = k.placed; entered = k.entered; held = k.held; idle = k.idle }
 
 -- the stop by a fault comes
 enter_fault : (o : Opening) (s : State) (h : ℕ) (y : Hart) (cause : Cause) → slice_get s.harts h ≡ Some y → may_run o s h y ≡ true → plain o.image y.regs s.memory ≡ Traps cause → enter o s (Stopped h (Fault cause)) ≡ Some (with_stop s h y)
@@ -232,12 +234,12 @@ halts_interrupt r h spare c x f m idle asked may =
 -- an idle hart stops where it has arrived
 pub halts_arrival : (r : Run) (h spare : ℕ) (why : Why) (c : Core) (x : Mind) (t : Words) → Sound r → Mover r h c x → x.phase ≡ phase.Idle → may_move r.opening (seen r) (seen_hart r.opening.image c x) ≡ true
     → stop_of (due r.opening.image (seen r) h (seen_hart r.opening.image c x)) ≡ Some why
-    → Repatched r.machine.text t (shown_pc r c x) (wanted (wants_after r h c x) (shown_pc r c x)) → Comes r (halted r (Stopped h why) h first_mind t (after_arrival r h c x) (risen x.fired r.watches) spare) (Stopped h why)
+    → Repatched r.machine.text t (shown_pc r c x) (wanted (wants_after r h c x) (shown_pc r c x)) → Comes r (halted r (Stopped h why) h first_mind t (after_arrival r h c x) (risen x.course.fired r.watches) spare) (Stopped h why)
 halts_arrival r h spare why c x t f m idle may is w =
     let y = seen_hart r.opening.image c x in
     let bs = after_arrival r h c x in
-    halts r (Stopped h why) h spare c x first_mind t bs (risen x.fired r.watches) f m (stopped_fact r h c x f m idle) (stopped_rests r x idle) refl
-    (enter_arrival r.opening (seen r) h y why (hart_at r h c x m) may is ∙ ap Some (stop_seen r h c x bs (risen x.fired r.watches) idle))
+    halts r (Stopped h why) h spare c x first_mind t bs (risen x.course.fired r.watches) f m (stopped_fact r h c x f m idle) (stopped_rests r x idle) refl
+    (enter_arrival r.opening (seen r) h y why (hart_at r h c x m) may is ∙ ap Some (stop_seen r h c x bs (risen x.course.fired r.watches) idle))
     (planted_after r h c x t f w) (text-arrived r.opening.image (seen r) h y f.texts)
 
 -- the plan with which a hart goes on
@@ -252,7 +254,7 @@ counts r h spare c x t f m may is w =
     let y = seen_hart r.opening.image c x in
     let bs = after_arrival r h c x in
     let plan = goes_with r h c x in
-    halts r (Counted h) h spare c x (counted_mind plan x) t bs r.watches f m (counted_fact r h c x plan f m) (record { slot = refl; pending = λ some. omega arith }) refl
+    halts r (Counted h) h spare c x (counted_mind plan x) t bs r.watches f m (going_fact r.opening.image r.machine.slots r.hold h c x x.asked (after_count (with_plan plan x.course)) (fact_of r h c x f m)) (record { slot = refl; pending = λ some. omega arith }) refl
     (enter_count r.opening (seen r) h y (hart_at r h c x m) may is) (planted_after r h c x t f w) (text-arrived r.opening.image (seen r) h y f.texts)
 
 -- ---- lines
@@ -263,19 +265,15 @@ resumed_fact p slots hold h c x plan fact stops =
     let idle = fact.idle stops in
     record { placed = tt; entered = fact.entered ∙ ap entered_of idle; held = ap lifted_of (sym idle) ∙ fact.held; idle = λ a. refl }
 
--- and of a hart of which an interrupt is asked
-pub asked_fact : (p : Program) (slots : List (Option SlotUse)) (hold : Option Hold) (h : ℕ) (c : Core) (x : Mind) → HartFact p slots hold h c x → HartFact p slots hold h c (asked_mind x)
-asked_fact p slots hold h c x fact = record { placed = fact.placed; entered = fact.entered; held = fact.held; idle = fact.idle }
-
 -- the phases of the harts
 abbrev pub phase_of : Mind → Phase
 phase_of x = x.phase
 
 -- a hart, where the phases are the same
-record HasPhase (xs : List Mind) (k : ℕ) (q : Phase) : Type 0 where
-  mind : Mind
-  at : slice_get xs k ≡ Some mind
-  same : mind.phase ≡ q
+pub record HasPhase (xs : List Mind) (k : ℕ) (q : Phase) : Type 0 where
+  pub mind : Mind
+  pub at : slice_get xs k ≡ Some mind
+  pub same : mind.phase ≡ q
 
 abbrev rest : List Phase → List Phase
 rest [] = []
@@ -287,7 +285,7 @@ first_phase x y xs ys same = sym (same_some x.phase y.phase (ap (λ qs. slice_ge
 rest_phases : (x y : Mind) (xs ys : List Mind) → map phase_of (x ∷ xs) ≡ map phase_of (y ∷ ys) → map phase_of xs ≡ map phase_of ys
 rest_phases x y xs ys same = ap rest same
 
-phase_at : (xs ys : List Mind) (k : ℕ) (x : Mind) → map phase_of xs ≡ map phase_of ys → slice_get xs k ≡ Some x → HasPhase ys k x.phase
+pub phase_at : (xs ys : List Mind) (k : ℕ) (x : Mind) → map phase_of xs ≡ map phase_of ys → slice_get xs k ≡ Some x → HasPhase ys k x.phase
 phase_at [] ys k x same at = cc
 phase_at (z ∷ xs) [] k x same at = cc
 phase_at (z ∷ xs) (y ∷ ys) zero x same at = record { mind = y; at = refl; same = first_phase z y xs ys same ∙ ap phase_of (same_some z x at) }

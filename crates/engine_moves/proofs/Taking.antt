@@ -25,6 +25,7 @@ use Rattle.engine_moves.specs.Calls.{Turns}
 use Rattle.engine_moves.specs.Several.{AllRan, lengthened_by}
 use Rattle.engine_moves.specs.Slicing.{CanTake, goes_apart, takes_slices}
 use Rattle.engine_moves.specs.declared.moving.Turned.TheVariants as turned
+use Rattle.engine_moves.specs.declared.moving.Move.TheVariants as move
 use Rattle.engine_moves.proofs.Aheads.{after_is, apart_after, at_after, idle_so, mind_after, one_turn, run_after, run_next, running_so, unfired_so}
 use Rattle.engine_moves.proofs.Executing.{same_hart}
 use Rattle.engine_moves.proofs.Kept.{kept_ran}
@@ -51,18 +52,18 @@ taken_by (suc n) r h spare x m f at a none budget low still went =
     let before = taken_by n r h spare x went.machine f at a none (omega (arith, budget)) low still went.before in
     let e = one_turn q h spare (mind_after n x) m before.facts (at_after n r.minds h x at) (apart_after n x a) none (record { budget = omega (arith, budget); history = low; going = still }) (kept_fires r.watches went.machine.memory m.memory went.kept) went.step in
     let next = run_next n r h x went.machine m spare a.idle in
-    let P : Run → Type 0 = λ u. Turns turned.Ran q u h in
+    let P : Run → Type 0 = λ u. Turns (turned.Moved move.Ran) q u h in
     record {
       facts = subst Facts next e.facts;
-      ran = record { run = q; before = before.ran; facts = before.facts; answer = turned.Ran; fits = refl; turn = subst P next e.does };
+      ran = record { run = q; before = before.ran; facts = before.facts; answer = turned.Moved move.Ran; fits = refl; turn = subst P next e.does };
     }
 
 pub apart_so : (x : Mind) → goes_apart x ≡ true → Apart x
 apart_so x is =
-    let e = both_true ((runs x && is_idle x.phase) && takes_slices x.plan) (is_none x.fired) is in
-    let a = both_true (runs x && is_idle x.phase) (takes_slices x.plan) e.0 in
+    let e = both_true ((runs x && is_idle x.phase) && takes_slices x.course.plan) (is_none x.course.fired) is in
+    let a = both_true (runs x && is_idle x.phase) (takes_slices x.course.plan) e.0 in
     let b = both_true (runs x) (is_idle x.phase) a.0 in
-    record { idle = idle_so x.phase b.1; runs = running_so x.activity b.0; plan = a.1; unfired = unfired_so x.fired e.1 }
+    record { idle = idle_so x.phase b.1; runs = running_so x.activity b.0; plan = a.1; unfired = unfired_so x.course.fired e.1 }
 
 free_so : (o : Option ℕ) → is_none o ≡ true → o ≡ None
 free_so None e = refl

@@ -66,8 +66,8 @@ place_by : (p : Program) (a : ℕ) (o : Option ℕ) → in_place p o ≡ Some a 
 place_by p a None e = cc
 place_by p a (Some ret) e = some_by p a ret (is_some (shown (unpatched p) ret)) refl e
 
-awaited_by : (p : Program) (a : ℕ) (x : Mind) (b : Bool) → cond b (in_place p (return_of x.plan)) None ≡ Some a → IsSome (shown (unpatched p) a)
-awaited_by p a x true e = place_by p a (return_of x.plan) e
+awaited_by : (p : Program) (a : ℕ) (x : Mind) (b : Bool) → cond b (in_place p (return_of x.course.plan)) None ≡ Some a → IsSome (shown (unpatched p) a)
+awaited_by p a x true e = place_by p a (return_of x.course.plan) e
 awaited_by p a x false e = cc
 
 pub awaited_text : (p : Program) (t : Words) (a : ℕ) (x : Mind) → t.words ≡ (unpatched p).words → awaited p x ≡ Some a → IsSome (shown t a)

@@ -20,10 +20,10 @@ use Rattle.dbg_model.specs.declared.entry.Entry.TheVariants.{Counted, Stopped, D
 use Rattle.dbg_model.specs.declared.entry.Poke.{Poke}
 use Rattle.dbg_model.specs.declared.opening.Opening.{Opening}
 use Rattle.dbg_model.specs.declared.entry.Why.{Why}
-use Rattle.dbg_model.specs.declared.entry.Why.TheVariants.{Break, Interrupted, Fault}
+use Rattle.dbg_model.specs.declared.entry.Why.TheVariants.{Interrupted, Fault}
 use Rattle.dbg_model.specs.declared.entry.Why.TheVariants as whys
 use Rattle.dbg_model.specs.Limits.{history}
-use Rattle.dbg_model.specs.Breaks.{is_temporary}
+use Rattle.dbg_model.specs.Shown.{stops_once}
 use Rattle.dbg_model.specs.Watches.{risen}
 use Rattle.dbg_model.specs.declared.watch.Fired.{Fired}
 use Rattle.dbg_model.specs.declared.hart.Hart.{Hart}
@@ -38,13 +38,17 @@ use Rattle.engine_moves.specs.declared.mind.Hold.{Hold}
 use Rattle.engine_moves.specs.declared.mind.Mind.{Mind}
 use Rattle.engine_moves.specs.Minds.{after_step, runs, is_before, with_phase, counted_mind, first_mind}
 use Rattle.engine_moves.specs.Seen.{Run, seen}
-use Rattle.engine_moves.specs.Facts.{other_holder, Planted, Retired, CopiedOver}
+use Rattle.engine_moves.specs.Facts.{other_holder, wants_of, Planted, Retired, CopiedOver}
 use Rattle.engine_moves.specs.Moves.{AreHome, plan_for, ran_by, stop_of}
 use Rattle.engine_moves.specs.declared.mind.Activity.TheVariants as activity
-use Rattle.engine_moves.specs.Steps.{left_minds}
+use Rattle.engine_moves.specs.Steps.{left_minds, moved_by}
 use Rattle.engine_moves.specs.Homing.{HomedBy}
 use Rattle.engine_moves.specs.declared.moving.Turned.{Turned}
 use Rattle.engine_moves.specs.declared.moving.Turned.TheVariants as turned
+use Rattle.engine_moves.specs.declared.moving.Move.{Move}
+use Rattle.engine_moves.specs.declared.moving.Move.TheVariants as move
+use Rattle.engine_moves.specs.declared.moving.Standing.{Standing}
+use Rattle.engine_moves.specs.declared.moving.Standing.TheVariants as stood
 use Rattle.engine_moves.specs.declared.ending.End.{End}
 use Rattle.engine_moves.specs.declared.ending.End.TheVariants as end
 
@@ -178,7 +182,7 @@ pub record Exits (s : Stepped) (old new : Run) (h count code : ℕ) : Type 0 whe
   pub machine : Patched
   pub steps : Steps s old.machine h machine
   pub home : Patched
-  pub homed : HomedBy s machine home old.hold new.hold old.breaks old.waits h (after_step mind.phase) (slice_set old.minds h (ran_by old h hart machine.memory mind))
+  pub homed : HomedBy s (wants_of old) new.hold (record { hart = h; phase = after_step mind.phase; minds = slice_set old.minds h (ran_by old h hart machine.memory mind) }) machine home
   pub patched : new.machine ≡ record home { text = new.machine.text }
   pub minds : new.minds ≡ left_minds s h (ran_by old h hart machine.memory mind) old.minds
   pub between : State
@@ -198,13 +202,14 @@ pub record Halts (old new : Run) (h : ℕ) (why : Why) : Type 0 where
   pub hold : new.hold ≡ None
   pub journal : new.journal ≡ old.journal ++ Stopped h why ∷ []
   pub enters : enter old.opening (seen old) (Stopped h why) ≡ Some (seen new)
+  pub temporary : new.temporary ≡ stops_once old.breaks why
   pub opening : new.opening ≡ old.opening
 
 -- a hart was counted by the breakpoints that it has come to, and goes on
 pub record Counts (old new : Run) (h : ℕ) : Type 0 where
   pub mind : Mind
   pub at : slice_get old.minds h ≡ Some mind
-  pub fresh : mind.fresh ≡ true
+  pub fresh : mind.course.fresh ≡ true
   pub hart : Hart
   pub shown : slice_get (seen old).harts h ≡ Some hart
   pub minds : new.minds ≡ slice_set old.minds h (counted_mind (plan_for old h hart) mind)
@@ -212,10 +217,6 @@ pub record Counts (old new : Run) (h : ℕ) : Type 0 where
   pub journal : new.journal ≡ old.journal ++ Counted h ∷ []
   pub enters : enter old.opening (seen old) (Counted h) ≡ Some (seen new)
   pub opening : new.opening ≡ old.opening
-
--- a hart stopped by a fault
-abbrev pub Faults : Run → Run → ℕ → Cause → Type 0
-Faults old new h cause = Halts old new h (Fault cause)
 
 -- a hart that was interrupted stopped where it steps over nothing
 pub record Interrupts (old new : Run) (h : ℕ) : Type 0 where
@@ -230,53 +231,50 @@ pub record Triggers (old new : Run) (h : ℕ) (fired : Fired) : Type 0 where
   pub halts : Halts old new h (whys.Watch fired)
   pub watches : new.watches ≡ risen (Some fired) old.watches
 
+-- a hart stopped for a reason
+abbrev pub StopsFor : Why → Run → Run → ℕ → Type 0
+StopsFor Interrupted old new h = Interrupts old new h
+StopsFor (whys.Watch fired) old new h = Triggers old new h fired
+StopsFor why old new h = Halts old new h why
+
+-- what a move did
+abbrev pub Moves : Move → Run → Run → ℕ → Type 0
+Moves move.Ran old new h = Runs stepped.Ran old new h []
+Moves (move.Wrote addr len) old new h = (out : List ℕ) × (0 < len) × (bytes_at new.machine.memory addr len ≡ Some out) × Runs (stepped.Wrote addr len) old new h out
+Moves move.Left old new h = (code : ℕ) × Exits (stepped.HartExit code) old new h 1 code
+Moves move.AllLeft old new h = (code count : ℕ) × Exits (stepped.AllExit code) old new h count code
+Moves move.Counted old new h = Counts old new h
+Moves move.Stopped old new h = (why : Why) × StopsFor why old new h
+Moves move.Copied old new h = Copies old new h
+Moves move.Lifted old new h = Lifts old new h
+Moves move.Fixed old new h = Fixes old new h
+Moves move.Planted old new h = Plants old new h
+
+-- why a hart didn't move
+abbrev pub Stands : Standing → Run → ℕ → Type 0
+Stands stood.Over r h = may_go r.opening (seen r) ≡ false
+Stands stood.NotRunning r h = (may_go r.opening (seen r) ≡ true) × ((x : Mind) → slice_get r.minds h ≡ Some x → runs x ≡ false)
+Stands (stood.Held by) r h = (may_go r.opening (seen r) ≡ true) × ((x : Mind) → slice_get r.minds h ≡ Some x → runs x ≡ true) × (other_holder r.hold h ≡ Some by)
+Stands stood.NoSlot r h = FindsNone r h
+
 -- what a turn did
 abbrev pub Turns : Turned → Run → Run → ℕ → Type 0
-Turns turned.Over old new h = (new ≡ old) × (may_go old.opening (seen old) ≡ false)
-Turns turned.NotRunning old new h = (new ≡ old) × (may_go old.opening (seen old) ≡ true) × ((x : Mind) → slice_get old.minds h ≡ Some x → runs x ≡ false)
-Turns (turned.Held by) old new h = (new ≡ old) × (may_go old.opening (seen old) ≡ true) × ((x : Mind) → slice_get old.minds h ≡ Some x → runs x ≡ true) × (other_holder old.hold h ≡ Some by)
-Turns turned.Fixed old new h = Fixes old new h
-Turns turned.Planted old new h = Plants old new h
-Turns turned.Copied old new h = Copies old new h
-Turns turned.NoSlot old new h = (new ≡ old) × FindsNone old h
-Turns turned.Lifted old new h = Lifts old new h
-Turns turned.Ran old new h = Runs stepped.Ran old new h []
-Turns (turned.Wrote addr len) old new h = (out : List ℕ) × (0 < len) × (bytes_at new.machine.memory addr len ≡ Some out) × Runs (stepped.Wrote addr len) old new h out
-Turns (turned.Left code) old new h = Exits (stepped.HartExit code) old new h 1 code
-Turns (turned.AllLeft code count) old new h = Exits (stepped.AllExit code) old new h count code
-Turns (turned.Stopped cause) old new h = Faults old new h cause
-Turns turned.Interrupted old new h = Interrupts old new h
-Turns turned.Counted old new h = Counts old new h
-Turns (turned.Arrived number temporary error) old new h = Halts old new h (Break number error) × (temporary ≡ is_temporary old.breaks number)
-Turns (turned.Triggered fired) old new h = Triggers old new h fired
-Turns turned.Stepped old new h = Halts old new h whys.Stepped
-Turns turned.Finished old new h = Halts old new h whys.Finished
+Turns (turned.Moved m) old new h = Moves m old new h
+Turns (turned.Stood s) old new h = (new ≡ old) × Stands s old h
 
 -- the hart's instruction traps
 abbrev pub TrapsAt : Run → ℕ → Cause → Type 0
 TrapsAt r h cause = Of r h (λ y. plain r.opening.image y.regs (seen r).memory ≡ Traps cause)
 
--- what an instruction did; at a trap nothing changed
-abbrev pub Executes : Turned → Run → Run → ℕ → Type 0
-Executes turned.Over old new h = ⊥
-Executes turned.NotRunning old new h = ⊥
-Executes (turned.Held by) old new h = ⊥
-Executes turned.Fixed old new h = ⊥
-Executes turned.Planted old new h = ⊥
-Executes turned.Copied old new h = ⊥
-Executes turned.NoSlot old new h = ⊥
-Executes turned.Lifted old new h = ⊥
-Executes turned.Ran old new h = Turns turned.Ran old new h
-Executes (turned.Wrote addr len) old new h = Turns (turned.Wrote addr len) old new h
-Executes (turned.Left code) old new h = Turns (turned.Left code) old new h
-Executes (turned.AllLeft code count) old new h = Turns (turned.AllLeft code count) old new h
-Executes (turned.Stopped cause) old new h = (new ≡ old) × TrapsAt old h cause
-Executes turned.Interrupted old new h = ⊥
-Executes turned.Counted old new h = ⊥
-Executes (turned.Arrived number temporary error) old new h = ⊥
-Executes (turned.Triggered fired) old new h = ⊥
-Executes turned.Stepped old new h = ⊥
-Executes turned.Finished old new h = ⊥
+-- what an instruction did
+abbrev pub Executes : Stepped → Run → Run → ℕ → Type 0
+Executes s old new h = Moves (moved_by s) old new h
+
+-- what else a hart for which nothing is due needs to stop
+abbrev pub MayStop : Why → Run → ℕ → Mind → Type 0
+MayStop Interrupted r h x = x.asked ≡ true
+MayStop (Fault cause) r h x = TrapsAt r h cause
+MayStop _ r h x = ⊥
 
 -- what a line asks to be written, as an entry
 abbrev pub pokes_of : Option Poke → List Entry
@@ -317,6 +315,6 @@ pub record Closes (r : Run) (m : Patched) : Type 0 where
   pub cores : AreHome r.opening.image r.machine.cores r.minds m.cores
   pub slots : (slot : ℕ) → use_at m.slots slot ≡ None
   pub memory : m.memory ≡ r.machine.memory
-  pub text : Planted r.opening.image m.text (record { entries = r.breaks; waits = []; hold = None })
+  pub text : Planted r.opening.image m.text (record (wants_of r) { hold = None })
   pub retired : Retired m.cores r.journal
   pub copied : CopiedOver r.opening.settings.slots m.cores (seen r)

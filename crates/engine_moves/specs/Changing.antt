@@ -17,10 +17,6 @@ Makes r line c = (answer_of r.opening (seen r) line).outcome.change ≡ c
 abbrev pub wants_by : Table → Option Hold → Wants
 wants_by t hold = record { entries = t.entries; waits = t.waits; hold = hold }
 
--- a hart doesn't wait
-abbrev pub no_wait : Option ℕ
-no_wait = None
-
 -- the machine's patches are those that are wanted now, and nothing else changed
 pub record Retabled (old new : Patched) (w : Wants) : Type 0 where
   pub planted : ArePlanted new.text w

@@ -14,6 +14,7 @@ use Rattle.dbg_model.specs.Views.{register, shown_byte}
 use Rattle.break_table.specs.declared.due.Due.{Due}
 use Rattle.dbg_model.specs.declared.watch.Watch.{Watch}
 use Rattle.dbg_model.specs.Watches.{fired_by}
+use Rattle.engine_moves.specs.declared.going.Surroundings.{Surroundings}
 use Rattle.step_plans.specs.declared.plan.Plan.{Plan}
 use Rattle.step_plans.specs.declared.plan.Plan.TheVariants as plans
 
@@ -39,21 +40,33 @@ is_kept (plans.ToReturn ret sp after) pc = not (pc == ret)
 is_kept (plans.Finish ret sp) pc = not (pc == ret)
 is_kept _ pc = false
 
--- hart h, with this plan, is at a planted word at which these breakpoints neither stop nor count it and the plan stays, and
--- stepped over it by a copy, where that is on and nothing is watched
-pub record Passes (p : Program) (bs : List BreakEntry) (vs : List Watch) (h : ℕ) (plan : Plan) (on : Bool) (old new : Patched) : Type 0 where
-  pub unwatched : vs ≡ []
-  pub is_on : on ≡ true
+-- a hart that goes on: its plan, the program and the breakpoints and watches that it meets there, and whether it steps over planted words by copies
+pub record SurroundingsView : Type 0 where
+  pub hart : ℕ
+  pub plan : Plan
+  pub image : Program
+  pub breaks : List BreakEntry
+  pub watches : List Watch
+  pub copies : Bool
+
+abbrev pub surroundings_view : Surroundings → SurroundingsView
+surroundings_view a = record { hart = a.hart; plan = a.plan; image = a.image.now; breaks = a.table.now.entries; watches = a.watches.now; copies = a.copies }
+
+-- the hart is at a planted word at which the breakpoints neither stop nor count it and the plan stays, and stepped over it by a copy, where that
+-- is on and nothing is watched
+pub record Passes (a : SurroundingsView) (old new : Patched) : Type 0 where
+  pub unwatched : a.watches ≡ []
+  pub is_on : a.copies ≡ true
   pub core : Core
   pub word : ℕ
-  pub at : slice_get old.cores h ≡ Some core
+  pub at : slice_get old.cores a.hart ≡ Some core
   pub low : core.regs.pc < 2 ^ 32
   pub planted : is_planted old.text core.regs.pc ≡ true
   pub word_is : Some word ≡ shown old.text core.regs.pc
-  pub undue : meets (due_of h (register (set_pc core.regs core.regs.pc)) (shown_byte p old.memory) bs) ≡ false
-  pub kept : is_kept plan core.regs.pc ≡ true
+  pub undue : meets (due_of a.hart (register (set_pc core.regs core.regs.pc)) (shown_byte a.image old.memory) a.breaks) ≡ false
+  pub kept : is_kept a.plan core.regs.pc ≡ true
   pub counted : AreCounted old.cores
-  pub steps : StepsByCopy old h word new
+  pub steps : StepsByCopy old a.hart word new
 
 -- hart h executed an instruction in its place that made none of these watches fire
 pub record StepsUnfired (vs : List Watch) (h : ℕ) (old new : Patched) : Type 0 where
@@ -66,16 +79,16 @@ pub record ThenGoes (P Step : Patched → Type 0) : Type 0 where
   pub before : P machine
   pub step : Step machine
 
--- Hart h, with this plan, went these ways, of which the last comes first, while it had executed fewer than `most` instructions; a copy's own
--- isn't the last of them, since its step is finished by a turn of its own.
-abbrev pub GoesBy : Program → List BreakEntry → List Watch → ℕ → Plan → Bool → ℕ → List Way → Patched → Patched → Type 0
-GoesBy p bs vs h plan on most [] old new = new ≡ old
-GoesBy p bs vs h plan on most (InPlace ∷ ws) old new = (length ws < most) × ThenGoes (λ m. GoesBy p bs vs h plan on most ws old m) (λ m. StepsUnfired vs h m new)
-GoesBy p bs vs h plan on most (ByCopy ∷ ws) old new = (suc (length ws) < most) × ThenGoes (λ m. GoesBy p bs vs h plan on most ws old m) (λ m. Passes p bs vs h plan on m new)
+-- The hart went these ways, of which the last comes first, while it had executed fewer than `most` instructions; a copy's own isn't the last of
+-- them, since its step is finished by a turn of its own.
+abbrev pub GoesBy : SurroundingsView → ℕ → List Way → Patched → Patched → Type 0
+GoesBy a most [] old new = new ≡ old
+GoesBy a most (InPlace ∷ ws) old new = (length ws < most) × ThenGoes (GoesBy a most ws old) (λ m. StepsUnfired a.watches a.hart m new)
+GoesBy a most (ByCopy ∷ ws) old new = (suc (length ws) < most) × ThenGoes (GoesBy a most ws old) (λ m. Passes a m new)
 
 -- so many turns, with so many instructions
-pub record Goes (p : Program) (bs : List BreakEntry) (vs : List Watch) (h : ℕ) (plan : Plan) (on : Bool) (most turns instructions : ℕ) (old new : Patched) : Type 0 where
+pub record Goes (a : SurroundingsView) (most turns instructions : ℕ) (old new : Patched) : Type 0 where
   pub ways : List Way
   pub turns_are : turns ≡ turns_of ways
   pub instructions_are : instructions ≡ length ways
-  pub goes : GoesBy p bs vs h plan on most ways old new
+  pub goes : GoesBy a most ways old new

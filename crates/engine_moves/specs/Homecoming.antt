@@ -24,11 +24,9 @@ pub record OwnsRun (m : Patched) (h slot : ℕ) : Type 0 where
 
 -- a hart in a step over a planted word by a copy has its slot
 abbrev pub IsSlotted : Patched → ℕ → Phase → Type 0
-IsSlotted m h phase.Idle = Unit {0}
 IsSlotted m h (phase.Copied slot home) = Owns m h slot
 IsSlotted m h (phase.Landed slot home) = OwnsRun m h slot
-IsSlotted m h (phase.Lifted home) = Unit {0}
-IsSlotted m h (phase.Ran home) = Unit {0}
+IsSlotted m h _ = Unit {0}
 
 abbrev pub settled_by : Option SlotUse → ℕ → ℕ → Core → Bool → Core
 settled_by None slot home c ran = c
@@ -36,11 +34,9 @@ settled_by (Some u) slot home c ran = settled_core u.word slot home c ran
 
 -- a hart after it came home
 abbrev pub home_core : List (Option SlotUse) → Core → Phase → Core
-home_core slots c phase.Idle = c
 home_core slots c (phase.Copied slot home) = settled_by (use_at slots slot) slot home c false
 home_core slots c (phase.Landed slot home) = settled_by (use_at slots slot) slot home c true
-home_core slots c (phase.Lifted home) = c
-home_core slots c (phase.Ran home) = c
+home_core slots c _ = c
 
 -- a hart came home from its slot, which is free now, and nothing else changed
 pub record Leaves (old new : Patched) (h slot : ℕ) (q : Phase) : Type 0 where
@@ -50,11 +46,9 @@ pub record Leaves (old new : Patched) (h slot : ℕ) (q : Phase) : Type 0 where
   pub machine : new ≡ record old { cores = slice_set old.cores h (home_core old.slots core q); slots = new.slots }
 
 abbrev pub GoesHome : Patched → Patched → ℕ → Phase → Type 0
-GoesHome old new h phase.Idle = new ≡ old
 GoesHome old new h (phase.Copied slot home) = Leaves old new h slot (phase.Copied slot home)
 GoesHome old new h (phase.Landed slot home) = Leaves old new h slot (phase.Landed slot home)
-GoesHome old new h (phase.Lifted home) = new ≡ old
-GoesHome old new h (phase.Ran home) = new ≡ old
+GoesHome old new h _ = new ≡ old
 
 -- each hart of a list, of which the first has the number h, came home, and nothing else changed
 pub record AllGoHome (old new : Patched) (h : ℕ) (minds : List Mind) : Type 0 where

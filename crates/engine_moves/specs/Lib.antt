@@ -7,6 +7,7 @@ pub mod Tables
 pub mod Movers
 pub mod Steps
 pub mod Rows
+pub mod Shown
 pub mod Calls
 pub mod Several
 pub mod Slicing

@@ -9,6 +9,7 @@ use Rattle.engine_moves.specs.declared.mind.Mind.{Mind}
 use Rattle.engine_moves.specs.Seen.{Run as Engine}
 use Rattle.engine_moves.specs.declared.moving.Turned.{Turned}
 use Rattle.engine_moves.specs.declared.moving.Turned.TheVariants as turned
+use Rattle.engine_moves.specs.declared.moving.Move.TheVariants as move
 use Rattle.engine_moves.specs.Calls.{Turns}
 
 -- a hart was taken home where it stepped over something
@@ -21,25 +22,16 @@ Leaves p q = (r : Phase) × (after p Run ≡ Some r) × Ends r q
 
 -- the phases of a hart before and after its move
 abbrev pub Marks : Turned → Phase → Phase → Type 0
-Marks turned.Over p q = q ≡ p
-Marks turned.NotRunning p q = q ≡ p
-Marks (turned.Held by) p q = q ≡ p
-Marks turned.NoSlot p q = q ≡ p
-Marks turned.Counted p q = q ≡ p
-Marks turned.Copied p q = (slot home : ℕ) × (after p (Copy slot home) ≡ Some q)
-Marks turned.Lifted p q = (home : ℕ) × (after p (Lift home) ≡ Some q)
-Marks turned.Fixed p q = after p Fix ≡ Some q
-Marks turned.Planted p q = after p Plant ≡ Some q
-Marks turned.Ran p q = after p Run ≡ Some q
-Marks (turned.Wrote addr len) p q = after p Run ≡ Some q
-Marks (turned.Left code) p q = Leaves p q
-Marks (turned.AllLeft code count) p q = Leaves p q
-Marks (turned.Stopped cause) p q = Ends p q
-Marks turned.Interrupted p q = (p ≡ Idle) × (q ≡ Idle)
-Marks (turned.Arrived number temporary error) p q = Ends p q
-Marks (turned.Triggered fired) p q = Ends p q
-Marks turned.Stepped p q = Ends p q
-Marks turned.Finished p q = Ends p q
+Marks (turned.Moved move.Copied) p q = (slot home : ℕ) × (after p (Copy slot home) ≡ Some q)
+Marks (turned.Moved move.Lifted) p q = (home : ℕ) × (after p (Lift home) ≡ Some q)
+Marks (turned.Moved move.Fixed) p q = after p Fix ≡ Some q
+Marks (turned.Moved move.Planted) p q = after p Plant ≡ Some q
+Marks (turned.Moved move.Ran) p q = after p Run ≡ Some q
+Marks (turned.Moved (move.Wrote addr len)) p q = after p Run ≡ Some q
+Marks (turned.Moved move.Left) p q = Leaves p q
+Marks (turned.Moved move.AllLeft) p q = Leaves p q
+Marks (turned.Moved move.Stopped) p q = Ends p q
+Marks _ p q = q ≡ p
 
 -- Each move of a hart changes its phase by the marks of its answer.
 abbrev pub MovesMark : Type 0
@@ -47,25 +39,11 @@ MovesMark = (t : Turned) (old new : Engine) (h : ℕ) (x y : Mind) → Turns t o
 
 -- how many instructions a move executed; each is one plain step of what the hart shows, as the move's own clause says
 abbrev pub executed : Turned → ℕ
-executed turned.Over = 0
-executed turned.NotRunning = 0
-executed (turned.Held by) = 0
-executed turned.NoSlot = 0
-executed turned.Counted = 0
-executed turned.Copied = 0
-executed turned.Lifted = 0
-executed turned.Fixed = 0
-executed turned.Planted = 0
-executed turned.Ran = 1
-executed (turned.Wrote addr len) = 1
-executed (turned.Left code) = 1
-executed (turned.AllLeft code count) = 1
-executed (turned.Stopped cause) = 0
-executed turned.Interrupted = 0
-executed (turned.Arrived number temporary error) = 0
-executed (turned.Triggered fired) = 0
-executed turned.Stepped = 0
-executed turned.Finished = 0
+executed (turned.Moved move.Ran) = 1
+executed (turned.Moved (move.Wrote addr len)) = 1
+executed (turned.Moved move.Left) = 1
+executed (turned.Moved move.AllLeft) = 1
+executed _ = 0
 
 abbrev pub executed_by : List Turned → ℕ
 executed_by [] = 0

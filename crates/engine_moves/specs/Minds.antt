@@ -7,6 +7,7 @@ use Rattle.dbg_model.specs.declared.entry.Entry.TheVariants.{Left}
 use Rattle.dbg_model.specs.declared.entry.Mode.{Mode}
 use Rattle.dbg_model.specs.declared.entry.Mode.TheVariants as mode
 use Rattle.dbg_model.specs.declared.watch.Fired.{Fired}
+use Rattle.dbg_model.specs.Courses.{after_count, after_instruction, after_resume, at_stop, with_plan}
 use Rattle.engine_moves.specs.declared.mind.Activity.{Activity}
 use Rattle.engine_moves.specs.declared.mind.Activity.TheVariants as activity
 use Rattle.step_over.specs.declared.phase.Phase.{Phase}
@@ -21,60 +22,45 @@ mode_of activity.Running = mode.Running
 mode_of activity.Exited = mode.Exited
 
 abbrev pub is_active : Activity → Bool
-is_active activity.Stopped = false
 is_active activity.Running = true
-is_active activity.Exited = false
+is_active _ = false
 
 abbrev pub runs : Mind → Bool
 runs x = is_active x.activity
 
 abbrev pub is_gone : Activity → Bool
-is_gone activity.Stopped = false
-is_gone activity.Running = false
 is_gone activity.Exited = true
+is_gone _ = false
 
 abbrev pub has_gone : Mind → Bool
 has_gone x = is_gone x.activity
 
 -- the address whose patch is lifted for a hart
 abbrev pub lifted_of : Phase → Option ℕ
-lifted_of phase.Idle = None
-lifted_of (phase.Copied slot home) = None
-lifted_of (phase.Landed slot home) = None
 lifted_of (phase.Lifted home) = Some home
 lifted_of (phase.Ran home) = Some home
+lifted_of _ = None
 
 -- the slot that a hart has
 abbrev pub slot_of : Phase → Option ℕ
-slot_of phase.Idle = None
 slot_of (phase.Copied slot home) = Some slot
 slot_of (phase.Landed slot home) = Some slot
-slot_of (phase.Lifted home) = None
-slot_of (phase.Ran home) = None
+slot_of _ = None
 
 -- the slot whose copy a hart executes next
 abbrev pub entered_of : Phase → Option ℕ
-entered_of phase.Idle = None
 entered_of (phase.Copied slot home) = Some slot
-entered_of (phase.Landed slot home) = None
-entered_of (phase.Lifted home) = None
-entered_of (phase.Ran home) = None
+entered_of _ = None
 
 -- a hart at a copy
 abbrev pub is_copied : Phase → Bool
-is_copied phase.Idle = false
 is_copied (phase.Copied slot home) = true
-is_copied (phase.Landed slot home) = false
-is_copied (phase.Lifted home) = false
-is_copied (phase.Ran home) = false
+is_copied _ = false
 
 -- whether a patch is lifted for a hart that is to execute there
 abbrev pub is_lifted : Phase → Bool
-is_lifted phase.Idle = false
-is_lifted (phase.Copied slot home) = false
-is_lifted (phase.Landed slot home) = false
 is_lifted (phase.Lifted home) = true
-is_lifted (phase.Ran home) = false
+is_lifted _ = false
 
 -- the phase after an instruction
 abbrev pub after_step : Phase → Phase
@@ -86,11 +72,9 @@ after_step (phase.Ran home) = phase.Ran home
 
 -- a hart that may execute next
 abbrev pub is_before : Phase → Bool
-is_before phase.Idle = true
-is_before (phase.Copied slot home) = true
 is_before (phase.Landed slot home) = false
-is_before (phase.Lifted home) = true
 is_before (phase.Ran home) = false
+is_before _ = true
 
 -- the address that a call returns to for which a plan waits
 abbrev pub return_of : Plan → Option ℕ
@@ -105,27 +89,27 @@ in_place p (Some ret) = if is_some (shown (unpatched p) ret) then Some ret else 
 
 -- where a hart waits for a return
 abbrev pub awaited : Program → Mind → Option ℕ
-awaited p x = if runs x then in_place p (return_of x.plan) else None
+awaited p x = if runs x then in_place p (return_of x.course.plan) else None
 
 abbrev pub with_phase : Mind → Phase → Mind
 with_phase x p = record x { phase = p }
 
 -- a hart that is stopped, as all are at the beginning
 abbrev pub first_mind : Mind
-first_mind = record { activity = activity.Stopped; fresh = false; asked = false; phase = phase.Idle; plan = plans.Free; last = None; fired = None }
+first_mind = record { activity = activity.Stopped; asked = false; phase = phase.Idle; course = at_stop }
 
 -- a hart that has just executed, and goes on with this plan; this is noted of the address of its instruction, by which this
 -- watch fired
 abbrev pub ran_mind : Plan → Option ℕ → Option Fired → Mind → Mind
-ran_mind plan last fired x = record x { activity = activity.Running; fresh = true; phase = after_step x.phase; plan = plan; last = last; fired = fired }
+ran_mind plan last fired x = record x { activity = activity.Running; phase = after_step x.phase; course = after_instruction last fired (with_plan plan x.course) }
 
 -- a hart that breakpoints counted, and that goes on with this plan
 abbrev pub counted_mind : Plan → Mind → Mind
-counted_mind plan x = record x { fresh = false; plan = plan }
+counted_mind plan x = record x { course = after_count (with_plan plan x.course) }
 
 -- a stopped hart that was resumed with this plan
 abbrev pub resumed_mind : Plan → Mind → Mind
-resumed_mind plan x = record x { activity = activity.Running; fresh = false; asked = false; phase = phase.Idle; plan = plan }
+resumed_mind plan x = record x { activity = activity.Running; asked = false; phase = phase.Idle; course = after_resume plan x.course }
 
 -- a hart of which an interrupt is asked
 abbrev pub asked_mind : Mind → Mind
@@ -136,9 +120,8 @@ abbrev pub gone_mind : Mind → Mind
 gone_mind x = record x { activity = activity.Exited; phase = phase.Idle }
 
 abbrev pub left_live : ℕ → ℕ → Activity → List Entry
-left_live code k activity.Stopped = Left k code ∷ []
-left_live code k activity.Running = Left k code ∷ []
 left_live code k activity.Exited = []
+left_live code k _ = Left k code ∷ []
 
 -- an entry for each live hart, counted from k
 abbrev pub lefts_live : ℕ → ℕ → List Mind → List Entry

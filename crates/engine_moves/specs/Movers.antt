@@ -25,10 +25,7 @@ is_free hold h = is_none (other_holder hold h)
 
 abbrev pub is_idle : Phase → Bool
 is_idle phase.Idle = true
-is_idle (phase.Copied slot home) = false
-is_idle (phase.Landed slot home) = false
-is_idle (phase.Lifted home) = false
-is_idle (phase.Ran home) = false
+is_idle _ = false
 
 abbrev pub idle_as : Option Mind → Bool
 idle_as None = false

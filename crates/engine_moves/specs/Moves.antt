@@ -21,7 +21,8 @@ use Rattle.dbg_model.specs.declared.hart.Hart.{Hart}
 use Rattle.dbg_model.specs.declared.judgement.Judgement.{Judgement}
 use Rattle.dbg_model.specs.declared.watch.Fired.{Fired}
 use Rattle.dbg_model.specs.declared.watch.Watch.{Watch as Watchpoint}
-use Rattle.dbg_model.specs.Judging.{noted_with, plan_after}
+use Rattle.dbg_model.specs.Judging.{plan_after}
+use Rattle.dbg_model.specs.Courses.{noted_with}
 use Rattle.dbg_model.specs.Watches.{fired_by}
 use Rattle.dbg_model.specs.State.{due}
 use Rattle.dbg_model.specs.Journals.{lengthened}

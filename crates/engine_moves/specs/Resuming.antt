@@ -1,9 +1,9 @@
 -- Threads that go on, or of which an interrupt is asked, and what is forgotten of watches, as they are kept.
 use Rattle.std.specs.Prelude.{ℕ, false, List, map}
 use Rattle.step_plans.specs.declared.plan.Plan.{Plan}
+use Rattle.dbg_model.specs.Courses.{after_forgetting}
 use Rattle.dbg_model.specs.Outcome.{Change, deletes, enables, resumes, interrupts}
 use Rattle.dbg_model.specs.Reply.{on_threads}
-use Rattle.dbg_model.specs.Watches.{unless_of}
 use Rattle.engine_moves.specs.declared.mind.Activity.{Activity}
 use Rattle.engine_moves.specs.declared.mind.Activity.TheVariants as activity
 use Rattle.engine_moves.specs.declared.mind.Mind.{Mind}
@@ -27,7 +27,7 @@ asked x = asked_by x x.activity
 
 -- a watch of these numbers has no longer fired for a hart
 abbrev pub forgetting : List ℕ → Mind → Mind
-forgetting ns x = record x { fired = unless_of ns x.fired }
+forgetting ns x = record x { course = after_forgetting ns x.course }
 
 -- what is kept of the harts after a line that makes this change
 abbrev pub minds_after : List Mind → Change → List Mind

@@ -1,6 +1,8 @@
 -- The table of moves: what a hart does next is the first row that fits.
 use Rattle.std.specs.Prelude.{ℕ, Bool, Option, Some, None, is_some, slice_get, if◌then◌else◌}
 use Rattle.text_words.specs.Words.{is_planted}
+use Rattle.dbg_model.specs.declared.entry.Why.{Why}
+use Rattle.dbg_model.specs.declared.entry.Why.TheVariants.{Interrupted, Fault}
 use Rattle.dbg_model.specs.declared.hart.Hart.{Hart}
 use Rattle.dbg_model.specs.declared.judgement.Judgement.{Judgement}
 use Rattle.dbg_model.specs.State.{due}
@@ -13,6 +15,8 @@ use Rattle.engine_moves.specs.Seen.{Run, seen}
 use Rattle.engine_moves.specs.Facts.{other_holder}
 use Rattle.engine_moves.specs.declared.moving.Turned.{Turned}
 use Rattle.engine_moves.specs.declared.moving.Turned.TheVariants as turned
+use Rattle.engine_moves.specs.declared.moving.Move.TheVariants as move
+use Rattle.engine_moves.specs.declared.moving.Standing.TheVariants as stood
 
 -- the rows, in their order
 pub data Row : Type 0 where
@@ -35,27 +39,25 @@ pub data Row : Type 0 where
   -- it executes one instruction
   Executes : Row
 
--- the row of an answer
-abbrev pub row_of : Turned → Row
-row_of turned.Over = Over
-row_of turned.NotRunning = Rests
-row_of (turned.Held by) = Waits by
-row_of turned.Fixed = Finishes
-row_of turned.Planted = Finishes
-row_of (turned.Arrived number temporary error) = Stops
-row_of (turned.Triggered fired) = Stops
-row_of turned.Stepped = Stops
-row_of turned.Finished = Stops
-row_of turned.Counted = Counts
-row_of turned.Interrupted = Interrupts
-row_of turned.Copied = Begins
-row_of turned.Lifted = Begins
-row_of turned.NoSlot = Begins
-row_of turned.Ran = Executes
-row_of (turned.Wrote addr len) = Executes
-row_of (turned.Left code) = Executes
-row_of (turned.AllLeft code count) = Executes
-row_of (turned.Stopped cause) = Executes
+-- the row of a stop
+abbrev pub row_stopped : Why → Row
+row_stopped Interrupted = Interrupts
+row_stopped (Fault cause) = Executes
+row_stopped _ = Stops
+
+-- the row of an answer, after which the journal ends with this reason of a stop, if it does
+abbrev pub row_of : Turned → Option Why → Row
+row_of (turned.Stood stood.Over) why = Over
+row_of (turned.Stood stood.NotRunning) why = Rests
+row_of (turned.Stood (stood.Held by)) why = Waits by
+row_of (turned.Stood stood.NoSlot) why = Begins
+row_of (turned.Moved move.Fixed) why = Finishes
+row_of (turned.Moved move.Planted) why = Finishes
+row_of (turned.Moved move.Copied) why = Begins
+row_of (turned.Moved move.Lifted) why = Begins
+row_of (turned.Moved move.Counted) why = Counts
+row_of (turned.Moved move.Stopped) (Some why) = row_stopped why
+row_of (turned.Moved _) why = Executes
 
 -- breakpoints, watches and the plan come before the rest
 abbrev pub row_due : Judgement → Row → Row

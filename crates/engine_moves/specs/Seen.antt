@@ -1,5 +1,5 @@
 -- An engine as one value, and the state that it shows.
-use Rattle.std.specs.Prelude.{ℕ, Bool, List, [], ◌∷◌, Option, Some, None, true}
+use Rattle.std.specs.Prelude.{ℕ, Bool, List, [], ◌∷◌, map, Option, Some, None, true, if◌then◌else◌}
 use Rattle.std.specs.Option.{option_map_or}
 use Rattle.rv_exec.specs.Registers.{Registers, set_pc}
 use Rattle.elf32_read.specs.Program.{Program, text_word}
@@ -16,13 +16,13 @@ use Rattle.dbg_model.specs.declared.entry.Entry.{Entry}
 use Rattle.dbg_model.specs.declared.opening.Opening.{Opening}
 use Rattle.dbg_model.specs.declared.hart.Hart.{Hart}
 use Rattle.dbg_model.specs.declared.watch.Watch.{Watch}
-use Rattle.dbg_model.specs.State.{State}
+use Rattle.dbg_model.specs.State.{State, is_running}
 use Rattle.dbg_model.specs.Journals.{replay}
 use Rattle.engine_moves.specs.declared.mind.Hold.{Hold}
 use Rattle.engine_moves.specs.declared.mind.Activity.{Activity}
 use Rattle.engine_moves.specs.declared.mind.Activity.TheVariants as activity
 use Rattle.engine_moves.specs.declared.mind.Mind.{Mind}
-use Rattle.engine_moves.specs.Minds.{mode_of}
+use Rattle.engine_moves.specs.Minds.{mode_of, in_place, return_of}
 
 -- an engine as one value; `spare` is how many entries find room, `hold` the hart for which a patch is lifted
 pub record Run : Type 0 where
@@ -46,6 +46,8 @@ pub record Run : Type 0 where
   pub noted : ℕ
   -- whether `-gdb-exit` was done
   pub exited : Bool
+  -- whether it was a temporary breakpoint that stopped the hart that stopped last
+  pub temporary : Bool
 
 -- the registers at home of a hart that has executed a copy of this word
 abbrev pub landed_regs : Option ℕ → ℕ → ℕ → Registers → Registers
@@ -54,25 +56,29 @@ landed_regs (Some w) slot home r = settled_regs w slot home r true
 
 -- the registers that a running hart shows: at a copy those at home, and behind it those that the image's word leaves at home
 abbrev pub running_regs : Program → Registers → Phase → Registers
-running_regs p r phase.Idle = r
 running_regs p r (phase.Copied slot home) = set_pc r home
 running_regs p r (phase.Landed slot home) = landed_regs (text_word p home) slot home r
-running_regs p r (phase.Lifted home) = r
-running_regs p r (phase.Ran home) = r
+running_regs p r _ = r
 
 -- a hart that doesn't run steps over nothing
 abbrev pub seen_regs : Program → Registers → Activity → Phase → Registers
-seen_regs p r activity.Stopped q = r
 seen_regs p r activity.Running q = running_regs p r q
-seen_regs p r activity.Exited q = r
+seen_regs p r _ q = r
 
 abbrev pub seen_hart : Program → Core → Mind → Hart
-seen_hart p c x = record { regs = seen_regs p c.regs x.activity x.phase; mode = mode_of x.activity; fresh = x.fresh; asked = x.asked; plan = x.plan; last = x.last; fired = x.fired }
+seen_hart p c x = record { regs = seen_regs p c.regs x.activity x.phase; mode = mode_of x.activity; asked = x.asked; course = x.course }
 
 abbrev pub seen_harts : Program → List Core → List Mind → List Hart
 seen_harts p [] xs = []
 seen_harts p (c ∷ cs) [] = []
 seen_harts p (c ∷ cs) (x ∷ xs) = seen_hart p c x ∷ seen_harts p cs xs
+
+-- where a hart waits for a return: it runs, with a plan that ends at one into text
+abbrev pub hart_waits : Program → Hart → Option ℕ
+hart_waits p x = if is_running x.mode then in_place p (return_of x.course.plan) else None
+
+abbrev pub waits_of : Program → List Hart → List (Option ℕ)
+waits_of p xs = map (hart_waits p) xs
 
 -- what the journal alone tells: the bytes that the program wrote, and how often breakpoints were stepped over
 pub record Told : Type 0 where

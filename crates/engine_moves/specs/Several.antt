@@ -1,5 +1,5 @@
 -- Several turns of a hart of which nothing is said.
-use Rattle.std.specs.Prelude.{◌≡◌, ◌⊎◌, ◌&&◌, ◌||◌, not, is_some, ℕ, zero, suc, Bool, true, false, List, Option, Some, is_none, slice_get}
+use Rattle.std.specs.Prelude.{◌≡◌, ◌⊎◌, ◌&&◌, ◌||◌, not, is_some, ℕ, zero, suc, Bool, true, false, List, Option, Some, None, is_none, slice_get}
 use Rattle.hart_machine.specs.Running.{HasStopped}
 use Rattle.dbg_model.specs.declared.entry.Entry.{Entry}
 use Rattle.dbg_model.specs.Journals.{lengthened}
@@ -15,31 +15,19 @@ use Rattle.engine_moves.specs.Seen.{Run, seen}
 use Rattle.engine_moves.specs.Facts.{Facts}
 use Rattle.engine_moves.specs.declared.moving.Turned.{Turned}
 use Rattle.engine_moves.specs.declared.moving.Turned.TheVariants as turned
+use Rattle.engine_moves.specs.declared.moving.Move.TheVariants as move
 use Rattle.engine_moves.specs.Rows.{row_at, row_of}
 use Rattle.engine_moves.specs.Calls.{Turns}
 use Rattle.engine_moves.specs.Watching.{WritesNear}
 
--- the answers of which nothing is said, and nothing but an instruction is noted
+-- the moves of which nothing is said, and nothing but an instruction is noted
 abbrev pub is_quiet : Turned → Bool
-is_quiet turned.Ran = true
-is_quiet turned.Copied = true
-is_quiet turned.Fixed = true
-is_quiet turned.Lifted = true
-is_quiet turned.Planted = true
-is_quiet turned.Over = false
-is_quiet turned.NotRunning = false
-is_quiet (turned.Held by) = false
-is_quiet turned.NoSlot = false
-is_quiet (turned.Wrote addr len) = false
-is_quiet (turned.Left code) = false
-is_quiet (turned.AllLeft code count) = false
-is_quiet (turned.Stopped cause) = false
-is_quiet turned.Interrupted = false
-is_quiet turned.Counted = false
-is_quiet (turned.Arrived number temporary error) = false
-is_quiet (turned.Triggered fired) = false
-is_quiet turned.Stepped = false
-is_quiet turned.Finished = false
+is_quiet (turned.Moved move.Ran) = true
+is_quiet (turned.Moved move.Copied) = true
+is_quiet (turned.Moved move.Lifted) = true
+is_quiet (turned.Moved move.Fixed) = true
+is_quiet (turned.Moved move.Planted) = true
+is_quiet _ = false
 
 -- a turn of hart h with an answer that fits, from an engine of which P holds
 pub record ThenTurns (P : Run → Type 0) (Fits : Run → Turned → Type 0) (new : Run) (h : ℕ) : Type 0 where
@@ -62,11 +50,11 @@ IsQuiet r t = is_quiet t ≡ true
 -- nor does another move fit first
 pub record IsQuietRow (h : ℕ) (r : Run) (t : Turned) : Type 0 where
   pub quiet : is_quiet t ≡ true
-  pub first : row_at r h ≡ row_of t
+  pub first : row_at r h ≡ row_of t None
 
 -- it executed an instruction that wrote nothing
 abbrev pub HasRan : Run → Turned → Type 0
-HasRan r t = t ≡ turned.Ran
+HasRan r t = t ≡ turned.Moved move.Ran
 
 -- n turns of which nothing is said, each the first move that fits
 abbrev pub AllTurned : ℕ → Run → Run → ℕ → Type 0
@@ -83,12 +71,12 @@ is_unplanned _ = false
 
 -- nor more than to wait for a return, at a word that is planted for it
 abbrev pub goes_alone : Program → Mind → Bool
-goes_alone p x = is_unplanned x.plan || is_some (awaited p x)
+goes_alone p x = is_unplanned x.course.plan || is_some (awaited p x)
 
 -- a hart that runs, steps over nothing, isn't interrupted and has no plan but to wait for a return, for which no watch fired,
 -- and no patch is lifted
 abbrev pub is_alone : Program → Mind → Option Hold → Bool
-is_alone p x hold = ((((runs x && is_idle x.phase) && not x.asked) && goes_alone p x) && is_none x.fired) && is_none hold
+is_alone p x hold = ((((runs x && is_idle x.phase) && not x.asked) && goes_alone p x) && is_none x.course.fired) && is_none hold
 
 -- Hart h goes no further by such turns in one call: the session is over, the hart isn't alone, it stops at its pc, or its
 -- instruction writes where a watch has its bytes.

@@ -30,7 +30,7 @@ takes_slices (plans.Finish ret sp) = true
 
 -- a hart that runs, steps over no breakpoint, and has such a plan, and for which no watch fired
 abbrev pub goes_apart : Mind → Bool
-goes_apart x = ((runs x && is_idle x.phase) && takes_slices x.plan) && is_none x.fired
+goes_apart x = ((runs x && is_idle x.phase) && takes_slices x.course.plan) && is_none x.course.fired
 
 -- a word of text is at the address
 abbrev pub is_word : Program → ℕ → Bool

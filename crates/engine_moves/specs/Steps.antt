@@ -1,18 +1,14 @@
 -- What a step of the machine does to the journal and to what is kept of the harts, and which hart is next.
-use Rattle.std.specs.Prelude.{◌≡◌, ℕ, ◌+◌, ◌<◌, Bool, true, false, List, [], ◌∷◌, ◌++◌, length, find, nat_le, map, slice_set, slice_index_or, not, ◌&&◌, Option, Some, None, if◌then◌else◌}
+use Rattle.std.specs.Prelude.{◌≡◌, ℕ, ◌+◌, Bool, true, false, List, [], ◌∷◌, ◌++◌, length, find, nat_le, map, slice_set, slice_index_or, not, ◌&&◌, Option, Some, None, if◌then◌else◌}
 use Rattle.rv_exec.specs.declared.effect.Stepped.{Stepped}
 use Rattle.rv_exec.specs.declared.effect.Stepped.TheVariants as stepped
 use Rattle.dbg_model.specs.declared.entry.Entry.{Entry}
 use Rattle.dbg_model.specs.declared.entry.Entry.TheVariants.{Left}
-use Rattle.break_table.specs.Entry.{Entry as BreakEntry}
-use Rattle.dbg_model.specs.declared.entry.Why.{Why}
-use Rattle.dbg_model.specs.declared.entry.Why.TheVariants as whys
-use Rattle.dbg_model.specs.Breaks.{is_temporary}
 use Rattle.dbg_model.specs.Journals.{lengthened}
 use Rattle.engine_moves.specs.declared.mind.Mind.{Mind}
 use Rattle.engine_moves.specs.Minds.{runs, gone_mind, lefts_live}
-use Rattle.engine_moves.specs.declared.moving.Turned.{Turned}
-use Rattle.engine_moves.specs.declared.moving.Turned.TheVariants as turned
+use Rattle.engine_moves.specs.declared.moving.Move.{Move}
+use Rattle.engine_moves.specs.declared.moving.Move.TheVariants as move
 
 -- what changes at a step beside the machine and the counts
 pub record Parts : Type 0 where
@@ -45,38 +41,18 @@ leaves (stepped.HartExit code) = true
 leaves (stepped.AllExit code) = true
 leaves _ = false
 
--- what a turn is called that executes
-abbrev pub turned_of : Stepped → ℕ → Mind → List Mind → Turned
-turned_of stepped.Ran h z xs = turned.Ran
-turned_of (stepped.Wrote addr len) h z xs = turned.Wrote addr len
-turned_of (stepped.HartExit code) h z xs = turned.Left code
-turned_of (stepped.AllExit code) h z xs = turned.AllLeft code (length (lefts_live code 0 (slice_set xs h z)))
-turned_of stepped.Hit h z xs = turned.NotRunning
-turned_of (stepped.Trap cause) h z xs = turned.Stopped cause
+-- how a hart moved that executed
+abbrev pub moved_by : Stepped → Move
+moved_by (stepped.Wrote addr len) = move.Wrote addr len
+moved_by (stepped.HartExit code) = move.Left
+moved_by (stepped.AllExit code) = move.AllLeft
+moved_by _ = move.Ran
 
--- a hart stops where it has arrived
-abbrev pub Arrives : Why → Type 0
-Arrives (whys.Break number error) = Unit {0}
-Arrives (whys.Watch f) = Unit {0}
-Arrives whys.Stepped = Unit {0}
-Arrives whys.Finished = Unit {0}
-Arrives whys.Interrupted = ⊥
-Arrives (whys.Fault cause) = ⊥
-
--- what a turn is called in which a hart stops so, where these are the breakpoints
-abbrev pub stopped_by : Why → List BreakEntry → Turned
-stopped_by (whys.Break number error) bs = turned.Arrived number (is_temporary bs number) error
-stopped_by (whys.Watch f) bs = turned.Triggered f
-stopped_by whys.Stepped bs = turned.Stepped
-stopped_by whys.Finished bs = turned.Finished
-stopped_by whys.Interrupted bs = turned.Interrupted
-stopped_by (whys.Fault cause) bs = turned.Stopped cause
-
--- how many harts have exited by a turn
-abbrev pub exits_of : Turned → ℕ
-exits_of (turned.Left code) = 1
-exits_of (turned.AllLeft code count) = count
-exits_of _ = 0
+-- how many harts have exited by an instruction of hart h, of which z would be kept
+abbrev pub exits_of : Stepped → ℕ → Mind → List Mind → ℕ
+exits_of (stepped.HartExit code) h z xs = 1
+exits_of (stepped.AllExit code) h z xs = length (lefts_live code 0 (slice_set xs h z))
+exits_of _ h z xs = 0
 
 -- the harts that run, in rising order, where the first of the list has the number k
 abbrev pub running_harts : ℕ → List Mind → List ℕ
@@ -101,25 +77,3 @@ some_or (Some k) other = Some k
 -- the next such hart round the harts: the least at or above the number, else the least of all
 abbrev pub next_running : List Mind → List Bool → ℕ → Option ℕ
 next_running xs out from = some_or (least_running xs out from) (least_running xs out 0)
-
--- the code of an exit is a byte
-abbrev pub IsTurned : Turned → Type 0
-IsTurned (turned.Left code) = code < 256
-IsTurned (turned.AllLeft code count) = code < 256
-IsTurned turned.Over = Unit {0}
-IsTurned turned.NotRunning = Unit {0}
-IsTurned (turned.Held by) = Unit {0}
-IsTurned turned.Planted = Unit {0}
-IsTurned turned.Lifted = Unit {0}
-IsTurned turned.Ran = Unit {0}
-IsTurned (turned.Wrote addr len) = Unit {0}
-IsTurned (turned.Stopped cause) = Unit {0}
-IsTurned turned.Counted = Unit {0}
-IsTurned turned.Fixed = Unit {0}
-IsTurned turned.Copied = Unit {0}
-IsTurned turned.NoSlot = Unit {0}
-IsTurned turned.Interrupted = Unit {0}
-IsTurned (turned.Arrived number temporary error) = Unit {0}
-IsTurned (turned.Triggered fired) = Unit {0}
-IsTurned turned.Stepped = Unit {0}
-IsTurned turned.Finished = Unit {0}

@@ -1,7 +1,7 @@
 // A hart that goes on by itself, over the parts of an engine.
 ghost use Rattle.std.specs.Prelude.{◌≡◌, ◌<◌, ◌≤◌, ◌⊎◌, [], length, true, false};
 ghost use Rattle.hart_machine.specs.Running.{HasStopped};
-ghost use Rattle.engine_moves.specs.Going.{Goes, Passes, is_kept};
+ghost use Rattle.engine_moves.specs.Going.{Goes, Passes, is_kept, surroundings_view};
 ghost use Rattle.engine_moves.specs.Watching.{WritesNear};
 
 use crate::hits::due_at;
@@ -12,9 +12,9 @@ use elf32_read::Image;
 use hart_machine::Machine;
 use step_plans::Plan;
 
-/// What a hart meets that goes on.
+/// A hart that goes on, and what it meets there.
 #[derive(Clone, Copy)]
-pub struct Course<'a> {
+pub struct Surroundings<'a> {
     pub hart: u32,
     pub table: &'a BreakTable,
     pub watches: &'a WatchList,
@@ -46,48 +46,48 @@ fn is_kept(plan: Plan, pc: u32) -> bool
 
 // Steps over the planted word at a hart's pc, where the breakpoints there neither stop nor count it and its plan stays.
 // False where it isn't stepped over; then nothing has changed. There is no watch.
-fn pass(machine: &mut Machine, course: &Course<'_>) -> bool
-    requires hart { course.now.hart < length machine.old.cores }
-    requires unwatched { course.now.watches.now ≡ [] }
-    ensures passes { result ≡ true → Passes course.now.image.now course.now.table.now.entries course.now.watches.now course.now.hart course.now.plan course.now.copies machine.old machine.new }
+fn pass(machine: &mut Machine, around: &Surroundings<'_>) -> bool
+    requires hart { around.now.hart < length machine.old.cores }
+    requires unwatched { around.now.watches.now ≡ [] }
+    ensures passes { result ≡ true → Passes (surroundings_view around.now) machine.old machine.new }
     ensures kept { result ≡ false → machine.new ≡ machine.old }
     ensures harts { length machine.new.cores ≡ length machine.old.cores }
 {
-    if !course.copies {
+    if !around.copies {
         return false;
     }
-    let pc = machine.pc(course.hart);
+    let pc = machine.pc(around.hart);
     if !machine.planted(pc) {
         return false;
     }
-    if !is_kept(course.plan, pc) {
+    if !is_kept(around.plan, pc) {
         return false;
     }
-    let due = due_at(course.table, course.image, machine, course.hart, pc);
+    let due = due_at(around.table, around.image, machine, around.hart, pc);
     if due.counts || due.stop.is_some() {
         return false;
     }
     let Some(word) = machine.shown(pc) else {
         return false;
     };
-    machine.step_copy(course.hart, word)
+    machine.step_copy(around.hart, word)
 }
 
-// The same where there is no watch.
-fn go_freely(machine: &mut Machine, course: &Course<'_>, limit: u32, most: u32) -> Progress
-    requires hart { course.now.hart < length machine.old.cores }
-    requires unwatched { course.now.watches.now ≡ [] }
+// As `go`, where there is no watch.
+fn go_freely(machine: &mut Machine, around: &Surroundings<'_>, limit: u32, most: u32) -> Progress
+    requires hart { around.now.hart < length machine.old.cores }
+    requires unwatched { around.now.watches.now ≡ [] }
     ensures limit { result.turns ≤ limit }
     ensures most { result.instructions ≤ most }
     ensures fewer { result.instructions ≤ result.turns }
-    ensures goes { Goes course.now.image.now course.now.table.now.entries course.now.watches.now course.now.hart course.now.plan course.now.copies most result.turns result.instructions machine.old machine.new }
-    ensures far { result.turns < limit → result.instructions < most → HasStopped machine.new course.now.hart }
+    ensures goes { Goes (surroundings_view around.now) most result.turns result.instructions machine.old machine.new }
+    ensures far { result.turns < limit → result.instructions < most → HasStopped machine.new around.now.hart }
 {
     let mut turns = 0;
     let mut instructions = 0;
     while turns < limit && instructions < most {
         let left = (limit - turns).min(most - instructions);
-        let count = machine.run(course.hart, left);
+        let count = machine.run(around.hart, left);
         turns += count;
         instructions += count;
         if limit - turns < 3 || most - instructions < 2 {
@@ -96,7 +96,7 @@ fn go_freely(machine: &mut Machine, course: &Course<'_>, limit: u32, most: u32) 
                 instructions,
             };
         }
-        if !pass(machine, course) {
+        if !pass(machine, around) {
             return Progress {
                 turns,
                 instructions,
@@ -111,20 +111,20 @@ fn go_freely(machine: &mut Machine, course: &Course<'_>, limit: u32, most: u32) 
     }
 }
 
-// The same where there are watches: as many instructions as turns, each of which writes where none has its bytes.
-fn go_watched(machine: &mut Machine, course: &Course<'_>, limit: u32, most: u32) -> u32
-    requires { course.now.hart < length machine.old.cores }
+// As `go`, where there are watches: as many instructions as turns, each of which writes where none has its bytes.
+fn go_watched(machine: &mut Machine, around: &Surroundings<'_>, limit: u32, most: u32) -> u32
+    requires { around.now.hart < length machine.old.cores }
     ensures limit { result ≤ limit }
     ensures most { result ≤ most }
-    ensures goes { Goes course.now.image.now course.now.table.now.entries course.now.watches.now course.now.hart course.now.plan course.now.copies most result result machine.old machine.new }
-    ensures far { result < limit → result < most → HasStopped machine.new course.now.hart ⊎ WritesNear machine.new course.now.hart course.now.watches.now }
+    ensures goes { Goes (surroundings_view around.now) most result result machine.old machine.new }
+    ensures far { result < limit → result < most → HasStopped machine.new around.now.hart ⊎ WritesNear machine.new around.now.hart around.now.watches.now }
 {
     let mut count = 0;
     while count < limit && count < most {
-        if is_near(machine, course.hart, course.watches) {
+        if is_near(machine, around.hart, around.watches) {
             return count;
         }
-        if machine.run(course.hart, 1) == 0 {
+        if machine.run(around.hart, 1) == 0 {
             return count;
         }
         count += 1;
@@ -134,18 +134,18 @@ fn go_watched(machine: &mut Machine, course: &Course<'_>, limit: u32, most: u32)
 
 /// Takes a hart at most `limit` turns on, in which it executes at most `most` instructions. Where neither is reached, it has
 /// come to where it doesn't go on by itself.
-pub fn go(machine: &mut Machine, course: &Course<'_>, limit: u32, most: u32) -> Progress
-    requires { course.now.hart < length machine.old.cores }
+pub fn go(machine: &mut Machine, around: &Surroundings<'_>, limit: u32, most: u32) -> Progress
+    requires { around.now.hart < length machine.old.cores }
     ensures limit { result.turns ≤ limit }
     ensures most { result.instructions ≤ most }
     ensures fewer { result.instructions ≤ result.turns }
-    ensures goes { Goes course.now.image.now course.now.table.now.entries course.now.watches.now course.now.hart course.now.plan course.now.copies most result.turns result.instructions machine.old machine.new }
-    ensures far { result.turns < limit → result.instructions < most → HasStopped machine.new course.now.hart ⊎ WritesNear machine.new course.now.hart course.now.watches.now }
+    ensures goes { Goes (surroundings_view around.now) most result.turns result.instructions machine.old machine.new }
+    ensures far { result.turns < limit → result.instructions < most → HasStopped machine.new around.now.hart ⊎ WritesNear machine.new around.now.hart around.now.watches.now }
 {
-    if course.watches.is_empty() {
-        return go_freely(machine, course, limit, most);
+    if around.watches.is_empty() {
+        return go_freely(machine, around, limit, most);
     }
-    let count = go_watched(machine, course, limit, most);
+    let count = go_watched(machine, around, limit, most);
     Progress {
         turns: count,
         instructions: count,

@@ -5,7 +5,8 @@ ghost use Rattle.hart_machine.specs.Copying.{settled_regs};
 ghost use Rattle.engine_moves.specs.declared.mind.Mind.{Mind};
 ghost use Rattle.engine_moves.specs.Moves.{HeldInText, Released};
 ghost use Rattle.engine_moves.specs.Homecoming.{IsSlotted, GoesHome, AllGoHome};
-ghost use Rattle.engine_moves.specs.Homing.{HomedBy};
+ghost use Rattle.engine_moves.specs.Changing.{wants_by};
+ghost use Rattle.engine_moves.specs.Homing.{HomedBy, leaving_view};
 
 use crate::patching::release;
 use crate::{Hold, Mind, Phase};
@@ -92,7 +93,7 @@ pub fn go_home_at_exit(
     requires hart { leaving.now.hart < length machine.old.cores }
     requires slot { IsSlotted machine.old leaving.now.hart leaving.now.phase }
     requires slots { (j : ℕ) (x : Mind) → slice_get leaving.now.minds.now j ≡ Some x → IsSlotted machine.old j x.phase }
-    ensures { HomedBy stepped machine.old machine.new hold.old hold.new table.now.entries table.now.waits leaving.now.hart leaving.now.phase leaving.now.minds.now }
+    ensures { HomedBy stepped (wants_by table.now hold.old) hold.new (leaving_view leaving.now) machine.old machine.new }
 {
     match stepped {
         Stepped::HartExit(_) => {

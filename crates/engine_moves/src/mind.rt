@@ -1,6 +1,5 @@
-use dbg_model::Fired;
+use dbg_model::Course;
 use step_over::Phase;
-use step_plans::Plan;
 
 /// What the debugger lets a hart do.
 #[derive(Clone, Copy)]
@@ -14,18 +13,11 @@ pub enum Activity {
 #[derive(Clone, Copy)]
 pub struct Mind {
     pub activity: Activity,
-    /// An instruction of its own has just ended.
-    pub fresh: bool,
     /// An interrupt is asked of it.
     pub asked: bool,
     /// Where it is in a step over the planted word at its pc.
     pub phase: Phase,
-    /// What it is to come to before it stops.
-    pub plan: Plan,
-    /// Where the plan asks for it: the address of the instruction of its own that has just ended.
-    pub last: Option<u32>,
-    /// The watch whose bytes that instruction changed.
-    pub fired: Option<Fired>,
+    pub course: Course,
 }
 
 /// The hart for which a patch is lifted, and its address. All other harts stand held meanwhile.

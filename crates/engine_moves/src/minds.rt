@@ -6,6 +6,7 @@ ghost use Rattle.engine_moves.specs.Facts.{other_holder};
 ghost use Rattle.engine_moves.specs.Steps.{is_out, running_harts};
 
 use crate::{Activity, Hold, Mind, Phase};
+use dbg_model::Course;
 use std::alloc::{AllocError, Global};
 use step_plans::Plan;
 
@@ -78,8 +79,7 @@ pub fn counted_mind(mind: Mind, plan: Plan) -> Mind
     ensures { result ≡ counted_mind plan mind }
 {
     Mind {
-        fresh: false,
-        plan,
+        course: mind.course.with_plan(plan).after_count(),
         ..mind
     }
 }
@@ -87,12 +87,9 @@ pub fn counted_mind(mind: Mind, plan: Plan) -> Mind
 /// What is kept of a hart that is stopped, as all are at the beginning.
 pub const STOPPED: Mind = Mind {
     activity: Activity::Stopped,
-    fresh: false,
     asked: false,
     phase: Phase::Idle,
-    plan: Plan::Free,
-    last: None,
-    fired: None,
+    course: Course::AT_STOP,
 };
 
 /// The hart for which a patch is lifted, where that is another one than h.

@@ -1,74 +1,61 @@
 // What a step of the machine does to the journal and to what is kept of the harts.
 ghost use Rattle.std.specs.Prelude.{◌≡◌, ◌≤◌, ◌<◌, ◌+◌, ◌-◌, ◌^◌, true, map, length, slice_set, vec_len, vec_capacity};
 ghost use Rattle.dbg_model.specs.Journals.{lengthened, last_count};
-ghost use Rattle.hart_machine.specs.Stepping.{IsByteCode, has_run};
+ghost use Rattle.hart_machine.specs.Stepping.{has_run};
 ghost use Rattle.engine_moves.specs.Minds.{gone_mind, ran_mind, after_step};
-ghost use Rattle.engine_moves.specs.Steps.{applied, exits_of, turned_of, IsTurned};
+ghost use Rattle.engine_moves.specs.Steps.{applied, exits_of, moved_by};
 
 use crate::journal::{note, note_lefts, note_runs};
 use crate::{Activity, Mind, Phase};
-use break_table::CondError;
 use dbg_model::{Entry, Fired};
-use rv_exec::{Cause, Stepped};
+use rv_exec::Stepped;
 use step_plans::Plan;
 
 /// What a turn of a hart did.
 #[derive(Clone, Copy)]
 pub enum Turned {
-    /// The session is over.
-    Over,
-    /// The hart doesn't run.
-    NotRunning,
-    /// The hart `by` is stepping over a breakpoint, and this one is held meanwhile.
-    Held {
-        by: u32,
-    },
+    /// The hart moved.
+    Moved(Move),
+    /// It didn't.
+    Stood(Standing),
+}
+
+/// How a hart moved.
+#[derive(Clone, Copy)]
+pub enum Move {
+    /// One instruction was executed, and nothing was written.
+    Ran,
+    /// One instruction was executed, and it wrote the `len` bytes at `addr`.
+    Wrote { addr: u32, len: u32 },
+    /// One instruction was executed, and the hart has exited.
+    Left,
+    /// One instruction was executed, and all live harts have exited.
+    AllLeft,
+    /// The hart came to breakpoints that count it, and goes on.
+    Counted,
+    /// The hart stopped, for the reason that the last entry of the journal tells.
+    Stopped,
+    /// The step over a breakpoint began: the hart is at a copy of its word in a scratch slot.
+    Copied,
+    /// The step over a breakpoint began: the patch at the hart's pc was lifted.
+    Lifted,
     /// The step over a breakpoint by a copy ended: the hart's registers are put right, and its slot is free.
     Fixed,
     /// The step over a breakpoint ended: the word is planted again where a breakpoint stands.
     Planted,
-    /// The step over a breakpoint began: the hart is at a copy of its word in a scratch slot.
-    Copied,
+}
+
+/// Why a hart didn't move.
+#[derive(Clone, Copy)]
+pub enum Standing {
+    /// The session is over.
+    Over,
+    /// The hart doesn't run.
+    NotRunning,
+    /// This hart is stepping over a breakpoint, and the other one is held meanwhile.
+    Held(u32),
     /// The hart is at a planted word, and no scratch slot is free.
     NoSlot,
-    /// The step over a breakpoint began: the patch at the hart's pc was lifted.
-    Lifted,
-    /// One instruction was executed, and nothing was written.
-    Ran,
-    /// One instruction was executed, and it wrote the `len` bytes at `addr`.
-    Wrote {
-        addr: u32,
-        len: u32,
-    },
-    /// One instruction was executed, and the hart has exited.
-    Left {
-        code: u32,
-    },
-    /// One instruction was executed, and all live harts have exited, so many.
-    AllLeft {
-        code: u32,
-        count: usize,
-    },
-    /// The instruction trapped, and the hart stopped.
-    Stopped {
-        cause: Cause,
-    },
-    /// The hart stopped by an interrupt that was asked of it.
-    Interrupted,
-    /// The hart came to breakpoints that count it, and goes on.
-    Counted,
-    /// The hart stopped at the breakpoint of this number, of whose condition the value couldn't be had for this reason.
-    Arrived {
-        number: u32,
-        temporary: bool,
-        error: Option<CondError>,
-    },
-    /// The hart stopped by a watch, whose bytes its instruction changed.
-    Triggered(Fired),
-    /// The hart stopped at the end of its step.
-    Stepped,
-    /// The hart stopped where the function has returned that it was to finish.
-    Finished,
 }
 
 /// The phase after an instruction.
@@ -89,11 +76,8 @@ pub fn ran_mind(mind: Mind, plan: Plan, last: Option<u32>, fired: Option<Fired>)
 {
     Mind {
         activity: Activity::Running,
-        fresh: true,
         phase: after_step(mind.phase),
-        plan,
-        last,
-        fired,
+        course: mind.course.with_plan(plan).after_instruction(last, fired),
         ..mind
     }
 }
@@ -132,61 +116,59 @@ fn mark_gone(minds: &mut [Mind])
     }
 }
 
-/// What an instruction of hart h does beside the machine and the counts, and what the turn is called; `ran` is kept of
-/// the hart where it stays.
+/// What an instruction of hart h does beside the machine and the counts; `ran` is kept of the hart where it stays. How many
+/// harts have exited by it.
 pub fn apply(
     stepped: Stepped,
     h: u32,
     ran: Mind,
     entries: &mut Vec<Entry>,
     minds: &mut [Mind],
-) -> Turned
+) -> usize
     requires done { has_run stepped ≡ true }
-    requires code { IsByteCode stepped }
     requires hart { h < length minds.old }
     requires few { length minds.old ≤ 16 }
     requires room { vec_len entries.old + 32 ≤ vec_capacity entries.old }
     requires count { last_count entries.old.items < 2 ^ 64 - 1 }
     ensures parts { record { journal = entries.new.items; minds = minds.new } ≡ applied stepped h ran (record { journal = entries.old.items; minds = minds.old }) }
-    ensures turned { result ≡ turned_of stepped h ran minds.old }
-    ensures few { exits_of result ≤ 16 }
-    ensures code { IsTurned result }
+    ensures exits { result ≡ exits_of stepped h ran minds.old }
+    ensures few { result ≤ 16 }
 {
     match stepped {
         Stepped::Ran => {
             note_instruction(h, ran, entries, minds);
-            Turned::Ran
+            0
         }
-        Stepped::Wrote { addr, len } => {
+        Stepped::Wrote { .. } => {
             note_instruction(h, ran, entries, minds);
-            Turned::Wrote { addr, len }
+            0
         }
         Stepped::HartExit(code) => {
             note_instruction(h, gone_mind(ran), entries, minds);
             note(entries, Entry::Left { hart: h, code });
-            Turned::Left { code }
+            1
         }
         Stepped::AllExit(code) => {
             note_instruction(h, ran, entries, minds);
             let before = entries.len();
             note_lefts(entries, minds, 0, code);
             mark_gone(minds);
-            Turned::AllLeft {
-                code,
-                count: entries.len() - before,
-            }
+            entries.len() - before
         }
         Stepped::Hit | Stepped::Trap(_) => unreachable!(),
     }
 }
 
-/// How many harts have exited by a turn.
-pub fn exits_of(turned: Turned) -> usize
-    ensures { result ≡ exits_of turned }
+/// How a hart moved that executed.
+pub fn moved_by(stepped: Stepped) -> Move
+    requires { has_run stepped ≡ true }
+    ensures { result ≡ moved_by stepped }
 {
-    match turned {
-        Turned::Left { .. } => 1,
-        Turned::AllLeft { count, .. } => count,
-        _ => 0,
+    match stepped {
+        Stepped::Ran => Move::Ran,
+        Stepped::Wrote { addr, len } => Move::Wrote { addr, len },
+        Stepped::HartExit(_) => Move::Left,
+        Stepped::AllExit(_) => Move::AllLeft,
+        Stepped::Hit | Stepped::Trap(_) => unreachable!(),
     }
 }

@@ -5,7 +5,7 @@ ghost use Rattle.break_table.specs.Table.{with_wait};
 ghost use Rattle.break_table.specs.Text.{is_place};
 ghost use Rattle.engine_moves.specs.Minds.{awaited, return_of};
 ghost use Rattle.engine_moves.specs.Tables.{ArePlanted};
-ghost use Rattle.engine_moves.specs.Changing.{Retabled, no_wait, wants_by};
+ghost use Rattle.engine_moves.specs.Changing.{Retabled, wants_by};
 
 use crate::minds::is_running;
 use crate::patching::plant_as_wanted;
@@ -49,7 +49,7 @@ pub fn awaited(image: &Image, mind: Mind) -> Option<u32>
     if !is_running(&mind) {
         return None;
     }
-    match return_of(mind.plan) {
+    match return_of(mind.course.plan) {
         Some(ret) if is_word(image, ret) => Some(ret),
         _ => None,
     }
@@ -138,18 +138,5 @@ pub fn rewait(machine: &mut Machine, table: &mut BreakTable, waiting: &Waiting<'
     }
     for h in 0..waiting.minds.len() {
         wait_for(machine, table, waiting, h as u32);
-    }
-}
-
-/// No hart waits any longer, and the words are planted as they are wanted then.
-pub fn end_waits(machine: &mut Machine, table: &mut BreakTable, waiting: &Waiting<'_>)
-    requires few { length waiting.now.minds.now ≤ 16 }
-    requires many { length table.old.waits ≡ length waiting.now.minds.now }
-    requires planted { ArePlanted machine.old.text (wants_by table.old waiting.now.hold) }
-    ensures table { table.new ≡ record table.old { waits = map (λ (x : Mind). no_wait) waiting.now.minds.now } }
-    ensures machine { Retabled machine.old machine.new (wants_by table.new waiting.now.hold) }
-{
-    for h in 0..waiting.minds.len() {
-        end_wait(machine, table, waiting.hold, h as u32);
     }
 }

@@ -1,5 +1,5 @@
 -- What is said where harts leave.
-use Rattle.std.proofs.Common.{◌≡◌, ℕ, ◌+◌, Bool, true, false, cond, List, [], ◌∷◌, ◌++◌, length, refl, sym, ap, ◌∙◌, append_assoc, subst}
+use Rattle.std.proofs.Common.{◌≡◌, ℕ, ◌+◌, ◌%◌, Bool, true, false, cond, List, [], ◌∷◌, ◌++◌, length, refl, sym, ap, ◌∙◌, append_assoc, subst}
 use Rattle.std.specs.Prelude.{◌&&◌, ◌||◌, map, slice_get}
 use mathlib.Core.List.{append-nil}
 use Rattle.dbg_model.specs.declared.entry.Mode.{Mode}
@@ -16,12 +16,22 @@ use Rattle.dbg_model.proofs.Adding.{added}
 use Rattle.dbg_model.proofs.Counting.{length-both}
 use Rattle.dbg_model.proofs.Leaving.{at_end, set_end, leaves_next, any_append, placed}
 use Rattle.mi_values.specs.Record.{LineTree}
-use Rattle.mi_reports.specs.Text.{gone_lines, gone_trees, exit_lines, lefts_lines}
+use Rattle.mi_reports.specs.Text.{gone_lines, exit_lines}
 use Rattle.mi_reports.specs.Said.{said_lines, entry_lines}
 use Rattle.mi_reports.proofs.Saying.{said_added}
 
+-- the exits among entries, without that of the program
+abbrev pub gone_trees : List Entry → List LineTree
+gone_trees [] = []
+gone_trees (Left h code ∷ es) = gone_lines h ++ gone_trees es
+gone_trees (e ∷ es) = gone_trees es
+
+-- the exits, of which the last may be that of the program
+abbrev pub lefts_lines : List Entry → Bool → ℕ → List LineTree
+lefts_lines es all code = gone_trees es ++ cond all (exit_lines (code % 256)) []
+
 abbrev last_lines : Bool → ℕ → List LineTree
-last_lines b code = cond b (exit_lines code) []
+last_lines b code = cond b (exit_lines (code % 256)) []
 
 abbrev left_lines : Bool → ℕ → Mode → List Hart → List LineTree
 left_lines g k mode.Stopped xs = []

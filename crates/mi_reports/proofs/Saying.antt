@@ -12,7 +12,9 @@ use Rattle.dbg_model.specs.Lawful.{one_out}
 use Rattle.dbg_model.specs.Journals.{Place, come, ran_hart, replay_from, replay, first_place, Leaves, lengthened, one_more, one_more_by}
 use Rattle.dbg_model.proofs.Options.{same_some}
 use Rattle.dbg_model.proofs.Adding.{last_view, lengthened-append, CameBy, came_by, at_last, enter_ran}
+use Rattle.dbg_model.specs.Shown.{written}
 use Rattle.mi_reports.specs.Text.{opening_lines, stream_lines}
+use Rattle.mi_reports.specs.Lines.{lines_of}
 use Rattle.mi_reports.specs.Said.{said_lines, lines_from, entry_lines, ran_lines, wrote_lines}
 
 nothing_after : {A B : Type 0} (r : Option A) → unwrap_or (option_map (λ (x : A). let y : List B = [] in y) r) [] ≡ []
@@ -48,8 +50,16 @@ pub said_nothing : (o : Opening) → said_lines o [] ≡ opening_lines o.setting
 unfolding said_lines
 said_nothing o = append-nil (opening_lines o.settings.harts)
 
+-- the line of what an instruction wrote
+written_lines : (h n : ℕ) (out : List ℕ) → lines_of (Ran h n) (written out) ≡ stream_lines out
+written_lines h n [] = refl
+written_lines h n (b ∷ bs) = refl
+
+pub wrote_shows : (o : Opening) (h : ℕ) (s : State) → wrote_lines o h (Some s) ≡ stream_lines (one_out o h s)
+wrote_shows o h s = written_lines h 1 (one_out o h s)
+
 first_lines : (o : Opening) (h : ℕ) (s : State) → entry_lines o s (Ran h 1) ≡ stream_lines (one_out o h s)
-first_lines o h s = refl
+first_lines o h s = wrote_shows o h s
 
 -- a `Ran` behind an entry that is none of this hart
 behind : (o : Opening) (front : List Entry) (e : Entry) (h : ℕ) (s : State) → CameBy o front e s → said_lines o (front ++ e ∷ Ran h 1 ∷ []) ≡ said_lines o (front ++ e ∷ []) ++ stream_lines (one_out o h s)
@@ -64,7 +74,7 @@ longer o front h n s by =
     let new = said_next o front (Ran h (n + 1)) p by.at in
     let old = said_next o front (Ran h n) p by.at in
     let r = (enter_ran o h n p.state s by.gives).1 in
-    let more : ran_lines o h p.state (n + 1) ≡ ran_lines o h p.state n ++ stream_lines (one_out o h s) = rw add-one (ap (λ x. ran_lines o h p.state n ++ wrote_lines o h x) r) in
+    let more : ran_lines o h p.state (n + 1) ≡ ran_lines o h p.state n ++ stream_lines (one_out o h s) = rw add-one (ap (λ x. ran_lines o h p.state n ++ wrote_lines o h x) r ∙ ap (λ t. ran_lines o h p.state n ++ t) (wrote_shows o h s)) in
     new ∙ (ap (λ t. said_lines o front ++ t) more ∙ (sym (append_assoc (said_lines o front) (ran_lines o h p.state n) (stream_lines (one_out o h s))) ∙ ap (λ t. t ++ stream_lines (one_out o h s)) (sym old)))
 
 last_ran : (o : Opening) (front : List Entry) (k n h : ℕ) (b : Bool) (s : State) → (k == h) ≡ b → CameBy o front (Ran k n) s → said_lines o (front ++ one_more_by (cond b (Some n) None) (Ran k n) h) ≡ said_lines o (front ++ Ran k n ∷ []) ++ stream_lines (one_out o h s)

@@ -2,9 +2,7 @@
 use Rattle.std.proofs.Common.{◌≡◌, ℕ, List, [], ◌∷◌, ◌++◌, Bool, true, false, cond, eqb, Option, Some, None, refl, ap, ◌∙◌}
 use Rattle.dbg_model.specs.declared.frame.ShownFrame.{ShownFrame}
 use Rattle.dbg_model.specs.declared.watch.Fired.{Fired}
-use Rattle.dbg_model.specs.declared.watch.Watch.{Watch}
-use Rattle.dbg_model.specs.Watches.{is_of, risen}
-use Rattle.break_table.specs.Arrival.{raised}
+use Rattle.dbg_model.specs.declared.shown.ShownWatch.{ShownWatch}
 use Rattle.mi_values.specs.Record.{LineTree}
 use Rattle.mi_values.specs.Testing.{are_bytes}
 use Rattle.mi_reports.specs.declared.words.Key.TheVariants as key
@@ -14,7 +12,7 @@ use Rattle.mi_reports.specs.Phrases.{phrase_text}
 use Rattle.mi_reports.specs.Fits.{are_fit, frame_fits}
 use Rattle.mi_reports.specs.Text.{place_fields, stopped_line}
 use Rattle.mi_text.specs.Numeral.{worth_text}
-use Rattle.mi_reports.specs.Triggers.{watch_of, expression, is_unsigned, worth_fields, change_fields, trigger_fields, trigger_lines}
+use Rattle.mi_reports.specs.Triggers.{expression, is_unsigned, worth_fields, change_fields, trigger_fields, trigger_lines}
 use Rattle.mi_reports.proofs.Names.{phrase_bytes}
 use Rattle.mi_reports.proofs.Proper.{Good, fit, none_good, value, says_good, tuple_good, place_good}
 use Rattle.mi_reports.proofs.Worths.{worth_bytes}
@@ -25,43 +23,12 @@ unfolding worth_fields
 worths_good unsigned f =
     says_good key.Old (worth_text f.old unsigned) _ 15 refl (worth_bytes f.old unsigned) (says_good key.New (worth_text f.new unsigned) [] 15 refl (worth_bytes f.new unsigned) (none_good 15))
 
-trigger_good : (w : Option Watch) (f : Fired) (h : ℕ) (frame : ShownFrame) → are_bytes (expression w) ≡ true → frame_fits frame ≡ true → Good (trigger_fields w f h frame) 16
+trigger_good : (w : Option ShownWatch) (f : Fired) (h : ℕ) (frame : ShownFrame) → are_bytes (expression w) ≡ true → frame_fits frame ≡ true → Good (trigger_fields w f h frame) 16
 unfolding trigger_fields change_fields
 trigger_good w f h frame is fit =
     let worths = tuple_good (worth_fields (is_unsigned w) f) 16 refl (worths_good (is_unsigned w) f) in
     says_good key.Reason (phrase_text phrase.WatchpointTrigger) _ 16 refl (phrase_bytes phrase.WatchpointTrigger)
     (watch_good f.number (expression w) _ is (value key.Value _ (place_fields h frame) 16 worths (place_good h frame fit)))
 
-pub trigger_fit : (w : Option Watch) (f : Fired) (h : ℕ) (frame : ShownFrame) → are_bytes (expression w) ≡ true → frame_fits frame ≡ true → are_fit (trigger_fields w f h frame) ≡ true
+pub trigger_fit : (w : Option ShownWatch) (f : Fired) (h : ℕ) (frame : ShownFrame) → are_bytes (expression w) ≡ true → frame_fits frame ≡ true → are_fit (trigger_fields w f h frame) ≡ true
 trigger_fit w f h frame is fits = fit (trigger_fields w f h frame) (trigger_good w f h frame is fits)
-
--- ---- what is told of a watch stays the same where its times rise
-
-record Alike (v w : Option Watch) : Type 0 where
-  pub text : expression v ≡ expression w
-  pub unsigned : is_unsigned v ≡ is_unsigned w
-
-alike : (w : Option Watch) → Alike w w
-alike w = record { text = refl; unsigned = refl }
-
-found : (b c : Bool) (n : ℕ) (w : Watch) (r s : Option Watch) → eqb w.number n ≡ c → Alike r s
-    → Alike (cond (eqb (cond b (record w { times = raised w.times }) w).number n) (Some (cond b (record w { times = raised w.times }) w)) r) (cond c (Some w) s)
-found true true n w r s is rest = rw is (record { text = refl; unsigned = refl })
-found true false n w r s is rest = rw is rest
-found false true n w r s is rest = rw is (record { text = refl; unsigned = refl })
-found false false n w r s is rest = rw is rest
-
-risen_alike : (fired : Option Fired) (ws : List Watch) (n : ℕ) → Alike (watch_of (risen fired ws) n) (watch_of ws n)
-risen_alike fired [] n = alike None
-risen_alike fired (w ∷ ws) n = found (is_of fired w) (eqb w.number n) n w (watch_of (risen fired ws) n) (watch_of ws n) refl (risen_alike fired ws n)
-
-told_by : List ℕ → Bool → Fired → ℕ → ShownFrame → List LineTree
-told_by t unsigned f h frame = stopped_line (says key.Reason (phrase_text phrase.WatchpointTrigger) ∷ (change_fields t unsigned f ++ place_fields h frame)) ∷ []
-
-pub trigger_risen : (fired : Option Fired) (ws : List Watch) (f : Fired) (h : ℕ) (frame : ShownFrame) → trigger_lines (watch_of (risen fired ws) f.number) f h frame ≡ trigger_lines (watch_of ws f.number) f h frame
-unfolding trigger_fields told_by
-trigger_risen fired ws f h frame =
-    let a = risen_alike fired ws f.number in
-    let v = watch_of (risen fired ws) f.number in
-    let w = watch_of ws f.number in
-    ap (λ t. told_by t (is_unsigned v) f h frame) a.text ∙ ap (λ b. told_by (expression w) b f h frame) a.unsigned

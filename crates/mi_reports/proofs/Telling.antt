@@ -1,5 +1,5 @@
 -- The `@` lines of what is said show the output.
-use Rattle.std.proofs.Common.{◌≡◌, ℕ, zero, suc, Bool, true, cond, List, [], ◌∷◌, ◌++◌, refl, sym, ap, ◌∙◌, append_assoc}
+use Rattle.std.proofs.Common.{◌≡◌, ℕ, zero, suc, ◌%◌, Bool, true, cond, List, [], ◌∷◌, ◌++◌, refl, sym, ap, ◌∙◌, append_assoc}
 use Rattle.std.specs.Prelude.{Option, Some, None, ◌&&◌, length, map, unwrap_or, slice_get}
 use Rattle.std.specs.Option.{option_map}
 use Rattle.std.proofs.lemmas.Grind.{flat_map-append}
@@ -15,6 +15,8 @@ use Rattle.dbg_model.specs.declared.entry.Poke.TheVariants as poke
 use Rattle.dbg_model.specs.declared.entry.Why.TheVariants.{Break, Watch, Stepped, Finished, Interrupted, Fault}
 use Rattle.dbg_model.specs.declared.opening.Opening.{Opening}
 use Rattle.dbg_model.specs.declared.frame.ShownFrame.{ShownFrame}
+use Rattle.dbg_model.specs.Sources.{sources_of}
+use Rattle.dbg_model.specs.Shown.{frame_at}
 use Rattle.dbg_model.specs.declared.hart.Hart.{Hart}
 use Rattle.dbg_model.specs.declared.reply.Content.{Content}
 use Rattle.dbg_model.specs.declared.reply.Content.TheVariants as content
@@ -33,7 +35,8 @@ use Rattle.mi_values.specs.FieldLists.{notice_of, result_of}
 use Rattle.mi_values.specs.Records.{streamed, streamed_by}
 use Rattle.mi_reports.specs.Text.{thread_line, created_lines, opening_lines, stopped_line, hit_fields, condition_lines, break_lines, gone_lines, exit_lines, stream_lines}
 use Rattle.mi_reports.specs.Replies.{running_line, content_lines}
-use Rattle.mi_reports.specs.Said.{said_lines, lines_from, entry_lines, ran_lines, wrote_lines, stop_frame}
+use Rattle.mi_reports.specs.Said.{said_lines, lines_from, entry_lines, ran_lines, wrote_lines}
+use Rattle.mi_reports.proofs.Saying.{wrote_shows}
 
 streamed_joined : (xs ys : List LineTree) → streamed (xs ++ ys) ≡ streamed xs ++ streamed ys
 streamed_joined xs ys = flat_map-append streamed_by xs ys
@@ -115,7 +118,7 @@ ran_adds o h s (suc n) t is =
     let b = bind_some (one o h) (ran o h s n) t is in
     let first = ran_adds o h s n b.0 b.1 in
     let shown = streamed (ran_lines o h s n) in
-    let wrote : wrote_lines o h (ran o h s n) ≡ stream_lines (one_out o h b.0) = ap (wrote_lines o h) b.1 in
+    let wrote : wrote_lines o h (ran o h s n) ≡ stream_lines (one_out o h b.0) = ap (wrote_lines o h) b.1 ∙ wrote_shows o h b.0 in
     let both : streamed (ran_lines o h s (suc n)) ≡ shown ++ one_out o h b.0 =
     streamed_joined (ran_lines o h s n) (wrote_lines o h (ran o h s n)) ∙ ap (λ t. shown ++ t) (ap streamed wrote ∙ output_shows (one_out o h b.0)) in
     one_adds o h b.0 t b.2 ∙ (ap (λ u. u ++ one_out o h b.0) first ∙ (append_assoc s.out shown (one_out o h b.0) ∙ ap (λ u. s.out ++ u) (sym both)))
@@ -148,7 +151,7 @@ unfolding stopped_line notice_of
 entry_adds o s (Ran h n) t is = ran_adds o h s n t (enter_ran o h n s t is).1
 entry_adds o s (Counted h) t is = nothing s t [] (enter_plain o s (Counted h) t is) refl
 entry_adds o s (Stopped h (Break number error)) t is =
-    nothing s t (entry_lines o s (Stopped h (Break number error))) (enter_plain o s (Stopped h (Break number error)) t is) (break_shows (is_temporary s.breaks number) number error h (stop_frame o s h))
+    nothing s t (entry_lines o s (Stopped h (Break number error))) (enter_plain o s (Stopped h (Break number error)) t is) (break_shows (is_temporary s.breaks number) number error h (frame_at (sources_of o.image) s.harts h))
 entry_adds o s (Stopped h (Watch f)) t is = nothing s t (entry_lines o s (Stopped h (Watch f))) (enter_plain o s (Stopped h (Watch f)) t is) refl
 entry_adds o s (Stopped h Stepped) t is = nothing s t (entry_lines o s (Stopped h Stepped)) (enter_plain o s (Stopped h Stepped) t is) refl
 entry_adds o s (Stopped h Finished) t is = nothing s t (entry_lines o s (Stopped h Finished)) (enter_plain o s (Stopped h Finished) t is) refl
@@ -156,7 +159,7 @@ entry_adds o s (Stopped h Interrupted) t is = nothing s t (entry_lines o s (Stop
 entry_adds o s (Stopped h (Fault cause)) t is = nothing s t (entry_lines o s (Stopped h (Fault cause))) (enter_plain o s (Stopped h (Fault cause)) t is) refl
 entry_adds o s (Left h code) t is =
     let all = all_gone (exited_at s.harts h (slice_get s.harts h)) in
-    nothing s t (entry_lines o s (Left h code)) (enter_plain o s (Left h code) t is) (left_shows h all code)
+    nothing s t (entry_lines o s (Left h code)) (enter_plain o s (Left h code) t is) (left_shows h all (code % 256))
 entry_adds o s (Did line) t is = nothing s t (entry_lines o s (Did line)) (enter_plain o s (Did line) t is) (content_shows (reply_of o s line).token (reply_of o s line).content)
 entry_adds o s (Poked p) t is = poked_out o s t p is ∙ sym (append-nil s.out)
 

@@ -8,8 +8,8 @@ pub mod Errors
 pub mod Text
 pub mod Replies
 pub mod Triggers
+pub mod Lines
 pub mod Said
 pub mod Refusals
-pub mod Events
 pub mod Fits
 pub mod Seen

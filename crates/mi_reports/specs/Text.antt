@@ -1,10 +1,8 @@
 -- The lines of what entries show (GDB manual, "GDB/MI Async Records", "GDB/MI Stream Records").
-use Rattle.std.specs.Prelude.{ℕ, zero, suc, ◌+◌, ◌==◌, Bool, List, [], ◌∷◌, ◌++◌, Option, Some, None, if◌then◌else◌, decimal}
+use Rattle.std.specs.Prelude.{ℕ, zero, suc, ◌+◌, ◌%◌, ◌==◌, Bool, List, [], ◌∷◌, ◌++◌, Option, Some, None, if◌then◌else◌, decimal}
 use Rattle.rv_exec.specs.declared.effect.Cause.{Cause}
 use Rattle.rv_exec.specs.declared.effect.Cause.TheVariants.{FetchAlign, LoadFault, StoreFault, LoadAlign, StoreAlign, Break, Illegal, FetchFault}
 use Rattle.break_table.specs.declared.due.CondError.{CondError}
-use Rattle.dbg_model.specs.declared.entry.Entry.{Entry}
-use Rattle.dbg_model.specs.declared.entry.Entry.TheVariants.{Ran, Counted, Stopped, Left, Did, Poked}
 use Rattle.dbg_model.specs.declared.frame.ShownFrame.{ShownFrame}
 use Rattle.mi_values.specs.declared.sign.NoticeSign.TheVariants.{Exec, Notify}
 use Rattle.mi_values.specs.declared.sign.StreamSign.TheVariants.{Target, Log}
@@ -117,19 +115,9 @@ exit_fields code =
 abbrev pub exit_lines : ℕ → List LineTree
 exit_lines code = stopped_line (exit_fields code) ∷ []
 
--- the exits among entries, without that of the program
-abbrev pub gone_trees : List Entry → List LineTree
-gone_trees [] = []
-gone_trees (Left h code ∷ es) = gone_lines h ++ gone_trees es
-gone_trees (Ran h n ∷ es) = gone_trees es
-gone_trees (Counted h ∷ es) = gone_trees es
-gone_trees (Stopped h why ∷ es) = gone_trees es
-gone_trees (Did line ∷ es) = gone_trees es
-gone_trees (Poked p ∷ es) = gone_trees es
-
--- the exits, of which the last may be that of the program
-abbrev pub lefts_lines : List Entry → Bool → ℕ → List LineTree
-lefts_lines es all code = gone_trees es ++ (if all then exit_lines code else [])
+-- hart h has exited with a code, and the program with it where it was the last live one; of a code the system keeps a byte
+abbrev pub left_lines : ℕ → ℕ → Bool → List LineTree
+left_lines h code last = gone_lines h ++ (if last then exit_lines (code % 256) else [])
 
 -- ---- output
 

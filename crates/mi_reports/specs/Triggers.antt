@@ -1,8 +1,8 @@
 -- The line of a stop by a watch (GDB manual, "GDB/MI Async Records", "GDB/MI Breakpoint Commands").
-use Rattle.std.specs.Prelude.{ℕ, ◌==◌, not, Bool, true, List, [], ◌∷◌, ◌++◌, Option, Some, None, find}
+use Rattle.std.specs.Prelude.{ℕ, not, Bool, true, List, [], ◌∷◌, ◌++◌, Option, Some, None}
 use Rattle.dbg_model.specs.declared.frame.ShownFrame.{ShownFrame}
 use Rattle.dbg_model.specs.declared.watch.Fired.{Fired}
-use Rattle.dbg_model.specs.declared.watch.Watch.{Watch}
+use Rattle.dbg_model.specs.declared.shown.ShownWatch.{ShownWatch}
 use Rattle.mi_values.specs.Tree.{Tree}
 use Rattle.mi_values.specs.Record.{LineTree}
 use Rattle.mi_values.specs.FieldLists.{tuple_of}
@@ -14,16 +14,12 @@ use Rattle.mi_reports.specs.Text.{place_fields, stopped_line}
 use Rattle.mi_text.specs.Numeral.{worth_text}
 use Rattle.mi_reports.specs.Watches.{watch_field}
 
--- the watch of that number
-abbrev pub watch_of : List Watch → ℕ → Option Watch
-watch_of ws number = find (λ w. w.number == number) ws
-
 -- the text by which its bytes were given
-abbrev pub expression : Option Watch → List ℕ
+abbrev pub expression : Option ShownWatch → List ℕ
 expression None = []
 expression (Some w) = w.text
 
-abbrev pub is_unsigned : Option Watch → Bool
+abbrev pub is_unsigned : Option ShownWatch → Bool
 is_unsigned None = true
 is_unsigned (Some w) = not w.signed
 
@@ -36,8 +32,8 @@ unfoldable pub change_fields : List ℕ → Bool → Fired → List (List ℕ ×
 change_fields expression unsigned f = watch_field f.number expression ∷ (key_text key.Value, tuple_of (worth_fields unsigned f)) ∷ []
 
 -- hart h stopped in this frame by that watch
-unfoldable pub trigger_fields : Option Watch → Fired → ℕ → ShownFrame → List (List ℕ × Tree)
+unfoldable pub trigger_fields : Option ShownWatch → Fired → ℕ → ShownFrame → List (List ℕ × Tree)
 trigger_fields w f h frame = says key.Reason (phrase_text phrase.WatchpointTrigger) ∷ (change_fields (expression w) (is_unsigned w) f ++ place_fields h frame)
 
-abbrev pub trigger_lines : Option Watch → Fired → ℕ → ShownFrame → List LineTree
+abbrev pub trigger_lines : Option ShownWatch → Fired → ℕ → ShownFrame → List LineTree
 trigger_lines w f h frame = stopped_line (trigger_fields w f h frame) ∷ []

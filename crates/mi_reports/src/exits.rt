@@ -1,13 +1,12 @@
 // The lines of threads that begin and end, and of what the program writes.
 ghost use Rattle.std.specs.Prelude.{◌≡◌, ◌∷◌, [], ◌++◌, OnOk};
 ghost use Rattle.mi_reports.specs.Seen.{seen, trees};
-ghost use Rattle.mi_reports.specs.Text.{thread_line, created_lines, opening_lines, gone_trees, exit_fields, exit_lines, lefts_lines, stream_lines};
+ghost use Rattle.mi_reports.specs.Text.{thread_line, created_lines, opening_lines, exit_fields, exit_lines, left_lines, stream_lines};
 
 use crate::fields::FieldList;
 use crate::lines::LineList;
 use crate::stops::push_stopped;
 use crate::words::{Key, Phrase};
-use dbg_model::Entry;
 use mi_values::{NoticeSign, StreamSign};
 use std::alloc::AllocError;
 
@@ -41,21 +40,6 @@ pub fn push_opening(lines: &mut LineList, harts: u32) -> Result<(), AllocError>
     lines.push_prompt()
 }
 
-#[tactic(auto, using(std::proofs::lemmas::Grind::common_steps))]
-fn push_gones(lines: &mut LineList, entries: &[Entry]) -> Result<(), AllocError>
-    ensures { OnOk result (trees lines.new ≡ trees lines.old ++ gone_trees entries.now) }
-{
-    match entries {
-        [] => Ok(()),
-        [first, rest @ ..] => {
-            if let Entry::Left { hart, .. } = first {
-                push_thread(lines, Key::ThreadExited, *hart)?;
-            }
-            push_gones(lines, rest)
-        }
-    }
-}
-
 #[tactic(auto, unfolding(crate::specs::Text::exit_fields))]
 fn push_exit_fields(fields: &mut FieldList, code: u8) -> Result<(), AllocError>
     ensures { OnOk result (seen fields.new ≡ seen fields.old ++ exit_fields code) }
@@ -76,19 +60,14 @@ fn push_exit(lines: &mut LineList, code: u8) -> Result<(), AllocError>
     push_stopped(lines, fields)
 }
 
-/// Appends the lines of the exits among the entries, and that of the program's where no hart is left.
+/// Appends the line of a hart that has exited with a code, and that of the program where it was the last live one.
 #[tactic(auto, using(std::proofs::lemmas::Grind::common_steps))]
-pub fn push_lefts(
-    lines: &mut LineList,
-    entries: &[Entry],
-    all: bool,
-    code: u8,
-) -> Result<(), AllocError>
-    ensures { OnOk result (trees lines.new ≡ trees lines.old ++ lefts_lines entries.now all code) }
+pub fn push_left(lines: &mut LineList, hart: u32, code: u32, last: bool) -> Result<(), AllocError>
+    ensures { OnOk result (trees lines.new ≡ trees lines.old ++ left_lines hart code last) }
 {
-    push_gones(lines, entries)?;
-    if all {
-        push_exit(lines, code)?;
+    push_thread(lines, Key::ThreadExited, hart)?;
+    if last {
+        push_exit(lines, (code % 256) as u8)?;
     }
     Ok(())
 }

@@ -1,12 +1,12 @@
-//! The lines that a session puts: those of its opening, of each entry of its journal, and of its refusals. `report` writes them.
+//! The lines that a session puts: those of each entry of its journal, which `report` writes, of its opening, and of its refusals.
 //!
 //! Each is built as trees of the grammar of `mi_values`, and written by its `write_line`.
 #![tactic(auto)]
 
 mod breakpoints;
 mod conditions;
+mod entries;
 mod errors;
-mod events;
 mod exits;
 mod fields;
 mod frames;
@@ -22,6 +22,5 @@ mod triggers;
 mod watches;
 mod words;
 
-pub use events::{Event, report};
+pub use entries::{report, report_bad_file, report_opening, report_usage};
 pub use laws::said_shows_output;
-pub use stops::{Hit, Stop};

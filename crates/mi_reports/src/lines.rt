@@ -46,6 +46,17 @@ fn write_all(lines: &[Line], into: &mut Vec<u8>) -> Result<(), NoMemory>
 }
 
 impl LineList {
+    /// No lines.
+    #[tactic(auto, unfolding(crate::specs::Seen::trees))]
+    pub fn new(alloc: Global) -> LineList
+        ensures { trees result ≡ [] }
+    {
+        LineList {
+            alloc,
+            items: Vec::new(alloc),
+        }
+    }
+
     #[tactic(auto, using(std::proofs::lemmas::Grind::common_steps), unfolding(crate::specs::Seen::trees))]
     fn push(&mut self, line: Line) -> Result<(), AllocError>
         ensures { OnOk result (trees self.new ≡ trees self.old ++ line_view line ∷ []) }

@@ -5,8 +5,10 @@ ghost use Rattle.mi_reports.specs.declared.words.Key.TheVariants as keys;
 ghost use Rattle.mi_reports.specs.Fits.{are_fit, frame_fits};
 ghost use Rattle.mi_reports.specs.Seen.{seen, trees};
 ghost use Rattle.mi_reports.specs.Words.{key_text};
-ghost use Rattle.mi_reports.specs.Text.{place_fields, signal_fields, end_fields, hit_fields, signal, stopped_line, break_lines};
-ghost use Rattle.mi_reports.specs.Events.{stopping_lines};
+ghost use Rattle.mi_reports.specs.Text.{place_fields, signal_fields, end_fields, hit_fields, signal, stopped_line};
+ghost use Rattle.dbg_model.specs.declared.entry.Entry.TheVariants.{Stopped};
+ghost use Rattle.dbg_model.specs.declared.shown.Shown.TheVariants.{Stop};
+ghost use Rattle.mi_reports.specs.Lines.{lines_of};
 
 use crate::breakpoints::disposition;
 use crate::conditions::push_condition;
@@ -15,37 +17,11 @@ use crate::frames::push_frame;
 use crate::lines::LineList;
 use crate::triggers::push_trigger;
 use crate::words::{Key, Phrase};
-use break_table::CondError;
-use dbg_model::{Fired, ShownFrame, Watch};
+use dbg_model::{ShownFrame, ShownWatch, Why};
 use itoa::Buffer;
 use mi_values::NoticeSign;
 use rv_exec::Cause;
 use std::alloc::AllocError;
-
-/// A breakpoint that stops a hart.
-#[derive(Clone, Copy)]
-pub struct Hit {
-    pub number: u32,
-    pub temporary: bool,
-    /// Why the value of its condition couldn't be had.
-    pub error: Option<CondError>,
-}
-
-/// Why a hart stopped.
-#[derive(Clone, Copy)]
-pub enum Stop<'a> {
-    /// An instruction that trapped.
-    Fault(Cause),
-    /// An interrupt that was asked of it.
-    Interrupted,
-    /// Its step ended.
-    Stepped,
-    /// The function that it was to finish has returned.
-    Finished,
-    /// The watch of these that fired.
-    Triggered { watches: &'a [Watch], fired: Fired },
-    Hit(Hit),
-}
 
 // A fault's signal, and what it means.
 fn signal(cause: Cause) -> (Phrase, Phrase)
@@ -116,28 +92,33 @@ fn push_signal(
 #[tactic(auto, unfolding(crate::specs::Text::hit_fields))]
 fn push_hit_fields(
     fields: &mut FieldList,
-    hit: Hit,
+    temporary: bool,
+    number: u32,
     hart: u32,
     frame: &ShownFrame,
 ) -> Result<(), AllocError>
-    ensures written { OnOk result (seen fields.new ≡ seen fields.old ++ hit_fields hit.temporary hit.number hart frame.now) }
+    ensures written { OnOk result (seen fields.new ≡ seen fields.old ++ hit_fields temporary number hart frame.now) }
     ensures fits { OnOk result (frame_fits frame.now ≡ true) }
 {
     fields.push_phrase(Key::Reason, Phrase::BreakpointHit)?;
-    fields.push_phrase(Key::Disp, disposition(hit.temporary))?;
-    fields.push_word(Key::BkptNumber, hit.number)?;
+    fields.push_phrase(Key::Disp, disposition(temporary))?;
+    fields.push_word(Key::BkptNumber, number)?;
     push_place(fields, hart, frame)
 }
 
-// Appends the lines of a stop by a breakpoint. Where the value of its condition couldn't be had, a line that says why comes
-// first.
+// Appends the line of a stop by a breakpoint.
 #[tactic(auto, using(std::proofs::lemmas::Grind::common_steps, crate::proofs::Proper::hit_fit))]
-fn push_hit(lines: &mut LineList, hit: Hit, hart: u32, frame: &ShownFrame) -> Result<(), AllocError>
-    ensures { OnOk result (trees lines.new ≡ trees lines.old ++ break_lines hit.temporary hit.number hit.error hart frame.now) }
+fn push_hit(
+    lines: &mut LineList,
+    temporary: bool,
+    number: u32,
+    hart: u32,
+    frame: &ShownFrame,
+) -> Result<(), AllocError>
+    ensures { OnOk result (trees lines.new ≡ trees lines.old ++ stopped_line (hit_fields temporary number hart frame.now) ∷ []) }
 {
     let mut stop = FieldList::new(lines.alloc);
-    push_hit_fields(&mut stop, hit, hart, frame)?;
-    push_condition(lines, hit.number, hit.error)?;
+    push_hit_fields(&mut stop, temporary, number, hart, frame)?;
     push_stopped(lines, stop)
 }
 
@@ -157,24 +138,31 @@ fn push_end(
     push_stopped(lines, fields)
 }
 
-/// Appends the lines of a stop of a hart in this frame.
+/// Appends the lines of a stop of a hart in this frame. Where the value of a breakpoint's condition couldn't be had, a line
+/// that says why comes first.
+#[tactic(auto, using(std::proofs::lemmas::Grind::common_steps))]
 pub fn push_stop(
     lines: &mut LineList,
-    stop: Stop<'_>,
     hart: u32,
+    why: Why,
     frame: &ShownFrame,
+    temporary: bool,
+    watch: &Option<ShownWatch>,
 ) -> Result<(), AllocError>
-    ensures { OnOk result (trees lines.new ≡ trees lines.old ++ stopping_lines stop.entry hart frame.now) }
+    ensures { OnOk result (trees lines.new ≡ trees lines.old ++ lines_of (Stopped hart why) (Stop frame.now temporary watch.now)) }
 {
-    match stop {
-        Stop::Fault(cause) => {
+    match why {
+        Why::Break { number, error } => {
+            push_condition(lines, number, error)?;
+            push_hit(lines, temporary, number, hart, frame)
+        }
+        Why::Watch(fired) => push_trigger(lines, watch, fired, hart, frame),
+        Why::Stepped => push_end(lines, Phrase::EndSteppingRange, hart, frame),
+        Why::Finished => push_end(lines, Phrase::FunctionFinished, hart, frame),
+        Why::Interrupted => push_signal(lines, Phrase::Sigint, Phrase::Interrupt, hart, frame),
+        Why::Fault(cause) => {
             let (name, meaning) = signal(cause);
             push_signal(lines, name, meaning, hart, frame)
         }
-        Stop::Interrupted => push_signal(lines, Phrase::Sigint, Phrase::Interrupt, hart, frame),
-        Stop::Stepped => push_end(lines, Phrase::EndSteppingRange, hart, frame),
-        Stop::Finished => push_end(lines, Phrase::FunctionFinished, hart, frame),
-        Stop::Triggered { watches, fired } => push_trigger(lines, watches, fired, hart, frame),
-        Stop::Hit(hit) => push_hit(lines, hit, hart, frame),
     }
 }

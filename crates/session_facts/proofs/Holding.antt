@@ -37,7 +37,7 @@ use Rattle.dbg_model.specs.Reply.{resumed, resumed_by, asked, asked_by, on_threa
 use Rattle.dbg_model.specs.State.{State, due, is_stopped, is_running, has_exited}
 use Rattle.dbg_model.specs.Views.{register, shown_byte}
 use Rattle.dbg_model.specs.Watches.{worth, changed, fired_one, fired_by, is_fired, is_one_of, unless_of}
-use Rattle.dbg_model.specs.Lawful.{one, one_by, ran, enter, may_do, may_go, may_move, may_run, set_out, stepped, stepped_by, leaving, leaving_at, with_leavers, with_step, stopped, with_stop, with_arrival, faulted_by, stopped_by, counted, counted_by, with_count, left_by, leaver_from, exited, exited_at, poked_by}
+use Rattle.dbg_model.specs.Lawful.{one, one_by, ran, enter, may_do, may_go, may_move, may_run, set_out, stepped, stepped_by, leaving, leaving_at, with_leavers, with_step, stopped_hart, with_stop, with_arrival, faulted_by, stopped_by, counted, counted_by, with_count, left_by, leaver_from, exited, exited_at, poked_by}
 use Rattle.dbg_model.specs.Journals.{Place, come, follows, ran_hart, ran_count, replay_from, replay, first_place, Leaves}
 use Rattle.dbg_model.proofs.Options.{bind_some, guard_some, map_some, same_some, both_true}
 use Rattle.dbg_model.proofs.Adding.{CameBy, came_by, at_last, enter_ran}
@@ -47,8 +47,8 @@ use Rattle.session_facts.proofs.Triggering.{differ, replay_split}
 -- ---- a hart for which a watch has fired, and that isn't stopped
 
 record Waits (f : Fired) (x : Hart) : Type 0 where
-  pub fresh : x.fresh ≡ true
-  pub fired : x.fired ≡ Some f
+  pub fresh : x.course.fresh ≡ true
+  pub fired : x.course.fired ≡ Some f
   pub moves : is_stopped x.mode ≡ false
 
 abbrev WaitsIn : Fired → Option Hart → Type 0
@@ -196,8 +196,8 @@ or_right false false c d is = ap (λ x. x || d) is
 arrived_fired : (p : Program) (s : State) (h : ℕ) (x : Hart) (f : Fired) → Waits f x → (due p s h x).fired ≡ Some f
 unfolding due judgement_of
 arrived_fired p s h x f w =
-    let j : Judgement = record { breaks = due_of h (register x.regs) (shown_byte p s.memory) s.breaks; fired = x.fired; verdict = verdict_behind p (sources_of p) x.plan (register x.regs) x.last } in
-    ap (λ b. (cond b j (no_arrival x.plan)).fired) w.fresh ∙ w.fired
+    let j : Judgement = record { breaks = due_of h (register x.regs) (shown_byte p s.memory) s.breaks; fired = x.course.fired; verdict = verdict_behind p (sources_of p) x.course.plan (register x.regs) x.course.last } in
+    ap (λ b. (cond b j (no_arrival x.course.plan)).fired) w.fresh ∙ w.fired
 
 due_so : (p : Program) (s : State) (h : ℕ) (x : Hart) (f : Fired) → Waits f x → is_due (due p s h x) ≡ true
 due_so p s h x f w =
@@ -239,10 +239,10 @@ set_state f s t u k h y apart set is w =
     subst (λ (v : State). WaitsAt f v.harts h) (same_some u t is) made
 
 arrival_state : (f : Fired) (o : Opening) (may : Bool) (s t : State) (k h : ℕ) (x : Hart) → k ≢ h → cond may (Some (with_arrival o s k x)) None ≡ Some t → WaitsAt f s.harts h → WaitsAt f t.harts h
-arrival_state f o may s t k h x apart is w = set_state f s t (with_arrival o s k x) k h (stopped x) apart refl (guard_some may (Some (with_arrival o s k x)) t is).1 w
+arrival_state f o may s t k h x apart is w = set_state f s t (with_arrival o s k x) k h (stopped_hart x) apart refl (guard_some may (Some (with_arrival o s k x)) t is).1 w
 
 fault_state : (f : Fired) (a : Answer) (cause : Cause) (s t : State) (k h : ℕ) (x : Hart) → k ≢ h → faulted_by a cause s k x ≡ Some t → WaitsAt f s.harts h → WaitsAt f t.harts h
-fault_state f (Traps met) cause s t k h x apart is w = set_state f s t (with_stop s k x) k h (stopped x) apart refl (guard_some (cause_number met == cause_number cause) (Some (with_stop s k x)) t is).1 w
+fault_state f (Traps met) cause s t k h x apart is w = set_state f s t (with_stop s k x) k h (stopped_hart x) apart refl (guard_some (cause_number met == cause_number cause) (Some (with_stop s k x)) t is).1 w
 fault_state f (Goes r m out leave) cause s t k h x apart is w = cc
 
 stop_state : (f : Fired) (o : Opening) (why : Why) (s t : State) (k h : ℕ) (r : Option Hart) → k ≢ h → stopped_by o s k why r ≡ Some t → WaitsAt f s.harts h → WaitsAt f t.harts h
@@ -251,7 +251,7 @@ stop_state f o (whys.Break number error) s t k h (Some x) apart is w = arrival_s
 stop_state f o (whys.Watch g) s t k h (Some x) apart is w = arrival_state f o (may_move o s x && is_fired (fires (due o.image s k x)) g) s t k h x apart is w
 stop_state f o whys.Stepped s t k h (Some x) apart is w = arrival_state f o (may_move o s x && ends_step (due o.image s k x)) s t k h x apart is w
 stop_state f o whys.Finished s t k h (Some x) apart is w = arrival_state f o (may_move o s x && ends_function (due o.image s k x)) s t k h x apart is w
-stop_state f o whys.Interrupted s t k h (Some x) apart is w = set_state f s t (with_stop s k x) k h (stopped x) apart refl (guard_some (may_run o s k x && x.asked) (Some (with_stop s k x)) t is).1 w
+stop_state f o whys.Interrupted s t k h (Some x) apart is w = set_state f s t (with_stop s k x) k h (stopped_hart x) apart refl (guard_some (may_run o s k x && x.asked) (Some (with_stop s k x)) t is).1 w
 stop_state f o (whys.Fault cause) s t k h (Some x) apart is w =
     fault_state f (plain o.image x.regs s.memory) cause s t k h x apart (guard_some (may_run o s k x) (faulted_by (plain o.image x.regs s.memory) cause s k x) t is).1 w
 

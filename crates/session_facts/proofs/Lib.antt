@@ -3,6 +3,8 @@ pub mod Reading
 pub mod Writing
 pub mod Working
 pub mod Timing
+pub mod Noting
+pub mod Exits
 pub mod Saying
 pub mod Doing
 pub mod Picking

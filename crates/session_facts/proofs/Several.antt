@@ -10,6 +10,7 @@ use Rattle.engine_moves.specs.Facts.{Facts}
 use Rattle.engine_moves.proofs.Bounding.{below}
 use Rattle.engine_moves.specs.declared.moving.Turned.{Turned}
 use Rattle.engine_moves.specs.declared.moving.Turned.TheVariants as turned
+use Rattle.engine_moves.specs.declared.moving.Move.TheVariants as move
 use Rattle.engine_moves.specs.Several.{AllRan, IsQuiet, TurnedBy, lengthened_by}
 use Rattle.engine_moves.specs.Calls.{Turns as EngineTurns}
 use Rattle.engine_moves.proofs.Quiet.{quiet_may}
@@ -32,14 +33,14 @@ none_put : (t : Told) → t ≡ with_text t []
 none_put t = ap (λ o. record t { written = o }) (more_none t.written)
 
 -- a turn of which nothing is said
-silent : (t : Told) (r s : Run) (h : ℕ) → Said turned.Ran r s h 0 → Says t t (stage_of r) (stage_of s) true
+silent : (t : Told) (r s : Run) (h : ℕ) → Said move.Ran r s h → Says t t (stage_of r) (stage_of s) true
 silent t r s h d = record { trees = []; said = d.said; grammar = tt; puts = none_put t }
 
 -- a session in which the engine stands here
 abbrev pub standing : Moment → Run → Option Status → Moment
 standing p r s = record p { run = stage_of r; status = s }
 
-one_move : (p : Moment) (r s : Run) (h : ℕ) (o : Option Status) → Said turned.Ran r s h 0 → OverBy o (stage_of s) p.input.count → TurnsOne h (standing p r None) (standing p s o)
+one_move : (p : Moment) (r s : Run) (h : ℕ) (o : Option Status) → Said move.Ran r s h → OverBy o (stage_of s) p.input.count → TurnsOne h (standing p r None) (standing p s o)
 one_move p r s h o d over =
     record { answer = turn.Moved; told = p.told; run = stage_of s; status = o; opening = d.opening; turns = (silent p.told r s h d, d.move); after = over; is = refl }
 
@@ -47,7 +48,7 @@ one_move p r s h o d over =
 pub record Holds (p : Moment) (r : Run) (o : Option Status) : Type 0 where
   pub tied : IsTied o p.told (stage_of r) p.input
 
-one_holds : (p : Moment) (r s : Run) (h : ℕ) (o : Option Status) → Facts r → Holds p r None → Said turned.Ran r s h 0 → OverBy o (stage_of s) p.input.count → Holds p s o
+one_holds : (p : Moment) (r s : Run) (h : ℕ) (o : Option Status) → Facts r → Holds p r None → Said move.Ran r s h → OverBy o (stage_of s) p.input.count → Holds p s o
 one_holds p r s h o f k d over = record { tied = turn_put o p.told p.told (stage_of r) (stage_of s) p.input k.tied d.opening f.sound.leaves (silent p.told r s h d) d.goes over }
 
 -- a session goes on before each turn
@@ -106,7 +107,7 @@ ran_on n p e r s h o is some f g k turns over =
 pub none_ran : (e r s : Run) (h : ℕ) → r ≡ record e { spare = r.spare } → s ≡ r → stage_of s ≡ stage_of e
 none_ran e r s h is same = ap stage_of same ∙ ap stage_of is
 
-ran_once : (t : Turned) (r s : Run) (h : ℕ) → t ≡ turned.Ran → EngineTurns t r s h → s.journal ≡ lengthened r.journal h
+ran_once : (t : Turned) (r s : Run) (h : ℕ) → t ≡ turned.Moved move.Ran → EngineTurns t r s h → s.journal ≡ lengthened r.journal h
 ran_once t r s h is turn = let P : Turned → Type 0 = λ u. EngineTurns u r s h in (subst P is turn).journal
 
 -- instructions that wrote nothing are all that is noted of them

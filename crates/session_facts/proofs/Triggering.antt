@@ -37,7 +37,7 @@ use Rattle.dbg_model.specs.Reply.{resumed, resumed_by, asked, asked_by, on_threa
 use Rattle.dbg_model.specs.State.{State, first_harts, due, is_stopped, has_exited}
 use Rattle.dbg_model.specs.Views.{register, shown_byte}
 use Rattle.dbg_model.specs.Watches.{worth, changed, fired_one, fired_by, is_fired, is_one_of, unless_of}
-use Rattle.dbg_model.specs.Lawful.{one, one_by, ran, enter, may_do, may_move, may_run, set_out, stepped, stepped_by, leaving, leaving_at, with_leavers, with_step, stopped, with_stop, with_arrival, faulted_by, stopped_by, counted, counted_by, with_count, left_by, leaver_from, exited, exited_at, poked_by}
+use Rattle.dbg_model.specs.Lawful.{one, one_by, ran, enter, may_do, may_move, may_run, set_out, stepped, stepped_by, leaving, leaving_at, with_leavers, with_step, stopped_hart, with_stop, with_arrival, faulted_by, stopped_by, counted, counted_by, with_count, left_by, leaver_from, exited, exited_at, poked_by}
 use Rattle.dbg_model.specs.Journals.{Place, come, follows, ran_hart, ran_count, replay_from, replay, first_place, Leaves}
 use Rattle.dbg_model.proofs.Options.{bind_some, guard_some, bind_bind, map_some, same_some, both_true}
 use Rattle.dbg_model.proofs.Adding.{CameBy, at_last}
@@ -47,18 +47,18 @@ use Rattle.session_facts.specs.Triggered.{AreOthers, Changes, LastChanged, Tells
 
 abbrev fired_of : Option Hart → Option Fired
 fired_of None = None
-fired_of (Some x) = x.fired
+fired_of (Some x) = x.course.fired
 
 abbrev fired_at : List Hart → ℕ → Option Fired
 fired_at xs k = fired_of (slice_get xs k)
 
 -- one that has fired for the second hart has fired for the first
 abbrev Keeps : Hart → Hart → Type 0
-Keeps x y = (f : Fired) → y.fired ≡ Some f → x.fired ≡ Some f
+Keeps x y = (f : Fired) → y.course.fired ≡ Some f → x.course.fired ≡ Some f
 
 set_was : (xs : List Hart) (h : ℕ) (x y : Hart) (k : ℕ) (f : Fired) → slice_get xs h ≡ Some x → Keeps x y → fired_at (slice_set xs h y) k ≡ Some f → fired_at xs k ≡ Some f
 set_was [] h x y k f at keeps is = cc
-set_was (z ∷ zs) zero x y zero f at keeps is = ap (λ (w : Hart). w.fired) (same_some z x at) ∙ keeps f is
+set_was (z ∷ zs) zero x y zero f at keeps is = ap (λ (w : Hart). w.course.fired) (same_some z x at) ∙ keeps f is
 set_was (z ∷ zs) zero x y (suc k) f at keeps is = is
 set_was (z ∷ zs) (suc h) x y zero f at keeps is = is
 set_was (z ∷ zs) (suc h) x y (suc k) f at keeps is = set_was zs h x y k f at keeps is
@@ -70,7 +70,7 @@ set_apart (z ∷ zs) zero y (suc k) f apart is = is
 set_apart (z ∷ zs) (suc h) y zero f apart is = is
 set_apart (z ∷ zs) (suc h) y (suc k) f apart is = set_apart zs h y k f (λ e. apart (ap suc e)) is
 
-set_here : (xs : List Hart) (h : ℕ) (y : Hart) (f : Fired) → fired_at (slice_set xs h y) h ≡ Some f → y.fired ≡ Some f
+set_here : (xs : List Hart) (h : ℕ) (y : Hart) (f : Fired) → fired_at (slice_set xs h y) h ≡ Some f → y.course.fired ≡ Some f
 set_here [] h y f is = cc
 set_here (z ∷ zs) zero y f is = is
 set_here (z ∷ zs) (suc h) y f is = set_here zs h y f is
@@ -134,7 +134,7 @@ ran_apart o h s (suc n) t k f apart is at =
 record Fewer (s t : State) : Type 0 where
   pub was : (k : ℕ) (f : Fired) → fired_at t.harts k ≡ Some f → fired_at s.harts k ≡ Some f
 
-stopped_keeps : (x : Hart) → Keeps x (stopped x)
+stopped_keeps : (x : Hart) → Keeps x (stopped_hart x)
 stopped_keeps x f is = cc
 
 -- the state after a change of one hart
@@ -144,10 +144,10 @@ set_fewer s t u h x y at keeps set is =
     subst (λ (v : State). Fewer s v) (same_some u t is) made
 
 arrival_fewer : (o : Opening) (may : Bool) (s t : State) (h : ℕ) (x : Hart) → slice_get s.harts h ≡ Some x → cond may (Some (with_arrival o s h x)) None ≡ Some t → Fewer s t
-arrival_fewer o may s t h x at is = set_fewer s t (with_arrival o s h x) h x (stopped x) at (stopped_keeps x) refl (guard_some may (Some (with_arrival o s h x)) t is).1
+arrival_fewer o may s t h x at is = set_fewer s t (with_arrival o s h x) h x (stopped_hart x) at (stopped_keeps x) refl (guard_some may (Some (with_arrival o s h x)) t is).1
 
 fault_fewer : (a : Answer) (cause : Cause) (s t : State) (h : ℕ) (x : Hart) → slice_get s.harts h ≡ Some x → faulted_by a cause s h x ≡ Some t → Fewer s t
-fault_fewer (Traps met) cause s t h x at is = set_fewer s t (with_stop s h x) h x (stopped x) at (stopped_keeps x) refl (guard_some (cause_number met == cause_number cause) (Some (with_stop s h x)) t is).1
+fault_fewer (Traps met) cause s t h x at is = set_fewer s t (with_stop s h x) h x (stopped_hart x) at (stopped_keeps x) refl (guard_some (cause_number met == cause_number cause) (Some (with_stop s h x)) t is).1
 fault_fewer (Goes r m out leave) cause s t h x at is = cc
 
 stop_fewer : (o : Opening) (why : Why) (s t : State) (h : ℕ) (r : Option Hart) → slice_get s.harts h ≡ r → stopped_by o s h why r ≡ Some t → Fewer s t
@@ -156,7 +156,7 @@ stop_fewer o (Break number error) s t h (Some x) at is = arrival_fewer o (may_mo
 stop_fewer o (ByWatch f) s t h (Some x) at is = arrival_fewer o (may_move o s x && is_fired (fires (due o.image s h x)) f) s t h x at is
 stop_fewer o Stepped s t h (Some x) at is = arrival_fewer o (may_move o s x && ends_step (due o.image s h x)) s t h x at is
 stop_fewer o Finished s t h (Some x) at is = arrival_fewer o (may_move o s x && ends_function (due o.image s h x)) s t h x at is
-stop_fewer o Interrupted s t h (Some x) at is = set_fewer s t (with_stop s h x) h x (stopped x) at (stopped_keeps x) refl (guard_some (may_run o s h x && x.asked) (Some (with_stop s h x)) t is).1
+stop_fewer o Interrupted s t h (Some x) at is = set_fewer s t (with_stop s h x) h x (stopped_hart x) at (stopped_keeps x) refl (guard_some (may_run o s h x && x.asked) (Some (with_stop s h x)) t is).1
 stop_fewer o (Fault cause) s t h (Some x) at is =
     fault_fewer (plain o.image x.regs s.memory) cause s t h x at (guard_some (may_run o s h x) (faulted_by (plain o.image x.regs s.memory) cause s h x) t is).1
 
@@ -207,7 +207,7 @@ unless_keeps ns None f is = cc
 unless_keeps ns (Some g) f is = unless_by (is_one_of ns g.number) g f is
 
 forgetting_keeps : (ns : List ℕ) (x : Hart) → Keeps x (forgetting ns x)
-forgetting_keeps ns x f is = unless_keeps ns x.fired f is
+forgetting_keeps ns x f is = unless_keeps ns x.course.fired f is
 
 after_was : (xs : List Hart) (c : Change) (k : ℕ) (f : Fired) → fired_at (harts_after xs c) k ≡ Some f → fired_at xs k ≡ Some f
 after_was xs (resumes threads plan) k f is = threads_was (resumed plan) (λ x. resumed_keeps plan x x.mode) threads 1 xs k f is
@@ -392,7 +392,7 @@ enter_known o j s t (Poked p) l known is = quiet_known o j s t (Poked p) (λ k. 
 NoneFired : List Hart → Type 0
 NoneFired xs = (k : ℕ) (f : Fired) → fired_at xs k ≡ Some f → ⊥
 
-none_more : (xs : List Hart) (x : Hart) → NoneFired xs → x.fired ≡ None → NoneFired (xs ++ x ∷ [])
+none_more : (xs : List Hart) (x : Hart) → NoneFired xs → x.course.fired ≡ None → NoneFired (xs ++ x ∷ [])
 unfolding NoneFired
 none_more [] x none is zero f fired = cc
 none_more [] x none is (suc k) f fired = cc
@@ -446,11 +446,11 @@ picked_fired : (b : Bool) (j : Judgement) (plan : Plan) (f : Fired) → (cond b 
 picked_fired true j plan f is = is
 picked_fired false j plan f is = cc
 
-due_fired : (p : Program) (s : State) (h : ℕ) (x : Hart) (f : Fired) → (due p s h x).fired ≡ Some f → x.fired ≡ Some f
+due_fired : (p : Program) (s : State) (h : ℕ) (x : Hart) (f : Fired) → (due p s h x).fired ≡ Some f → x.course.fired ≡ Some f
 unfolding due judgement_of
 due_fired p s h x f is =
-    let j : Judgement = record { breaks = due_of h (register x.regs) (shown_byte p s.memory) s.breaks; fired = x.fired; verdict = verdict_behind p (sources_of p) x.plan (register x.regs) x.last } in
-    picked_fired x.fresh j x.plan f is
+    let j : Judgement = record { breaks = due_of h (register x.regs) (shown_byte p s.memory) s.breaks; fired = x.course.fired; verdict = verdict_behind p (sources_of p) x.course.plan (register x.regs) x.course.last } in
+    picked_fired x.course.fresh j x.course.plan f is
 
 stop_by_fired : (o : Opening) (s t : State) (h : ℕ) (f : Fired) (r : Option Hart) → stopped_by o s h (ByWatch f) r ≡ Some t → fired_of r ≡ Some f
 stop_by_fired o s t h f None is = cc

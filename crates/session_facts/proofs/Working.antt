@@ -20,7 +20,7 @@ use Rattle.dbg_model.specs.Judging.{ends_function, ends_step, fires, is_counted,
 use Rattle.dbg_model.specs.State.{State, hart_runs, any_runs, any_leaves, is_running, due}
 use Rattle.dbg_model.specs.Watches.{fired_by, is_fired}
 use Rattle.dbg_model.specs.Reply.{done_by}
-use Rattle.dbg_model.specs.Lawful.{one, one_by, enter, may_go, may_move, may_run, stepped_by, stepped, stopped, with_stop, faulted_by, stopped_by, counted, counted_by, set_out, with_arrival, with_count, with_leavers, leaving, leaving_at, with_step}
+use Rattle.dbg_model.specs.Lawful.{one, one_by, enter, may_go, may_move, may_run, stepped_by, stepped, stopped_hart, with_stop, faulted_by, stopped_by, counted, counted_by, set_out, with_arrival, with_count, with_leavers, leaving, leaving_at, with_step}
 use Rattle.dbg_model.specs.Leaving.{gone, gone_by}
 use Rattle.dbg_model.proofs.Options.{guard_some, same_some, both_true}
 use Rattle.engine_moves.specs.declared.mind.Mind.{Mind}
@@ -140,7 +140,7 @@ pub record Halted (s t : State) : Type 0 where
 fault_halts : (a : Answer) (cause : Cause) (s t : State) (h : ℕ) (x : Hart) → slice_get s.harts h ≡ Some x → hart_runs x ≡ true → faulted_by a cause s h x ≡ Some t → Halted s t
 fault_halts (Traps met) cause s t h x at runs is =
     let g = guard_some (cause_number met == cause_number cause) (Some (with_stop s h x)) t is in
-    let set = running_set s.harts h x (stopped x) at in
+    let set = running_set s.harts h x (stopped_hart x) at in
     let one : one_if (hart_runs x) ≡ 1 = ap one_if runs in
     subst (λ (v : State). Halted s v) (same_some (with_stop s h x) t g.1) (record { retired = refl; running = omega arith })
 fault_halts (Goes r m out leave) cause s t h x at runs is = cc
@@ -150,7 +150,7 @@ arrival_halts : (o : Opening) (why : Bool) (s t : State) (h : ℕ) (x : Hart) �
 arrival_halts o why s t h x at is =
     let g = guard_some (may_move o s x && why) (Some (with_arrival o s h x)) t is in
     let runs = (both_true (may_go o s) (is_running x.mode) (both_true (may_move o s x) why g.0).0).1 in
-    let set = running_set s.harts h x (stopped x) at in
+    let set = running_set s.harts h x (stopped_hart x) at in
     let one : one_if (hart_runs x) ≡ 1 = ap one_if runs in
     subst (λ (v : State). Halted s v) (same_some (with_arrival o s h x) t g.1) (record { retired = refl; running = omega arith })
 
@@ -163,7 +163,7 @@ stop_halts o Finished s t h (Some x) at is = arrival_halts o (ends_function (due
 stop_halts o Interrupted s t h (Some x) at is =
     let g = guard_some (may_run o s h x && x.asked) (Some (with_stop s h x)) t is in
     let runs = (both_true (may_go o s) (is_running x.mode) (both_true (may_move o s x) (not (is_due (due o.image s h x))) (both_true (may_run o s h x) x.asked g.0).0).0).1 in
-    let set = running_set s.harts h x (stopped x) at in
+    let set = running_set s.harts h x (stopped_hart x) at in
     let one : one_if (hart_runs x) ≡ 1 = ap one_if runs in
     subst (λ (v : State). Halted s v) (same_some (with_stop s h x) t g.1) (record { retired = refl; running = omega arith })
 stop_halts o (Fault cause) s t h (Some x) at is =
@@ -222,7 +222,7 @@ moves_one (phase.Ran home) = omega arith
 
 pub moves_most : (xs : List Mind) → moves xs ≤ 3 * length xs
 moves_most [] = omega arith
-moves_most (x ∷ xs) = let one = moves_one x.phase in let fresh = running_one x.fresh in let ih = moves_most xs in omega arith
+moves_most (x ∷ xs) = let one = moves_one x.phase in let fresh = running_one x.course.fresh in let ih = moves_most xs in omega arith
 
 pub moves_set : (xs : List Mind) (h : ℕ) (x y : Mind) → slice_get xs h ≡ Some x → moves (slice_set xs h y) + moves_left x ≡ moves xs + moves_left y
 moves_set [] h x y at = cc

@@ -15,6 +15,7 @@ use Rattle.dbg_model.specs.Journals.{Leaves, did, noted}
 use Rattle.dbg_model.specs.Erase.{erase, steps}
 use Rattle.dbg_model.specs.Limits as limits
 use Rattle.engine_moves.specs.declared.ending.Closed.{Closed}
+use Rattle.engine_moves.specs.Seen.{waits_of}
 use Rattle.engine_moves.specs.Facts.{Planted, Retired, CopiedOver}
 use Rattle.session_facts.specs.Words.{served_words, IsWhole}
 use Rattle.session_facts.specs.declared.file.Source.{Source}
@@ -102,8 +103,8 @@ pub record Headline (status : Status) (t : Told) (c : Closed) : Type 0 where
   pub registers : plain_registers plain.harts ≡ core_registers c.machine.cores
   pub memory : plain.memory ≡ c.machine.memory
   pub output : plain.out ≡ state.out
-  -- its text is the program's, with EBREAK planted exactly where an enabled breakpoint of that state stands
-  pub planted : Planted c.opening.image c.machine.text (record { entries = state.breaks; waits = []; hold = None })
+  -- its text is the program's, with EBREAK planted exactly where an enabled breakpoint of that state stands, or a hart that runs waits for a return
+  pub planted : Planted c.opening.image c.machine.text (record { entries = state.breaks; waits = waits_of c.opening.image state.harts; hold = None })
   -- the machine executed each hart's instructions
   pub retired : Retired c.machine.cores c.journal
   -- where there are slots, each hart executed by copies where a breakpoint stood, but for one instruction for each time that displaced stepping was switched on

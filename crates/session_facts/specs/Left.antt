@@ -6,6 +6,7 @@ use Rattle.hart_machine.specs.declared.hart.Core.{Core}
 use Rattle.dbg_model.specs.declared.hart.Hart.{Hart}
 use Rattle.dbg_model.specs.Journals.{Leaves}
 use Rattle.engine_moves.specs.declared.ending.Closed.{Closed}
+use Rattle.engine_moves.specs.Seen.{waits_of}
 use Rattle.engine_moves.specs.Facts.{Planted, Retired, CopiedOver}
 use Rattle.session_facts.specs.Stage.{Stage}
 
@@ -26,8 +27,8 @@ pub record IsLeft (r : Stage) (c : Closed) : Type 0 where
   pub leaves : Leaves c.opening c.journal r.state
   pub registers : core_registers c.machine.cores ≡ hart_registers r.state.harts
   pub memory : c.machine.memory ≡ r.state.memory
-  -- a patch is planted exactly where an enabled breakpoint stands
-  pub planted : Planted c.opening.image c.machine.text (record { entries = r.state.breaks; waits = []; hold = None })
+  -- a patch is planted exactly where an enabled breakpoint stands, or a hart waits for a return
+  pub planted : Planted c.opening.image c.machine.text (record { entries = r.state.breaks; waits = waits_of c.opening.image r.state.harts; hold = None })
   pub retired : Retired c.machine.cores c.journal
   -- breakpoints were stepped over by copies
   pub copied : CopiedOver c.opening.settings.slots c.machine.cores r.state

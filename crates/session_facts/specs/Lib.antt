@@ -2,7 +2,7 @@ pub mod Stage
 pub mod Words
 pub mod Source
 pub mod Taking
-pub mod Turned
+pub mod Reported
 pub mod Puts
 pub mod InTime
 pub mod Steps

@@ -40,7 +40,7 @@ moves_of (phase.Lifted home) = 0
 moves_of (phase.Ran home) = 2
 
 abbrev pub moves_left : Mind → ℕ
-moves_left x = moves_of x.phase + cond x.fresh 1 0
+moves_left x = moves_of x.phase + cond x.course.fresh 1 0
 
 abbrev pub moves : List Mind → ℕ
 moves [] = 0

@@ -23,7 +23,7 @@ pub use known::Known;
 pub use line::Done;
 pub use loading::{Loaded, Unloaded, load};
 pub use outside::{Outside, Script};
-pub use puts::{put_all, put_event, put_reply};
+pub use puts::{put_all, put_bad_file, put_entry, put_usage};
 pub use status::Status;
 pub use summary::summary_text;
 pub use turn::Turn;

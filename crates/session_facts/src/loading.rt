@@ -10,13 +10,12 @@ ghost use Rattle.session_facts.specs.Words.{served_words};
 
 use crate::file::{FileError, Served, Source, read_all, served_words};
 use crate::outside::Outside;
-use crate::puts::put_event;
+use crate::puts::{put_bad_file, put_usage};
 use crate::status::Status;
 use dbg_traits::{ArgText, Settings, World};
 use elf_checks::{ElfReadError, read_image};
 use elf_gen::{generate, script};
 use elf32_read::Image;
-use mi_reports::Event;
 use std::alloc::Global;
 
 /// What a session may begin with.
@@ -67,7 +66,7 @@ fn load_file<W: World>(
     let image = match read_image(alloc, bytes) {
         Ok(image) => image,
         Err(ElfReadError::Fault(fault)) => {
-            let Ok(_) = put_event(&mut world, Event::BadFile(fault), &mut Vec::new(alloc)) else {
+            let Ok(_) = put_bad_file(alloc, &mut world, fault) else {
                 return Err(early(Status::NoMemory, world));
             };
             return Err(early(Status::File(fault), world));
@@ -123,7 +122,7 @@ pub fn load<W: World>(alloc: Global, world: W) -> Result<Loaded<W>, Unloaded<W>>
     let served = match served_words(alloc, world.words()) {
         Ok(Some(served)) => served,
         Ok(None) => {
-            let Ok(_) = put_event(&mut world, Event::Usage, &mut Vec::new(alloc)) else {
+            let Ok(_) = put_usage(alloc, &mut world) else {
                 return Err(early(Status::NoMemory, world));
             };
             return Err(early(Status::Words, world));

@@ -1,12 +1,14 @@
-// Putting a text, piece by piece, and the lines of what is reported.
-ghost use Rattle.std.specs.Prelude.{◌≡◌, ◌<◌, ◌≤◌, length, MatchResult};
-ghost use Rattle.mi_reports.specs.Events.{event_lines};
-ghost use Rattle.mi_reports.specs.Replies.{reply_lines};
+// Putting a text, piece by piece, and the lines of an entry and of a refusal.
+ghost use Rattle.std.specs.Prelude.{◌≡◌, ◌<◌, ◌≤◌, length, MatchResult, true};
+ghost use Rattle.mi_reports.specs.Lines.{lines_of, may_show};
+ghost use Rattle.mi_reports.specs.Refusals.{file_fields, refusal_lines, usage_fields};
 ghost use Rattle.session_facts.specs.Puts.{PutsAll, PutsLines};
 
-use dbg_model::Reply;
+use dbg_model::{Entry, Shown};
 use dbg_traits::{NoMemory, Put, World};
-use mi_reports::{Event, report};
+use elf_checks::ElfFault;
+use mi_reports::{report, report_bad_file, report_usage};
+use std::alloc::Global;
 
 // Where the line that begins at a place ends: behind its line feed, or with the text.
 fn line_end(text: &[u8], at: usize) -> usize
@@ -34,27 +36,41 @@ pub fn put_all<W: World>(world: &mut W, text: &[u8]) -> bool
     true
 }
 
-/// Puts the lines of an event, which go through the memory of `lines`. False where a put failed. Out of memory, the one error,
-/// nothing is put.
-pub fn put_event<W: World>(
+/// Puts the lines of an entry, which shows this; they go through the memory of `lines`. False where a put failed. Out of memory,
+/// the one error, nothing is put.
+pub fn put_entry<W: World>(
     world: &mut W,
-    event: Event<'_>,
+    entry: &Entry,
+    shown: &Shown,
     lines: &mut Vec<u8>,
 ) -> Result<bool, NoMemory>
-    ensures { MatchResult result (λ put. PutsLines put (event_lines event.entry) (W.told world.old) (W.told world.new)) (λ _. world.new ≡ world.old) }
+    requires { may_show entry.now shown.now ≡ true }
+    ensures { MatchResult result (λ put. PutsLines put (lines_of entry.now shown.now) (W.told world.old) (W.told world.new)) (λ _. world.new ≡ world.old) }
 {
     lines.clear();
-    report(event, lines)?;
+    report(entry, shown, lines)?;
     Ok(put_all(world, lines.as_slice()))
 }
 
-/// Puts the lines of a reply, which is let go of here. False where a put failed. Out of memory, the one error, nothing is put.
-pub fn put_reply<W: World>(
-    world: &mut W,
-    reply: Reply,
-    lines: &mut Vec<u8>,
-) -> Result<bool, NoMemory>
-    ensures { MatchResult result (λ put. PutsLines put (reply_lines reply) (W.told world.old) (W.told world.new)) (λ _. world.new ≡ world.old) }
+/// Puts the line of words of the command line that are refused. False where a put failed. Out of memory, the one error, nothing
+/// is put.
+pub fn put_usage<W: World>(alloc: Global, world: &mut W) -> Result<bool, NoMemory>
+    ensures { MatchResult result (λ put. PutsLines put (refusal_lines usage_fields) (W.told world.old) (W.told world.new)) (λ _. world.new ≡ world.old) }
 {
-    put_event(world, Event::Answered(&reply), lines)
+    let mut lines = Vec::new(alloc);
+    report_usage(&mut lines)?;
+    Ok(put_all(world, lines.as_slice()))
+}
+
+/// Puts the line of a file that is refused. False where a put failed. Out of memory, the one error, nothing is put.
+pub fn put_bad_file<W: World>(
+    alloc: Global,
+    world: &mut W,
+    fault: ElfFault,
+) -> Result<bool, NoMemory>
+    ensures { MatchResult result (λ put. PutsLines put (refusal_lines (file_fields fault)) (W.told world.old) (W.told world.new)) (λ _. world.new ≡ world.old) }
+{
+    let mut lines = Vec::new(alloc);
+    report_bad_file(fault, &mut lines)?;
+    Ok(put_all(world, lines.as_slice()))
 }

@@ -1,63 +1,46 @@
 // What the journal notes of a hart that stops or is counted.
 ghost use Rattle.std.specs.Prelude.{◌≡◌, ◌≤◌, true};
 ghost use Rattle.dbg_model.specs.Judging.{is_counted};
+ghost use Rattle.dbg_model.specs.Shown.{stops_once};
 ghost use Rattle.dbg_model.specs.Watches.{risen};
 
 use super::Engine;
 use crate::engine::waiting_of;
+use break_table::BreakTable;
 use dbg_model::{Entry, Judgement, Why, plan_after};
-use engine_moves::hits::settle;
+use engine_moves::hits::{is_temporary, settle};
 use engine_moves::journal::note;
 use engine_moves::minds::{STOPPED, counted_mind};
 use engine_moves::patching::{repatch, wants};
 use engine_moves::waiting::{Waiting, changes, rewait};
 use engine_moves::{Mind, Phase};
-use rv_exec::Cause;
+
+// Whether it is a temporary breakpoint that stops a hart.
+fn stops_once(table: &BreakTable, why: Why) -> bool
+    ensures { result ≡ stops_once table.now.entries why }
+{
+    match why {
+        Why::Break { number, .. } => is_temporary(table.entries(), number),
+        _ => false,
+    }
+}
 
 impl Engine {
     ghost use Rattle.engine_moves.specs.Facts.{Facts};
-    ghost use Rattle.engine_moves.specs.Calls.{Of, Before, Halts, Interrupts, Counts, DueIs, StopsBy, Undue, TrapsAt};
+    ghost use Rattle.engine_moves.specs.Calls.{Of, Before, Halts, Counts, DueIs, MayStop, StopsBy, StopsFor, Undue};
 
-    // A hart that steps over nothing stops by a fault.
-    pub(crate) fn note_fault(&mut self, h: u32, mind: Mind, cause: Cause)
+    // A hart that steps over nothing, and for which nothing is due, stops.
+    pub(crate) fn note_stop(&mut self, h: u32, mind: Mind, why: Why)
         requires before { Before self.old h mind }
         requires idle { mind.phase ≡ Phase.Idle }
         requires due { Undue self.old h }
-        requires traps { TrapsAt self.old h cause }
+        requires by { MayStop why self.old h mind }
         requires spare { 32 ≤ self.old.spare }
-        ensures halts { Halts self.old self.new h (Why.Fault cause) }
+        ensures stops { StopsFor why self.old self.new h }
         ensures facts { Facts self.new }
     {
-        note(
-            &mut self.entries,
-            Entry::Stopped {
-                hart: h,
-                why: Why::Fault(cause),
-            },
-        );
-        self.minds[h as usize] = STOPPED;
-        let waiting = waiting_of!(self);
-        rewait(&mut self.machine, &mut self.table, &waiting, true);
-        self.noted += 1;
-    }
-
-    // A hart that steps over nothing stops by an interrupt.
-    pub(crate) fn note_interrupt(&mut self, h: u32, mind: Mind)
-        requires before { Before self.old h mind }
-        requires idle { mind.phase ≡ Phase.Idle }
-        requires asked { mind.asked ≡ true }
-        requires due { Undue self.old h }
-        requires spare { 32 ≤ self.old.spare }
-        ensures interrupts { Interrupts self.old self.new h }
-        ensures facts { Facts self.new }
-    {
-        note(
-            &mut self.entries,
-            Entry::Stopped {
-                hart: h,
-                why: Why::Interrupted,
-            },
-        );
+        note(&mut self.entries, Entry::Stopped { hart: h, why });
+        self.temporary = false;
         self.minds[h as usize] = STOPPED;
         let waiting = waiting_of!(self);
         rewait(&mut self.machine, &mut self.table, &waiting, true);
@@ -72,12 +55,13 @@ impl Engine {
         requires stops { StopsBy self.old h why }
         requires spare { 32 ≤ self.old.spare }
         ensures halts { Halts self.old self.new h why }
-        ensures watches { self.new.watches ≡ risen mind.fired self.old.watches }
+        ensures watches { self.new.watches ≡ risen mind.course.fired self.old.watches }
         ensures facts { Facts self.new }
     {
         note(&mut self.entries, Entry::Stopped { hart: h, why });
+        self.temporary = stops_once(&self.table, why);
         settle(&mut self.table, &self.opening.image, &self.machine, h, pc);
-        self.watches.rise(mind.fired);
+        self.watches.rise(mind.course.fired);
         let wants = wants(&self.table, self.hold, pc);
         repatch(&mut self.machine, pc, wants);
         self.minds[h as usize] = STOPPED;
@@ -92,7 +76,7 @@ impl Engine {
         requires pc { Of self.old h (λ y. y.regs.pc ≡ pc) }
         requires due { DueIs self.old h due }
         requires counts { is_counted due ≡ true }
-        requires fresh { mind.fresh ≡ true }
+        requires fresh { mind.course.fresh ≡ true }
         requires spare { 32 ≤ self.old.spare }
         ensures counts { Counts self.old self.new h }
         ensures facts { Facts self.new }
@@ -104,7 +88,7 @@ impl Engine {
         let plan = plan_after(due.verdict);
         self.minds[h as usize] = counted_mind(mind, plan);
         let waiting = waiting_of!(self);
-        let moved = changes(mind.plan, plan);
+        let moved = changes(mind.course.plan, plan);
         rewait(&mut self.machine, &mut self.table, &waiting, moved);
         self.noted += 1;
     }

@@ -6,7 +6,7 @@ ghost use Rattle.engine_moves.specs.Several.{AllTurned, Rests, goes_alone, is_al
 use super::Engine;
 use super::stepping::by_copies;
 use elf32_read::Image;
-use engine_moves::going::{Course, go};
+use engine_moves::going::{Surroundings, go};
 use engine_moves::journal::note_runs;
 use engine_moves::minds::is_running;
 use engine_moves::moving::ran_mind;
@@ -32,7 +32,7 @@ fn is_unplanned(plan: Plan) -> bool
 fn goes_alone(image: &Image, mind: Mind) -> bool
     ensures { result ≡ goes_alone image.now mind }
 {
-    is_unplanned(mind.plan) || awaited(image, mind).is_some()
+    is_unplanned(mind.course.plan) || awaited(image, mind).is_some()
 }
 
 // Whether a hart runs, steps over nothing, isn't interrupted and has no plan but to wait for a return, for which no watch
@@ -44,7 +44,7 @@ fn is_alone(image: &Image, mind: Mind, hold: Option<Hold>) -> bool
         && is_idle(mind.phase)
         && !mind.asked
         && goes_alone(image, mind)
-        && mind.fired.is_none()
+        && mind.course.fired.is_none()
         && hold.is_none()
 }
 
@@ -71,21 +71,21 @@ impl Engine {
             return 0;
         }
         let most = (self.opening.settings.budget - self.retired).min(u64::from(limit));
-        let course = Course {
+        let around = Surroundings {
             hart: h,
             table: &self.table,
             watches: &self.watches,
             image: &self.opening.image,
-            plan: mind.plan,
+            plan: mind.course.plan,
             copies: by_copies(self.displaced, self.machine.slots()),
         };
-        let progress = go(&mut self.machine, &course, limit, most as u32);
+        let progress = go(&mut self.machine, &around, limit, most as u32);
         if progress.instructions == 0 {
             return 0;
         }
         let count = u64::from(progress.instructions);
         note_runs(&mut self.entries, h, count);
-        self.minds[h as usize] = ran_mind(mind, mind.plan, None, None);
+        self.minds[h as usize] = ran_mind(mind, mind.course.plan, None, None);
         self.retired += count;
         progress.turns
     }

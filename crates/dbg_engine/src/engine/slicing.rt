@@ -37,7 +37,10 @@ fn takes_slices(plan: Plan) -> bool
 fn goes_apart(mind: &Mind) -> bool
     ensures { result ≡ goes_apart mind.now }
 {
-    is_running(mind) && is_idle(mind.phase) && takes_slices(mind.plan) && mind.fired.is_none()
+    is_running(mind)
+        && is_idle(mind.phase)
+        && takes_slices(mind.course.plan)
+        && mind.course.fired.is_none()
 }
 
 // Whether a hart of the machine has these registers.
@@ -114,7 +117,7 @@ impl Engine {
         let count = u64::from(slice.count);
         self.machine.take_slice(slice);
         note_runs(&mut self.entries, h, count);
-        self.minds[h as usize] = ran_mind(mind, mind.plan, None, None);
+        self.minds[h as usize] = ran_mind(mind, mind.course.plan, None, None);
         self.retired += count;
         Commit::Took
     }

@@ -1,13 +1,13 @@
 // The beginning and the end of a step over a breakpoint.
-ghost use Rattle.std.specs.Prelude.{◌≡◌, ◌<◌, ℕ, None, Some, IsTrue, slice_get, true, false};
+ghost use Rattle.std.specs.Prelude.{◌≡◌, ◌<◌, ℕ, Option, None, Some, IsTrue, slice_get, true, false};
 ghost use Rattle.scratch_slots.specs.Table.{use_at, AllOut};
 ghost use Rattle.dbg_model.specs.State.{is_off};
 ghost use Rattle.engine_moves.specs.Minds.{slot_of};
 ghost use Rattle.engine_moves.specs.Facts.{other_holder};
-ghost use Rattle.engine_moves.specs.Steps.{IsTurned};
+ghost use Rattle.dbg_model.specs.declared.entry.Why.{Why};
 
 use super::Engine;
-use crate::Turned;
+use crate::{Move, Standing, Turned};
 use engine_moves::homing::go_home;
 use engine_moves::patching::{release, repatch};
 use engine_moves::{Activity, Hold, Mind, Phase};
@@ -79,19 +79,18 @@ impl Engine {
     pub(crate) fn step_over(&mut self, h: u32, mind: Mind, pc: u32) -> Turned
         requires before { AtPlanted self.old h mind pc }
         requires runs { mind.activity ≡ Activity.Running }
-        ensures row { row_of result ≡ Begins }
+        ensures row { (why : Option Why) → row_of result why ≡ Begins }
         ensures turns { Turns result self.old self.new h }
-        ensures code { IsTurned result }
         ensures facts { Facts self.new }
     {
         if !by_copies(self.displaced, self.machine.slots()) {
             self.lift(h, mind, pc);
-            return Turned::Lifted;
+            return Turned::Moved(Move::Lifted);
         }
         if self.copy(h, mind, pc) {
-            Turned::Copied
+            Turned::Moved(Move::Copied)
         } else {
-            Turned::NoSlot
+            Turned::Stood(Standing::NoSlot)
         }
     }
 }

@@ -27,14 +27,7 @@ impl<W: World> Session<W> {
         ensures stands { OnFalse result ((moment W.told self.new ≡ moment W.told self.old) × (moves_at self.old.run hart ≡ false)) }
         ensures less { IsTrue result → session_work self.new.status self.new.run self.new.input < session_work self.old.status self.old.run self.old.input }
     {
-        let turn = turn_once(
-            self.alloc,
-            &mut self.world,
-            &mut self.engine,
-            hart,
-            &mut self.lines,
-        );
-        match turn {
+        match turn_once(&mut self.world, &mut self.engine, hart, &mut self.lines) {
             Turn::Stood => false,
             Turn::Moved => {
                 self.status = over(&self.engine, self.count);

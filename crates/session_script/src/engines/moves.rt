@@ -88,7 +88,7 @@ pub fn turn(alloc: Global, engine: &mut Engine, hart: u32) -> Result<String, All
     if !is_ready(engine, hart) {
         return format!(in alloc; "no such hart");
     }
-    told_turn(alloc, engine.turn(hart))
+    told_turn(alloc, engine, hart)
 }
 
 /// Turns of a hart in one call.

@@ -7,9 +7,8 @@ use crate::engines::moves::{at, done, go, run, slice, told_frame, turn};
 use crate::engines::programs::Load;
 use crate::engines::step::Step;
 use crate::engines::turns::told_end;
-use dbg_answers::shown_frame;
 use dbg_engine::Engine;
-use dbg_model::Opening;
+use dbg_model::{Opening, shown_frame};
 use std::alloc::{AllocError, Global};
 
 /// An engine, and its opening once more.

@@ -1,53 +1,30 @@
 // What a turn did, and why a session is over, by the names of the variants.
+ghost use Rattle.std.specs.Prelude.{◌<◌, ◌≤◌, length};
+
 use break_table::CondError;
-use dbg_engine::{End, Turned};
-use dbg_model::Fired;
+use dbg_engine::{End, Engine, Move, Standing, Turned};
+use dbg_model::{Entry, Fired, Shown, Why};
 use rv_exec::Cause;
 use std::alloc::{AllocError, Global};
 
-// The name of what a turn did.
-fn name(turned: Turned) -> &'static str {
-    match turned {
-        Turned::Over => "Over",
-        Turned::NotRunning => "NotRunning",
-        Turned::Held { .. } => "Held",
-        Turned::Fixed => "Fixed",
-        Turned::Planted => "Planted",
-        Turned::Copied => "Copied",
-        Turned::NoSlot => "NoSlot",
-        Turned::Lifted => "Lifted",
-        Turned::Ran => "Ran",
-        Turned::Wrote { .. } => "Wrote",
-        Turned::Left { .. } => "Left",
-        Turned::AllLeft { .. } => "AllLeft",
-        Turned::Stopped { .. } => "Stopped",
-        Turned::Interrupted => "Interrupted",
-        Turned::Counted => "Counted",
-        Turned::Arrived { .. } => "Arrived",
-        Turned::Triggered(_) => "Triggered",
-        Turned::Stepped => "Stepped",
-        Turned::Finished => "Finished",
-    }
-}
-
 fn held(alloc: Global, by: u32) -> Result<String, AllocError> {
-    format!(in alloc; "{{ by: {by} }}")
+    format!(in alloc; "Held {{ by: {by} }}")
 }
 
 fn wrote(alloc: Global, addr: u32, len: u32) -> Result<String, AllocError> {
-    format!(in alloc; "{{ addr: {addr}, len: {len} }}")
+    format!(in alloc; "Wrote {{ addr: {addr}, len: {len} }}")
 }
 
 fn left(alloc: Global, code: u32) -> Result<String, AllocError> {
-    format!(in alloc; "{{ code: {code} }}")
+    format!(in alloc; "Left {{ code: {code} }}")
 }
 
 fn all_left(alloc: Global, code: u32, count: usize) -> Result<String, AllocError> {
-    format!(in alloc; "{{ code: {code}, count: {count} }}")
+    format!(in alloc; "AllLeft {{ code: {code}, count: {count} }}")
 }
 
-fn stopped(alloc: Global, cause: Cause) -> Result<String, AllocError> {
-    format!(in alloc; "{{ cause: {cause:?} }}")
+fn faulted(alloc: Global, cause: Cause) -> Result<String, AllocError> {
+    format!(in alloc; "Stopped {{ cause: {cause:?} }}")
 }
 
 fn arrived(
@@ -56,48 +33,95 @@ fn arrived(
     temporary: bool,
     error: Option<CondError>,
 ) -> Result<String, AllocError> {
-    format!(in alloc; "{{ number: {number}, temporary: {temporary}, error: {error:?} }}")
+    format!(in alloc; "Arrived {{ number: {number}, temporary: {temporary}, error: {error:?} }}")
 }
 
-fn triggered(alloc: Global, name: &str, fired: Fired) -> Result<String, AllocError> {
-    format!(in alloc; "{name}({fired:?})")
+fn triggered(alloc: Global, fired: Fired) -> Result<String, AllocError> {
+    format!(in alloc; "Triggered({fired:?})")
 }
 
-fn with_fields(alloc: Global, name: &str, fields: &str) -> Result<String, AllocError> {
-    format!(in alloc; "{name} {fields}")
-}
-
-// The fields of what a turn did, of a variant that names them. None for any other.
-fn fields(alloc: Global, turned: Turned) -> Result<Option<String>, AllocError> {
-    let fields = match turned {
-        Turned::Held { by } => held(alloc, by),
-        Turned::Wrote { addr, len } => wrote(alloc, addr, len),
-        Turned::Left { code } => left(alloc, code),
-        Turned::AllLeft { code, count } => all_left(alloc, code, count),
-        Turned::Stopped { cause } => stopped(alloc, cause),
-        Turned::Arrived {
-            number,
-            temporary,
-            error,
-        } => arrived(alloc, number, temporary, error),
-        _ => return Ok(None),
-    };
-    Ok(Some(fields?))
-}
-
-fn told_variant(alloc: Global, name: &str, turned: Turned) -> Result<String, AllocError> {
-    match fields(alloc, turned)? {
-        Some(fields) => with_fields(alloc, name, &fields),
-        None => String::from_str(alloc, name),
+// The name of a move that tells nothing else.
+fn name(moved: Move) -> &'static str {
+    match moved {
+        Move::Ran => "Ran",
+        Move::Wrote { .. } => "Wrote",
+        Move::Left => "Left",
+        Move::AllLeft => "AllLeft",
+        Move::Counted => "Counted",
+        Move::Stopped => "Stopped",
+        Move::Copied => "Copied",
+        Move::Lifted => "Lifted",
+        Move::Fixed => "Fixed",
+        Move::Planted => "Planted",
     }
 }
 
-/// What a turn did: its name, and behind it what it tells of it.
-pub fn told_turn(alloc: Global, turned: Turned) -> Result<String, AllocError> {
-    let name = name(turned);
-    match turned {
-        Turned::Triggered(fired) => triggered(alloc, name, fired),
-        _ => told_variant(alloc, name, turned),
+fn told_standing(alloc: Global, standing: Standing) -> Result<String, AllocError> {
+    match standing {
+        Standing::Over => String::from_str(alloc, "Over"),
+        Standing::NotRunning => String::from_str(alloc, "NotRunning"),
+        Standing::Held(by) => held(alloc, by),
+        Standing::NoSlot => String::from_str(alloc, "NoSlot"),
+    }
+}
+
+// Why a hart stopped.
+fn told_why(alloc: Global, why: Why, temporary: bool) -> Result<String, AllocError> {
+    match why {
+        Why::Break { number, error } => arrived(alloc, number, temporary, error),
+        Why::Watch(fired) => triggered(alloc, fired),
+        Why::Stepped => String::from_str(alloc, "Stepped"),
+        Why::Finished => String::from_str(alloc, "Finished"),
+        Why::Interrupted => String::from_str(alloc, "Interrupted"),
+        Why::Fault(cause) => faulted(alloc, cause),
+    }
+}
+
+// A move, by the last entry of the journal and by how many were noted.
+fn told_move(
+    alloc: Global,
+    moved: Move,
+    temporary: bool,
+    last: Option<&Entry>,
+    count: usize,
+) -> Result<String, AllocError> {
+    match (moved, last) {
+        (Move::Wrote { addr, len }, _) => wrote(alloc, addr, len),
+        (Move::Stopped, Some(Entry::Stopped { why, .. })) => told_why(alloc, *why, temporary),
+        (Move::Left, Some(Entry::Left { code, .. })) => left(alloc, *code),
+        (Move::AllLeft, Some(Entry::Left { code, .. })) => all_left(alloc, *code, count),
+        _ => String::from_str(alloc, name(moved)),
+    }
+}
+
+// Whether the breakpoint of a stop was temporary.
+fn stopped_once(engine: &Engine, entry: &Entry) -> bool {
+    let Entry::Stopped { hart, .. } = entry else {
+        return false;
+    };
+    if *hart as usize >= engine.harts() {
+        return false;
+    }
+    match engine.shown(Move::Stopped, entry, true) {
+        Ok(Shown::Stop { temporary, .. }) => temporary,
+        _ => false,
+    }
+}
+
+/// What a turn of a hart did: its name, and behind it what it tells of it.
+pub fn told_turn(alloc: Global, engine: &mut Engine, hart: u32) -> Result<String, AllocError>
+    requires hart { hart < length engine.old.minds }
+    requires spare { 32 ≤ engine.old.spare }
+{
+    let before = engine.noted();
+    match engine.turn(hart) {
+        Turned::Stood(standing) => told_standing(alloc, standing),
+        Turned::Moved(moved) => {
+            let count = engine.noted().saturating_sub(before) as usize;
+            let last = engine.entries().last();
+            let temporary = last.is_some_and(|entry| stopped_once(engine, entry));
+            told_move(alloc, moved, temporary, last, count)
+        }
     }
 }
 

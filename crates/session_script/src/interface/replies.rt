@@ -1,8 +1,8 @@
 // Replies as they are put.
 use crate::interface::contents::content;
-use crate::interface::session::told_event;
-use dbg_model::{Content, Reply};
-use mi_reports::Event;
+use crate::interface::session::told_entry;
+use dbg_model::{Content, Entry, Reply, Shown};
+use mi_commands::ByteList;
 use mi_values::{Token, is_token};
 use script_rows::{RowFault, read_bytes};
 use std::alloc::Global;
@@ -22,8 +22,11 @@ pub fn token_of(alloc: Global, digits: &str) -> Result<Token, RowFault> {
 
 /// The lines of what is answered to a line with this token.
 pub fn told_reply(alloc: Global, token: Token, content: Content) -> Result<String, RowFault> {
+    let done = Entry::Did {
+        line: ByteList::of(Vec::new(alloc)),
+    };
     let reply = Reply { token, content };
-    told_event(alloc, Event::Answered(&reply))
+    told_entry(alloc, &done, &Shown::Answer { reply })
 }
 
 /// What came of a row `reply TOKEN CONTENT..`.

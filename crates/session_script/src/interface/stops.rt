@@ -1,10 +1,9 @@
 // Stops of hart 1, which is thread 2.
 use crate::interface::frames::frame;
 use crate::interface::listed::watch;
-use crate::interface::session::told_event;
+use crate::interface::session::told_entry;
 use break_table::CondError;
-use dbg_model::{Fired, ShownFrame, Watch};
-use mi_reports::{Event, Hit, Stop};
+use dbg_model::{Entry, Fired, Shown, ShownFrame, ShownWatch, Why};
 use rv_exec::Cause;
 use script_rows::{RowFault, number, three};
 use std::alloc::{AllocError, Global};
@@ -23,11 +22,10 @@ fn cause(name: &str) -> Option<Cause> {
     }
 }
 
-// Breakpoint 17, whether it is temporary, and why its condition has no value.
-fn hit(disposition: &str, error: &str) -> Option<Hit> {
-    Some(Hit {
+// The stop at breakpoint 17, and why its condition has no value.
+fn hit(error: &str) -> Option<Why> {
+    Some(Why::Break {
         number: 17,
-        temporary: disposition == "temporary",
         error: match error {
             "" => None,
             "division" => Some(CondError::DivZero),
@@ -36,59 +34,71 @@ fn hit(disposition: &str, error: &str) -> Option<Hit> {
     })
 }
 
-// Two watches: one with a sign, and one without.
-fn watches(alloc: Global) -> Result<Vec<Watch>, AllocError> {
-    let mut watches = Vec::new(alloc);
-    watches.push(watch(alloc, 3, true)?)?;
-    watches.push(watch(alloc, 17, false)?)?;
-    Ok(watches)
+// The watch of that number, of two: 3 with a sign, and 17 without.
+fn shown_watch(alloc: Global, number: u32) -> Result<Option<ShownWatch>, AllocError> {
+    let signed = match number {
+        3 => true,
+        17 => false,
+        _ => return Ok(None),
+    };
+    let watch = watch(alloc, number, signed)?;
+    Ok(Some(ShownWatch {
+        text: watch.text,
+        signed,
+    }))
 }
 
 // The lines of a stop in a frame.
-fn told_stop(alloc: Global, frame: &ShownFrame, stop: Stop<'_>) -> Result<String, RowFault> {
-    let stopped = Event::Stopped {
-        stop,
-        hart: 1,
+fn told_stop(
+    alloc: Global,
+    frame: ShownFrame,
+    why: Why,
+    temporary: bool,
+    watch: Option<ShownWatch>,
+) -> Result<String, RowFault> {
+    let stopped = Entry::Stopped { hart: 1, why };
+    let shown = Shown::Stop {
         frame,
+        temporary,
+        watch,
     };
-    told_event(alloc, stopped)
+    told_entry(alloc, &stopped, &shown)
 }
 
-fn told_trigger(alloc: Global, frame: &ShownFrame, numbers: &str) -> Result<String, RowFault> {
+fn told_trigger(alloc: Global, frame: ShownFrame, numbers: &str) -> Result<String, RowFault> {
     let (number, old, new) = three(numbers).ok_or(RowFault::Unknown)?;
     let fired = Fired { number, old, new };
-    let watches = watches(alloc)?;
-    let stop = Stop::Triggered {
-        watches: &watches,
-        fired,
-    };
-    told_stop(alloc, frame, stop)
+    let watch = shown_watch(alloc, number)?;
+    told_stop(alloc, frame, Why::Watch(fired), false, watch)
 }
 
-fn stop_of_hit(text: &str) -> Option<Stop<'static>> {
+fn told_hit(alloc: Global, frame: ShownFrame, text: &str) -> Result<String, RowFault> {
     let (disposition, error) = text.split_once(' ').unwrap_or((text, ""));
-    Some(Stop::Hit(hit(disposition, error)?))
+    let why = hit(error).ok_or(RowFault::Unknown)?;
+    told_stop(alloc, frame, why, disposition == "temporary", None)
 }
 
 // A stop that its words say all of.
-fn stop_of(word: &str, rest: &str) -> Option<Stop<'static>> {
+fn why_of(word: &str, rest: &str) -> Option<Why> {
     match word {
-        "fault" => Some(Stop::Fault(cause(rest)?)),
-        "hit" => stop_of_hit(rest),
-        "interrupted" => Some(Stop::Interrupted),
-        "stepped" => Some(Stop::Stepped),
-        "finished" => Some(Stop::Finished),
+        "fault" => Some(Why::Fault(cause(rest)?)),
+        "interrupted" => Some(Why::Interrupted),
+        "stepped" => Some(Why::Stepped),
+        "finished" => Some(Why::Finished),
         _ => None,
     }
 }
 
 // The lines of a stop of these words in a frame.
-fn told(alloc: Global, frame: &ShownFrame, word: &str, rest: &str) -> Result<String, RowFault> {
-    if word == "trigger" {
-        return told_trigger(alloc, frame, rest);
+fn told(alloc: Global, frame: ShownFrame, word: &str, rest: &str) -> Result<String, RowFault> {
+    match word {
+        "trigger" => told_trigger(alloc, frame, rest),
+        "hit" => told_hit(alloc, frame, rest),
+        _ => {
+            let why = why_of(word, rest).ok_or(RowFault::Unknown)?;
+            told_stop(alloc, frame, why, false, None)
+        }
     }
-    let stop = stop_of(word, rest).ok_or(RowFault::Unknown)?;
-    told_stop(alloc, frame, stop)
 }
 
 /// What came of a row: `fault FRAME CAUSE`, `hit FRAME DISPOSITION ERROR`, `trigger FRAME WATCH OLD NEW`, `interrupted FRAME`,
@@ -97,5 +107,5 @@ fn told(alloc: Global, frame: &ShownFrame, word: &str, rest: &str) -> Result<Str
 pub fn answer(alloc: Global, word: &str, rest: &str) -> Result<String, RowFault> {
     let (known, rest) = rest.split_once(' ').unwrap_or((rest, ""));
     let frame = frame(alloc, known)?;
-    told(alloc, &frame, word, rest)
+    told(alloc, frame, word, rest)
 }

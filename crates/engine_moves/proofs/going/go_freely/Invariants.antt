@@ -1,14 +1,14 @@
 use Rattle.std.proofs.Common.{◌<◌, ◌≤◌, ◌-◌, length}
-use Rattle.engine_moves.specs.Going.{Goes}
+use Rattle.engine_moves.specs.Going.{Goes, surroundings_view}
 use Rattle.engine_moves.proofs.going.go_freely.Given as goal
 
 abbrev pub invariant-loop-turns : goal.invariant-loop-turns
 invariant-loop-turns l = record {
-  hart : l.course.hart < length l.machine.cores;
+  hart : l.around.hart < length l.machine.cores;
   limit : l.turns ≤ l.limit;
   most : l.instructions ≤ l.most;
   fewer : l.instructions ≤ l.turns;
-  goes : Goes l.course.image.now l.course.table.now.entries l.course.watches.now l.course.hart l.course.plan l.course.copies l.most l.turns l.instructions l.initial.machine l.machine;
+  goes : Goes (surroundings_view l.around) l.most l.turns l.instructions l.initial.machine l.machine;
 }
 
 abbrev pub decreases-loop-turns : goal.decreases-loop-turns

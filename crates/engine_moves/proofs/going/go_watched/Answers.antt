@@ -1,4 +1,5 @@
 use Rattle.std.proofs.Common.{◌≡◌, sym, ◌∙◌, arith}
+use Rattle.engine_moves.specs.Going.{surroundings_view}
 use Rattle.engine_moves.proofs.Holding.{get_within}
 use Rattle.engine_moves.proofs.Gone.{unfired_more}
 use Rattle.engine_moves.proofs.Nearing.{ran_far}
@@ -6,7 +7,7 @@ use Rattle.engine_moves.proofs.going.go_watched.Goals as goal
 
 pub loop-count-preserved : goal.loop-count-preserved
 loop-count-preserved c =
-    let o = c.args.course.now in
+    let o = c.args.around.now in
     let l = c.loop-count in
     let n = c.run.result in
     let one : n ≡ 1 = omega (arith, c.run.ensures.limit, c.if-run-eq0.false) in
@@ -16,5 +17,5 @@ loop-count-preserved c =
       hart = omega (arith, l.invariant.hart, c.run.ensures.harts);
       limit = omega (arith, c.loop-count-test.true);
       most = omega (arith, c.if-count-most.true);
-      goes = unfired_more o.image.now o.table.now.entries o.watches.now o.hart o.plan c.args.most o.copies c.args.machine.now l.count n l.machine c.run.new.self one (omega (arith, c.if-count-most.true)) l.invariant.goes c.run.ensures.runs unfired;
+      goes = unfired_more (surroundings_view o) c.args.most c.args.machine.now l.count n l.machine c.run.new.self one (omega (arith, c.if-count-most.true)) l.invariant.goes c.run.ensures.runs unfired;
     }

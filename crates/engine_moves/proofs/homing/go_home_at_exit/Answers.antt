@@ -2,9 +2,10 @@ use Rattle.std.proofs.Common.{◌≡◌, ◌+◌, ℕ, ap, sym, subst, arith}
 use Rattle.rv_exec.specs.declared.effect.Stepped.{Stepped}
 use Rattle.text_words.specs.Words.{Words}
 use Rattle.hart_machine.specs.Patched.{Patched}
+use Rattle.engine_moves.specs.Changing.{wants_by}
 use Rattle.engine_moves.specs.Moves.{HeldInText}
 use Rattle.engine_moves.specs.Homecoming.{IsSlotted}
-use Rattle.engine_moves.specs.Homing.{HomedBy}
+use Rattle.engine_moves.specs.Homing.{HomedBy, leaving_view}
 use Rattle.engine_moves.proofs.Holds.{home_held}
 use Rattle.engine_moves.proofs.homing.go_home_at_exit.Goals as goal
 
@@ -24,12 +25,12 @@ let_go-requires-in-AllExit c =
 
 pub returns-in-HartExit : goal.returns-in-HartExit
 returns-in-HartExit c =
-    let P : Stepped → Type 0 = λ s. HomedBy s c.args.machine.now c.let_go.new.machine c.args.hold.now c.let_go.new.hold c.args.table.now.entries c.args.table.now.waits c.args.leaving.now.hart c.args.leaving.now.phase c.args.leaving.now.minds.now in
+    let P : Stepped → Type 0 = λ s. HomedBy s (wants_by c.args.table.now c.args.hold.now) c.let_go.new.hold (leaving_view c.args.leaving.now) c.args.machine.now c.let_go.new.machine in
     subst P (sym c.in-HartExit.is)
     (record { between = c.go_home.new.machine; home = c.go_home.ensures; released = c.let_go.ensures.text; rest = c.let_go.ensures.rest; none = c.let_go.ensures.none })
 
 pub returns-in-AllExit : goal.returns-in-AllExit
 returns-in-AllExit c =
-    let P : Stepped → Type 0 = λ s. HomedBy s c.args.machine.now c.let_go-in-AllExit.new.machine c.args.hold.now c.let_go-in-AllExit.new.hold c.args.table.now.entries c.args.table.now.waits c.args.leaving.now.hart c.args.leaving.now.phase c.args.leaving.now.minds.now in
+    let P : Stepped → Type 0 = λ s. HomedBy s (wants_by c.args.table.now c.args.hold.now) c.let_go-in-AllExit.new.hold (leaving_view c.args.leaving.now) c.args.machine.now c.let_go-in-AllExit.new.machine in
     subst P (sym c.in-AllExit.is)
     (record { between = c.go_home_each.new.machine; home = c.go_home_each.ensures; released = c.let_go-in-AllExit.ensures.text; rest = c.let_go-in-AllExit.ensures.rest; none = c.let_go-in-AllExit.ensures.none })

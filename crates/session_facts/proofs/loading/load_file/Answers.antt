@@ -50,7 +50,7 @@ pub returns-in_default-clause-early : goal.returns-in_default-clause-early
 returns-in_default-clause-early g c =
     let told = g.W.World.told in
     let e = c.early-in_default.ensures in
-    let same : c.put_event.new.world ≡ c.read_all.new.world = search rules in
+    let same : c.put_bad_file.new.world ≡ c.read_all.new.world = search rules in
     rw (e.status, e.world, same) (read_memory (told c.args.world) (told c.read_all.new.world) c.args.name c.args.settings c.in-Ok.bytes.items c.requires.fresh c.requires.asked c.in-Ok.ensures)
 
 pub returns-in-Err-Fault-clause-early : goal.returns-in-Err-Fault-clause-early
@@ -59,8 +59,8 @@ returns-in-Err-Fault-clause-early g c =
     let e = c.early-in-Err-Fault.ensures in
     let P : ElfReadError → Type 0 = λ x. Reads c.in-Ok.bytes.items (Err x) in
     let refused = subst P c.in-Err-Fault.field-0-is c.in-Err-Fault.ensures.read in
-    let puts = rw c.in-Err-Fault.field-0-is at c.in-Ok-put_event.ensures in
-    rw (e.status, e.world, c.in-Err-Fault.field-0-is) (early_file _ (told c.args.world) (told c.read_all.new.world) (told c.put_event.new.world) c.args.name c.args.settings c.in-Ok.bytes.items c.in-Err-Fault.fault c.requires.fresh c.requires.asked c.in-Ok.ensures refused puts)
+    let puts = rw c.in-Err-Fault.field-0-is at c.in-Ok-put_bad_file.ensures in
+    rw (e.status, e.world, c.in-Err-Fault.field-0-is) (early_file _ (told c.args.world) (told c.read_all.new.world) (told c.put_bad_file.new.world) c.args.name c.args.settings c.in-Ok.bytes.items c.in-Err-Fault.fault c.requires.fresh c.requires.asked c.in-Ok.ensures refused puts)
 
 pub returns-in-Err-Memory-clause-early : goal.returns-in-Err-Memory-clause-early
 returns-in-Err-Memory-clause-early g c =

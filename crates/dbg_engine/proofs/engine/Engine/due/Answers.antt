@@ -5,7 +5,6 @@ use Rattle.rv_exec.specs.Registers.{set_pc}
 use Rattle.hart_machine.specs.declared.hart.Core.{Core}
 use Rattle.dbg_model.specs.Judging.{is_due, judgement_of}
 use Rattle.dbg_model.specs.Views.{register, shown_byte}
-use Rattle.dbg_model.specs.declared.judgement.Course.{Course}
 use Rattle.dbg_model.specs.declared.judgement.Judgement.{Judgement}
 use Rattle.dbg_engine.specs.EngineInside.{run_of}
 use Rattle.engine_moves.proofs.Holds.{counts_fresh, due_is_fired, judged}
@@ -15,28 +14,23 @@ pub returns-clause-due : goal.returns-clause-due
 returns-clause-due c =
     let r = run_of c.self.inside in
     let x = c.args.mind in
-    let course : Course = record { fresh = x.fresh; plan = x.plan; last = x.last; fired = x.fired } in
     judged r c.args.self.now c.args.h c.args.pc x c.judge.result c.self.view_is c.self.invariant.facts.sound c.requires.mind c.requires.runs c.requires.before c.requires.pc
     (λ k at.
     let same = get_or_from_slice_get c.cores.result.now c.args.h k c.index-cores-h.result (ap (λ cs. slice_get cs c.args.h) c.cores.ensures ∙ at) in
-    subst (λ (q : Core). c.judge.result ≡ judgement_of r.opening.image r.sources r.breaks c.args.h course (register (set_pc q.regs c.args.pc)) (shown_byte r.opening.image r.machine.memory)) same c.judge.ensures)
+    subst (λ (q : Core). c.judge.result ≡ judgement_of r.opening.image r.sources r.breaks c.args.h c.args.mind.course (register (set_pc q.regs c.args.pc)) (shown_byte r.opening.image r.machine.memory)) same c.judge.ensures)
 
 pub returns-clause-fresh : goal.returns-clause-fresh
 returns-clause-fresh c counts =
     let r = run_of c.self.inside in
-    let x = c.args.mind in
     let k = get_or c.cores.result.now c.args.h c.index-cores-h.result in
-    let course : Course = record { fresh = x.fresh; plan = x.plan; last = x.last; fired = x.fired } in
     let bytes = shown_byte r.opening.image r.machine.memory in
-    let is : c.judge.result ≡ judgement_of r.opening.image r.sources r.breaks c.args.h course (register (set_pc k.regs c.args.pc)) bytes = c.judge.ensures in
-    counts_fresh r.opening.image r.sources r.breaks c.args.h course (register (set_pc k.regs c.args.pc)) bytes (ap (λ (j : Judgement). j.breaks.counts) (sym is) ∙ counts)
+    let is : c.judge.result ≡ judgement_of r.opening.image r.sources r.breaks c.args.h c.args.mind.course (register (set_pc k.regs c.args.pc)) bytes = c.judge.ensures in
+    counts_fresh r.opening.image r.sources r.breaks c.args.h c.args.mind.course (register (set_pc k.regs c.args.pc)) bytes (ap (λ (j : Judgement). j.breaks.counts) (sym is) ∙ counts)
 
 pub returns-clause-fired : goal.returns-clause-fired
 returns-clause-fired c due =
     let r = run_of c.self.inside in
-    let x = c.args.mind in
     let k = get_or c.cores.result.now c.args.h c.index-cores-h.result in
-    let course : Course = record { fresh = x.fresh; plan = x.plan; last = x.last; fired = x.fired } in
     let bytes = shown_byte r.opening.image r.machine.memory in
-    let is : c.judge.result ≡ judgement_of r.opening.image r.sources r.breaks c.args.h course (register (set_pc k.regs c.args.pc)) bytes = c.judge.ensures in
-    ap (λ (j : Judgement). j.fired) is ∙ due_is_fired r.opening.image r.sources r.breaks c.args.h course (register (set_pc k.regs c.args.pc)) bytes (ap is_due (sym is) ∙ due)
+    let is : c.judge.result ≡ judgement_of r.opening.image r.sources r.breaks c.args.h c.args.mind.course (register (set_pc k.regs c.args.pc)) bytes = c.judge.ensures in
+    ap (λ (j : Judgement). j.fired) is ∙ due_is_fired r.opening.image r.sources r.breaks c.args.h c.args.mind.course (register (set_pc k.regs c.args.pc)) bytes (ap is_due (sym is) ∙ due)

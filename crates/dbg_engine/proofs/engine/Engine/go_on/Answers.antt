@@ -5,6 +5,8 @@ use Rattle.dbg_model.specs.Judging.{is_due}
 use Rattle.engine_moves.specs.Minds.{is_active}
 use Rattle.engine_moves.specs.Seen.{Run}
 use Rattle.engine_moves.specs.Rows.{row_idle}
+use Rattle.dbg_model.specs.declared.entry.Why.TheVariants.{Interrupted}
+use Rattle.engine_moves.proofs.Arrivals.{halts_row}
 use Rattle.engine_moves.proofs.Holds.{unheld}
 use Rattle.engine_moves.proofs.Rows.{row_arrives, row_steps, row_idles}
 use Rattle.dbg_engine.proofs.engine.Engine.go_on.Goals as goal
@@ -23,8 +25,12 @@ pub returns-then-mind-clause-first : goal.returns-then-mind-clause-first
 returns-then-mind-clause-first c =
     let none = sym c.if-is_due.ensures in
     let idle : c.args.mind.phase ≡ phase.Idle = search rules in
-    sym (row_idles c.args.self.now c.args.h c.shown_pc-pc.result c.args.mind c.due-due.result c.requires.facts.sound c.requires.before c.due-due.ensures.due c.shown_pc-pc.ensures none idle
+    halts_row c.args.self.now c.note_stop.new.self c.args.h Interrupted c.note_stop.ensures.stops.halts
+    ∙ sym (row_idles c.args.self.now c.args.h c.shown_pc-pc.result c.args.mind c.due-due.result c.requires.facts.sound c.requires.before c.due-due.ensures.due c.shown_pc-pc.ensures none idle
     ∙ ap (λ a. row_idle a (is_planted c.args.self.now.machine.text c.shown_pc-pc.result)) c.if-mind.true)
+
+pub returns-then-mind-clause-turns : goal.returns-then-mind-clause-turns
+returns-then-mind-clause-turns c = (Interrupted, c.note_stop.ensures.stops)
 
 pub step_over-requires-clause-before : goal.step_over-requires-clause-before
 step_over-requires-clause-before c =
@@ -47,7 +53,7 @@ returns-then-planted-clause-first c =
     let none = sym c.if-is_due.ensures in
     let idle : c.args.mind.phase ≡ phase.Idle = search rules in
     let there : is_planted c.args.self.now.machine.text c.shown_pc-pc.result ≡ true = ap (λ (q : Run). is_planted q.machine.text c.shown_pc-pc.result) (sym c.self.view_is) ∙ sym c.if-planted.ensures in
-    c.step_over.ensures.row
+    c.step_over.ensures.row _
     ∙ sym (row_idles c.args.self.now c.args.h c.shown_pc-pc.result c.args.mind c.due-due.result c.requires.facts.sound c.requires.before c.due-due.ensures.due c.shown_pc-pc.ensures none idle
     ∙ (ap (λ a. row_idle a (is_planted c.args.self.now.machine.text c.shown_pc-pc.result)) c.if-mind.false ∙ ap (row_idle false) there))
 

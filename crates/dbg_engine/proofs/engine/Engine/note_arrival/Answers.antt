@@ -17,7 +17,7 @@ use Rattle.engine_moves.specs.Calls.{Halts, Of, StopsBy}
 use Rattle.engine_moves.proofs.Holds.{Moved, Noted, Settles, arrived, planted_shown, wanted_text}
 use Rattle.engine_moves.proofs.Rewaits.{rewaits, text_place, with_table}
 use Rattle.dbg_engine.proofs.engine.Engine.note_arrival.Goals as goal
-use Rattle.dbg_engine.proofs.engine.Engine.note_arrival.Goals.{After-self-2-1, After-waiting-3-1}
+use Rattle.dbg_engine.proofs.engine.Engine.note_arrival.Goals.{After-self-3-1, After-waiting-3-1}
 
 pub settle-requires : goal.settle-requires
 settle-requires c =
@@ -56,7 +56,7 @@ rewait-requires-clause-places c a is = ap (λ (t : Table). is_place t.text a) c.
 
 -- the engine then, before harts wait elsewhere
 abbrev arrived_run : After-waiting-3-1 → Run
-arrived_run c = let r = run_of c.self.inside in record r { journal = c.note.new.entries.items; spare = vec_capacity c.note.new.entries - vec_len c.note.new.entries; machine = c.repatch.new.machine; minds = slice_set r.minds c.args.h first_mind; watches = c.rise.new.self; breaks = c.settle.new.table.entries; noted = r.noted + 1 }
+arrived_run c = let r = run_of c.self.inside in record r { journal = c.note.new.entries.items; spare = vec_capacity c.note.new.entries - vec_len c.note.new.entries; machine = c.repatch.new.machine; minds = slice_set r.minds c.args.h first_mind; watches = c.rise.new.self; breaks = c.settle.new.table.entries; noted = r.noted + 1; temporary = c.stops_once-self-inside.result }
 
 -- the hart has stopped, whatever patches are planted for the harts that wait then
 arrived_at : (c : After-waiting-3-1) → Noted (arrived_run c) (λ n. Halts (run_of c.self.inside) n c.args.h c.args.why)
@@ -66,7 +66,7 @@ arrived_at c =
     let P : Run → Type 0 = λ q. StopsBy q c.args.h c.args.why in
     let Q : Run → Type 0 = λ q. Of q c.args.h (λ y. y.regs.pc ≡ c.args.pc) in
     let settles : Settles r c.args.h c.args.pc c.settle.new.table.entries = λ k at. c.settle.ensures.entries k at in
-    arrived r c.args.h c.args.pc (vec_capacity c.note.new.entries - vec_len c.note.new.entries) c.args.why c.args.mind c.note.new.entries.items c.repatch.new.machine c.settle.new.table.entries c.rise.new.self c.wants-wants.result c.self.invariant.facts.sound mind
+    arrived r c.args.h c.args.pc (vec_capacity c.note.new.entries - vec_len c.note.new.entries) c.args.why c.args.mind c.note.new.entries.items c.repatch.new.machine c.settle.new.table.entries c.rise.new.self c.wants-wants.result c.stops_once-self-inside.result c.stops_once-self-inside.ensures c.self.invariant.facts.sound mind
     c.requires.idle c.requires.before.runs (ap (λ (q : Run). other_holder q.hold c.args.h) c.self.view_is ∙ c.requires.before.free) (subst Q (sym c.self.view_is) c.requires.pc) (subst P (sym c.self.view_is) c.requires.stops) (ap (λ (q : Run). may_go q.opening (seen q)) c.self.view_is ∙ c.requires.before.may)
     c.note.ensures.entries settles c.rise.ensures (c.wants-wants.ensures ∙ ap (λ (t : Table). wanted (wants_by t r.hold) c.args.pc) c.settle.ensures.rest) c.repatch.ensures.text c.repatch.ensures.rest
 
@@ -76,10 +76,10 @@ rewait-requires-clause-planted c =
     let P : Table → Type 0 = λ t. ArePlanted c.repatch.new.machine.text (wants_by t r.hold) in
     subst P (sym c.settle.ensures.rest) (are_planted (arrived_run c) (arrived_at c).sound)
 
-abbrev new_run : After-self-2-1 → Run
-new_run c = let r = run_of c.self.inside in record r { journal = c.note.new.entries.items; spare = vec_capacity c.note.new.entries - vec_len c.note.new.entries; machine = c.repatch.new.machine; minds = slice_set r.minds c.args.h first_mind; watches = c.rise.new.self; breaks = c.settle.new.table.entries; noted = r.noted + 1 }
+abbrev new_run : After-self-3-1 → Run
+new_run c = let r = run_of c.self.inside in record r { journal = c.note.new.entries.items; spare = vec_capacity c.note.new.entries - vec_len c.note.new.entries; machine = c.repatch.new.machine; minds = slice_set r.minds c.args.h first_mind; watches = c.rise.new.self; breaks = c.settle.new.table.entries; noted = r.noted + 1; temporary = c.stops_once-self-inside.result }
 
-move : (c : After-self-2-1) → Noted (new_run c) (λ n. Halts (run_of c.self.inside) n c.args.h c.args.why)
+move : (c : After-self-3-1) → Noted (new_run c) (λ n. Halts (run_of c.self.inside) n c.args.h c.args.why)
     → (let r = run_of c.self.inside in let n = with_table (new_run c) c.rewait.new.machine c.rewait.new.table in Moved n (Halts r n c.args.h c.args.why))
 move c n =
     let r = run_of c.self.inside in

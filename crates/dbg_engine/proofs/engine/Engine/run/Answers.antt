@@ -6,7 +6,7 @@ use Rattle.std.specs.Prelude.{slice_set, vec_len, vec_capacity}
 use Rattle.engine_moves.specs.Several.{lengthened_by}
 use Rattle.dbg_engine.specs.EngineInside.{run_of}
 use Rattle.engine_moves.proofs.Aheads.{gone_to, none_gone, small_of, turned_at}
-use Rattle.engine_moves.proofs.Passing.{Ahead}
+use Rattle.engine_moves.proofs.Passing.{Ahead, around}
 use Rattle.dbg_engine.proofs.engine.Engine.run.Goals as goal
 
 pub note_runs-requires-clause-last : goal.note_runs-requires-clause-last
@@ -20,14 +20,14 @@ returns-then-progress-eq0-clause-facts c =
     let r = run_of c.self.inside in
     let p = c.go-progress.result in
     let M : Patched → Type 0 = λ m. Facts (record r { machine = m }) in
-    subst M (sym (none_gone r.opening.image r.breaks r.watches c.args.h c.min-most.result p.turns p.instructions c.mind-mind.result.plan c.by_copies.result r.machine c.go-progress.new.machine c.if-progress-eq0.true c.go-progress.ensures.goes)) c.self.invariant.facts
+    subst M (sym (none_gone (around r c.args.h c.mind-mind.result.course.plan c.by_copies.result) c.min-most.result p.turns p.instructions r.machine c.go-progress.new.machine c.if-progress-eq0.true c.go-progress.ensures.goes)) c.self.invariant.facts
 
 pub invariant_of-self : goal.invariant_of-self
 invariant_of-self c =
     let r = run_of c.self.inside in
     let p = c.go-progress.result in
     let M : Patched → Type 0 = λ m. Facts (record r { machine = m }) in
-    record { facts = subst M (sym (none_gone r.opening.image r.breaks r.watches c.args.h c.min-most.result p.turns p.instructions c.mind-mind.result.plan c.by_copies.result r.machine c.go-progress.new.machine c.if-progress-eq0.true c.go-progress.ensures.goes)) c.self.invariant.facts }
+    record { facts = subst M (sym (none_gone (around r c.args.h c.mind-mind.result.course.plan c.by_copies.result) c.min-most.result p.turns p.instructions r.machine c.go-progress.new.machine c.if-progress-eq0.true c.go-progress.ensures.goes)) c.self.invariant.facts }
 
 -- the engine so many turns on
 abbrev new_run : goal.After-self-2-1 → Run

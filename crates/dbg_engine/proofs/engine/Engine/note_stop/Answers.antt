@@ -8,11 +8,10 @@ use Rattle.engine_moves.specs.Seen.{Run, seen}
 use Rattle.engine_moves.specs.Facts.{other_holder}
 use Rattle.engine_moves.proofs.Breaking.{are_planted}
 use Rattle.dbg_engine.specs.EngineInside.{run_of}
-use Rattle.dbg_model.specs.declared.entry.Why.TheVariants.{Fault}
-use Rattle.engine_moves.specs.Calls.{Halts, Undue, TrapsAt}
-use Rattle.engine_moves.proofs.Holds.{Moved, faulted}
+use Rattle.engine_moves.specs.Calls.{MayStop, StopsFor, Undue}
+use Rattle.engine_moves.proofs.Holds.{Moved, halted_run, stopped}
 use Rattle.engine_moves.proofs.Rewaits.{rewaits, text_place, with_table}
-use Rattle.dbg_engine.proofs.engine.Engine.note_fault.Goals as goal
+use Rattle.dbg_engine.proofs.engine.Engine.note_stop.Goals as goal
 
 pub rewait-requires-clause-few : goal.rewait-requires-clause-few
 rewait-requires-clause-few c =
@@ -36,26 +35,26 @@ pub rewait-requires-clause-planted : goal.rewait-requires-clause-planted
 rewait-requires-clause-planted c =
     are_planted (run_of c.self.inside) c.self.invariant.facts.sound
 
-abbrev new_run : goal.After-self-2-1 → Run
-new_run c = let r = run_of c.self.inside in record r { journal = c.note.new.entries.items; spare = vec_capacity c.note.new.entries - vec_len c.note.new.entries; minds = slice_set r.minds c.args.h first_mind; noted = r.noted + 1 }
-
-move : (c : goal.After-self-2-1) → (let r = run_of c.self.inside in let n = with_table (new_run c) c.rewait.new.machine c.rewait.new.table in Moved n (Halts r n c.args.h (Fault c.args.cause)))
+move : (c : goal.After-self-3-1) → (let r = run_of c.self.inside in let n = with_table (halted_run r c.args.h (vec_capacity c.note.new.entries - vec_len c.note.new.entries) c.note.new.entries.items) c.rewait.new.machine c.rewait.new.table in Moved n (StopsFor c.args.why r n c.args.h))
 move c =
     let r = run_of c.self.inside in
     let f = c.self.invariant.facts.sound in
+    let spare = vec_capacity c.note.new.entries - vec_len c.note.new.entries in
     let mind : slice_get r.minds c.args.h ≡ Some c.args.mind = ap (λ (q : Run). slice_get q.minds c.args.h) c.self.view_is ∙ c.requires.before.at in
     let P : Run → Type 0 = λ q. Undue q c.args.h in
-    let Q : Run → Type 0 = λ q. TrapsAt q c.args.h c.args.cause in
-    let n = faulted r c.args.h (vec_capacity c.note.new.entries - vec_len c.note.new.entries) c.args.mind c.args.cause c.note.new.entries.items f mind c.requires.idle c.requires.before.runs (ap (λ (q : Run). other_holder q.hold c.args.h) c.self.view_is ∙ c.requires.before.free) (subst P (sym c.self.view_is) c.requires.due) (subst Q (sym c.self.view_is) c.requires.traps) (ap (λ (q : Run). may_go q.opening (seen q)) c.self.view_is ∙ c.requires.before.may) c.note.ensures.entries in
+    let Q : Run → Type 0 = λ q. MayStop c.args.why q c.args.h c.args.mind in
+    let n = stopped r c.args.h spare c.args.mind c.args.why c.note.new.entries.items f mind c.requires.idle c.requires.before.runs (ap (λ (q : Run). other_holder q.hold c.args.h) c.self.view_is ∙ c.requires.before.free) (subst P (sym c.self.view_is) c.requires.due) (subst Q (sym c.self.view_is) c.requires.by) (ap (λ (q : Run). may_go q.opening (seen q)) c.self.view_is ∙ c.requires.before.may) c.note.ensures.entries in
     let all : List Mind → Table = λ xs. record c.self.inside.table { waits = map (awaited r.opening.image) xs } in
-    rewaits (λ n. Halts r n c.args.h (Fault c.args.cause)) (new_run c) c.rewait.new.machine c.rewait.new.table n (record { table = c.rewait.ensures.table ∙ ap all c.as_slice.ensures.value; machine = c.rewait.ensures.machine })
+    rewaits (λ n. StopsFor c.args.why r n c.args.h) (halted_run r c.args.h spare c.note.new.entries.items) c.rewait.new.machine c.rewait.new.table n (record { table = c.rewait.ensures.table ∙ ap all c.as_slice.ensures.value; machine = c.rewait.ensures.machine })
 
 pub invariant_of-self : goal.invariant_of-self
 invariant_of-self c = record { facts = (move c).facts }
 
-pub returns-clause-halts : goal.returns-clause-halts
-returns-clause-halts c =
-    let Q : Run → Type 0 = λ q. Halts q (with_table (new_run c) c.rewait.new.machine c.rewait.new.table) c.args.h (Fault c.args.cause) in
+pub returns-clause-stops : goal.returns-clause-stops
+returns-clause-stops c =
+    let r = run_of c.self.inside in
+    let n = with_table (halted_run r c.args.h (vec_capacity c.note.new.entries - vec_len c.note.new.entries) c.note.new.entries.items) c.rewait.new.machine c.rewait.new.table in
+    let Q : Run → Type 0 = λ q. StopsFor c.args.why q n c.args.h in
     subst Q c.self.view_is (move c).does
 
 pub returns-clause-facts : goal.returns-clause-facts

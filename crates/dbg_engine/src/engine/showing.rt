@@ -1,0 +1,115 @@
+// What the entries show that a move has noted.
+ghost use Rattle.std.specs.Prelude.{◌≡◌, ◌<◌, ◌≤◌, length, IfOk};
+ghost use Rattle.std.specs.Option.{option_copied};
+ghost use Rattle.dbg_model.specs.Journals.{last_entries, noted};
+ghost use Rattle.dbg_model.specs.Shown.{frame_at, stopping_watch, watch_of};
+ghost use Rattle.dbg_model.specs.declared.shown.Shown.TheVariants.{Stop};
+ghost use Rattle.engine_moves.specs.Seen.{seen};
+ghost use Rattle.engine_moves.specs.Shown.{IsMoved, ran_shows, shown_by};
+
+use super::Engine;
+use crate::Move;
+use dbg_model::{Entry, Shown, ShownWatch, Watch, Why, bytes_of, shown_frame};
+use dbg_traits::NoMemory;
+use mi_commands::ByteList;
+use std::alloc::{AllocError, Global};
+
+// The watch of that number.
+fn watch_of(watches: &[Watch], number: u32) -> Option<&Watch>
+    ensures { option_copied result ≡ watch_of watches.now number }
+{
+    let [watch, rest @ ..] = watches else {
+        return None;
+    };
+    if watch.number == number {
+        return Some(watch);
+    }
+    watch_of(rest, number)
+}
+
+// The watch of these that stops a hart, if one does.
+fn stopping_watch(
+    alloc: Global,
+    watches: &[Watch],
+    why: Why,
+) -> Result<Option<ShownWatch>, AllocError>
+    ensures { IfOk result (λ w. w ≡ stopping_watch watches.now why) }
+{
+    let Why::Watch(fired) = why else {
+        return Ok(None);
+    };
+    let Some(watch) = watch_of(watches, fired.number) else {
+        return Ok(None);
+    };
+    Ok(Some(ShownWatch {
+        text: bytes_of(alloc, watch.text.as_slice())?,
+        signed: watch.signed,
+    }))
+}
+
+impl Engine {
+    /// How many entries other than `Ran` the journal has.
+    pub fn noted(&self) -> u64
+        ensures { result ≡ self.now.noted }
+    {
+        self.noted
+    }
+
+    /// The last so many entries, which all are noted: none of them is a `Ran`.
+    pub fn last_noted(&self, count: usize) -> &[Entry]
+        requires many { count ≤ length self.now.journal }
+        requires noted { noted (last_entries count self.now.journal) ≡ count }
+        ensures { result.now ≡ last_entries count self.now.journal }
+    {
+        &self.entries[self.entries.len() - count..]
+    }
+
+    // The bytes that the instruction of a move wrote.
+    fn shown_output(&self, moved: Move) -> Result<Shown, NoMemory>
+        ensures { IfOk result (λ s. s ≡ ran_shows self.now moved) }
+    {
+        let Move::Wrote { addr, len } = moved else {
+            return Ok(Shown::Nothing);
+        };
+        let mut bytes = vec![in self.alloc; 0u8; len as usize]?;
+        match self.read_range(addr, bytes.as_mut_slice()) {
+            Ok(()) => Ok(Shown::Wrote {
+                bytes: ByteList::of(bytes),
+            }),
+            Err(_) => Ok(Shown::Nothing),
+        }
+    }
+
+    // What a stop shows of a hart, the last that stopped.
+    fn shown_stop(&self, h: u32, why: Why) -> Result<Shown, NoMemory>
+        requires { h < length self.now.minds }
+        ensures { IfOk result (λ s. s ≡ Stop (frame_at self.now.sources (seen self.now).harts h) self.now.temporary (stopping_watch self.now.watches why)) }
+    {
+        let pc = self.pc(h);
+        Ok(Shown::Stop {
+            frame: shown_frame(self.alloc, &self.sources, pc, pc)?,
+            temporary: self.temporary,
+            watch: stopping_watch(self.alloc, self.watches.as_slice(), why)?,
+        })
+    }
+
+    /// What an entry shows that the last turn noted, or lengthened by an instruction. The turn was this move, and nothing was
+    /// done since. `last` says whether it is the journal's last entry.
+    ///
+    /// # Errors
+    ///
+    /// No memory for what is shown.
+    pub fn shown(&self, moved: Move, entry: &Entry, last: bool) -> Result<Shown, NoMemory>
+        requires { IsMoved (length self.now.minds) entry.now }
+        ensures { IfOk result (λ s. s ≡ shown_by self.now moved entry.now last) }
+    {
+        match entry {
+            Entry::Ran { .. } => self.shown_output(moved),
+            Entry::Stopped { hart, why } => self.shown_stop(*hart, *why),
+            Entry::Left { .. } => Ok(Shown::Exit {
+                last: last && self.all_gone(),
+            }),
+            Entry::Counted { .. } | Entry::Did { .. } | Entry::Poked { .. } => Ok(Shown::Nothing),
+        }
+    }
+}
