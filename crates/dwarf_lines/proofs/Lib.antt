@@ -1,7 +1,5 @@
 pub mod Places
-pub mod Known
 pub mod Programs
-pub mod Added
-pub mod Full
+pub mod Placed
+pub mod Kept
 pub mod Sections
-pub mod Declared

@@ -1,6 +1,6 @@
 pub mod Units
 pub mod Names
 pub mod Numbers
-pub mod Numbering
 pub mod Rows
+pub mod Met
 pub mod Adding

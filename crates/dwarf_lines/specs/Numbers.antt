@@ -1,7 +1,7 @@
 -- Rows with the numbers of their files' names over all units: equal names have equal numbers.
-use Rattle.std.specs.Prelude.{ℕ, ◌-◌, List, [], map, flat_map, fold}
+use Rattle.std.specs.Prelude.{ℕ, ◌-◌, List, [], map, flat_map}
 use Rattle.std.specs.List.{slice_index_or}
-use Rattle.file_names.specs.Numbers.{number_of, with_name}
+use Rattle.file_names.specs.Numbers.{number_of}
 use Rattle.line_rows.specs.RowList.{Sequence, ended_with}
 use Rattle.line_rows.specs.declared.row.Row.{Row}
 
@@ -11,24 +11,9 @@ pub record UnitRows : Type 0 where
   pub first : ℕ
   pub sequences : List Sequence
 
-abbrev pub file_name : UnitRows → ℕ → List ℕ
-file_name unit file = slice_index_or unit.names (file - unit.first) []
-
--- the names that the rows of a sequence have, in the order of the rows
-abbrev pub names_used : UnitRows → Sequence → List (List ℕ)
-names_used unit s = map (λ r. file_name unit r.file) s.rows
-
--- the names that the rows of a unit have
-abbrev pub names_of : UnitRows → List (List ℕ)
-names_of unit = flat_map (names_used unit) unit.sequences
-
--- each name once, in the order of first use
-abbrev pub distinct : List (List ℕ) → List (List ℕ)
-distinct used = fold with_name [] used
-
 -- a row whose file is the number of its name
 abbrev pub numbered : List (List ℕ) → UnitRows → Row → Row
-numbered names unit r = record r { file = number_of names (file_name unit r.file) }
+numbered names unit r = record r { file = slice_index_or (map (number_of names) unit.names) (r.file - unit.first) 0 }
 
 -- a sequence of such rows; one without rows is none
 abbrev pub numbered_sequence : List (List ℕ) → UnitRows → Sequence → List Sequence

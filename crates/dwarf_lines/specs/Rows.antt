@@ -1,5 +1,5 @@
 -- The rows of a program's sections (DWARF 5, section 6.2).
-use Rattle.std.specs.Prelude.{ℕ, ◌+◌, ◌-◌, List, [], ◌∷◌, ◌++◌, length, map, flat_map, fold, nat_lt, take, drop, Result, Ok, Err, if◌then◌else◌}
+use Rattle.std.specs.Prelude.{ℕ, ◌+◌, ◌-◌, List, [], ◌∷◌, ◌++◌, length, map, flat_map, take, drop, Result, Ok, Err}
 use Rattle.line_rows.specs.Reading.{Reading}
 use Rattle.line_rows.specs.Sections.{Sections}
 use Rattle.line_headers.specs.Texts.{Texts, texts_in}
@@ -10,11 +10,11 @@ use Rattle.line_programs.specs.Machine.{program_of}
 use Rattle.line_programs.specs.declared.parameters.Parameters.{Parameters}
 use Rattle.line_rows.specs.RowList.{RowList, table_room, room_taken}
 use Rattle.line_rows.specs.declared.fault.LineFault.{LineFault}
-use Rattle.line_rows.specs.declared.fault.LineFault.TheVariants as fault
 use Rattle.line_rows.specs.declared.fault.UnitFault.{UnitFault}
-use Rattle.file_names.specs.Numbers.{bytes_of, names_room, with_name}
+use Rattle.file_names.specs.Numbers.{distinct}
+use Rattle.file_names.specs.Texts.{text_from}
 use Rattle.dwarf_lines.specs.Names.{name_in}
-use Rattle.dwarf_lines.specs.Numbers.{UnitRows, distinct, names_of, numbered_sequences}
+use Rattle.dwarf_lines.specs.Numbers.{UnitRows, numbered_sequences}
 use Rattle.dwarf_lines.specs.Units.{Unit, units_of}
 
 abbrev pub parameters_of : Header → ℕ → ℕ → Parameters
@@ -37,9 +37,9 @@ lengths_in bytes header = take (header.opcodes.base - 1) (drop header.opcodes.le
 unfoldable pub program_in : Header → ℕ → ℕ → List ℕ → Result RowList LineFault
 program_in header file_count room bytes = program_of (parameters_of header file_count room) (lengths_in bytes header) bytes header.program
 
--- the files of the header, and behind them those that the program defines
+-- the files of the header, and behind them those that the program defines, whose names end before a zero byte
 abbrev pub unit_rows : Header → List (List ℕ) → Result RowList LineFault → Result UnitRows LineFault
-unit_rows header names (Ok rows) = Ok (record { names = names ++ rows.names; first = header.first_file; sequences = rows.sequences })
+unit_rows header names (Ok rows) = Ok (record { names = names ++ map (λ name. text_from name 0) rows.names; first = header.first_file; sequences = rows.sequences })
 unit_rows header names (Err e) = Err e
 
 abbrev pub behind_header : Sections → ℕ → Reading (Header × List NamePlace) → Result UnitRows LineFault
@@ -72,24 +72,11 @@ pub record UnitGiven : Type 0 where
   pub place : ℕ
   pub given : Result UnitRows LineFault
 
--- the names behind a unit: those before, and those that its rows have
-abbrev pub names_behind : List (List ℕ) → Result UnitRows LineFault → List (List ℕ)
-names_behind names (Ok unit) = fold with_name names (names_of unit)
-names_behind names (Err e) = names
-
--- a unit with which the names have no room gives that fault instead of rows, and is the last
-abbrev pub given_first : ℕ → List (List ℕ) → Result UnitRows LineFault → List UnitGiven → List UnitGiven
-given_first place names (Ok unit) others =
-    if nat_lt names_room (bytes_of names) then record { place = place; given = Err fault.Names } ∷ []
-    else record { place = place; given = Ok unit } ∷ others
-given_first place names (Err e) others = record { place = place; given = Err e } ∷ others
-
--- what units give one after another, with room for so many rows in all, behind units with these names
-abbrev pub units_given : Sections → ℕ → List (List ℕ) → List Unit → List UnitGiven
-units_given s room names [] = []
-units_given s room names (u ∷ units) =
-    given_first u.place (names_behind names (unit_of s room u)) (unit_of s room u)
-    (units_given s (room_behind room (unit_of s room u)) (names_behind names (unit_of s room u)) units)
+-- what units give one after another, with room for so many rows in all
+abbrev pub units_given : Sections → ℕ → List Unit → List UnitGiven
+units_given s room [] = []
+units_given s room (u ∷ units) =
+    record { place = u.place; given = unit_of s room u } ∷ units_given s (room_behind room (unit_of s room u)) units
 
 -- a unit with a fault gives no rows, and stands in the list of faults
 abbrev pub rows_given : Result UnitRows LineFault → List UnitRows
@@ -100,18 +87,19 @@ abbrev pub fault_given : ℕ → Result UnitRows LineFault → List UnitFault
 fault_given place (Ok unit) = []
 fault_given place (Err e) = record { offset = place; fault = e } ∷ []
 
--- the units of a table, which has no more rows and names than it may
+-- the units of a table, which has no more rows than it may
 abbrev pub table_units : Sections → List UnitGiven
-table_units s = units_given s table_room [] (units_of s.line)
+table_units s = units_given s table_room (units_of s.line)
 
--- what the units give that have no fault, and the names that their rows have
+-- what the units give that have no fault
 abbrev pub read_units : Sections → List UnitRows
 read_units s = flat_map (λ u. rows_given u.given) (table_units s)
 
+-- the names of their files, each once
 abbrev pub names_read : Sections → List (List ℕ)
-names_read s = distinct (flat_map names_of (read_units s))
+names_read s = distinct (flat_map (λ u. u.names) (read_units s))
 
--- the rows of the units in their order; the files are the numbers of the distinct names, in the order of use
+-- the rows of the units in their order; the files are the numbers of the distinct names
 unfoldable pub rows_of : Sections → RowList
 rows_of s =
     record {

@@ -1,11 +1,9 @@
 //! The names of the files of a unit.
 
-ghost use Rattle.std.specs.Prelude.{◌≡◌, [], length, take_while};
-ghost use Rattle.std.specs.List.{slice_index_or};
+ghost use Rattle.std.specs.Prelude.{◌≡◌, length, take_while};
 ghost use Rattle.leb_read.specs.Leb.{is_text_byte};
 ghost use Rattle.file_names.specs.Texts.{text_from};
 
-use line_rows::Rows;
 use memchr::memchr;
 
 // How many bytes stand before the first zero byte; all where there is none.
@@ -27,15 +25,4 @@ pub fn text_from(section: &[u8], at: usize) -> &[u8]
     }
     let front = &section[at..];
     &front[..text_length(front)]
-}
-
-/// The name of a file that a program defines, counted from the first.
-pub fn defined_name(defined: &Rows, k: usize) -> &[u8]
-    ensures { result.now ≡ slice_index_or defined.now.names k [] }
-{
-    if k < defined.name_count() {
-        defined.name(k)
-    } else {
-        &[]
-    }
 }

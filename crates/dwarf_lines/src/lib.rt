@@ -3,7 +3,7 @@
 
 mod adding;
 mod files;
-mod numbers;
+mod met;
 mod section;
 mod unit;
 mod units;

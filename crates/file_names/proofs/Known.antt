@@ -1,16 +1,13 @@
 -- The numbers of names when one is added.
-use Rattle.std.proofs.Common.{◌≡◌, ℕ, zero, suc, ◌+◌, ◌≤◌, ◌<◌, Bool, true, false, cond, eqb, List, [], ◌∷◌, ◌++◌, Option, None, Some, length, refl, arith, ◌∙◌, ap, sym, subst, get_or}
+use Rattle.std.proofs.Common.{◌≡◌, ℕ, zero, suc, ◌+◌, ◌≤◌, ◌<◌, Bool, true, false, cond, eqb, List, [], ◌∷◌, ◌++◌, Option, None, Some, length, refl, arith, ◌∙◌, ap, sym, get_or}
 use Rattle.std.specs.Prelude.{nat_lt, slice_set}
 use Rattle.std.specs.Str.{bytes_eq}
-use Rattle.std.specs.BTreeMap.{BTreeMap}
-use Rattle.std.specs.Cmp.Lexicographic.{bytes_decides, nat_list_eq_equiv}
+use Rattle.std.specs.Cmp.Lexicographic.{bytes_decides}
 use Rattle.std.proofs.lemmas.Bool.Decides.{nat_tests}
 use Rattle.std.proofs.lemmas.List.Folds.{position_or_len_push}
-use Rattle.std.proofs.lemmas.List.{length_push, get_or-set_same}
+use Rattle.std.proofs.lemmas.List.{length_push}
 use Rattle.std.proofs.lemmas.List.Sums.{prefix_len-le-length}
 use Rattle.file_names.specs.Numbers.{number_of, place_of, with_name}
-use Rattle.file_names.specs.Links.{AreLinks, AreNumbers, class_of, number_by}
-use Rattle.file_names.proofs.Links.{same_text}
 
 -- the place that a first place in a list of so many says
 abbrev pub place_in : ℕ → ℕ → Option ℕ
@@ -81,38 +78,12 @@ pub other_push : (names : List (List ℕ)) (q name : List ℕ) → bytes_eq q na
 other_push names q name differs = other_by names q name (place_of names q) refl differs
 
 -- what is at another place
-get_set_other : {X : Type 0} (xs : List X) (k j : ℕ) (v d : X) → (j ≡ k → ⊥) → get_or (slice_set xs k v) j d ≡ get_or xs j d
+pub get_set_other : {X : Type 0} (xs : List X) (k j : ℕ) (v d : X) → (j ≡ k → ⊥) → get_or (slice_set xs k v) j d ≡ get_or xs j d
 get_set_other [] k j v d h = refl
 get_set_other (x ∷ xs) zero zero v d h = absurd (h refl)
 get_set_other (x ∷ xs) zero (suc j) v d h = refl
 get_set_other (x ∷ xs) (suc k) zero v d h = refl
 get_set_other (x ∷ xs) (suc k) (suc j) v d h = get_set_other xs k j v d (λ e. h (ap suc e))
-
-set_here : (links : BTreeMap ℕ ℕ) (numbers : List (Option ℕ)) (names : List (List ℕ)) (name : List ℕ) (c : ℕ) → c < length numbers → class_of links name ≡ Some c → place_of names name ≡ None
-    → number_by (slice_set numbers c (Some (length names))) (class_of links name) ≡ place_of (names ++ name ∷ []) name
-set_here links numbers names name c below is absent = rw is (get_or-set_same numbers c (Some (length names)) None below) ∙ sym (new_push names name absent)
-
-other_class : (links : BTreeMap ℕ ℕ) (numbers : List (Option ℕ)) (count c : ℕ) (w : Option ℕ) (name q : List ℕ) → AreLinks links count → class_of links name ≡ Some c → bytes_eq name q ≡ false
-    → (o : Option ℕ) → class_of links q ≡ o → number_by (slice_set numbers c w) o ≡ number_by numbers o
-other_class links numbers count c w name q h is differs None e = refl
-other_class links numbers count c w name q h is differs (Some d) e =
-    get_set_other numbers c d w None (λ same.
-    let text : name ≡ q = same_text links count h name q c is (e ∙ ap (λ (k : ℕ). Some k) same) in
-    let yes : bytes_eq name q ≡ true = (bytes_decides name q).1 text in
-    absurd (cc))
-
-set_by : (links : BTreeMap ℕ ℕ) (numbers : List (Option ℕ)) (names : List (List ℕ)) (name : List ℕ) (count c : ℕ) → AreLinks links count → AreNumbers links numbers names → c < length numbers → class_of links name ≡ Some c → place_of names name ≡ None
-    → (q : List ℕ) (b : Bool) → bytes_eq name q ≡ b → number_by (slice_set numbers c (Some (length names))) (class_of links q) ≡ place_of (names ++ name ∷ []) q
-set_by links numbers names name count c h are below is absent q true e =
-    let P : List ℕ → Type 0 = λ l. number_by (slice_set numbers c (Some (length names))) (class_of links l) ≡ place_of (names ++ name ∷ []) l in
-    subst P ((bytes_decides name q).0 e) (set_here links numbers names name c below is absent)
-set_by links numbers names name count c h are below is absent q false e =
-    other_class links numbers count c (Some (length names)) name q h is e (class_of links q) refl ∙ are q ∙ sym (other_push names q name (nat_list_eq_equiv.symm q name ∙ e))
-
--- a name that is new has the next number
-pub set_numbers : (links : BTreeMap ℕ ℕ) (numbers : List (Option ℕ)) (names : List (List ℕ)) (name : List ℕ) (count c : ℕ) → AreLinks links count → AreNumbers links numbers names → c < length numbers → class_of links name ≡ Some c → place_of names name ≡ None
-    → AreNumbers links (slice_set numbers c (Some (length names))) (names ++ name ∷ [])
-set_numbers links numbers names name count c h are below is absent q = set_by links numbers names name count c h are below is absent q (bytes_eq name q) refl
 
 -- a name that has a number
 pub known_name : (names : List (List ℕ)) (name : List ℕ) (n : ℕ) → place_of names name ≡ Some n → (n ≡ number_of names name) × (with_name names name ≡ names)

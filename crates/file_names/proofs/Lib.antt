@@ -1,5 +1,5 @@
-pub mod Links
+pub mod Texts
 pub mod Known
-pub mod Grown
-pub mod Rooms
+pub mod Settled
+pub mod Steps
 pub mod Numbered

@@ -1,247 +1,156 @@
--- The number of a name by its class.
-use Rattle.std.proofs.Common.{◌≡◌, ℕ, zero, suc, ◌+◌, ◌-◌, ◌*◌, ◌≤◌, ◌<◌, ◌^◌, List, [], ◌∷◌, ◌++◌, Option, None, Some, length, drop, take, replicate, refl, arith, ◌∙◌, ap, sym, subst, get_or}
-use Rattle.std.specs.Prelude.{slice_set, slice_get, slice_range}
-use Rattle.std.specs.BTreeMap.{BTreeMap}
-use Rattle.std.specs.List.{take_while}
-use Rattle.leb_read.specs.Leb.{is_text_byte}
-use Rattle.std.proofs.lemmas.List.{append-nil, drop-drop, drop-take, take-take, drop_all, length-append, length-set}
-use Rattle.line_rows.proofs.Flat.{slice_range-append, slice_range-behind}
-use Rattle.file_names.specs.declared.texts.Met.{Met}
-use Rattle.file_names.specs.declared.sections.SectionTexts.{SectionTexts}
+-- The numbers of names by their homes.
+use Rattle.std.proofs.Common.{◌≡◌, ℕ, zero, suc, ◌+◌, ◌-◌, ◌≤◌, ◌<◌, Bool, true, false, List, [], ◌∷◌, ◌++◌, Option, None, Some, length, map, take, fold, replicate, refl, arith, inl, inr, ◌∙◌, ap, sym, subst, get_or}
+use Rattle.std.specs.Prelude.{slice_set, slice_range, ◌⊎◌}
+use Rattle.std.specs.Str.{bytes_eq}
+use Rattle.std.specs.Cmp.Lexicographic.{bytes_decides, nat_list_eq_equiv}
+use Rattle.std.proofs.lemmas.Grind.{same_number_lists}
+use Rattle.std.proofs.lemmas.List.{get_or-map, get_or-set_same, get_or_append_left, get_or_push, length-map, length-set, length_push, map_more, take_all}
+use Rattle.std.proofs.lemmas.List.Sums.{fold-append}
 use Rattle.line_rows.specs.RowList.{NameList}
-use Rattle.file_names.specs.Links.{AreLinks, AreNumbers, class_of, number_by}
-use Rattle.file_names.specs.Numbers.{IsOver, names_room, place_of}
-use Rattle.file_names.specs.Tables.{GoesOn, Grows, HasNumbers, IsSection, Keeps, Numbers, NumbersIn, Opens, Sets, StandsAt, StaysIn}
-use Rattle.file_names.specs.Texts.{AreMet, text_from}
-use Rattle.file_names.specs.declared.classes.Classes.{Classes}
-use Rattle.file_names.proofs.Known.{known_name, new_name, set_numbers}
-use Rattle.file_names.proofs.Links.{class_below}
-use Rattle.file_names.proofs.Rooms.{bytes_push, long_over, met_size, new_over}
+use Rattle.file_names.specs.Homes.{AreHomes, size_at}
+use Rattle.file_names.specs.Numbers.{Numbers, distinct, names_at, number_of, place_of, with_name}
+use Rattle.file_names.specs.Texts.{text_from}
+use Rattle.file_names.proofs.Known.{get_set_other, known_name, known_push, new_name, new_push, other_push}
+use Rattle.file_names.proofs.Texts.{text_range}
 
-pub grown_numbers : (old new : Classes) (names : List (List ℕ)) → HasNumbers old names → Grows old new → HasNumbers new names
-grown_numbers old new names h g = record { classes = g.classes; room = omega (arith, g.room, h.room); numbers = λ q. g.numbers q ∙ h.numbers q }
+-- what is there when so many names have their numbers
+pub record AreNumbered (texts places homes : List ℕ) (known : List (Option ℕ)) (names : NameList) (numbers : List ℕ) (done : ℕ) : Type 0 where
+  pub texts_are : names.texts ≡ texts
+  pub slots : length known ≡ length texts + 1
+  pub once : names.names ≡ distinct (names_at texts (take done places))
+  pub known_are : (p : ℕ) → p ≤ length texts → get_or known (get_or homes p 0) None ≡ place_of names.names (text_from texts p)
+  pub count : length numbers ≡ done
+  pub each : (k : ℕ) → k < done → place_of names.names (text_from texts (get_or places k 0)) ≡ Some (get_or numbers k 0)
 
--- where a name of a class stands in the list
-place_is : (classes : Classes) (names : List (List ℕ)) (name : List ℕ) (c : ℕ) (o : Option ℕ) → HasNumbers classes names → class_of classes.links name ≡ Some c → get_or classes.numbers.items c None ≡ o → place_of names name ≡ o
-place_is classes names name c o h is there = sym (h.numbers name) ∙ ap (λ (k : Option ℕ). number_by classes.numbers.items k) is ∙ there
+-- one name more among those that are there once
+once_more : (texts places : List ℕ) (done : ℕ) (names : List (List ℕ)) → done < length places → names ≡ distinct (names_at texts (take done places))
+    → distinct (names_at texts (take (done + 1) places)) ≡ with_name names (text_from texts (get_or places done 0))
+once_more texts places done names below e =
+    ap distinct (map_more (text_from texts) places done 0 below)
+    ∙ fold-append with_name [] (names_at texts (take done places)) (text_from texts (get_or places done 0) ∷ [])
+    ∙ ap (λ (l : List (List ℕ)). with_name l (text_from texts (get_or places done 0))) (sym e)
 
--- there is no room for a name without a number that is longer than what is left
-pub class_over : (old new : Classes) (names : List (List ℕ)) (name : List ℕ) (c : ℕ) → HasNumbers old names → Grows old new → class_of new.links name ≡ Some c → get_or new.numbers.items c None ≡ None → new.room < length name → IsOver names name
-class_over old new names name c h g is there long =
-    let table = grown_numbers old new names h g in
-    new_over names name new.room (place_is new names name c None table is there) table.room long
+-- the numbers so far, and one more
+numbers_more : (texts places : List ℕ) (names after : List (List ℕ)) (numbers : List ℕ) (done n : ℕ) → length numbers ≡ done
+    → ((k : ℕ) → k < done → place_of after (text_from texts (get_or places k 0)) ≡ Some (get_or numbers k 0)) → place_of after (text_from texts (get_or places done 0)) ≡ Some n
+    → (k : ℕ) → k < done + 1 → place_of after (text_from texts (get_or places k 0)) ≡ Some (get_or (numbers ++ n ∷ []) k 0)
+numbers_more texts places names after numbers done n size each here k below = pick (done - k) refl
+  where
+    pick : (d : ℕ) → done - k ≡ d → place_of after (text_from texts (get_or places k 0)) ≡ Some (get_or (numbers ++ n ∷ []) k 0)
+    pick zero e =
+        let same : k ≡ done = omega (arith, e, below) in
+        ap (λ (i : ℕ). place_of after (text_from texts (get_or places i 0))) same ∙ here ∙ ap (λ (i : ℕ). Some i) (sym (get_or_push numbers n 0 k (omega (arith, size, same))))
+    pick (suc d) e = each k (omega (arith, e)) ∙ ap (λ (i : ℕ). Some i) (sym (get_or_append_left numbers (n ∷ []) 0 k (omega (arith, e, size))))
 
--- nor for any that is longer than all may be together
-pub too_long : (classes : Classes) (names : List (List ℕ)) (name : List ℕ) → HasNumbers classes names → names_room < length name → IsOver names name
-too_long classes names name h long = long_over names name (omega (arith, h.room)) long
+-- the numbers of homes when a new one has the next number
+set_known : (texts homes : List ℕ) (known : List (Option ℕ)) (names : List (List ℕ)) (place : ℕ) → AreHomes texts homes → length known ≡ length texts + 1 → place ≤ length texts
+    → ((p : ℕ) → p ≤ length texts → get_or known (get_or homes p 0) None ≡ place_of names (text_from texts p)) → place_of names (text_from texts place) ≡ None
+    → (p : ℕ) → p ≤ length texts → (b : Bool) → bytes_eq (text_from texts place) (text_from texts p) ≡ b
+    → get_or (slice_set known (get_or homes place 0) (Some (length names))) (get_or homes p 0) None ≡ place_of (names ++ text_from texts place ∷ []) (text_from texts p)
+set_known texts homes known names place are slots within known_are absent p low true e =
+    let name = text_from texts place in
+    let text : name ≡ text_from texts p = (bytes_decides name (text_from texts p)).0 e in
+    let home : get_or homes p 0 ≡ get_or homes place 0 = are.one p place low within (sym text) in
+    let below : get_or homes place 0 < length known = omega (arith, slots, (are.same place within).0) in
+    ap (λ (h : ℕ). get_or (slice_set known (get_or homes place 0) (Some (length names))) h None) home
+    ∙ get_or-set_same known (get_or homes place 0) (Some (length names)) None below
+    ∙ sym (new_push names name absent)
+    ∙ ap (λ (l : List ℕ). place_of (names ++ name ∷ []) l) text
+set_known texts homes known names place are slots within known_are absent p low false e =
+    let name = text_from texts place in
+    let apart : get_or homes p 0 ≡ get_or homes place 0 → ⊥ = λ same.
+    let text : name ≡ text_from texts p = sym (are.same place within).1 ∙ ap (text_from texts) (sym same) ∙ (are.same p low).1 in
+    let yes : bytes_eq name (text_from texts p) ≡ true = (bytes_decides name (text_from texts p)).1 text in
+    absurd (cc) in
+    get_set_other known (get_or homes place 0) (get_or homes p 0) (Some (length names)) None apart
+    ∙ known_are p low
+    ∙ sym (other_push names (text_from texts p) name (nat_list_eq_equiv.symm (text_from texts p) name ∙ e))
 
--- nor for a text of a section without a number that is longer than what is left
-pub met_over : (old new : Classes) (names : List (List ℕ)) (section : List ℕ) (known : List (Option Met)) (at place : ℕ) (met : Met) → HasNumbers old names → text_from section place ≡ text_from section at → Keeps old new section known place met
-    → get_or new.numbers.items met.class None ≡ None → new.room < met.past - place → IsOver names (text_from section at)
-met_over old new names section known at place met h same k there long =
-    let is = k.meets.is in
-    subst (λ (l : List ℕ). IsOver names l) same (class_over old new names (text_from section place) met.class h k.meets.grows is.of_class there (omega (arith, long, met_size new.links section place met is)))
+pub number_more : (texts places homes : List ℕ) (known after : List (Option ℕ)) (before names : NameList) (numbers more : List ℕ) (done place home past n : ℕ)
+    → AreHomes texts homes → AreNumbered texts places homes known before numbers done → done < length places → place ≡ get_or places done 0 → place ≤ length texts → home ≡ get_or homes place 0
+    → past ≡ place + size_at texts place → Numbers known after before names home (slice_range before.texts place past) n → more ≡ numbers ++ n ∷ []
+    → AreNumbered texts places homes after names more (done + 1)
+number_more texts places homes known after before names numbers more done place home past n are h below is low home_is past_is step pushed = pick step
+  where
+    name_is : slice_range before.texts place past ≡ text_from texts place
+    name_is = ap (λ (l : List ℕ). slice_range l place past) h.texts_are ∙ text_range texts place past past_is
 
--- a name that has a number
-pub known_number : (old new : Classes) (before after : NameList) (name : List ℕ) (c n : ℕ) → HasNumbers old before.names → Grows old new → class_of new.links name ≡ Some c → get_or new.numbers.items c None ≡ Some n
-    → after.names ≡ before.names → GoesOn before.texts after.texts → Numbers old new before after name n
-known_number old new before after name c n h g is there same on =
-    let table = grown_numbers old new before.names h g in
-    let k = known_name before.names name n (place_is new before.names name c (Some n) table is there) in
-    record {
-      is = k.0;
-      names = same ∙ sym k.1;
-      table = subst (λ (l : List (List ℕ)). HasNumbers new l) (sym same) table;
-      stays = g.stays;
-      texts = on;
-    }
+    at : text_from texts (get_or places done 0) ≡ text_from texts place
+    at = ap (text_from texts) (sym is)
 
-set_table : (mid new : Classes) (names : List (List ℕ)) (name : List ℕ) (c n : ℕ) → HasNumbers mid names → class_of mid.links name ≡ Some c → c < length mid.numbers.items → place_of names name ≡ None
-    → n ≡ length names → Sets mid new c n (length name) → HasNumbers new (names ++ name ∷ [])
-set_table mid new names name c n h is below absent count sets =
-    let numbers : new.numbers.items ≡ slice_set mid.numbers.items c (Some (length names)) = sets.numbers ∙ ap (λ (k : ℕ). slice_set mid.numbers.items c (Some k)) count in
-    let size : length new.numbers.items ≡ length mid.numbers.items = ap length numbers ∙ length-set mid.numbers.items c (Some (length names)) in
-    let set = set_numbers mid.links mid.numbers.items names name (length mid.numbers.items) c h.classes h.numbers below is absent in
-    record {
-      classes = subst (λ (l : BTreeMap ℕ ℕ). AreLinks l (length new.numbers.items)) (sym sets.links) (subst (λ (k : ℕ). AreLinks mid.links k) (sym size) h.classes);
-      room = omega (arith, sets.room, h.room, bytes_push names name);
-      numbers = subst (λ (l : BTreeMap ℕ ℕ). AreNumbers l new.numbers.items (names ++ name ∷ [])) (sym sets.links)
-          (subst (λ (l : List (Option ℕ)). AreNumbers mid.links l (names ++ name ∷ [])) (sym numbers) set);
-    }
+    pick : Numbers known after before names home (slice_range before.texts place past) n → AreNumbered texts places homes after names more (done + 1)
+    pick (inl old) =
+        let here : place_of before.names (text_from texts place) ≡ Some n = sym (h.known_are place low) ∙ ap (λ (i : ℕ). get_or known i None) (sym home_is) ∙ old.0 in
+        let there : place_of before.names (text_from texts (get_or places done 0)) ≡ Some n = ap (place_of before.names) at ∙ here in
+        let known_one = known_name before.names (text_from texts (get_or places done 0)) n there in
+        let now : AreNumbered texts places homes known before (numbers ++ n ∷ []) (done + 1) =
+        record {
+          texts_are = h.texts_are;
+          slots = h.slots;
+          once = sym known_one.1 ∙ sym (once_more texts places done before.names below h.once);
+          known_are = h.known_are;
+          count = omega (arith, h.count, length_push numbers n);
+          each = numbers_more texts places before.names before.names numbers done n h.count h.each there;
+        } in
+        subst (λ (l : List ℕ). AreNumbered texts places homes after names l (done + 1)) (sym pushed)
+        (subst (λ (l : NameList). AreNumbered texts places homes after l (numbers ++ n ∷ []) (done + 1)) (sym old.2)
+        (subst (λ (l : List (Option ℕ)). AreNumbered texts places homes l before (numbers ++ n ∷ []) (done + 1)) (sym old.1) now))
+    pick (inr new) =
+        let name = text_from texts place in
+        let absent : place_of before.names name ≡ None = sym (h.known_are place low) ∙ ap (λ (i : ℕ). get_or known i None) (sym home_is) ∙ new.0 in
+        let count : n ≡ length before.names = new.1 in
+        let made = new_name before.names name absent in
+        let here : place_of (before.names ++ name ∷ []) (text_from texts (get_or places done 0)) ≡ Some n = ap (place_of (before.names ++ name ∷ [])) at ∙ new_push before.names name absent ∙ ap (λ (i : ℕ). Some i) (sym count) in
+        let known_now : after ≡ slice_set known (get_or homes place 0) (Some (length before.names)) = new.2 ∙ ap (λ (i : ℕ). slice_set known home (Some i)) count ∙ ap (λ (i : ℕ). slice_set known i (Some (length before.names))) home_is in
+        let names_now : names ≡ record before { names = before.names ++ name ∷ [] } = new.3 ∙ ap (λ (l : List ℕ). record before { names = before.names ++ l ∷ [] }) name_is in
+        let now : AreNumbered texts places homes (slice_set known (get_or homes place 0) (Some (length before.names))) (record before { names = before.names ++ name ∷ [] }) (numbers ++ n ∷ []) (done + 1) =
+        record {
+          texts_are = h.texts_are;
+          slots = length-set known (get_or homes place 0) (Some (length before.names)) ∙ h.slots;
+          once = sym made.1 ∙ ap (with_name before.names) (sym at) ∙ sym (once_more texts places done before.names below h.once);
+          known_are = λ p within. set_known texts homes known before.names place are h.slots low h.known_are absent p within (bytes_eq name (text_from texts p)) refl;
+          count = omega (arith, h.count, length_push numbers n);
+          each = numbers_more texts places before.names (before.names ++ name ∷ []) numbers done n h.count (λ k lower. known_push before.names (text_from texts (get_or places k 0)) name (get_or numbers k 0) (h.each k lower)) here;
+        } in
+        subst (λ (l : List ℕ). AreNumbered texts places homes after names l (done + 1)) (sym pushed)
+        (subst (λ (l : NameList). AreNumbered texts places homes after l (numbers ++ n ∷ []) (done + 1)) (sym names_now)
+        (subst (λ (l : List (Option ℕ)). AreNumbered texts places homes l (record before { names = before.names ++ name ∷ [] }) (numbers ++ n ∷ []) (done + 1)) (sym known_now) now))
 
--- a name that is new
-pub new_number : (old mid new : Classes) (before after : NameList) (name : List ℕ) (c n : ℕ) → HasNumbers old before.names → Grows old mid → class_of mid.links name ≡ Some c → get_or mid.numbers.items c None ≡ None
-    → n ≡ length before.names → Sets mid new c n (length name) → after.names ≡ before.names ++ name ∷ [] → GoesOn before.texts after.texts → Numbers old new before after name n
-new_number old mid new before after name c n h g is there count sets pushed on =
-    let table = grown_numbers old mid before.names h g in
-    let below = class_below mid.links (length mid.numbers.items) g.classes name c is in
-    let absent = place_is mid before.names name c None table is there in
-    let k = new_name before.names name absent in
-    record {
-      is = count ∙ k.0;
-      names = pushed ∙ sym k.1;
-      table = subst (λ (l : List (List ℕ)). HasNumbers new l) (sym pushed) (set_table mid new before.names name c n table is below absent count sets);
-      stays = λ text v e. ap (λ (l : BTreeMap ℕ ℕ). class_of l text) sets.links ∙ g.stays text v e;
-      texts = on;
-    }
+-- when all have their numbers
+pub once_all : (texts places homes : List ℕ) (known : List (Option ℕ)) (names : NameList) (numbers : List ℕ) (done : ℕ) → length places ≤ done → AreNumbered texts places homes known names numbers done → names.names ≡ distinct (names_at texts places)
+once_all texts places homes known names numbers done most h = h.once ∙ ap (λ (l : List ℕ). distinct (names_at texts l)) (take_all done places most)
 
--- nothing is kept more
-pub goes_on_none : (texts : List ℕ) → GoesOn texts texts
-goes_on_none texts = ([], sym (append-nil texts))
+pub numbers_all : (texts places homes : List ℕ) (known : List (Option ℕ)) (names : NameList) (numbers : List ℕ) (done : ℕ) → length places ≤ done → done ≤ length places → AreNumbered texts places homes known names numbers done
+    → numbers ≡ map (number_of (distinct (names_at texts places))) (names_at texts places)
+numbers_all texts places homes known names numbers done most least h =
+    same_number_lists numbers (map (number_of names.names) (names_at texts places)) (omega (arith, h.count, most, least, size, size_of))
+    (λ k below.
+    let low : k < length places = omega (arith, below, h.count, least) in
+    (known_name names.names (text_from texts (get_or places k 0)) (get_or numbers k 0) (h.each k (omega (arith, below, h.count)))).0
+    ∙ sym (get_or-map (number_of names.names) (names_at texts places) k [] 0 (omega (arith, low, size)) ∙ ap (number_of names.names) (get_or-map (text_from texts) places k 0 [] low)))
+    ∙ ap (λ (l : List (List ℕ)). map (number_of l) (names_at texts places)) (once_all texts places homes known names numbers done most h)
+  where
+    size : length (names_at texts places) ≡ length places
+    size = length-map places (text_from texts)
 
-pub open_known : (links : BTreeMap ℕ ℕ) (names : NameList) (section : List ℕ) (table : SectionTexts) (start : ℕ) → IsSection links names.texts section table → table.start ≡ Some start → Opens links names names section table start
-open_known links names section table start h is = record { names = refl; texts = goes_on_none names.texts; is_section = h; stands = h.kept start is }
+    size_of : length (map (number_of names.names) (names_at texts places)) ≡ length (names_at texts places)
+    size_of = length-map (names_at texts places) (number_of names.names)
 
-none_get : (n at : ℕ) (met : Met) → slice_get (replicate n None) at ≡ Some (Some met) → ⊥
-none_get zero at met e = absurd (cc)
-none_get (suc n) zero met e = absurd (cc)
-none_get (suc n) (suc at) met e = none_get n at met e
+-- before the first
+pub none_numbered : (texts places homes : List ℕ) (known : List (Option ℕ)) (names : NameList) → length known ≡ length texts + 1 → ((i : ℕ) → get_or known i None ≡ None) → names ≡ record { texts = texts; names = [] }
+    → AreNumbered texts places homes known names [] 0
+none_numbered texts places homes known names slots none e =
+    subst (λ (l : NameList). AreNumbered texts places homes known l [] 0) (sym e)
+    (record {
+      texts_are = refl;
+      slots = slots;
+      once = refl;
+      known_are = λ p within. none (get_or homes p 0);
+      count = refl;
+      each = λ k below. absurd (omega (arith, below));
+    })
 
-stands_behind : (texts section : List ℕ) (start : ℕ) → start ≡ length texts → length section < 2 ^ 32 → length (texts ++ section) < 2 ^ 64 → StandsAt (texts ++ section) section start
-stands_behind texts section start behind fits most =
-    let size : length (texts ++ section) ≡ length texts + length section = length-append texts section in
-    record {
-      within = omega arith;
-      is = slice_range-behind texts section start (start + length section) behind (omega arith);
-      fits = fits;
-      addressed = omega arith;
-    }
-
-fresh_section : (links : BTreeMap ℕ ℕ) (texts section : List ℕ) (start n : ℕ) (table : SectionTexts) → table.start ≡ Some start → table.known.items ≡ replicate n None → StandsAt texts section start → IsSection links texts section table
-fresh_section links texts section start n table is none stands =
-    record {
-      met = subst (λ (l : List (Option Met)). AreMet links section l) (sym none) (λ at met e. absurd (none_get n at met e));
-      kept = λ other there. let same : Some start ≡ Some other = sym is ∙ there in let at : start ≡ other = cc in subst (λ (k : ℕ). StandsAt texts section k) at stands;
-    }
-
--- a section is kept behind what was kept
-pub open_new : (links : BTreeMap ℕ ℕ) (before after : NameList) (section : List ℕ) (table : SectionTexts) (start end n fits : ℕ) → start ≡ length before.texts → after ≡ record before { texts = before.texts ++ section }
-    → end ≡ length after.texts → end < 2 ^ 64 → fits ≡ length section → fits < 2 ^ 32 → table.start ≡ Some start → table.known.items ≡ replicate n None → Opens links before after section table start
-open_new links before after section table start end n fits begin kept is_end most is_size small is none =
-    let texts : after.texts ≡ before.texts ++ section = ap (λ (l : NameList). l.texts) kept in
-    let size : length after.texts ≡ length (before.texts ++ section) = ap length texts in
-    let stands : StandsAt after.texts section start =
-    subst (λ (l : List ℕ). StandsAt l section start) (sym texts) (stands_behind before.texts section start begin (omega arith) (omega arith)) in
-    record {
-      names = ap (λ (l : NameList). l.names) kept;
-      texts = (section, texts);
-      is_section = fresh_section links after.texts section start n table is none stands;
-      stands = stands;
-    }
-
-grown_section : (old new : Classes) (texts section : List ℕ) (table : SectionTexts) (known : List (Option Met)) → IsSection old.links texts section table → AreMet new.links section known
-    → (after : SectionTexts) → after.start ≡ table.start → after.known.items ≡ known → IsSection new.links texts section after
-grown_section old new texts section table known h are after start items =
-    record {
-      met = subst (λ (l : List (Option Met)). AreMet new.links section l) (sym items) are;
-      kept = λ other there. h.kept other (sym start ∙ there);
-    }
-
-no_text : (section : List ℕ) (at : ℕ) → length section ≤ at → text_from section at ≡ []
-no_text section at past = ap (λ (l : List ℕ). take_while is_text_byte l) (drop_all at section past)
-
--- no text stands behind a section
-pub text_past : (section : List ℕ) (at place : ℕ) → length section ≤ at → length section ≤ place → text_from section at ≡ text_from section place
-text_past section at place h k = no_text section at h ∙ sym (no_text section place k)
-
-known_in : (old mid : Classes) (before after : NameList) (section : List ℕ) (known : List (Option Met)) (opened table : SectionTexts) (start place n : ℕ) (met : Met)
-    → HasNumbers old before.names → Opens old.links before after section opened start → Keeps old mid section known place met → table.start ≡ opened.start → table.known.items ≡ known
-    → IsSection mid.links after.texts section table
-known_in old mid before after section known opened table start place n met h o k begin items = grown_section old mid after.texts section opened known o.is_section k.kept table begin items
-
--- a name in a section that has a number
-pub in_known : (old new : Classes) (before after : NameList) (section : List ℕ) (known : List (Option Met)) (opened table : SectionTexts) (start at place n : ℕ) (met : Met)
-    → HasNumbers old before.names → Opens old.links before after section opened start → text_from section place ≡ text_from section at → Keeps old new section known place met
-    → get_or new.numbers.items met.class None ≡ Some n → table.start ≡ opened.start → table.known.items ≡ known → NumbersIn old new before after section at table n
-in_known old new before after section known opened table start at place n met h o same k there begin items =
-    let is = k.meets.is in
-    record {
-      numbers = subst (λ (l : List ℕ). Numbers old new before after l n) same (known_number old new before after (text_from section place) met.class n h k.meets.grows is.of_class there o.names o.texts);
-      in_section = known_in old new before after section known opened table start place n met h o k begin items;
-    }
-
-part_of : (section l : List ℕ) (n i j : ℕ) → take n l ≡ section → i ≤ j → j ≤ n → slice_range section i j ≡ take (j - i) (drop i l)
-part_of section l n i j whole order within =
-    let size : n ≡ i + (n - i) = omega arith in
-    let front : drop i section ≡ take (n - i) (drop i l) =
-    ap (λ (s : List ℕ). drop i s) (sym whole) ∙ ap (λ (k : ℕ). drop i (take k l)) size ∙ drop-take i (n - i) l in
-    ap (λ (s : List ℕ). take (j - i) s) front ∙ take-take (j - i) (n - i) (drop i l) (omega arith)
-
--- a part of a section stands where the section does
-range_in : (texts section : List ℕ) (start i j : ℕ) → StandsAt texts section start → i ≤ j → j ≤ length section → slice_range texts (start + i) (start + j) ≡ slice_range section i j
-range_in texts section start i j stands order within =
-    let all : start + length section - start ≡ length section = omega arith in
-    let whole : take (length section) (drop start texts) ≡ section = ap (λ (n : ℕ). take n (drop start texts)) (sym all) ∙ stands.is in
-    let size : start + j - (start + i) ≡ j - i = omega arith in
-    ap (λ (n : ℕ). take n (drop (start + i) texts)) size ∙ ap (λ (l : List ℕ). take (j - i) l) (sym (drop-drop i start texts))
-    ∙ sym (part_of section (drop start texts) (length section) i j whole order within)
-
--- a name in a section that is new
-pub in_new : (old mid new : Classes) (before opened_names after : NameList) (section : List ℕ) (known : List (Option Met)) (opened table : SectionTexts) (start at place n : ℕ) (met : Met)
-    → HasNumbers old before.names → Opens old.links before opened_names section opened start → text_from section place ≡ text_from section at → Keeps old mid section known place met
-    → get_or mid.numbers.items met.class None ≡ None → n ≡ length opened_names.names → Sets mid new met.class n (met.past - place)
-    → after ≡ record opened_names { names = opened_names.names ++ slice_range opened_names.texts (start + place) (start + met.past) ∷ [] }
-    → table.start ≡ opened.start → table.known.items ≡ known → NumbersIn old new before after section at table n
-in_new old mid new before opened_names after section known opened table start at place n met h o same k there count sets pushed begin items =
-    let is = k.meets.is in
-    let text : slice_range opened_names.texts (start + place) (start + met.past) ≡ text_from section place =
-    range_in opened_names.texts section start place met.past o.stands is.ordered is.within ∙ is.text in
-    let size : n ≡ length before.names = count ∙ ap length o.names in
-    let taken : Sets mid new met.class n (length (text_from section place)) = subst (λ (k : ℕ). Sets mid new met.class n k) (sym (met_size mid.links section place met is)) sets in
-    let names : after.names ≡ before.names ++ text_from section place ∷ [] =
-    ap (λ (l : NameList). l.names) pushed ∙ ap (λ (t : List ℕ). opened_names.names ++ t ∷ []) text ∙ ap (λ (l : List (List ℕ)). l ++ text_from section place ∷ []) o.names in
-    let texts : after.texts ≡ opened_names.texts = ap (λ (l : NameList). l.texts) pushed in
-    let on : GoesOn before.texts after.texts = (o.texts.0, texts ∙ o.texts.1) in
-    let in_mid = known_in old mid before opened_names section known opened table start place n met h o k begin items in
-    record {
-      numbers = subst (λ (l : List ℕ). Numbers old new before after l n) same
-          (new_number old mid new before after (text_from section place) met.class n h k.meets.grows is.of_class there size taken names on);
-      in_section = subst (λ (l : BTreeMap ℕ ℕ). IsSection l after.texts section table) (sym sets.links) (subst (λ (l : List ℕ). IsSection mid.links l section table) (sym texts) in_mid);
-    }
-
-stands_still : (old more : List ℕ) (new section : List ℕ) (start : ℕ) → new ≡ old ++ more → StandsAt old section start → StandsAt new section start
-stands_still old more new section start is h =
-    let size : length new ≡ length old + length more = ap length is ∙ length-append old more in
-    let within = h.within in
-    record {
-      within = omega arith;
-      is = ap (λ (l : List ℕ). slice_range l start (start + length section)) is ∙ slice_range-append old more start (start + length section) (omega arith) within ∙ h.is;
-      fits = h.fits;
-      addressed = h.addressed;
-    }
-
--- what is kept of a section stays its own
-pub section_stays : (old new : Classes) (before after : NameList) (name section : List ℕ) (n : ℕ) (table : SectionTexts) → Numbers old new before after name n → IsSection old.links before.texts section table → IsSection new.links after.texts section table
-section_stays old new before after name section n table h is =
-    record {
-      met = λ k met there. let m = is.met k met there in record { of_class = h.stays (text_from section (16 * k)) met.class m.of_class; text = m.text; ordered = m.ordered; within = m.within };
-      kept = λ start there. stands_still before.texts h.texts.0 after.texts section start h.texts.1 (is.kept start there);
-    }
-
--- nothing is kept yet
-pub no_section : (links : BTreeMap ℕ ℕ) (texts section : List ℕ) (table : SectionTexts) → table.start ≡ None → table.known.items ≡ [] → IsSection links texts section table
-no_section links texts section table start known =
-    record {
-      met = λ at met there. let none : slice_get [] at ≡ Some (Some met) = ap (λ (l : List (Option Met)). slice_get l at) (sym known) ∙ there in absurd (cc);
-      kept = λ other there. let none : None ≡ Some other = sym start ∙ there in absurd (cc);
-    }
-
-numbers_grow : (old new : Classes) (names : List (List ℕ)) → HasNumbers old names → Grows old new → HasNumbers new names
-numbers_grow old new names h g = record { classes = g.classes; room = omega (arith, g.room, h.room); numbers = λ name. g.numbers name ∙ h.numbers name }
-
--- no name came from a section, which may be kept
-pub stays_in : (old new : Classes) (before opened_names after : NameList) (section : List ℕ) (known : List (Option Met)) (opened table : SectionTexts) (start : ℕ)
-    → HasNumbers old before.names → Opens old.links before opened_names section opened start → Grows old new → AreMet new.links section known → after ≡ opened_names
-    → table.start ≡ opened.start → table.known.items ≡ known → StaysIn old new before after section table
-stays_in old new before opened_names after section known opened table start h o g are same begin items =
-    let names : after.names ≡ before.names = ap (λ (l : NameList). l.names) same ∙ o.names in
-    let texts : after.texts ≡ opened_names.texts = ap (λ (l : NameList). l.texts) same in
-    record {
-      stays = record {
-        names = names;
-        table = subst (λ (l : List (List ℕ)). HasNumbers new l) (sym names) (numbers_grow old new before.names h g);
-        stays = g.stays;
-        texts = (o.texts.0, texts ∙ o.texts.1);
-      };
-      in_section = grown_section old new after.texts section opened known (subst (λ (l : List ℕ). IsSection old.links l section opened) (sym texts) o.is_section) are table begin items;
-    }
+pub replicate_none : (n i : ℕ) (o : Option ℕ) → o ≡ None → get_or (replicate n o) i None ≡ None
+replicate_none zero i o e = refl
+replicate_none (suc n) zero o e = e
+replicate_none (suc n) (suc i) o e = replicate_none n i o e

@@ -1,5 +1,3 @@
-pub mod Numbers
-pub mod Faults
-pub mod Links
 pub mod Texts
-pub mod Tables
+pub mod Numbers
+pub mod Homes

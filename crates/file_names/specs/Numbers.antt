@@ -1,7 +1,9 @@
--- The numbers of file names: names are numbered from 0 in the order in which rows first have them.
-use Rattle.std.specs.Prelude.{◌<◌, ℕ, Bool, List, [], ◌∷◌, ◌++◌, length, nat_lt, Option, sum_by, if◌then◌else◌}
-use Rattle.std.specs.List.{position, position_or_len}
+-- The numbers of file names: distinct names are numbered from 0 in the order in which they first stand in a list.
+use Rattle.std.specs.Prelude.{◌≡◌, ◌⊎◌, ℕ, Bool, List, [], ◌∷◌, ◌++◌, length, fold, map, nat_lt, slice_set, Option, None, Some, if◌then◌else◌}
+use Rattle.std.specs.List.{position, position_or_len, slice_index_or}
 use Rattle.std.specs.Str.{bytes_eq}
+use Rattle.line_rows.specs.RowList.{NameList}
+use Rattle.file_names.specs.Texts.{text_from}
 
 -- a name's number, which for a new name is the next one
 abbrev pub number_of : List (List ℕ) → List ℕ → ℕ
@@ -13,18 +15,20 @@ is_known names name = nat_lt (number_of names name) (length names)
 abbrev pub with_name : List (List ℕ) → List ℕ → List (List ℕ)
 with_name names name = if is_known names name then names else names ++ name ∷ []
 
+-- each name once
+abbrev pub distinct : List (List ℕ) → List (List ℕ)
+distinct names = fold with_name [] names
+
 -- where a name stands in the list
 abbrev pub place_of : List (List ℕ) → List ℕ → Option ℕ
 place_of names name = position (bytes_eq name) names
 
--- how many bytes names have together
-abbrev pub bytes_of : List (List ℕ) → ℕ
-bytes_of names = sum_by length names
+-- the number of a home: it has one, or it gets the next one and its name comes behind the others
+abbrev pub Numbers : List (Option ℕ) → List (Option ℕ) → NameList → NameList → ℕ → List ℕ → ℕ → Type 0
+Numbers known after before names home name n =
+    ((slice_index_or known home None ≡ Some n) × (after ≡ known) × (names ≡ before))
+    ⊎ ((slice_index_or known home None ≡ None) × (n ≡ length before.names) × (after ≡ slice_set known home (Some n)) × (names ≡ record before { names = before.names ++ name ∷ [] }))
 
--- names have room for so many bytes together
-abbrev pub names_room : ℕ
-names_room = 262144
-
--- with a name more there would be more bytes than room
-abbrev pub IsOver : List (List ℕ) → List ℕ → Type 0
-IsOver names name = names_room < bytes_of (with_name names name)
+-- the names that begin at places of a text
+abbrev pub names_at : List ℕ → List ℕ → List (List ℕ)
+names_at text places = map (text_from text) places

@@ -1,134 +1,107 @@
 //! The numbers of names.
 
-ghost use Rattle.std.specs.Prelude.{◌≡◌, ◌+◌, ◌<◌, ◌≤◌, IfOk, OnErr, None, Some, length, replicate, slice_index_or};
-ghost use Rattle.file_names.specs.Faults.{OnFull};
-ghost use Rattle.file_names.specs.Numbers.{IsOver};
-ghost use Rattle.file_names.specs.Tables.{HasNumbers, IsSection, IsShut, Numbers, NumbersIn, Opens, Sets, Stays, StaysIn};
-ghost use Rattle.file_names.specs.Texts.{text_from};
+ghost use Rattle.std.specs.Prelude.{◌≡◌, ℕ, ◌+◌, ◌≤◌, ◌<◌, ◌^◌, [], None, All, IfOk, length, map, replicate, slice_index, slice_range};
+ghost use Rattle.std.specs.List.{slice_index_or};
+ghost use Rattle.file_names.specs.Homes.{AreEnds, AreHomes};
+ghost use Rattle.file_names.specs.Numbers.{Numbers, distinct, names_at, number_of};
 
-use crate::classes::{Classes, NAMES_ROOM, class_of, next_number};
-use crate::fault::NameError;
-use crate::sections::SectionTexts;
-use crate::texts::{Met, STRIDE, met_at};
+use crate::homes::homes_of;
+use crate::places::text_ends;
 use dbg_traits::NoMemory;
 use line_rows::FileNames;
 use std::alloc::Global;
 
-fn number_by(classes: &Classes, class: u32) -> Option<u32>
-    requires { class < length classes.now.numbers.items }
-    ensures { result ≡ slice_index_or classes.now.numbers.items class None }
-{
-    classes.numbers[class as usize]
+/// Names by their numbers, and the number of each name that was given.
+#[derive(Drop)]
+pub struct NameNumbers {
+    pub names: FileNames,
+    pub numbers: Vec<u32>,
 }
 
-// Sets the number of a class, whose text takes room.
-fn set_number(classes: &mut Classes, class: u32, number: u32, size: usize)
-    requires below { class < length classes.old.numbers.items }
-    requires fits { size ≤ classes.old.room }
-    ensures { Sets classes.old classes.new class number size }
+/// The next number, which has 32 bits.
+fn next_number(count: usize) -> Result<u32, NoMemory>
+    ensures { IfOk result (λ n. n ≡ count) }
 {
-    classes.numbers[class as usize] = Some(number);
-    classes.room -= size;
+    match u32::try_from(count) {
+        Ok(number) => Ok(number),
+        Err(_) => Err(NoMemory),
+    }
 }
 
-/// The number of a name, which is the next one where the list had no such name. Without memory, and for a new name where
-/// there is no room for it, the names stay as they were, with their numbers.
-pub fn number_of(
-    classes: &mut Classes,
-    names: &mut FileNames,
-    name: &[u8],
-) -> Result<u32, NameError>
-    requires { HasNumbers classes.old names.old.names }
-    ensures number { IfOk result (λ n. Numbers classes.old classes.new names.old names.new name.now n) }
-    ensures full { OnFull result (IsOver names.old.names name.now) }
-    ensures err { OnErr result (Stays classes.old classes.new names.old names.new) }
-{
-    if name.len() > NAMES_ROOM {
-        return Err(NameError::Full);
-    }
-    let class = class_of(classes, name)?;
-    if let Some(number) = number_by(classes, class) {
-        return Ok(number);
-    }
-    if name.len() > classes.room {
-        return Err(NameError::Full);
-    }
-    let number = next_number(names.count())?;
-    names.push(name)?;
-    set_number(classes, class, number, name.len());
-    Ok(number)
-}
-
-fn no_texts(alloc: Global, count: usize) -> Result<Vec<Option<Met>>, NoMemory>
-    ensures { IfOk result (λ v. v.items ≡ replicate count None) }
+fn none_known(alloc: Global, count: usize) -> Result<Vec<Option<u32>>, NoMemory>
+    ensures { IfOk result (λ known. known.items ≡ replicate count None) }
 {
     Ok(vec![in alloc; None; count]?)
 }
 
-// Where a section is kept, which it is from the first time on.
-fn kept_at(
-    alloc: Global,
-    classes: &Classes,
+// The number of the name at a place of the kept texts, by its home, which for a new home is the next one.
+fn number_at(
+    place: usize,
+    homes: &[u32],
+    ends: &[u32],
+    known: &mut [Option<u32>],
     names: &mut FileNames,
-    table: &mut SectionTexts,
-    section: &[u8],
-) -> Result<usize, NoMemory>
-    requires { IsSection classes.now.links names.old.texts section.now table.old }
-    ensures opens { IfOk result (λ start. Opens classes.now.links names.old names.new section.now table.new start) }
-    ensures err { OnErr result (IsShut classes.now.links names.old names.new section.now table.new) }
+) -> Result<u32, NoMemory>
+    requires place { place < length homes.now }
+    requires end { place < length ends.now }
+    requires home { slice_index homes.now place < length known.old }
+    requires ordered { place ≤ slice_index ends.now place }
+    requires within { slice_index ends.now place ≤ length names.old.texts }
+    ensures { IfOk result (λ n. Numbers known.old known.new names.old names.new (slice_index homes.now place) (slice_range names.old.texts place (slice_index ends.now place)) n) }
 {
-    if let Some(start) = table.start {
-        return Ok(start);
-    }
-    let _fits = next_number(section.len())?;
-    let start = names.kept();
-    names.keep(section)?;
-    let _end = names.kept();
-    table.known = no_texts(alloc, section.len() / STRIDE as usize + 1)?;
-    table.start = Some(start);
-    Ok(start)
-}
-
-// A place within a section where the same text stands.
-#[tactic(auto, using(crate::proofs::Numbered::text_past))]
-fn within(section: &[u8], at: usize) -> usize
-    ensures below { result ≤ length section.now }
-    ensures same { text_from section.now result ≡ text_from section.now at }
-{
-    if section.len() < at {
-        return section.len();
-    }
-    at
-}
-
-/// The number of the name that begins at a place of a section and ends before a zero byte, as `number_of`. Without memory
-/// or room the names stay as they were, with their numbers; the section may have been kept.
-pub fn number_in(
-    alloc: Global,
-    classes: &mut Classes,
-    names: &mut FileNames,
-    table: &mut SectionTexts,
-    section: &[u8],
-    at: usize,
-) -> Result<u32, NameError>
-    requires numbers { HasNumbers classes.old names.old.names }
-    requires kept { IsSection classes.old.links names.old.texts section.now table.old }
-    ensures number { IfOk result (λ n. NumbersIn classes.old classes.new names.old names.new section.now at table.new n) }
-    ensures full { OnFull result (IsOver names.old.names (text_from section.now at)) }
-    ensures err { OnErr result (StaysIn classes.old classes.new names.old names.new section.now table.new) }
-{
-    let start = kept_at(alloc, classes, names, table, section)?;
-    let at = next_number(within(section, at))?;
-    let met = met_at(classes, &mut table.known, section, at)?;
-    if let Some(number) = number_by(classes, met.class) {
+    let home = homes[place] as usize;
+    if let Some(number) = known[home] {
         return Ok(number);
     }
-    let size = (met.past - at) as usize;
-    if size > classes.room {
-        return Err(NameError::Full);
-    }
     let number = next_number(names.count())?;
-    names.push_part(start + at as usize, start + met.past as usize)?;
-    set_number(classes, met.class, number, size);
+    names.push_part(place, ends[place] as usize)?;
+    known[home] = Some(number);
     Ok(number)
+}
+
+// The number of the name at each place of the kept texts, where none has one yet. The names come to be.
+fn number_places(
+    alloc: Global,
+    places: &[u32],
+    homes: &[u32],
+    ends: &[u32],
+    known: &mut [Option<u32>],
+    names: &mut FileNames,
+) -> Result<Vec<u32>, NoMemory>
+    requires places { All (λ p. p ≤ length names.old.texts) places.now }
+    requires homes { AreHomes names.old.texts homes.now }
+    requires ends { AreEnds names.old.texts ends.now }
+    requires slots { length known.old ≡ length names.old.texts + 1 }
+    requires none { (i : ℕ) → slice_index_or known.old i None ≡ None }
+    requires no_names { names.old.names ≡ [] }
+    ensures names { IfOk result (λ _. names.new.names ≡ distinct (names_at names.old.texts places.now)) }
+    ensures numbers { IfOk result (λ v. v.items ≡ map (number_of (distinct (names_at names.old.texts places.now))) (names_at names.old.texts places.now)) }
+{
+    let mut numbers = Vec::with_capacity(alloc, places.len())?;
+    for place in places {
+        numbers.push(number_at(*place as usize, homes, ends, known, names)?)?;
+    }
+    Ok(numbers)
+}
+
+/// The names that begin at places of texts and end before the next zero byte: each once, and the number of each. The texts
+/// are kept for the names.
+///
+/// # Errors
+/// No memory for them, which texts of 2^32 bytes have never.
+pub fn number_names(alloc: Global, texts: &[u8], places: &[u32]) -> Result<NameNumbers, NoMemory>
+    requires { All (λ p. p ≤ length texts.now) places.now }
+    ensures names { IfOk result (λ n. n.names.names ≡ distinct (names_at texts.now places.now)) }
+    ensures few { IfOk result (λ n. length n.numbers.items < 2 ^ 32) }
+    ensures numbers { IfOk result (λ n. n.numbers.items ≡ map (number_of (distinct (names_at texts.now places.now))) (names_at texts.now places.now)) }
+{
+    let _fits = next_number(texts.len())?;
+    let _few = next_number(places.len())?;
+    let homes = homes_of(alloc, texts)?;
+    let ends = text_ends(alloc, texts)?;
+    let mut known = none_known(alloc, homes.len())?;
+    let mut names = FileNames::new(alloc);
+    names.keep(texts)?;
+    let numbers = number_places(alloc, places, &homes, &ends, &mut known, &mut names)?;
+    Ok(NameNumbers { names, numbers })
 }

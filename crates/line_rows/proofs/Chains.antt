@@ -19,12 +19,6 @@ pub chain_ordered : (at : ℕ) (rs : List RowRange) (past : ℕ) → Chained at 
 chain_ordered at [] past h = omega (arith, h)
 chain_ordered at (r ∷ rs) past h = omega (arith, h.0, h.1, chain_ordered r.past rs past h.2)
 
--- the ranges before one end where it begins
-pub chain_cut : (at : ℕ) (rs : List RowRange) (past k : ℕ) (d : RowRange) → Chained at rs past → k < length rs → Chained at (take k rs) (get_or rs k d).start × ((get_or rs k d).start ≤ past)
-chain_cut at [] past k d h below = absurd (omega (arith, below))
-chain_cut at (r ∷ rs) past zero d h below = (sym h.0, omega (arith, h.1, chain_ordered r.past rs past h.2))
-chain_cut at (r ∷ rs) past (suc k) d h below = let rest = chain_cut r.past rs past k d h.2 (omega (arith, below)) in ((h.0, h.1, rest.0), rest.1)
-
 pub chain_ranges : (at : ℕ) (rs : List RowRange) (past : ℕ) → Chained at rs past → All (IsRowRange past) rs
 chain_ranges at [] past h = All-nil (IsRowRange past)
 chain_ranges at (r ∷ rs) past h =
@@ -51,19 +45,3 @@ chain_whole rows at (r ∷ rs) past h k =
     let split : room_taken (sequences_in rows (r ∷ rs)) ≡ room_of (slice_range rows r.start r.past) + room_taken (sequences_in rows rs) =
     sum_by-cons (λ s. room_of s.rows) (sequence_in rows r) (sequences_in rows rs) in
     omega (arith, h.0, some, count, room, rest, split)
-
--- all ranges, where no number is wanted less
-pub chain_all : (rs : List RowRange) (past k : ℕ) → Chained 0 rs past → length rs ≤ k → Chained 0 (take k rs) past
-chain_all rs past k h far = subst (λ (l : List RowRange). Chained 0 l past) (sym (take_all k rs far)) h
-
--- the sequences before one stand in the rows before it
-pub sequences_cut : (rows : List Row) (rs : List RowRange) (k past : ℕ) → Chained 0 (take k rs) past → past ≤ length rows
-    → (let less : SequenceList = record { ended = sequences_in (take past rows) (take k rs); pending = drop past (take past rows) } in less ≡ record { ended = take k (sequences_in rows rs); pending = [] })
-sequences_cut rows rs k past h within =
-    let size : length (take past rows) ≡ past = omega (arith, within, length-take past rows) in
-    let joined : sequences_in (take past rows ++ drop past rows) (take k rs) ≡ sequences_in (take past rows) (take k rs) =
-    sequences_in-append (take past rows) (drop past rows) past (take k rs) (omega (arith, size)) (chain_ranges 0 (take k rs) past h) in
-    let ended : sequences_in (take past rows) (take k rs) ≡ take k (sequences_in rows rs) =
-    sym joined ∙ ap (λ (l : List Row). sequences_in l (take k rs)) (take-append-drop past rows) ∙ sym (take-map _ k rs) in
-    let none : drop past (take past rows) ≡ [] = drop_all past (take past rows) (omega (arith, size)) in
-    rw (ended, none) refl

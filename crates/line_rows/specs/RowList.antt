@@ -1,5 +1,6 @@
 -- Line tables as lists (DWARF 5, section 6.2).
-use Rattle.std.specs.Prelude.{ℕ, ◌+◌, ◌++◌, List, [], ◌∷◌, length, sum_by}
+use Rattle.std.specs.Prelude.{ℕ, ◌+◌, ◌++◌, List, [], ◌∷◌, length, map, sum_by}
+use Rattle.std.specs.List.{slice_index_or}
 use Rattle.line_rows.specs.declared.row.Row.{Row}
 use Rattle.line_rows.specs.declared.row.SequenceView.{SequenceView}
 use Rattle.line_rows.specs.declared.fault.UnitFault.{UnitFault}
@@ -70,3 +71,10 @@ sequence_shown v = record { rows = v.rows.now; end = v.end }
 abbrev pub ended_with : List Sequence → List Row → ℕ → List Sequence
 ended_with sequences [] end = sequences
 ended_with sequences (row ∷ rows) end = sequences ++ record { rows = row ∷ rows; end = end } ∷ []
+
+-- a row whose file is the number that stands in a list where the row's file says
+abbrev pub renumbered : List ℕ → Row → Row
+renumbered numbers r = record r { file = slice_index_or numbers r.file 0 }
+
+abbrev pub renumbered_sequence : List ℕ → Sequence → Sequence
+renumbered_sequence numbers s = record { rows = map (renumbered numbers) s.rows; end = s.end }

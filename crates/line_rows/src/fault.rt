@@ -32,9 +32,6 @@ pub enum LineFault {
     /// A row more than the table may have.
     #[error("too many rows")]
     Rows,
-    /// The distinct names of the rows' files would have more than 262,144 bytes together.
-    #[error("the names of files are too long together")]
-    Names,
 }
 
 /// Why a unit wasn't read.

@@ -1,4 +1,4 @@
-ghost use Rattle.std.specs.Prelude.{◌≡◌, ◌+◌, ◌<◌, ◌≤◌, [], ◌∷◌, ◌++◌, Some, length, IfOk, OnOk, OnErr, slice_get, slice_range, take};
+ghost use Rattle.std.specs.Prelude.{◌≡◌, ◌+◌, ◌<◌, ◌≤◌, [], ◌∷◌, ◌++◌, Some, length, OnOk, OnErr, slice_get, slice_range};
 ghost use Rattle.line_rows.specs.RowList.{NameList, no_names};
 
 use dbg_traits::NoMemory;
@@ -42,13 +42,6 @@ impl FileNames {
         }
     }
 
-    /// How many bytes of texts are kept.
-    pub fn kept(&self) -> usize
-        ensures { result ≡ length self.now.texts }
-    {
-        self.bytes.len()
-    }
-
     /// Keeps a text more, of which names can be parts. Without memory all stays as it was.
     pub fn keep(&mut self, text: &[u8]) -> Result<(), NoMemory>
         ensures ok { OnOk result (self.new ≡ record self.old { texts = self.old.texts ++ text.now }) }
@@ -80,13 +73,6 @@ impl FileNames {
     {
         self.ranges.push(NameRange { start, past })?;
         Ok(())
-    }
-
-    /// Drops the names from a number on. The texts stay.
-    pub fn truncate(&mut self, count: usize)
-        ensures { self.new ≡ record self.old { names = take count self.old.names } }
-    {
-        self.ranges.truncate(count);
     }
 
     /// How many names there are.

@@ -1,7 +1,7 @@
 //! The rows of a section, and how they are put together.
 
-ghost use Rattle.std.specs.Prelude.{◌≡◌, ◌+◌, ◌<◌, [], ◌∷◌, ◌++◌, Some, length, OnOk, OnErr, slice_get, take};
-ghost use Rattle.line_rows.specs.RowList.{ended_with, finished, no_rows, nothing_built, room_used, sequence_shown};
+ghost use Rattle.std.specs.Prelude.{◌≡◌, ◌+◌, ◌<◌, [], ◌∷◌, ◌++◌, Some, length, OnOk, OnErr, map, slice_get};
+ghost use Rattle.line_rows.specs.RowList.{ended_with, finished, no_rows, nothing_built, renumbered, renumbered_sequence, room_used, sequence_shown};
 
 use crate::fault::UnitFault;
 use crate::names::FileNames;
@@ -148,11 +148,12 @@ impl RowsBuilder {
         Ok(())
     }
 
-    /// Drops the sequences from a number on, and the rows of one that isn't ended.
-    pub fn truncate(&mut self, count: usize)
-        ensures { self.new ≡ record self.old { sequences = take count self.old.sequences; pending = [] } }
+    /// Each row of the sequences that are ended gets for its file the number that stands in a list where the file says, or
+    /// 0 behind the list.
+    pub fn renumber(&mut self, numbers: &[u32])
+        ensures { self.new ≡ record self.old { sequences = map (renumbered_sequence numbers.now) self.old.sequences; pending = map (renumbered numbers.now) self.old.pending } }
     {
-        self.sequences.truncate(count);
+        self.sequences.renumber(numbers);
     }
 
     /// How much room the rows take, with two for the end of each sequence.
@@ -160,13 +161,6 @@ impl RowsBuilder {
         ensures { result ≡ room_used self.now }
     {
         self.sequences.room_used()
-    }
-
-    /// How many sequences are ended.
-    pub fn sequence_count(&self) -> usize
-        ensures { result ≡ length self.now.sequences }
-    {
-        self.sequences.count()
     }
 
     /// How many file names there are.

@@ -1,6 +1,6 @@
-ghost use Rattle.std.specs.Prelude.{◌≡◌, ◌+◌, ◌<◌, ◌≤◌, [], ◌∷◌, ◌++◌, Some, length, OnOk, OnErr, slice_get, take};
-ghost use Rattle.line_rows.specs.KeptSequences.{Chained};
-ghost use Rattle.line_rows.specs.RowList.{ended_with, room_taken, sequence_shown};
+ghost use Rattle.std.specs.Prelude.{◌≡◌, ◌+◌, ◌<◌, [], ◌∷◌, ◌++◌, Some, length, map, OnOk, OnErr, slice_get};
+ghost use Rattle.std.specs.List.{slice_index_or};
+ghost use Rattle.line_rows.specs.RowList.{ended_with, renumbered, renumbered_sequence, room_taken, sequence_shown};
 
 use crate::row::{Row, SequenceView};
 use dbg_traits::NoMemory;
@@ -36,16 +36,21 @@ impl Model for Sequences {
     ghost invariant = { IsKept };
 }
 
-// Where the ranges before a number end, of those that end at a place together.
-fn end_before(ranges: &[RowRange], past: usize, count: usize) -> usize
-    requires { Chained 0 ranges.now past }
-    ensures chained { Chained 0 (take count ranges.now) result }
-    ensures ordered { result ≤ past }
+fn number_at(numbers: &[u32], place: u32) -> u32
+    ensures { result ≡ slice_index_or numbers.now place 0 }
 {
-    if count < ranges.len() {
-        return ranges[count].start;
+    match numbers.get(place as usize) {
+        Some(number) => *number,
+        None => 0,
     }
-    past
+}
+
+fn renumber(rows: &mut [Row], numbers: &[u32])
+    ensures { rows.new ≡ map (renumbered numbers.now) rows.old }
+{
+    for row in rows.iter_mut() {
+        row.file = number_at(numbers, row.file);
+    }
 }
 
 impl Sequences {
@@ -83,13 +88,11 @@ impl Sequences {
         Ok(())
     }
 
-    /// Drops the sequences from a number on, and the rows of one that isn't ended.
-    pub fn truncate(&mut self, count: usize)
-        ensures { self.new ≡ record { ended = take count self.old.ended; pending = [] } }
+    /// Each row gets for its file the number that stands in a list where the file says, or 0 behind the list.
+    pub fn renumber(&mut self, numbers: &[u32])
+        ensures { self.new ≡ record { ended = map (renumbered_sequence numbers.now) self.old.ended; pending = map (renumbered numbers.now) self.old.pending } }
     {
-        self.pending = end_before(&self.ranges, self.pending, count);
-        self.ranges.truncate(count);
-        self.rows.truncate(self.pending);
+        renumber(&mut self.rows, numbers);
     }
 
     /// How much room the rows take, with two for the end of each sequence.

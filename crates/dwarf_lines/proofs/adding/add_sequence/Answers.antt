@@ -1,23 +1,27 @@
-use Rattle.std.proofs.Common.{arith}
-use Rattle.std.specs.Prelude.{⊤}
-use Rattle.std.proofs.lemmas.Result.{err_from_is_err_and}
-use Rattle.line_rows.specs.RowList.{sequence_shown}
-use Rattle.line_rows.specs.Sections.{sections_shown}
-use Rattle.file_names.proofs.Rooms.{full_by}
-use Rattle.dwarf_lines.specs.Adding.{named, shown_in}
-use Rattle.dwarf_lines.proofs.Full.{sequence_built, sequence_overfull}
+use Rattle.std.proofs.Common.{◌≡◌, ◌<◌, ◌≤◌, ◌∙◌, ◌++◌, ◌∷◌, [], false, length, ap, sym, get_or, arith}
+use Rattle.line_rows.specs.RowList.{Building, sequence_shown}
+use Rattle.line_rows.specs.declared.row.Row.{Row}
+use Rattle.dwarf_lines.specs.Adding.{add_row}
+use Rattle.dwarf_lines.proofs.Placed.{fold_all, fold_more, on_ok, sequence_ended}
 use Rattle.dwarf_lines.proofs.adding.add_sequence.Goals as goal
 
-pub returns-in_err-add_row-clause-full : goal.returns-in_err-add_row-clause-full
-returns-in_err-add_row-clause-full c =
-    let p = err_from_is_err_and c.from_residual.result c.from_residual.ensures.1 in
-    let below = c.loop-row-test.true in
-    rw (p.1, p.2) (full_by ⊤ ⊤ _ c.in_err-add_row.ensures.full (λ over.
-    sequence_overfull (shown_in c.args.sections.now c.args.unit.now) (named c.args.rows.now c.args.numbers.now) (named c.loop-row.rows c.loop-row.numbers) (named c.add_row.new.rows c.add_row.new.numbers)
-    c.args.unit.now.rows.sequences c.args.k c.loop-row.row-index _ (sequence_shown c.sequence-sequence.result) c.requires.within c.sequence-sequence.ensures (omega (arith, below)) c.loop-row.invariant.same over))
+pub loop-row-preserved : goal.loop-row-preserved
+loop-row-preserved c =
+    let rows = c.args.sequence.now.rows.now in
+    let i = c.loop-row.row-index in
+    let within : i < length rows = omega arith in
+    let d : Row = record { address = 0; file = 0; line = 0; is_stmt = false; prologue_end = false } in
+    let b = c.loop-row.rows in
+    c.in_ok-push_row.ensures.ok
+    ∙ ap (λ (r : Row). let n : Building = record b { pending = b.pending ++ r ∷ [] } in n) c.placed.ensures
+    ∙ ap (λ (x : Building). add_row c.args.files x (get_or rows i d)) c.loop-row.invariant
+    ∙ sym (fold_more (add_row c.args.files) c.args.rows.now rows i d within)
 
-pub returns-clause-ok : goal.returns-clause-ok
-returns-clause-ok c =
+pub returns : goal.returns
+returns c =
+    let rows = c.args.sequence.now.rows.now in
     let past = c.loop-row-test.false in
-    sequence_built (sections_shown c.args.sections.now) (shown_in c.args.sections.now c.args.unit.now) c.loop-row.known c.loop-row.numbers (named c.args.rows.now c.args.numbers.now) c.loop-row.rows c.end_sequence.new.self
-    c.args.unit.now.rows.sequences c.args.k c.loop-row.row-index (sequence_shown c.sequence-sequence.result) c.requires.within c.sequence-sequence.ensures c.loop-row.invariant (omega (arith, past)) c.in_ok-end_sequence.ensures.ok
+    let all : length rows ≤ c.loop-row.row-index = omega (arith, past) in
+    on_ok c.end_sequence.result
+    (λ is. sequence_ended c.args.files c.args.rows.now c.loop-row.rows c.end_sequence.new.self (sequence_shown c.args.sequence.now) (c.loop-row.invariant ∙ fold_all (add_row c.args.files) c.args.rows.now rows c.loop-row.row-index all) is)
+    c.end_sequence.ensures.ok
