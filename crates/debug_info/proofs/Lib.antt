@@ -8,10 +8,6 @@ pub mod Behind
 pub mod Runs
 pub mod Opened
 pub mod Texts
-pub mod Orders
-pub mod Merge
-pub mod Lookups
-pub mod Halves
 pub mod Listed
 pub mod Links
 pub mod Levels

@@ -1,12 +1,12 @@
 -- Entries whose offsets rise.
 use Rattle.std.proofs.Common.{◌≡◌, ◌<◌, ◌≤◌, ◌+◌, ◌++◌, ℕ, zero, suc, true, false, List, [], ◌∷◌, length, Option, None, Some, refl, arith, sym, subst, append-nil}
 use Rattle.std.specs.Prelude.{◌==◌, nat_le, find, slice_index_or, IfSome}
+use Rattle.std.proofs.lemmas.Bool.{leb-false, leb-true}
 use Rattle.std.proofs.lemmas.Bool.Decides.{nat_tests}
 use Rattle.std.proofs.lemmas.List.{get_or_default}
 use Rattle.debug_info.specs.Entries.{entry_list}
 use Rattle.debug_info.specs.Rising.{RisesFrom}
 use Rattle.debug_info.specs.declared.entry.Entry.{Entry}
-use Rattle.debug_info.proofs.Orders.{no-le, yes-le}
 
 -- from a first offset on, and below an end
 abbrev pub RisesTo : ℕ → List Entry → ℕ → Type 0
@@ -107,6 +107,6 @@ found_nowhere es offset low high x r h met other = sym (find_none es offset (λ 
     cases : (k : ℕ) (d : Entry) → k < length es → (slice_index_or es k d).offset ≡ offset → ⊥
     cases k d under is =
         elim (nat_le low k) as (λ b. nat_le low k ≡ b → ⊥) [
-          | true ↦ λ e. behind k d (yes-le low k e) under is
-          | false ↦ λ e. (let b = h.below k d (no-le low k e) in omega arith)
+          | true ↦ λ e. behind k d (leb-true low k e) under is
+          | false ↦ λ e. (let b = h.below k d (leb-false low k e) in omega arith)
         ] refl

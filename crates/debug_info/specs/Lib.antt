@@ -14,7 +14,6 @@ pub mod Spans
 pub mod Order
 pub mod Contents
 pub mod Functions
-pub mod Steps
 pub mod Scope
 pub mod Shown
 pub mod Info

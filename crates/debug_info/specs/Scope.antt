@@ -14,7 +14,7 @@ use Rattle.debug_info.specs.declared.expression.Place.{Place}
 use Rattle.debug_info.specs.declared.expression.Place.TheVariants as place
 use Rattle.debug_info.specs.declared.form.TextPlace.{TextPlace}
 use Rattle.debug_info.specs.declared.form.TextPlace.TheVariants as text
-use Rattle.debug_info.specs.declared.table.Function.{Function}
+use Rattle.debug_info.specs.declared.functions.Function.{Function}
 
 -- a variable, its name as bytes
 pub record Variable : Type 0 where

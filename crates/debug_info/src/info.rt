@@ -1,21 +1,22 @@
 ghost use Rattle.std.specs.Prelude.{◌≡◌, ◌≤◌, [], All, IfOk, drop, length, slice_get, unwrap_or};
+ghost use Rattle.address_tables.specs.Tables.{IsTable};
 ghost use Rattle.debug_info.specs.Contents.{contents_of, shown, units_shown};
 ghost use Rattle.debug_info.specs.Functions.{function_at};
 ghost use Rattle.debug_info.specs.Info.{info_of, scope};
 ghost use Rattle.debug_info.specs.Rising.{IsRising, RisesFrom};
 ghost use Rattle.debug_info.specs.Shown.{shown_variables};
-ghost use Rattle.debug_info.specs.Steps.{IsTable};
 ghost use Rattle.debug_info.specs.TextLengths.{AreLengths};
 
 use crate::entry::Entry;
 use crate::fault::UnitFault;
+use crate::functions::{Function, functions_of};
 use crate::index::index_of;
 use crate::limits::{ABBREVS, FUNCTIONS, SECTION, first};
 use crate::offset::{Sections, Source};
 use crate::scope::{Texts, Var, variables_in};
-use crate::table::{Step, function_at, functions_of, table_of};
 use crate::text_lengths::{TextLengths, text_lengths_of};
 use crate::unit::{Contents, Unit, contents_of};
+use address_tables::{table_of, value_at};
 use dbg_traits::NoMemory;
 use std::alloc::Global;
 use std::marker::Model;
@@ -26,7 +27,7 @@ use std::marker::Model;
 pub struct Info {
     contents: Contents,
     /// The function of each address, in the order of the addresses at which it changes.
-    steps: Vec<Step>,
+    functions: Vec<address_tables::Entry<Function>>,
     info: Vec<u8>,
     strs: Vec<u8>,
     lengths: TextLengths,
@@ -57,10 +58,10 @@ pub fn read_info(alloc: Global, sections: &Sections<'_>) -> Result<Info, NoMemor
     let info = first(sections.info, SECTION);
     let lengths = text_lengths_of(alloc, strs)?;
     let contents = contents_by(alloc, abbrevs, strs, &lengths, info)?;
-    let steps = steps_of(alloc, &contents)?;
+    let functions = function_table(alloc, &contents)?;
     Ok(Info {
         contents,
-        steps,
+        functions,
         info: Vec::from_slice(alloc, info)?,
         strs: Vec::from_slice(alloc, strs)?,
         lengths,
@@ -93,8 +94,11 @@ fn contents_by(
 }
 
 // The table of the first functions.
-fn steps_of(alloc: Global, contents: &Contents) -> Result<Vec<Step>, NoMemory>
-    ensures { IfOk result (λ steps. IsTable steps.items (function_at (units_shown contents.now.units.items))) }
+fn function_table(
+    alloc: Global,
+    contents: &Contents,
+) -> Result<Vec<address_tables::Entry<Function>>, NoMemory>
+    ensures { IfOk result (λ table. IsTable table.items (function_at (units_shown contents.now.units.items))) }
 {
     let functions = functions_of(alloc, &contents.units)?;
     Ok(table_of(alloc, first(&functions, FUNCTIONS))?)
@@ -134,7 +138,7 @@ impl Info {
     pub fn variables_at(&self, alloc: Global, pc: u32) -> Result<Vec<Var<'_>>, NoMemory>
         ensures { IfOk result (λ variables. shown_variables variables.items ≡ scope self.now pc) }
     {
-        match function_at(&self.steps, u64::from(pc)) {
+        match value_at(&self.functions, u64::from(pc)) {
             None => Ok(Vec::new(alloc)),
             Some(function) => {
                 let texts = Texts {

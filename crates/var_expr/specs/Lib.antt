@@ -1,5 +1,5 @@
 pub mod Holder
 pub mod Stands
 pub mod Places
-pub mod Parsed
 pub mod Expanded
+pub mod Parsed

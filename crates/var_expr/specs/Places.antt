@@ -25,5 +25,5 @@ abbrev pub place_by : ℕ → Option Replaced → ℕ → ℕ
 place_by given_length None at = at
 place_by given_length (Some r) at = place_behind given_length r at
 
-abbrev pub place_of : Expanded → ℕ → ℕ
-place_of e at = place_by (length_of e) (last_begun at (names_of e)) at
+abbrev pub place_of : ℕ → List Replaced → ℕ → ℕ
+place_of given_length names at = place_by given_length (last_begun at names) at

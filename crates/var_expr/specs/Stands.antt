@@ -2,7 +2,7 @@
 use Rattle.std.specs.Prelude.{ℕ, ◌==◌, List, ◌++◌, Option, None, Some, codes, decimal, if◌then◌else◌}
 use Rattle.std.specs.Global.{Vec}
 use Rattle.std.specs.Int.{to_be_bytes, w32}
-use Rattle.std.specs.Option.{option_map, option_and_then}
+use Rattle.std.specs.Option.{option_map}
 use Rattle.hex.specs.Hex.{encode_lower}
 use Rattle.debug_info.specs.Scope.{Variable}
 use Rattle.debug_info.specs.declared.entry.Kind.{Kind}
@@ -10,6 +10,8 @@ use Rattle.debug_info.specs.declared.entry.Kind.TheVariants as kind
 use Rattle.var_expr.specs.declared.holder.Holder.{Holder}
 use Rattle.var_expr.specs.declared.holder.Holder.TheVariants.{Memory, Register}
 use Rattle.var_expr.specs.declared.standing.Around as code
+use Rattle.var_expr.specs.declared.standing.Standing as shown
+use Rattle.var_expr.specs.declared.standing.Standing.TheVariants as variants
 use Rattle.var_expr.specs.Holder.{holder_of}
 
 -- what stands before and behind an address or the number of a register
@@ -63,9 +65,33 @@ abbrev pub text_of : Kind → Holder → Option (List ℕ)
 text_of k (Memory address) = memory_text k address
 text_of k (Register n) = register_text k n
 
--- the text that stands for a variable, by a hart's registers and the CFA of its frame
+-- what stands for a variable: a text that reads it, or why there is none
+pub data Standing : Type 0 where
+  reads : List ℕ → Standing
+  optimized_out : Standing
+  not_read : Standing
+
+abbrev pub text_or_none : Option (List ℕ) → Standing
+text_or_none None = not_read
+text_or_none (Some bytes) = reads bytes
+
+-- that a variable isn't known to be anywhere comes before its type
+abbrev pub standing_by : Kind → Option Holder → Standing
+standing_by k None = optimized_out
+standing_by k (Some holder) = text_or_none (text_of k holder)
+
+-- by a hart's registers and the CFA of its frame
+abbrev pub standing_of : (ℕ → ℕ) → Option ℕ → Variable → Standing
+standing_of registers cfa v = standing_by v.kind (holder_of registers cfa v)
+
+abbrev pub text_in : Standing → Option (List ℕ)
+text_in (reads bytes) = Some bytes
+text_in optimized_out = None
+text_in not_read = None
+
+-- the text that stands for a variable
 abbrev pub stands : (ℕ → ℕ) → Option ℕ → Variable → Option (List ℕ)
-stands registers cfa v = option_and_then (text_of v.kind) (holder_of registers cfa v)
+stands registers cfa v = text_in (standing_of registers cfa v)
 
 -- how the code keeps them
 abbrev pub around_shown : code.Around → Around
@@ -73,3 +99,8 @@ around_shown a = record { front = a.front.now; behind = a.behind.now }
 
 abbrev pub bytes_of : Vec ℕ → List ℕ
 bytes_of text = text.items
+
+abbrev pub standing_shown : shown.Standing → Standing
+standing_shown (variants.Text bytes) = reads bytes.items
+standing_shown variants.OptimizedOut = optimized_out
+standing_shown variants.NotRead = not_read

@@ -70,7 +70,7 @@ impl Expanded {
     /// The place of the given text that one of the new text counts as: inside a replacement its name's first byte, and
     /// behind it the place moved back.
     pub fn place(&self, at: usize) -> usize
-        ensures { result ≡ place_of self.now at }
+        ensures { result ≡ place_of (length_of self.now) (names_of self.now) at }
     {
         match last_begun(&self.names, at) {
             None => at,

@@ -8,5 +8,6 @@ mod replacing;
 mod standing;
 
 pub use expanded::{Expanded, Replaced};
+pub use parse::parse_in;
 pub use replacing::expand;
-pub use standing::stands;
+pub use standing::{Standing, standing_of, stands, stands_is_parsed};

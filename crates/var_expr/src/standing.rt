@@ -1,15 +1,30 @@
 //! The text that stands for a variable.
 
-ghost use Rattle.std.specs.Prelude.{◌≡◌, ◌<◌, ◌++◌, IfOk, OnOk, decimal};
+ghost use Rattle.std.specs.Prelude.{◌≡◌, ◌<◌, ◌++◌, ℕ, IfOk, List, Ok, OnOk, Option, Some, decimal};
 ghost use Rattle.std.specs.Option.{option_map};
+ghost use Rattle.elf_symbols.specs.Names.{Names};
+ghost use Rattle.cond_expr.specs.Reader.{parsed};
+ghost use Rattle.cond_expr.specs.Term.{Term};
+ghost use Rattle.debug_info.specs.Scope.{Variable};
 ghost use Rattle.debug_info.specs.Shown.{shown_variable};
-ghost use Rattle.var_expr.specs.Stands.{address_text, around_address, around_register, around_shown, bytes_of, memory_text, register_text, stands};
+ghost use Rattle.var_expr.specs.Stands.{address_text, around_address, around_register, around_shown, bytes_of, memory_text, register_text, standing_of, standing_shown, stands};
 
 use crate::holder::{Holder, holder_of};
 use dbg_traits::{NoMemory, View};
 use debug_info::{Kind, Var};
 use itoa::Buffer;
 use std::alloc::Global;
+
+/// What stands for a variable in an expression.
+#[derive(Drop)]
+pub enum Standing {
+    /// A text that reads it.
+    Text(Vec<u8>),
+    /// Nothing, since it isn't known to be anywhere.
+    OptimizedOut,
+    /// Nothing, since its type isn't read, or not where it is.
+    NotRead,
+}
 
 /// What stands before and behind an address or the number of a register.
 #[derive(Clone, Copy)]
@@ -84,8 +99,28 @@ fn register_text(alloc: Global, kind: Kind, n: u8) -> Result<Option<Vec<u8>>, No
     Ok(Some(text))
 }
 
-/// The text that reads a variable over the registers of a view and the CFA of its frame, or none where the variable
-/// isn't known to be anywhere, where its type isn't read, and where one of less than four bytes is in a register.
+/// What stands for a variable over the registers of a view and the CFA of its frame: a text that reads it, or that it isn't
+/// known to be anywhere, or else that its type isn't read, or not in a register.
+pub fn standing_of<V: View>(
+    alloc: Global,
+    var: &Var<'_>,
+    view: &V,
+    cfa: Option<u32>,
+) -> Result<Standing, NoMemory>
+    ensures { IfOk result (λ standing. standing_shown standing ≡ standing_of (V.registers view.now) cfa (shown_variable var.now)) }
+{
+    let text = match holder_of(var, view, cfa) {
+        None => return Ok(Standing::OptimizedOut),
+        Some(Holder::Memory(address)) => memory_text(alloc, var.kind, address)?,
+        Some(Holder::Register(n)) => register_text(alloc, var.kind, n)?,
+    };
+    match text {
+        None => Ok(Standing::NotRead),
+        Some(text) => Ok(Standing::Text(text)),
+    }
+}
+
+/// The text that stands for a variable, or none.
 pub fn stands<V: View>(
     alloc: Global,
     var: &Var<'_>,
@@ -94,9 +129,13 @@ pub fn stands<V: View>(
 ) -> Result<Option<Vec<u8>>, NoMemory>
     ensures { IfOk result (λ text. option_map bytes_of text ≡ stands (V.registers view.now) cfa (shown_variable var.now)) }
 {
-    match holder_of(var, view, cfa) {
-        None => Ok(None),
-        Some(Holder::Memory(address)) => memory_text(alloc, var.kind, address),
-        Some(Holder::Register(n)) => register_text(alloc, var.kind, n),
+    match standing_of(alloc, var, view, cfa)? {
+        Standing::Text(text) => Ok(Some(text)),
+        Standing::OptimizedOut | Standing::NotRead => Ok(None),
     }
 }
+
+/// A text that stands for a variable is an expression, whatever symbols there are.
+pub fn stands_is_parsed()
+    ensures { (symbols : Names) (registers : ℕ → ℕ) (cfa : Option ℕ) (v : Variable) (text : List ℕ) → stands registers cfa v ≡ Some text → (x : Term) × (parsed symbols text ≡ Ok x) }
+{}

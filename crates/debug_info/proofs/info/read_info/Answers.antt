@@ -6,7 +6,7 @@ use Rattle.debug_info.proofs.info.read_info.Goals as goal
 
 pub invariant_of-result : goal.invariant_of-result
 invariant_of-result c = record {
-  steps = c.in_ok-steps.ensures;
+  functions = c.in_ok-functions.ensures;
   rising = c.in_ok-contents.ensures.rising;
   lengths = rw c.in_ok-from_slice-2.ensures.items c.in_ok-lengths.ensures;
 }
