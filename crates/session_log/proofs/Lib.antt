@@ -1,0 +1,12 @@
+pub mod Lines
+pub mod Adding
+pub mod Cuts
+pub mod Numbers
+pub mod Guesses
+pub mod Alike
+pub mod Pieces
+pub mod Whole
+pub mod Again
+pub mod Found
+pub mod Records
+pub mod Faults
