@@ -1,0 +1,163 @@
+"""The debugger's side: lines of GDB's machine interface, and the process that does and writes them."""
+
+import codecs
+import collections
+import contextlib
+import ctypes
+import json
+import os
+import queue
+import re
+import signal
+import subprocess
+import threading
+import time
+
+STREAM = re.compile(rb'[@&~]"((?:[^"\\]|\\.)*)"')
+RECORD = re.compile(rb"\d*([\^*=])([A-Za-z0-9_-]+)(?:,|$)")
+TOKEN = re.compile(rb'"((?:[^"\\]|\\.)*)"|([A-Za-z0-9_-]+)=|([{}\[\],])')
+ESCAPE = re.compile(rb"\\([0-7]{1,3}|.)")
+ESCAPED = {b"n": b"\n", b"r": b"\r", b"t": b"\t"}
+PLAIN = re.compile(rb"[ !#-\[\]-~]")
+
+# A result (`^`), or what happened by itself (`*`, `=`), its class, and its fields as dicts, lists and texts.
+Record = collections.namedtuple("Record", "kind name fields text")
+
+
+class Refused(Exception):
+    """What the debugger or the adapter doesn't do, and why; `code` is the debugger's, where it has one."""
+
+    def __init__(self, text, code=None):
+        super().__init__(text)
+        self.code = code
+
+
+def c_string(text):
+    """A text as one word of a line."""
+    return '"%s"' % "".join(chr(it) if PLAIN.match(bytes((it,))) else "\\%03o" % it for it in text.encode("utf-8", "surrogateescape"))
+
+
+def bytes_of(text):
+    """The bytes that a C string without its quotes stands for."""
+    return ESCAPE.sub(lambda it: bytes((int(it[1], 8) & 255,)) if it[1].isdigit() else ESCAPED.get(it[1], it[1]), text)
+
+
+def stream(line):
+    """The bytes of a line of output, or the line itself where it isn't well formed."""
+    found = STREAM.fullmatch(line)
+    return bytes_of(found[1]) if found else line
+
+
+def record(line):
+    """A line as a record, by way of JSON: names of a list's elements are left out."""
+    head = RECORD.match(line)
+    if head is None:
+        raise ValueError("it is no record")
+    made, brackets, place = ["{"], ["{"], head.end()
+    while place < len(line):
+        token = TOKEN.match(line, place)
+        if token is None:
+            raise ValueError("at byte %d" % place)
+        place, (text, name, mark) = token.end(), token.groups()
+        if text is not None:
+            made.append(json.dumps(bytes_of(text).decode("utf-8", "surrogateescape")))
+        elif name is not None:
+            made += ['"%s":' % name.decode()] if brackets[-1:] == ["{"] else []
+        else:
+            made.append(mark.decode())
+            brackets = brackets[:-1] if mark in b"}]" else brackets + made[-1:] if mark in b"{[" else brackets
+    return Record(head[1].decode(), head[2].decode(), json.loads("".join(made) + "}"), line.lstrip(b"0123456789").decode("utf-8", "replace"))
+
+
+class Answer:
+    """What a line is answered: a result, the threads that go on by it, and the prompt. What happens meanwhile isn't of it."""
+
+    def __init__(self, token):
+        self.token, self.result, self.running, self.is_whole = b"%d^" % token, b"", [], False
+
+    def takes(self, line):
+        """Whether the line is of this answer."""
+        if not self.result:
+            self.result = line if line.startswith((b"^", self.token)) else b""
+            self.is_whole = self.result.lstrip(b"0123456789") == b"^exit"
+            return bool(self.result)
+        self.is_whole = line.rstrip() == b"(gdb)"
+        if line.startswith(b"*running,"):
+            self.running.append(line)
+        return self.is_whole or line.startswith(b"*running,")
+
+
+LIBRARY = ctypes.CDLL(None)
+
+
+class Debugger:
+    """The process. A thread reads what it writes: answers are handed to who waits for them, all else goes to the inbox."""
+
+    def __init__(self, words, inbox):
+        pipes = dict(stdin=subprocess.PIPE, stdout=subprocess.PIPE, stderr=subprocess.PIPE, bufsize=0)
+        # A debugger whose adapter is killed isn't to run on for hours: 1 is PR_SET_PDEATHSIG.
+        self.process = subprocess.Popen(words, start_new_session=True, preexec_fn=lambda: LIBRARY.prctl(1, signal.SIGKILL), **pipes)
+        self.inbox, self.answers, self.waiting, self.token, self.is_closing = inbox, queue.Queue(), None, 0, False
+        self.decode = codecs.getincrementaldecoder("utf-8")("replace").decode
+        self.errors = threading.Thread(target=self.read, args=(self.process.stderr, "said"), daemon=True)
+        self.errors.start()
+        threading.Thread(target=self.read, args=(self.process.stdout, "lines"), daemon=True).start()
+
+    def read(self, pipe, kind):
+        """Reads lines to the end. Where the inbox is full it waits, but not while an answer is waited for."""
+        rest, piece = b"", b" "
+        while piece:
+            piece = os.read(pipe.fileno(), 65536)
+            *lines, rest = (rest + (piece or b"\n")).split(b"\n")
+            self.inbox.put((self, kind, [line for line in lines if line and not self.answered(line)]))
+            while self.inbox.qsize() > 16 and self.waiting is None and not self.is_closing:
+                time.sleep(0.002)
+        if kind == "lines":
+            self.errors.join(1.0)
+            self.inbox.put((self, "ended"))
+            self.answers.put(None)
+
+    def answered(self, line):
+        """Hands on a line of the answer that is waited for, and says whether it is one."""
+        waiting = self.waiting
+        is_taken = waiting is not None and waiting.takes(line)
+        if is_taken and waiting.is_whole:
+            self.waiting = None
+            self.answers.put(waiting)
+        return is_taken
+
+    def do(self, command, seconds):
+        """Does a line, and gives its result and the numbers of the threads that go on by it."""
+        self.token += 1
+        self.waiting = answer = Answer(self.token)
+        try:
+            os.write(self.process.stdin.fileno(), b"%d%s\n" % (self.token, command.encode("utf-8", "surrogateescape")))
+            found = self.answers.get(timeout=max(0.0, seconds))
+            while found not in (answer, None):
+                found = self.answers.get(timeout=max(0.0, seconds))
+            if found is None:
+                raise Refused("the debugger has ended")
+            return record(answer.result), [int(record(line).fields["thread-id"]) for line in answer.running]
+        except queue.Empty:
+            raise Refused("%.100s: the debugger doesn't answer in time" % command) from None
+        except (OSError, ValueError, KeyError) as error:
+            raise Refused("%.100s: the debugger's answer isn't understood (%s)" % (command, error)) from error
+        finally:
+            self.waiting = None
+
+    def status(self, seconds=2.0):
+        """What the process ended with, or None where it doesn't end."""
+        with contextlib.suppress(subprocess.TimeoutExpired):
+            return self.process.wait(seconds)
+
+    def stop(self, is_asked):
+        """Ends the process and what it started: by its own command where it listens to that, else by signals."""
+        self.is_closing = True
+        with contextlib.suppress(OSError, ValueError):
+            os.write(self.process.stdin.fileno(), b"-gdb-exit\n" if is_asked else b"")
+            self.process.stdin.close()
+        self.status(1.0 if is_asked else 0.0)
+        for number in (signal.SIGTERM, signal.SIGKILL):
+            if self.process.poll() is None:
+                os.killpg(self.process.pid, number)
+                self.status()
