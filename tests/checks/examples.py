@@ -1,17 +1,24 @@
-"""What README and the examples show: each is run again, and its output compared with what stands there.
+"""What the documents and the examples show: each command is run again, and each answer compared (what else documents name: `documents.py`).
 
-- A block of README.md that begins with ```mi is a session: `$ ./rvdbg WORDS`, and then lines, of which those that begin with `-` are
-  the input and the others the output.
-- `examples/NAME/session.mi` is the input of a session, `session.out` its output, and `args` the words, one a line.
-- `examples/lock/timeline.out` is what `timeline.py` draws of its session, and `examples/front-end/table.out` what the front end prints.
+- A block of README.md or docs/ that begins with ```mi is a session: `$ ./rvdbg WORDS`, and then lines, of which those that begin with
+  `-`, with or without a token, are the input and the others the output.
+- The lines of a block ```sh that call a compiler are run where it is installed, beside the repository's `examples`; what they make has to
+  come to a stop at the line of the sessions that name it. The others aren't run.
+- `examples/NAME/session.mi` is the input of a session, `session.out` its output, and `args` the words, one a line. `timeline.out` is what
+  `timeline.py` draws of it, and `examples/front-end/table.out` what the front end prints.
 """
 
 import os
 import re
+import shlex
+import shutil
 import subprocess
 import sys
 
-BLOCK = re.compile(r"```mi\n\$ \./rvdbg (.*)\n((?:.*\n)*?)```\n")
+from checks.documents import BLOCK, SHELL, bytes_of, check_named, documents
+
+TYPED = re.compile(r"[0-9]*-")
+BREAK_AT = re.compile(r"-break-insert (\S+):([0-9]+)$", re.MULTILINE)
 
 
 def placed(words, top):
@@ -19,23 +26,38 @@ def placed(words, top):
     return [os.path.join(top, word) if "/" in word else word for word in words]
 
 
-def check_shown(rig, top):
-    """The sessions that README.md shows."""
-    with open(os.path.join(top, "README.md"), encoding="utf-8") as file:
-        blocks = BLOCK.findall(file.read())
-    rig.row("README shows a session", len(blocks) > 0, True)
-    for number, (words, text) in enumerate(blocks, 1):
-        lines = text.splitlines(keepends=True)
-        typed = "".join(line for line in lines if line.startswith("-"))
-        answered = "".join(line for line in lines if not line.startswith("-"))
-        found = rig.run(placed(words.split(), top), typed.encode())
-        rig.row("session %d of README" % number, found, (0, answered.encode()))
+def check_sessions_shown(rig, top, name, text):
+    """The sessions of a document. A program that stands in no folder is that of the example of the same name."""
+    for number, (words, shown) in enumerate(BLOCK.findall(text), 1):
+        lines = shown.splitlines(keepends=True)
+        typed = "".join(line for line in lines if TYPED.match(line))
+        answered = "".join(line for line in lines if not TYPED.match(line))
+        *options, program = words.split()
+        file = program if "/" in program else "examples/%s/%s" % (program, program)
+        found = rig.run(placed([*options, file], top), typed.encode())
+        rig.row("session %d of %s" % (number, name), found, (0, answered.encode()))
 
 
-def bytes_of(*path):
-    """A file's bytes."""
-    with open(os.path.join(*path), "rb") as file:
-        return file.read()
+def check_compilers(rig, top, name, text):
+    """The calls of compilers in a document, each of which makes a program that stops where the document's sessions stop."""
+    place = os.path.join(rig.folder, "compiled")
+    for line in [line for block in SHELL.findall(text) for line in block.splitlines()]:
+        words = shlex.split(line)
+        wanted = words[:1] + ["ld.lld"] * ("-fuse-ld=lld" in words)
+        if "-o" not in words or not all(shutil.which(it) for it in wanted):
+            continue
+        made, source = words[words.index("-o") + 1], next(it for it in words if it.endswith(".c"))
+        shutil.rmtree(place, ignore_errors=True)
+        os.makedirs(place)
+        os.symlink(os.path.join(top, "examples"), os.path.join(place, "examples"))
+        shutil.copy(os.path.join(top, "examples", made, source), place)
+        subprocess.run(words, cwd=place, check=True, timeout=60)
+        file, number = BREAK_AT.search("".join(shown for asked, shown in BLOCK.findall(text) if asked.endswith(" " + made))).groups()
+        asked = "-break-insert %s:%s\n-exec-continue\n-exec-wait\n-gdb-exit\n" % (file, number)
+        status, output = rig.run(["--workers", "0", os.path.join(place, made)], asked.encode())
+        stop = b'*stopped,reason="breakpoint-hit"'
+        lines = [it for it in output.splitlines() if it.startswith(stop) and b'file="%s",line="%s"' % (file.encode(), number.encode()) in it]
+        rig.row("%s of %s: status and stops" % (words[0], name), (status, len(lines)), (0, 1))
 
 
 def printed(words, top, input=b""):
@@ -43,7 +65,7 @@ def printed(words, top, input=b""):
     return subprocess.run(placed(words, top), input=input, stdout=subprocess.PIPE, timeout=60, check=True).stdout
 
 
-def check_examples(rig, top):
+def check_folders(rig, top):
     """The sessions of the examples, the timeline and the front end."""
     for name in ("euclid", "lock"):
         folder = os.path.join(top, "examples", name)
@@ -54,3 +76,12 @@ def check_examples(rig, top):
     rig.row("timeline of examples/lock", drawn, bytes_of(top, "examples/lock/timeline.out"))
     words = ["examples/front-end/front_end.py", rig.program, "--harts", "2", "examples/lock/lock"]
     rig.row("front end", printed([sys.executable, *words], top), bytes_of(top, "examples/front-end/table.out"))
+
+
+def check_examples(rig, top):
+    """The documents and the examples."""
+    for name, text in documents(top):
+        rig.guarded("sessions of " + name, lambda: check_sessions_shown(rig, top, name, text))
+        rig.guarded("compilers of " + name, lambda: check_compilers(rig, top, name, text))
+    check_named(rig, top)
+    rig.guarded("examples", lambda: check_folders(rig, top))

@@ -1,11 +1,10 @@
 """The program in a conversation: its input stays open while its harts run."""
 
-import os
 import time
 
 from checks.descriptors import CONTINUE
 from checks.programs import EXIT, LOOP, plain
-from checks.rig import EXITED, OPENING, RUNNING, Talk
+from checks.rig import OPENING, RUNNING, Talk
 
 # A hart that writes `hi` again and again: write(1, 0x20000, 3), and back to where a0 is set.
 WRITER = [0x04000893, 0x00100513, 0x000205B7, 0x00300613, 0x00000073, 0xFF1FF06F]
@@ -59,21 +58,10 @@ def check_answers_while_running(rig):
             time.sleep(0.02)
 
 
-def check_link(rig):
-    """The launcher works when it is called by a symbolic link."""
-    link = os.path.join(rig.folder, "by_link")
-    os.symlink(rig.launcher, link)
-    with Talk(rig, ["exit"], program=link) as talk:
-        talk.say(CONTINUE)
-        talk.process.stdin.close()
-        talk.process.stdin = None
-        rig.row("by a symbolic link", (talk.rest(), talk.status()), (OPENING + RUNNING + EXITED, 0))
-
-
 def check_pipes(rig):
     """All of them."""
     rig.put("exit", plain(EXIT))
     rig.put("loop", plain(LOOP))
     rig.put("writer", plain(WRITER, b"hi\n"))
-    for check in (check_interrupt, check_exit, check_silence, check_answers_while_running, check_link):
+    for check in (check_interrupt, check_exit, check_silence, check_answers_while_running):
         rig.guarded(check.__name__, lambda: check(rig))

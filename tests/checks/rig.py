@@ -1,5 +1,6 @@
 """What the checks stand on: the program under test, its files, and a count of what was found."""
 
+import difflib
 import os
 import select
 import signal
@@ -28,12 +29,13 @@ class Rig:
         return name
 
     def row(self, name, found, wanted):
-        """Counts a row, and shows it where it failed."""
+        """Counts a row, and shows where it differs if it failed."""
         if found == wanted:
             self.passed += 1
             return
         self.failed += 1
-        print("outside: FAILED: %s\n  found:  %s\n  wanted: %s" % (name, shown(found), shown(wanted)), flush=True)
+        print("outside: FAILED: " + name)
+        print("\n".join("  " + line for line in difference(found, wanted)), flush=True)
 
     def guarded(self, name, check):
         """Does a check; one that breaks off is a row that failed."""
@@ -51,10 +53,19 @@ class Rig:
         return ran.returncode, ran.stdout
 
 
-def shown(value):
-    """A value in at most some 600 characters, with its beginning and its end."""
-    text = repr(value)
-    return text if len(text) <= 600 else text[:300] + " .. " + text[-300:]
+def difference(found, wanted):
+    """A unified diff from what is wanted to what was found."""
+    return list(difflib.unified_diff(lines_of(wanted), lines_of(found), "wanted", "found", lineterm="", n=2))
+
+
+def lines_of(value):
+    """A value as lines: text by its own, a pair or a list by those of its items, anything else in one."""
+    if isinstance(value, (tuple, list)):
+        return [line for item in value for line in lines_of(item)]
+    if not isinstance(value, bytes):
+        return [repr(value)]
+    lines = value.decode("ascii", "backslashreplace").split("\n")
+    return lines[:-1] if lines[-1] == "" else lines[:-1] + [lines[-1] + " (no line end)"]
 
 
 class Talk:

@@ -30,19 +30,33 @@ def programs(folder, top, euclid):
     return [(" on " + name, content(top, name, None)) for name in names] or [("", euclid)]
 
 
-def check_session(rig, folder, name, file):
-    """Runs one stored session on a program, and compares all of it."""
+def run_session(rig, folder, file):
+    """Runs the session of a folder on a program's bytes, and gives its status and what it wrote."""
     words = content(folder, "args", b"--workers 0 FILE".replace(b" ", b"\n")).decode().splitlines()
     rig.put("program", file)
-    status = int(content(folder, "status", b"0"))
-    found = rig.run(["program" if word == "FILE" else word for word in words], content(folder, "input", b""))
-    rig.row("session " + name, found, (status, content(folder, "output", b"")))
+    return rig.run(["program" if word == "FILE" else word for word in words], content(folder, "input", b""))
 
 
-def check_sessions(rig, top, euclid):
-    """Runs the stored sessions in the order of their names."""
-    for name in sorted(os.listdir(os.path.join(top, "sessions"))):
+def check_session(rig, folder, name, file):
+    """Runs one stored session on a program, and compares all of it."""
+    wanted = int(content(folder, "status", b"0")), content(folder, "output", b"")
+    rig.row("session " + name, run_session(rig, folder, file), wanted)
+
+
+def session_names(top):
+    """The stored sessions, in the order of their names."""
+    folder = os.path.join(top, "sessions")
+    return sorted(name for name in os.listdir(folder) if os.path.isdir(os.path.join(folder, name)))
+
+
+def euclid(top):
+    """The program of examples/euclid."""
+    return content(os.path.join(os.path.dirname(top), "crates", "dbg_program", "data"), "euclid", None)
+
+
+def check_sessions(rig, top, names):
+    """Runs the named ones of the stored sessions."""
+    for name in names:
         folder = os.path.join(top, "sessions", name)
-        if os.path.isdir(folder):
-            for end, file in programs(folder, os.path.join(top, "programs"), euclid):
-                rig.guarded(name + end, lambda: check_session(rig, folder, name + end, file))
+        for end, file in programs(folder, os.path.join(top, "programs"), euclid(top)):
+            rig.guarded(name + end, lambda: check_session(rig, folder, name + end, file))
