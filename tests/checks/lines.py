@@ -1,13 +1,13 @@
 """The lines that the stored sessions put: each that differs, once, in the order of its bytes.
 
-They stand in `crates/session_script/data/lines`, where a row of `session_script` reads each as a tree and writes it again.
+They stand in `crates/test_session/data/lines`, where a row of `test_session` reads each as a tree and writes it again.
 `tests/store-lines` makes that file anew.
 """
 
 import os
 
-STORED = os.path.join("crates", "session_script", "data", "lines")
-ANSWERS = os.path.join("crates", "session_script", "stdout")
+STORED = os.path.join("crates", "test_session", "data", "lines")
+ANSWERS = os.path.join("crates", "test_session", "stdout")
 
 
 def is_record_session(folder):

@@ -1,5 +1,5 @@
 #!/usr/bin/env python3
-"""Writes the last part of crates/source_script/stdin and stdout anew: the sections of program.c as gcc and clang write them, and
+"""Writes the last part of crates/test_files/stdin and stdout anew: the sections of program.c as gcc and clang write them, and
 the variables at some addresses as readelf tells them. What stands before that part is written by hand, and stays."""
 import os
 import re
@@ -7,7 +7,7 @@ import subprocess
 import tempfile
 
 HERE = os.path.dirname(os.path.abspath(__file__))
-SCRIPT = os.path.join(HERE, "../../crates/source_script")
+SCRIPT = os.path.join(HERE, "../../crates/test_files")
 PART = "# Sections that compilers wrote of tests/variables/program.c, and what readelf tells of them.\n"
 FLAGS = "-march=rv32ima -mabi=ilp32 -ffreestanding -nostdlib -g -Wl,-Ttext=0x10074".split() + [f"-fdebug-prefix-map={HERE}=/"]
 COMPILERS = {

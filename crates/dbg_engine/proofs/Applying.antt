@@ -12,16 +12,16 @@ use Rattle.dbg_model.specs.declared.opening.Opening.{Opening}
 use Rattle.dbg_model.specs.declared.hart.Hart.{Hart}
 use Rattle.dbg_model.specs.declared.watch.Watch.{Watch}
 use Rattle.dbg_model.proofs.Founding.{IsFounded, IsThereOr, change_founded, change_watchable}
-use Rattle.engine_moves.specs.Seen.{Run, seen}
-use Rattle.engine_moves.specs.Facts.{Sound, IsThread, wants_of, InText}
-use Rattle.engine_moves.proofs.Planting.{text_shown}
+use Rattle.engine_parts.specs.Seen.{Engine, seen}
+use Rattle.engine_parts.specs.Facts.{Sound, IsThread, wants_of, InText}
+use Rattle.engine_parts.proofs.Planting.{text_shown}
 use Rattle.dbg_effects.specs.Effect.{change_of}
 use Rattle.dbg_effects.specs.declared.effect.Effect.{Effect}
 use Rattle.dbg_effects.specs.declared.effect.Effect.TheVariants as effect
-use Rattle.engine_moves.specs.Changing.{Makes}
+use Rattle.engine_parts.specs.Changing.{Makes}
 use Rattle.dbg_engine.specs.Changing.{Applies}
 use Rattle.dbg_effects.specs.Table.{CanBeWatched}
-use Rattle.engine_moves.proofs.Commanding.{harts_length, thread_within, word_place}
+use Rattle.engine_parts.proofs.Commanding.{harts_length, thread_within, word_place}
 
 thread_is : (o : Opening) (n : ℕ) (t : ℕ) → n ≡ o.settings.harts → IsThread o t → (nat_le 1 t && nat_le t n) ≡ true
 thread_is o n t len is =
@@ -43,7 +43,7 @@ text_in : (p : Program) (a : ℕ) → a < 2 ^ 32 → is_some (text_word p a) ≡
 text_in p a low is = ap is_some (word_below (text_word p) (2 ^ 32) a low) ∙ is
 
 -- a change that a line makes can be made
-pub applies : (r : Run) (line : List ℕ) (e : Effect) (t : Table) → Sound r → r.breaks ≡ t.entries → r.bounds ≡ t.text → r.waits ≡ t.waits → Makes r line (change_of e) → Applies r.machine.text t e
+pub applies : (r : Engine) (line : List ℕ) (e : Effect) (t : Table) → Sound r → r.breaks ≡ t.entries → r.bounds ≡ t.text → r.waits ≡ t.waits → Makes r line (change_of e) → Applies r.machine.text t e
 applies r line (effect.Insert s) t f breaks bounds waits is =
     let k = subst (IsFounded r.opening.image (seen r).harts r.breaks) is (change_founded r.opening (seen r) line) in
     let place : is_place t.text s.address ≡ true = ap (λ us. is_place us s.address) (sym bounds) ∙ (f.places s.address ∙ word_place r.opening.image s.address k.0) in
@@ -66,7 +66,7 @@ applies r line (effect.Poke p) t f breaks bounds waits is = tt
 applies r line effect.Exit t f breaks bounds waits is = tt
 
 -- a watch that a line adds can be added
-pub watchable : (r : Run) (line : List ℕ) (e : Effect) → Makes r line (change_of e) → CanBeWatched r.watches e
+pub watchable : (r : Engine) (line : List ℕ) (e : Effect) → Makes r line (change_of e) → CanBeWatched r.watches e
 watchable r line (effect.Insert s) is = tt
 watchable r line (effect.Watch text b) is = change_watchable r.opening (seen r) line text b is
 watchable r line (effect.Delete ns) is = tt

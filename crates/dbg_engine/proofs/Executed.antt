@@ -13,22 +13,22 @@ use Rattle.hart_machine.specs.Stepping.{AreCounted, Steps, StepsTo, has_run}
 use Rattle.dbg_model.specs.Courses.{noted_with}
 use Rattle.dbg_model.specs.Watches.{fired_by}
 use Rattle.dbg_model.specs.declared.watch.Fired.{Fired}
-use Rattle.engine_moves.specs.declared.mind.Hold.{Hold}
-use Rattle.engine_moves.specs.declared.mind.Mind.{Mind}
-use Rattle.engine_moves.specs.Homecoming.{IsSlotted}
-use Rattle.engine_moves.specs.Minds.{ran_mind}
-use Rattle.engine_moves.specs.Moves.{HeldInText}
-use Rattle.engine_moves.specs.Seen.{Run}
-use Rattle.engine_moves.specs.Facts.{Sound, wants_of}
-use Rattle.engine_moves.proofs.Bounding.{Small}
-use Rattle.engine_moves.proofs.Stepping.{ran_of}
-use Rattle.engine_moves.specs.Steps.{Parts, applied}
-use Rattle.engine_moves.specs.Homing.{HomedBy}
-use Rattle.engine_moves.specs.Calls.{Before, GoesWith, Of, Undue}
-use Rattle.engine_moves.proofs.Executing.{Executed, Prepared, Ready, Readied, readied, done, prepared, executed_to, applied_twice, noted_by, parts_of, ran_is, run_with}
+use Rattle.engine_parts.specs.declared.mind.Hold.{Hold}
+use Rattle.engine_parts.specs.declared.mind.Mind.{Mind}
+use Rattle.engine_parts.specs.Homecoming.{IsSlotted}
+use Rattle.engine_parts.specs.Minds.{ran_mind}
+use Rattle.engine_parts.specs.Moves.{HeldInText}
+use Rattle.engine_parts.specs.Seen.{Engine}
+use Rattle.engine_parts.specs.Facts.{Sound, wants_of}
+use Rattle.engine_parts.proofs.Bounding.{Small}
+use Rattle.engine_parts.proofs.Stepping.{ran_of}
+use Rattle.engine_parts.specs.Steps.{Parts, applied}
+use Rattle.engine_parts.specs.Homing.{HomedBy}
+use Rattle.engine_parts.specs.Calls.{Before, GoesWith, Of, Undue}
+use Rattle.engine_parts.proofs.Executing.{Executed, Prepared, Ready, Readied, readied, done, prepared, executed_to, applied_twice, noted_by, parts_of, ran_is, run_with}
 
 -- an instruction of hart h, of which x was kept and z is
-pub record Known (s : Stepped) (r : Run) (h : ℕ) (x z : Mind) (new : Patched) : Type 0 where
+pub record Known (s : Stepped) (r : Engine) (h : ℕ) (x z : Mind) (new : Patched) : Type 0 where
   pub core : Core
   pub ready : Ready r h core x
   pub small : Small r
@@ -43,7 +43,7 @@ pub record Known (s : Stepped) (r : Run) (h : ℕ) (x z : Mind) (new : Patched) 
   pub slot : IsSlotted new h z.phase
   pub slots : (j : ℕ) (y : Mind) → slice_get (slice_set r.minds h z) j ≡ Some y → IsSlotted new j y.phase
 
-pub known_of : (s : Stepped) (r q : Run) (h pc : ℕ) (x z : Mind) (plan : Plan) (last : Option ℕ) (fired : Option Fired) (new : Patched) → r ≡ q → Sound r → Before q h x → Of q h (λ y. y.regs.pc ≡ pc) → Undue q h → GoesWith q h plan
+pub known_of : (s : Stepped) (r q : Engine) (h pc : ℕ) (x z : Mind) (plan : Plan) (last : Option ℕ) (fired : Option Fired) (new : Patched) → r ≡ q → Sound r → Before q h x → Of q h (λ y. y.regs.pc ≡ pc) → Undue q h → GoesWith q h plan
     → (x.phase ≡ phase.Idle → is_planted q.machine.text pc ≡ false) → AreCounted r.machine.cores → Steps s r.machine h new → ((cause : Cause) → s ≡ stepped.Trap cause → ⊥) → z ≡ ran_mind plan last fired x → last ≡ noted_with plan pc
     → fired ≡ fired_by r.watches r.machine.memory new.memory → Known s r h x z new
 known_of s r q h pc x z plan last fired new same f before here undue goes clear counted steps runs is noted watched =
@@ -51,8 +51,8 @@ known_of s r q h pc x z plan last fired new same f before here undue goes clear 
     let t : StepsTo s r.machine h k.core new = steps k.core k.ready.mover.core in
     let d : has_run s ≡ true = done s r h k.core x new k.ready t runs in
     let p : Prepared r h k.core x new = prepared s r h k.core x new d k.ready k.small t in
-    let G : Run → Type 0 = λ q. GoesWith q h plan in
-    let H : Run → Type 0 = λ q. Of q h (λ y. y.regs.pc ≡ pc) in
+    let G : Engine → Type 0 = λ q. GoesWith q h plan in
+    let H : Engine → Type 0 = λ q. Of q h (λ y. y.regs.pc ≡ pc) in
     let kept : z ≡ ran_of r h k.core x new.memory = ran_is r h pc k.core x z plan last fired new k.ready.mover (subst G (sym same) goes) (subst H (sym same) here) is noted watched in
     let Harts : Mind → Type 0 = λ z. length (slice_set r.minds h z) ≤ length new.cores in
     let Slot : Mind → Type 0 = λ z. IsSlotted new h z.phase in
@@ -73,11 +73,11 @@ known_of s r q h pc x z plan last fired new same f before here undue goes clear 
     }
 
 -- what is kept of the harts was set before
-pub parts_is : (s : Stepped) (h : ℕ) (z : Mind) (r : Run) (p : Parts) (xs : List Mind) → has_run s ≡ true → xs ≡ slice_set r.minds h z → p ≡ applied s h z (record { journal = r.journal; minds = xs }) → p ≡ applied s h z (parts_of r)
+pub parts_is : (s : Stepped) (h : ℕ) (z : Mind) (r : Engine) (p : Parts) (xs : List Mind) → has_run s ≡ true → xs ≡ slice_set r.minds h z → p ≡ applied s h z (record { journal = r.journal; minds = xs }) → p ≡ applied s h z (parts_of r)
 parts_is s h z r p xs d same is = is ∙ (ap (λ ys. applied s h z (record { journal = r.journal; minds = ys })) same ∙ applied_twice s h z (parts_of r) d)
 
 -- the engine then, where harts that left came home and this is noted
-pub ended : (s : Stepped) (r : Run) (h spare : ℕ) (x z : Mind) (new m : Patched) (hold : Option Hold) (xs ys : List Mind) (p : Parts) → Known s r h x z new → xs ≡ slice_set r.minds h z → HomedBy s (wants_of r) hold (record { hart = h; phase = z.phase; minds = xs }) new m
+pub ended : (s : Stepped) (r : Engine) (h spare : ℕ) (x z : Mind) (new m : Patched) (hold : Option Hold) (xs ys : List Mind) (p : Parts) → Known s r h x z new → xs ≡ slice_set r.minds h z → HomedBy s (wants_of r) hold (record { hart = h; phase = z.phase; minds = xs }) new m
     → ys ≡ slice_set r.minds h z → p ≡ applied s h z (record { journal = r.journal; minds = ys }) → Executed s r (run_with r m p (noted_by s h z r.minds r.noted) hold spare) h z
 ended s r h spare x z new m hold xs ys p k same homed again is =
     let H : List Mind → Type 0 = λ xs. HomedBy s (wants_of r) hold (record { hart = h; phase = z.phase; minds = xs }) new m in

@@ -1,10 +1,10 @@
 -- An engine's fields.
 use Rattle.std.specs.Prelude.{◌-◌, vec_len, vec_capacity}
 use Rattle.dbg_engine.specs.declared.engine.Engine.TheInside.{Inside}
-use Rattle.engine_moves.specs.Seen.{Run}
-use Rattle.engine_moves.specs.Facts.{Facts}
+use Rattle.engine_parts.specs.Seen.{Engine}
+use Rattle.engine_parts.specs.Facts.{Facts}
 
-abbrev pub run_of : Inside → Run
+abbrev pub run_of : Inside → Engine
 run_of e = record {
   opening = e.opening;
   journal = e.entries.items;

@@ -5,8 +5,8 @@ ghost use Rattle.break_table.specs.Entry.{asked_of, entry_of};
 ghost use Rattle.break_table.specs.Table.{changed, deleted, insert_fault, inserted, with_enabled};
 ghost use Rattle.dbg_effects.specs.Effect.{change_of};
 ghost use Rattle.dbg_model.specs.Breaks.{enabling, without};
-ghost use Rattle.engine_moves.specs.Tables.{number_place, ArePlanted};
-ghost use Rattle.engine_moves.specs.Changing.{Retabled, wants_by};
+ghost use Rattle.engine_parts.specs.Tables.{number_place, ArePlanted};
+ghost use Rattle.engine_parts.specs.Changing.{Retabled, wants_by};
 ghost use Rattle.dbg_engine.specs.Changing.{Applies};
 ghost use Rattle.dbg_effects.specs.Table.{CanBeWatched, changed_table};
 ghost use Rattle.dbg_model.specs.Reply.{watches_after};
@@ -17,9 +17,9 @@ use dbg_effects::{
 };
 use dbg_model::WatchList;
 use elf32_read::Image;
-use engine_moves::Hold;
-use engine_moves::patching::plant_as_wanted;
-use engine_moves::view::ShownHart;
+use engine_parts::Hold;
+use engine_parts::patching::plant_as_wanted;
+use engine_parts::view::ShownHart;
 use hart_machine::Machine;
 
 // The address of the breakpoint of a number.

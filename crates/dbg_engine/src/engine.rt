@@ -5,11 +5,11 @@ ghost use Rattle.data_memory.specs.Ranges.{bytes_at, range_at};
 ghost use Rattle.text_words.specs.Words.{is_planted};
 ghost use Rattle.dbg_model.specs.State.{first_state, any_runs, all_gone};
 ghost use Rattle.dbg_model.specs.Lawful.{may_go};
-ghost use Rattle.engine_moves.specs.Minds.{runs};
-ghost use Rattle.engine_moves.specs.Facts.{InText, OneLifted};
-ghost use Rattle.engine_moves.specs.Seen.{seen};
-ghost use Rattle.engine_moves.specs.Steps.{next_running};
-ghost use Rattle.engine_moves.specs.Viewing.{own_views};
+ghost use Rattle.engine_parts.specs.Minds.{runs};
+ghost use Rattle.engine_parts.specs.Facts.{InText, OneLifted};
+ghost use Rattle.engine_parts.specs.Seen.{seen};
+ghost use Rattle.engine_parts.specs.Steps.{next_running};
+ghost use Rattle.engine_parts.specs.Viewing.{own_views};
 
 // What the harts of an engine wait by. The parts are borrowed one by one, so that its machine and its table may change
 // meanwhile.
@@ -39,12 +39,12 @@ use data_memory::DataMemory;
 use dbg_model::{Entry, HISTORY, Journal, Opening, SourceIndex, ThreadView, Watch, WatchList};
 use dbg_traits::{NoMemory, Settings};
 use elf32_read::Image;
-use engine_moves::ending::{Closed, End};
-use engine_moves::homing::go_home_each;
-use engine_moves::minds::{all_gone, any_running, find_running, is_running};
-use engine_moves::patching::release;
-use engine_moves::views::views;
-use engine_moves::{Activity, Hold, Mind, Phase};
+use engine_parts::ending::{Closed, End};
+use engine_parts::homing::go_home_each;
+use engine_parts::minds::{all_gone, any_running, find_running, is_running};
+use engine_parts::patching::release;
+use engine_parts::views::views;
+use engine_parts::{Activity, Hold, Mind, Phase};
 use hart_machine::Machine;
 use loading::first_parts;
 use mi_commands::Displaced;
@@ -76,13 +76,13 @@ pub struct Engine {
 }
 
 impl Model for Engine {
-    ghost use Rattle.engine_moves.specs.Seen.{Run};
+    ghost use Rattle.engine_parts.specs.Seen.{Engine as EngineValue};
     ghost use Rattle.std.specs.Coded.{codes};
     ghost use Rattle.data_memory.specs.Maps.{memory_code};
     ghost use Rattle.text_words.specs.Words.{words_code};
     ghost use Rattle.break_table.specs.Codes.{term_code};
 
-    ghost Value = { Run };
+    ghost Value = { EngineValue };
 
     ghost coded = { Prim.hlevel (codes, memory_code, words_code, term_code) };
 
@@ -94,8 +94,8 @@ impl Model for Engine {
 }
 
 impl Engine {
-    ghost use Rattle.engine_moves.specs.Facts.{Facts};
-    ghost use Rattle.engine_moves.specs.Calls.{Of, OverBy, Closes};
+    ghost use Rattle.engine_parts.specs.Facts.{Facts};
+    ghost use Rattle.engine_parts.specs.Calls.{Of, OverBy, Closes};
 
     /// An engine before its first move: each hart is stopped at the entry.
     pub fn load(alloc: Global, opening: Opening) -> Result<Engine, NoMemory>

@@ -6,8 +6,8 @@ mod engine;
 mod resuming;
 
 pub use engine::{Commit, Engine, SPARE};
-pub use engine_moves::ending::{Closed, End};
-pub use engine_moves::laws::{moves_mark, one_instruction_or_none};
-pub use engine_moves::moving::{Move, Standing, Turned};
-pub use engine_moves::view::ShownHart;
-pub use engine_moves::{Activity, Hold, Mind, Phase};
+pub use engine_parts::ending::{Closed, End};
+pub use engine_parts::laws::{moves_mark, one_instruction_or_none};
+pub use engine_parts::moving::{Move, Standing, Turned};
+pub use engine_parts::view::ShownHart;
+pub use engine_parts::{Activity, Hold, Mind, Phase};

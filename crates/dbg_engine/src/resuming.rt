@@ -1,10 +1,10 @@
 // Threads that go on, threads that are interrupted, and what is forgotten of watches.
 ghost use Rattle.std.specs.Prelude.{◌≡◌, ◌≤◌, length, map};
 ghost use Rattle.dbg_effects.specs.Effect.{change_of};
-ghost use Rattle.engine_moves.specs.Resuming.{asked, forgetting, gone_on, minds_after};
+ghost use Rattle.engine_parts.specs.Resuming.{asked, forgetting, gone_on, minds_after};
 
 use dbg_effects::{Effect, on_threads};
-use engine_moves::{Activity, Mind, Phase};
+use engine_parts::{Activity, Mind, Phase};
 use step_plans::Plan;
 
 // A stopped hart goes on with a plan.

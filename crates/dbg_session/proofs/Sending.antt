@@ -5,7 +5,7 @@ use Rattle.dbg_session.specs.contracts.session.Session as session
 use denote.Param.Send.{IsSend, sendable}
 use Rattle.std.proofs.Crossing.{crosses}
 use Rattle.dbg_engine.specs.contracts.engine.Engine as engine
-use Rattle.session_facts.proofs.Sending.{breaktable_send, entry_send, machine_send, mind_send, opening_send, sourceindex_send}
+use Rattle.session_parts.proofs.Sending.{breaktable_send, entry_send, machine_send, mind_send, opening_send, sourceindex_send}
 
 engine_send : IsSend engine.the_field.row
 engine_send = search (sendable, crosses, opening_send, entry_send, machine_send, mind_send, breaktable_send, sourceindex_send) depth 100 fits 100000

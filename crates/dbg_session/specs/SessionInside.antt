@@ -1,9 +1,9 @@
 -- A session's fields.
 use Rattle.std.specs.Prelude.{drop}
 use Rattle.dbg_session.specs.declared.session.Session.TheInside.{Inside}
-use Rattle.session_facts.specs.Ties.{Taken}
-use Rattle.session_facts.specs.Seen.{Seen}
-use Rattle.session_facts.specs.Stage.{stage_of}
+use Rattle.session_parts.specs.Ties.{Taken}
+use Rattle.session_parts.specs.Seen.{Seen}
+use Rattle.session_parts.specs.Stage.{stage_of}
 
 abbrev pub taken_of : {W : Type 0} → Inside W → Taken
 taken_of s = record { rest = drop s.start s.buffer.items; count = s.count; ended = s.ended }

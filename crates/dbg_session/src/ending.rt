@@ -1,11 +1,11 @@
 // How a session ends.
 ghost use Rattle.std.specs.Prelude.{◌≡◌, None, Some, if◌then◌else◌};
-ghost use Rattle.session_facts.specs.Stage.{stage_of};
-ghost use Rattle.session_facts.specs.Ties.{OverBy};
+ghost use Rattle.session_parts.specs.Stage.{stage_of};
+ghost use Rattle.session_parts.specs.Ties.{OverBy};
 
 use dbg_engine::{End, Engine};
 use dbg_model::MOST_INPUT;
-use session_facts::Status;
+use session_parts::Status;
 
 /// The status after a put.
 pub fn status_of(put: bool) -> Option<Status>

@@ -11,4 +11,4 @@ pub use dbg_engine::Closed;
 pub use lines::{command, must_wait};
 pub use run::debug_run;
 pub use session::Session;
-pub use session_facts::{Ended, Status};
+pub use session_parts::{Ended, Status};

@@ -7,9 +7,9 @@ ghost use Rattle.dbg_model.specs.State.{any_runs};
 ghost use Rattle.dbg_model.specs.Reply.{answer_of, is_wait};
 ghost use Rattle.dbg_answers.specs.Answer.{line_answer_of};
 ghost use Rattle.dbg_answers.specs.Reading.{IsRead};
-ghost use Rattle.engine_moves.specs.Facts.{Facts};
-ghost use Rattle.engine_moves.specs.Seen.{seen};
-ghost use Rattle.engine_moves.specs.Calls.{Does};
+ghost use Rattle.engine_parts.specs.Facts.{Facts};
+ghost use Rattle.engine_parts.specs.Seen.{seen};
+ghost use Rattle.engine_parts.specs.Calls.{Does};
 
 use dbg_answers::{Debuggee, LineAnswer, answer_line, waits};
 use dbg_engine::Engine;

@@ -2,9 +2,9 @@
 ghost use Rattle.std.specs.Prelude.{◌≡◌, None, MatchResult};
 ghost use Rattle.dbg_traits.specs.Told.{IsFresh};
 ghost use Rattle.elf_checks.specs.declared.fault.ElfFault.{ElfFault};
-ghost use Rattle.session_facts.specs.Early.{Early};
-ghost use Rattle.session_facts.specs.Words.{served_words};
-ghost use Rattle.session_facts.specs.Headline.{Ends, Good, IsFine, IsWords, IsFile, Refused};
+ghost use Rattle.session_parts.specs.Early.{Early};
+ghost use Rattle.session_parts.specs.Words.{served_words};
+ghost use Rattle.session_parts.specs.Headline.{Ends, Good, IsFine, IsWords, IsFile, Refused};
 
 use crate::Session;
 use dbg_engine::Engine;
@@ -12,7 +12,7 @@ use dbg_model::Opening;
 use dbg_traits::{Gate, World};
 use hart_workers::run_crew;
 use mi_reports::report_opening;
-use session_facts::{Ended, Loaded, Outside, Status, Unloaded, finish, load};
+use session_parts::{Ended, Loaded, Outside, Status, Unloaded, finish, load};
 use std::alloc::Global;
 use std::sync::{Mutex, Wait};
 use std::thread::Threads;

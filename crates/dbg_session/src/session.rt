@@ -1,13 +1,13 @@
 // A session, step by step.
 ghost use Rattle.std.specs.Prelude.{◌≡◌, ◌≢◌, ◌<◌, [], true, false, None, Some, if◌then◌else◌, IfSome, IsSomeAnd, IsTrue};
-ghost use Rattle.session_facts.specs.Ties.{IsTied};
-ghost use Rattle.session_facts.specs.Seen.{GotOn, work, no_input, no_line, is_open};
-ghost use Rattle.session_facts.specs.Taking.{has_line};
-ghost use Rattle.session_facts.specs.Round.{Takes, Lines, Settles, Round, moment};
-ghost use Rattle.session_facts.specs.Crew.{NonePauses};
-ghost use Rattle.engine_moves.specs.Steps.{NoneOut};
-ghost use Rattle.session_facts.specs.Left.{IsLeft};
-ghost use Rattle.session_facts.specs.Stage.{stage_of};
+ghost use Rattle.session_parts.specs.Ties.{IsTied};
+ghost use Rattle.session_parts.specs.Seen.{GotOn, work, no_input, no_line, is_open};
+ghost use Rattle.session_parts.specs.Taking.{has_line};
+ghost use Rattle.session_parts.specs.Round.{Takes, Lines, Settles, Round, moment};
+ghost use Rattle.session_parts.specs.Crew.{NonePauses};
+ghost use Rattle.engine_parts.specs.Steps.{NoneOut};
+ghost use Rattle.session_parts.specs.Left.{IsLeft};
+ghost use Rattle.session_parts.specs.Stage.{stage_of};
 
 mod crew;
 mod moving;
@@ -17,7 +17,7 @@ use crate::steps::line_once;
 use dbg_engine::Engine;
 use dbg_traits::World;
 use mi_input::next_line;
-use session_facts::{Done, Ended, Input, Known, PIECE, Status, input_once, put_all};
+use session_parts::{Done, Ended, Input, Known, PIECE, Status, input_once, put_all};
 use std::alloc::Global;
 use std::marker::Model;
 
@@ -50,10 +50,10 @@ pub struct Session<W: World> {
 
 impl<W: World> Model for Session<W> {
     ghost use Rattle.std.specs.Prelude.{◌≤◌, ◌<◌, ◌^◌, length, drop, vec_len};
-    ghost use Rattle.session_facts.specs.Seen.{Seen};
-    ghost use Rattle.session_facts.specs.Ties.{IsTied, IsCounted};
-    ghost use Rattle.session_facts.specs.Taking.{IsKnown};
-    ghost use Rattle.session_facts.specs.Stage.{stage_of};
+    ghost use Rattle.session_parts.specs.Seen.{Seen};
+    ghost use Rattle.session_parts.specs.Ties.{IsTied, IsCounted};
+    ghost use Rattle.session_parts.specs.Taking.{IsKnown};
+    ghost use Rattle.session_parts.specs.Stage.{stage_of};
     ghost use Rattle.std.specs.Coded.{codes};
 
     ghost Value = { Seen W };
@@ -68,19 +68,19 @@ impl<W: World> Model for Session<W> {
 
     ghost view = { seen_of };
 
-    ghost use Rattle.engine_moves.specs.Facts.{Facts};
+    ghost use Rattle.engine_parts.specs.Facts.{Facts};
 
     ghost invariant = { λ s. IsTied s.status (W.told s.world) (stage_of s.engine) (taken_of s) × (s.start ≤ vec_len s.buffer) × IsCounted s.status s.count × IsKnown s.known s.ended (drop s.start s.buffer.items) × Facts s.engine };
 }
 
 impl<W: World> Session<W> {
-    ghost use Rattle.session_facts.specs.Ties.{IsReady};
-    ghost use Rattle.session_facts.specs.Stage.{stage_of};
+    ghost use Rattle.session_parts.specs.Ties.{IsReady};
+    ghost use Rattle.session_parts.specs.Stage.{stage_of};
     ghost use Rattle.mi_values.specs.Records.{AreRecords};
     ghost use Rattle.mi_reports.specs.Text.{opening_lines};
-    ghost use Rattle.session_facts.specs.Puts.{PutsAll};
+    ghost use Rattle.session_parts.specs.Puts.{PutsAll};
     ghost use Rattle.std.specs.Prelude.{is_none};
-    ghost use Rattle.engine_moves.specs.Facts.{Facts};
+    ghost use Rattle.engine_parts.specs.Facts.{Facts};
 
     /// A session over an engine, with its opening lines.
     pub fn open(alloc: Global, world: W, engine: Engine, opening: Vec<u8>) -> Session<W>

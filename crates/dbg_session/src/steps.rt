@@ -1,15 +1,15 @@
 // A turn of a hart and a line of input, over the parts of a session.
 ghost use Rattle.std.specs.Prelude.{◌≡◌, ◌<◌, ◌≤◌, ◌+◌, ◌++◌, length, OnOk, MatchResult, true};
 ghost use Rattle.dbg_model.specs.Lawful.{may_go};
-ghost use Rattle.engine_moves.specs.Seen.{seen};
-ghost use Rattle.engine_moves.specs.Facts.{Facts};
+ghost use Rattle.engine_parts.specs.Seen.{seen};
+ghost use Rattle.engine_parts.specs.Facts.{Facts};
 ghost use Rattle.mi_values.specs.Records.{lines_bytes, AreLines};
 ghost use Rattle.mi_reports.specs.Replies.{reply_lines};
-ghost use Rattle.session_facts.specs.Puts.{PutsLines};
-ghost use Rattle.session_facts.specs.Reported.{AreMoved, Notes, NotesLine, is_last, move_lines, shown_lines};
-ghost use Rattle.session_facts.specs.Stage.{stage_of, work_of};
-ghost use Rattle.session_facts.specs.Steps.{Turns, Goes, Does, Answers};
-ghost use Rattle.session_facts.specs.declared.turn.Turn.TheVariants as turn;
+ghost use Rattle.session_parts.specs.Puts.{PutsLines};
+ghost use Rattle.session_parts.specs.Reported.{AreMoved, Notes, NotesLine, is_last, move_lines, shown_lines};
+ghost use Rattle.session_parts.specs.Stage.{stage_of, work_of};
+ghost use Rattle.session_parts.specs.Steps.{Turns, Goes, Does, Answers};
+ghost use Rattle.session_parts.specs.declared.turn.Turn.TheVariants as turn;
 
 use crate::lines::{command, must_wait};
 use dbg_answers::read_line;
@@ -18,7 +18,7 @@ use dbg_model::{Entry, Reply, Shown};
 use dbg_traits::{NoMemory, World};
 use mi_input::next_line;
 use mi_reports::report;
-use session_facts::{Done, Turn, put_all, put_entry};
+use session_parts::{Done, Turn, put_all, put_entry};
 use std::alloc::Global;
 
 // Whether nothing is noted behind an entry.
@@ -32,7 +32,7 @@ fn is_last(behind: &[Entry]) -> bool
 }
 
 // Puts the lines of entries at the end that this move noted, or lengthened by an instruction. Behind them nothing is noted.
-#[tactic(auto, using(std::proofs::lemmas::Grind::common_steps, session_facts::proofs::Noting::shows_may, mi_values::proofs::Joined::lines_joined))]
+#[tactic(auto, using(std::proofs::lemmas::Grind::common_steps, session_parts::proofs::Noting::shows_may, mi_values::proofs::Joined::lines_joined))]
 fn report_entries(
     engine: &Engine,
     moved: Move,

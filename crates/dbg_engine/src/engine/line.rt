@@ -4,8 +4,8 @@ ghost use Rattle.dbg_model.specs.Lawful.{may_do};
 ghost use Rattle.dbg_model.specs.Outcome.{pokes};
 ghost use Rattle.dbg_model.specs.Reply.{displaced_after, exited_after, pending_after, selected_after};
 ghost use Rattle.dbg_effects.specs.Effect.{change_of};
-ghost use Rattle.engine_moves.specs.Seen.{seen};
-ghost use Rattle.engine_moves.specs.Changing.{Makes};
+ghost use Rattle.engine_parts.specs.Seen.{seen};
+ghost use Rattle.engine_parts.specs.Changing.{Makes};
 
 use super::Engine;
 use crate::breaking::change_table;
@@ -14,9 +14,9 @@ use crate::resuming::change_threads;
 use dbg_effects::Effect;
 use dbg_model::{Entry, Poke};
 use dbg_traits::NoMemory;
-use engine_moves::journal::{did, note};
-use engine_moves::waiting::{Waiting, rewait};
-use engine_moves::writing::write;
+use engine_parts::journal::{did, note};
+use engine_parts::waiting::{Waiting, rewait};
+use engine_parts::writing::write;
 use mi_commands::Displaced;
 
 // The selected thread after a change.
@@ -50,8 +50,8 @@ fn exited_after(exited: bool, effect: &Effect) -> bool
 }
 
 impl Engine {
-    ghost use Rattle.engine_moves.specs.Facts.{Facts};
-    ghost use Rattle.engine_moves.specs.Calls.{Lines};
+    ghost use Rattle.engine_parts.specs.Facts.{Facts};
+    ghost use Rattle.engine_parts.specs.Calls.{Lines};
 
     // Does a line that asks for a write, and writes.
     fn write(&mut self, line: &[u8], poke: Poke) -> Result<(), NoMemory>

@@ -3,15 +3,15 @@ ghost use Rattle.std.specs.Prelude.{◌≡◌, ℕ, [], IfOk, replicate};
 ghost use Rattle.break_table.specs.Table.{first_table};
 ghost use Rattle.break_table.specs.Text.{is_instruction, is_place};
 ghost use Rattle.dbg_traits.specs.Settings.{AreSettings};
-ghost use Rattle.engine_moves.specs.Minds.{first_mind};
+ghost use Rattle.engine_parts.specs.Minds.{first_mind};
 ghost use Rattle.hart_machine.specs.Stepping.{loaded};
 ghost use Rattle.dbg_model.specs.Sources.{sources_of};
 
 use break_table::BreakTable;
 use dbg_model::{Opening, SourceIndex, WatchList};
 use dbg_traits::NoMemory;
-use engine_moves::Mind;
-use engine_moves::minds::first_minds;
+use engine_parts::Mind;
+use engine_parts::minds::first_minds;
 use hart_machine::Machine;
 use std::alloc::Global;
 

@@ -8,12 +8,12 @@ use super::Engine;
 use crate::engine::waiting_of;
 use break_table::BreakTable;
 use dbg_model::{Entry, Judgement, Why, plan_after};
-use engine_moves::hits::{is_temporary, settle};
-use engine_moves::journal::note;
-use engine_moves::minds::{STOPPED, counted_mind};
-use engine_moves::patching::{repatch, wants};
-use engine_moves::waiting::{Waiting, changes, rewait};
-use engine_moves::{Mind, Phase};
+use engine_parts::hits::{is_temporary, settle};
+use engine_parts::journal::note;
+use engine_parts::minds::{STOPPED, counted_mind};
+use engine_parts::patching::{repatch, wants};
+use engine_parts::waiting::{Waiting, changes, rewait};
+use engine_parts::{Mind, Phase};
 
 // Whether it is a temporary breakpoint that stops a hart.
 fn stops_once(table: &BreakTable, why: Why) -> bool
@@ -26,8 +26,8 @@ fn stops_once(table: &BreakTable, why: Why) -> bool
 }
 
 impl Engine {
-    ghost use Rattle.engine_moves.specs.Facts.{Facts};
-    ghost use Rattle.engine_moves.specs.Calls.{Of, Before, Halts, Counts, DueIs, MayStop, StopsBy, StopsFor, Undue};
+    ghost use Rattle.engine_parts.specs.Facts.{Facts};
+    ghost use Rattle.engine_parts.specs.Calls.{Of, Before, Halts, Counts, DueIs, MayStop, StopsBy, StopsFor, Undue};
 
     // A hart that steps over nothing, and for which nothing is due, stops.
     pub(crate) fn note_stop(&mut self, h: u32, mind: Mind, why: Why)

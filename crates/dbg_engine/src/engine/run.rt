@@ -1,17 +1,17 @@
 // Many instructions of a hart in one call.
 ghost use Rattle.std.specs.Prelude.{◌≡◌, ◌<◌, ◌≤◌, length};
-ghost use Rattle.engine_moves.specs.Movers.{is_idle};
-ghost use Rattle.engine_moves.specs.Several.{AllTurned, Rests, goes_alone, is_alone, is_unplanned};
+ghost use Rattle.engine_parts.specs.Movers.{is_idle};
+ghost use Rattle.engine_parts.specs.Several.{AllTurned, Rests, goes_alone, is_alone, is_unplanned};
 
 use super::Engine;
 use super::stepping::by_copies;
 use elf32_read::Image;
-use engine_moves::going::{Surroundings, go};
-use engine_moves::journal::note_runs;
-use engine_moves::minds::is_running;
-use engine_moves::moving::ran_mind;
-use engine_moves::waiting::awaited;
-use engine_moves::{Hold, Mind, Phase};
+use engine_parts::going::{Surroundings, go};
+use engine_parts::journal::note_runs;
+use engine_parts::minds::is_running;
+use engine_parts::moving::ran_mind;
+use engine_parts::waiting::awaited;
+use engine_parts::{Hold, Mind, Phase};
 use step_plans::Plan;
 
 // Whether a hart steps over no breakpoint.
@@ -49,7 +49,7 @@ fn is_alone(image: &Image, mind: Mind, hold: Option<Hold>) -> bool
 }
 
 impl Engine {
-    ghost use Rattle.engine_moves.specs.Facts.{Facts};
+    ghost use Rattle.engine_parts.specs.Facts.{Facts};
 
     /// Takes a hart on by turns of which nothing is said, in one call: at most `limit`, and how many. Each is a turn that
     /// answers `Ran`, or is of a step over a breakpoint at which nothing is due. They are fewer only where the session is

@@ -4,8 +4,8 @@ ghost use Rattle.std.specs.Option.{option_copied};
 ghost use Rattle.dbg_model.specs.Journals.{last_entries, noted};
 ghost use Rattle.dbg_model.specs.Shown.{frame_at, stopping_watch, watch_of};
 ghost use Rattle.dbg_model.specs.declared.shown.Shown.TheVariants.{Stop};
-ghost use Rattle.engine_moves.specs.Seen.{seen};
-ghost use Rattle.engine_moves.specs.Shown.{IsMoved, ran_shows, shown_by};
+ghost use Rattle.engine_parts.specs.Seen.{seen};
+ghost use Rattle.engine_parts.specs.Shown.{IsMoved, ran_shows, shown_by};
 
 use super::Engine;
 use crate::Move;

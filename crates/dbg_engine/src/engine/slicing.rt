@@ -1,14 +1,14 @@
 // Slices of a hart's instructions that are executed apart from the engine.
 ghost use Rattle.std.specs.Prelude.{◌≡◌, ◌<◌, ◌≤◌, ◌↔◌, IfSome, IsTrue, Some, is_some, length, slice_get};
 ghost use Rattle.hart_machine.specs.declared.hart.Core.{Core};
-ghost use Rattle.engine_moves.specs.Slicing.{CanTake, IsJobOf, Takes, gives_job, goes_apart, takes_slices};
+ghost use Rattle.engine_parts.specs.Slicing.{CanTake, IsJobOf, Takes, gives_job, goes_apart, takes_slices};
 
 use super::Engine;
 use super::run::is_idle;
-use engine_moves::Mind;
-use engine_moves::journal::note_runs;
-use engine_moves::minds::{is_running, other_holder};
-use engine_moves::moving::ran_mind;
+use engine_parts::Mind;
+use engine_parts::journal::note_runs;
+use engine_parts::minds::{is_running, other_holder};
+use engine_parts::moving::ran_mind;
 use hart_machine::Machine;
 use reg_slices::{Job, Slice};
 use rv_exec::Regs;
@@ -52,7 +52,7 @@ fn has_registers(machine: &Machine, h: u32, regs: &Regs) -> bool
 }
 
 impl Engine {
-    ghost use Rattle.engine_moves.specs.Facts.{Facts};
+    ghost use Rattle.engine_parts.specs.Facts.{Facts};
 
     /// What a hart is to execute apart from the engine, if it can: its registers, and the stored words from its pc on. None
     /// exactly where slices are off, the session is over, a patch is lifted for another hart, or the hart doesn't run, is in

@@ -2,15 +2,15 @@
 ghost use Rattle.std.specs.Prelude.{◌≡◌, ◌<◌, ℕ, Option, None, Some, IsTrue, slice_get, true, false};
 ghost use Rattle.scratch_slots.specs.Table.{use_at, AllOut};
 ghost use Rattle.dbg_model.specs.State.{is_off};
-ghost use Rattle.engine_moves.specs.Minds.{slot_of};
-ghost use Rattle.engine_moves.specs.Facts.{other_holder};
+ghost use Rattle.engine_parts.specs.Minds.{slot_of};
+ghost use Rattle.engine_parts.specs.Facts.{other_holder};
 ghost use Rattle.dbg_model.specs.declared.entry.Why.{Why};
 
 use super::Engine;
 use crate::{Move, Standing, Turned};
-use engine_moves::homing::go_home;
-use engine_moves::patching::{release, repatch};
-use engine_moves::{Activity, Hold, Mind, Phase};
+use engine_parts::homing::go_home;
+use engine_parts::patching::{release, repatch};
+use engine_parts::{Activity, Hold, Mind, Phase};
 use mi_commands::Displaced;
 
 // Whether planted words are stepped over by copies: displaced stepping isn't off, and there are slots.
@@ -22,9 +22,9 @@ pub(super) fn by_copies(displaced: Displaced, slots: u32) -> bool
 }
 
 impl Engine {
-    ghost use Rattle.engine_moves.specs.Facts.{Facts};
-    ghost use Rattle.engine_moves.specs.Calls.{AtPlanted, Rephases, Lifts, Copies, Turns};
-    ghost use Rattle.engine_moves.specs.Rows.{Begins, row_of};
+    ghost use Rattle.engine_parts.specs.Facts.{Facts};
+    ghost use Rattle.engine_parts.specs.Calls.{AtPlanted, Rephases, Lifts, Copies, Turns};
+    ghost use Rattle.engine_parts.specs.Rows.{Begins, row_of};
 
     // A running hart steps over nothing any more: it comes home from its slot, which is free then, and a lifted patch is
     // planted again where a breakpoint stands.

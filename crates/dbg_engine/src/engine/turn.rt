@@ -2,9 +2,9 @@
 ghost use Rattle.std.specs.Prelude.{◌≡◌, ◌<◌, ◌≤◌, Option, Some, None, length, slice_get, true, false, IfOk, MatchResult};
 ghost use Rattle.text_words.specs.Words.{is_planted};
 ghost use Rattle.dbg_model.specs.Judging.{is_due};
-ghost use Rattle.engine_moves.specs.Minds.{is_before};
-ghost use Rattle.engine_moves.specs.Moves.{stop_of};
-ghost use Rattle.engine_moves.specs.Steps.{leaves};
+ghost use Rattle.engine_parts.specs.Minds.{is_before};
+ghost use Rattle.engine_parts.specs.Moves.{stop_of};
+ghost use Rattle.engine_parts.specs.Steps.{leaves};
 ghost use Rattle.dbg_model.specs.Journals.{last_why};
 ghost use Rattle.dbg_model.specs.declared.entry.Why.{Why};
 
@@ -12,13 +12,13 @@ use super::Engine;
 use crate::engine::waiting_of;
 use crate::{Move, Standing, Turned};
 use dbg_model::{Judge, Judgement, Why, noted_with, plan_after};
-use engine_moves::homing::{Leaving, go_home_at_exit, landed_pc};
-use engine_moves::minds::{other_holder, with_phase};
-use engine_moves::moving::{apply, moved_by, ran_mind};
-use engine_moves::view::ShownHart;
-use engine_moves::waiting::{Waiting, changes, rewait};
-use engine_moves::watching::step_watched;
-use engine_moves::{Activity, Mind, Phase};
+use engine_parts::homing::{Leaving, go_home_at_exit, landed_pc};
+use engine_parts::minds::{other_holder, with_phase};
+use engine_parts::moving::{apply, moved_by, ran_mind};
+use engine_parts::view::ShownHart;
+use engine_parts::waiting::{Waiting, changes, rewait};
+use engine_parts::watching::step_watched;
+use engine_parts::{Activity, Mind, Phase};
 use rv_exec::{Cause, Stepped};
 use step_plans::{Plan, Verdict};
 
@@ -59,9 +59,9 @@ fn is_moved(old: Plan, new: Plan, stepped: Stepped) -> bool
 }
 
 impl Engine {
-    ghost use Rattle.engine_moves.specs.Facts.{Facts};
-    ghost use Rattle.engine_moves.specs.Calls.{Of, Before, DueIs, GoesWith, Undue, Moves, Turns, TrapsAt};
-    ghost use Rattle.engine_moves.specs.Rows.{Row, Executes as EXECUTES, row_of, row_at, row_due};
+    ghost use Rattle.engine_parts.specs.Facts.{Facts};
+    ghost use Rattle.engine_parts.specs.Calls.{Of, Before, DueIs, GoesWith, Undue, Moves, Turns, TrapsAt};
+    ghost use Rattle.engine_parts.specs.Rows.{Row, Executes as EXECUTES, row_of, row_at, row_due};
 
     /// One move of a hart: that of the first row of the table of moves that fits.
     pub fn turn(&mut self, h: u32) -> Turned

@@ -1,9 +1,9 @@
 // A session as a crew: its duties are rounds, its jobs the slices of harts.
 ghost use Rattle.std.specs.Prelude.{◌≡◌, ◌≢◌, ◌<◌, ◌≤◌, ◌-◌, ◌↔◌, ◌&&◌, ◌==◌, not, true, false, None, IfSome, IsTrue, is_none, is_some, nat_lt, slice_set};
-ghost use Rattle.engine_moves.specs.Steps.{NoneOut};
-ghost use Rattle.session_facts.specs.Crew.{Duties, Gives, IsIdle, IsWorkOf, Reaches, ServesAlone, TakesBack, TakesBy, pause_after, pause_of};
-ghost use Rattle.session_facts.specs.Round.{moment};
-ghost use Rattle.session_facts.specs.Seen.{work};
+ghost use Rattle.engine_parts.specs.Steps.{NoneOut};
+ghost use Rattle.session_parts.specs.Crew.{Duties, Gives, IsIdle, IsWorkOf, Reaches, ServesAlone, TakesBack, TakesBy, pause_after, pause_of};
+ghost use Rattle.session_parts.specs.Round.{moment};
+ghost use Rattle.session_parts.specs.Seen.{work};
 
 use super::{HARTS, Session};
 use crate::Status;

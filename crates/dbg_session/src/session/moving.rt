@@ -1,11 +1,11 @@
 // How a hart is picked and moved.
 ghost use Rattle.std.specs.Prelude.{◌≡◌, ◌<◌, ◌≤◌, length, false, None, is_some, IsTrue, IfSome};
 ghost use Rattle.std.specs.Bool.{OnFalse};
-ghost use Rattle.engine_moves.specs.Steps.{NoneOut};
-ghost use Rattle.session_facts.specs.Ties.{session_work};
-ghost use Rattle.session_facts.specs.Seen.{GotOn, HasTurned, no_move};
-ghost use Rattle.session_facts.specs.Round.{Moves, MovesOne, TurnsOne, Moved, moment};
-ghost use Rattle.session_facts.specs.Stage.{moves_at};
+ghost use Rattle.engine_parts.specs.Steps.{NoneOut};
+ghost use Rattle.session_parts.specs.Ties.{session_work};
+ghost use Rattle.session_parts.specs.Seen.{GotOn, HasTurned, no_move};
+ghost use Rattle.session_parts.specs.Round.{Moves, MovesOne, TurnsOne, Moved, moment};
+ghost use Rattle.session_parts.specs.Stage.{moves_at};
 
 use super::Session;
 use crate::Status;
@@ -13,7 +13,7 @@ use crate::ending::over;
 use crate::steps::turn_once;
 use dbg_engine::SPARE;
 use dbg_traits::World;
-use session_facts::Turn;
+use session_parts::Turn;
 
 impl<W: World> Session<W> {
     // Turns a hart once. True where it moved, or a status was set.

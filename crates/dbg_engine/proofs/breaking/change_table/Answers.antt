@@ -9,10 +9,10 @@ use Rattle.dbg_effects.specs.Effect.{change_of}
 use Rattle.dbg_effects.specs.Table.{changed_table}
 use Rattle.dbg_effects.specs.declared.effect.Effect.{Effect}
 use Rattle.dbg_effects.specs.declared.effect.Effect.TheVariants as effect
-use Rattle.engine_moves.specs.declared.mind.Hold.{Hold}
-use Rattle.engine_moves.specs.Tables.{ArePlanted}
-use Rattle.engine_moves.specs.Changing.{Retabled, wants_by}
-use Rattle.engine_moves.proofs.Tabling.{kept_table}
+use Rattle.engine_parts.specs.declared.mind.Hold.{Hold}
+use Rattle.engine_parts.specs.Tables.{ArePlanted}
+use Rattle.engine_parts.specs.Changing.{Retabled, wants_by}
+use Rattle.engine_parts.proofs.Tabling.{kept_table}
 use Rattle.dbg_engine.proofs.breaking.change_table.Goals as goal
 
 -- the same breakpoints want the same words

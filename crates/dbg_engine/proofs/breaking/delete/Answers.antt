@@ -1,6 +1,6 @@
 use Rattle.std.specs.Prelude.{None, Some}
-use Rattle.engine_moves.proofs.Breaking.{place-shown}
-use Rattle.engine_moves.proofs.Tabling.{number_at, deleted_words, none_deleted}
+use Rattle.engine_parts.proofs.Breaking.{place-shown}
+use Rattle.engine_parts.proofs.Tabling.{number_at, deleted_words, none_deleted}
 use Rattle.dbg_engine.proofs.breaking.delete.Goals as goal
 
 pub returns-in_default-clause-table : goal.returns-in_default-clause-table

@@ -1,7 +1,7 @@
 use Rattle.std.specs.Prelude.{None, Some}
 use Rattle.break_table.specs.Table.{with_enabled}
-use Rattle.engine_moves.proofs.Breaking.{place-shown}
-use Rattle.engine_moves.proofs.Tabling.{number_at, enabled_words, none_changed}
+use Rattle.engine_parts.proofs.Breaking.{place-shown}
+use Rattle.engine_parts.proofs.Tabling.{number_at, enabled_words, none_changed}
 use Rattle.dbg_engine.proofs.breaking.enable.Goals as goal
 
 pub returns-in_default-clause-table : goal.returns-in_default-clause-table

@@ -1,5 +1,5 @@
 use Rattle.break_table.specs.Entry.{asked_of}
-use Rattle.engine_moves.proofs.Tabling.{inserted_words}
+use Rattle.engine_parts.proofs.Tabling.{inserted_words}
 use Rattle.dbg_engine.proofs.breaking.insert.Goals as goal
 
 pub returns-clause-machine : goal.returns-clause-machine

@@ -1,9 +1,9 @@
 use Rattle.std.proofs.Common.{◌<◌, length, get_or, ap, ◌∙◌, arith}
 use Rattle.std.specs.Prelude.{slice_set}
 use Rattle.std.proofs.lemmas.Option.{slice_get-get_or}
-use Rattle.engine_moves.specs.Minds.{first_mind}
-use Rattle.engine_moves.specs.Resuming.{forgetting}
-use Rattle.engine_moves.proofs.Marking.{marks}
+use Rattle.engine_parts.specs.Minds.{first_mind}
+use Rattle.engine_parts.specs.Resuming.{forgetting}
+use Rattle.engine_parts.proofs.Marking.{marks}
 use Rattle.dbg_engine.proofs.resuming.forget_each.Goals as goal
 
 pub loop-k-preserved : goal.loop-k-preserved

@@ -1,5 +1,5 @@
 use Rattle.std.proofs.Common.{◌≡◌, ◌++◌, map, take, drop}
-use Rattle.engine_moves.specs.Resuming.{forgetting}
+use Rattle.engine_parts.specs.Resuming.{forgetting}
 use Rattle.dbg_engine.proofs.resuming.forget_each.Given as goal
 
 abbrev pub invariant-loop-k : goal.invariant-loop-k

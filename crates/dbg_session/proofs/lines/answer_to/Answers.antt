@@ -4,8 +4,8 @@ use Rattle.dbg_model.specs.declared.thread_view.ThreadView.{ThreadView}
 use Rattle.dbg_model.specs.Reply.{answer_to}
 use Rattle.dbg_model.specs.Sight.{Sight}
 use Rattle.dbg_answers.specs.Answer.{line_answer_of}
-use Rattle.engine_moves.proofs.Commanding.{numbers_room}
-use Rattle.engine_moves.proofs.Viewing.{views_few}
+use Rattle.engine_parts.proofs.Commanding.{numbers_room}
+use Rattle.engine_parts.proofs.Viewing.{views_few}
 use Rattle.dbg_session.proofs.Answering.{sees_by_parts}
 use Rattle.dbg_session.proofs.lines.answer_to.Goals as goal
 

@@ -1,6 +1,6 @@
 use Rattle.std.proofs.Common.{refl}
-use Rattle.session_facts.specs.Stage.{stage_of}
-use Rattle.session_facts.proofs.Writing.{written_as}
+use Rattle.session_parts.specs.Stage.{stage_of}
+use Rattle.session_parts.proofs.Writing.{written_as}
 use Rattle.dbg_session.proofs.run.begin.Goals as goal
 
 pub open-requires-clause-ready : goal.open-requires-clause-ready

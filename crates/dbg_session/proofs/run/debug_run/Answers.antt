@@ -1,5 +1,5 @@
 use Rattle.std.specs.Prelude.{None}
-use Rattle.session_facts.proofs.Heading.{file_of, fine_of, words_of}
+use Rattle.session_parts.proofs.Heading.{file_of, fine_of, words_of}
 use Rattle.dbg_session.proofs.run.debug_run.Goals as goal
 
 pub finish-requires : goal.finish-requires

@@ -1,7 +1,7 @@
 use denote.Param.Send.{sendable}
 use Rattle.std.proofs.Crossing.{crosses}
 use Rattle.dbg_session.proofs.Sending.{session_send}
-use Rattle.session_facts.proofs.Sending.{outside_send}
+use Rattle.session_parts.proofs.Sending.{outside_send}
 use Rattle.dbg_session.proofs.run.serve.Goals as goal
 
 pub run_crew-requires-send-C : goal.run_crew-requires-send-C

@@ -2,12 +2,12 @@ use Rattle.std.proofs.Common.{take, refl, sym, ap, subst}
 use Rattle.std.specs.Prelude.{true, false}
 use Rattle.mi_reports.specs.Replies.{reply_lines}
 use Rattle.dbg_model.specs.Reply.{done_by}
-use Rattle.engine_moves.specs.Seen.{seen}
-use Rattle.session_facts.specs.Reported.{NotesLine}
-use Rattle.session_facts.specs.Stage.{stage_of}
-use Rattle.session_facts.proofs.Noting.{line_notes}
-use Rattle.session_facts.proofs.Saying.{does_say}
-use Rattle.session_facts.proofs.Doing.{does_line, keeps, says_put, must_wait, stands}
+use Rattle.engine_parts.specs.Seen.{seen}
+use Rattle.session_parts.specs.Reported.{NotesLine}
+use Rattle.session_parts.specs.Stage.{stage_of}
+use Rattle.session_parts.proofs.Noting.{line_notes}
+use Rattle.session_parts.proofs.Saying.{does_say}
+use Rattle.session_parts.proofs.Doing.{does_line, keeps, says_put, must_wait, stands}
 use Rattle.dbg_session.proofs.steps.line_once.Goals as goal
 
 pub returns-in-Ok-true-clause-work : goal.returns-in-Ok-true-clause-work

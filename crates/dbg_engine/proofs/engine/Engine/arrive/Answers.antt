@@ -1,9 +1,9 @@
 use Rattle.std.proofs.Common.{refl, sym, ap, ◌∙◌}
-use Rattle.engine_moves.specs.declared.mind.Mind.{Mind}
+use Rattle.engine_parts.specs.declared.mind.Mind.{Mind}
 use Rattle.dbg_model.specs.State.{State}
 use Rattle.dbg_model.specs.Watches.{risen}
-use Rattle.engine_moves.proofs.Arrivals.{stopped_row, stopped_turns}
-use Rattle.engine_moves.proofs.Rows.{halts_behind}
+use Rattle.engine_parts.proofs.Arrivals.{stopped_row, stopped_turns}
+use Rattle.engine_parts.proofs.Rows.{halts_behind}
 use Rattle.dbg_engine.proofs.engine.Engine.arrive.Goals as goal
 
 pub returns-clause-moves : goal.returns-clause-moves

@@ -1,6 +1,6 @@
 use Rattle.std.proofs.Common.{refl, sym}
 use Rattle.dbg_engine.specs.EngineInside.{run_of}
-use Rattle.engine_moves.proofs.Jobs.{began, found, free_by, takes}
+use Rattle.engine_parts.proofs.Jobs.{began, found, free_by, takes}
 use Rattle.dbg_engine.proofs.engine.Engine.can_take.Goals as goal
 
 pub returns-then-not-has_registers : goal.returns-then-not-has_registers

@@ -2,23 +2,23 @@ use Rattle.std.proofs.Common.{◌≡◌, ◌-◌, ◌+◌, List, sym, ap, ◌∙
 use Rattle.std.specs.Prelude.{length, map, vec_len, vec_capacity}
 use Rattle.break_table.specs.Table.{Table}
 use Rattle.break_table.specs.Text.{is_place}
-use Rattle.engine_moves.specs.Minds.{awaited}
+use Rattle.engine_parts.specs.Minds.{awaited}
 use Rattle.std.specs.Vec.{with_items}
 use Rattle.std.proofs.lemmas.List.{with_items_is}
 use Rattle.dbg_model.specs.Lawful.{may_do}
-use Rattle.engine_moves.specs.declared.mind.Mind.{Mind}
-use Rattle.engine_moves.specs.Seen.{Run, seen}
-use Rattle.engine_moves.specs.Facts.{Facts}
-use Rattle.engine_moves.proofs.Breaking.{are_planted}
-use Rattle.engine_moves.specs.Calls.{Lines}
+use Rattle.engine_parts.specs.declared.mind.Mind.{Mind}
+use Rattle.engine_parts.specs.Seen.{Engine, seen}
+use Rattle.engine_parts.specs.Facts.{Facts}
+use Rattle.engine_parts.proofs.Breaking.{are_planted}
+use Rattle.engine_parts.specs.Calls.{Lines}
 use Rattle.dbg_effects.specs.Effect.{change_of}
-use Rattle.engine_moves.specs.Changing.{Makes}
+use Rattle.engine_parts.specs.Changing.{Makes}
 use Rattle.dbg_engine.specs.EngineInside.{run_of}
-use Rattle.engine_moves.specs.Resuming.{minds_after}
-use Rattle.engine_moves.proofs.Commanding.{done_line, noted_low, numbers_room}
+use Rattle.engine_parts.specs.Resuming.{minds_after}
+use Rattle.engine_parts.proofs.Commanding.{done_line, noted_low, numbers_room}
 use Rattle.dbg_engine.proofs.Applying.{applies, watchable}
-use Rattle.engine_moves.proofs.Holds.{Moved, Noted}
-use Rattle.engine_moves.proofs.Rewaits.{rewaits, text_place, with_table}
+use Rattle.engine_parts.proofs.Holds.{Moved, Noted}
+use Rattle.engine_parts.proofs.Rewaits.{rewaits, text_place, with_table}
 use Rattle.dbg_engine.proofs.engine.Engine.change.Goals as goal
 use Rattle.dbg_engine.proofs.engine.Engine.change.Goals.{After-self-5-1, After-waiting-3-1}
 
@@ -33,22 +33,22 @@ change_table-requires-clause-planted c = are_planted (run_of c.self.inside) c.se
 pub change_table-requires-clause-given : goal.change_table-requires-clause-given
 change_table-requires-clause-given c =
     let r = run_of c.self.inside in
-    let may = ap (λ (q : Run). may_do q.opening (seen q) c.args.line.now) c.self.view_is ∙ c.requires.may in
+    let may = ap (λ (q : Engine). may_do q.opening (seen q) c.args.line.now) c.self.view_is ∙ c.requires.may in
     numbers_room r c.self.invariant.facts.sound (noted_low r c.args.line.now may)
 
 pub change_table-requires-clause-may : goal.change_table-requires-clause-may
 change_table-requires-clause-may c =
     let r = run_of c.self.inside in
-    let P : Run → Type 0 = λ q. Makes q c.args.line.now (change_of c.args.effect) in
+    let P : Engine → Type 0 = λ q. Makes q c.args.line.now (change_of c.args.effect) in
     applies r c.args.line.now c.args.effect c.self.inside.table c.self.invariant.facts.sound refl refl refl (subst P (sym c.self.view_is) c.requires.makes)
 
 pub change_table-requires-clause-watch : goal.change_table-requires-clause-watch
 change_table-requires-clause-watch c =
-    let P : Run → Type 0 = λ q. Makes q c.args.line.now (change_of c.args.effect) in
+    let P : Engine → Type 0 = λ q. Makes q c.args.line.now (change_of c.args.effect) in
     watchable (run_of c.self.inside) c.args.line.now c.args.effect (subst P (sym c.self.view_is) c.requires.makes)
 
 -- the engine after the change, before harts wait elsewhere
-abbrev changed_run : After-waiting-3-1 → Run
+abbrev changed_run : After-waiting-3-1 → Engine
 changed_run c =
     let r = run_of c.self.inside in
     let t = c.change_table.new.table in
@@ -59,10 +59,10 @@ changed : (c : After-waiting-3-1) → Noted (changed_run c) (λ n. Lines (run_of
 changed c =
     let r = run_of c.self.inside in
     let d = change_of c.args.effect in
-    let P : Run → Type 0 = λ q. Makes q c.args.line.now d in
+    let P : Engine → Type 0 = λ q. Makes q c.args.line.now d in
     let minds = c.change_threads.ensures ∙ ap (λ xs. minds_after xs d) c.deref_mut.ensures.value in
     done_line r (vec_capacity c.did.new.entries - vec_len c.did.new.entries) c.args.line.now d c.did.new.entries.items c.change_table.new.machine c.change_threads.new.minds c.selected_after-self-inside.result c.displaced_after-self-inside.result c.exited_after-self-inside.result c.change_table.new.watches c.self.inside.table c.change_table.new.table c.self.invariant.facts.sound
-    (ap (λ (q : Run). may_do q.opening (seen q) c.args.line.now) c.self.view_is ∙ c.requires.may) (subst P (sym c.self.view_is) c.requires.makes) c.requires.asks refl refl refl refl
+    (ap (λ (q : Engine). may_do q.opening (seen q) c.args.line.now) c.self.view_is ∙ c.requires.may) (subst P (sym c.self.view_is) c.requires.makes) c.requires.asks refl refl refl refl
     c.in_ok-did.ensures.done minds c.selected_after-self-inside.ensures c.displaced_after-self-inside.ensures c.exited_after-self-inside.ensures c.change_table.ensures.table c.change_table.ensures.watches c.change_table.ensures.machine
 
 -- how many minds there are, written back
@@ -88,7 +88,7 @@ rewait-requires-clause-places c a is = ap (λ (t : Table). is_place t.text a) c.
 pub rewait-requires-clause-planted : goal.rewait-requires-clause-planted
 rewait-requires-clause-planted c = c.change_table.ensures.machine.planted
 
-abbrev new_run : After-self-5-1 → List Mind → Run
+abbrev new_run : After-self-5-1 → List Mind → Engine
 new_run c xs =
     let r = run_of c.self.inside in
     let t = c.change_table.new.table in
@@ -114,7 +114,7 @@ invariant_of-self-2 c =
 pub returns-clause-lines : goal.returns-clause-lines
 returns-clause-lines c =
     let P : List Mind → Type 0 = λ xs. Lines c.args.self.now (with_table (new_run c xs) c.rewait.new.machine c.rewait.new.table) c.args.line.now in
-    let Q : Run → Type 0 = λ q. Lines q (with_table (new_run c c.change_threads.new.minds) c.rewait.new.machine c.rewait.new.table) c.args.line.now in
+    let Q : Engine → Type 0 = λ q. Lines q (with_table (new_run c c.change_threads.new.minds) c.rewait.new.machine c.rewait.new.table) c.args.line.now in
     subst P (minds_are c) (subst Q c.self.view_is (done c (changed (goal.at.returns-clause-lines c).After-waiting-3-1)).does)
 
 pub returns-clause-facts : goal.returns-clause-facts

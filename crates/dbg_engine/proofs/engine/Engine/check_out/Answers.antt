@@ -1,6 +1,6 @@
 use Rattle.std.proofs.Common.{refl, sym}
 use Rattle.dbg_engine.specs.EngineInside.{run_of}
-use Rattle.engine_moves.proofs.Jobs.{free_by, given, job_of, no_word}
+use Rattle.engine_parts.proofs.Jobs.{free_by, given, job_of, no_word}
 use Rattle.dbg_engine.proofs.engine.Engine.check_out.Goals as goal
 
 pub returns-then-not-is_text-clause-exactly : goal.returns-then-not-is_text-clause-exactly

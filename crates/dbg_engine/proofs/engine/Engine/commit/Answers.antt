@@ -2,11 +2,11 @@ use Rattle.std.proofs.Common.{◌+◌, ◌-◌, refl, ap, ◌∙◌, subst, arit
 use Rattle.std.specs.Prelude.{slice_get, slice_set, vec_len, vec_capacity}
 use Rattle.std.proofs.lemmas.Option.{slice_get_within}
 use Rattle.hart_machine.specs.Slices.{TakesSlice}
-use Rattle.engine_moves.specs.Seen.{Run}
-use Rattle.engine_moves.specs.Several.{lengthened_by}
+use Rattle.engine_parts.specs.Seen.{Engine}
+use Rattle.engine_parts.specs.Several.{lengthened_by}
 use Rattle.dbg_engine.specs.EngineInside.{run_of}
-use Rattle.engine_moves.proofs.Aheads.{small_of}
-use Rattle.engine_moves.proofs.Taking.{Taken, taken_at, taken_to}
+use Rattle.engine_parts.proofs.Aheads.{small_of}
+use Rattle.engine_parts.proofs.Taking.{Taken, taken_at, taken_to}
 use Rattle.dbg_engine.proofs.engine.Engine.commit.Goals as goal
 
 pub note_runs-requires-clause-last : goal.note_runs-requires-clause-last
@@ -14,13 +14,13 @@ note_runs-requires-clause-last c =
     let r = run_of c.self.inside in
     let can = c.if-not-can_take.ensures.0 refl in
     let k = small_of r c.args.self.now c.self.view_is c.self.invariant.facts.sound can.may in
-    omega (arith, k.last, c.from-count.ensures, can.budget, ap (λ (q : Run). q.opening.settings.budget) c.self.view_is, c.self.invariant.facts.sound.settings.budget.1)
+    omega (arith, k.last, c.from-count.ensures, can.budget, ap (λ (q : Engine). q.opening.settings.budget) c.self.view_is, c.self.invariant.facts.sound.settings.budget.1)
 
 pub index_mut-requires : goal.index_mut-requires
-index_mut-requires c = let within = slice_get_within c.self.inside.minds.items c.args.slice.now.hart c.mind-mind.result (ap (λ (q : Run). slice_get q.minds c.args.slice.now.hart) c.self.view_is ∙ c.mind-mind.ensures) in omega (arith, within)
+index_mut-requires c = let within = slice_get_within c.self.inside.minds.items c.args.slice.now.hart c.mind-mind.result (ap (λ (q : Engine). slice_get q.minds c.args.slice.now.hart) c.self.view_is ∙ c.mind-mind.ensures) in omega (arith, within)
 
 -- the engine with the slice's instructions done
-abbrev new_run : goal.After-self-2-1 → Run
+abbrev new_run : goal.After-self-2-1 → Engine
 new_run c =
     let r = run_of c.self.inside in
     record r { journal = c.note_runs.new.entries.items; spare = vec_capacity c.note_runs.new.entries - vec_len c.note_runs.new.entries; machine = c.take_slice.new.self; minds = slice_set r.minds c.args.slice.now.hart c.ran_mind.result; retired = r.retired + c.from-count.result }
@@ -41,5 +41,5 @@ returns-clause-facts c = (taken c).facts
 pub returns-clause-took : goal.returns-clause-took
 returns-clause-took c took =
     let slice = c.args.slice.now in
-    let M : Run → Type 0 = λ q. TakesSlice q.machine slice.hart slice.count slice.after c.take_slice.new.self in
+    let M : Engine → Type 0 = λ q. TakesSlice q.machine slice.hart slice.count slice.after c.take_slice.new.self in
     record { ran = taken_at slice.count (run_of c.self.inside) c.args.self.now (new_run c) slice.hart c.self.view_is (taken c).ran; machine = subst M c.self.view_is c.take_slice.ensures.taken }

@@ -1,6 +1,6 @@
 use Rattle.std.proofs.Common.{◌-◌}
 use Rattle.std.specs.Prelude.{vec_len, vec_capacity}
-use Rattle.engine_moves.proofs.Beginning.{Begins, begins_at, run_at}
+use Rattle.engine_parts.proofs.Beginning.{Begins, begins_at, run_at}
 use Rattle.dbg_engine.proofs.engine.Engine.load.Goals as goal
 use Rattle.dbg_engine.proofs.engine.Engine.load.Goals.{After-new}
 

@@ -1,5 +1,5 @@
 use Rattle.std.proofs.Common.{sym}
-use Rattle.engine_moves.proofs.Seeing.{may_go_by, may_not_by}
+use Rattle.engine_parts.proofs.Seeing.{may_go_by, may_not_by}
 use Rattle.dbg_engine.proofs.engine.Engine.may_go.Goals as goal
 
 pub returns-in-None : goal.returns-in-None

@@ -3,33 +3,33 @@ use Rattle.std.specs.Prelude.{Some, slice_get, slice_set, vec_len, vec_capacity}
 use Rattle.break_table.specs.Table.{Table}
 use Rattle.break_table.specs.Text.{is_place}
 use Rattle.dbg_model.specs.Lawful.{may_go}
-use Rattle.engine_moves.specs.declared.mind.Mind.{Mind}
-use Rattle.engine_moves.specs.Minds.{awaited, first_mind}
-use Rattle.engine_moves.specs.Seen.{Run, seen}
-use Rattle.engine_moves.specs.Facts.{other_holder}
-use Rattle.engine_moves.proofs.Breaking.{are_planted}
+use Rattle.engine_parts.specs.declared.mind.Mind.{Mind}
+use Rattle.engine_parts.specs.Minds.{awaited, first_mind}
+use Rattle.engine_parts.specs.Seen.{Engine, seen}
+use Rattle.engine_parts.specs.Facts.{other_holder}
+use Rattle.engine_parts.proofs.Breaking.{are_planted}
 use Rattle.dbg_engine.specs.EngineInside.{run_of}
 use Rattle.std.proofs.lemmas.Option.{slice_get_within}
-use Rattle.engine_moves.specs.Facts.{wanted}
-use Rattle.engine_moves.specs.Tables.{ArePlanted}
-use Rattle.engine_moves.specs.Changing.{wants_by}
-use Rattle.engine_moves.specs.Calls.{Halts, Of, StopsBy}
-use Rattle.engine_moves.proofs.Holds.{Moved, Noted, Settles, arrived, planted_shown, wanted_text}
-use Rattle.engine_moves.proofs.Rewaits.{rewaits, text_place, with_table}
+use Rattle.engine_parts.specs.Facts.{wanted}
+use Rattle.engine_parts.specs.Tables.{ArePlanted}
+use Rattle.engine_parts.specs.Changing.{wants_by}
+use Rattle.engine_parts.specs.Calls.{Halts, Of, StopsBy}
+use Rattle.engine_parts.proofs.Holds.{Moved, Noted, Settles, arrived, planted_shown, wanted_text}
+use Rattle.engine_parts.proofs.Rewaits.{rewaits, text_place, with_table}
 use Rattle.dbg_engine.proofs.engine.Engine.note_arrival.Goals as goal
 use Rattle.dbg_engine.proofs.engine.Engine.note_arrival.Goals.{After-self-3-1, After-waiting-3-1}
 
 pub settle-requires : goal.settle-requires
 settle-requires c =
     let r = run_of c.self.inside in
-    let mind : slice_get r.minds c.args.h ≡ Some c.args.mind = ap (λ (q : Run). slice_get q.minds c.args.h) c.self.view_is ∙ c.requires.before.at in
+    let mind : slice_get r.minds c.args.h ≡ Some c.args.mind = ap (λ (q : Engine). slice_get q.minds c.args.h) c.self.view_is ∙ c.requires.before.at in
     omega (arith, slice_get_within r.minds c.args.h c.args.mind mind, c.self.invariant.facts.sound.harts.len)
 
 pub repatch-requires-clause-wants : goal.repatch-requires-clause-wants
 repatch-requires-clause-wants c =
     let r = run_of c.self.inside in
-    let mind : slice_get r.minds c.args.h ≡ Some c.args.mind = ap (λ (q : Run). slice_get q.minds c.args.h) c.self.view_is ∙ c.requires.before.at in
-    let Q : Run → Type 0 = λ q. Of q c.args.h (λ y. y.regs.pc ≡ c.args.pc) in
+    let mind : slice_get r.minds c.args.h ≡ Some c.args.mind = ap (λ (q : Engine). slice_get q.minds c.args.h) c.self.view_is ∙ c.requires.before.at in
+    let Q : Engine → Type 0 = λ q. Of q c.args.h (λ y. y.regs.pc ≡ c.args.pc) in
     let settles : Settles r c.args.h c.args.pc c.settle.new.table.entries = λ k at. c.settle.ensures.entries k at in
     wanted_text r c.args.h c.args.pc c.args.mind c.settle.new.table.entries c.wants-wants.result c.self.invariant.facts.sound mind c.requires.before.before c.requires.before.runs (subst Q (sym c.self.view_is) c.requires.pc) settles (c.wants-wants.ensures ∙ ap (λ (t : Table). wanted (wants_by t r.hold) c.args.pc) c.settle.ensures.rest)
 
@@ -55,19 +55,19 @@ pub rewait-requires-clause-places : goal.rewait-requires-clause-places
 rewait-requires-clause-places c a is = ap (λ (t : Table). is_place t.text a) c.settle.ensures.rest ∙ text_place (run_of c.self.inside) c.self.invariant.facts.sound a is
 
 -- the engine then, before harts wait elsewhere
-abbrev arrived_run : After-waiting-3-1 → Run
+abbrev arrived_run : After-waiting-3-1 → Engine
 arrived_run c = let r = run_of c.self.inside in record r { journal = c.note.new.entries.items; spare = vec_capacity c.note.new.entries - vec_len c.note.new.entries; machine = c.repatch.new.machine; minds = slice_set r.minds c.args.h first_mind; watches = c.rise.new.self; breaks = c.settle.new.table.entries; noted = r.noted + 1; temporary = c.stops_once-self-inside.result }
 
 -- the hart has stopped, whatever patches are planted for the harts that wait then
 arrived_at : (c : After-waiting-3-1) → Noted (arrived_run c) (λ n. Halts (run_of c.self.inside) n c.args.h c.args.why)
 arrived_at c =
     let r = run_of c.self.inside in
-    let mind : slice_get r.minds c.args.h ≡ Some c.args.mind = ap (λ (q : Run). slice_get q.minds c.args.h) c.self.view_is ∙ c.requires.before.at in
-    let P : Run → Type 0 = λ q. StopsBy q c.args.h c.args.why in
-    let Q : Run → Type 0 = λ q. Of q c.args.h (λ y. y.regs.pc ≡ c.args.pc) in
+    let mind : slice_get r.minds c.args.h ≡ Some c.args.mind = ap (λ (q : Engine). slice_get q.minds c.args.h) c.self.view_is ∙ c.requires.before.at in
+    let P : Engine → Type 0 = λ q. StopsBy q c.args.h c.args.why in
+    let Q : Engine → Type 0 = λ q. Of q c.args.h (λ y. y.regs.pc ≡ c.args.pc) in
     let settles : Settles r c.args.h c.args.pc c.settle.new.table.entries = λ k at. c.settle.ensures.entries k at in
     arrived r c.args.h c.args.pc (vec_capacity c.note.new.entries - vec_len c.note.new.entries) c.args.why c.args.mind c.note.new.entries.items c.repatch.new.machine c.settle.new.table.entries c.rise.new.self c.wants-wants.result c.stops_once-self-inside.result c.stops_once-self-inside.ensures c.self.invariant.facts.sound mind
-    c.requires.idle c.requires.before.runs (ap (λ (q : Run). other_holder q.hold c.args.h) c.self.view_is ∙ c.requires.before.free) (subst Q (sym c.self.view_is) c.requires.pc) (subst P (sym c.self.view_is) c.requires.stops) (ap (λ (q : Run). may_go q.opening (seen q)) c.self.view_is ∙ c.requires.before.may)
+    c.requires.idle c.requires.before.runs (ap (λ (q : Engine). other_holder q.hold c.args.h) c.self.view_is ∙ c.requires.before.free) (subst Q (sym c.self.view_is) c.requires.pc) (subst P (sym c.self.view_is) c.requires.stops) (ap (λ (q : Engine). may_go q.opening (seen q)) c.self.view_is ∙ c.requires.before.may)
     c.note.ensures.entries settles c.rise.ensures (c.wants-wants.ensures ∙ ap (λ (t : Table). wanted (wants_by t r.hold) c.args.pc) c.settle.ensures.rest) c.repatch.ensures.text c.repatch.ensures.rest
 
 pub rewait-requires-clause-planted : goal.rewait-requires-clause-planted
@@ -76,7 +76,7 @@ rewait-requires-clause-planted c =
     let P : Table → Type 0 = λ t. ArePlanted c.repatch.new.machine.text (wants_by t r.hold) in
     subst P (sym c.settle.ensures.rest) (are_planted (arrived_run c) (arrived_at c).sound)
 
-abbrev new_run : After-self-3-1 → Run
+abbrev new_run : After-self-3-1 → Engine
 new_run c = let r = run_of c.self.inside in record r { journal = c.note.new.entries.items; spare = vec_capacity c.note.new.entries - vec_len c.note.new.entries; machine = c.repatch.new.machine; minds = slice_set r.minds c.args.h first_mind; watches = c.rise.new.self; breaks = c.settle.new.table.entries; noted = r.noted + 1; temporary = c.stops_once-self-inside.result }
 
 move : (c : After-self-3-1) → Noted (new_run c) (λ n. Halts (run_of c.self.inside) n c.args.h c.args.why)
@@ -92,7 +92,7 @@ invariant_of-self c = record { facts = (move c (arrived_at (goal.at.invariant_of
 
 pub returns-clause-halts : goal.returns-clause-halts
 returns-clause-halts c =
-    let Q : Run → Type 0 = λ q. Halts q (with_table (new_run c) c.rewait.new.machine c.rewait.new.table) c.args.h c.args.why in
+    let Q : Engine → Type 0 = λ q. Halts q (with_table (new_run c) c.rewait.new.machine c.rewait.new.table) c.args.h c.args.why in
     subst Q c.self.view_is (move c (arrived_at (goal.at.returns-clause-halts c).After-waiting-3-1)).does
 
 pub returns-clause-facts : goal.returns-clause-facts

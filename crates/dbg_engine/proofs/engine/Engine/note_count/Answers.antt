@@ -3,33 +3,33 @@ use Rattle.std.specs.Prelude.{Some, slice_get, slice_set, vec_len, vec_capacity}
 use Rattle.break_table.specs.Table.{Table}
 use Rattle.break_table.specs.Text.{is_place}
 use Rattle.dbg_model.specs.Lawful.{may_go}
-use Rattle.engine_moves.specs.declared.mind.Mind.{Mind}
-use Rattle.engine_moves.specs.Minds.{awaited, counted_mind}
-use Rattle.engine_moves.specs.Seen.{Run, seen}
-use Rattle.engine_moves.proofs.Awaiting.{waits_same}
-use Rattle.engine_moves.proofs.Breaking.{are_planted}
+use Rattle.engine_parts.specs.declared.mind.Mind.{Mind}
+use Rattle.engine_parts.specs.Minds.{awaited, counted_mind}
+use Rattle.engine_parts.specs.Seen.{Engine, seen}
+use Rattle.engine_parts.proofs.Awaiting.{waits_same}
+use Rattle.engine_parts.proofs.Breaking.{are_planted}
 use Rattle.dbg_engine.specs.EngineInside.{run_of}
 use Rattle.std.proofs.lemmas.Option.{slice_get_within}
-use Rattle.engine_moves.specs.Facts.{wanted}
-use Rattle.engine_moves.specs.Tables.{ArePlanted}
-use Rattle.engine_moves.specs.Changing.{wants_by}
-use Rattle.engine_moves.specs.Calls.{Counts, Of, DueIs}
-use Rattle.engine_moves.proofs.Holds.{Moved, Noted, Settles, counted, planted_shown, wanted_text}
-use Rattle.engine_moves.proofs.Rewaits.{rewaits, same_waits, text_place, with_table}
+use Rattle.engine_parts.specs.Facts.{wanted}
+use Rattle.engine_parts.specs.Tables.{ArePlanted}
+use Rattle.engine_parts.specs.Changing.{wants_by}
+use Rattle.engine_parts.specs.Calls.{Counts, Of, DueIs}
+use Rattle.engine_parts.proofs.Holds.{Moved, Noted, Settles, counted, planted_shown, wanted_text}
+use Rattle.engine_parts.proofs.Rewaits.{rewaits, same_waits, text_place, with_table}
 use Rattle.dbg_engine.proofs.engine.Engine.note_count.Goals as goal
 use Rattle.dbg_engine.proofs.engine.Engine.note_count.Goals.{After-self-2-1, After-waiting-3-1}
 
 pub settle-requires : goal.settle-requires
 settle-requires c =
     let r = run_of c.self.inside in
-    let mind : slice_get r.minds c.args.h ≡ Some c.args.mind = ap (λ (q : Run). slice_get q.minds c.args.h) c.self.view_is ∙ c.requires.before.at in
+    let mind : slice_get r.minds c.args.h ≡ Some c.args.mind = ap (λ (q : Engine). slice_get q.minds c.args.h) c.self.view_is ∙ c.requires.before.at in
     omega (arith, slice_get_within r.minds c.args.h c.args.mind mind, c.self.invariant.facts.sound.harts.len)
 
 pub repatch-requires-clause-wants : goal.repatch-requires-clause-wants
 repatch-requires-clause-wants c =
     let r = run_of c.self.inside in
-    let mind : slice_get r.minds c.args.h ≡ Some c.args.mind = ap (λ (q : Run). slice_get q.minds c.args.h) c.self.view_is ∙ c.requires.before.at in
-    let Q : Run → Type 0 = λ q. Of q c.args.h (λ y. y.regs.pc ≡ c.args.pc) in
+    let mind : slice_get r.minds c.args.h ≡ Some c.args.mind = ap (λ (q : Engine). slice_get q.minds c.args.h) c.self.view_is ∙ c.requires.before.at in
+    let Q : Engine → Type 0 = λ q. Of q c.args.h (λ y. y.regs.pc ≡ c.args.pc) in
     let settles : Settles r c.args.h c.args.pc c.settle.new.table.entries = λ k at. c.settle.ensures.entries k at in
     wanted_text r c.args.h c.args.pc c.args.mind c.settle.new.table.entries c.wants-wants.result c.self.invariant.facts.sound mind c.requires.before.before c.requires.before.runs (subst Q (sym c.self.view_is) c.requires.pc) settles (c.wants-wants.ensures ∙ ap (λ (t : Table). wanted (wants_by t r.hold) c.args.pc) c.settle.ensures.rest)
 
@@ -55,19 +55,19 @@ pub rewait-requires-clause-places : goal.rewait-requires-clause-places
 rewait-requires-clause-places c a is = ap (λ (t : Table). is_place t.text a) c.settle.ensures.rest ∙ text_place (run_of c.self.inside) c.self.invariant.facts.sound a is
 
 -- the engine then, before harts wait elsewhere
-abbrev counted_run : After-waiting-3-1 → Run
+abbrev counted_run : After-waiting-3-1 → Engine
 counted_run c = let r = run_of c.self.inside in record r { journal = c.note.new.entries.items; spare = vec_capacity c.note.new.entries - vec_len c.note.new.entries; machine = c.repatch.new.machine; minds = slice_set r.minds c.args.h c.counted_mind.result; breaks = c.settle.new.table.entries; noted = r.noted + 1 }
 
 -- the hart is counted, whatever patches are planted for the harts that wait then
 counted_at : (c : After-waiting-3-1) → Noted (counted_run c) (λ n. Counts (run_of c.self.inside) n c.args.h)
 counted_at c =
     let r = run_of c.self.inside in
-    let mind : slice_get r.minds c.args.h ≡ Some c.args.mind = ap (λ (q : Run). slice_get q.minds c.args.h) c.self.view_is ∙ c.requires.before.at in
-    let P : Run → Type 0 = λ q. DueIs q c.args.h c.args.due in
-    let Q : Run → Type 0 = λ q. Of q c.args.h (λ y. y.regs.pc ≡ c.args.pc) in
+    let mind : slice_get r.minds c.args.h ≡ Some c.args.mind = ap (λ (q : Engine). slice_get q.minds c.args.h) c.self.view_is ∙ c.requires.before.at in
+    let P : Engine → Type 0 = λ q. DueIs q c.args.h c.args.due in
+    let Q : Engine → Type 0 = λ q. Of q c.args.h (λ y. y.regs.pc ≡ c.args.pc) in
     let settles : Settles r c.args.h c.args.pc c.settle.new.table.entries = λ k at. c.settle.ensures.entries k at in
     counted r c.args.h c.args.pc (vec_capacity c.note.new.entries - vec_len c.note.new.entries) c.args.due c.args.mind c.counted_mind.result c.plan_after-plan.result c.note.new.entries.items c.repatch.new.machine c.settle.new.table.entries c.wants-wants.result c.self.invariant.facts.sound mind
-    c.requires.before.before c.requires.before.runs (subst Q (sym c.self.view_is) c.requires.pc) (subst P (sym c.self.view_is) c.requires.due) c.requires.counts (ap (λ (q : Run). may_go q.opening (seen q)) c.self.view_is ∙ c.requires.before.may)
+    c.requires.before.before c.requires.before.runs (subst Q (sym c.self.view_is) c.requires.pc) (subst P (sym c.self.view_is) c.requires.due) c.requires.counts (ap (λ (q : Engine). may_go q.opening (seen q)) c.self.view_is ∙ c.requires.before.may)
     c.note.ensures.entries settles (c.wants-wants.ensures ∙ ap (λ (t : Table). wanted (wants_by t r.hold) c.args.pc) c.settle.ensures.rest) c.repatch.ensures.text c.repatch.ensures.rest c.counted_mind.ensures c.plan_after-plan.ensures c.requires.fresh
 
 pub rewait-requires-clause-planted : goal.rewait-requires-clause-planted
@@ -79,10 +79,10 @@ rewait-requires-clause-planted c =
 pub rewait-requires-clause-stays : goal.rewait-requires-clause-stays
 rewait-requires-clause-stays c off =
     let r = run_of c.self.inside in
-    let mind : slice_get r.minds c.args.h ≡ Some c.args.mind = ap (λ (q : Run). slice_get q.minds c.args.h) c.self.view_is ∙ c.requires.before.at in
+    let mind : slice_get r.minds c.args.h ≡ Some c.args.mind = ap (λ (q : Engine). slice_get q.minds c.args.h) c.self.view_is ∙ c.requires.before.at in
     ap (λ (t : Table). t.waits) c.settle.ensures.rest ∙ (waits_same r c.args.h c.args.mind c.counted_mind.result c.self.invariant.facts mind (ap (awaited r.opening.image) c.counted_mind.ensures ∙ same_waits r.opening.image c.args.mind (counted_mind c.plan_after-plan.result c.args.mind) refl (c.changes-moved.ensures off)) ∙ ap (map (awaited r.opening.image)) (sym c.as_slice.ensures.value))
 
-abbrev new_run : After-self-2-1 → Run
+abbrev new_run : After-self-2-1 → Engine
 new_run c = let r = run_of c.self.inside in record r { journal = c.note.new.entries.items; spare = vec_capacity c.note.new.entries - vec_len c.note.new.entries; machine = c.repatch.new.machine; minds = slice_set r.minds c.args.h c.counted_mind.result; breaks = c.settle.new.table.entries; noted = r.noted + 1 }
 
 move : (c : After-self-2-1) → Noted (new_run c) (λ n. Counts (run_of c.self.inside) n c.args.h)
@@ -98,7 +98,7 @@ invariant_of-self c = record { facts = (move c (counted_at (goal.at.invariant_of
 
 pub returns-clause-counts : goal.returns-clause-counts
 returns-clause-counts c =
-    let Q : Run → Type 0 = λ q. Counts q (with_table (new_run c) c.rewait.new.machine c.rewait.new.table) c.args.h in
+    let Q : Engine → Type 0 = λ q. Counts q (with_table (new_run c) c.rewait.new.machine c.rewait.new.table) c.args.h in
     subst Q c.self.view_is (move c (counted_at (goal.at.returns-clause-counts c).After-waiting-3-1)).does
 
 pub returns-clause-facts : goal.returns-clause-facts

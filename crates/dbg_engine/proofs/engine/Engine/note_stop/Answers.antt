@@ -2,15 +2,15 @@ use Rattle.std.proofs.Common.{◌≡◌, ◌-◌, ◌+◌, List, length, map, sy
 use Rattle.std.specs.Prelude.{Some, slice_get, slice_set, vec_len, vec_capacity}
 use Rattle.break_table.specs.Table.{Table}
 use Rattle.dbg_model.specs.Lawful.{may_go}
-use Rattle.engine_moves.specs.declared.mind.Mind.{Mind}
-use Rattle.engine_moves.specs.Minds.{awaited, first_mind}
-use Rattle.engine_moves.specs.Seen.{Run, seen}
-use Rattle.engine_moves.specs.Facts.{other_holder}
-use Rattle.engine_moves.proofs.Breaking.{are_planted}
+use Rattle.engine_parts.specs.declared.mind.Mind.{Mind}
+use Rattle.engine_parts.specs.Minds.{awaited, first_mind}
+use Rattle.engine_parts.specs.Seen.{Engine, seen}
+use Rattle.engine_parts.specs.Facts.{other_holder}
+use Rattle.engine_parts.proofs.Breaking.{are_planted}
 use Rattle.dbg_engine.specs.EngineInside.{run_of}
-use Rattle.engine_moves.specs.Calls.{MayStop, StopsFor, Undue}
-use Rattle.engine_moves.proofs.Holds.{Moved, halted_run, stopped}
-use Rattle.engine_moves.proofs.Rewaits.{rewaits, text_place, with_table}
+use Rattle.engine_parts.specs.Calls.{MayStop, StopsFor, Undue}
+use Rattle.engine_parts.proofs.Holds.{Moved, halted_run, stopped}
+use Rattle.engine_parts.proofs.Rewaits.{rewaits, text_place, with_table}
 use Rattle.dbg_engine.proofs.engine.Engine.note_stop.Goals as goal
 
 pub rewait-requires-clause-few : goal.rewait-requires-clause-few
@@ -40,10 +40,10 @@ move c =
     let r = run_of c.self.inside in
     let f = c.self.invariant.facts.sound in
     let spare = vec_capacity c.note.new.entries - vec_len c.note.new.entries in
-    let mind : slice_get r.minds c.args.h ≡ Some c.args.mind = ap (λ (q : Run). slice_get q.minds c.args.h) c.self.view_is ∙ c.requires.before.at in
-    let P : Run → Type 0 = λ q. Undue q c.args.h in
-    let Q : Run → Type 0 = λ q. MayStop c.args.why q c.args.h c.args.mind in
-    let n = stopped r c.args.h spare c.args.mind c.args.why c.note.new.entries.items f mind c.requires.idle c.requires.before.runs (ap (λ (q : Run). other_holder q.hold c.args.h) c.self.view_is ∙ c.requires.before.free) (subst P (sym c.self.view_is) c.requires.due) (subst Q (sym c.self.view_is) c.requires.by) (ap (λ (q : Run). may_go q.opening (seen q)) c.self.view_is ∙ c.requires.before.may) c.note.ensures.entries in
+    let mind : slice_get r.minds c.args.h ≡ Some c.args.mind = ap (λ (q : Engine). slice_get q.minds c.args.h) c.self.view_is ∙ c.requires.before.at in
+    let P : Engine → Type 0 = λ q. Undue q c.args.h in
+    let Q : Engine → Type 0 = λ q. MayStop c.args.why q c.args.h c.args.mind in
+    let n = stopped r c.args.h spare c.args.mind c.args.why c.note.new.entries.items f mind c.requires.idle c.requires.before.runs (ap (λ (q : Engine). other_holder q.hold c.args.h) c.self.view_is ∙ c.requires.before.free) (subst P (sym c.self.view_is) c.requires.due) (subst Q (sym c.self.view_is) c.requires.by) (ap (λ (q : Engine). may_go q.opening (seen q)) c.self.view_is ∙ c.requires.before.may) c.note.ensures.entries in
     let all : List Mind → Table = λ xs. record c.self.inside.table { waits = map (awaited r.opening.image) xs } in
     rewaits (λ n. StopsFor c.args.why r n c.args.h) (halted_run r c.args.h spare c.note.new.entries.items) c.rewait.new.machine c.rewait.new.table n (record { table = c.rewait.ensures.table ∙ ap all c.as_slice.ensures.value; machine = c.rewait.ensures.machine })
 
@@ -54,7 +54,7 @@ pub returns-clause-stops : goal.returns-clause-stops
 returns-clause-stops c =
     let r = run_of c.self.inside in
     let n = with_table (halted_run r c.args.h (vec_capacity c.note.new.entries - vec_len c.note.new.entries) c.note.new.entries.items) c.rewait.new.machine c.rewait.new.table in
-    let Q : Run → Type 0 = λ q. StopsFor c.args.why q n c.args.h in
+    let Q : Engine → Type 0 = λ q. StopsFor c.args.why q n c.args.h in
     subst Q c.self.view_is (move c).does
 
 pub returns-clause-facts : goal.returns-clause-facts

@@ -1,7 +1,7 @@
 use Rattle.std.proofs.Common.{◌≡◌}
 use Rattle.dbg_model.specs.declared.hart.Hart.{Hart}
 use Rattle.dbg_engine.specs.EngineInside.{run_of}
-use Rattle.engine_moves.proofs.Holds.{shown_at, pc_unrunning}
+use Rattle.engine_parts.proofs.Holds.{shown_at, pc_unrunning}
 use Rattle.dbg_engine.proofs.engine.Engine.pc.Goals as goal
 
 pub returns-in_default : goal.returns-in_default

@@ -1,12 +1,12 @@
 use Rattle.std.proofs.Common.{◌+◌, ◌-◌, sym, ap, ◌∙◌, subst, arith}
 use Rattle.hart_machine.specs.Patched.{Patched}
-use Rattle.engine_moves.specs.Seen.{Run}
-use Rattle.engine_moves.specs.Facts.{Facts}
+use Rattle.engine_parts.specs.Seen.{Engine}
+use Rattle.engine_parts.specs.Facts.{Facts}
 use Rattle.std.specs.Prelude.{slice_set, vec_len, vec_capacity}
-use Rattle.engine_moves.specs.Several.{lengthened_by}
+use Rattle.engine_parts.specs.Several.{lengthened_by}
 use Rattle.dbg_engine.specs.EngineInside.{run_of}
-use Rattle.engine_moves.proofs.Aheads.{gone_to, none_gone, small_of, turned_at}
-use Rattle.engine_moves.proofs.Passing.{Ahead, around}
+use Rattle.engine_parts.proofs.Aheads.{gone_to, none_gone, small_of, turned_at}
+use Rattle.engine_parts.proofs.Passing.{Ahead, around}
 use Rattle.dbg_engine.proofs.engine.Engine.run.Goals as goal
 
 pub note_runs-requires-clause-last : goal.note_runs-requires-clause-last
@@ -30,7 +30,7 @@ invariant_of-self c =
     record { facts = subst M (sym (none_gone (around r c.args.h c.mind-mind.result.course.plan c.by_copies.result) c.min-most.result p.turns p.instructions r.machine c.go-progress.new.machine c.if-progress-eq0.true c.go-progress.ensures.goes)) c.self.invariant.facts }
 
 -- the engine so many turns on
-abbrev new_run : goal.After-self-2-1 → Run
+abbrev new_run : goal.After-self-2-1 → Engine
 new_run c =
     let r = run_of c.self.inside in
     record r { journal = c.note_runs.new.entries.items; spare = vec_capacity c.note_runs.new.entries - vec_len c.note_runs.new.entries; machine = c.go-progress.new.machine; minds = slice_set r.minds c.args.h c.ran_mind.result; retired = r.retired + c.from-count.result }

@@ -1,7 +1,7 @@
 use Rattle.std.proofs.Common.{◌≡◌, sym, ◌∙◌}
 use Rattle.dbg_model.specs.declared.hart.Hart.{Hart}
 use Rattle.dbg_engine.specs.EngineInside.{run_of}
-use Rattle.engine_moves.proofs.Holds.{shown_at, pc_own, pc_copied, pc_landed, pc_wordless}
+use Rattle.engine_parts.proofs.Holds.{shown_at, pc_own, pc_copied, pc_landed, pc_wordless}
 use Rattle.dbg_engine.proofs.engine.Engine.shown_pc.Goals as goal
 
 pub returns-in-Copied : goal.returns-in-Copied

@@ -4,24 +4,24 @@ use Rattle.dbg_model.specs.Lawful.{may_do}
 use Rattle.dbg_model.specs.Outcome.{pokes}
 use Rattle.dbg_model.specs.declared.entry.Entry.{Entry}
 use Rattle.dbg_model.specs.declared.entry.Entry.TheVariants.{Poked}
-use Rattle.engine_moves.specs.Seen.{Run, seen}
-use Rattle.engine_moves.specs.Calls.{Lines}
-use Rattle.engine_moves.specs.Changing.{Makes}
+use Rattle.engine_parts.specs.Seen.{Engine, seen}
+use Rattle.engine_parts.specs.Calls.{Lines}
+use Rattle.engine_parts.specs.Changing.{Makes}
 use Rattle.dbg_engine.specs.EngineInside.{run_of}
-use Rattle.engine_moves.proofs.Commanding.{can_poke, wrote_line, written_run}
-use Rattle.engine_moves.proofs.Holds.{Moved}
+use Rattle.engine_parts.proofs.Commanding.{can_poke, wrote_line, written_run}
+use Rattle.engine_parts.proofs.Holds.{Moved}
 use Rattle.dbg_engine.proofs.engine.Engine.write.Goals as goal
 use Rattle.dbg_engine.proofs.engine.Engine.write.Goals.{After-self-1}
 
 pub write-requires : goal.write-requires
 write-requires c =
-    let P : Run → Type 0 = λ q. Makes q c.args.line.now (pokes c.args.poke) in
+    let P : Engine → Type 0 = λ q. Makes q c.args.line.now (pokes c.args.poke) in
     can_poke (run_of c.self.inside) c.args.line.now c.args.poke c.self.invariant.facts.sound (subst P (sym c.self.view_is) c.requires.makes)
 
 done : (c : After-self-1) → (let new = written_run (run_of c.self.inside) c.note.new.entries.items c.write.new.machine (vec_capacity c.note.new.entries - vec_len c.note.new.entries) in Moved new (Lines (run_of c.self.inside) new c.args.line.now))
 done c =
-    let P : Run → Type 0 = λ q. Makes q c.args.line.now (pokes c.args.poke) in
-    let may = ap (λ (q : Run). may_do q.opening (seen q) c.args.line.now) c.self.view_is ∙ c.requires.may in
+    let P : Engine → Type 0 = λ q. Makes q c.args.line.now (pokes c.args.poke) in
+    let may = ap (λ (q : Engine). may_do q.opening (seen q) c.args.line.now) c.self.view_is ∙ c.requires.may in
     let journal = c.note.ensures.entries ∙ ap (λ (es : List Entry). es ++ Poked c.args.poke ∷ []) c.in_ok-did.ensures.done in
     wrote_line (run_of c.self.inside) (vec_capacity c.note.new.entries - vec_len c.note.new.entries) c.args.line.now c.args.poke c.note.new.entries.items c.write.new.machine c.self.invariant.facts may (subst P (sym c.self.view_is) c.requires.makes) journal c.write.ensures
 
@@ -30,7 +30,7 @@ invariant_of-self-2 c = record { facts = (done c).facts }
 
 pub returns-clause-lines : goal.returns-clause-lines
 returns-clause-lines c =
-    let Q : Run → Type 0 = λ q. Lines q (written_run (run_of c.self.inside) c.note.new.entries.items c.write.new.machine (vec_capacity c.note.new.entries - vec_len c.note.new.entries)) c.args.line.now in
+    let Q : Engine → Type 0 = λ q. Lines q (written_run (run_of c.self.inside) c.note.new.entries.items c.write.new.machine (vec_capacity c.note.new.entries - vec_len c.note.new.entries)) c.args.line.now in
     subst Q c.self.view_is (done c).does
 
 pub returns-clause-facts : goal.returns-clause-facts

@@ -1,7 +1,7 @@
 use Rattle.std.proofs.Common.{ap, ◌∙◌}
 use Rattle.std.specs.Prelude.{slice_get}
 use Rattle.std.proofs.lemmas.Option.{get_or_from_slice_get}
-use Rattle.engine_moves.proofs.Jobs.{registers_same}
+use Rattle.engine_parts.proofs.Jobs.{registers_same}
 use Rattle.dbg_engine.proofs.engine.slicing.has_registers.Goals as goal
 
 pub returns : goal.returns

@@ -1,8 +1,8 @@
 use Rattle.std.proofs.Common.{◌∙◌, ap, sym}
 use Rattle.std.specs.Prelude.{is_some}
-use Rattle.session_facts.specs.Seen.{Seen}
-use Rattle.session_facts.specs.Round.{moment}
-use Rattle.session_facts.proofs.Bringing.{left_over}
+use Rattle.session_parts.specs.Seen.{Seen}
+use Rattle.session_parts.specs.Round.{moment}
+use Rattle.session_parts.proofs.Bringing.{left_over}
 use Rattle.dbg_session.proofs.session.Session.bring.Goals as goal
 
 pub returns-then-is_some-clause-takes : goal.returns-then-is_some-clause-takes

@@ -1,7 +1,7 @@
 use Rattle.std.proofs.Common.{subst}
-use Rattle.session_facts.specs.Left.{IsLeft}
-use Rattle.session_facts.specs.Seen.{Seen}
-use Rattle.session_facts.proofs.Leaving.{left}
+use Rattle.session_parts.specs.Left.{IsLeft}
+use Rattle.session_parts.specs.Seen.{Seen}
+use Rattle.session_parts.proofs.Leaving.{left}
 use Rattle.dbg_session.proofs.session.Session.close.Goals as goal
 
 pub returns-clause-closed : goal.returns-clause-closed

@@ -1,20 +1,20 @@
 use Rattle.std.proofs.Common.{◌≡◌, ◌<◌, ◌≤◌, ◌∙◌, ap, sym, subst, refl, arith}
 use Rattle.std.specs.Prelude.{Option, None}
 use mathlib.Core.Logic.{inl}
-use Rattle.engine_moves.specs.Seen.{Run}
-use Rattle.engine_moves.specs.Several.{lengthened_by}
-use Rattle.engine_moves.specs.Slicing.{CanTake}
-use Rattle.engine_moves.proofs.Quiet.{ran_quiet}
-use Rattle.session_facts.specs.declared.status.Status.{Status}
-use Rattle.session_facts.specs.Ties.{IsTied, session_work}
-use Rattle.session_facts.specs.Seen.{Seen, work}
-use Rattle.session_facts.specs.Stage.{stage_of}
+use Rattle.engine_parts.specs.Seen.{Engine}
+use Rattle.engine_parts.specs.Several.{lengthened_by}
+use Rattle.engine_parts.specs.Slicing.{CanTake}
+use Rattle.engine_parts.proofs.Quiet.{ran_quiet}
+use Rattle.session_parts.specs.declared.status.Status.{Status}
+use Rattle.session_parts.specs.Ties.{IsTied, session_work}
+use Rattle.session_parts.specs.Seen.{Seen, work}
+use Rattle.session_parts.specs.Stage.{stage_of}
 use Rattle.dbg_session.specs.SessionInside.{seen_of, taken_of}
-use Rattle.session_facts.specs.Round.{Moved, moment}
-use Rattle.session_facts.specs.Crew.{Commits}
-use Rattle.session_facts.proofs.Getting.{less_work}
-use Rattle.session_facts.proofs.Tying.{counted_same}
-use Rattle.session_facts.proofs.Several.{ran_noted, ran_on, standing}
+use Rattle.session_parts.specs.Round.{Moved, moment}
+use Rattle.session_parts.specs.Crew.{Commits}
+use Rattle.session_parts.proofs.Getting.{less_work}
+use Rattle.session_parts.proofs.Tying.{counted_same}
+use Rattle.session_parts.proofs.Several.{ran_noted, ran_on, standing}
 use Rattle.dbg_session.proofs.session.Session.commit.Goals as goal
 
 pub invariant_of-self-in-Took : goal.invariant_of-self-in-Took
@@ -72,8 +72,8 @@ returns-in-Took-clause-takes g c =
     let ran = (c.in-Took.ensures.took refl).ran in
     let k = ran_on n p e r s h o same c.requires.some c.self.invariant.4 c.commit.ensures.facts (record { tied = tied }) (ran_quiet n r s h ran) c.over-self-inside.ensures in
     let M : Option Status → Type 0 = λ t. Moved n h (record p { status = t }) (standing p s o) in
-    let C : Run → Type 0 = λ u. CanTake u slice in
-    let noted : s.journal ≡ lengthened_by n e.journal h = ran_noted n r s h ran ∙ ap (λ (u : Run). lengthened_by n u.journal h) same in
+    let C : Engine → Type 0 = λ u. CanTake u slice in
+    let noted : s.journal ≡ lengthened_by n e.journal h = ran_noted n r s h ran ∙ ap (λ (u : Engine). lengthened_by n u.journal h) same in
     let done : Commits slice p (standing p s o) = record { can = subst C same (c.in-Took.ensures.exactly.0 refl); moved = subst M (sym none) k.moved; journal = noted; told = refl } in
     let P : Seen g.row.W.Denot → Type 0 = λ u. Commits slice (moment told u) (standing p s o) in
     inl (subst P c.self.view_is done)

@@ -1,16 +1,16 @@
 use Rattle.std.proofs.Common.{◌≡◌, ◌+◌, ◌-◌, ◌∙◌, take, drop, length-drop, length, ap, sym, arith, subst, refl}
 use Rattle.std.specs.Prelude.{None, Some}
 use Rattle.std.proofs.lemmas.List.{drop-drop}
-use Rattle.session_facts.specs.declared.status.Status.TheVariants as status
-use Rattle.session_facts.specs.declared.line.Done.TheVariants as done
-use Rattle.session_facts.specs.Ties.{IsTied}
-use Rattle.session_facts.specs.Seen.{Seen}
-use Rattle.session_facts.specs.Stage.{stage_of}
+use Rattle.session_parts.specs.declared.status.Status.TheVariants as status
+use Rattle.session_parts.specs.declared.line.Done.TheVariants as done
+use Rattle.session_parts.specs.Ties.{IsTied}
+use Rattle.session_parts.specs.Seen.{Seen}
+use Rattle.session_parts.specs.Stage.{stage_of}
 use Rattle.dbg_session.specs.SessionInside.{seen_of, taken_of}
-use Rattle.session_facts.specs.Round.{Lines, moment}
-use Rattle.session_facts.proofs.Doing.{may}
-use Rattle.session_facts.proofs.Going.{does}
-use Rattle.session_facts.proofs.Tying.{line_done, line_unput, line_unsaid, slice_from, counted_same}
+use Rattle.session_parts.specs.Round.{Lines, moment}
+use Rattle.session_parts.proofs.Doing.{may}
+use Rattle.session_parts.proofs.Going.{does}
+use Rattle.session_parts.proofs.Tying.{line_done, line_unput, line_unsaid, slice_from, counted_same}
 use Rattle.dbg_session.proofs.session.Session.do_line.Goals as goal
 
 pub line_once-done-requires-clause-may : goal.line_once-done-requires-clause-may

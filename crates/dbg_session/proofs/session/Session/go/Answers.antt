@@ -1,9 +1,9 @@
 use Rattle.std.proofs.Common.{ap, List, subst, sym, ℕ}
 use Rattle.std.specs.Prelude.{Some}
-use Rattle.session_facts.specs.Round.{Moment, Round, moment}
-use Rattle.session_facts.specs.Seen.{Seen}
+use Rattle.session_parts.specs.Round.{Moment, Round, moment}
+use Rattle.session_parts.specs.Seen.{Seen}
 use Rattle.dbg_session.specs.SessionInside.{seen_of}
-use Rattle.session_facts.proofs.Outs.{ended_now, paused_now, reached}
+use Rattle.session_parts.proofs.Outs.{ended_now, paused_now, reached}
 use Rattle.dbg_session.proofs.session.Session.go.Goals as goal
 use Rattle.dbg_session.proofs.session.Session.go.Goals.{then-draw_nearer-via-then-draw_nearer, then-draw_nearer-via-else-draw_nearer+then-is_some}
 

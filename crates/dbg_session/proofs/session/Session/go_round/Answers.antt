@@ -1,11 +1,11 @@
 use Rattle.std.proofs.Common.{◌∙◌, Bool, List, ap, subst, sym}
 use Rattle.std.specs.Prelude.{None, is_some}
-use Rattle.engine_moves.specs.Steps.{NoneOut}
-use Rattle.session_facts.specs.Seen.{Seen}
-use Rattle.session_facts.specs.Round.{moment}
-use Rattle.session_facts.proofs.Getting.{gets_on}
-use Rattle.session_facts.proofs.Going.{round_taken, round_line, round_move, round_whole}
-use Rattle.session_facts.proofs.Outs.{takes_out, lines_out}
+use Rattle.engine_parts.specs.Steps.{NoneOut}
+use Rattle.session_parts.specs.Seen.{Seen}
+use Rattle.session_parts.specs.Round.{moment}
+use Rattle.session_parts.proofs.Getting.{gets_on}
+use Rattle.session_parts.proofs.Going.{round_taken, round_line, round_move, round_whole}
+use Rattle.session_parts.proofs.Outs.{takes_out, lines_out}
 use Rattle.dbg_session.proofs.session.Session.go_round.Goals as goal
 
 pub returns-then-is_some-clause-round : goal.returns-then-is_some-clause-round

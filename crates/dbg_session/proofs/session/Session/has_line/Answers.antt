@@ -1,8 +1,8 @@
 use Rattle.std.proofs.Common.{◌≡◌, ◌-◌, ◌∙◌, drop, take, length, subst}
-use Rattle.session_facts.specs.Seen.{Seen}
-use Rattle.session_facts.specs.Taking.{has_line}
-use Rattle.session_facts.proofs.Picking.{line_is}
-use Rattle.session_facts.proofs.Tying.{slice_from}
+use Rattle.session_parts.specs.Seen.{Seen}
+use Rattle.session_parts.specs.Taking.{has_line}
+use Rattle.session_parts.proofs.Picking.{line_is}
+use Rattle.session_parts.proofs.Tying.{slice_from}
 use Rattle.dbg_session.proofs.session.Session.has_line.Goals as goal
 
 pub returns-in-Open : goal.returns-in-Open

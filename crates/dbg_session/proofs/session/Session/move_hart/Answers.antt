@@ -1,17 +1,17 @@
 use Rattle.std.proofs.Common.{◌≡◌, ◌∙◌, length, subst, refl, ap, arith}
 use Rattle.std.specs.Prelude.{None, Some, false}
 use Rattle.dbg_model.specs.Lawful.{may_go}
-use Rattle.engine_moves.specs.Seen.{seen}
-use Rattle.session_facts.specs.declared.status.Status.TheVariants as status
-use Rattle.session_facts.specs.declared.turn.Turn.TheVariants as turn
-use Rattle.session_facts.specs.Ties.{IsTied}
-use Rattle.session_facts.specs.Seen.{Seen}
-use Rattle.session_facts.specs.Stage.{stage_of, moves_at}
+use Rattle.engine_parts.specs.Seen.{seen}
+use Rattle.session_parts.specs.declared.status.Status.TheVariants as status
+use Rattle.session_parts.specs.declared.turn.Turn.TheVariants as turn
+use Rattle.session_parts.specs.Ties.{IsTied}
+use Rattle.session_parts.specs.Seen.{Seen}
+use Rattle.session_parts.specs.Stage.{stage_of, moves_at}
 use Rattle.dbg_session.specs.SessionInside.{seen_of, taken_of}
-use Rattle.session_facts.specs.Round.{TurnsOne, moment}
-use Rattle.session_facts.proofs.Doing.{may, minds_same}
-use Rattle.session_facts.proofs.Going.{same_moment, cannot_move}
-use Rattle.session_facts.proofs.Tying.{turn_put, turn_unput, turn_unsaid, counted_same}
+use Rattle.session_parts.specs.Round.{TurnsOne, moment}
+use Rattle.session_parts.proofs.Doing.{may, minds_same}
+use Rattle.session_parts.proofs.Going.{same_moment, cannot_move}
+use Rattle.session_parts.proofs.Tying.{turn_put, turn_unput, turn_unsaid, counted_same}
 use Rattle.dbg_session.proofs.session.Session.move_hart.Goals as goal
 
 pub invariant_of-self-in-Moved : goal.invariant_of-self-in-Moved

@@ -1,11 +1,11 @@
 use Rattle.std.proofs.Common.{◌≡◌, ◌<◌, ◌+◌, ◌∙◌, arith, refl, sym, ap, subst, true}
 use Rattle.std.specs.Prelude.{None, Some}
-use Rattle.engine_moves.specs.Steps.{NoneOut, next_running}
-use Rattle.engine_moves.proofs.Picks.{next_is, next_of_all}
-use Rattle.session_facts.specs.Seen.{Seen, no_move}
+use Rattle.engine_parts.specs.Steps.{NoneOut, next_running}
+use Rattle.engine_parts.proofs.Picks.{next_is, next_of_all}
+use Rattle.session_parts.specs.Seen.{Seen, no_move}
 use Rattle.dbg_session.specs.SessionInside.{seen_of}
-use Rattle.session_facts.proofs.Passing.{still, turned_less}
-use Rattle.session_facts.proofs.Picked.{picked_within}
+use Rattle.session_parts.proofs.Passing.{still, turned_less}
+use Rattle.session_parts.proofs.Picked.{picked_within}
 use Rattle.dbg_session.proofs.session.Session.move_on.Goals as goal
 
 pub turn_hart-requires-clause-known : goal.turn_hart-requires-clause-known

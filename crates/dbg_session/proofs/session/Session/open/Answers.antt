@@ -1,7 +1,7 @@
 use Rattle.std.proofs.Common.{List, ℕ, arith, subst}
-use Rattle.session_facts.specs.Puts.{PutsAll}
-use Rattle.session_facts.specs.Stage.{stage_of}
-use Rattle.session_facts.proofs.Tying.{begins, tied_open, counted_open}
+use Rattle.session_parts.specs.Puts.{PutsAll}
+use Rattle.session_parts.specs.Stage.{stage_of}
+use Rattle.session_parts.proofs.Tying.{begins, tied_open, counted_open}
 use Rattle.dbg_session.proofs.session.Session.open.Goals as goal
 
 pub invariant_of-result : goal.invariant_of-result

@@ -1,15 +1,15 @@
 use Rattle.std.proofs.Common.{◌≡◌, ◌<◌, ◌∙◌, ap, length, sym, subst, arith}
 use Rattle.std.specs.Prelude.{Option, None}
-use Rattle.session_facts.specs.declared.status.Status.{Status}
-use Rattle.session_facts.specs.Ties.{IsTied, session_work}
-use Rattle.session_facts.specs.Seen.{Seen}
-use Rattle.session_facts.specs.Stage.{stage_of}
+use Rattle.session_parts.specs.declared.status.Status.{Status}
+use Rattle.session_parts.specs.Ties.{IsTied, session_work}
+use Rattle.session_parts.specs.Seen.{Seen}
+use Rattle.session_parts.specs.Stage.{stage_of}
 use Rattle.dbg_session.specs.SessionInside.{seen_of, taken_of}
-use Rattle.session_facts.specs.Round.{Moved, moment}
-use Rattle.session_facts.proofs.Doing.{minds_same}
-use Rattle.session_facts.proofs.Tying.{counted_same}
-use Rattle.session_facts.proofs.Several.{ran_on, standing}
-use Rattle.engine_moves.proofs.Quiet.{turned_quiet}
+use Rattle.session_parts.specs.Round.{Moved, moment}
+use Rattle.session_parts.proofs.Doing.{minds_same}
+use Rattle.session_parts.proofs.Tying.{counted_same}
+use Rattle.session_parts.proofs.Several.{ran_on, standing}
+use Rattle.engine_parts.proofs.Quiet.{turned_quiet}
 use Rattle.dbg_session.proofs.session.Session.run_hart.Goals as goal
 
 pub invariant_of-self-then-count-gt0 : goal.invariant_of-self-then-count-gt0

@@ -1,11 +1,11 @@
 use Rattle.std.proofs.Common.{◌∙◌, Bool, List, ap, false, suc, subst, sym, ℕ}
 use Rattle.std.specs.Prelude.{Option, None, Some, replicate}
 use Rattle.reg_slices.specs.declared.slice.Job.{Job}
-use Rattle.engine_moves.specs.Steps.{NoneOut}
-use Rattle.session_facts.specs.Round.{Moment, moment}
-use Rattle.session_facts.specs.Seen.{Seen}
-use Rattle.session_facts.specs.Crew.{Gives, Reaches}
-use Rattle.session_facts.proofs.Outs.{goes, goes_out, none_first, rests, served_out}
+use Rattle.engine_parts.specs.Steps.{NoneOut}
+use Rattle.session_parts.specs.Round.{Moment, moment}
+use Rattle.session_parts.specs.Seen.{Seen}
+use Rattle.session_parts.specs.Crew.{Gives, Reaches}
+use Rattle.session_parts.proofs.Outs.{goes, goes_out, none_first, rests, served_out}
 use Rattle.dbg_session.proofs.session.Session.run_serial.Goals as goal
 
 pub duties-init : goal.duties-init

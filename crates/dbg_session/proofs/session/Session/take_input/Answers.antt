@@ -1,14 +1,14 @@
 use Rattle.std.proofs.Common.{◌≡◌, ◌≤◌, ◌+◌, ◌-◌, ◌++◌, ◌∙◌, length, drop, false, not, length-append, arith, ap, sym, subst, refl}
 use Rattle.std.specs.Prelude.{None, true}
 use Rattle.std.proofs.Math.Seq.{drop-append_seam}
-use Rattle.session_facts.specs.Ties.{IsTied, Taken}
-use Rattle.session_facts.specs.Seen.{Seen}
-use Rattle.session_facts.specs.Taking.{has_line, IsKnown}
-use Rattle.session_facts.specs.Stage.{stage_of}
+use Rattle.session_parts.specs.Ties.{IsTied, Taken}
+use Rattle.session_parts.specs.Seen.{Seen}
+use Rattle.session_parts.specs.Taking.{has_line, IsKnown}
+use Rattle.session_parts.specs.Stage.{stage_of}
 use Rattle.dbg_session.specs.SessionInside.{seen_of, taken_of}
-use Rattle.session_facts.specs.Round.{Takes, moment}
-use Rattle.session_facts.proofs.Tying.{tied_end, tied_took, quiet, drop_front, counted_by, slice_from}
-use Rattle.session_facts.proofs.Going.{took}
+use Rattle.session_parts.specs.Round.{Takes, moment}
+use Rattle.session_parts.proofs.Tying.{tied_end, tied_took, quiet, drop_front, counted_by, slice_from}
+use Rattle.session_parts.proofs.Going.{took}
 use Rattle.dbg_session.proofs.session.Session.take_input.Goals as goal
 
 pub invariant_of-self-in-End : goal.invariant_of-self-in-End

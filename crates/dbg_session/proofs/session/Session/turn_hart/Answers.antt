@@ -1,10 +1,10 @@
 use Rattle.std.proofs.Common.{◌≡◌, ◌+◌, ◌∙◌, suc, ap, refl, arith, subst}
-use Rattle.session_facts.specs.Ties.{session_work}
-use Rattle.session_facts.specs.Seen.{Seen}
-use Rattle.session_facts.specs.Round.{Moved, TurnsOne, moment}
+use Rattle.session_parts.specs.Ties.{session_work}
+use Rattle.session_parts.specs.Seen.{Seen}
+use Rattle.session_parts.specs.Round.{Moved, TurnsOne, moment}
 use Rattle.dbg_session.specs.SessionInside.{seen_of}
-use Rattle.session_facts.proofs.Passing.{unset, less_on, less_two}
-use Rattle.session_facts.proofs.Several.{moved_more}
+use Rattle.session_parts.proofs.Passing.{unset, less_on, less_two}
+use Rattle.session_parts.proofs.Several.{moved_more}
 use Rattle.dbg_session.proofs.session.Session.turn_hart.Goals as goal
 
 pub loop-count-preserved : goal.loop-count-preserved

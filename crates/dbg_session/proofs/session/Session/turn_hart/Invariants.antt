@@ -1,6 +1,6 @@
 use Rattle.std.proofs.Common.{◌≡◌, ◌<◌, ◌≤◌, ◌-◌, length}
-use Rattle.session_facts.specs.Ties.{session_work}
-use Rattle.session_facts.specs.Round.{Moved, moment}
+use Rattle.session_parts.specs.Ties.{session_work}
+use Rattle.session_parts.specs.Round.{Moved, moment}
 use Rattle.dbg_session.proofs.session.Session.turn_hart.Given as goal
 
 abbrev pub invariant-loop-count : goal.invariant-loop-count

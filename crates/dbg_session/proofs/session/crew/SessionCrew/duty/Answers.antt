@@ -1,8 +1,8 @@
 use Rattle.std.proofs.Common.{subst, ℕ}
 use Rattle.std.specs.Prelude.{Option, None, Some}
-use Rattle.session_facts.specs.Round.{moment}
-use Rattle.session_facts.specs.Crew.{Reaches}
-use Rattle.session_facts.proofs.Outs.{goes, rests}
+use Rattle.session_parts.specs.Round.{moment}
+use Rattle.session_parts.specs.Crew.{Reaches}
+use Rattle.session_parts.proofs.Outs.{goes, rests}
 use Rattle.dbg_session.proofs.session.crew.SessionCrew.duty.Goals as goal
 
 pub returns-in_default-clause-duties : goal.returns-in_default-clause-duties

@@ -1,9 +1,9 @@
 use Rattle.std.proofs.Common.{Bool, List, ℕ, subst, false}
 use Rattle.std.specs.Prelude.{◌&&◌, is_none, nat_lt, slice_set}
-use Rattle.session_facts.specs.Seen.{Seen}
+use Rattle.session_parts.specs.Seen.{Seen}
 use Rattle.dbg_session.specs.SessionInside.{seen_of}
-use Rattle.session_facts.specs.Round.{moment}
-use Rattle.session_facts.specs.Crew.{TakesBy, returned}
+use Rattle.session_parts.specs.Round.{moment}
+use Rattle.session_parts.specs.Crew.{TakesBy, returned}
 use Rattle.dbg_session.proofs.session.crew.SessionCrew.take.Goals as goal
 
 pub returns-clause-takes : goal.returns-clause-takes

@@ -1,5 +1,0 @@
-use Rattle.engine_moves.proofs.Marks.{once}
-use Rattle.engine_moves.proofs.laws.one_instruction_or_none.Goals as goal
-
-pub returns : goal.returns
-returns c = once

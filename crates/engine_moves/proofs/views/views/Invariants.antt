@@ -1,9 +1,0 @@
-use Rattle.std.proofs.Common.{◌≡◌, ◌++◌, length}
-use Rattle.engine_moves.specs.Viewing.{own_views}
-use Rattle.engine_moves.proofs.views.views.Given as goal
-
-abbrev pub invariant-loop-core : goal.invariant-loop-core
-invariant-loop-core l = l.views.items ++ own_views l.cores l.minds ≡ own_views l.fn.cores l.fn.minds
-
-abbrev pub decreases-loop-core : goal.decreases-loop-core
-decreases-loop-core l = length l.cores

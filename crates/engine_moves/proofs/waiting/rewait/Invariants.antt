@@ -1,6 +1,0 @@
-use Rattle.engine_moves.specs.Minds.{awaited}
-use Rattle.engine_moves.proofs.Waitings.{Partly}
-use Rattle.engine_moves.proofs.waiting.rewait.Given as goal
-
-abbrev pub invariant-loop-h : goal.invariant-loop-h
-invariant-loop-h l = Partly l.initial.machine l.machine l.initial.table l.table (awaited l.waiting.image.now) l.waiting.minds.now l.waiting.hold l.h

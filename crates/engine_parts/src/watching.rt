@@ -1,0 +1,108 @@
+// Watches over the machine: which instructions may change their bytes, and which watch one makes fire.
+ghost use Rattle.std.specs.Prelude.{◌≡◌, ◌<◌, length, slice_get, false, None};
+ghost use Rattle.hart_machine.specs.Stepping.{AreCounted, IsByteCode, Steps, has_run};
+ghost use Rattle.hart_machine.specs.declared.hart.Core.{Core};
+ghost use Rattle.dbg_model.specs.Watches.{fired_by};
+ghost use Rattle.engine_parts.specs.Watching.{is_near, stored_by, written};
+
+use dbg_model::{Fired, WatchList};
+use hart_machine::Machine;
+use rv_decode::Instr;
+use rv_exec::{Regs, Stepped, length_of_store};
+use text_words::Fetch;
+
+/// Bytes that an instruction writes.
+#[derive(Clone, Copy)]
+pub struct Stored {
+    pub address: u32,
+    /// How many they are.
+    pub size: u32,
+}
+
+/// A step of the machine.
+#[derive(Clone, Copy)]
+pub struct Watched {
+    pub stepped: Stepped,
+    /// The watch that it made fire.
+    pub fired: Option<Fired>,
+}
+
+// The bytes that an instruction writes; stores and AMOs alone write.
+fn stored_by(instruction: Instr, regs: &Regs) -> Option<Stored>
+    ensures { result ≡ stored_by regs.now instruction }
+{
+    match instruction {
+        Instr::Store { op, rs1, imm, .. } => Some(Stored {
+            address: regs.get(rs1.number()).wrapping_add(imm),
+            size: length_of_store(op),
+        }),
+        Instr::Amo { rs1, .. } => Some(Stored {
+            address: regs.get(rs1.number()),
+            size: 4,
+        }),
+        _ => None,
+    }
+}
+
+// The bytes that the instruction at a hart's pc writes, where one stands there and no breakpoint is planted.
+fn written(machine: &Machine, regs: &Regs) -> Option<Stored>
+    ensures { result ≡ written machine.now.text regs.now }
+{
+    match machine.fetch(regs.pc()) {
+        Fetch::Instruction(instruction) => stored_by(instruction, regs),
+        Fetch::Absent | Fetch::Planted | Fetch::Illegal => None,
+    }
+}
+
+/// Whether a hart may change the bytes of a watch by its next instruction: it writes where an enabled one has its bytes, or
+/// is in a slot.
+pub fn is_near(machine: &Machine, h: u32, watches: &WatchList) -> bool
+    requires { h < length machine.now.cores }
+    ensures { (c : Core) → slice_get machine.now.cores h ≡ Some c → result ≡ is_near machine.now.text c watches.now }
+{
+    if watches.is_empty() {
+        return false;
+    }
+    let core = &machine.cores()[h as usize];
+    if core.entered.is_some() {
+        return true;
+    }
+    match written(machine, &core.regs) {
+        None => false,
+        Some(stored) => watches.meets(stored.address, stored.size),
+    }
+}
+
+// One step of the machine between two looks at what each watch is worth.
+fn step_between(machine: &mut Machine, h: u32, watches: &WatchList) -> Watched
+    requires hart { h < length machine.old.cores }
+    ensures code { IsByteCode result.stepped }
+    ensures counts { AreCounted machine.old.cores }
+    ensures step { Steps result.stepped machine.old h machine.new }
+    ensures stopped { has_run result.stepped ≡ false → machine.new ≡ machine.old }
+    ensures fired { result.fired ≡ fired_by watches.now machine.old.memory machine.new.memory }
+{
+    let before = watches.worths(machine.data());
+    let stepped = machine.step(h);
+    let fired = watches.fired(&before, machine.data());
+    Watched { stepped, fired }
+}
+
+/// One step of the machine, as `Machine::step` makes it, and the watch that it makes fire. A watch is looked at only where
+/// the instruction may change its bytes.
+pub fn step_watched(machine: &mut Machine, h: u32, watches: &WatchList) -> Watched
+    requires hart { h < length machine.old.cores }
+    ensures code { IsByteCode result.stepped }
+    ensures counts { AreCounted machine.old.cores }
+    ensures step { Steps result.stepped machine.old h machine.new }
+    ensures stopped { has_run result.stepped ≡ false → machine.new ≡ machine.old }
+    ensures fired { result.fired ≡ fired_by watches.now machine.old.memory machine.new.memory }
+{
+    if is_near(machine, h, watches) {
+        return step_between(machine, h, watches);
+    }
+    Watched {
+        stepped: machine.step(h),
+        fired: None,
+    }
+}

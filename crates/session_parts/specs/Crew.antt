@@ -1,0 +1,150 @@
+-- What the duties of a session are, and what becomes of the jobs that they give: this project's own rules.
+use Rattle.std.specs.Prelude.{◌≡◌, ◌⊎◌, ◌≤◌, ◌-◌, ℕ, zero, suc, ◌&&◌, ◌==◌, nat_lt, Bool, true, false, cond, List, slice_set, Option, None, Some, is_none, is_some, if◌then◌else◌}
+use Rattle.std.specs.List.{slice_index_or}
+use Rattle.rv_exec.specs.Registers.{Registers}
+use Rattle.reg_slices.specs.declared.slice.Job.{Job}
+use Rattle.reg_slices.specs.declared.slice.Slice.{Slice}
+use Rattle.reg_slices.specs.Slices.{SliceOf}
+use Rattle.hart_workers.specs.declared.crew.Duty.{Duty}
+use Rattle.hart_workers.specs.declared.crew.Duty.TheVariants as duties
+use Rattle.dbg_model.specs.State.{any_runs}
+use Rattle.engine_parts.specs.Several.{lengthened_by}
+use Rattle.engine_parts.specs.Slicing.{gives_job_in, IsJobIn, CanTakeIn}
+use Rattle.engine_parts.specs.Steps.{NoneOut, next_running}
+use Rattle.session_parts.specs.Stage.{Stage}
+use Rattle.session_parts.specs.Round.{Moment, Moved, Round}
+use Rattle.session_parts.specs.Steps.{can_do}
+use Rattle.session_parts.specs.declared.status.Status.TheVariants as status
+
+-- whether a hart gives a job
+abbrev pub gives_job : Stage → ℕ → Bool
+gives_job r h = gives_job_in r.opening r.state r.minds r.hold h
+
+-- how many rounds a hart still goes without a job
+abbrev pub pause_of : List ℕ → ℕ → ℕ
+pause_of pause h = slice_index_or pause h 0
+
+-- no hart pauses
+abbrev pub NonePauses : List ℕ → Type 0
+NonePauses pause = (h : ℕ) → pause_of pause h ≡ 0
+
+-- whether the hart that was picked in a round gives a job when the round is over, and doesn't pause
+abbrev pub has_job : Option ℕ → Moment → Bool
+has_job None q = false
+has_job (Some h) q = is_none q.status && (gives_job q.run h && (pause_of q.pause h == 0))
+
+-- a job is of its hart as that stands
+abbrev pub IsJobOf : Stage → Job → Type 0
+IsJobOf r job = IsJobIn r.opening r.state r.text job.hart job
+
+-- whether the job of a hart is out is noted
+abbrev pub marked : Moment → ℕ → Bool → Moment
+marked p h mark = record p { out = slice_set p.out h mark }
+
+-- the hart that was picked is one round nearer to its next job
+abbrev pub nearer : Option ℕ → Moment → Moment
+nearer None p = p
+nearer (Some h) p = record p { pause = slice_set p.pause h (pause_of p.pause h - 1) }
+
+-- the job of a hart is handed out, where that gives one, and it is out from then on
+abbrev pub Gives : ℕ → Option Job → Moment → Moment → Type 0
+Gives h None p q = (gives_job p.run h ≡ false) × (q ≡ p)
+Gives h (Some job) p q = (gives_job p.run h ≡ true) × (job.hart ≡ h) × IsJobOf p.run job × (q ≡ marked p h true)
+
+-- the job of the hart that was picked is handed out, where that gives one and doesn't pause
+abbrev pub HandsOut : Option ℕ → Option Job → Moment → Moment → Type 0
+HandsOut pick None p q = (has_job pick p ≡ false) × (q ≡ nearer pick p)
+HandsOut pick (Some job) p q = (has_job pick p ≡ true) × (pick ≡ Some job.hart) × IsJobOf p.run job × (q ≡ marked (nearer pick p) job.hart true)
+
+-- a round, and then what is handed out of the hart that was picked in it
+pub record Goes (job : Option Job) (p q : Moment) : Type 0 where
+  pub going : p.status ≡ None
+  pub pick : Option ℕ
+  pub between : Moment
+  pub round : Round pick p between
+  pub hands : HandsOut pick job between q
+
+-- the hart that was picked, where the session goes on and the hart doesn't pause
+abbrev pub ready_of : Option ℕ → Moment → Option ℕ
+ready_of None p = None
+ready_of (Some h) p = if is_none p.status && (pause_of p.pause h == 0) then Some h else None
+
+-- a round up to what is handed out, and the hart that may give a job then
+pub record Reaches (found : Option ℕ) (p q : Moment) : Type 0 where
+  pub going : p.status ≡ None
+  pub pick : Option ℕ
+  pub between : Moment
+  pub round : Round pick p between
+  pub ready : found ≡ ready_of pick between
+  pub is : q ≡ nearer pick between
+
+-- One duty: it is over where the status was set when it began.
+abbrev pub Duties : Duty Job → Moment → Moment → Type 0
+Duties duties.Over p q = (is_some p.status ≡ true) × (q ≡ p)
+Duties duties.Again p q = Goes None p q
+Duties (duties.Job job) p q = Goes (Some job) p q
+
+-- a slice is the work of a job, as far as the job goes
+pub record IsWorkOf (job : Job) (slice : Slice) : Type 0 where
+  pub hart : slice.hart ≡ job.hart
+  pub regs : slice.regs ≡ job.regs
+  pub at : slice.at ≡ job.at
+  pub words : slice.words ≡ job.words
+  pub limit : slice.count ≤ job.limit
+  pub greatest : (n : ℕ) (r : Registers) → n ≤ job.limit → SliceOf job.regs job.at job.words.items n r → n ≤ slice.count
+
+abbrev pub CanTake : Stage → Slice → Type 0
+CanTake r slice = CanTakeIn r.opening r.state r.minds r.hold r.text slice
+
+-- the instructions of a slice become moves of its hart, and no line is put
+pub record Commits (slice : Slice) (p q : Moment) : Type 0 where
+  pub can : CanTake p.run slice
+  pub moved : Moved slice.count slice.hart p q
+  pub journal : q.run.journal ≡ lengthened_by slice.count p.run.journal slice.hart
+  pub told : q.told ≡ p.told
+
+-- it is forgotten, since it can't be taken any more
+pub record Forgets (slice : Slice) (p q : Moment) : Type 0 where
+  pub stale : CanTake p.run slice → ⊥
+  pub is : q ≡ p
+
+-- A slice of at least one instruction is committed or forgotten in a session that goes on, unless memory runs out. Any other
+-- is forgotten.
+abbrev pub TakesBy : Bool → Slice → Moment → Moment → Type 0
+TakesBy true slice p q = Commits slice p q ⊎ (Forgets slice p q ⊎ (q ≡ record p { status = Some status.NoMemory }))
+TakesBy false slice p q = q ≡ p
+
+-- After a slice of fewer than 16 instructions its hart goes 255 rounds without a job.
+abbrev pub pause_after : ℕ → ℕ
+pause_after count = cond (nat_lt count 16) 255 0
+
+-- no job of its hart is out any more
+abbrev pub returned : Moment → Slice → Moment
+returned p slice = record p { out = slice_set p.out slice.hart false; pause = slice_set p.pause slice.hart (pause_after slice.count) }
+
+-- what was made of a job is taken back
+abbrev pub TakesBack : Slice → Moment → Moment → Type 0
+TakesBack slice p q = TakesBy (is_none p.status && nat_lt 0 slice.count) slice (returned p slice) q
+
+-- one duty, and where it gave a job the work of that, which is taken back at once
+abbrev pub Serves : Option Job → Moment → Moment → Type 0
+Serves None p q = Goes None p q
+Serves (Some job) p q = (m : Moment) × Goes (Some job) p m × ((slice : Slice) × IsWorkOf job slice × TakesBack slice m q)
+
+-- so many duties, one after the other
+abbrev pub ServesFor : ℕ → Moment → Moment → Type 0
+ServesFor zero p q = q ≡ p
+ServesFor (suc n) p q = (m : Moment) × ServesFor n p m × ((job : Option Job) × Serves job m q)
+
+-- the session forgets whose jobs are out, and does so many duties
+pub record ServesAlone (p q : Moment) : Type 0 where
+  pub out : List Bool
+  pub none : NoneOut out
+  pub count : ℕ
+  pub serves : ServesFor count (record p { out = out }) q
+
+-- harts run, each of which has its job out, and no line can be done meanwhile
+pub record IsIdle (p : Moment) : Type 0 where
+  pub running : any_runs p.run.state.harts ≡ true
+  pub out : next_running p.run.minds p.out p.next ≡ None
+  pub waits : can_do p.run p.input.ended p.input.rest ≡ false

@@ -1,0 +1,55 @@
+-- What a session's engine is seen as.
+use Rattle.std.specs.Prelude.{ℕ, ◌+◌, ◌-◌, ◌*◌, Bool, cond, List, [], ◌∷◌, Option}
+use Rattle.scratch_slots.specs.declared.slots.SlotUse.{SlotUse}
+use Rattle.text_words.specs.Words.{Words}
+use Rattle.dbg_model.specs.declared.entry.Entry.{Entry}
+use Rattle.dbg_model.specs.declared.opening.Opening.{Opening}
+use Rattle.dbg_model.specs.declared.hart.Hart.{Hart}
+use Rattle.dbg_model.specs.State.{State, hart_runs}
+use Rattle.engine_parts.specs.declared.mind.Hold.{Hold}
+use Rattle.engine_parts.specs.declared.mind.Mind.{Mind}
+use Rattle.step_over.specs.declared.phase.Phase.{Phase}
+use Rattle.step_over.specs.declared.phase.Phase.TheVariants as phase
+use Rattle.engine_parts.specs.Movers.{moves_in}
+use Rattle.engine_parts.specs.Seen.{Engine, seen}
+
+-- how the session began, its journal, the state that the journal leaves, where its harts are in steps over breakpoints, who has which scratch slot, and the text as it is stored
+pub record Stage : Type 0 where
+  pub opening : Opening
+  pub journal : List Entry
+  pub state : State
+  pub minds : List Mind
+  pub hold : Option Hold
+  pub slots : List (Option SlotUse)
+  pub text : Words
+
+abbrev pub stage_of : Engine → Stage
+stage_of r = record { opening = r.opening; journal = r.journal; state = seen r; minds = r.minds; hold = r.hold; slots = r.machine.slots; text = r.machine.text }
+
+-- how many harts run
+abbrev pub running : List Hart → ℕ
+running [] = 0
+running (x ∷ xs) = cond (hart_runs x) 1 0 + running xs
+
+-- the moves without an instruction that may still come: the beginning of a step over a breakpoint, and its end; and the count of an arrival
+abbrev pub moves_of : Phase → ℕ
+moves_of phase.Idle = 1
+moves_of (phase.Copied slot home) = 0
+moves_of (phase.Landed slot home) = 2
+moves_of (phase.Lifted home) = 0
+moves_of (phase.Ran home) = 2
+
+abbrev pub moves_left : Mind → ℕ
+moves_left x = moves_of x.phase + cond x.course.fresh 1 0
+
+abbrev pub moves : List Mind → ℕ
+moves [] = 0
+moves (x ∷ xs) = moves_left x + moves xs
+
+-- how much the harts can still do; 16 harts have 48 such moves at most
+abbrev pub work_of : Stage → ℕ
+work_of r = 49 * (r.opening.settings.budget - r.state.retired) + (49 * running r.state.harts + moves r.minds)
+
+-- whether a hart can be moved, whatever stands at its pc
+abbrev pub moves_at : Stage → ℕ → Bool
+moves_at r h = moves_in r.state.harts r.hold r.slots r.minds h

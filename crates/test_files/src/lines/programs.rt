@@ -1,0 +1,91 @@
+// Programs of `.debug_line`.
+ghost use Rattle.std.specs.Prelude.{◌<◌};
+
+use crate::lines::told::{told_places, told_registers};
+use line_programs::{Parameters, program_rows};
+use line_rows::{LineError, Rows};
+use std::alloc::{AllocError, Global};
+use test_rows::{RowFault, before, read_hex};
+
+/// The operands of the standard opcodes of DWARF 4.
+const LENGTHS: &[u8] = &[0, 1, 1, 1, 1, 0, 0, 0, 1, 0, 0, 1];
+
+/// The same, and two opcodes more, of which one has two operands.
+const WIDE_LENGTHS: &[u8] = &[0, 1, 1, 1, 1, 0, 0, 0, 1, 0, 0, 1, 2, 0];
+
+/// More room than the rows of a program here take.
+const ROOM: u32 = 1_000;
+
+// What assemblers write mostly, with one file.
+fn usual(room: u32) -> Parameters
+    ensures { 0 < result.line_range }
+{
+    Parameters {
+        minimum_instruction_length: 1,
+        default_is_stmt: true,
+        line_base: -5,
+        line_range: 14,
+        opcode_base: 13,
+        first_file: 1,
+        file_count: 1,
+        room: u128::from(room),
+    }
+}
+
+// Instructions of four bytes, two opcodes more, and files from 0 on.
+fn wide() -> Parameters
+    ensures { 0 < result.line_range }
+{
+    Parameters {
+        minimum_instruction_length: 4,
+        default_is_stmt: false,
+        line_base: -1,
+        line_range: 4,
+        opcode_base: 15,
+        first_file: 0,
+        file_count: 1,
+        room: u128::from(ROOM),
+    }
+}
+
+fn read(alloc: Global, word: &str, room: u32, unit: &[u8]) -> Result<Rows, LineError> {
+    if word == "wide" {
+        program_rows(alloc, &wide(), WIDE_LENGTHS, unit, 0)
+    } else {
+        program_rows(alloc, &usual(room), LENGTHS, unit, 0)
+    }
+}
+
+fn told(alloc: Global, word: &str, rows: &Rows) -> Result<String, AllocError> {
+    if word == "registers" {
+        told_registers(alloc, rows)
+    } else {
+        told_places(alloc, rows)
+    }
+}
+
+// What came of a row with this program.
+fn of_unit(alloc: Global, word: &str, room: u32, unit: &[u8]) -> Result<String, RowFault> {
+    match read(alloc, word, room, unit) {
+        Ok(rows) => Ok(told(alloc, word, &rows)?),
+        Err(LineError::NoMemory) => Err(RowFault::NoMemory),
+        Err(LineError::Fault(fault)) => Ok(format!(in alloc; "{fault:?}")?),
+    }
+}
+
+// The room and the digits of a row.
+fn room_and_digits<'a>(word: &str, rest: &'a str) -> Option<(u32, &'a str)> {
+    if word == "within" {
+        before(rest)
+    } else {
+        Some((ROOM, rest))
+    }
+}
+
+/// What came of a row: `places PROGRAM`, `registers PROGRAM` or `within ROOM PROGRAM` under a usual header, or `wide PROGRAM`
+/// under another one.
+pub fn answer(alloc: Global, word: &str, rest: &str) -> Result<String, RowFault> {
+    let (room, digits) = room_and_digits(word, rest).ok_or(RowFault::Unknown)?;
+    let unit = read_hex(alloc, digits)?;
+    of_unit(alloc, word, room, &unit)
+}

@@ -1,0 +1,88 @@
+// A crew that has no jobs, and how often its worker rests.
+ghost use Rattle.std.specs.Prelude.{◌≡◌, ◌==◌};
+
+use dbg_traits::Gate;
+use hart_workers::{Crew, Duty, run_crew};
+use std::alloc::Global;
+use std::sync::atomic::{AtomicU64, Ordering};
+use std::sync::{Mutex, Wait};
+use std::thread::Threads;
+use test_rows::{RowFault, number};
+
+// Answers so many asks with Again before it is over. Meanwhile it has something to do, or hasn't.
+#[derive(Drop)]
+struct Asked {
+    idle: bool,
+    left: u32,
+}
+
+impl Crew for Asked {
+    type Job = u32;
+
+    type Done = u32;
+
+    ghost is_over = { λ c. c.left == 0 };
+
+    fn duty(&mut self, _worker: u32) -> Duty<u32> {
+        if self.left == 0 {
+            return Duty::Over;
+        }
+        self.left -= 1;
+        Duty::Again
+    }
+
+    fn hart_of(_job: &u32) -> u32 {
+        0
+    }
+
+    fn work(job: u32) -> u32 {
+        job
+    }
+
+    fn take(&mut self, _done: u32) {}
+
+    fn over(&self) -> bool {
+        self.left == 0
+    }
+
+    fn is_idle(&self) -> bool {
+        self.idle
+    }
+}
+
+// Counts how often workers rest.
+#[derive(Drop)]
+struct CountingGate {
+    idles: AtomicU64,
+}
+
+impl Gate for CountingGate {
+    fn slice_ready(&self, _worker: u32, _hart: u32) {}
+
+    fn idle(&self, _worker: u32) {
+        self.idles.fetch_add(1, Ordering::SeqCst);
+    }
+}
+
+// How often a worker rests over a crew.
+fn count<R: Threads + Wait + Sync, C: Crew + Send + Drop>(rt: &R, crew: C) -> u64 {
+    let gate = CountingGate {
+        idles: AtomicU64::new(0),
+    };
+    let crew = Mutex::new(crew);
+    run_crew(rt, &crew, 1, &gate);
+    gate.idles.load(Ordering::SeqCst)
+}
+
+/// `WHETHER ASKS`, of which the first is `idle` or `busy`: how often a worker rests that is answered Again so many times.
+pub fn answer<R: Threads + Wait + Sync>(
+    rt: &R,
+    alloc: Global,
+    text: &str,
+) -> Result<String, RowFault> {
+    let (which, asks) = text.split_once(' ').ok_or(RowFault::Unknown)?;
+    let left = number(asks).ok_or(RowFault::Unknown)?;
+    let idle = which == "idle";
+    let rests = count(rt, Asked { idle, left });
+    Ok(format!(in alloc; "{rests}")?)
+}
