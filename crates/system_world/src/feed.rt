@@ -1,7 +1,9 @@
 // The queue between the reader thread and `poll`.
 ghost use Rattle.std.specs.Prelude.{◌≡◌, ◌≤◌, ◌<◌, ◌↔◌, ◌+◌, ◌++◌, IsTrue, length, take, []};
 ghost use Rattle.std.specs.VecDeque.{deque_len, deque_capacity};
+ghost use Rattle.system_world.specs.Edge.{poll_of};
 
+use dbg_traits::Polled;
 use std::alloc::{AllocError, Global};
 use std::collections::VecDeque;
 
@@ -14,6 +16,22 @@ pub enum Source {
     Open,
     Ended,
     Failed,
+}
+
+impl Source {
+    /// A poll that took so many bytes of the queue.
+    pub fn poll_of(self, taken: usize) -> Polled
+        ensures { result ≡ poll_of taken self }
+    {
+        if taken > 0 {
+            return Polled::Took(taken);
+        }
+        match self {
+            Source::Open => Polled::NotYet,
+            Source::Ended => Polled::End,
+            Source::Failed => Polled::Failed,
+        }
+    }
 }
 
 // Puts the bytes behind the others, where there is room for them.
@@ -32,6 +50,8 @@ fn push_all(queue: &mut VecDeque<u8>, bytes: &[u8])
 pub struct Feed {
     queue: VecDeque<u8>,
     pub source: Source,
+    /// Whether input was asked for. Nothing is read before, since the file may be standard input under another name.
+    pub asked: bool,
     ghost reserved: { 65536 ≤ deque_capacity queue },
 }
 
@@ -41,6 +61,7 @@ impl Feed {
         Ok(Feed {
             queue: VecDeque::with_capacity(alloc, ROOM)?,
             source: Source::Open,
+            asked: false,
         })
     }
 

@@ -1,5 +1,6 @@
 // Standard input, moved by a thread of its own into a queue, so that a poll need not wait.
 ghost use Rattle.std.specs.Prelude.{◌≡◌, ◌<◌, length, true};
+ghost use Rattle.system_world.specs.Edge.{came_by};
 ghost use Rattle.system_world.specs.RealTold.{PollsWithin};
 ghost use Rattle.dbg_traits.specs.declared.world.Polled.TheVariants.{NotYet};
 
@@ -7,8 +8,9 @@ use crate::again;
 use crate::feed::{Feed, Source};
 use dbg_traits::Polled;
 use std::alloc::{AllocError, Global};
+use std::io;
 use std::rt::Clock;
-use std::sync::{Arc, Condvar, Mutex, Wait};
+use std::sync::{Arc, Condvar, Mutex, MutexGuard, Wait};
 
 /// What the reader thread and the world share.
 #[derive(Drop)]
@@ -39,12 +41,21 @@ impl Shared {
         self.came.notify_all();
     }
 
-    // Waits for room as often as need be.
-    fn give_all<R: Wait>(&self, rt: &R, bytes: &[u8]) {
+    // Waits until input is asked for.
+    fn await_poll<R: Wait>(&self, rt: &R) {
+        let _feed = self
+            .left
+            .wait_while(rt, self.feed.lock(rt), |feed| !feed.asked);
+    }
+
+    // Gives all bytes, and waits for room as often as need be. It says how many the queue took.
+    fn give_all<R: Wait>(&self, rt: &R, bytes: &[u8]) -> usize
+        ensures { result ≡ length bytes.now }
+    {
         let mut at = 0;
         for _ in rt.forever() {
             if at >= bytes.len() {
-                break;
+                return at;
             }
             let mut feed = self
                 .left
@@ -52,6 +63,7 @@ impl Shared {
             at += feed.give(&bytes[at..]);
             self.came.notify_all();
         }
+        unreachable!()
     }
 
     /// The oldest bytes of the queue. It waits for one where it may, and else answers at once.
@@ -60,39 +72,59 @@ impl Shared {
         ensures within { PollsWithin (length into.new) result }
         ensures waits { wait ≡ true → result ≡ NotYet → ⊥ }
     {
-        let mut feed = if wait {
-            self.came.wait_while(rt, self.feed.lock(rt), |feed| {
+        let mut feed = self.ask(rt);
+        if wait {
+            feed = self.came.wait_while(rt, feed, |feed| {
                 feed.is_empty() && feed.source == Source::Open
-            })
-        } else {
-            self.feed.lock(rt)
-        };
-        let n = feed.take(into);
-        if n > 0 {
+            });
+        }
+        let taken = feed.take(into);
+        if taken > 0 {
             self.left.notify_all();
-            return Polled::Took(n);
         }
-        match feed.source {
-            Source::Open => Polled::NotYet,
-            Source::Ended => Polled::End,
-            Source::Failed => Polled::Failed,
+        feed.source.poll_of(taken)
+    }
+
+    // The queue, of which the reader knows now that input is asked for.
+    fn ask<R: Wait>(&self, rt: &R) -> MutexGuard<'_, Feed> {
+        let mut feed = self.feed.lock(rt);
+        if !feed.asked {
+            feed.asked = true;
+            self.left.notify_all();
         }
+        feed
     }
 }
 
-/// The reader thread: it moves the input into the queue, and ends with it.
+/// What a read of the input brings to the queue.
+#[derive(Clone, Copy)]
+pub enum Came {
+    Bytes(usize),
+    Nothing(Source),
+}
+
+fn came_by(read: io::Result<usize>) -> Came
+    ensures { result ≡ came_by read }
+{
+    match read {
+        Ok(0) => Came::Nothing(Source::Ended),
+        Ok(n) => Came::Bytes(n),
+        Err(_) => Came::Nothing(Source::Failed),
+    }
+}
+
+/// The reader thread: once input is asked for it moves the input into the queue, and ends with it.
 pub fn pump<R: Wait + Clock + Input>(rt: &R, shared: &Shared) {
+    shared.await_poll(rt);
     let mut input = rt.reader();
     let mut bytes = [0u8; 4096];
     for _ in rt.forever() {
-        match again::read(rt, &mut input, &mut bytes) {
-            Ok(0) => {
-                shared.end(rt, Source::Ended);
-                break;
+        match came_by(again::read(rt, &mut input, &mut bytes)) {
+            Came::Bytes(n) => {
+                shared.give_all(rt, &bytes[..n]);
             }
-            Ok(n) => shared.give_all(rt, &bytes[..n]),
-            Err(_) => {
-                shared.end(rt, Source::Failed);
+            Came::Nothing(source) => {
+                shared.end(rt, source);
                 break;
             }
         }

@@ -1,5 +1,6 @@
 // The real world: a file, standard input and standard output. It is the trusted edge, and tells no bytes.
 ghost use Rattle.std.specs.Prelude.{◌≡◌, ◌<◌, ◌≤◌, length, true};
+ghost use Rattle.system_world.specs.Edge.{file_read, polled, written};
 ghost use Rattle.system_world.specs.RealTold.{real_told, PollsWithin};
 ghost use Rattle.dbg_traits.specs.declared.world.Polled.TheVariants.{NotYet};
 
@@ -7,9 +8,39 @@ use crate::again;
 use crate::reader::Shared;
 use dbg_traits::{ArgText, FileRead, NamePlace, Polled, Put, World, place_of};
 use std::alloc::Global;
-use std::fs;
 use std::rt::{Clock, Files};
 use std::sync::{Arc, Wait};
+use std::{fs, io};
+
+fn file_read(read: io::Result<usize>) -> FileRead
+    ensures { result ≡ file_read read }
+{
+    match read {
+        Ok(0) => FileRead::End,
+        Ok(n) => FileRead::Took(n),
+        Err(_) => FileRead::Failed,
+    }
+}
+
+fn polled(read: io::Result<usize>) -> Polled
+    ensures { result ≡ polled read }
+{
+    match read {
+        Ok(0) => Polled::End,
+        Ok(n) => Polled::Took(n),
+        Err(_) => Polled::Failed,
+    }
+}
+
+// A write that takes nothing counts as failed.
+fn written(put: io::Result<usize>) -> Put
+    ensures { result ≡ written put }
+{
+    match put {
+        Ok(n) if n > 0 => Put::Took(n),
+        _ => Put::Failed,
+    }
+}
 
 /// A world of the operating system.
 #[derive(Drop)]
@@ -61,11 +92,7 @@ impl<R: Files + Input + Print + Clock + Wait> RealWorld<R> {
     {
         match &self.input {
             Some(shared) => shared.poll(&self.rt, wait, into),
-            None => match again::read(&self.rt, &mut self.rt.reader(), into) {
-                Ok(0) => Polled::End,
-                Ok(n) => Polled::Took(n),
-                Err(_) => Polled::Failed,
-            },
+            None => polled(again::read(&self.rt, &mut self.rt.reader(), into)),
         }
     }
 }
@@ -88,24 +115,16 @@ impl<R: Files + Input + Print + Clock + Wait> World for RealWorld<R> {
                 }
             }
         }
-        let answer = match &mut self.file {
-            Some(file) => again::read(&self.rt, file, into),
-            None => Ok(0),
+        let read = match &mut self.file {
+            Some(file) => file_read(again::read(&self.rt, file, into)),
+            None => FileRead::End,
         };
-        match answer {
-            Ok(0) => {
-                self.file_ended = true;
-                FileRead::End
-            }
-            Ok(n) => {
-                self.file_length = self.file_length.saturating_add(n as u64);
-                FileRead::Took(n)
-            }
-            Err(_) => {
-                self.file_faults = self.file_faults.saturating_add(1);
-                FileRead::Failed
-            }
+        match read {
+            FileRead::Took(n) => self.file_length = self.file_length.saturating_add(n as u64),
+            FileRead::End => self.file_ended = true,
+            FileRead::Failed => self.file_faults = self.file_faults.saturating_add(1),
         }
+        read
     }
 
     fn poll(&mut self, wait: bool, into: &mut [u8]) -> Polled {
@@ -121,12 +140,11 @@ impl<R: Files + Input + Print + Clock + Wait> World for RealWorld<R> {
     }
 
     fn put(&mut self, piece: &[u8]) -> Put {
-        match again::write(&self.rt, piece) {
-            Ok(n) if n > 0 => Put::Took(n),
-            _ => {
-                self.put_faults = self.put_faults.saturating_add(1);
-                Put::Failed
-            }
+        let put = written(again::write(&self.rt, piece));
+        match put {
+            Put::Took(_) => {}
+            Put::Failed => self.put_faults = self.put_faults.saturating_add(1),
         }
+        put
     }
 }

@@ -1,0 +1,56 @@
+-- What is decided at the edge of the system; all of it is this project's own.
+use Rattle.std.specs.Prelude.{ℕ, zero, suc, Bool, true, false, Result, Ok, Err}
+use Rattle.std.specs.declared.io.ErrorKind.{ErrorKind}
+use Rattle.std.specs.declared.io.ErrorKind.TheVariants as kind
+use Rattle.dbg_traits.specs.declared.world.FileRead.{FileRead}
+use Rattle.dbg_traits.specs.declared.world.FileRead.TheVariants as file
+use Rattle.dbg_traits.specs.declared.world.Polled.{Polled}
+use Rattle.dbg_traits.specs.declared.world.Polled.TheVariants as poll
+use Rattle.dbg_traits.specs.declared.world.Put.{Put}
+use Rattle.dbg_traits.specs.declared.world.Put.TheVariants as put
+use Rattle.system_world.specs.declared.feed.Source.{Source}
+use Rattle.system_world.specs.declared.feed.Source.TheVariants as source
+use Rattle.system_world.specs.declared.reader.Came.{Came}
+use Rattle.system_world.specs.declared.reader.Came.TheVariants as came
+
+-- the call is made again: a signal interrupted it, or the descriptor isn't ready and doesn't wait
+abbrev pub is_passing : ErrorKind → Bool
+is_passing kind.Interrupted = true
+is_passing kind.WouldBlock = true
+is_passing _ = false
+
+-- it rests before that
+abbrev pub rests : ErrorKind → Bool
+rests kind.WouldBlock = true
+rests _ = false
+
+-- a read of the file, by what the system answered
+abbrev pub file_read : {E : Type 0} → Result ℕ E → FileRead
+file_read (Ok zero) = file.End
+file_read (Ok (suc n)) = file.Took (suc n)
+file_read (Err e) = file.Failed
+
+-- a read of the input
+abbrev pub polled : {E : Type 0} → Result ℕ E → Polled
+polled (Ok zero) = poll.End
+polled (Ok (suc n)) = poll.Took (suc n)
+polled (Err e) = poll.Failed
+
+-- a write; one that takes nothing counts as failed
+abbrev pub written : {E : Type 0} → Result ℕ E → Put
+written (Ok zero) = put.Failed
+written (Ok (suc n)) = put.Took (suc n)
+written (Err e) = put.Failed
+
+-- what a read of the input brings to the queue
+abbrev pub came_by : {E : Type 0} → Result ℕ E → Came
+came_by (Ok zero) = came.Nothing source.Ended
+came_by (Ok (suc n)) = came.Bytes (suc n)
+came_by (Err e) = came.Nothing source.Failed
+
+-- a poll of the queue, by how many bytes were taken from it and how far the input has come
+abbrev pub poll_of : ℕ → Source → Polled
+poll_of (suc n) s = poll.Took (suc n)
+poll_of zero source.Open = poll.NotYet
+poll_of zero source.Ended = poll.End
+poll_of zero source.Failed = poll.Failed
