@@ -2,6 +2,7 @@
 #![tactic(auto)]
 
 mod crew;
+mod next;
 mod run;
 mod worker;
 

@@ -1,7 +1,8 @@
 ghost use Rattle.std.specs.Prelude.{◌≤◌};
 
 use crate::Crew;
-use crate::worker::{Next, Worker};
+use crate::next::Next;
+use crate::worker::Worker;
 use dbg_traits::Gate;
 use std::sync::{Mutex, Wait};
 use std::thread;

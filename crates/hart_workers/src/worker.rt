@@ -1,6 +1,7 @@
 // One worker, and how it gets the lock of its crew.
 
-use crate::{Crew, Duty};
+use crate::Crew;
+use crate::next::{Next, next_of_duties};
 use dbg_traits::Gate;
 use std::hint::spin_loop;
 use std::sync::{Mutex, MutexGuard, Wait};
@@ -18,9 +19,6 @@ const BRIEF: u32 = 4;
 // How often it rests before it waits in the lock itself, which is left to it in the end.
 const RESTS: u32 = 200;
 
-// How many duties it asks for under one lock.
-const DUTIES: u32 = 32;
-
 // The lock, if it comes free in so many looks.
 fn look<C>(crew: &Mutex<C>, looks: u32) -> Option<MutexGuard<'_, C>> {
     for _ in 0..looks {
@@ -32,19 +30,6 @@ fn look<C>(crew: &Mutex<C>, looks: u32) -> Option<MutexGuard<'_, C>> {
         }
     }
     None
-}
-
-/// What a worker does next.
-#[derive(Drop)]
-pub enum Next<J> {
-    /// It works a job.
-    Work(J),
-    /// It asks again.
-    Ask,
-    /// It finds nothing to do for a while.
-    Rest,
-    /// It ends.
-    End,
 }
 
 /// A worker of a crew.
@@ -69,26 +54,10 @@ impl<'a, R: Wait, C: Crew, G: Gate> Worker<'a, R, C, G> {
         self.crew.lock(self.rt)
     }
 
-    // Asks a crew for duties while it has something to do and gives no job.
-    fn next(&self, crew: &mut C) -> Next<C::Job> {
-        for _ in 0..DUTIES {
-            match crew.duty(self.number) {
-                Duty::Job(job) => return Next::Work(job),
-                Duty::Again => {
-                    if crew.is_idle() {
-                        return Next::Rest;
-                    }
-                }
-                Duty::Over => return Next::End,
-            }
-        }
-        Next::Ask
-    }
-
     /// Asks for duties.
     pub fn ask(&self) -> Next<C::Job> {
         let mut held = self.hold(BRIEF);
-        self.next(&mut held)
+        next_of_duties::<C>(&mut held, self.number)
     }
 
     /// Works a job outside of the lock. What was made of it is handed in and the next duties asked for under one lock.
@@ -98,6 +67,6 @@ impl<'a, R: Wait, C: Crew, G: Gate> Worker<'a, R, C, G> {
         self.gate.slice_ready(self.number, hart);
         let mut held = self.hold(PATIENT);
         held.take(done);
-        self.next(&mut held)
+        next_of_duties::<C>(&mut held, self.number)
     }
 }
