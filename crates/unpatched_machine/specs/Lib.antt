@@ -1,1 +1,2 @@
 pub mod Unpatched
+pub mod Instruction

@@ -1,17 +1,16 @@
 ghost use Rattle.std.specs.Prelude.{◌≡◌, ◌<◌, ◌≤◌, Err, IfErr, IfOk, MatchResult, Ok, Some, length, map, slice_get};
 ghost use Rattle.data_memory.specs.Ranges.{range_at};
 ghost use Rattle.dbg_traits.specs.Settings.{AreSettings};
-ghost use Rattle.plain_machine.specs.Answers.{StepGives, IsByteCode};
-ghost use Rattle.plain_machine.specs.Plain.{on_word};
+ghost use Rattle.plain_machine.specs.Answers.{IsByteCode};
 ghost use Rattle.plain_machine.specs.PlainRun.{first_harts};
 ghost use Rattle.unpatched_machine.specs.Unpatched.{GoesOn, PlainSteps, registers_of, started};
 
+use crate::instruction::execute_plain;
 use data_memory::DataMemory;
 use dbg_traits::{NoMemory, Settings};
 use elf32_read::Image;
-use plain_machine::{call, first_registers};
-use rv_decode::decode;
-use rv_exec::{Cause, Effect, Regs, Stepped, execute};
+use plain_machine::first_registers;
+use rv_exec::{Regs, Stepped};
 use std::alloc::{AllocError, Global};
 use std::marker::Model;
 
@@ -46,25 +45,6 @@ fn first_harts(alloc: Global, image: &Image, harts: u32) -> Result<Vec<Regs>, Al
         all.push(first_registers(image.entry(), harts, hart))?;
     }
     Ok(all)
-}
-
-// Executes a word, with the environment at an ECALL.
-#[tactic(auto, unfolding(plain_machine::specs::Environment::call))]
-fn execute_word(word: Option<u32>, regs: &mut Regs, memory: &mut DataMemory) -> Stepped
-    ensures code { IsByteCode result }
-    ensures step { StepGives result (on_word regs.old memory.old word) regs.old regs.new memory.old memory.new }
-{
-    let Some(word) = word else {
-        return Stepped::Trap(Cause::FetchFault);
-    };
-    let Some(instruction) = decode(word) else {
-        return Stepped::Trap(Cause::Illegal);
-    };
-    match execute(instruction, regs, memory) {
-        Effect::Done => Stepped::Ran,
-        Effect::Call => call(regs, memory),
-        Effect::Trap(cause) => Stepped::Trap(cause),
-    }
 }
 
 impl<'a> Plain<'a> {
@@ -116,7 +96,6 @@ impl<'a> Plain<'a> {
         ensures run { GoesOn result self.old h self.new }
     {
         let regs = &mut self.harts[h];
-        let word = self.image.text_word(regs.pc());
-        execute_word(word, regs, &mut self.memory)
+        execute_plain(self.image, regs, &mut self.memory)
     }
 }

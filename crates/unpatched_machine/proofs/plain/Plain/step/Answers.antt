@@ -9,9 +9,9 @@ use Rattle.unpatched_machine.proofs.plain.Plain.step.Goals as goal
 pub returns-clause-step : goal.returns-clause-step
 returns-clause-step c =
     λ r at.
-    steps_to _ c.args.self.now c.args.h r c.index_mut-regs.result.now c.execute_word.new.regs c.execute_word.new.memory c.text_word-word.result c.pc.result c.execute_word.result c.self.view_is at
+    steps_to _ c.args.self.now c.args.h r c.index_mut-regs.result.now c.execute_plain.new.regs c.execute_plain.new.memory c.execute_plain.result c.self.view_is at
     (c.index_mut-regs.ensures.value ∙ get_or_from_slice_get c.self.inside.harts.items c.args.h r c.index_mut-regs.result.now (ap (λ (n : Unpatched). slice_get n.harts c.args.h) c.self.view_is ∙ at))
-    c.text_word-word.ensures c.pc.ensures c.execute_word.ensures.step
+    c.execute_plain.ensures.step
 
 pub returns-clause-run : goal.returns-clause-run
-returns-clause-run c = goes_on c.execute_word.result c.args.self.now _ c.args.h (returns-clause-step c)
+returns-clause-run c = goes_on c.execute_plain.result c.args.self.now _ c.args.h (returns-clause-step c)
