@@ -3,3 +3,4 @@ pub mod Programs
 pub mod Placed
 pub mod Kept
 pub mod Sections
+pub mod Closed

@@ -2,18 +2,18 @@
 use Rattle.std.proofs.Common.{◌≡◌, Bool, true, false, ℕ, ◌+◌, ◌-◌, ◌<◌, ◌≤◌, ◌^◌, List, [], ◌∷◌, ◌++◌, length, map, fold, take, refl, ◌∙◌, ap, sym, subst, append_assoc, append-nil, arith, get_or}
 use Rattle.std.specs.Prelude.{flat_map, nat_lt, OnOk, Result, Ok, Err, if◌then◌else◌}
 use Rattle.std.proofs.lemmas.Bool.Decides.{nat_tests}
-use Rattle.std.proofs.lemmas.List.Sums.{fold-append, sum_by-append}
+use Rattle.std.proofs.lemmas.List.Sums.{fold-append}
 use Rattle.std.proofs.lemmas.List.{length-append, length-map, map-append, get_or_append_left, get_or-append_right, get_or_past, take_all, take_more}
-use Rattle.line_rows.specs.RowList.{Building, RowList, Sequence, room_of, ended_with, finished, nothing_built, table_room, room_taken, renumbered, renumbered_sequence}
+use Rattle.line_rows.specs.RowList.{Building, RowList, Sequence, ended_with, finished, nothing_built, renumbered, renumbered_sequence}
 use Rattle.line_rows.specs.Sections.{Sections}
 use Rattle.line_rows.specs.declared.row.Row.{Row}
 use Rattle.line_rows.specs.declared.fault.LineFault.{LineFault}
 use Rattle.line_rows.specs.declared.fault.UnitFault.{UnitFault}
 use Rattle.file_names.specs.Numbers.{distinct, number_of}
 use Rattle.dwarf_lines.specs.declared.adding.UnitFiles.{UnitFiles}
-use Rattle.dwarf_lines.specs.Adding.{add_fault, add_result, add_row, add_sequence, add_unit, add_unit_of, add_units, added, Adds, named, file_place, files_behind, placed, room_left}
+use Rattle.dwarf_lines.specs.Adding.{add_fault, add_result, add_row, add_sequence, add_unit, add_unit_of, add_units, added, Adds, named, file_place, files_behind, placed}
 use Rattle.dwarf_lines.specs.Numbers.{UnitRows, numbered, numbered_sequence, numbered_sequences}
-use Rattle.dwarf_lines.specs.Rows.{UnitGiven, fault_given, names_read, read_units, room_behind, rows_given, rows_of, table_units, unit_of, units_given}
+use Rattle.dwarf_lines.specs.Rows.{fault_given, names_read, read_units, rows_given, rows_of, unit_of}
 use Rattle.dwarf_lines.specs.Units.{Unit, units_of}
 use Rattle.dwarf_lines.specs.Met.{Meets, names_met}
 use Rattle.dwarf_lines.specs.declared.met.MetNames.{MetNames}
@@ -34,7 +34,7 @@ placed_units names (u ∷ us) = flat_map (placed_sequence (files_behind names u)
 abbrev pub all_names : List UnitRows → List (List ℕ)
 all_names us = flat_map (λ u. u.names) us
 
-rows_added : (f : UnitFiles) (b : Building) (rs : List Row) → fold (add_row f) b rs ≡ record b { pending = b.pending ++ map (placed f) rs }
+pub rows_added : (f : UnitFiles) (b : Building) (rs : List Row) → fold (add_row f) b rs ≡ record b { pending = b.pending ++ map (placed f) rs }
 rows_added f b [] = ap (λ (l : List Row). record b { pending = l }) (sym (append-nil b.pending))
 rows_added f b (r ∷ rs) =
     rows_added f (add_row f b r) rs
@@ -61,59 +61,41 @@ unfolding add_unit
 unit_added unit done names faults =
     ap (λ (b : Building). record b { names = names ++ unit.names }) (sequences_added (files_behind names unit) done names faults unit.sequences)
 
--- a sequence takes as much room wherever its files stand
-count_by : (f : UnitFiles) (rows : List Row) (end : ℕ) → room_taken (ended_with [] (map (placed f) rows) end) ≡ room_of rows
-count_by f [] end = refl
-count_by f (r ∷ rows) end = omega (arith, length-map rows (placed f))
+abbrev given : Sections → List Unit → List UnitRows
+given s units = flat_map (λ u. rows_given (unit_of s u)) units
 
-among_append : (ss more : List Sequence) → room_taken (ss ++ more) ≡ room_taken ss + room_taken more
-among_append ss more = sum_by-append (λ s. room_of s.rows) ss more
-
-counted : (f : UnitFiles) (ss : List Sequence) → room_taken (flat_map (placed_sequence f) ss) ≡ room_taken ss
-counted f [] = refl
-counted f (s ∷ ss) =
-    let first = among_append (placed_sequence f s) (flat_map (placed_sequence f) ss) in
-    omega (arith, first, count_by f s.rows s.end, counted f ss, among_append (s ∷ []) ss)
-
-abbrev given : List UnitGiven → List UnitRows
-given units = flat_map (λ u. rows_given u.given) units
-
-abbrev blamed : List UnitGiven → List UnitFault
-blamed units = flat_map (λ u. fault_given u.place u.given) units
+abbrev blamed : Sections → List Unit → List UnitFault
+blamed s units = flat_map (λ u. fault_given u.place (unit_of s u)) units
 
 -- what is built of some units is what they give
 abbrev AreAdded : Sections → List Unit → Type 0
-AreAdded s units = (room : ℕ) (done : List Sequence) (names : List (List ℕ)) (faults : List UnitFault) → room ≡ table_room - room_taken done
-    → add_units s units (closed done names faults) ≡ closed (done ++ placed_units names (given (units_given s room units))) (names ++ all_names (given (units_given s room units))) (faults ++ blamed (units_given s room units))
+AreAdded s units = (done : List Sequence) (names : List (List ℕ)) (faults : List UnitFault)
+    → add_units s units (closed done names faults) ≡ closed (done ++ placed_units names (given s units)) (names ++ all_names (given s units)) (faults ++ blamed s units)
 
-result_by : (s : Sections) (room : ℕ) (done : List Sequence) (names : List (List ℕ)) (faults : List UnitFault) (place : ℕ) (units : List Unit) (result : Result UnitRows LineFault) → AreAdded s units → room ≡ table_room - room_taken done
-    → (let others = record { place = place; given = result } ∷ units_given s (room_behind room result) units in
-    add_units s units (add_result place (closed done names faults) result) ≡ closed (done ++ placed_units names (given others)) (names ++ all_names (given others)) (faults ++ blamed others))
-result_by s room done names faults place units (Ok unit) rest left =
+result_by : (s : Sections) (done : List Sequence) (names : List (List ℕ)) (faults : List UnitFault) (place : ℕ) (units : List Unit) (result : Result UnitRows LineFault) → AreAdded s units
+    → add_units s units (add_result place (closed done names faults) result)
+    ≡ closed (done ++ placed_units names (rows_given result ++ given s units)) (names ++ all_names (rows_given result ++ given s units)) (faults ++ (fault_given place result ++ blamed s units))
+result_by s done names faults place units (Ok unit) rest =
     let mine = flat_map (placed_sequence (files_behind names unit)) unit.sequences in
-    let behind = units_given s (room - room_taken unit.sequences) units in
-    let after : room - room_taken unit.sequences ≡ table_room - room_taken (done ++ mine) = omega (arith, left, counted (files_behind names unit) unit.sequences, among_append done mine) in
+    let behind = given s units in
     ap (add_units s units) (unit_added unit done names faults)
-    ∙ rest (room - room_taken unit.sequences) (done ++ mine) (names ++ unit.names) faults after
-    ∙ ap (λ (l : List Sequence). closed l (names ++ unit.names ++ all_names (given behind)) (faults ++ blamed behind)) (append_assoc done mine (placed_units (names ++ unit.names) (given behind)))
-    ∙ ap (λ (l : List (List ℕ)). closed (done ++ (mine ++ placed_units (names ++ unit.names) (given behind))) l (faults ++ blamed behind)) (append_assoc names unit.names (all_names (given behind)))
-result_by s room done names faults place units (Err f) rest left =
-    rest room done names (faults ++ record { offset = place; fault = f } ∷ []) left
-    ∙ ap (λ (l : List UnitFault). closed (done ++ placed_units names (given (units_given s room units))) (names ++ all_names (given (units_given s room units))) l) (append_assoc faults (record { offset = place; fault = f } ∷ []) (blamed (units_given s room units)))
+    ∙ rest (done ++ mine) (names ++ unit.names) faults
+    ∙ ap (λ (l : List Sequence). closed l (names ++ unit.names ++ all_names behind) (faults ++ blamed s units)) (append_assoc done mine (placed_units (names ++ unit.names) behind))
+    ∙ ap (λ (l : List (List ℕ)). closed (done ++ (mine ++ placed_units (names ++ unit.names) behind)) l (faults ++ blamed s units)) (append_assoc names unit.names (all_names behind))
+result_by s done names faults place units (Err f) rest =
+    rest done names (faults ++ record { offset = place; fault = f } ∷ [])
+    ∙ ap (λ (l : List UnitFault). closed (done ++ placed_units names (given s units)) (names ++ all_names (given s units)) l) (append_assoc faults (record { offset = place; fault = f } ∷ []) (blamed s units))
 
 units_added : (s : Sections) (units : List Unit) → AreAdded s units
-units_added s [] room done names faults left =
+units_added s [] done names faults =
     ap (λ (l : List Sequence). closed l names faults) (sym (append-nil done))
     ∙ ap (λ (l : List UnitFault). closed (done ++ []) names l) (sym (append-nil faults))
     ∙ ap (λ (l : List (List ℕ)). closed (done ++ []) l (faults ++ [])) (sym (append-nil names))
-units_added s (u ∷ units) room done names faults left =
-    let here : room_left (closed done names faults) ≡ room = omega (arith, left) in
-    ap (λ (n : ℕ). add_units s units (add_result u.place (closed done names faults) (unit_of s n u))) here
-    ∙ result_by s room done names faults u.place units (unit_of s room u) (units_added s units) left
+units_added s (u ∷ units) done names faults = result_by s done names faults u.place units (unit_of s u) (units_added s units)
 
-all_added : (s : Sections) → added s ≡ closed (placed_units [] (read_units s)) (all_names (read_units s)) (blamed (table_units s))
+all_added : (s : Sections) → added s ≡ closed (placed_units [] (read_units s)) (all_names (read_units s)) (blamed s (units_of s.line))
 unfolding added
-all_added s = units_added s (units_of s.line) table_room [] [] [] refl
+all_added s = units_added s (units_of s.line) [] [] []
 
 -- the number that stands where a file of a unit does
 place_by : (f : List ℕ → ℕ) (before mine behind : List (List ℕ)) (k : ℕ) → length (before ++ (mine ++ behind)) < 2 ^ 32 → (b : Bool) → nat_lt k (length mine) ≡ b
@@ -179,9 +161,9 @@ pub declared : (s : Sections) (rows : Building) (met names : List (List ℕ)) (n
     → (let all : RowList = record { sequences = map (renumbered_sequence numbers) rows.sequences; names = names; faults = rows.faults } in all ≡ rows_of s)
 unfolding rows_of
 declared s rows met names numbers built once each few =
-    let are : record rows { names = met } ≡ closed (placed_units [] (read_units s)) (all_names (read_units s)) (blamed (table_units s)) = built ∙ all_added s in
+    let are : record rows { names = met } ≡ closed (placed_units [] (read_units s)) (all_names (read_units s)) (blamed s (units_of s.line)) = built ∙ all_added s in
     let sequences : rows.sequences ≡ placed_units [] (read_units s) = ap (λ (b : Building). b.sequences) are in
-    let faults : rows.faults ≡ blamed (table_units s) = ap (λ (b : Building). b.faults) are in
+    let faults : rows.faults ≡ blamed s (units_of s.line) = ap (λ (b : Building). b.faults) are in
     let all : met ≡ all_names (read_units s) = ap (λ (b : Building). b.names) are in
     let names_are : names ≡ names_read s = once ∙ ap distinct all in
     let size : length met ≡ length numbers = sym (length-map met (number_of names)) ∙ sym (ap length each) in

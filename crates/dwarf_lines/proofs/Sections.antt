@@ -5,7 +5,7 @@ use Rattle.line_rows.specs.declared.fault.LineFault.{LineFault}
 use Rattle.line_rows.specs.Sections.{Sections}
 use Rattle.line_headers.specs.Texts.{Texts, texts_in}
 use Rattle.line_rows.specs.RowList.{Building, nothing_built}
-use Rattle.dwarf_lines.specs.Adding.{add_result, add_units, added, named, room_left}
+use Rattle.dwarf_lines.specs.Adding.{add_result, add_units, added, named}
 use Rattle.dwarf_lines.specs.Met.{AreMet, names_met}
 use Rattle.dwarf_lines.specs.declared.met.MetNames.{MetNames}
 use Rattle.dwarf_lines.specs.Rows.{rows_in, up_to}
@@ -30,9 +30,9 @@ none_named met rows none empty =
 
 -- behind a unit
 pub goes_on : (s unit : Sections) (texts : Texts) (at end : ℕ) (old new : Building) → at < length s.line → at + 4 ≤ end → Ok end ≡ unit_end s.line at → texts ≡ texts_in s → unit ≡ up_to end s
-    → new ≡ add_result at old (rows_in texts unit (room_left old) (at + 4)) → behind s new end ≡ behind s old at
+    → new ≡ add_result at old (rows_in texts unit (at + 4)) → behind s new end ≡ behind s old at
 goes_on s unit texts at end old new h after e same narrow is =
-    let given : Texts → Sections → Building = λ t u. add_result at old (rows_in t u (room_left old) (at + 4)) in
+    let given : Texts → Sections → Building = λ t u. add_result at old (rows_in t u (at + 4)) in
     let now : new ≡ given (texts_in s) (up_to end s) = is ∙ ap (given texts) narrow ∙ ap (λ (t : Texts). given t (up_to end s)) same in
     ap (λ (b : Building). behind s b end) now
     ∙ ap (λ (us : List Unit). add_units s us (given (texts_in s) (up_to end s))) (sym (units_behind s.line at end h after))

@@ -1,7 +1,7 @@
 -- The rows of the units one after another, as they are added, and what the steps of that give. The file of a row is the place
 -- of its name in one list of the names of all units.
 use Rattle.std.specs.Prelude.{◌≡◌, ◌<◌, ⊤, ℕ, ◌+◌, ◌-◌, List, [], ◌∷◌, ◌++◌, length, map, fold, nat_lt, Result, Ok, Err, if◌then◌else◌}
-use Rattle.line_rows.specs.RowList.{Building, Sequence, ended_with, nothing_built, room_used, table_room}
+use Rattle.line_rows.specs.RowList.{Building, Sequence, ended_with, nothing_built}
 use Rattle.line_rows.specs.Sections.{Sections, sections_shown}
 use Rattle.line_rows.specs.declared.row.Row.{Row}
 use Rattle.line_rows.specs.declared.fault.LineFault.{LineFault}
@@ -49,12 +49,8 @@ abbrev pub add_result : ℕ → Building → Result UnitRows LineFault → Build
 add_result place rows (Ok unit) = add_unit unit rows
 add_result place rows (Err e) = add_fault place rows e
 
--- the room that is left behind some rows
-abbrev pub room_left : Building → ℕ
-room_left rows = table_room - room_used rows
-
 abbrev pub add_unit_of : Sections → Building → Unit → Building
-add_unit_of s rows unit = add_result unit.place rows (unit_of s (room_left rows) unit)
+add_unit_of s rows unit = add_result unit.place rows (unit_of s unit)
 
 abbrev pub add_units : Sections → List Unit → Building → Building
 add_units s units rows = fold (add_unit_of s) rows units

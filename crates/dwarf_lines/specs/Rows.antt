@@ -8,7 +8,7 @@ use Rattle.line_headers.specs.declared.header.Header.{Header}
 use Rattle.line_headers.specs.declared.places.NamePlace.{NamePlace}
 use Rattle.line_programs.specs.Machine.{program_of}
 use Rattle.line_programs.specs.declared.parameters.Parameters.{Parameters}
-use Rattle.line_rows.specs.RowList.{RowList, table_room, room_taken}
+use Rattle.line_rows.specs.RowList.{RowList}
 use Rattle.line_rows.specs.declared.fault.LineFault.{LineFault}
 use Rattle.line_rows.specs.declared.fault.UnitFault.{UnitFault}
 use Rattle.file_names.specs.Numbers.{distinct}
@@ -17,8 +17,8 @@ use Rattle.dwarf_lines.specs.Names.{name_in}
 use Rattle.dwarf_lines.specs.Numbers.{UnitRows, numbered_sequences}
 use Rattle.dwarf_lines.specs.Units.{Unit, units_of}
 
-abbrev pub parameters_of : Header → ℕ → ℕ → Parameters
-parameters_of header file_count room =
+abbrev pub parameters_of : Header → ℕ → Parameters
+parameters_of header file_count =
     record {
       minimum_instruction_length = header.lines.minimum_length;
       default_is_stmt = header.lines.default_is_stmt;
@@ -27,28 +27,27 @@ parameters_of header file_count room =
       opcode_base = header.opcodes.base;
       first_file = header.first_file;
       file_count = file_count;
-      room = room;
     }
 
 -- the counts of the standard opcodes' operands
 abbrev pub lengths_in : List ℕ → Header → List ℕ
 lengths_in bytes header = take (header.opcodes.base - 1) (drop header.opcodes.lengths bytes)
 
-unfoldable pub program_in : Header → ℕ → ℕ → List ℕ → Result RowList LineFault
-program_in header file_count room bytes = program_of (parameters_of header file_count room) (lengths_in bytes header) bytes header.program
+unfoldable pub program_in : Header → ℕ → List ℕ → Result RowList LineFault
+program_in header file_count bytes = program_of (parameters_of header file_count) (lengths_in bytes header) bytes header.program
 
 -- the files of the header, and behind them those that the program defines, whose names end before a zero byte
 abbrev pub unit_rows : Header → List (List ℕ) → Result RowList LineFault → Result UnitRows LineFault
 unit_rows header names (Ok rows) = Ok (record { names = names ++ map (λ name. text_from name 0) rows.names; first = header.first_file; sequences = rows.sequences })
 unit_rows header names (Err e) = Err e
 
-abbrev pub behind_header : Sections → ℕ → Reading (Header × List NamePlace) → Result UnitRows LineFault
-behind_header s room (Ok ((header, files), next)) = unit_rows header (map (name_in s) files) (program_in header (length files) room s.line)
-behind_header s room (Err e) = Err e
+abbrev pub behind_header : Sections → Reading (Header × List NamePlace) → Result UnitRows LineFault
+behind_header s (Ok ((header, files), next)) = unit_rows header (map (name_in s) files) (program_in header (length files) s.line)
+behind_header s (Err e) = Err e
 
--- what the unit gives whose version stands at a place, and which ends where .debug_line does, with room for so many rows
-unfoldable pub rows_in : Texts → Sections → ℕ → ℕ → Result UnitRows LineFault
-rows_in texts s room at = behind_header s room (header_at texts s.line at)
+-- what the unit gives whose version stands at a place, and which ends where .debug_line does
+unfoldable pub rows_in : Texts → Sections → ℕ → Result UnitRows LineFault
+rows_in texts s at = behind_header s (header_at texts s.line at)
 
 -- the sections as a unit that ends there sees them
 abbrev pub up_to : ℕ → Sections → Sections
@@ -58,25 +57,9 @@ abbrev pub within_end : Result ℕ LineFault → (ℕ → Result UnitRows LineFa
 within_end (Ok end) rows = rows end
 within_end (Err e) rows = Err e
 
--- what a unit of the sections gives, with room for so many rows
-abbrev pub unit_of : Sections → ℕ → Unit → Result UnitRows LineFault
-unit_of s room unit = within_end unit.end (λ end. rows_in (texts_in s) (up_to end s) room (unit.place + 4))
-
--- the room behind a unit; one with a fault takes none
-abbrev pub room_behind : ℕ → Result UnitRows LineFault → ℕ
-room_behind room (Ok unit) = room - room_taken unit.sequences
-room_behind room (Err e) = room
-
--- where a unit begins, and what it gives
-pub record UnitGiven : Type 0 where
-  pub place : ℕ
-  pub given : Result UnitRows LineFault
-
--- what units give one after another, with room for so many rows in all
-abbrev pub units_given : Sections → ℕ → List Unit → List UnitGiven
-units_given s room [] = []
-units_given s room (u ∷ units) =
-    record { place = u.place; given = unit_of s room u } ∷ units_given s (room_behind room (unit_of s room u)) units
+-- what a unit of the sections gives
+abbrev pub unit_of : Sections → Unit → Result UnitRows LineFault
+unit_of s unit = within_end unit.end (λ end. rows_in (texts_in s) (up_to end s) (unit.place + 4))
 
 -- a unit with a fault gives no rows, and stands in the list of faults
 abbrev pub rows_given : Result UnitRows LineFault → List UnitRows
@@ -87,13 +70,9 @@ abbrev pub fault_given : ℕ → Result UnitRows LineFault → List UnitFault
 fault_given place (Ok unit) = []
 fault_given place (Err e) = record { offset = place; fault = e } ∷ []
 
--- the units of a table, which has no more rows than it may
-abbrev pub table_units : Sections → List UnitGiven
-table_units s = units_given s table_room (units_of s.line)
-
 -- what the units give that have no fault
 abbrev pub read_units : Sections → List UnitRows
-read_units s = flat_map (λ u. rows_given u.given) (table_units s)
+read_units s = flat_map (λ u. rows_given (unit_of s u)) (units_of s.line)
 
 -- the names of their files, each once
 abbrev pub names_read : Sections → List (List ℕ)
@@ -105,5 +84,5 @@ rows_of s =
     record {
       sequences = flat_map (numbered_sequences (names_read s)) (read_units s);
       names = names_read s;
-      faults = flat_map (λ u. fault_given u.place u.given) (table_units s);
+      faults = flat_map (λ u. fault_given u.place (unit_of s u)) (units_of s.line);
     }

@@ -1,10 +1,10 @@
 //! The rows of a unit, added to those of the units before. Of the sections `.debug_line` is the front up to the unit's end.
 
-ghost use Rattle.std.specs.Prelude.{◌≡◌, ◌+◌, ◌<◌, ◌≤◌, ◌^◌, IfOk, OnOk, fold, length};
-ghost use Rattle.line_rows.specs.RowList.{sequence_shown};
+ghost use Rattle.std.specs.Prelude.{◌≡◌, ◌+◌, ◌<◌, ◌≤◌, ◌^◌, [], IfOk, OnOk, fold, length};
+ghost use Rattle.line_rows.specs.RowList.{AreInOrder, sequence_shown};
 ghost use Rattle.line_rows.specs.Sections.{sections_shown};
 ghost use Rattle.line_headers.specs.Texts.{texts_before};
-ghost use Rattle.dwarf_lines.specs.Adding.{Adds, add_result, add_row, add_sequence, add_unit, file_place, named, placed, room_left, shown_in};
+ghost use Rattle.dwarf_lines.specs.Adding.{Adds, add_result, add_row, add_sequence, add_unit, file_place, named, placed, shown_in};
 ghost use Rattle.dwarf_lines.specs.Met.{AreMet};
 ghost use Rattle.dwarf_lines.specs.Rows.{rows_in};
 
@@ -14,9 +14,6 @@ use dbg_traits::NoMemory;
 use line_headers::TextEnds;
 use line_rows::{LineError, LineSections, Row, Rows, RowsBuilder, SequenceView, UnitFault};
 use std::alloc::Global;
-
-/// How many rows a table has room for.
-const TABLE_ROOM: u128 = 4_194_304;
 
 /// Where the files of a unit stand in the list of all.
 #[derive(Clone, Copy)]
@@ -53,7 +50,9 @@ fn add_sequence(
     sequence: &SequenceView<'_>,
     rows: &mut RowsBuilder,
 ) -> Result<(), NoMemory>
-    requires { files.base + files.count < 2 ^ 32 }
+    requires few { files.base + files.count < 2 ^ 32 }
+    requires closed { rows.old.pending ≡ [] }
+    requires rise { AreInOrder sequence.now.rows.now }
     ensures { OnOk result (rows.new ≡ add_sequence files rows.old (sequence_shown sequence.now)) }
 {
     for row in sequence.rows {
@@ -63,7 +62,8 @@ fn add_sequence(
 }
 
 fn add_sequences(files: UnitFiles, unit: &Rows, rows: &mut RowsBuilder) -> Result<(), NoMemory>
-    requires { files.base + files.count < 2 ^ 32 }
+    requires few { files.base + files.count < 2 ^ 32 }
+    requires closed { rows.old.pending ≡ [] }
     ensures { OnOk result (rows.new ≡ fold (add_sequence files) rows.old unit.now.sequences) }
 {
     for k in 0..unit.sequence_count() {
@@ -91,7 +91,8 @@ fn add_unit(
     met: &mut MetNames,
     rows: &mut RowsBuilder,
 ) -> Result<(), NoMemory>
-    requires { AreMet (sections_shown sections.now) met.old }
+    requires met { AreMet (sections_shown sections.now) met.old }
+    requires closed { rows.old.pending ≡ [] }
     ensures { OnOk result (Adds (add_unit (shown_in sections.now unit.now) (named rows.old met.old)) (sections_shown sections.now) met.new rows.new) }
 {
     let base = file_count(met)?;
@@ -106,13 +107,7 @@ fn add_unit(
     add_sequences(files, &unit.rows, rows)
 }
 
-fn room_left(rows: &RowsBuilder) -> u128
-    ensures { result ≡ room_left rows.now }
-{
-    TABLE_ROOM.saturating_sub(rows.room_used())
-}
-
-/// Adds what the unit at a place gives where the table has room for its rows, or its fault.
+/// Adds what the unit at a place gives, or its fault.
 pub fn add_at(
     alloc: Global,
     sections: &LineSections<'_>,
@@ -123,9 +118,10 @@ pub fn add_at(
 ) -> Result<(), NoMemory>
     requires within { at + 4 ≤ length sections.now.line.now }
     requires met { AreMet (sections_shown sections.now) met.old }
-    ensures { OnOk result (Adds (add_result at (named rows.old met.old) (rows_in (texts_before ends) (sections_shown sections.now) (room_left rows.old) (at + 4))) (sections_shown sections.now) met.new rows.new) }
+    requires closed { rows.old.pending ≡ [] }
+    ensures { OnOk result (Adds (add_result at (named rows.old met.old) (rows_in (texts_before ends) (sections_shown sections.now) (at + 4))) (sections_shown sections.now) met.new rows.new) }
 {
-    match read_unit(alloc, sections, at + 4, ends, room_left(rows)) {
+    match read_unit(alloc, sections, at + 4, ends) {
         Ok(unit) => add_unit(sections, &unit, met, rows),
         Err(LineError::Fault(fault)) => rows.push_fault(UnitFault { offset: at, fault }),
         Err(LineError::NoMemory) => Err(NoMemory),

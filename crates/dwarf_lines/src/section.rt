@@ -53,8 +53,7 @@ fn add_units(
 /// The rows of the line tables of a program's sections.
 ///
 /// A unit with a fault gives no rows and stands in the list with the first fault that is met when its bytes are read in
-/// order. A table has room for 4,194,304 rows, of which the end of each sequence takes two: a row without room is such a
-/// fault. Behind a unit whose end can't be told nothing is read. A row's file is the number of a name: the names of the
+/// order. Behind a unit whose end can't be told nothing is read. A row's file is the number of a name: the names of the
 /// files of the units that give rows are numbered from 0, each once, in the order of the tables.
 ///
 /// # Errors

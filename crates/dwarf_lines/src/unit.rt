@@ -28,11 +28,10 @@ fn program_in(
     alloc: Global,
     header: Header,
     file_count: usize,
-    room: u128,
     bytes: &[u8],
 ) -> Result<Rows, LineError>
     requires { IsWithin bytes.now header }
-    ensures { GivesRows result (program_in header file_count room bytes.now) }
+    ensures { GivesRows result (program_in header file_count bytes.now) }
 {
     let parameters = Parameters {
         minimum_instruction_length: header.lines.minimum_length,
@@ -42,26 +41,24 @@ fn program_in(
         opcode_base: header.opcodes.base,
         first_file: header.first_file,
         file_count,
-        room,
     };
     let front = &bytes[header.opcodes.lengths..];
     let lengths = &front[..header.opcodes.base.saturating_sub(1) as usize];
     program_rows(alloc, &parameters, lengths, bytes, header.program)
 }
 
-/// What a unit gives whose version stands at a place, with room for so many rows. Of the sections `.debug_line` is the front up to the unit's end.
+/// What a unit gives whose version stands at a place. Of the sections `.debug_line` is the front up to the unit's end.
 #[tactic(auto, unfolding(crate::specs::Rows::rows_in))]
 pub fn read_unit(
     alloc: Global,
     sections: &LineSections<'_>,
     at: usize,
     ends: TextEnds,
-    room: u128,
 ) -> Result<UnitFound, LineError>
-    ensures { GivesUnit (sections_shown sections.now) result (rows_in (texts_before ends) (sections_shown sections.now) room at) }
+    ensures { GivesUnit (sections_shown sections.now) result (rows_in (texts_before ends) (sections_shown sections.now) at) }
 {
     let (header, files) = read_header(alloc, sections.line, at, ends)?;
-    let rows = program_in(alloc, header, files.len(), room, sections.line)?;
+    let rows = program_in(alloc, header, files.len(), sections.line)?;
     Ok(UnitFound {
         first_file: header.first_file,
         files,

@@ -1,6 +1,6 @@
 -- The numbers of names by their homes.
-use Rattle.std.proofs.Common.{◌≡◌, ℕ, zero, suc, ◌+◌, ◌-◌, ◌≤◌, ◌<◌, Bool, true, false, List, [], ◌∷◌, ◌++◌, Option, None, Some, length, map, take, fold, replicate, refl, arith, inl, inr, ◌∙◌, ap, sym, subst, get_or}
-use Rattle.std.specs.Prelude.{slice_set, slice_range, ◌⊎◌}
+use Rattle.std.proofs.Common.{◌≡◌, ℕ, zero, suc, ◌+◌, ◌-◌, ◌≤◌, ◌<◌, Bool, true, false, List, [], ◌∷◌, ◌++◌, Option, None, Some, length, map, take, replicate, refl, arith, inl, inr, ◌∙◌, ap, sym, subst, get_or}
+use Rattle.std.specs.Prelude.{slice_set, slice_range}
 use Rattle.std.specs.Str.{bytes_eq}
 use Rattle.std.specs.Cmp.Lexicographic.{bytes_decides, nat_list_eq_equiv}
 use Rattle.std.proofs.lemmas.Grind.{same_number_lists}

@@ -1,11 +1,11 @@
 -- One step of the loops over bytes and places.
 use Rattle.std.proofs.Common.{◌≡◌, ℕ, zero, suc, ◌+◌, ◌-◌, ◌≤◌, ◌<◌, List, [], ◌∷◌, ◌++◌, length, refl, arith, inl, inr, ◌∙◌, ap, sym, subst, get_or}
-use Rattle.std.specs.Prelude.{slice_set, ◌⊎◌}
+use Rattle.std.specs.Prelude.{◌⊎◌}
 use Rattle.std.specs.List.{Contains}
-use Rattle.std.proofs.lemmas.List.{get_or_default, get_or-set_same, get_or-set_other}
+use Rattle.std.proofs.lemmas.List.{get_or_default}
 use Rattle.std.proofs.lemmas.List.Elements.{Contains-append_left, Contains-push, Contains-push_cases}
-use Rattle.file_names.specs.Homes.{AreEnds, ArePlaces, size_at}
-use Rattle.file_names.proofs.Texts.{size_behind, size_more, size_none, size_past, size_some, size_zero}
+use Rattle.file_names.specs.Homes.{ArePlaces, size_at}
+use Rattle.file_names.proofs.Texts.{size_behind, size_some}
 
 -- the places of empty texts before a place
 pub record AreEmpty (bytes places : List ℕ) (past : ℕ) : Type 0 where

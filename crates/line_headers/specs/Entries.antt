@@ -1,5 +1,5 @@
 -- The tables of directories and files in version 5 (DWARF 5, section 6.2.4, items 13 to 20, and section 7.5.6).
-use Rattle.std.specs.Prelude.{ℕ, zero, suc, ◌==◌, ◌&&◌, not, nat_le, Bool, true, false, List, [], ◌∷◌, Option, None, Some, option_and_then, Err, Ok, if◌then◌else◌}
+use Rattle.std.specs.Prelude.{ℕ, zero, suc, ◌==◌, ◌&&◌, not, Bool, true, false, List, [], ◌∷◌, Option, None, Some, option_and_then, Err, Ok, if◌then◌else◌}
 use Rattle.line_rows.specs.Reading.{Reading, fixed_at, unsigned_at}
 use Rattle.line_headers.specs.Reading.{and_then, reading_map, run_at, text_length_at}
 use Rattle.line_headers.specs.Texts.{Texts}
@@ -99,14 +99,10 @@ counted_at texts [] zero bytes at = Ok ([], at)
 counted_at texts [] (suc n) bytes at = Err fault.Header
 counted_at texts (field ∷ fields) n bytes at = entries_at texts (field ∷ fields) n bytes at
 
--- a table has at most so many entries, as many as a table of lines has rows
-abbrev pub limited_at : Texts → List Field → ℕ → List ℕ → ℕ → Reading (List NamePlace)
-limited_at texts fields count bytes at = if nat_le count 4194304 then counted_at texts fields count bytes at else Err fault.Header
-
 -- a format, a count and so many entries
 unfoldable pub table_at : Texts → List ℕ → ℕ → Reading (List NamePlace)
 table_at texts bytes at =
-    and_then (format_at bytes at) (λ fields next. and_then (unsigned_at bytes next) (λ count behind. limited_at texts fields count bytes behind))
+    and_then (format_at bytes at) (λ fields next. and_then (unsigned_at bytes next) (λ count behind. counted_at texts fields count bytes behind))
 
 -- the files, behind the directories
 unfoldable pub entry_tables_at : Texts → List ℕ → ℕ → Reading (List NamePlace)

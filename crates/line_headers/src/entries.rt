@@ -4,7 +4,7 @@ ghost use Rattle.std.specs.Prelude.{◌≡◌, IfOk};
 ghost use Rattle.leb_read.specs.Leb.{IsBehind};
 ghost use Rattle.line_headers.specs.Texts.{texts_before};
 ghost use Rattle.line_headers.specs.Gives.{Gives};
-ghost use Rattle.line_headers.specs.Entries.{counted_at, entries_at, entry_at, entry_tables_at, limited_at, table_at, text_named, value_at};
+ghost use Rattle.line_headers.specs.Entries.{counted_at, entries_at, entry_at, entry_tables_at, table_at, text_named, value_at};
 
 use crate::fields::{run_at, text_length_at};
 use crate::formats::{Field, Form, format_at};
@@ -12,9 +12,6 @@ use crate::places::NamePlace;
 use crate::texts::TextEnds;
 use line_rows::{LineError, LineFault, unsigned_at, word_at};
 use std::alloc::Global;
-
-/// How many entries a table has at most.
-const MOST_ENTRIES: u64 = 4_194_304;
 
 // The name at an offset, which is looked up for a path alone.
 fn text_named(
@@ -140,23 +137,6 @@ fn counted_at(
     entries_at(alloc, bytes, at, fields, count, ends)
 }
 
-// Entries of one byte each would take twenty times the file's size.
-fn limited_at(
-    alloc: Global,
-    bytes: &[u8],
-    at: usize,
-    fields: &[Field],
-    count: u64,
-    ends: TextEnds,
-) -> Result<(Vec<NamePlace>, usize), LineError>
-    ensures { Gives result (limited_at (texts_before ends) fields.now count bytes.now at) }
-{
-    if count > MOST_ENTRIES {
-        return Err(LineError::Fault(LineFault::Header));
-    }
-    counted_at(alloc, bytes, at, fields, count, ends)
-}
-
 #[tactic(auto, unfolding(crate::specs::Entries::table_at))]
 fn table_at(
     alloc: Global,
@@ -168,7 +148,7 @@ fn table_at(
 {
     let (fields, next) = format_at(alloc, bytes, at)?;
     let (count, next) = unsigned_at(bytes, next)?;
-    limited_at(alloc, bytes, next, &fields, count, ends)
+    counted_at(alloc, bytes, next, &fields, count, ends)
 }
 
 /// The files of a header of version 5.

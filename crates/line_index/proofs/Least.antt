@@ -95,7 +95,7 @@ less_along a b c h k = grind (arith, nat_tests)
 less_between : (a b c : ℕ) → nat_lt a c ≡ true → nat_lt b c ≡ false → nat_lt a b ≡ true
 less_between a b c h k = grind (arith, nat_tests)
 
-less_order : IsOrder nat_lt
+pub less_order : IsOrder nat_lt
 less_order = record { itself = less_itself; along = less_along; between = less_between }
 
 is-least : (start : ℕ) (ns : List ℕ) → IsLeast start ns (least_from start ns)

@@ -1,6 +1,5 @@
 pub mod Lines
 pub mod Order
-pub mod Statements
-pub mod Keys
-pub mod RowTables
+pub mod Marks
+pub mod Ranges
 pub mod Inside

@@ -1,12 +1,13 @@
 //! Where a breakpoint on a function's body stands.
 
-ghost use Rattle.std.specs.Prelude.{◌≡◌, ◌+◌};
+ghost use Rattle.std.specs.Prelude.{◌≡◌, flat_map};
 ghost use Rattle.elf_symbols.specs.Views.{symbol_shown};
-ghost use Rattle.std.specs.List.Sorted.{IsNonDecreasing};
-ghost use Rattle.line_index.specs.Lines.{below, body_among, function_end, least_from};
+ghost use Rattle.line_index.specs.Lines.{below, body_in, function_end, kept};
 
-use crate::addresses::least_from;
+use crate::marks::{Mark, least_marked};
 use elf_symbols::Named;
+use elf32_read::TextSpans;
+use line_rows::Rows;
 
 /// Where a function ends; one without a size at the next function or at the end of its text section.
 pub fn function_end(function: &Named<'_>, text_end: u64, next: Option<u32>) -> u64
@@ -30,15 +31,14 @@ fn below(end: u64, address: Option<u32>) -> Option<u32>
     }
 }
 
-/// Where a breakpoint on the body of a range stands, by the addresses in order at which prologues end and
-/// statements begin.
-pub fn body_among(prologues: &[u32], statements: &[u32], start: u32, end: u64) -> u32
-    requires prologues { IsNonDecreasing prologues.now }
-    requires statements { IsNonDecreasing statements.now }
-    ensures { result ≡ body_among prologues.now statements.now start end }
+/// Where a breakpoint on the body of a range stands.
+pub fn body_in(rows: &Rows, text: &TextSpans, start: u32, end: u64) -> u32
+    ensures { result ≡ body_in (flat_map (λ s. s.rows) (kept text.now rows.now.sequences)) start end }
 {
-    match below(end, least_from(prologues, u64::from(start))) {
-        Some(address) => address,
-        None => below(end, least_from(statements, u64::from(start) + 1)).unwrap_or(start),
+    let prologue_end = least_marked(rows, text, Mark::PrologueEnd, u64::from(start));
+    if let Some(address) = below(end, prologue_end) {
+        return address;
     }
+    let statement = least_marked(rows, text, Mark::Statement, u64::from(start) + 1);
+    below(end, statement).unwrap_or(start)
 }

@@ -1,15 +1,15 @@
 //! The address of a line of a file.
 
-ghost use Rattle.std.specs.Prelude.{◌≡◌, ◌≤◌, All, length};
-ghost use Rattle.std.specs.List.Sorted.{IsNonDecreasingBy};
-ghost use Rattle.line_index.specs.Keys.{AreKeysOf};
-ghost use Rattle.line_index.specs.Lines.{is_sooner};
-ghost use Rattle.line_index.specs.Statements.{IsFirst, IsNarrow, is_wanted, is_wanted_at, rank, sooner_of};
+ghost use Rattle.std.specs.Prelude.{◌≡◌, [], ◌∷◌, filter, flat_map, fold, true, if◌then◌else◌};
+ghost use Rattle.line_rows.specs.RowList.{sequence_shown};
+ghost use Rattle.std.specs.Option.{option_map_or};
+ghost use Rattle.elf_symbols.specs.Names.{better, foremost};
+ghost use Rattle.line_index.specs.Lines.{is_candidate, is_sooner, kept};
 
-use crate::keys::{FileKey, key, with_key};
 use crate::names::{is_called, name_of};
-use crate::statements::first_from;
-use line_rows::{Row, Rows};
+use crate::ranges::begins_in;
+use elf32_read::TextSpans;
+use line_rows::{Row, Rows, SequenceView};
 
 fn is_sooner(row: &Row, other: &Row) -> bool
     ensures { result ≡ is_sooner row.now other.now }
@@ -17,49 +17,68 @@ fn is_sooner(row: &Row, other: &Row) -> bool
     row.line < other.line || (row.line == other.line && row.address < other.address)
 }
 
-fn sooner_of(a: Option<Row>, b: Option<Row>) -> Option<Row>
-    ensures { result ≡ sooner_of a b }
+fn comes_before(row: &Row, found: Option<Row>) -> bool
+    ensures { result ≡ option_map_or (is_sooner row.now) found true }
 {
-    match (a, b) {
-        (Some(row), Some(other)) if !is_sooner(&other, &row) => a,
-        (_, Some(_)) => b,
-        (_, None) => a,
+    match found {
+        Some(best) => is_sooner(row, &best),
+        None => true,
     }
 }
 
-/// The first statement of the file of a number that isn't below a line, where the file is called by this name.
-fn first_in(rows: &Rows, statements: &[Row], file: &[u8], line: u32, number: usize) -> Option<Row>
-    requires number { number ≤ length rows.now.names }
-    requires rise { IsNonDecreasingBy (rank (length rows.now.names)) statements.now }
-    requires narrow { All IsNarrow statements.now }
-    ensures { IsFirst (is_wanted_at rows.now.names file.now line number) statements.now result }
+fn is_candidate(all: &Rows, file: &[u8], line: u32, row: &Row) -> bool
+    ensures { result ≡ is_candidate all.now.names file.now line row.now }
 {
-    if is_called(file, name_of(rows, number)) {
-        first_from(statements, rows.name_count(), number, line)
+    row.is_stmt && line <= row.line && is_called(file, name_of(all, row.file as usize))
+}
+
+// A row takes the place of the one that was found. Names are looked at last, since they take the most time.
+fn found_with(found: Option<Row>, all: &Rows, file: &[u8], line: u32, row: &Row) -> Option<Row>
+    ensures { result ≡ (if is_candidate all.now.names file.now line row.now then better is_sooner found row.now else found) }
+{
+    if comes_before(row, found) && is_candidate(all, file, line, row) {
+        Some(*row)
     } else {
-        None
+        found
     }
 }
 
-/// The statement of a file's least line that isn't below another, at its least address: a binary search for the files
-/// of that name, and one for each of them.
-pub fn soonest(
-    rows: &Rows,
-    keys: &[FileKey],
-    statements: &[Row],
+fn soonest_in(found: Option<Row>, all: &Rows, file: &[u8], line: u32, rows: &[Row]) -> Option<Row>
+    ensures { result ≡ fold (better is_sooner) found (filter (is_candidate all.now.names file.now line) rows.now) }
+{
+    let mut found = found;
+    for row in rows {
+        found = found_with(found, all, file, line, row);
+    }
+    found
+}
+
+// The rows of a sequence, if it counts.
+fn soonest_kept(
+    found: Option<Row>,
+    all: &Rows,
+    text: &TextSpans,
+    sequence: &SequenceView<'_>,
     file: &[u8],
     line: u32,
 ) -> Option<Row>
-    requires keys { AreKeysOf rows.now.names keys.now }
-    requires rise { IsNonDecreasingBy (rank (length rows.now.names)) statements.now }
-    requires narrow { All IsNarrow statements.now }
-    ensures { IsFirst (is_wanted rows.now.names file.now line) statements.now result }
+    ensures { result ≡ fold (better is_sooner) found (filter (is_candidate all.now.names file.now line) (flat_map (λ s. s.rows) (kept text.now (sequence_shown sequence.now ∷ [])))) }
 {
-    // Rows whose file has no name have one number.
-    let mut found = first_in(rows, statements, file, line, rows.name_count());
-    let told = with_key(keys, key(file));
-    for entry in told {
-        found = sooner_of(found, first_in(rows, statements, file, line, entry.file));
+    if begins_in(text, sequence) {
+        soonest_in(found, all, file, line, sequence.rows)
+    } else {
+        found
+    }
+}
+
+/// The statement of a file's least line that isn't below another, at its least address.
+pub fn soonest(rows: &Rows, text: &TextSpans, file: &[u8], line: u32) -> Option<Row>
+    ensures { result ≡ foremost is_sooner (filter (is_candidate rows.now.names file.now line) (flat_map (λ s. s.rows) (kept text.now rows.now.sequences))) }
+{
+    let mut found = None;
+    for k in 0..rows.sequence_count() {
+        let sequence = rows.sequence(k);
+        found = soonest_kept(found, rows, text, &sequence, file, line);
     }
     found
 }

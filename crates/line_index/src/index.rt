@@ -1,13 +1,14 @@
 ghost use Rattle.std.specs.Prelude.{◌≡◌, IfOk};
 ghost use Rattle.elf_symbols.specs.Views.{symbol_shown};
-ghost use Rattle.line_index.specs.Lines.{Lines, address_of, begins, body_of, file_name, kept, lines_of, row_among, row_at, rows_of, starts};
+ghost use Rattle.line_index.specs.Lines.{Lines, address_of, body_of, file_name, lines_of, row_at, starts};
 
 use crate::addresses::least_from;
-use crate::body::{body_among, function_end};
-use crate::building::{Tables, tables_of};
+use crate::body::{body_in, function_end};
 use crate::files::soonest;
-use crate::keys::FileKey;
+use crate::functions::function_starts;
 use crate::names::name_of;
+use crate::ranges::sequence_table;
+use crate::rows::row_in;
 use address_tables::{Entry, value_at};
 use dbg_traits::NoMemory;
 use elf_symbols::{Named, Symbols};
@@ -25,16 +26,8 @@ pub struct LineIndex {
     /// The same in the order of the addresses.
     starts: Vec<u32>,
     text: TextSpans,
-    /// The statements of the sequences whose first row is in text, in the order of files, lines and addresses.
-    lines: Vec<Row>,
-    /// The files by keys of their names, in order.
-    keys: Vec<FileKey>,
-    /// Where prologues end, in order.
-    prologues: Vec<u32>,
-    /// Where statements begin, in order.
-    statements: Vec<u32>,
-    /// The row of each address.
-    entries: Vec<Entry<Row>>,
+    /// The number of the sequence of each address.
+    sequences: Vec<Entry<u32>>,
 }
 
 impl Model for LineIndex {
@@ -50,8 +43,8 @@ impl Model for LineIndex {
 }
 
 impl LineIndex {
-    /// The look-ups of the rows of a program. They take n log n time and, beside the rows themselves, some 64 bytes a row,
-    /// 128 a sequence and 48 a file name at most.
+    /// The look-ups of the rows of a program. They take n log n time for n sequences and, beside the rows themselves, 88
+    /// bytes a sequence at most, of which 32 stay.
     ///
     /// # Errors
     /// No memory for the tables.
@@ -63,35 +56,30 @@ impl LineIndex {
     ) -> Result<LineIndex, NoMemory>
         ensures { IfOk result (λ index. index ≡ lines_of rows symbols.now image.now) }
     {
-        let tables = tables_of(alloc, &rows, symbols, image)?;
-        let Tables {
-            text,
-            rows: of_rows,
-            functions,
-            statements,
-        } = tables;
+        let text = image.text_spans(alloc)?;
+        let sequences = sequence_table(alloc, &rows, &text)?;
+        let functions = function_starts(alloc, symbols)?;
         Ok(LineIndex {
             rows,
             functions: functions.functions,
             starts: functions.starts,
             text,
-            lines: statements.lines,
-            keys: of_rows.keys,
-            prologues: statements.prologues,
-            statements: statements.statements,
-            entries: of_rows.entries,
+            sequences,
         })
     }
 
-    /// The row that the instruction at an address belongs to, by a binary search. None where no sequence whose first row
-    /// is in text covers the address.
+    /// The row that the instruction at an address belongs to, by a binary search for the sequence and one among its rows.
+    /// None where no sequence whose first row is in text covers the address.
     pub fn row_at(&self, pc: u32) -> Option<Row>
         ensures { result ≡ row_at self.now pc }
     {
-        value_at(&self.entries, u64::from(pc))
+        match value_at(&self.sequences, u64::from(pc)) {
+            Some(number) => row_in(self.rows.sequence(number as usize).rows, pc),
+            None => None,
+        }
     }
 
-    /// The row of a statement that begins at an address, by a binary search. None where the address has no row, or one
+    /// The row of a statement that begins at an address, by binary searches. None where the address has no row, or one
     /// that begins before it or is no statement.
     pub fn starts(&self, pc: u32) -> Option<Row>
         ensures { result ≡ starts self.now pc }
@@ -103,27 +91,27 @@ impl LineIndex {
     }
 
     /// Where the least line of a file that isn't below another has its least address. The file is told by its name or
-    /// by the part of its name after the last `/`. None where the file has no statement at the line or above it. It takes a
-    /// binary search among the names, and one for each file that is told; of names that end alike in 64 bytes it looks at
-    /// each.
+    /// by the part of its name after the last `/`. None where the file has no statement at the line or above it. It goes
+    /// over the rows.
     pub fn address_of(&self, file: &[u8], line: u32) -> Option<u32>
         ensures { result ≡ address_of self.now file.now line }
     {
-        soonest(&self.rows, &self.keys, &self.lines, file, line).map(|row| row.address)
+        soonest(&self.rows, &self.text, file, line).map(|row| row.address)
     }
 
-    /// Where a breakpoint on a function stands: behind its prologue, or at its start where no row tells that. It takes
-    /// binary searches.
+    /// Where a breakpoint on a function stands: behind its prologue, or at its start where no row tells that. It goes over
+    /// the rows.
     pub fn body_of(&self, function: &Named<'_>) -> u32
         ensures { result ≡ body_of self.now (symbol_shown function.now) }
     {
-        match self.text.end_at(function.address) {
+        let start = function.address;
+        match self.text.end_at(start) {
             Some(text_end) => {
-                let next = least_from(&self.starts, u64::from(function.address) + 1);
+                let next = least_from(&self.starts, u64::from(start) + 1);
                 let end = function_end(function, text_end, next);
-                body_among(&self.prologues, &self.statements, function.address, end)
+                body_in(&self.rows, &self.text, start, end)
             }
-            None => function.address,
+            None => start,
         }
     }
 

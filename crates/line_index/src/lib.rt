@@ -3,14 +3,12 @@
 
 mod addresses;
 mod body;
-mod building;
 mod files;
+mod functions;
 mod index;
-mod joins;
-mod keys;
+mod marks;
 mod names;
-mod sequence;
-mod statements;
-mod table;
+mod ranges;
+mod rows;
 
 pub use index::LineIndex;

@@ -2,10 +2,10 @@
 use Rattle.std.specs.Prelude.{◌≡◌, ℕ, ◌+◌, ◌-◌, ◌*◌, ◌/◌, ◌%◌, ◌^◌, Bool, true, false, not, ◌&&◌, nat_le, nat_lt, pos, ◌+ℤ◌, List, [], ◌∷◌, ◌++◌, length, Result, Ok, Err, Option, Some, None, if◌then◌else◌}
 use Rattle.leb_read.specs.Leb.{text_at}
 use Rattle.line_rows.specs.Reading.{in_unit}
-use Rattle.line_rows.specs.RowList.{Building, RowList, ended_with, finished, nothing_built, room_used}
+use Rattle.line_rows.specs.RowList.{Building, RowList, ended_with, finished, last_address, nothing_built}
 use Rattle.line_rows.specs.declared.row.Row.{Row}
 use Rattle.line_rows.specs.declared.fault.LineFault.{LineFault}
-use Rattle.line_rows.specs.declared.fault.LineFault.TheVariants.{File, Falls, Rows}
+use Rattle.line_rows.specs.declared.fault.LineFault.TheVariants.{File, Falls}
 use Rattle.line_programs.specs.declared.operation.Operation.{Operation}
 use Rattle.line_programs.specs.declared.operation.Operation.TheVariants.{Special, Copy, AdvancePc, AdvanceLine, SetFile, NegateStmt, ConstAddPc, FixedAdvancePc, SetPrologueEnd, EndSequence, SetAddress, DefineFile, Ignored}
 use Rattle.line_programs.specs.declared.parameters.Parameters.{Parameters}
@@ -16,7 +16,7 @@ use Rattle.line_programs.specs.Operations.{◌>>=◌, Operations, operations_of,
 
 -- how a sequence begins
 abbrev pub initial : Parameters → Registers
-initial p = record { address = 0; file = 1; line = 1; is_stmt = p.default_is_stmt; prologue_end = false; previous_address = 0 }
+initial p = record { address = 0; file = 1; line = 1; is_stmt = p.default_is_stmt; prologue_end = false }
 
 -- so many instructions of the least length behind an address
 abbrev pub advanced : Parameters → ℕ → ℕ → ℕ
@@ -54,25 +54,21 @@ is_file p defined file = nat_lt file (2 ^ 32) && (nat_le p.first_file file && na
 abbrev pub shown : Registers → Row
 shown r = record { address = r.address; file = r.file; line = r.line; is_stmt = r.is_stmt; prologue_end = r.prologue_end }
 
--- the row of the registers, if others leave so much room
-abbrev pub row_within : Parameters → Building → ℕ → Registers → Result Row LineFault
-row_within p rows size r = if nat_le (room_used rows + size) p.room then Ok (shown r) else Err Rows
-
--- the same, unless its file isn't in the table or its address is below that of the row before
-abbrev pub row_of : Parameters → Building → ℕ → Registers → Result Row LineFault
-row_of p rows size r =
-    if is_file p (length rows.names) r.file then (if nat_lt r.address r.previous_address then Err Falls else row_within p rows size r) else Err File
+-- the row of the registers, unless its file isn't in the table or its address is below that of the row before
+abbrev pub row_of : Parameters → Building → Registers → Result Row LineFault
+row_of p rows r =
+    if is_file p (length rows.names) r.file then (if nat_lt r.address (last_address rows.pending) then Err Falls else Ok (shown r)) else Err File
 
 -- the row is appended to the sequence
 abbrev pub appended : Parameters → Registers → Building → Result State LineFault
-appended p r rows = row_of p rows 1 r >>= (λ row. Ok (record {
-  registers = record r { prologue_end = false; previous_address = r.address };
+appended p r rows = row_of p rows r >>= (λ row. Ok (record {
+  registers = record r { prologue_end = false };
   rows = record rows { pending = rows.pending ++ row ∷ [] };
 }))
 
--- the row ends the sequence, and takes room where the sequence has others
+-- the row ends the sequence
 abbrev pub ended : Parameters → Registers → Building → Result State LineFault
-ended p r rows = row_of p rows 2 r >>= (λ row. Ok (record {
+ended p r rows = row_of p rows r >>= (λ row. Ok (record {
   registers = initial p;
   rows = record rows { sequences = ended_with rows.sequences rows.pending row.address; pending = [] };
 }))

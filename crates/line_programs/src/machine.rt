@@ -1,6 +1,7 @@
 //! The state machine: what an operation does to the registers, and the row that they show.
 
-ghost use Rattle.std.specs.Prelude.{◌≡◌, ◌-◌, ◌/◌, ◌<◌, true, false, MatchOption};
+ghost use Rattle.std.specs.Prelude.{◌≡◌, ◌-◌, ◌/◌, ◌<◌, ◌≤◌, true, false, IfOk, MatchOption};
+ghost use Rattle.line_rows.specs.RowList.{last_address};
 ghost use Rattle.line_programs.specs.Machine.{advanced, initial, is_file, moved, row_of, special_line};
 
 use crate::operation::Operation;
@@ -18,7 +19,6 @@ pub fn initial(parameters: &Parameters) -> Registers
         line: 1,
         is_stmt: parameters.default_is_stmt,
         prologue_end: false,
-        previous_address: 0,
     }
 }
 
@@ -119,24 +119,20 @@ fn file_number(parameters: &Parameters, defined: usize, file: u64) -> Option<u32
     }
 }
 
-/// The row that the registers show, if other rows leave so much room.
+/// The row that the registers show.
 pub fn row_of(
     parameters: &Parameters,
     rows: &RowsBuilder,
-    size: u128,
     registers: Registers,
 ) -> Result<Row, LineFault>
-    requires { 0 < size }
-    ensures { result ≡ row_of parameters.now rows.now size registers }
+    ensures value { result ≡ row_of parameters.now rows.now registers }
+    ensures rise { IfOk result (λ row. last_address rows.now.pending ≤ row.address) }
 {
     let Some(file) = file_number(parameters, rows.name_count(), registers.file) else {
         return Err(LineFault::File);
     };
-    if registers.address < registers.previous_address {
+    if registers.address < rows.last_address() {
         return Err(LineFault::Falls);
-    }
-    if parameters.room.saturating_sub(rows.room_used()) < size {
-        return Err(LineFault::Rows);
     }
     Ok(Row {
         address: registers.address,

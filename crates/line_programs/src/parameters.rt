@@ -1,5 +1,5 @@
-/// What a unit's header says of its program (DWARF 5, section 6.2.4), and the room for its rows. The lengths of the
-/// standard opcodes stand apart.
+/// What a unit's header says of its program (DWARF 5, section 6.2.4). The lengths of the standard opcodes
+/// stand apart.
 #[derive(Clone, Copy)]
 pub struct Parameters {
     /// The bytes of the shortest instruction, by which operands of address advances are multiplied.
@@ -16,6 +16,4 @@ pub struct Parameters {
     pub first_file: u32,
     /// How many files the header's table has.
     pub file_count: usize,
-    /// A row takes one of it, and the row that ends a sequence two.
-    pub room: u128,
 }

@@ -12,11 +12,6 @@ use crate::registers::Registers;
 use line_rows::{LineError, Rows, RowsBuilder};
 use std::alloc::Global;
 
-/// The room that a row takes, and that which the row at the end of a sequence takes.
-const ROW_SIZE: u128 = 1;
-
-const END_SIZE: u128 = 2;
-
 /// Appends the row that the registers show.
 fn append(
     parameters: &Parameters,
@@ -25,11 +20,10 @@ fn append(
 ) -> Result<Registers, LineError>
     ensures { Steps result (appended parameters.now registers rows.old) rows.new }
 {
-    let row = row_of(parameters, rows, ROW_SIZE, registers)?;
+    let row = row_of(parameters, rows, registers)?;
     rows.push_row(row)?;
     Ok(Registers {
         prologue_end: false,
-        previous_address: registers.address,
         ..registers
     })
 }
@@ -42,8 +36,8 @@ fn end(
 ) -> Result<Registers, LineError>
     ensures { Steps result (ended parameters.now registers rows.old) rows.new }
 {
-    let row = row_of(parameters, rows, END_SIZE, registers)?;
-    rows.end_sequence(row.address)?;
+    let last = row_of(parameters, rows, registers)?;
+    rows.end_sequence(last.address)?;
     Ok(initial(parameters))
 }
 
@@ -85,8 +79,7 @@ fn step(
 /// unit's own table. A sequence that isn't ended gives no rows, nor does one without rows.
 ///
 /// # Errors
-/// The first fault that is met when the operations are read and done in order, or no memory for the rows. A row for which
-/// there is no room is such a fault, also in a sequence that isn't ended, and a row that would end a sequence without rows.
+/// The first fault that is met when the operations are read and done in order, or no memory for the rows.
 pub fn program_rows(
     alloc: Global,
     parameters: &Parameters,

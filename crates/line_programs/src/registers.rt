@@ -12,8 +12,6 @@ pub struct Registers {
     pub line: u32,
     pub is_stmt: bool,
     pub prologue_end: bool,
-    /// The address of the row before in the sequence, or 0 where there is none.
-    pub previous_address: u32,
 }
 
 /// A number modulo 2^32.

@@ -1,3 +1,4 @@
 pub mod Flat
 pub mod Chains
 pub mod Renumbered
+pub mod Orders

@@ -1,6 +1,6 @@
 -- How sequences are kept: their rows one after another in one list.
-use Rattle.std.specs.Prelude.{◌≡◌, ℕ, ◌+◌, ◌*◌, ◌<◌, ◌≤◌, List, [], ◌∷◌, map, length, drop, slice_range, All}
-use Rattle.line_rows.specs.RowList.{Sequence, SequenceList, room_taken}
+use Rattle.std.specs.Prelude.{◌≡◌, ℕ, ◌<◌, ◌≤◌, List, [], ◌∷◌, map, length, drop, slice_range, All}
+use Rattle.line_rows.specs.RowList.{AreInOrder, Sequence, SequenceList}
 use Rattle.line_rows.specs.declared.row.Row.{Row}
 use Rattle.line_rows.specs.declared.sequences.RowRange.{RowRange}
 use Rattle.line_rows.specs.declared.sequences.Sequences.TheInside.{Inside}
@@ -28,5 +28,5 @@ pub record IsKept (i : Inside) : Type 0 where
   pub ranges : All (IsRowRange i.pending) i.ranges.items
   pub chained : Chained 0 i.ranges.items i.pending
   pub pending : i.pending ≤ length i.rows.items
-  -- no row stands outside of a sequence, and no sequence is without rows
-  pub whole : room_taken (sequences_in i.rows.items i.ranges.items) ≡ i.pending + 2 * length i.ranges.items
+  pub rise : All (λ s. AreInOrder s.rows) (sequences_in i.rows.items i.ranges.items)
+  pub pending_rise : AreInOrder (drop i.pending i.rows.items)

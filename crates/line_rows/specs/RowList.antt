@@ -1,6 +1,8 @@
 -- Line tables as lists (DWARF 5, section 6.2).
-use Rattle.std.specs.Prelude.{ℕ, ◌+◌, ◌++◌, List, [], ◌∷◌, length, map, sum_by}
+use Rattle.std.specs.Prelude.{ℕ, ◌-◌, ◌++◌, List, [], ◌∷◌, length, map, slice_get}
 use Rattle.std.specs.List.{slice_index_or}
+use Rattle.std.specs.List.Sorted.{IsNonDecreasingBy}
+use Rattle.std.specs.Option.{option_map_or}
 use Rattle.line_rows.specs.declared.row.Row.{Row}
 use Rattle.line_rows.specs.declared.row.SequenceView.{SequenceView}
 use Rattle.line_rows.specs.declared.fault.UnitFault.{UnitFault}
@@ -30,22 +32,6 @@ pub record Building : Type 0 where
   pub names : List (List ℕ)
   pub faults : List UnitFault
 
--- a sequence takes room for its rows and, by the row that ends it, for two more; one without rows is none
-abbrev pub room_of : List Row → ℕ
-room_of [] = 0
-room_of (row ∷ rows) = length rows + 3
-
-abbrev pub room_taken : List Sequence → ℕ
-room_taken sequences = sum_by (λ s. room_of s.rows) sequences
-
--- the room of what was appended so far, with the rows of a sequence that isn't ended
-abbrev pub room_used : Building → ℕ
-room_used b = room_taken b.sequences + length b.pending
-
--- a table has room for as many rows as instructions can be mapped
-abbrev pub table_room : ℕ
-table_room = 4194304
-
 -- a sequence that isn't ended counts for nothing
 abbrev pub finished : Building → RowList
 finished b = record { sequences = b.sequences; names = b.names; faults = b.faults }
@@ -66,6 +52,14 @@ nothing_built = record { sequences = []; pending = []; names = []; faults = [] }
 
 abbrev pub sequence_shown : SequenceView → Sequence
 sequence_shown v = record { rows = v.rows.now; end = v.end }
+
+-- the addresses of rows don't fall
+abbrev pub AreInOrder : List Row → Type 0
+AreInOrder rows = IsNonDecreasingBy (λ r. r.address) rows
+
+-- the address of the last row, or 0 where there is none
+abbrev pub last_address : List Row → ℕ
+last_address rows = option_map_or (λ r. r.address) (slice_get rows (length rows - 1)) 0
 
 -- a sequence ends; one without rows is none
 abbrev pub ended_with : List Sequence → List Row → ℕ → List Sequence

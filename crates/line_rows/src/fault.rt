@@ -29,9 +29,6 @@ pub enum LineFault {
     /// A form that can't stand in a table of files.
     #[error("unknown form")]
     Form,
-    /// A row more than the table may have.
-    #[error("too many rows")]
-    Rows,
 }
 
 /// Why a unit wasn't read.

@@ -1,7 +1,7 @@
 //! The rows of a section, and how they are put together.
 
-ghost use Rattle.std.specs.Prelude.{◌≡◌, ◌+◌, ◌<◌, [], ◌∷◌, ◌++◌, Some, length, OnOk, OnErr, map, slice_get};
-ghost use Rattle.line_rows.specs.RowList.{ended_with, finished, no_rows, nothing_built, renumbered, renumbered_sequence, room_used, sequence_shown};
+ghost use Rattle.std.specs.Prelude.{◌≡◌, ◌<◌, ◌≤◌, [], ◌∷◌, ◌++◌, Some, length, OnOk, OnErr, map, slice_get};
+ghost use Rattle.line_rows.specs.RowList.{AreInOrder, ended_with, finished, last_address, no_rows, nothing_built, renumbered, renumbered_sequence, sequence_shown};
 
 use crate::fault::UnitFault;
 use crate::names::FileNames;
@@ -50,7 +50,8 @@ impl Rows {
     /// A sequence by its number, in the section's order.
     pub fn sequence(&self, k: usize) -> SequenceView<'_>
         requires { k < length self.now.sequences }
-        ensures { slice_get self.now.sequences k ≡ Some (sequence_shown result) }
+        ensures value { slice_get self.now.sequences k ≡ Some (sequence_shown result) }
+        ensures rise { AreInOrder result.rows.now }
     {
         self.sequences.sequence(k)
     }
@@ -107,8 +108,16 @@ impl RowsBuilder {
         }
     }
 
-    /// A row more in the sequence that isn't ended yet. Without memory all stays as it was.
+    /// The address of the last row in the sequence that isn't ended yet, or 0 where it has none.
+    pub fn last_address(&self) -> u32
+        ensures { result ≡ last_address self.now.pending }
+    {
+        self.sequences.last_address()
+    }
+
+    /// A row more in the sequence that isn't ended yet, in which addresses don't fall. Without memory all stays as it was.
     pub fn push_row(&mut self, row: Row) -> Result<(), NoMemory>
+        requires { last_address self.old.pending ≤ row.address }
         ensures ok { OnOk result (self.new ≡ record self.old { pending = self.old.pending ++ row ∷ [] }) }
         ensures err { OnErr result (self.new ≡ self.old) }
     {
@@ -154,13 +163,6 @@ impl RowsBuilder {
         ensures { self.new ≡ record self.old { sequences = map (renumbered_sequence numbers.now) self.old.sequences; pending = map (renumbered numbers.now) self.old.pending } }
     {
         self.sequences.renumber(numbers);
-    }
-
-    /// How much room the rows take, with two for the end of each sequence.
-    pub fn room_used(&self) -> u128
-        ensures { result ≡ room_used self.now }
-    {
-        self.sequences.room_used()
     }
 
     /// How many file names there are.

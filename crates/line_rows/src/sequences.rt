@@ -1,6 +1,6 @@
-ghost use Rattle.std.specs.Prelude.{◌≡◌, ◌+◌, ◌<◌, [], ◌∷◌, ◌++◌, Some, length, map, OnOk, OnErr, slice_get};
+ghost use Rattle.std.specs.Prelude.{◌≡◌, ◌<◌, ◌≤◌, [], ◌∷◌, ◌++◌, Some, length, map, OnOk, OnErr, slice_get};
 ghost use Rattle.std.specs.List.{slice_index_or};
-ghost use Rattle.line_rows.specs.RowList.{ended_with, renumbered, renumbered_sequence, room_taken, sequence_shown};
+ghost use Rattle.line_rows.specs.RowList.{AreInOrder, ended_with, last_address, renumbered, renumbered_sequence, sequence_shown};
 
 use crate::row::{Row, SequenceView};
 use dbg_traits::NoMemory;
@@ -65,8 +65,9 @@ impl Sequences {
         }
     }
 
-    /// A row more in the sequence that isn't ended. Without memory all stays as it was.
+    /// A row more in the sequence that isn't ended, in which addresses don't fall. Without memory all stays as it was.
     pub fn push(&mut self, row: Row) -> Result<(), NoMemory>
+        requires { last_address self.old.pending ≤ row.address }
         ensures ok { OnOk result (self.new ≡ record self.old { pending = self.old.pending ++ row ∷ [] }) }
         ensures err { OnErr result (self.new ≡ self.old) }
     {
@@ -88,18 +89,21 @@ impl Sequences {
         Ok(())
     }
 
+    /// The address of the last row in the sequence that isn't ended, or 0 where it has none.
+    pub fn last_address(&self) -> u32
+        ensures { result ≡ last_address self.now.pending }
+    {
+        match self.rows[self.pending..].last() {
+            Some(row) => row.address,
+            None => 0,
+        }
+    }
+
     /// Each row gets for its file the number that stands in a list where the file says, or 0 behind the list.
     pub fn renumber(&mut self, numbers: &[u32])
         ensures { self.new ≡ record { ended = map (renumbered_sequence numbers.now) self.old.ended; pending = map (renumbered numbers.now) self.old.pending } }
     {
         renumber(&mut self.rows, numbers);
-    }
-
-    /// How much room the rows take, with two for the end of each sequence.
-    pub fn room_used(&self) -> u128
-        ensures { result ≡ room_taken self.now.ended + length self.now.pending }
-    {
-        self.rows.len() as u128 + 2 * self.ranges.len() as u128
     }
 
     /// How many sequences are ended.
@@ -112,7 +116,8 @@ impl Sequences {
     /// An ended sequence by its number, which must be below the count.
     pub fn sequence(&self, k: usize) -> SequenceView<'_>
         requires { k < length self.now.ended }
-        ensures { slice_get self.now.ended k ≡ Some (sequence_shown result) }
+        ensures value { slice_get self.now.ended k ≡ Some (sequence_shown result) }
+        ensures rise { AreInOrder result.rows.now }
     {
         let range = self.ranges[k];
         SequenceView {

@@ -3,7 +3,13 @@ use Rattle.line_rows.specs.RowList.{Building, sequence_shown}
 use Rattle.line_rows.specs.declared.row.Row.{Row}
 use Rattle.dwarf_lines.specs.Adding.{add_row}
 use Rattle.dwarf_lines.proofs.Placed.{fold_all, fold_more, on_ok, sequence_ended}
+use Rattle.dwarf_lines.proofs.Closed.{pushed_in_order}
 use Rattle.dwarf_lines.proofs.adding.add_sequence.Goals as goal
+
+pub push_row-requires : goal.push_row-requires
+push_row-requires c =
+    let d : Row = record { address = 0; file = 0; line = 0; is_stmt = false; prologue_end = false } in
+    pushed_in_order c.args.files c.args.rows.now c.loop-row.rows c.args.sequence.now.rows.now c.loop-row.row-index d c.placed.result c.requires.closed c.requires.rise (omega arith) c.loop-row.invariant c.placed.ensures
 
 pub loop-row-preserved : goal.loop-row-preserved
 loop-row-preserved c =

@@ -10,5 +10,5 @@ use Rattle.dwarf_lines.proofs.unit.program_in.Goals as goal
 pub returns : goal.returns
 returns c =
     subst (λ (want : Result RowList LineFault). GivesRows c.program_rows.result want)
-    (program_same c.args.header c.args.file_count c.args.room c.args.bytes.now _ _ (let fits : SFits w8 c.args.header.lines.line_base = search rules in to_z-of_z w8 _ fits) c.saturating_sub.ensures)
+    (program_same c.args.header c.args.file_count c.args.bytes.now _ _ (let fits : SFits w8 c.args.header.lines.line_base = search rules in to_z-of_z w8 _ fits) c.saturating_sub.ensures)
     c.program_rows.ensures

@@ -1,4 +1,4 @@
-use Rattle.std.proofs.Common.{◌≡◌, ◌+◌, ◌≤◌, ◌∙◌, ℕ, List, [], Option, None, length, map, ap, sym, subst, get_or, refl, arith}
+use Rattle.std.proofs.Common.{◌≡◌, ◌≤◌, ◌∙◌, ℕ, List, [], Option, None, length, map, ap, sym, subst, get_or, refl, arith}
 use Rattle.std.specs.Prelude.{All, ◌++◌}
 use Rattle.std.proofs.lemmas.List.{length-map, length-replicate}
 use Rattle.file_names.specs.Texts.{text_from}

@@ -1,6 +1,5 @@
-use Rattle.std.proofs.Common.{◌≡◌, ◌+◌, ◌≤◌, ◌<◌, ◌∙◌, ℕ, List, length, get_or, ap, sym, subst, refl, arith}
+use Rattle.std.proofs.Common.{◌≤◌, ◌<◌, ℕ, List, length, get_or, ap, sym, subst, refl, arith}
 use Rattle.line_rows.specs.RowList.{NameList}
-use Rattle.file_names.specs.Homes.{size_at}
 use Rattle.file_names.proofs.Numbered.{AreNumbered, none_numbered, number_more, numbers_all, once_all}
 use Rattle.file_names.proofs.Texts.{size_most}
 use Rattle.file_names.proofs.numbers.number_places.Goals as goal

@@ -1,4 +1,4 @@
-use Rattle.std.proofs.Common.{◌≡◌, ◌+◌, ◌≤◌, ◌<◌, ℕ, length, get_or}
+use Rattle.std.proofs.Common.{◌≡◌, ◌+◌, ◌≤◌, ℕ, length, get_or}
 use Rattle.file_names.specs.Homes.{size_at}
 use Rattle.file_names.proofs.places.text_ends.Given as goal
 

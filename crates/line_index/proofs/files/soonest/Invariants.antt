@@ -1,7 +1,8 @@
-use Rattle.std.proofs.Common.{take}
-use Rattle.line_index.specs.Keys.{is_wanted_of}
-use Rattle.line_index.specs.Statements.{IsFirst}
+use Rattle.std.proofs.Common.{◌≡◌, None, filter, fold, take}
+use Rattle.elf_symbols.specs.Names.{better}
+use Rattle.line_index.specs.Lines.{is_candidate, is_sooner}
+use Rattle.line_index.proofs.Folds.{rows_in}
 use Rattle.line_index.proofs.files.soonest.Given as goal
 
-abbrev pub invariant-loop-entry : goal.invariant-loop-entry
-invariant-loop-entry l = IsFirst (is_wanted_of l.fn.rows.names l.fn.file l.fn.line (take l.entry-index l.told)) l.fn.statements l.found
+abbrev pub invariant-loop-k : goal.invariant-loop-k
+invariant-loop-k l = l.found ≡ fold (better is_sooner) None (filter (is_candidate l.rows.names l.file l.line) (rows_in l.text (take l.k l.rows.sequences)))

@@ -9,10 +9,7 @@ pub returns-in-Some : goal.returns-in-Some
 returns-in-Some c =
     let i = c.self.inside in
     let f = symbol_shown c.args.function.now in
-    c.body_among.ensures
-    ∙ body-found (seen i) f i.starts.items i.prologues.items i.statements.items c.deref.result.now c.deref-in-Some.result.now c.deref-in-Some-2.result.now
-    c.in-Some.text_end c.function_end-end.result c.least_from-next.result
-    c.self.invariant.starts c.self.invariant.prologues c.self.invariant.statements
-    c.deref.ensures.value c.deref-in-Some.ensures.value c.deref-in-Some-2.ensures.value
-    c.in-Some.ensures (c.least_from-next.ensures ∙ ap (λ (n : ℕ). least_from (n + 1) c.deref.result.now) c.from.ensures) c.function_end-end.ensures
+    c.body_in.ensures
+    ∙ body-found (seen i) f i.starts.items c.deref.result.now c.in-Some.text_end c.function_end-end.result c.least_from-next.result c.self.invariant.starts c.deref.ensures.value c.in-Some.ensures
+    (c.least_from-next.ensures ∙ ap (λ (n : ℕ). least_from (n + 1) c.deref.result.now) c.from.ensures) c.function_end-end.ensures
     ∙ ap (λ (lines : Lines). body_of lines f) c.self.view_is

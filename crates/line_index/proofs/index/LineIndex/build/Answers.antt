@@ -1,13 +1,7 @@
 use Rattle.line_index.proofs.index.LineIndex.build.Goals as goal
 
 pub invariant_of-result : goal.invariant_of-result
-invariant_of-result c =
-    let e = c.in_ok-tables.ensures in
-    record {
-      starts = e.starts;
-      lines = e.lines;
-      keys = e.keys;
-      prologues = e.prologues;
-      statements = e.statements;
-      entries = e.entries;
-    }
+invariant_of-result c = record {
+  starts = c.in_ok-functions.ensures.starts;
+  sequences = c.in_ok-sequences.ensures;
+}

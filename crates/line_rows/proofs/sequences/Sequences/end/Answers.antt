@@ -1,7 +1,8 @@
 use Rattle.std.proofs.Common.{subst, sym, List, arith}
 use Rattle.line_rows.specs.KeptSequences.{Chained}
 use Rattle.line_rows.specs.declared.sequences.RowRange.{RowRange}
-use Rattle.line_rows.proofs.Chains.{chain_push, chain_ranges, chain_whole}
+use Rattle.line_rows.proofs.Chains.{chain_push, chain_ranges}
+use Rattle.line_rows.proofs.Orders.{none_behind, rise_ended}
 use Rattle.line_rows.proofs.sequences.Sequences.end.Goals as goal
 
 pub invariant_of-self-then-start-past : goal.invariant_of-self-then-start-past
@@ -12,10 +13,10 @@ invariant_of-self-then-start-past c =
     let chained : Chained 0 c.push.new.self.items past =
     subst (λ (l : List RowRange). Chained 0 l past) (sym c.in_ok-push.ensures.items) (chain_push 0 i.ranges.items i.pending _ c.self.invariant.chained (omega arith) (omega (arith, some))) in
     let within = c.len-past.ensures in
-    let whole = chain_whole i.rows.items 0 c.push.new.self.items past chained (omega (arith, within)) in
     record {
       ranges = chain_ranges 0 c.push.new.self.items past chained;
       chained = chained;
       pending = omega (arith, within);
-      whole = omega (arith, whole);
+      rise = rise_ended i.rows.items i.ranges.items c.push.new.self.items _ c.in_ok-push.ensures.items (omega (arith, within)) c.self.invariant.rise c.self.invariant.pending_rise;
+      pending_rise = none_behind i.rows.items past (omega (arith, within));
     }

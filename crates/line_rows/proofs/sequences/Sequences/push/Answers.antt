@@ -1,21 +1,20 @@
 -- The rows of ended sequences stay.
-use Rattle.std.proofs.Common.{◌∙◌, ap, List, ◌++◌, ◌∷◌, [], arith}
-use Rattle.line_rows.specs.KeptSequences.{sequences_in}
-use Rattle.line_rows.specs.declared.row.Row.{Row}
-use Rattle.line_rows.specs.RowList.{SequenceList, room_taken}
-use Rattle.line_rows.proofs.Flat.{sequences_in-append, sequences_push}
+use Rattle.std.proofs.Common.{◌∙◌, ap, ◌++◌, ◌∷◌, [], arith}
+use Rattle.line_rows.specs.RowList.{SequenceList, last_address}
+use Rattle.line_rows.proofs.Flat.{sequences_push}
+use Rattle.line_rows.proofs.Orders.{pending_pushed, rise_pushed}
 use Rattle.line_rows.proofs.sequences.Sequences.push.Goals as goal
 
 pub invariant_of-self-2 : goal.invariant_of-self-2
 invariant_of-self-2 c =
     let i = c.self.inside in
     let kept = c.self.invariant in
-    let same = ap (λ (rows : List Row). sequences_in rows i.ranges.items) c.in_ok-push.ensures.items in
     record {
       ranges = kept.ranges;
       chained = kept.chained;
       pending = omega (arith, kept.pending, c.in_ok-push.ensures.len);
-      whole = ap room_taken (same ∙ sequences_in-append i.rows.items (c.args.row ∷ []) i.pending i.ranges.items kept.pending kept.ranges) ∙ kept.whole;
+      rise = rise_pushed i.rows.items c.push.new.self.items c.args.row i.ranges.items i.pending c.in_ok-push.ensures.items kept.pending kept.ranges kept.rise;
+      pending_rise = pending_pushed i.rows.items c.push.new.self.items c.args.row i.pending c.in_ok-push.ensures.items kept.pending kept.pending_rise (omega (arith, ap (λ (s : SequenceList). last_address s.pending) c.self.view_is, c.requires));
     }
 
 pub returns-clause-ok : goal.returns-clause-ok

@@ -1,10 +1,11 @@
-use Rattle.std.proofs.Common.{◌∙◌, ◌≡◌, ◌≤◌, ap, sym, List, map, length, drop, arith}
+use Rattle.std.proofs.Common.{◌∙◌, ◌≡◌, ap, List, map, length, drop, arith}
 use Rattle.std.specs.Vec.{with_items}
 use Rattle.std.proofs.lemmas.List.{length-map, with_items_is}
 use Rattle.line_rows.specs.declared.row.Row.{Row}
-use Rattle.line_rows.specs.RowList.{SequenceList, renumbered, renumbered_sequence, room_taken}
+use Rattle.line_rows.specs.RowList.{SequenceList, renumbered, renumbered_sequence}
 use Rattle.line_rows.specs.KeptSequences.{sequences_in}
-use Rattle.line_rows.proofs.Renumbered.{kept-renumbered, room-renumbered, sequences-renumbered}
+use Rattle.line_rows.proofs.Orders.{pending_renumbered, rise_renumbered}
+use Rattle.line_rows.proofs.Renumbered.{kept-renumbered}
 use Rattle.line_rows.proofs.sequences.Sequences.renumber.Goals as goal
 
 pub invariant_of-self : goal.invariant_of-self
@@ -19,7 +20,8 @@ invariant_of-self c =
       ranges = kept.ranges;
       chained = kept.chained;
       pending = omega (arith, kept.pending, size);
-      whole = ap (λ (l : List Row). room_taken (sequences_in l i.ranges.items)) same ∙ ap room_taken (sequences-renumbered n i.rows.items i.ranges.items) ∙ room-renumbered n (sequences_in i.rows.items i.ranges.items) ∙ kept.whole;
+      rise = rise_renumbered n i.rows.items _ i.ranges.items same kept.rise;
+      pending_rise = pending_renumbered n i.rows.items _ i.pending same kept.pending_rise;
     }
 
 pub returns : goal.returns
