@@ -1,4 +1,3 @@
-pub mod Most
 pub mod Turns
 pub mod Declared
 pub mod Specified

@@ -35,21 +35,15 @@ abbrev pub in_front : List Entry → Result (List Entry) InfoFault → Result (L
 in_front front (Ok others) = Ok (front ++ others)
 in_front front (Err e) = Err e
 
--- how many may still come behind an entry, or behind an end of children
-abbrev pub left_behind : ℕ → Option Entry → Result ℕ InfoFault
-left_behind left None = Ok left
-left_behind zero (Some entry) = Err fault.Many
-left_behind (suc left) (Some entry) = Ok left
+abbrev pub with_others : ℕ → (ℕ → ℕ → Result (List Entry) InfoFault) → Option Entry × ℕ → Result (List Entry) InfoFault
+with_others level rest (entry, next) = in_front (entry_list entry) (rest (level_behind level entry) next)
 
-abbrev pub with_others : ℕ → ℕ → (ℕ → ℕ → ℕ → Result (List Entry) InfoFault) → Option Entry × ℕ → Result (List Entry) InfoFault
-with_others left level rest (entry, next) = left_behind left entry >>= (λ few. in_front (entry_list entry) (rest few (level_behind level entry) next))
-
--- the entries from a place up to the unit's end, at most so many; there are no more steps than bytes
-abbrev pub entries_from : ℕ → List ℕ → List ℕ → List ℕ → ℕ → ℕ → ℕ → ℕ → ℕ → Result (List Entry) InfoFault
-entries_from zero abbrevs strs info table unit left level at = Ok []
-entries_from (suc steps) abbrevs strs info table unit left level at =
+-- the entries from a place up to the unit's end; there are no more steps than bytes
+abbrev pub entries_from : ℕ → List ℕ → List ℕ → List ℕ → ℕ → ℕ → ℕ → ℕ → Result (List Entry) InfoFault
+entries_from zero abbrevs strs info table unit level at = Ok []
+entries_from (suc steps) abbrevs strs info table unit level at =
     if nat_le (length info) at then Ok []
-    else entry_at abbrevs strs info table unit level at >>= with_others left level (entries_from steps abbrevs strs info table unit)
+    else entry_at abbrevs strs info table unit level at >>= with_others level (entries_from steps abbrevs strs info table unit)
 
 -- an entry's level is one of the 64
 pub record IsLevel (entry : Entry) : Type 0 where

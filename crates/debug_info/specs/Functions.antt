@@ -1,8 +1,7 @@
 -- The functions of a section (DWARF 4, sections 2.17.2 and 3.3).
-use Rattle.std.specs.Prelude.{ℕ, ◌+◌, List, [], ◌∷◌, ◌++◌, Option, Some, take}
+use Rattle.std.specs.Prelude.{ℕ, ◌+◌, List, [], ◌∷◌, ◌++◌, Option, Some}
 use Rattle.address_tables.specs.Tables.{value_among}
 use Rattle.address_tables.specs.declared.entry.AddressRange.{AddressRange}
-use Rattle.debug_info.specs.Limits.{most_functions}
 use Rattle.debug_info.specs.declared.entry.Entry.{Entry}
 use Rattle.debug_info.specs.declared.entry.Range.{Range}
 use Rattle.debug_info.specs.declared.entry.Tag.{Tag}
@@ -28,6 +27,6 @@ abbrev pub functions_from : ℕ → List (List Entry) → List (AddressRange Fun
 functions_from unit [] = []
 functions_from unit (entries ∷ units) = functions_in unit 0 entries ++ functions_from (unit + 1) units
 
--- the first function that covers an address, of so many in the section's order
+-- the first function that covers an address, in the section's order
 abbrev pub function_at : List (List Entry) → ℕ → Option Function
-function_at units pc = value_among (take most_functions (functions_from 0 units)) pc
+function_at units pc = value_among (functions_from 0 units) pc

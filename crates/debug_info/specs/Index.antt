@@ -1,5 +1,5 @@
 -- How the specifications of attributes are kept: for each place, those that flags without bytes begin, and where they end.
-use Rattle.std.specs.Prelude.{◌≡◌, ℕ, ◌+◌, ◌-◌, ◌<◌, ◌≤◌, ◌==◌, ◌||◌, Bool, true, false, List, [], ◌∷◌, length, get_or, IfOk, Option, None, Some, Result, Ok, Err}
+use Rattle.std.specs.Prelude.{◌≡◌, ℕ, ◌+◌, ◌-◌, ◌<◌, ◌≤◌, ◌^◌, ◌==◌, ◌||◌, Bool, true, false, List, [], ◌∷◌, length, get_or, IfOk, Option, None, Some, Result, Ok, Err}
 use Rattle.leb_read.specs.Leb.{IsBehind}
 use Rattle.debug_info.specs.Abbreviations.{specifications_end}
 use Rattle.debug_info.specs.Attributes.{values_from, with_value}
@@ -73,4 +73,4 @@ AreRuns abbrevs runs = (k : ℕ) (d : Run) → k < length runs → IsRun abbrevs
 pub record IsIndex (abbrevs : List ℕ) (index : Index) : Type 0 where
   pub runs : AreRuns abbrevs index.runs.items
   pub count : length index.runs.items ≡ length abbrevs + 1
-  pub short : length abbrevs ≤ 4194304
+  pub short : length abbrevs < 2 ^ 32

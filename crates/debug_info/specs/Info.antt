@@ -2,28 +2,31 @@
 use Rattle.std.specs.Prelude.{ℕ, List}
 use Rattle.debug_info.specs.Contents.{contents_of}
 use Rattle.debug_info.specs.Functions.{function_at}
-use Rattle.debug_info.specs.Limits.{abbrevs_part, section_part}
 use Rattle.debug_info.specs.Scope.{Texts, Variable, variables_by}
 use Rattle.debug_info.specs.declared.entry.Entry.{Entry}
 use Rattle.debug_info.specs.declared.fault.UnitFault.{UnitFault}
 
--- the entries of each unit, the first fault of each that has one, and the sections that names stand in
+-- the three sections
 pub record Info : Type 0 where
-  pub units : List (List Entry)
-  pub faults : List UnitFault
-  pub texts : Texts
+  pub abbrevs : List ℕ
+  pub strs : List ℕ
+  pub info : List ℕ
 
-abbrev pub info_by : List ℕ → List ℕ → List ℕ → Info
-info_by abbrevs strs info = record {
-  units = (contents_of abbrevs strs info).units;
-  faults = (contents_of abbrevs strs info).faults;
-  texts = record { info = info; strs = strs };
-}
-
--- by the parts of the sections that count
 abbrev pub info_of : List ℕ → List ℕ → List ℕ → Info
-info_of abbrevs strs info = info_by (abbrevs_part abbrevs) (section_part strs) (section_part info)
+info_of abbrevs strs info = record { abbrevs = abbrevs; strs = strs; info = info }
+
+-- the entries of each unit
+abbrev pub units_of : Info → List (List Entry)
+units_of i = (contents_of i.abbrevs i.strs i.info).items
+
+-- the first fault of each unit that has one
+abbrev pub faults_of : Info → List UnitFault
+faults_of i = (contents_of i.abbrevs i.strs i.info).faults
+
+-- the sections that names stand in
+abbrev pub texts_of : Info → Texts
+texts_of i = record { info = i.info; strs = i.strs }
 
 -- the variables at pc: those of the first function that covers it and of its blocks, deeper blocks first, and the unit's
 abbrev pub scope : Info → ℕ → List Variable
-scope info pc = variables_by info.texts info.units pc (function_at info.units pc)
+scope i pc = variables_by (texts_of i) (units_of i) pc (function_at (units_of i) pc)

@@ -1,21 +1,21 @@
--- How the variables are kept for look-ups: beside the units, the function of each address and the length of each text.
-use Rattle.std.specs.Prelude.{All}
+-- How the sections are kept for look-ups: beside their bytes, where the units stand, and what is looked up by a place.
+use Rattle.std.specs.Prelude.{◌≡◌, ◌<◌, ◌^◌, All, length, map}
 use Rattle.address_tables.specs.Tables.{IsTable}
-use Rattle.debug_info.specs.Contents.{units_shown}
 use Rattle.debug_info.specs.Functions.{function_at}
-use Rattle.debug_info.specs.Info.{Info}
-use Rattle.debug_info.specs.Rising.{IsRising}
+use Rattle.debug_info.specs.Index.{IsIndex}
+use Rattle.debug_info.specs.Info.{Info, faults_of, info_of, units_of}
+use Rattle.debug_info.specs.Spans.{IsSpan, entries_given}
 use Rattle.debug_info.specs.TextLengths.{AreLengths}
 use Rattle.debug_info.specs.declared.info.Info.TheInside.{Inside}
 
 abbrev pub seen : Inside → Info
-seen i = record {
-  units = units_shown i.contents.units.items;
-  faults = i.contents.faults.items;
-  texts = record { info = i.info.items; strs = i.strs.items };
-}
+seen i = info_of i.abbrevs.items i.strs.items i.info.items
 
 pub record IsKept (i : Inside) : Type 0 where
-  pub functions : IsTable i.functions.items (function_at (units_shown i.contents.units.items))
-  pub rising : All IsRising i.contents.units.items
   pub lengths : AreLengths i.strs.items i.lengths
+  pub index : IsIndex i.abbrevs.items i.index
+  pub short : length i.info.items < 2 ^ 32
+  pub spans : All (IsSpan i.info.items) i.units.items
+  pub units : map (entries_given i.abbrevs.items i.strs.items i.info.items) i.units.items ≡ units_of (seen i)
+  pub faults : i.faults.items ≡ faults_of (seen i)
+  pub functions : IsTable i.functions.items (function_at (units_of (seen i)))

@@ -1,4 +1,3 @@
-pub mod Limits
 pub mod Reading
 pub mod Forms
 pub mod Expressions
@@ -10,10 +9,10 @@ pub mod TextLengths
 pub mod Sources
 pub mod Entries
 pub mod Units
-pub mod Spans
 pub mod Order
 pub mod Contents
 pub mod Functions
+pub mod Spans
 pub mod Scope
 pub mod Shown
 pub mod Info

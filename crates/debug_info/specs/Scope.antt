@@ -1,7 +1,6 @@
 -- The variables that can be seen at an address (DWARF 4, sections 2.3, 3.3 to 3.5, 4.1 and 5.1 to 5.3).
-use Rattle.std.specs.Prelude.{ℕ, zero, suc, ◌==◌, nat_le, nat_lt, ◌&&◌, ◌||◌, Bool, true, false, not, List, [], ◌∷◌, ◌++◌, map, filter, drop, find, take, slice_get, unwrap_or, Option, None, Some, take_while, is_some, if◌then◌else◌}
+use Rattle.std.specs.Prelude.{ℕ, zero, suc, ◌==◌, nat_le, nat_lt, ◌&&◌, ◌||◌, Bool, true, false, not, List, [], ◌∷◌, ◌++◌, map, filter, drop, find, slice_get, unwrap_or, Option, None, Some, take_while, is_some, if◌then◌else◌}
 use Rattle.leb_read.specs.Leb.{is_text_byte}
-use Rattle.debug_info.specs.Limits.{most_variables}
 use Rattle.debug_info.specs.declared.entry.Entry.{Entry}
 use Rattle.debug_info.specs.declared.entry.Kind.{Kind}
 use Rattle.debug_info.specs.declared.entry.Kind.TheVariants as kind
@@ -135,12 +134,12 @@ by_depth (suc level) es = filter (λ e. e.level == suc level) es ++ by_depth lev
 abbrev pub is_unit_variable : Entry → Bool
 is_unit_variable e = (e.level == 2) && ((is_some e.name && is_variable e.tag) && is_fixed e.place)
 
--- the variables at pc by the unit's entries and those from the function's on, of each the first so many
+-- the variables at pc by the unit's entries and those from the function's on
 abbrev pub variables_in : Texts → ℕ → List Entry → List Entry → List Variable
 variables_in texts pc entries [] = []
 variables_in texts pc entries (f ∷ behind) =
-    map (variable_of texts entries f.base true) (by_depth 64 (take most_variables (own_entries pc f.level behind)))
-    ++ map (variable_of texts entries f.base false) (take most_variables (filter is_unit_variable entries))
+    map (variable_of texts entries f.base true) (by_depth 64 (own_entries pc f.level behind))
+    ++ map (variable_of texts entries f.base false) (filter is_unit_variable entries)
 
 abbrev pub variables_by : Texts → List (List Entry) → ℕ → Option Function → List Variable
 variables_by texts units pc None = []

@@ -1,11 +1,15 @@
 -- How the code keeps variables, texts and where it stands.
 use Rattle.std.specs.Prelude.{◌≡◌, ℕ, Bool, false, nat_lt, List, [], ◌∷◌, map, Option, None, Some, if◌then◌else◌}
 use Rattle.std.specs.Borrow.{Bor}
+use Rattle.address_tables.specs.declared.entry.AddressRange.{AddressRange}
+use Rattle.debug_info.specs.Contents.{Contents}
 use Rattle.debug_info.specs.Scope as scope
 use Rattle.debug_info.specs.TextLengths.{AreLengths}
 use Rattle.debug_info.specs.declared.entry.Entry.{Entry}
+use Rattle.debug_info.specs.declared.functions.Function.{Function}
 use Rattle.debug_info.specs.declared.scope.Texts.{Texts}
 use Rattle.debug_info.specs.declared.scope.Var.{Var}
+use Rattle.debug_info.specs.declared.unit.Found.{Found}
 
 -- the lengths of shared texts are theirs
 abbrev pub AreTexts : Texts → Type 0
@@ -19,6 +23,10 @@ shown_variable v = record { name = v.name.now; kind = v.kind; place = v.place; b
 
 abbrev pub shown_variables : List Var → List scope.Variable
 shown_variables vs = map shown_variable vs
+
+-- the functions and the faults of units
+abbrev pub functions_shown : Found → Contents (AddressRange Function)
+functions_shown f = record { items = f.functions.items; faults = f.faults.items }
 
 -- a first entry and the others, or none where there are none
 abbrev pub IsEntrySplit : List Entry → Option (Entry × Bor (List Entry)) → Type 0

@@ -25,8 +25,8 @@ header_at abbrevs info at = do
       if size.0 == 4 then found (record { at = offset.0 }) size.1 else Err fault.Version))
       else Err fault.Version
 
--- the entries of the unit at a place, at most so many, by the section's bytes up to the unit's end
-unfoldable pub unit_entries : ℕ → List ℕ → List ℕ → List ℕ → ℕ → Result (List Entry) InfoFault
-unit_entries most abbrevs strs info unit = do
+-- the entries of the unit at a place, by the section's bytes up to the unit's end
+unfoldable pub unit_entries : List ℕ → List ℕ → List ℕ → ℕ → Result (List Entry) InfoFault
+unit_entries abbrevs strs info unit = do
   header ← header_at abbrevs info (unit + 4)
-  entries_from (length info + 1) abbrevs strs info header.0.at unit most 0 header.1
+  entries_from (length info + 1) abbrevs strs info header.0.at unit 0 header.1

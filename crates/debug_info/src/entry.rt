@@ -2,7 +2,7 @@
 
 ghost use Rattle.std.specs.Prelude.{◌≡◌, ◌<◌, ◌≤◌, ◌+◌, ◌-◌, IfOk, IfSome, OnOk, length, ◌++◌};
 ghost use Rattle.debug_info.specs.Attributes.{basic_kind, constant_of, entry_of, expression_of, range_of, reference_of, tag_of, text_of};
-ghost use Rattle.debug_info.specs.Entries.{Gives, IsLevel, entries_from, entry_at, entry_list, left_behind, level_behind};
+ghost use Rattle.debug_info.specs.Entries.{Gives, IsLevel, entries_from, entry_at, entry_list, level_behind};
 ghost use Rattle.debug_info.specs.Sources.{IsSource};
 ghost use Rattle.debug_info.specs.Rising.{RisesFrom};
 ghost use Rattle.debug_info.specs.Tables.{IsTable};
@@ -224,16 +224,6 @@ fn level_behind(level: u8, entry: &Option<Entry>) -> u8
     }
 }
 
-// How many may still come behind an entry, or behind an end of children.
-fn left_behind(left: usize, entry: &Option<Entry>) -> Result<usize, InfoFault>
-    ensures { result ≡ left_behind left entry.now }
-{
-    match entry {
-        None => Ok(left),
-        Some(_) => left.checked_sub(1).ok_or(InfoFault::Many),
-    }
-}
-
 fn push_entry(entries: &mut Vec<Entry>, entry: Option<Entry>) -> Result<(), NoMemory>
     ensures { OnOk result (entries.new.items ≡ entries.old.items ++ entry_list entry) }
 {
@@ -243,13 +233,12 @@ fn push_entry(entries: &mut Vec<Entry>, entry: Option<Entry>) -> Result<(), NoMe
     Ok(())
 }
 
-/// The entries of a unit, whose bytes end with the section's, from a place on, at most so many.
+/// The entries of a unit, whose bytes end with the section's, from a place on.
 pub fn entries_at(
     alloc: Global,
     source: &Source<'_>,
     table: &Table,
     unit: usize,
-    most: usize,
     at: usize,
 ) -> Result<Vec<Entry>, InfoError>
     requires source { IsSource source.now }
@@ -257,15 +246,13 @@ pub fn entries_at(
     requires unit { unit ≤ at }
     requires within { at ≤ length source.now.info.now }
     ensures rising { IfOk result (λ v. RisesFrom 0 v.items) }
-    ensures value { Gives result (entries_from (length source.now.info.now + 1) source.now.abbrevs.now source.now.strs.now source.now.info.now table.now.at unit most 0 at) }
+    ensures value { Gives result (entries_from (length source.now.info.now + 1) source.now.abbrevs.now source.now.strs.now source.now.info.now table.now.at unit 0 at) }
 {
     let mut entries = Vec::new(alloc);
-    let mut left = most;
     let mut level = 0;
     let mut place = at;
     'entries: while place < source.info.len() {
         let (entry, next) = entry_at(source, table, unit, level, place)?;
-        left = left_behind(left, &entry)?;
         level = level_behind(level, &entry);
         push_entry(&mut entries, entry)?;
         place = next;

@@ -31,9 +31,6 @@ pub enum InfoFault {
     /// More than 64 levels of entries.
     #[error("more than 64 levels of entries")]
     Deep,
-    /// More entries in a unit, or more units, than are read.
-    #[error("more entries or units than are read")]
-    Many,
 }
 
 /// The first fault of a unit.

@@ -1,11 +1,9 @@
 //! The functions of a section and their addresses (DWARF 4, sections 2.17.2 and 3.3).
 
 ghost use Rattle.std.specs.Prelude.{◌≡◌, ◌++◌, IfOk, OnOk};
-ghost use Rattle.debug_info.specs.Contents.{units_shown};
-ghost use Rattle.debug_info.specs.Functions.{function_list, functions_from, functions_in};
+ghost use Rattle.debug_info.specs.Functions.{function_list, functions_in};
 
 use crate::entry::{Entry, Tag};
-use crate::unit::Unit;
 use address_tables::AddressRange;
 use dbg_traits::NoMemory;
 use std::alloc::Global;
@@ -43,27 +41,18 @@ fn push_function(
     Ok(())
 }
 
-// Adds the functions of a unit.
-fn push_functions(
-    functions: &mut Vec<AddressRange<Function>>,
+/// The functions of a unit with a number, in the section's order.
+pub fn functions_of(
+    alloc: Global,
     unit: usize,
     entries: &[Entry],
-) -> Result<(), NoMemory>
-    ensures { OnOk result (functions.new.items ≡ functions.old.items ++ functions_in unit 0 entries.now) }
-{
-    for (number, entry) in entries.iter().enumerate() {
-        push_function(functions, unit, number, entry)?;
-    }
-    Ok(())
-}
-
-/// The functions of all units, in the section's order.
-pub fn functions_of(alloc: Global, units: &[Unit]) -> Result<Vec<AddressRange<Function>>, NoMemory>
-    ensures { IfOk result (λ functions. functions.items ≡ functions_from 0 (units_shown units.now)) }
+) -> Result<Vec<AddressRange<Function>>, NoMemory>
+    ensures { IfOk result (λ functions. functions.items ≡ functions_in unit 0 entries.now) }
 {
     let mut functions = Vec::new(alloc);
-    for (number, unit) in units.iter().enumerate() {
-        push_functions(&mut functions, number, &unit.entries)?;
+    for (number, entry) in entries.iter().enumerate() {
+        push_function(&mut functions, unit, number, entry)?;
     }
+    functions.shrink_to_fit();
     Ok(functions)
 }

@@ -1,13 +1,12 @@
 //! Where units stand, and their headers (DWARF 4, section 7.5.1.1).
 
-ghost use Rattle.std.specs.Prelude.{◌≡◌, ◌<◌, ◌≤◌, ◌+◌, ℕ, All, IfOk, List, length, map};
+ghost use Rattle.std.specs.Prelude.{◌≡◌, ◌<◌, ◌≤◌, ◌+◌, ◌^◌, ℕ, All, IfOk, List, length, map};
 ghost use Rattle.debug_info.specs.Contents.{contents_of, fault_at, joined};
 ghost use Rattle.debug_info.specs.Spans.{IsSpan, all_joined, ended, given};
 ghost use Rattle.debug_info.specs.Units.{header_at, unit_end};
 
 use crate::fault::{InfoFault, UnitFault};
 use crate::form::behind_run;
-use crate::limits::UNITS;
 use crate::offset::{AbbrevOffset, InfoOffset, Source};
 use dbg_traits::NoMemory;
 use leb_read::{u8_at, u16_at, u32_at};
@@ -24,7 +23,7 @@ pub struct Span {
 #[derive(Drop)]
 pub struct Spans {
     pub units: Vec<Span>,
-    /// The fault of a last one that passes the section, or is one too many.
+    /// The fault of a last one that passes the section.
     pub fault: Option<UnitFault>,
 }
 
@@ -64,28 +63,24 @@ pub fn header_at(source: &Source<'_>, at: usize) -> Result<(AbbrevOffset, usize)
     }
 }
 
-fn fault_at(at: usize, fault: InfoFault) -> UnitFault
-    requires { at ≤ 33554432 }
+/// The fault of the unit at a place.
+pub fn fault_at(at: usize, fault: InfoFault) -> UnitFault
+    requires { at < 2 ^ 32 }
     ensures { result ≡ fault_at at fault }
 {
     let offset = InfoOffset { at: at as u32 };
     UnitFault { offset, fault }
 }
 
-/// Where the units of a section stand. Behind one that passes the section there is none, and none is read behind the last
-/// that may be.
+/// Where the units of a section stand. Behind one that passes the section there is none.
 pub fn spans_of(alloc: Global, info: &[u8]) -> Result<Spans, NoMemory>
-    requires { length info.now ≤ 33554432 }
+    requires { length info.now < 2 ^ 32 }
     ensures spans { IfOk result (λ r. All (IsSpan info.now) r.units.items) }
     ensures value { IfOk result (λ r. (abbrevs strs : List ℕ) → contents_of abbrevs strs info.now ≡ joined (all_joined (map (given abbrevs strs info.now) r.units.items)) (ended r.fault)) }
 {
     let mut units = Vec::new(alloc);
     let mut at = 0;
     'units: while at < info.len() {
-        if units.len() == UNITS {
-            let fault = Some(fault_at(at, InfoFault::Many));
-            return Ok(Spans { units, fault });
-        }
         match unit_end(info, at) {
             Ok(end) => {
                 units.push(Span { at, end })?;

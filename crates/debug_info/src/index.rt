@@ -3,7 +3,7 @@
 //! Lists of specifications may share their ends, so what stands behind a place is kept for each place, and is filled from
 //! the section's end on.
 
-ghost use Rattle.std.specs.Prelude.{◌≡◌, ◌≤◌, ◌+◌, IfOk, length};
+ghost use Rattle.std.specs.Prelude.{◌≡◌, ◌<◌, ◌≤◌, ◌+◌, ◌^◌, IfOk, length};
 ghost use Rattle.debug_info.specs.Index.{AreRuns, IsIndex, IsRun, lone_run, no_flags, with_flag};
 
 use crate::abbreviation::specification_at;
@@ -80,7 +80,7 @@ fn with_flag(flags: Flags, name: u64) -> Flags
 fn run_at(abbrevs: &[u8], later: &[Run], at: usize) -> Run
     requires runs { AreRuns abbrevs.now later.now }
     requires count { length later.now + at ≡ length abbrevs.now }
-    requires short { length abbrevs.now ≤ 4194304 }
+    requires short { length abbrevs.now < 2 ^ 32 }
     ensures { IsRun abbrevs.now at result }
 {
     match specification_at(abbrevs, at) {
@@ -100,7 +100,7 @@ fn run_at(abbrevs: &[u8], later: &[Run], at: usize) -> Run
 
 // A run without flags.
 fn lone_run(at: usize, end: Result<u32, InfoFault>) -> Run
-    requires { at ≤ 4194304 }
+    requires { at < 2 ^ 32 }
     ensures { result ≡ lone_run at end }
 {
     Run {
@@ -112,7 +112,7 @@ fn lone_run(at: usize, end: Result<u32, InfoFault>) -> Run
 
 /// The specifications from each place of the section on.
 pub fn index_of(alloc: Global, abbrevs: &[u8]) -> Result<Index, NoMemory>
-    requires { length abbrevs.now ≤ 4194304 }
+    requires { length abbrevs.now < 2 ^ 32 }
     ensures { IfOk result (IsIndex abbrevs.now) }
 {
     let mut runs = Vec::with_capacity(alloc, abbrevs.len() + 1)?;

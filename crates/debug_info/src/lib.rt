@@ -13,7 +13,6 @@ mod functions;
 mod header;
 mod index;
 mod info;
-mod limits;
 mod offset;
 mod order;
 mod scope;

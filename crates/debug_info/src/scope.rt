@@ -1,8 +1,7 @@
 //! The variables that can be seen at an address.
 
-ghost use Rattle.std.specs.Prelude.{◌≡◌, ◌==◌, ◌++◌, ◌∷◌, [], IfOk, OnOk, true, false, filter, find, length, map, take, take_while};
+ghost use Rattle.std.specs.Prelude.{◌≡◌, ◌==◌, ◌++◌, ◌∷◌, [], IfOk, OnOk, true, false, filter, find, length, map, take_while};
 ghost use Rattle.leb_read.specs.Leb.{is_text_byte};
-ghost use Rattle.debug_info.specs.Limits.{most_variables};
 ghost use Rattle.debug_info.specs.Rising.{RisesFrom};
 ghost use Rattle.debug_info.specs.Scope.{by_depth, is_entered, is_modifier, is_named, is_own, is_unit_variable, is_within, kind_of, name_of, own_entries, own_kind, place_in, text_from, type_entry, variable_of, variables_in};
 ghost use Rattle.debug_info.specs.Shown.{AreTexts, IsEntrySplit, is_below, seen_texts, shown_variable, shown_variables, shut_by};
@@ -10,7 +9,6 @@ ghost use Rattle.debug_info.specs.Shown.{AreTexts, IsEntrySplit, is_below, seen_
 use crate::entry::{Entry, Kind, Range, Tag};
 use crate::expression::{Base, Place};
 use crate::form::TextPlace;
-use crate::limits::VARIABLES;
 use crate::text_lengths::TextLengths;
 use dbg_traits::NoMemory;
 use std::alloc::Global;
@@ -197,22 +195,19 @@ fn is_unit_variable(entry: &Entry) -> bool
         && matches!(entry.place, Place::Fixed(_))
 }
 
-// The first parameters and variables of a function and of its blocks that cover pc, in the section's order.
+// The parameters and variables of a function and of its blocks that cover pc, in the section's order.
 fn own_entries(
     alloc: Global,
     pc: u32,
     function: u8,
     behind: &[Entry],
 ) -> Result<Vec<Entry>, NoMemory>
-    ensures { IfOk result (λ found. found.items ≡ take most_variables (own_entries pc function behind.now)) }
+    ensures { IfOk result (λ found. found.items ≡ own_entries pc function behind.now) }
 {
     let mut found = Vec::new(alloc);
     let mut shut = None;
     for entry in behind {
         if entry.level <= function {
-            return Ok(found);
-        }
-        if found.len() == VARIABLES {
             return Ok(found);
         }
         if !is_below(shut, entry.level) {
@@ -275,7 +270,7 @@ fn push_level<'a>(
     Ok(())
 }
 
-// Adds the unit's own first variables with a fixed place.
+// Adds the unit's own variables with a fixed place.
 fn push_unit<'a>(
     variables: &mut Vec<Var<'a>>,
     texts: &Texts<'a>,
@@ -284,15 +279,10 @@ fn push_unit<'a>(
 ) -> Result<(), NoMemory>
     requires texts { AreTexts texts.now }
     requires rising { RisesFrom 0 entries.now }
-    ensures { OnOk result (shown_variables variables.new.items ≡ shown_variables variables.old.items ++ map (variable_of (seen_texts texts.now) entries.now base false) (take most_variables (filter is_unit_variable entries.now))) }
+    ensures { OnOk result (shown_variables variables.new.items ≡ shown_variables variables.old.items ++ map (variable_of (seen_texts texts.now) entries.now base false) (filter is_unit_variable entries.now)) }
 {
-    let mut left = VARIABLES;
     for entry in entries {
-        if left == 0 {
-            return Ok(());
-        }
         if is_unit_variable(entry) {
-            left -= 1;
             variables.push(variable_of(texts, entries, base, false, entry))?;
         }
     }

@@ -2,7 +2,7 @@
 //!
 //! Texts may share their ends, so what stands behind a place is kept for each place, and is filled from the section's end on.
 
-ghost use Rattle.std.specs.Prelude.{◌≡◌, ◌≤◌, IfOk, drop, length, nat_lt};
+ghost use Rattle.std.specs.Prelude.{◌≡◌, ◌<◌, ◌≤◌, ◌^◌, IfOk, drop, length, nat_lt};
 ghost use Rattle.debug_info.specs.Scope.{text_from};
 ghost use Rattle.debug_info.specs.TextLengths.{AreLengths};
 
@@ -18,7 +18,7 @@ pub struct TextLengths {
 
 /// The lengths of the texts of a section.
 pub fn text_lengths_of(alloc: Global, section: &[u8]) -> Result<TextLengths, NoMemory>
-    requires { length section.now ≤ 33554432 }
+    requires { length section.now < 2 ^ 32 }
     ensures { IfOk result (AreLengths section.now) }
 {
     let mut lengths = Vec::with_capacity(alloc, section.len() + 1)?;

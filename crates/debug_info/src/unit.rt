@@ -1,52 +1,54 @@
 //! What the units of a section give (DWARF 4, section 7.5.1.1).
 
-ghost use Rattle.std.specs.Prelude.{◌≡◌, ◌≤◌, ◌+◌, All, IfOk, OnOk, Err, length, map};
-ghost use Rattle.debug_info.specs.Contents.{contents_of, joined, one_unit, shown};
+ghost use Rattle.std.specs.Prelude.{◌≡◌, ◌≤◌, ◌+◌, [], All, IfOk, OnOk, length, map, slice_get, unwrap_or};
+ghost use Rattle.debug_info.specs.Contents.{contents_of, joined, spanned};
 ghost use Rattle.debug_info.specs.Entries.{Gives, IfRead};
+ghost use Rattle.debug_info.specs.Functions.{functions_from};
 ghost use Rattle.debug_info.specs.Sources.{IsSource};
-ghost use Rattle.debug_info.specs.Spans.{IsRisingReading, IsSpan, all_joined, ended, given, reading_shown};
-ghost use Rattle.debug_info.specs.Rising.{IsRising, RisesFrom};
+ghost use Rattle.debug_info.specs.Spans.{IsSpan, all_given, all_joined, ended, entries_given, functions_given, reading_shown};
+ghost use Rattle.debug_info.specs.Rising.{RisesFrom};
+ghost use Rattle.debug_info.specs.Shown.{functions_shown};
 ghost use Rattle.debug_info.specs.Tables.{IsTable};
 ghost use Rattle.debug_info.specs.Units.{unit_entries};
 
 use crate::entry::{Entry, entries_at};
-use crate::fault::{InfoError, InfoFault, UnitFault};
-use crate::header::{Span, Spans, header_at, spans_of};
-use crate::limits::most_entries;
-use crate::offset::{InfoOffset, Source};
+use crate::fault::{InfoError, UnitFault};
+use crate::functions::{Function, functions_of};
+use crate::header::{Span, Spans, fault_at, header_at, spans_of};
+use crate::offset::Source;
 use crate::order::turns_of;
 use crate::tables::Table;
+use address_tables::AddressRange;
 use dbg_traits::NoMemory;
 use std::alloc::Global;
 
-/// The entries of a unit.
+/// What was read of a unit: its functions, or its fault.
 #[derive(Drop)]
-pub struct Unit {
-    pub entries: Vec<Entry>,
+pub struct Reading {
+    pub functions: Vec<AddressRange<Function>>,
+    pub fault: Option<UnitFault>,
 }
 
-/// What the units of a section give.
+/// What the units of a section give: where they stand, their functions and their faults, each in the section's order.
 #[derive(Drop)]
 pub struct Contents {
-    pub units: Vec<Unit>,
+    pub units: Vec<Span>,
+    pub found: Found,
+}
+
+/// The functions and the faults of units.
+#[derive(Drop)]
+pub struct Found {
+    pub functions: Vec<AddressRange<Function>>,
     pub faults: Vec<UnitFault>,
 }
 
-/// What was read of the unit at a place.
-#[derive(Drop)]
-pub struct Reading {
-    pub at: InfoOffset,
-    pub entries: Result<Vec<Entry>, InfoFault>,
-}
-
-// The entries of the unit at a place, at most so many, whose bytes end with the section's. The table moves to its
-// abbreviations.
+// The entries of the unit at a place, whose bytes end with the section's. The table moves to its abbreviations.
 #[tactic(auto, unfolding(crate::specs::Units::unit_entries))]
 fn unit_entries(
     alloc: Global,
     source: &Source<'_>,
     at: usize,
-    most: usize,
     table: &mut Table,
 ) -> Result<Vec<Entry>, InfoError>
     requires source { IsSource source.now }
@@ -54,17 +56,39 @@ fn unit_entries(
     requires table { IsTable source.now.abbrevs.now table.old }
     ensures table { IfRead result (IsTable source.now.abbrevs.now table.new) }
     ensures rising { IfOk result (λ v. RisesFrom 0 v.items) }
-    ensures value { Gives result (unit_entries most source.now.abbrevs.now source.now.strs.now source.now.info.now at) }
+    ensures value { Gives result (unit_entries source.now.abbrevs.now source.now.strs.now source.now.info.now at) }
 {
     let (abbrevs, next) = header_at(source, at + 4)?;
     table.move_to(alloc, source.abbrevs, source.index, abbrevs)?;
-    entries_at(alloc, source, table, at, most, next)
+    entries_at(alloc, source, table, at, next)
 }
 
-// What is read of a unit.
+// The entries of a unit.
+fn spanned(
+    alloc: Global,
+    source: &Source<'_>,
+    span: &Span,
+    table: &mut Table,
+) -> Result<Vec<Entry>, InfoError>
+    requires source { IsSource source.now }
+    requires span { IsSpan source.now.info.now span.now }
+    requires table { IsTable source.now.abbrevs.now table.old }
+    ensures table { IfRead result (IsTable source.now.abbrevs.now table.new) }
+    ensures rising { IfOk result (λ v. RisesFrom 0 v.items) }
+    ensures value { Gives result (spanned source.now.abbrevs.now source.now.strs.now source.now.info.now span.now.at span.now.end) }
+{
+    let unit = Source {
+        info: &source.info[..span.end],
+        ..*source
+    };
+    unit_entries(alloc, &unit, span.at, table)
+}
+
+// What is kept of a unit with a number.
 fn reading_of(
     alloc: Global,
     source: &Source<'_>,
+    number: usize,
     span: &Span,
     table: &mut Table,
 ) -> Result<Reading, NoMemory>
@@ -72,25 +96,51 @@ fn reading_of(
     requires span { IsSpan source.now.info.now span.now }
     requires table { IsTable source.now.abbrevs.now table.old }
     ensures table { OnOk result (IsTable source.now.abbrevs.now table.new) }
-    ensures rising { IfOk result IsRisingReading }
-    ensures value { IfOk result (λ reading. reading_shown reading ≡ given source.now.abbrevs.now source.now.strs.now source.now.info.now span.now) }
+    ensures value { IfOk result (λ reading. reading_shown reading ≡ functions_given source.now.abbrevs.now source.now.strs.now source.now.info.now number span.now) }
 {
-    let unit = Source {
-        info: &source.info[..span.end],
-        ..*source
-    };
-    let at = InfoOffset { at: span.at as u32 };
-    let most = most_entries(source.info.len(), span.end - span.at);
-    match unit_entries(alloc, &unit, span.at, most, table) {
+    match spanned(alloc, source, span, table) {
         Ok(entries) => Ok(Reading {
-            at,
-            entries: Ok(entries),
+            functions: functions_of(alloc, number, &entries)?,
+            fault: None,
         }),
         Err(InfoError::Fault(fault)) => Ok(Reading {
-            at,
-            entries: Err(fault),
+            functions: Vec::new(alloc),
+            fault: Some(fault_at(span.at, fault)),
         }),
         Err(InfoError::Memory) => Err(NoMemory),
+    }
+}
+
+// The entries of a unit, or none where it has a fault.
+fn entries_in(alloc: Global, source: &Source<'_>, span: &Span) -> Result<Vec<Entry>, NoMemory>
+    requires source { IsSource source.now }
+    requires span { IsSpan source.now.info.now span.now }
+    ensures rising { IfOk result (λ v. RisesFrom 0 v.items) }
+    ensures value { IfOk result (λ v. v.items ≡ entries_given source.now.abbrevs.now source.now.strs.now source.now.info.now span.now) }
+{
+    let mut table = Table::new(alloc, source.abbrevs);
+    match spanned(alloc, source, span, &mut table) {
+        Ok(entries) => Ok(entries),
+        Err(InfoError::Fault(_)) => Ok(Vec::new(alloc)),
+        Err(InfoError::Memory) => Err(NoMemory),
+    }
+}
+
+/// The entries of the unit with a number.
+pub fn entries_of(
+    alloc: Global,
+    source: &Source<'_>,
+    units: &[Span],
+    number: usize,
+) -> Result<Vec<Entry>, NoMemory>
+    requires source { IsSource source.now }
+    requires units { All (IsSpan source.now.info.now) units.now }
+    ensures rising { IfOk result (λ v. RisesFrom 0 v.items) }
+    ensures value { IfOk result (λ v. v.items ≡ unwrap_or (slice_get (map (entries_given source.now.abbrevs.now source.now.strs.now source.now.info.now) units.now) number) []) }
+{
+    match units.get(number) {
+        Some(span) => entries_in(alloc, source, span),
+        None => Ok(Vec::new(alloc)),
     }
 }
 
@@ -99,11 +149,10 @@ fn unread(alloc: Global, count: usize) -> Result<Vec<Reading>, NoMemory>
     ensures { IfOk result (λ readings. length readings.items ≡ count) }
 {
     let mut readings = Vec::new(alloc);
-    let at = InfoOffset { at: 0 };
     'places: while readings.len() < count {
         readings.push(Reading {
-            at,
-            entries: Err(InfoFault::Short),
+            functions: Vec::new(alloc),
+            fault: None,
         })?;
     }
     Ok(readings)
@@ -113,81 +162,80 @@ fn unread(alloc: Global, count: usize) -> Result<Vec<Reading>, NoMemory>
 fn readings_of(alloc: Global, source: &Source<'_>, spans: &[Span]) -> Result<Vec<Reading>, NoMemory>
     requires source { IsSource source.now }
     requires spans { All (IsSpan source.now.info.now) spans.now }
-    ensures rising { IfOk result (λ readings. All IsRisingReading readings.items) }
-    ensures value { IfOk result (λ readings. map reading_shown readings.items ≡ map (given source.now.abbrevs.now source.now.strs.now source.now.info.now) spans.now) }
+    ensures { IfOk result (λ readings. map reading_shown readings.items ≡ all_given source.now.abbrevs.now source.now.strs.now source.now.info.now 0 spans.now) }
 {
     let turns = turns_of(alloc, source, spans)?;
     let mut readings = unread(alloc, spans.len())?;
     let mut table = Table::new(alloc, source.abbrevs);
     for turn in &turns {
         let number = turn.number;
-        readings[number] = reading_of(alloc, source, &spans[number], &mut table)?;
+        readings[number] = reading_of(alloc, source, number, &spans[number], &mut table)?;
     }
     Ok(readings)
 }
 
 // Adds what was read of a unit.
-fn push_reading(contents: &mut Contents, reading: Reading) -> Result<(), NoMemory>
-    requires reading { IsRisingReading reading }
-    requires rising { All IsRising contents.old.units.items }
-    ensures rising { OnOk result (All IsRising contents.new.units.items) }
-    ensures value { OnOk result (shown contents.new ≡ joined (shown contents.old) (reading_shown reading)) }
+fn push_reading(found: &mut Found, reading: Reading) -> Result<(), NoMemory>
+    ensures { OnOk result (functions_shown found.new ≡ joined (functions_shown found.old) (reading_shown reading)) }
 {
-    let Reading { at, entries } = reading;
-    match entries {
-        Ok(entries) => {
-            contents.units.push(Unit { entries })?;
-            Ok(())
-        }
-        Err(fault) => {
-            contents.faults.push(UnitFault { offset: at, fault })?;
-            Ok(())
-        }
-    }
+    let Reading { functions, fault } = reading;
+    found.functions.extend_from_slice(&functions)?;
+    push_fault(found, fault)
 }
 
 // Adds what was read of several units.
-fn push_readings(contents: &mut Contents, readings: Vec<Reading>) -> Result<(), NoMemory>
-    requires readings { All IsRisingReading readings.items }
-    requires rising { All IsRising contents.old.units.items }
-    ensures rising { OnOk result (All IsRising contents.new.units.items) }
-    ensures value { OnOk result (shown contents.new ≡ joined (shown contents.old) (all_joined (map reading_shown readings.items))) }
+fn push_readings(found: &mut Found, readings: Vec<Reading>) -> Result<(), NoMemory>
+    ensures { OnOk result (functions_shown found.new ≡ joined (functions_shown found.old) (all_joined (map reading_shown readings.items))) }
 {
     let mut rest = readings.into_iter();
     'readings: while let Some(reading) = rest.next() {
-        push_reading(contents, reading)?;
+        push_reading(found, reading)?;
     }
     Ok(())
 }
 
-// Adds the fault of a last unit, if it has one.
-fn push_fault(contents: &mut Contents, fault: Option<UnitFault>) -> Result<(), NoMemory>
-    ensures units { contents.new.units.items ≡ contents.old.units.items }
-    ensures value { OnOk result (shown contents.new ≡ joined (shown contents.old) (ended fault)) }
+// Adds the fault of a unit, if it has one.
+fn push_fault(found: &mut Found, fault: Option<UnitFault>) -> Result<(), NoMemory>
+    ensures { OnOk result (functions_shown found.new ≡ joined (functions_shown found.old) (ended fault)) }
 {
-    match fault {
-        None => Ok(()),
-        Some(fault) => {
-            contents.faults.push(fault)?;
-            Ok(())
-        }
+    if let Some(fault) = fault {
+        found.faults.push(fault)?;
     }
+    Ok(())
+}
+
+// The functions and the faults of units, and the fault of a last one.
+fn found_in(
+    alloc: Global,
+    source: &Source<'_>,
+    spans: &[Span],
+    fault: Option<UnitFault>,
+) -> Result<Found, NoMemory>
+    requires source { IsSource source.now }
+    requires spans { All (IsSpan source.now.info.now) spans.now }
+    ensures { IfOk result (λ found. functions_shown found ≡ joined (all_joined (all_given source.now.abbrevs.now source.now.strs.now source.now.info.now 0 spans.now)) (ended fault)) }
+{
+    let readings = readings_of(alloc, source, spans)?;
+    let mut found = Found {
+        functions: Vec::new(alloc),
+        faults: Vec::new(alloc),
+    };
+    push_readings(&mut found, readings)?;
+    push_fault(&mut found, fault)?;
+    Ok(found)
 }
 
 /// What the units of the section give, each with its own fault or none. They are read in another order than theirs, so
 /// that tables of abbreviations which share their ends are read once.
+#[tactic(auto, using(crate::proofs::Joined::units_are))]
 pub fn contents_of(alloc: Global, source: &Source<'_>) -> Result<Contents, NoMemory>
     requires { IsSource source.now }
-    ensures rising { IfOk result (λ contents. All IsRising contents.units.items) }
-    ensures value { IfOk result (λ contents. shown contents ≡ contents_of source.now.abbrevs.now source.now.strs.now source.now.info.now) }
+    ensures spans { IfOk result (λ contents. All (IsSpan source.now.info.now) contents.units.items) }
+    ensures units { IfOk result (λ contents. map (entries_given source.now.abbrevs.now source.now.strs.now source.now.info.now) contents.units.items ≡ (contents_of source.now.abbrevs.now source.now.strs.now source.now.info.now).items) }
+    ensures functions { IfOk result (λ contents. contents.found.functions.items ≡ functions_from 0 (contents_of source.now.abbrevs.now source.now.strs.now source.now.info.now).items) }
+    ensures faults { IfOk result (λ contents. contents.found.faults.items ≡ (contents_of source.now.abbrevs.now source.now.strs.now source.now.info.now).faults) }
 {
     let Spans { units, fault } = spans_of(alloc, source.info)?;
-    let readings = readings_of(alloc, source, &units)?;
-    let mut contents = Contents {
-        units: Vec::new(alloc),
-        faults: Vec::new(alloc),
-    };
-    push_readings(&mut contents, readings)?;
-    push_fault(&mut contents, fault)?;
-    Ok(contents)
+    let found = found_in(alloc, source, &units, fault)?;
+    Ok(Contents { units, found })
 }

@@ -7,7 +7,7 @@ use Rattle.debug_info.proofs.entry.entries_at.Given as goal
 abbrev pub invariant-entries : goal.invariant-entries
 invariant-entries l =
     record {
-      read : Reading (entries_from (length l.source.info.now + 1) l.source.abbrevs.now l.source.strs.now l.source.info.now l.table.at l.unit l.most 0 l.at) l.source.abbrevs.now l.source.strs.now l.source.info.now l.table.at l.unit l.entries.items l.left l.level l.place;
+      read : Reading (entries_from (length l.source.info.now + 1) l.source.abbrevs.now l.source.strs.now l.source.info.now l.table.at l.unit 0 l.at) l.source.abbrevs.now l.source.strs.now l.source.info.now l.table.at l.unit l.entries.items l.level l.place;
       rising : RisesTo 0 l.entries.items (l.place - l.unit);
       level : l.level ≤ 64;
       unit : l.unit ≤ l.place;

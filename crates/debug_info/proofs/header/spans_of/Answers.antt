@@ -1,6 +1,5 @@
-use Rattle.std.proofs.Common.{◌<◌, length, rules, sym}
+use Rattle.std.proofs.Common.{◌<◌, arith, rules, sym}
 use Rattle.std.proofs.lemmas.List.Elements.{All-push, All-same}
-use Rattle.debug_info.specs.Limits.{most_units}
 use Rattle.debug_info.specs.Spans.{IsSpan}
 use Rattle.debug_info.specs.declared.header.Span.{Span}
 use Rattle.debug_info.proofs.Joined.{spanned_end, spanned_fault, spanned_next, spanned_start}
@@ -17,17 +16,17 @@ units-preserved c =
     let info = c.args.info.now in
     let span : Span = record { at = c.units.at; end = c.in-Ok.end } in
     let behind = c.in-Ok.ensures.behind in
-    let few : length c.units.units.items < most_units = search rules in
+    let further : span.at < span.end = omega arith in
     let push = c.in_ok-push-in-Ok.ensures.items in
     record {
       spans = All-same (IsSpan info) _ _ push (All-push (IsSpan info) c.units.units.items span c.units.invariant.spans (record { header = behind; within = c.in-Ok.ensures.within }));
-      read = spanned_next info c.units.units.items _ span few push c.units-test.true (sym c.in-Ok.ensures.value) c.units.invariant.read;
+      read = spanned_next info c.units.units.items _ span push c.units-test.true further (sym c.in-Ok.ensures.value) c.units.invariant.read;
     }
 
 pub returns-in-Err : goal.returns-in-Err
-returns-in-Err c = let few : length c.units.units.items < most_units = search rules in record {
+returns-in-Err c = record {
   spans = c.units.invariant.spans;
-  value = rw c.fault_at-in-Err.ensures (spanned_fault c.args.info.now c.units.units.items c.units.at c.in-Err.fault few c.units-test.true (sym c.in-Err.ensures.value) c.units.invariant.read);
+  value = rw c.fault_at.ensures (spanned_fault c.args.info.now c.units.units.items c.units.at c.in-Err.fault c.units-test.true (sym c.in-Err.ensures.value) c.units.invariant.read);
 }
 
 pub returns : goal.returns

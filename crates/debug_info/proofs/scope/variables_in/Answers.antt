@@ -1,5 +1,4 @@
-use Rattle.std.proofs.Common.{◌≡◌, ◌<◌, ◌++◌, ℕ, List, append-nil, ap, filter, map, take, true, false, arith, sym, ◌∙◌}
-use Rattle.debug_info.specs.Limits.{most_variables}
+use Rattle.std.proofs.Common.{◌≡◌, ◌<◌, ◌++◌, ℕ, List, append-nil, ap, filter, map, true, false, arith, sym, ◌∙◌}
 use Rattle.debug_info.specs.Scope.{Variable, by_depth, is_unit_variable, own_entries, variable_of, variables_in}
 use Rattle.debug_info.specs.Shown.{seen_texts, shown_variables}
 use Rattle.debug_info.specs.declared.entry.Entry.{Entry}
@@ -14,13 +13,13 @@ returns c =
     let old = shown_variables c.levels.variables.items in
     let own = c.in_ok-own.own.items in
     let none : c.levels.level ≡ 0 = (let h = c.levels-test.false in omega arith) in
-    let whole : old ≡ map f (by_depth 64 (take most_variables (own_entries c.args.pc c.in-Some.function.level c.in-Some.behind.now))) =
+    let whole : old ≡ map f (by_depth 64 (own_entries c.args.pc c.in-Some.function.level c.in-Some.behind.now)) =
     sym (append-nil old)
     ∙ ap (λ (n : ℕ). old ++ map f (by_depth n own)) (sym none)
     ∙ sym c.levels.invariant
     ∙ ap (λ (es : List Entry). map f (by_depth 64 es)) c.in_ok-own.ensures in
     c.in_ok-push_unit.ensures
-    ∙ ap (λ (vs : List Variable). vs ++ map (variable_of texts entries c.in-Some.function.base false) (take most_variables (filter is_unit_variable entries))) whole
+    ∙ ap (λ (vs : List Variable). vs ++ map (variable_of texts entries c.in-Some.function.base false) (filter is_unit_variable entries)) whole
     ∙ ap (λ (es : List Entry). variables_in texts c.args.pc entries es) (sym c.in-Some.ensures)
 
 pub levels-preserved : goal.levels-preserved

@@ -1,10 +1,10 @@
 use Rattle.std.proofs.Common.{◌<◌, List, length, get_or, subst, refl, sym, ◌∙◌, ap}
 use Rattle.std.proofs.lemmas.List.{length-set, take_all}
 use Rattle.debug_info.specs.Order.{AreTurns}
-use Rattle.debug_info.specs.Spans.{given}
+use Rattle.debug_info.specs.Spans.{functions_given}
 use Rattle.debug_info.specs.declared.header.Span.{Span}
 use Rattle.debug_info.specs.declared.order.Turn.{Turn}
-use Rattle.debug_info.proofs.Orderly.{AreRead, IsReading, any_default, read_more, read_rising, read_shown}
+use Rattle.debug_info.proofs.Orderly.{AreRead, IsReading, any_default, read_more, read_shown}
 use Rattle.debug_info.proofs.unit.readings_of.Goals as goal
 
 pub loop-turn-preserved : goal.loop-turn-preserved
@@ -21,29 +21,16 @@ loop-turn-preserved c =
     let numbers : AreTurns (length spans) turns = subst (AreTurns (length spans)) (sym c.deref-turn-items.ensures.value) c.in_ok-turns.ensures in
     let within : turn.number < length spans = numbers.within i first h in
     let none : Span = record { at = 0; end = 0 } in
-    let one : (s : Span) → IsReading source.abbrevs.now source.strs.now source.info.now (get_or spans turn.number s) new = λ s. record {
-      shown = read.value ∙ ap (given source.abbrevs.now source.strs.now source.info.now) (any_default spans turn.number none s within);
-      rising = read.rising;
-    } in
+    let one : (s : Span) → IsReading source.abbrevs.now source.strs.now source.info.now turn.number (get_or spans turn.number s) new = λ s.
+    (read.value ∙ ap (functions_given source.abbrevs.now source.strs.now source.info.now turn.number) (any_default spans turn.number none s within)) in
     record {
       table = read.table;
       count = length-set c.loop-turn.readings.items turn.number new ∙ c.loop-turn.invariant.count;
       read = read_more source.abbrevs.now source.strs.now source.info.now spans turns c.loop-turn.readings.items _ i turn new h (any_default turns i first turn h) within c.loop-turn.invariant.count refl one c.loop-turn.invariant.read;
     }
 
-pub returns-clause-rising : goal.returns-clause-rising
-returns-clause-rising c =
-    let source = c.args.source.now in
-    let spans = c.args.spans.now in
-    let turns = c.deref-turn-items.result.now in
-    let readings = c.loop-turn.readings.items in
-    let numbers : AreTurns (length spans) turns = subst (AreTurns (length spans)) (sym c.deref-turn-items.ensures.value) c.in_ok-turns.ensures in
-    let all : AreRead source.abbrevs.now source.strs.now source.info.now spans turns readings =
-    subst (λ (ts : List Turn). AreRead source.abbrevs.now source.strs.now source.info.now spans ts readings) (take_all c.loop-turn.turn-index turns c.loop-turn-test.false) c.loop-turn.invariant.read in
-    read_rising source.abbrevs.now source.strs.now source.info.now spans turns readings c.loop-turn.invariant.count numbers all
-
-pub returns-clause-value : goal.returns-clause-value
-returns-clause-value c =
+pub returns : goal.returns
+returns c =
     let source = c.args.source.now in
     let spans = c.args.spans.now in
     let turns = c.deref-turn-items.result.now in
