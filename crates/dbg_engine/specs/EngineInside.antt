@@ -1,5 +1,4 @@
 -- An engine's fields.
-use Rattle.std.specs.Prelude.{◌-◌, vec_len, vec_capacity}
 use Rattle.dbg_engine.specs.declared.engine.Engine.TheInside.{Inside}
 use Rattle.engine_parts.specs.Seen.{Engine}
 use Rattle.engine_parts.specs.Facts.{Facts}
@@ -7,8 +6,8 @@ use Rattle.engine_parts.specs.Facts.{Facts}
 abbrev pub run_of : Inside → Engine
 run_of e = record {
   opening = e.opening;
-  journal = e.entries.items;
-  spare = vec_capacity e.entries - vec_len e.entries;
+  journal = e.journal.entries;
+  spare = e.journal.spare;
   machine = e.machine;
   minds = e.minds.items;
   hold = e.hold;

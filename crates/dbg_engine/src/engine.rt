@@ -36,7 +36,9 @@ mod turn;
 
 use break_table::BreakTable;
 use data_memory::DataMemory;
-use dbg_model::{Entry, HISTORY, Journal, Opening, SourceIndex, ThreadView, Watch, WatchList};
+use dbg_model::{
+    Entries, HISTORY, JournalWriter, Opening, SourceIndex, ThreadView, Watch, WatchList,
+};
 use dbg_traits::{NoMemory, Settings};
 use elf32_read::Image;
 use engine_parts::ending::{Closed, End};
@@ -60,7 +62,7 @@ pub const SPARE: usize = 32;
 pub struct Engine {
     alloc: Global,
     opening: Opening,
-    entries: Vec<Entry>,
+    journal: JournalWriter,
     machine: Machine,
     minds: Vec<Mind>,
     hold: Option<Hold>,
@@ -109,7 +111,7 @@ impl Engine {
         Ok(Engine {
             alloc,
             opening,
-            entries: Vec::new(alloc),
+            journal: JournalWriter::new(alloc),
             machine: parts.machine,
             minds: parts.kept.minds,
             hold: None,
@@ -132,7 +134,7 @@ impl Engine {
         ensures err { OnErr result (self.new ≡ self.old) }
         ensures facts { Facts self.new }
     {
-        self.entries.reserve(n)?;
+        self.journal.reserve(n)?;
         Ok(())
     }
 
@@ -200,18 +202,18 @@ impl Engine {
         all_gone(self.minds.as_slice())
     }
 
-    /// The entries of the journal.
-    pub fn entries(&self) -> &[Entry]
-        ensures { result.now ≡ self.now.journal }
+    /// The entries of the journal, in order.
+    pub fn entries(&self) -> Entries<'_>
+        ensures { result ≡ self.now.journal }
     {
-        self.entries.as_slice()
+        self.journal.entries()
     }
 
     /// For how many entries there is room.
     pub fn spare(&self) -> usize
         ensures { result ≡ self.now.spare }
     {
-        self.entries.capacity() - self.entries.len()
+        self.journal.spare()
     }
 
     /// Where a hart shows its pc: at home, where it is in its slot.
@@ -358,7 +360,7 @@ impl Engine {
         let Engine {
             alloc: _,
             opening,
-            entries,
+            journal,
             machine,
             minds,
             hold,
@@ -377,7 +379,7 @@ impl Engine {
         release(&mut machine, hold, &table);
         Closed {
             opening,
-            journal: Journal::of(entries),
+            journal: journal.close(),
             machine,
         }
     }

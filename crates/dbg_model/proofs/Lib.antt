@@ -1,6 +1,8 @@
 pub mod Options
 pub mod Adding
 pub mod Counting
+pub mod Lengths
+pub mod Keeping
 pub mod Leaving
 pub mod Plainly
 pub mod Bounding

@@ -1,5 +1,5 @@
 -- Which journals are lawful, and the state that one leaves.
-use Rattle.std.specs.Prelude.{◌≡◌, ℕ, ◌+◌, ◌-◌, Bool, true, List, [], ◌∷◌, ◌++◌, length, drop, Option, Some, None, option_and_then, if◌then◌else◌, ◌==◌, not}
+use Rattle.std.specs.Prelude.{◌≡◌, ℕ, zero, suc, ◌+◌, ◌-◌, Bool, true, List, [], ◌∷◌, ◌++◌, length, drop, Option, Some, None, option_and_then, if◌then◌else◌, ◌==◌, not}
 use Rattle.std.specs.Option.{option_map}
 use Rattle.dbg_model.specs.declared.entry.Entry.{Entry}
 use Rattle.dbg_model.specs.declared.entry.Entry.TheVariants.{Ran, Counted, Stopped, Left, Did, Poked}
@@ -71,6 +71,11 @@ abbrev pub lengthened : List Entry → ℕ → List Entry
 lengthened [] h = Ran h 1 ∷ []
 lengthened (e ∷ []) h = one_more e h
 lengthened (e ∷ f ∷ es) h = e ∷ lengthened (f ∷ es) h
+
+-- the journal after n more instructions of a hart
+abbrev pub lengthened_by : ℕ → List Entry → ℕ → List Entry
+lengthened_by zero j h = j
+lengthened_by (suc n) j h = lengthened (lengthened_by n j h) h
 
 -- how many instructions the last entry has
 abbrev pub count_of : Entry → ℕ

@@ -1,6 +1,6 @@
 -- What is judged where a hart has just arrived: what its breakpoints and a watch do with it (GDB manual, "Breakpoints,
 -- Watchpoints, and Catchpoints"), and whether its step is at its end (GDB manual, "Continuing and Stepping").
-use Rattle.std.specs.Prelude.{ℕ, Bool, true, false, not, ◌&&◌, ◌||◌, List, Option, Some, None, option_and_then, is_some, if◌then◌else◌}
+use Rattle.std.specs.Prelude.{ℕ, Bool, true, false, not, ◌&&◌, ◌||◌, List, Option, None, option_and_then, is_some, if◌then◌else◌}
 use Rattle.std.specs.Option.{option_map}
 use Rattle.rv_decode.specs.Decode.{decode}
 use Rattle.rv_decode.specs.declared.instr.Instr.{Instr}

@@ -1,10 +1,8 @@
-ghost use Rattle.std.specs.Prelude.{◌≡◌};
-
+// Entries of a journal, and what they say of a hart.
 use crate::Fired;
 use break_table::CondError;
 use mi_commands::ByteList;
 use rv_exec::Cause;
-use std::marker::Model;
 
 /// What a hart is at. A hart that isn't `Exited` is live.
 #[derive(Clone, Copy, Debug, PartialEq, Eq)]
@@ -62,33 +60,11 @@ pub enum Entry {
     Poked { poke: Poke },
 }
 
-/// A journal, which contracts see as the list of its entries.
-#[derive(Drop)]
-pub struct Journal {
-    entries: Vec<Entry>,
-}
-
-impl Model for Journal {
-    ghost use Rattle.std.specs.Prelude.{List};
-    ghost use Rattle.dbg_model.specs.declared.entry.Entry.{Entry};
-
-    ghost Value = { List Entry };
-
-    ghost view = { λ j. j.entries.items };
-}
-
-impl Journal {
-    /// The entries of a vector, which keeps its memory.
-    pub fn of(entries: Vec<Entry>) -> Journal
-        ensures { result ≡ entries.items }
-    {
-        Journal { entries }
-    }
-
-    /// The entries in order.
-    pub fn entries(&self) -> &[Entry]
-        ensures { result.now ≡ self.now }
-    {
-        self.entries.as_slice()
-    }
+/// An entry where a journal keeps it. A `Ran` is told by its bytes there, so nothing refers to it.
+#[derive(Clone, Copy)]
+pub enum EntryRef<'a> {
+    /// A hart executed so many instructions.
+    Ran { hart: u32, count: u64 },
+    /// An entry other than `Ran`.
+    Noted(&'a Entry),
 }

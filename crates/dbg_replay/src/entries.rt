@@ -3,6 +3,7 @@ ghost use Rattle.std.specs.Prelude.{◌≡◌, ◌<◌, ◌-◌, ◌^◌, None, 
 ghost use Rattle.dbg_model.specs.declared.entry.Why.TheVariants as reason;
 ghost use Rattle.dbg_model.specs.Breaks.{is_number, is_stop, same_error};
 ghost use Rattle.dbg_model.specs.Watches.{is_fired};
+ghost use Rattle.dbg_model.specs.Keeping.{entry_of};
 ghost use Rattle.dbg_model.specs.Lawful.{counted_by, enter, left_by, leaver_from, ran, stopped_by};
 ghost use Rattle.dbg_replay.specs.Parts.{shown};
 ghost use Rattle.dbg_replay.specs.Going.{Comes, Kept, halted_by, is_reason, traps_with};
@@ -15,7 +16,7 @@ use crate::pokes::write;
 use crate::state::Parts;
 use crate::stepping::{execute_plain, step};
 use break_table::{CondError, Due};
-use dbg_model::{Entry, Fired, Judgement, Opening, Why};
+use dbg_model::{Entry, EntryRef, Fired, Judgement, Opening, Why};
 use rv_exec::{Cause, Stepped};
 use std::alloc::Global;
 
@@ -175,9 +176,14 @@ fn leave(opening: &Opening, parts: &mut Parts, h: u32, code: u32) -> Result<(), 
     Ok(())
 }
 
-/// One entry.
+// One entry that a journal keeps whole.
 #[tactic(auto, unfolding(dbg_model::specs::Lawful::enter))]
-pub fn enter(alloc: Global, opening: &Opening, parts: &mut Parts, entry: &Entry) -> Result<(), Halt>
+fn enter_noted(
+    alloc: Global,
+    opening: &Opening,
+    parts: &mut Parts,
+    entry: &Entry,
+) -> Result<(), Halt>
     requires kept { Kept opening.now parts.old }
     requires room { parts.old.noted < 2 ^ 64 - 1 }
     ensures { Comes opening.now result (enter opening.now (shown parts.old) entry.now) parts.new }
@@ -195,5 +201,23 @@ pub fn enter(alloc: Global, opening: &Opening, parts: &mut Parts, entry: &Entry)
         Entry::Left { hart, code } => leave(opening, parts, *hart, *code),
         Entry::Did { line } => do_line(alloc, opening, parts, line.as_slice()),
         Entry::Poked { poke } => write(opening, parts, poke),
+    }
+}
+
+/// One entry.
+#[tactic(auto, unfolding(dbg_model::specs::Lawful::enter))]
+pub fn enter(
+    alloc: Global,
+    opening: &Opening,
+    parts: &mut Parts,
+    entry: EntryRef<'_>,
+) -> Result<(), Halt>
+    requires kept { Kept opening.now parts.old }
+    requires room { parts.old.noted < 2 ^ 64 - 1 }
+    ensures { Comes opening.now result (enter opening.now (shown parts.old) (entry_of entry.entry)) parts.new }
+{
+    match entry {
+        EntryRef::Ran { hart, count } => run(alloc, opening, parts, hart, count),
+        EntryRef::Noted(entry) => enter_noted(alloc, opening, parts, entry),
     }
 }

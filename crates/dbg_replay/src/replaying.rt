@@ -1,9 +1,10 @@
 // A whole journal.
-ghost use Rattle.std.specs.Prelude.{◌≡◌, IfOk, Option};
+ghost use Rattle.std.specs.Prelude.{◌≡◌, ◌<◌, ◌^◌, IfOk, Option, length};
 ghost use Rattle.std.specs.Option.{option_map};
 ghost use Rattle.dbg_traits.specs.Settings.{AreSettings};
 ghost use Rattle.dbg_model.specs.State.{State, first_state};
 ghost use Rattle.dbg_model.specs.Journals.{follows, ran_hart, replay};
+ghost use Rattle.dbg_model.specs.Keeping.{entry_of};
 ghost use Rattle.dbg_replay.specs.Parts.{shown};
 ghost use Rattle.dbg_replay.specs.Going.{Ends, Kept, Misses, state_of};
 
@@ -11,29 +12,31 @@ use crate::entries::enter;
 use crate::halt::Halt;
 use crate::loading::first_parts;
 use crate::state::{ModelState, Parts};
-use dbg_model::{Entry, Journal, Opening};
+use dbg_model::{Entries, Entry, EntryRef, Journal, Opening};
 use dbg_traits::NoMemory;
 use std::alloc::Global;
 
 // Whether an entry may come behind one that has this hart where it is a `Ran`.
-fn follows(prev: Option<u32>, entry: &Entry) -> bool
-    ensures { result ≡ follows prev entry.now }
+fn follows(prev: Option<u32>, entry: EntryRef<'_>) -> bool
+    ensures { result ≡ follows prev (entry_of entry.entry) }
 {
+    let Some(prev) = prev else {
+        return true;
+    };
     match entry {
-        Entry::Ran { hart, .. } => match prev {
-            None => true,
-            Some(prev) => prev != *hart,
-        },
-        _ => true,
+        EntryRef::Ran { hart, .. } => prev != hart,
+        EntryRef::Noted(Entry::Ran { hart, .. }) => prev != *hart,
+        EntryRef::Noted(_) => true,
     }
 }
 
-fn ran_hart(entry: &Entry) -> Option<u32>
-    ensures { result ≡ ran_hart entry.now }
+fn ran_hart(entry: EntryRef<'_>) -> Option<u32>
+    ensures { result ≡ ran_hart (entry_of entry.entry) }
 {
     match entry {
-        Entry::Ran { hart, .. } => Some(*hart),
-        _ => None,
+        EntryRef::Ran { hart, .. } => Some(hart),
+        EntryRef::Noted(Entry::Ran { hart, .. }) => Some(*hart),
+        EntryRef::Noted(_) => None,
     }
 }
 
@@ -42,11 +45,12 @@ fn go_through(
     alloc: Global,
     opening: &Opening,
     parts: &mut Parts,
-    entries: &[Entry],
+    entries: Entries<'_>,
 ) -> Result<(), Halt>
     requires first { shown parts.old ≡ first_state opening.now }
     requires kept { Kept opening.now parts.old }
-    ensures { Ends result (option_map state_of (replay opening.now entries.now)) parts.new }
+    requires few { length entries < 2 ^ 64 }
+    ensures { Ends result (option_map state_of (replay opening.now entries.entry)) parts.new }
 {
     let mut prev = None;
     for entry in entries {

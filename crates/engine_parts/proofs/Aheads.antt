@@ -44,7 +44,8 @@ use Rattle.dbg_model.specs.declared.watch.Watch.{Watch}
 use Rattle.break_table.specs.Table.{is_wait, stands}
 use Rattle.std.specs.List.{list_any}
 use Rattle.engine_parts.specs.Going.{Way, InPlace, ByCopy, Goes, GoesBy, Passes, SurroundingsView, is_kept, turns_of}
-use Rattle.engine_parts.specs.Several.{AllTurned, goes_alone, is_alone, lengthened_by}
+use Rattle.dbg_model.specs.Journals.{lengthened_by}
+use Rattle.engine_parts.specs.Several.{AllTurned, goes_alone, is_alone}
 use Rattle.engine_parts.specs.Slicing.{is_word}
 use Rattle.engine_parts.specs.Calls.{Before, Of, Turns, Undue}
 use Rattle.engine_parts.specs.Rows.{Executes, row_at}

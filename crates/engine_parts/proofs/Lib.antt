@@ -25,7 +25,6 @@ pub mod Marking
 pub mod Words
 pub mod Tabling
 pub mod Waitings
-pub mod Lengths
 pub mod Rows
 pub mod Arrivals
 pub mod Nearing
@@ -42,3 +41,4 @@ pub mod Quiet
 pub mod Shown
 pub mod Taking
 pub mod Jobs
+pub mod Coming

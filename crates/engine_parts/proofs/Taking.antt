@@ -22,7 +22,8 @@ use Rattle.engine_parts.proofs.Holding.{core_at, no_hold, own_seen}
 use Rattle.engine_parts.proofs.Bounding.{below}
 use Rattle.engine_parts.proofs.Stepping.{fact_of}
 use Rattle.engine_parts.specs.Calls.{Turns}
-use Rattle.engine_parts.specs.Several.{AllRan, lengthened_by}
+use Rattle.dbg_model.specs.Journals.{lengthened_by}
+use Rattle.engine_parts.specs.Several.{AllRan}
 use Rattle.engine_parts.specs.Slicing.{CanTake, goes_apart, takes_slices}
 use Rattle.engine_parts.specs.declared.moving.Turned.TheVariants as turned
 use Rattle.engine_parts.specs.declared.moving.Move.TheVariants as move

@@ -62,7 +62,7 @@ executed_by (t ∷ ts) = executed t + executed_by ts
 abbrev pub MovesToIdle : Phase → List Turned → Type 0
 MovesToIdle p [] = ⊥
 MovesToIdle p (t ∷ []) = (why : Option Why) × Marks t why p Idle
-MovesToIdle p (t ∷ u ∷ ts) = (q : Phase) (why : Option Why) × Marks t why p q × (IsIdle q → ⊥) × MovesToIdle q (u ∷ ts)
+MovesToIdle p (t ∷ u ∷ ts) = (q : Phase) × (why : Option Why) × Marks t why p q × (IsIdle q → ⊥) × MovesToIdle q (u ∷ ts)
 
 -- From one Idle to the next a hart executes exactly one instruction, or none.
 abbrev pub OneInstructionOrNone : Type 0

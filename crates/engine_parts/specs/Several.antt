@@ -1,8 +1,6 @@
 -- Several turns of a hart of which nothing is said.
-use Rattle.std.specs.Prelude.{◌≡◌, ◌⊎◌, ◌&&◌, ◌||◌, not, is_some, ℕ, zero, suc, Bool, true, false, List, Option, Some, None, is_none, slice_get}
+use Rattle.std.specs.Prelude.{◌≡◌, ◌⊎◌, ◌&&◌, ◌||◌, not, is_some, ℕ, zero, suc, Bool, true, false, Option, Some, None, is_none, slice_get}
 use Rattle.hart_machine.specs.Running.{HasStopped}
-use Rattle.dbg_model.specs.declared.entry.Entry.{Entry}
-use Rattle.dbg_model.specs.Journals.{lengthened}
 use Rattle.dbg_model.specs.Lawful.{may_go}
 use Rattle.elf32_read.specs.Program.{Program}
 use Rattle.step_plans.specs.declared.plan.Plan.{Plan}
@@ -82,8 +80,3 @@ is_alone p x hold = ((((runs x && is_idle x.phase) && not x.asked) && goes_alone
 -- instruction writes where a watch has its bytes.
 abbrev pub Rests : Engine → ℕ → Type 0
 Rests r h = (may_go r.opening (seen r) ≡ false) ⊎ (((x : Mind) → slice_get r.minds h ≡ Some x → is_alone r.opening.image x r.hold ≡ false) ⊎ (HasStopped r.machine h ⊎ WritesNear r.machine h r.watches))
-
--- the journal after n more instructions of a hart
-abbrev pub lengthened_by : ℕ → List Entry → ℕ → List Entry
-lengthened_by zero j h = j
-lengthened_by (suc n) j h = lengthened (lengthened_by n j h) h

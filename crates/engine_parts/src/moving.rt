@@ -1,13 +1,13 @@
 // What a step of the machine does to the journal and to what is kept of the harts.
-ghost use Rattle.std.specs.Prelude.{◌≡◌, ◌≤◌, ◌<◌, ◌+◌, ◌-◌, ◌^◌, true, map, length, slice_set, vec_len, vec_capacity};
+ghost use Rattle.std.specs.Prelude.{◌≡◌, ◌≤◌, ◌<◌, ◌+◌, ◌-◌, ◌^◌, true, map, length, slice_set};
 ghost use Rattle.dbg_model.specs.Journals.{lengthened, last_count};
 ghost use Rattle.hart_machine.specs.Stepping.{has_run};
 ghost use Rattle.engine_parts.specs.Minds.{gone_mind, ran_mind, after_step};
 ghost use Rattle.engine_parts.specs.Steps.{applied, exits_of, moved_by};
 
-use crate::journal::{note, note_lefts, note_runs};
+use crate::journal::note_lefts;
 use crate::{Activity, Mind, Phase};
-use dbg_model::{Entry, Fired};
+use dbg_model::{Entry, Fired, JournalWriter};
 use rv_exec::Stepped;
 use step_plans::Plan;
 
@@ -83,16 +83,15 @@ pub fn ran_mind(mind: Mind, plan: Plan, last: Option<u32>, fired: Option<Fired>)
 }
 
 // One more instruction of a hart, of which this is kept afterwards.
-fn note_instruction(h: u32, mind: Mind, entries: &mut Vec<Entry>, minds: &mut [Mind])
+fn note_instruction(h: u32, mind: Mind, journal: &mut JournalWriter, minds: &mut [Mind])
     requires hart { h < length minds.old }
-    requires room { vec_len entries.old < vec_capacity entries.old }
-    requires count { last_count entries.old.items < 2 ^ 64 - 1 }
-    ensures entries { entries.new.items ≡ lengthened entries.old.items h }
+    requires room { 0 < journal.old.spare }
+    requires count { last_count journal.old.entries < 2 ^ 64 - 1 }
+    ensures entries { journal.new.entries ≡ lengthened journal.old.entries h }
     ensures minds { minds.new ≡ slice_set minds.old h mind }
-    ensures room { vec_len entries.new ≤ vec_len entries.old + 1 }
-    ensures capacity { vec_capacity entries.old ≤ vec_capacity entries.new }
+    ensures spare { journal.old.spare ≤ journal.new.spare + 1 }
 {
-    note_runs(entries, h, 1);
+    journal.lengthen(h, 1);
     minds[h as usize] = mind;
 }
 
@@ -122,38 +121,37 @@ pub fn apply(
     stepped: Stepped,
     h: u32,
     ran: Mind,
-    entries: &mut Vec<Entry>,
+    journal: &mut JournalWriter,
     minds: &mut [Mind],
 ) -> usize
     requires done { has_run stepped ≡ true }
     requires hart { h < length minds.old }
     requires few { length minds.old ≤ 16 }
-    requires room { vec_len entries.old + 32 ≤ vec_capacity entries.old }
-    requires count { last_count entries.old.items < 2 ^ 64 - 1 }
-    ensures parts { record { journal = entries.new.items; minds = minds.new } ≡ applied stepped h ran (record { journal = entries.old.items; minds = minds.old }) }
+    requires room { 32 ≤ journal.old.spare }
+    requires count { last_count journal.old.entries < 2 ^ 64 - 1 }
+    ensures parts { record { journal = journal.new.entries; minds = minds.new } ≡ applied stepped h ran (record { journal = journal.old.entries; minds = minds.old }) }
     ensures exits { result ≡ exits_of stepped h ran minds.old }
     ensures few { result ≤ 16 }
 {
     match stepped {
         Stepped::Ran => {
-            note_instruction(h, ran, entries, minds);
+            note_instruction(h, ran, journal, minds);
             0
         }
         Stepped::Wrote { .. } => {
-            note_instruction(h, ran, entries, minds);
+            note_instruction(h, ran, journal, minds);
             0
         }
         Stepped::HartExit(code) => {
-            note_instruction(h, gone_mind(ran), entries, minds);
-            note(entries, Entry::Left { hart: h, code });
+            note_instruction(h, gone_mind(ran), journal, minds);
+            journal.push(Entry::Left { hart: h, code });
             1
         }
         Stepped::AllExit(code) => {
-            note_instruction(h, ran, entries, minds);
-            let before = entries.len();
-            note_lefts(entries, minds, 0, code);
+            note_instruction(h, ran, journal, minds);
+            let exits = note_lefts(journal, minds, 0, code);
             mark_gone(minds);
-            entries.len() - before
+            exits
         }
         Stepped::Hit | Stepped::Trap(_) => unreachable!(),
     }

@@ -4,14 +4,14 @@ use Rattle.std.specs.Prelude.{Option, Some, None}
 use mathlib.Core.List.{append-nil}
 use Rattle.dbg_traits.specs.Told.{Told, more}
 use Rattle.dbg_model.specs.Lawful.{may_go}
-use Rattle.dbg_model.specs.Journals.{lengthened}
+use Rattle.dbg_model.specs.Journals.{lengthened, lengthened_by}
 use Rattle.engine_parts.specs.Seen.{Engine, seen}
 use Rattle.engine_parts.specs.Facts.{Facts}
 use Rattle.engine_parts.proofs.Bounding.{below}
 use Rattle.engine_parts.specs.declared.moving.Turned.{Turned}
 use Rattle.engine_parts.specs.declared.moving.Turned.TheVariants as turned
 use Rattle.engine_parts.specs.declared.moving.Move.TheVariants as move
-use Rattle.engine_parts.specs.Several.{AllRan, IsQuiet, TurnedBy, lengthened_by}
+use Rattle.engine_parts.specs.Several.{AllRan, IsQuiet, TurnedBy}
 use Rattle.engine_parts.specs.Calls.{Turns as EngineTurns}
 use Rattle.engine_parts.proofs.Quiet.{quiet_may}
 use Rattle.session_parts.specs.declared.status.Status.{Status}

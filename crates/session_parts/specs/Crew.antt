@@ -8,7 +8,7 @@ use Rattle.reg_slices.specs.Slices.{SliceOf}
 use Rattle.hart_workers.specs.declared.crew.Duty.{Duty}
 use Rattle.hart_workers.specs.declared.crew.Duty.TheVariants as duties
 use Rattle.dbg_model.specs.State.{any_runs}
-use Rattle.engine_parts.specs.Several.{lengthened_by}
+use Rattle.dbg_model.specs.Journals.{lengthened_by}
 use Rattle.engine_parts.specs.Slicing.{gives_job_in, IsJobIn, CanTakeIn}
 use Rattle.engine_parts.specs.Steps.{NoneOut, next_running}
 use Rattle.session_parts.specs.Stage.{Stage}

@@ -35,9 +35,8 @@ fn sum_up<W: World>(
     if !sums_up(status) {
         return Status::NoMemory;
     }
-    let entries = closed.journal.entries();
     let records = script.output.as_slice();
-    let Ok(text) = summary_text(alloc, script.number, entries, records, status) else {
+    let Ok(text) = summary_text(alloc, script.number, &closed.journal, records, status) else {
         return Status::NoMemory;
     };
     if !put_all(world, text.as_slice()) {

@@ -14,7 +14,7 @@ use crate::resuming::change_threads;
 use dbg_effects::Effect;
 use dbg_model::{Entry, Poke};
 use dbg_traits::NoMemory;
-use engine_parts::journal::{did, note};
+use engine_parts::journal::did;
 use engine_parts::waiting::{Waiting, rewait};
 use engine_parts::writing::write;
 use mi_commands::Displaced;
@@ -60,9 +60,9 @@ impl Engine {
         ensures lines { MatchResult result (λ _. Lines self.old self.new line.now) (λ _. self.new ≡ self.old) }
         ensures facts { OnOk result (Facts self.new) }
     {
-        did(self.alloc, &mut self.entries, line)?;
+        did(self.alloc, &mut self.journal, line)?;
         write(&mut self.machine, &poke);
-        note(&mut self.entries, Entry::Poked { poke });
+        self.journal.push(Entry::Poked { poke });
         self.noted += 2;
         Ok(())
     }
@@ -75,7 +75,7 @@ impl Engine {
         ensures lines { MatchResult result (λ _. Lines self.old self.new line.now) (λ _. self.new ≡ self.old) }
         ensures facts { OnOk result (Facts self.new) }
     {
-        did(self.alloc, &mut self.entries, line)?;
+        did(self.alloc, &mut self.journal, line)?;
         change_threads(&mut self.minds, &effect);
         self.selected = selected_after(self.selected, &effect);
         self.displaced = displaced_after(self.displaced, &effect);

@@ -9,7 +9,6 @@ use crate::engine::waiting_of;
 use break_table::BreakTable;
 use dbg_model::{Entry, Judgement, Why, plan_after};
 use engine_parts::hits::{is_temporary, settle};
-use engine_parts::journal::note;
 use engine_parts::minds::{STOPPED, counted_mind};
 use engine_parts::patching::{repatch, wants};
 use engine_parts::waiting::{Waiting, changes, rewait};
@@ -39,7 +38,7 @@ impl Engine {
         ensures stops { StopsFor why self.old self.new h }
         ensures facts { Facts self.new }
     {
-        note(&mut self.entries, Entry::Stopped { hart: h, why });
+        self.journal.push(Entry::Stopped { hart: h, why });
         self.temporary = false;
         self.minds[h as usize] = STOPPED;
         let waiting = waiting_of!(self);
@@ -58,7 +57,7 @@ impl Engine {
         ensures watches { self.new.watches ≡ risen mind.course.fired self.old.watches }
         ensures facts { Facts self.new }
     {
-        note(&mut self.entries, Entry::Stopped { hart: h, why });
+        self.journal.push(Entry::Stopped { hart: h, why });
         self.temporary = stops_once(&self.table, why);
         settle(&mut self.table, &self.opening.image, &self.machine, h, pc);
         self.watches.rise(mind.course.fired);
@@ -81,7 +80,7 @@ impl Engine {
         ensures counts { Counts self.old self.new h }
         ensures facts { Facts self.new }
     {
-        note(&mut self.entries, Entry::Counted { hart: h });
+        self.journal.push(Entry::Counted { hart: h });
         settle(&mut self.table, &self.opening.image, &self.machine, h, pc);
         let wants = wants(&self.table, self.hold, pc);
         repatch(&mut self.machine, pc, wants);

@@ -7,7 +7,6 @@ use super::Engine;
 use super::stepping::by_copies;
 use elf32_read::Image;
 use engine_parts::going::{Surroundings, go};
-use engine_parts::journal::note_runs;
 use engine_parts::minds::is_running;
 use engine_parts::moving::ran_mind;
 use engine_parts::waiting::awaited;
@@ -84,7 +83,7 @@ impl Engine {
             return 0;
         }
         let count = u64::from(progress.instructions);
-        note_runs(&mut self.entries, h, count);
+        self.journal.lengthen(h, count);
         self.minds[h as usize] = ran_mind(mind, mind.course.plan, None, None);
         self.retired += count;
         progress.turns

@@ -2,10 +2,10 @@
 ghost use Rattle.std.specs.Prelude.{◌≡◌, ◌<◌, ◌≤◌, length, IfOk};
 ghost use Rattle.std.specs.Option.{option_copied};
 ghost use Rattle.dbg_model.specs.Journals.{last_entries, noted};
-ghost use Rattle.dbg_model.specs.Shown.{frame_at, stopping_watch, watch_of};
+ghost use Rattle.dbg_model.specs.Shown.{frame_at, shown_of, stopping_watch, watch_of};
 ghost use Rattle.dbg_model.specs.declared.shown.Shown.TheVariants.{Stop};
 ghost use Rattle.engine_parts.specs.Seen.{seen};
-ghost use Rattle.engine_parts.specs.Shown.{IsMoved, ran_shows, shown_by};
+ghost use Rattle.engine_parts.specs.Shown.{ComesIn, IsMoved, ran_shows, shown_by};
 
 use super::Engine;
 use crate::Move;
@@ -61,7 +61,7 @@ impl Engine {
         requires noted { noted (last_entries count self.now.journal) ≡ count }
         ensures { result.now ≡ last_entries count self.now.journal }
     {
-        &self.entries[self.entries.len() - count..]
+        self.journal.last_noted(count)
     }
 
     // The bytes that the instruction of a move wrote.
@@ -93,13 +93,8 @@ impl Engine {
         })
     }
 
-    /// What an entry shows that the last turn noted, or lengthened by an instruction. The turn was this move, and nothing was
-    /// done since. `last` says whether it is the journal's last entry.
-    ///
-    /// # Errors
-    ///
-    /// No memory for what is shown.
-    pub fn shown(&self, moved: Move, entry: &Entry, last: bool) -> Result<Shown, NoMemory>
+    // What an entry of the last turn shows, by what the engine keeps.
+    fn shown_by(&self, moved: Move, entry: &Entry, last: bool) -> Result<Shown, NoMemory>
         requires { IsMoved (length self.now.minds) entry.now }
         ensures { IfOk result (λ s. s ≡ shown_by self.now moved entry.now last) }
     {
@@ -111,5 +106,19 @@ impl Engine {
             }),
             Entry::Counted { .. } | Entry::Did { .. } | Entry::Poked { .. } => Ok(Shown::Nothing),
         }
+    }
+
+    /// What an entry shows that the last turn noted, or lengthened by an instruction: what it shows in the state in which it
+    /// came. The turn was this move, and nothing was done since. `last` says whether it is the journal's last entry.
+    ///
+    /// # Errors
+    ///
+    /// No memory for what is shown.
+    pub fn shown(&self, moved: Move, entry: &Entry, last: bool) -> Result<Shown, NoMemory>
+        requires { IsMoved (length self.now.minds) entry.now }
+        ensures kept { IfOk result (λ s. s ≡ shown_by self.now moved entry.now last) }
+        ensures came { IfOk result (λ s. (old : _) (before : _) → ComesIn moved old self.now entry.now last before → s ≡ shown_of self.now.opening before entry.now) }
+    {
+        self.shown_by(moved, entry, last)
     }
 }

@@ -6,7 +6,6 @@ ghost use Rattle.engine_parts.specs.Slicing.{CanTake, IsJobOf, Takes, gives_job,
 use super::Engine;
 use super::run::is_idle;
 use engine_parts::Mind;
-use engine_parts::journal::note_runs;
 use engine_parts::minds::{is_running, other_holder};
 use engine_parts::moving::ran_mind;
 use hart_machine::Machine;
@@ -116,7 +115,7 @@ impl Engine {
         let mind = self.mind(h);
         let count = u64::from(slice.count);
         self.machine.take_slice(slice);
-        note_runs(&mut self.entries, h, count);
+        self.journal.lengthen(h, count);
         self.minds[h as usize] = ran_mind(mind, mind.course.plan, None, None);
         self.retired += count;
         Commit::Took

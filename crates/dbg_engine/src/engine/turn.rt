@@ -197,7 +197,7 @@ impl Engine {
             &self.table,
             &leaving,
         );
-        let exits = apply(stepped, h, ran, &mut self.entries, &mut self.minds);
+        let exits = apply(stepped, h, ran, &mut self.journal, &mut self.minds);
         let waiting = waiting_of!(self);
         let moved = is_moved(mind.course.plan, plan, stepped);
         rewait(&mut self.machine, &mut self.table, &waiting, moved);

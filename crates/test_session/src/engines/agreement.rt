@@ -3,7 +3,7 @@ ghost use Rattle.dbg_traits.specs.Settings.{AreSettings};
 
 use break_table::BreakEntry;
 use dbg_engine::Engine;
-use dbg_model::{Entry, Journal, Mode, Opening, Poke};
+use dbg_model::{Entry, EntryRef, Journal, JournalWriter, Mode, Opening, Poke};
 use dbg_replay::{ModelState, replay};
 use dbg_traits::NoMemory;
 use mi_commands::ByteList;
@@ -51,12 +51,21 @@ fn copied(alloc: Global, entry: &Entry) -> Result<Entry, AllocError> {
     })
 }
 
-fn journal_of(alloc: Global, engine: &Engine) -> Result<Journal, AllocError> {
-    let mut entries = Vec::new(alloc);
-    for entry in engine.entries() {
-        entries.push(copied(alloc, entry)?)?;
+fn copied_of(alloc: Global, entry: EntryRef<'_>) -> Result<Entry, AllocError> {
+    match entry {
+        EntryRef::Ran { hart, count } => Ok(Entry::Ran { hart, count }),
+        EntryRef::Noted(entry) => copied(alloc, entry),
     }
-    Ok(Journal::of(entries))
+}
+
+fn journal_of(alloc: Global, engine: &Engine) -> Result<Journal, AllocError> {
+    let mut journal = JournalWriter::new(alloc);
+    for entry in engine.entries() {
+        let entry = copied_of(alloc, entry)?;
+        journal.reserve(1)?;
+        journal.push(entry);
+    }
+    Ok(journal.close())
 }
 
 fn same_breakpoint(shown: &BreakEntry, left: &BreakEntry) -> bool {

@@ -2,7 +2,7 @@
 ghost use Rattle.dbg_traits.specs.Settings.{AreSettings};
 
 use break_table::BreakEntry;
-use dbg_model::{Entry, Fired, Hart, Journal, Opening, Poke, Why};
+use dbg_model::{Entry, Fired, Hart, Journal, JournalWriter, Opening, Poke, Why};
 use dbg_replay::{ModelState, replay};
 use dbg_traits::NoMemory;
 use mi_commands::ByteList;
@@ -105,11 +105,14 @@ fn read_entry(alloc: Global, text: &str) -> Option<Entry> {
     }
 }
 
-fn push_entry(alloc: Global, text: &str, into: &mut Vec<Entry>) -> Option<()> {
-    into.push(read_entry(alloc, text)?).ok()
+fn push_entry(alloc: Global, text: &str, into: &mut JournalWriter) -> Option<()> {
+    let entry = read_entry(alloc, text)?;
+    into.reserve(1).ok()?;
+    into.push(entry);
+    Some(())
 }
 
-fn push_entries(alloc: Global, text: &str, into: &mut Vec<Entry>) -> Option<()> {
+fn push_entries(alloc: Global, text: &str, into: &mut JournalWriter) -> Option<()> {
     for one in text.split(';') {
         if !one.is_empty() {
             push_entry(alloc, one, into)?;
@@ -119,9 +122,9 @@ fn push_entries(alloc: Global, text: &str, into: &mut Vec<Entry>) -> Option<()> 
 }
 
 fn read_journal(alloc: Global, text: &str) -> Option<Journal> {
-    let mut entries = Vec::new(alloc);
-    push_entries(alloc, text, &mut entries)?;
-    Some(Journal::of(entries))
+    let mut journal = JournalWriter::new(alloc);
+    push_entries(alloc, text, &mut journal)?;
+    Some(journal.close())
 }
 
 fn told_hart(alloc: Global, hart: &Hart) -> Result<String, AllocError> {

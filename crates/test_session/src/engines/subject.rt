@@ -8,7 +8,7 @@ use crate::engines::programs::Load;
 use crate::engines::step::Step;
 use crate::engines::turns::told_end;
 use dbg_engine::Engine;
-use dbg_model::{Opening, shown_frame};
+use dbg_model::{Entries, Opening, shown_frame};
 use std::alloc::{AllocError, Global};
 
 /// An engine, and its opening once more.
@@ -64,6 +64,14 @@ fn otherwise(alloc: Global, told: &str) -> Result<String, AllocError> {
     format!(in alloc; "{told}, and the journal leaves another state")
 }
 
+fn count(entries: Entries<'_>) -> usize {
+    let mut count = 0usize;
+    for _entry in entries {
+        count = count.saturating_add(1);
+    }
+    count
+}
+
 impl Subject {
     /// An engine over a program. None where program or settings are none, or memory runs out.
     pub fn load(alloc: Global, load: Load<'_>) -> Option<Subject> {
@@ -85,7 +93,7 @@ impl Subject {
 
     // Whether the journal leaves what the engine shows, where something was noted since that was last asked.
     fn still_agrees(&mut self, alloc: Global) -> Result<bool, AllocError> {
-        let entries = self.engine.entries().len();
+        let entries = count(self.engine.entries());
         if entries == self.compared {
             return Ok(true);
         }

@@ -3,7 +3,7 @@ ghost use Rattle.std.specs.Prelude.{◌<◌, ◌≤◌, length};
 
 use break_table::CondError;
 use dbg_engine::{End, Engine, Move, Standing, Turned};
-use dbg_model::{Entry, Fired, Shown, Why};
+use dbg_model::{Entry, EntryRef, Fired, Shown, Why};
 use rv_exec::Cause;
 use std::alloc::{AllocError, Global};
 
@@ -108,6 +108,14 @@ fn stopped_once(engine: &Engine, entry: &Entry) -> bool {
     }
 }
 
+// The last entry, where it isn't a `Ran`.
+fn last_noted(engine: &Engine) -> Option<&Entry> {
+    match engine.entries().last() {
+        Some(EntryRef::Noted(entry)) => Some(entry),
+        Some(EntryRef::Ran { .. }) | None => None,
+    }
+}
+
 /// What a turn of a hart did: its name, and behind it what it tells of it.
 pub fn told_turn(alloc: Global, engine: &mut Engine, hart: u32) -> Result<String, AllocError>
     requires hart { hart < length engine.old.minds }
@@ -118,7 +126,7 @@ pub fn told_turn(alloc: Global, engine: &mut Engine, hart: u32) -> Result<String
         Turned::Stood(standing) => told_standing(alloc, standing),
         Turned::Moved(moved) => {
             let count = engine.noted().saturating_sub(before) as usize;
-            let last = engine.entries().last();
+            let last = last_noted(engine);
             let temporary = last.is_some_and(|entry| stopped_once(engine, entry));
             told_move(alloc, moved, temporary, last, count)
         }

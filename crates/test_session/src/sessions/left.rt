@@ -1,5 +1,5 @@
 // What is left of a session, and what rows ask of it.
-use dbg_model::Entry;
+use dbg_model::{Entries, Entry, EntryRef};
 use dbg_session::Closed;
 use hart_machine::Machine;
 use memory_world::MemWorld;
@@ -29,15 +29,22 @@ fn mark(alloc: Global, entry: &Entry) -> Result<String, AllocError> {
     }
 }
 
-fn push_mark(alloc: Global, entry: &Entry, into: &mut String) -> Result<(), AllocError> {
+fn mark_of(alloc: Global, entry: EntryRef<'_>) -> Result<String, AllocError> {
+    match entry {
+        EntryRef::Ran { hart, count } => ran_mark(alloc, hart, count),
+        EntryRef::Noted(entry) => mark(alloc, entry),
+    }
+}
+
+fn push_mark(alloc: Global, entry: EntryRef<'_>, into: &mut String) -> Result<(), AllocError> {
     if !into.is_empty() {
         into.push(' ')?;
     }
-    let mark = mark(alloc, entry)?;
+    let mark = mark_of(alloc, entry)?;
     Ok(into.push_str(mark.as_str())?)
 }
 
-fn push_marks(alloc: Global, entries: &[Entry], into: &mut String) -> Result<(), AllocError> {
+fn push_marks(alloc: Global, entries: Entries<'_>, into: &mut String) -> Result<(), AllocError> {
     for entry in entries {
         push_mark(alloc, entry, into)?;
     }
@@ -45,19 +52,19 @@ fn push_marks(alloc: Global, entries: &[Entry], into: &mut String) -> Result<(),
 }
 
 // The journal's entries, with a space between.
-fn shape(alloc: Global, entries: &[Entry]) -> Result<String, AllocError> {
+fn shape(alloc: Global, entries: Entries<'_>) -> Result<String, AllocError> {
     let mut shape = String::new(alloc);
     push_marks(alloc, entries, &mut shape)?;
     Ok(shape)
 }
 
-fn has_mark(alloc: Global, entry: &Entry, wanted: &str) -> Result<bool, AllocError> {
-    let mark = mark(alloc, entry)?;
+fn has_mark(alloc: Global, entry: EntryRef<'_>, wanted: &str) -> Result<bool, AllocError> {
+    let mark = mark_of(alloc, entry)?;
     Ok(mark.as_str() == wanted)
 }
 
 // How many entries have this mark.
-fn marked(alloc: Global, entries: &[Entry], wanted: &str) -> Result<u32, AllocError> {
+fn marked(alloc: Global, entries: Entries<'_>, wanted: &str) -> Result<u32, AllocError> {
     let mut count = 0u32;
     for entry in entries {
         if has_mark(alloc, entry, wanted)? {
@@ -67,7 +74,7 @@ fn marked(alloc: Global, entries: &[Entry], wanted: &str) -> Result<u32, AllocEr
     Ok(count)
 }
 
-fn told_marked(alloc: Global, entries: &[Entry], wanted: &str) -> Result<String, AllocError> {
+fn told_marked(alloc: Global, entries: Entries<'_>, wanted: &str) -> Result<String, AllocError> {
     let count = marked(alloc, entries, wanted)?;
     format!(in alloc; "{count}")
 }

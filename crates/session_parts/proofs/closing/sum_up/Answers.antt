@@ -1,8 +1,6 @@
-use Rattle.std.proofs.Common.{◌≡◌, ◌<◌, ◌∙◌, sym, arith, subst, Bool, true, ℕ, List}
+use Rattle.std.proofs.Common.{◌≡◌, ◌∙◌, sym, arith, subst, Bool, true, ℕ, List}
 use Rattle.mi_values.specs.Record.{LineTree}
 use Rattle.mi_values.specs.Records.{AreRecords, streamed}
-use Rattle.dbg_model.specs.Erase.{erase, steps}
-use Rattle.dbg_model.specs.declared.entry.Entry.{Entry}
 use Rattle.session_parts.specs.OutsideInside.{play_of}
 use Rattle.session_parts.specs.Over.{sums_up}
 use Rattle.session_parts.specs.Puts.{PutsAll}
@@ -15,9 +13,8 @@ returns-then-not-sums_up g c = headed_short c.args.status (g.W.World.told c.args
 
 pub summary_text-requires : goal.summary_text-requires
 summary_text-requires g c =
-    let P : List Entry → Type 0 = λ entries. steps (erase entries) < 18446744073709551616 in
     let few = few_steps c.args.status (g.W.World.told c.args.world.now) (play_of c.args.script.now) c.args.closed.now c.requires in
-    subst P (sym c.entries-entries.ensures) (omega (arith, few))
+    omega (arith, few)
 
 pub returns-in_default : goal.returns-in_default
 returns-in_default g c = headed_short c.args.status (g.W.World.told c.args.world.now) (play_of c.args.script.now) c.args.closed.now c.requires
@@ -27,9 +24,8 @@ returns-then-not-put_all g c =
     let t = g.W.World.told c.args.world.now in
     let u = g.W.World.told c.put_all.new.world in
     let so : sums_up c.args.status ≡ true = sym c.sums_up.ensures ∙ c.if-not-sums_up.false in
-    let R : List ℕ → Type 0 = λ records. (trees : List LineTree) → AreRecords records trees → c.in-Ok.text.items ≡ summary c.args.script.now.number c.entries-entries.result.now (streamed trees) c.args.status in
-    let S : List Entry → Type 0 = λ entries. (trees : List LineTree) → AreRecords c.args.script.now.output.items trees → c.in-Ok.text.items ≡ summary c.args.script.now.number entries (streamed trees) c.args.status in
-    let text = subst S c.entries-entries.ensures (subst R c.as_slice-records.ensures.value c.in-Ok.ensures) in
+    let R : List ℕ → Type 0 = λ records. (trees : List LineTree) → AreRecords records trees → c.in-Ok.text.items ≡ summary c.args.script.now.number c.args.closed.now.journal (streamed trees) c.args.status in
+    let text = subst R c.as_slice-records.ensures.value c.in-Ok.ensures in
     let is = text_is c.args.status t (play_of c.args.script.now) c.args.closed.now c.requires c.in-Ok.text.items so text in
     let P : Bool → Type 0 = λ b. PutsAll b c.in-Ok.text.items t u in
     let Q : List ℕ → Type 0 = λ xs. PutsAll c.put_all.result xs t u in
@@ -41,9 +37,8 @@ returns g c =
     let t = g.W.World.told c.args.world.now in
     let u = g.W.World.told c.put_all.new.world in
     let so : sums_up c.args.status ≡ true = sym c.sums_up.ensures ∙ c.if-not-sums_up.false in
-    let R : List ℕ → Type 0 = λ records. (trees : List LineTree) → AreRecords records trees → c.in-Ok.text.items ≡ summary c.args.script.now.number c.entries-entries.result.now (streamed trees) c.args.status in
-    let S : List Entry → Type 0 = λ entries. (trees : List LineTree) → AreRecords c.args.script.now.output.items trees → c.in-Ok.text.items ≡ summary c.args.script.now.number entries (streamed trees) c.args.status in
-    let text = subst S c.entries-entries.ensures (subst R c.as_slice-records.ensures.value c.in-Ok.ensures) in
+    let R : List ℕ → Type 0 = λ records. (trees : List LineTree) → AreRecords records trees → c.in-Ok.text.items ≡ summary c.args.script.now.number c.args.closed.now.journal (streamed trees) c.args.status in
+    let text = subst R c.as_slice-records.ensures.value c.in-Ok.ensures in
     let is = text_is c.args.status t (play_of c.args.script.now) c.args.closed.now c.requires c.in-Ok.text.items so text in
     let P : Bool → Type 0 = λ b. PutsAll b c.in-Ok.text.items t u in
     let Q : List ℕ → Type 0 = λ xs. PutsAll c.put_all.result xs t u in

@@ -1,5 +1,5 @@
 use Rattle.std.proofs.Common.{◌≡◌, ◌-◌, ◌+◌, List, sym, ap, ◌∙◌, subst, arith, refl}
-use Rattle.std.specs.Prelude.{length, map, vec_len, vec_capacity}
+use Rattle.std.specs.Prelude.{length, map}
 use Rattle.break_table.specs.Table.{Table}
 use Rattle.break_table.specs.Text.{is_place}
 use Rattle.engine_parts.specs.Minds.{awaited}
@@ -52,7 +52,7 @@ abbrev changed_run : After-waiting-3-1 → Engine
 changed_run c =
     let r = run_of c.self.inside in
     let t = c.change_table.new.table in
-    record r { journal = c.did.new.entries.items; spare = vec_capacity c.did.new.entries - vec_len c.did.new.entries; machine = c.change_table.new.machine; minds = c.change_threads.new.minds; watches = c.change_table.new.watches; breaks = t.entries; given = t.given; bounds = t.text; waits = t.waits; selected = c.selected_after-self-inside.result; displaced = c.displaced_after-self-inside.result; noted = r.noted + 1; exited = c.exited_after-self-inside.result }
+    record r { journal = c.did.new.journal.entries; spare = c.did.new.journal.spare; machine = c.change_table.new.machine; minds = c.change_threads.new.minds; watches = c.change_table.new.watches; breaks = t.entries; given = t.given; bounds = t.text; waits = t.waits; selected = c.selected_after-self-inside.result; displaced = c.displaced_after-self-inside.result; noted = r.noted + 1; exited = c.exited_after-self-inside.result }
 
 -- the change is the line's, whatever patches are planted for the harts that wait then
 changed : (c : After-waiting-3-1) → Noted (changed_run c) (λ n. Lines (run_of c.self.inside) n c.args.line.now)
@@ -61,7 +61,7 @@ changed c =
     let d = change_of c.args.effect in
     let P : Engine → Type 0 = λ q. Makes q c.args.line.now d in
     let minds = c.change_threads.ensures ∙ ap (λ xs. minds_after xs d) c.deref_mut.ensures.value in
-    done_line r (vec_capacity c.did.new.entries - vec_len c.did.new.entries) c.args.line.now d c.did.new.entries.items c.change_table.new.machine c.change_threads.new.minds c.selected_after-self-inside.result c.displaced_after-self-inside.result c.exited_after-self-inside.result c.change_table.new.watches c.self.inside.table c.change_table.new.table c.self.invariant.facts.sound
+    done_line r c.did.new.journal.spare c.args.line.now d c.did.new.journal.entries c.change_table.new.machine c.change_threads.new.minds c.selected_after-self-inside.result c.displaced_after-self-inside.result c.exited_after-self-inside.result c.change_table.new.watches c.self.inside.table c.change_table.new.table c.self.invariant.facts.sound
     (ap (λ (q : Engine). may_do q.opening (seen q) c.args.line.now) c.self.view_is ∙ c.requires.may) (subst P (sym c.self.view_is) c.requires.makes) c.requires.asks refl refl refl refl
     c.in_ok-did.ensures.done minds c.selected_after-self-inside.ensures c.displaced_after-self-inside.ensures c.exited_after-self-inside.ensures c.change_table.ensures.table c.change_table.ensures.watches c.change_table.ensures.machine
 
@@ -92,7 +92,7 @@ abbrev new_run : After-self-5-1 → List Mind → Engine
 new_run c xs =
     let r = run_of c.self.inside in
     let t = c.change_table.new.table in
-    record r { journal = c.did.new.entries.items; spare = vec_capacity c.did.new.entries - vec_len c.did.new.entries; machine = c.change_table.new.machine; minds = xs; watches = c.change_table.new.watches; breaks = t.entries; given = t.given; bounds = t.text; waits = t.waits; selected = c.selected_after-self-inside.result; displaced = c.displaced_after-self-inside.result; noted = r.noted + 1; exited = c.exited_after-self-inside.result }
+    record r { journal = c.did.new.journal.entries; spare = c.did.new.journal.spare; machine = c.change_table.new.machine; minds = xs; watches = c.change_table.new.watches; breaks = t.entries; given = t.given; bounds = t.text; waits = t.waits; selected = c.selected_after-self-inside.result; displaced = c.displaced_after-self-inside.result; noted = r.noted + 1; exited = c.exited_after-self-inside.result }
 
 -- the minds, written back
 minds_are : (c : After-self-5-1) → c.change_threads.new.minds ≡ (with_items c.self.inside.minds c.change_threads.new.minds).items

@@ -1,16 +1,16 @@
 use Rattle.std.proofs.Common.{◌+◌, ◌-◌, refl, ap, ◌∙◌, subst, arith}
-use Rattle.std.specs.Prelude.{slice_get, slice_set, vec_len, vec_capacity}
+use Rattle.std.specs.Prelude.{slice_get, slice_set}
 use Rattle.std.proofs.lemmas.Option.{slice_get_within}
 use Rattle.hart_machine.specs.Slices.{TakesSlice}
 use Rattle.engine_parts.specs.Seen.{Engine}
-use Rattle.engine_parts.specs.Several.{lengthened_by}
+use Rattle.dbg_model.specs.Journals.{lengthened_by}
 use Rattle.dbg_engine.specs.EngineInside.{run_of}
 use Rattle.engine_parts.proofs.Aheads.{small_of}
 use Rattle.engine_parts.proofs.Taking.{Taken, taken_at, taken_to}
 use Rattle.dbg_engine.proofs.engine.Engine.commit.Goals as goal
 
-pub note_runs-requires-clause-last : goal.note_runs-requires-clause-last
-note_runs-requires-clause-last c =
+pub lengthen-requires-clause-last : goal.lengthen-requires-clause-last
+lengthen-requires-clause-last c =
     let r = run_of c.self.inside in
     let can = c.if-not-can_take.ensures.0 refl in
     let k = small_of r c.args.self.now c.self.view_is c.self.invariant.facts.sound can.may in
@@ -23,14 +23,14 @@ index_mut-requires c = let within = slice_get_within c.self.inside.minds.items c
 abbrev new_run : goal.After-self-2-1 → Engine
 new_run c =
     let r = run_of c.self.inside in
-    record r { journal = c.note_runs.new.entries.items; spare = vec_capacity c.note_runs.new.entries - vec_len c.note_runs.new.entries; machine = c.take_slice.new.self; minds = slice_set r.minds c.args.slice.now.hart c.ran_mind.result; retired = r.retired + c.from-count.result }
+    record r { journal = c.lengthen.new.self.entries; spare = c.lengthen.new.self.spare; machine = c.take_slice.new.self; minds = slice_set r.minds c.args.slice.now.hart c.ran_mind.result; retired = r.retired + c.from-count.result }
 
 taken : (c : goal.After-self-2-1) → Taken c.args.slice.now.count (run_of c.self.inside) (new_run c) c.args.slice.now.hart
 taken c =
     let r = run_of c.self.inside in
     let slice = c.args.slice.now in
-    taken_to r c.args.self.now slice (vec_capacity c.note_runs.new.entries - vec_len c.note_runs.new.entries) c.mind-mind.result c.ran_mind.result c.take_slice.new.self c.note_runs.new.entries.items c.from-count.result c.self.view_is (omega (arith, c.requires.some)) c.self.invariant.facts
-    (c.if-not-can_take.ensures.0 refl) c.mind-mind.ensures c.take_slice.ensures.steps (c.note_runs.ensures.entries ∙ ap (λ n. lengthened_by n r.journal slice.hart) c.from-count.ensures) c.ran_mind.ensures c.from-count.ensures
+    taken_to r c.args.self.now slice c.lengthen.new.self.spare c.mind-mind.result c.ran_mind.result c.take_slice.new.self c.lengthen.new.self.entries c.from-count.result c.self.view_is (omega (arith, c.requires.some)) c.self.invariant.facts
+    (c.if-not-can_take.ensures.0 refl) c.mind-mind.ensures c.take_slice.ensures.steps (c.lengthen.ensures.entries ∙ ap (λ n. lengthened_by n r.journal slice.hart) c.from-count.ensures) c.ran_mind.ensures c.from-count.ensures
 
 pub invariant_of-self : goal.invariant_of-self
 invariant_of-self c = record { facts = (taken c).facts }

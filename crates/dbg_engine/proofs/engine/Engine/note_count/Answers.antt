@@ -1,5 +1,5 @@
 use Rattle.std.proofs.Common.{◌≡◌, ◌-◌, ◌+◌, List, length, map, refl, sym, ap, ◌∙◌, subst, arith, length-set}
-use Rattle.std.specs.Prelude.{Some, slice_get, slice_set, vec_len, vec_capacity}
+use Rattle.std.specs.Prelude.{Some, slice_get, slice_set}
 use Rattle.break_table.specs.Table.{Table}
 use Rattle.break_table.specs.Text.{is_place}
 use Rattle.dbg_model.specs.Lawful.{may_go}
@@ -56,7 +56,7 @@ rewait-requires-clause-places c a is = ap (λ (t : Table). is_place t.text a) c.
 
 -- the engine then, before harts wait elsewhere
 abbrev counted_run : After-waiting-3-1 → Engine
-counted_run c = let r = run_of c.self.inside in record r { journal = c.note.new.entries.items; spare = vec_capacity c.note.new.entries - vec_len c.note.new.entries; machine = c.repatch.new.machine; minds = slice_set r.minds c.args.h c.counted_mind.result; breaks = c.settle.new.table.entries; noted = r.noted + 1 }
+counted_run c = let r = run_of c.self.inside in record r { journal = c.push.new.self.entries; spare = c.push.new.self.spare; machine = c.repatch.new.machine; minds = slice_set r.minds c.args.h c.counted_mind.result; breaks = c.settle.new.table.entries; noted = r.noted + 1 }
 
 -- the hart is counted, whatever patches are planted for the harts that wait then
 counted_at : (c : After-waiting-3-1) → Noted (counted_run c) (λ n. Counts (run_of c.self.inside) n c.args.h)
@@ -66,9 +66,9 @@ counted_at c =
     let P : Engine → Type 0 = λ q. DueIs q c.args.h c.args.due in
     let Q : Engine → Type 0 = λ q. Of q c.args.h (λ y. y.regs.pc ≡ c.args.pc) in
     let settles : Settles r c.args.h c.args.pc c.settle.new.table.entries = λ k at. c.settle.ensures.entries k at in
-    counted r c.args.h c.args.pc (vec_capacity c.note.new.entries - vec_len c.note.new.entries) c.args.due c.args.mind c.counted_mind.result c.plan_after-plan.result c.note.new.entries.items c.repatch.new.machine c.settle.new.table.entries c.wants-wants.result c.self.invariant.facts.sound mind
+    counted r c.args.h c.args.pc c.push.new.self.spare c.args.due c.args.mind c.counted_mind.result c.plan_after-plan.result c.push.new.self.entries c.repatch.new.machine c.settle.new.table.entries c.wants-wants.result c.self.invariant.facts.sound mind
     c.requires.before.before c.requires.before.runs (subst Q (sym c.self.view_is) c.requires.pc) (subst P (sym c.self.view_is) c.requires.due) c.requires.counts (ap (λ (q : Engine). may_go q.opening (seen q)) c.self.view_is ∙ c.requires.before.may)
-    c.note.ensures.entries settles (c.wants-wants.ensures ∙ ap (λ (t : Table). wanted (wants_by t r.hold) c.args.pc) c.settle.ensures.rest) c.repatch.ensures.text c.repatch.ensures.rest c.counted_mind.ensures c.plan_after-plan.ensures c.requires.fresh
+    c.push.ensures.entries settles (c.wants-wants.ensures ∙ ap (λ (t : Table). wanted (wants_by t r.hold) c.args.pc) c.settle.ensures.rest) c.repatch.ensures.text c.repatch.ensures.rest c.counted_mind.ensures c.plan_after-plan.ensures c.requires.fresh
 
 pub rewait-requires-clause-planted : goal.rewait-requires-clause-planted
 rewait-requires-clause-planted c =
@@ -83,7 +83,7 @@ rewait-requires-clause-stays c off =
     ap (λ (t : Table). t.waits) c.settle.ensures.rest ∙ (waits_same r c.args.h c.args.mind c.counted_mind.result c.self.invariant.facts mind (ap (awaited r.opening.image) c.counted_mind.ensures ∙ same_waits r.opening.image c.args.mind (counted_mind c.plan_after-plan.result c.args.mind) refl (c.changes-moved.ensures off)) ∙ ap (map (awaited r.opening.image)) (sym c.as_slice.ensures.value))
 
 abbrev new_run : After-self-2-1 → Engine
-new_run c = let r = run_of c.self.inside in record r { journal = c.note.new.entries.items; spare = vec_capacity c.note.new.entries - vec_len c.note.new.entries; machine = c.repatch.new.machine; minds = slice_set r.minds c.args.h c.counted_mind.result; breaks = c.settle.new.table.entries; noted = r.noted + 1 }
+new_run c = let r = run_of c.self.inside in record r { journal = c.push.new.self.entries; spare = c.push.new.self.spare; machine = c.repatch.new.machine; minds = slice_set r.minds c.args.h c.counted_mind.result; breaks = c.settle.new.table.entries; noted = r.noted + 1 }
 
 move : (c : After-self-2-1) → Noted (new_run c) (λ n. Counts (run_of c.self.inside) n c.args.h)
     → (let r = run_of c.self.inside in let n = with_table (new_run c) c.rewait.new.machine c.rewait.new.table in Moved n (Counts r n c.args.h))

@@ -2,15 +2,15 @@ use Rattle.std.proofs.Common.{◌+◌, ◌-◌, sym, ap, ◌∙◌, subst, arith
 use Rattle.hart_machine.specs.Patched.{Patched}
 use Rattle.engine_parts.specs.Seen.{Engine}
 use Rattle.engine_parts.specs.Facts.{Facts}
-use Rattle.std.specs.Prelude.{slice_set, vec_len, vec_capacity}
-use Rattle.engine_parts.specs.Several.{lengthened_by}
+use Rattle.std.specs.Prelude.{slice_set}
+use Rattle.dbg_model.specs.Journals.{lengthened_by}
 use Rattle.dbg_engine.specs.EngineInside.{run_of}
 use Rattle.engine_parts.proofs.Aheads.{gone_to, none_gone, small_of, turned_at}
 use Rattle.engine_parts.proofs.Passing.{Ahead, around}
 use Rattle.dbg_engine.proofs.engine.Engine.run.Goals as goal
 
-pub note_runs-requires-clause-last : goal.note_runs-requires-clause-last
-note_runs-requires-clause-last c =
+pub lengthen-requires-clause-last : goal.lengthen-requires-clause-last
+lengthen-requires-clause-last c =
     let r = run_of c.self.inside in
     let k = small_of r c.args.self.now c.self.view_is c.self.invariant.facts.sound (sym c.if-not-may_go.ensures) in
     omega (arith, k.last, c.min-most.ensures, c.from.ensures, c.from-count.ensures, c.go-progress.ensures.most)
@@ -33,15 +33,15 @@ invariant_of-self c =
 abbrev new_run : goal.After-self-2-1 → Engine
 new_run c =
     let r = run_of c.self.inside in
-    record r { journal = c.note_runs.new.entries.items; spare = vec_capacity c.note_runs.new.entries - vec_len c.note_runs.new.entries; machine = c.go-progress.new.machine; minds = slice_set r.minds c.args.h c.ran_mind.result; retired = r.retired + c.from-count.result }
+    record r { journal = c.lengthen.new.self.entries; spare = c.lengthen.new.self.spare; machine = c.go-progress.new.machine; minds = slice_set r.minds c.args.h c.ran_mind.result; retired = r.retired + c.from-count.result }
 
 gone : (c : goal.After-self-2-1) → Ahead c.go-progress.result.turns (run_of c.self.inside) (new_run c) c.args.h
 gone c =
     let r = run_of c.self.inside in
     let p = c.go-progress.result in
-    gone_to r c.args.self.now c.args.h (vec_capacity c.note_runs.new.entries - vec_len c.note_runs.new.entries) c.min-most.result p.turns p.instructions c.by_copies.result c.mind-mind.result c.ran_mind.result c.go-progress.new.machine c.note_runs.new.entries.items c.from-count.result
+    gone_to r c.args.self.now c.args.h c.lengthen.new.self.spare c.min-most.result p.turns p.instructions c.by_copies.result c.mind-mind.result c.ran_mind.result c.go-progress.new.machine c.lengthen.new.self.entries c.from-count.result
     c.self.view_is (omega arith) c.self.invariant.facts (sym c.if-not-may_go.ensures) c.mind-mind.ensures (sym c.if-not-is_alone.ensures) (omega (arith, c.min-most.ensures)) (λ e. (c.by_copies.ensures.yes e).0) c.go-progress.ensures.goes
-    (c.note_runs.ensures.entries ∙ ap (λ n. lengthened_by n r.journal c.args.h) c.from-count.ensures) c.ran_mind.ensures c.from-count.ensures
+    (c.lengthen.ensures.entries ∙ ap (λ n. lengthened_by n r.journal c.args.h) c.from-count.ensures) c.ran_mind.ensures c.from-count.ensures
 
 pub invariant_of-self-2 : goal.invariant_of-self-2
 invariant_of-self-2 c = record { facts = (gone c).facts }

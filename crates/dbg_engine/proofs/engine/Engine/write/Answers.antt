@@ -1,5 +1,4 @@
 use Rattle.std.proofs.Common.{◌-◌, ◌++◌, List, [], ◌∷◌, sym, ap, ◌∙◌, subst}
-use Rattle.std.specs.Prelude.{vec_len, vec_capacity}
 use Rattle.dbg_model.specs.Lawful.{may_do}
 use Rattle.dbg_model.specs.Outcome.{pokes}
 use Rattle.dbg_model.specs.declared.entry.Entry.{Entry}
@@ -18,19 +17,19 @@ write-requires c =
     let P : Engine → Type 0 = λ q. Makes q c.args.line.now (pokes c.args.poke) in
     can_poke (run_of c.self.inside) c.args.line.now c.args.poke c.self.invariant.facts.sound (subst P (sym c.self.view_is) c.requires.makes)
 
-done : (c : After-self-1) → (let new = written_run (run_of c.self.inside) c.note.new.entries.items c.write.new.machine (vec_capacity c.note.new.entries - vec_len c.note.new.entries) in Moved new (Lines (run_of c.self.inside) new c.args.line.now))
+done : (c : After-self-1) → (let new = written_run (run_of c.self.inside) c.push.new.self.entries c.write.new.machine c.push.new.self.spare in Moved new (Lines (run_of c.self.inside) new c.args.line.now))
 done c =
     let P : Engine → Type 0 = λ q. Makes q c.args.line.now (pokes c.args.poke) in
     let may = ap (λ (q : Engine). may_do q.opening (seen q) c.args.line.now) c.self.view_is ∙ c.requires.may in
-    let journal = c.note.ensures.entries ∙ ap (λ (es : List Entry). es ++ Poked c.args.poke ∷ []) c.in_ok-did.ensures.done in
-    wrote_line (run_of c.self.inside) (vec_capacity c.note.new.entries - vec_len c.note.new.entries) c.args.line.now c.args.poke c.note.new.entries.items c.write.new.machine c.self.invariant.facts may (subst P (sym c.self.view_is) c.requires.makes) journal c.write.ensures
+    let journal = c.push.ensures.entries ∙ ap (λ (es : List Entry). es ++ Poked c.args.poke ∷ []) c.in_ok-did.ensures.done in
+    wrote_line (run_of c.self.inside) c.push.new.self.spare c.args.line.now c.args.poke c.push.new.self.entries c.write.new.machine c.self.invariant.facts may (subst P (sym c.self.view_is) c.requires.makes) journal c.write.ensures
 
 pub invariant_of-self-2 : goal.invariant_of-self-2
 invariant_of-self-2 c = record { facts = (done c).facts }
 
 pub returns-clause-lines : goal.returns-clause-lines
 returns-clause-lines c =
-    let Q : Engine → Type 0 = λ q. Lines q (written_run (run_of c.self.inside) c.note.new.entries.items c.write.new.machine (vec_capacity c.note.new.entries - vec_len c.note.new.entries)) c.args.line.now in
+    let Q : Engine → Type 0 = λ q. Lines q (written_run (run_of c.self.inside) c.push.new.self.entries c.write.new.machine c.push.new.self.spare) c.args.line.now in
     subst Q c.self.view_is (done c).does
 
 pub returns-clause-facts : goal.returns-clause-facts

@@ -2,7 +2,7 @@ use Rattle.std.proofs.Common.{◌≡◌, ◌<◌, ◌≤◌, ◌∙◌, ap, sym,
 use Rattle.std.specs.Prelude.{Option, None}
 use mathlib.Core.Logic.{inl}
 use Rattle.engine_parts.specs.Seen.{Engine}
-use Rattle.engine_parts.specs.Several.{lengthened_by}
+use Rattle.dbg_model.specs.Journals.{lengthened_by}
 use Rattle.engine_parts.specs.Slicing.{CanTake}
 use Rattle.engine_parts.proofs.Quiet.{ran_quiet}
 use Rattle.session_parts.specs.declared.status.Status.{Status}

@@ -1,0 +1,9 @@
+pub mod Turning
+pub mod Tokens
+pub mod Telling
+pub mod Reading
+pub mod MarksInside
+pub mod Coded
+pub mod CoderInside
+pub mod Taped
+pub mod TapeInside

@@ -1,0 +1,8 @@
+-- The fields of what reads a tape.
+use Rattle.std.specs.Prelude.{List}
+use Rattle.run_tape.specs.declared.marks.Mark.{Mark}
+use Rattle.run_tape.specs.declared.marks.Marks.TheInside.{Inside}
+use Rattle.run_tape.specs.Reading.{left_of}
+
+abbrev pub marks_left : Inside → List Mark
+marks_left i = left_of i.reader

@@ -1,0 +1,8 @@
+-- What a tape is seen as.
+use Rattle.std.specs.Prelude.{ℕ, List}
+use Rattle.run_tape.specs.declared.marks.Mark.{Mark}
+
+-- the marks, and for how many bytes there is room
+pub record Taped : Type 0 where
+  pub marks : List Mark
+  pub room : ℕ
