@@ -1,5 +1,5 @@
 -- Of all that stands against a command the least number is answered.
-use Rattle.std.proofs.Common.{◌≡◌, ℕ, zero, suc, ◌+◌, ◌%◌, ◌^◌, ◌≤◌, List, [], ◌∷◌, ◌++◌, refl, ap, ◌∙◌, arith}
+use Rattle.std.proofs.Common.{◌≡◌, ℕ, zero, suc, ◌+◌, ◌%◌, ◌^◌, ◌≤◌, List, [], ◌∷◌, ◌++◌, refl, ap, sym, subst, ◌∙◌, arith}
 use Rattle.std.specs.Prelude.{Bool, true, false, not, ◌||◌, Option, Some, None, Result, Ok, Err, is_some, length, nat_lt}
 use Rattle.elf32_read.specs.Program.{text_word}
 use Rattle.elf_symbols.specs.Names.{Names, Symbol, address_of}
@@ -9,13 +9,8 @@ use Rattle.line_index.specs.Lines as tables
 use Rattle.frame_walk.specs.declared.frame.Caller.{Caller}
 use Rattle.step_plans.specs.declared.plan.Plan.{Plan}
 use Rattle.dbg_model.specs.Sources.{Sources}
-use Rattle.cond_expr.specs.declared.evaluating.Value.{Value}
-use Rattle.cond_expr.specs.declared.evaluating.Value.TheVariants as worth
 use Rattle.cond_expr.specs.declared.fault.ExprFault.{ExprFault}
-use Rattle.cond_expr.specs.declared.fault.FaultKind.{FaultKind}
-use Rattle.cond_expr.specs.declared.fault.FaultKind.TheVariants as kind
 use Rattle.cond_expr.specs.Term.{Term}
-use Rattle.cond_expr.specs.Value.{value_of}
 use Rattle.std.specs.FinMap as map
 use Rattle.rv_exec.specs.Registers.{Registers}
 use Rattle.rv_exec.specs.Memory.{Memory, is_writable}
@@ -25,7 +20,6 @@ use Rattle.watch_points.specs.declared.fault.WatchFault.{WatchFault}
 use Rattle.watch_points.specs.declared.fault.WatchFault.TheVariants.{Expr, Form, Value as Undefined}
 use Rattle.watch_points.specs.Reading.{watching}
 use Rattle.plain_machine.specs.PlainRun.{is_settable}
-use Rattle.break_table.specs.Entry.{Condition}
 use Rattle.break_table.specs.Table.{has_number}
 use Rattle.mi_commands.specs.declared.command.Command.{Command}
 use Rattle.mi_commands.specs.declared.command.Command.TheVariants as command
@@ -47,15 +41,17 @@ use Rattle.dbg_model.specs.Limits.{breakpoints, most_watches}
 use Rattle.dbg_model.specs.Watches.{has_watch}
 use Rattle.dbg_model.specs.Views.{register, shown_byte}
 use Rattle.dbg_model.specs.Sight.{Sight, thread_at, live, live_as, running, running_as, stopped, stopped_as, thread_or}
-use Rattle.dbg_model.specs.Outcome.{and_then}
+use Rattle.dbg_model.specs.Outcome.{Outcome, and_then, showing}
 use Rattle.dbg_model.specs.Threads.{go_on, interrupt, thread_info}
 use Rattle.dbg_model.specs.Breakpoints.{condition, expression, expression_as, insert, known, known_either, known_thread, named, none_missing, on_line, place, placed, room}
-use Rattle.dbg_model.specs.Data.{address_at, byte_at, bytes_at, evaluate, shown_at, worth_as, worth_of}
+use Rattle.dbg_model.specs.Data.{address_at, byte_at, bytes_at, evaluate, shown_at, worth_of}
 use Rattle.dbg_model.specs.Steps.{caller_at, finish_plan, finish_step, line_plan, line_step, one_step, step}
 use Rattle.dbg_model.specs.Watchpoints.{adding, all_read, are_data, watch, watch_room, watched, watched_as}
 use Rattle.dbg_model.specs.Writes.{none_unwritable, set_register, settable}
 use Rattle.dbg_model.specs.Command.{asked_reply, reply}
-use Rattle.dbg_model.specs.Refusals.{Judges, absent, absent_from_both, against, against_asked, against_evaluate, against_insert, against_live, against_named, against_running, against_step, against_stopped, against_target, against_watch, failed, is_exited_view, is_stopped_view, kind_number, no_data, no_plan, no_text, no_value, number, is_running_view, unknown, unreadable, unwatched_bytes, unwritable, when}
+use Rattle.dbg_model.specs.Refusals.{Judges, absent, absent_from_both, against, against_asked, against_evaluate, against_insert, against_live, against_named, against_running, against_step, against_stopped, against_target, against_watch, failed, is_exited_view, is_stopped_view, no_data, no_expression, no_plan, no_text, number, is_running_view, unknown, unreadable, unwatched_bytes, unwritable, when}
+use Rattle.dbg_model.specs.Variables.{expression_in}
+use Rattle.dbg_answers.proofs.Naming.{kind_within, spelled_from, spelled_judged}
 use Rattle.dbg_answers.proofs.Tests.{From, UpTo, alone, both_from, chain, ensured_judged, ensured_up, failed_judged, first, less_from, none_from, one_from, then_done, up_then, when_from}
 
 -- ---- threads
@@ -152,13 +148,6 @@ either_judged s (n ∷ ns) = either_by s n ns (has_number n s.breaks || has_watc
 
 -- ---- expressions
 
-kind_within : (k : FaultKind) → (18 ≤ kind_number k) × (kind_number k ≤ 22)
-kind_within kind.Long = (omega arith, omega arith)
-kind_within kind.Text = (omega arith, omega arith)
-kind_within kind.Number = (omega arith, omega arith)
-kind_within kind.Deep = (omega arith, omega arith)
-kind_within kind.Name = (omega arith, omega arith)
-
 expression_by : (text : List ℕ) (r : Result Term ExprFault) → From 18 (failed (expression_as text r)) × UpTo 22 (expression_as text r)
 expression_by text (Ok t) = (none_from 18, tt)
 expression_by text (Err f) = (one_from 18 _ (kind_within f.kind).0, (kind_within f.kind).1)
@@ -178,28 +167,12 @@ condition_judged s n text =
     chain 12 (known s (n ∷ [])) _ (absent s (n ∷ [])) bad (known_up s (n ∷ [])) (less_from 12 18 bad (omega arith) (condition_from s.sources.names text)) (known_judged s (n ∷ [])) (λ u is.
     then_done (condition s.sources.names text) _ bad (failed_judged (condition s.sources.names text)))
 
-worth_from : (v : Value) → From 22 (failed (worth_as v))
-worth_from (worth.Word n unsigned) = none_from 22
-worth_from worth.DivZero = one_from 22 _ (omega arith)
-worth_from (worth.Unread addr) = one_from 22 _ (omega arith)
-
-value_from : (s : Sight) (a : Result Registers Refused) (b : Result Condition Refused) → From 22 (no_value s a b)
-value_from s (Ok r) (Ok c) = worth_from (value_of (register r) (shown_byte s.image s.memory) c.tree)
-value_from s (Ok r) (Err f) = none_from 22
-value_from s (Err f) (Ok c) = none_from 22
-value_from s (Err f) (Err g) = none_from 22
-
 evaluate_judged : (s : Sight) (thread : Option ℕ) (text : List ℕ) → Judges (evaluate s thread text) (against_evaluate s (thread_or s.selected thread) text)
 evaluate_judged s thread text =
     let t = thread_or s.selected thread in
-    let e = expression s.sources.names text in
-    let none = no_value s (stopped s t) e in
-    let by = expression_by text (parsed s.sources.names text) in
-    let behind : From 10 (failed e ++ none) = both_from 10 (failed e) none (less_from 10 18 (failed e) (omega arith) by.0) (less_from 10 22 none (omega arith) (value_from s (stopped s t) e)) in
-    chain 10 (stopped s t) _ (against_stopped s t) (failed e ++ none) (stopped_up t (thread_at s.threads t)) behind (stopped_judged s t) (λ r at.
-    chain 22 e _ (failed e) none by.1 (value_from s (stopped s t) e) (failed_judged e) (λ c is.
-    let here : none ≡ failed (worth_of s r c.tree) = ap (λ a. no_value s a e) at ∙ ap (no_value s (Ok r)) is in
-    rw here (then_done (worth_of s r c.tree) _ (failed (worth_of s r c.tree)) (failed_judged (worth_of s r c.tree)))))
+    let next : Registers → Result Outcome Refused = λ r. and_then (expression_in s r text) (λ tree. and_then (worth_of s r tree) (λ v. Ok (showing v))) in
+    chain 10 (stopped s t) next (against_stopped s t) (no_expression s text (stopped s t)) (stopped_up t (thread_at s.threads t)) (spelled_from s text (stopped s t)) (stopped_judged s t) (λ r at.
+    subst (λ (a : Result Registers Refused). Judges (next r) (no_expression s text a)) (sym at) (spelled_judged s r text))
 
 -- ---- memory
 
@@ -381,6 +354,7 @@ reply_judged s (command.RegisterValues t f ns) = then_done (stopped s (thread_or
 reply_judged s (command.FrameList t) = then_done (stopped s (thread_or s.selected t)) _ (against_stopped s (thread_or s.selected t)) (stopped_judged s (thread_or s.selected t))
 reply_judged s (command.FrameDepth t) = then_done (stopped s (thread_or s.selected t)) _ (against_stopped s (thread_or s.selected t)) (stopped_judged s (thread_or s.selected t))
 reply_judged s (command.FrameInfo t) = then_done (stopped s (thread_or s.selected t)) _ (against_stopped s (thread_or s.selected t)) (stopped_judged s (thread_or s.selected t))
+reply_judged s (command.VariableList t with_values) = then_done (stopped s (thread_or s.selected t)) _ (against_stopped s (thread_or s.selected t)) (stopped_judged s (thread_or s.selected t))
 reply_judged s (command.ReadMemory addr n) = then_done (bytes_at s addr n) _ (unreadable s addr n) (bytes_judged s addr n)
 reply_judged s (command.WriteMemory addr bytes) =
     then_done (none_unwritable (first_unwritable s.memory addr (length bytes))) _ (unwritable s.memory addr (length bytes)) (unwritable_judged s.memory addr (length bytes))

@@ -1,4 +1,5 @@
 pub mod Tests
+pub mod Naming
 pub mod Judging
 pub mod Reading
 pub mod Ranges

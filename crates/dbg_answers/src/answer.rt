@@ -61,6 +61,14 @@ impl<T: Drop> From<AllocFailed<T>> for Failure {
     }
 }
 
+impl From<NoMemory> for Failure {
+    ghost from_gives = { λ _ f. f ≡ failure.NoMemory };
+
+    fn from(_: NoMemory) -> Failure {
+        Failure::NoMemory
+    }
+}
+
 impl From<Refused> for Failure {
     ghost from_gives = { λ r f. f ≡ failure.Refused r };
 

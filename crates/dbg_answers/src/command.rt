@@ -17,6 +17,7 @@ use crate::resuming::{go_on, interrupt};
 use crate::settings::{exit, show_setting};
 use crate::stepping::{FINISH, NEXT, NEXT_INSTRUCTION, STEP, STEP_INSTRUCTION, take_step};
 use crate::threads::{thread_info, thread_list, thread_select};
+use crate::variables::variable_list;
 use crate::watchpoints::watch;
 use crate::writing::{set_register, write_memory};
 use dbg_effects::Effect;
@@ -79,6 +80,10 @@ fn look(alloc: Global, debuggee: &Debuggee<'_>, command: Command) -> Result<Answ
         Command::FrameList { thread } => frame_list(alloc, debuggee, thread),
         Command::FrameDepth { thread } => frame_depth(debuggee, thread),
         Command::FrameInfo { thread } => frame_info(alloc, debuggee, thread),
+        Command::VariableList {
+            thread,
+            with_values,
+        } => variable_list(alloc, debuggee, thread, with_values),
         Command::RegisterNames => Ok(showing(Content::RegisterNames)),
         Command::RegisterValues {
             thread,

@@ -1,23 +1,30 @@
-ghost use Rattle.std.specs.Prelude.{◌≡◌};
+ghost use Rattle.std.specs.Prelude.{◌≡◌, Result, Ok};
 ghost use Rattle.std.specs.Option.{option_map};
 ghost use Rattle.break_table.specs.Entry.{condition_of};
 ghost use Rattle.cond_expr.specs.Reader.{parsed};
 ghost use Rattle.dbg_model.specs.Breakpoints.{condition, expression};
-ghost use Rattle.dbg_model.specs.Data.{evaluate, worth_as};
+ghost use Rattle.cond_expr.specs.Condition.{tree_of};
+ghost use Rattle.cond_expr.specs.Term.{Term};
+ghost use Rattle.dbg_model.specs.declared.reply.Refused.{Refused};
+ghost use Rattle.dbg_model.specs.Outcome.{and_then, showing};
+ghost use Rattle.dbg_model.specs.Data.{evaluate, worth_as, worth_of};
 ghost use Rattle.dbg_answers.specs.Debuggee.{seen};
 ghost use Rattle.dbg_answers.specs.Answer.{Gives, GivesAs};
 ghost use Rattle.dbg_answers.specs.Reading.{ReadsAs};
 
 use crate::answer::{Answer, Failure, showing};
 use crate::debuggee::Debuggee;
+use crate::variables::read_in;
 use crate::view::SeenHart;
 use cond_expr::{Expr, ParseError, Value, parse, value};
 use dbg_model::{Content, Obstacle, Refused};
 use elf_symbols::Symbols;
 use mi_commands::ByteList;
+use rv_exec::Regs;
 use std::alloc::Global;
 
-fn read_text(alloc: Global, symbols: &Symbols, text: &[u8]) -> Result<Expr, ParseError>
+/// What a text spells, or its first fault.
+pub fn read_text(alloc: Global, symbols: &Symbols, text: &[u8]) -> Result<Expr, ParseError>
     ensures { ReadsAs result (parsed symbols.now text.now) text.now }
 {
     parse(alloc, text, symbols)
@@ -60,6 +67,23 @@ fn worth(value: Value) -> Result<Content, Refused>
     }
 }
 
+// The value of an expression for a hart with these registers, where it was read.
+fn told_value(
+    debuggee: &Debuggee<'_>,
+    regs: &Regs,
+    read: Result<Expr, Failure>,
+) -> Result<Answer, Failure>
+    ensures { (want : Result Term Refused) → GivesAs tree_of read want → Gives result (and_then want (λ tree. and_then (worth_of (seen debuggee.now) regs.now tree) (λ v. Ok (showing v)))) }
+{
+    let expression = read?;
+    let view = SeenHart {
+        regs,
+        image: debuggee.image,
+        memory: debuggee.memory,
+    };
+    Ok(showing(worth(value(&expression, &view))?))
+}
+
 /// `-data-evaluate-expression [--thread N] EXPR`.
 pub fn evaluate(
     alloc: Global,
@@ -70,11 +94,6 @@ pub fn evaluate(
     ensures { Gives result (evaluate (seen debuggee.now) thread text.now) }
 {
     let regs = debuggee.stopped(thread.unwrap_or(debuggee.selected))?;
-    let expression = read(alloc, debuggee.sources.symbols(), text.as_slice())?;
-    let view = SeenHart {
-        regs: &regs,
-        image: debuggee.image,
-        memory: debuggee.memory,
-    };
-    Ok(showing(worth(value(&expression, &view))?))
+    let read = read_in(alloc, debuggee, &regs, text.as_slice());
+    told_value(debuggee, &regs, read)
 }

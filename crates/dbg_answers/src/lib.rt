@@ -16,6 +16,7 @@ mod resuming;
 mod settings;
 mod stepping;
 mod threads;
+mod variables;
 mod view;
 mod watchpoints;
 mod writing;

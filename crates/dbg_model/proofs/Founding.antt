@@ -47,8 +47,9 @@ use Rattle.dbg_model.specs.Steps.{finish_step, line_step, one_step, step}
 use Rattle.dbg_model.specs.Writes.{none_unwritable, settable}
 use Rattle.data_memory.specs.Ranges.{first_unwritable}
 use Rattle.dbg_model.specs.Watchpoints.{are_data, watch, watch_room, watched, watched_as}
-use Rattle.dbg_model.specs.Breakpoints.{condition, ensured, expression, insert, known, known_either, known_thread, place, placed, room}
+use Rattle.dbg_model.specs.Breakpoints.{condition, ensured, insert, known, known_either, known_thread, place, placed, room}
 use Rattle.dbg_model.specs.Data.{bytes_at, worth_of}
+use Rattle.dbg_model.specs.Variables.{expression_in}
 use Rattle.dbg_model.proofs.Options.{same_some}
 use Rattle.dbg_model.specs.Command.{asked_reply, reply}
 use Rattle.dbg_model.specs.Reply.{answer_by, answer_of, answer_to, no_parts}
@@ -157,8 +158,8 @@ info_sound : (s : Sight) (t : Option ℕ) → IsSound s (thread_info s t)
 info_sound s None = tt
 info_sound s (Some t) = behind s (live s t) _ (λ x is. tt)
 
-evaluate_sound : (s : Sight) (t : ℕ) (text : List ℕ) → IsSound s (and_then (stopped s t) (λ r. and_then (expression s.sources.names text) (λ c. and_then (worth_of s r c.tree) (λ v. Ok (showing v)))))
-evaluate_sound s t text = behind s (stopped s t) _ (λ r at. behind s (expression s.sources.names text) _ (λ c is. behind s (worth_of s r c.tree) _ (λ v had. tt)))
+evaluate_sound : (s : Sight) (t : ℕ) (text : List ℕ) → IsSound s (and_then (stopped s t) (λ r. and_then (expression_in s r text) (λ tree. and_then (worth_of s r tree) (λ v. Ok (showing v)))))
+evaluate_sound s t text = behind s (stopped s t) _ (λ r at. behind s (expression_in s r text) _ (λ tree is. behind s (worth_of s r tree) _ (λ v had. tt)))
 
 all_writable : (r : Option ℕ) (u : Unit {0}) → none_unwritable r ≡ Ok u → r ≡ None
 all_writable None u is = refl
@@ -202,6 +203,7 @@ reply_sound s (command.ThreadSelect t) = behind s (live s t) _ (λ x is. is_live
 reply_sound s (command.FrameList t) = behind s (stopped s (thread_or s.selected t)) _ (λ r is. tt)
 reply_sound s (command.FrameDepth t) = behind s (stopped s (thread_or s.selected t)) _ (λ r is. tt)
 reply_sound s (command.FrameInfo t) = behind s (stopped s (thread_or s.selected t)) _ (λ r is. tt)
+reply_sound s (command.VariableList t with_values) = behind s (stopped s (thread_or s.selected t)) _ (λ r is. tt)
 reply_sound s (command.RegisterValues t f ns) = behind s (stopped s (thread_or s.selected t)) _ (λ r is. tt)
 reply_sound s (command.ReadMemory addr count) = behind s (bytes_at s addr count) _ (λ bytes is. tt)
 reply_sound s (command.WriteMemory addr bytes) =

@@ -17,6 +17,7 @@ use Rattle.dbg_model.specs.Threads.{go_on, interrupt, thread_info, thread_list, 
 use Rattle.dbg_model.specs.Breakpoints.{after, change_condition, delete, enable, insert, known_thread, list}
 use Rattle.dbg_model.specs.Data.{evaluate, read_memory, register_values}
 use Rattle.dbg_model.specs.Frames.{frame_depth, frame_info, frame_list}
+use Rattle.dbg_model.specs.Variables.{variable_list}
 use Rattle.dbg_model.specs.Steps.{finish_step, line_step, one_step, step}
 use Rattle.dbg_model.specs.Watchpoints.{watch}
 use Rattle.dbg_model.specs.Writes.{set_register, write_memory}
@@ -50,6 +51,7 @@ reply s command.ThreadList = thread_list s
 reply s (command.FrameList thread) = frame_list s thread
 reply s (command.FrameDepth thread) = frame_depth s thread
 reply s (command.FrameInfo thread) = frame_info s thread
+reply s (command.VariableList thread with_values) = variable_list s thread with_values
 reply s command.RegisterNames = Ok (showing content.RegisterNames)
 reply s (command.RegisterValues thread format numbers) = register_values s thread format numbers
 reply s (command.ReadMemory addr count) = read_memory s addr count

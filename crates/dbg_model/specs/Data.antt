@@ -15,7 +15,7 @@ use Rattle.dbg_model.specs.declared.reply.Register.{Register}
 use Rattle.dbg_model.specs.Views.{register, shown_byte}
 use Rattle.dbg_model.specs.Sight.{Sight, stopped, thread_or}
 use Rattle.dbg_model.specs.Outcome.{Outcome, and_then, showing}
-use Rattle.dbg_model.specs.Breakpoints.{expression}
+use Rattle.dbg_model.specs.Variables.{expression_in}
 
 -- ---- registers
 
@@ -76,6 +76,6 @@ worth_of s r tree = worth_as (value_of (register r) (shown_byte s.image s.memory
 abbrev pub evaluate : Sight → Option ℕ → List ℕ → Result Outcome Refused
 evaluate s thread text =
     and_then (stopped s (thread_or s.selected thread)) (λ r.
-    and_then (expression s.sources.names text) (λ c.
-    and_then (worth_of s r c.tree) (λ v.
+    and_then (expression_in s r text) (λ tree.
+    and_then (worth_of s r tree) (λ v.
     Ok (showing v))))

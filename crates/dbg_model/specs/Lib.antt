@@ -12,6 +12,7 @@ pub mod Outcome
 pub mod Threads
 pub mod Breakpoints
 pub mod Watchpoints
+pub mod Variables
 pub mod Data
 pub mod Frames
 pub mod Steps
@@ -22,6 +23,11 @@ pub mod Reply
 pub mod Pokes
 pub mod Lawful
 pub mod Journals
+pub mod Written
+pub mod Keeping
+pub mod JournalInside
+pub mod EntriesInside
+pub mod WriterInside
 pub mod Erase
 pub mod Leaving
 pub mod Shown

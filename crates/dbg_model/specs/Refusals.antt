@@ -15,7 +15,7 @@ use Rattle.mi_commands.specs.declared.command.Target.TheVariants as target
 use Rattle.mi_commands.specs.declared.refusal.Fault.{Fault}
 use Rattle.mi_commands.specs.declared.refusal.Fault.TheVariants as fault
 use Rattle.mi_commands.specs.Faults.{fault_number}
-use Rattle.break_table.specs.Entry.{Condition}
+use Rattle.cond_expr.specs.Term.{Term}
 use Rattle.break_table.specs.Table.{has_number}
 use Rattle.watch_points.specs.declared.watch.Watched.{Watched}
 use Rattle.step_plans.specs.declared.plan.Plan.{Plan}
@@ -30,9 +30,10 @@ use Rattle.dbg_model.specs.declared.reply.Refused.TheVariants as refused
 use Rattle.dbg_model.specs.Limits.{breakpoints, most_watches}
 use Rattle.dbg_model.specs.Views.{shown_byte}
 use Rattle.dbg_model.specs.Sight.{Sight, thread_at, stopped, thread_or}
-use Rattle.dbg_model.specs.Breakpoints.{condition, expression, place}
+use Rattle.dbg_model.specs.Breakpoints.{condition, place}
 use Rattle.dbg_model.specs.Data.{address_at, worth_of}
 use Rattle.dbg_model.specs.Steps.{finish_step, line_step, one_step}
+use Rattle.dbg_model.specs.Variables.{expression_in}
 use Rattle.dbg_model.specs.Watches.{has_watch}
 use Rattle.dbg_model.specs.Watchpoints.{watched}
 use Rattle.dbg_model.specs.Writes.{settable}
@@ -173,16 +174,18 @@ against_watch s text =
     ++ (unwatched_bytes s (watched s.sources.names text)
     ++ when (not (nat_lt (length s.watches) most_watches)) TooManyWatches)
 
--- against the value of an expression, which there is only of a stopped thread and of a text without fault
-abbrev pub no_value : Sight → Result Registers Refused → Result Condition Refused → List Refused
-no_value s (Ok r) (Ok c) = failed (worth_of s r c.tree)
-no_value s _ _ = []
+-- against the value of an expression, which there is only of a text without fault
+abbrev pub no_value : Sight → Registers → Result Term Refused → List Refused
+no_value s r (Ok tree) = failed (worth_of s r tree)
+no_value s r (Err x) = []
+
+-- against an expression, whose names are those of a stopped thread
+abbrev pub no_expression : Sight → List ℕ → Result Registers Refused → List Refused
+no_expression s text (Ok r) = failed (expression_in s r text) ++ no_value s r (expression_in s r text)
+no_expression s text (Err x) = []
 
 abbrev pub against_evaluate : Sight → ℕ → List ℕ → List Refused
-against_evaluate s thread text =
-    against_stopped s thread
-    ++ (failed (expression s.sources.names text)
-    ++ no_value s (stopped s thread) (expression s.sources.names text))
+against_evaluate s thread text = against_stopped s thread ++ no_expression s text (stopped s thread)
 
 -- against the plan of a step, which there is only of a stopped thread
 abbrev pub no_plan : (Registers → Result Plan Refused) → Result Registers Refused → List Refused
@@ -209,6 +212,7 @@ against s (command.RegisterValues thread format numbers) = against_stopped s (th
 against s (command.FrameList thread) = against_stopped s (thread_or s.selected thread)
 against s (command.FrameDepth thread) = against_stopped s (thread_or s.selected thread)
 against s (command.FrameInfo thread) = against_stopped s (thread_or s.selected thread)
+against s (command.VariableList thread with_values) = against_stopped s (thread_or s.selected thread)
 against s (command.ReadMemory addr count) = unreadable s addr count
 against s (command.WriteMemory address bytes) = unwritable s.memory address (length bytes)
 against s (command.SetRegister thread name register value) =

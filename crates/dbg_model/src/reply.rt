@@ -2,7 +2,7 @@
 ghost use Rattle.std.specs.Prelude.{◌≡◌};
 ghost use Rattle.dbg_model.specs.Refusals.{kind_number, number, obstacle_number, refused_number};
 
-use crate::{Breakpoint, FrameList, RowList, ShownFrame};
+use crate::{Breakpoint, FrameList, RowList, ShownFrame, VariableList};
 use cond_expr::{ExprFault, FaultKind};
 use mi_commands::{ByteList, Displaced, Fault, Format, NumberList};
 use mi_text::Token;
@@ -232,6 +232,8 @@ pub enum Content {
     Depth(u32),
     /// The innermost frame of a thread.
     Frame(ShownFrame),
+    /// The variables of the innermost frame of a thread.
+    Variables(VariableList),
     /// The names of all registers.
     RegisterNames,
     /// The registers that were asked for.

@@ -1,8 +1,9 @@
 ghost use Rattle.std.specs.Prelude.{◌≡◌, IfOk, codes};
 ghost use Rattle.line_rows.specs.Sections.{sections_shown};
-ghost use Rattle.dbg_model.specs.Sources.{line_sections, section_bytes, sources_of};
+ghost use Rattle.dbg_model.specs.Sources.{line_sections, section_bytes, sources_of, variables_told};
 
 use dbg_traits::NoMemory;
+use debug_info::{Info, Sections, read_info};
 use dwarf_frames::FrameIndex;
 use dwarf_lines::rows;
 use elf_symbols::{Symbols, symbols};
@@ -12,12 +13,13 @@ use line_rows::LineSections;
 use std::alloc::Global;
 use std::marker::Model;
 
-/// The symbols, the line tables and the frames of a program. Contracts see it as `Sources`.
+/// The symbols, the line tables, the frames and the variables of a program. Contracts see it as `Sources`.
 #[derive(Drop)]
 pub struct SourceIndex {
     symbols: Symbols,
     lines: LineIndex,
     frames: FrameIndex,
+    info: Info,
 }
 
 impl Model for SourceIndex {
@@ -25,7 +27,7 @@ impl Model for SourceIndex {
 
     ghost Value = { Sources };
 
-    ghost view = { λ i. record { names = i.symbols; lines = i.lines; frames = i.frames } };
+    ghost view = { λ i. record { names = i.symbols; lines = i.lines; frames = i.frames; info = i.info } };
 }
 
 // The bytes of the first section of a name, and nothing where there is no such section.
@@ -48,10 +50,26 @@ fn line_sections(image: &Image) -> LineSections<'_>
     }
 }
 
+fn variables_told(alloc: Global, image: &Image) -> Result<Info, NoMemory>
+    ensures { IfOk result (λ info. info ≡ variables_told image.now) }
+{
+    let info = section_bytes(image, b".debug_info");
+    let abbrevs = section_bytes(image, b".debug_abbrev");
+    let strs = section_bytes(image, b".debug_str");
+    read_info(
+        alloc,
+        &Sections {
+            info,
+            abbrevs,
+            strs,
+        },
+    )
+}
+
 impl SourceIndex {
-    /// The index of a program. It takes n log n time in the symbols, the line rows and the frame entries. A unit of
-    /// `.debug_line` with a fault gives no rows, and a fault of `.debug_frame` is met where frames are looked up: no file
-    /// is refused for them.
+    /// The index of a program. It takes n log n time in the symbols, the line rows, the frame entries and the entries of
+    /// variables. A unit of `.debug_line` with a fault gives no rows and one of `.debug_info` no variables, and a fault of
+    /// `.debug_frame` is met where frames are looked up: no file is refused for them.
     ///
     /// # Errors
     /// No memory for the tables.
@@ -63,10 +81,12 @@ impl SourceIndex {
         let rows = rows(alloc, &line_sections(image))?;
         let lines = LineIndex::build(alloc, rows, &symbols, image)?;
         let frames = FrameIndex::build(alloc, section_bytes(image, b".debug_frame"))?;
+        let info = variables_told(alloc, image)?;
         Ok(SourceIndex {
             symbols,
             lines,
             frames,
+            info,
         })
     }
 
@@ -89,5 +109,12 @@ impl SourceIndex {
         ensures { result.now ≡ self.now.frames }
     {
         &self.frames
+    }
+
+    /// The variables of the program.
+    pub fn info(&self) -> &Info
+        ensures { result.now ≡ self.now.info }
+    {
+        &self.info
     }
 }

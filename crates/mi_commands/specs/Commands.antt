@@ -1,5 +1,5 @@
 -- What a line's parts ask for.
-use Rattle.std.specs.Prelude.{ℕ, List, [], ◌∷◌, ◌++◌, length, map, Option, Some, None, Result, Ok, Err, unwrap_or, if◌then◌else◌}
+use Rattle.std.specs.Prelude.{ℕ, List, [], ◌∷◌, ◌++◌, length, map, false, Option, Some, None, Result, Ok, Err, unwrap_or, if◌then◌else◌}
 use Rattle.mi_input.specs.Parts.{WordView, PartsView}
 use Rattle.mi_commands.specs.declared.operation.Operation.{Operation}
 use Rattle.mi_commands.specs.declared.operation.Operation.TheVariants as op
@@ -15,6 +15,7 @@ use Rattle.mi_commands.specs.declared.command.Insertion.{Insertion}
 use Rattle.mi_commands.specs.declared.refusal.Fault.{Fault}
 use Rattle.mi_commands.specs.declared.refusal.Fault.TheVariants as fault
 use Rattle.mi_commands.specs.Operations.{spelling, operation_of}
+use Rattle.mi_commands.specs.Prints.{first_prints, words_for}
 use Rattle.mi_commands.specs.Words.{options, parameters, stands, value_in}
 use Rattle.mi_commands.specs.Numbers.{number}
 use Rattle.mi_text.specs.Hexadecimal.{bytes_of}
@@ -111,6 +112,7 @@ command_for op.ThreadList ws = command.ThreadList
 command_for op.FrameList ws = command.FrameList (number_in option.Thread ws)
 command_for op.FrameDepth ws = command.FrameDepth (number_in option.Thread ws)
 command_for op.FrameInfo ws = command.FrameInfo (number_in option.Thread ws)
+command_for op.VariableList ws = command.VariableList (number_in option.Thread ws) (unwrap_or (first_prints (parameters ws)) false)
 command_for op.RegisterNames ws = command.RegisterNames
 command_for op.RegisterValues ws =
     command.RegisterValues (number_in option.Thread ws) (unwrap_or (format_of (first_word (parameters ws))) format.Hexadecimal)
@@ -130,10 +132,13 @@ unless (Some f) c = Err f
 abbrev pub answer_as : List ℕ → Operation → List WordView → Result Command Fault
 answer_as name o ws = unless (first_fault o name ws) (command_for o ws)
 
+abbrev pub answer_in : List ℕ → Operation → List WordView → Result Command Fault
+answer_in name o ws = answer_as name (form o (parameters ws)) ws
+
 -- An operation that isn't in the table, else the least of the other faults, else the command.
 abbrev pub answer_by : List ℕ → Option Operation → List WordView → Result Command Fault
 answer_by name None ws = Err (fault.Undefined name)
-answer_by name (Some o) ws = answer_as name (form o (parameters ws)) ws
+answer_by name (Some o) ws = answer_in name o (words_for o ws)
 
 unfoldable pub answer_of : Option (List ℕ) → List WordView → Result Command Fault
 answer_of None ws = Ok command.Blank

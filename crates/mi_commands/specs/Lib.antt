@@ -1,4 +1,5 @@
 pub mod Operations
+pub mod Prints
 pub mod Words
 pub mod Steps
 pub mod Bytes

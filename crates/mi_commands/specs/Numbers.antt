@@ -73,6 +73,7 @@ range_at op.ThreadList k = None
 range_at op.FrameList k = None
 range_at op.FrameDepth k = None
 range_at op.FrameInfo k = None
+range_at op.VariableList k = None
 range_at op.RegisterNames k = None
 range_at op.RegisterValues k = first_and_others None (Some range.Register) k
 range_at op.ReadMemory k = first_and_others (Some range.Any) (Some range.Length) k

@@ -31,6 +31,7 @@ operations =
     (codes "thread-info", op.ThreadInfo) ∷ (codes "thread-select", op.ThreadSelect) ∷
     (codes "thread-list-ids", op.ThreadList) ∷ (codes "stack-list-frames", op.FrameList) ∷
     (codes "stack-info-depth", op.FrameDepth) ∷ (codes "stack-info-frame", op.FrameInfo) ∷
+    (codes "stack-list-variables", op.VariableList) ∷
     (codes "data-list-register-names", op.RegisterNames) ∷ (codes "data-list-register-values", op.RegisterValues) ∷
     (codes "data-read-memory-bytes", op.ReadMemory) ∷ (codes "data-write-memory-bytes", op.WriteMemory) ∷
     (codes "data-evaluate-expression", op.Evaluate) ∷ (codes "gdb-set", op.Set) ∷
@@ -102,6 +103,7 @@ shape op.ThreadList = (allowed.Nothing, count.Zero)
 shape op.FrameList = (allowed.OfThread, count.Zero)
 shape op.FrameDepth = (allowed.OfThread, count.Zero)
 shape op.FrameInfo = (allowed.OfThread, count.Zero)
+shape op.VariableList = (allowed.OfThread, count.One)
 shape op.RegisterNames = (allowed.Nothing, count.Zero)
 shape op.RegisterValues = (allowed.OfThread, count.AtLeastOne)
 shape op.ReadMemory = (allowed.Nothing, count.Two)

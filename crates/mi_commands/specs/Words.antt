@@ -8,6 +8,7 @@ use Rattle.mi_commands.specs.declared.operation.Operation.{Operation}
 use Rattle.mi_commands.specs.declared.counts.OptionName.{OptionName}
 use Rattle.mi_commands.specs.declared.counts.OptionName.TheVariants as option
 use Rattle.mi_commands.specs.declared.counts.Allowed.{Allowed}
+use Rattle.mi_commands.specs.Prints.{print_fits}
 use Rattle.mi_commands.specs.Operations.{spelling, is_named, takes_value, allows, fits, shape}
 
 -- `--`, which ends the options
@@ -67,4 +68,5 @@ one_target given = not (stands (spelling option.All) given && stands (spelling o
 -- whether the operation takes these words
 abbrev pub words_fit : Operation → List WordView → Bool
 words_fit o ws =
-    (options_fit (shape o).0 (options ws) && one_target (options ws)) && fits (shape o).1 (length (parameters ws))
+    ((options_fit (shape o).0 (options ws) && one_target (options ws)) && fits (shape o).1 (length (parameters ws)))
+    && print_fits o (parameters ws)

@@ -20,6 +20,7 @@ use crate::location::{Place, location_of};
 use crate::number::number;
 use crate::operation::Operation;
 use crate::options::{has, parameters, value_in, words_fit};
+use crate::print::{first_prints, words_for};
 use crate::reading::{
     bad_number, first_number, first_word, joined, joined_if_any, location_fits, number_if_any,
     number_in, numbers, rest_of, second_number, second_word, settings_fit, target_of,
@@ -158,6 +159,10 @@ fn command(alloc: Global, operation: Operation, words: &[Word]) -> Result<Comman
         Operation::FrameList => Command::FrameList { thread },
         Operation::FrameDepth => Command::FrameDepth { thread },
         Operation::FrameInfo => Command::FrameInfo { thread },
+        Operation::VariableList => Command::VariableList {
+            thread,
+            with_values: first_prints(parameters).unwrap_or(false),
+        },
         Operation::RegisterNames => Command::RegisterNames,
         Operation::RegisterValues => Command::RegisterValues {
             thread,
@@ -187,8 +192,8 @@ fn command(alloc: Global, operation: Operation, words: &[Word]) -> Result<Comman
 
 // What the parts of a line ask for.
 #[tactic(auto, unfolding(crate::specs::Commands::answer_of))]
-fn answer(alloc: Global, operation: Option<Vec<u8>>, words: &[Word]) -> Result<Command, Failure>
-    ensures { Answers result (answer_of (option_map (λ v. v.items) operation) (words_view words.now)) }
+fn answer(alloc: Global, operation: Option<Vec<u8>>, words: &mut [Word]) -> Result<Command, Failure>
+    ensures { Answers result (answer_of (option_map (λ v. v.items) operation) (words_view words.old)) }
 {
     let Some(name) = operation else {
         return Ok(Command::Blank);
@@ -196,6 +201,7 @@ fn answer(alloc: Global, operation: Option<Vec<u8>>, words: &[Word]) -> Result<C
     let Some(operation) = Operation::named(&name) else {
         return Err(Failure::Faulty(Fault::Undefined(ByteList::of(name))));
     };
+    words_for(operation, words);
     let operation = operation.form(parameters(words));
     if let Some(fault) = first_fault(alloc, operation, &name, words)? {
         return Err(Failure::Faulty(fault));
@@ -214,9 +220,9 @@ pub fn command_of(alloc: Global, line: &[u8]) -> Result<CommandLine, Refusal>
     // Whatever parts the line has, the answer is the answer to them.
     ensures only { (p : PartsView) → length line.now ≤ 4096 → HasParts line.now p → GivesAnswer p result }
 {
-    let parts = split(alloc, line)?;
+    let mut parts = split(alloc, line)?;
     let token = parts.token;
-    match answer(alloc, parts.operation, &parts.words) {
+    match answer(alloc, parts.operation, &mut parts.words) {
         Ok(command) => Ok(CommandLine { token, command }),
         Err(Failure::NoMemory) => Err(Refusal::Input(InputFault::NoMemory)),
         Err(Failure::Faulty(fault)) => Err(Refusal::Faulty { token, fault }),

@@ -130,6 +130,11 @@ pub enum Command {
     FrameInfo {
         thread: Option<u32>,
     },
+    /// The variables of the innermost frame, with their values or without.
+    VariableList {
+        thread: Option<u32>,
+        with_values: bool,
+    },
     RegisterNames,
     /// Numbers of 0 to 32 in the given order, or none of them for all registers.
     RegisterValues {

@@ -12,6 +12,7 @@ mod location;
 mod number;
 mod operation;
 mod options;
+mod print;
 mod reading;
 mod refusal;
 mod registers;

@@ -36,6 +36,7 @@ pub enum Operation {
     FrameList,
     FrameDepth,
     FrameInfo,
+    VariableList,
     RegisterNames,
     RegisterValues,
     ReadMemory,
@@ -50,7 +51,7 @@ pub enum Operation {
 }
 
 // The operations by their names.
-const OPERATIONS: [(&str, Operation); 30] = [
+const OPERATIONS: [(&str, Operation); 31] = [
     ("break-insert", Operation::BreakInsert),
     ("break-delete", Operation::BreakDelete),
     ("break-enable", Operation::BreakEnable),
@@ -73,6 +74,7 @@ const OPERATIONS: [(&str, Operation); 30] = [
     ("stack-list-frames", Operation::FrameList),
     ("stack-info-depth", Operation::FrameDepth),
     ("stack-info-frame", Operation::FrameInfo),
+    ("stack-list-variables", Operation::VariableList),
     ("data-list-register-names", Operation::RegisterNames),
     ("data-list-register-values", Operation::RegisterValues),
     ("data-read-memory-bytes", Operation::ReadMemory),
@@ -142,7 +144,7 @@ impl Operation {
             | Operation::FrameDepth
             | Operation::FrameInfo => (Allowed::OfThread, Count::Zero),
             Operation::WriteMemory => (Allowed::Nothing, Count::TwoOrThree),
-            Operation::SetRegister => (Allowed::OfThread, Count::One),
+            Operation::SetRegister | Operation::VariableList => (Allowed::OfThread, Count::One),
             Operation::ThreadInfo => (Allowed::Nothing, Count::AtMostOne),
             Operation::ThreadSelect | Operation::Show => (Allowed::Nothing, Count::One),
             Operation::RegisterValues | Operation::Evaluate => (

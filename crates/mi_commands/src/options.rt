@@ -9,6 +9,7 @@ ghost use Rattle.mi_commands.specs.Operations.{spelling};
 
 use crate::counts::{Allowed, OptionName, takes_value};
 use crate::operation::Operation;
+use crate::print::print_fits;
 use mi_input::Word;
 
 /// The option in front.
@@ -151,5 +152,7 @@ pub fn words_fit(operation: Operation, words: &[Word]) -> bool
     ensures { result ≡ words_fit operation (words_view words.now) }
 {
     let (allowed, count) = operation.shape();
-    (options_fit(allowed, words) && one_target(words)) && count.fits(parameters(words).len())
+    let parameters = parameters(words);
+    ((options_fit(allowed, words) && one_target(words)) && count.fits(parameters.len()))
+        && print_fits(operation, parameters)
 }

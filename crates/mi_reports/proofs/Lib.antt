@@ -4,6 +4,7 @@ pub mod Names
 pub mod Proper
 pub mod Worths
 pub mod Watching
+pub mod Listing
 pub mod Replying
 pub mod Stopping
 pub mod Saying

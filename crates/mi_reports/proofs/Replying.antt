@@ -32,6 +32,7 @@ use Rattle.mi_reports.specs.Errors.{message, error_code, error_fields}
 use Rattle.mi_reports.specs.Replies.{state_fields, thread_fields, thread_tree, threads_fields, number_field, numbers_fields, names_field, value_text, register_fields, register_tree, registers_field, block_fields, memory_field, setting, done_fields}
 use Rattle.mi_reports.proofs.Bytes.{decimal_bytes, address_bytes, joined_bytes}
 use Rattle.mi_reports.proofs.Names.{phrase_bytes}
+use Rattle.mi_reports.proofs.Listing.{variables_good}
 use Rattle.mi_reports.proofs.Watching.{watch_good, listed_good}
 use Rattle.mi_reports.proofs.Worths.{signed_bytes, worth_bytes}
 use Rattle.mi_reports.proofs.Proper.{Good, fit, none_good, join, value, says_good, some_good, tuple_good, brackets_good, source_good, frame_good, frames_good, pick}
@@ -194,6 +195,7 @@ done_good (content.ThreadNumbers numbers selected) h = numbers_good numbers sele
 done_good (content.Frames frames) h = frames_good frames h
 done_good (content.Depth depth) h = says_good key.Depth (decimal depth) [] 16 refl (decimal_bytes depth) (none_good 16)
 done_good (content.Frame frame) h = frame_good (Some 0) frame 16 refl refl h
+done_good (content.Variables vs) h = variables_good vs h
 done_good content.RegisterNames h = names_good
 done_good (content.Registers format registers) h = registers_good format registers
 done_good (content.Memory addr bytes) h = memory_good addr bytes h

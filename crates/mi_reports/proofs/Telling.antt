@@ -91,6 +91,7 @@ content_shows token (content.ThreadNumbers numbers selected) = refl
 content_shows token (content.Frames frames) = refl
 content_shows token (content.Depth depth) = refl
 content_shows token (content.Frame frame) = refl
+content_shows token (content.Variables vs) = refl
 content_shows token content.RegisterNames = refl
 content_shows token (content.Registers format registers) = refl
 content_shows token (content.Memory addr bytes) = refl

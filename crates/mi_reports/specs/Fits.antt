@@ -6,6 +6,7 @@ use Rattle.dbg_model.specs.declared.frame.SourceLine.{SourceLine}
 use Rattle.dbg_model.specs.declared.breakpoint.Breakpoint.{Breakpoint}
 use Rattle.dbg_model.specs.declared.row.Row.{Row}
 use Rattle.dbg_model.specs.declared.row.Row.TheVariants as rows
+use Rattle.dbg_model.specs.declared.variable.ShownVariable.{ShownVariable}
 use Rattle.dbg_model.specs.declared.reply.Thread.{Thread}
 use Rattle.dbg_model.specs.declared.reply.Content.{Content}
 use Rattle.dbg_model.specs.declared.reply.Content.TheVariants as content
@@ -48,6 +49,9 @@ row_fits (rows.Watch w) = are_bytes w.text
 abbrev pub rows_fit : List Row → Bool
 rows_fit = list_all row_fits
 
+abbrev pub variables_fit : List ShownVariable → Bool
+variables_fit = list_all (λ v. are_bytes v.name)
+
 -- what is shown of what was done
 abbrev pub done_fits : Content → Bool
 done_fits content.Blank = true
@@ -62,6 +66,7 @@ done_fits (content.ThreadNumbers numbers selected) = true
 done_fits (content.Frames frames) = frames_fit frames
 done_fits (content.Depth depth) = true
 done_fits (content.Frame frame) = frame_fits frame
+done_fits (content.Variables vs) = variables_fit vs
 done_fits content.RegisterNames = true
 done_fits (content.Registers format registers) = true
 done_fits (content.Memory addr bytes) = are_bytes (encode_lower bytes)

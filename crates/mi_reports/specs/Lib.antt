@@ -6,6 +6,7 @@ pub mod Watches
 pub mod Table
 pub mod Errors
 pub mod Text
+pub mod Variables
 pub mod Replies
 pub mod Triggers
 pub mod Lines

@@ -26,6 +26,7 @@ use Rattle.mi_reports.specs.Frames.{frame_field, stack_tree}
 use Rattle.mi_reports.specs.Breakpoints.{breakpoint_field}
 use Rattle.mi_reports.specs.Watches.{watch_field}
 use Rattle.mi_reports.specs.Table.{table_fields}
+use Rattle.mi_reports.specs.Variables.{variables_field}
 use Rattle.mi_reports.specs.Errors.{error_fields}
 
 -- ---- threads
@@ -121,6 +122,7 @@ done_fields (content.ThreadNumbers numbers selected) = numbers_fields numbers se
 done_fields (content.Frames frames) = (key_text key.Stack, stack_tree frames) ∷ []
 done_fields (content.Depth depth) = says key.Depth (decimal depth) ∷ []
 done_fields (content.Frame frame) = frame_field (Some 0) frame ∷ []
+done_fields (content.Variables vs) = variables_field vs ∷ []
 done_fields content.RegisterNames = names_field ∷ []
 done_fields (content.Registers format registers) = registers_field format registers ∷ []
 done_fields (content.Memory addr bytes) = memory_field addr bytes ∷ []

@@ -19,6 +19,7 @@ mod stops;
 mod table;
 mod threads;
 mod triggers;
+mod variables;
 mod watches;
 mod words;
 

@@ -13,6 +13,7 @@ use crate::lines::LineList;
 use crate::registers::{push_memory, push_names, push_registers, push_worth};
 use crate::table::push_table;
 use crate::threads::{push_numbers, push_threads};
+use crate::variables::push_variables;
 use crate::watches::push_watch;
 use crate::words::{Key, Phrase};
 use dbg_model::{Content, Refused, Reply};
@@ -102,6 +103,7 @@ fn push_done(fields: &mut FieldList, content: &Content) -> Result<(), AllocError
         Content::Frames(frames) => push_stack(fields, frames.as_slice()),
         Content::Depth(depth) => fields.push_word(Key::Depth, *depth),
         Content::Frame(frame) => push_frame(fields, Some(0), frame),
+        Content::Variables(variables) => push_variables(fields, variables.as_slice()),
         Content::RegisterNames => push_names(fields),
         Content::Registers { format, registers } => push_registers(
             fields,

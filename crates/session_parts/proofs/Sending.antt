@@ -26,6 +26,7 @@ use Rattle.elf_symbols.specs.contracts.entry.SymbolEntry as symbolentry
 use Rattle.elf_symbols.specs.contracts.names.Symbols as symbols
 use Rattle.line_index.specs.contracts.index.LineIndex as lineindex
 use Rattle.dwarf_frames.specs.contracts.index.FrameIndex as frameindex
+use Rattle.debug_info.specs.contracts.info.Info as info
 use Rattle.dbg_model.specs.contracts.source_index.SourceIndex as sourceindex
 use Rattle.data_memory.specs.contracts.memory.DataMemory as datamemory
 use Rattle.hart_machine.specs.contracts.machine.Machine as machine
@@ -88,8 +89,11 @@ lineindex_send = search (sendable, crosses) depth 100 fits 100000
 frameindex_send : IsSend frameindex.the_field.row
 frameindex_send = search (sendable, crosses) depth 100 fits 100000
 
+info_send : IsSend info.the_field.row
+info_send = search (sendable, crosses) depth 100 fits 100000
+
 pub sourceindex_send : IsSend sourceindex.the_field.row
-sourceindex_send = search (sendable, crosses, symbols_send, lineindex_send, frameindex_send) depth 100 fits 100000
+sourceindex_send = search (sendable, crosses, symbols_send, lineindex_send, frameindex_send, info_send) depth 100 fits 100000
 
 datamemory_send : IsSend datamemory.the_field.row
 datamemory_send = search (sendable, crosses) depth 100 fits 100000

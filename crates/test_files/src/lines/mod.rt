@@ -83,7 +83,7 @@ impl Bench for LineBench {
         let (word, rest) = row.split_once(' ').unwrap_or((row, ""));
         match word {
             "uleb" | "sleb" | "u8" | "u16" | "u32" | "text" => numbers::answer(alloc, word, rest),
-            "places" | "registers" | "wide" | "within" => programs::answer(alloc, word, rest),
+            "places" | "registers" | "wide" => programs::answer(alloc, word, rest),
             "pushed" => pushed::answer(alloc, rest),
             "section" | "counts" | "units" | "named" => sections::answer(alloc, word, rest),
             "words" | "generated" | "frames" => self.begin(alloc, word, rest),

@@ -5,7 +5,7 @@ use crate::lines::told::{told_places, told_registers};
 use line_programs::{Parameters, program_rows};
 use line_rows::{LineError, Rows};
 use std::alloc::{AllocError, Global};
-use test_rows::{RowFault, before, read_hex};
+use test_rows::{RowFault, read_hex};
 
 /// The operands of the standard opcodes of DWARF 4.
 const LENGTHS: &[u8] = &[0, 1, 1, 1, 1, 0, 0, 0, 1, 0, 0, 1];
@@ -13,11 +13,8 @@ const LENGTHS: &[u8] = &[0, 1, 1, 1, 1, 0, 0, 0, 1, 0, 0, 1];
 /// The same, and two opcodes more, of which one has two operands.
 const WIDE_LENGTHS: &[u8] = &[0, 1, 1, 1, 1, 0, 0, 0, 1, 0, 0, 1, 2, 0];
 
-/// More room than the rows of a program here take.
-const ROOM: u32 = 1_000;
-
 // What assemblers write mostly, with one file.
-fn usual(room: u32) -> Parameters
+fn usual() -> Parameters
     ensures { 0 < result.line_range }
 {
     Parameters {
@@ -28,7 +25,6 @@ fn usual(room: u32) -> Parameters
         opcode_base: 13,
         first_file: 1,
         file_count: 1,
-        room: u128::from(room),
     }
 }
 
@@ -44,15 +40,14 @@ fn wide() -> Parameters
         opcode_base: 15,
         first_file: 0,
         file_count: 1,
-        room: u128::from(ROOM),
     }
 }
 
-fn read(alloc: Global, word: &str, room: u32, unit: &[u8]) -> Result<Rows, LineError> {
+fn read(alloc: Global, word: &str, unit: &[u8]) -> Result<Rows, LineError> {
     if word == "wide" {
         program_rows(alloc, &wide(), WIDE_LENGTHS, unit, 0)
     } else {
-        program_rows(alloc, &usual(room), LENGTHS, unit, 0)
+        program_rows(alloc, &usual(), LENGTHS, unit, 0)
     }
 }
 
@@ -65,27 +60,16 @@ fn told(alloc: Global, word: &str, rows: &Rows) -> Result<String, AllocError> {
 }
 
 // What came of a row with this program.
-fn of_unit(alloc: Global, word: &str, room: u32, unit: &[u8]) -> Result<String, RowFault> {
-    match read(alloc, word, room, unit) {
+fn of_unit(alloc: Global, word: &str, unit: &[u8]) -> Result<String, RowFault> {
+    match read(alloc, word, unit) {
         Ok(rows) => Ok(told(alloc, word, &rows)?),
         Err(LineError::NoMemory) => Err(RowFault::NoMemory),
         Err(LineError::Fault(fault)) => Ok(format!(in alloc; "{fault:?}")?),
     }
 }
 
-// The room and the digits of a row.
-fn room_and_digits<'a>(word: &str, rest: &'a str) -> Option<(u32, &'a str)> {
-    if word == "within" {
-        before(rest)
-    } else {
-        Some((ROOM, rest))
-    }
-}
-
-/// What came of a row: `places PROGRAM`, `registers PROGRAM` or `within ROOM PROGRAM` under a usual header, or `wide PROGRAM`
-/// under another one.
-pub fn answer(alloc: Global, word: &str, rest: &str) -> Result<String, RowFault> {
-    let (room, digits) = room_and_digits(word, rest).ok_or(RowFault::Unknown)?;
+/// What came of a row: `places PROGRAM` or `registers PROGRAM` under a usual header, or `wide PROGRAM` under another one.
+pub fn answer(alloc: Global, word: &str, digits: &str) -> Result<String, RowFault> {
     let unit = read_hex(alloc, digits)?;
-    of_unit(alloc, word, room, &unit)
+    of_unit(alloc, word, &unit)
 }

@@ -23,13 +23,21 @@ fn push_fault(rows: &mut RowsBuilder, offset: u32) -> Result<(), NoMemory> {
     })
 }
 
-// A row, an end or a fault. None for another word.
-fn push_numbered(rows: &mut RowsBuilder, word: &str, number: u32) -> Option<Result<(), NoMemory>> {
+/// A row more, whose address isn't below that of the row before.
+pub fn push_row(rows: &mut RowsBuilder, row: Row) -> Result<(), RowFault> {
+    if row.address < rows.last_address() {
+        return Err(RowFault::Unknown);
+    }
+    Ok(rows.push_row(row)?)
+}
+
+// A row, an end or a fault.
+fn push_numbered(rows: &mut RowsBuilder, word: &str, number: u32) -> Result<(), RowFault> {
     match word {
-        "row" => Some(rows.push_row(row(number))),
-        "end" => Some(rows.end_sequence(number)),
-        "fault" => Some(push_fault(rows, number)),
-        _ => None,
+        "row" => push_row(rows, row(number)),
+        "end" => Ok(rows.end_sequence(number)?),
+        "fault" => Ok(push_fault(rows, number)?),
+        _ => Err(RowFault::Unknown),
     }
 }
 
@@ -39,8 +47,7 @@ fn push(rows: &mut RowsBuilder, item: &str) -> Result<(), RowFault> {
         return Ok(rows.push_name(rest.as_bytes())?);
     }
     let number = number(rest).ok_or(RowFault::Unknown)?;
-    let pushed = push_numbered(rows, word, number).ok_or(RowFault::Unknown)?;
-    Ok(pushed?)
+    push_numbered(rows, word, number)
 }
 
 fn push_items(rows: &mut RowsBuilder, items: &str) -> Result<(), RowFault> {

@@ -1,5 +1,6 @@
 // A program, rows for it, and what is looked up in them.
 use crate::images::{generated_image, words_image};
+use crate::lines::pushed::push_row;
 use dbg_traits::NoMemory;
 use dwarf_lines::rows;
 use elf_symbols::{Named, Symbols, symbols};
@@ -46,7 +47,7 @@ fn row_of(text: &str) -> Option<Row> {
 fn push_sequence(rows: &mut RowsBuilder, rest: &str) -> Result<(), RowFault> {
     let (end, texts) = before(rest).ok_or(RowFault::Unknown)?;
     for text in texts.split_ascii_whitespace() {
-        rows.push_row(row_of(text).ok_or(RowFault::Unknown)?)?;
+        push_row(rows, row_of(text).ok_or(RowFault::Unknown)?)?;
     }
     Ok(rows.end_sequence(end)?)
 }

@@ -104,6 +104,14 @@ fn of_values(
     format!(in alloc; "values {thread:?} {form:?} {:?}", numbers.as_slice())
 }
 
+fn of_variables(
+    alloc: Global,
+    thread: Option<u32>,
+    with_values: bool,
+) -> Result<String, AllocError> {
+    format!(in alloc; "variables {thread:?} {with_values}")
+}
+
 fn of_write(alloc: Global, address: u32, bytes: &ByteList) -> Result<String, AllocError> {
     format!(in alloc; "write {address} {:?}", bytes.as_slice())
 }
@@ -147,6 +155,10 @@ fn of_command(alloc: Global, command: &Command) -> Result<String, AllocError> {
             format,
             numbers,
         } => of_values(alloc, *thread, *format, numbers),
+        Command::VariableList {
+            thread,
+            with_values,
+        } => of_variables(alloc, *thread, *with_values),
         Command::ReadMemory { address, count } => of_pair(alloc, "read", (*address, *count)),
         Command::WriteMemory { address, bytes } => of_write(alloc, *address, bytes),
         Command::SetDisplaced(value) => format!(in alloc; "set displaced {value:?}"),

@@ -19,7 +19,7 @@ returns-in-Ok-clause-commands c = (
     parts = parts_view c.in_ok-parts.parts;
     are_parts = c.in_ok-parts.ensures.splits.1;
     token_is = refl;
-    answer_is = answer_to_parts c.in_ok-parts.parts _ _ c.deref.ensures.value c.in-Ok.ensures;
+    answer_is = answer_to_parts c.in_ok-parts.parts _ _ c.deref_mut.ensures.value c.in-Ok.ensures;
   },
 )
 
@@ -30,6 +30,6 @@ returns-clause-commands c = (
     parts = parts_view c.in_ok-parts.parts;
     are_parts = c.in_ok-parts.ensures.splits.1;
     token_is = refl;
-    answer_is = answer_to_parts c.in_ok-parts.parts _ _ c.deref.ensures.value (rw c.in-Err-Faulty.field-0-is at c.in-Err-Faulty.ensures);
+    answer_is = answer_to_parts c.in_ok-parts.parts _ _ c.deref_mut.ensures.value (rw c.in-Err-Faulty.field-0-is at c.in-Err-Faulty.ensures);
   },
 )
