@@ -9,7 +9,8 @@ sys.path.insert(0, os.path.join(os.path.dirname(os.path.realpath(__file__)), "..
 
 from checks.programs import TEXT_AT, TEXT_BASE  # noqa: E402
 
-ROOM = 4_194_304
+# How many rows a large table has.
+ROWS = 4_194_304
 STANDARD_LENGTHS = bytes([0, 1, 1, 1, 1, 0, 0, 0, 1])
 # Instructions of 255 bytes and special opcodes from 10 on, each for one instruction more: 255 is 62,475 bytes, and so is
 # DW_LNS_const_add_pc.

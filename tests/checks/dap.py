@@ -305,7 +305,8 @@ def check_data(rig, name):
         editor.ask("configurationDone")
         editor.event("stopped", threadId=2)
         frame = editor.ask("stackTrace", threadId=2)["stackFrames"][0]["id"]
-        (scope,) = editor.ask("scopes", frameId=frame)["scopes"]
+        scopes = {it["name"]: it for it in editor.ask("scopes", frameId=frame)["scopes"]}
+        scope = scopes["Registers"]
         registers = {it["name"]: it for it in editor.ask("variables", variablesReference=scope["variablesReference"])["variables"]}
         rig.row(name + ": registers", (len(registers), registers["a0"]["value"], registers["pc"]["value"]), (33, "0x00000002", "0x00010150"))
         set_ = editor.ask("setVariable", variablesReference=scope["variablesReference"], name="t0", value="-2")

@@ -2,8 +2,9 @@
 
 - A record in a code span or a table, as `^done,depth="C"`, has to be like a line of the stored sessions: capitals and `..` stand for
   anything. So has each text of the table of errors. Each command of a table is typed in a stored session.
-- Each file of the repository that a document names is there: from the top, from the document, or in the crate that is named before it.
-- Each name of the code, of a definition or of a file of them in ARCHITECTURE, DECISIONS and GUARANTEES stands in some crate.
+- Each file of the repository that a document names, in a command too, is there: from the top, from the document, or in the crate that is named before it.
+- Each name of the code, of a definition or of a file of them in the documents for those who change it stands in some crate,
+  and the lists of crates are whole.
 """
 
 import os
@@ -17,11 +18,11 @@ SPAN = re.compile(r"`([^`\n]+)`")
 RECORD = re.compile(r"[\^*=][a-z]|[@&]\"")
 ERROR = re.compile(r"^\| [0-9]+ \| ([^|]+?) \|", re.MULTILINE)
 COMMAND = re.compile(r"-[a-z]+(?:-[a-z]+)+")
-PATH = re.compile(r"(?:crates|tests|bench|examples|docs|\.ci)/[a-z0-9_./-]+|\.\./[A-Z]+\.md|[A-Z]+\.md")
+PATH = re.compile(r"(?:crates|tests|bench|examples|editors|docs|\.ci)/[a-z0-9_./-]+|\.\./[A-Z]+\.md|[A-Z]+\.md")
 IN_A_CRATE = re.compile(r"(?:src|specs|proofs)/[A-Za-z0-9_/.]+")
 NAME = re.compile(r"[A-Za-z]\w*(?:::\w+)*|\w+\.(?:rt|antt)")
-OTHER_NAMES = {"examples", "stdin", "stdout", "objdump", "readelf", "gcc", "clang", "rt"}
-WITH_NAMES = ("docs/ARCHITECTURE.md", "docs/DECISIONS.md", "docs/GUARANTEES.md")
+OTHER_NAMES = {"examples", "stdin", "stdout", "objdump", "readelf", "gcc", "clang", "rt", "elf", "Is", "Are", "is_"}
+WITH_NAMES = tuple("docs/%s.md" % it for it in ("ARCHITECTURE", "CONTRIBUTING", "DECISIONS", "GUARANTEES", "PERFORMANCE"))
 
 
 def bytes_of(*path):
@@ -70,7 +71,9 @@ def check_commands(rig, typed, name, text):
 
 def check_paths(rig, top, name, text):
     """The files that a document names."""
-    named = {span for span in SPAN.findall(text) + re.findall(r"\]\(([^)#]+)\)", text) if PATH.fullmatch(span)}
+    words = [word for line in text.splitlines() if line.startswith("    ") for word in line.split()]
+    words += [word for span in SPAN.findall(text) for word in span.split()[:1]] + re.findall(r"\]\(([^)#]+)\)", text)
+    named = {found.group() for word in words for found in [PATH.fullmatch(word.removeprefix("../../"))] if found}
     places = [os.path.dirname(os.path.join(top, name)), top]
     lost = [it for it in sorted(named) if not any(os.path.exists(os.path.join(place, it)) for place in places)]
     crates = set(os.listdir(os.path.join(top, "crates")))
@@ -100,6 +103,17 @@ def check_names(rig, names, name, text):
     rig.row("names of %s that no crate has" % name, unknown, [])
 
 
+def check_crates(rig, top):
+    """The list of crates in ARCHITECTURE has each once, and GUARANTEES goes through them in its order, but for the test programs."""
+    listed = bytes_of(top, "docs", "ARCHITECTURE.md").decode().split("\n## The crates\n")[1].split("\n## ")[0]
+    cells = [line.split(" | ")[0] for line in listed.splitlines() if line.startswith("| `")]
+    names = [name for cell in cells for name in SPAN.findall(cell)]
+    crates = re.findall(r"(?m)^(\w+)[^:\n#]*:", bytes_of(top, "crates.txt").decode())
+    rig.row("the crates of ARCHITECTURE", sorted(names), sorted(crates))
+    promised = re.findall(r"(?m)^- \*\*(\w+)\.\*\*", bytes_of(top, "docs", "GUARANTEES.md").decode())
+    rig.row("the crates of GUARANTEES", promised, [name for name in names if not name.startswith("test_")])
+
+
 def typed_commands(sessions):
     """The commands that the stored sessions type."""
     inputs = [os.path.join(sessions, name, "input") for name in os.listdir(sessions)]
@@ -112,6 +126,7 @@ def check_named(rig, top):
     sessions = os.path.join(top, "tests", "sessions")
     lines = session_lines(sessions).decode("ascii", "backslashreplace")
     typed, names = typed_commands(sessions), code_names(top)
+    check_crates(rig, top)
     for name, text in documents(top):
         check_records(rig, lines, name, text)
         check_commands(rig, typed, name, text)

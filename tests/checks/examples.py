@@ -3,7 +3,7 @@
 - A block of README.md or docs/ that begins with ```mi is a session: `$ ./rvdbg WORDS`, and then lines, of which those that begin with
   `-`, with or without a token, are the input and the others the output.
 - The lines of a block ```sh that call a compiler are run where it is installed, beside the repository's `examples`; what they make has to
-  come to a stop at the line of the sessions that name it. The others aren't run.
+  come to a stop at the line of its source for which the document has `-break-insert FILE:LINE`. The others aren't run.
 - `examples/NAME/session.mi` is the input of a session, `session.out` its output, and `args` the words, one a line. `timeline.out` is what
   `timeline.py` draws of it, and `examples/front-end/table.out` what the front end prints.
 """
@@ -18,7 +18,6 @@ import sys
 from checks.documents import BLOCK, SHELL, bytes_of, check_named, documents
 
 TYPED = re.compile(r"[0-9]*-")
-BREAK_AT = re.compile(r"-break-insert (\S+):([0-9]+)$", re.MULTILINE)
 
 
 def placed(words, top):
@@ -27,14 +26,15 @@ def placed(words, top):
 
 
 def check_sessions_shown(rig, top, name, text):
-    """The sessions of a document. A program that stands in no folder is that of the example of the same name."""
+    """The sessions of a document. A program that stands in no folder is that of the example of the same name; a generated run has none."""
     for number, (words, shown) in enumerate(BLOCK.findall(text), 1):
         lines = shown.splitlines(keepends=True)
         typed = "".join(line for line in lines if TYPED.match(line))
         answered = "".join(line for line in lines if not TYPED.match(line))
         *options, program = words.split()
-        file = program if "/" in program else "examples/%s/%s" % (program, program)
-        found = rig.run(placed([*options, file], top), typed.encode())
+        if "/" not in program and "--gen" not in options:
+            program = "examples/%s/%s" % (program, program)
+        found = rig.run(placed([*options, program], top), typed.encode())
         rig.row("session %d of %s" % (number, name), found, (0, answered.encode()))
 
 
@@ -52,11 +52,11 @@ def check_compilers(rig, top, name, text):
         os.symlink(os.path.join(top, "examples"), os.path.join(place, "examples"))
         shutil.copy(os.path.join(top, "examples", made, source), place)
         subprocess.run(words, cwd=place, check=True, timeout=60)
-        file, number = BREAK_AT.search("".join(shown for asked, shown in BLOCK.findall(text) if asked.endswith(" " + made))).groups()
-        asked = "-break-insert %s:%s\n-exec-continue\n-exec-wait\n-gdb-exit\n" % (file, number)
+        number = re.search(r"-break-insert %s:([0-9]+)" % re.escape(source), text).group(1)
+        asked = "-break-insert %s:%s\n-exec-continue\n-exec-wait\n-gdb-exit\n" % (source, number)
         status, output = rig.run(["--workers", "0", os.path.join(place, made)], asked.encode())
         stop = b'*stopped,reason="breakpoint-hit"'
-        lines = [it for it in output.splitlines() if it.startswith(stop) and b'file="%s",line="%s"' % (file.encode(), number.encode()) in it]
+        lines = [it for it in output.splitlines() if it.startswith(stop) and b'file="%s",line="%s"' % (source.encode(), number.encode()) in it]
         rig.row("%s of %s: status and stops" % (words[0], name), (status, len(lines)), (0, 1))
 
 
@@ -67,7 +67,7 @@ def printed(words, top, input=b""):
 
 def check_folders(rig, top):
     """The sessions of the examples, the timeline and the front end."""
-    for name in ("euclid", "lock"):
+    for name in ("euclid", "lock", "mine"):
         folder = os.path.join(top, "examples", name)
         words = bytes_of(folder, "args").decode().split("\n")[:-1]
         found = rig.run(placed(words, top), bytes_of(folder, "session.mi"))
