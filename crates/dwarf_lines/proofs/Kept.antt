@@ -1,11 +1,10 @@
 -- Names that come behind others in texts that grow.
-use Rattle.std.proofs.Common.{◌≡◌, Bool, true, false, cond, ℕ, zero, suc, ◌+◌, ◌-◌, ◌<◌, ◌≤◌, List, [], ◌∷◌, ◌++◌, length, map, drop, take, refl, ◌∙◌, ap, sym, subst, append_assoc, append-nil, arith, get_or}
+use Rattle.std.proofs.Common.{◌≡◌, Bool, true, false, cond, ℕ, zero, suc, ◌+◌, ◌-◌, ◌<◌, ◌≤◌, List, [], ◌∷◌, ◌++◌, length, drop, refl, ◌∙◌, ap, sym, subst, append_assoc, append-nil, arith, get_or}
 use Rattle.std.specs.Prelude.{All, Option, Some, min, IfOk, Result, Ok, Err}
 use Rattle.std.specs.List.{take_while}
 use Rattle.std.proofs.lemmas.List.{drop-append-le, drop_all, length-append, map-append, length_push}
 use Rattle.std.proofs.lemmas.List.Sums.{take_while-cons}
 use Rattle.std.proofs.lemmas.List.Elements.{All-head, All-tail, All-cons, All-nil, All-push}
-use Rattle.std.proofs.Math.Seq.{drop-append_seam}
 use Rattle.leb_read.specs.Leb.{is_text_byte}
 use Rattle.file_names.specs.Numbers.{names_at}
 use Rattle.file_names.specs.Texts.{text_from}

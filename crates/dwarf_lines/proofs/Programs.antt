@@ -4,7 +4,7 @@ use Rattle.std.proofs.lemmas.List.{take_rest}
 use Rattle.std.specs.Prelude.{Result}
 use Rattle.line_headers.specs.declared.header.Header.{Header}
 use Rattle.line_programs.specs.Machine.{program_of}
-use Rattle.line_rows.specs.RowList.{RowList}
+use Rattle.line_rows.specs.RowList.{OpenUnit}
 use Rattle.line_rows.specs.declared.fault.LineFault.{LineFault}
 use Rattle.dwarf_lines.specs.Rows.{lengths_in, parameters_of, program_in}
 
@@ -16,6 +16,6 @@ program_same header file_count bytes base n is_base is_n =
     let front : take (length bytes - header.opcodes.lengths) (drop header.opcodes.lengths bytes) ≡ drop header.opcodes.lengths bytes = take_rest bytes header.opcodes.lengths in
     let lengths : take n (take (length bytes - header.opcodes.lengths) (drop header.opcodes.lengths bytes)) ≡ lengths_in bytes header =
     ap (λ (l : List ℕ). take n l) front ∙ ap (λ (k : ℕ). take k (drop header.opcodes.lengths bytes)) is_n in
-    let run : ℤ → List ℕ → Result RowList LineFault =
+    let run : ℤ → List ℕ → Result OpenUnit LineFault =
     λ z l. program_of (record (parameters_of header file_count) { line_base = z }) l bytes header.program in
     ap (λ (l : List ℕ). run base l) lengths ∙ ap (λ (z : ℤ). run z (lengths_in bytes header)) is_base

@@ -1,3 +1,4 @@
+-- The definitions of a section's rows: its units, its names, their numbers, and how the code adds them.
 pub mod Units
 pub mod Names
 pub mod Numbers

@@ -1,8 +1,8 @@
--- Rows with the numbers of their files' names over all units: equal names have equal numbers.
-use Rattle.std.specs.Prelude.{ℕ, ◌-◌, List, [], map, flat_map}
+-- Rows with the numbers of their files' names over all units: equal names have equal numbers. This project's own.
+use Rattle.std.specs.Prelude.{ℕ, ◌-◌, List, map}
 use Rattle.std.specs.List.{slice_index_or}
 use Rattle.file_names.specs.Numbers.{number_of}
-use Rattle.line_rows.specs.RowList.{Sequence, ended_with}
+use Rattle.line_rows.specs.RowList.{Sequence, mapped}
 use Rattle.line_rows.specs.declared.row.Row.{Row}
 
 -- what a unit gives: the names of its files, the number of the first of them, and its sequences
@@ -15,9 +15,5 @@ pub record UnitRows : Type 0 where
 abbrev pub numbered : List (List ℕ) → UnitRows → Row → Row
 numbered names unit r = record r { file = slice_index_or (map (number_of names) unit.names) (r.file - unit.first) 0 }
 
--- a sequence of such rows; one without rows is none
-abbrev pub numbered_sequence : List (List ℕ) → UnitRows → Sequence → List Sequence
-numbered_sequence names unit s = ended_with [] (map (numbered names unit) s.rows) s.end
-
 abbrev pub numbered_sequences : List (List ℕ) → UnitRows → List Sequence
-numbered_sequences names unit = flat_map (numbered_sequence names unit) unit.sequences
+numbered_sequences names unit = map (mapped (numbered names unit)) unit.sequences

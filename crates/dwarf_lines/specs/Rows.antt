@@ -8,7 +8,7 @@ use Rattle.line_headers.specs.declared.header.Header.{Header}
 use Rattle.line_headers.specs.declared.places.NamePlace.{NamePlace}
 use Rattle.line_programs.specs.Machine.{program_of}
 use Rattle.line_programs.specs.declared.parameters.Parameters.{Parameters}
-use Rattle.line_rows.specs.RowList.{RowList}
+use Rattle.line_rows.specs.RowList.{OpenUnit, RowList}
 use Rattle.line_rows.specs.declared.fault.LineFault.{LineFault}
 use Rattle.line_rows.specs.declared.fault.UnitFault.{UnitFault}
 use Rattle.file_names.specs.Numbers.{distinct}
@@ -33,11 +33,11 @@ parameters_of header file_count =
 abbrev pub lengths_in : List ℕ → Header → List ℕ
 lengths_in bytes header = take (header.opcodes.base - 1) (drop header.opcodes.lengths bytes)
 
-unfoldable pub program_in : Header → ℕ → List ℕ → Result RowList LineFault
+unfoldable pub program_in : Header → ℕ → List ℕ → Result OpenUnit LineFault
 program_in header file_count bytes = program_of (parameters_of header file_count) (lengths_in bytes header) bytes header.program
 
 -- the files of the header, and behind them those that the program defines, whose names end before a zero byte
-abbrev pub unit_rows : Header → List (List ℕ) → Result RowList LineFault → Result UnitRows LineFault
+abbrev pub unit_rows : Header → List (List ℕ) → Result OpenUnit LineFault → Result UnitRows LineFault
 unit_rows header names (Ok rows) = Ok (record { names = names ++ map (λ name. text_from name 0) rows.names; first = header.first_file; sequences = rows.sequences })
 unit_rows header names (Err e) = Err e
 

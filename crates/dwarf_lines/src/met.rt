@@ -9,7 +9,7 @@ ghost use Rattle.dwarf_lines.specs.Names.{name_in};
 use crate::files::text_from;
 use dbg_traits::NoMemory;
 use line_headers::NamePlace;
-use line_rows::{LineSections, Rows};
+use line_rows::{LineSections, RowsBuilder};
 use std::alloc::Global;
 
 /// Names as places in texts.
@@ -39,7 +39,8 @@ pub fn no_names(alloc: Global) -> MetNames
     }
 }
 
-fn narrow(place: usize) -> Result<u32, NoMemory>
+/// A place or a count as a number of 32 bits, or want of memory.
+pub fn narrow(place: usize) -> Result<u32, NoMemory>
     ensures { IfOk result (λ n. n ≡ place) }
 {
     match u32::try_from(place) {
@@ -149,17 +150,17 @@ fn push_name(sections: &LineSections<'_>, name: &[u8], met: &mut MetNames) -> Re
     Ok(())
 }
 
-/// The names of the files that a program defines come behind the others.
+/// The names of the files that the program of the unit that is being read defines come behind the others.
 pub fn push_defined(
     sections: &LineSections<'_>,
-    defined: &Rows,
+    rows: &RowsBuilder,
     met: &mut MetNames,
 ) -> Result<(), NoMemory>
     requires { AreMet (sections_shown sections.now) met.old }
-    ensures { IfOk result (λ _. Meets (sections_shown sections.now) met.old met.new (map (λ name. text_from name 0) defined.now.names)) }
+    ensures { IfOk result (λ _. Meets (sections_shown sections.now) met.old met.new (map (λ name. text_from name 0) rows.now.unit.names)) }
 {
-    for k in 0..defined.name_count() {
-        push_name(sections, defined.name(k), met)?;
+    for k in 0..rows.name_count() {
+        push_name(sections, rows.name(k), met)?;
     }
     Ok(())
 }

@@ -1,5 +1,6 @@
+// The rows of whole sections: those of all units, one after another.
 ghost use Rattle.std.specs.Prelude.{◌≡◌, ◌≤◌, IfOk, OnOk, length};
-ghost use Rattle.line_rows.specs.RowList.{nothing_built};
+ghost use Rattle.line_rows.specs.RowList.{no_rows, nothing_open};
 ghost use Rattle.line_rows.specs.Sections.{sections_shown};
 ghost use Rattle.dwarf_lines.specs.Adding.{Adds, added, named};
 ghost use Rattle.dwarf_lines.specs.Met.{AreMet};
@@ -32,7 +33,8 @@ fn add_units(
     met: &mut MetNames,
     rows: &mut RowsBuilder,
 ) -> Result<(), NoMemory>
-    requires begins { named rows.old met.old ≡ nothing_built }
+    requires begins { named rows.old met.old ≡ no_rows }
+    requires closed { rows.old.unit ≡ nothing_open }
     requires met { AreMet (sections_shown sections.now) met.old }
     ensures { OnOk result (Adds (added (sections_shown sections.now)) (sections_shown sections.now) met.new rows.new) }
 {
@@ -66,6 +68,5 @@ pub fn rows(alloc: Global, sections: &LineSections<'_>) -> Result<Rows, NoMemory
     add_units(alloc, sections, &mut met, &mut rows)?;
     let numbered = number_names(alloc, &met.texts, &met.places)?;
     rows.renumber(&numbered.numbers);
-    rows.set_names(numbered.names);
-    Ok(rows.finish())
+    Ok(rows.finish(numbered.names))
 }

@@ -4,34 +4,36 @@ ghost use Rattle.std.specs.Prelude.{◌≡◌};
 ghost use Rattle.line_rows.specs.Sections.{sections_shown};
 ghost use Rattle.line_headers.specs.Texts.{texts_before};
 ghost use Rattle.line_headers.specs.Header.{IsWithin};
-ghost use Rattle.line_programs.specs.Machine.{GivesRows};
+ghost use Rattle.line_rows.specs.RowList.{nothing_open};
+ghost use Rattle.line_programs.specs.Machine.{GivesRows, Keeps};
 ghost use Rattle.dwarf_lines.specs.Adding.{GivesUnit};
 ghost use Rattle.dwarf_lines.specs.Rows.{program_in, rows_in};
 
 use line_headers::{Header, NamePlace, TextEnds, read_header};
 use line_programs::{Parameters, program_rows};
-use line_rows::{LineError, LineSections, Rows};
+use line_rows::{LineError, LineSections, RowsBuilder};
 use std::alloc::Global;
 
-/// What a unit gives. The files of its rows are numbers in the unit's own table.
+/// The files of a unit's header.
 #[derive(Drop)]
-pub struct UnitFound {
+pub struct UnitFiles {
     /// The number of the first file.
-    pub first_file: u32,
-    /// Where the names of the header's files stand.
-    pub files: Vec<NamePlace>,
-    /// The rows, and the names of the files that the program defines.
-    pub rows: Rows,
+    pub first: u32,
+    /// Where their names stand.
+    pub places: Vec<NamePlace>,
 }
 
+// Builds the rows of a unit's program.
 fn program_in(
-    alloc: Global,
     header: Header,
     file_count: usize,
     bytes: &[u8],
-) -> Result<Rows, LineError>
-    requires { IsWithin bytes.now header }
-    ensures { GivesRows result (program_in header file_count bytes.now) }
+    rows: &mut RowsBuilder,
+) -> Result<(), LineError>
+    requires within { IsWithin bytes.now header }
+    requires fresh { rows.old.unit ≡ nothing_open }
+    ensures rows { GivesRows result (program_in header file_count bytes.now) rows.new.unit }
+    ensures rest { Keeps rows.old rows.new }
 {
     let parameters = Parameters {
         minimum_instruction_length: header.lines.minimum_length,
@@ -44,24 +46,27 @@ fn program_in(
     };
     let front = &bytes[header.opcodes.lengths..];
     let lengths = &front[..header.opcodes.base.saturating_sub(1) as usize];
-    program_rows(alloc, &parameters, lengths, bytes, header.program)
+    program_rows(&parameters, lengths, bytes, header.program, rows)
 }
 
-/// What a unit gives whose version stands at a place. Of the sections `.debug_line` is the front up to the unit's end.
+/// Builds the rows of the unit whose version stands at a place, and gives its files. Of the sections `.debug_line` is the front
+/// up to the unit's end. After an error any part of the unit is built.
 #[tactic(auto, unfolding(crate::specs::Rows::rows_in))]
 pub fn read_unit(
     alloc: Global,
     sections: &LineSections<'_>,
     at: usize,
     ends: TextEnds,
-) -> Result<UnitFound, LineError>
-    ensures { GivesUnit (sections_shown sections.now) result (rows_in (texts_before ends) (sections_shown sections.now) at) }
+    rows: &mut RowsBuilder,
+) -> Result<UnitFiles, LineError>
+    requires { rows.old.unit ≡ nothing_open }
+    ensures unit { GivesUnit (sections_shown sections.now) result (rows_in (texts_before ends) (sections_shown sections.now) at) rows.new.unit }
+    ensures rest { Keeps rows.old rows.new }
 {
-    let (header, files) = read_header(alloc, sections.line, at, ends)?;
-    let rows = program_in(alloc, header, files.len(), sections.line)?;
-    Ok(UnitFound {
-        first_file: header.first_file,
-        files,
-        rows,
+    let (header, places) = read_header(alloc, sections.line, at, ends)?;
+    program_in(header, places.len(), sections.line, rows)?;
+    Ok(UnitFiles {
+        first: header.first_file,
+        places,
     })
 }

@@ -1,3 +1,4 @@
+// Where a unit ends (DWARF 5, section 6.2.4, item 1, and section 7.4).
 ghost use Rattle.std.specs.Prelude.{◌≡◌, ◌+◌, ◌≤◌, IfOk, length};
 ghost use Rattle.dwarf_lines.specs.Units.{unit_end};
 

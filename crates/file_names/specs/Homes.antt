@@ -1,4 +1,4 @@
--- Homes of texts: one place for all places where the same text stands.
+-- Homes of texts: one place for all places where the same text stands. This project's own.
 use Rattle.std.specs.Prelude.{◌≡◌, ◌≤◌, ◌+◌, ◌⊎◌, ℕ, List, Some, length, slice_index}
 use Rattle.std.specs.List.{Contains}
 use Rattle.std.specs.BTreeMap.{BTreeMap, get}

@@ -1,4 +1,4 @@
--- The numbers of file names: distinct names are numbered from 0 in the order in which they first stand in a list.
+-- The numbers of file names: distinct names are numbered from 0 in the order in which they first stand in a list. This project's own.
 use Rattle.std.specs.Prelude.{◌≡◌, ◌⊎◌, ℕ, Bool, List, [], ◌∷◌, ◌++◌, length, fold, map, nat_lt, slice_set, Option, None, Some, if◌then◌else◌}
 use Rattle.std.specs.List.{position, position_or_len, slice_index_or}
 use Rattle.std.specs.Str.{bytes_eq}

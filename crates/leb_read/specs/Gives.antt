@@ -1,4 +1,4 @@
--- What a reader that lends bytes gives.
+-- What a reader that lends bytes gives. This project's own.
 use Rattle.std.specs.Prelude.{◌≡◌, ℕ, List, Result, Ok, Err}
 use Rattle.std.specs.Borrow.{Bor}
 use Rattle.leb_read.specs.Leb.{Read, found}

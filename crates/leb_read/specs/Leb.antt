@@ -97,7 +97,7 @@ pub record IsBehind (bytes : List ℕ) (at next : ℕ) : Type 0 where
   pub behind : at < next
   pub within : next ≤ length bytes
 
--- the same behind a text and its zero byte
+-- a next place stands behind the text at the place and its zero byte, and no further than the end
 pub record IsBehindText (bytes : List ℕ) (at : ℕ) (text : List ℕ) (next : ℕ) : Type 0 where
   pub behind : at + length text + 1 ≡ next
   pub within : next ≤ length bytes

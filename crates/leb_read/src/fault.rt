@@ -1,3 +1,4 @@
+// The faults of reading a number or a text.
 use thiserror::Error;
 
 /// Why no value stands at a place. Of both the first is told.

@@ -1,4 +1,4 @@
--- What a reading into a vector gives. Want of memory may come.
+-- What a reading into a vector gives. Want of memory may come. This project's own.
 use Rattle.std.specs.Prelude.{◌≡◌, ℕ, List, Result, Ok, Err}
 use Rattle.std.specs.Global.{Vec}
 use Rattle.line_rows.specs.Reading.{Reading}

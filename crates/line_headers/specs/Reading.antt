@@ -1,4 +1,4 @@
--- Reading in order, one value behind another.
+-- Reading in order, one value behind another. This project's own.
 use Rattle.std.specs.Prelude.{ℕ, ◌+◌, nat_le, List, length, Ok, Err, if◌then◌else◌}
 use Rattle.leb_read.specs.Leb.{text_at}
 use Rattle.line_rows.specs.Reading.{Reading, in_unit}

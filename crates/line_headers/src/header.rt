@@ -1,3 +1,4 @@
+// The header of a unit, read in order (DWARF 5, section 6.2.4; DWARF 4, section 6.2.4).
 ghost use Rattle.std.specs.Prelude.{◌≡◌, IfOk};
 ghost use Rattle.line_headers.specs.Texts.{texts_before};
 ghost use Rattle.line_headers.specs.Gives.{Gives};

@@ -1,3 +1,4 @@
+// How far texts stand in the sections of texts.
 ghost use Rattle.std.specs.Prelude.{◌≡◌};
 ghost use Rattle.line_rows.specs.Sections.{sections_shown};
 ghost use Rattle.line_headers.specs.Texts.{EndsAt, texts_before, texts_in};

@@ -1,7 +1,7 @@
 -- What is found in one element, or in one sequence, more.
-use Rattle.std.proofs.Common.{◌≡◌, ℕ, ◌+◌, ◌<◌, Bool, true, false, List, [], ◌∷◌, ◌++◌, length, filter, fold, map, take, get_or, refl, ap, ◌∙◌, sym, cond}
-use Rattle.std.specs.Prelude.{Option, Some, None, flat_map, nat_le, nat_lt, slice_get, ◌&&◌, if◌then◌else◌}
-use Rattle.std.proofs.lemmas.List.{map-append, take_more}
+use Rattle.std.proofs.Common.{◌≡◌, ℕ, ◌+◌, ◌<◌, Bool, true, false, List, [], ◌∷◌, ◌++◌, length, filter, fold, take, get_or, refl, ap, ◌∙◌, sym, cond}
+use Rattle.std.specs.Prelude.{Some, None, flat_map, slice_get, if◌then◌else◌}
+use Rattle.std.proofs.lemmas.List.{take_more}
 use Rattle.std.proofs.lemmas.List.Elements.{filter-append}
 use Rattle.std.proofs.lemmas.List.Sums.{fold-append}
 use Rattle.std.proofs.lemmas.Grind.{flat_map-append}
@@ -9,7 +9,7 @@ use Rattle.elf32_read.specs.declared.spans.Span.{Span}
 use Rattle.elf_symbols.specs.Names.{better}
 use Rattle.line_rows.specs.RowList.{Sequence}
 use Rattle.line_rows.specs.declared.row.Row.{Row}
-use Rattle.line_index.specs.Lines.{addresses, begins_in, is_sooner, kept}
+use Rattle.line_index.specs.Lines.{begins_in, is_sooner, kept}
 use Rattle.line_index.proofs.Indexes.{take-more}
 
 last_by : {A B : Type 0} (f : B → A → B) (acc : B) (x : A) (b : Bool) → fold f acc (cond b (x ∷ []) []) ≡ (if b then f acc x else acc)
@@ -26,49 +26,16 @@ fold_filter_more f p acc xs i d within =
     ∙ fold-append f acc (filter p (take i xs)) (filter p (x ∷ []))
     ∙ last_by f (fold f acc (filter p (take i xs))) x (p x))
 
--- the addresses from one on
-abbrev pub from_on : ℕ → (Row → Bool) → List Row → List ℕ
-from_on start test rows = filter (nat_le start) (addresses test rows)
-
-from_on-append : (start : ℕ) (test : Row → Bool) (xs ys : List Row) → from_on start test (xs ++ ys) ≡ from_on start test xs ++ from_on start test ys
-from_on-append start test xs ys =
-    ap (λ (rows : List Row). filter (nat_le start) (map (λ r. r.address) rows)) (filter-append test xs ys)
-    ∙ ap (filter (nat_le start)) (map-append (λ (r : Row). r.address) (filter test xs) (filter test ys))
-    ∙ filter-append (nat_le start) (addresses test xs) (addresses test ys)
-
-one_by : (start : ℕ) (acc : Option ℕ) (r : Row) (b c : Bool) → nat_le start r.address ≡ c → fold (better nat_lt) acc (filter (nat_le start) (map (λ (r : Row). r.address) (cond b (r ∷ []) []))) ≡ (if b && c then better nat_lt acc r.address else acc)
-one_by start acc r true true e = rw e refl
-one_by start acc r true false e = rw e refl
-one_by start acc r false c e = refl
-
-pub least_more : (start : ℕ) (test : Row → Bool) (acc : Option ℕ) (rows : List Row) (i : ℕ) (d : Row) → i < length rows
-    → (if test (get_or rows i d) && nat_le start (get_or rows i d).address then better nat_lt (fold (better nat_lt) acc (from_on start test (take i rows))) (get_or rows i d).address else fold (better nat_lt) acc (from_on start test (take i rows)))
-    ≡ fold (better nat_lt) acc (from_on start test (take (i + 1) rows))
-least_more start test acc rows i d within =
-    let r = get_or rows i d in
-    sym
-    (ap (λ (l : List Row). fold (better nat_lt) acc (from_on start test l)) (take_more rows i d within)
-    ∙ ap (fold (better nat_lt) acc) (from_on-append start test (take i rows) (r ∷ []))
-    ∙ fold-append (better nat_lt) acc (from_on start test (take i rows)) (from_on start test (r ∷ []))
-    ∙ one_by start (fold (better nat_lt) acc (from_on start test (take i rows))) r (test r) (nat_le start r.address) refl)
-
 -- the rows of the sequences that count
 abbrev pub rows_in : List Span → List Sequence → List Row
 rows_in text ss = flat_map (λ s. s.rows) (kept text ss)
 
-rows_more : (text : List Span) (ss : List Sequence) (k : ℕ) (s : Sequence) → slice_get ss k ≡ Some s → rows_in text (take (k + 1) ss) ≡ rows_in text (take k ss) ++ rows_in text (s ∷ [])
+-- one sequence more
+pub rows_more : (text : List Span) (ss : List Sequence) (k : ℕ) (s : Sequence) → slice_get ss k ≡ Some s → rows_in text (take (k + 1) ss) ≡ rows_in text (take k ss) ++ rows_in text (s ∷ [])
 rows_more text ss k s h =
     ap (rows_in text) (take-more ss k s h)
     ∙ ap (flat_map (λ (s : Sequence). s.rows)) (filter-append (begins_in text) (take k ss) (s ∷ []))
     ∙ flat_map-append (λ (s : Sequence). s.rows) (kept text (take k ss)) (kept text (s ∷ []))
-
-pub least_sequence_more : (start : ℕ) (test : Row → Bool) (text : List Span) (ss : List Sequence) (k : ℕ) (s : Sequence) → slice_get ss k ≡ Some s
-    → fold (better nat_lt) (fold (better nat_lt) None (from_on start test (rows_in text (take k ss)))) (from_on start test (rows_in text (s ∷ []))) ≡ fold (better nat_lt) None (from_on start test (rows_in text (take (k + 1) ss)))
-least_sequence_more start test text ss k s h =
-    sym
-    (ap (λ (l : List Row). fold (better nat_lt) None (from_on start test l)) (rows_more text ss k s h)
-    ∙ ap (fold (better nat_lt) None) (from_on-append start test (rows_in text (take k ss)) (rows_in text (s ∷ [])))
-    ∙ fold-append (better nat_lt) None (from_on start test (rows_in text (take k ss))) (from_on start test (rows_in text (s ∷ []))))
 
 pub soonest_sequence_more : (p : Row → Bool) (text : List Span) (ss : List Sequence) (k : ℕ) (s : Sequence) → slice_get ss k ≡ Some s
     → fold (better is_sooner) (fold (better is_sooner) None (filter p (rows_in text (take k ss)))) (filter p (rows_in text (s ∷ []))) ≡ fold (better is_sooner) None (filter p (rows_in text (take (k + 1) ss)))

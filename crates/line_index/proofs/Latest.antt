@@ -1,5 +1,5 @@
 -- The row that counts, where addresses don't fall: a search from the last row on.
-use Rattle.std.proofs.Common.{◌≡◌, ℕ, zero, suc, ◌+◌, ◌-◌, ◌<◌, ◌≤◌, Bool, true, false, List, [], ◌∷◌, ◌++◌, Option, None, Some, length, filter, take, get_or, refl, ap, ◌∙◌, sym, subst, arith, ltb, leb, cond}
+use Rattle.std.proofs.Common.{◌≡◌, ℕ, zero, suc, ◌+◌, ◌-◌, ◌<◌, ◌≤◌, Bool, true, false, List, [], ◌∷◌, ◌++◌, Option, None, Some, length, filter, take, get_or, refl, ap, ◌∙◌, sym, subst, arith, leb}
 use Rattle.std.specs.Prelude.{nat_le, nat_lt, not, ◌==◌, ◌||◌, ◌&&◌, All, if◌then◌else◌}
 use Rattle.std.specs.List.Sorted.{IsPartitionPoint}
 use Rattle.std.proofs.lemmas.Bool.Decides.{nat_tests}
@@ -7,7 +7,7 @@ use Rattle.std.proofs.lemmas.List.{get_or-take, get_or_default, length-take, tak
 use Rattle.std.proofs.lemmas.List.Elements.{All-head, All-tail}
 use Rattle.line_rows.specs.RowList.{AreInOrder}
 use Rattle.line_rows.specs.declared.row.Row.{Row}
-use Rattle.line_index.specs.Lines.{is_ahead, row_in}
+use Rattle.line_index.specs.Lines.{is_ahead}
 use Rattle.line_index.proofs.LaterRows.{last-cons, last-push, last_of, later-assoc, later_of}
 
 -- the rows up to an address stand in front

@@ -13,7 +13,7 @@ use Rattle.line_index.specs.Order.{IsInOrder}
 use Rattle.address_tables.proofs.Orders.{yes-le, no-le, yes-lt, no-lt}
 
 -- there is a number, and it isn't above another
-abbrev Under : Option ℕ → ℕ → Type 0
+abbrev pub Under : Option ℕ → ℕ → Type 0
 Under None n = ⊥
 Under (Some b) n = b ≤ n
 
@@ -22,11 +22,11 @@ under-less None a b h u = u
 under-less (Some c) a b h u = omega arith
 
 -- what is the least from one on
-record IsLeast (start : ℕ) (ns : List ℕ) (o : Option ℕ) : Type 0 where
-  under : All (λ n. start ≤ n → Under o n) ns
-  one : (b : ℕ) → o ≡ Some b → Contains ns b × (start ≤ b)
+pub record IsLeast (start : ℕ) (ns : List ℕ) (o : Option ℕ) : Type 0 where
+  pub under : All (λ n. start ≤ n → Under o n) ns
+  pub one : (b : ℕ) → o ≡ Some b → Contains ns b × (start ≤ b)
 
-contains-more : (ns : List ℕ) (n b : ℕ) → Contains ns b → Contains (n ∷ ns) b
+pub contains-more : (ns : List ℕ) (n b : ℕ) → Contains ns b → Contains (n ∷ ns) b
 contains-more ns n b h = let within = h.1 in (suc h.0, omega arith, h.2)
 
 -- where a search goes on from what it found
@@ -35,7 +35,7 @@ record Found (start : ℕ) (acc : Option ℕ) (ns : List ℕ) (o : Option ℕ) :
   under : All (λ n. start ≤ n → Under o n) ns
   one : (b : ℕ) → o ≡ Some b → (acc ≡ Some b) ⊎ (Contains ns b × (start ≤ b))
 
-here : (ns : List ℕ) (n : ℕ) → Contains (n ∷ ns) n
+pub here : (ns : List ℕ) (n : ℕ) → Contains (n ∷ ns) n
 here ns n = (0, omega arith, refl)
 
 -- what is taken of two
@@ -98,14 +98,14 @@ less_between a b c h k = grind (arith, nat_tests)
 pub less_order : IsOrder nat_lt
 less_order = record { itself = less_itself; along = less_along; between = less_between }
 
-is-least : (start : ℕ) (ns : List ℕ) → IsLeast start ns (least_from start ns)
+pub is-least : (start : ℕ) (ns : List ℕ) → IsLeast start ns (least_from start ns)
 is-least start ns =
     let f = found start None ns in
     subst (IsLeast start ns) (foremost_is nat_lt less_order (filter (nat_le start) ns))
     (record { under = f.under; one = λ b e. ⊎_elim (λ (h : None ≡ Some b). absurd (cc)) (λ (h : Contains ns b × (start ≤ b)). h) (f.one b e) })
 
 -- there is one least
-same-least : (start : ℕ) (ns : List ℕ) (o p : Option ℕ) → IsLeast start ns o → IsLeast start ns p → o ≡ p
+pub same-least : (start : ℕ) (ns : List ℕ) (o p : Option ℕ) → IsLeast start ns o → IsLeast start ns p → o ≡ p
 same-least start ns None None h k = refl
 same-least start ns None (Some b) h k = let c = k.one b refl in absurd (All-contains (λ n. start ≤ n → Under None n) ns b h.under c.0 c.1)
 same-least start ns (Some a) None h k = let c = h.one a refl in absurd (All-contains (λ n. start ≤ n → Under None n) ns a k.under c.0 c.1)

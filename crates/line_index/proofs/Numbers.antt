@@ -1,6 +1,6 @@
 -- The sequence of an address by its number.
 use Rattle.std.proofs.Common.{◌≡◌, ℕ, ◌+◌, zero, suc, ◌<◌, Bool, true, false, List, [], ◌∷◌, ◌++◌, Option, None, Some, length, take, refl, ap, ◌∙◌, sym, subst, arith, cond, append_assoc, append-nil}
-use Rattle.std.specs.Prelude.{find, option_and_then, slice_get, nat_le, nat_lt, ◌&&◌, if◌then◌else◌}
+use Rattle.std.specs.Prelude.{find, option_and_then, slice_get}
 use Rattle.std.specs.Option.{option_map, option_map_or}
 use Rattle.std.proofs.lemmas.List.{length-take}
 use Rattle.address_tables.specs.Tables.{covers as is_there, value_among}

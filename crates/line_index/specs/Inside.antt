@@ -1,4 +1,4 @@
--- How line tables are kept for look-ups: beside the rows, a table of the sequences in the order of addresses.
+-- How line tables are kept for look-ups: beside the rows, a table of the sequences in the order of addresses. This project's own.
 use Rattle.address_tables.specs.Tables.{IsTable, value_among}
 use Rattle.line_index.specs.Lines.{Lines}
 use Rattle.line_index.specs.Order.{IsInOrder}

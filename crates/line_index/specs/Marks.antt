@@ -1,5 +1,5 @@
--- What rows say of their addresses.
-use Rattle.std.specs.Prelude.{Bool}
+-- What rows say of their addresses. This project's own.
+use Rattle.std.specs.Prelude.{ℕ, Bool, Option, None, Some, min}
 use Rattle.line_rows.specs.declared.row.Row.{Row}
 use Rattle.line_index.specs.declared.marks.Mark.{Mark}
 use Rattle.line_index.specs.declared.marks.Mark.TheVariants.{PrologueEnd, Statement}
@@ -8,3 +8,9 @@ use Rattle.line_index.specs.declared.marks.Mark.TheVariants.{PrologueEnd, Statem
 abbrev pub has : Mark → Row → Bool
 has PrologueEnd r = r.prologue_end
 has Statement r = r.is_stmt
+
+-- the lesser of two addresses, or the one that is there
+abbrev pub lesser : Option ℕ → Option ℕ → Option ℕ
+lesser None o = o
+lesser (Some a) None = Some a
+lesser (Some a) (Some b) = Some (min a b)

@@ -1,4 +1,4 @@
--- Numbers in order.
+-- Numbers in order. This project's own.
 use Rattle.std.specs.Prelude.{ℕ, List}
 use Rattle.std.specs.List.Sorted.{IsNonDecreasing, IsPermutation}
 

@@ -1,4 +1,4 @@
--- Where the sequences are that count, by their numbers.
+-- Where the sequences are that count, by their numbers. This project's own.
 use Rattle.std.specs.Prelude.{ℕ, ◌+◌, List, [], ◌∷◌, ◌++◌, if◌then◌else◌, slice_get}
 use Rattle.std.specs.Option.{option_map_or}
 use Rattle.address_tables.specs.declared.entry.AddressRange.{AddressRange}

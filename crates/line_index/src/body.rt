@@ -2,7 +2,7 @@
 
 ghost use Rattle.std.specs.Prelude.{◌≡◌, flat_map};
 ghost use Rattle.elf_symbols.specs.Views.{symbol_shown};
-ghost use Rattle.line_index.specs.Lines.{below, body_in, function_end, kept};
+ghost use Rattle.line_index.specs.Lines.{body_in, function_end, kept};
 
 use crate::marks::{Mark, least_marked};
 use elf_symbols::Named;
@@ -22,23 +22,13 @@ pub fn function_end(function: &Named<'_>, text_end: u64, next: Option<u32>) -> u
     }
 }
 
-fn below(end: u64, address: Option<u32>) -> Option<u32>
-    ensures { result ≡ below end address }
-{
-    match address {
-        Some(address) if u64::from(address) < end => Some(address),
-        _ => None,
-    }
-}
-
 /// Where a breakpoint on the body of a range stands.
 pub fn body_in(rows: &Rows, text: &TextSpans, start: u32, end: u64) -> u32
     ensures { result ≡ body_in (flat_map (λ s. s.rows) (kept text.now rows.now.sequences)) start end }
 {
-    let prologue_end = least_marked(rows, text, Mark::PrologueEnd, u64::from(start));
-    if let Some(address) = below(end, prologue_end) {
+    let prologue_end = least_marked(rows, text, Mark::PrologueEnd, u64::from(start), end);
+    if let Some(address) = prologue_end {
         return address;
     }
-    let statement = least_marked(rows, text, Mark::Statement, u64::from(start) + 1);
-    below(end, statement).unwrap_or(start)
+    least_marked(rows, text, Mark::Statement, u64::from(start) + 1, end).unwrap_or(start)
 }

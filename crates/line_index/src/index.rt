@@ -1,3 +1,4 @@
+// Line tables for look-ups, and the look-ups.
 ghost use Rattle.std.specs.Prelude.{◌≡◌, IfOk};
 ghost use Rattle.elf_symbols.specs.Views.{symbol_shown};
 ghost use Rattle.line_index.specs.Lines.{Lines, address_of, body_of, file_name, lines_of, row_at, starts};
@@ -23,7 +24,7 @@ pub struct LineIndex {
     rows: Rows,
     /// Where the functions in text begin, in the symbol table's order, as contracts see them.
     functions: Vec<u32>,
-    /// The same in the order of the addresses.
+    /// These addresses, the least first.
     starts: Vec<u32>,
     text: TextSpans,
     /// The number of the sequence of each address.
@@ -100,7 +101,7 @@ impl LineIndex {
     }
 
     /// Where a breakpoint on a function stands: behind its prologue, or at its start where no row tells that. It goes over
-    /// the rows.
+    /// the sequences, with a binary search in each, and over the rows of the function.
     pub fn body_of(&self, function: &Named<'_>) -> u32
         ensures { result ≡ body_of self.now (symbol_shown function.now) }
     {

@@ -1,10 +1,9 @@
 //! The least address of the rows with a mark.
 
-ghost use Rattle.std.specs.Prelude.{◌≡◌, ◌&&◌, [], ◌∷◌, filter, flat_map, fold, if◌then◌else◌, nat_le, nat_lt};
-ghost use Rattle.line_rows.specs.RowList.{sequence_shown};
-ghost use Rattle.elf_symbols.specs.Names.{better};
-ghost use Rattle.line_index.specs.Lines.{addresses, kept, least_from};
-ghost use Rattle.line_index.specs.Marks.{has};
+ghost use Rattle.std.specs.Prelude.{◌≡◌, [], ◌∷◌, flat_map};
+ghost use Rattle.line_rows.specs.RowList.{AreInOrder, sequence_shown};
+ghost use Rattle.line_index.specs.Lines.{addresses, below, kept, least_from};
+ghost use Rattle.line_index.specs.Marks.{has, lesser};
 
 use crate::ranges::begins_in;
 use elf32_read::TextSpans;
@@ -28,61 +27,62 @@ fn has(mark: Mark, row: &Row) -> bool
     }
 }
 
-fn lesser(found: Option<u32>, address: u32) -> Option<u32>
-    ensures { result ≡ better nat_lt found address }
+fn lesser(address: Option<u32>, other: Option<u32>) -> Option<u32>
+    ensures { result ≡ lesser address other }
 {
-    match found {
-        Some(least) if address >= least => found,
-        _ => Some(address),
+    match (address, other) {
+        (Some(address), Some(other)) => Some(address.min(other)),
+        (Some(address), None) => Some(address),
+        (None, other) => other,
     }
 }
 
-// A row with the mark, from the address on, takes the place of a greater address that was found.
-fn least_with(found: Option<u32>, mark: Mark, start: u64, row: &Row) -> Option<u32>
-    ensures { result ≡ (if has mark row.now && nat_le start row.now.address then better nat_lt found row.now.address else found) }
+// The first row with the mark in a range of addresses: behind a binary search only the rows in the range are gone over.
+fn first_marked(rows: &[Row], mark: Mark, start: u64, end: u64) -> Option<u32>
+    requires { AreInOrder rows.now }
+    ensures { result ≡ below end (least_from start (addresses (has mark) rows.now)) }
 {
-    if has(mark, row) && u64::from(row.address) >= start {
-        lesser(found, row.address)
-    } else {
-        found
+    let from = rows.partition_point(|row| u64::from(row.address) < start);
+    for k in from..rows.len() {
+        let row = rows[k];
+        if u64::from(row.address) >= end {
+            return None;
+        }
+        if has(mark, &row) {
+            return Some(row.address);
+        }
     }
+    None
 }
 
-fn least_in(found: Option<u32>, rows: &[Row], mark: Mark, start: u64) -> Option<u32>
-    ensures { result ≡ fold (better nat_lt) found (filter (nat_le start) (addresses (has mark) rows.now)) }
-{
-    let mut found = found;
-    for row in rows {
-        found = least_with(found, mark, start, row);
-    }
-    found
-}
-
-// The rows of a sequence, if it counts.
+// What was found before, or less among the rows of a sequence, if it counts.
 fn least_kept(
     found: Option<u32>,
     text: &TextSpans,
     sequence: &SequenceView<'_>,
     mark: Mark,
     start: u64,
+    end: u64,
 ) -> Option<u32>
-    ensures { result ≡ fold (better nat_lt) found (filter (nat_le start) (addresses (has mark) (flat_map (λ s. s.rows) (kept text.now (sequence_shown sequence.now ∷ []))))) }
+    requires { AreInOrder sequence.now.rows.now }
+    ensures { result ≡ lesser (below end (least_from start (addresses (has mark) (flat_map (λ s. s.rows) (kept text.now (sequence_shown sequence.now ∷ [])))))) found }
 {
     if begins_in(text, sequence) {
-        least_in(found, sequence.rows, mark, start)
+        lesser(first_marked(sequence.rows, mark, start, end), found)
     } else {
         found
     }
 }
 
-/// The least address from one on of the rows with a mark.
-pub fn least_marked(rows: &Rows, text: &TextSpans, mark: Mark, start: u64) -> Option<u32>
-    ensures { result ≡ least_from start (addresses (has mark) (flat_map (λ s. s.rows) (kept text.now rows.now.sequences))) }
+/// The least address from one on of the rows with a mark, if it is below an end. It goes over the sequences, with a binary
+/// search in each.
+pub fn least_marked(rows: &Rows, text: &TextSpans, mark: Mark, start: u64, end: u64) -> Option<u32>
+    ensures { result ≡ below end (least_from start (addresses (has mark) (flat_map (λ s. s.rows) (kept text.now rows.now.sequences)))) }
 {
     let mut found = None;
     for k in 0..rows.sequence_count() {
         let sequence = rows.sequence(k);
-        found = least_kept(found, text, &sequence, mark, start);
+        found = least_kept(found, text, &sequence, mark, start, end);
     }
     found
 }

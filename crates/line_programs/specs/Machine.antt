@@ -2,7 +2,7 @@
 use Rattle.std.specs.Prelude.{◌≡◌, ℕ, ◌+◌, ◌-◌, ◌*◌, ◌/◌, ◌%◌, ◌^◌, Bool, true, false, not, ◌&&◌, nat_le, nat_lt, pos, ◌+ℤ◌, List, [], ◌∷◌, ◌++◌, length, Result, Ok, Err, Option, Some, None, if◌then◌else◌}
 use Rattle.leb_read.specs.Leb.{text_at}
 use Rattle.line_rows.specs.Reading.{in_unit}
-use Rattle.line_rows.specs.RowList.{Building, RowList, ended_with, finished, last_address, nothing_built}
+use Rattle.line_rows.specs.RowList.{Building, OpenUnit, ended_with, finished, last_address, nothing_open}
 use Rattle.line_rows.specs.declared.row.Row.{Row}
 use Rattle.line_rows.specs.declared.fault.LineFault.{LineFault}
 use Rattle.line_rows.specs.declared.fault.LineFault.TheVariants.{File, Falls}
@@ -45,7 +45,7 @@ moved p Ignored r = r
 pub record State : Type 0 where
   pub registers : Registers
   -- with the names that the program defined
-  pub rows : Building
+  pub rows : OpenUnit
 
 -- the file is one of the header's or of those that were defined; its number has 32 bits
 abbrev pub is_file : Parameters → ℕ → ℕ → Bool
@@ -55,19 +55,19 @@ abbrev pub shown : Registers → Row
 shown r = record { address = r.address; file = r.file; line = r.line; is_stmt = r.is_stmt; prologue_end = r.prologue_end }
 
 -- the row of the registers, unless its file isn't in the table or its address is below that of the row before
-abbrev pub row_of : Parameters → Building → Registers → Result Row LineFault
+abbrev pub row_of : Parameters → OpenUnit → Registers → Result Row LineFault
 row_of p rows r =
     if is_file p (length rows.names) r.file then (if nat_lt r.address (last_address rows.pending) then Err Falls else Ok (shown r)) else Err File
 
 -- the row is appended to the sequence
-abbrev pub appended : Parameters → Registers → Building → Result State LineFault
+abbrev pub appended : Parameters → Registers → OpenUnit → Result State LineFault
 appended p r rows = row_of p rows r >>= (λ row. Ok (record {
   registers = record r { prologue_end = false };
   rows = record rows { pending = rows.pending ++ row ∷ [] };
 }))
 
 -- the row ends the sequence
-abbrev pub ended : Parameters → Registers → Building → Result State LineFault
+abbrev pub ended : Parameters → Registers → OpenUnit → Result State LineFault
 ended p r rows = row_of p rows r >>= (λ row. Ok (record {
   registers = initial p;
   rows = record rows { sequences = ended_with rows.sequences rows.pending row.address; pending = [] };
@@ -90,25 +90,29 @@ run p bytes [] s = Ok s
 run p bytes (operation ∷ rest) s = stepped p bytes operation s >>= run p bytes rest
 
 -- the rows of the sequences that are ended, unless the reading came to a fault
-abbrev pub settled : Option LineFault → State → Result RowList LineFault
+abbrev pub settled : Option LineFault → State → Result OpenUnit LineFault
 settled None s = Ok (finished s.rows)
 settled (Some f) s = Err f
 
-abbrev pub ran : Parameters → List ℕ → Operations → State → Result RowList LineFault
+abbrev pub ran : Parameters → List ℕ → Operations → State → Result OpenUnit LineFault
 ran p bytes operations s = run p bytes operations.list s >>= settled operations.fault
 
 -- the sequences of a unit's program, which begins at a place in the unit's bytes, with the names that it defines
-unfoldable pub program_of : Parameters → List ℕ → List ℕ → ℕ → Result RowList LineFault
-program_of p lengths bytes at = ran p bytes (operations_of p lengths bytes at) (record { registers = initial p; rows = nothing_built })
+unfoldable pub program_of : Parameters → List ℕ → List ℕ → ℕ → Result OpenUnit LineFault
+program_of p lengths bytes at = ran p bytes (operations_of p lengths bytes at) (record { registers = initial p; rows = nothing_open })
 
--- what a step gives, and the rows behind it
-abbrev pub Steps : Result Registers LineError → Result State LineFault → Building → Type 0
+-- what a step gives, and what is there behind it
+abbrev pub Steps : Result Registers LineError → Result State LineFault → OpenUnit → Type 0
 Steps (Ok r) want rows = want ≡ Ok (record { registers = r; rows = rows })
 Steps (Err (error.Fault f)) want rows = want ≡ Err f
 Steps (Err error.NoMemory) want rows = Unit {0}
 
 -- what a program gives
-abbrev pub GivesRows : Result RowList LineError → Result RowList LineFault → Type 0
-GivesRows (Ok rows) want = want ≡ Ok rows
-GivesRows (Err (error.Fault f)) want = want ≡ Err f
-GivesRows (Err error.NoMemory) want = Unit {0}
+abbrev pub GivesRows : Result (Unit {0}) LineError → Result OpenUnit LineFault → OpenUnit → Type 0
+GivesRows (Ok _) want rows = want ≡ Ok (finished rows)
+GivesRows (Err (error.Fault f)) want rows = want ≡ Err f
+GivesRows (Err error.NoMemory) want rows = Unit {0}
+
+-- all but the open unit is as it was
+abbrev pub Keeps : Building → Building → Type 0
+Keeps old new = new ≡ record old { unit = new.unit }

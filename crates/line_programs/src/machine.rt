@@ -125,8 +125,8 @@ pub fn row_of(
     rows: &RowsBuilder,
     registers: Registers,
 ) -> Result<Row, LineFault>
-    ensures value { result ≡ row_of parameters.now rows.now registers }
-    ensures rise { IfOk result (λ row. last_address rows.now.pending ≤ row.address) }
+    ensures value { result ≡ row_of parameters.now rows.now.unit registers }
+    ensures rise { IfOk result (λ row. last_address rows.now.unit.pending ≤ row.address) }
 {
     let Some(file) = file_number(parameters, rows.name_count(), registers.file) else {
         return Err(LineFault::File);

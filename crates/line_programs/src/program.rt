@@ -1,7 +1,8 @@
 //! The rows of a unit's program.
 
-ghost use Rattle.std.specs.Prelude.{◌<◌};
-ghost use Rattle.line_programs.specs.Machine.{GivesRows, Steps, appended, defined, ended, program_of, stepped};
+ghost use Rattle.std.specs.Prelude.{◌≡◌, ◌<◌};
+ghost use Rattle.line_rows.specs.RowList.{nothing_open};
+ghost use Rattle.line_programs.specs.Machine.{GivesRows, Keeps, Steps, appended, defined, ended, program_of, stepped};
 
 use crate::decoding::operation_at;
 use crate::machine::{initial, moved, row_of};
@@ -9,8 +10,7 @@ use crate::operation::Operation;
 use crate::parameters::Parameters;
 use crate::reading::name_at;
 use crate::registers::Registers;
-use line_rows::{LineError, Rows, RowsBuilder};
-use std::alloc::Global;
+use line_rows::{LineError, RowsBuilder};
 
 /// Appends the row that the registers show.
 fn append(
@@ -18,7 +18,8 @@ fn append(
     registers: Registers,
     rows: &mut RowsBuilder,
 ) -> Result<Registers, LineError>
-    ensures { Steps result (appended parameters.now registers rows.old) rows.new }
+    ensures steps { Steps result (appended parameters.now registers rows.old.unit) rows.new.unit }
+    ensures rest { Keeps rows.old rows.new }
 {
     let row = row_of(parameters, rows, registers)?;
     rows.push_row(row)?;
@@ -34,7 +35,8 @@ fn end(
     registers: Registers,
     rows: &mut RowsBuilder,
 ) -> Result<Registers, LineError>
-    ensures { Steps result (ended parameters.now registers rows.old) rows.new }
+    ensures steps { Steps result (ended parameters.now registers rows.old.unit) rows.new.unit }
+    ensures rest { Keeps rows.old rows.new }
 {
     let last = row_of(parameters, rows, registers)?;
     rows.end_sequence(last.address)?;
@@ -48,7 +50,8 @@ fn define(
     registers: Registers,
     rows: &mut RowsBuilder,
 ) -> Result<Registers, LineError>
-    ensures { Steps result (defined unit.now at (record { registers = registers; rows = rows.old })) rows.new }
+    ensures steps { Steps result (defined unit.now at (record { registers = registers; rows = rows.old.unit })) rows.new.unit }
+    ensures rest { Keeps rows.old rows.new }
 {
     let (name, _) = name_at(unit, at)?;
     rows.push_name(name)?;
@@ -63,7 +66,8 @@ fn step(
     rows: &mut RowsBuilder,
 ) -> Result<Registers, LineError>
     requires { 0 < parameters.now.line_range }
-    ensures { Steps result (stepped parameters.now unit.now operation (record { registers = registers; rows = rows.old })) rows.new }
+    ensures steps { Steps result (stepped parameters.now unit.now operation (record { registers = registers; rows = rows.old.unit })) rows.new.unit }
+    ensures rest { Keeps rows.old rows.new }
 {
     let moved = moved(parameters, operation, registers);
     match operation {
@@ -74,29 +78,31 @@ fn step(
     }
 }
 
-/// The sequences of the program that begins at a place of a unit's bytes, in order, with the names of the files that it
-/// defines. The lengths are those of the standard opcodes, from opcode 1 on. The files of the rows are numbers in the
-/// unit's own table. A sequence that isn't ended gives no rows, nor does one without rows.
+/// Builds the sequences of the program that begins at a place of a unit's bytes, in order, with the names of the files that
+/// it defines. The lengths are those of the standard opcodes, from opcode 1 on. The files of the rows are numbers in the
+/// unit's own table. A sequence that isn't ended counts for nothing, nor does one without rows.
 ///
 /// # Errors
-/// The first fault that is met when the operations are read and done in order, or no memory for the rows.
+/// The first fault that is met when the operations are read and done in order, or no memory for the rows. Then any part of
+/// the unit is built.
 pub fn program_rows(
-    alloc: Global,
     parameters: &Parameters,
     lengths: &[u8],
     unit: &[u8],
     at: usize,
-) -> Result<Rows, LineError>
-    requires { 0 < parameters.now.line_range }
-    ensures { GivesRows result (program_of parameters.now lengths.now unit.now at) }
+    rows: &mut RowsBuilder,
+) -> Result<(), LineError>
+    requires ranged { 0 < parameters.now.line_range }
+    requires fresh { rows.old.unit ≡ nothing_open }
+    ensures rows { GivesRows result (program_of parameters.now lengths.now unit.now at) rows.new.unit }
+    ensures rest { Keeps rows.old rows.new }
 {
-    let mut rows = RowsBuilder::new(alloc);
     let mut registers = initial(parameters);
     let mut place = at;
     'operations: while place < unit.len() {
         let (operation, next) = operation_at(parameters, lengths, unit, place)?;
-        registers = step(parameters, unit, operation, registers, &mut rows)?;
+        registers = step(parameters, unit, operation, registers, rows)?;
         place = next;
     }
-    Ok(rows.finish())
+    Ok(())
 }

@@ -31,7 +31,8 @@ names_in-append bytes more (r ∷ rs) h =
     cc
 
 -- a name that comes behind the others
-pub names_in-push : (bytes name : List ℕ) (ranges : List NameRange) (r : NameRange) → All (IsNameRange (length bytes)) ranges → r.start ≡ length bytes → r.past ≡ length bytes + length name → names_in (bytes ++ name) (ranges ++ r ∷ []) ≡ names_in bytes ranges ++ name ∷ []
+pub names_in-push : (bytes name : List ℕ) (ranges : List NameRange) (r : NameRange) → All (IsNameRange (length bytes)) ranges → r.start ≡ length bytes → r.past ≡ length bytes + length name
+    → names_in (bytes ++ name) (ranges ++ r ∷ []) ≡ names_in bytes ranges ++ name ∷ []
 names_in-push bytes name ranges r h e f =
     let all : names_in (bytes ++ name) ranges ≡ names_in bytes ranges = names_in-append bytes name ranges h in
     let here : name_in (bytes ++ name) r ≡ name = slice_range-behind bytes name r.start r.past e f in
@@ -52,9 +53,11 @@ sequences_in-append rows more count (r ∷ rs) p h =
     rw (here, rest) refl
 
 -- a row more
-pub sequences_push : (rows : List Row) (row : Row) (pending : ℕ) (ranges : List RowRange) → pending ≤ length rows → All (IsRowRange pending) ranges
-    → (let more : SequenceList = record { ended = sequences_in (rows ++ row ∷ []) ranges; pending = drop pending (rows ++ row ∷ []) } in more ≡ record { ended = sequences_in rows ranges; pending = drop pending rows ++ row ∷ [] })
-sequences_push rows row pending ranges p h =
-    let ended = sequences_in-append rows (row ∷ []) pending ranges p h in
+pub sequences_push : (rows : List Row) (row : Row) (pending at : ℕ) (before behind : List RowRange) → at ≤ pending → pending ≤ length rows → All (IsRowRange at) before → All (IsRowRange pending) behind
+    → (let more : SequenceList = record { kept = sequences_in (rows ++ row ∷ []) before; ended = sequences_in (rows ++ row ∷ []) behind; pending = drop pending (rows ++ row ∷ []) }
+    in more ≡ record { kept = sequences_in rows before; ended = sequences_in rows behind; pending = drop pending rows ++ row ∷ [] })
+sequences_push rows row pending at before behind order p g h =
+    let kept = sequences_in-append rows (row ∷ []) at before (omega (arith, order, p)) g in
+    let ended = sequences_in-append rows (row ∷ []) pending behind p h in
     let open_rows = drop-append-le pending rows (row ∷ []) p in
-    rw (ended, open_rows) refl
+    rw (kept, ended, open_rows) refl

@@ -1,4 +1,6 @@
+-- Lists kept in one list: their parts, and ranges one behind another.
 pub mod Flat
 pub mod Chains
-pub mod Renumbered
+-- Rows: each changed alike, and with addresses that don't fall.
+pub mod Mapped
 pub mod Orders

@@ -1,17 +1,17 @@
 -- Rows whose addresses don't fall.
-use Rattle.std.proofs.Common.{◌≡◌, ℕ, ◌-◌, ◌<◌, ◌≤◌, Bool, true, false, List, [], ◌∷◌, ◌++◌, length, map, take, drop, ap, arith, get_or, subst, ◌∙◌, sym, refl}
-use Rattle.std.specs.Prelude.{All, Option, nat_lt, slice_get, slice_range}
+use Rattle.std.proofs.Common.{◌≡◌, ℕ, ◌-◌, ◌<◌, ◌≤◌, Bool, true, false, List, [], ◌∷◌, ◌++◌, length, map, take, drop, ap, arith, get_or, subst, ◌∙◌, sym, refl, length-take}
+use Rattle.std.specs.Prelude.{All, Option, Some, nat_lt, slice_get, slice_range}
 use Rattle.std.specs.Option.{option_map_or}
 use Rattle.std.proofs.lemmas.Bool.Decides.{nat_tests}
-use Rattle.std.proofs.lemmas.List.{drop-append-le, drop-map, drop_all, length-map, length_push, get_or-append_right, get_or_append_left, get_or-map, map-append, take_rest}
-use Rattle.std.proofs.lemmas.List.Elements.{All-push}
+use Rattle.std.proofs.lemmas.List.{drop-append-le, drop-map, drop_all, length-map, length_push, get_or-append_right, get_or_append_left, get_or-map, get_or-take, map-append, take-map, take_rest}
+use Rattle.std.proofs.lemmas.List.Elements.{All-append, All-drop, All-push, All-take}
 use Rattle.std.proofs.lemmas.Option.{slice_get-get_or}
-use Rattle.line_rows.specs.RowList.{AreInOrder, Sequence, last_address, renumbered, renumbered_sequence}
+use Rattle.line_rows.specs.RowList.{AreInOrder, Sequence, last_address, mapped}
 use Rattle.line_rows.specs.KeptSequences.{IsRowRange, sequence_in, sequences_in}
 use Rattle.line_rows.specs.declared.row.Row.{Row}
 use Rattle.line_rows.specs.declared.sequences.RowRange.{RowRange}
 use Rattle.line_rows.proofs.Flat.{sequences_in-append}
-use Rattle.line_rows.proofs.Renumbered.{sequences-renumbered}
+use Rattle.line_rows.proofs.Mapped.{sequences-mapped}
 
 pub rises_none : AreInOrder []
 rises_none i j d order within = absurd (omega (arith, within))
@@ -45,17 +45,20 @@ push_by rows r i j d h low order within false false e f =
 pub rises_push : (rows : List Row) (r : Row) → AreInOrder rows → last_address rows ≤ r.address → AreInOrder (rows ++ r ∷ [])
 rises_push rows r h low i j d order within = push_by rows r i j d h low order within (nat_lt i (length rows)) (nat_lt j (length rows)) refl refl
 
--- rows that get other files
-pub rises_renumbered : (numbers : List ℕ) (rows : List Row) → AreInOrder rows → AreInOrder (map (renumbered numbers) rows)
-rises_renumbered numbers rows h i j d order within =
-    let inside : j < length rows = omega (arith, within, length-map rows (renumbered numbers)) in
-    rw (get_or-map (renumbered numbers) rows i d d (omega (arith, order, inside)), get_or-map (renumbered numbers) rows j d d inside) (h i j d order inside)
+-- rows that are changed and keep their addresses
+abbrev pub Stays : (Row → Row) → Type 0
+Stays f = (r : Row) → (f r).address ≡ r.address
 
-rise_by : (numbers : List ℕ) (ss : List Sequence) (k : ℕ) (d : Sequence) → k < length ss → All (λ s. AreInOrder s.rows) ss → AreInOrder (get_or (map (renumbered_sequence numbers) ss) k d).rows
-rise_by numbers ss k d within h = rw (get_or-map (renumbered_sequence numbers) ss k d d within) (rises_renumbered numbers (get_or ss k d).rows (h k d within))
+pub rises_mapped : (f : Row → Row) (rows : List Row) → Stays f → AreInOrder rows → AreInOrder (map f rows)
+rises_mapped f rows same h i j d order within =
+    let inside : j < length rows = omega (arith, within, length-map rows f) in
+    rw (get_or-map f rows i d d (omega (arith, order, inside)), get_or-map f rows j d d inside) (omega (arith, same (get_or rows i d), same (get_or rows j d), h i j d order inside))
 
-pub all_renumbered : (numbers : List ℕ) (ss : List Sequence) → All (λ s. AreInOrder s.rows) ss → All (λ s. AreInOrder s.rows) (map (renumbered_sequence numbers) ss)
-all_renumbered numbers ss h k d within = rise_by numbers ss k d (omega (arith, within, length-map ss (renumbered_sequence numbers))) h
+rise_by : (f : Row → Row) (ss : List Sequence) (k : ℕ) (d : Sequence) → Stays f → k < length ss → All (λ s. AreInOrder s.rows) ss → AreInOrder (get_or (map (mapped f) ss) k d).rows
+rise_by f ss k d same within h = rw (get_or-map (mapped f) ss k d d within) (rises_mapped f (get_or ss k d).rows same (h k d within))
+
+pub all_mapped : (f : Row → Row) (ss : List Sequence) → Stays f → All (λ s. AreInOrder s.rows) ss → All (λ s. AreInOrder s.rows) (map (mapped f) ss)
+all_mapped f ss same h k d within = rise_by f ss k d same (omega (arith, within, length-map ss (mapped f))) h
 
 -- the last row of those behind a place
 pub last_behind : (rows : List Row) (k n : ℕ) (o : Option Row) → o ≡ slice_get (take (length rows - k) (drop k rows)) (n - 1) → n ≡ length (take (length rows - k) (drop k rows)) → take (length rows - k) (drop k rows) ≡ drop k rows
@@ -90,20 +93,42 @@ rise_ended rows ranges more r is past h last =
 pub none_behind : (rows : List Row) (n : ℕ) → n ≡ length rows → AreInOrder (drop n rows)
 none_behind rows n e = subst AreInOrder (sym (drop_all n rows (omega (arith, e)))) rises_none
 
--- all rows get other files
-pub rise_renumbered : (numbers : List ℕ) (rows more : List Row) (ranges : List RowRange) → more ≡ map (renumbered numbers) rows → All (λ s. AreInOrder s.rows) (sequences_in rows ranges) → All (λ s. AreInOrder s.rows) (sequences_in more ranges)
-rise_renumbered numbers rows more ranges is h =
-    subst AllRise (sym (ap (λ (l : List Row). sequences_in l ranges) is ∙ sequences-renumbered numbers rows ranges)) (all_renumbered numbers (sequences_in rows ranges) h)
+-- all rows are changed
+pub rise_mapped : (f : Row → Row) (rows more : List Row) (ranges : List RowRange) → Stays f → more ≡ map f rows → All (λ s. AreInOrder s.rows) (sequences_in rows ranges) → All (λ s. AreInOrder s.rows) (sequences_in more ranges)
+rise_mapped f rows more ranges same is h =
+    subst AllRise (sym (ap (λ (l : List Row). sequences_in l ranges) is ∙ sequences-mapped f rows ranges)) (all_mapped f (sequences_in rows ranges) same h)
 
-pub pending_renumbered : (numbers : List ℕ) (rows more : List Row) (pending : ℕ) → more ≡ map (renumbered numbers) rows → AreInOrder (drop pending rows) → AreInOrder (drop pending more)
-pending_renumbered numbers rows more pending is h =
-    subst AreInOrder (sym (ap (drop pending) is ∙ drop-map (renumbered numbers) pending rows)) (rises_renumbered numbers (drop pending rows) h)
+pub pending_mapped : (f : Row → Row) (rows more : List Row) (pending : ℕ) → Stays f → more ≡ map f rows → AreInOrder (drop pending rows) → AreInOrder (drop pending more)
+pending_mapped f rows more pending same is h =
+    subst AreInOrder (sym (ap (drop pending) is ∙ drop-map f pending rows)) (rises_mapped f (drop pending rows) same h)
+
+-- the sequences before a place, and those behind it with rows that are changed
+pub rise_kept : (f : Row → Row) (rows now : List Row) (ranges : List RowRange) (k : ℕ) → Stays f → sequences_in now ranges ≡ sequences_in rows (take k ranges) ++ map (mapped f) (sequences_in rows (drop k ranges))
+    → All (λ s. AreInOrder s.rows) (sequences_in rows ranges) → All (λ s. AreInOrder s.rows) (sequences_in now ranges)
+rise_kept f rows now ranges k same is h =
+    let first : sequences_in rows (take k ranges) ≡ take k (sequences_in rows ranges) = sym (take-map (sequence_in rows) k ranges) in
+    let rest : sequences_in rows (drop k ranges) ≡ drop k (sequences_in rows ranges) = sym (drop-map (sequence_in rows) k ranges) in
+    let front = subst AllRise (sym first) (All-take (λ (s : Sequence). AreInOrder s.rows) k (sequences_in rows ranges) h) in
+    let back = all_mapped f (sequences_in rows (drop k ranges)) same (subst AllRise (sym rest) (All-drop (λ (s : Sequence). AreInOrder s.rows) k (sequences_in rows ranges) h)) in
+    subst AllRise (sym is) (All-append (λ (s : Sequence). AreInOrder s.rows) (sequences_in rows (take k ranges)) (map (mapped f) (sequences_in rows (drop k ranges))) front back)
+
+-- the sequences before a place
+pub rise_front : (rows : List Row) (ranges : List RowRange) (k : ℕ) → All (λ s. AreInOrder s.rows) (sequences_in rows ranges) → All (λ s. AreInOrder s.rows) (sequences_in rows (take k ranges))
+rise_front rows ranges k h = subst AllRise (take-map (sequence_in rows) k ranges) (All-take (λ (s : Sequence). AreInOrder s.rows) k (sequences_in rows ranges) h)
 
 -- a sequence by its number
-pub rise_at : (rows : List Row) (ranges : List RowRange) (ended : List Sequence) (k : ℕ) (r : RowRange) → sequences_in rows ranges ≡ ended → k < length ended → r ≡ get_or ranges k r → All (λ s. AreInOrder s.rows) (sequences_in rows ranges)
-    → AreInOrder (slice_range rows r.start r.past)
-rise_at rows ranges ended k r e within is h =
-    let inside : k < length ranges = omega (arith, within, ap length e, length-map ranges (sequence_in rows)) in
+pub kept_at : (rows : List Row) (ranges : List RowRange) (kept : List Sequence) (n k : ℕ) (r : RowRange) → sequences_in rows (take n ranges) ≡ kept → k < length kept → r ≡ get_or ranges k r → slice_get kept k ≡ Some (sequence_in rows r)
+kept_at rows ranges kept n k r e within is =
+    let inside : k < length (take n ranges) = omega (arith, within, ap length e, length-map (take n ranges) (sequence_in rows)) in
+    let there : get_or (take n ranges) k r ≡ r = get_or-take n ranges k r (omega (arith, inside, length-take n ranges)) ∙ sym is in
+    ap (λ (l : List Sequence). slice_get l k) (sym e)
+    ∙ slice_get-get_or (sequences_in rows (take n ranges)) k (sequence_in rows r) (omega (arith, inside, length-map (take n ranges) (sequence_in rows)))
+    ∙ ap (λ (s : Sequence). Some s) (get_or-map (sequence_in rows) (take n ranges) k r (sequence_in rows r) inside ∙ ap (sequence_in rows) there)
+
+pub rise_at : (rows : List Row) (ranges : List RowRange) (kept : List Sequence) (n k : ℕ) (r : RowRange) → sequences_in rows (take n ranges) ≡ kept → k < length kept → r ≡ get_or ranges k r
+    → All (λ s. AreInOrder s.rows) (sequences_in rows ranges) → AreInOrder (slice_range rows r.start r.past)
+rise_at rows ranges kept n k r e within is h =
+    let inside : k < length ranges = omega (arith, within, ap length e, length-map (take n ranges) (sequence_in rows), length-take n ranges) in
     let d : Sequence = record { rows = []; end = 0 } in
     let there : get_or (sequences_in rows ranges) k d ≡ sequence_in rows r = get_or-map (sequence_in rows) ranges k r d inside ∙ ap (sequence_in rows) (sym is) in
     subst (λ (s : Sequence). AreInOrder s.rows) there (h k d (omega (arith, inside, length-map ranges (sequence_in rows))))

@@ -1,4 +1,4 @@
--- How file names are kept: one after another in one list of bytes.
+-- How file names are kept: one after another in one list of bytes. This project's own.
 use Rattle.std.specs.Prelude.{ℕ, ◌≤◌, List, map, length, slice_range, All}
 use Rattle.line_rows.specs.RowList.{NameList}
 use Rattle.line_rows.specs.declared.names.NameRange.{NameRange}

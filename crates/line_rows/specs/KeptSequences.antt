@@ -1,5 +1,5 @@
--- How sequences are kept: their rows one after another in one list.
-use Rattle.std.specs.Prelude.{◌≡◌, ℕ, ◌<◌, ◌≤◌, List, [], ◌∷◌, map, length, drop, slice_range, All}
+-- How sequences are kept: their rows one after another in one list. This project's own.
+use Rattle.std.specs.Prelude.{◌≡◌, ℕ, ◌<◌, ◌≤◌, List, [], ◌∷◌, map, length, take, drop, slice_range, All}
 use Rattle.line_rows.specs.RowList.{AreInOrder, Sequence, SequenceList}
 use Rattle.line_rows.specs.declared.row.Row.{Row}
 use Rattle.line_rows.specs.declared.sequences.RowRange.{RowRange}
@@ -21,12 +21,19 @@ Chained at [] past = at ≡ past
 Chained at (r ∷ rs) past = (r.start ≡ at) × (r.start < r.past) × Chained r.past rs past
 
 abbrev pub seen : Inside → SequenceList
-seen i = record { ended = sequences_in i.rows.items i.ranges.items; pending = drop i.pending i.rows.items }
+seen i =
+    record {
+      kept = sequences_in i.rows.items (take i.kept i.ranges.items);
+      ended = sequences_in i.rows.items (drop i.kept i.ranges.items);
+      pending = drop i.pending i.rows.items;
+    }
 
--- the rows of a sequence that isn't ended stand behind the others
+-- the rows of kept sequences stand before those of the unit that is being read, and behind these those of one that isn't ended
 pub record IsKept (i : Inside) : Type 0 where
+  pub count : i.kept ≤ length i.ranges.items
+  pub front : Chained 0 (take i.kept i.ranges.items) i.kept_rows
+  pub back : Chained i.kept_rows (drop i.kept i.ranges.items) i.pending
   pub ranges : All (IsRowRange i.pending) i.ranges.items
-  pub chained : Chained 0 i.ranges.items i.pending
   pub pending : i.pending ≤ length i.rows.items
   pub rise : All (λ s. AreInOrder s.rows) (sequences_in i.rows.items i.ranges.items)
   pub pending_rise : AreInOrder (drop i.pending i.rows.items)

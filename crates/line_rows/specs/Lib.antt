@@ -1,3 +1,4 @@
+-- The definitions of line tables as lists, how the code keeps them, and how numbers are read.
 pub mod Sections
 pub mod RowList
 pub mod KeptNames

@@ -1,5 +1,5 @@
 -- Line tables as lists (DWARF 5, section 6.2).
-use Rattle.std.specs.Prelude.{ℕ, ◌-◌, ◌++◌, List, [], ◌∷◌, length, map, slice_get}
+use Rattle.std.specs.Prelude.{ℕ, ◌+◌, ◌-◌, ◌%◌, ◌^◌, ◌++◌, List, [], ◌∷◌, length, map, slice_get}
 use Rattle.std.specs.List.{slice_index_or}
 use Rattle.std.specs.List.Sorted.{IsNonDecreasingBy}
 use Rattle.std.specs.Option.{option_map_or}
@@ -12,8 +12,10 @@ pub record Sequence : Type 0 where
   pub rows : List Row
   pub end : ℕ
 
--- sequences in the section's order, and the rows of one that isn't ended yet
+-- sequences in the section's order: of the units that are read, of the unit that is being read, and the rows of one that
+-- isn't ended yet
 pub record SequenceList : Type 0 where
+  pub kept : List Sequence
   pub ended : List Sequence
   pub pending : List Row
 
@@ -25,16 +27,21 @@ pub record RowList : Type 0 where
   -- the units that give no rows
   pub faults : List UnitFault
 
--- the same while it is put together, with the rows of a sequence that isn't ended yet
-pub record Building : Type 0 where
+-- a unit while its program runs: its sequences, the rows of one that isn't ended yet, and the file names that it defines
+pub record OpenUnit : Type 0 where
   pub sequences : List Sequence
   pub pending : List Row
   pub names : List (List ℕ)
+
+-- a section while it is read: what the units before gave, and the unit that is being read
+pub record Building : Type 0 where
+  pub kept : List Sequence
   pub faults : List UnitFault
+  pub unit : OpenUnit
 
 -- a sequence that isn't ended counts for nothing
-abbrev pub finished : Building → RowList
-finished b = record { sequences = b.sequences; names = b.names; faults = b.faults }
+abbrev pub finished : OpenUnit → OpenUnit
+finished u = record u { pending = [] }
 
 -- texts that are kept, and file names by their numbers, which are parts of them
 pub record NameList : Type 0 where
@@ -47,8 +54,11 @@ no_names = record { texts = []; names = [] }
 abbrev pub no_rows : RowList
 no_rows = record { sequences = []; names = []; faults = [] }
 
+abbrev pub nothing_open : OpenUnit
+nothing_open = record { sequences = []; pending = []; names = [] }
+
 abbrev pub nothing_built : Building
-nothing_built = record { sequences = []; pending = []; names = []; faults = [] }
+nothing_built = record { kept = []; faults = []; unit = nothing_open }
 
 abbrev pub sequence_shown : SequenceView → Sequence
 sequence_shown v = record { rows = v.rows.now; end = v.end }
@@ -66,9 +76,15 @@ abbrev pub ended_with : List Sequence → List Row → ℕ → List Sequence
 ended_with sequences [] end = sequences
 ended_with sequences (row ∷ rows) end = sequences ++ record { rows = row ∷ rows; end = end } ∷ []
 
+-- a sequence whose rows are changed each by itself
+abbrev pub mapped : (Row → Row) → Sequence → Sequence
+mapped change s = record { rows = map change s.rows; end = s.end }
+
 -- a row whose file is the number that stands in a list where the row's file says
 abbrev pub renumbered : List ℕ → Row → Row
 renumbered numbers r = record r { file = slice_index_or numbers r.file 0 }
 
-abbrev pub renumbered_sequence : List ℕ → Sequence → Sequence
-renumbered_sequence numbers s = record { rows = map (renumbered numbers) s.rows; end = s.end }
+-- a row whose file is a place in a list of the files of all units, of which so many stand before those of its unit, whose own
+-- begin with a number
+abbrev pub placed : ℕ → ℕ → Row → Row
+placed before first r = record r { file = (before + (r.file - first)) % 2 ^ 32 }

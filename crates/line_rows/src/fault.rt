@@ -1,3 +1,4 @@
+// The faults of a unit of line tables, and why one wasn't read.
 ghost use Rattle.std.specs.Prelude.{◌≡◌};
 ghost use Rattle.line_rows.specs.declared.fault.LineError.TheVariants as error;
 

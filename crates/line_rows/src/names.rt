@@ -1,3 +1,4 @@
+// File names by their numbers, as parts of texts that are kept once.
 ghost use Rattle.std.specs.Prelude.{◌≡◌, ◌+◌, ◌<◌, ◌≤◌, [], ◌∷◌, ◌++◌, Some, length, OnOk, OnErr, slice_get, slice_range};
 ghost use Rattle.line_rows.specs.RowList.{NameList, no_names};
 
@@ -73,6 +74,14 @@ impl FileNames {
     {
         self.ranges.push(NameRange { start, past })?;
         Ok(())
+    }
+
+    /// No text and no name, as at first.
+    pub fn clear(&mut self)
+        ensures { self.new ≡ no_names }
+    {
+        self.bytes.clear();
+        self.ranges.clear();
     }
 
     /// How many names there are.

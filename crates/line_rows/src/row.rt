@@ -1,3 +1,5 @@
+// Rows of line tables, and sequences of them (DWARF 5, section 6.2).
+
 /// A row: the place in the source of the instructions from its address on.
 #[derive(Clone, Copy, Debug)]
 pub struct Row {

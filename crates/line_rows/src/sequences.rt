@@ -1,6 +1,7 @@
-ghost use Rattle.std.specs.Prelude.{◌≡◌, ◌<◌, ◌≤◌, [], ◌∷◌, ◌++◌, Some, length, map, OnOk, OnErr, slice_get};
+// Sequences of rows, kept one after another in one list.
+ghost use Rattle.std.specs.Prelude.{◌≡◌, ◌<◌, ◌≤◌, [], ◌∷◌, ◌++◌, Some, length, map, take, drop, OnOk, OnErr, slice_get};
 ghost use Rattle.std.specs.List.{slice_index_or};
-ghost use Rattle.line_rows.specs.RowList.{AreInOrder, ended_with, last_address, renumbered, renumbered_sequence, sequence_shown};
+ghost use Rattle.line_rows.specs.RowList.{AreInOrder, ended_with, last_address, mapped, placed, renumbered, sequence_shown};
 
 use crate::row::{Row, SequenceView};
 use dbg_traits::NoMemory;
@@ -20,6 +21,10 @@ pub struct RowRange {
 pub struct Sequences {
     rows: Vec<Row>,
     ranges: Vec<RowRange>,
+    /// How many sequences are kept: those of the units that are read.
+    kept: usize,
+    /// How many rows the kept sequences have.
+    kept_rows: usize,
     /// Where the rows of the sequence that isn't ended begin.
     pending: usize,
 }
@@ -53,14 +58,34 @@ fn renumber(rows: &mut [Row], numbers: &[u32])
     }
 }
 
+// The files of the rows as places in the list of all, of which so many stand before those of their unit.
+fn place(rows: &mut [Row], before: u32, first: u32)
+    ensures { rows.new ≡ map (placed before first) rows.old }
+{
+    for row in rows.iter_mut() {
+        row.file = before.wrapping_add(row.file.saturating_sub(first));
+    }
+}
+
+// The same of the rows behind a place alone.
+fn place_behind(rows: &mut [Row], at: usize, before: u32, first: u32)
+    requires { at ≤ length rows.old }
+    ensures { rows.new ≡ take at rows.old ++ map (placed before first) (drop at rows.old) }
+{
+    let (_, behind) = rows.split_at_mut(at);
+    place(behind, before, first);
+}
+
 impl Sequences {
     /// No rows.
     pub fn new(alloc: Global) -> Sequences
-        ensures { result ≡ record { ended = []; pending = [] } }
+        ensures { result ≡ record { kept = []; ended = []; pending = [] } }
     {
         Sequences {
             rows: Vec::new(alloc),
             ranges: Vec::new(alloc),
+            kept: 0,
+            kept_rows: 0,
             pending: 0,
         }
     }
@@ -77,7 +102,7 @@ impl Sequences {
 
     /// Ends the sequence, which is none where it has no rows. Without memory all stays as it was.
     pub fn end(&mut self, end: u32) -> Result<(), NoMemory>
-        ensures ok { OnOk result (self.new ≡ record { ended = ended_with self.old.ended self.old.pending end; pending = [] }) }
+        ensures ok { OnOk result (self.new ≡ record self.old { ended = ended_with self.old.ended self.old.pending end; pending = [] }) }
         ensures err { OnErr result (self.new ≡ self.old) }
     {
         let start = self.pending;
@@ -101,22 +126,42 @@ impl Sequences {
 
     /// Each row gets for its file the number that stands in a list where the file says, or 0 behind the list.
     pub fn renumber(&mut self, numbers: &[u32])
-        ensures { self.new ≡ record { ended = map (renumbered_sequence numbers.now) self.old.ended; pending = map (renumbered numbers.now) self.old.pending } }
+        ensures { self.new ≡ record { kept = map (mapped (renumbered numbers.now)) self.old.kept; ended = map (mapped (renumbered numbers.now)) self.old.ended; pending = map (renumbered numbers.now) self.old.pending } }
     {
         renumber(&mut self.rows, numbers);
     }
 
-    /// How many sequences are ended.
-    pub fn count(&self) -> usize
-        ensures { result ≡ length self.now.ended }
+    /// The unit's ended sequences are kept, with their files as places in the list of all, of which so many stand before those
+    /// of the unit. The first file of the unit has that number.
+    pub fn keep_unit(&mut self, before: u32, first: u32)
+        ensures { self.new ≡ record { kept = self.old.kept ++ map (mapped (placed before first)) self.old.ended; ended = []; pending = [] } }
     {
-        self.ranges.len()
+        self.rows.truncate(self.pending);
+        place_behind(&mut self.rows, self.kept_rows, before, first);
+        self.kept = self.ranges.len();
+        self.kept_rows = self.pending;
     }
 
-    /// An ended sequence by its number, which must be below the count.
+    /// The unit's sequences are dropped.
+    pub fn drop_unit(&mut self)
+        ensures { self.new ≡ record { kept = self.old.kept; ended = []; pending = [] } }
+    {
+        self.rows.truncate(self.kept_rows);
+        self.ranges.truncate(self.kept);
+        self.pending = self.kept_rows;
+    }
+
+    /// How many sequences are kept.
+    pub fn count(&self) -> usize
+        ensures { result ≡ length self.now.kept }
+    {
+        self.kept
+    }
+
+    /// A kept sequence by its number, which must be below the count.
     pub fn sequence(&self, k: usize) -> SequenceView<'_>
-        requires { k < length self.now.ended }
-        ensures value { slice_get self.now.ended k ≡ Some (sequence_shown result) }
+        requires { k < length self.now.kept }
+        ensures value { slice_get self.now.kept k ≡ Some (sequence_shown result) }
         ensures rise { AreInOrder result.rows.now }
     {
         let range = self.ranges[k];

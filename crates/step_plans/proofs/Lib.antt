@@ -1,1 +1,2 @@
+-- The laws of verdicts, case by case.
 pub mod Cases

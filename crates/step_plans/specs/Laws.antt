@@ -1,4 +1,4 @@
--- What holds of every verdict.
+-- What holds of every verdict. This project's own.
 use Rattle.std.specs.Prelude.{◌≡◌, ℕ, ◌<◌, Bool, true, false, Option, None, Some, is_some}
 use Rattle.elf_symbols.specs.Names.{Names}
 use Rattle.line_rows.specs.declared.row.Row.{Row}

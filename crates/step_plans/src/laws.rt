@@ -1,3 +1,4 @@
+// Laws of the verdicts on a hart's plan.
 ghost use Rattle.step_plans.specs.Laws.{InnerReturnsGoOn, JudgedWithout, KeepsLine, LinesEndAtRows};
 
 /// A law: a plan that goes on keeps its line.

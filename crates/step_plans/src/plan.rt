@@ -1,3 +1,4 @@
+// The plans of harts that go on, and what becomes of one at an arrival.
 ghost use Rattle.std.specs.Prelude.{◌≡◌};
 ghost use Rattle.step_plans.specs.Verdicts.{asks};
 

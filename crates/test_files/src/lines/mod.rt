@@ -85,7 +85,9 @@ impl Bench for LineBench {
             "uleb" | "sleb" | "u8" | "u16" | "u32" | "text" => numbers::answer(alloc, word, rest),
             "places" | "registers" | "wide" => programs::answer(alloc, word, rest),
             "pushed" => pushed::answer(alloc, rest),
-            "section" | "counts" | "units" | "named" => sections::answer(alloc, word, rest),
+            "section" | "counts" | "units" | "named" | "files" | "ends" => sections::answer(
+                alloc, word, rest,
+            ),
             "words" | "generated" | "frames" => self.begin(alloc, word, rest),
             _ => self.of_program(alloc, word, rest),
         }

@@ -2,8 +2,9 @@
 ghost use Rattle.std.specs.Prelude.{◌<◌};
 
 use crate::lines::told::{told_places, told_registers};
+use dbg_traits::NoMemory;
 use line_programs::{Parameters, program_rows};
-use line_rows::{LineError, Rows};
+use line_rows::{FileNames, LineError, Rows, RowsBuilder};
 use std::alloc::{AllocError, Global};
 use test_rows::{RowFault, read_hex};
 
@@ -43,12 +44,24 @@ fn wide() -> Parameters
     }
 }
 
-fn read(alloc: Global, word: &str, unit: &[u8]) -> Result<Rows, LineError> {
-    if word == "wide" {
-        program_rows(alloc, &wide(), WIDE_LENGTHS, unit, 0)
-    } else {
-        program_rows(alloc, &usual(), LENGTHS, unit, 0)
+// What is built of one unit, with the names that it defines.
+fn finished(alloc: Global, mut rows: RowsBuilder) -> Result<Rows, NoMemory> {
+    let mut names = FileNames::new(alloc);
+    for k in 0..rows.name_count() {
+        names.push(rows.name(k))?;
     }
+    rows.keep_unit(0, 0);
+    Ok(rows.finish(names))
+}
+
+fn read(alloc: Global, word: &str, unit: &[u8]) -> Result<Rows, LineError> {
+    let mut rows = RowsBuilder::new(alloc);
+    if word == "wide" {
+        program_rows(&wide(), WIDE_LENGTHS, unit, 0, &mut rows)?;
+    } else {
+        program_rows(&usual(), LENGTHS, unit, 0, &mut rows)?;
+    }
+    Ok(finished(alloc, rows)?)
 }
 
 fn told(alloc: Global, word: &str, rows: &Rows) -> Result<String, AllocError> {

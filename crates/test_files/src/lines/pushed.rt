@@ -1,9 +1,46 @@
 // Rows that are pushed one by one.
 use crate::lines::told::told_registers;
 use dbg_traits::NoMemory;
-use line_rows::{LineFault, Row, Rows, RowsBuilder, UnitFault};
+use line_rows::{FileNames, LineFault, Row, Rows, RowsBuilder, UnitFault};
 use std::alloc::Global;
 use test_rows::{RowFault, number};
+
+/// Rows as they are pushed, in units whose files have the numbers of the names.
+#[derive(Drop)]
+pub struct Pushed {
+    pub rows: RowsBuilder,
+    names: FileNames,
+}
+
+impl Pushed {
+    /// Nothing yet.
+    pub fn new(alloc: Global) -> Pushed {
+        Pushed {
+            rows: RowsBuilder::new(alloc),
+            names: FileNames::new(alloc),
+        }
+    }
+
+    /// A file name more.
+    pub fn push_name(&mut self, name: &str) -> Result<(), NoMemory> {
+        self.names.push(name.as_bytes())
+    }
+
+    // A unit with a fault behind what was pushed.
+    fn push_fault(&mut self, offset: u32) -> Result<(), NoMemory> {
+        self.rows.keep_unit(0, 0);
+        self.rows.push_fault(UnitFault {
+            offset: offset as usize,
+            fault: LineFault::Falls,
+        })
+    }
+
+    /// What was pushed.
+    pub fn finish(mut self) -> Rows {
+        self.rows.keep_unit(0, 0);
+        self.rows.finish(self.names)
+    }
+}
 
 // A row of a statement in file 1, at four times its line.
 fn row(line: u32) -> Row {
@@ -16,13 +53,6 @@ fn row(line: u32) -> Row {
     }
 }
 
-fn push_fault(rows: &mut RowsBuilder, offset: u32) -> Result<(), NoMemory> {
-    rows.push_fault(UnitFault {
-        offset: offset as usize,
-        fault: LineFault::Falls,
-    })
-}
-
 /// A row more, whose address isn't below that of the row before.
 pub fn push_row(rows: &mut RowsBuilder, row: Row) -> Result<(), RowFault> {
     if row.address < rows.last_address() {
@@ -32,39 +62,34 @@ pub fn push_row(rows: &mut RowsBuilder, row: Row) -> Result<(), RowFault> {
 }
 
 // A row, an end or a fault.
-fn push_numbered(rows: &mut RowsBuilder, word: &str, number: u32) -> Result<(), RowFault> {
+fn push_numbered(pushed: &mut Pushed, word: &str, number: u32) -> Result<(), RowFault> {
     match word {
-        "row" => push_row(rows, row(number)),
-        "end" => Ok(rows.end_sequence(number)?),
-        "fault" => Ok(push_fault(rows, number)?),
+        "row" => push_row(&mut pushed.rows, row(number)),
+        "end" => Ok(pushed.rows.end_sequence(number)?),
+        "fault" => Ok(pushed.push_fault(number)?),
         _ => Err(RowFault::Unknown),
     }
 }
 
-fn push(rows: &mut RowsBuilder, item: &str) -> Result<(), RowFault> {
+fn push(pushed: &mut Pushed, item: &str) -> Result<(), RowFault> {
     let (word, rest) = item.split_once(' ').ok_or(RowFault::Unknown)?;
     if word == "name" {
-        return Ok(rows.push_name(rest.as_bytes())?);
+        return Ok(pushed.push_name(rest)?);
     }
     let number = number(rest).ok_or(RowFault::Unknown)?;
-    push_numbered(rows, word, number)
+    push_numbered(pushed, word, number)
 }
 
-fn push_items(rows: &mut RowsBuilder, items: &str) -> Result<(), RowFault> {
+fn push_items(pushed: &mut Pushed, items: &str) -> Result<(), RowFault> {
     for item in items.split("; ") {
-        push(rows, item)?;
+        push(pushed, item)?;
     }
     Ok(())
 }
 
-fn rows_of(alloc: Global, items: &str) -> Result<Rows, RowFault> {
-    let mut rows = RowsBuilder::new(alloc);
-    push_items(&mut rows, items)?;
-    Ok(rows.finish())
-}
-
 /// What came of a row `pushed ITEMS..`, of which an item is `name NAME`, `row LINE`, `end ADDRESS` or `fault OFFSET`.
 pub fn answer(alloc: Global, items: &str) -> Result<String, RowFault> {
-    let rows = rows_of(alloc, items)?;
-    Ok(told_registers(alloc, &rows)?)
+    let mut pushed = Pushed::new(alloc);
+    push_items(&mut pushed, items)?;
+    Ok(told_registers(alloc, &pushed.finish())?)
 }

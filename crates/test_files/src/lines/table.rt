@@ -1,12 +1,12 @@
 // A program, rows for it, and what is looked up in them.
 use crate::images::{generated_image, words_image};
-use crate::lines::pushed::push_row;
+use crate::lines::pushed::{Pushed, push_row};
 use dbg_traits::NoMemory;
 use dwarf_lines::rows;
 use elf_symbols::{Named, Symbols, symbols};
 use elf32_read::Image;
 use line_index::LineIndex;
-use line_rows::{LineSections, Row, Rows, RowsBuilder};
+use line_rows::{LineSections, Row, Rows};
 use std::alloc::{AllocError, Global};
 use std::mem;
 use test_rows::{RowFault, before, number, told_number, two};
@@ -16,7 +16,7 @@ use test_rows::{RowFault, before, number, told_number, two};
 pub struct Table {
     pub image: Image,
     pub names: Symbols,
-    rows: RowsBuilder,
+    pushed: Pushed,
     pub lines: LineIndex,
 }
 
@@ -44,12 +44,12 @@ fn row_of(text: &str) -> Option<Row> {
     })
 }
 
-fn push_sequence(rows: &mut RowsBuilder, rest: &str) -> Result<(), RowFault> {
+fn push_sequence(pushed: &mut Pushed, rest: &str) -> Result<(), RowFault> {
     let (end, texts) = before(rest).ok_or(RowFault::Unknown)?;
     for text in texts.split_ascii_whitespace() {
-        push_row(rows, row_of(text).ok_or(RowFault::Unknown)?)?;
+        push_row(&mut pushed.rows, row_of(text).ok_or(RowFault::Unknown)?)?;
     }
-    Ok(rows.end_sequence(end)?)
+    Ok(pushed.rows.end_sequence(end)?)
 }
 
 // Where a function named `work` begins behind its entry.
@@ -95,7 +95,7 @@ impl Table {
         Ok(Table {
             image,
             names,
-            rows: RowsBuilder::new(alloc),
+            pushed: Pushed::new(alloc),
             lines,
         })
     }
@@ -103,7 +103,7 @@ impl Table {
     // The rows that were pushed, or those of the program's own section.
     fn rows_of(&mut self, alloc: Global, word: &str) -> Result<Rows, RowFault> {
         if word == "pushed" {
-            let pushed = mem::replace(&mut self.rows, RowsBuilder::new(alloc));
+            let pushed = mem::replace(&mut self.pushed, Pushed::new(alloc));
             return Ok(pushed.finish());
         }
         let line = self.image.section(b".debug_line").ok_or(RowFault::Unknown)?;
@@ -124,8 +124,8 @@ impl Table {
     // What is pushed or built, of which nothing is told.
     fn prepare(&mut self, alloc: Global, word: &str, rest: &str) -> Result<(), RowFault> {
         match word {
-            "file" => Ok(self.rows.push_name(rest.as_bytes())?),
-            "sequence" => push_sequence(&mut self.rows, rest),
+            "file" => Ok(self.pushed.push_name(rest)?),
+            "sequence" => push_sequence(&mut self.pushed, rest),
             "index" => self.index(alloc, rest),
             _ => Err(RowFault::Unknown),
         }

@@ -1,5 +1,5 @@
-use Rattle.std.proofs.Common.{◌∙◌, ◌+◌, ℕ, ap, refl}
-use Rattle.std.specs.Prelude.{min, Some}
+use Rattle.std.proofs.Common.{refl}
+use Rattle.std.specs.Prelude.{Some}
 use Rattle.line_rows.specs.Sections.{sections_shown}
 use Rattle.dwarf_lines.proofs.Kept.{found_strs, if_ok}
 use Rattle.dwarf_lines.proofs.met.find_str.Goals as goal

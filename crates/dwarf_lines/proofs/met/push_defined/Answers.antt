@@ -16,7 +16,7 @@ push_name-requires c = c.loop-k.invariant.met
 pub loop-k-preserved : goal.loop-k-preserved
 loop-k-preserved c =
     let s = sections_shown c.args.sections.now in
-    let names = c.args.defined.now.names in
+    let names = c.args.rows.now.unit.names in
     let cut : List ℕ → List ℕ = λ (name : List ℕ). text_from name 0 in
     let within : c.loop-k.k < length names = omega arith in
     let here : get_or names c.loop-k.k [] ≡ c.name.result.now = get_or_from_slice_get names c.loop-k.k c.name.result.now [] c.name.ensures in
@@ -27,5 +27,5 @@ pub returns : goal.returns
 returns c =
     let s = sections_shown c.args.sections.now in
     let past = c.loop-k-test.false in
-    let all : length c.args.defined.now.names ≤ c.loop-k.k = omega (arith, past) in
-    subst (λ (l : List (List ℕ)). Meets s c.args.met.now c.loop-k.met (map (λ name. text_from name 0) l)) (take_all c.loop-k.k c.args.defined.now.names all) c.loop-k.invariant
+    let all : length c.args.rows.now.unit.names ≤ c.loop-k.k = omega (arith, past) in
+    subst (λ (l : List (List ℕ)). Meets s c.args.met.now c.loop-k.met (map (λ name. text_from name 0) l)) (take_all c.loop-k.k c.args.rows.now.unit.names all) c.loop-k.invariant

@@ -1,4 +1,4 @@
-use Rattle.std.proofs.Common.{◌≡◌, ◌<◌, ◌≤◌, List, length, map, sym, subst, get_or, arith}
+use Rattle.std.proofs.Common.{◌<◌, ◌≤◌, List, length, map, sym, subst, arith}
 use Rattle.std.proofs.lemmas.List.{map_more, take_all}
 use Rattle.line_rows.specs.Sections.{sections_shown}
 use Rattle.line_headers.specs.declared.places.NamePlace.{NamePlace}

@@ -13,4 +13,5 @@ returns c =
     let text = c.text_from.result.now in
     let name = text_from c.args.name.now 0 in
     let is : take_while is_text_byte text ≡ name = ap (λ (l : List ℕ). take_while is_text_byte l) c.text_from.ensures ∙ text_whole c.args.name.now 0 in
-    met_more s old (record old { texts = c.keep.new.texts }) _ name c.in_ok-found.found (found_kept s old (record old { texts = c.keep.new.texts }) text name c.in_ok-found.found c.requires c.in_ok-found.ensures refl refl refl is) refl c.in_ok-push.ensures.items refl refl
+    met_more s old (record old { texts = c.keep.new.texts }) _ name c.in_ok-found.found
+    (found_kept s old (record old { texts = c.keep.new.texts }) text name c.in_ok-found.found c.requires c.in_ok-found.ensures refl refl refl is) refl c.in_ok-push.ensures.items refl refl

@@ -1,8 +1,6 @@
-use Rattle.std.proofs.Common.{◌≡◌, ◌≤◌, ap, arith, ◌∙◌, length}
-use Rattle.line_rows.specs.RowList.{Building}
+use Rattle.std.proofs.Common.{arith, ◌∙◌}
 use Rattle.line_rows.specs.Sections.{sections_shown}
 use Rattle.dwarf_lines.specs.Adding.{named}
-use Rattle.dwarf_lines.proofs.Closed.{closed_behind}
 use Rattle.dwarf_lines.proofs.Sections.{begins, goes_on, met_around, met_within}
 use Rattle.dwarf_lines.proofs.section.add_units.Goals as goal
 
@@ -10,7 +8,7 @@ pub loop-at-init : goal.loop-at-init
 loop-at-init c = record {
   same = begins (sections_shown c.args.sections.now) _ c.requires.begins;
   met = c.requires.met;
-  closed = ap (λ (b : Building). b.pending) c.requires.begins;
+  closed = c.requires.closed;
   within = omega arith;
 }
 
@@ -24,6 +22,6 @@ loop-at-preserved c = record {
       c.loop-at-test.true c.in-Ok.ensures.behind c.in-Ok.ensures.value c.text_ends-ends.ensures c.up_to-unit.ensures c.in_ok-add_at.ensures.same
       ∙ c.loop-at.invariant.same;
   met = met_around (sections_shown c.args.sections.now) (sections_shown c.up_to-unit.result) c.in-Ok.end c.add_at.new.met c.up_to-unit.ensures c.in_ok-add_at.ensures.kept;
-  closed = closed_behind c.loop-at.at (named c.loop-at.rows c.loop-at.met) (named c.add_at.new.rows c.add_at.new.met) _ c.loop-at.invariant.closed c.in_ok-add_at.ensures.same;
+  closed = c.in_ok-add_at.ensures.closed;
   within = c.in-Ok.ensures.within;
 }

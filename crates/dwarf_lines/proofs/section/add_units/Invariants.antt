@@ -1,4 +1,5 @@
-use Rattle.std.proofs.Common.{◌≡◌, ◌-◌, ◌≤◌, [], length}
+use Rattle.std.proofs.Common.{◌≡◌, ◌-◌, ◌≤◌, length}
+use Rattle.line_rows.specs.RowList.{nothing_open}
 use Rattle.line_rows.specs.Sections.{sections_shown}
 use Rattle.dwarf_lines.specs.Adding.{added, named}
 use Rattle.dwarf_lines.specs.Met.{AreMet}
@@ -10,7 +11,7 @@ invariant-loop-at l =
     record {
       same : behind (sections_shown l.sections) (named l.rows l.met) l.at ≡ added (sections_shown l.sections);
       met : AreMet (sections_shown l.sections) l.met;
-      closed : l.rows.pending ≡ [];
+      closed : l.rows.unit ≡ nothing_open;
       within : l.at ≤ length l.sections.line.now;
     }
 

@@ -1,9 +1,9 @@
 use Rattle.std.proofs.Common.{◌≡◌, ◌∙◌, ℕ, List, map, ap, sym}
-use Rattle.line_rows.specs.RowList.{Building, RowList, finished, renumbered_sequence}
+use Rattle.line_rows.specs.RowList.{Building, mapped, renumbered}
 use Rattle.line_rows.specs.Sections.{sections_shown}
 use Rattle.file_names.specs.Numbers.{distinct, names_at, number_of}
 use Rattle.dwarf_lines.specs.Met.{names_met}
-use Rattle.dwarf_lines.proofs.Placed.{declared}
+use Rattle.dwarf_lines.proofs.Placed.{closed, declared}
 use Rattle.dwarf_lines.proofs.Sections.{none_named}
 use Rattle.dwarf_lines.proofs.section.rows.Goals as goal
 
@@ -25,7 +25,6 @@ returns c =
     let each : numbers ≡ map (number_of (distinct met)) met = c.in_ok-numbered.ensures.numbers ∙ ap (λ (l : List (List ℕ)). map (number_of (distinct l)) l) given in
     let by_names : map (number_of (distinct met)) met ≡ map (number_of names) met = ap (λ (l : List (List ℕ)). map (number_of l) met) (sym once) in
     c.finish.ensures
-    ∙ ap finished c.set_names.ensures
-    ∙ ap (λ (b : Building). let n : Building = record b { names = names } in finished n) c.renumber.ensures
-    ∙ ap (λ (l : List ℕ). let r : RowList = record { sequences = map (renumbered_sequence l) rows.sequences; names = names; faults = rows.faults } in r) c.deref-3.ensures.value
+    ∙ ap (λ (b : Building). closed b.kept names b.faults) c.renumber.ensures
+    ∙ ap (λ (l : List ℕ). closed (map (mapped (renumbered l)) rows.kept) names rows.faults) c.deref-3.ensures.value
     ∙ declared (sections_shown c.args.sections.now) rows met names numbers c.in_ok-add_units.ensures.same once (each ∙ by_names) c.in_ok-numbered.ensures.few

@@ -1,5 +1,4 @@
-use Rattle.std.proofs.Common.{rules, ◌≡◌, ◌∙◌, ℕ, List, ap, filter, leb, subst, sym, take}
-use Rattle.std.specs.Prelude.{nat_le}
+use Rattle.std.proofs.Common.{rules, ◌∙◌, ap, leb, sym}
 use Rattle.std.proofs.lemmas.List.Sorted.{IsNonDecreasingBy-take, IsPartitionPoint-from_clause, IsPartitionedBy-leb}
 use Rattle.line_rows.specs.declared.row.Row.{Row}
 use Rattle.line_index.proofs.Latest.{filter_front}

@@ -1,5 +1,4 @@
 use Rattle.std.proofs.Common.{◌≡◌, ◌∙◌, ℕ, List, None, Some, ap, sym}
-use Rattle.std.specs.Prelude.{Option}
 use Rattle.address_tables.specs.Tables.{value_among, value_from}
 use Rattle.address_tables.specs.declared.entry.Entry.{Entry}
 use Rattle.line_rows.specs.RowList.{sequence_shown}
