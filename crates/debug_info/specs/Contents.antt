@@ -1,4 +1,4 @@
--- What the units of a section give, one after another.
+-- What the units of a section give, one after another. This project's own.
 use Rattle.std.specs.Prelude.{ℕ, zero, suc, ◌+◌, nat_le, List, [], ◌∷◌, ◌++◌, length, take, Result, Ok, Err, if◌then◌else◌}
 use Rattle.debug_info.specs.Units.{unit_end, unit_entries}
 use Rattle.debug_info.specs.declared.entry.Entry.{Entry}

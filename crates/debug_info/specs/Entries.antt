@@ -50,14 +50,14 @@ pub record IsLevel (entry : Entry) : Type 0 where
   pub some : 1 ≤ entry.level
   pub most : entry.level ≤ 64
 
--- the entries that are read, or the fault; out of memory may come
-abbrev pub Gives : Result (Vec Entry) InfoError → Result (List Entry) InfoFault → Type 0
-Gives (Ok entries) want = want ≡ Ok entries.items
+-- what is read, or the fault; out of memory may come
+abbrev pub Gives : {A : Type 0} → Result (Vec A) InfoError → Result (List A) InfoFault → Type 0
+Gives (Ok found) want = want ≡ Ok found.items
 Gives (Err (error.Fault fault)) want = want ≡ Err fault
 Gives (Err error.Memory) want = Unit {0}
 
 -- where memory was found
-abbrev pub IfRead : Result (Vec Entry) InfoError → Type 0 → Type 0
+abbrev pub IfRead : {A : Type 0} → Result (Vec A) InfoError → Type 0 → Type 0
 IfRead (Err error.Memory) P = Unit {0}
 IfRead (Ok entries) P = P
 IfRead (Err (error.Fault fault)) P = P

@@ -1,11 +1,12 @@
 -- The functions of a section (DWARF 4, sections 2.17.2 and 3.3).
-use Rattle.std.specs.Prelude.{ℕ, ◌+◌, List, [], ◌∷◌, ◌++◌, Option, Some}
+use Rattle.std.specs.Prelude.{ℕ, ◌+◌, List, [], ◌∷◌, ◌++◌, Option, Some, Result, Ok, Err}
 use Rattle.address_tables.specs.Tables.{value_among}
 use Rattle.address_tables.specs.declared.entry.AddressRange.{AddressRange}
 use Rattle.debug_info.specs.declared.entry.Entry.{Entry}
 use Rattle.debug_info.specs.declared.entry.Range.{Range}
 use Rattle.debug_info.specs.declared.entry.Tag.{Tag}
 use Rattle.debug_info.specs.declared.entry.Tag.TheVariants as tag
+use Rattle.debug_info.specs.declared.fault.InfoFault.{InfoFault}
 use Rattle.debug_info.specs.declared.functions.Function.{Function}
 
 -- where a subprogram with a range stands, by the addresses of the range
@@ -21,6 +22,11 @@ function_list unit number entry = function_by unit number entry.tag entry.range
 abbrev pub functions_in : ℕ → ℕ → List Entry → List (AddressRange Function)
 functions_in unit number [] = []
 functions_in unit number (entry ∷ entries) = function_list unit number entry ++ functions_in unit (number + 1) entries
+
+-- the functions of the unit with a number, or its fault
+abbrev pub functions_read : ℕ → Result (List Entry) InfoFault → Result (List (AddressRange Function)) InfoFault
+functions_read unit (Ok entries) = Ok (functions_in unit 0 entries)
+functions_read unit (Err e) = Err e
 
 -- the functions of the units from a number on
 abbrev pub functions_from : ℕ → List (List Entry) → List (AddressRange Function)

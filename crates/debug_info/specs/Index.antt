@@ -1,4 +1,4 @@
--- How the specifications of attributes are kept: for each place, those that flags without bytes begin, and where they end.
+-- How the specifications of attributes are kept, by place: those that flags without bytes begin, and where they end. This project's own.
 use Rattle.std.specs.Prelude.{◌≡◌, ℕ, ◌+◌, ◌-◌, ◌<◌, ◌≤◌, ◌^◌, ◌==◌, ◌||◌, Bool, true, false, List, [], ◌∷◌, length, get_or, IfOk, Option, None, Some, Result, Ok, Err}
 use Rattle.leb_read.specs.Leb.{IsBehind}
 use Rattle.debug_info.specs.Abbreviations.{specifications_end}

@@ -1,4 +1,4 @@
--- What the three sections tell of variables.
+-- What the three sections tell of variables (DWARF 4, sections 2 to 5 and 7.5).
 use Rattle.std.specs.Prelude.{ℕ, List}
 use Rattle.debug_info.specs.Contents.{contents_of}
 use Rattle.debug_info.specs.Functions.{function_at}

@@ -1,4 +1,4 @@
--- How the sections are kept for look-ups: beside their bytes, where the units stand, and what is looked up by a place.
+-- How the sections are kept for look-ups: beside their bytes, where the units stand, and what is looked up by a place. This project's own.
 use Rattle.std.specs.Prelude.{◌≡◌, ◌<◌, ◌^◌, All, length, map}
 use Rattle.address_tables.specs.Tables.{IsTable}
 use Rattle.debug_info.specs.Functions.{function_at}

@@ -1,3 +1,4 @@
+-- The definitions of variables: how the sections are read, what is seen at an address, and what the code keeps.
 pub mod Reading
 pub mod Forms
 pub mod Expressions
@@ -18,3 +19,4 @@ pub mod Shown
 pub mod Info
 pub mod Kept
 pub mod Rising
+pub mod Marks

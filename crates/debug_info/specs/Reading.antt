@@ -1,4 +1,4 @@
--- Steps of reading, each of which may meet a fault: the first that is met is the answer.
+-- Steps of reading, each of which may meet a fault: the first that is met is the answer. This project's own.
 use Rattle.std.specs.Prelude.{ℕ, ◌+◌, ◌-◌, nat_le, List, length, Result, Ok, Err, if◌then◌else◌}
 use Rattle.leb_read.specs.declared.fault.Leb.{Leb}
 use Rattle.leb_read.specs.declared.fault.Leb.TheVariants as leb

@@ -1,8 +1,8 @@
--- The offsets of a unit's entries rise, so that they can be searched by halves.
+-- The offsets of a unit's marks rise, so that they can be searched by halves. This project's own.
 use Rattle.std.specs.Prelude.{ℕ, ◌+◌, ◌≤◌, List, [], ◌∷◌}
-use Rattle.debug_info.specs.declared.entry.Entry.{Entry}
+use Rattle.debug_info.specs.declared.mark.Mark.{Mark}
 
 -- each offset is above the one before, from a first one on
-abbrev pub RisesFrom : ℕ → List Entry → Type 0
+abbrev pub RisesFrom : ℕ → List Mark → Type 0
 RisesFrom start [] = Unit {0}
-RisesFrom start (e ∷ es) = (start ≤ e.offset) × RisesFrom (e.offset + 1) es
+RisesFrom start (m ∷ ms) = (start ≤ m.offset) × RisesFrom (m.offset + 1) ms

@@ -1,6 +1,5 @@
--- How the code keeps variables, texts and where it stands.
-use Rattle.std.specs.Prelude.{◌≡◌, ℕ, Bool, false, nat_lt, List, [], ◌∷◌, map, Option, None, Some, if◌then◌else◌}
-use Rattle.std.specs.Borrow.{Bor}
+-- How the code keeps variables, texts and where it stands. This project's own.
+use Rattle.std.specs.Prelude.{ℕ, Bool, false, nat_lt, List, map, Option, None, Some, if◌then◌else◌}
 use Rattle.address_tables.specs.declared.entry.AddressRange.{AddressRange}
 use Rattle.debug_info.specs.Contents.{Contents}
 use Rattle.debug_info.specs.Scope as scope
@@ -27,11 +26,6 @@ shown_variables vs = map shown_variable vs
 -- the functions and the faults of units
 abbrev pub functions_shown : Found → Contents (AddressRange Function)
 functions_shown f = record { items = f.functions.items; faults = f.faults.items }
-
--- a first entry and the others, or none where there are none
-abbrev pub IsEntrySplit : List Entry → Option (Entry × Bor (List Entry)) → Type 0
-IsEntrySplit entries None = entries ≡ []
-IsEntrySplit entries (Some p) = entries ≡ p.0 ∷ p.1.now
 
 -- what the code keeps of the entries before: the level of one that isn't entered and that an entry may stand in
 abbrev pub is_below : Option ℕ → ℕ → Bool

@@ -1,4 +1,4 @@
--- What is kept beside the sections: how long the texts of .debug_str are, and the index of .debug_abbrev.
+-- What is kept beside the sections: how long the texts of .debug_str are, and the index of .debug_abbrev. This project's own.
 use Rattle.std.specs.Prelude.{◌<◌, ◌^◌, length}
 use Rattle.debug_info.specs.Index.{IsIndex}
 use Rattle.debug_info.specs.TextLengths.{AreLengths}

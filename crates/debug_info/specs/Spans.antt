@@ -1,4 +1,4 @@
--- The units of a section, each by itself.
+-- The units of a section, each by itself. This project's own.
 use Rattle.std.specs.Prelude.{ℕ, ◌+◌, ◌≤◌, List, [], ◌∷◌, length, Option, None, Some}
 use Rattle.address_tables.specs.declared.entry.AddressRange.{AddressRange}
 use Rattle.debug_info.specs.Contents.{Contents, entries_or_none, faults_at, joined, no_units, one_unit, spanned}

@@ -1,4 +1,4 @@
--- How a table of abbreviations is kept: its declarations one behind another, and the first of each code.
+-- How a table of abbreviations is kept: its declarations one behind another, and the first of each code. This project's own.
 use Rattle.std.specs.Prelude.{◌≡◌, ℕ, ◌≤◌, ◌==◌, List, [], ◌∷◌, length, reverse, Option, None, Some, Result, Ok, Err, if◌then◌else◌}
 use Rattle.std.specs.BTreeMap.{get}
 use Rattle.std.specs.Ordering.{nat_cmp}

@@ -1,22 +1,19 @@
 //! The entries of a unit (DWARF 4, sections 2.1 to 2.3 and 7.5.2).
 
-ghost use Rattle.std.specs.Prelude.{◌≡◌, ◌<◌, ◌≤◌, ◌+◌, ◌-◌, IfOk, IfSome, OnOk, length, ◌++◌};
+ghost use Rattle.std.specs.Prelude.{◌≡◌, ◌<◌, ◌≤◌, ◌+◌, ◌-◌, IfOk, IfSome, length};
 ghost use Rattle.debug_info.specs.Attributes.{basic_kind, constant_of, entry_of, expression_of, range_of, reference_of, tag_of, text_of};
-ghost use Rattle.debug_info.specs.Entries.{Gives, IsLevel, entries_from, entry_at, entry_list, level_behind};
+ghost use Rattle.debug_info.specs.Entries.{IsLevel, entry_at, level_behind};
 ghost use Rattle.debug_info.specs.Sources.{IsSource};
-ghost use Rattle.debug_info.specs.Rising.{RisesFrom};
 ghost use Rattle.debug_info.specs.Tables.{IsTable};
 
 use crate::abbreviation::Declaration;
 use crate::attribute::{Attributes, attributes_at};
 use crate::expression::{Base, Operation, Place, base_of, place_of};
-use crate::fault::{InfoError, InfoFault};
+use crate::fault::InfoFault;
 use crate::form::{TextPlace, Value};
 use crate::offset::Source;
 use crate::tables::Table;
-use dbg_traits::NoMemory;
 use leb_read::uleb;
-use std::alloc::Global;
 
 /// What an entry stands for.
 #[derive(Clone, Copy)]
@@ -53,7 +50,7 @@ pub struct Range {
     pub end: u64,
 }
 
-/// An entry of a unit. Fields stand in the order in which they take the least room.
+/// An entry of a unit.
 #[derive(Clone, Copy)]
 pub struct Entry {
     /// From the unit's beginning.
@@ -73,7 +70,7 @@ pub struct Entry {
 }
 
 /// Most levels.
-const LEVELS: u8 = 64;
+pub const LEVELS: u8 = 64;
 
 fn tag_of(code: u64) -> Tag
     ensures { result ≡ tag_of code }
@@ -176,9 +173,9 @@ fn entry_of(offset: u32, level: u8, declaration: Declaration, attributes: Attrib
     }
 }
 
-// The entry at a place of a unit below so many levels, or none where children end, and the next place.
+/// The entry at a place of a unit below so many levels, or none where children end, and the next place.
 #[tactic(auto, unfolding(crate::specs::Entries::entry_at))]
-fn entry_at(
+pub fn entry_at(
     source: &Source<'_>,
     table: &Table,
     unit: usize,
@@ -195,6 +192,7 @@ fn entry_at(
     ensures within { IfOk result (λ r. r.1 ≤ length source.now.info.now) }
     ensures deep { IfOk result (λ r. IfSome r.0 IsLevel) }
     ensures offset { IfOk result (λ r. IfSome r.0 (λ e. e.offset ≡ at - unit)) }
+    ensures below { IfOk result (λ r. IfSome r.0 (λ e. e.level ≡ level + 1)) }
 {
     let (code, next) = uleb(source.info, at)?;
     if code == 0 {
@@ -210,8 +208,8 @@ fn entry_at(
     Ok((Some(entry), next))
 }
 
-// The levels above what stands behind an entry, or behind an end of children.
-fn level_behind(level: u8, entry: &Option<Entry>) -> u8
+/// The levels above what stands behind an entry, or behind an end of children.
+pub fn level_behind(level: u8, entry: &Option<Entry>) -> u8
     requires level { level ≤ 64 }
     requires entry { IfSome entry.now IsLevel }
     ensures value { result ≡ level_behind level entry.now }
@@ -222,41 +220,4 @@ fn level_behind(level: u8, entry: &Option<Entry>) -> u8
         Some(entry) if entry.has_children => entry.level,
         Some(entry) => entry.level - 1,
     }
-}
-
-fn push_entry(entries: &mut Vec<Entry>, entry: Option<Entry>) -> Result<(), NoMemory>
-    ensures { OnOk result (entries.new.items ≡ entries.old.items ++ entry_list entry) }
-{
-    if let Some(entry) = entry {
-        entries.push(entry)?;
-    }
-    Ok(())
-}
-
-/// The entries of a unit, whose bytes end with the section's, from a place on.
-pub fn entries_at(
-    alloc: Global,
-    source: &Source<'_>,
-    table: &Table,
-    unit: usize,
-    at: usize,
-) -> Result<Vec<Entry>, InfoError>
-    requires source { IsSource source.now }
-    requires table { IsTable source.now.abbrevs.now table.now }
-    requires unit { unit ≤ at }
-    requires within { at ≤ length source.now.info.now }
-    ensures rising { IfOk result (λ v. RisesFrom 0 v.items) }
-    ensures value { Gives result (entries_from (length source.now.info.now + 1) source.now.abbrevs.now source.now.strs.now source.now.info.now table.now.at unit 0 at) }
-{
-    let mut entries = Vec::new(alloc);
-    let mut level = 0;
-    let mut place = at;
-    'entries: while place < source.info.len() {
-        let (entry, next) = entry_at(source, table, unit, level, place)?;
-        level = level_behind(level, &entry);
-        push_entry(&mut entries, entry)?;
-        place = next;
-    }
-    entries.shrink_to_fit();
-    Ok(entries)
 }

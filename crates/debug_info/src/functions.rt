@@ -1,9 +1,15 @@
 //! The functions of a section and their addresses (DWARF 4, sections 2.17.2 and 3.3).
 
-ghost use Rattle.std.specs.Prelude.{◌≡◌, ◌++◌, IfOk, OnOk};
-ghost use Rattle.debug_info.specs.Functions.{function_list, functions_in};
+ghost use Rattle.std.specs.Prelude.{◌≡◌, ◌<◌, ◌≤◌, ◌+◌, ◌^◌, ◌++◌, OnOk, length};
+ghost use Rattle.debug_info.specs.Entries.{Gives, entries_from, entry_list};
+ghost use Rattle.debug_info.specs.Functions.{functions_in, functions_read};
+ghost use Rattle.debug_info.specs.Sources.{IsSource};
+ghost use Rattle.debug_info.specs.Tables.{IsTable};
 
-use crate::entry::{Entry, Tag};
+use crate::entry::{Entry, Tag, entry_at, level_behind};
+use crate::fault::InfoError;
+use crate::offset::Source;
+use crate::tables::Table;
 use address_tables::AddressRange;
 use dbg_traits::NoMemory;
 use std::alloc::Global;
@@ -17,41 +23,69 @@ pub struct Function {
     pub entry: usize,
 }
 
-// Adds the function that an entry is.
+// Adds the function that the entry with a number is, if there is one.
 fn push_function(
     functions: &mut Vec<AddressRange<Function>>,
     unit: usize,
     number: usize,
-    entry: &Entry,
+    entry: &Option<Entry>,
 ) -> Result<(), NoMemory>
-    ensures { OnOk result (functions.new.items ≡ functions.old.items ++ function_list unit number entry.now) }
+    ensures { OnOk result (functions.new.items ≡ functions.old.items ++ functions_in unit number (entry_list entry.now)) }
 {
-    if entry.tag == Tag::Subprogram {
-        if let Some(range) = entry.range {
-            functions.push(AddressRange {
-                begin: u64::from(range.low),
-                end: range.end,
-                value: Function {
-                    unit,
-                    entry: number,
-                },
-            })?;
+    if let Some(entry) = entry {
+        if entry.tag == Tag::Subprogram {
+            if let Some(range) = entry.range {
+                functions.push(AddressRange {
+                    begin: u64::from(range.low),
+                    end: range.end,
+                    value: Function {
+                        unit,
+                        entry: number,
+                    },
+                })?;
+            }
         }
     }
     Ok(())
 }
 
-/// The functions of a unit with a number, in the section's order.
-pub fn functions_of(
+// How many entries there are with one that may have come.
+fn counted(count: usize, entry: &Option<Entry>) -> usize
+    requires { count < 2 ^ 32 }
+    ensures { result ≡ count + length (entry_list entry.now) }
+{
+    match entry {
+        Some(_) => count + 1,
+        None => count,
+    }
+}
+
+/// The functions of the unit at a place with a number, whose bytes end with the section's, by its entries from another
+/// place on. Of these none is kept.
+pub fn functions_at(
     alloc: Global,
+    source: &Source<'_>,
+    table: &Table,
     unit: usize,
-    entries: &[Entry],
-) -> Result<Vec<AddressRange<Function>>, NoMemory>
-    ensures { IfOk result (λ functions. functions.items ≡ functions_in unit 0 entries.now) }
+    number: usize,
+    at: usize,
+) -> Result<Vec<AddressRange<Function>>, InfoError>
+    requires source { IsSource source.now }
+    requires table { IsTable source.now.abbrevs.now table.now }
+    requires unit { unit ≤ at }
+    requires within { at ≤ length source.now.info.now }
+    ensures { Gives result (functions_read number (entries_from (length source.now.info.now + 1) source.now.abbrevs.now source.now.strs.now source.now.info.now table.now.at unit 0 at)) }
 {
     let mut functions = Vec::new(alloc);
-    for (number, entry) in entries.iter().enumerate() {
-        push_function(&mut functions, unit, number, entry)?;
+    let mut count = 0;
+    let mut level = 0;
+    let mut place = at;
+    'entries: while place < source.info.len() {
+        let (entry, next) = entry_at(source, table, unit, level, place)?;
+        push_function(&mut functions, number, count, &entry)?;
+        level = level_behind(level, &entry);
+        count = counted(count, &entry);
+        place = next;
     }
     functions.shrink_to_fit();
     Ok(functions)

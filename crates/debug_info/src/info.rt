@@ -1,21 +1,20 @@
 //! The variables of a program, and those that can be seen at an address.
 
-ghost use Rattle.std.specs.Prelude.{◌≡◌, ◌<◌, ◌^◌, All, IfOk, drop, length, map, nat_lt};
+ghost use Rattle.std.specs.Prelude.{◌≡◌, ◌<◌, ◌^◌, All, IfOk, length, map, nat_lt};
 ghost use Rattle.address_tables.specs.Tables.{IsTable};
 ghost use Rattle.debug_info.specs.Contents.{contents_of};
 ghost use Rattle.debug_info.specs.Functions.{function_at};
 ghost use Rattle.debug_info.specs.Info.{faults_of, info_of, scope};
 ghost use Rattle.debug_info.specs.Shown.{shown_variables};
 
-use crate::entry::Entry;
 use crate::fault::UnitFault;
 use crate::functions::Function;
 use crate::header::Span;
 use crate::index::{Index, index_of};
 use crate::offset::{Sections, Source};
-use crate::scope::{Texts, Var, variables_in};
+use crate::scope::{Texts, Var};
 use crate::text_lengths::{TextLengths, text_lengths_of};
-use crate::unit::{contents_of, entries_of};
+use crate::unit::{contents_of, variables_at};
 use address_tables::{table_of, value_at};
 use dbg_traits::NoMemory;
 use std::alloc::Global;
@@ -95,16 +94,6 @@ pub fn read_info(alloc: Global, sections: &Sections<'_>) -> Result<Info, NoMemor
     })
 }
 
-fn entries_from(entries: &[Entry], number: usize) -> &[Entry]
-    ensures { result.now ≡ drop number entries.now }
-{
-    if number <= entries.len() {
-        &entries[number..]
-    } else {
-        &[]
-    }
-}
-
 impl Info {
     /// The units that have a fault, in the section's order.
     pub fn faults(&self) -> &[UnitFault]
@@ -128,18 +117,11 @@ impl Info {
             strs: &self.strs,
             lengths: &self.lengths,
         };
-        let entries = entries_of(alloc, &source, &self.units, function.unit)?;
         let texts = Texts {
             info: &self.info,
             strs: &self.strs,
             lengths: &self.lengths,
         };
-        variables_in(
-            alloc,
-            &texts,
-            pc,
-            &entries,
-            entries_from(&entries, function.entry),
-        )
+        variables_at(alloc, &source, &texts, &self.units, function, pc)
     }
 }

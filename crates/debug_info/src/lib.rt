@@ -13,6 +13,7 @@ mod functions;
 mod header;
 mod index;
 mod info;
+mod mark;
 mod offset;
 mod order;
 mod scope;

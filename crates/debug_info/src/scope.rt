@@ -1,14 +1,17 @@
 //! The variables that can be seen at an address.
 
-ghost use Rattle.std.specs.Prelude.{◌≡◌, ◌==◌, ◌++◌, ◌∷◌, [], IfOk, OnOk, true, false, filter, find, length, map, take_while};
+ghost use Rattle.std.specs.Prelude.{◌≡◌, ◌<◌, ◌+◌, ◌==◌, ◌++◌, ◌∷◌, [], IfOk, None, OnOk, Some, true, false, drop, filter, find, if◌then◌else◌, length, map, take_while};
 ghost use Rattle.leb_read.specs.Leb.{is_text_byte};
+ghost use Rattle.debug_info.specs.Entries.{entry_list};
+ghost use Rattle.debug_info.specs.Marks.{IsMarkSplit, IsUnit, all_reread, entries_in, is_entered_mark, is_outer, is_own_mark, mark_of, reread_in};
 ghost use Rattle.debug_info.specs.Rising.{RisesFrom};
-ghost use Rattle.debug_info.specs.Scope.{by_depth, is_entered, is_modifier, is_named, is_own, is_unit_variable, is_within, kind_of, name_of, own_entries, own_kind, place_in, text_from, type_entry, variable_of, variables_in};
-ghost use Rattle.debug_info.specs.Shown.{AreTexts, IsEntrySplit, is_below, seen_texts, shown_variable, shown_variables, shut_by};
+ghost use Rattle.debug_info.specs.Scope.{is_fixed, is_modifier, is_within, kind_of, name_of, own_entries, own_kind, place_in, text_from, type_entry, variable_of, variables_in};
+ghost use Rattle.debug_info.specs.Shown.{AreTexts, is_below, seen_texts, shown_variable, shown_variables};
 
-use crate::entry::{Entry, Kind, Range, Tag};
+use crate::entry::{Entry, Kind, LEVELS, Range, Tag};
 use crate::expression::{Base, Place};
 use crate::form::TextPlace;
+use crate::mark::{Mark, Unit};
 use crate::text_lengths::TextLengths;
 use dbg_traits::NoMemory;
 use std::alloc::Global;
@@ -37,9 +40,6 @@ pub struct Texts<'a> {
 
 /// How many typedefs, consts and volatiles are followed.
 const LINKS: usize = 16;
-
-/// Most levels.
-const LEVELS: u8 = 64;
 
 // How many bytes stand before the first zero byte.
 fn text_length(bytes: &[u8]) -> usize
@@ -70,35 +70,39 @@ fn name_of<'a>(texts: &Texts<'a>, place: Option<TextPlace>) -> &'a [u8]
     }
 }
 
-fn entry_with(entries: &[Entry], offset: u32) -> Option<Entry>
-    requires { RisesFrom 0 entries.now }
-    ensures { result ≡ find (λ e. e.offset == offset) entries.now }
+// The mark with an offset.
+fn mark_with(marks: &[Mark], offset: u32) -> Option<Mark>
+    requires { RisesFrom 0 marks.now }
+    ensures { result ≡ find (λ m. m.offset == offset) marks.now }
 {
     let mut low = 0;
-    let mut high = entries.len();
+    let mut high = marks.len();
     while low < high {
         let middle = low + (high - low) / 2;
-        if entries[middle].offset < offset {
+        if marks[middle].offset < offset {
             low = middle + 1;
         } else {
             high = middle;
         }
     }
-    if low < entries.len() && entries[low].offset == offset {
-        Some(entries[low])
+    if low < marks.len() && marks[low].offset == offset {
+        Some(marks[low])
     } else {
         None
     }
 }
 
 // The entry at an offset from the unit's beginning.
-fn type_entry(entries: &[Entry], offset: Option<u32>) -> Option<Entry>
-    requires { RisesFrom 0 entries.now }
-    ensures { result ≡ type_entry entries.now offset }
+fn type_entry(unit: &Unit<'_>, offset: Option<u32>) -> Option<Entry>
+    requires { IsUnit unit.now }
+    ensures { result ≡ type_entry (entries_in unit.now) offset }
 {
     match offset {
         None => None,
-        Some(offset) => entry_with(entries, offset),
+        Some(offset) => match mark_with(unit.marks, offset) {
+            None => None,
+            Some(mark) => unit.entry(mark),
+        },
     }
 }
 
@@ -119,9 +123,9 @@ fn own_kind(tag: Tag, basic: Kind) -> Kind
 }
 
 // The kind of a type.
-fn kind_of(entries: &[Entry], entry: Option<Entry>) -> Kind
-    requires { RisesFrom 0 entries.now }
-    ensures { result ≡ kind_of 16 entries.now entry }
+fn kind_of(unit: &Unit<'_>, entry: Option<Entry>) -> Kind
+    requires { IsUnit unit.now }
+    ensures { result ≡ kind_of 16 (entries_in unit.now) entry }
 {
     let mut links = LINKS;
     let mut entry = entry;
@@ -130,7 +134,7 @@ fn kind_of(entries: &[Entry], entry: Option<Entry>) -> Kind
             return own_kind(found.tag, found.basic);
         }
         links -= 1;
-        entry = type_entry(entries, found.type_of);
+        entry = type_entry(unit, found.type_of);
     }
     Kind::Other
 }
@@ -146,29 +150,23 @@ fn place_in(base: Base, place: Place) -> Place
 
 fn variable_of<'a>(
     texts: &Texts<'a>,
-    entries: &[Entry],
+    unit: &Unit<'_>,
     base: Base,
     listed: bool,
     entry: &Entry,
 ) -> Var<'a>
     requires texts { AreTexts texts.now }
-    requires rising { RisesFrom 0 entries.now }
-    ensures { shown_variable result ≡ variable_of (seen_texts texts.now) entries.now base listed entry.now }
+    requires unit { IsUnit unit.now }
+    ensures { shown_variable result ≡ variable_of (seen_texts texts.now) (entries_in unit.now) base listed entry.now }
 {
     Var {
         name: name_of(texts, entry.name),
-        kind: kind_of(entries, type_entry(entries, entry.type_of)),
+        kind: kind_of(unit, type_entry(unit, entry.type_of)),
         place: place_in(base, entry.place),
         base,
         argument: entry.tag == Tag::Parameter,
         listed,
     }
-}
-
-fn is_named(entry: &Entry) -> bool
-    ensures { result ≡ is_named entry.now }
-{
-    entry.name.is_some() && matches!(entry.tag, Tag::Parameter | Tag::Variable)
 }
 
 fn is_within(pc: u32, range: Option<Range>) -> bool
@@ -180,39 +178,45 @@ fn is_within(pc: u32, range: Option<Range>) -> bool
     }
 }
 
-fn is_entered(pc: u32, entry: &Entry) -> bool
-    ensures { result ≡ is_entered pc entry.now }
+// Whether a mark is that of a block that covers pc.
+fn is_entered(unit: &Unit<'_>, pc: u32, mark: &Mark) -> bool
+    requires { IsUnit unit.now }
+    ensures { result ≡ is_entered_mark unit.now pc mark.now }
 {
-    entry.tag == Tag::Block && is_within(pc, entry.range)
+    if mark.tag != Tag::Block {
+        return false;
+    }
+    match unit.entry(*mark) {
+        Some(entry) => is_within(pc, entry.range),
+        None => false,
+    }
 }
 
-fn is_unit_variable(entry: &Entry) -> bool
-    ensures { result ≡ is_unit_variable entry.now }
-{
-    entry.level == 2
-        && entry.name.is_some()
-        && entry.tag == Tag::Variable
-        && matches!(entry.place, Place::Fixed(_))
-}
-
-// The parameters and variables of a function and of its blocks that cover pc, in the section's order.
-fn own_entries(
+// The parameters and variables of a function and of its blocks that cover pc, in the section's order. The marks behind the
+// function's begin with a number.
+fn own_marks(
     alloc: Global,
+    unit: &Unit<'_>,
     pc: u32,
     function: u8,
-    behind: &[Entry],
-) -> Result<Vec<Entry>, NoMemory>
-    ensures { IfOk result (λ found. found.items ≡ own_entries pc function behind.now) }
+    number: usize,
+    behind: &[Mark],
+) -> Result<Vec<Mark>, NoMemory>
+    requires unit { IsUnit unit.now }
+    requires behind { behind.now ≡ drop number unit.now.marks.now }
+    ensures { IfOk result (λ found. found.items ≡ map mark_of (own_entries pc function (drop number (entries_in unit.now)))) }
 {
+    let _number = number;
     let mut found = Vec::new(alloc);
     let mut shut = None;
-    for entry in behind {
-        if entry.level <= function {
+    for mark in behind {
+        if mark.level <= function {
             return Ok(found);
         }
-        if !is_below(shut, entry.level) {
-            shut = shut_by(pc, entry);
-            push_named(&mut found, pc, entry)?;
+        if !is_below(shut, mark.level) {
+            let entered = is_entered(unit, pc, mark);
+            shut = shut_by(entered, mark.level);
+            push_named(&mut found, entered, mark)?;
         }
     }
     Ok(found)
@@ -229,22 +233,36 @@ fn is_below(shut: Option<u8>, level: u8) -> bool
 }
 
 // The level of an entry that isn't entered.
-fn shut_by(pc: u32, entry: &Entry) -> Option<u8>
-    ensures { result ≡ shut_by pc entry.now }
+fn shut_by(entered: bool, level: u8) -> Option<u8>
+    ensures { result ≡ (if entered then None else Some level) }
 {
-    if is_entered(pc, entry) {
-        None
-    } else {
-        Some(entry.level)
-    }
+    if entered { None } else { Some(level) }
 }
 
 // Adds a parameter or variable that has a name.
-fn push_named(found: &mut Vec<Entry>, pc: u32, entry: &Entry) -> Result<(), NoMemory>
-    ensures { OnOk result (found.new.items ≡ found.old.items ++ filter (is_own pc) (entry.now ∷ [])) }
+fn push_named(found: &mut Vec<Mark>, entered: bool, mark: &Mark) -> Result<(), NoMemory>
+    ensures { OnOk result (found.new.items ≡ found.old.items ++ filter (is_own_mark entered) (mark.now ∷ [])) }
 {
-    if !is_entered(pc, entry) && is_named(entry) {
-        found.push(*entry)?;
+    if !entered && mark.is_named && matches!(mark.tag, Tag::Parameter | Tag::Variable) {
+        found.push(*mark)?;
+    }
+    Ok(())
+}
+
+// Adds the variable of a mark.
+fn push_variable<'a>(
+    variables: &mut Vec<Var<'a>>,
+    texts: &Texts<'a>,
+    unit: &Unit<'_>,
+    base: Base,
+    mark: &Mark,
+) -> Result<(), NoMemory>
+    requires texts { AreTexts texts.now }
+    requires unit { IsUnit unit.now }
+    ensures { OnOk result (shown_variables variables.new.items ≡ shown_variables variables.old.items ++ map (variable_of (seen_texts texts.now) (entries_in unit.now) base true) (entry_list (reread_in unit.now mark.now))) }
+{
+    if let Some(entry) = unit.entry(*mark) {
+        variables.push(variable_of(texts, unit, base, true, &entry))?;
     }
     Ok(())
 }
@@ -253,18 +271,45 @@ fn push_named(found: &mut Vec<Entry>, pc: u32, entry: &Entry) -> Result<(), NoMe
 fn push_level<'a>(
     variables: &mut Vec<Var<'a>>,
     texts: &Texts<'a>,
-    entries: &[Entry],
+    unit: &Unit<'_>,
     base: Base,
-    own: &[Entry],
+    own: &[Mark],
     level: u8,
 ) -> Result<(), NoMemory>
     requires texts { AreTexts texts.now }
-    requires rising { RisesFrom 0 entries.now }
-    ensures { OnOk result (shown_variables variables.new.items ≡ shown_variables variables.old.items ++ map (variable_of (seen_texts texts.now) entries.now base true) (filter (λ e. e.level == level) own.now)) }
+    requires unit { IsUnit unit.now }
+    ensures { OnOk result (shown_variables variables.new.items ≡ shown_variables variables.old.items ++ map (variable_of (seen_texts texts.now) (entries_in unit.now) base true) (all_reread unit.now (filter (λ m. m.level == level) own.now))) }
 {
-    for entry in own {
-        if entry.level == level {
-            variables.push(variable_of(texts, entries, base, true, entry))?;
+    for mark in own {
+        if mark.level == level {
+            push_variable(variables, texts, unit, base, mark)?;
+        }
+    }
+    Ok(())
+}
+
+// Whether a mark may be that of a variable of the unit.
+fn is_outer(mark: &Mark) -> bool
+    ensures { result ≡ is_outer mark.now }
+{
+    mark.level == 2 && mark.is_named && mark.tag == Tag::Variable
+}
+
+// Adds the variable of a mark, where it has a fixed place.
+fn push_fixed<'a>(
+    variables: &mut Vec<Var<'a>>,
+    texts: &Texts<'a>,
+    unit: &Unit<'_>,
+    base: Base,
+    mark: &Mark,
+) -> Result<(), NoMemory>
+    requires texts { AreTexts texts.now }
+    requires unit { IsUnit unit.now }
+    ensures { OnOk result (shown_variables variables.new.items ≡ shown_variables variables.old.items ++ map (variable_of (seen_texts texts.now) (entries_in unit.now) base false) (filter (λ e. is_fixed e.place) (entry_list (reread_in unit.now mark.now)))) }
+{
+    if let Some(entry) = unit.entry(*mark) {
+        if matches!(entry.place, Place::Fixed(_)) {
+            variables.push(variable_of(texts, unit, base, false, &entry))?;
         }
     }
     Ok(())
@@ -274,53 +319,75 @@ fn push_level<'a>(
 fn push_unit<'a>(
     variables: &mut Vec<Var<'a>>,
     texts: &Texts<'a>,
-    entries: &[Entry],
+    unit: &Unit<'_>,
     base: Base,
 ) -> Result<(), NoMemory>
     requires texts { AreTexts texts.now }
-    requires rising { RisesFrom 0 entries.now }
-    ensures { OnOk result (shown_variables variables.new.items ≡ shown_variables variables.old.items ++ map (variable_of (seen_texts texts.now) entries.now base false) (filter is_unit_variable entries.now)) }
+    requires unit { IsUnit unit.now }
+    ensures { OnOk result (shown_variables variables.new.items ≡ shown_variables variables.old.items ++ map (variable_of (seen_texts texts.now) (entries_in unit.now) base false) (filter (λ e. is_fixed e.place) (all_reread unit.now (filter is_outer unit.now.marks.now)))) }
 {
-    for entry in entries {
-        if is_unit_variable(entry) {
-            variables.push(variable_of(texts, entries, base, false, entry))?;
+    for mark in unit.marks {
+        if is_outer(mark) {
+            push_fixed(variables, texts, unit, base, mark)?;
         }
     }
     Ok(())
 }
 
-// The first entry and the others.
-fn split(entries: &[Entry]) -> Option<(Entry, &[Entry])>
-    ensures { IsEntrySplit entries.now result }
+// The first mark from a number on, and those behind it.
+fn split(marks: &[Mark], number: usize) -> Option<(Mark, &[Mark])>
+    ensures { IsMarkSplit marks.now number result }
 {
-    match entries {
-        [] => None,
-        [entry, rest @ ..] => Some((*entry, rest)),
+    if marks.len() <= number {
+        return None;
     }
+    Some((marks[number], &marks[number + 1..]))
 }
 
-/// The variables at pc by the unit's entries and those from the function's on.
+// The variables at pc of a function, whose mark has a number.
+fn variables_of<'a>(
+    alloc: Global,
+    texts: &Texts<'a>,
+    unit: &Unit<'_>,
+    pc: u32,
+    number: usize,
+    function: &Entry,
+    behind: &[Mark],
+) -> Result<Vec<Var<'a>>, NoMemory>
+    requires texts { AreTexts texts.now }
+    requires unit { IsUnit unit.now }
+    requires number { number < length unit.now.marks.now }
+    requires behind { behind.now ≡ drop (number + 1) unit.now.marks.now }
+    ensures { IfOk result (λ v. shown_variables v.items ≡ variables_in (seen_texts texts.now) pc (entries_in unit.now) (function.now ∷ drop (number + 1) (entries_in unit.now))) }
+{
+    let mut variables = Vec::new(alloc);
+    let own = own_marks(alloc, unit, pc, function.level, number + 1, behind)?;
+    let mut level = LEVELS;
+    'levels: while level > 0 {
+        push_level(&mut variables, texts, unit, function.base, &own, level)?;
+        level -= 1;
+    }
+    push_unit(&mut variables, texts, unit, function.base)?;
+    Ok(variables)
+}
+
+/// The variables at pc by the unit's entries, of which the function's has a number.
 pub fn variables_in<'a>(
     alloc: Global,
     texts: &Texts<'a>,
+    unit: &Unit<'_>,
     pc: u32,
-    entries: &[Entry],
-    from: &[Entry],
+    number: usize,
 ) -> Result<Vec<Var<'a>>, NoMemory>
     requires texts { AreTexts texts.now }
-    requires rising { RisesFrom 0 entries.now }
-    ensures { IfOk result (λ v. shown_variables v.items ≡ variables_in (seen_texts texts.now) pc entries.now from.now) }
+    requires unit { IsUnit unit.now }
+    ensures { IfOk result (λ v. shown_variables v.items ≡ variables_in (seen_texts texts.now) pc (entries_in unit.now) (drop number (entries_in unit.now))) }
 {
-    let mut variables = Vec::new(alloc);
-    let Some((function, behind)) = split(from) else {
-        return Ok(variables);
+    let Some((mark, behind)) = split(unit.marks, number) else {
+        return Ok(Vec::new(alloc));
     };
-    let own = own_entries(alloc, pc, function.level, behind)?;
-    let mut level = LEVELS;
-    'levels: while level > 0 {
-        push_level(&mut variables, texts, entries, function.base, &own, level)?;
-        level -= 1;
+    match unit.entry(mark) {
+        Some(function) => variables_of(alloc, texts, unit, pc, number, &function, behind),
+        None => Ok(Vec::new(alloc)),
     }
-    push_unit(&mut variables, texts, entries, function.base)?;
-    Ok(variables)
 }

@@ -1,22 +1,25 @@
 //! What the units of a section give (DWARF 4, section 7.5.1.1).
 
-ghost use Rattle.std.specs.Prelude.{◌≡◌, ◌≤◌, ◌+◌, [], All, IfOk, OnOk, length, map, slice_get, unwrap_or};
-ghost use Rattle.debug_info.specs.Contents.{contents_of, joined, spanned};
+ghost use Rattle.std.specs.Prelude.{◌≡◌, ◌≤◌, ◌+◌, ◌++◌, [], All, IfOk, OnOk, drop, length, map, slice_get, unwrap_or};
+ghost use Rattle.debug_info.specs.Contents.{contents_of, joined};
+ghost use Rattle.debug_info.specs.Marks.{GivesMarks};
+ghost use Rattle.debug_info.specs.Scope.{variables_in};
 ghost use Rattle.debug_info.specs.Entries.{Gives, IfRead};
-ghost use Rattle.debug_info.specs.Functions.{functions_from};
+ghost use Rattle.debug_info.specs.Functions.{functions_from, functions_read};
 ghost use Rattle.debug_info.specs.Sources.{IsSource};
 ghost use Rattle.debug_info.specs.Spans.{IsSpan, all_given, all_joined, ended, entries_given, functions_given, reading_shown};
 ghost use Rattle.debug_info.specs.Rising.{RisesFrom};
-ghost use Rattle.debug_info.specs.Shown.{functions_shown};
+ghost use Rattle.debug_info.specs.Shown.{AreTexts, functions_shown, seen_texts, shown_variables};
 ghost use Rattle.debug_info.specs.Tables.{IsTable};
 ghost use Rattle.debug_info.specs.Units.{unit_entries};
 
-use crate::entry::{Entry, entries_at};
 use crate::fault::{InfoError, UnitFault};
-use crate::functions::{Function, functions_of};
+use crate::functions::{Function, functions_at};
 use crate::header::{Span, Spans, fault_at, header_at, spans_of};
+use crate::mark::{Mark, Unit, marks_at};
 use crate::offset::Source;
 use crate::order::turns_of;
+use crate::scope::{Texts, Var, variables_in};
 use crate::tables::Table;
 use address_tables::AddressRange;
 use dbg_traits::NoMemory;
@@ -43,48 +46,49 @@ pub struct Found {
     pub faults: Vec<UnitFault>,
 }
 
-// The entries of the unit at a place, whose bytes end with the section's. The table moves to its abbreviations.
+// The marks of the unit at a place, whose bytes end with the section's. The table moves to its abbreviations.
 #[tactic(auto, unfolding(crate::specs::Units::unit_entries))]
-fn unit_entries(
+fn unit_marks(
     alloc: Global,
     source: &Source<'_>,
     at: usize,
     table: &mut Table,
-) -> Result<Vec<Entry>, InfoError>
+) -> Result<Vec<Mark>, InfoError>
     requires source { IsSource source.now }
     requires within { at + 4 ≤ length source.now.info.now }
     requires table { IsTable source.now.abbrevs.now table.old }
     ensures table { IfRead result (IsTable source.now.abbrevs.now table.new) }
     ensures rising { IfOk result (λ v. RisesFrom 0 v.items) }
-    ensures value { Gives result (unit_entries source.now.abbrevs.now source.now.strs.now source.now.info.now at) }
+    ensures value { GivesMarks source.now.abbrevs.now source.now.strs.now source.now.info.now table.new.at at result (unit_entries source.now.abbrevs.now source.now.strs.now source.now.info.now at) }
 {
     let (abbrevs, next) = header_at(source, at + 4)?;
     table.move_to(alloc, source.abbrevs, source.index, abbrevs)?;
-    entries_at(alloc, source, table, at, next)
+    marks_at(alloc, source, table, at, next)
 }
 
-// The entries of a unit.
-fn spanned(
+// The functions of the unit at a place with a number, whose bytes end with the section's. The table moves to its
+// abbreviations.
+#[tactic(auto, unfolding(crate::specs::Units::unit_entries))]
+fn unit_functions(
     alloc: Global,
     source: &Source<'_>,
-    span: &Span,
+    number: usize,
+    at: usize,
     table: &mut Table,
-) -> Result<Vec<Entry>, InfoError>
+) -> Result<Vec<AddressRange<Function>>, InfoError>
     requires source { IsSource source.now }
-    requires span { IsSpan source.now.info.now span.now }
+    requires within { at + 4 ≤ length source.now.info.now }
     requires table { IsTable source.now.abbrevs.now table.old }
     ensures table { IfRead result (IsTable source.now.abbrevs.now table.new) }
-    ensures rising { IfOk result (λ v. RisesFrom 0 v.items) }
-    ensures value { Gives result (spanned source.now.abbrevs.now source.now.strs.now source.now.info.now span.now.at span.now.end) }
+    ensures value { Gives result (functions_read number (unit_entries source.now.abbrevs.now source.now.strs.now source.now.info.now at)) }
 {
-    let unit = Source {
-        info: &source.info[..span.end],
-        ..*source
-    };
-    unit_entries(alloc, &unit, span.at, table)
+    let (abbrevs, next) = header_at(source, at + 4)?;
+    table.move_to(alloc, source.abbrevs, source.index, abbrevs)?;
+    functions_at(alloc, source, table, at, number, next)
 }
 
 // What is kept of a unit with a number.
+#[tactic(auto, using(crate::proofs::Listed::given_functions, crate::proofs::Listed::given_fault))]
 fn reading_of(
     alloc: Global,
     source: &Source<'_>,
@@ -98,9 +102,13 @@ fn reading_of(
     ensures table { OnOk result (IsTable source.now.abbrevs.now table.new) }
     ensures value { IfOk result (λ reading. reading_shown reading ≡ functions_given source.now.abbrevs.now source.now.strs.now source.now.info.now number span.now) }
 {
-    match spanned(alloc, source, span, table) {
-        Ok(entries) => Ok(Reading {
-            functions: functions_of(alloc, number, &entries)?,
+    let unit = Source {
+        info: &source.info[..span.end],
+        ..*source
+    };
+    match unit_functions(alloc, &unit, number, span.at, table) {
+        Ok(functions) => Ok(Reading {
+            functions,
             fault: None,
         }),
         Err(InfoError::Fault(fault)) => Ok(Reading {
@@ -111,35 +119,56 @@ fn reading_of(
     }
 }
 
-// The entries of a unit, or none where it has a fault.
-fn entries_in(alloc: Global, source: &Source<'_>, span: &Span) -> Result<Vec<Entry>, NoMemory>
+// The variables at pc of a function, by its unit, which is read again, and the number of its entry there.
+fn variables_of<'a>(
+    alloc: Global,
+    source: &Source<'_>,
+    texts: &Texts<'a>,
+    span: &Span,
+    pc: u32,
+    number: usize,
+) -> Result<Vec<Var<'a>>, NoMemory>
     requires source { IsSource source.now }
+    requires texts { AreTexts texts.now }
     requires span { IsSpan source.now.info.now span.now }
-    ensures rising { IfOk result (λ v. RisesFrom 0 v.items) }
-    ensures value { IfOk result (λ v. v.items ≡ entries_given source.now.abbrevs.now source.now.strs.now source.now.info.now span.now) }
+    ensures { IfOk result (λ v. shown_variables v.items ≡ variables_in (seen_texts texts.now) pc (entries_given source.now.abbrevs.now source.now.strs.now source.now.info.now span.now) (drop number (entries_given source.now.abbrevs.now source.now.strs.now source.now.info.now span.now))) }
 {
     let mut table = Table::new(alloc, source.abbrevs);
-    match spanned(alloc, source, span, &mut table) {
-        Ok(entries) => Ok(entries),
+    let unit = Source {
+        info: &source.info[..span.end],
+        ..*source
+    };
+    match unit_marks(alloc, &unit, span.at, &mut table) {
+        Ok(marks) => {
+            let unit = Unit {
+                source: unit,
+                table: &table,
+                at: span.at,
+                marks: &marks,
+            };
+            variables_in(alloc, texts, &unit, pc, number)
+        }
         Err(InfoError::Fault(_)) => Ok(Vec::new(alloc)),
         Err(InfoError::Memory) => Err(NoMemory),
     }
 }
 
-/// The entries of the unit with a number.
-pub fn entries_of(
+/// The variables at pc of a function, by where the units stand.
+pub fn variables_at<'a>(
     alloc: Global,
     source: &Source<'_>,
+    texts: &Texts<'a>,
     units: &[Span],
-    number: usize,
-) -> Result<Vec<Entry>, NoMemory>
+    function: Function,
+    pc: u32,
+) -> Result<Vec<Var<'a>>, NoMemory>
     requires source { IsSource source.now }
+    requires texts { AreTexts texts.now }
     requires units { All (IsSpan source.now.info.now) units.now }
-    ensures rising { IfOk result (λ v. RisesFrom 0 v.items) }
-    ensures value { IfOk result (λ v. v.items ≡ unwrap_or (slice_get (map (entries_given source.now.abbrevs.now source.now.strs.now source.now.info.now) units.now) number) []) }
+    ensures { IfOk result (λ v. shown_variables v.items ≡ variables_in (seen_texts texts.now) pc (unwrap_or (slice_get (map (entries_given source.now.abbrevs.now source.now.strs.now source.now.info.now) units.now) function.unit) []) (drop function.entry (unwrap_or (slice_get (map (entries_given source.now.abbrevs.now source.now.strs.now source.now.info.now) units.now) function.unit) []))) }
 {
-    match units.get(number) {
-        Some(span) => entries_in(alloc, source, span),
+    match units.get(function.unit) {
+        Some(span) => variables_of(alloc, source, texts, span, pc, function.entry),
         None => Ok(Vec::new(alloc)),
     }
 }
@@ -174,12 +203,27 @@ fn readings_of(alloc: Global, source: &Source<'_>, spans: &[Span]) -> Result<Vec
     Ok(readings)
 }
 
+// Adds functions. The first ones are taken as they are.
+fn push_functions(
+    found: &mut Vec<AddressRange<Function>>,
+    functions: Vec<AddressRange<Function>>,
+) -> Result<(), NoMemory>
+    ensures { OnOk result (found.new.items ≡ found.old.items ++ functions.items) }
+{
+    if found.is_empty() {
+        *found = functions;
+    } else {
+        found.extend_from_slice(&functions)?;
+    }
+    Ok(())
+}
+
 // Adds what was read of a unit.
 fn push_reading(found: &mut Found, reading: Reading) -> Result<(), NoMemory>
     ensures { OnOk result (functions_shown found.new ≡ joined (functions_shown found.old) (reading_shown reading)) }
 {
     let Reading { functions, fault } = reading;
-    found.functions.extend_from_slice(&functions)?;
+    push_functions(&mut found.functions, functions)?;
     push_fault(found, fault)
 }
 

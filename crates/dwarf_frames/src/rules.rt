@@ -40,9 +40,6 @@ pub struct Rules {
     pub registers: [RegisterRule; 32],
 }
 
-/// The number of the register that has the return address where nothing else is said (`ra`).
-const RETURN_ADDRESS: u8 = 1;
-
 /// The number of the stack pointer (`sp`).
 const STACK_POINTER: u8 = 2;
 
@@ -64,11 +61,11 @@ impl Rules {
     }
 }
 
-/// The rules of a place that no entry covers: the CFA is x2, and the return address is in x1.
+/// What an unused slot of remembered rules holds.
 impl Default for Rules {
-    ghost is_default = { λ r. r ≡ first_rules 1 };
+    ghost is_default = { λ r. r ≡ first_rules 0 };
 
     fn default() -> Rules {
-        Rules::new(RETURN_ADDRESS)
+        Rules::new(0)
     }
 }

@@ -1,5 +1,5 @@
 -- The texts that stand for variables have no fault.
-use Rattle.std.proofs.Common.{◌≡◌, ◌<◌, ◌/◌, ◌%◌, ◌^◌, ℕ, zero, suc, Bool, true, false, List, [], ◌∷◌, length, Option, None, Some, Ok, refl, arith, ap, subst}
+use Rattle.std.proofs.Common.{◌≡◌, ◌<◌, ◌/◌, ◌%◌, ◌^◌, ℕ, zero, suc, Bool, true, false, List, [], ◌∷◌, length, Option, None, Some, Ok, refl, arith, sym, ◌∙◌, ap, subst}
 use Rattle.std.specs.Prelude.{ℤ, codes, decimal, nat_lt, ◌==◌, if◌then◌else◌}
 use Rattle.std.specs.Int.{byte_at}
 use Rattle.std.specs.Option.{option_map}
@@ -10,8 +10,9 @@ use Rattle.std.specs.Prelude.{slice_index}
 use Rattle.elf_symbols.specs.Names.{Names}
 use Rattle.cond_expr.specs.Fault.{behind, first_fault, wanting}
 use Rattle.cond_expr.specs.Lex.{after_blanks, is_digit_of, number_behind, run_length, spot, tokens_from, tokens_of}
-use Rattle.cond_expr.specs.Reader.{parsed, read_tree}
+use Rattle.cond_expr.specs.Reader.{expression, joined, operand, parsed, read_tree}
 use Rattle.cond_expr.specs.Term.{Term}
+use Rattle.cond_expr.specs.Value.{value_of}
 use Rattle.cond_expr.specs.declared.token.ReadType.TheVariants.{Int, UnsignedInt, Short, UnsignedShort, Char}
 use Rattle.cond_expr.specs.declared.token.Spot.{Spot}
 use Rattle.cond_expr.specs.declared.token.Token.TheVariants.{Cast, Open}
@@ -22,15 +23,17 @@ use Rattle.debug_info.specs.declared.expression.Base.{Base}
 use Rattle.debug_info.specs.declared.expression.Place.{Place}
 use Rattle.debug_info.specs.declared.expression.Place.TheVariants as place
 use Rattle.var_expr.specs.Holder.{IsHolder, base_address, held_at, holder_of, moved}
-use Rattle.var_expr.specs.Stands.{Around, around, around_address, around_register, address_text, standing_by, stands, text_in, text_or_none}
+use Rattle.var_expr.specs.Stands.{Around, IsWorth, around, around_address, around_register, address_text, standing_by, stands, text_in, text_or_none}
 use Rattle.var_expr.specs.declared.holder.Holder.{Holder}
 use Rattle.var_expr.specs.declared.holder.Holder.TheVariants.{Memory, Register}
 use Rattle.var_expr.proofs.Spelled.{AreHex, number_first}
+use Rattle.var_expr.proofs.Worth.{divides, undivided_worth}
 
 -- a text without a fault that isn't too long
 pub record IsSpelled (names : Names) (text : List ℕ) : Type 0 where
   pub faultless : first_fault (length text) (tokens_of names text) ≡ None
   pub short : nat_lt 256 (length text) ≡ false
+  pub undivided : divides (read_tree (tokens_of names text)) ≡ false
 
 digit_is : (k : ℕ) → k < 16 → is_digit_of 16 (slice_index lower_digits k) ≡ true
 digit_is zero h = refl
@@ -95,45 +98,51 @@ abbrev ReadsMemory : Around → Type 0
 ReadsMemory a = (names : Names) (address : ℕ) → IsSpelled names (around (address_text address) a)
 
 int_reads : ReadsMemory (record { front = codes "({int} "; behind = codes ")" })
-unfolding encode_with tokens_from after_blanks run_length wanting behind
+unfolding encode_with tokens_from after_blanks run_length wanting behind joined expression operand
 int_reads names n = record {
   faultless = ap (λ (ts : List Spot). first_fault 18 (spot Open 0 ∷ spot (Cast Int) 1 ∷ ts)) (number_first names 18 14 (first_of n) (others_of n) 41 [] (are_hex n) refl refl);
   short = refl;
+  undivided = ap (λ (ts : List Spot). divides (read_tree (spot Open 0 ∷ spot (Cast Int) 1 ∷ ts))) (number_first names 18 14 (first_of n) (others_of n) 41 [] (are_hex n) refl refl);
 }
 
 uint_reads : ReadsMemory (record { front = codes "({unsigned int} "; behind = codes ")" })
-unfolding encode_with tokens_from after_blanks run_length wanting behind
+unfolding encode_with tokens_from after_blanks run_length wanting behind joined expression operand
 uint_reads names n = record {
   faultless = ap (λ (ts : List Spot). first_fault 27 (spot Open 0 ∷ spot (Cast UnsignedInt) 1 ∷ ts)) (number_first names 27 23 (first_of n) (others_of n) 41 [] (are_hex n) refl refl);
   short = refl;
+  undivided = ap (λ (ts : List Spot). divides (read_tree (spot Open 0 ∷ spot (Cast UnsignedInt) 1 ∷ ts))) (number_first names 27 23 (first_of n) (others_of n) 41 [] (are_hex n) refl refl);
 }
 
 short_reads : ReadsMemory (record { front = codes "({short} "; behind = codes ")" })
-unfolding encode_with tokens_from after_blanks run_length wanting behind
+unfolding encode_with tokens_from after_blanks run_length wanting behind joined expression operand
 short_reads names n = record {
   faultless = ap (λ (ts : List Spot). first_fault 20 (spot Open 0 ∷ spot (Cast Short) 1 ∷ ts)) (number_first names 20 16 (first_of n) (others_of n) 41 [] (are_hex n) refl refl);
   short = refl;
+  undivided = ap (λ (ts : List Spot). divides (read_tree (spot Open 0 ∷ spot (Cast Short) 1 ∷ ts))) (number_first names 20 16 (first_of n) (others_of n) 41 [] (are_hex n) refl refl);
 }
 
 ushort_reads : ReadsMemory (record { front = codes "({unsigned short} "; behind = codes ")" })
-unfolding encode_with tokens_from after_blanks run_length wanting behind
+unfolding encode_with tokens_from after_blanks run_length wanting behind joined expression operand
 ushort_reads names n = record {
   faultless = ap (λ (ts : List Spot). first_fault 29 (spot Open 0 ∷ spot (Cast UnsignedShort) 1 ∷ ts)) (number_first names 29 25 (first_of n) (others_of n) 41 [] (are_hex n) refl refl);
   short = refl;
+  undivided = ap (λ (ts : List Spot). divides (read_tree (spot Open 0 ∷ spot (Cast UnsignedShort) 1 ∷ ts))) (number_first names 29 25 (first_of n) (others_of n) 41 [] (are_hex n) refl refl);
 }
 
 char_reads : ReadsMemory (record { front = codes "({char} "; behind = codes ")" })
-unfolding encode_with tokens_from after_blanks run_length wanting behind
+unfolding encode_with tokens_from after_blanks run_length wanting behind joined expression operand
 char_reads names n = record {
   faultless = ap (λ (ts : List Spot). first_fault 19 (spot Open 0 ∷ spot (Cast Char) 1 ∷ ts)) (number_first names 19 15 (first_of n) (others_of n) 41 [] (are_hex n) refl refl);
   short = refl;
+  undivided = ap (λ (ts : List Spot). divides (read_tree (spot Open 0 ∷ spot (Cast Char) 1 ∷ ts))) (number_first names 19 15 (first_of n) (others_of n) 41 [] (are_hex n) refl refl);
 }
 
 signed_char_reads : ReadsMemory (record { front = codes "(({char} "; behind = codes " ^ 128) - 128)" })
-unfolding encode_with tokens_from after_blanks run_length wanting behind number_behind
+unfolding encode_with tokens_from after_blanks run_length wanting behind number_behind joined expression operand
 signed_char_reads names n = record {
   faultless = ap (λ (ts : List Spot). first_fault 33 (spot Open 0 ∷ spot Open 1 ∷ spot (Cast Char) 2 ∷ ts)) (number_first names 33 28 (first_of n) (others_of n) 32 (codes "^ 128) - 128)") (are_hex n) refl refl);
   short = refl;
+  undivided = ap (λ (ts : List Spot). divides (read_tree (spot Open 0 ∷ spot Open 1 ∷ spot (Cast Char) 2 ∷ ts))) (number_first names 33 28 (first_of n) (others_of n) 32 (codes "^ 128) - 128)") (are_hex n) refl refl);
 }
 
 by_choice : (P : Around → Type 0) (b : Bool) (x a : Around) (o : Option Around) → (if b then Some x else o) ≡ Some a → P x → (o ≡ Some a → P a) → P a
@@ -154,84 +163,84 @@ ReadsRegister a = (names : Names) (n : ℕ) → n < 32 → IsSpelled names (arou
 
 signed_more : (names : Names) (m : ℕ) → m < 16
     → IsSpelled names (around (decimal (suc (suc (suc (suc (suc (suc (suc (suc (suc (suc (suc (suc (suc (suc (suc (suc m))))))))))))))))) (record { front = codes "($x"; behind = codes ")" }))
-unfolding digits tokens_from after_blanks run_length wanting behind
-signed_more names zero h = record { faultless = refl; short = refl }
-signed_more names (suc zero) h = record { faultless = refl; short = refl }
-signed_more names (suc (suc zero)) h = record { faultless = refl; short = refl }
-signed_more names (suc (suc (suc zero))) h = record { faultless = refl; short = refl }
-signed_more names (suc (suc (suc (suc zero)))) h = record { faultless = refl; short = refl }
-signed_more names (suc (suc (suc (suc (suc zero))))) h = record { faultless = refl; short = refl }
-signed_more names (suc (suc (suc (suc (suc (suc zero)))))) h = record { faultless = refl; short = refl }
-signed_more names (suc (suc (suc (suc (suc (suc (suc zero))))))) h = record { faultless = refl; short = refl }
-signed_more names (suc (suc (suc (suc (suc (suc (suc (suc zero)))))))) h = record { faultless = refl; short = refl }
-signed_more names (suc (suc (suc (suc (suc (suc (suc (suc (suc zero))))))))) h = record { faultless = refl; short = refl }
-signed_more names (suc (suc (suc (suc (suc (suc (suc (suc (suc (suc zero)))))))))) h = record { faultless = refl; short = refl }
-signed_more names (suc (suc (suc (suc (suc (suc (suc (suc (suc (suc (suc zero))))))))))) h = record { faultless = refl; short = refl }
-signed_more names (suc (suc (suc (suc (suc (suc (suc (suc (suc (suc (suc (suc zero)))))))))))) h = record { faultless = refl; short = refl }
-signed_more names (suc (suc (suc (suc (suc (suc (suc (suc (suc (suc (suc (suc (suc zero))))))))))))) h = record { faultless = refl; short = refl }
-signed_more names (suc (suc (suc (suc (suc (suc (suc (suc (suc (suc (suc (suc (suc (suc zero)))))))))))))) h = record { faultless = refl; short = refl }
-signed_more names (suc (suc (suc (suc (suc (suc (suc (suc (suc (suc (suc (suc (suc (suc (suc zero))))))))))))))) h = record { faultless = refl; short = refl }
+unfolding digits tokens_from after_blanks run_length wanting behind joined expression operand
+signed_more names zero h = record { faultless = refl; short = refl; undivided = refl }
+signed_more names (suc zero) h = record { faultless = refl; short = refl; undivided = refl }
+signed_more names (suc (suc zero)) h = record { faultless = refl; short = refl; undivided = refl }
+signed_more names (suc (suc (suc zero))) h = record { faultless = refl; short = refl; undivided = refl }
+signed_more names (suc (suc (suc (suc zero)))) h = record { faultless = refl; short = refl; undivided = refl }
+signed_more names (suc (suc (suc (suc (suc zero))))) h = record { faultless = refl; short = refl; undivided = refl }
+signed_more names (suc (suc (suc (suc (suc (suc zero)))))) h = record { faultless = refl; short = refl; undivided = refl }
+signed_more names (suc (suc (suc (suc (suc (suc (suc zero))))))) h = record { faultless = refl; short = refl; undivided = refl }
+signed_more names (suc (suc (suc (suc (suc (suc (suc (suc zero)))))))) h = record { faultless = refl; short = refl; undivided = refl }
+signed_more names (suc (suc (suc (suc (suc (suc (suc (suc (suc zero))))))))) h = record { faultless = refl; short = refl; undivided = refl }
+signed_more names (suc (suc (suc (suc (suc (suc (suc (suc (suc (suc zero)))))))))) h = record { faultless = refl; short = refl; undivided = refl }
+signed_more names (suc (suc (suc (suc (suc (suc (suc (suc (suc (suc (suc zero))))))))))) h = record { faultless = refl; short = refl; undivided = refl }
+signed_more names (suc (suc (suc (suc (suc (suc (suc (suc (suc (suc (suc (suc zero)))))))))))) h = record { faultless = refl; short = refl; undivided = refl }
+signed_more names (suc (suc (suc (suc (suc (suc (suc (suc (suc (suc (suc (suc (suc zero))))))))))))) h = record { faultless = refl; short = refl; undivided = refl }
+signed_more names (suc (suc (suc (suc (suc (suc (suc (suc (suc (suc (suc (suc (suc (suc zero)))))))))))))) h = record { faultless = refl; short = refl; undivided = refl }
+signed_more names (suc (suc (suc (suc (suc (suc (suc (suc (suc (suc (suc (suc (suc (suc (suc zero))))))))))))))) h = record { faultless = refl; short = refl; undivided = refl }
 signed_more names (suc (suc (suc (suc (suc (suc (suc (suc (suc (suc (suc (suc (suc (suc (suc (suc m)))))))))))))))) h = absurd (omega arith)
 
 signed_fits : ReadsRegister (record { front = codes "($x"; behind = codes ")" })
-unfolding digits tokens_from after_blanks run_length wanting behind
-signed_fits names zero h = record { faultless = refl; short = refl }
-signed_fits names (suc zero) h = record { faultless = refl; short = refl }
-signed_fits names (suc (suc zero)) h = record { faultless = refl; short = refl }
-signed_fits names (suc (suc (suc zero))) h = record { faultless = refl; short = refl }
-signed_fits names (suc (suc (suc (suc zero)))) h = record { faultless = refl; short = refl }
-signed_fits names (suc (suc (suc (suc (suc zero))))) h = record { faultless = refl; short = refl }
-signed_fits names (suc (suc (suc (suc (suc (suc zero)))))) h = record { faultless = refl; short = refl }
-signed_fits names (suc (suc (suc (suc (suc (suc (suc zero))))))) h = record { faultless = refl; short = refl }
-signed_fits names (suc (suc (suc (suc (suc (suc (suc (suc zero)))))))) h = record { faultless = refl; short = refl }
-signed_fits names (suc (suc (suc (suc (suc (suc (suc (suc (suc zero))))))))) h = record { faultless = refl; short = refl }
-signed_fits names (suc (suc (suc (suc (suc (suc (suc (suc (suc (suc zero)))))))))) h = record { faultless = refl; short = refl }
-signed_fits names (suc (suc (suc (suc (suc (suc (suc (suc (suc (suc (suc zero))))))))))) h = record { faultless = refl; short = refl }
-signed_fits names (suc (suc (suc (suc (suc (suc (suc (suc (suc (suc (suc (suc zero)))))))))))) h = record { faultless = refl; short = refl }
-signed_fits names (suc (suc (suc (suc (suc (suc (suc (suc (suc (suc (suc (suc (suc zero))))))))))))) h = record { faultless = refl; short = refl }
-signed_fits names (suc (suc (suc (suc (suc (suc (suc (suc (suc (suc (suc (suc (suc (suc zero)))))))))))))) h = record { faultless = refl; short = refl }
-signed_fits names (suc (suc (suc (suc (suc (suc (suc (suc (suc (suc (suc (suc (suc (suc (suc zero))))))))))))))) h = record { faultless = refl; short = refl }
+unfolding digits tokens_from after_blanks run_length wanting behind joined expression operand
+signed_fits names zero h = record { faultless = refl; short = refl; undivided = refl }
+signed_fits names (suc zero) h = record { faultless = refl; short = refl; undivided = refl }
+signed_fits names (suc (suc zero)) h = record { faultless = refl; short = refl; undivided = refl }
+signed_fits names (suc (suc (suc zero))) h = record { faultless = refl; short = refl; undivided = refl }
+signed_fits names (suc (suc (suc (suc zero)))) h = record { faultless = refl; short = refl; undivided = refl }
+signed_fits names (suc (suc (suc (suc (suc zero))))) h = record { faultless = refl; short = refl; undivided = refl }
+signed_fits names (suc (suc (suc (suc (suc (suc zero)))))) h = record { faultless = refl; short = refl; undivided = refl }
+signed_fits names (suc (suc (suc (suc (suc (suc (suc zero))))))) h = record { faultless = refl; short = refl; undivided = refl }
+signed_fits names (suc (suc (suc (suc (suc (suc (suc (suc zero)))))))) h = record { faultless = refl; short = refl; undivided = refl }
+signed_fits names (suc (suc (suc (suc (suc (suc (suc (suc (suc zero))))))))) h = record { faultless = refl; short = refl; undivided = refl }
+signed_fits names (suc (suc (suc (suc (suc (suc (suc (suc (suc (suc zero)))))))))) h = record { faultless = refl; short = refl; undivided = refl }
+signed_fits names (suc (suc (suc (suc (suc (suc (suc (suc (suc (suc (suc zero))))))))))) h = record { faultless = refl; short = refl; undivided = refl }
+signed_fits names (suc (suc (suc (suc (suc (suc (suc (suc (suc (suc (suc (suc zero)))))))))))) h = record { faultless = refl; short = refl; undivided = refl }
+signed_fits names (suc (suc (suc (suc (suc (suc (suc (suc (suc (suc (suc (suc (suc zero))))))))))))) h = record { faultless = refl; short = refl; undivided = refl }
+signed_fits names (suc (suc (suc (suc (suc (suc (suc (suc (suc (suc (suc (suc (suc (suc zero)))))))))))))) h = record { faultless = refl; short = refl; undivided = refl }
+signed_fits names (suc (suc (suc (suc (suc (suc (suc (suc (suc (suc (suc (suc (suc (suc (suc zero))))))))))))))) h = record { faultless = refl; short = refl; undivided = refl }
 signed_fits names (suc (suc (suc (suc (suc (suc (suc (suc (suc (suc (suc (suc (suc (suc (suc (suc m)))))))))))))))) h = signed_more names m (omega arith)
 
 whole_more : (names : Names) (m : ℕ) → m < 16
     → IsSpelled names (around (decimal (suc (suc (suc (suc (suc (suc (suc (suc (suc (suc (suc (suc (suc (suc (suc (suc m))))))))))))))))) (record { front = codes "(($x"; behind = codes " ^ 4294967295) ^ 4294967295)" }))
-unfolding digits tokens_from after_blanks run_length wanting behind number_behind
-whole_more names zero h = record { faultless = refl; short = refl }
-whole_more names (suc zero) h = record { faultless = refl; short = refl }
-whole_more names (suc (suc zero)) h = record { faultless = refl; short = refl }
-whole_more names (suc (suc (suc zero))) h = record { faultless = refl; short = refl }
-whole_more names (suc (suc (suc (suc zero)))) h = record { faultless = refl; short = refl }
-whole_more names (suc (suc (suc (suc (suc zero))))) h = record { faultless = refl; short = refl }
-whole_more names (suc (suc (suc (suc (suc (suc zero)))))) h = record { faultless = refl; short = refl }
-whole_more names (suc (suc (suc (suc (suc (suc (suc zero))))))) h = record { faultless = refl; short = refl }
-whole_more names (suc (suc (suc (suc (suc (suc (suc (suc zero)))))))) h = record { faultless = refl; short = refl }
-whole_more names (suc (suc (suc (suc (suc (suc (suc (suc (suc zero))))))))) h = record { faultless = refl; short = refl }
-whole_more names (suc (suc (suc (suc (suc (suc (suc (suc (suc (suc zero)))))))))) h = record { faultless = refl; short = refl }
-whole_more names (suc (suc (suc (suc (suc (suc (suc (suc (suc (suc (suc zero))))))))))) h = record { faultless = refl; short = refl }
-whole_more names (suc (suc (suc (suc (suc (suc (suc (suc (suc (suc (suc (suc zero)))))))))))) h = record { faultless = refl; short = refl }
-whole_more names (suc (suc (suc (suc (suc (suc (suc (suc (suc (suc (suc (suc (suc zero))))))))))))) h = record { faultless = refl; short = refl }
-whole_more names (suc (suc (suc (suc (suc (suc (suc (suc (suc (suc (suc (suc (suc (suc zero)))))))))))))) h = record { faultless = refl; short = refl }
-whole_more names (suc (suc (suc (suc (suc (suc (suc (suc (suc (suc (suc (suc (suc (suc (suc zero))))))))))))))) h = record { faultless = refl; short = refl }
+unfolding digits tokens_from after_blanks run_length wanting behind number_behind joined expression operand
+whole_more names zero h = record { faultless = refl; short = refl; undivided = refl }
+whole_more names (suc zero) h = record { faultless = refl; short = refl; undivided = refl }
+whole_more names (suc (suc zero)) h = record { faultless = refl; short = refl; undivided = refl }
+whole_more names (suc (suc (suc zero))) h = record { faultless = refl; short = refl; undivided = refl }
+whole_more names (suc (suc (suc (suc zero)))) h = record { faultless = refl; short = refl; undivided = refl }
+whole_more names (suc (suc (suc (suc (suc zero))))) h = record { faultless = refl; short = refl; undivided = refl }
+whole_more names (suc (suc (suc (suc (suc (suc zero)))))) h = record { faultless = refl; short = refl; undivided = refl }
+whole_more names (suc (suc (suc (suc (suc (suc (suc zero))))))) h = record { faultless = refl; short = refl; undivided = refl }
+whole_more names (suc (suc (suc (suc (suc (suc (suc (suc zero)))))))) h = record { faultless = refl; short = refl; undivided = refl }
+whole_more names (suc (suc (suc (suc (suc (suc (suc (suc (suc zero))))))))) h = record { faultless = refl; short = refl; undivided = refl }
+whole_more names (suc (suc (suc (suc (suc (suc (suc (suc (suc (suc zero)))))))))) h = record { faultless = refl; short = refl; undivided = refl }
+whole_more names (suc (suc (suc (suc (suc (suc (suc (suc (suc (suc (suc zero))))))))))) h = record { faultless = refl; short = refl; undivided = refl }
+whole_more names (suc (suc (suc (suc (suc (suc (suc (suc (suc (suc (suc (suc zero)))))))))))) h = record { faultless = refl; short = refl; undivided = refl }
+whole_more names (suc (suc (suc (suc (suc (suc (suc (suc (suc (suc (suc (suc (suc zero))))))))))))) h = record { faultless = refl; short = refl; undivided = refl }
+whole_more names (suc (suc (suc (suc (suc (suc (suc (suc (suc (suc (suc (suc (suc (suc zero)))))))))))))) h = record { faultless = refl; short = refl; undivided = refl }
+whole_more names (suc (suc (suc (suc (suc (suc (suc (suc (suc (suc (suc (suc (suc (suc (suc zero))))))))))))))) h = record { faultless = refl; short = refl; undivided = refl }
 whole_more names (suc (suc (suc (suc (suc (suc (suc (suc (suc (suc (suc (suc (suc (suc (suc (suc m)))))))))))))))) h = absurd (omega arith)
 
 whole_fits : ReadsRegister (record { front = codes "(($x"; behind = codes " ^ 4294967295) ^ 4294967295)" })
-unfolding digits tokens_from after_blanks run_length wanting behind number_behind
-whole_fits names zero h = record { faultless = refl; short = refl }
-whole_fits names (suc zero) h = record { faultless = refl; short = refl }
-whole_fits names (suc (suc zero)) h = record { faultless = refl; short = refl }
-whole_fits names (suc (suc (suc zero))) h = record { faultless = refl; short = refl }
-whole_fits names (suc (suc (suc (suc zero)))) h = record { faultless = refl; short = refl }
-whole_fits names (suc (suc (suc (suc (suc zero))))) h = record { faultless = refl; short = refl }
-whole_fits names (suc (suc (suc (suc (suc (suc zero)))))) h = record { faultless = refl; short = refl }
-whole_fits names (suc (suc (suc (suc (suc (suc (suc zero))))))) h = record { faultless = refl; short = refl }
-whole_fits names (suc (suc (suc (suc (suc (suc (suc (suc zero)))))))) h = record { faultless = refl; short = refl }
-whole_fits names (suc (suc (suc (suc (suc (suc (suc (suc (suc zero))))))))) h = record { faultless = refl; short = refl }
-whole_fits names (suc (suc (suc (suc (suc (suc (suc (suc (suc (suc zero)))))))))) h = record { faultless = refl; short = refl }
-whole_fits names (suc (suc (suc (suc (suc (suc (suc (suc (suc (suc (suc zero))))))))))) h = record { faultless = refl; short = refl }
-whole_fits names (suc (suc (suc (suc (suc (suc (suc (suc (suc (suc (suc (suc zero)))))))))))) h = record { faultless = refl; short = refl }
-whole_fits names (suc (suc (suc (suc (suc (suc (suc (suc (suc (suc (suc (suc (suc zero))))))))))))) h = record { faultless = refl; short = refl }
-whole_fits names (suc (suc (suc (suc (suc (suc (suc (suc (suc (suc (suc (suc (suc (suc zero)))))))))))))) h = record { faultless = refl; short = refl }
-whole_fits names (suc (suc (suc (suc (suc (suc (suc (suc (suc (suc (suc (suc (suc (suc (suc zero))))))))))))))) h = record { faultless = refl; short = refl }
+unfolding digits tokens_from after_blanks run_length wanting behind number_behind joined expression operand
+whole_fits names zero h = record { faultless = refl; short = refl; undivided = refl }
+whole_fits names (suc zero) h = record { faultless = refl; short = refl; undivided = refl }
+whole_fits names (suc (suc zero)) h = record { faultless = refl; short = refl; undivided = refl }
+whole_fits names (suc (suc (suc zero))) h = record { faultless = refl; short = refl; undivided = refl }
+whole_fits names (suc (suc (suc (suc zero)))) h = record { faultless = refl; short = refl; undivided = refl }
+whole_fits names (suc (suc (suc (suc (suc zero))))) h = record { faultless = refl; short = refl; undivided = refl }
+whole_fits names (suc (suc (suc (suc (suc (suc zero)))))) h = record { faultless = refl; short = refl; undivided = refl }
+whole_fits names (suc (suc (suc (suc (suc (suc (suc zero))))))) h = record { faultless = refl; short = refl; undivided = refl }
+whole_fits names (suc (suc (suc (suc (suc (suc (suc (suc zero)))))))) h = record { faultless = refl; short = refl; undivided = refl }
+whole_fits names (suc (suc (suc (suc (suc (suc (suc (suc (suc zero))))))))) h = record { faultless = refl; short = refl; undivided = refl }
+whole_fits names (suc (suc (suc (suc (suc (suc (suc (suc (suc (suc zero)))))))))) h = record { faultless = refl; short = refl; undivided = refl }
+whole_fits names (suc (suc (suc (suc (suc (suc (suc (suc (suc (suc (suc zero))))))))))) h = record { faultless = refl; short = refl; undivided = refl }
+whole_fits names (suc (suc (suc (suc (suc (suc (suc (suc (suc (suc (suc (suc zero)))))))))))) h = record { faultless = refl; short = refl; undivided = refl }
+whole_fits names (suc (suc (suc (suc (suc (suc (suc (suc (suc (suc (suc (suc (suc zero))))))))))))) h = record { faultless = refl; short = refl; undivided = refl }
+whole_fits names (suc (suc (suc (suc (suc (suc (suc (suc (suc (suc (suc (suc (suc (suc zero)))))))))))))) h = record { faultless = refl; short = refl; undivided = refl }
+whole_fits names (suc (suc (suc (suc (suc (suc (suc (suc (suc (suc (suc (suc (suc (suc (suc zero))))))))))))))) h = record { faultless = refl; short = refl; undivided = refl }
 whole_fits names (suc (suc (suc (suc (suc (suc (suc (suc (suc (suc (suc (suc (suc (suc (suc (suc m)))))))))))))))) h = whole_more names m (omega arith)
 
 register_reads : (k : Kind) (a : Around) → around_register k ≡ Some a → ReadsRegister a
@@ -274,6 +283,14 @@ standing_spelled names k text (Some h) is e = holder_spelled names k text h (is 
 spelled_parsed : (names : Names) (text : List ℕ) → IsSpelled names text → (x : Term) × (parsed names text ≡ Ok x)
 unfolding parsed
 spelled_parsed names text s = (read_tree (tokens_of names text), rw (s.short, s.faultless) refl)
+
+pub stands_worth : (names : Names) (registers : ℕ → ℕ) (bytes : ℕ → Option ℕ) (cfa : Option ℕ) (v : Variable) (text : List ℕ) (x : Term) → stands registers cfa v ≡ Some text → parsed names text ≡ Ok x → IsWorth (value_of registers bytes x)
+unfolding parsed
+stands_worth names registers bytes cfa v text x e read =
+    let s = standing_spelled names v.kind text (holder_of registers cfa v) (held_is registers cfa v.base v.place) e in
+    let tree : Ok (read_tree (tokens_of names text)) ≡ Ok x = sym (rw (s.short, s.faultless) refl) ∙ read in
+    let same : read_tree (tokens_of names text) ≡ x = cc in
+    subst (λ (t : Term). IsWorth (value_of registers bytes t)) same (undivided_worth registers bytes (read_tree (tokens_of names text)) s.undivided)
 
 pub stands_parsed : (names : Names) (registers : ℕ → ℕ) (cfa : Option ℕ) (v : Variable) (text : List ℕ) → stands registers cfa v ≡ Some text → (x : Term) × (parsed names text ≡ Ok x)
 stands_parsed names registers cfa v text e = spelled_parsed names text (standing_spelled names v.kind text (holder_of registers cfa v) (held_is registers cfa v.base v.place) e)

@@ -1,4 +1,4 @@
--- A text with each name of a variable replaced by the text that stands for the variable.
+-- A text with each name of a variable replaced by the text that stands for the variable. This project's own.
 use Rattle.std.specs.Prelude.{ℕ, ◌+◌, ◌-◌, ◌^◌, ◌==◌, nat_lt, Bool, true, false, List, [], ◌∷◌, ◌++◌, length, take, drop, find, fold, Option, None, if◌then◌else◌}
 use Rattle.std.specs.List.{filter_map}
 use Rattle.std.specs.Option.{option_map, option_and_then}

@@ -1,4 +1,4 @@
--- The expression that a text with its names replaced spells.
+-- The expression that a text with its names replaced spells. This project's own.
 use Rattle.std.specs.Prelude.{◌≡◌, ℕ, ◌||◌, nat_lt, List, length, Option, Result, Ok, Err, if◌then◌else◌}
 use Rattle.elf_symbols.specs.Names.{Names}
 use Rattle.cond_expr.specs.Condition.{tree_of}

@@ -1,4 +1,4 @@
--- Which place of the given text one of the new text counts as.
+-- Which place of the given text one of the new text counts as. This project's own.
 use Rattle.std.specs.Prelude.{ℕ, ◌+◌, ◌-◌, nat_le, nat_lt, min, List, find, reverse, Option, None, Some, if◌then◌else◌}
 use Rattle.var_expr.specs.declared.expanded.Expanded.{Expanded}
 use Rattle.var_expr.specs.declared.expanded.Replaced.{Replaced}

@@ -1,9 +1,11 @@
--- The text that stands for a variable in an expression.
+-- The text that stands for a variable in an expression. This project's own.
 use Rattle.std.specs.Prelude.{ℕ, ◌==◌, List, ◌++◌, Option, None, Some, codes, decimal, if◌then◌else◌}
 use Rattle.std.specs.Global.{Vec}
 use Rattle.std.specs.Int.{to_be_bytes, w32}
 use Rattle.std.specs.Option.{option_map}
 use Rattle.hex.specs.Hex.{encode_lower}
+use Rattle.cond_expr.specs.declared.evaluating.Value.{Value}
+use Rattle.cond_expr.specs.declared.evaluating.Value.TheVariants as worth
 use Rattle.debug_info.specs.Scope.{Variable}
 use Rattle.debug_info.specs.declared.entry.Kind.{Kind}
 use Rattle.debug_info.specs.declared.entry.Kind.TheVariants as kind
@@ -92,6 +94,12 @@ text_in not_read = None
 -- the text that stands for a variable
 abbrev pub stands : (ℕ → ℕ) → Option ℕ → Variable → Option (List ℕ)
 stands registers cfa v = text_in (standing_of registers cfa v)
+
+-- a value is a word, or the address of a byte that can't be read
+abbrev pub IsWorth : Value → Type 0
+IsWorth (worth.Word n unsigned) = Unit {0}
+IsWorth (worth.Unread addr) = Unit {0}
+IsWorth worth.DivZero = ⊥
 
 -- how the code keeps them
 abbrev pub around_shown : code.Around → Around

@@ -5,9 +5,10 @@ ghost use Rattle.std.specs.Option.{option_map};
 ghost use Rattle.elf_symbols.specs.Names.{Names};
 ghost use Rattle.cond_expr.specs.Reader.{parsed};
 ghost use Rattle.cond_expr.specs.Term.{Term};
+ghost use Rattle.cond_expr.specs.Value.{value_of};
 ghost use Rattle.debug_info.specs.Scope.{Variable};
 ghost use Rattle.debug_info.specs.Shown.{shown_variable};
-ghost use Rattle.var_expr.specs.Stands.{address_text, around_address, around_register, around_shown, bytes_of, memory_text, register_text, standing_of, standing_shown, stands};
+ghost use Rattle.var_expr.specs.Stands.{IsWorth, address_text, around_address, around_register, around_shown, bytes_of, memory_text, register_text, standing_of, standing_shown, stands};
 
 use crate::holder::{Holder, holder_of};
 use dbg_traits::{NoMemory, View};
@@ -135,7 +136,9 @@ pub fn stands<V: View>(
     }
 }
 
-/// A text that stands for a variable is an expression, whatever symbols there are.
+/// A text that stands for a variable is an expression, whatever symbols there are, and its value is a word or an address
+/// that can't be read: it divides nothing.
 pub fn stands_is_parsed()
-    ensures { (symbols : Names) (registers : ℕ → ℕ) (cfa : Option ℕ) (v : Variable) (text : List ℕ) → stands registers cfa v ≡ Some text → (x : Term) × (parsed symbols text ≡ Ok x) }
+    ensures parsed { (symbols : Names) (registers : ℕ → ℕ) (cfa : Option ℕ) (v : Variable) (text : List ℕ) → stands registers cfa v ≡ Some text → (x : Term) × (parsed symbols text ≡ Ok x) }
+    ensures worth { (symbols : Names) (registers : ℕ → ℕ) (bytes : ℕ → Option ℕ) (cfa : Option ℕ) (v : Variable) (text : List ℕ) (x : Term) → stands registers cfa v ≡ Some text → parsed symbols text ≡ Ok x → IsWorth (value_of registers bytes x) }
 {}

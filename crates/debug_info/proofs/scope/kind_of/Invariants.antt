@@ -1,9 +1,10 @@
 use Rattle.std.proofs.Common.{◌≡◌}
 use Rattle.debug_info.specs.Scope.{kind_of}
+use Rattle.debug_info.specs.Marks.{entries_in}
 use Rattle.debug_info.proofs.scope.kind_of.Given as goal
 
 abbrev pub invariant-links : goal.invariant-links
-invariant-links l = kind_of 16 l.entries l.fn.entry ≡ kind_of l.links l.entries l.entry
+invariant-links l = kind_of 16 (entries_in l.unit) l.fn.entry ≡ kind_of l.links (entries_in l.unit) l.entry
 
 abbrev pub decreases-links : goal.decreases-links
 decreases-links l = l.links

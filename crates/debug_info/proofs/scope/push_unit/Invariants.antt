@@ -1,7 +1,9 @@
 use Rattle.std.proofs.Common.{◌≡◌, ◌++◌, filter, map, take, false}
-use Rattle.debug_info.specs.Scope.{is_unit_variable, variable_of}
+use Rattle.debug_info.specs.Marks.{all_reread, entries_in, is_outer}
+use Rattle.debug_info.specs.Scope.{is_fixed, variable_of}
 use Rattle.debug_info.specs.Shown.{seen_texts, shown_variables}
 use Rattle.debug_info.proofs.scope.push_unit.Given as goal
 
-abbrev pub invariant-loop-entry : goal.invariant-loop-entry
-invariant-loop-entry l = shown_variables l.variables.items ≡ shown_variables l.fn.variables.items ++ map (variable_of (seen_texts l.texts) l.entries l.base false) (filter is_unit_variable (take l.entry-index l.entries))
+abbrev pub invariant-loop-mark : goal.invariant-loop-mark
+invariant-loop-mark l = shown_variables l.variables.items ≡ shown_variables l.fn.variables.items ++ map (variable_of (seen_texts l.texts) (entries_in l.unit) l.base false)
+    (filter (λ e. is_fixed e.place) (all_reread l.unit (filter is_outer (take l.mark-index l.unit.marks.now))))

@@ -1,29 +1,28 @@
-use Rattle.std.proofs.Common.{◌≡◌, ◌<◌, ◌++◌, ℕ, List, append-nil, ap, filter, map, true, false, arith, sym, ◌∙◌}
-use Rattle.debug_info.specs.Scope.{Variable, by_depth, is_unit_variable, own_entries, variable_of, variables_in}
+use Rattle.std.proofs.Common.{◌≡◌, ◌+◌, ◌∷◌, ℕ, List, None, Some, arith, ap, drop, suc, sym, subst, ◌∙◌}
+use Rattle.std.specs.Prelude.{IfOk}
+use Rattle.debug_info.specs.Marks.{entries_in}
+use Rattle.debug_info.specs.Scope.{variables_in}
 use Rattle.debug_info.specs.Shown.{seen_texts, shown_variables}
 use Rattle.debug_info.specs.declared.entry.Entry.{Entry}
-use Rattle.debug_info.proofs.Levels.{level_step}
+use Rattle.debug_info.specs.declared.mark.Mark.{Mark}
+use Rattle.debug_info.proofs.Walked.{split_at}
 use Rattle.debug_info.proofs.scope.variables_in.Goals as goal
 
-pub returns : goal.returns
-returns c =
-    let texts = seen_texts c.args.texts.now in
-    let entries = c.args.entries.now in
-    let f = variable_of texts entries c.in-Some.function.base true in
-    let old = shown_variables c.levels.variables.items in
-    let own = c.in_ok-own.own.items in
-    let none : c.levels.level ≡ 0 = (let h = c.levels-test.false in omega arith) in
-    let whole : old ≡ map f (by_depth 64 (own_entries c.args.pc c.in-Some.function.level c.in-Some.behind.now)) =
-    sym (append-nil old)
-    ∙ ap (λ (n : ℕ). old ++ map f (by_depth n own)) (sym none)
-    ∙ sym c.levels.invariant
-    ∙ ap (λ (es : List Entry). map f (by_depth 64 es)) c.in_ok-own.ensures in
-    c.in_ok-push_unit.ensures
-    ∙ ap (λ (vs : List Variable). vs ++ map (variable_of texts entries c.in-Some.function.base false) (filter is_unit_variable entries)) whole
-    ∙ ap (λ (es : List Entry). variables_in texts c.args.pc entries es) (sym c.in-Some.ensures)
+pub returns-in-Some-entry : goal.returns-in-Some-entry
+returns-in-Some-entry c =
+    let u = c.args.unit.now in
+    let es = entries_in u in
+    let s = split_at u es c.args.number c.in-Some.mark c.in-Some.behind.now c.requires.unit.again (ap (λ (ms : List Mark). drop c.args.number ms) (sym c.requires.unit.marks) ∙ c.in-Some.ensures.0) in
+    let here : Some s.entry ≡ Some c.in-Some-entry.function = sym s.again ∙ sym c.entry.ensures ∙ c.in-Some-entry.is in
+    let is : s.entry ≡ c.in-Some-entry.function = cc in
+    let next : suc c.args.number ≡ c.args.number + 1 = omega arith in
+    let rest : drop c.args.number es ≡ c.in-Some-entry.function ∷ drop (c.args.number + 1) es = s.same ∙ ap (λ (e : Entry). e ∷ drop (suc c.args.number) es) is ∙ ap (λ (n : ℕ). c.in-Some-entry.function ∷ drop n es) next in
+    subst (λ (xs : List Entry). IfOk c.variables_of.result (λ v. shown_variables v.items ≡ variables_in (seen_texts c.args.texts.now) c.args.pc es xs)) (sym rest) c.variables_of.ensures
 
-pub levels-preserved : goal.levels-preserved
-levels-preserved c =
-    let some : 0 < c.levels.level = (let h = c.levels-test.true in omega arith) in
-    level_step (variable_of (seen_texts c.args.texts.now) c.args.entries.now c.in-Some.function.base true) c.in_ok-own.own.items c.deref.result.now c.levels.level _
-    (shown_variables c.levels.variables.items) (shown_variables c.push_level.new.variables.items) some c.deref.ensures.value c.levels.invariant c.in_ok-push_level.ensures
+pub returns-in-None : goal.returns-in-None
+returns-in-None c =
+    let u = c.args.unit.now in
+    let es = entries_in u in
+    let s = split_at u es c.args.number c.in-Some.mark c.in-Some.behind.now c.requires.unit.again (ap (λ (ms : List Mark). drop c.args.number ms) (sym c.requires.unit.marks) ∙ c.in-Some.ensures.0) in
+    let here : Some s.entry ≡ None = sym s.again ∙ sym c.entry.ensures ∙ c.in-None.is in
+    absurd (cc)

@@ -1,14 +1,15 @@
 use Rattle.std.proofs.Common.{length, ◌-◌, ◌≤◌, ◌+◌}
 use Rattle.debug_info.specs.Entries.{entries_from}
+use Rattle.debug_info.proofs.Marking.{Marked}
 use Rattle.debug_info.proofs.Rising.{RisesTo}
-use Rattle.debug_info.proofs.Specified.{Reading}
-use Rattle.debug_info.proofs.entry.entries_at.Given as goal
+use Rattle.debug_info.proofs.mark.marks_at.Given as goal
 
 abbrev pub invariant-entries : goal.invariant-entries
 invariant-entries l =
     record {
-      read : Reading (entries_from (length l.source.info.now + 1) l.source.abbrevs.now l.source.strs.now l.source.info.now l.table.at l.unit 0 l.at) l.source.abbrevs.now l.source.strs.now l.source.info.now l.table.at l.unit l.entries.items l.level l.place;
-      rising : RisesTo 0 l.entries.items (l.place - l.unit);
+      read : Marked (entries_from (length l.source.info.now + 1) l.source.abbrevs.now l.source.strs.now l.source.info.now l.table.at l.unit 0 l.at) l.source.abbrevs.now l.source.strs.now
+          l.source.info.now l.table.at l.unit l.marks.items l.level l.place;
+      rising : RisesTo 0 l.marks.items (l.place - l.unit);
       level : l.level ≤ 64;
       unit : l.unit ≤ l.place;
     }

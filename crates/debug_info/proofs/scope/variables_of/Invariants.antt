@@ -1,0 +1,12 @@
+use Rattle.std.proofs.Common.{◌≡◌, ◌++◌, ◌+◌, drop, map, true}
+use Rattle.debug_info.specs.Marks.{entries_in}
+use Rattle.debug_info.specs.Scope.{by_depth, own_entries, variable_of}
+use Rattle.debug_info.specs.Shown.{seen_texts, shown_variables}
+use Rattle.debug_info.proofs.scope.variables_of.Given as goal
+
+abbrev pub invariant-levels : goal.invariant-levels
+invariant-levels l = map (variable_of (seen_texts l.texts) (entries_in l.unit) l.function.base true) (by_depth 64 (own_entries l.pc l.function.level (drop (l.number + 1) (entries_in l.unit))))
+    ≡ shown_variables l.variables.items ++ map (variable_of (seen_texts l.texts) (entries_in l.unit) l.function.base true) (by_depth l.level (own_entries l.pc l.function.level (drop (l.number + 1) (entries_in l.unit))))
+
+abbrev pub decreases-levels : goal.decreases-levels
+decreases-levels l = l.level
