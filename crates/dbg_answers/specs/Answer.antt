@@ -1,4 +1,4 @@
--- What an answer says and changes, as the model has it.
+-- What an answer says and changes, as the model has it. This project's own.
 use Rattle.std.specs.Prelude.{◌≡◌, Result, Ok, Err}
 use Rattle.dbg_model.specs.declared.reply.Refused.{Refused}
 use Rattle.dbg_model.specs.Outcome.{Outcome}

@@ -1,4 +1,4 @@
--- What a command may see of a debuggee.
+-- What a command may see of a debuggee. This project's own.
 use Rattle.dbg_model.specs.Sight.{Sight}
 use Rattle.dbg_answers.specs.declared.debuggee.Debuggee.{Debuggee}
 

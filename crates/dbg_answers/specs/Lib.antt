@@ -1,3 +1,4 @@
+-- The definitions of answers: what the code's values are in the model, what is read and picked, and how commands are sorted.
 pub mod Debuggee
 pub mod Live
 pub mod Answer

@@ -1,4 +1,4 @@
--- Live threads, and how they are shown.
+-- Live threads, and how they are shown. This project's own.
 use Rattle.std.specs.Prelude.{ℕ, Option, Some, None}
 use Rattle.std.specs.Option.{option_map}
 use Rattle.rv_exec.specs.Registers.{Registers}

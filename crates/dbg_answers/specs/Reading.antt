@@ -1,4 +1,4 @@
--- What is read of a line and of an expression.
+-- What is read of a line and of an expression. This project's own.
 use Rattle.std.specs.Prelude.{◌≡◌, ℕ, List, [], Result, Ok, Err}
 use Rattle.cond_expr.specs.declared.expr.Expr.{Expr}
 use Rattle.cond_expr.specs.declared.fault.ExprFault.{ExprFault}

@@ -1,4 +1,4 @@
--- Where a row stands among others.
+-- Where a row stands among others. This project's own.
 use Rattle.std.specs.Prelude.{ℕ, ◌+◌, List, [], ◌∷◌, nat_lt, if◌then◌else◌}
 use Rattle.dbg_model.specs.declared.row.Row.{Row}
 use Rattle.dbg_model.specs.Breakpoints.{row_number}

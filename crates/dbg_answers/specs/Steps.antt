@@ -1,4 +1,4 @@
--- What each step comes to.
+-- The plan that each command of a step asks for. This project's own.
 use Rattle.std.specs.Prelude.{Result}
 use Rattle.rv_exec.specs.Registers.{Registers}
 use Rattle.step_plans.specs.declared.plan.Plan.{Plan}

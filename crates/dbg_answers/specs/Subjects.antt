@@ -1,4 +1,4 @@
--- What commands are about.
+-- What commands are about: breakpoints and watches, settings, or threads that go on or stop. This project's own.
 use Rattle.std.specs.Prelude.{Bool, true, false}
 use Rattle.mi_commands.specs.declared.command.Command.{Command}
 use Rattle.mi_commands.specs.declared.command.Command.TheVariants as command

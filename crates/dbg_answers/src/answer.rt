@@ -1,3 +1,4 @@
+// An answer: what is shown and what changes, or why the command isn't done.
 ghost use Rattle.std.specs.Prelude.{◌≡◌};
 ghost use Rattle.std.specs.Prelude.{Result, IfOk};
 ghost use Rattle.dbg_model.specs.declared.reply.Refused.{Refused};

@@ -1,3 +1,4 @@
+// Commands that set, list, change and delete breakpoints; watches are listed, enabled and deleted with them.
 ghost use Rattle.std.specs.Prelude.{◌≡◌, ◌<◌, ◌≤◌, ◌-◌, ◌+◌, ◌^◌, ◌∷◌, [], IfOk, OnOk, length, map, Ok};
 ghost use Rattle.std.specs.Option.{option_map};
 ghost use Rattle.elf_symbols.specs.Names.{address_of};

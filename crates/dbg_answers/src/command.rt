@@ -1,3 +1,4 @@
+// The answer to a command, by the function that answers it.
 ghost use Rattle.std.specs.Prelude.{◌≡◌, true, false, ◌<◌, ◌≤◌, ◌-◌, ◌^◌, IfOk, length};
 ghost use Rattle.dbg_model.specs.Outcome.{told};
 ghost use Rattle.dbg_model.specs.Command.{reply};

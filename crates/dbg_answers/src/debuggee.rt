@@ -1,3 +1,4 @@
+// What a command may see of the debuggee, and its threads by number.
 ghost use Rattle.std.specs.Prelude.{◌≡◌, Ok};
 ghost use Rattle.dbg_model.specs.Sight.{thread_at, live, running, stopped};
 ghost use Rattle.dbg_model.specs.Outcome.{and_then};

@@ -1,3 +1,4 @@
+// A pass over the harts that picks something of each.
 ghost use Rattle.std.specs.Prelude.{◌≤◌, IfOk, length};
 ghost use Rattle.dbg_answers.specs.Each.{ArePicked};
 

@@ -1,3 +1,4 @@
+// Expressions and conditions read from their texts, and the command that evaluates one.
 ghost use Rattle.std.specs.Prelude.{◌≡◌, Result, Ok};
 ghost use Rattle.std.specs.Option.{option_map};
 ghost use Rattle.break_table.specs.Entry.{condition_of};

@@ -1,3 +1,4 @@
+// Lines: each is read once, and answered by what was read of it.
 ghost use Rattle.std.specs.Prelude.{◌≡◌, ◌<◌, ◌≤◌, ◌-◌, ◌^◌, ℕ, List, IfOk, Ok, Err, length};
 ghost use Rattle.mi_commands.specs.Gives.{Commands};
 ghost use Rattle.dbg_model.specs.Outcome.{told};

@@ -1,3 +1,4 @@
+// Live threads, and how they are shown.
 ghost use Rattle.std.specs.Prelude.{◌≡◌, IfOk, map};
 ghost use Rattle.std.specs.Option.{option_map};
 ghost use Rattle.dbg_answers.specs.Live.{frame_at, live_shown, live_thread};

@@ -1,3 +1,4 @@
+// The command that reads memory.
 ghost use Rattle.std.specs.Prelude.{◌≡◌, ◌++◌, ◌∷◌, [], OnOk};
 ghost use Rattle.dbg_model.specs.Data.{bytes_at, read_memory};
 ghost use Rattle.dbg_answers.specs.Debuggee.{seen};

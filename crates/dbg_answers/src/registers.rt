@@ -1,3 +1,4 @@
+// The command that lists the values of registers.
 ghost use Rattle.std.specs.Prelude.{◌≡◌, IfOk, map};
 ghost use Rattle.dbg_model.specs.Sight.{thread_or};
 ghost use Rattle.dbg_model.specs.Data.{asked_registers, register_values, valued};

@@ -1,3 +1,4 @@
+// Commands by which threads go on or are interrupted.
 ghost use Rattle.std.specs.Prelude.{◌≡◌, ◌≤◌, ◌∷◌, [], Ok, IfOk, length};
 ghost use Rattle.dbg_model.specs.Sight.{running, running_thread, stopped_thread};
 ghost use Rattle.dbg_model.specs.Outcome.{and_then, going, interrupts};

@@ -1,3 +1,4 @@
+// The command that shows a setting, and the one that ends the session.
 ghost use Rattle.std.specs.Prelude.{◌≡◌};
 ghost use Rattle.dbg_model.specs.declared.reply.Content.TheVariants as content;
 ghost use Rattle.dbg_model.specs.Outcome.{exits, showing};

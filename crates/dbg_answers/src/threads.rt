@@ -1,3 +1,4 @@
+// Commands that list threads or select one.
 ghost use Rattle.std.specs.Prelude.{◌≡◌, ◌≤◌, IfOk, Ok, length};
 ghost use Rattle.dbg_model.specs.Sight.{each, live_number, shown};
 ghost use Rattle.dbg_model.specs.Threads.{thread_info, thread_list, thread_select};

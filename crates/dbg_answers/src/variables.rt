@@ -36,7 +36,7 @@ fn value_as(value: Value) -> VariableValue
     }
 }
 
-// The same by the text, which is an expression.
+// The value of a variable by the text that stands for it, which is an expression.
 fn text_value<V: View>(
     alloc: Global,
     symbols: &Symbols,
@@ -69,7 +69,7 @@ fn variable_value<V: View>(
     }
 }
 
-// The same where values are asked for.
+// The value of a variable where values are asked for; where they aren't, none.
 fn value_listed<V: View>(
     alloc: Global,
     symbols: &Symbols,

@@ -1,3 +1,4 @@
+// One hart as expressions see it, and a byte as it is shown.
 ghost use Rattle.std.specs.Prelude.{◌≡◌};
 ghost use Rattle.dbg_model.specs.Views.{register, shown_byte};
 

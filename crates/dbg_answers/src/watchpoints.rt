@@ -1,3 +1,4 @@
+// The command that watches bytes.
 ghost use Rattle.std.specs.Prelude.{◌≡◌, ◌-◌, ◌<◌, ◌^◌, length};
 ghost use Rattle.rv_exec.specs.Memory.{IsLen};
 ghost use Rattle.data_memory.specs.Ranges.{range_at};

@@ -1,2 +1,3 @@
+-- Changes at the entry of one number, and of harts one after another.
 pub mod Tables
 pub mod Changing

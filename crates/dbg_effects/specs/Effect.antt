@@ -1,4 +1,4 @@
--- What an effect changes, as the model has it.
+-- What an effect changes, as the model has it. This project's own.
 use Rattle.std.specs.Option.{option_map}
 use Rattle.break_table.specs.Entry.{asked_of, condition_of}
 use Rattle.dbg_model.specs.Outcome.{Change, stays, resumes, selects, interrupts, displaces, inserts, adds_watch, deletes, enables, conditions, ignores, pokes, exits}

@@ -1,4 +1,4 @@
--- What an effect makes of the table of breakpoints.
+-- What an effect makes of the table of breakpoints. This project's own.
 use Rattle.std.specs.Prelude.{◌≡◌, ◌<◌, List, length, None, Result, Ok, Err}
 use Rattle.rv_exec.specs.Memory.{IsLen}
 use Rattle.break_table.specs.Entry.{asked_of}

@@ -1,4 +1,4 @@
--- What becomes of harts by a function that is passed.
+-- What becomes of harts by a function that is passed. This project's own.
 use Rattle.std.specs.Prelude.{◌≡◌, ℕ, List}
 use Rattle.dbg_model.specs.Reply.{on_threads}
 

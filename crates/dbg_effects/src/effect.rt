@@ -1,3 +1,4 @@
+// The effects of commands, one for each kind of change.
 use break_table::Spec;
 use cond_expr::Expr;
 use dbg_model::Poke;

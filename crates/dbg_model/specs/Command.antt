@@ -1,4 +1,4 @@
--- What is answered to a command, and what it changes.
+-- What is answered to a command, and what it changes, by the command (GDB manual, chapter "The GDB/MI Interface").
 use Rattle.std.specs.Prelude.{true, false, Result, Ok, Err}
 use Rattle.mi_commands.specs.declared.command.Command.{Command}
 use Rattle.mi_commands.specs.declared.command.Command.TheVariants as command

@@ -1,4 +1,4 @@
--- The fields of what reads a journal.
+-- The fields of what reads a journal. This project's own.
 use Rattle.std.specs.Prelude.{◌≡◌, List, ◌++◌, length}
 use Rattle.dbg_model.specs.declared.entry.Entry.{Entry}
 use Rattle.dbg_model.specs.declared.entries.Entries.TheInside.{Inside}

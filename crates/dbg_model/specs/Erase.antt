@@ -1,4 +1,4 @@
--- A journal without the debugger's entries.
+-- A journal without the debugger's entries. This project's own.
 use Rattle.std.specs.Prelude.{ℕ, ◌+◌, List, [], ◌∷◌, ◌++◌, replicate, if◌then◌else◌, ◌==◌}
 use Rattle.plain_machine.specs.PlainRun.{Item, Step, Reg, Bytes}
 use Rattle.dbg_model.specs.declared.entry.Entry.{Entry}

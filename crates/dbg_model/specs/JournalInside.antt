@@ -1,4 +1,4 @@
--- A journal's fields.
+-- A journal's fields. This project's own.
 use Rattle.std.specs.Prelude.{◌≡◌, List, length}
 use Rattle.dbg_model.specs.declared.entry.Entry.{Entry}
 use Rattle.dbg_model.specs.declared.journal.Journal.TheInside.{Inside}

@@ -1,4 +1,4 @@
--- Which journals are lawful, and the state that one leaves.
+-- Which journals are lawful, and the state that one leaves. This project's own.
 use Rattle.std.specs.Prelude.{◌≡◌, ℕ, zero, suc, ◌+◌, ◌-◌, Bool, true, List, [], ◌∷◌, ◌++◌, length, drop, Option, Some, None, option_and_then, if◌then◌else◌, ◌==◌, not}
 use Rattle.std.specs.Option.{option_map}
 use Rattle.dbg_model.specs.declared.entry.Entry.{Entry}

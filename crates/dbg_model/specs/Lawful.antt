@@ -1,4 +1,4 @@
--- Which entries may come in a state, and the state that each leaves.
+-- Which entries may come in a state, and the state that each leaves. This project's own.
 use Rattle.std.specs.Prelude.{ℕ, suc, zero, ◌+◌, Bool, true, false, List, [], ◌∷◌, ◌++◌, map, Option, Some, None, option_and_then, is_none, if◌then◌else◌, ◌==◌, ◌&&◌, not, nat_lt, slice_get, slice_index, slice_set}
 use Rattle.std.specs.Option.{option_map}
 use Rattle.rv_exec.specs.declared.effect.Cause.{Cause}

@@ -1,4 +1,4 @@
--- The entries by which harts that leave are reported, in rising order.
+-- The entries by which harts that leave are reported, in rising order. This project's own.
 use Rattle.std.specs.Prelude.{◌≡◌, ℕ, ◌+◌, List, [], ◌∷◌, ◌++◌}
 use Rattle.dbg_model.specs.declared.entry.Mode.{Mode}
 use Rattle.dbg_model.specs.declared.entry.Mode.TheVariants as mode

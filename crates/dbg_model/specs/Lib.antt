@@ -1,3 +1,4 @@
+-- The definitions of the model: what a session is, what a line asks of it, and which journals are lawful.
 pub mod Limits
 pub mod Breaks
 pub mod Views

@@ -1,4 +1,4 @@
--- The limits of a session.
+-- The limits of a session. This project's own.
 use Rattle.std.specs.Prelude.{ℕ}
 
 -- a journal with this many entries other than `Ran` ends its session

@@ -1,4 +1,4 @@
--- What is answered to a command, and what it changes: two values.
+-- What is answered to a command, and what it changes: two values. This project's own.
 use Rattle.std.specs.Prelude.{ℕ, Bool, List, Option, Result, Ok, Err}
 use Rattle.break_table.specs.Entry.{Asked, Condition}
 use Rattle.watch_points.specs.declared.watch.Watched.{Watched}

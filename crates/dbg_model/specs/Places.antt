@@ -1,4 +1,4 @@
--- What is known of an address: the function and the line of the source.
+-- What is known of an address: the function and the line of the source (GDB manual, "GDB/MI Frame Information").
 use Rattle.std.specs.Prelude.{ℕ, List, Option}
 use Rattle.std.specs.Option.{option_map}
 use Rattle.elf_symbols.specs.Names.{Symbol, function_at}

@@ -1,4 +1,4 @@
--- Why a command is refused: the number of each error, all that stands against a command, and which of it is answered.
+-- Why a command is refused: the number of each error, all that stands against a command, and which of it is answered. This project's own.
 use Rattle.std.specs.Prelude.{ℕ, zero, suc, ◌+◌, ◌%◌, ◌^◌, ◌≡◌, ◌≤◌, ◌<◌, Bool, true, false, not, ◌||◌, List, [], ◌∷◌, ◌++◌, length, Option, Some, None, Result, Ok, Err, is_some, if◌then◌else◌, nat_lt, All}
 use Rattle.std.specs.FinMap as map
 use Rattle.rv_exec.specs.Registers.{Registers}

@@ -1,4 +1,4 @@
--- The state of a session, as its journal makes it.
+-- The state of a session, as its journal makes it. This project's own.
 use Rattle.std.specs.Prelude.{ℕ, zero, suc, Bool, true, false, List, [], ◌∷◌, ◌++◌, replicate, Option, None}
 use Rattle.std.specs.List.{list_any, list_all}
 use Rattle.rv_exec.specs.Memory.{Memory}

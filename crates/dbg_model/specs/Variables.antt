@@ -56,7 +56,7 @@ standing_value names registers bytes not_read = shown.NotRead
 unfoldable pub variable_value : Names → (ℕ → ℕ) → (ℕ → Option ℕ) → Option ℕ → Variable → VariableValue
 variable_value names registers bytes cfa v = standing_value names registers bytes (standing_of registers cfa v)
 
--- the same where values are asked for
+-- the value of a variable where values are asked for; where they aren't, none
 abbrev pub value_listed : Names → (ℕ → ℕ) → (ℕ → Option ℕ) → Option ℕ → Bool → Variable → Option VariableValue
 value_listed names registers bytes cfa with_values v = if with_values then Some (variable_value names registers bytes cfa v) else None
 

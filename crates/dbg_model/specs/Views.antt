@@ -1,4 +1,4 @@
--- What is seen of a hart: its registers, and the bytes of memory with the program's text.
+-- What is seen of a hart: its registers, and the bytes of memory with the program's text. This project's own.
 use Rattle.std.specs.Prelude.{ℕ, Option, if◌then◌else◌, nat_lt}
 use Rattle.rv_exec.specs.Registers.{Registers, get}
 use Rattle.rv_exec.specs.Memory.{Memory}

@@ -1,4 +1,4 @@
--- What a list of watches keeps of its fields.
+-- What a list of watches keeps of its fields. This project's own.
 use Rattle.std.specs.Prelude.{◌≤◌, vec_capacity, vec_len}
 use Rattle.dbg_model.specs.declared.watch_list.WatchList.TheInside.{Inside}
 use Rattle.dbg_model.specs.Watches.{AreSized}

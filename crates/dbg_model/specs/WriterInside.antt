@@ -1,4 +1,4 @@
--- The fields of a journal to which entries are added.
+-- The fields of a journal to which entries are added. This project's own.
 use Rattle.std.specs.Prelude.{◌≡◌, ◌≤◌, ◌+◌, ◌-◌, ◌*◌, ◌++◌, ℕ, List, [], ◌∷◌, None, length, vec_len, vec_capacity}
 use Rattle.dbg_model.specs.declared.entry.Entry.{Entry}
 use Rattle.dbg_model.specs.declared.writer.JournalWriter.TheInside.{Inside}

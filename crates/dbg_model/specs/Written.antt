@@ -1,4 +1,4 @@
--- What a journal to which entries are added is seen as.
+-- What a journal to which entries are added is seen as. This project's own.
 use Rattle.std.specs.Prelude.{ℕ, List}
 use Rattle.dbg_model.specs.declared.entry.Entry.{Entry}
 

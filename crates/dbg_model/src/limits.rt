@@ -1,3 +1,5 @@
+// The limits of a session: of entries, of input, of breakpoints and of watches.
+
 /// A journal with this many entries other than `Ran` ends its session.
 pub const HISTORY: u64 = 4_194_304;
 

@@ -1,3 +1,4 @@
+// The opening of a session: its program and its settings.
 use dbg_traits::Settings;
 use elf32_read::Image;
 

@@ -1,3 +1,4 @@
+// What a program's file tells of its source, built once: symbols, lines, frames and variables.
 ghost use Rattle.std.specs.Prelude.{◌≡◌, IfOk, codes};
 ghost use Rattle.line_rows.specs.Sections.{sections_shown};
 ghost use Rattle.dbg_model.specs.Sources.{line_sections, section_bytes, sources_of, variables_told};

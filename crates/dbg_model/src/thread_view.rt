@@ -1,3 +1,4 @@
+// A thread as commands see it.
 use rv_exec::Regs;
 
 /// What a command may see of a thread. Of one that runs no answer shows a register.

@@ -11,6 +11,9 @@ use run_tape::Tape;
 use std::alloc::{AllocError, Global};
 use std::marker::Model;
 
+// For how many entries room is made at once, so that there mostly is some.
+const AT_ONCE: usize = 128;
+
 // How many bytes of a tape so many entries take at most, beside a run that isn't on it yet.
 fn bytes_for(entries: usize) -> Option<usize>
     ensures { IfSome result (λ b. b ≡ 17 * entries + 17) }
@@ -80,6 +83,20 @@ impl JournalWriter {
         if entries <= self.spare {
             return Ok(());
         }
+        if entries < AT_ONCE && self.make_room(AT_ONCE).is_ok() {
+            return Ok(());
+        }
+        self.make_room(entries)
+    }
+
+    // Makes room for so many entries, of which there isn't any yet.
+    fn make_room(&mut self, entries: usize) -> Result<(), AllocError>
+        requires { self.old.spare < entries }
+        ensures entries { self.new.entries ≡ self.old.entries }
+        ensures ok { OnOk result (entries ≤ self.new.spare) }
+        ensures least { self.old.spare ≤ self.new.spare }
+        ensures err { OnErr result (self.new ≡ self.old) }
+    {
         let Some(bytes) = bytes_for(entries) else {
             return Err(AllocError);
         };

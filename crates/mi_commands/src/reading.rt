@@ -98,22 +98,14 @@ pub fn target_of(words: &[Word]) -> Target
     }
 }
 
-fn push_numbers(words: &[Word], into: &mut Vec<u32>) -> Result<(), AllocError>
-    ensures { OnOk result (into.new.items ≡ into.old.items ++ numbers (words_view words.now)) }
-{
-    let [first, rest @ ..] = words else {
-        return Ok(());
-    };
-    into.push(number(&first.bytes))?;
-    push_numbers(rest, into)
-}
-
 /// The numbers that the words are.
 pub fn numbers(alloc: Global, words: &[Word]) -> Result<NumberList, AllocError>
     ensures { IfOk result (λ list. list ≡ numbers (words_view words.now)) }
 {
     let mut numbers = Vec::new(alloc);
-    push_numbers(words, &mut numbers)?;
+    for word in words {
+        numbers.push(number(&word.bytes))?;
+    }
     Ok(NumberList::of(numbers))
 }
 
@@ -121,12 +113,11 @@ pub fn numbers(alloc: Global, words: &[Word]) -> Result<NumberList, AllocError>
 fn push_spaced(words: &[Word], into: &mut Vec<u8>) -> Result<(), AllocError>
     ensures { OnOk result (into.new.items ≡ into.old.items ++ spaced (words_view words.now)) }
 {
-    let [first, rest @ ..] = words else {
-        return Ok(());
-    };
-    into.push(b' ')?;
-    into.extend_from_slice(&first.bytes)?;
-    push_spaced(rest, into)
+    for word in words {
+        into.push(b' ')?;
+        into.extend_from_slice(&word.bytes)?;
+    }
+    Ok(())
 }
 
 /// The words joined by one space each.
@@ -195,18 +186,16 @@ fn number_part(operation: Operation, word: &[u8]) -> &[u8]
 }
 
 #[tactic(auto, unfolding(crate::specs::Numbers::bad_parameter))]
-fn bad_parameter(operation: Operation, place: usize, words: &[Word]) -> Option<&[u8]>
-    requires { place + length words.now < 2 ^ 64 }
-    ensures { text result ≡ bad_parameter operation place (words_view words.now) }
+fn bad_parameter(operation: Operation, words: &[Word]) -> Option<&[u8]>
+    ensures { text result ≡ bad_parameter operation 0 (words_view words.now) }
 {
-    let [first, rest @ ..] = words else {
-        return None;
-    };
-    let part = number_part(operation, &first.bytes);
-    if is_bad_at(operation, place, part) {
-        return Some(part);
+    for (place, word) in words.iter().enumerate() {
+        let part = number_part(operation, &word.bytes);
+        if is_bad_at(operation, place, part) {
+            return Some(part);
+        }
     }
-    bad_parameter(operation, place + 1, rest)
+    None
 }
 
 /// The leftmost word that should be a number of some range, or bytes, and is none.
@@ -219,7 +208,7 @@ pub fn bad_number<'a>(
 {
     match bad_value(words) {
         Some(word) => Some(word),
-        None => bad_parameter(operation, 0, parameters),
+        None => bad_parameter(operation, parameters),
     }
 }
 

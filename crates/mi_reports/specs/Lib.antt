@@ -1,3 +1,4 @@
+-- The definitions of what is reported: fixed texts, the lines of each entry, and all that a session says.
 pub mod Words
 pub mod Phrases
 pub mod Frames

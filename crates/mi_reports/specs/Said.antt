@@ -1,4 +1,4 @@
--- What a session says: the opening lines, and then the lines of each entry.
+-- What a session says: the opening lines, and then the lines of each entry. This project's own.
 use Rattle.std.specs.Prelude.{ℕ, zero, suc, List, [], ◌∷◌, ◌++◌, Option, Some, None, unwrap_or}
 use Rattle.std.specs.Option.{option_map}
 use Rattle.dbg_model.specs.declared.entry.Entry.{Entry}

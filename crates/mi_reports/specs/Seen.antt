@@ -1,4 +1,4 @@
--- Fields and lines in memory, as trees of the grammar.
+-- Fields and lines in memory, as trees of the grammar. This project's own.
 use Rattle.std.specs.Prelude.{ℕ, List, map}
 use Rattle.mi_values.specs.Tree.{Tree, value_view}
 use Rattle.mi_values.specs.Record.{LineTree}

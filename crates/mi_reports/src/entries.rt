@@ -1,18 +1,19 @@
 // What is reported, and its lines.
-ghost use Rattle.std.specs.Prelude.{◌≡◌, ◌++◌, OnOk, OnErr, true};
-ghost use Rattle.mi_values.specs.Record.{LineTree};
+ghost use Rattle.std.specs.Prelude.{◌≡◌, ◌++◌, ◌∷◌, [], OnOk, OnErr, IsTrue, true};
+ghost use Rattle.mi_values.specs.Record.{prompt};
 ghost use Rattle.mi_values.specs.Records.{lines_bytes, AreLines};
 ghost use Rattle.mi_reports.specs.Seen.{trees};
 ghost use Rattle.mi_reports.specs.Lines.{lines_of, may_show};
+ghost use Rattle.mi_reports.specs.Replies.{reply_lines};
 ghost use Rattle.mi_reports.specs.Refusals.{file_fields, refusal_lines, usage_fields};
 ghost use Rattle.mi_reports.specs.Text.{opening_lines};
 
 use crate::exits::{push_left, push_opening, push_output};
-use crate::lines::LineList;
+use crate::lines::{LineList, write_prompt};
 use crate::refusals::{push_bad_file, push_usage};
 use crate::replies::push_reply;
 use crate::stops::push_stop;
-use dbg_model::{Entry, Shown};
+use dbg_model::{Content, Entry, Reply, Shown};
 use dbg_traits::NoMemory;
 use elf_checks::ElfFault;
 use std::alloc::AllocError;
@@ -39,6 +40,13 @@ fn push_entry(lines: &mut LineList, entry: &Entry, shown: &Shown) -> Result<(), 
     }
 }
 
+// Whether this is the reply to a blank line, which is the prompt alone.
+fn is_blank(reply: &Reply) -> bool
+    ensures { IsTrue result → reply_lines reply.now ≡ prompt ∷ [] }
+{
+    matches!(reply.content, Content::Blank)
+}
+
 /// Puts the lines of an entry, which shows this, at the end. Out of memory, the one error, the buffer is as before.
 pub fn report(entry: &Entry, shown: &Shown, into: &mut Vec<u8>) -> Result<(), NoMemory>
     requires { may_show entry.now shown.now ≡ true }
@@ -46,6 +54,11 @@ pub fn report(entry: &Entry, shown: &Shown, into: &mut Vec<u8>) -> Result<(), No
     ensures grammar { OnOk result (AreLines (lines_of entry.now shown.now)) }
     ensures unchanged { OnErr result (into.new.items ≡ into.old.items) }
 {
+    if let (Entry::Did { .. }, Shown::Answer { reply }) = (entry, shown) {
+        if is_blank(reply) {
+            return write_prompt(into);
+        }
+    }
     let mut lines = LineList::new(*into.allocator());
     push_entry(&mut lines, entry, shown)?;
     lines.write(into)

@@ -9,12 +9,15 @@ ghost use Rattle.mi_reports.specs.Seen.{seen};
 ghost use Rattle.mi_reports.specs.Words.{key_text, says, says_some};
 ghost use Rattle.mi_reports.specs.Phrases.{phrase_text};
 
-use crate::words::{Key, Phrase, owned_name, wording};
+use crate::words::{Key, Phrase, name_of, wording};
 use itoa::Buffer;
 use mi_commands::ByteList;
 use mi_text::{address_text, write_exit_code};
 use mi_values::{Name, Value, known_bytes};
 use std::alloc::{AllocError, Global};
+
+// For how many fields there is room from the first on: a stop has six.
+const MANY: usize = 8;
 
 /// Fields in order.
 #[derive(Drop)]
@@ -29,7 +32,7 @@ pub fn text(alloc: Global, bytes: &[u8]) -> Result<Value, AllocError>
     ensures fits { are_bytes bytes.now ≡ true }
 {
     known_bytes(bytes);
-    Ok(Value::Text(Vec::from_slice(alloc, bytes)?))
+    Value::of_text(alloc, bytes)
 }
 
 /// Fields in braces.
@@ -75,8 +78,10 @@ impl FieldList {
     pub fn push(&mut self, key: Key, value: Value) -> Result<(), AllocError>
         ensures { OnOk result (seen self.new ≡ seen self.old ++ (key_text key, value_view value) ∷ []) }
     {
-        let name = owned_name(self.alloc, key)?;
-        self.items.push((name, value))?;
+        if self.items.is_empty() {
+            self.items.reserve(MANY)?;
+        }
+        self.items.push((name_of(key), value))?;
         Ok(())
     }
 

@@ -11,7 +11,7 @@ ghost use Rattle.mi_reports.specs.Seen.{seen, trees};
 ghost use Rattle.mi_reports.specs.Words.{key_text};
 
 use crate::fields::FieldList;
-use crate::words::{Key, owned_name};
+use crate::words::{Key, name_of};
 use dbg_traits::NoMemory;
 use mi_values::{Fields, Line, NoticeSign, StreamSign, Token, write_line};
 use std::alloc::{AllocError, Global};
@@ -45,6 +45,16 @@ fn write_all(lines: &[Line], into: &mut Vec<u8>) -> Result<(), NoMemory>
     write_all(rest, into)
 }
 
+/// Puts the prompt alone at the end. Out of memory, the buffer is as before.
+#[tactic(auto, using(std::proofs::lemmas::Grind::common_steps))]
+pub fn write_prompt(into: &mut Vec<u8>) -> Result<(), NoMemory>
+    ensures written { OnOk result (into.new.items ≡ into.old.items ++ lines_bytes (prompt ∷ [])) }
+    ensures lines { OnOk result (AreLines (prompt ∷ [])) }
+    ensures unchanged { OnErr result (into.new.items ≡ into.old.items) }
+{
+    write_line(&Line::Prompt, into)
+}
+
 impl LineList {
     /// No lines.
     #[tactic(auto, unfolding(crate::specs::Seen::trees))]
@@ -76,10 +86,9 @@ impl LineList {
         requires { are_fit (seen fields) ≡ true }
         ensures { OnOk result (trees self.new ≡ trees self.old ++ notice_of sign (key_text class) (seen fields) ∷ []) }
     {
-        let class = owned_name(self.alloc, class)?;
         self.push(Line::Notice {
             sign,
-            class,
+            class: name_of(class),
             fields: of_line(fields),
         })
     }
@@ -95,10 +104,9 @@ impl LineList {
         requires { are_fit (seen fields) ≡ true }
         ensures { OnOk result (trees self.new ≡ trees self.old ++ result_of token.now (key_text class) (seen fields) ∷ []) }
     {
-        let class = owned_name(self.alloc, class)?;
         self.push(Line::Result {
             token: token.copied(),
-            class,
+            class: name_of(class),
             fields: of_line(fields),
         })
     }

@@ -24,26 +24,20 @@ const NAMES: [&str; 33] = [
     "t5", "t6", "pc",
 ];
 
-#[tactic(auto, using(std::proofs::lemmas::Grind::common_steps))]
-fn push_texts(
-    alloc: Global,
-    values: &mut Vec<Value>,
-    names: &[&'static str],
-) -> Result<(), AllocError>
-    ensures { OnOk result (map value_view values.new.items ≡ map value_view values.old.items ++ map (λ n. text n.now) names.now) }
+fn texts(alloc: Global, names: &[&'static str]) -> Result<Vec<Value>, AllocError>
+    ensures { IfOk result (λ v. map value_view v.items ≡ map (λ n. text n.now) names.now) }
 {
-    let [name, rest @ ..] = names else {
-        return Ok(());
-    };
-    values.push(text(alloc, name.as_bytes())?)?;
-    push_texts(alloc, values, rest)
+    let mut values = Vec::new(alloc);
+    for name in names {
+        values.push(text(alloc, name.as_bytes())?)?;
+    }
+    Ok(values)
 }
 
 fn push_these(fields: &mut FieldList, names: &[&'static str]) -> Result<(), AllocError>
     ensures { OnOk result (seen fields.new ≡ seen fields.old ++ (key_text keys.RegisterNames, items (items_of (map (λ n. text n.now) names.now))) ∷ []) }
 {
-    let mut values = Vec::new(fields.alloc);
-    push_texts(fields.alloc, &mut values, names)?;
+    let values = texts(fields.alloc, names)?;
     fields.push(Key::RegisterNames, listed(values))
 }
 
@@ -88,20 +82,18 @@ fn register_value(alloc: Global, format: Format, register: Register) -> Result<V
     Ok(tuple(fields))
 }
 
-#[tactic(auto, using(std::proofs::lemmas::Grind::common_steps))]
-fn push_list(
+fn register_values(
     alloc: Global,
-    values: &mut Vec<Value>,
     format: Format,
     registers: &[Register],
-) -> Result<(), AllocError>
-    ensures { OnOk result (map value_view values.new.items ≡ map value_view values.old.items ++ map (register_tree format) registers.now) }
+) -> Result<Vec<Value>, AllocError>
+    ensures { IfOk result (λ v. map value_view v.items ≡ map (register_tree format) registers.now) }
 {
-    let [register, rest @ ..] = registers else {
-        return Ok(());
-    };
-    values.push(register_value(alloc, format, *register)?)?;
-    push_list(alloc, values, format, rest)
+    let mut values = Vec::new(alloc);
+    for register in registers {
+        values.push(register_value(alloc, format, *register)?)?;
+    }
+    Ok(values)
 }
 
 /// Appends registers with their values in a format.
@@ -113,8 +105,7 @@ pub fn push_registers(
 ) -> Result<(), AllocError>
     ensures { OnOk result (seen fields.new ≡ seen fields.old ++ registers_field format registers.now ∷ []) }
 {
-    let mut values = Vec::new(fields.alloc);
-    push_list(fields.alloc, &mut values, format, registers)?;
+    let values = register_values(fields.alloc, format, registers)?;
     fields.push(Key::RegisterValues, listed(values))
 }
 

@@ -1,11 +1,10 @@
 // The names and the fixed texts of lines.
-ghost use Rattle.std.specs.Prelude.{◌≡◌, IfOk, true};
+ghost use Rattle.std.specs.Prelude.{◌≡◌, true};
 ghost use Rattle.mi_values.specs.Name.{is_name};
 ghost use Rattle.mi_reports.specs.Words.{key_text};
 ghost use Rattle.mi_reports.specs.Phrases.{phrase_text};
 
 use mi_values::Name;
-use std::alloc::{AllocError, Global};
 
 /// A class, or the name of a field.
 #[derive(Clone, Copy)]
@@ -233,11 +232,11 @@ fn text_of(key: Key) -> &'static str
     }
 }
 
-/// The text of a key, in memory of its own.
-pub fn owned_name(alloc: Global, key: Key) -> Result<Name, AllocError>
-    ensures { IfOk result (λ n. n ≡ key_text key) }
+/// The name that a key is.
+pub fn name_of(key: Key) -> Name
+    ensures { result ≡ key_text key }
 {
-    Name::of(alloc, name(key).as_bytes())
+    Name::of(name(key).as_bytes())
 }
 
 /// The bytes of a fixed text.

@@ -1,5 +1,6 @@
 pub mod Spelled
 pub mod Name
+pub mod NameInside
 pub mod Tree
 pub mod Spelling
 pub mod Proper
