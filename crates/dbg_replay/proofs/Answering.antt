@@ -1,6 +1,6 @@
 -- What lines effect.
 use Rattle.std.proofs.Common.{◌≡◌, ◌≤◌, ◌<◌, ◌+◌, ◌-◌, ◌^◌, ◌/◌, ◌%◌, ℕ, zero, suc, Bool, true, false, cond, List, [], ◌∷◌, length, refl, sym, ap, ◌∙◌, subst, arith}
-use Rattle.std.specs.Prelude.{Option, Some, None, is_some, find, not, nat_lt, option_and_then, slice_get, slice_index, ◌&&◌, ◌||◌, ◌==◌, nat_le}
+use Rattle.std.specs.Prelude.{Option, Some, None, Ok, is_some, find, not, nat_lt, option_and_then, slice_get, slice_index, ◌&&◌, ◌||◌, ◌==◌, nat_le}
 use Rattle.std.specs.List.{list_any}
 use Rattle.std.proofs.lemmas.Bool.Decides.{nat_tests}
 use Rattle.std.proofs.lemmas.Option.{slice_get_within}
@@ -19,20 +19,24 @@ use Rattle.dbg_model.specs.Reply.{answer_of, asked, changed_by, done_by, forgett
 use Rattle.dbg_model.proofs.Options.{both_true}
 use Rattle.dbg_model.proofs.Founding.{IsFounded, IsThereOr, change_founded, change_watchable}
 use Rattle.dbg_model.proofs.Naming.{length-on_threads}
+use Rattle.dbg_model.specs.Reply.{Answer, reply_of}
+use Rattle.dbg_model.specs.declared.shown.Shown.TheVariants as shows
+use Rattle.dbg_answers.specs.declared.line.LineAnswer.{LineAnswer}
+use Rattle.dbg_answers.specs.Answer.{line_answer_of}
 use Rattle.dbg_effects.specs.declared.effect.Effect.{Effect}
 use Rattle.dbg_effects.specs.declared.effect.Effect.TheVariants as effect
 use Rattle.dbg_effects.specs.Effect.{change_of}
 use Rattle.dbg_effects.specs.Table.{CanBeMade, CanBeWatched, changed_table}
 use Rattle.dbg_replay.specs.declared.state.Parts.{Parts}
-use Rattle.dbg_replay.specs.Parts.{shown}
-use Rattle.dbg_replay.specs.Going.{Kept}
+use Rattle.dbg_replay.specs.Parts.{state_of}
+use Rattle.dbg_replay.specs.Going.{Enters, Kept}
 
 -- ---- a line may be done
 
 -- where one may be done there is room for a number more
-pub numbers_low : (o : Opening) (p : Parts) (line : List ℕ) → Kept o p → may_do o (shown p) line ≡ true → p.table.given < 2 ^ 32 - 1
+pub numbers_low : (o : Opening) (p : Parts) (line : List ℕ) → Kept o p → may_do o (state_of p) line ≡ true → p.table.given < 2 ^ 32 - 1
 numbers_low o p line kept may =
-    let goes = (both_true (may_go o (shown p)) _ may).0 in
+    let goes = (both_true (may_go o (state_of p)) _ may).0 in
     let behind = (both_true (not (any_leaves p.harts.items)) _ goes).1 in
     let second = (both_true (nat_lt p.retired o.settings.budget) _ behind).1 in
     let low = (both_true (nat_lt p.noted history) _ second).0 in
@@ -40,6 +44,15 @@ numbers_low o p line kept may =
   where
     below : (given noted : ℕ) → given ≤ noted → nat_lt noted history ≡ true → given < 2 ^ 32 - 1
     below given noted le low = grind (arith, nat_tests)
+
+-- and for an entry more
+pub history_low : (o : Opening) (s : State) (line : List ℕ) → may_do o s line ≡ true → s.noted < history
+history_low o s line may =
+    let goes = (both_true (may_go o s) _ may).0 in
+    let behind = (both_true (not (any_leaves s.harts)) _ goes).1 in
+    let second = (both_true (nat_lt s.retired o.settings.budget) _ behind).1 in
+    let low = (both_true (nat_lt s.noted history) _ second).0 in
+    grind (arith, nat_tests)
 
 -- ---- a change can be made
 
@@ -89,15 +102,15 @@ can_by o p (effect.Insert spec) kept f =
 can_by o p _ kept f = tt
 
 -- the change of a line can be made
-pub can_be_made : (o : Opening) (p : Parts) (line : List ℕ) (x : Effect) → Kept o p → change_of x ≡ (answer_of o (shown p) line).outcome.change → CanBeMade p.table x
-can_be_made o p line x kept is = can_by o p x kept (subst (IsFounded o.image p.harts.items p.table.entries) (sym is) (change_founded o (shown p) line))
+pub can_be_made : (o : Opening) (p : Parts) (line : List ℕ) (x : Effect) → Kept o p → change_of x ≡ (answer_of o (state_of p) line).outcome.change → CanBeMade p.table x
+can_be_made o p line x kept is = can_by o p x kept (subst (IsFounded o.image p.harts.items p.table.entries) (sym is) (change_founded o (state_of p) line))
 
-watched_by : (o : Opening) (p : Parts) (line : List ℕ) (x : Effect) → change_of x ≡ (answer_of o (shown p) line).outcome.change → CanBeWatched p.watches x
-watched_by o p line (effect.Watch text b) is = change_watchable o (shown p) line text b (sym is)
+watched_by : (o : Opening) (p : Parts) (line : List ℕ) (x : Effect) → change_of x ≡ (answer_of o (state_of p) line).outcome.change → CanBeWatched p.watches x
+watched_by o p line (effect.Watch text b) is = change_watchable o (state_of p) line text b (sym is)
 watched_by o p line _ is = tt
 
 -- a watch of a line can be added
-pub can_be_watched : (o : Opening) (p : Parts) (line : List ℕ) (x : Effect) → change_of x ≡ (answer_of o (shown p) line).outcome.change → CanBeWatched p.watches x
+pub can_be_watched : (o : Opening) (p : Parts) (line : List ℕ) (x : Effect) → change_of x ≡ (answer_of o (state_of p) line).outcome.change → CanBeWatched p.watches x
 can_be_watched o p line x is = watched_by o p line x is
 
 -- ---- the state after a line
@@ -148,8 +161,8 @@ sets_more n (displaces d) = sets_by_more n (is_off d)
 sets_more n (pokes p) = omega arith
 sets_more n exits = omega arith
 
-still_kept : (o : Opening) (old new : Parts) (c : Change) → Kept o old → shown new ≡ changed_by (shown old) c → new.table ≡ changed_table old.table c → new.sources ≡ old.sources → Kept o new
-still_kept o old new c kept state table sources =
+still_kept : (o : Opening) (old new : Parts) (c : Change) → Kept o old → old.noted < history → state_of new ≡ changed_by (state_of old) c → new.table ≡ changed_table old.table c → new.sources ≡ old.sources → Kept o new
+still_kept o old new c kept low state table sources =
     let given : new.table.given ≡ given_after old.table.given c = ap (λ (t : Table). t.given) table in
     let noted : new.noted ≡ old.noted + 1 = ap (λ (s : State). s.noted) state in
     let more = given_more old.table.given c in
@@ -168,10 +181,25 @@ still_kept o old new c kept state table sources =
       counts = ap (λ (s : State). length s.passed) state ∙ kept.counts;
       passed = λ k. subst (λ (s : State). slice_index s.passed k ≤ s.retired) (sym state) (kept.passed k);
       sets = omega arith;
+      noted = omega (arith, low, noted);
+      owing = λ p is. omega (arith, low, noted);
     }
 
+-- what is answered to a line changes this, and is its reply
+pub changes_so : (o : Opening) (s : State) (line : List ℕ) (l : LineAnswer) → line_answer_of l ≡ answer_of o s line → change_of l.answer.effect ≡ (answer_of o s line).outcome.change
+changes_so o s line l is = ap (λ (a : Answer). a.outcome.change) is
+
+replies_so : (o : Opening) (s : State) (line : List ℕ) (l : LineAnswer) → line_answer_of l ≡ answer_of o s line → shows.Answer (record { token = l.token; content = l.answer.content }) ≡ shows.Answer (reply_of o s line)
+replies_so o s line l is = ap (λ (a : Answer). shows.Answer (record { token = a.token; content = a.outcome.content })) is
+
 -- a line came
-pub line_comes : (o : Opening) (old new : Parts) (line : List ℕ) (x : Effect) (b : Bool) → Kept o old → b ≡ true → change_of x ≡ (answer_of o (shown old) line).outcome.change → shown new ≡ changed_by (shown old) (change_of x) → new.table ≡ changed_table old.table (change_of x) → new.sources ≡ old.sources
-    → (cond b (Some (done_by o (shown old) line)) None ≡ Some (shown new)) × Kept o new
-line_comes o old new line x b kept may is state table sources =
-    (rw may (ap Some (sym (state ∙ done_is o (shown old) line (change_of x) is))), still_kept o old new (change_of x) kept state table sources)
+pub line_comes : (o : Opening) (old new : Parts) (line : List ℕ) (l : LineAnswer) (b : Bool) → Kept o old → may_do o (state_of old) line ≡ true → b ≡ true → line_answer_of l ≡ answer_of o (state_of old) line
+    → state_of new ≡ changed_by (state_of old) (change_of l.answer.effect)
+    → new.table ≡ changed_table old.table (change_of l.answer.effect) → new.sources ≡ old.sources
+    → Enters o (Ok (shows.Answer (record { token = l.token; content = l.answer.content }))) (cond b (Some (done_by o (state_of old) line)) None) (shows.Answer (reply_of o (state_of old) line)) old new
+line_comes o old new line l b kept may is answers state table sources =
+    let x = l.answer.effect in (
+      rw is (ap Some (sym (state ∙ done_is o (state_of old) line (change_of x) (changes_so o (state_of old) line l answers)))),
+      replies_so o (state_of old) line l answers,
+      still_kept o old new (change_of x) kept (history_low o (state_of old) line may) state table sources,
+    )

@@ -1,25 +1,30 @@
--- One instruction, and several.
-use Rattle.std.proofs.Common.{◌≡◌, ◌≤◌, ◌<◌, ◌+◌, ◌-◌, ℕ, zero, suc, Bool, true, false, cond, List, [], ◌∷◌, ◌++◌, length, refl, sym, ap, ◌∙◌, subst, arith, length-set}
-use Rattle.std.proofs.lemmas.List.{length-map}
-use Rattle.std.specs.Prelude.{Option, Some, None, option_and_then, Result, Ok, Err, slice_get, slice_index, slice_set}
+-- One instruction.
+use Rattle.std.proofs.Common.{◌≡◌, ◌≤◌, ◌<◌, ◌+◌, ℕ, zero, suc, Bool, true, false, List, [], ◌∷◌, ◌++◌, length, refl, sym, ap, ◌∙◌, subst, arith, length-set}
+use Rattle.std.proofs.lemmas.List.{append-nil, length-map}
+use Rattle.std.specs.Prelude.{Option, Some, None, Ok, Err, slice_get, slice_index, slice_set}
 use Rattle.std.specs.Global.{Vec}
 use Rattle.rv_exec.specs.Registers.{Registers}
 use Rattle.rv_exec.specs.Memory.{Memory}
+use Rattle.rv_exec.specs.declared.effect.Cause.{Cause}
 use Rattle.rv_exec.specs.declared.effect.Stepped.{Stepped}
 use Rattle.rv_exec.specs.declared.effect.Stepped.TheVariants as stepping
 use Rattle.plain_machine.specs.Answers.{StepGives}
 use Rattle.plain_machine.specs.Environment.{Answer, Traps, Goes, Leave, Stays, LeavesAlone, LeavesAll}
 use Rattle.plain_machine.specs.Plain.{plain}
+use Rattle.unpatched_machine.specs.Instruction.{OnOutput}
 use Rattle.dbg_model.specs.declared.opening.Opening.{Opening}
 use Rattle.dbg_model.specs.declared.hart.Hart.{Hart}
+use Rattle.dbg_model.specs.declared.shown.Shown.{Shown}
+use Rattle.dbg_model.specs.Limits.{history}
 use Rattle.dbg_model.specs.State.{State, due}
 use Rattle.dbg_model.specs.Watches.{fired_by}
-use Rattle.dbg_model.specs.Lawful.{leaving, leaving_at, may_run, one, one_by, one_more_at, passes, ran, set_out, stepped, stepped_by, with_leavers}
+use Rattle.dbg_model.specs.Lawful.{answer_out, hart_out, leaving, leaving_at, may_run, one, one_by, one_more_at, one_out, passes, set_out, stepped, stepped_by, with_leavers, with_step}
+use Rattle.dbg_model.specs.Shown.{written}
 use Rattle.dbg_replay.specs.declared.halt.Halt.{Halt}
 use Rattle.dbg_replay.specs.declared.halt.Halt.TheVariants.{NoMemory, Unlawful}
 use Rattle.dbg_replay.specs.declared.state.Parts.{Parts}
-use Rattle.dbg_replay.specs.Parts.{shown}
-use Rattle.dbg_replay.specs.Going.{Chosen, Comes, Finishes, Kept}
+use Rattle.dbg_replay.specs.Parts.{state_of}
+use Rattle.dbg_replay.specs.Going.{Enters, Judged, Kept, PutsOut, leave_of}
 
 -- ---- one instruction
 
@@ -28,12 +33,12 @@ refused_by o s h None each = refl
 refused_by o s h (Some x) each = rw (each x refl) refl
 
 -- no hart of that number may execute
-pub one_refused : (o : Opening) (s : State) (h : ℕ) (e : Halt) (p : Parts) → Chosen (Err e) s.harts h (may_run o s h) → Comes o (Err e) (one o h s) p
+pub one_refused : (o : Opening) (h : ℕ) (e : Halt) (p : Parts) (shows : Shown) → Judged (Err e) o (state_of p) h → Enters o (Err e) (one o h (state_of p)) shows p p
 unfolding one
-one_refused o s h NoMemory p c = tt
-one_refused o s h Unlawful p c = refused_by o s h (slice_get s.harts h) c
+one_refused o h NoMemory p shows c = absurd c
+one_refused o h Unlawful p shows c = (refused_by o (state_of p) h (slice_get p.harts.items h) c, (refl, refl))
 
-pub one_steps : (o : Opening) (s : State) (h : ℕ) (x : Hart) (a : Answer) → slice_get s.harts h ≡ Some x → may_run o s h x ≡ true → plain o.image x.regs s.memory ≡ a → one o h s ≡ stepped_by a s h (set_out (due o.image s h x) x)
+one_steps : (o : Opening) (s : State) (h : ℕ) (x : Hart) (a : Answer) → slice_get s.harts h ≡ Some x → may_run o s h x ≡ true → plain o.image x.regs s.memory ≡ a → one o h s ≡ stepped_by a s h (set_out (due o.image s h x) x)
 unfolding one
 one_steps o s h x a at may is = ap (one_by o s h) at ∙ (rw may (ap (λ b. stepped_by b s h (set_out (due o.image s h x) x)) is))
 
@@ -46,22 +51,57 @@ length_leavers Stays xs h = refl
 length_leavers (LeavesAlone code) xs h = length_left code xs h (slice_get xs h)
 length_leavers (LeavesAll code) xs h = length-map xs (leaving code)
 
--- the registers and the memory are those of the answer
-goes_with : (st : Stepped) (a : Answer) (r s t : Registers) (m n k : Memory) (out : List ℕ) (leave : Leave) → StepGives st a r s m n → a ≡ Goes t k out leave → (t ≡ s) × (k ≡ n)
-goes_with stepping.Ran a r s t m n k out leave gives is = let same : Goes t k out leave ≡ Goes s n [] Stays = sym is ∙ gives in (cc, cc)
-goes_with (stepping.Wrote addr len) a r s t m n k out leave gives is = let same : Goes t k out leave ≡ Goes s n gives.0 Stays = sym is ∙ gives.3 in (cc, cc)
-goes_with (stepping.HartExit code) a r s t m n k out leave gives is = let same : Goes t k out leave ≡ Goes s n [] (LeavesAlone code) = sym is ∙ gives in (cc, cc)
-goes_with (stepping.AllExit code) a r s t m n k out leave gives is = let same : Goes t k out leave ≡ Goes s n [] (LeavesAll code) = sym is ∙ gives in (cc, cc)
-goes_with stepping.Hit a r s t m n k out leave gives is = absurd gives
-goes_with (stepping.Trap cause) a r s t m n k out leave gives is = let same : Goes t k out leave ≡ Traps cause = sym is ∙ gives.0 in absurd cc
+-- ---- what an instruction did, by its answer
+
+-- it gave registers and memory, and put out and showed what it wrote
+record Went (st : Stepped) (a : Answer) (s : Registers) (n : Memory) (shows : Shown) (before after : List ℕ) : Type 0 where
+  pub out : List ℕ
+  pub answer : a ≡ Goes s n out (leave_of st)
+  pub wrote : after ≡ before ++ out
+  pub shown : shows ≡ written out
+
+went : (st : Stepped) (a : Answer) (r s : Registers) (m n : Memory) (shows : Shown) (before after : List ℕ) → StepGives st a r s m n → PutsOut (Ok shows) st n before after → Went st a s n shows before after
+went stepping.Ran a r s m n shows before after gives puts = record { out = []; answer = gives; wrote = puts.1 ∙ sym (append-nil before); shown = puts.0 }
+went (stepping.Wrote addr len) a r s m n shows before after gives puts =
+    let p = puts gives.0 gives.1 gives.2 in
+    record { out = gives.0; answer = gives.3; wrote = p.1; shown = p.0 }
+went (stepping.HartExit code) a r s m n shows before after gives puts = record { out = []; answer = gives; wrote = puts.1 ∙ sym (append-nil before); shown = puts.0 }
+went (stepping.AllExit code) a r s m n shows before after gives puts = record { out = []; answer = gives; wrote = puts.1 ∙ sym (append-nil before); shown = puts.0 }
+went stepping.Hit a r s m n shows before after gives puts = absurd gives
+went (stepping.Trap cause) a r s m n shows before after gives puts = absurd puts
+
+-- where it isn't put out, nothing has changed
+kept_by : (st : Stepped) (a : Answer) (r s : Registers) (m n : Memory) (e : Halt) (before after : List ℕ) → StepGives st a r s m n → OnOutput st (n ≡ m) → PutsOut (Err e) st n before after → (n ≡ m) × (after ≡ before)
+kept_by stepping.Ran a r s m n Unlawful before after gives same puts = absurd puts
+kept_by stepping.Ran a r s m n NoMemory before after gives same puts = absurd puts
+kept_by (stepping.Wrote addr len) a r s m n Unlawful before after gives same puts = absurd puts
+kept_by (stepping.Wrote addr len) a r s m n NoMemory before after gives same puts = (same, puts)
+kept_by (stepping.HartExit code) a r s m n Unlawful before after gives same puts = absurd puts
+kept_by (stepping.HartExit code) a r s m n NoMemory before after gives same puts = absurd puts
+kept_by (stepping.AllExit code) a r s m n Unlawful before after gives same puts = absurd puts
+kept_by (stepping.AllExit code) a r s m n NoMemory before after gives same puts = absurd puts
+kept_by stepping.Hit a r s m n e before after gives same puts = absurd gives
+kept_by (stepping.Trap cause) a r s m n Unlawful before after gives same puts = (gives.2, puts)
+kept_by (stepping.Trap cause) a r s m n NoMemory before after gives same puts = absurd puts
+
+-- and where it isn't for memory it trapped
+trapped : (st : Stepped) (a : Answer) (r s : Registers) (m n : Memory) (before after : List ℕ) → StepGives st a r s m n → PutsOut (Err Unlawful) st n before after → (cause : Cause) × (a ≡ Traps cause)
+trapped stepping.Ran a r s m n before after gives puts = absurd puts
+trapped (stepping.Wrote addr len) a r s m n before after gives puts = absurd puts
+trapped (stepping.HartExit code) a r s m n before after gives puts = absurd puts
+trapped (stepping.AllExit code) a r s m n before after gives puts = absurd puts
+trapped stepping.Hit a r s m n before after gives puts = absurd gives
+trapped (stepping.Trap cause) a r s m n before after gives puts = (cause, gives.0)
+
+-- ---- the state behind it
 
 -- the state of parts after an instruction, with these harts, memory, output and counts
 abbrev after_one : State → List Hart → Memory → List ℕ → List ℕ → State
 after_one s xs m out counts = record s { harts = xs; memory = m; out = out; passed = counts; retired = s.retired + 1 }
 
--- the parts after an instruction, before its exits and its output
-abbrev between : Parts → Vec Hart → Memory → Vec ℕ → Parts
-between p v m w = record p { harts = v; memory = m; passed = w; retired = p.retired + 1 }
+-- the parts after an instruction
+abbrev behind : Parts → Vec Hart → Memory → Vec ℕ → Vec ℕ → Parts
+behind p v m wrote w = record p { harts = v; memory = m; out = wrote; passed = w; retired = p.retired + 1 }
 
 length_more : (ns : List ℕ) (h : ℕ) (b : Bool) → length (one_more_at ns h b) ≡ length ns
 length_more ns h true = length-set ns h (slice_index ns h + 1)
@@ -79,63 +119,66 @@ more_within : (ns : List ℕ) (h n : ℕ) (b : Bool) → ((j : ℕ) → slice_in
 more_within ns h n true each k = set_within ns h (slice_index ns h + 1) k n (omega (arith, each h)) each
 more_within ns h n false each k = omega (arith, each k)
 
-finished : (o : Opening) (old new : Parts) (h : ℕ) (x : Hart) (v : Vec Hart) (w : Vec ℕ) (m : Memory) (s t : Registers) (k : Memory) (out : List ℕ) (leave : Leave) (after : Option State) → Kept o old
-    → after ≡ stepped_by (Goes t k out leave) (shown old) h x → (t ≡ s) × (k ≡ m) → v.items ≡ slice_set old.harts.items h (stepped x s (fired_by old.watches old.memory m)) → w.items ≡ one_more_at old.passed.items h (passes (shown old) x) → Finishes (Ok tt) (Goes t k out leave) (between old v m w) h new → Comes o (Ok tt) after new
-finished o old new h x v w m s t k out leave after kept is same items more f =
-    let harts : new.harts.items ≡ with_leavers leave (slice_set old.harts.items h (stepped x t (fired_by old.watches old.memory k))) h =
-    f.0 ∙ ap (λ ys. with_leavers leave ys h) (items ∙ (ap (λ r. slice_set old.harts.items h (stepped x r (fired_by old.watches old.memory m))) (sym same.0) ∙ ap (λ b. slice_set old.harts.items h (stepped x t (fired_by old.watches old.memory b))) (sym same.1))) in
-    let mid : Parts = record (between old v m w) { harts = new.harts; out = new.out } in
-    let counts = one_more_at old.passed.items h (passes (shown old) x) in
-    let state : shown mid ≡ after_one (shown old) (with_leavers leave (slice_set old.harts.items h (stepped x t (fired_by old.watches old.memory k))) h) k (old.out.items ++ out) counts =
-    ap (λ ys. after_one (shown old) ys m new.out.items w.items) harts ∙ (ap (λ b. after_one (shown old) (with_leavers leave (slice_set old.harts.items h (stepped x t (fired_by old.watches old.memory k))) h) m b w.items) f.1
-    ∙ (ap (λ b. after_one (shown old) (with_leavers leave (slice_set old.harts.items h (stepped x t (fired_by old.watches old.memory k))) h) b (old.out.items ++ out) w.items) (sym same.1)
-    ∙ ap (after_one (shown old) (with_leavers leave (slice_set old.harts.items h (stepped x t (fired_by old.watches old.memory k))) h) k (old.out.items ++ out)) more)) in
-    let count : length new.harts.items ≡ o.settings.harts =
-    ap length harts ∙ (length_leavers leave (slice_set old.harts.items h (stepped x t (fired_by old.watches old.memory k))) h ∙ (length-set old.harts.items h (stepped x t (fired_by old.watches old.memory k)) ∙ kept.harts)) in
+-- the parts show the state behind it, and are kept
+finished : (o : Opening) (old : Parts) (h : ℕ) (x : Hart) (v : Vec Hart) (m : Memory) (wrote w : Vec ℕ) (s : Registers) (out : List ℕ) (leave : Leave) → Kept o old → old.noted < history
+    → v.items ≡ with_leavers leave (slice_set old.harts.items h (stepped x s (fired_by old.watches old.memory m))) h → wrote.items ≡ old.out.items ++ out → w.items ≡ one_more_at old.passed.items h (passes (state_of old) x)
+    → (with_step (state_of old) h x s m out leave ≡ state_of (behind old v m wrote w)) × Kept o (behind old v m wrote w)
+finished o old h x v m wrote w s out leave kept low harts puts more =
+    let one : State = with_step (state_of old) h x s m out leave in
+    let state : one ≡ state_of (behind old v m wrote w) =
+    ap (λ ys. after_one (state_of old) ys m (old.out.items ++ out) (one_more_at old.passed.items h (passes (state_of old) x))) (sym harts)
+    ∙ (ap (λ b. after_one (state_of old) v.items m b (one_more_at old.passed.items h (passes (state_of old) x))) (sym puts) ∙ ap (after_one (state_of old) v.items m wrote.items) (sym more)) in
+    let count : length v.items ≡ o.settings.harts =
+    ap length harts ∙ (length_leavers leave (slice_set old.harts.items h (stepped x s (fired_by old.watches old.memory m))) h ∙ (length-set old.harts.items h (stepped x s (fired_by old.watches old.memory m)) ∙ kept.harts)) in
     let within : (j : ℕ) → slice_index w.items j ≤ old.retired + 1 =
-    λ j. subst (λ ns. slice_index ns j ≤ old.retired + 1) (sym more) (more_within old.passed.items h old.retired (passes (shown old) x) kept.passed j) in
-    let still : Kept o mid = record { sources = kept.sources; harts = count; places = kept.places; waits = kept.waits; given = kept.given; few = kept.few; budget = kept.budget; counts = ap length more ∙ (length_more old.passed.items h (passes (shown old) x) ∙ kept.counts); passed = within; sets = kept.sets } in
-    (is ∙ ap Some (sym (ap shown f.2 ∙ state)), subst (Kept o) (sym f.2) still)
+    λ j. subst (λ ns. slice_index ns j ≤ old.retired + 1) (sym more) (more_within old.passed.items h old.retired (passes (state_of old) x) kept.passed j) in (
+      state,
+      record {
+        sources = kept.sources;
+        harts = count;
+        places = kept.places;
+        waits = kept.waits;
+        given = kept.given;
+        few = kept.few;
+        budget = kept.budget;
+        counts = ap length more ∙ (length_more old.passed.items h (passes (state_of old) x) ∙ kept.counts);
+        passed = within;
+        sets = kept.sets;
+        noted = omega (arith, low);
+        owing = λ p is. omega (arith, low);
+      },
+    )
 
-finishes : (o : Opening) (old new : Parts) (h : ℕ) (x : Hart) (v : Vec Hart) (w : Vec ℕ) (m : Memory) (st : Stepped) (r s : Registers) (n : Memory) (result : Result (Unit {0}) Halt) (a : Answer) (after : Option State) → Kept o old
-    → after ≡ stepped_by a (shown old) h x → StepGives st a r s n m → v.items ≡ slice_set old.harts.items h (stepped x s (fired_by old.watches old.memory m)) → w.items ≡ one_more_at old.passed.items h (passes (shown old) x) → Finishes result a (between old v m w) h new → Comes o result after new
-finishes o old new h x v w m st r s n (Ok u) (Goes t k out leave) after kept is gives items more f =
-    finished o old new h x v w m s t k out leave after kept is (goes_with st (Goes t k out leave) r s t n m k out leave gives refl) items more f
-finishes o old new h x v w m st r s n (Ok u) (Traps cause) after kept is gives items more f = absurd f
-finishes o old new h x v w m st r s n (Err Unlawful) (Goes t k out leave) after kept is gives items more f = absurd f
-finishes o old new h x v w m st r s n (Err Unlawful) (Traps cause) after kept is gives items more f = is
-finishes o old new h x v w m st r s n (Err NoMemory) a after kept is gives items more f = tt
+-- the answer at the hart's pc, and what it wrote
+answers : (o : Opening) (old : Parts) (h : ℕ) (x y : Hart) (r : Registers) (a : Answer) → slice_get old.harts.items h ≡ Some x → may_run o (state_of old) h x ≡ true → y ≡ set_out (due o.image (state_of old) h x) x → r ≡ y.regs
+    → plain o.image r old.memory ≡ a → (one o h (state_of old) ≡ stepped_by a (state_of old) h y) × (one_out o h (state_of old) ≡ answer_out a)
+unfolding one_out
+answers o old h x y r a at may goes same is =
+    let regs : x.regs ≡ r = ap (λ (z : Hart). z.regs) (sym goes) ∙ sym same in
+    let plainly : plain o.image x.regs old.memory ≡ a = ap (λ q. plain o.image q old.memory) regs ∙ is in
+    (one_steps o (state_of old) h x a at may plainly ∙ ap (stepped_by a (state_of old) h) (sym goes), ap (hart_out o (state_of old)) at ∙ ap answer_out plainly)
 
 -- one instruction came
-pub one_comes : (o : Opening) (old new : Parts) (h : ℕ) (x y : Hart) (v : Vec Hart) (w : Vec ℕ) (m : Memory) (st : Stepped) (r s : Registers) (result : Result (Unit {0}) Halt) → Kept o old → slice_get old.harts.items h ≡ Some x → may_run o (shown old) h x ≡ true
-    → y ≡ set_out (due o.image (shown old) h x) x → r ≡ y.regs → StepGives st (plain o.image r old.memory) r s old.memory m → v.items ≡ slice_set old.harts.items h (stepped y s (fired_by old.watches old.memory m)) → w.items ≡ one_more_at old.passed.items h (passes (shown old) y)
-    → ((a : Answer) (r s : Registers) (n : Memory) → StepGives st a r s n m → Finishes result a (between old v m w) h new) → Comes o result (one o h (shown old)) new
-one_comes o old new h x y v w m st r s result kept at may goes same gives items more f =
-    let a = plain o.image r old.memory in
-    let regs : x.regs ≡ r = ap (λ (z : Hart). z.regs) (sym goes) ∙ sym same in
-    let is : one o h (shown old) ≡ stepped_by a (shown old) h y =
-    one_steps o (shown old) h x a at may (ap (λ q. plain o.image q old.memory) regs) ∙ ap (stepped_by a (shown old) h) (sym goes) in
-    finishes o old new h y v w m st r s old.memory result a (one o h (shown old)) kept is gives items more (f a r s old.memory gives)
+pub one_comes : (o : Opening) (old new : Parts) (h : ℕ) (x y : Hart) (v : Vec Hart) (m : Memory) (wrote w : Vec ℕ) (st : Stepped) (r s : Registers) (shows : Shown) → Kept o old → old.noted < history
+    → slice_get old.harts.items h ≡ Some x → may_run o (state_of old) h x ≡ true → y ≡ set_out (due o.image (state_of old) h x) x → r ≡ y.regs
+    → StepGives st (plain o.image r old.memory) r s old.memory m → PutsOut (Ok shows) st m old.out.items wrote.items
+    → v.items ≡ with_leavers (leave_of st) (slice_set old.harts.items h (stepped y s (fired_by old.watches old.memory m))) h → w.items ≡ one_more_at old.passed.items h (passes (state_of old) y) → new ≡ behind old v m wrote w
+    → Enters o (Ok shows) (one o h (state_of old)) (written (one_out o h (state_of old))) old new
+one_comes o old new h x y v m wrote w st r s shows kept low at may goes same gives puts harts more is =
+    let d = went st (plain o.image r old.memory) r s old.memory m shows old.out.items wrote.items gives puts in
+    let a = answers o old h x y r (Goes s m d.out (leave_of st)) at may goes same d.answer in
+    let f = finished o old h y v m wrote w s d.out (leave_of st) kept low harts d.wrote more in
+    (a.0 ∙ ap Some (f.0 ∙ ap state_of (sym is)), d.shown ∙ ap written (sym a.1), subst (Kept o) (sym is) f.1)
 
--- ---- several instructions
-
-one_more : (o : Opening) (h : ℕ) (s : State) (n : ℕ) → ran o h s (n + 1) ≡ option_and_then (one o h) (ran o h s n)
-one_more o h s n = let is : n + 1 ≡ suc n = omega arith in ap (ran o h s) is
-
-stays_failed : (o : Opening) (h : ℕ) (s : State) (n k : ℕ) → ran o h s n ≡ None → ran o h s (n + k) ≡ None
-stays_failed o h s n zero none = let is : n + 0 ≡ n = omega arith in ap (ran o h s) is ∙ none
-stays_failed o h s n (suc k) none =
-    let is : n + suc k ≡ (n + k) + 1 = omega arith in
-    ap (ran o h s) is ∙ (one_more o h s (n + k) ∙ ap (option_and_then (one o h)) (stays_failed o h s n k none))
-
-guarded : (b : Bool) (r : Option State) → r ≡ None → cond b r None ≡ None
-guarded true r none = none
-guarded false r none = refl
-
--- an instruction that may not come ends them all
-pub ran_fails : (o : Opening) (h : ℕ) (s t : State) (n count : ℕ) (b : Bool) (e : Halt) (p q : Parts) → n < count → ran o h s n ≡ Some t → Comes o (Err e) (one o h t) p → Comes o (Err e) (cond b (ran o h s count) None) q
-ran_fails o h s t n count b NoMemory p q low is f = tt
-ran_fails o h s t n count b Unlawful p q low is f =
-    let here : ran o h s (n + 1) ≡ None = one_more o h s n ∙ (ap (option_and_then (one o h)) is ∙ f) in
-    let all : count ≡ (n + 1) + (count - (n + 1)) = omega (arith, low) in
-    guarded b (ran o h s count) (ap (ran o h s) all ∙ stays_failed o h s (n + 1) (count - (n + 1)) here)
+-- one instruction traps, or there is no memory for what it wrote
+pub one_fails : (o : Opening) (old : Parts) (h : ℕ) (x y : Hart) (m : Memory) (wrote : Vec ℕ) (st : Stepped) (r s : Registers) (e : Halt) (shows : Shown)
+    → slice_get old.harts.items h ≡ Some x → may_run o (state_of old) h x ≡ true → y ≡ set_out (due o.image (state_of old) h x) x → r ≡ y.regs → StepGives st (plain o.image r old.memory) r s old.memory m → OnOutput st (m ≡ old.memory)
+    → PutsOut (Err e) st m old.out.items wrote.items → Enters o (Err e) (one o h (state_of old)) shows old (record old { memory = m; out = wrote })
+one_fails o old h x y m wrote st r s Unlawful shows at may goes same gives still puts =
+    let k = kept_by st (plain o.image r old.memory) r s old.memory m Unlawful old.out.items wrote.items gives still puts in
+    let t = trapped st (plain o.image r old.memory) r s old.memory m old.out.items wrote.items gives puts in
+    let a = answers o old h x y r (Traps t.0) at may goes same t.1 in
+    (a.0, (k.1, ap (λ (n : Memory). let p : Parts = record old { memory = n; out = wrote } in p) k.0))
+one_fails o old h x y m wrote st r s NoMemory shows at may goes same gives still puts =
+    let k = kept_by st (plain o.image r old.memory) r s old.memory m NoMemory old.out.items wrote.items gives still puts in
+    (k.1, ap (λ (n : Memory). let p : Parts = record old { memory = n; out = wrote } in p) k.0)

@@ -5,7 +5,7 @@ ghost use Rattle.dbg_model.specs.State.{is_off};
 ghost use Rattle.dbg_model.specs.Reply.{changed_by, displaced_after, exited_after, harts_after, selected_after, sets_after, sets_by};
 ghost use Rattle.dbg_effects.specs.Effect.{change_of};
 ghost use Rattle.dbg_effects.specs.Table.{CanBeMade, CanBeWatched, changed_table};
-ghost use Rattle.dbg_replay.specs.Parts.{shown};
+ghost use Rattle.dbg_replay.specs.Parts.{state_of};
 
 use crate::modes::{asked, forget, resumed};
 use crate::state::Parts;
@@ -80,7 +80,7 @@ pub fn make(parts: &mut Parts, effect: Effect)
     requires room { parts.old.noted < 2 ^ 64 - 1 }
     requires sets { parts.old.sets < 2 ^ 64 - 1 }
     requires few { length parts.old.harts.items ≤ 16 }
-    ensures state { shown parts.new ≡ changed_by (shown parts.old) (change_of effect) }
+    ensures state { state_of parts.new ≡ changed_by (state_of parts.old) (change_of effect) }
     ensures sources { parts.new.sources ≡ parts.old.sources }
     ensures table { parts.new.table ≡ changed_table parts.old.table (change_of effect) }
 {

@@ -1,43 +1,35 @@
-// Entries of a journal: whether each may come, and the state that it leaves.
-ghost use Rattle.std.specs.Prelude.{◌≡◌, ◌<◌, ◌-◌, ◌^◌, None, if◌then◌else◌, nat_lt, slice_get};
+// Entries of a journal other than `Ran`: whether each may come, what it shows, and the state that it leaves.
+ghost use Rattle.std.specs.Prelude.{◌≡◌, Option, slice_get};
 ghost use Rattle.dbg_model.specs.declared.entry.Why.TheVariants as reason;
+ghost use Rattle.dbg_model.specs.declared.opening.Opening.{Opening};
+ghost use Rattle.dbg_model.specs.declared.shown.Shown.TheVariants.{Exit};
+ghost use Rattle.dbg_model.specs.State.{State, all_gone};
+ghost use Rattle.dbg_replay.specs.declared.state.Parts.{Parts};
 ghost use Rattle.dbg_model.specs.Breaks.{is_number, is_stop, same_error};
 ghost use Rattle.dbg_model.specs.Watches.{is_fired};
-ghost use Rattle.dbg_model.specs.Keeping.{entry_of};
-ghost use Rattle.dbg_model.specs.Lawful.{counted_by, enter, left_by, leaver_from, ran, stopped_by};
-ghost use Rattle.dbg_replay.specs.Parts.{shown};
-ghost use Rattle.dbg_replay.specs.Going.{Comes, Kept, halted_by, is_reason, traps_with};
+ghost use Rattle.dbg_model.specs.Journals.{noted_one};
+ghost use Rattle.dbg_model.specs.Lawful.{counted_by, enter, exited_at, left_by, leaver_from, stopped_by};
+ghost use Rattle.dbg_model.specs.Shown.{shown_of};
+ghost use Rattle.dbg_replay.specs.Parts.{state_of};
+ghost use Rattle.dbg_replay.specs.Going.{Comes, Enters, Kept, halted_by, is_reason, traps_with};
 
 use crate::halt::Halt;
 use crate::lines::do_line;
-use crate::modes::{counted, exited, find, leaver_from, set_out, stopped_hart};
+use crate::modes::{all_gone, counted, exit_at, leaver_from, set_out, stopped_hart};
 use crate::movers::{due, mover, runner, settle};
 use crate::pokes::write;
+use crate::showing::shown_stop;
 use crate::state::Parts;
-use crate::stepping::{execute_plain, step};
 use break_table::{CondError, Due};
-use dbg_model::{Entry, EntryRef, Fired, Judgement, Opening, Why};
-use rv_exec::{Cause, Stepped};
+use dbg_model::{Entry, Fired, Judgement, Opening, Shown, Why};
+use rv_exec::Cause;
 use std::alloc::Global;
-
-// So many instructions of a hart, at least one.
-fn run(alloc: Global, opening: &Opening, parts: &mut Parts, h: u32, count: u64) -> Result<(), Halt>
-    requires { Kept opening.now parts.old }
-    ensures { Comes opening.now result (if nat_lt 0 count then ran opening.now h (shown parts.old) count else None) parts.new }
-{
-    if count == 0 {
-        return Err(Halt::Unlawful);
-    }
-    for done in 0..count {
-        step(alloc, opening, parts, h)?;
-    }
-    Ok(())
-}
+use unpatched_machine::trap_plain;
 
 // Breakpoints only count a hart, which goes on.
 fn count(opening: &Opening, parts: &mut Parts, h: u32) -> Result<(), Halt>
     requires { Kept opening.now parts.old }
-    ensures { Comes opening.now result (counted_by opening.now (shown parts.old) h (slice_get parts.old.harts.items h)) parts.new }
+    ensures { Comes opening.now result (counted_by opening.now (state_of parts.old) h (slice_get parts.old.harts.items h)) parts.old parts.new }
 {
     let hart = mover(opening, parts, h)?;
     let judgement = due(opening, parts, h, &hart);
@@ -50,7 +42,8 @@ fn count(opening: &Opening, parts: &mut Parts, h: u32) -> Result<(), Halt>
     Ok(())
 }
 
-fn is_number(found: Option<u32>, number: u32) -> bool
+/// Whether a number was found, and it is this one.
+pub fn is_number(found: Option<u32>, number: u32) -> bool
     ensures { result ≡ is_number found number }
 {
     match found {
@@ -105,7 +98,7 @@ fn is_reason(why: Why, judgement: &Judgement) -> bool
 // A hart stops where it has arrived: at a breakpoint, by a watch, or at the end of its step or of its function.
 fn stop_at(opening: &Opening, parts: &mut Parts, h: u32, why: Why) -> Result<(), Halt>
     requires { Kept opening.now parts.old }
-    ensures { Comes opening.now result (halted_by opening.now (shown parts.old) h why (slice_get parts.old.harts.items h)) parts.new }
+    ensures { Comes opening.now result (halted_by opening.now (state_of parts.old) h why (slice_get parts.old.harts.items h)) parts.old parts.new }
 {
     let hart = mover(opening, parts, h)?;
     if !is_reason(why, &due(opening, parts, h, &hart)) {
@@ -121,9 +114,9 @@ fn stop_at(opening: &Opening, parts: &mut Parts, h: u32, why: Why) -> Result<(),
 // A hart stops, since an interrupt was asked of it.
 fn interrupt(opening: &Opening, parts: &mut Parts, h: u32) -> Result<(), Halt>
     requires { Kept opening.now parts.old }
-    ensures { Comes opening.now result (stopped_by opening.now (shown parts.old) h reason.Interrupted (slice_get parts.old.harts.items h)) parts.new }
+    ensures { Comes opening.now result (stopped_by opening.now (state_of parts.old) h reason.Interrupted (slice_get parts.old.harts.items h)) parts.old parts.new }
 {
-    let hart = runner(opening, parts, h)?;
+    let (hart, _) = runner(opening, parts, h)?;
     if !hart.asked {
         return Err(Halt::Unlawful);
     }
@@ -132,24 +125,22 @@ fn interrupt(opening: &Opening, parts: &mut Parts, h: u32) -> Result<(), Halt>
     Ok(())
 }
 
-fn traps_with(stepped: Stepped, cause: Cause) -> bool
-    ensures { result ≡ traps_with stepped cause }
+fn traps_with(trap: Option<Cause>, cause: Cause) -> bool
+    ensures { result ≡ traps_with trap cause }
 {
-    match stepped {
-        Stepped::Trap(met) => met.number() == cause.number(),
-        _ => false,
+    match trap {
+        None => false,
+        Some(met) => met.number() == cause.number(),
     }
 }
 
-// A hart stops by a trap of its instruction.
+// A hart stops by a trap of its instruction, which isn't executed.
 fn stop_by(opening: &Opening, parts: &mut Parts, h: u32, cause: Cause) -> Result<(), Halt>
     requires { Kept opening.now parts.old }
-    ensures { Comes opening.now result (stopped_by opening.now (shown parts.old) h (reason.Fault cause) (slice_get parts.old.harts.items h)) parts.new }
+    ensures { Comes opening.now result (stopped_by opening.now (state_of parts.old) h (reason.Fault cause) (slice_get parts.old.harts.items h)) parts.old parts.new }
 {
-    let hart = runner(opening, parts, h)?;
-    let mut regs = hart.regs;
-    let stepped = execute_plain(&opening.image, &mut regs, &mut parts.memory);
-    if !traps_with(stepped, cause) {
+    let (hart, _) = runner(opening, parts, h)?;
+    if !traps_with(trap_plain(&opening.image, &hart.regs, &parts.memory), cause) {
         return Err(Halt::Unlawful);
     }
     parts.harts[h as usize] = stopped_hart(hart);
@@ -157,11 +148,24 @@ fn stop_by(opening: &Opening, parts: &mut Parts, h: u32, cause: Cause) -> Result
     Ok(())
 }
 
+// A hart stops, for any reason.
+fn stop(opening: &Opening, parts: &mut Parts, h: u32, why: Why) -> Result<(), Halt>
+    requires { Kept opening.now parts.old }
+    ensures { Comes opening.now result (stopped_by opening.now (state_of parts.old) h why (slice_get parts.old.harts.items h)) parts.old parts.new }
+{
+    match why {
+        Why::Break { .. } | Why::Watch(_) | Why::Stepped | Why::Finished => stop_at(
+            opening, parts, h, why,
+        ),
+        Why::Interrupted => interrupt(opening, parts, h),
+        Why::Fault(cause) => stop_by(opening, parts, h, cause),
+    }
+}
+
 // The least hart that leaves is reported; none after a `-gdb-exit`.
-fn leave(opening: &Opening, parts: &mut Parts, h: u32, code: u32) -> Result<(), Halt>
-    requires kept { Kept opening.now parts.old }
-    requires room { parts.old.noted < 2 ^ 64 - 1 }
-    ensures { Comes opening.now result (left_by (shown parts.old) h code (leaver_from 0 parts.old.harts.items)) parts.new }
+fn leave(opening: &Opening, parts: &mut Parts, h: u32, code: u32) -> Result<Shown, Halt>
+    requires { Kept opening.now parts.old }
+    ensures { Enters opening.now result (left_by (state_of parts.old) h code (leaver_from 0 parts.old.harts.items)) (Exit (all_gone (exited_at parts.old.harts.items h (slice_get parts.old.harts.items h)))) parts.old parts.new }
 {
     let Some((hart, with)) = leaver_from(0, parts.harts.as_slice()) else {
         return Err(Halt::Unlawful);
@@ -169,55 +173,42 @@ fn leave(opening: &Opening, parts: &mut Parts, h: u32, code: u32) -> Result<(), 
     if parts.exited || hart != h || with != code {
         return Err(Halt::Unlawful);
     }
-    if let Some(leaver) = find(parts.harts.as_slice(), h) {
-        parts.harts[h as usize] = exited(leaver);
-    }
+    exit_at(parts.harts.as_mut_slice(), h);
     parts.noted += 1;
-    Ok(())
+    Ok(Shown::Exit {
+        last: all_gone(parts.harts.as_slice()),
+    })
 }
 
-// One entry that a journal keeps whole.
-#[tactic(auto, unfolding(dbg_model::specs::Lawful::enter))]
-fn enter_noted(
-    alloc: Global,
-    opening: &Opening,
-    parts: &mut Parts,
-    entry: &Entry,
-) -> Result<(), Halt>
-    requires kept { Kept opening.now parts.old }
-    requires room { parts.old.noted < 2 ^ 64 - 1 }
-    ensures { Comes opening.now result (enter opening.now (shown parts.old) entry.now) parts.new }
+// What came shows this.
+fn showing(came: Result<(), Halt>, shown: Shown) -> Result<Shown, Halt>
+    ensures { (o : Opening) (after : Option State) (old new : Parts) → Comes o came after old new → Enters o result after shown old new }
 {
-    match entry {
-        Entry::Ran { hart, count } => run(alloc, opening, parts, *hart, *count),
-        Entry::Counted { hart } => count(opening, parts, *hart),
-        Entry::Stopped { hart, why } => match *why {
-            Why::Break { .. } | Why::Watch(_) | Why::Stepped | Why::Finished => stop_at(
-                opening, parts, *hart, *why,
-            ),
-            Why::Interrupted => interrupt(opening, parts, *hart),
-            Why::Fault(cause) => stop_by(opening, parts, *hart, cause),
-        },
-        Entry::Left { hart, code } => leave(opening, parts, *hart, *code),
-        Entry::Did { line } => do_line(alloc, opening, parts, line.as_slice()),
-        Entry::Poked { poke } => write(opening, parts, poke),
-    }
+    came?;
+    Ok(shown)
 }
 
-/// One entry.
+/// One entry other than `Ran`, and what it shows.
 #[tactic(auto, unfolding(dbg_model::specs::Lawful::enter))]
 pub fn enter(
     alloc: Global,
     opening: &Opening,
     parts: &mut Parts,
-    entry: EntryRef<'_>,
-) -> Result<(), Halt>
+    entry: &Entry,
+) -> Result<Shown, Halt>
     requires kept { Kept opening.now parts.old }
-    requires room { parts.old.noted < 2 ^ 64 - 1 }
-    ensures { Comes opening.now result (enter opening.now (shown parts.old) (entry_of entry.entry)) parts.new }
+    requires noted { noted_one entry.now ≡ 1 }
+    ensures { Enters opening.now result (enter opening.now (state_of parts.old) entry.now) (shown_of opening.now (state_of parts.old) entry.now) parts.old parts.new }
 {
     match entry {
-        EntryRef::Ran { hart, count } => run(alloc, opening, parts, hart, count),
-        EntryRef::Noted(entry) => enter_noted(alloc, opening, parts, entry),
+        Entry::Ran { .. } => unreachable!(),
+        Entry::Counted { hart } => showing(count(opening, parts, *hart), Shown::Nothing),
+        Entry::Stopped { hart, why } => {
+            let shown = shown_stop(alloc, parts, *hart, *why)?;
+            showing(stop(opening, parts, *hart, *why), shown)
+        }
+        Entry::Left { hart, code } => leave(opening, parts, *hart, *code),
+        Entry::Did { line } => do_line(alloc, opening, parts, line.as_slice()),
+        Entry::Poked { poke } => showing(write(opening, parts, poke), Shown::Nothing),
     }
 }

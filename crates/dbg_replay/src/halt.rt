@@ -1,3 +1,4 @@
+// Why a replay ends before its journal does.
 use dbg_traits::NoMemory;
 use std::alloc::AllocError;
 

@@ -11,8 +11,11 @@ mod modes;
 mod movers;
 mod pokes;
 mod replaying;
+mod showing;
 mod state;
 mod stepping;
+mod taking;
 
 pub use replaying::replay;
 pub use state::ModelState;
+pub use taking::{start, take_entry, take_ran};

@@ -1,23 +1,23 @@
-// Lines: whether each may be done, and what it changes.
+// Lines: whether each may be done, what it is answered, and what it changes.
 ghost use Rattle.std.specs.Prelude.{◌≡◌, ◌≤◌, ◌<◌, ◌-◌, ◌^◌, ℕ, List, IfOk, None, Some, if◌then◌else◌, length, map};
 ghost use Rattle.mi_commands.specs.Gives.{Commands};
 ghost use Rattle.dbg_model.specs.Sources.{sources_of};
 ghost use Rattle.dbg_model.specs.Lawful.{may_do};
-ghost use Rattle.dbg_model.specs.Reply.{answer_of, done_by};
+ghost use Rattle.dbg_model.specs.Reply.{answer_of, done_by, reply_of};
 ghost use Rattle.dbg_model.specs.Sight.{view_of};
-ghost use Rattle.dbg_effects.specs.Effect.{change_of};
+ghost use Rattle.dbg_model.specs.declared.shown.Shown.TheVariants.{Answer};
+ghost use Rattle.dbg_answers.specs.Answer.{line_answer_of};
 ghost use Rattle.dbg_answers.specs.Reading.{IsRead};
-ghost use Rattle.dbg_replay.specs.Parts.{shown};
-ghost use Rattle.dbg_replay.specs.Going.{Comes, Kept};
+ghost use Rattle.dbg_replay.specs.Parts.{state_of};
+ghost use Rattle.dbg_replay.specs.Going.{Enters, Kept};
 
 use crate::changes::make;
 use crate::halt::Halt;
 use crate::modes::any_runs;
 use crate::movers::may_go;
 use crate::state::Parts;
-use dbg_answers::{Debuggee, answer_line, read_line, waits};
-use dbg_effects::Effect;
-use dbg_model::{Hart, Mode, Opening, ThreadView};
+use dbg_answers::{Debuggee, LineAnswer, answer_line, read_line, waits};
+use dbg_model::{Hart, Mode, Opening, Reply, Shown, ThreadView};
 use dbg_traits::NoMemory;
 use mi_commands::{CommandLine, Refusal};
 use std::alloc::{AllocError, Global};
@@ -46,25 +46,25 @@ fn views(alloc: Global, harts: &[Hart]) -> Result<Vec<ThreadView>, AllocError>
 // Whether a line may be done; one that waits only where no hart runs.
 fn may_do(opening: &Opening, parts: &Parts, read: &Result<CommandLine, Refusal>) -> bool
     requires { IsRead read.now }
-    ensures { (line : List ℕ) → Commands line read.now → result ≡ may_do opening.now (shown parts.now) line }
+    ensures { (line : List ℕ) → Commands line read.now → result ≡ may_do opening.now (state_of parts.now) line }
 {
     let must_wait = any_runs(parts.harts.as_slice()) && waits(read);
     may_go(opening, parts) && !must_wait
 }
 
-// What a line changes, from what is seen of the harts.
-fn effect_of<'a>(
+// What is answered to a line, and what it changes, from what is seen of the harts.
+fn answer_to<'a>(
     alloc: Global,
     opening: &'a Opening,
     parts: &'a Parts,
     threads: &'a [ThreadView],
     read: Result<CommandLine, Refusal>,
-) -> Result<Effect, NoMemory>
+) -> Result<LineAnswer, NoMemory>
     requires few { length parts.now.harts.items ≤ 16 }
     requires given { parts.now.table.given < 2 ^ 32 - 1 }
     requires sources { parts.now.sources ≡ sources_of opening.now.image }
     requires threads { threads.now ≡ map view_of parts.now.harts.items }
-    ensures { (line : List ℕ) → Commands line read → IfOk result (λ e. change_of e ≡ (answer_of opening.now (shown parts.now) line).outcome.change) }
+    ensures { (line : List ℕ) → Commands line read → IfOk result (λ a. line_answer_of a ≡ answer_of opening.now (state_of parts.now) line) }
 {
     let debuggee = Debuggee {
         image: &opening.image,
@@ -76,9 +76,7 @@ fn effect_of<'a>(
         selected: parts.selected,
         displaced: parts.displaced,
     };
-    let told = answer_line(alloc, &debuggee, read)?;
-    let answer = told.answer;
-    Ok(answer.effect)
+    answer_line(alloc, &debuggee, read)
 }
 
 // A line of the input, from what is seen of the harts.
@@ -88,26 +86,34 @@ fn do_seen(
     parts: &mut Parts,
     threads: &[ThreadView],
     line: &[u8],
-) -> Result<(), Halt>
+) -> Result<Shown, Halt>
     requires kept { Kept opening.now parts.old }
-    requires room { parts.old.noted < 2 ^ 64 - 1 }
     requires threads { threads.now ≡ map view_of parts.old.harts.items }
-    ensures { Comes opening.now result (if may_do opening.now (shown parts.old) line.now then Some (done_by opening.now (shown parts.old) line.now) else None) parts.new }
+    ensures { Enters opening.now result (if may_do opening.now (state_of parts.old) line.now then Some (done_by opening.now (state_of parts.old) line.now) else None) (Answer (reply_of opening.now (state_of parts.old) line.now)) parts.old parts.new }
 {
     let read = read_line(alloc, line)?;
     if !may_do(opening, parts, &read) {
         return Err(Halt::Unlawful);
     }
-    let effect = effect_of(alloc, opening, parts, threads, read)?;
-    make(parts, effect);
-    Ok(())
+    let LineAnswer { token, answer } = answer_to(alloc, opening, parts, threads, read)?;
+    make(parts, answer.effect);
+    Ok(Shown::Answer {
+        reply: Reply {
+            token,
+            content: answer.content,
+        },
+    })
 }
 
 /// A line of the input.
-pub fn do_line(alloc: Global, opening: &Opening, parts: &mut Parts, line: &[u8]) -> Result<(), Halt>
-    requires kept { Kept opening.now parts.old }
-    requires room { parts.old.noted < 2 ^ 64 - 1 }
-    ensures { Comes opening.now result (if may_do opening.now (shown parts.old) line.now then Some (done_by opening.now (shown parts.old) line.now) else None) parts.new }
+pub fn do_line(
+    alloc: Global,
+    opening: &Opening,
+    parts: &mut Parts,
+    line: &[u8],
+) -> Result<Shown, Halt>
+    requires { Kept opening.now parts.old }
+    ensures { Enters opening.now result (if may_do opening.now (state_of parts.old) line.now then Some (done_by opening.now (state_of parts.old) line.now) else None) (Answer (reply_of opening.now (state_of parts.old) line.now)) parts.old parts.new }
 {
     let threads = views(alloc, parts.harts.as_slice())?;
     do_seen(alloc, opening, parts, threads.as_slice(), line)

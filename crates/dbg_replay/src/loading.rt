@@ -6,7 +6,7 @@ ghost use Rattle.dbg_model.specs.Sources.{sources_of};
 ghost use Rattle.break_table.specs.Table.{first_table};
 ghost use Rattle.break_table.specs.Text.{is_instruction, is_place};
 ghost use Rattle.dbg_model.specs.State.{first_harts, first_state};
-ghost use Rattle.dbg_replay.specs.Parts.{shown};
+ghost use Rattle.dbg_replay.specs.Parts.{state_of};
 ghost use Rattle.dbg_replay.specs.Going.{Kept};
 
 use crate::state::Parts;
@@ -90,7 +90,7 @@ fn first_program(alloc: Global, image: &Image, harts: u32) -> Result<FirstProgra
 /// Where a session begins.
 pub fn first_parts(alloc: Global, opening: &Opening) -> Result<Parts, NoMemory>
     requires { AreSettings opening.now.settings }
-    ensures state { IfOk result (λ p. shown p ≡ first_state opening.now) }
+    ensures state { IfOk result (λ p. state_of p ≡ first_state opening.now) }
     ensures kept { IfOk result (λ p. Kept opening.now p) }
 {
     let harts = opening.settings.harts;

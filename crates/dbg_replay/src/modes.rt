@@ -1,7 +1,7 @@
 // What the harts are at.
-ghost use Rattle.std.specs.Prelude.{◌≡◌, ◌+◌, ◌≤◌, length, map, slice_get};
-ghost use Rattle.dbg_model.specs.State.{any_runs, any_leaves, is_running, is_leaving};
-ghost use Rattle.dbg_model.specs.Lawful.{leaver_from, leaving, exited, counted, set_out, stepped, stopped_hart};
+ghost use Rattle.std.specs.Prelude.{◌≡◌, ◌+◌, ◌<◌, ◌≤◌, length, map, slice_get};
+ghost use Rattle.dbg_model.specs.State.{all_gone, any_runs, any_leaves, has_exited, is_running, is_leaving};
+ghost use Rattle.dbg_model.specs.Lawful.{leaver_from, leaving, leaving_at, exited, exited_at, counted, set_out, stepped, stopped_hart};
 ghost use Rattle.dbg_model.specs.Reply.{asked, forgetting, resumed};
 
 use dbg_model::{Course, Fired, Hart, Judgement, Mode, noted_with, plan_after};
@@ -52,6 +52,22 @@ pub fn any_leaves(harts: &[Hart]) -> bool
     }
 }
 
+fn has_exited(mode: Mode) -> bool
+    ensures { result ≡ has_exited mode }
+{
+    matches!(mode, Mode::Exited)
+}
+
+/// Whether no hart is live.
+pub fn all_gone(harts: &[Hart]) -> bool
+    ensures { result ≡ all_gone harts.now }
+{
+    match harts {
+        [] => true,
+        [first, rest @ ..] => has_exited(first.mode) && all_gone(rest),
+    }
+}
+
 /// The least hart that leaves, with its code, where the first of these has the number `hart`.
 pub fn leaver_from(hart: u32, harts: &[Hart]) -> Option<(u32, u32)>
     requires { hart + length harts.now ≤ 16 }
@@ -66,8 +82,8 @@ pub fn leaver_from(hart: u32, harts: &[Hart]) -> Option<(u32, u32)>
     }
 }
 
-/// A live hart leaves.
-pub fn leaving(code: u32, hart: Hart) -> Hart
+// A live hart leaves.
+fn leaving(code: u32, hart: Hart) -> Hart
     ensures { result ≡ leaving code hart }
 {
     match hart.mode {
@@ -79,6 +95,14 @@ pub fn leaving(code: u32, hart: Hart) -> Hart
     }
 }
 
+/// Hart h leaves, if it is live.
+pub fn leave_alone(harts: &mut [Hart], h: u32, code: u32)
+    requires { h < length harts.old }
+    ensures { harts.new ≡ leaving_at code harts.old h (slice_get harts.old h) }
+{
+    harts[h as usize] = leaving(code, harts[h as usize]);
+}
+
 /// Each live hart leaves.
 pub fn leave_all(harts: &mut [Hart], code: u32)
     ensures { harts.new ≡ map (leaving code) harts.old }
@@ -88,13 +112,22 @@ pub fn leave_all(harts: &mut [Hart], code: u32)
     }
 }
 
-/// A hart that was reported.
-pub fn exited(hart: Hart) -> Hart
+// A hart that was reported.
+fn exited(hart: Hart) -> Hart
     ensures { result ≡ exited hart }
 {
     Hart {
         mode: Mode::Exited,
         ..hart
+    }
+}
+
+/// Hart h exits, if there is one.
+pub fn exit_at(harts: &mut [Hart], h: u32)
+    ensures { harts.new ≡ exited_at harts.old h (slice_get harts.old h) }
+{
+    if let Some(hart) = find(harts, h) {
+        harts[h as usize] = exited(hart);
     }
 }
 
@@ -180,7 +213,7 @@ fn forgetting(numbers: &[u32], hart: Hart) -> Hart
     }
 }
 
-/// The same for each hart.
+/// What fired for any of the harts is forgotten, if it is one of these watches.
 pub fn forget(harts: &mut [Hart], numbers: &[u32])
     ensures { harts.new ≡ map (forgetting numbers.now) harts.old }
 {

@@ -1,10 +1,10 @@
 // What the user writes into the program, where the line before asked for it.
-ghost use Rattle.std.specs.Prelude.{◌≡◌, ◌<◌, ◌-◌, ◌^◌, length, slice_get};
+ghost use Rattle.std.specs.Prelude.{◌≡◌, ◌<◌, length, slice_get};
 ghost use Rattle.data_memory.specs.Ranges.{first_unwritable};
 ghost use Rattle.dbg_model.specs.State.{is_stopped};
 ghost use Rattle.dbg_model.specs.Lawful.{poked_by};
-ghost use Rattle.dbg_model.specs.Pokes.{bytes_poked, is_pending, register_poked, same_poke, with_register};
-ghost use Rattle.dbg_replay.specs.Parts.{shown};
+ghost use Rattle.dbg_model.specs.Pokes.{bytes_poked, is_pending, register_poked, same_poke, with_register, written};
+ghost use Rattle.dbg_replay.specs.Parts.{state_of};
 ghost use Rattle.dbg_replay.specs.Going.{Comes, Kept};
 
 use crate::halt::Halt;
@@ -73,12 +73,13 @@ fn set_register(
     value: u32,
 ) -> Result<(), Halt>
     requires { Kept opening.now parts.old }
-    ensures { Comes opening.now result (register_poked (shown parts.old) h number value (slice_get parts.old.harts.items h)) parts.new }
+    ensures came { Comes opening.now result (register_poked (state_of parts.old) h number value (slice_get parts.old.harts.items h)) parts.old parts.new }
+    ensures rest { parts.new ≡ record parts.old { harts = parts.new.harts } }
 {
     let Some(hart) = find(parts.harts.as_slice(), h) else {
         return Err(Halt::Unlawful);
     };
-    if !(is_stopped(hart.mode) && is_settable(number)) {
+    if !is_stopped(hart.mode) || !is_settable(number) {
         return Err(Halt::Unlawful);
     }
     parts.harts[h as usize] = with_register(hart, number, value);
@@ -88,7 +89,8 @@ fn set_register(
 // Bytes that are all writable are set.
 fn set_bytes(opening: &Opening, parts: &mut Parts, address: u32, bytes: &[u8]) -> Result<(), Halt>
     requires { Kept opening.now parts.old }
-    ensures { Comes opening.now result (bytes_poked (shown parts.old) address bytes.now (first_unwritable parts.old.memory address (length bytes.now))) parts.new }
+    ensures came { Comes opening.now result (bytes_poked (state_of parts.old) address bytes.now (first_unwritable parts.old.memory address (length bytes.now))) parts.old parts.new }
+    ensures rest { parts.new ≡ record parts.old { memory = parts.new.memory } }
 {
     if parts
         .memory
@@ -101,17 +103,12 @@ fn set_bytes(opening: &Opening, parts: &mut Parts, address: u32, bytes: &[u8]) -
     Ok(())
 }
 
-/// Writes what the line before asked for.
-pub fn write(opening: &Opening, parts: &mut Parts, poke: &Poke) -> Result<(), Halt>
-    requires kept { Kept opening.now parts.old }
-    requires room { parts.old.noted < 2 ^ 64 - 1 }
-    ensures { Comes opening.now result (poked_by (shown parts.old) poke.now) parts.new }
+// Writes something.
+fn set(opening: &Opening, parts: &mut Parts, poke: &Poke) -> Result<(), Halt>
+    requires { Kept opening.now parts.old }
+    ensures came { Comes opening.now result (written (state_of parts.old) poke.now) parts.old parts.new }
+    ensures pending { parts.new.pending ≡ parts.old.pending }
 {
-    if !is_pending(&parts.pending, poke) {
-        return Err(Halt::Unlawful);
-    }
-    parts.pending = None;
-    parts.noted += 1;
     match poke {
         Poke::Register {
             hart,
@@ -120,4 +117,18 @@ pub fn write(opening: &Opening, parts: &mut Parts, poke: &Poke) -> Result<(), Ha
         } => set_register(opening, parts, *hart, *number, *value),
         Poke::Bytes { address, bytes } => set_bytes(opening, parts, *address, bytes.as_slice()),
     }
+}
+
+/// Writes what the line before asked for.
+pub fn write(opening: &Opening, parts: &mut Parts, poke: &Poke) -> Result<(), Halt>
+    requires { Kept opening.now parts.old }
+    ensures { Comes opening.now result (poked_by (state_of parts.old) poke.now) parts.old parts.new }
+{
+    if !is_pending(&parts.pending, poke) {
+        return Err(Halt::Unlawful);
+    }
+    set(opening, parts, poke)?;
+    parts.pending = None;
+    parts.noted += 1;
+    Ok(())
 }

@@ -1,42 +1,59 @@
 // A whole journal.
-ghost use Rattle.std.specs.Prelude.{◌≡◌, ◌<◌, ◌^◌, IfOk, Option, length};
+ghost use Rattle.std.specs.Prelude.{◌≡◌, IfOk};
 ghost use Rattle.std.specs.Option.{option_map};
 ghost use Rattle.dbg_traits.specs.Settings.{AreSettings};
-ghost use Rattle.dbg_model.specs.State.{State, first_state};
-ghost use Rattle.dbg_model.specs.Journals.{follows, ran_hart, replay};
+ghost use Rattle.dbg_model.specs.declared.entry.Entry.TheVariants.{Ran};
+ghost use Rattle.dbg_model.specs.Journals.{come, first_place, replay};
 ghost use Rattle.dbg_model.specs.Keeping.{entry_of};
-ghost use Rattle.dbg_replay.specs.Parts.{shown};
-ghost use Rattle.dbg_replay.specs.Going.{Ends, Kept, Misses, state_of};
+ghost use Rattle.dbg_replay.specs.Standing.{IsOf, Passes, place_of};
 
-use crate::entries::enter;
-use crate::halt::Halt;
-use crate::loading::first_parts;
-use crate::state::{ModelState, Parts};
+use crate::state::ModelState;
+use crate::taking::{start, take_entry, take_ran};
 use dbg_model::{Entries, Entry, EntryRef, Journal, Opening};
 use dbg_traits::NoMemory;
 use std::alloc::Global;
 
-// Whether an entry may come behind one that has this hart where it is a `Ran`.
-fn follows(prev: Option<u32>, entry: EntryRef<'_>) -> bool
-    ensures { result ≡ follows prev (entry_of entry.entry) }
+// So many instructions of a hart as one entry: at least one.
+fn run(
+    alloc: Global,
+    opening: &Opening,
+    state: &mut ModelState,
+    hart: u32,
+    count: u64,
+) -> Result<bool, NoMemory>
+    requires { IsOf opening.now state.old }
+    ensures passes { Passes result state.new (come opening.now state.old.place (Ran hart count)) }
+    ensures of { IsOf opening.now state.new }
 {
-    let Some(prev) = prev else {
-        return true;
-    };
-    match entry {
-        EntryRef::Ran { hart, .. } => prev != hart,
-        EntryRef::Noted(Entry::Ran { hart, .. }) => prev != *hart,
-        EntryRef::Noted(_) => true,
+    if count == 0 {
+        return Ok(false);
     }
+    if !take_ran(alloc, opening, state, hart, false)? {
+        return Ok(false);
+    }
+    for done in 1..count {
+        if !take_ran(alloc, opening, state, hart, true)? {
+            return Ok(false);
+        }
+    }
+    Ok(true)
 }
 
-fn ran_hart(entry: EntryRef<'_>) -> Option<u32>
-    ensures { result ≡ ran_hart (entry_of entry.entry) }
+// One entry.
+fn pass(
+    alloc: Global,
+    opening: &Opening,
+    state: &mut ModelState,
+    entry: EntryRef<'_>,
+) -> Result<bool, NoMemory>
+    requires { IsOf opening.now state.old }
+    ensures passes { Passes result state.new (come opening.now state.old.place (entry_of entry.entry)) }
+    ensures of { IsOf opening.now state.new }
 {
     match entry {
-        EntryRef::Ran { hart, .. } => Some(hart),
-        EntryRef::Noted(Entry::Ran { hart, .. }) => Some(*hart),
-        EntryRef::Noted(_) => None,
+        EntryRef::Ran { hart, count } => run(alloc, opening, state, hart, count),
+        EntryRef::Noted(Entry::Ran { hart, count }) => run(alloc, opening, state, *hart, *count),
+        EntryRef::Noted(entry) => take_entry(alloc, opening, state, entry),
     }
 }
 
@@ -44,57 +61,38 @@ fn ran_hart(entry: EntryRef<'_>) -> Option<u32>
 fn go_through(
     alloc: Global,
     opening: &Opening,
-    parts: &mut Parts,
+    state: &mut ModelState,
     entries: Entries<'_>,
-) -> Result<(), Halt>
-    requires first { shown parts.old ≡ first_state opening.now }
-    requires kept { Kept opening.now parts.old }
-    requires few { length entries < 2 ^ 64 }
-    ensures { Ends result (option_map state_of (replay opening.now entries.entry)) parts.new }
+) -> Result<bool, NoMemory>
+    requires first { state.old.place ≡ first_place opening.now }
+    requires of { IsOf opening.now state.old }
+    ensures { Passes result state.new (replay opening.now entries.entry) }
 {
-    let mut prev = None;
     for entry in entries {
-        if !follows(prev, entry) {
-            return Err(Halt::Unlawful);
+        if !pass(alloc, opening, state, entry)? {
+            return Ok(false);
         }
-        enter(alloc, opening, parts, entry)?;
-        prev = ran_hart(entry);
     }
-    Ok(())
-}
-
-// What is answered where a journal isn't gone through to its end.
-fn missed(halt: Halt) -> Result<Option<ModelState>, NoMemory>
-    ensures { (left : Option State) → Misses halt left → IfOk result (λ r. r ≡ left) }
-{
-    match halt {
-        Halt::Unlawful => Ok(None),
-        Halt::NoMemory => Err(NoMemory),
-    }
-}
-
-// What is answered where going through a journal ended so, at these parts.
-fn answered(ended: Result<(), Halt>, parts: Parts) -> Result<Option<ModelState>, NoMemory>
-    ensures { (left : Option State) → Ends ended left parts → IfOk result (λ r. r ≡ left) }
-{
-    match ended {
-        Ok(()) => Ok(Some(ModelState::of(parts))),
-        Err(halt) => missed(halt),
-    }
+    Ok(true)
 }
 
 /// Goes through a journal, entry by entry: the state that it leaves, and none exactly where it isn't lawful.
 ///
-/// Fails where memory runs out.
+/// # Errors
+///
+/// `NoMemory` where out of memory.
 pub fn replay(
     alloc: Global,
     opening: &Opening,
     journal: &Journal,
 ) -> Result<Option<ModelState>, NoMemory>
     requires { AreSettings opening.now.settings }
-    ensures { IfOk result (λ r. r ≡ option_map (λ p. p.state) (replay opening.now journal.now)) }
+    ensures { IfOk result (λ r. option_map place_of r ≡ replay opening.now journal.now) }
 {
-    let mut parts = first_parts(alloc, opening)?;
-    let ended = go_through(alloc, opening, &mut parts, journal.entries());
-    answered(ended, parts)
+    let mut state = start(alloc, opening)?;
+    if go_through(alloc, opening, &mut state, journal.entries())? {
+        Ok(Some(state))
+    } else {
+        Ok(None)
+    }
 }

@@ -1,9 +1,10 @@
-ghost use Rattle.std.specs.Prelude.{◌≡◌, map};
+// What the model's program keeps, and the state that it shows.
+ghost use Rattle.std.specs.Prelude.{◌≡◌, true, Some, is_some, map};
 ghost use Rattle.break_table.specs.Entry.{entry_of};
 
 use break_table::{BreakEntry, BreakTable};
 use data_memory::DataMemory;
-use dbg_model::{Hart, Poke, SourceIndex, Watch, WatchList};
+use dbg_model::{Hart, Poke, Shown, SourceIndex, Watch, WatchList};
 use mi_commands::Displaced;
 use std::marker::Model;
 
@@ -39,68 +40,73 @@ pub struct Parts {
     pub exited: bool,
 }
 
-/// The state that a lawful journal leaves, which contracts see as the model's `State`.
+/// The model's state behind what was taken of a journal, and what the last of that shows. Contracts see a `Standing`.
 #[derive(Drop)]
 pub struct ModelState {
-    parts: Parts,
+    pub(crate) parts: Parts,
+    /// The hart of the entry that was taken last, if that is a `Ran`.
+    pub(crate) prev: Option<u32>,
+    pub(crate) shown: Option<Shown>,
 }
 
 impl Model for ModelState {
-    ghost use Rattle.dbg_model.specs.State.{State};
+    ghost use Rattle.dbg_replay.specs.Standing.{Standing};
     ghost use Rattle.std.specs.Coded.{codes};
     ghost use Rattle.data_memory.specs.Maps.{memory_code};
     ghost use Rattle.break_table.specs.Codes.{term_code};
 
-    ghost Value = { State };
+    ghost Value = { Standing };
 
     ghost coded = { Prim.hlevel (codes, memory_code, term_code) };
 
-    ghost use Rattle.dbg_replay.specs.Parts.{shown};
+    ghost use Rattle.dbg_replay.specs.Parts.{standing_of};
 
-    ghost view = { λ s. shown s.parts };
+    ghost view = { λ s. standing_of s.parts s.prev s.shown };
 }
 
 impl ModelState {
-    ghost use Rattle.dbg_replay.specs.Parts.{shown};
-
-    /// The state of these parts.
-    pub(crate) fn of(parts: Parts) -> ModelState
-        ensures { result ≡ shown parts }
+    /// What the entry or the instruction shows that was taken last. It refers to what is kept: nothing is copied.
+    pub fn shown(&self) -> &Shown
+        requires { is_some self.now.shown ≡ true }
+        ensures { self.now.shown ≡ Some result.now }
     {
-        ModelState { parts }
+        match self.shown.as_ref() {
+            Some(shown) => shown,
+            None => unreachable!(),
+        }
     }
 
     /// The harts, counted from 0.
     pub fn harts(&self) -> &[Hart]
-        ensures { result.now ≡ self.now.harts }
+        ensures { result.now ≡ self.now.place.state.harts }
     {
         self.parts.harts.as_slice()
     }
 
     /// The bytes that the program wrote.
     pub fn output(&self) -> &[u8]
-        ensures { result.now ≡ self.now.out }
+        ensures { result.now ≡ self.now.place.state.out }
     {
         self.parts.out.as_slice()
     }
 
     /// The breakpoints that the user set, in rising order of their numbers.
     pub fn breakpoints(&self) -> &[BreakEntry]
-        ensures { map entry_of result.now ≡ self.now.breaks }
+        ensures { map entry_of result.now ≡ self.now.place.state.breaks }
     {
         self.parts.table.entries()
     }
 
     /// The watches that the user set, in rising order of their numbers.
     pub fn watches(&self) -> &[Watch]
-        ensures { result.now ≡ self.now.watches }
+        ensures { result.now ≡ self.now.place.state.watches }
     {
         self.parts.watches.as_slice()
     }
 
     /// The selected thread, counted from 1.
     pub fn selected(&self) -> u32
-        ensures { result ≡ self.now.selected }
+        ensures { result ≡ self.now.place.state.selected }
     {
         self.parts.selected
     }
@@ -108,14 +114,14 @@ impl ModelState {
     /// For each hart, how many of its instructions were executed where an enabled breakpoint stood, while displaced
     /// stepping wasn't off.
     pub fn passed(&self) -> &[u64]
-        ensures { result.now ≡ self.now.passed }
+        ensures { result.now ≡ self.now.place.state.passed }
     {
         self.parts.passed.as_slice()
     }
 
     /// How many instructions were executed.
     pub fn retired(&self) -> u64
-        ensures { result ≡ self.now.retired }
+        ensures { result ≡ self.now.place.state.retired }
     {
         self.parts.retired
     }

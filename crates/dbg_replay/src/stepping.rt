@@ -1,48 +1,29 @@
 // One instruction of a hart.
-ghost use Rattle.std.specs.Prelude.{◌≡◌, ◌++◌, ◌<◌, ◌-◌, ◌^◌, List, ℕ, Some, OnOk, length, slice_index};
-ghost use Rattle.rv_exec.specs.Registers.{Registers};
-ghost use Rattle.rv_exec.specs.Memory.{Memory};
-ghost use Rattle.data_memory.specs.Ranges.{bytes_at};
+ghost use Rattle.std.specs.Prelude.{◌≡◌, ◌<◌, ◌-◌, ◌^◌, length, slice_index};
+ghost use Rattle.rv_exec.specs.declared.effect.Stepped.TheVariants.{Wrote};
 ghost use Rattle.plain_machine.specs.Answers.{StepGives};
-ghost use Rattle.plain_machine.specs.Environment.{Answer};
 ghost use Rattle.plain_machine.specs.Plain.{plain};
-ghost use Rattle.dbg_model.specs.Lawful.{one, one_more_at, passes};
+ghost use Rattle.unpatched_machine.specs.Instruction.{OnOutput};
+ghost use Rattle.dbg_model.specs.Lawful.{one, one_more_at, one_out, passes, with_leavers};
+ghost use Rattle.dbg_model.specs.Shown.{written};
 ghost use Rattle.dbg_model.specs.Watches.{fired_by};
-ghost use Rattle.dbg_replay.specs.Parts.{shown};
-ghost use Rattle.dbg_replay.specs.Going.{Comes, Finishes, Kept};
+ghost use Rattle.dbg_replay.specs.Parts.{state_of};
+ghost use Rattle.dbg_replay.specs.Going.{Enters, Kept, PutsOut, leave_of};
 
 use crate::changes::is_off;
 use crate::halt::Halt;
-use crate::modes::{leave_all, leaving, set_out, stepped};
-use crate::movers::{due, runner};
+use crate::modes::{leave_all, leave_alone, set_out, stepped};
+use crate::movers::runner;
 use crate::state::Parts;
 use data_memory::DataMemory;
-use dbg_model::{Fired, Hart, Opening, WatchList};
+use dbg_model::{Fired, Hart, Opening, Shown, WatchList};
 use elf32_read::Image;
-use plain_machine::call;
-use rv_decode::decode;
-use rv_exec::{Cause, Effect, Regs, Stepped, execute};
-use std::alloc::{AllocError, Global};
+use mi_commands::ByteList;
+use rv_exec::{Regs, Stepped};
+use std::alloc::Global;
+use unpatched_machine::execute_plain;
 
-/// Executes the word at pc, with the environment at an ECALL. Never `Hit`; after a `Trap` nothing has changed.
-#[tactic(auto, unfolding(plain_machine::specs::Plain::plain, plain_machine::specs::Environment::call))]
-pub fn execute_plain(image: &Image, regs: &mut Regs, memory: &mut DataMemory) -> Stepped
-    ensures { StepGives result (plain image.now regs.old memory.old) regs.old regs.new memory.old memory.new }
-{
-    let Some(word) = image.text_word(regs.pc()) else {
-        return Stepped::Trap(Cause::FetchFault);
-    };
-    let Some(instruction) = decode(word) else {
-        return Stepped::Trap(Cause::Illegal);
-    };
-    match execute(instruction, regs, memory) {
-        Effect::Done => Stepped::Ran,
-        Effect::Call => call(regs, memory),
-        Effect::Trap(cause) => Stepped::Trap(cause),
-    }
-}
-
-// The same, and which watch it makes fire.
+// Executes the word at pc, and tells which watch it makes fire.
 fn execute_watched(
     image: &Image,
     regs: &mut Regs,
@@ -50,6 +31,7 @@ fn execute_watched(
     watches: &WatchList,
 ) -> (Stepped, Option<Fired>)
     ensures step { StepGives result.0 (plain image.now regs.old memory.old) regs.old regs.new memory.old memory.new }
+    ensures output { OnOutput result.0 (memory.new ≡ memory.old) }
     ensures fired { result.1 ≡ fired_by watches.now memory.old memory.new }
 {
     let before = watches.worths(memory);
@@ -58,43 +40,57 @@ fn execute_watched(
     (stepped, fired)
 }
 
-// The bytes of a range that can be read are written.
+// The bytes of a range, which can be read, are put out.
 fn write_out(
     alloc: Global,
-    out: &mut Vec<u8>,
     memory: &DataMemory,
+    out: &mut Vec<u8>,
     addr: u32,
     len: u32,
-) -> Result<(), AllocError>
-    ensures { OnOk result ((bytes : List ℕ) → bytes_at memory.now addr len ≡ Some bytes → out.new.items ≡ out.old.items ++ bytes) }
+) -> Result<Shown, Halt>
+    ensures { PutsOut result (Wrote addr len) memory.now out.old.items out.new.items }
 {
     let mut bytes = vec![in alloc; 0u8; len as usize]?;
-    if memory.read_range(addr, bytes.as_mut_slice()).is_ok() {
-        out.extend_from_slice(bytes.as_slice())?;
+    if memory.read_range(addr, bytes.as_mut_slice()).is_err() {
+        return Ok(Shown::Nothing);
     }
-    Ok(())
+    out.extend_from_slice(bytes.as_slice())?;
+    Ok(Shown::Wrote {
+        bytes: ByteList::of(bytes),
+    })
 }
 
-// What an instruction did to the output and the harts.
-fn finish(alloc: Global, parts: &mut Parts, h: u32, stepped: Stepped) -> Result<(), Halt>
-    requires { h < length parts.old.harts.items }
-    ensures { (a : Answer) (r s : Registers) (m : Memory) → StepGives stepped a r s m parts.old.memory → Finishes result a parts.old h parts.new }
+// What an instruction wrote is put out.
+fn put_out(
+    alloc: Global,
+    memory: &DataMemory,
+    out: &mut Vec<u8>,
+    stepped: Stepped,
+) -> Result<Shown, Halt>
+    ensures { PutsOut result stepped memory.now out.old.items out.new.items }
 {
     match stepped {
-        Stepped::Ran => {}
-        Stepped::Wrote { addr, len } => write_out(alloc, &mut parts.out, &parts.memory, addr, len)?,
-        Stepped::HartExit(code) => {
-            parts.harts[h as usize] = leaving(code, parts.harts[h as usize]);
-        }
-        Stepped::AllExit(code) => leave_all(parts.harts.as_mut_slice(), code),
-        Stepped::Hit | Stepped::Trap(_) => return Err(Halt::Unlawful),
+        Stepped::Ran | Stepped::HartExit(_) | Stepped::AllExit(_) => Ok(Shown::Nothing),
+        Stepped::Wrote { addr, len } => write_out(alloc, memory, out, addr, len),
+        Stepped::Hit | Stepped::Trap(_) => Err(Halt::Unlawful),
     }
-    Ok(())
+}
+
+// The harts that an instruction of hart h makes exit leave.
+fn leave(harts: &mut [Hart], h: u32, stepped: Stepped)
+    requires { h < length harts.old }
+    ensures { harts.new ≡ with_leavers (leave_of stepped) harts.old h }
+{
+    match stepped {
+        Stepped::HartExit(code) => leave_alone(harts, h, code),
+        Stepped::AllExit(code) => leave_all(harts, code),
+        Stepped::Ran | Stepped::Wrote { .. } | Stepped::Hit | Stepped::Trap(_) => {}
+    }
 }
 
 // Whether an enabled breakpoint stands where the hart is, and displaced stepping isn't off.
 fn passes(parts: &Parts, hart: &Hart) -> bool
-    ensures { result ≡ passes (shown parts.now) hart.now }
+    ensures { result ≡ passes (state_of parts.now) hart.now }
 {
     !is_off(parts.displaced) && parts.table.stands(hart.regs.pc())
 }
@@ -110,13 +106,13 @@ fn count_pass(passed: &mut Vec<u64>, h: usize, passes: bool)
     }
 }
 
-/// One instruction of a hart that may execute.
-pub fn step(alloc: Global, opening: &Opening, parts: &mut Parts, h: u32) -> Result<(), Halt>
+/// One instruction of a hart that may execute, and what it shows.
+pub fn step(alloc: Global, opening: &Opening, parts: &mut Parts, h: u32) -> Result<Shown, Halt>
     requires { Kept opening.now parts.old }
-    ensures { Comes opening.now result (one opening.now h (shown parts.old)) parts.new }
+    ensures { Enters opening.now result (one opening.now h (state_of parts.old)) (written (one_out opening.now h (state_of parts.old))) parts.old parts.new }
 {
-    let hart = runner(opening, parts, h)?;
-    let hart = set_out(due(opening, parts, h, &hart), hart);
+    let (hart, judgement) = runner(opening, parts, h)?;
+    let hart = set_out(judgement, hart);
     let passes = passes(parts, &hart);
     let mut regs = hart.regs;
     let (answer, fired) = execute_watched(
@@ -125,8 +121,10 @@ pub fn step(alloc: Global, opening: &Opening, parts: &mut Parts, h: u32) -> Resu
         &mut parts.memory,
         &parts.watches,
     );
+    let shown = put_out(alloc, &parts.memory, &mut parts.out, answer)?;
     parts.harts[h as usize] = stepped(hart, regs, fired);
+    leave(parts.harts.as_mut_slice(), h, answer);
     count_pass(&mut parts.passed, h as usize, passes);
     parts.retired += 1;
-    finish(alloc, parts, h, answer)
+    Ok(shown)
 }

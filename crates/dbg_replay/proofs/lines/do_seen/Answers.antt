@@ -1,11 +1,11 @@
-use Rattle.std.proofs.Common.{◌≡◌, true, rules, sym, ◌∙◌}
+use Rattle.std.proofs.Common.{◌≡◌, true, rules, sym, ◌∙◌, arith}
 use Rattle.dbg_model.specs.Lawful.{may_do}
-use Rattle.dbg_replay.specs.Parts.{shown}
-use Rattle.dbg_replay.proofs.Answering.{can_be_made, can_be_watched, line_comes, numbers_low}
+use Rattle.dbg_replay.specs.Parts.{state_of}
+use Rattle.dbg_replay.proofs.Answering.{can_be_made, can_be_watched, changes_so, history_low, line_comes, numbers_low}
 use Rattle.dbg_replay.proofs.lines.do_seen.Goals as goal
 
-pub effect_of-requires-clause-given : goal.effect_of-requires-clause-given
-effect_of-requires-clause-given c =
+pub answer_to-requires-clause-given : goal.answer_to-requires-clause-given
+answer_to-requires-clause-given c =
     let is : c.may_do.result ≡ true = search rules in
     numbers_low c.args.opening.now c.args.parts.now c.args.line.now c.requires.kept (sym (c.may_do.ensures c.args.line.now c.in_ok-read.ensures.commands) ∙ is)
 
@@ -15,13 +15,34 @@ make-requires-clause-given c =
     numbers_low c.args.opening.now c.args.parts.now c.args.line.now c.requires.kept (sym (c.may_do.ensures c.args.line.now c.in_ok-read.ensures.commands) ∙ is)
 
 pub make-requires-clause-may : goal.make-requires-clause-may
-make-requires-clause-may c = can_be_made c.args.opening.now c.args.parts.now c.args.line.now c.in_ok-effect.effect c.requires.kept (c.in_ok-effect.ensures c.args.line.now c.in_ok-read.ensures.commands)
+make-requires-clause-may c =
+    let answers = c.in_ok-token.ensures c.args.line.now c.in_ok-read.ensures.commands in
+    can_be_made c.args.opening.now c.args.parts.now c.args.line.now c.in_ok-token.field-0.answer.effect c.requires.kept (changes_so c.args.opening.now (state_of c.args.parts.now) c.args.line.now c.in_ok-token.field-0 answers)
 
 pub make-requires-clause-watch : goal.make-requires-clause-watch
-make-requires-clause-watch c = can_be_watched c.args.opening.now c.args.parts.now c.args.line.now c.in_ok-effect.effect (c.in_ok-effect.ensures c.args.line.now c.in_ok-read.ensures.commands)
+make-requires-clause-watch c =
+    let answers = c.in_ok-token.ensures c.args.line.now c.in_ok-read.ensures.commands in
+    can_be_watched c.args.opening.now c.args.parts.now c.args.line.now c.in_ok-token.field-0.answer.effect (changes_so c.args.opening.now (state_of c.args.parts.now) c.args.line.now c.in_ok-token.field-0 answers)
+
+pub make-requires-clause-room : goal.make-requires-clause-room
+make-requires-clause-room c =
+    let is : c.may_do.result ≡ true = search rules in
+    let low = history_low c.args.opening.now (state_of c.args.parts.now) c.args.line.now (sym (c.may_do.ensures c.args.line.now c.in_ok-read.ensures.commands) ∙ is) in
+    omega (arith, low)
+
+pub make-requires-clause-sets : goal.make-requires-clause-sets
+make-requires-clause-sets c =
+    let is : c.may_do.result ≡ true = search rules in
+    let low = history_low c.args.opening.now (state_of c.args.parts.now) c.args.line.now (sym (c.may_do.ensures c.args.line.now c.in_ok-read.ensures.commands) ∙ is) in
+    let sets = c.requires.kept.sets in
+    omega (arith, low, sets)
 
 pub returns : goal.returns
 returns c =
+    let o = c.args.opening.now in
+    let old = c.args.parts.now in
+    let line = c.args.line.now in
     let is : c.may_do.result ≡ true = search rules in
-    let may : may_do c.args.opening.now (shown c.args.parts.now) c.args.line.now ≡ true = sym (c.may_do.ensures c.args.line.now c.in_ok-read.ensures.commands) ∙ is in
-    line_comes c.args.opening.now c.args.parts.now c.make.new.parts c.args.line.now c.in_ok-effect.effect (may_do c.args.opening.now (shown c.args.parts.now) c.args.line.now) c.requires.kept may (c.in_ok-effect.ensures c.args.line.now c.in_ok-read.ensures.commands) c.make.ensures.state c.make.ensures.table c.make.ensures.sources
+    let may : may_do o (state_of old) line ≡ true = sym (c.may_do.ensures line c.in_ok-read.ensures.commands) ∙ is in
+    let answers = c.in_ok-token.ensures line c.in_ok-read.ensures.commands in
+    line_comes o old c.make.new.parts line c.in_ok-token.field-0 (may_do o (state_of old) line) c.requires.kept may may answers c.make.ensures.state c.make.ensures.table c.make.ensures.sources

@@ -21,4 +21,6 @@ returns-clause-kept c =
       counts = ap length c.in_ok-kept.ensures.passed ∙ length-replicated o.settings.harts _;
       passed = λ k. subst (λ ns. slice_index ns k ≤ 0) (sym c.in_ok-kept.ensures.passed) (none_counted o.settings.harts k);
       sets = omega arith;
+      noted = omega arith;
+      owing = λ p is. omega arith;
     }
