@@ -1,2 +1,4 @@
+-- A change that a line makes can be made.
 pub mod Applying
+-- An instruction that doesn't trap.
 pub mod Executed

@@ -1,4 +1,4 @@
--- What can be changed.
+-- When the change that a line makes can be made. This project's own.
 use Rattle.std.specs.Prelude.{◌<◌, ◌^◌, IsSome}
 use Rattle.text_words.specs.Words.{Words, shown}
 use Rattle.break_table.specs.Table.{Table}

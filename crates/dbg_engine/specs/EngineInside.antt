@@ -1,4 +1,4 @@
--- An engine's fields.
+-- An engine's fields. This project's own.
 use Rattle.dbg_engine.specs.declared.engine.Engine.TheInside.{Inside}
 use Rattle.engine_parts.specs.Seen.{Engine}
 use Rattle.engine_parts.specs.Facts.{Facts}

@@ -1,2 +1,4 @@
+-- What a command sees of an engine is what it may see of the state that the engine shows.
 pub mod Answering
+-- A session goes to another thread, with its engine.
 pub mod Sending

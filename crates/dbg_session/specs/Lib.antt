@@ -1,1 +1,2 @@
+-- The definitions of the session's type.
 pub mod SessionInside

@@ -1,10 +1,11 @@
-// The top call.
+// The top call, `debug_run`: the debugger over a world, which is handed back.
 ghost use Rattle.std.specs.Prelude.{◌≡◌, None, MatchResult};
 ghost use Rattle.dbg_traits.specs.Told.{IsFresh};
 ghost use Rattle.elf_checks.specs.declared.fault.ElfFault.{ElfFault};
 ghost use Rattle.session_parts.specs.Early.{Early};
-ghost use Rattle.session_parts.specs.Words.{served_words};
-ghost use Rattle.session_parts.specs.Headline.{Ends, Good, IsFine, IsWords, IsFile, Refused};
+ghost use Rattle.session_parts.specs.Words.{AreRefused, checked_words};
+ghost use Rattle.session_parts.specs.Headline.{Good, IsFine, IsWords, IsFile, Refused};
+ghost use Rattle.session_check.specs.RunEnds.{GoodCheck, IsJudged, IsRecorded, RunEnds};
 
 use crate::Session;
 use dbg_engine::Engine;
@@ -12,6 +13,7 @@ use dbg_model::Opening;
 use dbg_traits::{Gate, World};
 use hart_workers::run_crew;
 use mi_reports::report_opening;
+use session_check::check_if_asked;
 use session_parts::{Ended, Loaded, Outside, Status, Unloaded, finish, load};
 use std::alloc::Global;
 use std::sync::{Mutex, Wait};
@@ -31,7 +33,8 @@ fn unbegun<W: World>(outside: Outside<W>) -> Unloaded<W>
 
 // Begins a session: the words, the program, the engine and the opening lines.
 fn begin<W: World>(alloc: Global, world: W) -> Result<Session<Outside<W>>, Unloaded<W>>
-    requires { IsFresh (W.told world) }
+    requires fresh { IsFresh (W.told world) }
+    requires unchecked { checked_words (W.told world).words ≡ None }
     ensures { MatchResult result (λ _. Unit {0}) (λ e. Early e.status (W.told e.world)) }
 {
     let Loaded {
@@ -64,7 +67,7 @@ fn serve<R: Threads + Wait + Sync, W: World + Send, G: Gate + Sync>(
     crew.into_inner()
 }
 
-/// Runs the debugger over a world, and hands the world back.
+/// Runs the debugger over a world, and hands the world back: a session, or the check of a log, as the words ask.
 pub fn debug_run<R: Threads + Wait + Sync, W: World + Send, G: Gate + Sync>(
     rt: &R,
     alloc: Global,
@@ -73,16 +76,24 @@ pub fn debug_run<R: Threads + Wait + Sync, W: World + Send, G: Gate + Sync>(
 ) -> Ended<W>
     requires fresh { IsFresh (W.told world) }
 
-    // What the status says, and the headline where a session was begun.
-    ensures ends { Ends result.status (W.told result.world) result.closed }
+    // What the status says: with the headline where a session was begun, and of a check with what is found of the input.
+    ensures ends { RunEnds result.status (W.told result.world) result.closed }
 
     // Refused words and a refused file are answered, unless memory runs out.
-    ensures words { served_words (W.told result.world).words ≡ None → IsWords result.status }
+    ensures words { AreRefused (W.told result.world).words → IsWords result.status }
     ensures file { (f : ElfFault) → Refused (W.told result.world) f → IsFile f result.status }
 
     // With accepted words, an accepted file and no fault it runs to its end, unless memory runs out.
     ensures complete { Good (W.told result.world) → IsFine result.status }
+    ensures judged { GoodCheck (W.told result.world) → IsJudged result.status }
+
+    // A log that was written whole is accepted, with the session's lines before it.
+    ensures recorded { IsRecorded result.status (W.told result.world) result.closed }
 {
+    let world = match check_if_asked(alloc, world) {
+        Ok(world) => world,
+        Err(ended) => return ended,
+    };
     match begin(alloc, world) {
         Ok(session) => {
             let mut session = serve(rt, session, gate);

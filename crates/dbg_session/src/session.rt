@@ -4,7 +4,6 @@ ghost use Rattle.session_parts.specs.Ties.{IsTied};
 ghost use Rattle.session_parts.specs.Seen.{GotOn, work, no_input, no_line, is_open};
 ghost use Rattle.session_parts.specs.Taking.{has_line};
 ghost use Rattle.session_parts.specs.Round.{Takes, Lines, Settles, Round, moment};
-ghost use Rattle.session_parts.specs.Crew.{NonePauses};
 ghost use Rattle.engine_parts.specs.Steps.{NoneOut};
 ghost use Rattle.session_parts.specs.Left.{IsLeft};
 ghost use Rattle.session_parts.specs.Stage.{stage_of};
@@ -43,8 +42,6 @@ pub struct Session<W: World> {
     next: usize,
     // The harts whose job is out.
     out: [bool; HARTS],
-    // How many rounds each hart still goes without a job.
-    pause: [u32; HARTS],
     status: Option<Status>,
 }
 
@@ -91,7 +88,6 @@ impl<W: World> Session<W> {
         ensures input { result.input ≡ record { rest = []; count = 0; ended = false } }
         ensures next { result.next ≡ 0 }
         ensures out { NoneOut result.out }
-        ensures pause { NonePauses result.pause }
         ensures puts { PutsAll (is_none result.status) opening.items (W.told world) (W.told result.world) }
         ensures status { result.status ≡ (if is_none result.status then None else Some Status.WriteFault) }
     {
@@ -110,7 +106,6 @@ impl<W: World> Session<W> {
             known: Known::Open,
             next: 0,
             out: [false; HARTS],
-            pause: [0; HARTS],
             status,
         }
     }
@@ -291,7 +286,6 @@ impl<W: World> Session<W> {
             known: _,
             next: _,
             out: _,
-            pause: _,
             status,
         } = self;
         let closed = Some(engine.close());

@@ -1,4 +1,4 @@
--- What the calls of an engine do.
+-- What the calls of an engine do. This project's own.
 use Rattle.std.specs.Prelude.{◌≡◌, ◌<◌, ◌≤◌, ◌+◌, ℕ, true, false, List, [], ◌∷◌, ◌++◌, length, map, Option, Some, None, slice_get, slice_set}
 use Rattle.rv_exec.specs.declared.effect.Cause.{Cause}
 use Rattle.rv_exec.specs.declared.effect.Stepped.{Stepped}
@@ -297,7 +297,7 @@ pub record Does (old new : Engine) (line : List ℕ) (reply : Reply) : Type 0 wh
   pub seen : settled old.opening (done_by old.opening (seen old) line) ≡ Some (seen new)
   pub opening : new.opening ≡ old.opening
 
--- the same, whatever is answered to it
+-- a line was done, whatever is answered to it, and what it asks to be written was written
 pub record Lines (old new : Engine) (line : List ℕ) : Type 0 where
   pub journal : new.journal ≡ old.journal ++ Did line ∷ pokes_of (done_by old.opening (seen old) line).pending
   pub seen : settled old.opening (done_by old.opening (seen old) line) ≡ Some (seen new)

@@ -1,4 +1,4 @@
--- What a line changes, and the words that are planted for it.
+-- What a line changes, and the words that are planted for it. This project's own.
 use Rattle.std.specs.Prelude.{◌≡◌, ◌<◌, ◌^◌, ℕ, List, Option, None}
 use Rattle.hart_machine.specs.Patched.{Patched}
 use Rattle.break_table.specs.Table.{Table}

@@ -1,4 +1,4 @@
--- What the type of an engine keeps.
+-- What the type of an engine keeps. This project's own.
 use Rattle.std.specs.Prelude.{◌≡◌, ◌<◌, ◌≤◌, ◌+◌, ℕ, Bool, true, false, ◌&&◌, ◌==◌, not, ◌||◌, List, length, map, Option, Some, None, IsSome, slice_get, slice_index, if◌then◌else◌}
 use Rattle.std.specs.List.{list_any}
 use Rattle.dbg_traits.specs.Settings.{AreSettings}

@@ -1,4 +1,4 @@
--- How a hart goes on by itself: it executes instructions, and steps over planted words at which nothing is due.
+-- How a hart goes on by itself: it executes instructions, and steps over planted words at which nothing is due. This project's own.
 use Rattle.std.specs.Prelude.{◌≡◌, ◌<◌, ◌^◌, ℕ, suc, Bool, true, false, List, [], ◌∷◌, length, Some, None, is_some, ◌||◌, slice_get, not, ◌==◌}
 use Rattle.rv_exec.specs.Registers.{set_pc}
 use Rattle.rv_exec.specs.declared.effect.Stepped.TheVariants as stepped

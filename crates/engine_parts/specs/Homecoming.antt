@@ -1,4 +1,4 @@
--- How harts come home from their slots.
+-- How harts come home from their slots. This project's own.
 use Rattle.std.specs.Prelude.{◌≡◌, ◌<◌, ◌+◌, ℕ, Bool, true, false, List, length, Option, Some, None, IsSome, slice_get, slice_set}
 use Rattle.rv_decode.specs.Decode.{decode}
 use Rattle.scratch_slots.specs.declared.slots.SlotUse.{SlotUse}

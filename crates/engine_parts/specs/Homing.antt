@@ -1,4 +1,4 @@
--- After an exit no patch stays lifted, and who leaves has no slot.
+-- After an exit no patch stays lifted, and who leaves has no slot. This project's own.
 use Rattle.std.specs.Prelude.{◌≡◌, ℕ, List, Option, None}
 use Rattle.rv_exec.specs.declared.effect.Stepped.{Stepped}
 use Rattle.rv_exec.specs.declared.effect.Stepped.TheVariants as stepped

@@ -1,3 +1,4 @@
+-- The definitions of the engine: what it keeps and shows, its moves, its calls, and what they change.
 pub mod Minds
 pub mod Seen
 pub mod Facts

@@ -1,4 +1,4 @@
--- What the debugger keeps of the harts.
+-- What the debugger keeps of the harts. This project's own.
 use Rattle.std.specs.Prelude.{ℕ, ◌+◌, Bool, true, false, List, [], ◌∷◌, ◌++◌, Option, Some, None, is_some, if◌then◌else◌}
 use Rattle.elf32_read.specs.Program.{Program}
 use Rattle.text_words.specs.Words.{shown, unpatched}

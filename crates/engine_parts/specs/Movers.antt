@@ -1,4 +1,4 @@
--- Which harts can be moved.
+-- Which harts can be moved. This project's own.
 use Rattle.std.specs.Prelude.{ℕ, ◌&&◌, Bool, true, false, not, List, [], ◌∷◌, Option, Some, None, is_none, slice_get}
 use Rattle.scratch_slots.specs.declared.slots.SlotUse.{SlotUse}
 use Rattle.scratch_slots.specs.Table.{least_free}
@@ -44,6 +44,6 @@ waits_for_slot slots minds h = are_out slots && idle_as (slice_get minds h)
 abbrev pub moves_in : List Hart → Option Hold → List (Option SlotUse) → List Mind → ℕ → Bool
 moves_in harts hold slots minds h = (runs_at harts h && is_free hold h) && not (waits_for_slot slots minds h)
 
--- the same of an engine
+-- whether hart h of an engine can be moved, whatever stands at its pc
 abbrev pub moves_at : Engine → ℕ → Bool
 moves_at r h = moves_in (seen r).harts r.hold r.machine.slots r.minds h

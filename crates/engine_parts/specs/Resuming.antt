@@ -1,4 +1,4 @@
--- Threads that go on, or of which an interrupt is asked, and what is forgotten of watches, as they are kept.
+-- Threads that go on, or of which an interrupt is asked, and what is forgotten of watches, as they are kept. This project's own.
 use Rattle.std.specs.Prelude.{ℕ, false, List, map}
 use Rattle.step_plans.specs.declared.plan.Plan.{Plan}
 use Rattle.dbg_model.specs.Courses.{after_forgetting}

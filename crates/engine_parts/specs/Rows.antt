@@ -1,4 +1,4 @@
--- The table of moves: what a hart does next is the first row that fits.
+-- The table of moves: what a hart does next is the first row that fits. This project's own.
 use Rattle.std.specs.Prelude.{ℕ, Bool, Option, Some, None, is_some, slice_get, if◌then◌else◌}
 use Rattle.text_words.specs.Words.{is_planted}
 use Rattle.dbg_model.specs.declared.entry.Why.{Why}

@@ -1,4 +1,4 @@
--- An engine as one value, and the state that it shows.
+-- An engine as one value, and the state that it shows. This project's own.
 use Rattle.std.specs.Prelude.{ℕ, Bool, List, [], ◌∷◌, map, Option, Some, None, true, if◌then◌else◌}
 use Rattle.std.specs.Option.{option_map_or}
 use Rattle.rv_exec.specs.Registers.{Registers, set_pc}

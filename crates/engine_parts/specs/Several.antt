@@ -1,4 +1,4 @@
--- Several turns of a hart of which nothing is said.
+-- Several quiet turns of a hart: nothing is said of them. This project's own.
 use Rattle.std.specs.Prelude.{◌≡◌, ◌⊎◌, ◌&&◌, ◌||◌, not, is_some, ℕ, zero, suc, Bool, true, false, Option, Some, None, is_none, slice_get}
 use Rattle.hart_machine.specs.Running.{HasStopped}
 use Rattle.dbg_model.specs.Lawful.{may_go}

@@ -1,4 +1,4 @@
--- What an entry shows after the move that noted it, and the state in which it comes.
+-- What an entry shows after the move that noted it, and the state in which it comes. This project's own.
 use Rattle.std.specs.Prelude.{ℕ, ◌≡◌, ◌<◌, ◌&&◌, Bool, true, false, List, [], ◌∷◌, ◌++◌, Option, Some, None}
 use Rattle.data_memory.specs.Ranges.{bytes_at}
 use Rattle.dbg_model.specs.declared.entry.Entry.{Entry}

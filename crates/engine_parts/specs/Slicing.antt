@@ -47,7 +47,7 @@ is_ready p None y = false
 abbrev pub gives_job_in : Opening → State → List Mind → Option Hold → ℕ → Bool
 gives_job_in o s xs hold h = (nat_lt 0 o.settings.slice && may_go o s) && (is_free hold h && is_ready o.image (slice_get xs h) (slice_get s.harts h))
 
--- the same of an engine
+-- hart h of an engine gets a job
 abbrev pub gives_job : Engine → ℕ → Bool
 gives_job r h = gives_job_in r.opening (seen r) r.minds r.hold h
 
@@ -59,7 +59,7 @@ pub record IsJobIn (o : Opening) (s : State) (text : Words) (h : ℕ) (job : Job
   pub words : job.words.items ≡ window text job.at
   pub limit : job.limit ≡ o.settings.slice
 
--- the same of an engine
+-- the job of hart h of an engine
 abbrev pub IsJobOf : Engine → ℕ → Job → Type 0
 IsJobOf r h job = IsJobIn r.opening (seen r) r.machine.text h job
 
@@ -78,7 +78,7 @@ pub record CanTakeIn (o : Opening) (s : State) (xs : List Mind) (hold : Option H
   pub regs : hart.regs ≡ slice.regs
   pub words : AreStored text slice.at slice.words.items
 
--- the same of an engine
+-- an engine can take a slice
 abbrev pub CanTake : Engine → Slice → Type 0
 CanTake r slice = CanTakeIn r.opening (seen r) r.minds r.hold r.machine.text slice
 

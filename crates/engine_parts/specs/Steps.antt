@@ -1,4 +1,4 @@
--- What a step of the machine does to the journal and to what is kept of the harts, and which hart is next.
+-- What a step of the machine does to the journal and to what is kept of the harts, and which hart is next. This project's own.
 use Rattle.std.specs.Prelude.{◌≡◌, ℕ, ◌+◌, Bool, true, false, List, [], ◌∷◌, ◌++◌, length, find, nat_le, map, slice_set, slice_index_or, not, ◌&&◌, Option, Some, None, if◌then◌else◌}
 use Rattle.rv_exec.specs.declared.effect.Stepped.{Stepped}
 use Rattle.rv_exec.specs.declared.effect.Stepped.TheVariants as stepped

@@ -1,4 +1,4 @@
--- The breakpoints of a table over the words of text.
+-- The breakpoints of a table over the words of text. This project's own.
 use Rattle.std.specs.Prelude.{◌≡◌, ℕ, Bool, true, false, List, [], ◌∷◌, Option, Some, None, IsSome, ◌==◌, slice_get}
 use Rattle.text_words.specs.Words.{Words, shown, is_planted}
 use Rattle.break_table.specs.Entry.{Entry as BreakEntry}

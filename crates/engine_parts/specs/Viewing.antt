@@ -1,4 +1,4 @@
--- What a command may see of an engine's harts.
+-- What a command may see of an engine's harts. This project's own.
 use Rattle.std.specs.Prelude.{List, [], ◌∷◌}
 use Rattle.hart_machine.specs.declared.hart.Core.{Core}
 use Rattle.dbg_model.specs.declared.thread_view.ThreadView.{ThreadView}

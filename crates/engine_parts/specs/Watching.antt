@@ -1,4 +1,4 @@
--- Which instructions may change the bytes of a watch: those that write where one has its bytes.
+-- Which instructions may change the bytes of a watch: those that write where one has its bytes. This project's own.
 use Rattle.std.specs.Prelude.{◌≡◌, ℕ, Bool, true, false, ◌||◌, is_some, List, [], ◌∷◌, Option, Some, None, slice_get}
 use Rattle.rv_decode.specs.declared.instr.Instr.{Instr}
 use Rattle.rv_decode.specs.declared.instr.Instr.TheVariants.{Store, Amo}
@@ -37,6 +37,6 @@ abbrev pub is_near : Words → Core → List Watch → Bool
 is_near t c [] = false
 is_near t c (w ∷ vs) = is_some c.entered || meets_stored (w ∷ vs) (written t c.regs)
 
--- the same of a hart of a machine
+-- hart h of a machine may change the bytes of a watch by its next instruction
 abbrev pub WritesNear : Patched → ℕ → List Watch → Type 0
 WritesNear m h vs = (c : Core) → slice_get m.cores h ≡ Some c → is_near m.text c vs ≡ true

@@ -1,4 +1,4 @@
--- What the user writes into the machine, as the engine does it.
+-- What the user writes into the machine, as the engine does it. This project's own.
 use Rattle.std.specs.Prelude.{◌≡◌, ◌<◌, ◌≤◌, length, None}
 use Rattle.data_memory.specs.Ranges.{first_unwritable}
 use Rattle.hart_machine.specs.Patched.{Patched}

@@ -1,3 +1,4 @@
+// Laws of a hart's phases in a step over a breakpoint.
 ghost use Rattle.engine_parts.specs.Marks.{MovesMark, OneInstructionOrNone};
 
 /// A law: each move of a hart changes its phase by the marks of its answer, as `Phase::after` has them.

@@ -1,3 +1,4 @@
+// What the debugger keeps of one hart, and of the patch that is lifted for one.
 use dbg_model::Course;
 use step_over::Phase;
 

@@ -108,7 +108,7 @@ pub fn other_holder(hold: Option<Hold>, h: u32) -> Option<u32>
     }
 }
 
-/// The same in another phase.
+/// What is kept of a hart, with another phase.
 pub fn with_phase(mind: Mind, phase: Phase) -> Mind
     ensures { result ≡ with_phase mind phase }
 {

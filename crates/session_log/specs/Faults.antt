@@ -1,4 +1,4 @@
--- What is wrong with a text, said of its lines: which faults a line has, by the lines in front of it, and the first line that has one.
+-- This project's own: which faults a line of a text has, by the lines in front of it, and the first line that has one.
 use Rattle.std.specs.Prelude.{◌≡◌, ◌≢◌, ℕ, ◌+◌, ◌<◌, ◌≤◌, ◌⊎◌, true, false, List, [], ◌∷◌, ◌++◌, length, count_by, Result, Ok, Err}
 use Rattle.dbg_traits.specs.declared.settings.Settings.{Settings}
 use Rattle.session_log.specs.declared.fault.FaultKind.{FaultKind}

@@ -1,4 +1,4 @@
--- What a log that was read is, and what is read of a log that was written.
+-- What a log that was read is, and what is read of a log that was written. This project's own.
 use Rattle.std.specs.Prelude.{◌≡◌, ℕ, List, length, Result, Ok, Err}
 use Rattle.session_log.specs.declared.fault.LogReadError.{LogReadError}
 use Rattle.session_log.specs.declared.fault.LogReadError.TheVariants as errors

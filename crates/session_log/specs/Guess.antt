@@ -1,4 +1,4 @@
--- What a line would be the line of: of each text something, and of the line of a row this row.
+-- What a line would be the line of: of each text something, and of the line of a row this row. This project's own.
 use Rattle.std.specs.Prelude.{ℕ, ◌+◌, ◌-◌, ◌*◌, ◌%◌, ◌^◌, Bool, ◌==◌, nat_le, nat_lt, List, [], ◌∷◌, Option, Some, None, codes, if◌then◌else◌}
 use Rattle.std.specs.List.{before_first, after_first}
 use Rattle.std.specs.Result.{result_unwrap_or}

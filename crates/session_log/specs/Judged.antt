@@ -1,4 +1,4 @@
--- A text, judged as it is read, line by line: what it is the log of, or its first fault (`Faults`, `Found`).
+-- A text, judged as it is read, line by line: what it is the log of, or its first fault (`Faults`, `Found`). This project's own.
 use Rattle.std.specs.Prelude.{◌≡◌, ℕ, ◌+◌, ◌⊎◌, true, false, ◌==◌, List, [], ◌∷◌, ◌++◌, length, Result, Ok, Err, if◌then◌else◌}
 use Rattle.session_log.specs.declared.fault.FaultKind.{FaultKind}
 use Rattle.session_log.specs.declared.fault.FaultKind.TheVariants.{Line, Order, End}

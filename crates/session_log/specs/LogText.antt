@@ -1,4 +1,4 @@
--- The log of a session: its settings, the entries of its journal in order, and their number. It stands behind what was said.
+-- The log of a session, behind what was said: its settings, the entries of its journal in order, and their number. This project's own.
 use Rattle.std.specs.Prelude.{◌≡◌, ℕ, ◌<◌, ◌^◌, Bool, true, false, not, ◌&&◌, ◌==◌, List, [], ◌∷◌, ◌++◌, length, if◌then◌else◌}
 use Rattle.std.specs.List.{flat_map, list_all}
 use Rattle.dbg_traits.specs.declared.settings.Settings.{Settings}

@@ -18,7 +18,7 @@ use Rattle.dbg_model.specs.Journals.{did}
 use Rattle.engine_parts.specs.declared.ending.Closed.{Closed}
 use Rattle.session_parts.specs.Headline.{Headline, IsDone, IsBelow, Why, Becomes, SumsUp}
 use Rattle.session_parts.specs.Left.{IsLeft}
-use Rattle.session_parts.specs.Over.{IsOver, IsPlayedOut, sums_up}
+use Rattle.session_parts.specs.Over.{IsHanded, IsOver, IsPlayedOut, sums_up}
 use Rattle.session_parts.specs.Puts.{PutsAll}
 use Rattle.session_parts.specs.Scene.{Play, Plays, IsPlayed, told_by}
 use Rattle.session_parts.specs.Stage.{Stage}
@@ -28,7 +28,7 @@ use Rattle.session_parts.specs.Ties.{IsTied, IsHeld, IsEmpty, IsCut, IsUnread, I
 use Rattle.session_parts.specs.declared.file.Source.TheVariants.{Generated}
 use Rattle.session_parts.specs.declared.status.Status.{Status}
 use Rattle.session_parts.specs.declared.status.Status.TheVariants as status
-use Rattle.session_parts.proofs.Heading.{heading, heading_file, named, numbers}
+use Rattle.session_parts.proofs.Heading.{heading, named, numbers, with_put}
 use Rattle.session_parts.proofs.Timing.{told_none}
 use Rattle.session_parts.proofs.Tying.{gives_end}
 use Rattle.session_parts.specs.Ties as ties
@@ -58,10 +58,6 @@ front_of false at text done rest all g =
     (lines (rest ++ drop at text) true, sym (g (drop at text) true) ∙ ap (λ t. lines t true) (take-append-drop at text))
 
 -- ---- why it was over
-
--- a world in which only puts were made
-abbrev pub with_put : Told → Option (List ℕ) → ℕ → Told
-with_put t written faults = record t { written = written; put_faults = faults }
 
 below : (t : Told) (p : Play) (r : Stage) (i : Taken) (c : Closed) (w : Option (List ℕ)) → IsLeft r c → IsPlayed t p → ties.IsBelow r i.count → IsBelow (with_put t w 0) c
 below t p r i c w e h b =
@@ -109,6 +105,7 @@ whys status.WriteFault t p r i c w so un e h tied = let f : false ≡ true = so 
 whys status.NoMemory t p r i c w so un e h tied = let f : false ≡ true = so in absurd cc
 whys status.Words t p r i c w so un e h tied = let f : false ≡ true = so in absurd cc
 whys (status.File g) t p r i c w so un e h tied = let f : false ≡ true = so in absurd cc
+whys status.Rejected t p r i c w so un e h tied = let f : false ≡ true = so in absurd cc
 
 -- ---- the headline
 
@@ -123,7 +120,7 @@ unread t p h = record { name = h.name; taken = h.taken; bytes = h.bytes; faults 
 pub unread_by : (s : Status) (t : Told) (p : Play) (c : Closed) (o : IsPlayedOut s p t c) → IsUnread t
 unread_by s t p c o =
     let a = o.played.asked in
-    unread t p (named (told_by (Some p) t) o.run.opening c.opening (Generated p.number) a.settings o.left.opening o.tied.held.file a.served).0.comes.0
+    unread t p (named (told_by (Some p) t) o.run.opening c.opening (Generated p.number) a.settings false o.left.opening o.tied.held.file a.served).0.comes.0
 
 pub headed : (s after before : Status) (t : Told) (p : Play) (c : Closed) (o : IsPlayedOut s p t c) (w : Option (List ℕ)) (faults : ℕ)
     → Why (Generated p.number) before (with_put t w 0) c o.run.state → Becomes after before
@@ -133,12 +130,12 @@ headed s after before t p c o w faults over becomes written why =
     let r = o.run in
     let h = o.played in
     let held = o.tied.held in
-    let n = (named (told_by (Some p) t) r.opening c.opening (Generated p.number) h.asked.settings o.left.opening held.file h.asked.served).0 in
+    let n = (named (told_by (Some p) t) r.opening c.opening (Generated p.number) h.asked.settings false o.left.opening held.file h.asked.served).0 in
     let un = unread t p n.comes.0 in
     let q = h.unused.unpolled in
     let front = front_of o.input.ended p.at p.text (did r.journal) o.input.rest (λ is. h.all (held.ended ∙ is)) held.input in
     heading after (with_put t w faults) r c o.left
-    (record { source = Generated p.number; asked = n.asked; comes = (record { name = un.name; taken = un.taken; bytes = un.bytes; faults = un.faults; ended = un.ended }, n.comes.1) })
+    (record { source = Generated p.number; has_log = false; asked = n.asked; comes = (record { name = un.name; taken = un.taken; bytes = un.bytes; faults = un.faults; ended = un.ended }, n.comes.1) })
     (count_none t.polled t.input_length q.polled q.taken)
     (front.0, ap (λ j. did j ++ front.0) o.left.journal ∙ (front.1 ∙ ap (λ b. lines b true) h.text))
     (told_none c.opening c.journal t.polled t.asks q.asks)
@@ -170,6 +167,7 @@ written_records status.WriteFault t p r i so tied = let f : false ≡ true = so 
 written_records status.NoMemory t p r i so tied = let f : false ≡ true = so in absurd cc
 written_records status.Words t p r i so tied = let f : false ≡ true = so in absurd cc
 written_records (status.File g) t p r i so tied = let f : false ≡ true = so in absurd cc
+written_records status.Rejected t p r i so tied = let f : false ≡ true = so in absurd cc
 
 -- so a text that counts what the records show is the summary
 pub text_is : (s : Status) (t : Told) (p : Play) (c : Closed) (o : IsPlayedOut s p t c) (text : List ℕ) → sums_up s ≡ true → ((trees : List LineTree) → AreRecords p.output trees → text ≡ summary p.number c.journal (streamed trees) s) → text ≡ summary p.number c.journal o.run.state.out s
@@ -185,10 +183,11 @@ becomes_same status.Done so = refl
 becomes_same status.Budget so = refl
 becomes_same status.History so = refl
 becomes_same status.ReadFault so = refl
-becomes_same status.WriteFault so = tt
+becomes_same status.WriteFault so = so
 becomes_same status.NoMemory so = tt
 becomes_same status.Words so = refl
 becomes_same (status.File g) so = refl
+becomes_same status.Rejected so = refl
 
 sums_same : (s : Status) (text : List ℕ) → sums_up s ≡ true → SumsUp s text text
 sums_same status.Done text so = refl
@@ -199,6 +198,7 @@ sums_same status.WriteFault text so = ([], append-nil text)
 sums_same status.NoMemory text so = let f : false ≡ true = so in absurd cc
 sums_same status.Words text so = refl
 sums_same (status.File g) text so = refl
+sums_same status.Rejected text so = refl
 
 told_text : (o : Option (List ℕ)) (text : List ℕ) (P : List ℕ → Type 0) → IsEmpty o → P text → IfSome (more o text) P
 told_text None text P none h = tt
@@ -229,14 +229,14 @@ headed_cut s t u p c o text so is puts =
     let P : Told → Type 0 = λ v. Headline status.WriteFault v c in
     let written : IfSome w (λ x. IsCut x (summary p.number c.journal o.run.state.out s)) =
     told_text t.written (take puts.0 text) (λ x. IsCut x (summary p.number c.journal o.run.state.out s)) none.written (drop puts.0 text, take-append-drop puts.0 text ∙ is) in
-    subst P (sym puts.3) (headed s status.WriteFault s t p c o w puts.1 (whys s t p o.run o.input c w so un o.left o.played o.tied) tt written rose)
+    subst P (sym puts.3) (headed s status.WriteFault s t p c o w puts.1 (whys s t p o.run o.input c w so un o.left o.played o.tied) so written rose)
 
 -- the counts that are put fit the numbers of the machine
 pub few_steps : (s : Status) (t : Told) (p : Play) (c : Closed) (o : IsPlayedOut s p t c) → steps (erase c.journal) ≤ 1000000000000
 few_steps s t p c o =
     let a = o.played.asked in
     let n = numbers c o.run o.left in
-    let same : c.opening.settings ≡ a.settings = (named (told_by (Some p) t) o.run.opening c.opening (Generated p.number) a.settings o.left.opening o.tied.held.file a.served).1 in
+    let same : c.opening.settings ≡ a.settings = (named (told_by (Some p) t) o.run.opening c.opening (Generated p.number) a.settings false o.left.opening o.tied.held.file a.served).1 in
     let most = a.ranges.budget.1 in
     let is = ap (λ x. x.budget) same in
     omega (arith, n.retired, n.most, is, most)
@@ -244,19 +244,19 @@ few_steps s t p c o =
 -- ---- what is handed back
 
 -- a session over a script is over
-pub played_out : (s : Status) (t : Told) (o : Option Play) (c : Option Closed) (p : Play) (d : Closed) → o ≡ Some p → c ≡ Some d → Plays t o → IsOver s (told_by o t) c → IsPlayedOut s p t d
-played_out s t o c p d is closed plays over =
-    let P : Option Play → Type 0 = λ x. Plays t x × IsOver s (told_by x t) c in
+pub played_out : (s : Status) (t : Told) (o : Option Play) (has_log : Bool) (c : Option Closed) (p : Play) (d : Closed) → o ≡ Some p → c ≡ Some d → Plays t o has_log → IsOver s (told_by o t) c → IsPlayedOut s p t d
+played_out s t o has_log c p d is closed plays over =
+    let P : Option Play → Type 0 = λ x. Plays t x has_log × IsOver s (told_by x t) c in
     let Q : Option Closed → Type 0 = λ x. IsOver s (told_by (Some p) t) x in
     let h = subst P is (plays, over) in
     let v = subst Q closed h.1 in
     record { run = v.run; input = v.input; left = v.left; played = h.0; tied = v.tied }
 
 -- a session over the world that was handed in is over
-pub handed_back : (s : Status) (t : Told) (o : Option Play) (c : Option Closed) (d : Closed) → o ≡ None → c ≡ Some d → Plays t o → IsOver s (told_by o t) c → Headline s t d
-handed_back s t o c d is closed plays over =
-    let P : Option Play → Type 0 = λ x. Plays t x × IsOver s (told_by x t) c in
+pub handed_back : (s : Status) (t : Told) (o : Option Play) (has_log : Bool) (c : Option Closed) (d : Closed) → o ≡ None → c ≡ Some d → Plays t o has_log → IsOver s (told_by o t) c → IsHanded has_log s t d
+handed_back s t o has_log c d is closed plays over =
+    let P : Option Play → Type 0 = λ x. Plays t x has_log × IsOver s (told_by x t) c in
     let Q : Option Closed → Type 0 = λ x. IsOver s t x in
     let h = subst P is (plays, over) in
     let v = subst Q closed h.1 in
-    heading_file s t v.run v.input d v.left v.tied h.0
+    record { run = v.run; input = v.input; left = v.left; asked = h.0; tied = v.tied }

@@ -32,8 +32,9 @@ use Rattle.session_parts.specs.declared.file.Source.TheVariants.{File, Generated
 use Rattle.session_parts.specs.Source.{file_bytes, input_bytes, input_ended}
 use Rattle.session_parts.specs.Early.{Early, IsPart}
 use Rattle.session_parts.specs.InTime.{ToldInTime}
+use Rattle.session_parts.specs.Logged.{Tells}
 use Rattle.session_parts.specs.Scene.{AskFile}
-use Rattle.session_parts.specs.Words.{served_words, IsWhole}
+use Rattle.session_parts.specs.Words.{served, served_words, IsWhole}
 use Rattle.session_parts.specs.Headline.{Headline, IsDone, IsBelow, Why, Prints, Refused, Good, IsFine, IsWords, IsFile, Ends}
 use Rattle.session_parts.specs.declared.status.Status.{Status}
 use Rattle.session_parts.specs.declared.status.Status.TheVariants as status
@@ -77,7 +78,7 @@ done_by name t r i c e h d =
       still = d.still;
     }
 
-whys : (name : List ℕ) (s : Status) (t : Told) (r : Stage) (i : Taken) (c : Closed) → IsLeft r c → IsTied (Some s) t r i → Why (File name) s t c r.state
+pub whys : (name : List ℕ) (s : Status) (t : Told) (r : Stage) (i : Taken) (c : Closed) → IsLeft r c → IsTied (Some s) t r i → Why (File name) s t c r.state
 whys name status.Done t r i c e h =
     let d = h.cause in
     (d.0, below t r i c e h.held d.1, elim d.2 [ inl all ↦ inl (done_by name t r i c e h.held all) | inr exited ↦ inr exited ])
@@ -95,6 +96,7 @@ whys name status.WriteFault t r i c e h = h.cause
 whys name status.NoMemory t r i c e h = tt
 whys name status.Words t r i c e h = absurd h.cause
 whys name (status.File f) t r i c e h = absurd h.cause
+whys name status.Rejected t r i c e h = absurd h.cause
 
 regs_plain : (xs : List Hart) → plain_registers (map plain_hart xs) ≡ hart_registers xs
 regs_plain [] = refl
@@ -103,7 +105,7 @@ regs_plain (x ∷ xs) = ap (λ t. x.regs ∷ t) (regs_plain xs)
 -- the headline, of what a session left, and of where its program and its lines came from
 pub heading : (s : Status) (t : Told) (r : Stage) (c : Closed) → IsLeft r c → (opened : Opened t c.opening) → IfSome t.polled (λ b. length b ≡ t.input_length)
     → IfSome (input_bytes opened.source t) (λ b. (rest : List (List ℕ)) × (did c.journal ++ rest ≡ lines b (input_ended opened.source t)))
-    → ToldInTime c.opening c.journal t.polled t.asks → Prints opened.source s t c r.state → Why opened.source s t c r.state → Headline s t c
+    → ToldInTime c.opening c.journal t.polled t.asks → Prints opened.source opened.has_log s t c r.state → Why opened.source s t c r.state → Headline s t c
 heading s t r c e opened polled front in_time said why = record {
   opened = opened;
   polled = polled;
@@ -127,30 +129,40 @@ heading s t r c e opened polled front in_time said why = record {
 }
 
 -- where an opening comes from that the words name in two ways
-pub record Named (t : Told) (source : Source) (o : Opening) : Type 0 where
-  pub asked : served_words t.words ≡ Some (record { source = source; settings = o.settings })
+pub record Named (t : Told) (source : Source) (has_log : Bool) (o : Opening) : Type 0 where
+  pub asked : served_words t.words ≡ Some (record { source = source; settings = o.settings; has_log = has_log })
   pub comes : ComesFrom source t o.image
 
-pub named : (t : Told) (o p : Opening) (source : Source) (settings : Settings) → p ≡ o → Opened t o → served_words t.words ≡ Some (record { source = source; settings = settings }) → Named t source p × (p.settings ≡ settings)
-named t o p source settings same h asked =
-    let a : Served = record { source = h.source; settings = o.settings } in
-    let b : Served = record { source = source; settings = settings } in
+pub named : (t : Told) (o p : Opening) (source : Source) (settings : Settings) (has_log : Bool) → p ≡ o → Opened t o → served_words t.words ≡ Some (record { source = source; settings = settings; has_log = has_log })
+    → Named t source has_log p × (p.settings ≡ settings)
+named t o p source settings has_log same h asked =
+    let a : Served = record { source = h.source; settings = o.settings; has_log = h.has_log } in
+    let b : Served = record { source = source; settings = settings; has_log = has_log } in
     let is : a ≡ b = same_some a b (sym h.asked ∙ asked) in
     let from : h.source ≡ source = ap (λ (x : Served). x.source) is in
-    let P : Source → Type 0 = λ x. Named t x o in
-    let Q : Opening → Type 0 = λ q. Named t source q × (q.settings ≡ settings) in
-    subst Q (sym same) (subst P from (record { asked = h.asked; comes = h.comes }), ap (λ (x : Served). x.settings) is)
+    let logs : h.has_log ≡ has_log = ap (λ (x : Served). x.has_log) is in
+    let P : Source → Type 0 = λ x. Named t x h.has_log o in
+    let R : Bool → Type 0 = λ l. Named t source l o in
+    let Q : Opening → Type 0 = λ q. Named t source has_log q × (q.settings ≡ settings) in
+    subst Q (sym same) (subst R logs (subst P from (record { asked = h.asked; comes = h.comes })), ap (λ (x : Served). x.settings) is)
 
--- that of a session over a file
-pub heading_file : (s : Status) (t : Told) (r : Stage) (i : Taken) (c : Closed) → IsLeft r c → IsTied (Some s) t r i → AskFile t.words → Headline s t c
-heading_file s t r i c e h ask =
-    let n = (named t r.opening c.opening (File ask.name) ask.settings e.opening h.held.file ask.served).0 in
-    heading s t r c e (record { source = File ask.name; asked = n.asked; comes = n.comes })
-    (told_same t.polled (λ b. length b ≡ i.count) (λ b. length b ≡ t.input_length) (λ b is. is ∙ sym h.held.count) h.held.polled)
-    (told_same t.polled (λ b. Gives i.ended b (did r.journal) i.rest) (λ b. (rest : List (List ℕ)) × (did c.journal ++ rest ≡ lines b t.poll_ended)) (λ b g. rw (e.journal, h.held.ended) (front_lines i.ended b (did r.journal) i.rest g)) h.held.input)
-    (rw (e.opening, e.journal) h.held.asks)
-    (rw (e.opening, e.journal) h.written)
-    (whys ask.name s t r i c e h)
+-- a world in which only puts were made
+abbrev pub with_put : Told → Option (List ℕ) → ℕ → Told
+with_put t written faults = record t { written = written; put_faults = faults }
+
+-- that of a session over a file, behind whose lines no more was put, or its log
+pub heading_file : (s : Status) (has_log : Bool) (t : Told) (w : Option (List ℕ)) (faults : ℕ) (r : Stage) (i : Taken) (c : Closed) → IsLeft r c → IsHeld t r i → (ask : AskFile t.words has_log)
+    → IfSome w (λ written. Tells has_log s written c) → Why (File ask.name) s (with_put t w faults) c r.state → Headline s (with_put t w faults) c
+heading_file s has_log t w faults r i c e h ask said why =
+    let n = (named t r.opening c.opening (File ask.name) ask.settings has_log e.opening h.file ask.served).0 in
+    let f = n.comes in
+    heading s (with_put t w faults) r c e
+    (record { source = File ask.name; has_log = has_log; asked = n.asked; comes = record { named = f.named; whole = f.whole; taken = f.taken; faults = f.faults; image = f.image } })
+    (told_same t.polled (λ b. length b ≡ i.count) (λ b. length b ≡ t.input_length) (λ b is. is ∙ sym h.count) h.polled)
+    (told_same t.polled (λ b. Gives i.ended b (did r.journal) i.rest) (λ b. (rest : List (List ℕ)) × (did c.journal ++ rest ≡ lines b t.poll_ended)) (λ b g. rw (e.journal, h.ended) (front_lines i.ended b (did r.journal) i.rest g)) h.input)
+    (rw (e.opening, e.journal) h.asks)
+    said
+    why
 
 -- ---- what the status says
 
@@ -170,7 +182,7 @@ told_bytes o bytes P is h = subst (λ (x : Option (List ℕ)). IfSome x P) is h
 
 -- a refused file that was read whole is answered with its fault
 refuses : (s : Status) (t : Told) (f : ElfFault) → Early s t → Refused t f → IsFile f s
-refuses status.Words t f early r = absurd (unserved (served_words t.words) early.2 r.words)
+refuses status.Words t f early r = absurd (unserved (served_words t.words) (ap served early.2) r.words)
 refuses (status.File g) t f early r =
     let is : fault_of r.bytes ≡ Some g = told_bytes t.file_taken r.bytes (λ b. reading.Refused b g) r.taken early.1.fault in
     same_some g f (sym is ∙ r.fault)
@@ -180,6 +192,7 @@ refuses status.Done t f early r = absurd early
 refuses status.Budget t f early r = absurd early
 refuses status.History t f early r = absurd early
 refuses status.WriteFault t f early r = absurd early
+refuses status.Rejected t f early r = absurd early
 
 -- no session is begun over a refused file
 not_refused : (source : Source) (t : Told) (p : Program) (f : ElfFault) → ComesFrom source t p → Refused t f → ⊥
@@ -205,12 +218,13 @@ words_of status.Done t None h none = absurd h
 words_of status.Budget t None h none = absurd h
 words_of status.History t None h none = absurd h
 words_of status.WriteFault t None h none = absurd h
+words_of status.Rejected t None h none = absurd h
 
 -- a run whose words and file are accepted isn't answered with a fault of the file
 accepted : (t : Told) (f : ElfFault) (g : Good t) → Early (status.File f) t → ⊥
 accepted t f g h =
-    let a : Served = record { source = g.source; settings = g.settings } in
-    let b : Served = record { source = File h.1.read.name; settings = h.1.read.settings } in
+    let a : Served = record { source = g.source; settings = g.settings; has_log = g.has_log } in
+    let b : Served = record { source = File h.1.read.name; settings = h.1.read.settings; has_log = h.1.read.has_log } in
     let is : g.source ≡ File h.1.read.name = ap (λ (x : Served). x.source) (same_some a b (sym g.words ∙ h.1.read.words)) in
     let taken : t.file_taken ≡ Some g.bytes = subst (λ (x : Source). file_bytes x t ≡ Some g.bytes) is g.taken in
     let fault : fault_of g.bytes ≡ Some f = told_bytes t.file_taken g.bytes (λ b. reading.Refused b f) taken h.1.fault in
@@ -225,10 +239,11 @@ fine_whole status.ReadFault t c h g = let some = h.why in let none = g.clean.pol
 fine_whole status.WriteFault t c h g = let some = h.why in let none = g.clean.put in absurd (omega (arith, some, none))
 fine_whole status.Words t c h g = absurd h.why
 fine_whole (status.File f) t c h g = absurd h.why
+fine_whole status.Rejected t c h g = absurd h.why
 
 pub fine_of : (s : Status) (t : Told) (c : Option Closed) → Ends s t c → Good t → IsFine s
 fine_of s t (Some c) h g = fine_whole s t c h g
-fine_of status.Words t None h g = absurd (clash (served_words t.words) _ h.2 g.words)
+fine_of status.Words t None h g = absurd (clash (served_words t.words) _ (ap served h.2) g.words)
 fine_of (status.File f) t None h g = absurd (accepted t f g h)
 fine_of status.ReadFault t None h g = let some = h.3 in let none = g.clean.file in absurd (omega (arith, some, none))
 fine_of status.NoMemory t None h g = tt
@@ -236,3 +251,4 @@ fine_of status.Done t None h g = absurd h
 fine_of status.Budget t None h g = absurd h
 fine_of status.History t None h g = absurd h
 fine_of status.WriteFault t None h g = absurd h
+fine_of status.Rejected t None h g = absurd h

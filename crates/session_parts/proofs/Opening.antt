@@ -4,6 +4,7 @@ use Rattle.std.proofs.lemmas.List.{take-append-drop}
 use mathlib.Core.List.{append-nil}
 use Rattle.std.specs.Prelude.{◌⊎◌, Option, Some, None, IfSome}
 use mathlib.Core.Logic.{inl, inr}
+use Rattle.dbg_traits.specs.Settings.{AreSettings}
 use Rattle.dbg_traits.specs.Told.{Told, more, IsFresh}
 use Rattle.elf_checks.specs.Reading.{IsImage, Refused}
 use Rattle.elf_checks.specs.declared.fault.ElfFault.{ElfFault}
@@ -11,7 +12,8 @@ use Rattle.dbg_model.specs.declared.opening.Opening.{Opening}
 use Rattle.dbg_traits.specs.declared.settings.Settings.{Settings}
 use Rattle.elf_gen.specs.Generated.{generated_file}
 use Rattle.session_parts.specs.declared.file.Source.TheVariants.{File, Generated}
-use Rattle.session_parts.specs.Words.{served_words, ReadsAll, ReadsSome, named_of}
+use Rattle.dbg_words.specs.Words.{Words, Asked, session, generated, checked}
+use Rattle.session_parts.specs.Words.{served, served_words, file_checked, checked_words, AreRefused, ReadsAll, ReadsSome, named_of}
 use Rattle.session_parts.specs.declared.file.FileError.TheVariants as error
 use Rattle.session_parts.specs.Scene.{AskFile, IsUnused, begun, told_by}
 use Rattle.session_parts.specs.Ties.{IsEmpty, IsCut, IsUnread, IsUnpolled, MayBegin}
@@ -44,15 +46,16 @@ unpolled t fresh = record { polls = fresh.polls; taken = fresh.input_length; pol
 unread : (t : Told) → IsFresh t → IsUnread t
 unread t fresh = record { name = fresh.named; taken = fresh.file_length; bytes = empty t.file_taken fresh.taken; faults = fresh.file_faults; ended = fresh.file_ended }
 
--- the words ask for a session over the file of this name
-abbrev pub AsksFile : Told → List ℕ → Settings → Type 0
-AsksFile t name settings = served_words t.words ≡ Some (record { source = File name; settings = settings })
+-- the words ask for a session over the file of this name, with or without its log
+abbrev pub AsksFile : Told → List ℕ → Settings → Bool → Type 0
+AsksFile t name settings has_log = served_words t.words ≡ Some (record { source = File name; settings = settings; has_log = has_log })
 
 -- a session over a file that was read may begin
-pub ready : (t u : Told) (bytes name : List ℕ) (o : Opening) → IsFresh t → AsksFile t name o.settings → ReadsAll bytes name t u → IsImage bytes o.image → MayBegin u o
-ready t u bytes name o fresh asked reads image r opening journal = rw reads.3 (record {
+pub ready : (t u : Told) (bytes name : List ℕ) (o : Opening) (has_log : Bool) → IsFresh t → AsksFile t name o.settings has_log → ReadsAll bytes name t u → IsImage bytes o.image → MayBegin u o
+ready t u bytes name o has_log fresh asked reads image r opening journal = rw reads.3 (record {
   opened = rw opening (record {
     source = File name;
+    has_log = has_log;
     asked = asked;
     comes = record {
       named = refl;
@@ -72,9 +75,9 @@ ready t u bytes name o fresh asked reads image r opening journal = rw reads.3 (r
 })
 
 -- and so may one over a script
-pub ready_script : (t : Told) (number : ℕ) (text : List ℕ) (o : Opening) → IsFresh t → served_words t.words ≡ Some (record { source = Generated number; settings = o.settings }) → IsImage (generated_file number) o.image → MayBegin (told_by (Some (begun number text)) t) o
+pub ready_script : (t : Told) (number : ℕ) (text : List ℕ) (o : Opening) → IsFresh t → served_words t.words ≡ Some (record { source = Generated number; settings = o.settings; has_log = false }) → IsImage (generated_file number) o.image → MayBegin (told_by (Some (begun number text)) t) o
 ready_script t number text o fresh asked image r opening journal = record {
-  opened = rw opening (record { source = Generated number; asked = asked; comes = (let h = unread t fresh in record { name = h.name; taken = h.taken; bytes = h.bytes; faults = h.faults; ended = h.ended }, image) });
+  opened = rw opening (record { source = Generated number; has_log = false; asked = asked; comes = (let h = unread t fresh in record { name = h.name; taken = h.taken; bytes = h.bytes; faults = h.faults; ended = h.ended }, image) });
   clean = record { file = fresh.file_faults; poll = fresh.poll_faults; put = refl };
   polled = refl;
   taken = refl;
@@ -119,13 +122,20 @@ put_words : (b : Bool) (t u : Told) (piece : List ℕ) → PutsAll b piece t u �
 put_words true t u piece puts = ap (λ (v : Told). v.words) puts
 put_words false t u piece puts = ap (λ (v : Told). v.words) puts.3
 
+-- what asks for no session and for no check is refused
+neither : (o : Option Asked) → None ≡ served o → file_checked o ≡ None → o ≡ None
+neither None is none = refl
+neither (Some (session name s has_log)) is none = cc
+neither (Some (generated n s)) is none = cc
+neither (Some (checked name)) is none = cc
+
 -- the words were refused
-pub early_words : (b : Bool) (t u : Told) → IsFresh t → None ≡ served_words t.words → PutsLines b (refusal_lines usage_fields) t u → Early status.Words u
-early_words b t u fresh is p =
+pub early_words : (b : Bool) (t u : Told) → IsFresh t → None ≡ served_words t.words → checked_words t.words ≡ None → PutsLines b (refusal_lines usage_fields) t u → Early status.Words u
+early_words b t u fresh is none p =
     let text = lines_bytes (refusal_lines usage_fields) in (
       put_unpolled b t u text p.puts (unpolled t fresh),
       put_unread b t u text p.puts (unread t fresh),
-      ap served_words (put_words b t u text p.puts) ∙ sym is,
+      ap Words (put_words b t u text p.puts) ∙ neither (Words t.words) is none,
       line_written b t u (refusal_lines usage_fields) fresh.written fresh.put_faults p,
     )
 
@@ -137,54 +147,54 @@ early_memory t fresh = (unpolled t fresh, inl fresh.named, fresh.file_faults, si
 all_unpolled : (t u : Told) (bytes name : List ℕ) → ReadsAll bytes name t u → IsFresh t → IsUnpolled u
 all_unpolled t u bytes name reads fresh = let h = unpolled t fresh in rw reads.3 (record { polls = h.polls; taken = h.taken; polled = h.polled; asks = h.asks; faults = h.faults; ended = h.ended })
 
-all_read : (t u : Told) (name : List ℕ) (settings : Settings) (bytes : List ℕ) → AsksFile t name settings → ReadsAll bytes name t u → IsRead u
-all_read t u name settings bytes asked reads = rw reads.3 (record { name = name; settings = settings; words = asked; named = refl })
+all_read : (t u : Told) (name : List ℕ) (settings : Settings) (has_log : Bool) (bytes : List ℕ) → AsksFile t name settings has_log → ReadsAll bytes name t u → IsRead u
+all_read t u name settings has_log bytes asked reads = rw reads.3 (record { name = name; settings = settings; has_log = has_log; words = asked; named = refl })
 
 -- there was no memory once the file was read
-pub read_memory : (t u : Told) (name : List ℕ) (settings : Settings) (bytes : List ℕ) → IsFresh t → AsksFile t name settings → ReadsAll bytes name t u → Early status.NoMemory u
-read_memory t u name settings bytes fresh asked reads = (
+pub read_memory : (t u : Told) (name : List ℕ) (settings : Settings) (has_log : Bool) (bytes : List ℕ) → IsFresh t → AsksFile t name settings has_log → ReadsAll bytes name t u → Early status.NoMemory u
+read_memory t u name settings has_log bytes fresh asked reads = (
   all_unpolled t u bytes name reads fresh,
-  inr (all_read t u name settings bytes asked reads),
+  inr (all_read t u name settings has_log bytes asked reads),
   rw reads.3 fresh.file_faults,
   rw reads.3 (silent t fresh),
 )
 
 -- the file wasn't read whole
-pub early_read : (t u : Told) (name : List ℕ) (settings : Settings) → IsFresh t → AsksFile t name settings → ReadsSome error.Failed name t u → Early status.ReadFault u
-early_read t u name settings fresh asked reads =
+pub early_read : (t u : Told) (name : List ℕ) (settings : Settings) (has_log : Bool) → IsFresh t → AsksFile t name settings has_log → ReadsSome error.Failed name t u → Early status.ReadFault u
+early_read t u name settings has_log fresh asked reads =
     let h = unpolled t fresh in
     let none = fresh.file_faults in
     let rose : 0 < reads.1 = omega (arith, none, reads.3) in
     rw reads.4 (
       record { polls = h.polls; taken = h.taken; polled = h.polled; asks = h.asks; faults = h.faults; ended = h.ended },
-      record { name = name; settings = settings; words = asked; named = refl },
+      record { name = name; settings = settings; has_log = has_log; words = asked; named = refl },
       record { ended = fresh.file_ended; length = reads.2 },
       rose,
       silent t fresh,
     )
 
-name_by : (bytes : List ℕ) (u : Told) (name : List ℕ) (settings : Settings) → AsksFile u name settings → u.file_name ≡ named_of bytes name → IsReadIfAny u
-name_by [] u name settings asked named = inl named
-name_by (b ∷ bs) u name settings asked named = inr (record { name = name; settings = settings; words = asked; named = named })
+name_by : (bytes : List ℕ) (u : Told) (name : List ℕ) (settings : Settings) (has_log : Bool) → AsksFile u name settings has_log → u.file_name ≡ named_of bytes name → IsReadIfAny u
+name_by [] u name settings has_log asked named = inl named
+name_by (b ∷ bs) u name settings has_log asked named = inr (record { name = name; settings = settings; has_log = has_log; words = asked; named = named })
 
-pub early_room : (t u : Told) (name : List ℕ) (settings : Settings) → IsFresh t → AsksFile t name settings → ReadsSome error.NoMemory name t u → Early status.NoMemory u
-early_room t u name settings fresh asked reads =
+pub early_room : (t u : Told) (name : List ℕ) (settings : Settings) (has_log : Bool) → IsFresh t → AsksFile t name settings has_log → ReadsSome error.NoMemory name t u → Early status.NoMemory u
+early_room t u name settings has_log fresh asked reads =
     let h = unpolled t fresh in
     let v : Told = record t { file_name = named_of reads.0 name; file_taken = more t.file_taken reads.0; file_length = length reads.0 } in
     rw reads.2 (
       record { polls = h.polls; taken = h.taken; polled = h.polled; asks = h.asks; faults = h.faults; ended = h.ended },
-      name_by reads.0 v name settings asked refl,
+      name_by reads.0 v name settings has_log asked refl,
       fresh.file_faults,
       silent t fresh,
     )
 
 put_fault : (b : Bool) (t u : Told) (f : ElfFault) (piece : List ℕ) → PutsAll b piece t u → HasFault t f → HasFault u f
-put_fault true t u f piece puts h = rw puts (record { read = record { name = h.read.name; settings = h.read.settings; words = h.read.words; named = h.read.named }; whole = h.whole; faults = h.faults; length = h.length; fault = h.fault })
-put_fault false t u f piece puts h = rw puts.3 (record { read = record { name = h.read.name; settings = h.read.settings; words = h.read.words; named = h.read.named }; whole = h.whole; faults = h.faults; length = h.length; fault = h.fault })
+put_fault true t u f piece puts h = rw puts (record { read = record { name = h.read.name; settings = h.read.settings; has_log = h.read.has_log; words = h.read.words; named = h.read.named }; whole = h.whole; faults = h.faults; length = h.length; fault = h.fault })
+put_fault false t u f piece puts h = rw puts.3 (record { read = record { name = h.read.name; settings = h.read.settings; has_log = h.read.has_log; words = h.read.words; named = h.read.named }; whole = h.whole; faults = h.faults; length = h.length; fault = h.fault })
 
-read_fault : (t u : Told) (name : List ℕ) (settings : Settings) (bytes : List ℕ) (f : ElfFault) → IsFresh t → AsksFile t name settings → ReadsAll bytes name t u → Refused bytes f → HasFault u f
-read_fault t u name settings bytes f fresh asked reads fault = rw reads.3 (record {
-  read = record { name = name; settings = settings; words = asked; named = refl };
+read_fault : (t u : Told) (name : List ℕ) (settings : Settings) (has_log : Bool) (bytes : List ℕ) (f : ElfFault) → IsFresh t → AsksFile t name settings has_log → ReadsAll bytes name t u → Refused bytes f → HasFault u f
+read_fault t u name settings has_log bytes f fresh asked reads fault = rw reads.3 (record {
+  read = record { name = name; settings = settings; has_log = has_log; words = asked; named = refl };
   whole = reads.1;
   faults = fresh.file_faults;
   length = told_all t.file_taken bytes (λ b. length b ≡ length bytes) fresh.taken refl;
@@ -192,16 +202,16 @@ read_fault t u name settings bytes f fresh asked reads fault = rw reads.3 (recor
 })
 
 -- the words name the file that was read
-pub asks_still : (t u : Told) (name : List ℕ) (settings : Settings) (bytes : List ℕ) → AsksFile t name settings → ReadsAll bytes name t u → AskFile u.words
-asks_still t u name settings bytes asked reads = rw reads.3 (record { name = name; settings = settings; served = asked })
+pub asks_still : (t u : Told) (name : List ℕ) (settings : Settings) (has_log : Bool) (bytes : List ℕ) → AsksFile t name settings has_log → AreSettings settings → ReadsAll bytes name t u → AskFile u.words has_log
+asks_still t u name settings has_log bytes asked ranges reads = rw reads.3 (record { name = name; settings = settings; served = asked; ranges = ranges })
 
 -- the file was refused
-pub early_file : (b : Bool) (t u v : Told) (name : List ℕ) (settings : Settings) (bytes : List ℕ) (f : ElfFault) → IsFresh t → AsksFile t name settings → ReadsAll bytes name t u → Refused bytes f → PutsLines b (refusal_lines (file_fields f)) u v → Early (status.File f) v
-early_file b t u v name settings bytes f fresh asked reads fault p =
+pub early_file : (b : Bool) (t u v : Told) (name : List ℕ) (settings : Settings) (has_log : Bool) (bytes : List ℕ) (f : ElfFault) → IsFresh t → AsksFile t name settings has_log → ReadsAll bytes name t u → Refused bytes f → PutsLines b (refusal_lines (file_fields f)) u v → Early (status.File f) v
+early_file b t u v name settings has_log bytes f fresh asked reads fault p =
     let text = lines_bytes (refusal_lines (file_fields f)) in
     let written : u.written ≡ t.written = ap (λ (x : Told). x.written) reads.3 in
     let none : u.put_faults ≡ 0 = ap (λ (x : Told). x.put_faults) reads.3 ∙ fresh.put_faults in (
       put_unpolled b u v text p.puts (all_unpolled t u bytes name reads fresh),
-      put_fault b u v f text p.puts (read_fault t u name settings bytes f fresh asked reads fault),
+      put_fault b u v f text p.puts (read_fault t u name settings has_log bytes f fresh asked reads fault),
       line_written b u v (refusal_lines (file_fields f)) (rw written fresh.written) none p,
     )

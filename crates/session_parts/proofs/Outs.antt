@@ -1,6 +1,6 @@
 -- What the steps of a session do to the marks of the harts whose job is out.
 use Rattle.std.proofs.Common.{◌≡◌, ◌+◌, ℕ, zero, suc, Bool, true, false, List, [], ◌∷◌, refl, ap, sym, subst, ◌∙◌, not}
-use Rattle.std.specs.Prelude.{Option, Some, None, replicate, ◌&&◌, ◌==◌, if◌then◌else◌, is_none, is_some, nat_lt, slice_set}
+use Rattle.std.specs.Prelude.{Option, Some, None, replicate, ◌&&◌, if◌then◌else◌, is_none, is_some, nat_lt, slice_set}
 use mathlib.Core.Logic.{inl, inr}
 use Rattle.dbg_model.specs.State.{any_runs}
 use Rattle.engine_parts.specs.Steps.{NoneOut}
@@ -10,7 +10,7 @@ use Rattle.session_parts.specs.Taking.{has_line}
 use Rattle.reg_slices.specs.declared.slice.Job.{Job}
 use Rattle.reg_slices.specs.declared.slice.Slice.{Slice}
 use Rattle.session_parts.specs.Round.{Moment, Takes, TakesBy, Lines, LinesBy, Moved, Moves, MovesBy, Settles, SettlesBy, Unless, Then, Round}
-use Rattle.session_parts.specs.Crew.{Gives, Goes, HandsOut, IsWorkOf, Reaches, TakesBack, gives_job, marked, nearer, pause_of, ready_of, returned}
+use Rattle.session_parts.specs.Crew.{Gives, Goes, HandsOut, IsWorkOf, Reaches, TakesBack, gives_job, marked, ready_of, returned}
 use Rattle.session_parts.specs.Crew as crew
 
 -- the marks are as they were
@@ -79,16 +79,12 @@ none_cleared (x ∷ xs) (suc h) none (suc k) = none_cleared xs h (λ j. none (su
 
 -- ---- a duty, and a job that is worked and taken at once
 
-nearer_out : (k : Option ℕ) (p : Moment) → (nearer k p).out ≡ p.out
-nearer_out None p = refl
-nearer_out (Some h) p = refl
-
 pub goes_out : (p q : Moment) → Goes None p q → q.out ≡ p.out
-goes_out p q g = ap (λ (m : Moment). m.out) g.hands.1 ∙ (nearer_out g.pick g.between ∙ round_out g.pick p g.between g.round)
+goes_out p q g = ap (λ (m : Moment). m.out) g.hands.1 ∙ round_out g.pick p g.between g.round
 
 job_out : (job : Job) (p q : Moment) → Goes (Some job) p q → q.out ≡ slice_set p.out job.hart true
 job_out job p q g =
-    ap (λ (m : Moment). m.out) g.hands.3 ∙ ap (λ xs. slice_set xs job.hart true) (nearer_out g.pick g.between ∙ round_out g.pick p g.between g.round)
+    ap (λ (m : Moment). m.out) g.hands.3 ∙ ap (λ xs. slice_set xs job.hart true) (round_out g.pick p g.between g.round)
 
 taken_out : (b : Bool) (slice : Slice) (p q : Moment) → crew.TakesBy b slice p q → q.out ≡ p.out
 taken_out true slice p q (inl c) = moved_out slice.count slice.hart p q c.moved
@@ -104,87 +100,55 @@ served_out job slice p m q g works takes none =
 
 -- ---- a round and what is handed out behind it are a duty
 
-not_ready : (a g z : Bool) (h : ℕ) → None ≡ (if a && z then Some h else None) → (a && (g && z)) ≡ false
-not_ready false g z h e = refl
-not_ready true false z h e = refl
-not_ready true true true h e = cc
-not_ready true true false h e = refl
+not_ready : (a g : Bool) (h : ℕ) → None ≡ (if a then Some h else None) → (a && g) ≡ false
+not_ready false g h e = refl
+not_ready true g h e = cc
 
-none_given : (a z : Bool) → (a && (false && z)) ≡ false
-none_given true z = refl
-none_given false z = refl
+none_given : (a : Bool) → (a && false) ≡ false
+none_given true = refl
+none_given false = refl
 
-is_ready : (a z : Bool) (h k : ℕ) → Some h ≡ (if a && z then Some k else None) → (k ≡ h) × ((a && (true && z)) ≡ true)
-is_ready true true h k e = let same : k ≡ h = cc in (same, refl)
-is_ready true false h k e = cc
-is_ready false z h k e = cc
+is_ready : (a : Bool) (h k : ℕ) → Some h ≡ (if a then Some k else None) → (k ≡ h) × ((a && true) ≡ true)
+is_ready true h k e = let same : k ≡ h = cc in (same, refl)
+is_ready false h k e = cc
 
-hands_none : (pick : Option ℕ) (p : Moment) → None ≡ ready_of pick p → HandsOut pick None p (nearer pick p)
+hands_none : (pick : Option ℕ) (p : Moment) → None ≡ ready_of pick p → HandsOut pick None p p
 hands_none None p is = (refl, refl)
-hands_none (Some h) p is = (not_ready (is_none p.status) (gives_job p.run h) (pause_of p.pause h == 0) h is, refl)
+hands_none (Some h) p is = (not_ready (is_none p.status) (gives_job p.run h) h is, refl)
 
 -- the hart that was picked gives no job
 pub rests : (p q : Moment) → Reaches None p q → Goes None p q
-rests p q r = record {
-  going = r.going;
-  pick = r.pick;
-  between = r.between;
-  round = r.round;
-  hands = subst (λ (m : Moment). HandsOut r.pick None r.between m) (sym r.is) (hands_none r.pick r.between r.ready);
-}
+rests p q r = record { going = r.going; pick = r.pick; between = q; round = r.round; hands = hands_none r.pick q r.ready }
 
-hands : (h : ℕ) (job : Option Job) (pick : Option ℕ) (p q : Moment) → Some h ≡ ready_of pick p → Gives h job (nearer pick p) q → HandsOut pick job p q
+hands : (h : ℕ) (job : Option Job) (pick : Option ℕ) (p q : Moment) → Some h ≡ ready_of pick p → Gives h job p q → HandsOut pick job p q
 hands h job None p q is gives = cc
 hands h None (Some k) p q is gives =
-    let same : k ≡ h = (is_ready (is_none p.status) (pause_of p.pause k == 0) h k is).0 in
+    let same : k ≡ h = (is_ready (is_none p.status) h k is).0 in
     let none : gives_job p.run k ≡ false = ap (λ j. gives_job p.run j) same ∙ gives.0 in
-    (ap (λ g. is_none p.status && (g && (pause_of p.pause k == 0))) none ∙ none_given (is_none p.status) (pause_of p.pause k == 0), gives.1)
+    (ap (λ g. is_none p.status && g) none ∙ none_given (is_none p.status), gives.1)
 hands h (Some job) (Some k) p q is gives =
-    let r = is_ready (is_none p.status) (pause_of p.pause k == 0) h k is in
-    let some : gives_job p.run k ≡ true = ap (λ j. gives_job p.run j) r.0 ∙ gives.0 in (
-      ap (λ g. is_none p.status && (g && (pause_of p.pause k == 0))) some ∙ r.1,
-      ap Some (r.0 ∙ sym gives.1),
-      gives.2,
-      gives.3 ∙ ap (λ j. marked (nearer (Some k) p) j true) (sym gives.1),
-    )
+    let r = is_ready (is_none p.status) h k is in
+    let some : gives_job p.run k ≡ true = ap (λ j. gives_job p.run j) r.0 ∙ gives.0 in
+    (ap (λ g. is_none p.status && g) some ∙ r.1, ap Some (r.0 ∙ sym gives.1), gives.2, gives.3 ∙ ap (λ j. marked p j true) (sym gives.1))
 
 -- what a hart that may give a job hands out
 pub goes : (h : ℕ) (job : Option Job) (p m q : Moment) → Reaches (Some h) p m → Gives h job m q → Goes job p q
-goes h job p m q r gives = record {
-  going = r.going;
-  pick = r.pick;
-  between = r.between;
-  round = r.round;
-  hands = hands h job r.pick r.between q r.ready (subst (λ (x : Moment). Gives h job x q) r.is gives);
-}
+goes h job p m q r gives = record { going = r.going; pick = r.pick; between = m; round = r.round; hands = hands h job r.pick m q r.ready gives }
 
--- behind a round the hart that was picked pauses
-paused : (a z : Bool) → true ≡ not z → (a && z) ≡ false
-paused a true e = cc
-paused true false e = refl
-paused false false e = refl
+off : (o : Option Status) → true ≡ is_some o → is_none o ≡ false
+off None e = cc
+off (Some s) e = refl
 
--- or the session is over
-ended : (o : Option Status) (z : Bool) → true ≡ is_some o → (is_none o && z) ≡ false
-ended None z e = cc
-ended (Some s) z e = refl
+on : (o : Option Status) → false ≡ is_some o → is_none o ≡ true
+on None e = refl
+on (Some s) e = cc
 
--- or it may give a job
-open_now : (o : Option Status) (z : Bool) → false ≡ is_some o → false ≡ not z → (is_none o && z) ≡ true
-open_now None true e n = refl
-open_now None false e n = cc
-open_now (Some s) z e n = cc
+-- behind a round the session is over
+pub ended_now : (p q : Moment) (h : ℕ) → p.status ≡ None → Round (Some h) p q → true ≡ is_some q.status → Reaches None p q
+ended_now p q h going round over =
+    record { going = going; pick = Some h; round = round; ready = sym (ap (λ (t : Bool). if t then Some h else None) (off q.status over)) }
 
-not_reached : (p b q : Moment) (h : ℕ) → p.status ≡ None → Round (Some h) p b → (is_none b.status && (pause_of b.pause h == 0)) ≡ false → q ≡ nearer (Some h) b → Reaches None p q
-not_reached p b q h going round off is = record { going = going; pick = Some h; between = b; round = round; ready = sym (ap (λ (t : Bool). if t then Some h else None) off); is = is }
-
-pub paused_now : (p b q : Moment) (h : ℕ) → p.status ≡ None → Round (Some h) p b → true ≡ not (pause_of b.pause h == 0) → q ≡ nearer (Some h) b → Reaches None p q
-paused_now p b q h going round rests is = not_reached p b q h going round (paused (is_none b.status) (pause_of b.pause h == 0) rests) is
-
-pub ended_now : (p b q : Moment) (h : ℕ) → p.status ≡ None → Round (Some h) p b → true ≡ is_some b.status → q ≡ nearer (Some h) b → Reaches None p q
-ended_now p b q h going round over is = not_reached p b q h going round (ended b.status (pause_of b.pause h == 0) over) is
-
-pub reached : (p b q : Moment) (h : ℕ) → p.status ≡ None → Round (Some h) p b → false ≡ is_some b.status → false ≡ not (pause_of b.pause h == 0) → q ≡ nearer (Some h) b → Reaches (Some h) p q
-reached p b q h going round goes_on awake is =
-    let so = open_now b.status (pause_of b.pause h == 0) goes_on awake in
-    record { going = going; pick = Some h; between = b; round = round; ready = sym (ap (λ (t : Bool). if t then Some h else None) so); is = is }
+-- or the hart may give a job
+pub reached : (p q : Moment) (h : ℕ) → p.status ≡ None → Round (Some h) p q → false ≡ is_some q.status → Reaches (Some h) p q
+reached p q h going round goes_on =
+    record { going = going; pick = Some h; round = round; ready = sym (ap (λ (t : Bool). if t then Some h else None) (on q.status goes_on)) }

@@ -22,7 +22,7 @@ pub still : (e : Engine) (next : ℕ) → Facts e → None ≡ next_of_all e.min
 still e next f is = ap not (sym (any_seen e.opening.image e.machine.cores e.minds f.sound.harts.len) ∙ none_runs e.minds next (sym is))
 
 pub same_none : {W : Type 0} (s t : Seen W) → t ≡ record s { next = picked None s.next } → Same s t
-same_none {W = W} s t is = record { run = ap (λ (x : Seen W). x.run) is; input = ap (λ (x : Seen W). x.input) is; status = ap (λ (x : Seen W). x.status) is; next = ap (λ (x : Seen W). x.next) is; out = ap (λ (x : Seen W). x.out) is; pause = ap (λ (x : Seen W). x.pause) is }
+same_none {W = W} s t is = record { run = ap (λ (x : Seen W). x.run) is; input = ap (λ (x : Seen W). x.input) is; status = ap (λ (x : Seen W). x.status) is; next = ap (λ (x : Seen W). x.next) is; out = ap (λ (x : Seen W). x.out) is }
 
 -- after a hart that couldn't be moved the next that can be is nearer
 nearer : (e : Engine) (next h : ℕ) → Facts e → next_of_all e.minds next ≡ Some h → moves_at (stage_of e) h ≡ false → ahead (movers (stage_of e)) (h + 1) < ahead (movers (stage_of e)) next

@@ -65,6 +65,7 @@ tied_over (Some status.History) t r i o h c w = record { held = h; written = w; 
 tied_over (Some status.ReadFault) t r i o h c w = absurd o
 tied_over (Some status.WriteFault) t r i o h c w = absurd o
 tied_over (Some status.NoMemory) t r i o h c w = absurd o
+tied_over (Some status.Rejected) t r i o h c w = absurd o
 
 -- the text of what was said
 said_text : (r : Stage) (o : Option (List ℕ)) → IfSome o (λ w. AreRecords w (lines_by r)) → IfSome o (λ w. w ≡ said r.opening r.journal)
@@ -102,6 +103,7 @@ opened_as t u o p same h words name taken long ended faults =
     let P : Opening → Type 0 = λ q. Opened u q in
     subst P (sym same) (record {
       source = h.source;
+      has_log = h.has_log;
       asked = ap served_words words ∙ h.asked;
       comes = comes_as h.source t u o.image h.comes name taken long ended faults;
     })

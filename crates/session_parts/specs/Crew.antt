@@ -1,6 +1,5 @@
 -- What the duties of a session are, and what becomes of the jobs that they give: this project's own rules.
-use Rattle.std.specs.Prelude.{◌≡◌, ◌⊎◌, ◌≤◌, ◌-◌, ℕ, zero, suc, ◌&&◌, ◌==◌, nat_lt, Bool, true, false, cond, List, slice_set, Option, None, Some, is_none, is_some, if◌then◌else◌}
-use Rattle.std.specs.List.{slice_index_or}
+use Rattle.std.specs.Prelude.{◌≡◌, ◌⊎◌, ◌≤◌, ℕ, zero, suc, ◌&&◌, nat_lt, Bool, true, false, List, slice_set, Option, None, Some, is_none, is_some, if◌then◌else◌}
 use Rattle.rv_exec.specs.Registers.{Registers}
 use Rattle.reg_slices.specs.declared.slice.Job.{Job}
 use Rattle.reg_slices.specs.declared.slice.Slice.{Slice}
@@ -20,18 +19,10 @@ use Rattle.session_parts.specs.declared.status.Status.TheVariants as status
 abbrev pub gives_job : Stage → ℕ → Bool
 gives_job r h = gives_job_in r.opening r.state r.minds r.hold h
 
--- how many rounds a hart still goes without a job
-abbrev pub pause_of : List ℕ → ℕ → ℕ
-pause_of pause h = slice_index_or pause h 0
-
--- no hart pauses
-abbrev pub NonePauses : List ℕ → Type 0
-NonePauses pause = (h : ℕ) → pause_of pause h ≡ 0
-
--- whether the hart that was picked in a round gives a job when the round is over, and doesn't pause
+-- whether the hart that was picked in a round gives a job when the round is over
 abbrev pub has_job : Option ℕ → Moment → Bool
 has_job None q = false
-has_job (Some h) q = is_none q.status && (gives_job q.run h && (pause_of q.pause h == 0))
+has_job (Some h) q = is_none q.status && gives_job q.run h
 
 -- a job is of its hart as that stands
 abbrev pub IsJobOf : Stage → Job → Type 0
@@ -41,20 +32,15 @@ IsJobOf r job = IsJobIn r.opening r.state r.text job.hart job
 abbrev pub marked : Moment → ℕ → Bool → Moment
 marked p h mark = record p { out = slice_set p.out h mark }
 
--- the hart that was picked is one round nearer to its next job
-abbrev pub nearer : Option ℕ → Moment → Moment
-nearer None p = p
-nearer (Some h) p = record p { pause = slice_set p.pause h (pause_of p.pause h - 1) }
-
 -- the job of a hart is handed out, where that gives one, and it is out from then on
 abbrev pub Gives : ℕ → Option Job → Moment → Moment → Type 0
 Gives h None p q = (gives_job p.run h ≡ false) × (q ≡ p)
 Gives h (Some job) p q = (gives_job p.run h ≡ true) × (job.hart ≡ h) × IsJobOf p.run job × (q ≡ marked p h true)
 
--- the job of the hart that was picked is handed out, where that gives one and doesn't pause
+-- the job of the hart that was picked is handed out, where that gives one
 abbrev pub HandsOut : Option ℕ → Option Job → Moment → Moment → Type 0
-HandsOut pick None p q = (has_job pick p ≡ false) × (q ≡ nearer pick p)
-HandsOut pick (Some job) p q = (has_job pick p ≡ true) × (pick ≡ Some job.hart) × IsJobOf p.run job × (q ≡ marked (nearer pick p) job.hart true)
+HandsOut pick None p q = (has_job pick p ≡ false) × (q ≡ p)
+HandsOut pick (Some job) p q = (has_job pick p ≡ true) × (pick ≡ Some job.hart) × IsJobOf p.run job × (q ≡ marked p job.hart true)
 
 -- a round, and then what is handed out of the hart that was picked in it
 pub record Goes (job : Option Job) (p q : Moment) : Type 0 where
@@ -64,19 +50,17 @@ pub record Goes (job : Option Job) (p q : Moment) : Type 0 where
   pub round : Round pick p between
   pub hands : HandsOut pick job between q
 
--- the hart that was picked, where the session goes on and the hart doesn't pause
+-- the hart that was picked, where the session goes on
 abbrev pub ready_of : Option ℕ → Moment → Option ℕ
 ready_of None p = None
-ready_of (Some h) p = if is_none p.status && (pause_of p.pause h == 0) then Some h else None
+ready_of (Some h) p = if is_none p.status then Some h else None
 
 -- a round up to what is handed out, and the hart that may give a job then
 pub record Reaches (found : Option ℕ) (p q : Moment) : Type 0 where
   pub going : p.status ≡ None
   pub pick : Option ℕ
-  pub between : Moment
-  pub round : Round pick p between
-  pub ready : found ≡ ready_of pick between
-  pub is : q ≡ nearer pick between
+  pub round : Round pick p q
+  pub ready : found ≡ ready_of pick q
 
 -- One duty: it is over where the status was set when it began.
 abbrev pub Duties : Duty Job → Moment → Moment → Type 0
@@ -114,13 +98,9 @@ abbrev pub TakesBy : Bool → Slice → Moment → Moment → Type 0
 TakesBy true slice p q = Commits slice p q ⊎ (Forgets slice p q ⊎ (q ≡ record p { status = Some status.NoMemory }))
 TakesBy false slice p q = q ≡ p
 
--- After a slice of fewer than 16 instructions its hart goes 255 rounds without a job.
-abbrev pub pause_after : ℕ → ℕ
-pause_after count = cond (nat_lt count 16) 255 0
-
 -- no job of its hart is out any more
 abbrev pub returned : Moment → Slice → Moment
-returned p slice = record p { out = slice_set p.out slice.hart false; pause = slice_set p.pause slice.hart (pause_after slice.count) }
+returned p slice = marked p slice.hart false
 
 -- what was made of a job is taken back
 abbrev pub TakesBack : Slice → Moment → Moment → Type 0

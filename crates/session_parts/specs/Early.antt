@@ -1,5 +1,5 @@
--- How a run ends before a session was begun, and what it wrote.
-use Rattle.std.specs.Prelude.{◌≡◌, ◌⊎◌, ◌<◌, ℕ, false, List, [], length, Some, None, IfSome}
+-- How a run ends before a session was begun, and what it wrote. This project's own.
+use Rattle.std.specs.Prelude.{◌≡◌, ◌⊎◌, ◌<◌, ℕ, Bool, false, List, [], length, Some, None, IfSome}
 use Rattle.elf_checks.specs.declared.fault.ElfFault.{ElfFault}
 use Rattle.elf_checks.specs.Reading as reading
 use Rattle.dbg_traits.specs.Told.{Told}
@@ -7,7 +7,7 @@ use Rattle.dbg_traits.specs.declared.settings.Settings.{Settings}
 use Rattle.mi_values.specs.Record.{LineTree}
 use Rattle.mi_values.specs.Records.{lines_bytes, AreLines}
 use Rattle.mi_reports.specs.Refusals.{refusal_lines, file_fields, usage_fields}
-use Rattle.session_parts.specs.Words.{served_words, IsWhole, most_file}
+use Rattle.session_parts.specs.Words.{served_words, AreRefused, IsWhole, most_file}
 use Rattle.session_parts.specs.declared.file.Source.TheVariants.{File}
 use Rattle.session_parts.specs.Ties.{IsCut, IsUnread, IsUnpolled}
 use Rattle.session_parts.specs.declared.status.Status.{Status}
@@ -27,7 +27,8 @@ Silent t = IfSome t.written (λ written. written ≡ [])
 pub record IsRead (t : Told) : Type 0 where
   pub name : List ℕ
   pub settings : Settings
-  pub words : served_words t.words ≡ Some (record { source = File name; settings = settings })
+  pub has_log : Bool
+  pub words : served_words t.words ≡ Some (record { source = File name; settings = settings; has_log = has_log })
   pub named : t.file_name ≡ Some name
 
 -- the file was read in part alone
@@ -49,7 +50,7 @@ pub record HasFault (t : Told) (f : ElfFault) : Type 0 where
 
 -- Why a run ended before a session was begun, and what it wrote. No input was asked for.
 abbrev pub Early : Status → Told → Type 0
-Early status.Words t = IsUnpolled t × IsUnread t × (served_words t.words ≡ None) × Line (refusal_lines usage_fields) t
+Early status.Words t = IsUnpolled t × IsUnread t × AreRefused t.words × Line (refusal_lines usage_fields) t
 Early (status.File f) t = IsUnpolled t × HasFault t f × Line (refusal_lines (file_fields f)) t
 Early status.ReadFault t = IsUnpolled t × IsRead t × IsPart t × (0 < t.file_faults) × Silent t
 Early status.NoMemory t = IsUnpolled t × IsReadIfAny t × (t.file_faults ≡ 0) × Silent t

@@ -1,5 +1,5 @@
--- The headline of a run, over the world that is handed back and what is left of the session.
-use Rattle.std.specs.Prelude.{◌≡◌, ◌⊎◌, ◌<◌, ◌≤◌, ℕ, true, false, List, [], ◌++◌, length, Option, Some, None, IfSome, IsSome}
+-- The headline of a run, over the world that is handed back and what is left of the session. This project's own.
+use Rattle.std.specs.Prelude.{◌≡◌, ◌⊎◌, ◌<◌, ◌≤◌, ℕ, Bool, true, false, List, [], ◌++◌, length, Option, Some, None, IfSome, IsSome}
 use Rattle.elf_checks.specs.declared.fault.ElfFault.{ElfFault}
 use Rattle.elf32_read.specs.Program.{Program}
 use Rattle.elf_checks.specs.Reading.{IsImage}
@@ -17,16 +17,18 @@ use Rattle.dbg_model.specs.Limits as limits
 use Rattle.engine_parts.specs.declared.ending.Closed.{Closed}
 use Rattle.engine_parts.specs.Seen.{waits_of}
 use Rattle.engine_parts.specs.Facts.{Planted, Retired, CopiedOver}
+use Rattle.session_parts.specs.Logged.{Tells}
 use Rattle.session_parts.specs.Words.{served_words, IsWhole}
 use Rattle.session_parts.specs.declared.file.Source.{Source}
 use Rattle.session_parts.specs.declared.file.Source.TheVariants.{File, Generated}
 use Rattle.session_parts.specs.Source.{file_bytes, input_bytes, input_ended}
 use Rattle.session_parts.specs.Summary.{summary}
 use Rattle.session_parts.specs.Left.{core_registers, plain_registers}
+use Rattle.session_parts.specs.Over.{sums_up}
 use Rattle.session_parts.specs.Early.{Early}
 use Rattle.session_parts.specs.InTime.{ToldInTime}
 use Rattle.session_parts.specs.Triggered.{TellsChanges, StopsFirst}
-use Rattle.session_parts.specs.Ties.{Opened, Written, IsCut, IsUnpolled, Clean}
+use Rattle.session_parts.specs.Ties.{Opened, IsCut, IsUnpolled, Clean}
 use Rattle.session_parts.specs.declared.status.Status.{Status}
 use Rattle.session_parts.specs.declared.status.Status.TheVariants as status
 
@@ -52,11 +54,12 @@ Why source status.WriteFault t c s = 0 < t.put_faults
 Why source status.NoMemory t c s = Unit {0}
 Why source status.Words t c s = ⊥
 Why source (status.File f) t c s = ⊥
+Why source status.Rejected t c s = ⊥
 
--- With what status a run of a generated program ends: that with which it was over, unless a put of its summary failed or memory
--- ran out.
+-- With what status a run of a generated program ends: that with which it was over, unless a put of its summary failed, which it
+-- has only where it could go on to its end, or memory ran out.
 abbrev pub Becomes : Status → Status → Type 0
-Becomes status.WriteFault before = Unit {0}
+Becomes status.WriteFault before = sums_up before ≡ true
 Becomes status.NoMemory before = Unit {0}
 Becomes s before = s ≡ before
 
@@ -75,10 +78,10 @@ pub record Summed (number : ℕ) (status : Status) (t : Told) (c : Closed) (s : 
   pub becomes : Becomes status before
   pub written : IfSome t.written (λ written. SumsUp status written (summary number c.journal s.out before))
 
--- What a run wrote: the text of its journal's lines, which are lines of the grammar; or, where its program was generated, a summary.
-abbrev pub Prints : Source → Status → Told → Closed → State → Type 0
-Prints (File name) status t c s = IfSome t.written (λ written. Written (Some status) written (said_lines c.opening c.journal))
-Prints (Generated n) status t c s = Summed n status t c s
+-- What a run wrote: its lines, and its log where one is wanted; or a summary, where its program was generated.
+abbrev pub Prints : Source → Bool → Status → Told → Closed → State → Type 0
+Prints (File name) has_log status t c s = IfSome t.written (λ written. Tells has_log status written c)
+Prints (Generated n) has_log status t c s = Summed n status t c s
 
 pub record Headline (status : Status) (t : Told) (c : Closed) : Type 0 where
   -- where the program and the lines come from, and the program
@@ -109,8 +112,8 @@ pub record Headline (status : Status) (t : Told) (c : Closed) : Type 0 where
   pub retired : Retired c.machine.cores c.journal
   -- where there are slots, each hart executed by copies where a breakpoint stood, but for one instruction for each time that displaced stepping was switched on
   pub copied : CopiedOver c.opening.settings.slots c.machine.cores state
-  -- what was written: the journal's lines or, of a generated program, the summary
-  pub said : Prints opened.source status t c state
+  -- what was written: the journal's lines, with the log behind them where one is wanted; or, of a generated program, the summary
+  pub said : Prints opened.source opened.has_log status t c state
   -- the contents of the `@` lines, in order, are the program's output
   pub shown : streamed (said_lines c.opening c.journal) ≡ state.out
   -- why it has its status
@@ -125,7 +128,8 @@ pub record Good (t : Told) : Type 0 where
   pub clean : Clean t
   pub source : Source
   pub settings : Settings
-  pub words : served_words t.words ≡ Some (record { source = source; settings = settings })
+  pub has_log : Bool
+  pub words : served_words t.words ≡ Some (record { source = source; settings = settings; has_log = has_log })
   pub bytes : List ℕ
   pub taken : file_bytes source t ≡ Some bytes
   pub program : Program

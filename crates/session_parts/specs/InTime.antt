@@ -1,4 +1,4 @@
--- What was done and said when input was asked for.
+-- What was done and said when input was asked for. This project's own.
 use Rattle.std.specs.Prelude.{◌≡◌, ◌≤◌, ℕ, zero, suc, ◌+◌, ◌==◌, Bool, true, false, cond, List, [], ◌∷◌, length, take, Option, IfSome}
 use Rattle.dbg_traits.specs.Told.{Ask}
 use Rattle.dbg_model.specs.declared.entry.Entry.{Entry}

@@ -1,4 +1,4 @@
--- What is left of a session.
+-- What is left of a session. This project's own.
 use Rattle.std.specs.Prelude.{◌≡◌, List, None, map, []}
 use Rattle.rv_exec.specs.Registers.{Registers}
 use Rattle.plain_machine.specs.PlainRun.{PlainHart}

@@ -1,3 +1,4 @@
+-- The definitions of a session: what it is seen as, its steps, what ties it to its world, and how it ends.
 pub mod Stage
 pub mod Words
 pub mod Source
@@ -11,6 +12,7 @@ pub mod Seen
 pub mod Triggered
 pub mod Early
 pub mod Summary
+pub mod Logged
 pub mod Scene
 pub mod OutsideInside
 pub mod Numbers

@@ -1,4 +1,4 @@
--- The fields of what a session talks to, and what a script does with its own.
+-- The fields of what a session talks to, and what a script does with its own. This project's own.
 use Rattle.std.specs.Prelude.{◌≡◌, ◌<◌, ◌≤◌, ℕ, ◌+◌, true, List, ◌++◌, length, take}
 use Rattle.std.specs.Option.{option_map}
 use Rattle.dbg_traits.specs.Told.{Told, raised}
@@ -15,10 +15,10 @@ abbrev pub play_of : Script → Play
 play_of s = record { number = s.number; text = s.text.items; at = s.at; polls = s.polls; ended = s.ended; output = s.output.items; put_faults = s.put_faults }
 
 abbrev pub scene_of : {W : Type 0} → Inside W → Scene W
-scene_of o = record { world = o.world; script = option_map play_of o.script }
+scene_of o = record { world = o.world; script = option_map play_of o.script; has_log = o.has_log }
 
 abbrev pub keeps : {W : Type 0} → (W → Told) → Inside W → Type 0
-keeps told o = Plays (told o.world) (option_map play_of o.script)
+keeps told o = Plays (told o.world) (option_map play_of o.script) o.has_log
 
 -- what a poll of a script gives: bytes from its place on; or its end, where none are left
 abbrev pub PlayGives : Polled → Play → Play → List ℕ → Type 0

@@ -1,4 +1,4 @@
--- What one round of a session does.
+-- What one round of a session does. This project's own.
 use Rattle.std.specs.Prelude.{◌≡◌, ◌⊎◌, ◌<◌, ◌≤◌, ◌+◌, ◌&&◌, not, ℕ, zero, suc, Bool, true, false, List, drop, Option, None, Some}
 use Rattle.dbg_traits.specs.Told.{Told}
 use Rattle.dbg_model.specs.State.{any_runs}
@@ -25,10 +25,9 @@ pub record Moment : Type 0 where
   pub status : Option Status
   pub next : ℕ
   pub out : List Bool
-  pub pause : List ℕ
 
 abbrev pub moment : {W : Type 0} → (W → Told) → Seen W → Moment
-moment told s = record { told = told s.world; run = s.run; input = s.input; status = s.status; next = s.next; out = s.out; pause = s.pause }
+moment told s = record { told = told s.world; run = s.run; input = s.input; status = s.status; next = s.next; out = s.out }
 
 -- ---- input is taken
 

@@ -1,4 +1,4 @@
--- What a session talks to: the world that was handed in, or a script over it.
+-- What a session talks to: the world that was handed in, or a script over it. This project's own.
 use Rattle.std.specs.Prelude.{◌≡◌, ◌≤◌, ℕ, Bool, true, false, List, [], length, take, Option, Some, None}
 use Rattle.dbg_traits.specs.Settings.{AreSettings}
 use Rattle.dbg_traits.specs.Told.{Told}
@@ -18,10 +18,11 @@ pub record Play : Type 0 where
   pub output : List ℕ
   pub put_faults : ℕ
 
--- the world that was handed in, and the script, if there is one
+-- the world that was handed in, the script, if there is one, and whether a log is wanted
 pub record Scene (W : Type 0) : Type 0 where
   pub world : W
   pub script : Option Play
+  pub has_log : Bool
 
 -- a script tells its own input and output, and the words and the file are those of the world
 abbrev pub told_by : Option Play → Told → Told
@@ -49,16 +50,17 @@ pub record IsUnused (t : Told) : Type 0 where
   pub written : IsEmpty t.written
   pub faults : t.put_faults ≡ 0
 
--- the words ask for a session over a file
-pub record AskFile (words : List (List ℕ)) : Type 0 where
+-- the words ask for a session over a file, and say whether its log is wanted
+pub record AskFile (words : List (List ℕ)) (has_log : Bool) : Type 0 where
   pub name : List ℕ
   pub settings : Settings
-  pub served : served_words words ≡ Some (record { source = File name; settings = settings })
+  pub served : served_words words ≡ Some (record { source = File name; settings = settings; has_log = has_log })
+  pub ranges : AreSettings settings
 
 -- the words ask for a run of what is generated from the number
 pub record AskNumber (words : List (List ℕ)) (number : ℕ) : Type 0 where
   pub settings : Settings
-  pub served : served_words words ≡ Some (record { source = Generated number; settings = settings })
+  pub served : served_words words ≡ Some (record { source = Generated number; settings = settings; has_log = false })
   pub ranges : AreSettings settings
   pub most : number ≤ 1000000
 
@@ -71,6 +73,6 @@ pub record IsPlayed (t : Told) (p : Play) : Type 0 where
   pub all : p.ended ≡ true → p.at ≡ length p.text
 
 -- what holds of the world that was handed in, and of the script
-abbrev pub Plays : Told → Option Play → Type 0
-Plays t None = AskFile t.words
-Plays t (Some p) = IsPlayed t p
+abbrev pub Plays : Told → Option Play → Bool → Type 0
+Plays t None has_log = AskFile t.words has_log
+Plays t (Some p) has_log = IsPlayed t p

@@ -1,4 +1,4 @@
--- What a session is seen as, and how much is left of it.
+-- What a session is seen as, and how much is left of it. This project's own.
 use Rattle.std.specs.Prelude.{◌≡◌, ◌⊎◌, ◌<◌, ◌+◌, ◌-◌, ◌*◌, ◌||◌, ◌&&◌, not, min, ℕ, zero, suc, Bool, true, false, List, [], ◌∷◌, length, drop, Option, None, Some, if◌then◌else◌}
 use Rattle.session_parts.specs.Stage.{Stage, moves_at}
 use Rattle.session_parts.specs.Steps.{can_do}
@@ -7,15 +7,18 @@ use Rattle.session_parts.specs.Taking.{has_line}
 use Rattle.dbg_model.specs.State.{any_runs}
 use Rattle.session_parts.specs.declared.status.Status.{Status}
 
--- the world, the engine, the rest of the input, the status, the hart after the one that was picked last, the marks of the harts whose job is out, and how many rounds each hart still goes without a job
+-- a session as one value
 pub record Seen (W : Type 0) : Type 0 where
   pub world : W
+  -- the engine
   pub run : Stage
+  -- the rest of the input
   pub input : Taken
   pub status : Option Status
+  -- the hart after the one that was picked last
   pub next : ℕ
+  -- the harts whose job is out
   pub out : List Bool
-  pub pause : List ℕ
 
 -- nothing but perhaps the world changed
 pub record Same {W : Type 0} (old new : Seen W) : Type 0 where
@@ -24,7 +27,6 @@ pub record Same {W : Type 0} (old new : Seen W) : Type 0 where
   pub status : new.status ≡ old.status
   pub next : new.next ≡ old.next
   pub out : new.out ≡ old.out
-  pub pause : new.pause ≡ old.pause
 
 -- of the harts from k on, as many as there are left, which can be moved
 abbrev pub movers_from : Stage → ℕ → ℕ → List Bool

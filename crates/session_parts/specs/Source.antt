@@ -1,4 +1,4 @@
--- Where the program and the lines of a run come from: from a file and the input, or from a number.
+-- Where the program and the lines of a run come from: from a file and the input, or from a number. This project's own.
 use Rattle.std.specs.Prelude.{ℕ, Bool, true, List, Option, Some}
 use Rattle.dbg_traits.specs.Told.{Told}
 use Rattle.elf_gen.specs.Generated.{generated_file}

@@ -1,4 +1,4 @@
--- What a session's engine is seen as.
+-- What a session's engine is seen as. This project's own.
 use Rattle.std.specs.Prelude.{ℕ, ◌+◌, ◌-◌, ◌*◌, Bool, cond, List, [], ◌∷◌, Option}
 use Rattle.scratch_slots.specs.declared.slots.SlotUse.{SlotUse}
 use Rattle.text_words.specs.Words.{Words}

@@ -1,4 +1,4 @@
--- What the steps of a session do to the world and to what is said.
+-- What the steps of a session do to the world and to what is said. This project's own.
 use Rattle.std.specs.Prelude.{◌≡◌, ◌⊎◌, ◌<◌, ◌≤◌, ℕ, ◌&&◌, not, Bool, true, false, List, [], ◌∷◌, ◌++◌, length, slice_set, Option, Some, None}
 use Rattle.dbg_traits.specs.Told.{Told, more, raised, with_ask}
 use Rattle.dbg_traits.specs.Causes.{Rose}

@@ -1,4 +1,4 @@
--- What was polled, as lines.
+-- What was polled, as lines. This project's own.
 use Rattle.std.specs.Prelude.{◌≡◌, ℕ, Bool, true, false, List, [], ◌∷◌, ◌++◌}
 use Rattle.mi_input.specs.Lines.{lines}
 use Rattle.dbg_model.specs.Reply.{is_wait}

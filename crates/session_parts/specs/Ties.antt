@@ -1,4 +1,4 @@
--- What ties a session to its world.
+-- What ties a session to its world. This project's own.
 use Rattle.std.specs.Prelude.{◌≡◌, ◌⊎◌, ◌<◌, ◌≤◌, ℕ, ◌+◌, ◌-◌, ◌*◌, Bool, true, false, cond, List, [], ◌++◌, length, Option, Some, None, IfSome}
 use Rattle.dbg_traits.specs.Told.{Told}
 use Rattle.elf_checks.specs.Reading.{IsImage}
@@ -21,7 +21,7 @@ use Rattle.session_parts.specs.declared.status.Status.{Status}
 use Rattle.session_parts.specs.declared.status.Status.TheVariants as status
 use Rattle.dbg_model.specs.Limits as limits
 
--- a session without its world
+-- what was written is a front of this text
 abbrev pub IsCut : List ℕ → List ℕ → Type 0
 IsCut written text = (rest : List ℕ) × (written ++ rest ≡ text)
 
@@ -80,6 +80,7 @@ Cause (Some status.WriteFault) t r i = 0 < t.put_faults
 Cause (Some status.NoMemory) t r i = Unit {0}
 Cause (Some status.Words) t r i = ⊥
 Cause (Some (status.File f)) t r i = ⊥
+Cause (Some status.Rejected) t r i = ⊥
 
 -- a list that is told is empty
 abbrev pub IsEmpty : {A : Type 0} → Option (List A) → Type 0
@@ -116,10 +117,11 @@ abbrev pub ComesFrom : Source → Told → Program → Type 0
 ComesFrom (File name) t p = IsFileOf t name p
 ComesFrom (Generated n) t p = IsUnread t × IsImage (generated_file n) p
 
--- The words name where the opening's program comes from, and give its settings.
+-- The words name where the opening's program comes from, give its settings, and say whether a log is wanted.
 pub record Opened (t : Told) (o : Opening) : Type 0 where
   pub source : Source
-  pub asked : served_words t.words ≡ Some (record { source = source; settings = o.settings })
+  pub has_log : Bool
+  pub asked : served_words t.words ≡ Some (record { source = source; settings = o.settings; has_log = has_log })
   pub comes : ComesFrom source t o.image
 
 -- what ties a session to its world, whatever its status

@@ -1,5 +1,5 @@
--- The words of the command line that are served, and the reading of the file.
-use Rattle.std.specs.Prelude.{◌≡◌, ◌⊎◌, ◌<◌, ◌≤◌, ℕ, Bool, true, List, [], ◌∷◌, length, Option, Some, None, if◌then◌else◌}
+-- The words of the command line that are served, and the reading of the file. This project's own.
+use Rattle.std.specs.Prelude.{◌≡◌, ◌⊎◌, ◌<◌, ◌≤◌, ℕ, Bool, true, false, List, [], ◌∷◌, length, Option, Some, None}
 use Rattle.dbg_traits.specs.Told.{Told, more}
 use Rattle.dbg_traits.specs.Causes.{Rose}
 use Rattle.dbg_traits.specs.Names.{IsNamed}
@@ -10,16 +10,31 @@ use Rattle.session_parts.specs.declared.file.Source.TheVariants.{File, Generated
 use Rattle.session_parts.specs.declared.file.FileError.{FileError}
 use Rattle.session_parts.specs.declared.file.FileError.TheVariants as error
 
--- a session over a file or over what is generated from a number is served, with all settings; no log is written yet, and none checked
+-- a session over a file, with or without its log, and one over what is generated from a number
 abbrev pub served : Option Asked → Option Served
 served None = None
-served (Some (session name s has_log)) = if has_log then None else Some (record { source = File name; settings = s })
-served (Some (generated n s)) = Some (record { source = Generated n; settings = s })
+served (Some (session name s has_log)) = Some (record { source = File name; settings = s; has_log = has_log })
+served (Some (generated n s)) = Some (record { source = Generated n; settings = s; has_log = false })
 served (Some (checked name)) = None
 
--- what the words ask for, where they are accepted
+-- the session that the words ask for, where they ask for one
 abbrev pub served_words : List (List ℕ) → Option Served
 served_words words = served (Words words)
+
+-- the check of a log for the program of the file of this name
+abbrev pub file_checked : Option Asked → Option (List ℕ)
+file_checked None = None
+file_checked (Some (session name s has_log)) = None
+file_checked (Some (generated n s)) = None
+file_checked (Some (checked name)) = Some name
+
+-- the file for whose program the words ask that a log is checked, where they do
+abbrev pub checked_words : List (List ℕ) → Option (List ℕ)
+checked_words words = file_checked (Words words)
+
+-- the words are refused
+abbrev pub AreRefused : List (List ℕ) → Type 0
+AreRefused words = Words words ≡ None
 
 -- a file's name is among the words, and a number in its range
 abbrev pub IsAmong : List (List ℕ) → Source → Type 0

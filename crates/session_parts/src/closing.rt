@@ -1,16 +1,17 @@
-// What a session left is handed back, and a generated run is summed up.
-ghost use Rattle.std.specs.Prelude.{◌≡◌};
+// What a session left is handed back; its log is put, where it is wanted, and a generated run is summed up.
+ghost use Rattle.std.specs.Prelude.{◌≡◌, ◌&&◌};
 ghost use Rattle.session_parts.specs.Headline.{Ends, Headline};
 ghost use Rattle.session_parts.specs.OutsideInside.{play_of};
-ghost use Rattle.session_parts.specs.Over.{IsOver, IsPlayedOut, sums_up};
+ghost use Rattle.session_parts.specs.Over.{IsHanded, IsOver, IsPlayedOut, is_logged, sums_up};
 ghost use Rattle.session_parts.specs.Scene.{told_of};
 
 use crate::ending::Ended;
+use crate::logging::put_log;
 use crate::outside::{Outside, Script};
 use crate::puts::put_all;
 use crate::status::Status;
 use crate::summary::summary_text;
-use dbg_traits::World;
+use dbg_traits::{NoMemory, World};
 use engine_parts::ending::Closed;
 use std::alloc::Global;
 
@@ -45,7 +46,40 @@ fn sum_up<W: World>(
     status
 }
 
-/// What is handed back of a session that is over: the world that was handed in. A generated run puts its summary.
+// Whether the log of a session that was over with this status is put: it is wanted, and the session's lines are whole.
+fn puts_log(status: Status, has_log: bool) -> bool
+    ensures { result ≡ is_logged status && has_log }
+{
+    match status {
+        Status::Done | Status::Budget | Status::History | Status::ReadFault => has_log,
+        Status::Words | Status::File(_) => false,
+        Status::WriteFault | Status::NoMemory | Status::Rejected => false,
+    }
+}
+
+// Puts the log of a session over a file that was over with this status, where it is wanted, and says how the session ends.
+fn hand_back<W: World>(
+    alloc: Global,
+    world: &mut W,
+    has_log: bool,
+    closed: &Closed,
+    status: Status,
+) -> Status
+    requires { IsHanded has_log status (W.told world.old) closed.now }
+    ensures { Headline result (W.told world.new) closed.now }
+{
+    if !puts_log(status, has_log) {
+        return status;
+    }
+    match put_log(alloc, world, closed.opening.settings, &closed.journal) {
+        Ok(true) => status,
+        Ok(false) => Status::WriteFault,
+        Err(NoMemory) => Status::NoMemory,
+    }
+}
+
+/// What is handed back of a session that is over: the world that was handed in. A session whose log is wanted puts it, and a
+/// generated run its summary.
 pub fn finish<W: World>(alloc: Global, ended: Ended<Outside<W>>) -> Ended<W>
     requires { IsOver ended.status (told_of W.told ended.world) ended.closed }
     ensures { Ends result.status (W.told result.world) result.closed }
@@ -55,11 +89,12 @@ pub fn finish<W: World>(alloc: Global, ended: Ended<Outside<W>>) -> Ended<W>
         world: outside,
         closed,
     } = ended;
+    let has_log = outside.has_log();
     let (world, script) = outside.into_parts();
     let Some(closed) = closed else { unreachable!() };
     let mut world = world;
     let status = match script {
-        None => status,
+        None => hand_back(alloc, &mut world, has_log, &closed, status),
         Some(script) => sum_up(alloc, &mut world, &script, &closed, status),
     };
     Ended {

@@ -3,7 +3,7 @@ ghost use Rattle.std.specs.Prelude.{◌≡◌, ◌<◌, ◌≤◌, ℕ, IfOk, If
 ghost use Rattle.dbg_traits.specs.Names.{IsNamed};
 ghost use Rattle.dbg_traits.specs.Settings.{AreSettings};
 ghost use Rattle.dbg_words.specs.Request.{asked};
-ghost use Rattle.session_parts.specs.Words.{IsAmong, served, served_words, ReadsAll, ReadsSome};
+ghost use Rattle.session_parts.specs.Words.{IsAmong, checked_words, file_checked, served, served_words, ReadsAll, ReadsSome};
 
 use dbg_traits::{ArgText, FileRead, NoMemory, Settings, World};
 use dbg_words::{Request, read_words};
@@ -33,6 +33,8 @@ pub enum Source {
 pub struct Served {
     pub source: Source,
     pub settings: Settings,
+    /// Whether the log of the session is put behind its lines.
+    pub has_log: bool,
 }
 
 fn serve(alloc: Global, request: Request<'_>) -> Result<Option<Served>, NoMemory>
@@ -44,21 +46,46 @@ fn serve(alloc: Global, request: Request<'_>) -> Result<Option<Served>, NoMemory
             settings,
             has_log,
         } => {
-            if has_log {
-                return Ok(None);
-            }
             let source = Source::File(ArgText::of(String::from_str(alloc, file)?));
-            Ok(Some(Served { source, settings }))
+            Ok(Some(Served {
+                source,
+                settings,
+                has_log,
+            }))
         }
         Request::Generated { number, settings } => {
             let source = Source::Generated(number);
-            Ok(Some(Served { source, settings }))
+            Ok(Some(Served {
+                source,
+                settings,
+                has_log: false,
+            }))
         }
         Request::Check { .. } => Ok(None),
     }
 }
 
-/// What the words ask for, where they are accepted.
+fn checked_file(alloc: Global, request: Request<'_>) -> Result<Option<ArgText>, NoMemory>
+    ensures checked { IfOk result (λ r. r ≡ file_checked (Some (asked request.entry))) }
+{
+    match request {
+        Request::Check { file } => Ok(Some(ArgText::of(String::from_str(alloc, file)?))),
+        Request::Session { .. } | Request::Generated { .. } => Ok(None),
+    }
+}
+
+/// The name of the file for whose program the words ask that a log is checked, where they do.
+pub fn checked_words(alloc: Global, words: &[ArgText]) -> Result<Option<ArgText>, NoMemory>
+    ensures checked { IfOk result (λ r. r ≡ checked_words words.now) }
+    ensures known { IfOk result (λ r. IfSome r (λ name. IsNamed words.now name)) }
+{
+    match read_words(alloc, words)? {
+        None => Ok(None),
+        Some(request) => checked_file(alloc, request),
+    }
+}
+
+/// The session that the words ask for, where they ask for one.
 pub(crate) fn served_words(alloc: Global, words: &[ArgText]) -> Result<Option<Served>, NoMemory>
     ensures served { IfOk result (λ r. r ≡ served_words words.now) }
     ensures known { IfOk result (λ r. IfSome r (λ s. IsAmong words.now s.source)) }
@@ -71,7 +98,7 @@ pub(crate) fn served_words(alloc: Global, words: &[ArgText]) -> Result<Option<Se
 }
 
 /// The bytes of the file, to its end or to the most.
-pub(crate) fn read_all<W: World>(
+pub fn read_all<W: World>(
     alloc: Global,
     world: &mut W,
     name: &ArgText,

@@ -9,6 +9,7 @@ mod input;
 mod known;
 mod line;
 mod loading;
+mod logging;
 mod outside;
 mod puts;
 mod shown;
@@ -18,7 +19,7 @@ mod turn;
 
 pub use closing::finish;
 pub use ending::Ended;
-pub use file::{FileError, Served, Source};
+pub use file::{FileError, Served, Source, checked_words, read_all};
 pub use input::{Input, PIECE, input_once};
 pub use known::Known;
 pub use line::Done;

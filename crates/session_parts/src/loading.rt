@@ -1,12 +1,12 @@
 // What a session begins with: the words, the program and the lines.
-ghost use Rattle.std.specs.Prelude.{◌≡◌, ◌≤◌, IfOk, MatchResult, Some};
+ghost use Rattle.std.specs.Prelude.{◌≡◌, ◌≤◌, IfOk, MatchResult, None, Some, false};
 ghost use Rattle.dbg_traits.specs.Names.{IsNamed};
 ghost use Rattle.dbg_traits.specs.Settings.{AreSettings};
 ghost use Rattle.dbg_traits.specs.Told.{IsFresh};
 ghost use Rattle.session_parts.specs.Early.{Early};
 ghost use Rattle.session_parts.specs.Scene.{told_of};
 ghost use Rattle.session_parts.specs.Ties.{MayBegin};
-ghost use Rattle.session_parts.specs.Words.{served_words};
+ghost use Rattle.session_parts.specs.Words.{checked_words, served_words};
 
 use crate::file::{FileError, Served, Source, read_all, served_words};
 use crate::outside::Outside;
@@ -48,9 +48,10 @@ fn load_file<W: World>(
     world: W,
     name: ArgText,
     settings: Settings,
+    has_log: bool,
 ) -> Result<Loaded<W>, Unloaded<W>>
     requires fresh { IsFresh (W.told world) }
-    requires asked { served_words (W.told world).words ≡ Some (record { source = Source.File name; settings = settings }) }
+    requires asked { served_words (W.told world).words ≡ Some (record { source = Source.File name; settings = settings; has_log = has_log }) }
     requires known { IsNamed (W.told world).words name }
     requires ranges { AreSettings settings }
     ensures ready { IfOk result (λ l. MayBegin (told_of W.told l.outside) (record { image = l.image; settings = l.settings })) }
@@ -74,7 +75,7 @@ fn load_file<W: World>(
         Err(ElfReadError::Memory) => return Err(early(Status::NoMemory, world)),
     };
     Ok(Loaded {
-        outside: Outside::handed(world),
+        outside: Outside::handed(world, has_log),
         image,
         settings,
     })
@@ -88,7 +89,7 @@ fn load_generated<W: World>(
     settings: Settings,
 ) -> Result<Loaded<W>, Unloaded<W>>
     requires fresh { IsFresh (W.told world) }
-    requires asked { served_words (W.told world).words ≡ Some (record { source = Source.Generated number; settings = settings }) }
+    requires asked { served_words (W.told world).words ≡ Some (record { source = Source.Generated number; settings = settings; has_log = false }) }
     requires most { number ≤ 1000000 }
     requires ranges { AreSettings settings }
     ensures ready { IfOk result (λ l. MayBegin (told_of W.told l.outside) (record { image = l.image; settings = l.settings })) }
@@ -113,7 +114,8 @@ fn load_generated<W: World>(
 
 /// Reads the words and the program that they name. Refused words and a refused file are answered.
 pub fn load<W: World>(alloc: Global, world: W) -> Result<Loaded<W>, Unloaded<W>>
-    requires { IsFresh (W.told world) }
+    requires fresh { IsFresh (W.told world) }
+    requires unchecked { checked_words (W.told world).words ≡ None }
     ensures ready { IfOk result (λ l. MayBegin (told_of W.told l.outside) (record { image = l.image; settings = l.settings })) }
     ensures ranges { IfOk result (λ l. AreSettings l.settings) }
     ensures early { MatchResult result (λ l. Early Status.NoMemory (W.told l.outside.world)) (λ e. Early e.status (W.told e.world)) }
@@ -129,9 +131,13 @@ pub fn load<W: World>(alloc: Global, world: W) -> Result<Loaded<W>, Unloaded<W>>
         }
         Err(_) => return Err(early(Status::NoMemory, world)),
     };
-    let Served { source, settings } = served;
+    let Served {
+        source,
+        settings,
+        has_log,
+    } = served;
     match source {
-        Source::File(name) => load_file(alloc, world, name, settings),
+        Source::File(name) => load_file(alloc, world, name, settings, has_log),
         Source::Generated(number) => load_generated(alloc, world, number, settings),
     }
 }

@@ -23,6 +23,8 @@ pub struct Script {
 pub struct Outside<W: World> {
     world: W,
     script: Option<Script>,
+    // Whether the log of the session is wanted.
+    has_log: bool,
 }
 
 impl<W: World> Model for Outside<W> {
@@ -88,15 +90,16 @@ impl<W: World> Outside<W> {
     ghost use Rattle.session_parts.specs.OutsideInside.{play_of};
     ghost use Rattle.session_parts.specs.Scene.{AskFile, AskNumber, IsUnused, Plays, begun};
 
-    /// The world that was handed in.
-    pub fn handed(world: W) -> Outside<W>
-        requires { AskFile (W.told world).words }
+    /// The world that was handed in, of a session whose log is wanted or isn't.
+    pub fn handed(world: W, has_log: bool) -> Outside<W>
+        requires { AskFile (W.told world).words has_log }
         ensures world { result.world ≡ world }
         ensures script { result.script ≡ None }
     {
         Outside {
             world,
             script: None,
+            has_log,
         }
     }
 
@@ -120,16 +123,28 @@ impl<W: World> Outside<W> {
         Outside {
             world,
             script: Some(script),
+            has_log: false,
         }
+    }
+
+    /// Whether the log of the session is wanted.
+    pub fn has_log(&self) -> bool
+        ensures { result ≡ self.now.has_log }
+    {
+        self.has_log
     }
 
     /// The world that was handed in, and the script, if there is one.
     pub fn into_parts(self) -> (W, Option<Script>)
         ensures world { result.0 ≡ self.world }
         ensures script { option_map play_of result.1 ≡ self.script }
-        ensures plays { Plays (W.told self.world) self.script }
+        ensures plays { Plays (W.told self.world) self.script self.has_log }
     {
-        let Outside { world, script } = self;
+        let Outside {
+            world,
+            script,
+            has_log: _,
+        } = self;
         (world, script)
     }
 }

@@ -7,6 +7,7 @@ ghost use Rattle.session_parts.specs.Puts.{PutsAll, PutsLines};
 use dbg_model::{Entry, Shown};
 use dbg_traits::{NoMemory, Put, World};
 use elf_checks::ElfFault;
+use memchr::memchr;
 use mi_reports::{report, report_bad_file, report_usage};
 use std::alloc::Global;
 
@@ -16,7 +17,7 @@ fn line_end(text: &[u8], at: usize) -> usize
     ensures begins { at < result }
     ensures within { result ≤ length text.now }
 {
-    match text[at..].iter().position(|b| *b == b'\n') {
+    match memchr(b'\n', &text[at..]) {
         Some(k) => at + k + 1,
         None => text.len(),
     }

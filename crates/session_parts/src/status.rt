@@ -14,10 +14,12 @@ pub enum Status {
     ReadFault,
     WriteFault,
     NoMemory,
+    /// A text that was checked isn't the record of a lawful session.
+    Rejected,
 }
 
 impl Status {
-    /// The exit status of a program that ends so, 0 to 7.
+    /// The exit status of a program that ends so, 0 to 8.
     pub fn number(self) -> u8
         ensures { result ≡ status_number self }
     {
@@ -30,6 +32,7 @@ impl Status {
             Status::ReadFault => 5,
             Status::WriteFault => 6,
             Status::NoMemory => 7,
+            Status::Rejected => 8,
         }
     }
 }

@@ -1,7 +1,7 @@
 // A session as a crew: its duties are rounds, its jobs the slices of harts.
-ghost use Rattle.std.specs.Prelude.{◌≡◌, ◌≢◌, ◌<◌, ◌≤◌, ◌-◌, ◌↔◌, ◌&&◌, ◌==◌, not, true, false, None, IfSome, IsTrue, is_none, is_some, nat_lt, slice_set};
+ghost use Rattle.std.specs.Prelude.{◌≡◌, ◌≢◌, ◌<◌, ◌≤◌, ◌↔◌, ◌&&◌, true, false, None, IfSome, IsTrue, is_none, is_some, nat_lt, slice_set};
 ghost use Rattle.engine_parts.specs.Steps.{NoneOut};
-ghost use Rattle.session_parts.specs.Crew.{Duties, Gives, IsIdle, IsWorkOf, Reaches, ServesAlone, TakesBack, TakesBy, pause_after, pause_of};
+ghost use Rattle.session_parts.specs.Crew.{Duties, Gives, IsIdle, IsWorkOf, Reaches, ServesAlone, TakesBack, TakesBy};
 ghost use Rattle.session_parts.specs.Round.{moment};
 ghost use Rattle.session_parts.specs.Seen.{work};
 
@@ -12,35 +12,6 @@ use dbg_engine::{Commit, SPARE};
 use dbg_traits::World;
 use hart_workers::{Crew, Duty};
 use reg_slices::{Job, Slice, run_slice};
-
-// A slice of fewer instructions costs more than it saves, and so would the next one of its hart.
-const FEW: u32 = 16;
-
-// How many rounds its hart goes without a job then.
-const PAUSE: u32 = 255;
-
-// Brings a hart a round nearer to its next job. True where it pauses.
-fn draw_nearer(pause: &mut [u32], hart: u32) -> bool
-    ensures pauses { result ≡ not (pause_of pause.old hart == 0) }
-    ensures nearer { pause.new ≡ slice_set pause.old hart (pause_of pause.old hart - 1) }
-{
-    let at = hart as usize;
-    if at >= pause.len() {
-        return false;
-    }
-    let left = pause[at];
-    pause[at] = left.saturating_sub(1);
-    left > 0
-}
-
-// Notes how many rounds the hart of a slice of so many instructions goes without a job.
-fn note_pause(pause: &mut [u32], hart: u32, count: u32)
-    ensures { pause.new ≡ slice_set pause.old hart (pause_after count) }
-{
-    if (hart as usize) < pause.len() {
-        pause[hart as usize] = if count < FEW { PAUSE } else { 0 };
-    }
-}
 
 // Clears the mark of a hart, if it has one.
 fn clear(marks: &mut [bool], hart: u32)
@@ -60,8 +31,7 @@ impl<W: World> Session<W> {
         self.engine.settings().workers
     }
 
-    // One round, and then the hart that was picked, where the session goes on and the hart doesn't pause. The hart that was picked
-    // is a round nearer to its next job.
+    // One round, and then the hart that was picked, where the session goes on.
     fn go(&mut self) -> Option<u32>
         requires { self.old.status ≡ None }
         ensures opening { self.new.run.opening ≡ self.old.run.opening }
@@ -70,7 +40,7 @@ impl<W: World> Session<W> {
         ensures less { NoneOut self.old.out → work self.new < work self.old }
     {
         let hart = self.go_round()?;
-        if draw_nearer(&mut self.pause, hart) || self.status.is_some() {
+        if self.status.is_some() {
             return None;
         }
         Some(hart)
@@ -149,7 +119,7 @@ impl<W: World> Crew for Session<W> {
 
     ghost is_over = { λ s. is_some s.status };
 
-    /// A round, where the status isn't set, and then a job of the hart that was picked, if it gives one and doesn't pause.
+    /// A round, where the status isn't set, and then a job of the hart that was picked, if it gives one.
     fn duty(&mut self, _worker: u32) -> Duty<Job>
         ensures over { (result ≡ Duty.Over) ↔ (is_some self.old.status ≡ true) }
         ensures stays { result ≡ Duty.Over → self.new ≡ self.old }
@@ -182,16 +152,14 @@ impl<W: World> Crew for Session<W> {
         run_slice(job)
     }
 
-    /// The slice's hart has no job out any more, and goes 255 rounds without one if the slice has fewer than 16 instructions.
-    /// Where the status isn't set the slice's instructions, if there are any, are done in one, and no line is put. A slice that
-    /// can't be taken any more is forgotten.
+    /// The slice's hart has no job out any more. Where the status isn't set the slice's instructions, if there are any, are done
+    /// in one, and no line is put. A slice that can't be taken any more is forgotten.
     fn take(&mut self, slice: Slice)
         ensures opening { self.new.run.opening ≡ self.old.run.opening }
         ensures takes { TakesBack slice (moment W.told self.old) (moment W.told self.new) }
         ensures less { work self.new ≤ work self.old }
     {
         clear(&mut self.out, slice.hart);
-        note_pause(&mut self.pause, slice.hart, slice.count);
         self.bring(&slice);
         let Slice {
             hart: _,

@@ -24,7 +24,7 @@ returns-in_default-clause-less g c = λ none.
     let e = c.self.inside.engine in
     let first : None ≡ next_running e.minds c.self.inside.out c.self.inside.next = sym c.in_default.is ∙ c.next_running.ensures in
     let is : None ≡ next_of_all e.minds c.self.inside.next = first ∙ next_is e.minds c.self.inside.out c.self.inside.next (subst N (sym c.self.view_is) none) in
-    (record { run = refl; input = refl; status = refl; next = refl; out = refl; pause = refl }, subst Q c.self.view_is (still e c.self.inside.next c.self.invariant.4 is))
+    (record { run = refl; input = refl; status = refl; next = refl; out = refl }, subst Q c.self.view_is (still e c.self.inside.next c.self.invariant.4 is))
 
 pub returns-clause-less : goal.returns-clause-less
 returns-clause-less g c = λ none.

@@ -1,5 +1,5 @@
-use Rattle.std.proofs.Common.{Bool, List, ℕ, subst, false}
-use Rattle.std.specs.Prelude.{◌&&◌, is_none, nat_lt, slice_set}
+use Rattle.std.proofs.Common.{Bool, List, subst}
+use Rattle.std.specs.Prelude.{◌&&◌, is_none, nat_lt}
 use Rattle.session_parts.specs.Seen.{Seen}
 use Rattle.dbg_session.specs.SessionInside.{seen_of}
 use Rattle.session_parts.specs.Round.{moment}
@@ -13,7 +13,6 @@ returns-clause-takes g c =
     let old = moment told (seen_of c.self.inside) in
     let new = moment told c.bring.new.self in
     let wants = is_none c.self.inside.status && nat_lt 0 slice.count in
-    let X : List Bool → Type 0 = λ xs. TakesBy wants slice (record old { out = xs; pause = c.note_pause.new.pause }) new in
-    let Y : List ℕ → Type 0 = λ ps. TakesBy wants slice (record old { out = slice_set old.out slice.hart false; pause = ps }) new in
+    let X : List Bool → Type 0 = λ xs. TakesBy wants slice (record old { out = xs }) new in
     let P : Seen g.row.W.Denot → Type 0 = λ s. TakesBy (is_none s.status && nat_lt 0 slice.count) slice (returned (moment told s) slice) new in
-    subst P c.self.view_is (subst Y c.note_pause.ensures (subst X c.clear.ensures c.bring.ensures.takes))
+    subst P c.self.view_is (subst X c.clear.ensures c.bring.ensures.takes)
