@@ -1,4 +1,4 @@
-"""What the system may do at the edge: short writes, no thread to be had, workers by their number, and a FILE that is the input."""
+"""What the system may do at the edge: short writes, no thread to be had, workers by their number, little stack, a FILE that is the input."""
 
 import fcntl
 import os
@@ -12,6 +12,7 @@ from checks.rig import EXITED, OPENING, PATIENCE, RUNNING, Talk
 
 CONTINUE = b"-exec-continue\n"
 NOBODY = 65534
+STACK = 256 * 1024
 
 
 def check_short_writes(rig):
@@ -87,6 +88,18 @@ def check_threads(rig):
             rig.row("threads of %d workers" % workers, (heard, threads_of(talk.process)), (True, wanted))
 
 
+def check_stack(rig):
+    """A line of 2,000 words takes no stack for each of them."""
+
+    def limit():
+        resource.setrlimit(resource.RLIMIT_STACK, (STACK, STACK))
+
+    many = b" ".join([b"1"] * 2_000)
+    for command in (b"-data-evaluate-expression ", b"-break-delete ", b"-data-list-register-values x ", b"-thread-info "):
+        status, output = rig.run(["--workers", "0", "exit"], command + many + b"\n", preexec_fn=limit)
+        rig.row("2,000 words of %s" % command.decode().strip(), (status, output.count(b"(gdb)\n")), (0, 2))
+
+
 def check_file_is_input(rig):
     """The file may be standard input itself: the program takes it whole, and the input has ended then."""
     program = plain(EXIT)
@@ -98,5 +111,5 @@ def check_edge(rig):
     """All of them."""
     rig.put("exit", plain(EXIT))
     rig.put("loop", plain(LOOP))
-    for check in (check_short_writes, check_slow_pipe, check_without_threads, check_threads, check_file_is_input):
+    for check in (check_short_writes, check_slow_pipe, check_without_threads, check_threads, check_stack, check_file_is_input):
         rig.guarded(check.__name__, lambda: check(rig))

@@ -5,7 +5,7 @@
 - The lines of a block ```sh that call a compiler are run where it is installed, beside the repository's `examples`; what they make has to
   come to a stop at the line of its source for which the document has `-break-insert FILE:LINE`. The others aren't run.
 - `examples/NAME/session.mi` is the input of a session, `session.out` its output, and `args` the words, one a line. `timeline.out` is what
-  `timeline.py` draws of it, and `examples/front-end/table.out` what the front end prints.
+  `timeline.py` draws of it, `examples/timeline/lock.svg` the picture of its log, and `examples/front-end/table.out` what the front end prints.
 """
 
 import os
@@ -74,6 +74,10 @@ def check_folders(rig, top):
         rig.row("example " + name, found, (0, bytes_of(folder, "session.out")))
     drawn = printed([sys.executable, "examples/lock/timeline.py"], top, bytes_of(top, "examples/lock/session.out"))
     rig.row("timeline of examples/lock", drawn, bytes_of(top, "examples/lock/timeline.out"))
+    words = bytes_of(top, "examples/lock/args").decode().split("\n")[:-1]
+    status, log = rig.run(["--log", *placed(words, top)], bytes_of(top, "examples/lock/session.mi"))
+    drawn = printed([sys.executable, "examples/timeline/timeline.py"], top, log)
+    rig.row("picture of the log of examples/lock", (status, drawn), (0, bytes_of(top, "examples/timeline/lock.svg")))
     words = ["examples/front-end/front_end.py", rig.program, "--harts", "2", "examples/lock/lock"]
     rig.row("front end", printed([sys.executable, *words], top), bytes_of(top, "examples/front-end/table.out"))
 

@@ -1,4 +1,4 @@
-"""The lines that the stored sessions put: each that differs, once, in the order of its bytes.
+"""The records that the stored sessions put: each line that differs, once, in the order of its bytes. The lines of logs are left out.
 
 They stand in `crates/test_session/data/lines`, where a row of `test_session` reads each as a tree and writes it again.
 `tests/store-lines` makes that file anew.
@@ -26,7 +26,7 @@ def session_lines(sessions):
         output = os.path.join(sessions, name, "output")
         if os.path.exists(output) and is_record_session(os.path.join(sessions, name)):
             with open(output, "rb") as file:
-                lines.update(file.read().splitlines(keepends=True))
+                lines.update(line for line in file.read().splitlines(keepends=True) if not line.startswith(b"#"))
     return b"".join(sorted(lines))
 
 
