@@ -102,16 +102,27 @@ fn find_str(sections: &LineSections<'_>, at: usize, met: &mut MetNames) -> Resul
     place_in(start, at, sections.strs.len())
 }
 
+// Where a text stands that is a name up to its first zero byte. An empty one costs nothing: it stands at the last zero byte.
+fn find_text(sections: &LineSections<'_>, text: &[u8], met: &mut MetNames) -> Result<u32, NoMemory>
+    requires { AreMet (sections_shown sections.now) met.old }
+    ensures { IfOk result (λ found. Finds (sections_shown sections.now) met.old met.new (text_from text.now 0) found) }
+{
+    if text.is_empty() && !met.texts.is_empty() {
+        return narrow(met.texts.len() - 1);
+    }
+    keep(&mut met.texts, text)
+}
+
 // Where the name at a place stands in the texts.
 fn find(sections: &LineSections<'_>, place: NamePlace, met: &mut MetNames) -> Result<u32, NoMemory>
     requires { AreMet (sections_shown sections.now) met.old }
     ensures { IfOk result (λ found. Finds (sections_shown sections.now) met.old met.new (name_in (sections_shown sections.now) place) found) }
 {
     match place {
-        NamePlace::Empty => keep(&mut met.texts, &[]),
-        NamePlace::Line(at) => keep(&mut met.texts, text_from(sections.line, at)),
-        NamePlace::LineStr(at) => find_line_str(sections, at, met),
-        NamePlace::Str(at) => find_str(sections, at, met),
+        NamePlace::Empty => find_text(sections, &[], met),
+        NamePlace::Line(at) => find_text(sections, text_from(sections.line, at as usize), met),
+        NamePlace::LineStr(at) => find_line_str(sections, at as usize, met),
+        NamePlace::Str(at) => find_str(sections, at as usize, met),
     }
 }
 
@@ -145,7 +156,7 @@ fn push_name(sections: &LineSections<'_>, name: &[u8], met: &mut MetNames) -> Re
     requires { AreMet (sections_shown sections.now) met.old }
     ensures { IfOk result (λ _. Meets (sections_shown sections.now) met.old met.new (text_from name.now 0 ∷ [])) }
 {
-    let found = keep(&mut met.texts, text_from(name, 0))?;
+    let found = find_text(sections, text_from(name, 0), met)?;
     met.places.push(found)?;
     Ok(())
 }

@@ -11,7 +11,10 @@ use Rattle.line_headers.specs.Entries.{entries_at, entry_at, field_at, fields_at
 use Rattle.line_headers.specs.declared.places.NamePlace.{NamePlace}
 use Rattle.line_headers.specs.declared.places.NamePlace.TheVariants as place
 use Rattle.line_headers.specs.declared.formats.Field.{Field}
+use Rattle.line_headers.specs.Gives.{Finds, Gives}
 use Rattle.line_rows.specs.declared.fault.LineFault.{LineFault}
+use Rattle.line_rows.specs.declared.fault.LineError.{LineError}
+use Rattle.line_rows.specs.declared.fault.LineError.TheVariants as error
 
 -- what is read behind a list
 abbrev pub behind : {A : Type 0} → List A → Reading (List A) → Reading (List A)
@@ -48,6 +51,12 @@ pub then_fault : {A B : Type 0} (xs : List A) (whole others : Reading (List A)) 
     → whole ≡ behind xs others → others ≡ and_then one next → one ≡ Err e → whole ≡ Err e
 then_fault xs whole others one next e p q r = p ∙ ap (behind xs) (q ∙ ap (λ o. and_then o next) r)
 
+-- the same with want of memory
+pub gives_err : {A B : Type 0} (xs : List A) (whole others : Reading (List A)) (one : Reading B) (next : B → ℕ → Reading (List A)) (e : LineError)
+    → whole ≡ behind xs others → others ≡ and_then one next → Finds (Err e) one → Gives (Err e) whole
+gives_err xs whole others one next (error.Fault f) p q r = then_fault xs whole others one next f p q r
+gives_err xs whole others one next error.NoMemory p q r = tt
+
 -- a value that is read behind a list
 pub then_value : {A : Type 0} (xs : List A) (whole others : Reading (List A)) (one : Reading A) (more : ℕ → Reading (List A)) (value : A) (next : ℕ)
     → whole ≡ behind xs others → others ≡ and_then one (λ v at. reading_map (λ ys. v ∷ ys) (more at)) → one ≡ Ok (value, next)
@@ -57,10 +66,10 @@ then_value xs whole others one more value next p q r =
 
 -- a name that is read behind the names of a table
 pub then_name : (is_file : Bool) (n : ℕ) (bytes : List ℕ) (xs ys : List NamePlace) (at next : ℕ) (name : NamePlace) (entry : Option NamePlace) (whole : Reading (List NamePlace))
-    → whole ≡ behind xs (names_at is_file (n - length xs) bytes at) → length xs < n → Ok (entry, next) ≡ names.entry_at is_file bytes at → entry ≡ Some name
+    → whole ≡ behind xs (names_at is_file (n - length xs) bytes at) → length xs < n → names.entry_at is_file bytes at ≡ Ok (entry, next) → entry ≡ Some name
     → ys ≡ xs ++ name ∷ [] → whole ≡ behind ys (names_at is_file (n - length ys) bytes next)
 then_name is_file n bytes xs ys at next name entry whole same room read is pushed =
-    let found : names.entry_at is_file bytes at ≡ Ok (Some name, next) = sym read ∙ ap (λ (o : Option NamePlace). Ok (o, next)) is in
+    let found : names.entry_at is_file bytes at ≡ Ok (Some name, next) = read ∙ ap (λ (o : Option NamePlace). Ok (o, next)) is in
     let further : whole ≡ behind (xs ++ name ∷ []) (names_at is_file (n - (length xs + 1)) bytes next) =
     same
     ∙ ap (behind xs) (names_more is_file n (length xs) bytes at room ∙ ap (λ o. and_then o (λ e place. entry_then e place (names_at is_file (n - (length xs + 1)) bytes place))) found)

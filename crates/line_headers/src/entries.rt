@@ -3,12 +3,12 @@
 ghost use Rattle.std.specs.Prelude.{◌≡◌, IfOk};
 ghost use Rattle.leb_read.specs.Leb.{IsBehind};
 ghost use Rattle.line_headers.specs.Texts.{texts_before};
-ghost use Rattle.line_headers.specs.Gives.{Gives};
+ghost use Rattle.line_headers.specs.Gives.{Finds, Gives};
 ghost use Rattle.line_headers.specs.Entries.{counted_at, entries_at, entry_at, entry_tables_at, table_at, text_named, value_at};
 
 use crate::fields::{run_at, text_length_at};
 use crate::formats::{Field, Form, format_at};
-use crate::places::NamePlace;
+use crate::places::{NamePlace, name_in_line};
 use crate::texts::TextEnds;
 use line_rows::{LineError, LineFault, unsigned_at, word_at};
 use std::alloc::Global;
@@ -35,33 +35,23 @@ fn value_at(
     at: usize,
     field: Field,
     ends: TextEnds,
-) -> Result<(NamePlace, usize), LineFault>
-    ensures { result ≡ value_at (texts_before ends) field bytes.now at }
+) -> Result<(NamePlace, usize), LineError>
+    ensures { Finds result (value_at (texts_before ends) field bytes.now at) }
 {
     match field.form {
         Form::Text => {
             let (_, next) = text_length_at(bytes, at)?;
-            Ok((NamePlace::Line(at), next))
+            Ok((name_in_line(at)?, next))
         }
         Form::LineStr => {
             let (offset, next) = word_at(bytes, at)?;
-            let offset = offset as usize;
-            text_named(
-                field.is_path,
-                offset < ends.line_str,
-                NamePlace::LineStr(offset),
-                next,
-            )
+            let stands = (offset as usize) < ends.line_str;
+            Ok(text_named(field.is_path, stands, NamePlace::LineStr(offset), next)?)
         }
         Form::Str => {
             let (offset, next) = word_at(bytes, at)?;
-            let offset = offset as usize;
-            text_named(
-                field.is_path,
-                offset < ends.strs,
-                NamePlace::Str(offset),
-                next,
-            )
+            let stands = (offset as usize) < ends.strs;
+            Ok(text_named(field.is_path, stands, NamePlace::Str(offset), next)?)
         }
         Form::Fixed(size) => {
             let (_, next) = run_at(bytes, at, size)?;
@@ -85,8 +75,8 @@ fn entry_at(
     at: usize,
     fields: &[Field],
     ends: TextEnds,
-) -> Result<(NamePlace, usize), LineFault>
-    ensures { result ≡ entry_at (texts_before ends) fields.now NamePlace.Empty bytes.now at }
+) -> Result<(NamePlace, usize), LineError>
+    ensures { Finds result (entry_at (texts_before ends) fields.now NamePlace.Empty bytes.now at) }
 {
     let mut name = NamePlace::Empty;
     let mut place = at;

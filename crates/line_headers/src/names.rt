@@ -2,11 +2,11 @@
 
 ghost use Rattle.std.specs.Prelude.{◌≡◌, ◌+◌, IfOk, length};
 ghost use Rattle.leb_read.specs.Leb.{IsBehind};
-ghost use Rattle.line_headers.specs.Gives.{Gives};
+ghost use Rattle.line_headers.specs.Gives.{Finds, Gives};
 ghost use Rattle.line_headers.specs.Names.{entry_at, name_tables_at, names_at, numbers_at};
 
 use crate::fields::text_length_at;
-use crate::places::NamePlace;
+use crate::places::{NamePlace, name_in_line};
 use line_rows::{LineError, LineFault, unsigned_at};
 use std::alloc::Global;
 
@@ -23,15 +23,15 @@ fn numbers_at(bytes: &[u8], at: usize) -> Result<(u64, usize), LineFault>
 
 // An entry of a table, or none where its end stands.
 #[tactic(auto, unfolding(crate::specs::Names::entry_at))]
-fn entry_at(bytes: &[u8], at: usize, is_file: bool) -> Result<(Option<NamePlace>, usize), LineFault>
-    ensures value { result ≡ entry_at is_file bytes.now at }
+fn entry_at(bytes: &[u8], at: usize, is_file: bool) -> Result<(Option<NamePlace>, usize), LineError>
+    ensures value { Finds result (entry_at is_file bytes.now at) }
     ensures within { IfOk result (λ r. IsBehind bytes.now at r.1) }
 {
     let (size, next) = text_length_at(bytes, at)?;
     if size == 0 {
         return Ok((None, next));
     }
-    let name = Some(NamePlace::Line(at));
+    let name = Some(name_in_line(at)?);
     if !is_file {
         return Ok((name, next));
     }

@@ -11,3 +11,5 @@ pub mod LastPart
 pub mod Least
 pub mod Marked
 pub mod FunctionBody
+-- Around an address no other line begins.
+pub mod Nearby

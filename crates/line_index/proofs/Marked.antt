@@ -116,7 +116,7 @@ all_addresses P test (r ∷ rows) h = by (test r) refl (all_addresses P test row
     by true e rest = All-cons P r.address (addresses test rows) (h 0 r (omega arith) e) rest
     by false e rest = rest
 
-has_address : (test : Row → Bool) (rows : List Row) (i : ℕ) (d : Row) → i < length rows → test (get_or rows i d) ≡ true → Contains (addresses test rows) (get_or rows i d).address
+pub has_address : (test : Row → Bool) (rows : List Row) (i : ℕ) (d : Row) → i < length rows → test (get_or rows i d) ≡ true → Contains (addresses test rows) (get_or rows i d).address
 has_address test [] i d within e = absurd (omega (arith, within))
 has_address test (r ∷ rows) zero d within e = rw e (here (addresses test rows) r.address)
 has_address test (r ∷ rows) (suc i) d within e = by (test r) (has_address test rows i d (omega (arith, within)) e)

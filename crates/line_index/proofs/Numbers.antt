@@ -1,8 +1,9 @@
 -- The sequence of an address by its number.
-use Rattle.std.proofs.Common.{◌≡◌, ℕ, ◌+◌, zero, suc, ◌<◌, Bool, true, false, List, [], ◌∷◌, ◌++◌, Option, None, Some, length, take, refl, ap, ◌∙◌, sym, subst, arith, cond, append_assoc, append-nil}
-use Rattle.std.specs.Prelude.{find, option_and_then, slice_get}
+use Rattle.std.proofs.Common.{◌≡◌, ℕ, ◌+◌, ◌-◌, zero, suc, ◌<◌, ◌≤◌, Bool, true, false, List, [], ◌∷◌, ◌++◌, Option, None, Some, length, take, drop, refl, ap, ◌∙◌, sym, subst, arith, cond, append_assoc, append-nil}
+use Rattle.std.specs.Prelude.{find, option_and_then, slice_get, slice_range}
 use Rattle.std.specs.Option.{option_map, option_map_or}
-use Rattle.std.proofs.lemmas.List.{length-take}
+use Rattle.std.proofs.Math.Seq.{take-add}
+use Rattle.std.proofs.lemmas.List.{drop-drop, length-drop, length-take}
 use Rattle.address_tables.specs.Tables.{covers as is_there, value_among}
 use Rattle.address_tables.specs.declared.entry.AddressRange.{AddressRange}
 use Rattle.elf32_read.specs.declared.spans.Span.{Span}
@@ -10,7 +11,6 @@ use Rattle.line_rows.specs.RowList.{Sequence}
 use Rattle.line_rows.specs.declared.row.Row.{Row}
 use Rattle.line_index.specs.Lines.{begins_in, covers, kept, row_among, row_in}
 use Rattle.line_index.specs.Ranges.{range_of, ranges_from}
-use Rattle.line_index.proofs.Indexes.{take-more}
 
 -- what a number tells, where sequences are numbered from one on
 pub record Tells (text : List Span) (ss : List Sequence) (pc number k : ℕ) : Type 0 where
@@ -92,16 +92,41 @@ number_within text ss pc k e =
     let less = within ss t.place t.one t.there in
     omega (arith, far, less)
 
-ranges_push : (text : List Span) (ss : List Sequence) (number : ℕ) (s : Sequence) → ranges_from text number (ss ++ s ∷ []) ≡ ranges_from text number ss ++ range_of text (number + length ss) s
-ranges_push text [] number s = append-nil (range_of text number s) ∙ ap (λ (n : ℕ). range_of text n s) (let e : number ≡ number + length (let none : List Sequence = [] in none) = omega arith in e)
-ranges_push text (x ∷ ss) number s =
+ranges_join : (text : List Span) (ss more : List Sequence) (number : ℕ) → ranges_from text number (ss ++ more) ≡ ranges_from text number ss ++ ranges_from text (number + length ss) more
+ranges_join text [] more number = ap (λ (n : ℕ). ranges_from text n more) (let e : number ≡ number + length (let none : List Sequence = [] in none) = omega arith in e)
+ranges_join text (x ∷ ss) more number =
     let e : number + 1 + length ss ≡ number + length (x ∷ ss) = omega arith in
-    ap (λ (l : List (AddressRange ℕ)). range_of text number x ++ l) (ranges_push text ss (number + 1) s ∙ ap (λ (n : ℕ). ranges_from text (number + 1) ss ++ range_of text n s) e)
-    ∙ sym (append_assoc (range_of text number x) (ranges_from text (number + 1) ss) (range_of text (number + length (x ∷ ss)) s))
+    ap (λ (l : List (AddressRange ℕ)). range_of text number x ++ l) (ranges_join text ss more (number + 1) ∙ ap (λ (n : ℕ). ranges_from text (number + 1) ss ++ ranges_from text n more) e)
+    ∙ sym (append_assoc (range_of text number x) (ranges_from text (number + 1) ss) (ranges_from text (number + length (x ∷ ss)) more))
+
+part_joined : (ss : List Sequence) (a b c : ℕ) → a ≤ b → b ≤ c → slice_range ss a b ++ slice_range ss b c ≡ slice_range ss a c
+part_joined ss a b c h k =
+    let from : a + (b - a) ≡ b = omega arith in
+    let size : (b - a) + (c - b) ≡ c - a = omega arith in
+    ap (λ (l : List Sequence). slice_range ss a b ++ take (c - b) l) (ap (λ (n : ℕ). drop n ss) (sym from) ∙ sym (drop-drop (b - a) a ss))
+    ∙ sym (take-add (b - a) (c - b) (drop a ss))
+    ∙ ap (λ (n : ℕ). take n (drop a ss)) size
+
+-- the sequences of two parts, one behind the other
+pub ranges_joined : (text : List Span) (ss : List Sequence) (a b c : ℕ) → a ≤ b → b ≤ c → c ≤ length ss
+    → ranges_from text a (slice_range ss a b) ++ ranges_from text b (slice_range ss b c) ≡ ranges_from text a (slice_range ss a c)
+ranges_joined text ss a b c h k less =
+    let size : a + length (slice_range ss a b) ≡ b = omega (arith, h, k, less, length-take (b - a) (drop a ss), length-drop a ss) in
+    ap (λ (n : ℕ). ranges_from text a (slice_range ss a b) ++ ranges_from text n (slice_range ss b c)) (sym size)
+    ∙ sym (ranges_join text (slice_range ss a b) (slice_range ss b c) a)
+    ∙ ap (ranges_from text a) (part_joined ss a b c h k)
+
+one_at : (ss : List Sequence) (k : ℕ) (s : Sequence) → slice_get ss k ≡ Some s → take 1 (drop k ss) ≡ s ∷ []
+one_at [] k s h = cc
+one_at (x ∷ ss) zero s h = let e : x ≡ s = cc in ap (λ (z : Sequence). z ∷ []) e
+one_at (x ∷ ss) (suc k) s h = one_at ss k s h
 
 -- one sequence more
-pub ranges_more : (text : List Span) (ss : List Sequence) (k : ℕ) (s : Sequence) → slice_get ss k ≡ Some s → ranges_from text 0 (take k ss) ++ range_of text k s ≡ ranges_from text 0 (take (k + 1) ss)
-ranges_more text ss k s h =
+pub ranges_more : (text : List Span) (ss : List Sequence) (a k : ℕ) (s : Sequence) → a ≤ k → slice_get ss k ≡ Some s
+    → ranges_from text a (slice_range ss a k) ++ range_of text k s ≡ ranges_from text a (slice_range ss a (k + 1))
+ranges_more text ss a k s order h =
     let less = within ss k s h in
-    let size : 0 + length (take k ss) ≡ k = omega (arith, length-take k ss, less) in
-    sym (ap (ranges_from text 0) (take-more ss k s h) ∙ ranges_push text (take k ss) 0 s ∙ ap (λ (n : ℕ). ranges_from text 0 (take k ss) ++ range_of text n s) size)
+    let one : k + 1 - k ≡ 1 = omega arith in
+    ap (λ (l : List (AddressRange ℕ)). ranges_from text a (slice_range ss a k) ++ l)
+    (sym (append-nil (range_of text k s)) ∙ ap (ranges_from text k) (sym (ap (λ (n : ℕ). take n (drop k ss)) one ∙ one_at ss k s h)))
+    ∙ ranges_joined text ss a k (k + 1) order (omega arith) (omega (arith, less))

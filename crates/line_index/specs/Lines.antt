@@ -66,6 +66,14 @@ begins pc r = if (r.address == pc) && r.is_stmt then Some r else None
 abbrev pub starts : Lines → ℕ → Option Row
 starts lines pc = option_and_then (begins pc) (row_at lines pc)
 
+-- whether a row is of another file or line
+abbrev pub is_another : ℕ → ℕ → Row → Bool
+is_another file line r = not ((r.file == file) && (r.line == line))
+
+-- whether another line begins at an address
+abbrev pub begins_another : ℕ → ℕ → Lines → ℕ → Bool
+begins_another file line lines pc = option_map_or (is_another file line) (starts lines pc) false
+
 -- a file name by its number
 abbrev pub file_name : List (List ℕ) → ℕ → List ℕ
 file_name names file = unwrap_or (slice_get names file) []

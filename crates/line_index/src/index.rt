@@ -1,12 +1,14 @@
 // Line tables for look-ups, and the look-ups.
-ghost use Rattle.std.specs.Prelude.{◌≡◌, IfOk};
+ghost use Rattle.std.specs.Prelude.{◌≡◌, ◌<◌, ◌≤◌, ℕ, IfNone, IfOk, IfSome, false, true};
 ghost use Rattle.elf_symbols.specs.Views.{symbol_shown};
-ghost use Rattle.line_index.specs.Lines.{Lines, address_of, body_of, file_name, lines_of, row_at, starts};
+ghost use Rattle.line_index.specs.Lines.{Lines, address_of, begins_another, body_of, file_name, lines_of, row_at, starts};
 
 use crate::addresses::least_from;
+use crate::around::{Addresses, clear_around, span_at};
 use crate::body::{body_in, function_end};
 use crate::files::soonest;
 use crate::functions::function_starts;
+use crate::marks::{Mark, is_another};
 use crate::names::name_of;
 use crate::ranges::sequence_table;
 use crate::rows::row_in;
@@ -44,7 +46,7 @@ impl Model for LineIndex {
 }
 
 impl LineIndex {
-    /// The look-ups of the rows of a program. They take n log n time for n sequences and, beside the rows themselves, 88
+    /// The look-ups of the rows of a program. They take n log n time for n sequences and, beside the rows themselves, 64
     /// bytes a sequence at most, of which 32 stay.
     ///
     /// # Errors
@@ -88,6 +90,36 @@ impl LineIndex {
         match self.row_at(pc) {
             Some(row) if row.address == pc && row.is_stmt => Some(row),
             _ => None,
+        }
+    }
+
+    /// Whether another line than this, or one of another file, begins at an address.
+    pub fn begins_another(&self, pc: u32, file: u32, line: u32) -> bool
+        ensures { result ≡ begins_another file line self.now pc }
+    {
+        match self.starts(pc) {
+            Some(row) => is_another(&row, file, line),
+            None => false,
+        }
+    }
+
+    /// Addresses around one at none of which another line begins than this one, or one of another file. None where one
+    /// begins at that address. Behind binary searches only rows that begin no other line are gone over.
+    pub fn around(&self, pc: u32, file: u32, line: u32) -> Option<Addresses>
+        ensures there { IfSome result (λ s. (s.start ≤ pc) × (pc < s.end)) }
+        ensures none { IfSome result (λ s. (a : ℕ) → s.start ≤ a → a < s.end → begins_another file line self.now a ≡ false) }
+        ensures ends { IfNone result (begins_another file line self.now pc ≡ true) }
+    {
+        if self.begins_another(pc, file, line) {
+            return None;
+        }
+        let span = span_at(&self.sequences, pc);
+        match value_at(&self.sequences, u64::from(pc)) {
+            Some(number) => {
+                let rows = self.rows.sequence(number as usize).rows;
+                Some(clear_around(rows, Mark::Another { file, line }, pc, span))
+            }
+            None => Some(span),
         }
     }
 

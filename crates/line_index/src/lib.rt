@@ -2,6 +2,7 @@
 #![tactic(auto)]
 
 mod addresses;
+mod around;
 mod body;
 mod files;
 mod functions;
@@ -11,4 +12,5 @@ mod names;
 mod ranges;
 mod rows;
 
+pub use around::Addresses;
 pub use index::LineIndex;

@@ -2,7 +2,7 @@
 
 ghost use Rattle.std.specs.Prelude.{◌≡◌, [], ◌∷◌, flat_map};
 ghost use Rattle.line_rows.specs.RowList.{AreInOrder, sequence_shown};
-ghost use Rattle.line_index.specs.Lines.{addresses, below, kept, least_from};
+ghost use Rattle.line_index.specs.Lines.{addresses, below, is_another, kept, least_from};
 ghost use Rattle.line_index.specs.Marks.{has, lesser};
 
 use crate::ranges::begins_in;
@@ -16,14 +16,25 @@ pub enum Mark {
     PrologueEnd,
     /// A statement begins there.
     Statement,
+    /// A statement of another file or line than this begins there.
+    Another { file: u32, line: u32 },
 }
 
-fn has(mark: Mark, row: &Row) -> bool
+/// Whether a row is of another line than this, or of another file.
+pub fn is_another(row: &Row, file: u32, line: u32) -> bool
+    ensures { result ≡ is_another file line row.now }
+{
+    row.file != file || row.line != line
+}
+
+/// Whether a row has a mark.
+pub fn has(mark: Mark, row: &Row) -> bool
     ensures { result ≡ has mark row.now }
 {
     match mark {
         Mark::PrologueEnd => row.prologue_end,
         Mark::Statement => row.is_stmt,
+        Mark::Another { file, line } => row.is_stmt && is_another(row, file, line),
     }
 }
 
@@ -37,8 +48,8 @@ fn lesser(address: Option<u32>, other: Option<u32>) -> Option<u32>
     }
 }
 
-// The first row with the mark in a range of addresses: behind a binary search only the rows in the range are gone over.
-fn first_marked(rows: &[Row], mark: Mark, start: u64, end: u64) -> Option<u32>
+/// The first row with the mark in a range of addresses: behind a binary search only the rows in the range are gone over.
+pub fn first_marked(rows: &[Row], mark: Mark, start: u64, end: u64) -> Option<u32>
     requires { AreInOrder rows.now }
     ensures { result ≡ below end (least_from start (addresses (has mark) rows.now)) }
 {

@@ -1,5 +1,5 @@
 // Sequences of rows, kept one after another in one list.
-ghost use Rattle.std.specs.Prelude.{◌≡◌, ◌<◌, ◌≤◌, [], ◌∷◌, ◌++◌, Some, length, map, take, drop, OnOk, OnErr, slice_get};
+ghost use Rattle.std.specs.Prelude.{◌≡◌, ◌<◌, ◌≤◌, [], ◌∷◌, ◌++◌, Some, length, map, take, drop, IfOk, OnOk, OnErr, slice_get};
 ghost use Rattle.std.specs.List.{slice_index_or};
 ghost use Rattle.line_rows.specs.RowList.{AreInOrder, ended_with, last_address, mapped, placed, renumbered, sequence_shown};
 
@@ -11,8 +11,8 @@ use std::marker::Model;
 /// Where the rows of a sequence stand, and the address behind them.
 #[derive(Clone, Copy)]
 pub struct RowRange {
-    pub start: usize,
-    pub past: usize,
+    pub start: u32,
+    pub past: u32,
     pub end: u32,
 }
 
@@ -39,6 +39,15 @@ impl Model for Sequences {
     ghost view = { seen };
 
     ghost invariant = { IsKept };
+}
+
+fn narrow(place: usize) -> Result<u32, NoMemory>
+    ensures { IfOk result (λ n. n ≡ place) }
+{
+    match u32::try_from(place) {
+        Ok(place) => Ok(place),
+        Err(_) => Err(NoMemory),
+    }
 }
 
 fn number_at(numbers: &[u32], place: u32) -> u32
@@ -108,7 +117,12 @@ impl Sequences {
         let start = self.pending;
         let past = self.rows.len();
         if start < past {
-            self.ranges.push(RowRange { start, past, end })?;
+            let range = RowRange {
+                start: narrow(start)?,
+                past: narrow(past)?,
+                end,
+            };
+            self.ranges.push(range)?;
             self.pending = past;
         }
         Ok(())
@@ -166,7 +180,7 @@ impl Sequences {
     {
         let range = self.ranges[k];
         SequenceView {
-            rows: &self.rows[range.start..range.past],
+            rows: &self.rows[range.start as usize..range.past as usize],
             end: range.end,
         }
     }

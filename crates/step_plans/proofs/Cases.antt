@@ -5,7 +5,7 @@ use Rattle.line_rows.specs.declared.row.Row.{Row}
 use Rattle.line_index.specs.Lines.{Lines, body_of, row_at}
 use Rattle.std.specs.Prelude.{if◌then◌else◌, ◌==◌, ◌&&◌}
 use Rattle.step_plans.specs.Arrivals.{arrival_of, is_back}
-use Rattle.step_plans.specs.Laws.{EndsAt, GoesOnIn, KeepsLine, LinesEndAtRows, InnerReturnsGoOn, JudgedWithout, line_after, line_of}
+use Rattle.step_plans.specs.Laws.{EndsAt, GoesOnIn, KeepsLine, LinesEndAtRows, LinesGoOn, InnerReturnsGoOn, JudgedWithout, line_after, line_of}
 use Rattle.step_plans.specs.Verdicts.{begins_another, entered_by, judged, on_line, one_by, returned}
 use Rattle.step_plans.specs.declared.arrival.Arrival.{Arrival}
 use Rattle.step_plans.specs.declared.arrival.Jump.{Jump}
@@ -113,3 +113,16 @@ judged_without (plans.ToReturn ret sp afters.Stop) last registers lines names h 
 judged_without (plans.ToReturn ret sp (afters.Line file line into)) last registers lines names h = refl
 judged_without (plans.ToBody at ret sp file line) last registers lines names h = refl
 judged_without (plans.Finish ret sp) last registers lines names h = refl
+
+goes_on_line :
+    (jump : Jump) (into : Bool) (row : Option Row) (file line : ℕ) (a : Arrival) (lines : Lines) (names : Names) →
+    jump ≡ Other → begins_another file line a lines ≡ false → on_line jump into row file line a lines names ≡ Go (plans.Line file line into)
+goes_on_line (Call back) into row file line a lines names is none = cc
+goes_on_line Return into row file line a lines names is none = cc
+goes_on_line Other into None file line a lines names is none = refl
+goes_on_line Other into (Some r) file line a lines names is none = rw none refl
+
+pub lines_go_on : LinesGoOn
+lines_go_on file line into last registers lines names is none =
+    let a : Arrival = arrival_of last registers in
+    goes_on_line a.jump into (row_at lines (registers 32)) file line a lines names is none

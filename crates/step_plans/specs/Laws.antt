@@ -2,7 +2,9 @@
 use Rattle.std.specs.Prelude.{◌≡◌, ℕ, ◌<◌, Bool, true, false, Option, None, Some, is_some}
 use Rattle.elf_symbols.specs.Names.{Names}
 use Rattle.line_rows.specs.declared.row.Row.{Row}
-use Rattle.line_index.specs.Lines.{Lines, row_at}
+use Rattle.line_index.specs.Lines.{Lines, begins_another, row_at}
+use Rattle.step_plans.specs.Arrivals.{jump_by}
+use Rattle.step_plans.specs.declared.arrival.Jump.TheVariants.{Other}
 use Rattle.step_plans.specs.Verdicts.{asks, verdict}
 use Rattle.step_plans.specs.declared.plan.After.{After}
 use Rattle.step_plans.specs.declared.plan.After.TheVariants as afters
@@ -61,3 +63,10 @@ JudgedWithout =
     (plan : Plan) (last : Option Last) (registers : ℕ → ℕ) (lines : Lines) (names : Names) →
     asks plan ≡ false →
     verdict plan last registers lines names ≡ verdict plan None registers lines names
+
+-- the plan of a line stays as it is where no other line begins, behind an instruction that neither calls nor returns
+abbrev pub LinesGoOn : Type 0
+LinesGoOn =
+    (file line : ℕ) (into : Bool) (last : Option Last) (registers : ℕ → ℕ) (lines : Lines) (names : Names) →
+    jump_by last ≡ Other → begins_another file line lines (registers 32) ≡ false →
+    verdict (plans.Line file line into) last registers lines names ≡ Go (plans.Line file line into)

@@ -1,10 +1,9 @@
 -- What becomes of a hart's plan at an arrival (GDB manual, "Continuing and Stepping": `stepi`, `nexti`, `step`, `next` and
 -- `finish`).
-use Rattle.std.specs.Prelude.{ℕ, ◌==◌, ◌&&◌, not, Bool, true, false, Option, None, Some, if◌then◌else◌}
-use Rattle.std.specs.Option.{option_map_or}
+use Rattle.std.specs.Prelude.{ℕ, ◌==◌, ◌&&◌, Bool, true, false, Option, None, Some, if◌then◌else◌}
 use Rattle.elf_symbols.specs.Names.{Names, Symbol, function_at}
 use Rattle.line_rows.specs.declared.row.Row.{Row}
-use Rattle.line_index.specs.Lines.{Lines, body_of, row_at, starts}
+use Rattle.line_index.specs.Lines.{Lines, body_of, row_at, begins_another as begins_at}
 use Rattle.step_plans.specs.Arrivals.{arrival_of, is_back}
 use Rattle.step_plans.specs.declared.arrival.Arrival.{Arrival}
 use Rattle.step_plans.specs.declared.arrival.Jump.{Jump}
@@ -17,13 +16,9 @@ use Rattle.step_plans.specs.declared.plan.Plan.TheVariants as plans
 use Rattle.step_plans.specs.declared.plan.Verdict.{Verdict}
 use Rattle.step_plans.specs.declared.plan.Verdict.TheVariants.{Go, Stepped, Finished}
 
--- whether a row is of another file or line
-abbrev pub is_another : ℕ → ℕ → Row → Bool
-is_another file line r = not ((r.file == file) && (r.line == line))
-
 -- whether pc is where another line begins
 abbrev pub begins_another : ℕ → ℕ → Arrival → Lines → Bool
-begins_another file line a lines = option_map_or (is_another file line) (starts lines a.pc) false
+begins_another file line a lines = begins_at file line lines a.pc
 
 -- `stepi`: one instruction; `nexti`: "if it is a function call, proceed until the function returns"
 abbrev pub one_by : Jump → Bool → Arrival → Verdict

@@ -1,5 +1,5 @@
 // Laws of the verdicts on a hart's plan.
-ghost use Rattle.step_plans.specs.Laws.{InnerReturnsGoOn, JudgedWithout, KeepsLine, LinesEndAtRows};
+ghost use Rattle.step_plans.specs.Laws.{InnerReturnsGoOn, JudgedWithout, KeepsLine, LinesEndAtRows, LinesGoOn};
 
 /// A law: a plan that goes on keeps its line.
 pub fn plans_keep_their_line()
@@ -19,4 +19,9 @@ pub fn inner_returns_go_on()
 /// A law: a plan that doesn't ask what the instruction was is judged without it.
 pub fn others_are_judged_without()
     ensures { JudgedWithout }
+{}
+
+/// A law: where no other line begins, behind an instruction that neither calls nor returns, the plan of a line stays as it is.
+pub fn lines_go_on()
+    ensures { LinesGoOn }
 {}

@@ -7,7 +7,8 @@ mod plan;
 mod verdicts;
 
 pub use laws::{
-    inner_returns_go_on, lines_end_at_rows, others_are_judged_without, plans_keep_their_line,
+    inner_returns_go_on, lines_end_at_rows, lines_go_on, others_are_judged_without,
+    plans_keep_their_line,
 };
 pub use plan::{After, Last, Plan, Verdict};
 pub use verdicts::arrive;

@@ -1,7 +1,7 @@
 //! What becomes of a plan where a hart arrives.
 
 ghost use Rattle.std.specs.Prelude.{◌≡◌, is_some};
-ghost use Rattle.step_plans.specs.Verdicts.{begins_another, entered, is_another, judged, judged_line, judged_one, passed_over, returned, verdict};
+ghost use Rattle.step_plans.specs.Verdicts.{begins_another, entered, judged, judged_line, judged_one, passed_over, returned, verdict};
 ghost use Rattle.line_index.specs.Lines.{row_at};
 
 use crate::arrival::{Arrival, Jump};
@@ -9,7 +9,6 @@ use crate::{After, Last, Plan, Verdict};
 use dbg_traits::View;
 use elf_symbols::Symbols;
 use line_index::LineIndex;
-use line_rows::Row;
 
 /// What is known of the source.
 #[derive(Clone, Copy)]
@@ -18,21 +17,11 @@ struct Source<'a> {
     symbols: &'a Symbols,
 }
 
-/// Whether a row is of another line than this, or of another file.
-fn is_another(row: &Row, file: u32, line: u32) -> bool
-    ensures { result ≡ is_another file line row.now }
-{
-    row.file != file || row.line != line
-}
-
 /// Whether another line begins where a hart has arrived.
 fn begins_another(arrival: &Arrival, lines: &LineIndex, file: u32, line: u32) -> bool
     ensures { result ≡ begins_another file line arrival.now lines.now }
 {
-    match lines.starts(arrival.pc) {
-        Some(row) => is_another(&row, file, line),
-        None => false,
-    }
+    lines.begins_another(arrival.pc, file, line)
 }
 
 /// A call of a line is passed over.

@@ -1,7 +1,7 @@
-use Rattle.std.proofs.Common.{◌≡◌, ◌<◌, ◌+◌, length, sym, ap, ◌∙◌, arith}
+use Rattle.std.proofs.Common.{◌≡◌, ◌<◌, ◌+◌, length, ap, ◌∙◌, arith}
 use Rattle.std.proofs.lemmas.List.{length_push}
 use Rattle.std.proofs.lemmas.Result.{err_from_is_err_and}
-use Rattle.line_headers.proofs.Loops.{names_more, then_fault, then_name}
+use Rattle.line_headers.proofs.Loops.{gives_err, names_more, then_name}
 use Rattle.line_headers.proofs.names.names_at.Goals as goal
 
 pub returns-in_err-entry : goal.returns-in_err-entry
@@ -10,7 +10,7 @@ returns-in_err-entry c =
     let within = c.loop-names.invariant.within in
     let room : length c.loop-names.names.items < length c.args.bytes.now + 1 = omega arith in
     rw (p.1, p.2)
-    (then_fault _ _ _ _ _ _ c.loop-names.invariant.same (names_more _ _ _ c.args.bytes.now c.loop-names.place room) (sym c.in_err-entry.ensures.value))
+    (gives_err _ _ _ _ _ _ c.loop-names.invariant.same (names_more _ _ _ c.args.bytes.now c.loop-names.place room) c.in_err-entry.ensures.value)
 
 pub loop-names-preserved : goal.loop-names-preserved
 loop-names-preserved c =
