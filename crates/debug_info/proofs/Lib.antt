@@ -3,7 +3,7 @@ pub mod Turns
 pub mod Declared
 pub mod Specified
 pub mod Ends
-pub mod Joined
+pub mod Spanned
 pub mod Behind
 -- What is kept of the specifications, place by place.
 pub mod Runs

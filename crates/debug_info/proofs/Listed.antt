@@ -1,70 +1,57 @@
 -- The functions of one entry more, and those of a unit that was read.
-use Rattle.std.proofs.Common.{◌≡◌, ℕ, suc, ◌+◌, ◌<◌, ◌≤◌, List, [], ◌∷◌, ◌++◌, length, length-append, Option, None, Some, Result, Ok, Err, refl, ap, ◌∙◌, sym, arith, append_assoc}
+use Rattle.std.proofs.Common.{◌≡◌, ℕ, ◌+◌, ◌-◌, ◌<◌, ◌≤◌, ◌^◌, List, [], ◌∷◌, ◌++◌, length, Option, None, Some, Result, Ok, Err, refl, ap, ◌∙◌, sym, arith}
+use Rattle.std.specs.Prelude.{IfSome}
+use Rattle.std.proofs.lemmas.Grind.{flat_map-append}
 use Rattle.address_tables.specs.declared.entry.AddressRange.{AddressRange}
-use Rattle.debug_info.specs.Contents.{Contents, entries_or_none, fault_at, faults_at}
+use Rattle.debug_info.specs.Contents.{entries_or_none, fault_at, faults_at}
 use Rattle.debug_info.specs.Entries.{entries_from, entry_at, entry_list, level_behind}
 use Rattle.debug_info.specs.Functions.{function_list, functions_in, functions_read}
 use Rattle.debug_info.specs.Reading.{found}
 use Rattle.debug_info.specs.declared.entry.Entry.{Entry}
 use Rattle.debug_info.specs.declared.fault.InfoFault.{InfoFault}
-use Rattle.debug_info.specs.declared.functions.Function.{Function}
+use Rattle.debug_info.specs.declared.fault.UnitFault.{UnitFault}
 use Rattle.debug_info.proofs.Specified.{Reading, reading_end, reading_fault, reading_next, reading_start}
 
-in_both : (unit n : ℕ) (es fs : List Entry) → functions_in unit n (es ++ fs) ≡ functions_in unit n es ++ functions_in unit (n + length es) fs
-in_both unit n [] fs = ap (λ (k : ℕ). functions_in unit k fs) (let k : n ≡ n + 0 = omega arith in k)
-in_both unit n (x ∷ es) fs =
-    ap (λ (gs : List (AddressRange Function)). function_list unit n x ++ gs) (in_both unit (n + 1) es fs)
-    ∙ sym (append_assoc (function_list unit n x) (functions_in unit (n + 1) es) (functions_in unit (n + 1 + length es) fs))
-    ∙ ap (λ (k : ℕ). (function_list unit n x ++ functions_in unit (n + 1) es) ++ functions_in unit k fs) (let k : n + 1 + length es ≡ n + suc (length es) = omega arith in k)
-
--- the functions and the count of the entries that were read, which are no more than bytes
-pub record Counted (whole : Result (List Entry) InfoFault) (abbrevs strs info : List ℕ) (table unit number : ℕ) (listed : List (AddressRange Function)) (count level at : ℕ) : Type 0 where
+-- the functions of the entries that were read
+pub record Listed (whole : Result (List Entry) InfoFault) (abbrevs strs info : List ℕ) (table unit : ℕ) (listed : List (AddressRange ℕ)) (level at : ℕ) : Type 0 where
   pub entries : List Entry
   pub reading : Reading whole abbrevs strs info table unit entries level at
-  pub functions : listed ≡ functions_in number 0 entries
-  pub counted : count ≡ length entries
+  pub functions : listed ≡ functions_in unit entries
 
-pub counted_start : (abbrevs strs info : List ℕ) (table unit number at : ℕ) (functions : List (AddressRange Function)) → at ≤ length info → functions ≡ []
-    → Counted (entries_from (length info + 1) abbrevs strs info table unit 0 at) abbrevs strs info table unit number functions 0 0 at
-counted_start abbrevs strs info table unit number at functions h none =
-    record { entries = []; reading = reading_start abbrevs strs info table unit at h; functions = none; counted = refl }
+pub listed_start : (abbrevs strs info : List ℕ) (table unit at : ℕ) (functions : List (AddressRange ℕ)) → at ≤ length info → functions ≡ []
+    → Listed (entries_from (length info + 1) abbrevs strs info table unit 0 at) abbrevs strs info table unit functions 0 at
+listed_start abbrevs strs info table unit at functions h none = record { entries = []; reading = reading_start abbrevs strs info table unit at h; functions = none }
 
-pub counted_fault : (whole : Result (List Entry) InfoFault) (abbrevs strs info : List ℕ) (table unit number : ℕ) (functions : List (AddressRange Function)) (count level at : ℕ) (e : InfoFault)
-    → at < length info → entry_at abbrevs strs info table unit level at ≡ Err e → Counted whole abbrevs strs info table unit number functions count level at → functions_read number whole ≡ Err e
-counted_fault whole abbrevs strs info table unit number functions count level at e h read c =
-    ap (functions_read number) (reading_fault whole abbrevs strs info table unit c.entries level at e h read c.reading)
+pub listed_fault : (whole : Result (List Entry) InfoFault) (abbrevs strs info : List ℕ) (table unit : ℕ) (functions : List (AddressRange ℕ)) (level at : ℕ) (e : InfoFault)
+    → at < length info → entry_at abbrevs strs info table unit level at ≡ Err e → Listed whole abbrevs strs info table unit functions level at → functions_read unit whole ≡ Err e
+listed_fault whole abbrevs strs info table unit functions level at e h read c = ap (functions_read unit) (reading_fault whole abbrevs strs info table unit c.entries level at e h read c.reading)
 
-pub counted_next : (whole : Result (List Entry) InfoFault) (abbrevs strs info : List ℕ) (table unit number : ℕ) (functions pushed : List (AddressRange Function)) (count more level at behind next : ℕ) (entry : Option Entry)
-    → at < length info → entry_at abbrevs strs info table unit level at ≡ found entry next → at < next → next ≤ length info → behind ≡ level_behind level entry
-    → pushed ≡ functions ++ functions_in number count (entry_list entry) → more ≡ count + length (entry_list entry)
-    → Counted whole abbrevs strs info table unit number functions count level at → Counted whole abbrevs strs info table unit number pushed more behind next
-counted_next whole abbrevs strs info table unit number functions pushed count more level at behind next entry h read later within deep push one c = record {
+pub listed_next : (whole : Result (List Entry) InfoFault) (abbrevs strs info : List ℕ) (table unit : ℕ) (functions pushed : List (AddressRange ℕ)) (level at behind next : ℕ) (entry : Option Entry)
+    → at < length info → entry_at abbrevs strs info table unit level at ≡ found entry next → at < next → next ≤ length info → behind ≡ level_behind level entry → pushed ≡ functions ++ functions_in unit (entry_list entry)
+    → Listed whole abbrevs strs info table unit functions level at → Listed whole abbrevs strs info table unit pushed behind next
+listed_next whole abbrevs strs info table unit functions pushed level at behind next entry h read later within deep push c = record {
   entries = c.entries ++ entry_list entry;
   reading = reading_next whole abbrevs strs info table unit c.entries (c.entries ++ entry_list entry) level at behind next entry h read later within deep refl c.reading;
-  functions = push
-      ∙ ap (λ (fs : List (AddressRange Function)). fs ++ functions_in number count (entry_list entry)) c.functions
-      ∙ ap (λ (k : ℕ). functions_in number 0 c.entries ++ functions_in number k (entry_list entry)) (let k : count ≡ 0 + length c.entries = (let n = c.counted in omega arith) in k)
-      ∙ sym (in_both number 0 c.entries (entry_list entry));
-  counted = one ∙ ap (λ (k : ℕ). k + length (entry_list entry)) c.counted ∙ sym (length-append {A = Entry} c.entries (entry_list entry));
+  functions = push ∙ ap (λ (fs : List (AddressRange ℕ)). fs ++ functions_in unit (entry_list entry)) c.functions ∙ sym (flat_map-append (function_list unit) c.entries (entry_list entry));
 }
 
-pub counted_most : (count more at next : ℕ) (entry : Option Entry) → more ≡ count + length (entry_list entry) → count ≤ at → at < next → more ≤ next
-counted_most count more at next None is h later = (let same : more ≡ count + 0 = is in omega arith)
-counted_most count more at next (Some e) is h later = (let same : more ≡ count + 1 = is in omega arith)
+pub listed_end : (whole : Result (List Entry) InfoFault) (abbrevs strs info : List ℕ) (table unit : ℕ) (functions : List (AddressRange ℕ)) (level at : ℕ) → length info ≤ at
+    → Listed whole abbrevs strs info table unit functions level at → functions_read unit whole ≡ Ok functions
+listed_end whole abbrevs strs info table unit functions level at h c =
+    ap (functions_read unit) (reading_end whole abbrevs strs info table unit c.entries level at h c.reading) ∙ ap (λ (fs : List (AddressRange ℕ)). Ok fs) (sym c.functions)
 
-pub counted_end : (whole : Result (List Entry) InfoFault) (abbrevs strs info : List ℕ) (table unit number : ℕ) (functions : List (AddressRange Function)) (count level at : ℕ) → length info ≤ at
-    → Counted whole abbrevs strs info table unit number functions count level at → functions_read number whole ≡ Ok functions
-counted_end whole abbrevs strs info table unit number functions count level at h c =
-    ap (functions_read number) (reading_end whole abbrevs strs info table unit c.entries level at h c.reading)
-    ∙ ap (λ (fs : List (AddressRange Function)). Ok fs) (sym c.functions)
+-- the place of an entry has 32 bits
+pub is_short : (entry : Option Entry) (unit at : ℕ) → IfSome entry (λ e. e.offset ≡ at - unit) → unit ≤ at → at < 2 ^ 32 → IfSome entry (λ e. unit + e.offset < 2 ^ 32)
+is_short None unit at is h k = tt
+is_short (Some e) unit at is h k = (let place : unit + e.offset ≡ at = omega arith in omega arith)
 
 -- what is kept of a unit that was read
-pub given_functions : (number at : ℕ) (read : Result (List Entry) InfoFault) (functions : List (AddressRange Function)) → functions_read number read ≡ Ok functions
-    → ◌≡◌ {A = Contents (AddressRange Function)} (record { items = functions; faults = [] }) (record { items = functions_in number 0 (entries_or_none read); faults = faults_at at read })
-given_functions number at (Ok es) functions h = (let same : functions_in number 0 es ≡ functions = cc in rw same refl)
-given_functions number at (Err e) functions h = absurd (cc)
+pub given_functions : (at : ℕ) (read : Result (List Entry) InfoFault) (functions : List (AddressRange ℕ)) → functions_read at read ≡ Ok functions
+    → ◌≡◌ {A = List (AddressRange ℕ) × List UnitFault} (functions, []) (functions_in at (entries_or_none read), faults_at at read)
+given_functions at (Ok es) functions h = (let same : functions_in at es ≡ functions = cc in rw same refl)
+given_functions at (Err e) functions h = absurd (cc)
 
-pub given_fault : (number at : ℕ) (read : Result (List Entry) InfoFault) (e : InfoFault) → functions_read number read ≡ Err e
-    → ◌≡◌ {A = Contents (AddressRange Function)} (record { items = []; faults = fault_at at e ∷ [] }) (record { items = functions_in number 0 (entries_or_none read); faults = faults_at at read })
-given_fault number at (Ok es) e h = absurd (cc)
-given_fault number at (Err f) e h = (let same : f ≡ e = cc in rw same refl)
+pub given_fault : (at : ℕ) (read : Result (List Entry) InfoFault) (e : InfoFault) → functions_read at read ≡ Err e
+    → ◌≡◌ {A = List (AddressRange ℕ) × List UnitFault} ([], fault_at at e ∷ []) (functions_in at (entries_or_none read), faults_at at read)
+given_fault at (Ok es) e h = absurd (cc)
+given_fault at (Err f) e h = (let same : f ≡ e = cc in rw same refl)

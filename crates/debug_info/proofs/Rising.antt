@@ -1,12 +1,13 @@
 -- Marks whose offsets rise.
-use Rattle.std.proofs.Common.{◌≡◌, ◌<◌, ◌≤◌, ◌+◌, ◌++◌, ℕ, zero, suc, true, false, List, [], ◌∷◌, length, map, Option, None, Some, refl, arith, sym, subst, append-nil}
-use Rattle.std.specs.Prelude.{◌==◌, nat_le, find, slice_index_or, IfSome}
-use Rattle.std.proofs.lemmas.Bool.{leb-false, leb-true}
+use Rattle.std.proofs.Common.{◌≡◌, ◌<◌, ◌≤◌, ◌+◌, ◌++◌, ℕ, zero, suc, true, false, List, [], ◌∷◌, length, map, drop, get_or, Option, None, Some, refl, arith, sym, subst, append-nil}
+use Rattle.std.specs.Prelude.{◌==◌, nat_lt, find, slice_index_or, IfSome}
+use Rattle.std.specs.List.Sorted.{IsNonDecreasingBy}
 use Rattle.std.proofs.lemmas.Bool.Decides.{nat_tests}
 use Rattle.std.proofs.lemmas.List.{get_or_default}
 use Rattle.debug_info.specs.Entries.{entry_list}
 use Rattle.debug_info.specs.Marks.{mark_of}
-use Rattle.debug_info.specs.Rising.{RisesFrom}
+use Rattle.debug_info.specs.Rising.{IsCount, RisesFrom}
+use Rattle.debug_info.specs.Scope.{from_offset}
 use Rattle.debug_info.specs.declared.entry.Entry.{Entry}
 use Rattle.debug_info.specs.declared.mark.Mark.{Mark}
 
@@ -39,41 +40,18 @@ rises_all start [] k d h q = absurd (omega arith)
 rises_all start (e ∷ es) zero d h q = h.0
 rises_all start (e ∷ es) (suc k) d h q = let rest = rises_all (e.offset + 1) es k d h.1 (omega arith) in let first = h.0 in omega arith
 
-rises_order : (start : ℕ) (es : List Mark) (i j : ℕ) (d : Mark) → RisesFrom start es → i ≤ j → j < length es → (slice_index_or es i d).offset ≤ (slice_index_or es j d).offset
-rises_order start [] i j d h p q = absurd (omega arith)
-rises_order start (e ∷ es) zero zero d h p q = omega arith
-rises_order start (e ∷ es) zero (suc j) d h p q = let rest = rises_all (e.offset + 1) es j d h.1 (omega arith) in omega arith
-rises_order start (e ∷ es) (suc i) zero d h p q = absurd (omega arith)
-rises_order start (e ∷ es) (suc i) (suc j) d h p q = rises_order (e.offset + 1) es i j d h.1 (omega arith) (omega arith)
+pub rises_order : (start : ℕ) (es : List Mark) → RisesFrom start es → IsNonDecreasingBy (λ m. m.offset) es
+rises_order start [] h i j d p q = absurd (omega arith)
+rises_order start (e ∷ es) h zero zero d p q = omega arith
+rises_order start (e ∷ es) h zero (suc j) d p q = let rest = rises_all (e.offset + 1) es j d h.1 (omega arith) in omega arith
+rises_order start (e ∷ es) h (suc i) zero d p q = absurd (omega arith)
+rises_order start (e ∷ es) h (suc i) (suc j) d p q = rises_order (e.offset + 1) es h.1 i j d (omega arith) (omega arith)
 
--- the offsets below a place are below the one that is looked for, and those from another place on aren't
-pub record IsBetween (es : List Mark) (offset low high : ℕ) : Type 0 where
-  pub ordered : low ≤ high
-  pub inside : high ≤ length es
-  pub below : (k : ℕ) (d : Mark) → k < low → (slice_index_or es k d).offset < offset
-  pub above : (k : ℕ) (d : Mark) → high ≤ k → k < length es → offset ≤ (slice_index_or es k d).offset
+below : (n offset : ℕ) → nat_lt n offset ≡ true → n < offset
+below n offset h = grind (arith, nat_tests)
 
-pub between_begun : (es : List Mark) (offset : ℕ) → IsBetween es offset 0 (length es)
-between_begun es offset = record { ordered = omega arith; inside = omega arith; below = λ k d q. absurd (omega arith); above = λ k d p q. absurd (omega arith) }
-
-pub between_up : (es : List Mark) (offset low high middle : ℕ) (x : Mark) → RisesFrom 0 es → IsBetween es offset low high → low ≤ middle → middle < high
-    → (slice_index_or es middle x).offset < offset → IsBetween es offset (middle + 1) high
-between_up es offset low high middle x r h p q less = record {
-  ordered = omega arith;
-  inside = h.inside;
-  below = λ k d under. (let order = rises_order 0 es k middle d r (omega arith) (let i = h.inside in omega arith) in let here : (slice_index_or es middle d).offset < offset = rw
-      (get_or_default es middle d x (let i = h.inside in omega arith)) less in omega arith);
-  above = h.above;
-}
-
-pub between_down : (es : List Mark) (offset low high middle : ℕ) (x : Mark) → RisesFrom 0 es → IsBetween es offset low high → low ≤ middle → middle < high
-    → offset ≤ (slice_index_or es middle x).offset → IsBetween es offset low middle
-between_down es offset low high middle x r h p q most = record {
-  ordered = p;
-  inside = let i = h.inside in omega arith;
-  below = h.below;
-  above = λ k d from to. (let order = rises_order 0 es middle k d r from to in let here : offset ≤ (slice_index_or es middle d).offset = rw (get_or_default es middle d x (let i = h.inside in omega arith)) most in omega arith);
-}
+above : (n offset : ℕ) → nat_lt n offset ≡ false → offset ≤ n
+above n offset h = grind (arith, nat_tests)
 
 find_at : (es : List Mark) (offset low : ℕ) (x : Mark) → ((k : ℕ) (d : Mark) → k < low → (slice_index_or es k d).offset < offset) → low < length es → (slice_index_or es low x).offset ≡ offset
     → find (λ e. e.offset == offset) es ≡ Some (slice_index_or es low x)
@@ -91,25 +69,34 @@ find_none (e ∷ es) offset h =
     let test : (e.offset == offset) ≡ false = grind (arith, nat_tests) in
     rw test (find_none es offset (λ k d under. h (suc k) d (omega arith)))
 
-pub found_there : (es : List Mark) (offset low high : ℕ) (x : Mark) → IsBetween es offset low high → low < length es → (slice_index_or es low x).offset ≡ offset
-    → Some (slice_index_or es low x) ≡ find (λ e. e.offset == offset) es
-found_there es offset low high x h q is = sym (find_at es offset low x h.below q is)
+pub found_there : (es : List Mark) (offset count : ℕ) (x : Mark) → IsCount es offset count → count < length es → (slice_index_or es count x).offset ≡ offset
+    → Some (slice_index_or es count x) ≡ find (λ e. e.offset == offset) es
+found_there es offset count x h q is = sym (find_at es offset count x (λ k d under. below _ offset (h.0 k d (omega arith) under)) q is)
 
-pub found_nowhere : (es : List Mark) (offset low high : ℕ) (x : Mark) → RisesFrom 0 es → IsBetween es offset low high → high ≤ low → (low < length es → (slice_index_or es low x).offset ≡ offset → ⊥)
+pub found_nowhere : (es : List Mark) (offset count : ℕ) (x : Mark) → RisesFrom 0 es → IsCount es offset count → (count < length es → (slice_index_or es count x).offset ≡ offset → ⊥)
     → None ≡ find (λ e. e.offset == offset) es
-found_nowhere es offset low high x r h met other = sym (find_none es offset (λ k d under is. cases k d under is))
+found_nowhere es offset count x r h other = sym (find_none es offset (λ k d under is. cases k d under is))
   where
-    behind : (k : ℕ) (d : Mark) → low ≤ k → k < length es → (slice_index_or es k d).offset ≡ offset → ⊥
-    behind k d from under is =
-        let o = h.ordered in
-        let order = rises_order 0 es low k d r from under in
-        let least = h.above low d (omega arith) (omega arith) in
-        let here : (slice_index_or es low d).offset ≡ offset = omega arith in
-        other (omega arith) (rw (get_or_default es low x d (omega arith)) here)
-
     cases : (k : ℕ) (d : Mark) → k < length es → (slice_index_or es k d).offset ≡ offset → ⊥
     cases k d under is =
-        elim (nat_le low k) as (λ b. nat_le low k ≡ b → ⊥) [
-          | true ↦ λ e. behind k d (leb-true low k e) under is
-          | false ↦ λ e. (let b = h.below k d (leb-false low k e) in omega arith)
+        elim (nat_lt k count) as (λ b. nat_lt k count ≡ b → ⊥) [
+          | true ↦ λ e. (let less = below _ offset (h.0 k d (omega arith) (below k count e)) in omega arith)
+          | false ↦ λ e. (
+              let from = above k count e in
+              let order = rises_order 0 es r count k d from under in
+              let least = above _ offset (h.1 count d (omega arith) (omega arith)) in
+              let here : (slice_index_or es count d).offset ≡ offset = omega arith in
+              other (omega arith) (rw (get_or_default es count x d (omega arith)) here))
         ] refl
+
+-- the entries behind a count of marks
+counted : (es : List Entry) (offset count : ℕ) → IsCount (map mark_of es) offset count → drop count es ≡ from_offset offset es
+counted [] offset zero h = refl
+counted [] offset (suc n) h = refl
+counted (e ∷ es) offset zero h = (let test : nat_lt e.offset offset ≡ false = h.1 0 (mark_of e) (omega arith) (omega arith) in rw test refl)
+counted (e ∷ es) offset (suc n) h =
+    let test : nat_lt e.offset offset ≡ true = h.0 0 (mark_of e) (omega arith) (omega arith) in
+    rw test (counted es offset n (λ k d q p. h.0 (suc k) d (omega arith) (omega arith), λ k d p q. h.1 (suc k) d (omega arith) (omega arith)))
+
+pub counted_entries : (marks : List Mark) (es : List Entry) (offset count : ℕ) → marks ≡ map mark_of es → IsCount marks offset count → drop count es ≡ from_offset offset es
+counted_entries marks es offset count same h = counted es offset count (subst (λ (ms : List Mark). IsCount ms offset count) same h)

@@ -1,10 +1,11 @@
 -- What the three sections tell of variables (DWARF 4, sections 2 to 5 and 7.5).
-use Rattle.std.specs.Prelude.{ℕ, List}
-use Rattle.debug_info.specs.Contents.{contents_of}
+use Rattle.std.specs.Prelude.{ℕ, ◌-◌, nat_lt, List, [], find, Option, None, Some}
+use Rattle.debug_info.specs.Contents.{all_faults, entries_given, spans_of}
 use Rattle.debug_info.specs.Functions.{function_at}
-use Rattle.debug_info.specs.Scope.{Texts, Variable, variables_by}
+use Rattle.debug_info.specs.Scope.{Texts, Variable, from_offset, variables_in}
 use Rattle.debug_info.specs.declared.entry.Entry.{Entry}
 use Rattle.debug_info.specs.declared.fault.UnitFault.{UnitFault}
+use Rattle.debug_info.specs.declared.header.Span.{Span}
 
 -- the three sections
 pub record Info : Type 0 where
@@ -15,18 +16,28 @@ pub record Info : Type 0 where
 abbrev pub info_of : List ℕ → List ℕ → List ℕ → Info
 info_of abbrevs strs info = record { abbrevs = abbrevs; strs = strs; info = info }
 
--- the entries of each unit
-abbrev pub units_of : Info → List (List Entry)
-units_of i = (contents_of i.abbrevs i.strs i.info).items
-
 -- the first fault of each unit that has one
 abbrev pub faults_of : Info → List UnitFault
-faults_of i = (contents_of i.abbrevs i.strs i.info).faults
+faults_of i = all_faults i.abbrevs i.strs i.info
+
+-- the entries of a unit
+abbrev pub entries_of : Info → Span → List Entry
+entries_of i span = entries_given i.abbrevs i.strs i.info span
 
 -- the sections that names stand in
 abbrev pub texts_of : Info → Texts
 texts_of i = record { info = i.info; strs = i.strs }
 
+-- the variables at pc of the function whose entry stands at a place of a unit
+abbrev pub variables_at : Info → ℕ → ℕ → Option Span → List Variable
+variables_at i pc place None = []
+variables_at i pc place (Some unit) = variables_in (texts_of i) pc (entries_of i unit) (from_offset (place - unit.at) (entries_of i unit))
+
+-- of the first unit that ends behind its place
+abbrev pub variables_by : Info → ℕ → Option ℕ → List Variable
+variables_by i pc None = []
+variables_by i pc (Some place) = variables_at i pc place (find (λ s. nat_lt place s.end) (spans_of i.info).0)
+
 -- the variables at pc: those of the first function that covers it and of its blocks, deeper blocks first, and the unit's
 abbrev pub scope : Info → ℕ → List Variable
-scope i pc = variables_by (texts_of i) (units_of i) pc (function_at (units_of i) pc)
+scope i pc = variables_by i pc (function_at i.abbrevs i.strs i.info pc)

@@ -13,7 +13,6 @@ pub mod Units
 pub mod Order
 pub mod Contents
 pub mod Functions
-pub mod Spans
 pub mod Scope
 pub mod Shown
 pub mod Info

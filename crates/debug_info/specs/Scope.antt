@@ -1,5 +1,5 @@
 -- The variables that can be seen at an address (DWARF 4, sections 2.3, 3.3 to 3.5, 4.1 and 5.1 to 5.3).
-use Rattle.std.specs.Prelude.{ℕ, zero, suc, ◌==◌, nat_le, nat_lt, ◌&&◌, ◌||◌, Bool, true, false, not, List, [], ◌∷◌, ◌++◌, map, filter, drop, find, slice_get, unwrap_or, Option, None, Some, take_while, is_some, if◌then◌else◌}
+use Rattle.std.specs.Prelude.{ℕ, zero, suc, ◌==◌, nat_le, nat_lt, ◌&&◌, ◌||◌, Bool, true, false, not, List, [], ◌∷◌, ◌++◌, map, filter, drop, find, Option, None, Some, take_while, is_some, if◌then◌else◌}
 use Rattle.leb_read.specs.Leb.{is_text_byte}
 use Rattle.debug_info.specs.declared.entry.Entry.{Entry}
 use Rattle.debug_info.specs.declared.entry.Kind.{Kind}
@@ -13,7 +13,6 @@ use Rattle.debug_info.specs.declared.expression.Place.{Place}
 use Rattle.debug_info.specs.declared.expression.Place.TheVariants as place
 use Rattle.debug_info.specs.declared.form.TextPlace.{TextPlace}
 use Rattle.debug_info.specs.declared.form.TextPlace.TheVariants as text
-use Rattle.debug_info.specs.declared.functions.Function.{Function}
 
 -- a variable, its name as bytes
 pub record Variable : Type 0 where
@@ -141,7 +140,7 @@ variables_in texts pc entries (f ∷ behind) =
     map (variable_of texts entries f.base true) (by_depth 64 (own_entries pc f.level behind))
     ++ map (variable_of texts entries f.base false) (filter is_unit_variable entries)
 
-abbrev pub variables_by : Texts → List (List Entry) → ℕ → Option Function → List Variable
-variables_by texts units pc None = []
-variables_by texts units pc (Some f) =
-    variables_in texts pc (unwrap_or (slice_get units f.unit) []) (drop f.entry (unwrap_or (slice_get units f.unit) []))
+-- the entries from an offset on
+abbrev pub from_offset : ℕ → List Entry → List Entry
+from_offset offset [] = []
+from_offset offset (e ∷ es) = if nat_lt e.offset offset then from_offset offset es else e ∷ es

@@ -1,14 +1,16 @@
 -- How the code keeps variables, texts and where it stands. This project's own.
 use Rattle.std.specs.Prelude.{ℕ, Bool, false, nat_lt, List, map, Option, None, Some, if◌then◌else◌}
 use Rattle.address_tables.specs.declared.entry.AddressRange.{AddressRange}
-use Rattle.debug_info.specs.Contents.{Contents}
+use Rattle.debug_info.specs.Contents.{fault_list, faults_given}
+use Rattle.debug_info.specs.Functions.{functions_given}
 use Rattle.debug_info.specs.Scope as scope
 use Rattle.debug_info.specs.TextLengths.{AreLengths}
 use Rattle.debug_info.specs.declared.entry.Entry.{Entry}
-use Rattle.debug_info.specs.declared.functions.Function.{Function}
+use Rattle.debug_info.specs.declared.fault.UnitFault.{UnitFault}
+use Rattle.debug_info.specs.declared.header.Span.{Span}
 use Rattle.debug_info.specs.declared.scope.Texts.{Texts}
 use Rattle.debug_info.specs.declared.scope.Var.{Var}
-use Rattle.debug_info.specs.declared.unit.Found.{Found}
+use Rattle.debug_info.specs.declared.unit.Reading.{Reading}
 
 -- the lengths of shared texts are theirs
 abbrev pub AreTexts : Texts → Type 0
@@ -23,9 +25,12 @@ shown_variable v = record { name = v.name.now; kind = v.kind; place = v.place; b
 abbrev pub shown_variables : List Var → List scope.Variable
 shown_variables vs = map shown_variable vs
 
--- the functions and the faults of units
-abbrev pub functions_shown : Found → Contents (AddressRange Function)
-functions_shown f = record { items = f.functions.items; faults = f.faults.items }
+-- the functions and the fault of a unit
+abbrev pub reading_shown : Reading → List (AddressRange ℕ) × List UnitFault
+reading_shown r = (r.functions.items, fault_list r.fault)
+
+abbrev pub given : List ℕ → List ℕ → List ℕ → Span → List (AddressRange ℕ) × List UnitFault
+given abbrevs strs info span = (functions_given abbrevs strs info span, faults_given abbrevs strs info span)
 
 -- what the code keeps of the entries before: the level of one that isn't entered and that an entry may stand in
 abbrev pub is_below : Option ℕ → ℕ → Bool

@@ -1,6 +1,6 @@
 //! The functions of a section and their addresses (DWARF 4, sections 2.17.2 and 3.3).
 
-ghost use Rattle.std.specs.Prelude.{◌≡◌, ◌<◌, ◌≤◌, ◌+◌, ◌^◌, ◌++◌, OnOk, length};
+ghost use Rattle.std.specs.Prelude.{◌≡◌, ◌<◌, ◌≤◌, ◌+◌, ◌^◌, ◌++◌, IfSome, OnOk, length};
 ghost use Rattle.debug_info.specs.Entries.{Gives, entries_from, entry_list};
 ghost use Rattle.debug_info.specs.Functions.{functions_in, functions_read};
 ghost use Rattle.debug_info.specs.Sources.{IsSource};
@@ -14,23 +14,14 @@ use address_tables::AddressRange;
 use dbg_traits::NoMemory;
 use std::alloc::Global;
 
-/// Where a function stands.
-#[derive(Clone, Copy)]
-pub struct Function {
-    /// The number of its unit.
-    pub unit: usize,
-    /// The number of its entry in the unit.
-    pub entry: usize,
-}
-
-// Adds the function that the entry with a number is, if there is one.
+// Adds the function that an entry of the unit at a place is, if there is one.
 fn push_function(
-    functions: &mut Vec<AddressRange<Function>>,
+    functions: &mut Vec<AddressRange<u32>>,
     unit: usize,
-    number: usize,
     entry: &Option<Entry>,
 ) -> Result<(), NoMemory>
-    ensures { OnOk result (functions.new.items ≡ functions.old.items ++ functions_in unit number (entry_list entry.now)) }
+    requires { IfSome entry.now (λ e. unit + e.offset < 2 ^ 32) }
+    ensures { OnOk result (functions.new.items ≡ functions.old.items ++ functions_in unit (entry_list entry.now)) }
 {
     if let Some(entry) = entry {
         if entry.tag == Tag::Subprogram {
@@ -38,10 +29,7 @@ fn push_function(
                 functions.push(AddressRange {
                     begin: u64::from(range.low),
                     end: range.end,
-                    value: Function {
-                        unit,
-                        entry: number,
-                    },
+                    value: unit as u32 + entry.offset,
                 })?;
             }
         }
@@ -49,42 +37,28 @@ fn push_function(
     Ok(())
 }
 
-// How many entries there are with one that may have come.
-fn counted(count: usize, entry: &Option<Entry>) -> usize
-    requires { count < 2 ^ 32 }
-    ensures { result ≡ count + length (entry_list entry.now) }
-{
-    match entry {
-        Some(_) => count + 1,
-        None => count,
-    }
-}
-
-/// The functions of the unit at a place with a number, whose bytes end with the section's, by its entries from another
-/// place on. Of these none is kept.
+/// The functions of the unit at a place, whose bytes end with the section's, by its entries from another place on. Of these
+/// none is kept.
 pub fn functions_at(
     alloc: Global,
     source: &Source<'_>,
     table: &Table,
     unit: usize,
-    number: usize,
     at: usize,
-) -> Result<Vec<AddressRange<Function>>, InfoError>
+) -> Result<Vec<AddressRange<u32>>, InfoError>
     requires source { IsSource source.now }
     requires table { IsTable source.now.abbrevs.now table.now }
     requires unit { unit ≤ at }
     requires within { at ≤ length source.now.info.now }
-    ensures { Gives result (functions_read number (entries_from (length source.now.info.now + 1) source.now.abbrevs.now source.now.strs.now source.now.info.now table.now.at unit 0 at)) }
+    ensures { Gives result (functions_read unit (entries_from (length source.now.info.now + 1) source.now.abbrevs.now source.now.strs.now source.now.info.now table.now.at unit 0 at)) }
 {
     let mut functions = Vec::new(alloc);
-    let mut count = 0;
     let mut level = 0;
     let mut place = at;
     'entries: while place < source.info.len() {
         let (entry, next) = entry_at(source, table, unit, level, place)?;
-        push_function(&mut functions, number, count, &entry)?;
+        push_function(&mut functions, unit, &entry)?;
         level = level_behind(level, &entry);
-        count = counted(count, &entry);
         place = next;
     }
     functions.shrink_to_fit();

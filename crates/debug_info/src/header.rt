@@ -1,8 +1,7 @@
 //! Where units stand, and their headers (DWARF 4, section 7.5.1.1).
 
-ghost use Rattle.std.specs.Prelude.{◌≡◌, ◌<◌, ◌≤◌, ◌+◌, ◌^◌, ℕ, All, IfOk, List, length, map};
-ghost use Rattle.debug_info.specs.Contents.{contents_of, fault_at, joined};
-ghost use Rattle.debug_info.specs.Spans.{IsSpan, all_joined, ended, given};
+ghost use Rattle.std.specs.Prelude.{◌≡◌, ◌<◌, ◌≤◌, ◌+◌, ◌^◌, All, IfOk, length};
+ghost use Rattle.debug_info.specs.Contents.{IsSpan, fault_at, spans_of};
 ghost use Rattle.debug_info.specs.Units.{header_at, unit_end};
 
 use crate::fault::{InfoFault, UnitFault};
@@ -76,7 +75,7 @@ pub fn fault_at(at: usize, fault: InfoFault) -> UnitFault
 pub fn spans_of(alloc: Global, info: &[u8]) -> Result<Spans, NoMemory>
     requires { length info.now < 2 ^ 32 }
     ensures spans { IfOk result (λ r. All (IsSpan info.now) r.units.items) }
-    ensures value { IfOk result (λ r. (abbrevs strs : List ℕ) → contents_of abbrevs strs info.now ≡ joined (all_joined (map (given abbrevs strs info.now) r.units.items)) (ended r.fault)) }
+    ensures value { IfOk result (λ r. spans_of info.now ≡ (r.units.items, r.fault)) }
 {
     let mut units = Vec::new(alloc);
     let mut at = 0;

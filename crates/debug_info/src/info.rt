@@ -2,13 +2,11 @@
 
 ghost use Rattle.std.specs.Prelude.{◌≡◌, ◌<◌, ◌^◌, All, IfOk, length, map, nat_lt};
 ghost use Rattle.address_tables.specs.Tables.{IsTable};
-ghost use Rattle.debug_info.specs.Contents.{contents_of};
 ghost use Rattle.debug_info.specs.Functions.{function_at};
 ghost use Rattle.debug_info.specs.Info.{faults_of, info_of, scope};
 ghost use Rattle.debug_info.specs.Shown.{shown_variables};
 
 use crate::fault::UnitFault;
-use crate::functions::Function;
 use crate::header::Span;
 use crate::index::{Index, index_of};
 use crate::offset::{Sections, Source};
@@ -32,8 +30,8 @@ pub struct Info {
     /// Where the units stand.
     units: Vec<Span>,
     faults: Vec<UnitFault>,
-    /// The function of each address, in the order of the addresses at which it changes.
-    functions: Vec<address_tables::Entry<Function>>,
+    /// Where the entry of the function of each address stands, in the order of the addresses at which it changes.
+    functions: Vec<address_tables::Entry<u32>>,
 }
 
 impl Model for Info {
@@ -81,7 +79,7 @@ pub fn read_info(alloc: Global, sections: &Sections<'_>) -> Result<Info, NoMemor
         lengths: &lengths,
     };
     let contents = contents_of(alloc, &source)?;
-    let functions = table_of(alloc, &contents.found.functions)?;
+    let functions = table_of(alloc, &contents.functions)?;
     Ok(Info {
         abbrevs: Vec::from_slice(alloc, abbrevs)?,
         strs: Vec::from_slice(alloc, strs)?,
@@ -89,7 +87,7 @@ pub fn read_info(alloc: Global, sections: &Sections<'_>) -> Result<Info, NoMemor
         lengths,
         index,
         units: contents.units,
-        faults: contents.found.faults,
+        faults: contents.faults,
         functions,
     })
 }
@@ -107,7 +105,7 @@ impl Info {
     pub fn variables_at(&self, alloc: Global, pc: u32) -> Result<Vec<Var<'_>>, NoMemory>
         ensures { IfOk result (λ variables. shown_variables variables.items ≡ scope self.now pc) }
     {
-        let Some(function) = value_at(&self.functions, u64::from(pc)) else {
+        let Some(place) = value_at(&self.functions, u64::from(pc)) else {
             return Ok(Vec::new(alloc));
         };
         let source = Source {
@@ -122,6 +120,6 @@ impl Info {
             strs: &self.strs,
             lengths: &self.lengths,
         };
-        variables_at(alloc, &source, &texts, &self.units, function, pc)
+        variables_at(alloc, &source, &texts, &self.units, place, pc)
     }
 }

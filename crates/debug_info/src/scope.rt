@@ -4,8 +4,8 @@ ghost use Rattle.std.specs.Prelude.{◌≡◌, ◌<◌, ◌+◌, ◌==◌, ◌++
 ghost use Rattle.leb_read.specs.Leb.{is_text_byte};
 ghost use Rattle.debug_info.specs.Entries.{entry_list};
 ghost use Rattle.debug_info.specs.Marks.{IsMarkSplit, IsUnit, all_reread, entries_in, is_entered_mark, is_outer, is_own_mark, mark_of, reread_in};
-ghost use Rattle.debug_info.specs.Rising.{RisesFrom};
-ghost use Rattle.debug_info.specs.Scope.{is_fixed, is_modifier, is_within, kind_of, name_of, own_entries, own_kind, place_in, text_from, type_entry, variable_of, variables_in};
+ghost use Rattle.debug_info.specs.Rising.{IsCount, RisesFrom};
+ghost use Rattle.debug_info.specs.Scope.{from_offset, is_fixed, is_modifier, is_within, kind_of, name_of, own_entries, own_kind, place_in, text_from, type_entry, variable_of, variables_in};
 ghost use Rattle.debug_info.specs.Shown.{AreTexts, is_below, seen_texts, shown_variable, shown_variables};
 
 use crate::entry::{Entry, Kind, LEVELS, Range, Tag};
@@ -70,23 +70,22 @@ fn name_of<'a>(texts: &Texts<'a>, place: Option<TextPlace>) -> &'a [u8]
     }
 }
 
+// How many marks stand before an offset.
+fn count_before(marks: &[Mark], offset: u32) -> usize
+    requires { RisesFrom 0 marks.now }
+    ensures { IsCount marks.now offset result }
+{
+    marks.partition_point(|mark| mark.offset < offset)
+}
+
 // The mark with an offset.
 fn mark_with(marks: &[Mark], offset: u32) -> Option<Mark>
     requires { RisesFrom 0 marks.now }
     ensures { result ≡ find (λ m. m.offset == offset) marks.now }
 {
-    let mut low = 0;
-    let mut high = marks.len();
-    while low < high {
-        let middle = low + (high - low) / 2;
-        if marks[middle].offset < offset {
-            low = middle + 1;
-        } else {
-            high = middle;
-        }
-    }
-    if low < marks.len() && marks[low].offset == offset {
-        Some(marks[low])
+    let count = count_before(marks, offset);
+    if count < marks.len() && marks[count].offset == offset {
+        Some(marks[count])
     } else {
         None
     }
@@ -371,18 +370,19 @@ fn variables_of<'a>(
     Ok(variables)
 }
 
-/// The variables at pc by the unit's entries, of which the function's has a number.
+/// The variables at pc by the unit's entries, of which the function's stands at an offset.
 pub fn variables_in<'a>(
     alloc: Global,
     texts: &Texts<'a>,
     unit: &Unit<'_>,
     pc: u32,
-    number: usize,
+    offset: u32,
 ) -> Result<Vec<Var<'a>>, NoMemory>
     requires texts { AreTexts texts.now }
     requires unit { IsUnit unit.now }
-    ensures { IfOk result (λ v. shown_variables v.items ≡ variables_in (seen_texts texts.now) pc (entries_in unit.now) (drop number (entries_in unit.now))) }
+    ensures { IfOk result (λ v. shown_variables v.items ≡ variables_in (seen_texts texts.now) pc (entries_in unit.now) (from_offset offset (entries_in unit.now))) }
 {
+    let number = count_before(unit.marks, offset);
     let Some((mark, behind)) = split(unit.marks, number) else {
         return Ok(Vec::new(alloc));
     };

@@ -1,16 +1,15 @@
 use Rattle.std.proofs.Common.{length, ◌-◌, ◌≤◌, ◌+◌}
 use Rattle.debug_info.specs.Entries.{entries_from}
-use Rattle.debug_info.proofs.Listed.{Counted}
+use Rattle.debug_info.proofs.Listed.{Listed}
 use Rattle.debug_info.proofs.functions.functions_at.Given as goal
 
 abbrev pub invariant-entries : goal.invariant-entries
 invariant-entries l =
     record {
-      read : Counted (entries_from (length l.source.info.now + 1) l.source.abbrevs.now l.source.strs.now l.source.info.now l.table.at l.unit 0 l.at) l.source.abbrevs.now l.source.strs.now
-          l.source.info.now l.table.at l.unit l.number l.functions.items l.count l.level l.place;
+      read : Listed (entries_from (length l.source.info.now + 1) l.source.abbrevs.now l.source.strs.now l.source.info.now l.table.at l.unit 0 l.at) l.source.abbrevs.now l.source.strs.now
+          l.source.info.now l.table.at l.unit l.functions.items l.level l.place;
       level : l.level ≤ 64;
       unit : l.unit ≤ l.place;
-      count : l.count ≤ l.place;
     }
 
 abbrev pub decreases-entries : goal.decreases-entries

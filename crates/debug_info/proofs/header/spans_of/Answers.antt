@@ -1,8 +1,8 @@
 use Rattle.std.proofs.Common.{◌<◌, arith, rules, sym}
 use Rattle.std.proofs.lemmas.List.Elements.{All-push, All-same}
-use Rattle.debug_info.specs.Spans.{IsSpan}
+use Rattle.debug_info.specs.Contents.{IsSpan}
 use Rattle.debug_info.specs.declared.header.Span.{Span}
-use Rattle.debug_info.proofs.Joined.{spanned_end, spanned_fault, spanned_next, spanned_start}
+use Rattle.debug_info.proofs.Spanned.{spanned_end, spanned_fault, spanned_next, spanned_start}
 use Rattle.debug_info.proofs.header.spans_of.Goals as goal
 
 pub units-init : goal.units-init
@@ -20,7 +20,7 @@ units-preserved c =
     let push = c.in_ok-push-in-Ok.ensures.items in
     record {
       spans = All-same (IsSpan info) _ _ push (All-push (IsSpan info) c.units.units.items span c.units.invariant.spans (record { header = behind; within = c.in-Ok.ensures.within }));
-      read = spanned_next info c.units.units.items _ span push c.units-test.true further (sym c.in-Ok.ensures.value) c.units.invariant.read;
+      read = spanned_next info c.units.units.items _ c.units.at c.in-Ok.end push c.units-test.true further (sym c.in-Ok.ensures.value) c.units.invariant.read;
     }
 
 pub returns-in-Err : goal.returns-in-Err

@@ -1,8 +1,8 @@
 -- The units so far, and those from here on.
 use Rattle.std.proofs.Common.{◌-◌, length}
 use Rattle.std.specs.Prelude.{All}
-use Rattle.debug_info.specs.Spans.{IsSpan}
-use Rattle.debug_info.proofs.Joined.{Spanned}
+use Rattle.debug_info.specs.Contents.{IsSpan}
+use Rattle.debug_info.proofs.Spanned.{Spanned}
 use Rattle.debug_info.proofs.header.spans_of.Given as goal
 
 abbrev pub invariant-units : goal.invariant-units

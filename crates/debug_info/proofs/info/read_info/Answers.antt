@@ -1,7 +1,6 @@
-use Rattle.std.proofs.Common.{◌<◌, ◌^◌, List, length, rules, subst, ◌∙◌}
+use Rattle.std.proofs.Common.{ℕ, ◌<◌, ◌^◌, List, length, rules, subst, ◌∙◌}
 use Rattle.address_tables.specs.Tables.{IsTable, value_among}
 use Rattle.address_tables.specs.declared.entry.AddressRange.{AddressRange}
-use Rattle.debug_info.specs.declared.functions.Function.{Function}
 use Rattle.debug_info.proofs.info.read_info.Goals as goal
 
 pub invariant_of-result : goal.invariant_of-result
@@ -15,7 +14,7 @@ invariant_of-result c =
       index = rw abbrevs c.in_ok-index.ensures;
       short = rw info (let h : length c.args.sections.now.info.now < 2 ^ 32 = search rules in h);
       spans = rw info contents.spans;
-      units = rw (abbrevs, strs, info) contents.units;
+      units = rw info contents.units;
       faults = rw (abbrevs, strs, info) contents.faults;
-      functions = rw (abbrevs, strs, info) (subst (λ (fs : List (AddressRange Function)). IsTable c.in_ok-functions.functions.items (value_among fs)) (c.deref.ensures.value ∙ contents.functions) c.in_ok-functions.ensures);
+      functions = rw (abbrevs, strs, info) (subst (λ (fs : List (AddressRange ℕ)). IsTable c.in_ok-functions.functions.items (value_among fs)) (c.deref.ensures.value ∙ contents.functions) c.in_ok-functions.ensures);
     }

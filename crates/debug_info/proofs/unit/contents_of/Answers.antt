@@ -1,14 +1,27 @@
-use Rattle.debug_info.proofs.Joined.{faults_are, functions_are}
+use Rattle.std.proofs.Common.{◌≡◌, ◌++◌, List, map, sym, ◌∙◌, ap, subst}
+use Rattle.std.specs.List.{flat_map}
+use Rattle.std.proofs.lemmas.List.{take_all}
+use Rattle.debug_info.specs.Contents.{fault_list, faults_given, spans_of}
+use Rattle.debug_info.specs.Shown.{given, reading_shown}
+use Rattle.debug_info.specs.declared.unit.Reading.{Reading}
+use Rattle.debug_info.proofs.Orderly.{faults_are, functions_are}
 use Rattle.debug_info.proofs.unit.contents_of.Goals as goal
 
 pub returns-clause-functions : goal.returns-clause-functions
 returns-clause-functions c =
     let s = c.args.source.now in
-    functions_are s.abbrevs.now s.strs.now s.info.now _ c.deref.result.now _ _ c.in_ok-found.found (c.in_ok-units.ensures.value s.abbrevs.now s.strs.now)
-    c.in_ok-found.ensures c.deref.ensures.value
+    let all = take_all c.loop-reading.reading-index c.deref-reading-items.result.now c.loop-reading-test.false in
+    c.loop-reading.invariant.functions
+    ∙ ap (flat_map (λ (r : Reading). r.functions.items)) (all ∙ c.deref-reading-items.ensures.value)
+    ∙ functions_are s.abbrevs.now s.strs.now s.info.now c.deref.result.now _ c.in_ok-readings.readings.items c.in_ok-readings.ensures (c.deref.ensures.value ∙ sym (ap (λ p. p.0) c.in_ok-units.ensures.value))
 
 pub returns-clause-faults : goal.returns-clause-faults
 returns-clause-faults c =
     let s = c.args.source.now in
-    faults_are s.abbrevs.now s.strs.now s.info.now _ c.deref.result.now _ _ c.in_ok-found.found (c.in_ok-units.ensures.value s.abbrevs.now s.strs.now)
-    c.in_ok-found.ensures c.deref.ensures.value
+    let all = take_all c.loop-reading.reading-index c.deref-reading-items.result.now c.loop-reading-test.false in
+    c.in_ok-push_fault-2.ensures
+    ∙ ap (λ fs. fs ++ fault_list c.in_ok-units.field-0.fault) (
+    c.loop-reading.invariant.faults
+    ∙ ap (flat_map (λ (r : Reading). fault_list r.fault)) (all ∙ c.deref-reading-items.ensures.value)
+    ∙ faults_are s.abbrevs.now s.strs.now s.info.now c.deref.result.now _ c.in_ok-readings.readings.items c.in_ok-readings.ensures (c.deref.ensures.value ∙ sym (ap (λ p. p.0) c.in_ok-units.ensures.value)))
+    ∙ ap (λ o. flat_map (faults_given s.abbrevs.now s.strs.now s.info.now) (spans_of s.info.now).0 ++ fault_list o) (sym (ap (λ p. p.1) c.in_ok-units.ensures.value))

@@ -1,10 +1,10 @@
-use Rattle.std.proofs.Common.{◌<◌, List, length, get_or, subst, refl, sym, ◌∙◌, ap}
-use Rattle.std.proofs.lemmas.List.{length-set, take_all}
+use Rattle.std.proofs.Common.{◌<◌, List, length, get_or, ◌≡◌, subst, refl, sym, ◌∙◌, ap}
+use Rattle.std.proofs.lemmas.List.{get_or_default, length-set, take_all}
 use Rattle.debug_info.specs.Order.{AreTurns}
-use Rattle.debug_info.specs.Spans.{functions_given}
+use Rattle.debug_info.specs.Shown.{given, reading_shown}
 use Rattle.debug_info.specs.declared.header.Span.{Span}
 use Rattle.debug_info.specs.declared.order.Turn.{Turn}
-use Rattle.debug_info.proofs.Orderly.{AreRead, IsReading, any_default, read_more, read_shown}
+use Rattle.debug_info.proofs.Orderly.{AreRead, read_more, read_shown}
 use Rattle.debug_info.proofs.unit.readings_of.Goals as goal
 
 pub loop-turn-preserved : goal.loop-turn-preserved
@@ -21,12 +21,12 @@ loop-turn-preserved c =
     let numbers : AreTurns (length spans) turns = subst (AreTurns (length spans)) (sym c.deref-turn-items.ensures.value) c.in_ok-turns.ensures in
     let within : turn.number < length spans = numbers.within i first h in
     let none : Span = record { at = 0; end = 0 } in
-    let one : (s : Span) → IsReading source.abbrevs.now source.strs.now source.info.now turn.number (get_or spans turn.number s) new = λ s.
-    (read.value ∙ ap (functions_given source.abbrevs.now source.strs.now source.info.now turn.number) (any_default spans turn.number none s within)) in
+    let one : (s : Span) → reading_shown new ≡ given source.abbrevs.now source.strs.now source.info.now (get_or spans turn.number s) = λ s.
+    (read.value ∙ ap (given source.abbrevs.now source.strs.now source.info.now) (get_or_default spans turn.number none s within)) in
     record {
       table = read.table;
       count = length-set c.loop-turn.readings.items turn.number new ∙ c.loop-turn.invariant.count;
-      read = read_more source.abbrevs.now source.strs.now source.info.now spans turns c.loop-turn.readings.items _ i turn new h (any_default turns i first turn h) within c.loop-turn.invariant.count refl one c.loop-turn.invariant.read;
+      read = read_more source.abbrevs.now source.strs.now source.info.now spans turns c.loop-turn.readings.items _ i turn new h (get_or_default turns i first turn h) within c.loop-turn.invariant.count refl one c.loop-turn.invariant.read;
     }
 
 pub returns : goal.returns

@@ -1,0 +1,11 @@
+use Rattle.std.proofs.Common.{◌≡◌, take}
+use Rattle.std.specs.List.{flat_map}
+use Rattle.debug_info.specs.Contents.{fault_list}
+use Rattle.debug_info.proofs.unit.contents_of.Given as goal
+
+abbrev pub invariant-loop-reading : goal.invariant-loop-reading
+invariant-loop-reading l =
+    record {
+      functions : l.functions.items ≡ flat_map (λ r. r.functions.items) (take l.reading-index l.reading-items);
+      faults : l.faults.items ≡ flat_map (λ r. fault_list r.fault) (take l.reading-index l.reading-items);
+    }
