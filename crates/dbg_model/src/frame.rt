@@ -1,8 +1,5 @@
 // Frames as they are shown.
-ghost use Rattle.std.specs.Prelude.{◌≡◌};
-
-use mi_commands::ByteList;
-use std::marker::Model;
+use mi_commands::{ByteList, ItemList};
 
 /// A line of a source file.
 #[derive(Drop)]
@@ -24,32 +21,4 @@ pub struct ShownFrame {
 }
 
 /// Frames that contracts see as a list, the innermost first.
-#[derive(Drop)]
-pub struct FrameList {
-    frames: Vec<ShownFrame>,
-}
-
-impl Model for FrameList {
-    ghost use Rattle.std.specs.Prelude.{List};
-    ghost use Rattle.dbg_model.specs.declared.frame.ShownFrame.{ShownFrame};
-
-    ghost Value = { List ShownFrame };
-
-    ghost view = { λ l. l.frames.items };
-}
-
-impl FrameList {
-    /// The frames of a vector, which keeps its memory.
-    pub fn of(frames: Vec<ShownFrame>) -> FrameList
-        ensures { result ≡ frames.items }
-    {
-        FrameList { frames }
-    }
-
-    /// The frames in order.
-    pub fn as_slice(&self) -> &[ShownFrame]
-        ensures { result.now ≡ self.now }
-    {
-        self.frames.as_slice()
-    }
-}
+pub type FrameList = ItemList<ShownFrame>;

@@ -4,9 +4,8 @@ ghost use Rattle.dbg_model.specs.Refusals.{kind_number, number, obstacle_number,
 
 use crate::{Breakpoint, FrameList, RowList, ShownFrame, VariableList};
 use cond_expr::{ExprFault, FaultKind};
-use mi_commands::{ByteList, Displaced, Fault, Format, NumberList};
+use mi_commands::{ByteList, Displaced, Fault, Format, ItemList, NumberList};
 use mi_text::Token;
-use std::marker::Model;
 
 /// What a command finds that stands against it. Threads are counted from 1.
 #[derive(Clone, Copy)]
@@ -128,35 +127,7 @@ pub struct Register {
 }
 
 /// Registers that contracts see as a list.
-#[derive(Drop)]
-pub struct RegisterList {
-    registers: Vec<Register>,
-}
-
-impl Model for RegisterList {
-    ghost use Rattle.std.specs.Prelude.{List};
-    ghost use Rattle.dbg_model.specs.declared.reply.Register.{Register};
-
-    ghost Value = { List Register };
-
-    ghost view = { λ l. l.registers.items };
-}
-
-impl RegisterList {
-    /// The registers of a vector, which keeps its memory.
-    pub fn of(registers: Vec<Register>) -> RegisterList
-        ensures { result ≡ registers.items }
-    {
-        RegisterList { registers }
-    }
-
-    /// The registers in order.
-    pub fn as_slice(&self) -> &[Register]
-        ensures { result.now ≡ self.now }
-    {
-        self.registers.as_slice()
-    }
-}
+pub type RegisterList = ItemList<Register>;
 
 /// A live thread, and the frame that it is stopped in; none where it runs.
 #[derive(Drop)]
@@ -166,35 +137,7 @@ pub struct Thread {
 }
 
 /// Threads that contracts see as a list.
-#[derive(Drop)]
-pub struct ThreadList {
-    threads: Vec<Thread>,
-}
-
-impl Model for ThreadList {
-    ghost use Rattle.std.specs.Prelude.{List};
-    ghost use Rattle.dbg_model.specs.declared.reply.Thread.{Thread};
-
-    ghost Value = { List Thread };
-
-    ghost view = { λ l. l.threads.items };
-}
-
-impl ThreadList {
-    /// The threads of a vector, which keeps its memory.
-    pub fn of(threads: Vec<Thread>) -> ThreadList
-        ensures { result ≡ threads.items }
-    {
-        ThreadList { threads }
-    }
-
-    /// The threads in order.
-    pub fn as_slice(&self) -> &[Thread]
-        ensures { result.now ≡ self.now }
-    {
-        self.threads.as_slice()
-    }
-}
+pub type ThreadList = ItemList<Thread>;
 
 /// What is answered to a line, beside its token.
 #[derive(Drop)]

@@ -1,8 +1,5 @@
 // Variables as they are shown.
-ghost use Rattle.std.specs.Prelude.{◌≡◌};
-
-use mi_commands::ByteList;
-use std::marker::Model;
+use mi_commands::{ByteList, ItemList};
 
 /// What is shown as the value of a variable.
 #[derive(Clone, Copy)]
@@ -27,32 +24,4 @@ pub struct ShownVariable {
 }
 
 /// Variables that contracts see as a list.
-#[derive(Drop)]
-pub struct VariableList {
-    variables: Vec<ShownVariable>,
-}
-
-impl Model for VariableList {
-    ghost use Rattle.std.specs.Prelude.{List};
-    ghost use Rattle.dbg_model.specs.declared.variable.ShownVariable.{ShownVariable};
-
-    ghost Value = { List ShownVariable };
-
-    ghost view = { λ l. l.variables.items };
-}
-
-impl VariableList {
-    /// The variables of a vector, which keeps its memory.
-    pub fn of(variables: Vec<ShownVariable>) -> VariableList
-        ensures { result ≡ variables.items }
-    {
-        VariableList { variables }
-    }
-
-    /// The variables in order.
-    pub fn as_slice(&self) -> &[ShownVariable]
-        ensures { result.now ≡ self.now }
-    {
-        self.variables.as_slice()
-    }
-}
+pub type VariableList = ItemList<ShownVariable>;

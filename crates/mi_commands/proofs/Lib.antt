@@ -1,0 +1,2 @@
+-- Texts of different lengths are different.
+pub mod Texts

@@ -1,5 +1,5 @@
--- What can be wrong with a line that has parts.
-use Rattle.std.specs.Prelude.{ℕ, List, [], ◌∷◌, Bool, true, Option, Some, None, is_some, if◌then◌else◌}
+-- What can be wrong with a line that has parts: this project's own.
+use Rattle.std.specs.Prelude.{ℕ, List, [], ◌∷◌, Option, Some, None, if◌then◌else◌}
 use Rattle.std.specs.Option.{option_map}
 use Rattle.mi_input.specs.Parts.{WordView}
 use Rattle.mi_commands.specs.declared.operation.Operation.{Operation}
@@ -11,10 +11,6 @@ use Rattle.mi_commands.specs.declared.refusal.Fault.TheVariants as fault
 use Rattle.mi_commands.specs.Operations.{or_else}
 use Rattle.mi_commands.specs.Words.{options, parameters, value_in, words_fit}
 use Rattle.mi_commands.specs.Numbers.{number, bad_number}
-use Rattle.rv_decode.specs.Registers.{register_number}
-use Rattle.mi_commands.specs.Registers.{assignment}
-use Rattle.mi_commands.specs.Locations.{location_of}
-use Rattle.mi_commands.specs.Settings.{format_of, setting_of, set_command}
 
 -- the number of a fault's error message
 abbrev pub fault_number : Fault → ℕ
@@ -42,28 +38,11 @@ parameters_fault o name ws = if words_fit o ws then None else Some (fault.Parame
 abbrev pub number_fault : Operation → List WordView → Option Fault
 number_fault o ws = option_map fault.Number (bad_number o ws)
 
--- whether the parameters are settings, values, registers and formats that there are
-abbrev pub settings_fit : Operation → List WordView → Bool
-settings_fit op.Set ps = is_some (set_command (first_word ps) (second_word ps))
-settings_fit op.SetRegister ps = is_some (register_number (assignment (first_word ps)).name)
-settings_fit op.Show ps = is_some (setting_of (first_word ps))
-settings_fit op.RegisterValues ps = is_some (format_of (first_word ps))
-settings_fit _ ps = true
+-- The least of the faults that words have before they are read. `name` is their operation.
+abbrev pub words_fault : Operation → List ℕ → List WordView → Option Fault
+words_fault o name ws = or_else (parameters_fault o name ws) (number_fault o ws)
 
-abbrev pub setting_fault : Operation → List WordView → Option Fault
-setting_fault o ws = if settings_fit o (parameters ws) then None else Some fault.Setting
-
--- whether the parameter is a location, where one is wanted
-abbrev pub location_fits : Operation → List WordView → Bool
-location_fits op.BreakInsert ps = is_some (location_of (first_word ps))
-location_fits _ ps = true
-
-abbrev pub location_fault : Operation → List WordView → Option Fault
-location_fault o ws =
-    if location_fits o (parameters ws) then None
-    else Some (fault.Location (first_word (parameters ws)) (number_in option.InThread ws))
-
--- The least of the faults that a line has. `name` is its operation.
-abbrev pub first_fault : Operation → List ℕ → List WordView → Option Fault
-first_fault o name ws =
-    or_else (parameters_fault o name ws) (or_else (number_fault o ws) (or_else (setting_fault o ws) (location_fault o ws)))
+-- what is wrong with words that ask for nothing: no location, or no setting, value, format or register
+abbrev pub misfit : Operation → List WordView → Fault
+misfit op.BreakInsert ws = fault.Location (first_word (parameters ws)) (number_in option.InThread ws)
+misfit _ ws = fault.Setting

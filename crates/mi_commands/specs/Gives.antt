@@ -1,4 +1,4 @@
--- What reading a line gives.
+-- What reading a line gives: this project's own.
 use Rattle.std.specs.Prelude.{◌≡◌, ◌≤◌, ℕ, List, length, Result, Ok, Err}
 use Rattle.mi_input.specs.Parts.{PartsView, HasParts}
 use Rattle.mi_input.specs.Split.{Splits, GivesParts}

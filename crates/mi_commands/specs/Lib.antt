@@ -1,3 +1,4 @@
+-- The definitions of commands: the table of them, their options and parameters, the values of words, faults, and what a line gives.
 pub mod Operations
 pub mod Prints
 pub mod Words

@@ -1,4 +1,4 @@
--- Where a breakpoint is wanted: `*N`, `FILE:LINE` or a name.
+-- Where a breakpoint is wanted: `*N`, `FILE:LINE` or a name (GDB manual, "Linespec Locations"; "Address Locations").
 use Rattle.std.specs.Prelude.{ℕ, ◌+◌, ◌-◌, ◌^◌, List, [], ◌∷◌, take, drop, ◌==◌, Option, Some, None, if◌then◌else◌}
 use Rattle.std.specs.Option.{option_map}
 use Rattle.mi_commands.specs.declared.command.Location.{Location}
@@ -6,7 +6,7 @@ use Rattle.mi_commands.specs.declared.command.Location.TheVariants as location
 use Rattle.mi_commands.specs.declared.location.Place.{Place}
 use Rattle.mi_commands.specs.declared.location.Place.TheVariants as place
 use Rattle.mi_text.specs.Number.{digits_number, number_of}
-use Rattle.mi_commands.specs.Numbers.{between}
+use Rattle.rv_decode.specs.Registers.{between}
 
 -- behind a byte: the place of the last `:`, by that in what follows the byte
 abbrev pub last_colon_behind : ℕ → Option ℕ → Option ℕ

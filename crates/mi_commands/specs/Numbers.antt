@@ -1,6 +1,7 @@
--- Which words are to be numbers, and of which range.
+-- Which words are numbers, and of which range: this project's own.
 use Rattle.std.specs.Prelude.{ℕ, ◌+◌, ◌-◌, ◌^◌, List, [], ◌∷◌, Bool, false, not, ◌==◌, ◌&&◌, nat_le, Option, Some, None, is_none, unwrap_or, if◌then◌else◌}
 use Rattle.std.specs.Option.{option_and_then}
+use Rattle.rv_decode.specs.Registers.{between}
 use Rattle.mi_text.specs.Number.{number_of}
 use Rattle.mi_text.specs.Hexadecimal.{are_bytes}
 use Rattle.mi_input.specs.Parts.{WordView}
@@ -9,12 +10,11 @@ use Rattle.mi_commands.specs.declared.operation.Operation.TheVariants as op
 use Rattle.mi_commands.specs.declared.counts.OptionName.TheVariants as option
 use Rattle.mi_commands.specs.declared.number.Range.{Range}
 use Rattle.mi_commands.specs.declared.number.Range.TheVariants as range
-use Rattle.mi_commands.specs.Operations.{or_else, is_named}
+use Rattle.mi_commands.specs.declared.number.Numbers.{Numbers}
+use Rattle.mi_commands.specs.declared.number.Numbers.TheVariants as numbers
+use Rattle.mi_commands.specs.Operations.{or_else, is_named, row}
 use Rattle.mi_commands.specs.Words.{Given, options, parameters}
 use Rattle.mi_commands.specs.Registers.{assignment}
-
-abbrev pub between : ℕ → ℕ → ℕ → Bool
-between low high n = nat_le low n && nat_le n high
 
 -- the least and the greatest number of a range
 abbrev pub least : Range → ℕ
@@ -50,39 +50,17 @@ abbrev pub first_and_others : Option Range → Option Range → ℕ → Option R
 first_and_others first others k = if k == 0 then first else others
 
 -- which parameters are numbers, by their places from 0; where a register is set, what stands behind the `=` is one
+abbrev pub range_in : Numbers → ℕ → Option Range
+range_in numbers.NoNumbers k = None
+range_in numbers.Each k = Some range.Any
+range_in numbers.First k = first_and_others (Some range.Any) None k
+range_in numbers.WithCount k = first_and_others (Some range.Any) (Some range.Count) k
+range_in numbers.WithLength k = first_and_others (Some range.Any) (Some range.Length) k
+range_in numbers.AroundBytes k = first_and_others (Some range.Any) (Some range.Length) k
+range_in numbers.Registers k = first_and_others None (Some range.Register) k
+
 abbrev pub range_at : Operation → ℕ → Option Range
-range_at op.BreakInsert k = None
-range_at op.BreakDelete k = Some range.Any
-range_at op.BreakEnable k = Some range.Any
-range_at op.BreakDisable k = Some range.Any
-range_at op.BreakCondition k = first_and_others (Some range.Any) None k
-range_at op.BreakAfter k = first_and_others (Some range.Any) (Some range.Count) k
-range_at op.BreakList k = None
-range_at op.BreakWatch k = None
-range_at op.Continue k = None
-range_at op.Interrupt k = None
-range_at op.Step k = None
-range_at op.Next k = None
-range_at op.StepInstruction k = None
-range_at op.NextInstruction k = None
-range_at op.Finish k = None
-range_at op.Wait k = None
-range_at op.ThreadInfo k = Some range.Any
-range_at op.ThreadSelect k = Some range.Any
-range_at op.ThreadList k = None
-range_at op.FrameList k = None
-range_at op.FrameDepth k = None
-range_at op.FrameInfo k = None
-range_at op.VariableList k = None
-range_at op.RegisterNames k = None
-range_at op.RegisterValues k = first_and_others None (Some range.Register) k
-range_at op.ReadMemory k = first_and_others (Some range.Any) (Some range.Length) k
-range_at op.WriteMemory k = first_and_others (Some range.Any) (Some range.Length) k
-range_at op.Evaluate k = None
-range_at op.Set k = None
-range_at op.SetRegister k = Some range.Any
-range_at op.Show k = None
-range_at op.Exit k = None
+range_at o k = range_in (row o).3 k
 
 -- the first value of an option that should be a number and is none
 abbrev pub bad_value : List Given → Option (List ℕ)
@@ -91,9 +69,12 @@ bad_value ((word, None) ∷ given) = bad_value given
 bad_value ((word, Some value) ∷ given) = if is_bad (value_range word) value then Some value else bad_value given
 
 -- which parameter is bytes, each as two hexadecimal digits
+abbrev pub bytes_in : Numbers → ℕ → Bool
+bytes_in numbers.AroundBytes k = k == 1
+bytes_in _ k = false
+
 abbrev pub has_bytes_at : Operation → ℕ → Bool
-has_bytes_at op.WriteMemory k = k == 1
-has_bytes_at _ k = false
+has_bytes_at o k = bytes_in (row o).3 k
 
 -- no number or no bytes, where such are wanted
 abbrev pub is_bad_at : Operation → ℕ → List ℕ → Bool

@@ -1,7 +1,6 @@
--- The table of the commands: the operations' names, the options that each takes, and how many parameters.
+-- The table of commands: how each is spelled, the options that it takes, how many parameters, and which of them are numbers
 -- (GDB's manual, chapter "The GDB/MI Interface"; `exec-wait` is this project's own.)
 use Rattle.std.specs.Prelude.{ℕ, List, [], ◌∷◌, Bool, false, ◌==◌, ◌&&◌, ◌||◌, nat_le, Option, Some, None, find, codes}
-use Rattle.std.specs.Option.{option_map}
 use Rattle.std.specs.Str.{bytes_eq}
 use Rattle.mi_commands.specs.declared.operation.Operation.{Operation}
 use Rattle.mi_commands.specs.declared.operation.Operation.TheVariants as op
@@ -11,35 +10,69 @@ use Rattle.mi_commands.specs.declared.counts.Allowed.{Allowed}
 use Rattle.mi_commands.specs.declared.counts.Allowed.TheVariants as allowed
 use Rattle.mi_commands.specs.declared.counts.Count.{Count}
 use Rattle.mi_commands.specs.declared.counts.Count.TheVariants as count
+use Rattle.mi_commands.specs.declared.number.Numbers.{Numbers}
+use Rattle.mi_commands.specs.declared.number.Numbers.TheVariants as numbers
 
 -- the first of two
 abbrev pub or_else : {X : Type 0} → Option X → Option X → Option X
 or_else (Some x) other = Some x
 or_else None other = other
 
--- The operations by their names, without the `-` before them. `SetRegister` has none of its own: it is a form of `-gdb-set`.
-unfoldable pub operations : List (List ℕ × Operation)
+-- The operations that have a name of their own. `SetRegister` has none: it is a form of `-gdb-set`.
+unfoldable pub operations : List Operation
 operations =
-    (codes "break-insert", op.BreakInsert) ∷ (codes "break-delete", op.BreakDelete) ∷
-    (codes "break-enable", op.BreakEnable) ∷ (codes "break-disable", op.BreakDisable) ∷
-    (codes "break-condition", op.BreakCondition) ∷ (codes "break-after", op.BreakAfter) ∷
-    (codes "break-list", op.BreakList) ∷ (codes "break-watch", op.BreakWatch) ∷
-    (codes "exec-continue", op.Continue) ∷ (codes "exec-interrupt", op.Interrupt) ∷
-    (codes "exec-step", op.Step) ∷ (codes "exec-next", op.Next) ∷
-    (codes "exec-step-instruction", op.StepInstruction) ∷ (codes "exec-next-instruction", op.NextInstruction) ∷
-    (codes "exec-finish", op.Finish) ∷ (codes "exec-wait", op.Wait) ∷
-    (codes "thread-info", op.ThreadInfo) ∷ (codes "thread-select", op.ThreadSelect) ∷
-    (codes "thread-list-ids", op.ThreadList) ∷ (codes "stack-list-frames", op.FrameList) ∷
-    (codes "stack-info-depth", op.FrameDepth) ∷ (codes "stack-info-frame", op.FrameInfo) ∷
-    (codes "stack-list-variables", op.VariableList) ∷
-    (codes "data-list-register-names", op.RegisterNames) ∷ (codes "data-list-register-values", op.RegisterValues) ∷
-    (codes "data-read-memory-bytes", op.ReadMemory) ∷ (codes "data-write-memory-bytes", op.WriteMemory) ∷
-    (codes "data-evaluate-expression", op.Evaluate) ∷ (codes "gdb-set", op.Set) ∷
-    (codes "gdb-show", op.Show) ∷ (codes "gdb-exit", op.Exit) ∷ []
+    op.BreakInsert ∷ op.BreakDelete ∷ op.BreakEnable ∷ op.BreakDisable ∷ op.BreakCondition ∷ op.BreakAfter ∷
+    op.BreakList ∷ op.BreakWatch ∷ op.Continue ∷ op.Interrupt ∷ op.Step ∷ op.Next ∷ op.StepInstruction ∷
+    op.NextInstruction ∷ op.Finish ∷ op.Wait ∷ op.ThreadInfo ∷ op.ThreadSelect ∷ op.ThreadList ∷ op.FrameList ∷
+    op.FrameDepth ∷ op.FrameInfo ∷ op.VariableList ∷ op.RegisterNames ∷ op.RegisterValues ∷ op.ReadMemory ∷
+    op.WriteMemory ∷ op.Evaluate ∷ op.Set ∷ op.Show ∷ op.Exit ∷ []
 
--- the operation that a list has by a name
-abbrev pub named_in : List (List ℕ × Operation) → List ℕ → Option Operation
-named_in table name = option_map (λ p. p.1) (find (λ p. bytes_eq name p.0) table)
+-- How a command is spelled behind the `-`, the options that it takes, how many parameters, and which of them are numbers.
+abbrev pub Row : Type 0
+Row = List ℕ × Allowed × Count × Numbers
+
+-- the table of the commands
+abbrev pub row : Operation → Row
+row op.BreakInsert = (codes "break-insert", allowed.OfInsertion, count.One, numbers.NoNumbers)
+row op.BreakDelete = (codes "break-delete", allowed.Nothing, count.AtLeastOne, numbers.Each)
+row op.BreakEnable = (codes "break-enable", allowed.Nothing, count.AtLeastOne, numbers.Each)
+row op.BreakDisable = (codes "break-disable", allowed.Nothing, count.AtLeastOne, numbers.Each)
+row op.BreakCondition = (codes "break-condition", allowed.Nothing, count.AtLeastOne, numbers.First)
+row op.BreakAfter = (codes "break-after", allowed.Nothing, count.Two, numbers.WithCount)
+row op.BreakList = (codes "break-list", allowed.Nothing, count.Zero, numbers.NoNumbers)
+row op.BreakWatch = (codes "break-watch", allowed.Nothing, count.AtLeastOne, numbers.NoNumbers)
+row op.Continue = (codes "exec-continue", allowed.OfThreads, count.Zero, numbers.NoNumbers)
+row op.Interrupt = (codes "exec-interrupt", allowed.OfThreads, count.Zero, numbers.NoNumbers)
+row op.Step = (codes "exec-step", allowed.OfThread, count.Zero, numbers.NoNumbers)
+row op.Next = (codes "exec-next", allowed.OfThread, count.Zero, numbers.NoNumbers)
+row op.StepInstruction = (codes "exec-step-instruction", allowed.OfThread, count.Zero, numbers.NoNumbers)
+row op.NextInstruction = (codes "exec-next-instruction", allowed.OfThread, count.Zero, numbers.NoNumbers)
+row op.Finish = (codes "exec-finish", allowed.OfThread, count.Zero, numbers.NoNumbers)
+row op.Wait = (codes "exec-wait", allowed.Nothing, count.Zero, numbers.NoNumbers)
+row op.ThreadInfo = (codes "thread-info", allowed.Nothing, count.AtMostOne, numbers.Each)
+row op.ThreadSelect = (codes "thread-select", allowed.Nothing, count.One, numbers.Each)
+row op.ThreadList = (codes "thread-list-ids", allowed.Nothing, count.Zero, numbers.NoNumbers)
+row op.FrameList = (codes "stack-list-frames", allowed.OfThread, count.Zero, numbers.NoNumbers)
+row op.FrameDepth = (codes "stack-info-depth", allowed.OfThread, count.Zero, numbers.NoNumbers)
+row op.FrameInfo = (codes "stack-info-frame", allowed.OfThread, count.Zero, numbers.NoNumbers)
+row op.VariableList = (codes "stack-list-variables", allowed.OfThread, count.One, numbers.NoNumbers)
+row op.RegisterNames = (codes "data-list-register-names", allowed.Nothing, count.Zero, numbers.NoNumbers)
+row op.RegisterValues = (codes "data-list-register-values", allowed.OfThread, count.AtLeastOne, numbers.Registers)
+row op.ReadMemory = (codes "data-read-memory-bytes", allowed.Nothing, count.Two, numbers.WithLength)
+row op.WriteMemory = (codes "data-write-memory-bytes", allowed.Nothing, count.TwoOrThree, numbers.AroundBytes)
+row op.Evaluate = (codes "data-evaluate-expression", allowed.OfThread, count.AtLeastOne, numbers.NoNumbers)
+row op.Set = (codes "gdb-set", allowed.Nothing, count.Two, numbers.NoNumbers)
+row op.SetRegister = (codes "gdb-set", allowed.OfThread, count.One, numbers.Each)
+row op.Show = (codes "gdb-show", allowed.Nothing, count.One, numbers.NoNumbers)
+row op.Exit = (codes "gdb-exit", allowed.Nothing, count.Zero, numbers.NoNumbers)
+
+-- each operation's options and the number of its parameters
+abbrev pub shape : Operation → Allowed × Count
+shape o = ((row o).1, (row o).2)
+
+-- the first of these operations that has this name
+abbrev pub named_in : List Operation → List ℕ → Option Operation
+named_in table name = find (λ o. bytes_eq name (row o).0) table
 
 unfoldable pub operation_of : List ℕ → Option Operation
 operation_of name = named_in operations name
@@ -78,38 +111,3 @@ fits count.Two n = n == 2
 fits count.TwoOrThree n = nat_le 2 n && nat_le n 3
 fits count.AtMostOne n = nat_le n 1
 fits count.AtLeastOne n = nat_le 1 n
-
--- each operation's options and the number of its parameters
-abbrev pub shape : Operation → Allowed × Count
-shape op.BreakInsert = (allowed.OfInsertion, count.One)
-shape op.BreakDelete = (allowed.Nothing, count.AtLeastOne)
-shape op.BreakEnable = (allowed.Nothing, count.AtLeastOne)
-shape op.BreakDisable = (allowed.Nothing, count.AtLeastOne)
-shape op.BreakCondition = (allowed.Nothing, count.AtLeastOne)
-shape op.BreakAfter = (allowed.Nothing, count.Two)
-shape op.BreakList = (allowed.Nothing, count.Zero)
-shape op.BreakWatch = (allowed.Nothing, count.AtLeastOne)
-shape op.Continue = (allowed.OfThreads, count.Zero)
-shape op.Interrupt = (allowed.OfThreads, count.Zero)
-shape op.Step = (allowed.OfThread, count.Zero)
-shape op.Next = (allowed.OfThread, count.Zero)
-shape op.StepInstruction = (allowed.OfThread, count.Zero)
-shape op.NextInstruction = (allowed.OfThread, count.Zero)
-shape op.Finish = (allowed.OfThread, count.Zero)
-shape op.Wait = (allowed.Nothing, count.Zero)
-shape op.ThreadInfo = (allowed.Nothing, count.AtMostOne)
-shape op.ThreadSelect = (allowed.Nothing, count.One)
-shape op.ThreadList = (allowed.Nothing, count.Zero)
-shape op.FrameList = (allowed.OfThread, count.Zero)
-shape op.FrameDepth = (allowed.OfThread, count.Zero)
-shape op.FrameInfo = (allowed.OfThread, count.Zero)
-shape op.VariableList = (allowed.OfThread, count.One)
-shape op.RegisterNames = (allowed.Nothing, count.Zero)
-shape op.RegisterValues = (allowed.OfThread, count.AtLeastOne)
-shape op.ReadMemory = (allowed.Nothing, count.Two)
-shape op.WriteMemory = (allowed.Nothing, count.TwoOrThree)
-shape op.Evaluate = (allowed.OfThread, count.AtLeastOne)
-shape op.Set = (allowed.Nothing, count.Two)
-shape op.SetRegister = (allowed.OfThread, count.One)
-shape op.Show = (allowed.Nothing, count.One)
-shape op.Exit = (allowed.Nothing, count.Zero)

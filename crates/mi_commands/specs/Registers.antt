@@ -2,7 +2,6 @@
 -- are those of expressions.
 use Rattle.std.specs.Prelude.{ℕ, ◌+◌, List, [], ◌∷◌, take, drop, ◌==◌, Option, Some, None, is_some, unwrap_or, if◌then◌else◌}
 use Rattle.std.specs.Option.{option_map}
-use Rattle.rv_decode.specs.Registers.{register_number}
 use Rattle.mi_input.specs.Parts.{WordView}
 use Rattle.mi_commands.specs.declared.operation.Operation.{Operation}
 use Rattle.mi_commands.specs.declared.operation.Operation.TheVariants as op
@@ -33,7 +32,3 @@ assignment word = unwrap_or (assignment_of word) (record { name = []; value = []
 abbrev pub form : Operation → List WordView → Operation
 form op.Set (w ∷ []) = if is_some (assignment_of w.0) then op.SetRegister else op.Set
 form o ps = o
-
--- the number of a register of this name; 32 is pc
-abbrev pub register : List ℕ → ℕ
-register name = unwrap_or (register_number name) 0

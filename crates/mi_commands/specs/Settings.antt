@@ -1,4 +1,4 @@
--- Settings, their values, and the formats of registers.
+-- Settings and their values (GDB manual, "Non-Stop Mode"; "Maintenance Commands": displaced-stepping), formats of registers.
 use Rattle.std.specs.Prelude.{ℕ, List, Bool, Option, Some, None, codes, if◌then◌else◌}
 use Rattle.std.specs.Option.{option_map, option_and_then}
 use Rattle.std.specs.Str.{bytes_eq}

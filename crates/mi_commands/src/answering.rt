@@ -7,13 +7,18 @@ ghost use Rattle.mi_input.specs.Split.{words_view};
 ghost use Rattle.mi_commands.specs.Operations.{operation_of};
 ghost use Rattle.mi_commands.specs.Words.{options, value_in};
 ghost use Rattle.mi_commands.specs.Steps.{text};
-ghost use Rattle.mi_commands.specs.Faults.{first_fault, first_word};
-ghost use Rattle.mi_commands.specs.Commands.{insertion, set_register, write_memory, command_for, answer_of};
+ghost use Rattle.mi_commands.specs.Faults.{first_word, misfit, words_fault};
+ghost use Rattle.mi_commands.specs.Locations.{location_at};
+ghost use Rattle.mi_commands.specs.Prints.{first_prints};
+ghost use Rattle.mi_commands.specs.Settings.{setting_of};
+ghost use Rattle.mi_commands.specs.Commands.{insertion, set_register, register_values, write_memory, command_for, answer_of};
+ghost use Rattle.mi_commands.specs.declared.operation.Operation.TheVariants as op;
+ghost use Rattle.mi_commands.specs.declared.command.Command.TheVariants.{VariableList, Show};
 ghost use Rattle.mi_commands.specs.Registers.{assignment};
 ghost use Rattle.mi_commands.specs.Gives.{Answers, Commands, GivesAnswer};
 
 use crate::bytes::repeated;
-use crate::command::{Command, CommandLine, Format, Insertion, Setting};
+use crate::command::{Command, CommandLine, Insertion};
 use crate::counts::OptionName;
 use crate::lists::ByteList;
 use crate::location::{Place, location_of};
@@ -22,14 +27,15 @@ use crate::operation::Operation;
 use crate::options::{has, parameters, value_in, words_fit};
 use crate::print::{first_prints, words_for};
 use crate::reading::{
-    bad_number, first_number, first_word, joined, joined_if_any, location_fits, number_if_any,
-    number_in, numbers, rest_of, second_number, second_word, settings_fit, target_of,
+    bad_number, first_number, first_word, joined, joined_if_any, number_if_any, number_in, numbers,
+    rest_of, second_number, second_word, target_of,
 };
 use crate::refusal::{Failure, Fault, Refusal};
-use crate::registers::{assignment, register};
+use crate::registers::assignment;
 use crate::setting::{format_of, set_command, setting_of};
 use mi_input::{InputFault, Word, split};
 use mi_text::bytes_of;
+use rv_decode::register_of;
 use std::alloc::{AllocError, Global};
 
 fn copy(alloc: Global, bytes: &[u8]) -> Result<ByteList, AllocError>
@@ -47,38 +53,41 @@ fn copy_if_any(alloc: Global, bytes: Option<&[u8]>) -> Result<Option<ByteList>, 
     }
 }
 
-// The least fault of the words of an operation.
-fn first_fault(
+// The least fault that the words of an operation have before they are read.
+fn words_fault(
     alloc: Global,
     operation: Operation,
     name: &[u8],
     words: &[Word],
 ) -> Result<Option<Fault>, AllocError>
-    ensures { IfOk result (λ fault. fault ≡ first_fault operation name.now (words_view words.now)) }
+    ensures { IfOk result (λ fault. fault ≡ words_fault operation name.now (words_view words.now)) }
 {
-    let parameters = parameters(words);
     if !words_fit(operation, words) {
         return Ok(Some(Fault::Parameters(copy(alloc, name)?)));
     }
-    if let Some(word) = bad_number(operation, words, parameters) {
+    if let Some(word) = bad_number(operation, words, parameters(words)) {
         return Ok(Some(Fault::Number(copy(alloc, word)?)));
-    }
-    if !settings_fit(operation, parameters) {
-        return Ok(Some(Fault::Setting));
-    }
-    if !location_fits(operation, parameters) {
-        let word = copy(alloc, first_word(parameters))?;
-        let thread = number_in(OptionName::InThread, words);
-        return Ok(Some(Fault::Location { word, thread }));
     }
     Ok(None)
 }
 
-fn insertion(alloc: Global, words: &[Word]) -> Result<Insertion, AllocError>
-    ensures { IfOk result (λ i. i ≡ insertion (words_view words.now)) }
+// What is wrong with words that ask for nothing.
+fn misfit(alloc: Global, operation: Operation, words: &[Word]) -> Result<Fault, AllocError>
+    ensures { IfOk result (λ fault. fault ≡ misfit operation (words_view words.now)) }
 {
-    let text = first_word(parameters(words));
-    let place = location_of(text).unwrap_or(Place::Name(b""));
+    match operation {
+        Operation::BreakInsert => Ok(Fault::Location {
+            word: copy(alloc, first_word(parameters(words)))?,
+            thread: number_in(OptionName::InThread, words),
+        }),
+        _ => Ok(Fault::Setting),
+    }
+}
+
+// A breakpoint at this place.
+fn insertion(alloc: Global, words: &[Word], place: Place<'_>) -> Result<Insertion, AllocError>
+    ensures { IfOk result (λ i. i ≡ insertion (words_view words.now) (location_at place.entry)) }
+{
     Ok(Insertion {
         temporary: has(OptionName::Temporary, words),
         disabled: has(OptionName::Disabled, words),
@@ -86,21 +95,55 @@ fn insertion(alloc: Global, words: &[Word]) -> Result<Insertion, AllocError>
         condition: copy_if_any(alloc, value_in(OptionName::Condition, words))?,
         thread: number_in(OptionName::InThread, words),
         location: place.owned(alloc)?,
-        text: copy(alloc, text)?,
+        text: copy(alloc, first_word(parameters(words)))?,
     })
 }
 
+fn insert(alloc: Global, words: &[Word]) -> Result<Option<Command>, AllocError>
+    ensures { IfOk result (λ c. c ≡ command_for op.BreakInsert (words_view words.now)) }
+{
+    match location_of(first_word(parameters(words))) {
+        Some(place) => Ok(Some(Command::BreakInsert(insertion(alloc, words, place)?))),
+        None => Ok(None),
+    }
+}
+
 // `$NAME=VALUE`, of a thread.
-fn set_register(alloc: Global, thread: Option<u32>, word: &[u8]) -> Result<Command, AllocError>
+fn set_register(
+    alloc: Global,
+    thread: Option<u32>,
+    word: &[u8],
+) -> Result<Option<Command>, AllocError>
     ensures { IfOk result (λ c. c ≡ set_register thread (assignment word.now)) }
 {
     let assignment = assignment(word);
-    Ok(Command::SetRegister {
-        thread,
-        name: copy(alloc, assignment.name)?,
-        register: register(assignment.name),
-        value: number(assignment.value),
-    })
+    match register_of(assignment.name) {
+        Some(register) => Ok(Some(Command::SetRegister {
+            thread,
+            name: copy(alloc, assignment.name)?,
+            register: register.number(),
+            value: number(assignment.value),
+        })),
+        None => Ok(None),
+    }
+}
+
+// FORMAT and the numbers of registers, of a thread.
+fn register_values(
+    alloc: Global,
+    thread: Option<u32>,
+    parameters: &[Word],
+) -> Result<Option<Command>, AllocError>
+    ensures { IfOk result (λ c. c ≡ register_values thread (words_view parameters.now)) }
+{
+    match format_of(first_word(parameters)) {
+        Some(format) => Ok(Some(Command::RegisterValues {
+            thread,
+            format,
+            numbers: numbers(alloc, rest_of(parameters))?,
+        })),
+        None => Ok(None),
+    }
 }
 
 // ADDRESS CONTENTS [COUNT]; without COUNT as many bytes are written as are given.
@@ -118,14 +161,35 @@ fn write_memory(alloc: Global, parameters: &[Word]) -> Result<Command, AllocErro
     })
 }
 
-// What the words of an operation ask for, where they have no fault.
-fn command(alloc: Global, operation: Operation, words: &[Word]) -> Result<Command, AllocError>
+// The variables of a thread, with their values or without.
+fn variables(thread: Option<u32>, parameters: &[Word]) -> Option<Command>
+    ensures { result ≡ option_map (VariableList thread) (first_prints (words_view parameters.now)) }
+{
+    let with_values = first_prints(parameters)?;
+    Some(Command::VariableList {
+        thread,
+        with_values,
+    })
+}
+
+fn show(parameters: &[Word]) -> Option<Command>
+    ensures { result ≡ option_map Show (setting_of (first_word (words_view parameters.now))) }
+{
+    Some(Command::Show(setting_of(first_word(parameters))?))
+}
+
+// What the words of an operation ask for; none where they spell no location, setting, value, format or register.
+fn command(
+    alloc: Global,
+    operation: Operation,
+    words: &[Word],
+) -> Result<Option<Command>, AllocError>
     ensures { IfOk result (λ c. c ≡ command_for operation (words_view words.now)) }
 {
     let thread = number_in(OptionName::Thread, words);
     let parameters = parameters(words);
     let command = match operation {
-        Operation::BreakInsert => Command::BreakInsert(insertion(alloc, words)?),
+        Operation::BreakInsert => return insert(alloc, words),
         Operation::BreakDelete => Command::BreakDelete(numbers(alloc, parameters)?),
         Operation::BreakEnable => Command::BreakEnable(numbers(alloc, parameters)?),
         Operation::BreakDisable => Command::BreakDisable(numbers(alloc, parameters)?),
@@ -159,16 +223,9 @@ fn command(alloc: Global, operation: Operation, words: &[Word]) -> Result<Comman
         Operation::FrameList => Command::FrameList { thread },
         Operation::FrameDepth => Command::FrameDepth { thread },
         Operation::FrameInfo => Command::FrameInfo { thread },
-        Operation::VariableList => Command::VariableList {
-            thread,
-            with_values: first_prints(parameters).unwrap_or(false),
-        },
+        Operation::VariableList => return Ok(variables(thread, parameters)),
         Operation::RegisterNames => Command::RegisterNames,
-        Operation::RegisterValues => Command::RegisterValues {
-            thread,
-            format: format_of(first_word(parameters)).unwrap_or(Format::Hexadecimal),
-            numbers: numbers(alloc, rest_of(parameters))?,
-        },
+        Operation::RegisterValues => return register_values(alloc, thread, parameters),
         Operation::ReadMemory => Command::ReadMemory {
             address: first_number(parameters),
             count: second_number(parameters),
@@ -178,16 +235,14 @@ fn command(alloc: Global, operation: Operation, words: &[Word]) -> Result<Comman
             thread,
             expression: joined(alloc, parameters)?,
         },
-        Operation::Set => set_command(first_word(parameters), second_word(parameters)).unwrap_or(
-            Command::SetNonStop,
-        ),
-        Operation::SetRegister => set_register(alloc, thread, first_word(parameters))?,
-        Operation::Show => {
-            Command::Show(setting_of(first_word(parameters)).unwrap_or(Setting::NonStop))
+        Operation::Set => {
+            return Ok(set_command(first_word(parameters), second_word(parameters)));
         }
+        Operation::SetRegister => return set_register(alloc, thread, first_word(parameters)),
+        Operation::Show => return Ok(show(parameters)),
         Operation::Exit => Command::Exit,
     };
-    Ok(command)
+    Ok(Some(command))
 }
 
 // What the parts of a line ask for.
@@ -203,10 +258,13 @@ fn answer(alloc: Global, operation: Option<Vec<u8>>, words: &mut [Word]) -> Resu
     };
     words_for(operation, words);
     let operation = operation.form(parameters(words));
-    if let Some(fault) = first_fault(alloc, operation, &name, words)? {
+    if let Some(fault) = words_fault(alloc, operation, &name, words)? {
         return Err(Failure::Faulty(fault));
     }
-    Ok(command(alloc, operation, words)?)
+    match command(alloc, operation, words)? {
+        Some(command) => Ok(command),
+        None => Err(Failure::Faulty(misfit(alloc, operation, words)?)),
+    }
 }
 
 /// What one line of input, without its end, asks for.

@@ -1,4 +1,4 @@
-//! Typed commands.
+//! `Command`: what a line asks for.
 
 use crate::lists::{ByteList, NumberList};
 use mi_text::Token;

@@ -20,5 +20,5 @@ mod setting;
 
 pub use answering::command_of;
 pub use command::{Command, CommandLine, Displaced, Format, Insertion, Location, Setting, Target};
-pub use lists::{ByteList, NumberList};
+pub use lists::{ByteList, ItemList, NumberList};
 pub use refusal::{Fault, Refusal};

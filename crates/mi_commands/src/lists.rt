@@ -1,4 +1,4 @@
-//! Lists that contracts see as such.
+//! `ItemList`: items that contracts see as a list.
 
 ghost use Rattle.std.specs.Prelude.{◌≡◌};
 

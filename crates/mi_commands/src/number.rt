@@ -1,7 +1,7 @@
-//! The ranges in which numbers lie.
+//! Which words are numbers, and of which range.
 
 ghost use Rattle.std.specs.Prelude.{◌≡◌};
-ghost use Rattle.mi_commands.specs.Numbers.{in_range, is_bad, number};
+ghost use Rattle.mi_commands.specs.Numbers.{bytes_in, first_and_others, in_range, is_bad, number, range_in};
 
 use mi_text::number_of;
 
@@ -16,6 +16,24 @@ pub enum Range {
     Register,
     /// 1 to 4,096.
     Length,
+}
+
+/// Which parameters of a command are numbers, and of which range.
+#[derive(Clone, Copy)]
+pub enum Numbers {
+    NoNumbers,
+    /// Each is any number.
+    Each,
+    /// The first is any number, the others are words.
+    First,
+    /// The first is any number, the others are counts.
+    WithCount,
+    /// The first is any number, the others are lengths.
+    WithLength,
+    /// The first is any number, the second is bytes, and behind them stands a length.
+    AroundBytes,
+    /// The first is a word, the others are numbers of registers.
+    Registers,
 }
 
 /// The number of a word that is one.
@@ -34,6 +52,41 @@ impl Range {
             Range::Count => n < 1 << 31,
             Range::Register => n <= 32,
             Range::Length => 1 <= n && n <= 4096,
+        }
+    }
+}
+
+// The range of the first parameter, or that of the others.
+fn first_and_others(first: Option<Range>, others: Option<Range>, place: usize) -> Option<Range>
+    ensures { result ≡ first_and_others first others place }
+{
+    if place == 0 { first } else { others }
+}
+
+impl Numbers {
+    /// The numbers that the parameter at this place, from 0, may be; none where it is no number.
+    pub fn range_at(self, place: usize) -> Option<Range>
+        ensures { result ≡ range_in self place }
+    {
+        match self {
+            Numbers::NoNumbers => None,
+            Numbers::Each => Some(Range::Any),
+            Numbers::First => first_and_others(Some(Range::Any), None, place),
+            Numbers::WithCount => first_and_others(Some(Range::Any), Some(Range::Count), place),
+            Numbers::WithLength | Numbers::AroundBytes => {
+                first_and_others(Some(Range::Any), Some(Range::Length), place)
+            }
+            Numbers::Registers => first_and_others(None, Some(Range::Register), place),
+        }
+    }
+
+    /// Whether the parameter at this place, from 0, is bytes, each as two hexadecimal digits.
+    pub fn has_bytes_at(self, place: usize) -> bool
+        ensures { result ≡ bytes_in self place }
+    {
+        match self {
+            Numbers::AroundBytes => place == 1,
+            _ => false,
         }
     }
 }

@@ -1,12 +1,17 @@
 //! The table of operations: their names, and the options and parameters of each.
 
-ghost use Rattle.std.specs.Prelude.{◌≡◌, map};
-ghost use Rattle.mi_commands.specs.Operations.{operation_of, named_in, shape};
+ghost use Rattle.std.specs.Prelude.{◌≡◌};
+ghost use Rattle.std.specs.Str.{bytes_eq};
+ghost use Rattle.mi_commands.specs.Operations.{operation_of, named_in, row, shape};
 ghost use Rattle.mi_input.specs.Split.{words_view};
-ghost use Rattle.mi_commands.specs.Numbers.{range_at, first_and_others, has_bytes_at};
+ghost use Rattle.mi_commands.specs.Numbers.{range_at, has_bytes_at};
 ghost use Rattle.mi_commands.specs.Registers.{form};
 
-use crate::counts::{Allowed, Count};
+use crate::counts::Allowed::{self, Nothing, OfInsertion, OfThread, OfThreads};
+use crate::counts::Count::{self, AtLeastOne, AtMostOne, One, Two, TwoOrThree, Zero};
+use crate::number::Numbers::{
+    self, AroundBytes, Each, First, NoNumbers, Registers, WithCount, WithLength,
+};
 use crate::number::Range;
 use crate::registers::assignment_of;
 use mi_input::Word;
@@ -50,59 +55,63 @@ pub enum Operation {
     Exit,
 }
 
-// The operations by their names.
-const OPERATIONS: [(&str, Operation); 31] = [
-    ("break-insert", Operation::BreakInsert),
-    ("break-delete", Operation::BreakDelete),
-    ("break-enable", Operation::BreakEnable),
-    ("break-disable", Operation::BreakDisable),
-    ("break-condition", Operation::BreakCondition),
-    ("break-after", Operation::BreakAfter),
-    ("break-list", Operation::BreakList),
-    ("break-watch", Operation::BreakWatch),
-    ("exec-continue", Operation::Continue),
-    ("exec-interrupt", Operation::Interrupt),
-    ("exec-step", Operation::Step),
-    ("exec-next", Operation::Next),
-    ("exec-step-instruction", Operation::StepInstruction),
-    ("exec-next-instruction", Operation::NextInstruction),
-    ("exec-finish", Operation::Finish),
-    ("exec-wait", Operation::Wait),
-    ("thread-info", Operation::ThreadInfo),
-    ("thread-select", Operation::ThreadSelect),
-    ("thread-list-ids", Operation::ThreadList),
-    ("stack-list-frames", Operation::FrameList),
-    ("stack-info-depth", Operation::FrameDepth),
-    ("stack-info-frame", Operation::FrameInfo),
-    ("stack-list-variables", Operation::VariableList),
-    ("data-list-register-names", Operation::RegisterNames),
-    ("data-list-register-values", Operation::RegisterValues),
-    ("data-read-memory-bytes", Operation::ReadMemory),
-    ("data-write-memory-bytes", Operation::WriteMemory),
-    ("data-evaluate-expression", Operation::Evaluate),
-    ("gdb-set", Operation::Set),
-    ("gdb-show", Operation::Show),
-    ("gdb-exit", Operation::Exit),
+// The operations that have a name of their own.
+const OPERATIONS: [Operation; 31] = [
+    Operation::BreakInsert,
+    Operation::BreakDelete,
+    Operation::BreakEnable,
+    Operation::BreakDisable,
+    Operation::BreakCondition,
+    Operation::BreakAfter,
+    Operation::BreakList,
+    Operation::BreakWatch,
+    Operation::Continue,
+    Operation::Interrupt,
+    Operation::Step,
+    Operation::Next,
+    Operation::StepInstruction,
+    Operation::NextInstruction,
+    Operation::Finish,
+    Operation::Wait,
+    Operation::ThreadInfo,
+    Operation::ThreadSelect,
+    Operation::ThreadList,
+    Operation::FrameList,
+    Operation::FrameDepth,
+    Operation::FrameInfo,
+    Operation::VariableList,
+    Operation::RegisterNames,
+    Operation::RegisterValues,
+    Operation::ReadMemory,
+    Operation::WriteMemory,
+    Operation::Evaluate,
+    Operation::Set,
+    Operation::Show,
+    Operation::Exit,
 ];
 
-// The operation that a list has by a name.
-fn named_in(table: &[(&'static str, Operation)], name: &[u8]) -> Option<Operation>
-    ensures { result ≡ named_in (map (λ p. (p.0.now, p.1)) table.now) name.now }
+/// How an operation is spelled behind the `-`, the options that it takes, how many parameters, and which of them are numbers.
+type Row = (&'static str, Allowed, Count, Numbers);
+
+// Whether a word is this text. Their lengths alone tell most apart.
+#[tactic(auto, using(crate::proofs::Texts::lengths_differ))]
+fn is_text(word: &[u8], text: &str) -> bool
+    ensures { result ≡ bytes_eq word.now text.now }
 {
-    let [(known, operation), rest @ ..] = table else {
+    word.len() == text.len() && word == text.as_bytes()
+}
+
+// The first of these operations that has this name.
+fn named_in(operations: &[Operation], name: &[u8]) -> Option<Operation>
+    ensures { result ≡ named_in operations.now name.now }
+{
+    let [operation, rest @ ..] = operations else {
         return None;
     };
-    if name == known.as_bytes() {
+    if is_text(name, operation.name()) {
         return Some(*operation);
     }
     named_in(rest, name)
-}
-
-// The range of the first parameter, or that of the others.
-fn first_and_others(first: Option<Range>, others: Option<Range>, place: usize) -> Option<Range>
-    ensures { result ≡ first_and_others first others place }
-{
-    if place == 0 { first } else { others }
 }
 
 impl Operation {
@@ -114,75 +123,78 @@ impl Operation {
         named_in(&OPERATIONS, name)
     }
 
+    // The table of the commands.
+    fn row(self) -> Row
+        ensures { (result.0.now, result.1, result.2, result.3) ≡ row self }
+    {
+        match self {
+            Operation::BreakInsert => ("break-insert", OfInsertion, One, NoNumbers),
+            Operation::BreakDelete => ("break-delete", Nothing, AtLeastOne, Each),
+            Operation::BreakEnable => ("break-enable", Nothing, AtLeastOne, Each),
+            Operation::BreakDisable => ("break-disable", Nothing, AtLeastOne, Each),
+            Operation::BreakCondition => ("break-condition", Nothing, AtLeastOne, First),
+            Operation::BreakAfter => ("break-after", Nothing, Two, WithCount),
+            Operation::BreakList => ("break-list", Nothing, Zero, NoNumbers),
+            Operation::BreakWatch => ("break-watch", Nothing, AtLeastOne, NoNumbers),
+            Operation::Continue => ("exec-continue", OfThreads, Zero, NoNumbers),
+            Operation::Interrupt => ("exec-interrupt", OfThreads, Zero, NoNumbers),
+            Operation::Step => ("exec-step", OfThread, Zero, NoNumbers),
+            Operation::Next => ("exec-next", OfThread, Zero, NoNumbers),
+            Operation::StepInstruction => ("exec-step-instruction", OfThread, Zero, NoNumbers),
+            Operation::NextInstruction => ("exec-next-instruction", OfThread, Zero, NoNumbers),
+            Operation::Finish => ("exec-finish", OfThread, Zero, NoNumbers),
+            Operation::Wait => ("exec-wait", Nothing, Zero, NoNumbers),
+            Operation::ThreadInfo => ("thread-info", Nothing, AtMostOne, Each),
+            Operation::ThreadSelect => ("thread-select", Nothing, One, Each),
+            Operation::ThreadList => ("thread-list-ids", Nothing, Zero, NoNumbers),
+            Operation::FrameList => ("stack-list-frames", OfThread, Zero, NoNumbers),
+            Operation::FrameDepth => ("stack-info-depth", OfThread, Zero, NoNumbers),
+            Operation::FrameInfo => ("stack-info-frame", OfThread, Zero, NoNumbers),
+            Operation::VariableList => ("stack-list-variables", OfThread, One, NoNumbers),
+            Operation::RegisterNames => ("data-list-register-names", Nothing, Zero, NoNumbers),
+            Operation::RegisterValues => (
+                "data-list-register-values",
+                OfThread,
+                AtLeastOne,
+                Registers,
+            ),
+            Operation::ReadMemory => ("data-read-memory-bytes", Nothing, Two, WithLength),
+            Operation::WriteMemory => ("data-write-memory-bytes", Nothing, TwoOrThree, AroundBytes),
+            Operation::Evaluate => ("data-evaluate-expression", OfThread, AtLeastOne, NoNumbers),
+            Operation::Set => ("gdb-set", Nothing, Two, NoNumbers),
+            Operation::SetRegister => ("gdb-set", OfThread, One, Each),
+            Operation::Show => ("gdb-show", Nothing, One, NoNumbers),
+            Operation::Exit => ("gdb-exit", Nothing, Zero, NoNumbers),
+        }
+    }
+
+    // How it is spelled.
+    fn name(self) -> &'static str
+        ensures { result.now ≡ (row self).0 }
+    {
+        self.row().0
+    }
+
     /// Its options and the number of its parameters.
     pub fn shape(self) -> (Allowed, Count)
         ensures { result ≡ shape self }
     {
-        match self {
-            Operation::BreakInsert => (Allowed::OfInsertion, Count::One),
-            Operation::BreakDelete
-            | Operation::BreakEnable
-            | Operation::BreakDisable
-            | Operation::BreakCondition
-            | Operation::BreakWatch => (Allowed::Nothing, Count::AtLeastOne),
-            Operation::BreakAfter | Operation::ReadMemory | Operation::Set => (
-                Allowed::Nothing,
-                Count::Two,
-            ),
-            Operation::BreakList
-            | Operation::Wait
-            | Operation::ThreadList
-            | Operation::RegisterNames
-            | Operation::Exit => (Allowed::Nothing, Count::Zero),
-            Operation::Continue | Operation::Interrupt => (Allowed::OfThreads, Count::Zero),
-            Operation::Step
-            | Operation::Next
-            | Operation::StepInstruction
-            | Operation::NextInstruction
-            | Operation::Finish
-            | Operation::FrameList
-            | Operation::FrameDepth
-            | Operation::FrameInfo => (Allowed::OfThread, Count::Zero),
-            Operation::WriteMemory => (Allowed::Nothing, Count::TwoOrThree),
-            Operation::SetRegister | Operation::VariableList => (Allowed::OfThread, Count::One),
-            Operation::ThreadInfo => (Allowed::Nothing, Count::AtMostOne),
-            Operation::ThreadSelect | Operation::Show => (Allowed::Nothing, Count::One),
-            Operation::RegisterValues | Operation::Evaluate => (
-                Allowed::OfThread,
-                Count::AtLeastOne,
-            ),
-        }
+        let (_, options, count, _) = self.row();
+        (options, count)
     }
 
     /// The numbers that its parameter at this place, from 0, may be; none where it is no number.
     pub fn range_at(self, place: usize) -> Option<Range>
         ensures { result ≡ range_at self place }
     {
-        match self {
-            Operation::BreakDelete
-            | Operation::BreakEnable
-            | Operation::BreakDisable
-            | Operation::ThreadInfo
-            | Operation::ThreadSelect
-            | Operation::SetRegister => Some(Range::Any),
-            Operation::BreakCondition => first_and_others(Some(Range::Any), None, place),
-            Operation::BreakAfter => first_and_others(Some(Range::Any), Some(Range::Count), place),
-            Operation::RegisterValues => first_and_others(None, Some(Range::Register), place),
-            Operation::ReadMemory | Operation::WriteMemory => {
-                first_and_others(Some(Range::Any), Some(Range::Length), place)
-            }
-            _ => None,
-        }
+        self.row().3.range_at(place)
     }
 
     /// Whether its parameter at this place, from 0, is bytes, each as two hexadecimal digits.
     pub fn has_bytes_at(self, place: usize) -> bool
         ensures { result ≡ has_bytes_at self place }
     {
-        match self {
-            Operation::WriteMemory => place == 1,
-            _ => false,
-        }
+        self.row().3.has_bytes_at(place)
     }
 
     /// The operation with these parameters: `-gdb-set` with the one word `$NAME=VALUE` sets a register.

@@ -2,7 +2,7 @@
 
 ghost use Rattle.std.specs.Prelude.{◌≡◌, ◌+◌, ◌<◌, ◌^◌, ◌++◌, length, OnOk, IfOk};
 ghost use Rattle.mi_input.specs.Split.{words_view};
-ghost use Rattle.mi_commands.specs.Faults.{first_word, second_word, number_in, settings_fit, location_fits};
+ghost use Rattle.mi_commands.specs.Faults.{first_word, second_word, number_in};
 ghost use Rattle.mi_commands.specs.Numbers.{value_range, bad_value, bad_parameter, is_bad_at, number_part};
 ghost use Rattle.mi_commands.specs.Words.{options};
 ghost use Rattle.mi_commands.specs.Steps.{text};
@@ -12,15 +12,12 @@ ghost use Rattle.mi_commands.specs.Operations.{or_else};
 use crate::command::Target;
 use crate::counts::OptionName;
 use crate::lists::{ByteList, NumberList};
-use crate::location::location_of;
 use crate::number::{Range, is_bad, number};
 use crate::operation::Operation;
 use crate::options::{has, option_in_front, value_in};
 use crate::registers::assignment;
-use crate::setting::{format_of, set_command, setting_of};
 use mi_input::Word;
 use mi_text::are_bytes;
-use rv_decode::register_of;
 use std::alloc::{AllocError, Global};
 
 /// The first word, or an empty one.
@@ -209,28 +206,5 @@ pub fn bad_number<'a>(
     match bad_value(words) {
         Some(word) => Some(word),
         None => bad_parameter(operation, parameters),
-    }
-}
-
-/// Whether the parameters are settings, values, registers and formats that there are.
-pub fn settings_fit(operation: Operation, parameters: &[Word]) -> bool
-    ensures { result ≡ settings_fit operation (words_view parameters.now) }
-{
-    match operation {
-        Operation::Set => { set_command(first_word(parameters), second_word(parameters)).is_some() }
-        Operation::SetRegister => register_of(assignment(first_word(parameters)).name).is_some(),
-        Operation::Show => setting_of(first_word(parameters)).is_some(),
-        Operation::RegisterValues => format_of(first_word(parameters)).is_some(),
-        _ => true,
-    }
-}
-
-/// Whether the parameter is a location, where one is wanted.
-pub fn location_fits(operation: Operation, parameters: &[Word]) -> bool
-    ensures { result ≡ location_fits operation (words_view parameters.now) }
-{
-    match operation {
-        Operation::BreakInsert => location_of(first_word(parameters)).is_some(),
-        _ => true,
     }
 }

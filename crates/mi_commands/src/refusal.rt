@@ -1,4 +1,4 @@
-//! Why a line is no command.
+//! `Refusal`: why a line is no command.
 
 ghost use Rattle.std.specs.Prelude.{◌≡◌};
 ghost use Rattle.mi_commands.specs.Faults.{fault_number};

@@ -2,10 +2,8 @@
 
 ghost use Rattle.std.specs.Prelude.{◌≡◌, ◌<◌, length, IfSome};
 ghost use Rattle.std.specs.Option.{option_map};
-ghost use Rattle.mi_commands.specs.Registers.{assignment, assignment_of, first_equals, register};
+ghost use Rattle.mi_commands.specs.Registers.{assignment, assignment_of, first_equals};
 ghost use Rattle.mi_commands.specs.Steps.{assignment_view};
-
-use rv_decode::register_of;
 
 /// The two texts of `$NAME=VALUE`, which stand in the line.
 #[derive(Clone, Copy)]
@@ -54,14 +52,4 @@ pub fn assignment(word: &[u8]) -> Texts<'_>
         name: b"",
         value: b"",
     })
-}
-
-/// The number of a register of this name; 32 is pc.
-pub fn register(name: &[u8]) -> u32
-    ensures { result ≡ register name.now }
-{
-    match register_of(name) {
-        Some(register) => register.number(),
-        None => 0,
-    }
 }

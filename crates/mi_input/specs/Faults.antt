@@ -1,4 +1,4 @@
--- What a fault of reading is of a line.
+-- Why a line has no parts, by why a part of it isn't read: this project's own.
 use Rattle.mi_text.specs.declared.fault.ReadFault.{ReadFault}
 use Rattle.mi_text.specs.declared.fault.ReadFault.TheVariants as reading
 use Rattle.mi_input.specs.declared.parts.InputFault.{InputFault}

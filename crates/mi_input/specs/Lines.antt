@@ -1,4 +1,4 @@
--- The lines of an input.
+-- The lines of an input (GDB manual, "GDB/MI Input Syntax": nl).
 use Rattle.std.specs.Prelude.{◌≡◌, ℕ, ◌+◌, Bool, Option, Some, None, drop, true, false, List, [], ◌∷◌, ◌++◌, if◌then◌else◌, ◌==◌}
 use Rattle.std.specs.Option.{option_map}
 

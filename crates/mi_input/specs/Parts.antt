@@ -1,7 +1,7 @@
 -- The parts of an input line (GDB manual, "GDB/MI Input Syntax").
-use Rattle.std.specs.Prelude.{◌≡◌, ℕ, List, [], ◌∷◌, ◌++◌, length, take, drop, take_while, min, Bool, true, false, not, Option, Some, None, ◌==◌, ◌&&◌, ◌||◌, nat_le}
+use Rattle.std.specs.Prelude.{◌≡◌, ℕ, List, [], ◌∷◌, ◌++◌, length, take, drop, take_while, min, Bool, true, false, not, Option, Some, None, ◌==◌, ◌&&◌, ◌||◌}
 use Rattle.std.specs.List.{list_all}
-use Rattle.mi_text.specs.Digits.{is_digit}
+use Rattle.mi_text.specs.Digits.{is_digit, is_lower_case}
 use Rattle.mi_text.specs.Escape.{IsText}
 
 -- space and tab
@@ -33,7 +33,7 @@ behind_token bytes = drop (token_length bytes) bytes
 
 -- a lower-case letter, a digit or `-`
 abbrev pub is_operation_byte : ℕ → Bool
-is_operation_byte b = (nat_le 97 b && nat_le b 122) || ((nat_le 48 b && nat_le b 57) || (b == 45))
+is_operation_byte b = is_lower_case b || (is_digit b || (b == 45))
 
 abbrev pub is_operation : List ℕ → Bool
 is_operation [] = false

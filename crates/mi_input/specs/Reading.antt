@@ -1,4 +1,4 @@
--- The parts of a line as a function of it: what the grammar's cases leave open is which cases fit.
+-- The parts of a line as a function of it, where the grammar leaves open which case fits: this project's own.
 use Rattle.std.specs.Prelude.{◌≡◌, ℕ, zero, suc, List, [], ◌∷◌, length, drop, take_while, true, false, Option, Some, None, option_and_then, ◌==◌, ◌&&◌, if◌then◌else◌, Result, Ok, Err}
 use Rattle.std.specs.Option.{option_map}
 use Rattle.mi_input.specs.declared.parts.Parts.{Parts}

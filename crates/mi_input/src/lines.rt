@@ -1,4 +1,4 @@
-//! Where a line of the input ends.
+//! `next_line`: where a line of the input ends.
 
 ghost use Rattle.std.specs.Prelude.{◌≡◌, ◌≤◌, ◌<◌, [], ℕ, List, Bool, length, take, IfSome, IfNone};
 ghost use Rattle.mi_input.specs.Lines.{lines, lf_at, without_cr, IsNext, AreFirst};

@@ -1,4 +1,4 @@
--- What writing keeps.
+-- What was there before stays in front: this project's own.
 use Rattle.std.specs.Prelude.{◌≡◌, ℕ, List, ◌++◌}
 
 -- the new list begins with the old one

@@ -1,3 +1,4 @@
+-- The definitions of texts: digits, tokens, C strings as they are written and read, numbers, and bytes in hexadecimal.
 pub mod Digits
 pub mod Token
 pub mod Keeps

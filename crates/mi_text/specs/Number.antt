@@ -1,4 +1,4 @@
--- Numbers: decimal, or hexadecimal behind `0x`, below 2^32. Hexadecimal digits are of either case.
+-- Numbers as they are read: decimal, or hexadecimal behind `0x` with digits of either case, below 2^32. This project's own.
 use Rattle.std.specs.Prelude.{ℕ, ◌+◌, ◌*◌, ◌^◌, List, [], ◌∷◌, ◌==◌, ◌&&◌, nat_lt, Option, Some, None, if◌then◌else◌}
 use Rattle.std.specs.Char.{digit_value}
 

@@ -1,4 +1,5 @@
--- Numbers as text: addresses as GDB writes them (GDB manual, "GDB/MI Output Syntax"), exit codes in octal ("GDB/MI Async Records").
+-- Numbers as they are written: addresses as GDB writes them (GDB manual, "GDB/MI Output Syntax"), exit codes in octal
+-- ("GDB/MI Async Records").
 use Rattle.std.specs.Prelude.{ℕ, ◌+◌, ◌-◌, ◌/◌, ◌%◌, ◌^◌, Bool, List, [], ◌∷◌, ◌++◌, if◌then◌else◌, nat_lt, decimal, codes}
 
 abbrev pub hex_digit : ℕ → ℕ

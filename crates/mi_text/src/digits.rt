@@ -1,4 +1,4 @@
-//! Digits.
+//! Decimal and octal digits.
 
 ghost use Rattle.std.specs.Prelude.{◌≡◌};
 ghost use Rattle.mi_text.specs.Digits.{is_digit, is_octal};

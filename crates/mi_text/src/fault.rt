@@ -1,4 +1,4 @@
-//! Why nothing was read.
+//! `ReadFault`: why nothing was read.
 
 ghost use Rattle.std.specs.Prelude.{◌≡◌};
 ghost use Rattle.mi_text.specs.declared.fault.ReadFault.TheVariants as faults;

@@ -1,4 +1,4 @@
-//! The front of bytes.
+//! The first byte, taken off.
 
 ghost use Rattle.std.specs.Prelude.{◌≡◌, ℕ, List, ◌∷◌, MatchOption};
 

@@ -27,9 +27,9 @@ use Rattle.mi_values.specs.Tree.{Fields, no_field, field, fields_view}
 use Rattle.mi_values.specs.Proper.{AreProperFields}
 use Rattle.mi_values.specs.Spelling.{value_bytes, fields_from}
 use Rattle.mi_values.specs.Reads.{ReadsFields, ReadsWord, StopsName}
-use Rattle.mi_values.specs.Record.{LineTree, result, notice, stream, prompt, Record, IsLine, line_bytes, class_bytes, notice_byte, stream_byte}
+use Rattle.mi_values.specs.Record.{LineTree, result, notice, stream, prompt, Record, IsLine, line_bytes, prompt_text, class_bytes, notice_byte, stream_byte}
 use Rattle.mi_values.specs.Line.{line_view, Begins, ReadsLine, GivesLine}
-use Rattle.mi_values.specs.LineParts.{ReadsTail, ReadsClass, HasClass, ReadsNotice, ReadsStream, ReadsResult, prompt_text}
+use Rattle.mi_values.specs.LineParts.{ReadsTail, ReadsClass, HasClass, ReadsNotice, ReadsStream, ReadsResult}
 use Rattle.mi_text.proofs.Texts.{one_c_string}
 use Rattle.mi_values.proofs.One.{both, apart, name_bytes, one_fields, no_name}
 

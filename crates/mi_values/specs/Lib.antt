@@ -1,3 +1,4 @@
+-- The definitions of output lines: values, their one text, which of them are proper, whole lines, and what reading gives.
 pub mod Spelled
 pub mod Name
 pub mod NameInside

@@ -1,4 +1,4 @@
--- What a line in memory is a line of, and what reading one gives.
+-- A line in memory as its tree, and what reading a line gives: this project's own.
 use Rattle.std.specs.Prelude.{◌≡◌, ℕ, List, ◌++◌, Result, Ok, Err}
 use Rattle.mi_values.specs.declared.line.Line.{Line}
 use Rattle.mi_values.specs.declared.line.Line.TheVariants as lines

@@ -1,4 +1,4 @@
--- What reading the parts of a line gives: what is spelled at the front, or that nothing is spelled there.
+-- What reading the parts of a line gives: what is spelled at the front, or that nothing is spelled there. This project's own.
 use Rattle.std.specs.Prelude.{◌≡◌, ℕ, List, [], ◌∷◌, ◌++◌, true, Option, Some, None, Result, Ok, Err}
 use Rattle.std.specs.Borrow.{Bor}
 use Rattle.std.specs.Global.{Vec}
@@ -17,9 +17,6 @@ use Rattle.mi_values.specs.Proper.{AreProperFields}
 use Rattle.mi_values.specs.Spelling.{fields_from}
 use Rattle.mi_values.specs.Record.{class_bytes, notice_byte, stream_byte}
 use Rattle.mi_values.specs.Line.{line_view, Begins}
-
-abbrev pub prompt_text : List ℕ
-prompt_text = 40 ∷ 103 ∷ 100 ∷ 98 ∷ 41 ∷ 10 ∷ []
 
 -- behind a class
 abbrev pub ReadsTail : List ℕ → Result (Vec (List ℕ × Value) × Bor (List ℕ)) ReadFault → Type 0

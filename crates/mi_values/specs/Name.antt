@@ -1,10 +1,11 @@
--- What a name is.
-use Rattle.std.specs.Prelude.{ℕ, List, [], ◌∷◌, Bool, false, ◌&&◌, ◌||◌, ◌==◌, nat_le}
+-- Names and classes (GDB manual, "GDB/MI Output Syntax": variable, result-class, async-class).
+use Rattle.std.specs.Prelude.{ℕ, List, [], ◌∷◌, Bool, false, ◌&&◌, ◌||◌, ◌==◌}
 use Rattle.std.specs.List.{list_all}
+use Rattle.mi_text.specs.Digits.{is_digit, is_lower_case, is_upper_case}
 
 -- a letter, a digit, `-` or `_`
 abbrev pub is_name_byte : ℕ → Bool
-is_name_byte b = (nat_le 97 b && nat_le b 122) || ((nat_le 65 b && nat_le b 90) || ((nat_le 48 b && nat_le b 57) || ((b == 45) || (b == 95))))
+is_name_byte b = is_lower_case b || (is_upper_case b || (is_digit b || ((b == 45) || (b == 95))))
 
 abbrev pub are_name_bytes : List ℕ → Bool
 are_name_bytes = list_all is_name_byte

@@ -1,4 +1,4 @@
--- The bytes of a name, wherever they lie.
+-- The bytes of a name, wherever they lie: this project's own.
 use Rattle.std.specs.Prelude.{ℕ, List}
 use Rattle.mi_values.specs.declared.name.NameBytes.{NameBytes}
 use Rattle.mi_values.specs.declared.name.NameBytes.TheVariants.{Literal, Owned}

@@ -1,4 +1,4 @@
--- The values that stand in a line.
+-- The values that stand in a line (GDB manual, "GDB/MI Output Syntax": value; that they nest at most 16 deep is this project's own).
 use Rattle.std.specs.Prelude.{◌≡◌, ℕ, ◌-◌, ◌<◌, List, [], ◌∷◌, true}
 use Rattle.std.specs.Coded.{×_prop, Unit-prop}
 use Rattle.std.proofs.Props.{props}

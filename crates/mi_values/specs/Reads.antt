@@ -1,4 +1,4 @@
--- What reading gives: what is spelled at the front and the rest, or that nothing is spelled there.
+-- What reading gives: what is spelled at the front and the rest, or that nothing is spelled there. This project's own.
 use Rattle.std.specs.Prelude.{◌≡◌, ℕ, List, [], ◌∷◌, ◌++◌, Bool, true, false, ◌||◌, ◌==◌, Result, Ok, Err}
 use Rattle.std.specs.Borrow.{Bor}
 use Rattle.std.specs.Global.{Vec}

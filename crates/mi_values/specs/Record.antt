@@ -32,12 +32,16 @@ stream_byte Log = 38
 abbrev pub class_bytes : List ℕ → Fields → List ℕ
 class_bytes class fields = class ++ fields_from 10 true fields
 
+-- `(gdb)` and LF
+abbrev pub prompt_text : List ℕ
+prompt_text = 40 ∷ 103 ∷ 100 ∷ 98 ∷ 41 ∷ 10 ∷ []
+
 -- the one text of a line
 unfoldable pub line_bytes : LineTree → List ℕ
 line_bytes (result token class fields) = token ++ (94 ∷ class_bytes class fields)
 line_bytes (notice sign class fields) = notice_byte sign ∷ class_bytes class fields
 line_bytes (stream sign text) = stream_byte sign ∷ (c_string text ++ 10 ∷ [])
-line_bytes prompt = 40 ∷ 103 ∷ 100 ∷ 98 ∷ 41 ∷ 10 ∷ []
+line_bytes prompt = prompt_text
 
 -- what a line is made of: a token of at most 18 digits, a class, values that nest at most 16 deep, bytes
 abbrev pub IsLine : LineTree → Type 0

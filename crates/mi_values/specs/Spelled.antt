@@ -1,4 +1,4 @@
--- What reading a C string gives: the text and the rest, or that no C string in its one spelling stands there.
+-- What reading a C string in its one spelling gives: the text and the rest, or that none stands there. This project's own.
 use Rattle.std.specs.Prelude.{◌≡◌, ℕ, List, ◌++◌, Result, Ok, Err}
 use Rattle.std.specs.Borrow.{Bor}
 use Rattle.std.specs.Global.{Vec}

@@ -1,4 +1,4 @@
--- The one text of each value.
+-- The one text of each value (GDB manual, "GDB/MI Output Syntax": value, tuple, list).
 use Rattle.std.specs.Prelude.{ℕ, List, [], ◌∷◌, ◌++◌, Bool, true, false}
 use Rattle.mi_text.specs.CString.{c_string}
 use Rattle.mi_values.specs.Tree.{Tree, text, tuple, items, named, Trees, no_item, item, Fields, no_field, field}

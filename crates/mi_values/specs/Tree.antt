@@ -1,4 +1,4 @@
--- A value without where it lies in memory.
+-- Values as trees (GDB manual, "GDB/MI Output Syntax": const, tuple, list), wherever they lie in memory.
 use Rattle.std.specs.Prelude.{ℕ, List, [], ◌∷◌, map, Bool, true, false}
 use Rattle.mi_values.specs.declared.value.Value.{Value, fold-Value}
 use Rattle.mi_values.specs.declared.value.Value.TheOpen.{Value-F}

@@ -1,4 +1,4 @@
-//! What slices hold.
+//! What slices hold is bytes.
 
 ghost use Rattle.std.specs.Prelude.{◌≡◌, true};
 ghost use Rattle.mi_values.specs.Testing.{are_bytes};

@@ -1,4 +1,4 @@
-//! A line, whose types keep what a line must keep.
+//! `Line`, whose types keep what a line must keep.
 
 ghost use Rattle.std.specs.Prelude.{◌≡◌, []};
 ghost use Rattle.mi_values.specs.Tree.{fields_view};

@@ -1,9 +1,9 @@
 //! Lines, read from the front.
 
 ghost use Rattle.std.specs.Prelude.{◌≡◌, ℕ, List, ◌++◌, position, ◌==◌, MatchBool};
-ghost use Rattle.mi_values.specs.Record.{LineTree, Record};
+ghost use Rattle.mi_values.specs.Record.{LineTree, Record, prompt_text};
 ghost use Rattle.mi_values.specs.Line.{ReadsLine, GivesLine};
-ghost use Rattle.mi_values.specs.LineParts.{ReadsToken, ReadsTail, ReadsClass, ReadsNotice, ReadsStream, ReadsResult, prompt_text};
+ghost use Rattle.mi_values.specs.LineParts.{ReadsToken, ReadsTail, ReadsClass, ReadsNotice, ReadsStream, ReadsResult};
 
 use crate::c_string::read_c_string;
 use crate::line::{Fields, Line};

@@ -1,4 +1,4 @@
-//! The tree of a value.
+//! `Value`: the tree of a value.
 
 ghost use Rattle.std.specs.Prelude.{◌≡◌, IfOk};
 

@@ -1,4 +1,4 @@
-//! Writing.
+//! Values and lines, written.
 
 ghost use Rattle.std.specs.Prelude.{◌≡◌, [], ◌∷◌, ◌++◌, OnOk, OnErr, true, false};
 ghost use Rattle.mi_values.specs.Name.{is_name};

@@ -1,1 +1,2 @@
+-- Bytes that are added tell one mark more.
 pub mod Codes

@@ -1,4 +1,4 @@
--- What bytes that tell marks are seen as.
+-- Bytes that tell marks, as contracts see them: this project's own.
 use Rattle.std.specs.Prelude.{ℕ, List}
 use Rattle.run_tape.specs.declared.marks.Mark.{Mark}
 

@@ -1,4 +1,4 @@
--- The fields of what tells marks by bytes.
+-- The fields of `Coder`, which writes marks as bytes: this project's own.
 use Rattle.std.specs.Prelude.{◌≡◌, ◌-◌, map, vec_len, vec_capacity}
 use Rattle.run_tape.specs.declared.coder.Coder.TheInside.{Inside}
 use Rattle.run_tape.specs.Turning.{start}

@@ -1,3 +1,4 @@
+-- The definitions of a tape: what its bytes mean, the marks that they tell, and what contracts see.
 pub mod Turning
 pub mod Tokens
 pub mod Telling

@@ -1,4 +1,4 @@
--- The fields of what reads a tape.
+-- The fields of `Marks`, which reads a tape: this project's own.
 use Rattle.std.specs.Prelude.{List}
 use Rattle.run_tape.specs.declared.marks.Mark.{Mark}
 use Rattle.run_tape.specs.declared.marks.Marks.TheInside.{Inside}

@@ -1,4 +1,4 @@
--- What is left of a tape that is read.
+-- What is left of a tape that is being read: this project's own.
 use Rattle.std.specs.Prelude.{ℕ, Bool, true, List, [], ◌∷◌, ◌||◌, not, nat_lt}
 use Rattle.run_tape.specs.declared.marks.Mark.{Mark}
 use Rattle.run_tape.specs.declared.marks.Reader.{Reader}

@@ -1,4 +1,4 @@
--- A tape's fields.
+-- The fields of `Tape`: this project's own.
 use Rattle.std.specs.Prelude.{◌≡◌}
 use Rattle.run_tape.specs.declared.tape.Tape.TheInside.{Inside}
 use Rattle.run_tape.specs.Taped.{Taped}

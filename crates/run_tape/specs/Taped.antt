@@ -1,4 +1,4 @@
--- What a tape is seen as.
+-- A tape as contracts see it: this project's own.
 use Rattle.std.specs.Prelude.{ℕ, List}
 use Rattle.run_tape.specs.declared.marks.Mark.{Mark}
 

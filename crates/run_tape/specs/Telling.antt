@@ -1,4 +1,4 @@
--- The marks that bytes tell. This project's own.
+-- The marks that bytes tell: this project's own.
 use Rattle.std.specs.Prelude.{ℕ, List, [], ◌∷◌, map}
 use Rattle.run_tape.specs.declared.marks.Mark.{Mark}
 use Rattle.run_tape.specs.declared.marks.Mark.TheVariants.{Run, Note}

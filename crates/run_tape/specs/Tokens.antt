@@ -1,4 +1,4 @@
--- What a byte of a tape means. This project's own.
+-- What each byte of a tape means: this project's own.
 use Rattle.std.specs.Prelude.{ℕ, nat_lt, if◌then◌else◌}
 use Rattle.run_tape.specs.declared.token.Token.{Token}
 use Rattle.run_tape.specs.declared.token.Token.TheVariants.{Count, Digit, Hart, Note}

@@ -1,4 +1,4 @@
--- Which hart is expected to run next, and the number that digits tell. This project's own.
+-- Which hart is expected to run next, and the number that digits tell: this project's own.
 use Rattle.std.specs.Prelude.{ℕ, ◌+◌, ◌*◌, ◌%◌, ◌^◌, [], ◌∷◌, slice_index, slice_set}
 use Rattle.run_tape.specs.declared.turns.Turns.{Turns}
 

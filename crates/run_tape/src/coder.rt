@@ -1,4 +1,4 @@
-// Bytes that tell marks, and what is known behind them.
+// `Coder`: marks are written as bytes.
 ghost use Rattle.std.specs.Prelude.{◌≡◌, ◌≤◌, ◌<◌, ◌+◌, ◌*◌, ◌%◌, ◌^◌, ◌++◌, ◌∷◌, [], length, OnOk, OnErr};
 ghost use Rattle.run_tape.specs.declared.marks.Mark.TheVariants.{Run, Note};
 

@@ -1,4 +1,4 @@
-// What a tape tells, in order.
+// `Marks`: a tape is read, mark by mark.
 ghost use Rattle.std.specs.Prelude.{◌≡◌, ◌∷◌, [], true, MatchOption};
 ghost use Rattle.std.specs.Iterator.{YieldsFirst, item_count};
 

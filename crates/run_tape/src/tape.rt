@@ -1,4 +1,4 @@
-// A tape.
+// `Tape`: what other crates keep.
 ghost use Rattle.std.specs.Prelude.{◌≡◌, ◌≤◌, ◌<◌, ◌+◌, ◌^◌, ◌++◌, ◌∷◌, [], length, OnOk, OnErr};
 ghost use Rattle.run_tape.specs.declared.marks.Mark.TheVariants.{Run, Note};
 

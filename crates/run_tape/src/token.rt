@@ -1,4 +1,4 @@
-// What a byte of a tape means.
+// `Token`: what each byte of a tape means.
 ghost use Rattle.std.specs.Prelude.{◌≡◌};
 ghost use Rattle.run_tape.specs.Tokens.{token};
 

@@ -1,4 +1,4 @@
-// Which hart runs next.
+// `Turns`: which hart is expected to run next, and the number whose digits come.
 ghost use Rattle.std.specs.Prelude.{◌≡◌};
 
 /// Which hart ran last behind each hart, by the last four bits of its number; which ran last of all; which is expected; and the

@@ -1,7 +1,7 @@
 -- Each write of a lawful journal has some bytes, since no line asks for a write of none: so each of its entries has a line in a log.
 use Rattle.std.proofs.Common.{◌≡◌, ◌<◌, ℕ, zero, suc, ◌+◌, ◌%◌, Bool, true, false, List, [], ◌∷◌, length, refl, ap, cond, arith}
 use Rattle.std.specs.Prelude.{Option, Some, None, Result, Ok, Err, ◌==◌, ◌&&◌, not, nat_le, nat_lt, is_none, unwrap_or, option_and_then, slice_index}
-use Rattle.std.specs.Option.{option_map}
+use Rattle.std.specs.Option.{ok_or, option_map}
 use Rattle.std.proofs.lemmas.Bool.Decides.{nat_tests}
 use Rattle.std.proofs.lemmas.List.{length-append}
 use Rattle.hex.specs.Hex.{decode_of, decode_pairs, pair_value, ◌>>=◌}
@@ -12,27 +12,29 @@ use Rattle.mi_text.specs.Number.{number_of}
 use Rattle.mi_input.specs.Parts.{PartsView, WordView, is_cli, after_blanks}
 use Rattle.mi_input.specs.Reading.{parts_read}
 use Rattle.mi_commands.specs.Bytes.{first_of, repeated}
-use Rattle.mi_commands.specs.Commands.{answer, answer_by, answer_of as answer_in_words, bytes_written, command_for, number_if_any, unless, write_memory}
-use Rattle.mi_commands.specs.Faults.{first_fault, number_fault, parameters_fault}
+use Rattle.mi_commands.specs.Commands.{answer, answer_by, answer_of as answer_in_words, bytes_written, command_for, insertion, number_if_any, numbers, rest_of, unless, write_memory}
+use Rattle.mi_commands.specs.Faults.{first_word, misfit, number_fault, number_in, parameters_fault, second_word, words_fault}
+use Rattle.mi_commands.specs.Locations.{location_of}
 use Rattle.mi_commands.specs.Numbers.{bad_number, bad_parameter, bad_value, in_range, is_bad, number}
 use Rattle.mi_commands.specs.Operations.{fits, operation_of, or_else, shape}
-use Rattle.mi_commands.specs.Prints.{print_fits, words_for}
-use Rattle.mi_commands.specs.Registers.{form}
-use Rattle.mi_commands.specs.Settings.{displaced_of, is_on, set_to, setting_of}
+use Rattle.mi_commands.specs.Prints.{first_prints, print_fits, words_for}
+use Rattle.mi_commands.specs.Registers.{assignment, form}
+use Rattle.mi_commands.specs.Settings.{displaced_of, format_of, is_on, set_to, setting_of}
 use Rattle.mi_commands.specs.Words.{one_target, options, options_fit, parameters, words_fit}
 use Rattle.mi_commands.specs.declared.command.Command.{Command}
 use Rattle.mi_commands.specs.declared.command.Command.TheVariants as command
-use Rattle.mi_commands.specs.declared.command.Displaced.{Displaced}
 use Rattle.mi_commands.specs.declared.command.Setting.{Setting}
 use Rattle.mi_commands.specs.declared.command.Setting.TheVariants as setting
 use Rattle.mi_commands.specs.declared.command.Target.{Target}
 use Rattle.mi_commands.specs.declared.command.Target.TheVariants as target
 use Rattle.mi_commands.specs.declared.counts.Count.TheVariants as count
+use Rattle.mi_commands.specs.declared.counts.OptionName.TheVariants as option
 use Rattle.mi_commands.specs.declared.number.Range.TheVariants as range
 use Rattle.mi_commands.specs.declared.operation.Operation.{Operation}
 use Rattle.mi_commands.specs.declared.operation.Operation.TheVariants as op
 use Rattle.mi_commands.specs.declared.refusal.Fault.{Fault}
 use Rattle.mi_commands.specs.declared.refusal.Fault.TheVariants as fault
+use Rattle.rv_decode.specs.Registers.{register_number}
 use Rattle.rv_exec.specs.Registers.{Registers}
 use Rattle.step_plans.specs.declared.plan.Plan.{Plan}
 use Rattle.dbg_model.specs.declared.entry.Entry.TheVariants.{Poked}
@@ -143,47 +145,55 @@ words_fill (w ∷ v ∷ rest) many none =
     let at = none_of (not (are_bytes v.0)) v.0 (bad_parameter op.WriteMemory 2 rest) behind in
     written_some (bytes_of v.0) (number_if_any rest) (digits_some v.0 (not_false (are_bytes v.0) at.0)) (count_some rest at.1)
 
-set_if : (b : Bool) (c : Command) → FillsCommand c → FillsCommand (unwrap_or (cond b (Some c) None) command.SetNonStop)
-set_if true c h = h
-set_if false c h = tt
-
-set_displaced : (r : Option Displaced) → FillsCommand (unwrap_or (option_map command.SetDisplaced r) command.SetNonStop)
-set_displaced None = tt
-set_displaced (Some d) = tt
-
-set_fills : (r : Option Setting) (value : List ℕ) → FillsCommand (unwrap_or (option_and_then (λ s. set_to s value) r) command.SetNonStop)
-set_fills None value = tt
-set_fills (Some setting.NonStop) value = set_if (is_on value) command.SetNonStop tt
-set_fills (Some setting.MiAsync) value = set_if (is_on value) command.SetMiAsync tt
-set_fills (Some setting.DisplacedStepping) value = set_displaced (displaced_of value)
-
-for_fills : (o : Operation) (ws : List WordView) → fits (shape o).1 (length (parameters ws)) ≡ true → bad_parameter o 0 (parameters ws) ≡ None → FillsCommand (command_for o ws)
-for_fills op.WriteMemory ws many none = words_fill (parameters ws) many none
-for_fills op.Set ws many none = set_fills (setting_of _) _
-for_fills _ ws many none = tt
-
 abbrev FillsAnswer : Result Command Fault → Type 0
 FillsAnswer (Ok c) = FillsCommand c
 FillsAnswer (Err f) = Unit {0}
 
-as_fills : (name : List ℕ) (o : Operation) (ws : List WordView) (f : Option Fault) → first_fault o name ws ≡ f → FillsAnswer (unless f (command_for o ws))
+-- what a word spells is a command that writes nothing
+spelled_fills : {A : Type 0} (command_of : A → Command) (f : Fault) → ((x : A) → FillsCommand (command_of x)) → (r : Option A) → FillsAnswer (ok_or (option_map command_of r) f)
+spelled_fills command_of f fills None = tt
+spelled_fills command_of f fills (Some x) = fills x
+
+set_if : (b : Bool) (c : Command) (f : Fault) → FillsCommand c → FillsAnswer (ok_or (cond b (Some c) None) f)
+set_if true c f h = h
+set_if false c f h = tt
+
+set_fills : (r : Option Setting) (value : List ℕ) (f : Fault) → FillsAnswer (ok_or (option_and_then (λ s. set_to s value) r) f)
+set_fills None value f = tt
+set_fills (Some setting.NonStop) value f = set_if (is_on value) command.SetNonStop f tt
+set_fills (Some setting.MiAsync) value f = set_if (is_on value) command.SetMiAsync f tt
+set_fills (Some setting.DisplacedStepping) value f = spelled_fills command.SetDisplaced f (λ d. tt) (displaced_of value)
+
+for_fills : (o : Operation) (ws : List WordView) (f : Fault) → fits (shape o).1 (length (parameters ws)) ≡ true → bad_parameter o 0 (parameters ws) ≡ None → FillsAnswer (ok_or (command_for o ws) f)
+for_fills op.WriteMemory ws f many none = words_fill (parameters ws) many none
+for_fills op.Set ws f many none = set_fills (setting_of (first_word (parameters ws))) (second_word (parameters ws)) f
+for_fills op.BreakInsert ws f many none = spelled_fills (λ place. command.BreakInsert (insertion ws place)) f (λ place. tt) (location_of (first_word (parameters ws)))
+for_fills op.VariableList ws f many none = spelled_fills (command.VariableList (number_in option.Thread ws)) f (λ b. tt) (first_prints (parameters ws))
+for_fills op.RegisterValues ws f many none =
+    spelled_fills (λ form. command.RegisterValues (number_in option.Thread ws) form (numbers (rest_of (parameters ws)))) f (λ form. tt) (format_of (first_word (parameters ws)))
+for_fills op.SetRegister ws f many none =
+    let a = assignment (first_word (parameters ws)) in
+    spelled_fills (λ n. command.SetRegister (number_in option.Thread ws) a.name n (number a.value)) f (λ n. tt) (register_number a.name)
+for_fills op.Show ws f many none = spelled_fills command.Show f (λ s. tt) (setting_of (first_word (parameters ws)))
+for_fills _ ws f many none = tt
+
+as_fills : (name : List ℕ) (o : Operation) (ws : List WordView) (f : Option Fault) → words_fault o name ws ≡ f → FillsAnswer (unless f (ok_or (command_for o ws) (misfit o ws)))
 as_fills name o ws (Some f) is = tt
 as_fills name o ws None is =
-    let a = or_none (parameters_fault o name ws) _ is in
-    let b = or_none (number_fault o ws) _ a.1 in
-    let bad = map_none fault.Number (bad_number o ws) b.0 in
+    let a = or_none (parameters_fault o name ws) (number_fault o ws) is in
+    let bad = map_none fault.Number (bad_number o ws) a.1 in
     let none = (or_none (bad_value (options ws)) (bad_parameter o 0 (parameters ws)) bad).1 in
     let fit = fit_of (words_fit o ws) (fault.Parameters name) a.0 in
     let few = (both_true (options_fit (shape o).0 (options ws) && one_target (options ws)) (fits (shape o).1 (length (parameters ws)))
     (both_true ((options_fit (shape o).0 (options ws) && one_target (options ws)) && fits (shape o).1 (length (parameters ws))) (print_fits o (parameters ws)) fit).0).1 in
-    for_fills o ws few none
+    for_fills o ws (misfit o ws) few none
 
 by_fills : (name : List ℕ) (o : Option Operation) (ws : List WordView) → FillsAnswer (answer_by name o ws)
 by_fills name None ws = tt
 by_fills name (Some o) ws =
     let more = words_for o ws in
     let known = form o (parameters more) in
-    as_fills name known more (first_fault known name more) refl
+    as_fills name known more (words_fault known name more) refl
 
 in_words : (name : Option (List ℕ)) (ws : List WordView) → FillsAnswer (answer_in_words name ws)
 unfolding answer_in_words

@@ -1,11 +1,10 @@
 // The queue between the reader thread and `poll`.
-ghost use Rattle.std.specs.Prelude.{◌≡◌, ◌≤◌, ◌<◌, ◌↔◌, ◌+◌, ◌++◌, IsTrue, length, take, []};
-ghost use Rattle.std.specs.VecDeque.{deque_len, deque_capacity};
+ghost use Rattle.std.specs.Prelude.{◌≡◌, ◌≤◌, ◌<◌, ◌↔◌, ◌+◌, ◌++◌, IsTrue, length, min, take, []};
+ghost use Rattle.std.specs.Vec.{vec_len, vec_capacity};
 ghost use Rattle.system_world.specs.Edge.{poll_of};
 
 use dbg_traits::Polled;
 use std::alloc::{AllocError, Global};
-use std::collections::VecDeque;
 
 /// The greatest number of bytes that wait.
 pub const ROOM: usize = 65_536;
@@ -34,54 +33,71 @@ impl Source {
     }
 }
 
-// Puts the bytes behind the others, where there is room for them.
-fn push_all(queue: &mut VecDeque<u8>, bytes: &[u8])
-    requires { deque_len queue.old + length bytes.now ≤ deque_capacity queue.old }
-    ensures behind { queue.new.items ≡ queue.old.items ++ bytes.now }
-    ensures room { deque_capacity queue.new ≡ deque_capacity queue.old }
+// Copies as many bytes as both have, and says how many.
+fn copy_front(bytes: &[u8], into: &mut [u8]) -> usize
+    ensures count { result ≡ min (length bytes.now) (length into.old) }
+    ensures copied { take result into.new ≡ take result bytes.now }
+    ensures length { length into.new ≡ length into.old }
 {
-    for byte in bytes {
-        queue.push_back_reserved(*byte);
-    }
+    let n = bytes.len().min(into.len());
+    into[..n].copy_from_slice(&bytes[..n]);
+    n
 }
 
-/// Bytes that were read and not polled yet. It has its room from the start.
+/// Bytes that were read and not polled yet, in one run. It has its room from the start.
 #[derive(Drop)]
 pub struct Feed {
-    queue: VecDeque<u8>,
+    bytes: Vec<u8>,
+    // How many of them were polled.
+    polled: usize,
     pub source: Source,
     /// Whether input was asked for. Nothing is read before, since the file may be standard input under another name.
     pub asked: bool,
-    ghost reserved: { 65536 ≤ deque_capacity queue },
+    ghost within: { polled ≤ vec_len bytes },
+    ghost reserved: { 65536 ≤ vec_capacity bytes },
 }
 
 impl Feed {
+    ghost use Rattle.system_world.specs.Waiting.{waiting};
+
     /// An empty queue of an input that has not ended.
     pub fn open(alloc: Global) -> Result<Feed, AllocError> {
         Ok(Feed {
-            queue: VecDeque::with_capacity(alloc, ROOM)?,
+            bytes: Vec::with_capacity(alloc, ROOM)?,
+            polled: 0,
             source: Source::Open,
             asked: false,
         })
     }
 
     pub fn is_full(&self) -> bool {
-        self.queue.len() >= ROOM
+        self.bytes.len() - self.polled >= ROOM
     }
 
     pub fn is_empty(&self) -> bool
-        ensures { IsTrue result ↔ (self.now.queue.items ≡ []) }
+        ensures { IsTrue result ↔ (waiting self.now ≡ []) }
     {
-        self.queue.is_empty()
+        self.bytes[self.polled..].is_empty()
+    }
+
+    // Drops the bytes that were polled, so that there is room behind the others.
+    fn make_room(&mut self)
+        ensures waiting { waiting self.new ≡ waiting self.old }
+    {
+        self.bytes.drain(..self.polled);
+        self.polled = 0;
     }
 
     /// Takes in the first bytes, as many as there is room for, and says how many.
     pub fn give(&mut self, bytes: &[u8]) -> usize
         ensures within { result ≤ length bytes.now }
-        ensures behind { self.new.queue.items ≡ self.old.queue.items ++ take result bytes.now }
+        ensures behind { waiting self.new ≡ waiting self.old ++ take result bytes.now }
     {
-        let n = bytes.len().min(ROOM.saturating_sub(self.queue.len()));
-        push_all(&mut self.queue, &bytes[..n]);
+        if self.bytes.len() >= ROOM {
+            self.make_room();
+        }
+        let n = bytes.len().min(ROOM.saturating_sub(self.bytes.len()));
+        self.bytes.extend_from_slice(&bytes[..n]).unwrap();
         n
     }
 
@@ -90,15 +106,15 @@ impl Feed {
         requires { 0 < length into.old }
         ensures within { result ≤ length into.new }
         ensures source { self.new.source ≡ self.old.source }
-        ensures none { result ≡ 0 → self.old.queue.items ≡ [] }
-        ensures front { self.old.queue.items ≡ take result into.new ++ self.new.queue.items }
+        ensures none { result ≡ 0 → waiting self.old ≡ [] }
+        ensures front { waiting self.old ≡ take result into.new ++ waiting self.new }
     {
-        for i in 0..into.len() {
-            match self.queue.pop_front() {
-                Some(byte) => into[i] = byte,
-                None => return i,
-            }
+        let n = copy_front(&self.bytes[self.polled..], into);
+        self.polled += n;
+        if self.is_empty() {
+            self.bytes.clear();
+            self.polled = 0;
         }
-        into.len()
+        n
     }
 }

@@ -2,4 +2,4 @@ use Rattle.std.proofs.Common.{length}
 use Rattle.mi_commands.proofs.operation.+named_in.Given as goal
 
 abbrev pub decreases-named_in : goal.decreases-named_in
-decreases-named_in l = length l.table.now
+decreases-named_in l = length l.operations.now
