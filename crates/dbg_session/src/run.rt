@@ -31,7 +31,8 @@ fn unbegun<W: World>(outside: Outside<W>) -> Unloaded<W>
     }
 }
 
-// Begins a session: the words, the program, the engine and the opening lines.
+// Begins a session: the words, the program, the engine and the opening lines. What is moved about here takes stack only here.
+#[inline(never)]
 fn begin<W: World>(alloc: Global, world: W) -> Result<Session<Outside<W>>, Unloaded<W>>
     requires fresh { IsFresh (W.told world) }
     requires unchecked { checked_words (W.told world).words ≡ None }
@@ -53,6 +54,7 @@ fn begin<W: World>(alloc: Global, world: W) -> Result<Session<Outside<W>>, Unloa
 }
 
 // The workers of a session, if it has any, serve it until it is over.
+#[inline(never)]
 fn serve<R: Threads + Wait + Sync, W: World + Send, G: Gate + Sync>(
     rt: &R,
     session: Session<Outside<W>>,

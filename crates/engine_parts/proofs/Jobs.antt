@@ -59,7 +59,7 @@ free_by r h o is none = ap is_none (sym is) ∙ none_by o none
 
 -- ---- a job
 
-own_regs : (r : Engine) (c : Core) (x : Mind) → goes_apart x ≡ true → (seen_hart r.opening.image c x).regs ≡ c.regs
+pub own_regs : (r : Engine) (c : Core) (x : Mind) → goes_apart x ≡ true → (seen_hart r.opening.image c x).regs ≡ c.regs
 own_regs r c x apart = own_seen r.opening.image c.regs x.activity x.phase (ap slot_of (apart_so x apart).idle)
 
 -- whether a hart of which this is kept gets a job
@@ -107,6 +107,11 @@ given r s h pc x same f at some may free apart unasked here word =
     let go : may_go r.opening (seen r) ≡ true = ap (λ (q : Engine). may_go q.opening (seen q)) same ∙ may in
     let is = all_on (nat_lt 0 r.opening.settings.slice) (may_go r.opening (seen r)) (is_free r.hold h) (goes_apart x) (not x.asked) (is_word r.opening.image y.regs.pc) (some_by r.opening.settings.slice some) go free apart (ap not unasked) (ap (is_word r.opening.image) (sym own) ∙ (ap (λ (q : Engine). is_word q.opening.image pc) same ∙ word)) in
     subst (λ (q : Engine). true ≡ gives_job q h) same (sym (job_is r h c x k.1 ∙ is))
+
+pub gives_by : (b : Bool) (r s : Engine) (h pc : ℕ) (x : Mind) → r ≡ s → Sound r → slice_get s.minds h ≡ Some x → (r.opening.settings.slice ≡ 0 → ⊥) → may_go s.opening (seen s) ≡ true → is_free r.hold h ≡ true → goes_apart x ≡ true → x.asked ≡ false
+    → ((c : Core) → slice_get r.machine.cores h ≡ Some c → pc ≡ c.regs.pc) → IsTrue b ↔ InText s.opening.image pc → b ≡ gives_job s h
+gives_by true r s h pc x same f at some may free apart unasked here word = given r s h pc x same f at some may free apart unasked here (word.0 refl)
+gives_by false r s h pc x same f at some may free apart unasked here word = no_word r s h pc x same f at apart here word.1
 
 -- and this is its job
 pub job_of : (r s : Engine) (h limit : ℕ) (x : Mind) (job : Job) → r ≡ s → Sound r → slice_get s.minds h ≡ Some x → goes_apart x ≡ true → (job.hart ≡ h) × (job.limit ≡ limit)

@@ -58,5 +58,7 @@ pub mod Shown
 -- Slices: what is taken back is turns, and to whom a job is given.
 pub mod Taking
 pub mod Jobs
+pub mod Serving
+pub mod Stretching
 -- What an entry shows, by the state in which it comes.
 pub mod Coming

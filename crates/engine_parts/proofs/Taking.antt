@@ -43,7 +43,7 @@ kept_fires : (vs : List Watch) (m k : Memory) → k ≡ m → fired_by vs m k �
 kept_fires vs m k same = ap (fired_by vs m) same ∙ none_fires vs m
 
 -- instructions that the machine executed in their places, as turns
-taken_by : (n : ℕ) (r : Engine) (h spare : ℕ) (x : Mind) (m : Patched) → Facts r → slice_get r.minds h ≡ Some x → Apart x → r.hold ≡ None → r.retired + n ≤ r.opening.settings.budget → r.noted < history → r.exited ≡ false
+pub taken_by : (n : ℕ) (r : Engine) (h spare : ℕ) (x : Mind) (m : Patched) → Facts r → slice_get r.minds h ≡ Some x → Apart x → r.hold ≡ None → r.retired + n ≤ r.opening.settings.budget → r.noted < history → r.exited ≡ false
     → AllInPlace n r.machine h m → Taken n r (run_after n r h x m spare) h
 taken_by zero r h spare x m f at a none budget low still went =
     let same : run_after zero r h x m spare ≡ r = ap (λ (u : Patched). let q : Engine = record r { machine = u; retired = r.retired + 0 } in q) went ∙ ap (λ (k : ℕ). let q : Engine = record r { retired = k } in q) (omega arith) in
@@ -66,12 +66,12 @@ apart_so x is =
     let b = both_true (runs x) (is_idle x.phase) a.0 in
     record { idle = idle_so x.phase b.1; runs = running_so x.activity b.0; plan = a.1; unfired = unfired_so x.course.fired e.1 }
 
-free_so : (o : Option ℕ) → is_none o ≡ true → o ≡ None
+pub free_so : (o : Option ℕ) → is_none o ≡ true → o ≡ None
 free_so None e = refl
 free_so (Some k) e = cc
 
 -- no patch is lifted
-unheld : (r : Engine) (h : ℕ) (x : Mind) → Sound r → slice_get r.minds h ≡ Some x → x.phase ≡ phase.Idle → other_holder r.hold h ≡ None → r.hold ≡ None
+pub unheld : (r : Engine) (h : ℕ) (x : Mind) → Sound r → slice_get r.minds h ≡ Some x → x.phase ≡ phase.Idle → other_holder r.hold h ≡ None → r.hold ≡ None
 unheld r h x f at idle free =
     let k = core_at r h x f at in
     no_hold r.hold h free (sym (fact_of r h k.0 x f k.1).held ∙ ap lifted_of idle)

@@ -1,10 +1,12 @@
 -- Slices of instructions that a hart executes apart from the engine: to whom a job is given, and when what became of it is
 -- taken back (this project's own notions).
-use Rattle.std.specs.Prelude.{◌≡◌, ◌≤◌, ◌+◌, ℕ, Bool, true, false, ◌&&◌, not, is_none, is_some, nat_lt, List, Option, Some, None, slice_get}
+use Rattle.std.specs.Prelude.{◌≡◌, ◌≤◌, ◌+◌, ℕ, Bool, true, false, ◌&&◌, not, is_none, is_some, nat_le, nat_lt, List, Option, Some, None, slice_get}
+use Rattle.rv_exec.specs.Registers.{Registers}
 use Rattle.elf32_read.specs.Program.{Program}
 use Rattle.text_words.specs.Words.{Words, shown, unpatched}
 use Rattle.reg_slices.specs.declared.slice.Job.{Job}
 use Rattle.reg_slices.specs.declared.slice.Slice.{Slice}
+use Rattle.reg_slices.specs.Slices.{SliceOf}
 use Rattle.hart_machine.specs.Slices.{AreStored, TakesSlice, window}
 use Rattle.step_plans.specs.declared.plan.Plan.{Plan}
 use Rattle.step_plans.specs.declared.plan.Plan.TheVariants as plans
@@ -82,7 +84,44 @@ pub record CanTakeIn (o : Opening) (s : State) (xs : List Mind) (hold : Option H
 abbrev pub CanTake : Engine → Slice → Type 0
 CanTake r slice = CanTakeIn r.opening (seen r) r.minds r.hold r.machine.text slice
 
--- it was taken: as many turns of its hart, each of one instruction, which lead to the slice's last registers
-pub record Takes (old new : Engine) (slice : Slice) : Type 0 where
-  pub ran : AllRan slice.count old new slice.hart
-  pub machine : TakesSlice old.machine slice.hart slice.count slice.after new.machine
+-- n instructions of hart h were done: as many turns, each of one instruction, which lead to these registers
+pub record TakesTo (old new : Engine) (h n : ℕ) (after : Registers) : Type 0 where
+  pub ran : AllRan n old new h
+  pub machine : TakesSlice old.machine h n after new.machine
+
+-- a slice was taken
+abbrev pub Takes : Engine → Engine → Slice → Type 0
+Takes old new slice = TakesTo old new slice.hart slice.count slice.after
+
+-- what hart h executes of the stored words from its pc on, as far as a slice may go: the greatest number of instructions
+-- that touch registers alone, and the registers after them
+pub record IsStretch (r : Engine) (h n : ℕ) (after : Registers) : Type 0 where
+  pub hart : Hart
+  pub shown : slice_get (seen r).harts h ≡ Some hart
+  pub limit : n ≤ r.opening.settings.slice
+  pub leads : SliceOf hart.regs hart.regs.pc (window r.machine.text hart.regs.pc) n after
+  pub greatest : (k : ℕ) (q : Registers) → k ≤ r.opening.settings.slice → SliceOf hart.regs hart.regs.pc (window r.machine.text hart.regs.pc) k q → k ≤ n
+
+-- there are such instructions, and the budget has so many left
+abbrev pub has_room : Engine → ℕ → Bool
+has_room r n = nat_lt 0 n && nat_le (r.retired + n) r.opening.settings.budget
+
+-- they are done where that is so
+abbrev pub TakesIf : Bool → Engine → Engine → ℕ → ℕ → Registers → Type 0
+TakesIf true old new h n after = TakesTo old new h n after
+TakesIf false old new h n after = new ≡ old
+
+-- such a stretch of hart h is done at once
+pub record Stretches (h : ℕ) (old new : Engine) : Type 0 where
+  pub count : ℕ
+  pub after : Registers
+  pub is : IsStretch old h count after
+  pub takes : TakesIf (has_room old count) old new h count after
+
+abbrev pub ServesBy : Bool → ℕ → Engine → Engine → Type 0
+ServesBy true h old new = Stretches h old new
+ServesBy false h old new = new ≡ old
+
+-- what a hart's job asks for is done at once, where the hart gives one
+abbrev pub Serves : ℕ → Engine → Engine → Type 0
+Serves h old new = ServesBy (gives_job old h) h old new

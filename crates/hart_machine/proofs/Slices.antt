@@ -1,5 +1,5 @@
 -- A slice of a hart, as steps of the machine.
-use Rattle.std.proofs.Common.{◌≡◌, ℕ, zero, suc, ◌+◌, ◌-◌, ◌*◌, ◌/◌, ◌%◌, ◌^◌, ◌<◌, Bool, true, false, true≢false, nat_le, ◌&&◌, List, [], min, refl, ap, sym, ◌∙◌, subst, arith}
+use Rattle.std.proofs.Common.{◌≡◌, ℕ, zero, suc, ◌+◌, ◌-◌, ◌*◌, ◌/◌, ◌%◌, ◌^◌, ◌<◌, Bool, true, false, true≢false, nat_le, ◌≤◌, ◌&&◌, List, [], ◌∷◌, length, length-set, min, refl, ap, sym, ◌∙◌, subst, arith}
 use Rattle.std.specs.Prelude.{Option, Some, None, IsSome, slice_get, slice_set, if◌then◌else◌, ◌==◌}
 use Rattle.std.specs.Option.{option_map, option_and_then}
 use Rattle.std.proofs.lemmas.Bool.Decides.{nat_tests}
@@ -18,12 +18,13 @@ use Rattle.text_words.specs.declared.fetch.Fetch.TheVariants.{Instruction}
 use Rattle.text_words.specs.Words.{Words, IsStoredAt, ebreak, decoded_as, fetched, fetched_as, is_planted, shown, stored}
 use Rattle.hart_machine.specs.declared.hart.Core.{Core}
 use Rattle.hart_machine.specs.Patched.{Patched}
+use Rattle.hart_machine.specs.Poking.{IsOut}
 use Rattle.hart_machine.specs.Copying.{with_core}
 use Rattle.hart_machine.specs.Stepping.{CoreSteps, InstructionGives, fetched_by, counted}
-use Rattle.hart_machine.specs.Slices.{AllInPlace, AreStored, Fits, TakesSlice, taken_core}
+use Rattle.hart_machine.specs.Slices.{AllInPlace, AreStored, Fits, StretchOf, StretchesTo, TakesSlice, taken_core, window}
 use Rattle.hart_machine.proofs.Places.{same_some, set_known, get-set_same}
 use Rattle.hart_machine.proofs.Runs.{lifted, text_step}
-use Rattle.hart_machine.proofs.Windows.{ebreak_is}
+use Rattle.hart_machine.proofs.Windows.{ebreak_is, window_stored}
 
 -- ---- one instruction of a window
 
@@ -161,3 +162,42 @@ takes_slice m m' h n r c retired e at counts =
     (λ d seen.
     ap (λ (k : ℕ). with_core m h (record c { regs = r; retired = k })) counts
     ∙ ap (λ (b : Core). with_core m h (taken_core b n r)) (same_some c d (sym at ∙ seen)))
+
+-- ---- a window that is executed where it stands
+
+pub core_there : (cs : List Core) (h : ℕ) → h < length cs → (c : Core) × (slice_get cs h ≡ Some c)
+core_there [] h low = absurd (omega arith)
+core_there (c ∷ cs) zero low = (c, refl)
+core_there (c ∷ cs) (suc h) low = core_there cs h (omega arith)
+
+-- a hart in no slot, its registers and the window at its pc
+pub fits_window : (m : Patched) (h hart at : ℕ) (r : Registers) (words : List ℕ) (c : Core) → hart ≡ h → slice_get m.cores h ≡ Some c → c.entered ≡ None → r ≡ c.regs → at < 2 ^ 32 → words ≡ window m.text at → Fits m hart r at words
+fits_window m h hart at r words c same there out is low are =
+    record { core = c; there = ap (slice_get m.cores) same ∙ there; out = out; regs = sym is; stored = subst (AreStored m.text at) (sym are) (window_stored m.text at low) }
+
+pub as_many_harts : (old new : Patched) (h n : ℕ) (r : Registers) → h < length old.cores → TakesSlice old h n r new → length new.cores ≡ length old.cores
+as_many_harts old new h n r low takes =
+    let c = core_there old.cores h low in
+    ap (λ (m : Patched). length m.cores) (takes c.0 c.1) ∙ length-set old.cores h (taken_core c.0 n r)
+
+module _ (m m' : Patched) (h limit n at retired : ℕ) (k : Core) (after : Registers) (is : m ≡ m') (there : slice_get m.cores h ≡ Some k) (pc : at ≡ k.regs.pc) (leads : SliceOf k.regs at (window m.text at) n after)
+    (counts : retired ≡ min (k.retired + n) (2 ^ 64 - 1)) where
+  abbrev new : Patched
+  new = record m { cores = slice_set m.cores h (record k { regs = after; retired = retired }) }
+
+  pub stretched : ((i : ℕ) (q : Registers) → i ≤ limit → SliceOf k.regs at (window m.text at) i q → i ≤ n) → StretchesTo m' h limit n new
+  stretched greatest =
+      let stretch : StretchOf m h limit n new k = record {
+        after = after;
+        leads = subst (λ a. SliceOf k.regs a (window m.text a) n after) pc leads;
+        greatest = subst (λ a. (i : ℕ) (q : Registers) → i ≤ limit → SliceOf k.regs a (window m.text a) i q → i ≤ n) pc greatest;
+        takes = takes_slice m m h n after k retired refl there counts;
+      } in
+      subst (λ (b : Patched). StretchesTo b h limit n new) is
+      (λ c seen. subst (λ (d : Core). StretchOf m h limit n new d) (same_some k c (sym there ∙ seen)) stretch)
+
+  pub stretched_steps : at < 2 ^ 32 → k.retired < 2 ^ 64 → IsOut m' h → AllInPlace n m' h new
+  unfolding fits_window
+  stretched_steps low few =
+      subst (λ (b : Patched). IsOut b h → AllInPlace n b h new) is
+      (λ out. slice_is_steps m new h at n k.regs after (window m.text at) (fits_window m h h at k.regs (window m.text at) k refl there (out k there) refl low refl) few leads (takes_slice m m h n after k retired refl there counts))

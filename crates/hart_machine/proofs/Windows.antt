@@ -1,8 +1,10 @@
 -- Windows of stored words.
-use Rattle.std.proofs.Common.{◌≡◌, ℕ, zero, suc, ◌+◌, ◌-◌, ◌*◌, ◌^◌, ◌<◌, ◌≤◌, length, take, arith, List, [], ◌∷◌, ◌++◌, ap, sym, ◌∙◌, refl, subst, append_assoc, append-nil, Bool, true, false, inl, inr, get_or-set_other, get_or-set_same}
-use Rattle.std.specs.Prelude.{Option, Some, None, Result, Ok, OnOk, slice_get, slice_index, slice_index_or, slice_set, unwrap_or, replicate, if◌then◌else◌}
+use Rattle.std.proofs.Common.{◌≡◌, ℕ, zero, suc, ◌+◌, ◌-◌, ◌*◌, ◌^◌, ◌<◌, ◌≤◌, length, length-take-le, take, arith, List, [], ◌∷◌, ◌++◌, ap, sym, ◌∙◌, refl, subst, append_assoc, append-nil, Bool, true, false, inl, inr, get_or-set_other, get_or-set_same}
+use Rattle.std.specs.Prelude.{Option, Some, None, IsSome, Result, Ok, OnOk, slice_get, slice_index, slice_index_or, slice_set, unwrap_or, replicate, if◌then◌else◌}
 use Rattle.std.specs.Option.{option_and_then, option_map}
 use Rattle.std.proofs.lemmas.Bool.{cases_lt}
+use Rattle.std.proofs.lemmas.List.{get_or-take}
+use Rattle.std.proofs.lemmas.Option.{slice_get_within}
 use Rattle.std.proofs.Math.Seq.{take-suc}
 use Rattle.rv_decode.specs.declared.instr.Instr.{Instr}
 use Rattle.rv_decode.specs.declared.instr.Instr.TheVariants.{Ebreak}
@@ -10,9 +12,9 @@ use Rattle.rv_decode.specs.Decode.{decode}
 use Rattle.rv_decode.specs.Word as fields
 use Rattle.reg_slices.specs.Slices.{AreDecoded}
 use Rattle.text_words.specs.declared.fetch.Fetch.{Fetch}
-use Rattle.text_words.specs.Words.{Words, decoded_as, ebreak, fetched, fetched_as, is_planted, shown, stored}
-use Rattle.text_words.specs.Runs.{IsRun}
-use Rattle.hart_machine.specs.Slices.{instruction_of, window, window_room, word_then, words_from}
+use Rattle.text_words.specs.Words.{Words, AreStored, decoded_as, ebreak, fetched, fetched_as, instruction_of, is_planted, shown, stored}
+use Rattle.text_words.specs.Runs.{AreInstructions, IsRun}
+use Rattle.hart_machine.specs.Slices.{window, window_room, word_then, words_from}
 
 -- one more word
 pub one_more : (t : Words) (addr next n k w : ℕ) (words all : List ℕ) → words ++ words_from t addr n ≡ all → n ≡ suc k → next ≡ addr + 4 → stored t addr ≡ Some w
@@ -112,3 +114,66 @@ all_decoded words instructions n few below above k =
       | inl low ↦ below k low
       | inr high ↦ above k high ∙ sym (ap (λ o. unwrap_or (option_and_then decode o) Ebreak) (past words k (omega arith)))
     ]
+
+-- ---- a window whose instructions stand side by side
+
+then_many : (o : Option ℕ) (b : Bool) (ws : List ℕ) (n : ℕ) → IsSome o → n ≤ length ws → suc n ≤ length (word_then (option_map (λ w. if b then ebreak else w) o) ws)
+then_many None b ws n s l = cc
+then_many (Some w) b ws n s l = omega (arith, l)
+
+-- words that are there without a gap are the window's
+many_words : (t : Words) (addr n near : ℕ) → near ≤ n → ((k : ℕ) → k < near → IsSome (shown t (addr + 4 * k))) → near ≤ length (words_from t addr n)
+many_words t addr n zero few s = omega arith
+many_words t addr zero (suc near) few s = absurd (omega (arith, few))
+many_words t addr (suc n) (suc near) few s =
+    then_many (shown t addr) (is_planted t addr) (words_from t (addr + 4) n) near
+    (subst (λ a. IsSome (shown t a)) (let e : addr + 4 * 0 ≡ addr = omega arith in e) (s 0 (omega arith)))
+    (many_words t (addr + 4) n near (omega (arith, few)) (λ k l. subst (λ a. IsSome (shown t a)) (let e : addr + 4 * suc k ≡ addr + 4 + 4 * k = omega arith in e) (s (suc k) (omega (arith, l)))))
+
+then_none : (o : Option ℕ) (ws : List ℕ) → o ≡ None → length (word_then o ws) ≤ 0
+then_none None ws e = omega arith
+then_none (Some w) ws e = cc
+
+-- it ends at a gap
+pub no_more : (t : Words) (addr n near : ℕ) → stored t (addr + 4 * near) ≡ None → length (words_from t addr n) ≤ near
+no_more t addr zero near e = omega arith
+no_more t addr (suc n) zero e = then_none (stored t addr) (words_from t (addr + 4) n) (ap (stored t) (let z : addr ≡ addr + 4 * 0 = omega arith in z) ∙ e)
+no_more t addr (suc n) (suc near) e =
+    then_few (stored t addr) (words_from t (addr + 4) n) near (no_more t (addr + 4) n near (ap (stored t) (let z : addr + 4 + 4 * near ≡ addr + 4 * suc near = omega arith in z) ∙ e))
+
+behind : (is : List Instr) (k : ℕ) → length is ≤ k → slice_index_or is k Ebreak ≡ Ebreak
+behind [] k high = refl
+behind (i ∷ is) zero high = absurd (omega arith)
+behind (i ∷ is) (suc k) high = behind is k (omega arith)
+
+pub decoded_there : (t : Words) (at : ℕ) (is : List Instr) → AreInstructions t at is → length is ≤ window_room at → length (window t at) ≤ length is → AreDecoded (window t at) is
+decoded_there t at is run few whole =
+    let room : ℕ = window_room at in
+    let many : length is ≤ length (window t at) = many_words t at room (length is) few run.there in
+    all_decoded (window t at) is (length is) whole
+    (λ k l.
+    stored_is t (at + 4 * k) (fetched t (at + 4 * k)) (slice_index_or is k Ebreak) refl (run.are k l)
+    ∙ sym (ap (λ o. unwrap_or (option_and_then decode o) Ebreak) (word_is t at room k (omega (arith, l, many)))))
+    (λ k l. behind is k l)
+
+-- so many of them alone
+pub fewer : (t : Words) (at n : ℕ) (is : List Instr) → n ≤ length is → AreInstructions t at is → AreInstructions t at (take n is)
+fewer t at n is few run =
+    let many : length (take n is) ≡ n = length-take-le n is few in
+    record {
+      low = λ k l. run.low k (omega (arith, l, many, few));
+      there = λ k l. run.there k (omega (arith, l, many, few));
+      are = λ k l. get_or-take n is k Ebreak (omega (arith, l, many)) ∙ run.are k (omega (arith, l, many, few));
+    }
+
+pub decoded_first : (t : Words) (at : ℕ) (is : List Instr) → AreInstructions t at is → window_room at ≤ length is → AreDecoded (window t at) (take (window_room at) is)
+decoded_first t at is run enough =
+    let room : ℕ = window_room at in
+    let many : length (take room is) ≡ room = length-take-le room is enough in
+    decoded_there t at (take room is) (fewer t at room is enough run) (omega (arith, many)) (omega (arith, many, few_words t at room))
+
+-- the words of a window are stored
+pub window_stored : (t : Words) (at : ℕ) → at < 2 ^ 32 → AreStored t at (window t at)
+window_stored t at low i w is =
+    let here : i < length (window t at) = slice_get_within (window t at) i w is in
+    ((within_room t at i low here).1, sym (word_is t at (window_room at) i here) ∙ is)

@@ -1,11 +1,8 @@
 -- Windows of words that a hart executes apart from the machine, and what it brings back.
-use Rattle.std.specs.Prelude.{◌≡◌, ◌<◌, ℕ, zero, suc, ◌+◌, ◌-◌, ◌/◌, ◌^◌, min, false, List, [], ◌∷◌, Option, Some, None, IsSome, slice_get}
-use Rattle.rv_decode.specs.declared.instr.Instr.{Instr}
-use Rattle.rv_decode.specs.declared.instr.Instr.TheVariants.{Ebreak}
+use Rattle.std.specs.Prelude.{◌≡◌, ◌<◌, ◌≤◌, ℕ, zero, suc, ◌+◌, ◌-◌, ◌/◌, ◌^◌, min, false, List, [], ◌∷◌, Option, Some, None, IsSome, slice_get}
 use Rattle.rv_exec.specs.Registers.{Registers}
 use Rattle.rv_exec.specs.declared.effect.Stepped.TheVariants as stepped
-use Rattle.text_words.specs.declared.fetch.Fetch.{Fetch}
-use Rattle.text_words.specs.declared.fetch.Fetch.TheVariants as fetch
+use Rattle.reg_slices.specs.Slices.{SliceOf}
 pub use Rattle.text_words.specs.Words.{AreStored}
 use Rattle.text_words.specs.Words.{Words, stored, shown, is_planted}
 use Rattle.hart_machine.specs.declared.hart.Core.{Core}
@@ -29,13 +26,6 @@ window_room at = min 64 ((2 ^ 32 - 1 - at) / 4 + 1)
 abbrev pub window : Words → ℕ → List ℕ
 window t at = words_from t at (window_room at)
 
--- what stands for a hart, as an instruction: EBREAK where a breakpoint is planted, and where there is no instruction
-abbrev pub instruction_of : Fetch → Instr
-instruction_of (fetch.Instruction i) = i
-instruction_of fetch.Absent = Ebreak
-instruction_of fetch.Planted = Ebreak
-instruction_of fetch.Illegal = Ebreak
-
 -- other registers, after n more instructions; the count stands still at the greatest of its type
 abbrev pub taken_core : Core → ℕ → Registers → Core
 taken_core c n r = record c { regs = r; retired = min (c.retired + n) (2 ^ 64 - 1) }
@@ -43,6 +33,17 @@ taken_core c n r = record c { regs = r; retired = min (c.retired + n) (2 ^ 64 - 
 -- hart h has these registers, n more instructions are counted, and nothing else changes
 abbrev pub TakesSlice : Patched → ℕ → ℕ → Registers → Patched → Type 0
 TakesSlice old h n r new = (c : Core) → slice_get old.cores h ≡ Some c → new ≡ with_core old h (taken_core c n r)
+
+-- Hart h executed n instructions of the window at its pc, each of which touches registers alone; n is the greatest number up to
+-- the limit, and nothing else changes.
+pub record StretchOf (old : Patched) (h limit n : ℕ) (new : Patched) (c : Core) : Type 0 where
+  pub after : Registers
+  pub leads : SliceOf c.regs c.regs.pc (window old.text c.regs.pc) n after
+  pub greatest : (k : ℕ) (r : Registers) → k ≤ limit → SliceOf c.regs c.regs.pc (window old.text c.regs.pc) k r → k ≤ n
+  pub takes : TakesSlice old h n after new
+
+abbrev pub StretchesTo : Patched → ℕ → ℕ → ℕ → Patched → Type 0
+StretchesTo old h limit n new = (c : Core) → slice_get old.cores h ≡ Some c → StretchOf old h limit n new c
 
 -- hart h is in no slot and has these registers, and these words are stored from an address on
 pub record Fits (m : Patched) (h : ℕ) (r : Registers) (addr : ℕ) (words : List ℕ) : Type 0 where

@@ -145,9 +145,9 @@ pub fn step_core(
     }
 }
 
-// Executes one instruction. False where it asks the environment or traps; then nothing has changed.
+/// Executes one instruction. False where it asks the environment or traps; then nothing has changed.
 #[inline(always)]
-fn execute_alone(instruction: Instr, regs: &mut Regs, memory: &mut DataMemory) -> bool
+pub fn execute_alone(instruction: Instr, regs: &mut Regs, memory: &mut DataMemory) -> bool
     ensures ran { result ≡ true → InstructionGives stepped.Ran instruction regs.old regs.new memory.old memory.new }
     ensures kept { result ≡ false → (regs.new ≡ regs.old) × (memory.new ≡ memory.old) }
     ensures stops { result ≡ false → IsStop (step instruction regs.old memory.old) }

@@ -16,6 +16,8 @@ ghost use Rattle.text_words.specs.Words.{AreStored};
 ghost use Rattle.hart_machine.specs.declared.hart.Core.{Core};
 
 mod slicing;
+mod staying;
+mod stretching;
 
 use crate::Core;
 use crate::cores::first_cores;

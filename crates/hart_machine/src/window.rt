@@ -1,11 +1,11 @@
 // Windows of stored words, and their instructions.
-ghost use Rattle.std.specs.Prelude.{◌≡◌, [], unwrap_or};
+ghost use Rattle.std.specs.Prelude.{◌≡◌, ◌≤◌, [], IfSome, length, unwrap_or};
 ghost use Rattle.std.specs.Option.{option_and_then};
 ghost use Rattle.rv_decode.specs.Decode.{decode};
 ghost use Rattle.rv_decode.specs.declared.instr.Instr.TheVariants.{Ebreak};
 ghost use Rattle.reg_slices.specs.Slices.{AreDecoded};
 ghost use Rattle.text_words.specs.Fronts.{IsFront};
-ghost use Rattle.text_words.specs.Words.{stored};
+ghost use Rattle.text_words.specs.Words.{instruction_of, stored};
 ghost use Rattle.hart_machine.specs.Slices as slices;
 
 use arrayvec::ArrayVec;
@@ -42,7 +42,7 @@ pub fn push_window(text: &TextWords, at: u32, words: &mut ArrayVec<u32, 64>)
 // What stands for a hart, as an instruction: EBREAK where a breakpoint is planted, and where there is no instruction.
 #[inline(always)]
 fn instruction_of(fetched: Fetch) -> Instr
-    ensures { result ≡ slices.instruction_of fetched }
+    ensures { result ≡ instruction_of fetched }
 {
     match fetched {
         Fetch::Instruction(instruction) => instruction,
@@ -74,4 +74,20 @@ pub fn window_instructions(text: &TextWords, at: u32, words: &[u32]) -> [Instr; 
         instructions[i] = stored_instruction(&front, text, at + 4 * i as u32);
     }
     instructions
+}
+
+/// The instructions of the window at an address, where they stand: none where the window goes on in another section.
+#[inline(always)]
+pub fn instructions_in_place(text: &TextWords, at: u32) -> Option<&[Instr]>
+    ensures { IfSome result (λ it. (length it.now ≤ 64) × AreDecoded (slices.window text.now at) it.now) }
+{
+    let room = window_room(at);
+    let run = text.instructions_at(at);
+    if run.len() >= room {
+        return Some(&run[..room]);
+    }
+    if text.word(at + 4 * run.len() as u32).is_some() {
+        return None;
+    }
+    Some(run)
 }

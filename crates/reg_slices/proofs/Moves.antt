@@ -1,8 +1,12 @@
--- When one more instruction of a window can be executed, and how far a run of them goes.
+-- What an instruction does to registers alone; when one more instruction of a window can be executed, and how far a run of them goes.
 use Rattle.std.proofs.Common.{◌≡◌, ℕ, suc, zero, ◌+◌, ◌%◌, ◌<◌, ◌≤◌, ap, sym, ◌∙◌, cond, refl, Bool, Option, Some, None, Err, Result, arith, true, false, List, inl, inr}
-use Rattle.std.specs.Prelude.{◌==◌, unwrap_or}
+use Rattle.std.specs.Prelude.{◌-◌, ◌*◌, ◌/◌, ◌^◌, ◌&&◌, ◌==◌, [], ◌∷◌, if◌then◌else◌, length, nat_le, nat_lt, slice_get, slice_index_or, unwrap_or}
 use Rattle.std.specs.Option.{option_and_then}
+use Rattle.std.specs.Int.Bits.{bit_or, or_zero_r}
 use Rattle.std.proofs.lemmas.Bool.{cases_lt}
+use Rattle.std.proofs.lemmas.Bool.Decides.{nat_tests}
+use Rattle.std.proofs.lemmas.Nat.{le_or_r}
+use Rattle.rv_decode.specs.Decode.{decode}
 use Rattle.rv_decode.specs.declared.instr.Instr.{Instr}
 use Rattle.rv_decode.specs.declared.instr.Instr.TheVariants.{Lui, Auipc, Jal, Jalr, Branch, Load, Store, OpImm, Op, MulDiv, Amo, Fence, FenceI, Ecall, Ebreak}
 use Rattle.rv_decode.specs.declared.instr.LoadOp.{LoadOp}
@@ -15,7 +19,7 @@ use Rattle.rv_exec.specs.Registers.{Registers, get, plus}
 use Rattle.rv_exec.specs.Step.{step, Outcome, load_len, store_len, on_load, on_store, on_amo}
 use Rattle.rv_exec.specs.Memory.{IsLen, Memory, amo, load, no_bytes, store}
 use Rattle.rv_exec.proofs.Empty.{loaded_no_bytes, stored_no_bytes, swapped_no_bytes}
-use Rattle.reg_slices.specs.Slices.{instruction_at, moved, registers_of, own_step, ran}
+use Rattle.reg_slices.specs.Slices.{AreDecoded, instruction_at, moved, registers_of, own_step, ran}
 
 -- ---- what isn't of registers alone traps where there is no byte
 
@@ -62,17 +66,79 @@ own r (Amo op rd rs1 rs2) = let at : ℕ = get r rs1 in no_amo rd r (at % 4 == 0
 own r Ecall = refl
 own r Ebreak = refl
 
-by_entry : (r : Registers) (o : Option Instr) → option_and_then (own_step r) o ≡ registers_of (step (unwrap_or o Ebreak) r no_bytes)
-by_entry r None = refl
-by_entry r (Some i) = own r i
+pub done_alone : (r : Registers) (i : Instr) (o : Outcome) → o ≡ step i r no_bytes → own_step r i ≡ registers_of o
+done_alone r i o is = own r i ∙ ap registers_of (sym is)
+
+pub ruleset alone = (done_alone)
 
 -- ---- one instruction of a window
 
-pub stepped : (words : List ℕ) (at : ℕ) (r : Registers) (i : Instr) (o : Outcome) → i ≡ unwrap_or (instruction_at words at r.pc) Ebreak → o ≡ step i r no_bytes → moved words at r ≡ registers_of o
-unfolding moved
-stepped words at r i o stands is = by_entry r (instruction_at words at r.pc) ∙ (ap (λ j. registers_of (step j r no_bytes)) (sym stands) ∙ ap registers_of (sym is))
+by_entry : (r : Registers) (o : Option Instr) → option_and_then (own_step r) o ≡ own_step r (unwrap_or o Ebreak)
+by_entry r None = refl
+by_entry r (Some i) = refl
 
-pub ruleset moves = (stepped)
+pub stepped : (words : List ℕ) (at : ℕ) (r : Registers) (i : Instr) → i ≡ unwrap_or (instruction_at words at r.pc) Ebreak → moved words at r ≡ own_step r i
+unfolding moved
+stepped words at r i stands = by_entry r (instruction_at words at r.pc) ∙ ap (own_step r) (sym stands)
+
+past : (is : List Instr) (k : ℕ) → length is ≤ k → slice_index_or is k Ebreak ≡ Ebreak
+past [] k high = refl
+past (i ∷ is) zero high = absurd (omega arith)
+past (i ∷ is) (suc k) high = past is k (omega arith)
+
+same_or : (is : List Instr) (k : ℕ) (i j : Instr) → k < length is → slice_index_or is k i ≡ slice_index_or is k j
+same_or [] k i j low = absurd (omega arith)
+same_or (x ∷ is) zero i j low = refl
+same_or (x ∷ is) (suc k) i j low = same_or is k i j (omega arith)
+
+is_below : (k n : ℕ) → true ≡ nat_lt k n → k < n
+is_below k n e = grind (arith, nat_tests)
+
+is_behind : (k n : ℕ) → false ≡ nat_lt k n → n ≤ k
+is_behind k n e = grind (arith, nat_tests)
+
+-- what a look-up of a place finds
+pub some_or : (is : List Instr) (k : ℕ) (i : Instr) → true ≡ nat_lt k (length is) → i ≡ slice_index_or is k i → i ≡ slice_index_or is k Ebreak
+some_or is k i low e = e ∙ same_or is k i Ebreak (is_below k (length is) low)
+
+pub none_or : (is : List Instr) (k : ℕ) → false ≡ nat_lt k (length is) → Ebreak ≡ slice_index_or is k Ebreak
+none_or is k high = sym (past is k (is_behind k (length is) high))
+
+on_word : (b : Bool) (words : List ℕ) (n : ℕ) → b ≡ true → option_and_then decode (if b then slice_get words n else None) ≡ option_and_then decode (slice_get words n)
+on_word b words n e = ap (λ a. option_and_then decode (if a then slice_get words n else None)) e
+
+off_word : (b : Bool) (words : List ℕ) (n : ℕ) → b ≡ false → option_and_then decode (if b then slice_get words n else None) ≡ None
+off_word b words n e = ap (λ a. option_and_then decode (if a then slice_get words n else None)) e
+
+on_place : (at pc : ℕ) → at ≤ pc → (pc - at) % 4 ≡ 0 → (nat_le at pc && ((pc - at) % 4 == 0)) ≡ true
+on_place at pc low four = grind (arith, nat_tests)
+
+off_place : (at pc : ℕ) → ((pc - at) % 4 ≡ 0 → ⊥) → (nat_le at pc && ((pc - at) % 4 == 0)) ≡ false
+off_place at pc other = grind (arith, nat_tests)
+
+before : (at pc : ℕ) → pc < at → (nat_le at pc && ((pc - at) % 4 == 0)) ≡ false
+before at pc low = grind (arith, nat_tests)
+
+pub before_window : (words : List ℕ) (at pc : ℕ) → pc < at → Ebreak ≡ unwrap_or (instruction_at words at pc) Ebreak
+before_window words at pc low = sym (ap (λ o. unwrap_or o Ebreak) (off_word (nat_le at pc && ((pc - at) % 4 == 0)) words ((pc - at) / 4) (before at pc low)))
+
+-- the distance of a place, turned round by two bits, finds it: a distance that is no multiple of 4 is behind all places then
+pub in_window : (words : List ℕ) (is : List Instr) (at pc k : ℕ) → AreDecoded words is → at ≤ pc → pc < 2 ^ 32 → k ≡ bit_or ((pc - at) / 4) ((pc - at) * 2 ^ 30 % 2 ^ 32) → length is ≤ 2 ^ 30
+    → slice_index_or is k Ebreak ≡ unwrap_or (instruction_at words at pc) Ebreak
+in_window words is at pc k are low small turned few =
+    let n : ℕ = pc - at in
+    let part : ℕ = n * 2 ^ 30 % 2 ^ 32 in
+    let on : Bool = nat_le at pc && (n % 4 == 0) in
+    elim (cases_lt 0 (n % 4)) [
+      | inl other ↦
+          let far : 2 ^ 30 ≤ k = omega (arith, other, turned, le_or_r (n / 4) part) in
+          past is k (omega (arith, far, few)) ∙ sym (ap (λ o. unwrap_or o Ebreak) (off_word on words (n / 4) (off_place at pc (λ e. absurd (omega (arith, other, e))))))
+      | inr four ↦
+          let multiple : n % 4 ≡ 0 = omega (arith, four) in
+          let none : part ≡ 0 = omega (arith, multiple) in
+          let place : k ≡ n / 4 = turned ∙ (ap (bit_or (n / 4)) none ∙ or_zero_r (n / 4)) in
+          ap (λ j. slice_index_or is j Ebreak) place ∙ (are (n / 4) ∙ sym (ap (λ o. unwrap_or o Ebreak) (on_word on words (n / 4) (on_place at pc low multiple))))
+    ]
 
 -- past the place where no more instruction is executed there is no run
 none_after : (words : List ℕ) (at : ℕ) (r q : Registers) (n k : ℕ) → ran words at r n ≡ Some q → moved words at q ≡ None → n < k → ran words at r k ≡ None

@@ -3,4 +3,4 @@
 
 mod slice;
 
-pub use slice::{Job, Slice, registers_alone, run_slice};
+pub use slice::{Job, Slice, execute_alone, registers_alone, run_alone, run_slice};

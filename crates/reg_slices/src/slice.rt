@@ -1,8 +1,9 @@
-ghost use Rattle.std.specs.Prelude.{◌≡◌, ◌≤◌, ℕ, Some, None, if◌then◌else◌, unwrap_or};
+// One instruction that touches registers alone, and jobs of many.
+ghost use Rattle.std.specs.Prelude.{◌≡◌, ◌≤◌, ◌^◌, ℕ, List, Some, None, if◌then◌else◌, length, unwrap_or};
 ghost use Rattle.std.specs.Bool.{OnFalse};
 ghost use Rattle.rv_decode.specs.declared.instr.Instr.TheVariants.{Ebreak};
 ghost use Rattle.rv_exec.specs.Registers.{Registers};
-ghost use Rattle.reg_slices.specs.Slices.{AreDecoded, SliceOf, instruction_at, moved, TouchesRegistersAlone};
+ghost use Rattle.reg_slices.specs.Slices.{AreDecoded, SliceOf, instruction_at, own_step, TouchesRegistersAlone};
 
 use arrayvec::ArrayVec;
 use rv_decode::Instr;
@@ -43,35 +44,53 @@ pub struct Slice {
     pub ghost agrees: { SliceOf regs at words.items count after },
 }
 
-impl Job {
-    // The instruction of the window that stands at `pc`, or EBREAK.
-    #[inline(always)]
-    fn instruction(&self, pc: u32) -> Instr
-        ensures { result ≡ unwrap_or (instruction_at self.now.words.items self.now.at pc) Ebreak }
-    {
-        if pc < self.at || (pc - self.at) % 4 != 0 {
-            return Instr::Ebreak;
-        }
-        let k = ((pc - self.at) / 4) as usize;
-        match self.instructions.get(k) {
-            Some(instruction) => *instruction,
-            None => Instr::Ebreak,
-        }
+/// Executes an instruction if it touches registers alone and doesn't trap. False where it does neither; then nothing has
+/// changed.
+#[inline(always)]
+#[tactic(auto, using(crate::proofs::Moves::alone))]
+pub fn execute_alone(instruction: Instr, regs: &mut Regs) -> bool
+    ensures moved { own_step regs.old instruction ≡ (if result then Some regs.new else None) }
+    ensures kept { OnFalse result (regs.new ≡ regs.old) }
+{
+    match execute(instruction, regs, &mut NoBytes) {
+        Effect::Done => true,
+        Effect::Call | Effect::Trap(_) => false,
     }
+}
 
-    // Executes the instruction of the window at pc, if there is one that touches registers alone and doesn't trap. A load, a
-    // store and an AMO trap, as there is no byte.
-    #[inline(always)]
-    #[tactic(auto, using(crate::proofs::Moves::moves))]
-    fn advance(&self, regs: &mut Regs) -> bool
-        ensures moved { moved self.now.words.items self.now.at regs.old ≡ (if result then Some regs.new else None) }
-        ensures kept { OnFalse result (regs.new ≡ regs.old) }
-    {
-        match execute(self.instruction(regs.pc()), regs, &mut NoBytes) {
-            Effect::Done => true,
-            Effect::Call | Effect::Trap(_) => false,
+// The instruction that stands at `pc` in a window that begins at `at`, or EBREAK.
+#[inline(always)]
+fn instruction_in(instructions: &[Instr], at: u32, pc: u32) -> Instr
+    requires { length instructions.now ≤ 2 ^ 30 }
+    ensures { (words : List ℕ) → AreDecoded words instructions.now → result ≡ unwrap_or (instruction_at words at pc) Ebreak }
+{
+    if pc < at {
+        return Instr::Ebreak;
+    }
+    // The place, where the distance is a multiple of 4, and else more than any place.
+    let k = (pc - at).rotate_right(2) as usize;
+    match instructions.get(k) {
+        Some(instruction) => *instruction,
+        None => Instr::Ebreak,
+    }
+}
+
+/// Executes instructions of a window that begins at `at`, up to the limit, as long as they touch registers alone and none
+/// traps, and says how many. The count is the greatest. The window is given by what its words are decoded to.
+#[inline(always)]
+pub fn run_alone(instructions: &[Instr], at: u32, regs: &mut Regs, limit: u32) -> u32
+    requires { length instructions.now ≤ 2 ^ 30 }
+    ensures limit { result ≤ limit }
+    ensures slice { (words : List ℕ) → AreDecoded words instructions.now → SliceOf regs.old at words result regs.new }
+    ensures greatest { (words : List ℕ) (n : ℕ) (r : Registers) → AreDecoded words instructions.now → n ≤ limit → SliceOf regs.old at words n r → n ≤ result }
+{
+    for count in 0..limit {
+        let instruction = instruction_in(instructions, at, regs.pc());
+        if !execute_alone(instruction, regs) {
+            return count;
         }
     }
+    limit
 }
 
 /// Executes instructions of the window up to the limit, as long as they touch registers alone and none traps.
@@ -82,10 +101,7 @@ pub fn run_slice(job: Job) -> Slice
     ensures greatest { (n : ℕ) (r : Registers) → n ≤ job.limit → SliceOf job.regs job.at job.words.items n r → n ≤ result.count }
 {
     let mut after = job.regs;
-    let mut count = 0;
-    while count < job.limit && job.advance(&mut after) {
-        count += 1;
-    }
+    let count = run_alone(&job.instructions, job.at, &mut after, job.limit);
     let Job {
         hart,
         regs,

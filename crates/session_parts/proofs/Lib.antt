@@ -32,6 +32,8 @@ pub mod Playing
 -- Jobs: the hart that is picked, and the marks of those whose job is out.
 pub mod Picked
 pub mod Outs
+-- A job that is served at once.
+pub mod Serving
 -- A piece of input in which no line ends.
 pub mod Piecing
 -- Workers: when a slice is committed, and what goes to another thread.

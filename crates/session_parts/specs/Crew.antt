@@ -111,6 +111,15 @@ abbrev pub Serves : Option Job → Moment → Moment → Type 0
 Serves None p q = Goes None p q
 Serves (Some job) p q = (m : Moment) × Goes (Some job) p m × ((slice : Slice) × IsWorkOf job slice × TakesBack slice m q)
 
+-- the job of a hart, where that gives one, is handed out, worked, and taken back at once
+abbrev pub WorksAtOnce : Option Job → ℕ → Moment → Moment → Type 0
+WorksAtOnce None h p q = Gives h None p q
+WorksAtOnce (Some job) h p q = (m : Moment) × Gives h (Some job) p m × ((slice : Slice) × IsWorkOf job slice × TakesBack slice m q)
+
+-- whatever is to be done apart for a hart is done
+abbrev pub ServesHart : ℕ → Moment → Moment → Type 0
+ServesHart h p q = (job : Option Job) × WorksAtOnce job h p q
+
 -- so many duties, one after the other
 abbrev pub ServesFor : ℕ → Moment → Moment → Type 0
 ServesFor zero p q = q ≡ p

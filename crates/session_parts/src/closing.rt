@@ -80,6 +80,7 @@ fn hand_back<W: World>(
 
 /// What is handed back of a session that is over: the world that was handed in. A session whose log is wanted puts it, and a
 /// generated run its summary.
+#[inline(never)]
 pub fn finish<W: World>(alloc: Global, ended: Ended<Outside<W>>) -> Ended<W>
     requires { IsOver ended.status (told_of W.told ended.world) ended.closed }
     ensures { Ends result.status (W.told result.world) result.closed }

@@ -77,11 +77,15 @@ no_section ss i addr l a so_far =
 
 -- ---- the run that they are
 
-cut_length : {A : Type 0} (xs : List A) (first count : ℕ) → first + count ≤ length xs → length (take count (drop first xs)) ≡ count
+pub cut_length : {A : Type 0} (xs : List A) (first count : ℕ) → first + count ≤ length xs → length (take count (drop first xs)) ≡ count
 cut_length xs first count h = length-take-le count (drop first xs) (omega (arith, length-drop first xs))
 
-cut_at : {A : Type 0} (xs : List A) (first count k : ℕ) (d : A) → k < count → slice_index_or (take count (drop first xs)) k d ≡ slice_index_or xs (first + k) d
+pub cut_at : {A : Type 0} (xs : List A) (first count k : ℕ) (d : A) → k < count → slice_index_or (take count (drop first xs)) k d ≡ slice_index_or xs (first + k) d
 cut_at xs first count k d l = get_or-take count (drop first xs) k d l ∙ get_or-drop first xs k d
+
+-- so many elements from a place on
+pub cut : {A : Type 0} (xs ys : List A) (first count : ℕ) → xs ≡ ys → take (first + count - first) (drop first xs) ≡ take count (drop first ys)
+cut xs ys first count e = ap (λ k. take k (drop first xs)) (let n : first + count - first ≡ count = omega arith in n) ∙ ap (λ zs. take count (drop first zs)) e
 
 of_decoded : (w : ℕ) (o : Option Instr) → stored_as w (decoded_as o) ≡ w
 of_decoded w None = refl

@@ -1,10 +1,10 @@
 -- Text sections side by side in one list of words.
-use Rattle.std.specs.Prelude.{◌≡◌, ◌<◌, ℕ, ◌+◌, ◌-◌, ◌*◌, ◌/◌, ◌%◌, ◌^◌, ◌==◌, Bool, true, false, List, [], ◌∷◌, ◌++◌, length, slice_index, slice_index_or, Option, Some, None, if◌then◌else◌}
+use Rattle.std.specs.Prelude.{◌≡◌, ◌<◌, ℕ, ◌+◌, ◌-◌, ◌*◌, ◌/◌, ◌%◌, ◌^◌, ◌==◌, Bool, true, false, List, [], ◌∷◌, ◌++◌, length, map, slice_index, slice_index_or, Option, Some, None, if◌then◌else◌}
 use Rattle.std.specs.Option.{option_map, option_map_or}
 use Rattle.elf32_read.specs.Fields.{spans}
 use Rattle.elf32_read.specs.Program.{Text}
 use Rattle.text_words.specs.Tables.{words_below, set_below}
-use Rattle.text_words.specs.Words.{Words, fetched_as, stored_as}
+use Rattle.text_words.specs.Words.{Words, fetched_as, instruction_of, stored_as}
 use Rattle.text_words.specs.declared.fetch.Fetch.{Fetch}
 use Rattle.text_words.specs.declared.fetch.Fetch.TheVariants.{Absent, Planted, Illegal, Instruction}
 use Rattle.text_words.specs.declared.layout.Section.{Section}
@@ -64,6 +64,7 @@ pub record IsLaid (t : Inside) : Type 0 where
   pub whole : length t.code.items ≡ length t.words.items
   pub entries : AreEntries t.words.items t.code.items
   pub kept : AreKept t.words.items t.code.items t.stored.items
+  pub instructions : t.instructions.items ≡ map instruction_of t.code.items
 
 -- the layout of text sections, from a place on
 abbrev pub sections_from : ℕ → List Text → List Section

@@ -5,6 +5,7 @@ use Rattle.std.specs.Option.{option_map}
 use Rattle.std.specs.FinMap as map
 use Rattle.std.specs.FinSet as set
 use Rattle.rv_decode.specs.declared.instr.Instr.{Instr}
+use Rattle.rv_decode.specs.declared.instr.Instr.TheVariants.{Ebreak}
 use Rattle.rv_decode.specs.Decode.{decode}
 use Rattle.elf32_read.specs.Program.{Program, text_word}
 use Rattle.text_words.specs.Tables.{WordMap, AddressSet, words_below}
@@ -61,6 +62,13 @@ fetched_as (Some w) false = decoded_as (decode w)
 -- what stands at an address for a hart that executes it
 abbrev pub fetched : Words → ℕ → Fetch
 fetched t addr = fetched_as (shown t addr) (is_planted t addr)
+
+-- what stands for a hart, as an instruction: EBREAK where a breakpoint is planted, and where there is no instruction
+abbrev pub instruction_of : Fetch → Instr
+instruction_of (Instruction i) = i
+instruction_of Absent = Ebreak
+instruction_of Planted = Ebreak
+instruction_of Illegal = Ebreak
 
 -- the text of a program, with no breakpoint
 abbrev pub unpatched : Program → Words

@@ -2,7 +2,7 @@
 ghost use Rattle.std.specs.Prelude.{ℕ, ◌<◌, ◌%◌, ◌^◌, IfSome, Some, ◌≡◌, ◌≤◌, ◌+◌, ◌*◌, ◌/◌, ◌++◌, ◌∷◌, [], length, map, OnOk, IfOk};
 ghost use Rattle.rv_decode.specs.Decode.{decode};
 ghost use Rattle.elf32_read.specs.Fields.{u32_at, entries};
-ghost use Rattle.text_words.specs.Words.{decoded_as, fetched_as};
+ghost use Rattle.text_words.specs.Words.{decoded_as, fetched_as, instruction_of};
 ghost use Rattle.text_words.specs.Layout.{Laid, IsTable, index, word_at, entry_at, mark_at, sections_from, all_words};
 
 use crate::fetch::Fetch;
@@ -231,6 +231,17 @@ pub fn table_of(alloc: Global, sections: &[Section], len: usize) -> Result<Table
     }
     push_places(&mut places, sections, base, count, len)?;
     Ok(Table { base, places })
+}
+
+/// The instruction of each entry.
+pub fn instructions_of(alloc: Global, code: &[Fetch]) -> Result<Vec<Instr>, AllocError>
+    ensures { IfOk result (λ v. v.items ≡ map instruction_of code.now) }
+{
+    let mut instructions = Vec::with_capacity(alloc, code.len())?;
+    for entry in code {
+        instructions.push(entry.instruction())?;
+    }
+    Ok(instructions)
 }
 
 /// The entry of each word, with no breakpoint.

@@ -1,18 +1,20 @@
+// The text of a program, as a type.
 ghost use Rattle.std.specs.Prelude.{◌≡◌, ◌<◌, length, true, false, IfOk, IsSome, if◌then◌else◌};
 ghost use Rattle.std.specs.FinSet as set;
 ghost use Rattle.text_words.specs.Words.{AreStored, IsStoredAt, unpatched, shown, stored, is_planted, fetched};
 ghost use Rattle.text_words.specs.Fronts.{IsFront};
-ghost use Rattle.text_words.specs.Runs.{IsRun};
+ghost use Rattle.text_words.specs.Runs.{AreInstructions, IsRun};
 
 use crate::fetch::Fetch;
 use crate::front::{Front, front_of};
 use crate::layout::{
-    Section, Table, collect, decode_all, entry_of, fetch_in, place_of, planted_in, shown_in,
-    table_of,
+    Section, Table, collect, decode_all, entry_of, fetch_in, instructions_of, place_of, planted_in,
+    shown_in, table_of,
 };
 use crate::run::{EBREAK, span_at, stored_word};
 use dbg_traits::NoMemory;
 use elf32_read::Image;
+use rv_decode::Instr;
 use std::alloc::Global;
 use std::marker::Model;
 
@@ -27,6 +29,8 @@ pub struct TextWords {
     code: Vec<Fetch>,
     // The words with the patches, so that many are copied and compared at once.
     stored: Vec<u32>,
+    // The instruction of each, EBREAK where there is none: a hart that runs looks at nothing else.
+    instructions: Vec<Instr>,
 }
 
 impl Model for TextWords {
@@ -56,12 +60,14 @@ impl TextWords {
         let table = table_of(alloc, sections.as_slice(), words.len())?;
         let code = decode_all(alloc, words.as_slice())?;
         let stored = words.as_slice().to_vec(alloc)?;
+        let instructions = instructions_of(alloc, code.as_slice())?;
         Ok(TextWords {
             sections,
             table,
             words,
             code,
             stored,
+            instructions,
         })
     }
 
@@ -83,6 +89,16 @@ impl TextWords {
     {
         let (first, count) = span_at(self.sections.as_slice(), addr, self.words.len());
         &self.stored.as_slice()[first..first + count]
+    }
+
+    /// The instructions of the words that stand side by side from an address on, as many as `run_at` has: EBREAK where a
+    /// breakpoint is planted, and where a word is none.
+    #[inline(always)]
+    pub fn instructions_at(&self, addr: u32) -> &[Instr]
+        ensures { AreInstructions self.now addr result.now }
+    {
+        let (first, count) = span_at(self.sections.as_slice(), addr, self.words.len());
+        &self.instructions.as_slice()[first..first + count]
     }
 
     // Whether the word is stored `i` words after an address.
@@ -157,7 +173,7 @@ impl TextWords {
     pub fn front(&self) -> Front<'_>
         ensures { IsFront self.now result.address result.count result.code.now }
     {
-        front_of(self.sections.as_slice(), self.code.as_slice())
+        front_of(self.sections.as_slice(), self.instructions.as_slice())
     }
 
     // Puts what stands at a word of text from now on: a breakpoint, or the program's word. There is nothing to lift where no
@@ -173,6 +189,7 @@ impl TextWords {
         let word = self.words[i];
         let entry = entry_of(word, planted);
         self.stored[i] = stored_word(word, &entry);
+        self.instructions[i] = entry.instruction();
         self.code[i] = entry;
     }
 

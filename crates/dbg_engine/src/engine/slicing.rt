@@ -1,7 +1,7 @@
 // Slices of a hart's instructions that are executed apart from the engine.
-ghost use Rattle.std.specs.Prelude.{◌≡◌, ◌<◌, ◌≤◌, ◌↔◌, IfSome, IsTrue, Some, is_some, length, slice_get};
+ghost use Rattle.std.specs.Prelude.{◌≡◌, ◌<◌, ◌≤◌, ◌↔◌, IfSome, IsTrue, Some, is_some, length, slice_get, true};
 ghost use Rattle.hart_machine.specs.declared.hart.Core.{Core};
-ghost use Rattle.engine_parts.specs.Slicing.{CanTake, IsJobOf, Takes, gives_job, goes_apart, takes_slices};
+ghost use Rattle.engine_parts.specs.Slicing.{CanTake, IsJobOf, Serves, Takes, gives_job, goes_apart, takes_slices};
 
 use super::Engine;
 use super::run::is_idle;
@@ -9,7 +9,7 @@ use engine_parts::Mind;
 use engine_parts::minds::{is_running, other_holder};
 use engine_parts::moving::ran_mind;
 use hart_machine::Machine;
-use reg_slices::{Job, Slice};
+use reg_slices::{Job, Slice, run_slice};
 use rv_exec::Regs;
 use step_plans::Plan;
 
@@ -53,6 +53,22 @@ fn has_registers(machine: &Machine, h: u32, regs: &Regs) -> bool
 impl Engine {
     ghost use Rattle.engine_parts.specs.Facts.{Facts};
 
+    // Whether a hart gets a job.
+    fn gives_job(&self, h: u32) -> bool
+        requires { h < length self.now.minds }
+        ensures { result ≡ gives_job self.now h }
+    {
+        let limit = self.opening.settings.slice;
+        if limit == 0 || !self.may_go() || other_holder(self.hold, h).is_some() {
+            return false;
+        }
+        let mind = self.mind(h);
+        if mind.asked || !goes_apart(&mind) {
+            return false;
+        }
+        self.is_text(self.machine.pc(h))
+    }
+
     /// What a hart is to execute apart from the engine, if it can: its registers, and the stored words from its pc on. None
     /// exactly where slices are off, the session is over, a patch is lifted for another hart, or the hart doesn't run, is in
     /// a step over a breakpoint, has a plan that looks at each arrival, made a watch fire, is asked to stop, or isn't in text.
@@ -61,18 +77,10 @@ impl Engine {
         ensures exactly { is_some result ≡ gives_job self.now h }
         ensures job { IfSome result (IsJobOf self.now h) }
     {
-        let limit = self.opening.settings.slice;
-        if limit == 0 || !self.may_go() || other_holder(self.hold, h).is_some() {
+        if !self.gives_job(h) {
             return None;
         }
-        let mind = self.mind(h);
-        if mind.asked || !goes_apart(&mind) {
-            return None;
-        }
-        if !self.is_text(self.machine.pc(h)) {
-            return None;
-        }
-        Some(self.machine.job(h, limit))
+        Some(self.machine.job(h, self.opening.settings.slice))
     }
 
     // Whether a slice can be taken.
@@ -119,5 +127,58 @@ impl Engine {
         self.minds[h as usize] = ran_mind(mind, mind.course.plan, None, None);
         self.retired += count;
         Commit::Took
+    }
+
+    /// Does at once what a job of the hart asks for, if it gives one: as many instructions as the slice would have. Nothing
+    /// changes where that has none, or the budget has fewer left.
+    pub fn serve(&mut self, h: u32)
+        requires hart { h < length self.old.minds }
+        requires spare { 32 ≤ self.old.spare }
+        ensures serves { Serves h self.old self.new }
+        ensures facts { Facts self.new }
+    {
+        if !self.gives_job(h) {
+            return;
+        }
+        let limit = self.opening.settings.slice;
+        if self.opening.settings.budget - self.retired < u64::from(limit) {
+            self.serve_apart(h);
+            return;
+        }
+        let mind = self.mind(h);
+        let instructions = self.machine.stretch(h, limit);
+        if instructions == 0 {
+            return;
+        }
+        let count = u64::from(instructions);
+        self.journal.lengthen(h, count);
+        self.minds[h as usize] = ran_mind(mind, mind.course.plan, None, None);
+        self.retired += count;
+    }
+
+    // The same by a copy, which is taken only if the budget has so many instructions left.
+    #[cold]
+    #[inline(never)]
+    fn serve_apart(&mut self, h: u32)
+        requires hart { h < length self.old.minds }
+        requires spare { 32 ≤ self.old.spare }
+        ensures serves { Serves h self.old self.new }
+        ensures facts { Facts self.new }
+    {
+        // What the engine keeps is known where a field is read.
+        let _ = &self.alloc;
+        let Some(job) = self.check_out(h) else { return };
+        let slice = run_slice(job);
+        if slice.count > 0 {
+            self.commit(&slice);
+        }
+        let Slice {
+            hart: _,
+            regs: _,
+            at: _,
+            words: _,
+            count: _,
+            after: _,
+        } = slice;
     }
 }

@@ -1,7 +1,7 @@
 // A session as a crew: its duties are rounds, its jobs the slices of harts.
 ghost use Rattle.std.specs.Prelude.{◌≡◌, ◌≢◌, ◌<◌, ◌≤◌, ◌↔◌, ◌&&◌, true, false, None, IfSome, IsTrue, is_none, is_some, nat_lt, slice_set};
 ghost use Rattle.engine_parts.specs.Steps.{NoneOut};
-ghost use Rattle.session_parts.specs.Crew.{Duties, Gives, IsIdle, IsWorkOf, Reaches, ServesAlone, TakesBack, TakesBy};
+ghost use Rattle.session_parts.specs.Crew.{Duties, Gives, IsIdle, IsWorkOf, Reaches, ServesAlone, ServesHart, TakesBack, TakesBy};
 ghost use Rattle.session_parts.specs.Round.{moment};
 ghost use Rattle.session_parts.specs.Seen.{work};
 
@@ -46,9 +46,7 @@ impl<W: World> Session<W> {
         Some(hart)
     }
 
-    // The job of a hart, if it gives one. It is out from then on. Few rounds come here, and a job is long.
-    #[cold]
-    #[inline(never)]
+    // The job of a hart, if it gives one. It is out from then on.
     fn hand_out(&mut self, hart: u32) -> Option<Job>
         requires { hart < self.old.run.opening.settings.harts }
         ensures opening { self.new.run.opening ≡ self.old.run.opening }
@@ -93,8 +91,44 @@ impl<W: World> Session<W> {
         self.commit(slice);
     }
 
-    /// Forgets whose jobs are out, and does duties until the status is set. Each job that is given is worked and taken at once. The
-    /// duties are those of `duty`, but no `Duty` is made of them: to move one through each round takes longer than the rest of it.
+    // The job of a hart, if it gives one, is worked and taken at once.
+    #[cold]
+    #[inline(never)]
+    fn serve_apart(&mut self, hart: u32)
+        requires going { self.old.status ≡ None }
+        requires known { hart < self.old.run.opening.settings.harts }
+        ensures opening { self.new.run.opening ≡ self.old.run.opening }
+        ensures serves { ServesHart hart (moment W.told self.old) (moment W.told self.new) }
+        ensures less { work self.new ≤ work self.old }
+    {
+        let Some(job) = self.hand_out(hart) else {
+            return;
+        };
+        let slice = Self::work(job);
+        self.take(slice);
+    }
+
+    // Does what the job of a hart asks for, if it gives one: where the words stand, and apart only where there is no room for
+    // an entry, since then it depends on the slice whether any is wanted.
+    fn serve(&mut self, hart: u32)
+        requires going { self.old.status ≡ None }
+        requires known { hart < self.old.run.opening.settings.harts }
+        requires none { NoneOut self.old.out }
+        ensures opening { self.new.run.opening ≡ self.old.run.opening }
+        ensures serves { ServesHart hart (moment W.told self.old) (moment W.told self.new) }
+        ensures less { work self.new ≤ work self.old }
+    {
+        if self.engine.reserve_journal(SPARE).is_err() {
+            self.serve_apart(hart);
+            return;
+        }
+        self.engine.serve(hart);
+        self.status = over(&self.engine, self.count);
+    }
+
+    /// Forgets whose jobs are out, and does duties until the status is set. What a job asks for is done at once, where the
+    /// words stand. The duties are those of `duty`, but no `Duty` is made of them: to move one through each round takes longer
+    /// than the rest of it.
     pub fn run_serial(&mut self)
         ensures over { self.new.status ≢ None }
         ensures opening { self.new.run.opening ≡ self.old.run.opening }
@@ -103,11 +137,7 @@ impl<W: World> Session<W> {
         self.out = [false; HARTS];
         'duties: while self.status.is_none() {
             let Some(hart) = self.go() else { continue };
-            let Some(job) = self.hand_out(hart) else {
-                continue;
-            };
-            let slice = Self::work(job);
-            self.take(slice);
+            self.serve(hart);
         }
     }
 }

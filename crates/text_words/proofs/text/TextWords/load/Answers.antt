@@ -1,5 +1,6 @@
-use Rattle.std.proofs.Common.{refl, ap, sym, ◌∙◌, subst, length}
+use Rattle.std.proofs.Common.{refl, ap, sym, ◌∙◌, subst, length, map}
 use Rattle.text_words.specs.Layout.{IsTable, AreEntries, AreKept}
+use Rattle.text_words.specs.Words.{instruction_of}
 use Rattle.text_words.proofs.Places.{laid_image}
 use Rattle.text_words.proofs.Marks.{begun, unmarked, unmarked_length, unmarked_entries, unmarked_kept}
 use Rattle.text_words.proofs.text.TextWords.load.Goals as goal
@@ -16,6 +17,7 @@ invariant_of-result c = record {
   entries = subst (AreEntries c.collect.new.words.items) (sym (c.in_ok-code.ensures ∙ ap unmarked c.as_slice-2.ensures.value)) (unmarked_entries c.collect.new.words.items);
   kept = subst (λ code. AreKept c.collect.new.words.items code c.in_ok-stored.stored.items) (sym (c.in_ok-code.ensures ∙ ap unmarked c.as_slice-2.ensures.value))
       (subst (AreKept c.collect.new.words.items (unmarked c.collect.new.words.items)) (sym (c.in_ok-stored.ensures.items_if_clones_equal (λ x y e. e) ∙ c.as_slice-3.ensures.value)) (unmarked_kept c.collect.new.words.items));
+  instructions = c.in_ok-instructions.ensures ∙ ap (map instruction_of) c.as_slice-4.ensures.value;
 }
 
 pub returns : goal.returns

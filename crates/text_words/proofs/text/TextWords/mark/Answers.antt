@@ -1,9 +1,10 @@
-use Rattle.std.proofs.Common.{◌≡◌, ◌<◌, ◌^◌, refl, ap, sym, ◌∙◌, subst, arith, length, length-set, Some, None}
+use Rattle.std.proofs.Common.{◌≡◌, ◌<◌, ◌^◌, refl, ap, sym, ◌∙◌, subst, arith, length, length-set, map, Some, None}
 use Rattle.std.specs.Prelude.{IsSome, slice_index, slice_set, if◌then◌else◌}
 use Rattle.std.specs.FinSet as set
+use Rattle.std.proofs.lemmas.List.{map-set}
 use Rattle.std.proofs.lemmas.Option.{slice_get_read, get_or_from_slice_get}
 use Rattle.text_words.specs.Tables.{words_below, set_below}
-use Rattle.text_words.specs.Words.{Words, shown, fetched_as, stored_as}
+use Rattle.text_words.specs.Words.{Words, shown, fetched_as, instruction_of, stored_as}
 use Rattle.text_words.specs.Layout.{AreKept, Laid, index, mark_at, seen, word_at}
 use Rattle.text_words.proofs.Marks.{entries_kept, kept_set, marked_here, marked_others, marked_set, unmarked_set}
 use Rattle.text_words.proofs.text.TextWords.mark.Goals as goal
@@ -33,6 +34,7 @@ invariant_of-self c =
       whole = length-set t.code.items i f ∙ c.self.invariant.whole;
       entries = entries_kept t.words.items t.code.items i f c.args.planted c.self.invariant.whole low entry c.self.invariant.entries;
       kept = subst (λ v. AreKept t.words.items (slice_set t.code.items i f) (slice_set t.stored.items i v)) (sym stored) (kept_set t.words.items t.stored.items t.code.items i f c.self.invariant.whole low c.self.invariant.kept);
+      instructions = ap (λ xs. slice_set xs i c.instruction.result) c.self.invariant.instructions ∙ (ap (slice_set (map instruction_of t.code.items) i) c.instruction.ensures ∙ sym (map-set instruction_of t.code.items i f));
     }
 
 pub returns : goal.returns

@@ -1,10 +1,6 @@
-use Rattle.std.proofs.Common.{◌≡◌, ◌+◌, ◌-◌, ◌≤◌, ◌∙◌, List, ℕ, ap, arith, drop, length, take}
-use Rattle.text_words.proofs.Runs.{run_is, some_there}
+use Rattle.std.proofs.Common.{◌+◌, ◌-◌, ◌≤◌, arith, drop, length, take}
+use Rattle.text_words.proofs.Runs.{cut, run_is, some_there}
 use Rattle.text_words.proofs.text.TextWords.run_at.Goals as goal
-
--- so many words from a place on
-cut : (xs ys : List ℕ) (first count : ℕ) → xs ≡ ys → take (first + count - first) (drop first xs) ≡ take count (drop first ys)
-cut xs ys first count e = ap (λ k. take k (drop first xs)) (let n : first + count - first ≡ count = omega arith in n) ∙ ap (λ zs. take count (drop first zs)) e
 
 pub returns-clause-run : goal.returns-clause-run
 returns-clause-run c =

@@ -1,0 +1,75 @@
+use Rattle.std.proofs.Common.{◌≡◌, ◌+◌, ◌-◌, ◌<◌, ap, arith, refl, subst, sym, ◌∙◌}
+use Rattle.std.specs.Prelude.{slice_set}
+use Rattle.hart_machine.specs.Patched.{Patched}
+use Rattle.dbg_model.specs.Journals.{lengthened_by}
+use Rattle.engine_parts.specs.Facts.{Facts}
+use Rattle.engine_parts.specs.Seen.{Engine}
+use Rattle.engine_parts.specs.Slicing.{ServesBy, gives_job}
+use Rattle.engine_parts.proofs.Aheads.{small_of}
+use Rattle.engine_parts.proofs.Serving.{nothing_here, served_here, served_nothing, served_to}
+use Rattle.engine_parts.proofs.Stretching.{giver}
+use Rattle.engine_parts.proofs.Taking.{Taken}
+use Rattle.dbg_engine.specs.EngineInside.{run_of}
+use Rattle.dbg_engine.proofs.engine.Engine.serve.Goals as goal
+
+pub returns-then-not-gives_job-clause-serves : goal.returns-then-not-gives_job-clause-serves
+returns-then-not-gives_job-clause-serves c = subst (λ b. ServesBy b c.args.h c.args.self.now c.args.self.now) c.if-not-gives_job.ensures refl
+
+pub returns-then-instructions-eq0-clause-serves : goal.returns-then-instructions-eq0-clause-serves
+returns-then-instructions-eq0-clause-serves c =
+    let r = run_of c.self.inside in
+    let n = c.stretch-instructions.result in
+    let m = c.stretch-instructions.new.self in
+    let is = sym c.if-not-gives_job.ensures in
+    let f = c.self.invariant.facts.sound in
+    served_nothing r c.args.self.now c.args.h n m c.self.view_is f is c.if-instructions-eq0.true c.stretch-instructions.ensures.limit c.stretch-instructions.ensures.stretches
+    (nothing_here r c.args.self.now c.args.h n m c.self.view_is f is c.if-instructions-eq0.true c.stretch-instructions.ensures.steps)
+
+kept : (c : goal.Then-instructions-eq0) → Facts (record (run_of c.self.inside) { machine = c.stretch-instructions.new.self })
+kept c =
+    let r = run_of c.self.inside in
+    let m = c.stretch-instructions.new.self in
+    let M : Patched → Type 0 = λ u. Facts (record r { machine = u }) in
+    subst M (sym (nothing_here r c.args.self.now c.args.h c.stretch-instructions.result m c.self.view_is c.self.invariant.facts.sound (sym c.if-not-gives_job.ensures) c.if-instructions-eq0.true c.stretch-instructions.ensures.steps)) c.self.invariant.facts
+
+pub returns-then-instructions-eq0-clause-facts : goal.returns-then-instructions-eq0-clause-facts
+returns-then-instructions-eq0-clause-facts c = kept c
+
+pub invariant_of-self : goal.invariant_of-self
+invariant_of-self c = record { facts = kept c }
+
+pub lengthen-requires-clause-last : goal.lengthen-requires-clause-last
+lengthen-requires-clause-last c =
+    let r = run_of c.self.inside in
+    let g = giver r c.args.h (ap (λ (q : Engine). gives_job q c.args.h) c.self.view_is ∙ sym c.if-not-gives_job.ensures) in
+    let k = small_of r r refl c.self.invariant.facts.sound g.may in
+    omega (arith, k.last, c.from.ensures, c.from-count.ensures, c.stretch-instructions.ensures.limit, c.if-self-from.false)
+
+-- the engine with the stretch's instructions done
+abbrev new_run : goal.After-self-2-1 → Engine
+new_run c =
+    let r = run_of c.self.inside in
+    record r { journal = c.lengthen.new.self.entries; spare = c.lengthen.new.self.spare; machine = c.stretch-instructions.new.self; minds = slice_set r.minds c.args.h c.ran_mind.result; retired = r.retired + c.from-count.result }
+
+taken : (c : goal.After-self-2-1) → Taken c.stretch-instructions.result (run_of c.self.inside) (new_run c) c.args.h
+taken c =
+    let r = run_of c.self.inside in
+    let g = giver r c.args.h (ap (λ (q : Engine). gives_job q c.args.h) c.self.view_is ∙ sym c.if-not-gives_job.ensures) in
+    let k = small_of r r refl c.self.invariant.facts.sound g.may in
+    served_to r c.args.self.now c.args.h c.stretch-instructions.result c.lengthen.new.self.spare c.mind-mind.result c.ran_mind.result c.stretch-instructions.new.self c.lengthen.new.self.entries c.from-count.result c.self.view_is (omega arith) c.self.invariant.facts
+    (sym c.if-not-gives_job.ensures) (omega (arith, k.last, c.from.ensures, c.stretch-instructions.ensures.limit, c.if-self-from.false)) c.mind-mind.ensures c.stretch-instructions.ensures.steps
+    (c.lengthen.ensures.entries ∙ ap (λ n. lengthened_by n r.journal c.args.h) c.from-count.ensures) c.ran_mind.ensures c.from-count.ensures
+
+pub invariant_of-self-2 : goal.invariant_of-self-2
+invariant_of-self-2 c = record { facts = (taken c).facts }
+
+pub returns-clause-facts : goal.returns-clause-facts
+returns-clause-facts c = (taken c).facts
+
+pub returns-clause-serves : goal.returns-clause-serves
+returns-clause-serves c =
+    let r = run_of c.self.inside in
+    let g = giver r c.args.h (ap (λ (q : Engine). gives_job q c.args.h) c.self.view_is ∙ sym c.if-not-gives_job.ensures) in
+    let k = small_of r r refl c.self.invariant.facts.sound g.may in
+    served_here r c.args.self.now (new_run c) c.args.h c.stretch-instructions.result c.stretch-instructions.new.self c.self.view_is c.self.invariant.facts.sound (sym c.if-not-gives_job.ensures) (omega arith) c.stretch-instructions.ensures.limit
+    (omega (arith, k.last, c.from.ensures, c.stretch-instructions.ensures.limit, c.if-self-from.false)) c.stretch-instructions.ensures.stretches refl (taken c)
