@@ -2,3 +2,4 @@
 pub mod Standing
 pub mod Parts
 pub mod Going
+pub mod Further

@@ -23,6 +23,7 @@ fn ended<W: World>(status: Status, world: W) -> Ended<W>
 }
 
 /// Where the words ask for the check of a log, the run of it. Else the world is handed back as it was.
+#[inline(never)]
 pub fn check_if_asked<W: World>(alloc: Global, world: W) -> Result<W, Ended<W>>
     requires { IsFresh (W.told world) }
     ensures { MatchResult result (λ w. (w ≡ world) × (checked_words (W.told w).words ≡ None)) (λ e. RunEnds e.status (W.told e.world) e.closed) }
