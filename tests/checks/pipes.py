@@ -15,9 +15,9 @@ INTERRUPTED = (
 )
 
 
-def check_interrupt(rig):
+def check_interrupt(rig, words):
     """A loop is interrupted, and the session is ended while the pipe stays open."""
-    with Talk(rig, ["loop"]) as talk:
+    with Talk(rig, [*words, "loop"]) as talk:
         talk.say(CONTINUE)
         rig.row("interrupt: running", talk.hear(RUNNING), True)
         time.sleep(0.2)
@@ -29,27 +29,27 @@ def check_interrupt(rig):
         rig.row("interrupt: status with the pipe open", talk.status(), 0)
 
 
-def check_exit(rig):
+def check_exit(rig, words):
     """A session is ended while a hart runs; what stands behind is not done."""
-    with Talk(rig, ["loop"]) as talk:
+    with Talk(rig, [*words, "loop"]) as talk:
         talk.say(CONTINUE)
         talk.hear(RUNNING)
         talk.say(b"-gdb-exit\n-thread-list-ids\n")
         rig.row("exit while a hart runs", (talk.rest(), talk.status()), (OPENING + RUNNING + b"^exit\n", 0))
-    rig.row("exit without a line end", rig.run(["exit"], b"-gdb-exit"), (0, OPENING + b"^exit\n"))
+    rig.row("exit without a line end", rig.run([*words, "exit"], b"-gdb-exit"), (0, OPENING + b"^exit\n"))
 
 
-def check_silence(rig):
+def check_silence(rig, words):
     """A hart goes on while the pipe is open and silent, and comes to the budget."""
-    with Talk(rig, ["--budget", "20000", "writer"]) as talk:
+    with Talk(rig, [*words, "--budget", "20000", "writer"]) as talk:
         talk.say(CONTINUE)
         rig.row("silence: lines come", talk.hear(b'@"hi\\n"\n', 20), True)
         rig.row("silence: the budget", (talk.rest().count(b"@"), talk.status()), (20000 // 5, 3))
 
 
-def check_answers_while_running(rig):
+def check_answers_while_running(rig, words):
     """Lines are answered one by one while a hart runs."""
-    with Talk(rig, ["loop"]) as talk:
+    with Talk(rig, [*words, "loop"]) as talk:
         talk.say(CONTINUE)
         talk.hear(RUNNING)
         for number in range(1, 6):
@@ -58,10 +58,10 @@ def check_answers_while_running(rig):
             time.sleep(0.02)
 
 
-def check_pipes(rig):
-    """All of them."""
+def check_pipes(rig, words=()):
+    """All of them, with these words before each file's."""
     rig.put("exit", plain(EXIT))
     rig.put("loop", plain(LOOP))
     rig.put("writer", plain(WRITER, b"hi\n"))
     for check in (check_interrupt, check_exit, check_silence, check_answers_while_running):
-        rig.guarded(check.__name__, lambda: check(rig))
+        rig.guarded(check.__name__, lambda: check(rig, words))

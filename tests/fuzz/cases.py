@@ -1,13 +1,13 @@
 """Cases: a program's bytes, lines of input and the words of the command line, made by chance from what the repository has."""
 
+import functools
 import os
-import random
 import re
 import struct
 
 from checks.programs import counting, plain, read_program
 from fuzz import sections
-from fuzz.mutants import WORDS, mutant
+from fuzz.mutants import WORDS, Dice, mutant
 
 PROGRAMS = ("tests/programs/euclid-dwarf-4", "tests/programs/euclid-dwarf-5", "tests/programs/locks")
 EXAMPLES = ("examples/lock/lock", "examples/mine/mine")
@@ -59,6 +59,7 @@ def is_whole(file):
         return False
 
 
+@functools.lru_cache(256)
 def headers(file):
     """The places of the section headers of a file, which is well formed."""
     at, _, _, _, _, size, count, _ = struct.unpack_from("<IIHHHHHH", file, 32)
@@ -72,6 +73,7 @@ def section_name(file, header):
     return file[begin : file.index(b"\0", begin)].decode()
 
 
+@functools.lru_cache(256)
 def part(file, name):
     """A section's header and bytes, or None."""
     for header in headers(file):
@@ -102,7 +104,7 @@ def words(dice):
     """The words of the command line, without the file."""
     made = ["--workers", str(dice.choice((0, 0, 0, 0, 0, 0, 1, 2))), "--budget", str(BUDGET)]
     if dice.randrange(2):
-        made += ["--harts", str(dice.choice((1, 2, 3, 16)))]
+        made += ["--harts", str(16 if dice.randrange(32) == 0 else dice.choice((1, 2, 3)))]
     if dice.randrange(2):
         made += ["--slots", str(dice.choice((0, 1, 2, 16, 512)))]
     if dice.randrange(4) == 0:
@@ -206,7 +208,7 @@ KINDS = {
 
 def case(seeds, kind, seed, number):
     """The case of a number, which is the same each time."""
-    return KINDS[kind](random.Random("%s %d %d" % (kind, seed, number)), seeds)
+    return KINDS[kind](Dice("%s %d %d" % (kind, seed, number)), seeds)
 
 
 CHECKED = re.compile(rb"check (accepted \d+|rejected (Long|Line|Order|End|Unlawful|Differs) at \d+)\n")

@@ -1,8 +1,24 @@
 """Mutants: bytes that differ from others at a few places, as chance has it. All chance comes from the dice that are handed in."""
 
+import random
+
 WORDS = (0, 1, 2, 3, 4, 8, 16, 0x7F, 0x80, 0xFF, 0x100, 0xFFFF, 0x10000, 0x7FFFFFFF, 0x80000000)
 WORDS += (0xDFFFFFFF, 0xE0000000, 0xFFFFFFF0, 0xFFFFFFFF)
 BYTES = (0, 1, 0x20, 0x22, 0x5C, 0x7F, 0x80, 0xFE, 0xFF)
+
+
+class Dice(random.Random):
+    """Chance that costs little: a number or a choice is one multiplication."""
+
+    def randrange(self, begin, end=None):
+        """A number from the first up to the second, or from 0 up to the only one."""
+        if end is None:
+            begin, end = 0, begin
+        return begin + int(self.random() * (end - begin))
+
+    def choice(self, items):
+        """One of some items."""
+        return items[int(self.random() * len(items))]
 
 
 def span(dice, content, most=64):

@@ -10,6 +10,8 @@ from fuzz.cases import KINDS
 from fuzz.runs import Runner, limit_memory, run
 
 BATCH = 50
+# Files in memory, where the system has a place for them.
+PLACE = "/dev/shm" if os.access("/dev/shm", os.W_OK) else None
 RUNNER = None
 
 
@@ -47,7 +49,7 @@ def batches(kinds, cases, seconds):
 def fuzz(program, top, kinds, cases=None, seconds=60.0, seed=1, jobs=1, keep=None, tell=None):
     """Runs cases, and gives how many had each status, and what was odd."""
     statuses, odd = collections.Counter(), []
-    with tempfile.TemporaryDirectory(prefix="rvdbg-fuzz-") as folder:
+    with tempfile.TemporaryDirectory(prefix="rvdbg-fuzz-", dir=PLACE) as folder:
         with multiprocessing.get_context("fork").Pool(jobs, begin, (program, top, seed, keep, folder)) as pool:
             for counts, found in paced(pool, batches(kinds, cases, seconds), jobs):
                 statuses += counts

@@ -1,13 +1,14 @@
 """Runs of the program on cases, and what is odd in them."""
 
+import functools
 import os
-import random
 import re
 import resource
+import select
 import tempfile
-import time
 
 from fuzz.cases import CHECKED, Seeds, case, log_mutant
+from fuzz.mutants import Dice
 
 SECONDS = 10.0
 # What a session takes over a program of 16,777,216 mapped bytes, whatever else there is; and then 20 times what it is given.
@@ -35,18 +36,14 @@ def run(program, words, lines, folder):
         (os.POSIX_SPAWN_OPEN, 1, out, os.O_WRONLY | os.O_CREAT | os.O_TRUNC, 0o600),
         (os.POSIX_SPAWN_OPEN, 2, os.devnull, os.O_WRONLY, 0),
     ]
-    begun = time.monotonic()
-    child = os.posix_spawn(program, [program, *words], os.environ, file_actions=actions)
-    pause = 0.0005
-    while True:
-        ended, status, usage = os.wait4(child, os.WNOHANG)
-        if ended:
-            break
-        if time.monotonic() - begun > 2 * SECONDS:
-            os.kill(child, 9)
-        time.sleep(pause)
-        pause = min(0.01, pause * 1.5)
-    taken = max(usage.ru_utime + usage.ru_stime, 0.0 if os.WIFEXITED(status) else time.monotonic() - begun)
+    child = os.posix_spawn(program, [program, *words], {}, file_actions=actions)
+    handle = os.pidfd_open(child)
+    has_ended = select.select([handle], [], [], 2 * SECONDS)[0]
+    os.close(handle)
+    if not has_ended:
+        os.kill(child, 9)
+    _, status, usage = os.wait4(child, 0)
+    taken = usage.ru_utime + usage.ru_stime if has_ended else 2 * SECONDS
     with open(out, "rb") as file:
         return Run(os.waitstatus_to_exitcode(status), file.read(), taken, usage.ru_maxrss << 10)
 
@@ -79,6 +76,7 @@ def is_value(text, at, depth=0):
         at += 1
 
 
+@functools.lru_cache(4096)
 def is_line(line):
     """Whether a line of output is one of the grammar of FORMATS."""
     if line == b"(gdb)":
@@ -136,7 +134,7 @@ class Runner:
         if done.status in (0, 3, 4):
             checked = run(self.program, ["--check", file], done.output, folder)
             odd += [] if checked.output.startswith(b"check accepted") and checked.status == 0 else ["its own log: %.100r" % checked.output]
-        text = log_mutant(random.Random("mutant %d %d" % (self.seed, number)), done.output)
+        text = log_mutant(Dice("mutant %d %d" % (self.seed, number)), done.output)
         checked = run(self.program, ["--check", file], text, folder)
         if done.status in (0, 3, 4) and (checked.status not in (0, 8) or not CHECKED.fullmatch(checked.output)):
             odd.append("a mutant of its log: status %d, %.100r" % (checked.status, checked.output))
