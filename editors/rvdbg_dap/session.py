@@ -21,7 +21,7 @@ LATER = object()
 MALFORMED = (KeyError, TypeError, ValueError, AttributeError, IndexError, OverflowError)
 
 # The least and the greatest of each number, and what it is where it isn't given.
-NUMBERS = {"harts": (1, 16, 1), "workers": (0, 16, 0), "budget": (1, 10**12, 10**12), "slots": (0, 512, 16), "slice": (0, 1024, 0)}
+NUMBERS = {"harts": (1, 16, 1), "workers": (0, 16, 0), "budget": (1, 10**12, 10**12), "slots": (0, 512, 16), "slice": (0, 1024, 256)}
 STATUSES = {
     3: "the budget of instructions is used up; the launch argument `budget` sets it",
     4: "the history is full, with 4,194,304 stops, commands and writes, or 64 MiB of commands",
