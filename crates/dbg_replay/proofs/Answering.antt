@@ -161,9 +161,8 @@ sets_more n (displaces d) = sets_by_more n (is_off d)
 sets_more n (pokes p) = omega arith
 sets_more n exits = omega arith
 
-still_kept : (o : Opening) (old new : Parts) (c : Change) → Kept o old → old.noted < history → state_of new ≡ changed_by (state_of old) c → new.table ≡ changed_table old.table c → new.sources ≡ old.sources → new.words ≡ old.words
-    → Kept o new
-still_kept o old new c kept low state table sources words =
+still_kept : (o : Opening) (old new : Parts) (c : Change) → Kept o old → old.noted < history → state_of new ≡ changed_by (state_of old) c → new.table ≡ changed_table old.table c → new.sources ≡ old.sources → Kept o new
+still_kept o old new c kept low state table sources =
     let given : new.table.given ≡ given_after old.table.given c = ap (λ (t : Table). t.given) table in
     let noted : new.noted ≡ old.noted + 1 = ap (λ (s : State). s.noted) state in
     let more = given_more old.table.given c in
@@ -173,7 +172,6 @@ still_kept o old new c kept low state table sources words =
     let sets_before = kept.sets in
     record {
       sources = sources ∙ kept.sources;
-      words = words ∙ kept.words;
       harts = ap (λ (s : State). length s.harts) state ∙ (length_after old.harts.items c ∙ kept.harts);
       places = λ addr. ap (λ (t : Table). is_place t.text addr) table ∙ kept.places addr;
       waits = ap (λ (t : Table). length t.waits) table ∙ kept.waits;
@@ -197,11 +195,11 @@ replies_so o s line l is = ap (λ (a : Answer). shows.Answer (record { token = a
 -- a line came
 pub line_comes : (o : Opening) (old new : Parts) (line : List ℕ) (l : LineAnswer) (b : Bool) → Kept o old → may_do o (state_of old) line ≡ true → b ≡ true → line_answer_of l ≡ answer_of o (state_of old) line
     → state_of new ≡ changed_by (state_of old) (change_of l.answer.effect)
-    → new.table ≡ changed_table old.table (change_of l.answer.effect) → new.sources ≡ old.sources → new.words ≡ old.words
+    → new.table ≡ changed_table old.table (change_of l.answer.effect) → new.sources ≡ old.sources
     → Enters o (Ok (shows.Answer (record { token = l.token; content = l.answer.content }))) (cond b (Some (done_by o (state_of old) line)) None) (shows.Answer (reply_of o (state_of old) line)) old new
-line_comes o old new line l b kept may is answers state table sources words =
+line_comes o old new line l b kept may is answers state table sources =
     let x = l.answer.effect in (
       rw is (ap Some (sym (state ∙ done_is o (state_of old) line (change_of x) (changes_so o (state_of old) line l answers)))),
       replies_so o (state_of old) line l answers,
-      still_kept o old new (change_of x) kept (history_low o (state_of old) line may) state table sources words,
+      still_kept o old new (change_of x) kept (history_low o (state_of old) line may) state table sources,
     )

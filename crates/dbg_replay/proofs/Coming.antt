@@ -18,7 +18,6 @@ use Rattle.dbg_replay.specs.Parts.{state_of, standing_of}
 use Rattle.dbg_replay.specs.Standing.{IsOf, Standing, Takes, come_one, lengthen}
 use Rattle.dbg_replay.specs.declared.halt.Halt.TheVariants.{Unlawful}
 use Rattle.dbg_replay.specs.Going.{Enters, IsLike, Kept}
-use Rattle.dbg_replay.specs.Further.{LengthensBy}
 
 abbrev pub place_at : Option ℕ → State → Place
 place_at prev s = record { prev = prev; state = s }
@@ -157,19 +156,6 @@ none_by o p h false is = rw is refl
 -- one instruction more comes
 pub longer_comes : (o : Opening) (p q r : Place) (h n : ℕ) → 0 < n → come o p (Ran h n) ≡ Some q → lengthen o q h ≡ Some r → come o p (Ran h (n + 1)) ≡ Some r
 longer_comes o p q r h n low comes more = come_lengthened o p h n low ∙ (ap (option_and_then (λ s. lengthen o s h)) comes ∙ more)
-
-pub none_more : (n : ℕ) (o : Opening) (p q : Place) (h : ℕ) → n ≡ 0 → LengthensBy n o h p q → q ≡ p
-none_more zero o p q h is more = more
-none_more (suc n) o p q h is more = absurd (omega (arith, is))
-
--- so many more come
-pub longer_by : (k : ℕ) (o : Opening) (p q r : Place) (h n : ℕ) → 0 < n → come o p (Ran h n) ≡ Some q → LengthensBy k o h q r → come o p (Ran h (n + k)) ≡ Some r
-longer_by zero o p q r h n low comes more =
-    let is : n + 0 ≡ n = omega arith in
-    ap (λ m. come o p (Ran h m)) is ∙ (comes ∙ ap Some (sym more))
-longer_by (suc k) o p q r h n low comes more =
-    let is : n + suc k ≡ (n + k) + 1 = omega arith in
-    ap (λ m. come o p (Ran h m)) is ∙ longer_comes o p more.place r h (n + k) (omega (arith, low)) (longer_by k o p q more.place h n low comes more.before) more.lengthens
 
 -- where it may not come, no longer `Ran` may
 pub longer_fails : (o : Opening) (p q : Place) (h n count : ℕ) → 0 < n → n < count → come o p (Ran h n) ≡ Some q → lengthen o q h ≡ None → come o p (Ran h count) ≡ None

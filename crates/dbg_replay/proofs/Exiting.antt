@@ -108,7 +108,6 @@ leaves o old h code v last kept on leaver items is =
       ap Exit (is ∙ ap all_gone items),
       record {
         sources = kept.sources;
-        words = kept.words;
         harts = ap length items ∙ (length_exited old.harts.items h (slice_get old.harts.items h) ∙ kept.harts);
         places = kept.places;
         waits = kept.waits;
@@ -135,7 +134,6 @@ register_set o old h n value x v kept at stopped settable items =
       ap (register_poked (state_of old) h n value) at ∙ (rw (stopped, settable) (ap (λ ys. let s : State = record (state_of old) { harts = ys } in Some s) (sym items))),
       record {
         sources = kept.sources;
-        words = kept.words;
         harts = ap length items ∙ (length-set old.harts.items h y ∙ kept.harts);
         places = kept.places;
         waits = kept.waits;

@@ -135,7 +135,6 @@ finished o old h x v m wrote w s out leave kept low harts puts more =
       state,
       record {
         sources = kept.sources;
-        words = kept.words;
         harts = count;
         places = kept.places;
         waits = kept.waits;

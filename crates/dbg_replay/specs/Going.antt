@@ -45,7 +45,7 @@ Judged (Err NoMemory) o s h = ⊥
 
 -- parts are of this opening
 abbrev pub Kept : Opening → Parts → Type 0
-Kept o p = Keeps o (state_of p) p.sources p.words p.table.text p.table.waits
+Kept o p = Keeps o (state_of p) p.sources p.table.text p.table.waits
 
 -- something came and left these parts, as the model has it; or it may not come, and nothing has changed
 abbrev pub Comes : Opening → Result (Unit {0}) Halt → Option State → Parts → Parts → Type 0

@@ -2,4 +2,3 @@
 pub mod Standing
 pub mod Parts
 pub mod Going
-pub mod Further

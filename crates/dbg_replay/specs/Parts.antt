@@ -29,7 +29,6 @@ standing_of p prev shown = record {
   place = record { prev = prev; state = state_of p };
   shown = shown;
   sources = p.sources;
-  words = p.words;
   text = p.table.text;
   waits = p.table.waits;
 }

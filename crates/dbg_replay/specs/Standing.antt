@@ -2,7 +2,6 @@
 use Rattle.std.specs.Prelude.{◌≡◌, ◌≤◌, ◌+◌, ℕ, Bool, true, false, List, [], ◌∷◌, length, Option, Some, None, Result, Ok, Err, if◌then◌else◌, slice_index}
 use Rattle.std.specs.Option.{option_map}
 use Rattle.elf32_read.specs.declared.spans.Span.{Span}
-use Rattle.text_words.specs.Words.{Words, unpatched}
 use Rattle.break_table.specs.Text.{is_instruction, is_place}
 use Rattle.dbg_traits.specs.declared.text.NoMemory.{NoMemory}
 use Rattle.dbg_model.specs.declared.entry.Entry.TheVariants.{Ran}
@@ -24,8 +23,6 @@ pub record Standing : Type 0 where
   pub shown : Option Shown
   -- what the program's file tells of its source
   pub sources : Sources
-  -- the program's text, with nothing planted
-  pub words : Words
   -- where text stands, and for each hart where it waits: nowhere
   pub text : List Span
   pub waits : List (Option ℕ)
@@ -39,9 +36,8 @@ gone [] = 0
 gone (x ∷ xs) = (if hart_gone x then 1 else 0) + gone xs
 
 -- what is kept of an opening beside a state, with the bounds of the state's numbers
-pub record Keeps (o : Opening) (s : State) (told : Sources) (decoded : Words) (spans : List Span) (holds : List (Option ℕ)) : Type 0 where
+pub record Keeps (o : Opening) (s : State) (told : Sources) (spans : List Span) (holds : List (Option ℕ)) : Type 0 where
   pub sources : told ≡ sources_of o.image
-  pub words : decoded ≡ unpatched o.image
   pub harts : length s.harts ≡ o.settings.harts
   pub places : (addr : ℕ) → is_place spans addr ≡ is_instruction o.image addr
   pub waits : length holds ≡ o.settings.harts
@@ -57,7 +53,7 @@ pub record Keeps (o : Opening) (s : State) (told : Sources) (decoded : Words) (s
 
 -- it is of this opening
 abbrev pub IsOf : Opening → Standing → Type 0
-IsOf o t = Keeps o t.place.state t.sources t.words t.text t.waits
+IsOf o t = Keeps o t.place.state t.sources t.text t.waits
 
 -- the place behind one more instruction of the `Ran` that was taken last, which has to be of this hart
 abbrev pub lengthen : Opening → Place → ℕ → Option Place

@@ -82,7 +82,6 @@ pub fn make(parts: &mut Parts, effect: Effect)
     requires few { length parts.old.harts.items ≤ 16 }
     ensures state { state_of parts.new ≡ changed_by (state_of parts.old) (change_of effect) }
     ensures sources { parts.new.sources ≡ parts.old.sources }
-    ensures words { parts.new.words ≡ parts.old.words }
     ensures table { parts.new.table ≡ changed_table parts.old.table (change_of effect) }
 {
     match effect {

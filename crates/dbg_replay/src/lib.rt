@@ -1,11 +1,9 @@
 //! The model as a plain program: it goes through a journal entry by entry over the unpatched machine, and tells whether
-//! the journal is lawful and which state it leaves. A log is checked by it.
+//! the journal is lawful and which state it leaves. It is slow, and no part of the debugger.
 #![tactic(auto)]
 
 mod changes;
 mod entries;
-mod further;
-mod going;
 mod halt;
 mod lines;
 mod loading;
@@ -20,4 +18,4 @@ mod taking;
 
 pub use replaying::replay;
 pub use state::ModelState;
-pub use taking::{start, take_entry, take_more, take_ran};
+pub use taking::{start, take_entry, take_ran};

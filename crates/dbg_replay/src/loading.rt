@@ -6,7 +6,6 @@ ghost use Rattle.dbg_model.specs.Sources.{sources_of};
 ghost use Rattle.break_table.specs.Table.{first_table};
 ghost use Rattle.break_table.specs.Text.{is_instruction, is_place};
 ghost use Rattle.dbg_model.specs.State.{first_harts, first_state};
-ghost use Rattle.text_words.specs.Words.{unpatched};
 ghost use Rattle.dbg_replay.specs.Parts.{state_of};
 ghost use Rattle.dbg_replay.specs.Going.{Kept};
 
@@ -19,7 +18,6 @@ use elf32_read::Image;
 use mi_commands::Displaced;
 use plain_machine::first_registers;
 use std::alloc::{AllocError, Global};
-use text_words::TextWords;
 
 // The harts with their counts, and what the user has set.
 #[derive(Drop)]
@@ -30,12 +28,11 @@ struct FirstKept {
     table: BreakTable,
 }
 
-// What a program's file tells of its source, its instructions, and its data.
+// What a program's file tells of its source, and its data.
 #[derive(Drop)]
 struct FirstProgram {
     memory: DataMemory,
     sources: SourceIndex,
-    words: TextWords,
 }
 
 fn first_harts(alloc: Global, image: &Image, harts: u32) -> Result<Vec<Hart>, AllocError>
@@ -83,12 +80,10 @@ fn first_program(alloc: Global, image: &Image, harts: u32) -> Result<FirstProgra
     requires { harts ≤ 16 }
     ensures memory { IfOk result (λ p. p.memory ≡ start_memory image.now harts) }
     ensures sources { IfOk result (λ p. p.sources ≡ sources_of image.now) }
-    ensures words { IfOk result (λ p. p.words ≡ unpatched image.now) }
 {
     Ok(FirstProgram {
         memory: DataMemory::load(alloc, image, harts)?,
         sources: SourceIndex::build(alloc, image)?,
-        words: TextWords::load(alloc, image)?,
     })
 }
 
@@ -103,7 +98,6 @@ pub fn first_parts(alloc: Global, opening: &Opening) -> Result<Parts, NoMemory>
     let program = first_program(alloc, &opening.image, harts)?;
     Ok(Parts {
         sources: program.sources,
-        words: program.words,
         harts: kept.harts,
         memory: program.memory,
         out: Vec::new(alloc),

@@ -7,14 +7,11 @@ use data_memory::DataMemory;
 use dbg_model::{Hart, Poke, Shown, SourceIndex, Watch, WatchList};
 use mi_commands::Displaced;
 use std::marker::Model;
-use text_words::TextWords;
 
 /// What a replay keeps: what a state is made of, and what the program's file tells of its source.
 #[derive(Drop)]
 pub struct Parts {
     pub sources: SourceIndex,
-    /// The program's instructions, with nothing planted.
-    pub words: TextWords,
     /// Counted from 0.
     pub harts: Vec<Hart>,
     /// The data; the text is the image's.
@@ -57,11 +54,10 @@ impl Model for ModelState {
     ghost use Rattle.std.specs.Coded.{codes};
     ghost use Rattle.data_memory.specs.Maps.{memory_code};
     ghost use Rattle.break_table.specs.Codes.{term_code};
-    ghost use Rattle.text_words.specs.Words.{words_code};
 
     ghost Value = { Standing };
 
-    ghost coded = { Prim.hlevel (codes, memory_code, term_code, words_code) };
+    ghost coded = { Prim.hlevel (codes, memory_code, term_code) };
 
     ghost use Rattle.dbg_replay.specs.Parts.{standing_of};
 

@@ -52,7 +52,7 @@ pub record HasRun (o : Opening) (p q : Place) (h n : ℕ) : Type 0 where
   pub prev : q.prev ≡ Some h
   pub ran : ran o h p.state n ≡ Some q.state
 
-pub same_follow : (prev : Option ℕ) (h m n : ℕ) → follows prev (Ran h m) ≡ follows prev (Ran h n)
+same_follow : (prev : Option ℕ) (h m n : ℕ) → follows prev (Ran h m) ≡ follows prev (Ran h n)
 same_follow None h m n = refl
 same_follow (Some k) h m n = refl
 
@@ -66,7 +66,7 @@ first_run o p q h c =
     let m = map_some (λ (s : State). let q : Place = record { prev = Some h; state = s } in q) (one o h p.state) q g.1 in
     record { follow = g.0; prev = sym (ap (λ (r : Place). r.prev) m.2); ran = m.1 ∙ ap Some (ap (λ (r : Place). r.state) m.2) }
 
-pub ran_more : (o : Opening) (h : ℕ) (s : State) (n : ℕ) → ran o h s (n + 1) ≡ option_and_then (one o h) (ran o h s n)
+ran_more : (o : Opening) (h : ℕ) (s : State) (n : ℕ) → ran o h s (n + 1) ≡ option_and_then (one o h) (ran o h s n)
 ran_more o h s n = let is : n + 1 ≡ suc n = omega arith in ap (ran o h s) is
 
 goes_by : (o : Opening) (q : Place) (h : ℕ) → q.prev ≡ Some h → lengthen o q h ≡ option_map (λ (s : State). let r : Place = record { prev = Some h; state = s } in r) (one o h q.state)

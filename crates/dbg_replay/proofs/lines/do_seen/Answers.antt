@@ -45,4 +45,4 @@ returns c =
     let is : c.may_do.result ≡ true = search rules in
     let may : may_do o (state_of old) line ≡ true = sym (c.may_do.ensures line c.in_ok-read.ensures.commands) ∙ is in
     let answers = c.in_ok-token.ensures line c.in_ok-read.ensures.commands in
-    line_comes o old c.make.new.parts line c.in_ok-token.field-0 (may_do o (state_of old) line) c.requires.kept may may answers c.make.ensures.state c.make.ensures.table c.make.ensures.sources c.make.ensures.words
+    line_comes o old c.make.new.parts line c.in_ok-token.field-0 (may_do o (state_of old) line) c.requires.kept may may answers c.make.ensures.state c.make.ensures.table c.make.ensures.sources

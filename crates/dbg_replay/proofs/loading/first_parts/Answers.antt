@@ -12,7 +12,6 @@ returns-clause-kept c =
     let given = ap (λ (t : Table). t.given) table in
     record {
       sources = c.in_ok-program.ensures.sources;
-      words = c.in_ok-program.ensures.words;
       harts = ap length c.in_ok-kept.ensures.harts ∙ length_first o.image o.settings.harts o.settings.harts;
       places = c.in_ok-kept.ensures.places;
       waits = ap (λ (t : Table). length t.waits) table ∙ length-replicated o.settings.harts _;

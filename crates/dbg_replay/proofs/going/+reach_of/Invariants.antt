@@ -1,5 +1,0 @@
-use Rattle.std.proofs.Common.{length}
-use Rattle.dbg_replay.proofs.going.+reach_of.Given as goal
-
-abbrev pub decreases-reach_of : goal.decreases-reach_of
-decreases-reach_of l = length l.entries.now
