@@ -1,6 +1,7 @@
-//! The outside of the debugger, as traits, with numbers in the memory that a view shows.
+//! The outside of the debugger, as traits, with numbers in the memory that a view shows, and lists of items.
 #![tactic(auto)]
 
+mod items;
 mod names;
 mod numbers;
 mod settings;
@@ -8,6 +9,7 @@ mod text;
 mod view;
 mod world;
 
+pub use items::{ByteList, ItemList, NumberList};
 pub use names::{NamePlace, place_of};
 pub use numbers::number_at;
 pub use settings::Settings;

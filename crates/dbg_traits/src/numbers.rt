@@ -1,3 +1,4 @@
+// Numbers of bytes that a reader sees.
 ghost use Rattle.std.specs.Prelude.{◌≡◌, ◌<◌, ◌≤◌, ◌^◌, IfOk};
 ghost use Rattle.dbg_traits.specs.Numbers.{number_at};
 

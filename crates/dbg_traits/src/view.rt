@@ -1,3 +1,4 @@
+// What a reader sees of a hart.
 ghost use Rattle.std.specs.Prelude.{◌≡◌, ◌≤◌, Option, ℕ};
 
 /// What a reader sees of one hart: its registers and the bytes of memory.

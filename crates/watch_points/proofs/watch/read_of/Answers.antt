@@ -11,7 +11,8 @@ returns-then-not-is_constant c = not_constant (term_of c.args.address.now) (sym 
 pub returns-in-Word : goal.returns-in-Word
 returns-in-Word c =
     let x = term_of c.args.address.now in
-    read_at x (constant x (sym c.is_constant.ensures ∙ c.if-not-is_constant.false)) c.args.kind c.in-Word.address c.size_of.result c.in-Word.field-1 c.is_signed.result (sym c.node_value.ensures ∙ c.in-Word.is) c.size_of.ensures c.is_signed.ensures
+    read_at x (constant x (sym c.is_constant.ensures ∙ c.if-not-is_constant.false)) c.args.kind c.in-Word.address c.size_of.result c.in-Word.field-1
+    c.is_signed.result (sym c.node_value.ensures ∙ c.in-Word.is) c.size_of.ensures c.is_signed.ensures
 
 pub returns-in-DivZero : goal.returns-in-DivZero
 returns-in-DivZero c =
