@@ -3,6 +3,7 @@ use Rattle.std.proofs.Common.{◌≡◌, ◌<◌, ◌≤◌, ◌+◌, ◌-◌, �
 use Rattle.std.specs.Prelude.{IfOk, IfSome, ◌==◌, ◌&&◌, nat_le, nat_lt, if◌then◌else◌}
 use Rattle.std.proofs.lemmas.Bool.Decides.{nat_tests}
 use Rattle.leb_read.specs.Leb as leb
+use Rattle.leb_read.specs.Reading.{read_map}
 use Rattle.leb_read.specs.declared.fault.Leb.TheVariants as leb_fault
 use Rattle.leb_read.specs.Leb.{IsBehind, is_wide, leb_at, leb_length, number_at, uleb_at}
 use Rattle.debug_info.specs.Reading.{◌>>=◌, Read, found, read}
@@ -31,7 +32,7 @@ either P true x y h k = h
 either P false x y h k = k
 
 leb_ends : (bytes : List ℕ) (at n : ℕ) (short wide : Bool) → 0 < n → nat_lt (length (drop at bytes)) n ≡ short
-    → Ends bytes at (read (leb.read_map leb.spelled (if short then Err leb_fault.Short else (if wide then Err leb_fault.Wide else leb.found (take n (drop at bytes)) (at + n)))))
+    → Ends bytes at (read (read_map leb.spelled (if short then Err leb_fault.Short else (if wide then Err leb_fault.Wide else found (take n (drop at bytes)) (at + n)))))
 leb_ends bytes at n true wide some e = tt
 leb_ends bytes at n false true some e = tt
 leb_ends bytes at n false false some e =
@@ -43,7 +44,7 @@ pub uleb_ends : (bytes : List ℕ) (at : ℕ) → Ends bytes at (read (uleb_at b
 unfolding uleb_at leb_at leb_length
 uleb_ends bytes at = leb_ends bytes at (leb_length (drop at bytes)) _ _ (omega arith) refl
 
-number_by : (bytes : List ℕ) (at n x : ℕ) (b : Bool) → 0 < n → nat_le (at + n) (length bytes) ≡ b → Ends bytes at (read (if b then leb.found x (at + n) else Err leb_fault.Short))
+number_by : (bytes : List ℕ) (at n x : ℕ) (b : Bool) → 0 < n → nat_le (at + n) (length bytes) ≡ b → Ends bytes at (read (if b then found x (at + n) else Err leb_fault.Short))
 number_by bytes at n x true some e = let within : at + n ≤ length bytes = grind (arith, nat_tests) in record { behind = omega arith; within = within }
 number_by bytes at n x false some e = tt
 
@@ -125,7 +126,9 @@ value_by : (f g : ℕ → Read (List (ℕ × Value))) (name : ℕ) → ((at : �
 value_by f g name same (Err e) = refl
 value_by f g name same (Ok v) = ap (λ (r : Read (List (ℕ × Value))). r >>= (λ others. found ((name, v.0) ∷ others.0) others.1)) (same v.1)
 
-values_by : (abbrevs strs info : List ℕ) (at from m n : ℕ) → ((next place : ℕ) → at < next → next ≤ length abbrevs → values_from m abbrevs strs info next place ≡ values_from n abbrevs strs info next place) → (r : Read (Option Specification)) → Ends abbrevs at r
+values_by : (abbrevs strs info : List ℕ) (at from m n : ℕ)
+    → ((next place : ℕ) → at < next → next ≤ length abbrevs → values_from m abbrevs strs info next place ≡ values_from n abbrevs strs info next place)
+    → (r : Read (Option Specification)) → Ends abbrevs at r
     → (r >>= value_behind strs info (values_from m abbrevs strs info) from) ≡ (r >>= value_behind strs info (values_from n abbrevs strs info) from)
 values_by abbrevs strs info at from m n same (Err e) h = refl
 values_by abbrevs strs info at from m n same (Ok (None, next)) h = refl
@@ -137,16 +140,3 @@ values_same zero n abbrevs strs info at from h a b = absurd (omega arith)
 values_same (suc m) zero abbrevs strs info at from h a b = absurd (omega arith)
 values_same (suc m) (suc n) abbrevs strs info at from h a b =
     values_by abbrevs strs info at from m n (λ next place behind within. values_same m n abbrevs strs info next place within (omega arith) (omega arith)) (specification_at abbrevs at) (specification_ends abbrevs at)
-
-codes_by : (abbrevs : List ℕ) (code at m n : ℕ) → ((next : ℕ) → at < next → next ≤ length abbrevs → abbreviation_of m abbrevs code next ≡ abbreviation_of n abbrevs code next) → (r : Read (Option (ℕ × Declaration))) → IfOk r (Declares abbrevs at)
-    → (r >>= where_code code (abbreviation_of m abbrevs code)) ≡ (r >>= where_code code (abbreviation_of n abbrevs code))
-codes_by abbrevs code at m n same (Err e) h = refl
-codes_by abbrevs code at m n same (Ok (None, next)) h = refl
-codes_by abbrevs code at m n same (Ok (Some (other, d), next)) h =
-    ap (λ (r : Result Declaration InfoFault). if other == code then Ok d else r) (same next h.behind.behind h.behind.within)
-
-pub abbreviation_same : (m n : ℕ) (abbrevs : List ℕ) (code at : ℕ) → at ≤ length abbrevs → length abbrevs < at + m → length abbrevs < at + n → abbreviation_of m abbrevs code at ≡ abbreviation_of n abbrevs code at
-abbreviation_same zero n abbrevs code at h a b = absurd (omega arith)
-abbreviation_same (suc m) zero abbrevs code at h a b = absurd (omega arith)
-abbreviation_same (suc m) (suc n) abbrevs code at h a b =
-    codes_by abbrevs code at m n (λ next behind within. abbreviation_same m n abbrevs code next within (omega arith) (omega arith)) (declaration_at abbrevs at) (declaration_ends abbrevs at)

@@ -1,12 +1,9 @@
 -- The variables of one level more.
 use Rattle.std.proofs.Common.{◌≡◌, ◌<◌, ◌-◌, ◌++◌, ℕ, zero, suc, List, [], ◌∷◌, map, filter, refl, arith, sym, ◌∙◌, ap, append_assoc}
 use Rattle.std.specs.Prelude.{◌==◌}
+use Rattle.std.proofs.lemmas.List.{map-append}
 use Rattle.debug_info.specs.Scope.{Variable, by_depth}
 use Rattle.debug_info.specs.declared.entry.Entry.{Entry}
-
-map_append : {A B : Type 0} (f : A → B) (xs ys : List A) → map f (xs ++ ys) ≡ map f xs ++ map f ys
-map_append f [] ys = refl
-map_append f (x ∷ xs) ys = ap (λ zs. f x ∷ zs) (map_append f xs ys)
 
 pub level_step : (f : Entry → Variable) (own listed : List Entry) (level : ℕ) (whole old new : List Variable) → 0 < level → listed ≡ own → whole ≡ old ++ map f (by_depth level own)
     → new ≡ old ++ map f (filter (λ e. e.level == level) listed) → whole ≡ new ++ map f (by_depth (level - 1) own)
@@ -14,7 +11,7 @@ level_step f own listed zero whole old new some same was is = absurd (omega arit
 level_step f own listed (suc level) whole old new some same was is =
     let left : level ≡ suc level - 1 = omega arith in
     was
-    ∙ ap (λ (vs : List Variable). old ++ vs) (map_append f (filter (λ e. e.level == suc level) own) (by_depth level own))
+    ∙ ap (λ (vs : List Variable). old ++ vs) (map-append f (filter (λ e. e.level == suc level) own) (by_depth level own))
     ∙ sym (append_assoc old (map f (filter (λ e. e.level == suc level) own)) (map f (by_depth level own)))
     ∙ ap (λ (es : List Entry). (old ++ map f (filter (λ e. e.level == suc level) es)) ++ map f (by_depth level own)) (sym same)
     ∙ ap (λ (vs : List Variable). vs ++ map f (by_depth level own)) (sym is)

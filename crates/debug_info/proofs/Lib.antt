@@ -1,8 +1,5 @@
 -- Loops over readings: of specifications, entries, units and abbreviations, and where they end.
-pub mod Turns
-pub mod Declared
 pub mod Specified
-pub mod Ends
 pub mod Spanned
 pub mod Behind
 -- What is kept of the specifications, place by place.

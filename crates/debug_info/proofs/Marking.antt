@@ -2,6 +2,7 @@
 use Rattle.std.proofs.Common.{◌≡◌, ◌<◌, ◌≤◌, ◌+◌, ◌-◌, ◌++◌, ℕ, Bool, false, List, [], ◌∷◌, length, map, Option, None, Some, Result, Err, refl, arith, sym, ◌∙◌, ap}
 use Rattle.std.specs.Prelude.{IfSome, nat_lt, ◌==◌, ◌||◌, if◌then◌else◌}
 use Rattle.std.proofs.lemmas.Bool.Decides.{nat_tests}
+use Rattle.std.proofs.lemmas.List.{map-append}
 use Rattle.debug_info.specs.Entries.{IsLevel, entries_from, entry_at, entry_list, level_behind}
 use Rattle.debug_info.specs.Marks.{AreMarks, AreReread, entry_in, mark_of, reread}
 use Rattle.debug_info.specs.Reading.{found}
@@ -35,10 +36,6 @@ again_more abbrevs strs info table unit [] None all is = tt
 again_more abbrevs strs info table unit [] (Some e) all is = (is, tt)
 again_more abbrevs strs info table unit (x ∷ es) o all is = (all.0, again_more abbrevs strs info table unit es o all.1 is)
 
-marks_both : (es fs : List Entry) → map mark_of (es ++ fs) ≡ map mark_of es ++ map mark_of fs
-marks_both [] fs = refl
-marks_both (e ∷ es) fs = ap (λ (ms : List Mark). mark_of e ∷ ms) (marks_both es fs)
-
 -- the marks of the entries that were read
 pub record Marked (whole : Result (List Entry) InfoFault) (abbrevs strs info : List ℕ) (table unit : ℕ) (marks : List Mark) (level at : ℕ) : Type 0 where
   pub entries : List Entry
@@ -61,7 +58,7 @@ pub marked_next : (whole : Result (List Entry) InfoFault) (abbrevs strs info : L
 marked_next whole abbrevs strs info table unit marks pushed level at behind next entry h within read later end deep is levels place push m = record {
   entries = m.entries ++ entry_list entry;
   reading = reading_next whole abbrevs strs info table unit m.entries (m.entries ++ entry_list entry) level at behind next entry within read later end deep refl m.reading;
-  kept = push ∙ ap (λ (ms : List Mark). ms ++ map mark_of (entry_list entry)) m.kept ∙ sym (marks_both m.entries (entry_list entry));
+  kept = push ∙ ap (λ (ms : List Mark). ms ++ map mark_of (entry_list entry)) m.kept ∙ sym (map-append mark_of m.entries (entry_list entry));
   again = again_more abbrevs strs info table unit m.entries entry m.again (some_again abbrevs strs info table unit level at next entry h (omega arith) read is levels place);
 }
 

@@ -1,6 +1,7 @@
 -- The entries of a function and of its blocks that cover pc: one entry more.
 use Rattle.std.proofs.Common.{◌≡◌, ◌<◌, ◌≤◌, ◌+◌, ◌++◌, ℕ, suc, Bool, true, false, List, [], ◌∷◌, filter, take, drop, get_or, length, add-one, subst, cond, Option, None, Some, refl, arith, sym, ◌∙◌, ap, append-nil, append_assoc}
 use Rattle.std.specs.List.{prefix_len}
+use Rattle.std.proofs.Math.Bool.{and-false}
 use Rattle.std.proofs.Math.Seq.{drop-cons}
 use Rattle.std.proofs.lemmas.List.{drop_all}
 use Rattle.std.specs.Prelude.{nat_lt, not, ◌&&◌, if◌then◌else◌}
@@ -31,10 +32,6 @@ opened_over pc function whole found shut e es past o =
 pub opened_end : (pc function : ℕ) (whole found : List Entry) (shut : Option ℕ) → Opened pc function whole found shut [] → found ≡ whole
 opened_end pc function whole found shut o = sym (o.same ∙ append-nil found)
 
-and_false : (b : Bool) → (b && false) ≡ false
-and_false true = refl
-and_false false = refl
-
 hidden_level : (o : ℕ → Bool) (shut here level : ℕ) (entered : Bool) → nat_lt shut here ≡ true → o here ≡ not (nat_lt shut here) → o level ≡ not (nat_lt shut level)
     → (if nat_lt here level then entered && o here else o level) ≡ not (nat_lt shut level)
 hidden_level o shut here level entered below known is =
@@ -42,7 +39,7 @@ hidden_level o shut here level entered below known is =
       | true ↦ λ e. (
           let closed : o here ≡ false = known ∙ ap not below in
           let far : nat_lt shut level ≡ true = grind (arith, nat_tests) in
-          ap (λ (b : Bool). entered && b) closed ∙ and_false entered ∙ sym (ap not far))
+          ap (λ (b : Bool). entered && b) closed ∙ and-false entered ∙ sym (ap not far))
       | false ↦ λ e. is
     ] refl
 

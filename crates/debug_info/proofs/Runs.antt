@@ -1,28 +1,27 @@
 -- What is kept of the specifications at each place, and the loop over them.
-use Rattle.std.proofs.Common.{◌≡◌, ◌<◌, ◌≤◌, ◌+◌, ◌-◌, ◌++◌, ℕ, zero, suc, Bool, true, false, List, [], ◌∷◌, length, get_or, Option, None, Some, Result, Ok, Err, refl, arith, sym, ◌∙◌, ap, subst, append-nil, append_assoc, length-append, inl, inr}
+use Rattle.std.proofs.Common.{◌≡◌, ◌<◌, ◌≤◌, ◌+◌, ◌-◌, ◌++◌, ℕ, Bool, true, false, List, [], ◌∷◌, length, get_or, Option, None, Some, Result, Ok, Err, refl, arith, sym, ◌∙◌, ap, subst, append-nil, append_assoc, length-append, inl, inr}
 use Rattle.std.specs.Prelude.{IfOk, nat_le, ◌==◌, ◌||◌, if◌then◌else◌}
 use Rattle.std.proofs.lemmas.Bool.Decides.{nat_tests}
 use Rattle.std.proofs.lemmas.List.{get_or_append_left}
 use Rattle.std.proofs.Math.Seq.{get_or-append_seam}
 use Rattle.std.proofs.Math.Nat.{eq-or-lt_of_le}
-use Rattle.leb_read.specs.Leb.{IsBehind}
-use Rattle.debug_info.specs.Reading.{◌>>=◌, Read, behind_run, found}
-use Rattle.debug_info.specs.Abbreviations.{specification_at, specifications_end}
+use Rattle.std.proofs.Math.Numerals.{add-one}
+use Rattle.leb_read.specs.Leb.{IsBehind, behind_run}
+use Rattle.leb_read.specs.declared.fault.Leb.TheVariants.{Short}
+use Rattle.debug_info.specs.Reading.{◌>>=◌, Read, found, read}
+use Rattle.debug_info.specs.Abbreviations.{end_or, specification_at, specifications_end}
 use Rattle.debug_info.specs.Attributes.{attributes_by, attributes_of, or_named, value_behind, values_from, with_value}
 use Rattle.debug_info.specs.Forms.{value_at, value_by}
 use Rattle.debug_info.specs.Index.{AreRuns, IsRun, extended, lone_run, no_flags, or_flag, with_flag, with_flags, with_values}
 use Rattle.debug_info.specs.declared.abbreviation.Specification.{Specification}
 use Rattle.debug_info.specs.declared.attribute.Attributes.{Attributes}
 use Rattle.debug_info.specs.declared.fault.InfoFault.{InfoFault}
-use Rattle.debug_info.specs.declared.fault.InfoFault.TheVariants as fault
 use Rattle.debug_info.specs.declared.form.Value.{Value}
 use Rattle.debug_info.specs.declared.form.Value.TheVariants as value
 use Rattle.debug_info.specs.declared.index.Flags.{Flags}
 use Rattle.debug_info.specs.declared.index.Run.{Run}
 use Rattle.debug_info.proofs.Behind.{all_end, ends_same, specification_behind, values_same}
-use Rattle.debug_info.proofs.Declared.{ends, ends_done, ends_fault, ends_next}
 use Rattle.debug_info.proofs.Specified.{with_more}
-use Rattle.debug_info.proofs.Turns.{reaches_start}
 
 -- the attributes of values, one after another
 all_values : (done vs : List (ℕ × Value)) → with_values (attributes_of done) vs ≡ attributes_of (done ++ vs)
@@ -36,19 +35,13 @@ pub all_extended : (r : Read (List (ℕ × Value))) → attributes_by r ≡ exte
 all_extended (Ok (vs, next)) = ap (λ (a : Attributes). found a next) (sym (all_values [] vs))
 all_extended (Err e) = refl
 
--- the first specification of those that are left
-record Turn (abbrevs : List ℕ) (at : ℕ) : Type 0 where
-  more : ℕ
-  enough : length abbrevs ≤ at + more
-  same : (strs info : List ℕ) (from : ℕ) → values_from (length abbrevs + 1) abbrevs strs info at from ≡ (specification_at abbrevs at >>= value_behind strs info (values_from more abbrevs strs info) from)
+-- the first specification, and those that are left
+first_value : (abbrevs strs info : List ℕ) (at from : ℕ)
+    → values_from (length abbrevs + 1) abbrevs strs info at from ≡ (specification_at abbrevs at >>= value_behind strs info (values_from (length abbrevs) abbrevs strs info) from)
+first_value abbrevs strs info at from = ap (λ (n : ℕ). values_from n abbrevs strs info at from) (add-one (length abbrevs))
 
-turn_from : (abbrevs : List ℕ) (at most : ℕ) → length abbrevs < at + most → 0 < most
-    → ((strs info : List ℕ) (from : ℕ) → values_from (length abbrevs + 1) abbrevs strs info at from ≡ values_from most abbrevs strs info at from) → Turn abbrevs at
-turn_from abbrevs at zero enough some same = absurd (omega arith)
-turn_from abbrevs at (suc most) enough some same = record { more = most; enough = omega arith; same = same }
-
-turn : (abbrevs : List ℕ) (at : ℕ) → Turn abbrevs at
-turn abbrevs at = turn_from abbrevs at (length abbrevs + 1) (omega arith) (omega arith) (λ strs info from. refl)
+first_end : (abbrevs : List ℕ) (at : ℕ) → specifications_end (length abbrevs + 1) abbrevs at ≡ (specification_at abbrevs at >>= end_or (specifications_end (length abbrevs) abbrevs))
+first_end abbrevs at = ap (λ (n : ℕ). specifications_end n abbrevs at) (add-one (length abbrevs))
 
 value_extended : (a : Attributes) (name : ℕ) (v : Value) (r : Read (List (ℕ × Value))) → extended a (r >>= (λ others. found ((name, v) ∷ others.0) others.1)) ≡ extended (with_value a name v) r
 value_extended a name v (Ok (vs, next)) = refl
@@ -58,16 +51,16 @@ value_extended a name v (Err e) = refl
 pub one_extended : (abbrevs strs info : List ℕ) (a : Attributes) (at next from place : ℕ) (s : Specification) (v : Value) → specification_at abbrevs at ≡ found (Some s) next → value_at s.form strs info from ≡ found v place
     → extended a (values_from (length abbrevs + 1) abbrevs strs info at from) ≡ extended (with_value a s.name v) (values_from (length abbrevs + 1) abbrevs strs info next place)
 one_extended abbrevs strs info a at next from place s v is read =
-    let t = turn abbrevs at in
     let behind = specification_behind abbrevs at next (Some s) is in
-    ap (extended a) (t.same strs info from)
-    ∙ ap (λ (r : Read (Option Specification)). extended a (r >>= value_behind strs info (values_from t.more abbrevs strs info) from)) is
-    ∙ ap (λ (o : Read Value). extended a (o >>= (λ x. values_from t.more abbrevs strs info next x.1 >>= (λ others. found ((s.name, x.0) ∷ others.0) others.1)))) read
-    ∙ value_extended a s.name v (values_from t.more abbrevs strs info next place)
-    ∙ ap (extended (with_value a s.name v)) (values_same t.more (length abbrevs + 1) abbrevs strs info next place behind.within (let b = behind.behind in let w = behind.within in let x = t.enough in omega arith) (omega arith))
+    ap (extended a) (first_value abbrevs strs info at from)
+    ∙ ap (λ (r : Read (Option Specification)). extended a (r >>= value_behind strs info (values_from (length abbrevs) abbrevs strs info) from)) is
+    ∙ ap (λ (o : Read Value). extended a (o >>= (λ x. values_from (length abbrevs) abbrevs strs info next x.1 >>= (λ others. found ((s.name, x.0) ∷ others.0) others.1)))) read
+    ∙ value_extended a s.name v (values_from (length abbrevs) abbrevs strs info next place)
+    ∙ ap (extended (with_value a s.name v)) (values_same (length abbrevs) (length abbrevs + 1) abbrevs strs info next place behind.within (let b = behind.behind in omega arith) (omega arith))
 
 -- the loop over specifications
-pub at_run : (whole : Read Attributes) (abbrevs strs info : List ℕ) (a b : Attributes) (at from : ℕ) (run : Run) → whole ≡ extended a (values_from (length abbrevs + 1) abbrevs strs info at from) → IsRun abbrevs at run → b ≡ with_flags a run.flags
+pub at_run : (whole : Read Attributes) (abbrevs strs info : List ℕ) (a b : Attributes) (at from : ℕ) (run : Run)
+    → whole ≡ extended a (values_from (length abbrevs + 1) abbrevs strs info at from) → IsRun abbrevs at run → b ≡ with_flags a run.flags
     → whole ≡ extended b (values_from (length abbrevs + 1) abbrevs strs info run.behind from)
 at_run whole abbrevs strs info a b at from run same is flags =
     same ∙ is.same strs info a from ∙ ap (λ (x : Attributes). extended x (values_from (length abbrevs + 1) abbrevs strs info run.behind from)) (sym flags)
@@ -80,34 +73,31 @@ next_value whole abbrevs strs info a b at next from place s v same is read more 
 pub specification_fault : (whole : Read Attributes) (abbrevs strs info : List ℕ) (a : Attributes) (at from : ℕ) (e : InfoFault) → whole ≡ extended a (values_from (length abbrevs + 1) abbrevs strs info at from)
     → specification_at abbrevs at ≡ Err e → whole ≡ Err e
 specification_fault whole abbrevs strs info a at from e same is =
-    let t = turn abbrevs at in
     same
-    ∙ ap (extended a) (t.same strs info from)
-    ∙ ap (λ (r : Read (Option Specification)). extended a (r >>= value_behind strs info (values_from t.more abbrevs strs info) from)) is
+    ∙ ap (extended a) (first_value abbrevs strs info at from)
+    ∙ ap (λ (r : Read (Option Specification)). extended a (r >>= value_behind strs info (values_from (length abbrevs) abbrevs strs info) from)) is
 
 pub all_read : (whole : Read Attributes) (abbrevs strs info : List ℕ) (a : Attributes) (at next from : ℕ) → whole ≡ extended a (values_from (length abbrevs + 1) abbrevs strs info at from)
     → specification_at abbrevs at ≡ found None next → whole ≡ found a from
 all_read whole abbrevs strs info a at next from same is =
-    let t = turn abbrevs at in
     same
-    ∙ ap (extended a) (t.same strs info from)
-    ∙ ap (λ (r : Read (Option Specification)). extended a (r >>= value_behind strs info (values_from t.more abbrevs strs info) from)) is
+    ∙ ap (extended a) (first_value abbrevs strs info at from)
+    ∙ ap (λ (r : Read (Option Specification)). extended a (r >>= value_behind strs info (values_from (length abbrevs) abbrevs strs info) from)) is
 
 pub value_fault : (whole : Read Attributes) (abbrevs strs info : List ℕ) (a : Attributes) (at next from : ℕ) (s : Specification) (e : InfoFault) → whole ≡ extended a (values_from (length abbrevs + 1) abbrevs strs info at from)
     → specification_at abbrevs at ≡ found (Some s) next → value_at s.form strs info from ≡ Err e → whole ≡ Err e
 value_fault whole abbrevs strs info a at next from s e same is read =
-    let t = turn abbrevs at in
     same
-    ∙ ap (extended a) (t.same strs info from)
-    ∙ ap (λ (r : Read (Option Specification)). extended a (r >>= value_behind strs info (values_from t.more abbrevs strs info) from)) is
-    ∙ ap (λ (o : Read Value). extended a (o >>= (λ x. values_from t.more abbrevs strs info next x.1 >>= (λ others. found ((s.name, x.0) ∷ others.0) others.1)))) read
+    ∙ ap (extended a) (first_value abbrevs strs info at from)
+    ∙ ap (λ (r : Read (Option Specification)). extended a (r >>= value_behind strs info (values_from (length abbrevs) abbrevs strs info) from)) is
+    ∙ ap (λ (o : Read Value). extended a (o >>= (λ x. values_from (length abbrevs) abbrevs strs info next x.1 >>= (λ others. found ((s.name, x.0) ∷ others.0) others.1)))) read
 
 -- a flag has no bytes
 flag_value : (strs info : List ℕ) (at : ℕ) → value_at 0x19 strs info at ≡ found value.Opaque at
 unfolding value_at value_by behind_run
 flag_value strs info at =
     let test : nat_le 0 (length info - at) ≡ true = grind (arith, nat_tests) in
-    ap (λ (b : Bool). (if b then Ok (at + 0) else Err fault.Short) >>= (λ next. found value.Opaque next)) test
+    ap (λ (b : Bool). read (if b then Ok (at + 0) else Err Short) >>= (λ next. found value.Opaque next)) test
     ∙ ap (λ (n : ℕ). found value.Opaque n) (let none : at + 0 ≡ at = omega arith in none)
 
 -- flags
@@ -160,16 +150,17 @@ lone abbrevs at end h is = record {
 }
 
 pub run_fault : (abbrevs : List ℕ) (at : ℕ) (e : InfoFault) → at ≤ length abbrevs → specification_at abbrevs at ≡ Err e → IsRun abbrevs at (lone_run at (Err e))
-run_fault abbrevs at e h is = lone abbrevs at (Err e) h (sym (ends_fault _ abbrevs at e is (reaches_start (ends abbrevs) abbrevs at)))
+run_fault abbrevs at e h is = lone abbrevs at (Err e) h (sym (first_end abbrevs at ∙ ap (λ r. r >>= end_or (specifications_end (length abbrevs) abbrevs)) is))
 
 pub run_end : (abbrevs : List ℕ) (at next : ℕ) → at ≤ length abbrevs → specification_at abbrevs at ≡ found None next → IsRun abbrevs at (lone_run at (Ok next))
-run_end abbrevs at next h is = lone abbrevs at (Ok next) h (sym (ends_done _ abbrevs at next is (reaches_start (ends abbrevs) abbrevs at)))
+run_end abbrevs at next h is = lone abbrevs at (Ok next) h (sym (first_end abbrevs at ∙ ap (λ r. r >>= end_or (specifications_end (length abbrevs) abbrevs)) is))
 
 end_behind : (abbrevs : List ℕ) (at next : ℕ) (s : Specification) (rest : Run) → specification_at abbrevs at ≡ found (Some s) next → IsRun abbrevs next rest → rest.end ≡ specifications_end (length abbrevs + 1) abbrevs at
 end_behind abbrevs at next s rest is run =
     let b = specification_behind abbrevs at next (Some s) is in
-    let r = ends_next (specifications_end (length abbrevs + 1) abbrevs at) abbrevs at next s is b.behind b.within (reaches_start (ends abbrevs) abbrevs at) in
-    run.end ∙ ends_same (length abbrevs + 1) r.most abbrevs next b.within (omega arith) r.enough ∙ sym r.same
+    run.end
+    ∙ ends_same (length abbrevs + 1) (length abbrevs) abbrevs next b.within (omega arith) (let behind = b.behind in omega arith)
+    ∙ sym (first_end abbrevs at ∙ ap (λ r. r >>= end_or (specifications_end (length abbrevs) abbrevs)) is)
 
 pub run_other : (abbrevs : List ℕ) (at next : ℕ) (s : Specification) (rest : Run) → at ≤ length abbrevs → specification_at abbrevs at ≡ found (Some s) next → IsRun abbrevs next rest → IsRun abbrevs at (lone_run at rest.end)
 run_other abbrevs at next s rest h is run = lone abbrevs at rest.end h (end_behind abbrevs at next s rest is run)

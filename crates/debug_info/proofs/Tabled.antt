@@ -1,10 +1,11 @@
 -- The table that moves: what is found in it, one declaration less, and one more.
-use Rattle.std.proofs.Common.{◌≡◌, ◌<◌, ◌≤◌, ◌+◌, ◌++◌, ℕ, zero, suc, Bool, true, false, List, [], ◌∷◌, length, drop, reverse, Option, None, Some, Result, Ok, Err, cond, refl, arith, sym, ◌∙◌, ap, subst, eqb-true}
+use Rattle.std.proofs.Common.{◌≡◌, ◌<◌, ◌≤◌, ◌+◌, ◌++◌, ℕ, zero, suc, Bool, true, false, List, [], ◌∷◌, length, reverse, Option, None, Some, Result, Ok, Err, cond, refl, arith, sym, ◌∙◌, ap, subst, eqb-true}
 use Rattle.std.specs.Prelude.{IfOk, IfSome, ◌==◌, if◌then◌else◌}
 use Rattle.std.specs.BTreeMap as tree
 use Rattle.std.specs.BTreeMap.{BTreeMap, get}
 use Rattle.std.specs.Cmp.{unsigned_ties}
 use Rattle.std.specs.Ordering.{nat_cmp}
+use Rattle.std.proofs.Math.Seq.{drop-length}
 use Rattle.std.proofs.lemmas.List.{reverse-append}
 use Rattle.leb_read.specs.Leb.{IsBehind, leb_at, leb_length, uleb_at}
 use Rattle.debug_info.specs.Reading.{◌>>=◌, Read, found}
@@ -53,13 +54,9 @@ pub kept_none : (abbrevs : List ℕ) (end : InfoFault) (at : ℕ) (first : ℕ �
 kept_none abbrevs end at first h e none = record { all = e; found = none; within = h }
 
 -- nothing stands at the section's end
-drop_all : (xs : List ℕ) → drop (length xs) xs ≡ []
-drop_all [] = refl
-drop_all (x ∷ xs) = drop_all xs
-
 pub nothing_last : (abbrevs : List ℕ) → end_of (declaration_at abbrevs (length abbrevs)) ≡ Some fault.Short
 unfolding declaration_at uleb_at leb_at leb_length
-nothing_last abbrevs = rw (drop_all abbrevs) refl
+nothing_last abbrevs = rw (drop-length abbrevs) refl
 
 -- the first declaration less
 less_by : (b : Bool) (other : ℕ) (l : Listed) (ls : List Listed) (before after : Option Declaration) → (l.code == other) ≡ b → l.hidden ≡ declared ls l.code
@@ -97,7 +94,8 @@ pub last_first : (xs : List Listed) (x : Listed) → reverse (xs ++ x ∷ []) �
 last_first xs x = reverse-append xs (x ∷ [])
 
 -- what a map has at each code after one was set
-pub set_some : (old new : BTreeMap ℕ Declaration) (code : ℕ) (o : Option Declaration) (d : Declaration) → o ≡ Some d → tree.Updates nat_cmp old new code (Some d) → (other : ℕ) → get nat_cmp new other ≡ (if code == other then o else get nat_cmp old other)
+pub set_some : (old new : BTreeMap ℕ Declaration) (code : ℕ) (o : Option Declaration) (d : Declaration) → o ≡ Some d
+    → tree.Updates nat_cmp old new code (Some d) → (other : ℕ) → get nat_cmp new other ≡ (if code == other then o else get nat_cmp old other)
 set_some old new code o d is updates other =
     updates.0 other ∙ ap (λ (b : Bool). cond b (Some d) (get nat_cmp old other)) (sym (unsigned_ties code other)) ∙ ap (λ (x : Option Declaration). if code == other then x else get nat_cmp old other) (sym is)
 

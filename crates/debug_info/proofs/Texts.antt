@@ -4,8 +4,7 @@ use Rattle.std.specs.Prelude.{◌==◌}
 use Rattle.std.proofs.lemmas.Bool.Decides.{nat_tests}
 use Rattle.std.specs.List.{take_while}
 use Rattle.std.proofs.lemmas.List.Sums.{take_while-cons}
-use Rattle.leb_read.specs.Leb.{is_text_byte}
-use Rattle.debug_info.specs.Scope.{text_from}
+use Rattle.leb_read.specs.Leb.{is_text_byte, text_from}
 use Rattle.debug_info.specs.TextLengths.{AreLast}
 use Rattle.debug_info.proofs.Runs.{one_more}
 

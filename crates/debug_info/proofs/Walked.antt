@@ -1,7 +1,9 @@
 -- The marks of a unit in place of its entries: a list of them is walked, and what is read again is what was there.
 use Rattle.std.proofs.Common.{◌≡◌, ◌<◌, ◌≤◌, ◌+◌, ◌++◌, ℕ, zero, suc, Bool, true, false, List, [], ◌∷◌, length, map, filter, take, drop, get_or, Option, None, Some, refl, arith, sym, ◌∙◌, ap, subst, append-nil, append_assoc}
 use Rattle.std.specs.Prelude.{find, option_and_then, is_some, ◌==◌, ◌&&◌, if◌then◌else◌}
-use Rattle.std.proofs.lemmas.List.{take_more}
+use Rattle.std.proofs.Math.Bool.{and_assoc}
+use Rattle.std.proofs.lemmas.List.{get_or-map, length-map, map-append, take_more}
+use Rattle.std.proofs.lemmas.List.Elements.{filter-append}
 use Rattle.debug_info.specs.Entries.{entry_list}
 use Rattle.debug_info.specs.Marks.{AreReread, all_reread, is_entered_mark, is_outer, is_own_mark, mark_of, reread_in}
 use Rattle.debug_info.specs.Scope.{inner, is_block, is_entered, is_fixed, is_open, is_own, is_unit_variable, is_variable, is_within, own_among, own_entries}
@@ -20,20 +22,6 @@ blank = record { offset = 0; level = 0; has_children = false; tag = tag.Paramete
 
 abbrev pub AreAgain : Looked → List Entry → Type 0
 AreAgain u es = AreReread u.source.abbrevs.now u.source.strs.now u.source.info.now u.table.now.at u.at es
-
-pub drop_marks : (n : ℕ) (es : List Entry) → drop n (map mark_of es) ≡ map mark_of (drop n es)
-drop_marks zero es = refl
-drop_marks (suc n) [] = refl
-drop_marks (suc n) (e ∷ es) = drop_marks n es
-
-get_marks : (es : List Entry) (k : ℕ) (d : Mark) → k < length es → get_or (map mark_of es) k d ≡ mark_of (get_or es k blank)
-get_marks [] k d h = absurd (omega arith)
-get_marks (e ∷ es) zero d h = refl
-get_marks (e ∷ es) (suc k) d h = get_marks es k d (omega arith)
-
-pub length_marks : (es : List Entry) → length (map mark_of es) ≡ length es
-length_marks [] = refl
-length_marks (e ∷ es) = ap suc (length_marks es)
 
 again_at : (u : Looked) (es : List Entry) (k : ℕ) → AreAgain u es → k < length es → reread_in u (mark_of (get_or es k blank)) ≡ Some (get_or es k blank)
 again_at u [] k all h = absurd (omega arith)
@@ -72,10 +60,10 @@ pub walked_start : (pc function : ℕ) (behind : List Entry) (marks : List Mark)
 walked_start pc function behind marks none = record { entries = []; kept = none; opened = opened_start pc function behind }
 
 within : (behind : List Mark) (es : List Entry) (k : ℕ) → behind ≡ map mark_of es → k < length behind → k < length es
-within behind es k same h = (let n : length behind ≡ length es = ap length same ∙ length_marks es in omega arith)
+within behind es k same h = (let n : length behind ≡ length es = ap length same ∙ length-map es mark_of in omega arith)
 
 here : (behind : List Mark) (es : List Entry) (k : ℕ) (d : Mark) → behind ≡ map mark_of es → k < length behind → get_or behind k d ≡ mark_of (get_or es k blank)
-here behind es k d same h = ap (λ (ms : List Mark). get_or ms k d) same ∙ get_marks es k d (within behind es k same h)
+here behind es k d same h = ap (λ (ms : List Mark). get_or ms k d) same ∙ get_or-map mark_of es k blank d (within behind es k same h)
 
 pub walked_over : (pc function : ℕ) (whole : List Entry) (marks : List Mark) (shut : Option ℕ) (behind : List Mark) (es : List Entry) (k : ℕ) (d : Mark) → behind ≡ map mark_of es → k < length behind
     → (get_or behind k d).level ≤ function → Walked pc function whole marks shut (drop k es) → marks ≡ map mark_of whole
@@ -86,7 +74,7 @@ walked_over pc function whole marks shut behind es k d same h past w =
 pub walked_end : (pc function : ℕ) (whole : List Entry) (marks : List Mark) (shut : Option ℕ) (behind : List Mark) (es : List Entry) (k : ℕ) → behind ≡ map mark_of es → length behind ≤ k
     → Walked pc function whole marks shut (drop k es) → marks ≡ map mark_of whole
 walked_end pc function whole marks shut behind es k same h w =
-    let past : length es ≤ k = (let n : length behind ≡ length es = ap length same ∙ length_marks es in omega arith) in
+    let past : length es ≤ k = (let n : length behind ≡ length es = ap length same ∙ length-map es mark_of in omega arith) in
     w.kept ∙ ap (λ (xs : List Entry). map mark_of xs) (ended pc function whole w.entries shut es k past w.opened)
 
 pub walked_hidden : (pc function : ℕ) (whole : List Entry) (marks : List Mark) (shut : Option ℕ) (behind : List Mark) (es : List Entry) (k : ℕ) (d : Mark) → behind ≡ map mark_of es → k < length behind
@@ -100,10 +88,6 @@ walked_hidden pc function whole marks shut behind es k d same h deep below w =
 one_own : (c : Bool) (e : Entry) → filter (λ (m : Mark). c) (mark_of e ∷ []) ≡ map mark_of (filter (λ (x : Entry). c) (e ∷ []))
 one_own true e = refl
 one_own false e = refl
-
-marks_both : (es fs : List Entry) → map mark_of (es ++ fs) ≡ map mark_of es ++ map mark_of fs
-marks_both [] fs = refl
-marks_both (e ∷ es) fs = ap (λ (ms : List Mark). mark_of e ∷ ms) (marks_both es fs)
 
 entered_mark : (u : Looked) (pc : ℕ) (e : Entry) → reread_in u (mark_of e) ≡ Some e → is_entered_mark u pc (mark_of e) ≡ is_entered pc e
 entered_mark u pc e again = ap (λ (o : Option Entry). is_block e.tag && is_within pc (option_and_then (λ (x : Entry). x.range) o)) again
@@ -124,7 +108,7 @@ walked_seen u pc function whole marks pushed shut next entered behind es k d sam
     record {
       entries = w.entries ++ filter (is_own pc) (e ∷ []);
       kept = push ∙ ap (λ (ms : List Mark). ms ++ filter (is_own_mark entered) (get_or behind k d ∷ [])) w.kept ∙ ap (λ (ms : List Mark). map mark_of w.entries ++ ms) one
-          ∙ sym (marks_both w.entries (filter (is_own pc) (e ∷ [])));
+          ∙ sym (map-append mark_of w.entries (filter (is_own pc) (e ∷ [])));
       opened = subst (λ (o : Option ℕ). Opened pc function whole (w.entries ++ filter (is_own pc) (e ∷ [])) o (drop (k + 1) es)) (sym closed)
           (seen_at pc function whole w.entries (w.entries ++ filter (is_own pc) (e ∷ [])) shut es k blank (within behind es k same h) deep_entry far_entry refl w.opened);
     }
@@ -173,20 +157,8 @@ passed_step {V} F u p ms k d first old both none h takes was =
     ∙ sym (reread_more F u p (take k ms) (get_or ms k d) both none)
     ∙ ap (λ (xs : List Mark). F (all_reread u (filter p xs))) (sym (take_more ms k d h)))
 
-pub map_both : {V : Type 0} (f : Entry → V) → Both (map f)
-map_both {V} f [] ys = refl
-map_both {V} f (x ∷ xs) ys = ap (λ (vs : List V). f x ∷ vs) (map_both f xs ys)
-
-filter_both : (q : Entry → Bool) → Both (filter q)
-filter_both q [] ys = refl
-filter_both q (x ∷ xs) ys =
-    elim (q x) as (λ b. (if b then x ∷ filter q (xs ++ ys) else filter q (xs ++ ys)) ≡ (if b then x ∷ filter q xs else filter q xs) ++ filter q ys) [
-      | true ↦ ap (λ (es : List Entry). x ∷ es) (filter_both q xs ys)
-      | false ↦ filter_both q xs ys
-    ]
-
 pub chosen_both : {V : Type 0} (f : Entry → V) (q : Entry → Bool) → Both (λ (es : List Entry). map f (filter q es))
-chosen_both {V} f q xs ys = ap (map f) (filter_both q xs ys) ∙ map_both f (filter q xs) (filter q ys)
+chosen_both {V} f q xs ys = ap (map f) (filter-append q xs ys) ∙ map-append f (filter q xs) (filter q ys)
 
 pub level_same : (u : Looked) (level : ℕ) (es : List Entry) → AreAgain u es → all_reread u (filter (λ m. m.level == level) (map mark_of es)) ≡ filter (λ e. e.level == level) es
 level_same u level [] all = refl
@@ -197,10 +169,6 @@ level_same u level (e ∷ es) all =
       | true ↦ ap (λ (o : Option Entry). entry_list o ++ all_reread u (filter (λ m. m.level == level) (map mark_of es))) all.0 ∙ ap (λ (xs : List Entry). e ∷ xs) (level_same u level es all.1)
       | false ↦ level_same u level es all.1
     ]
-
-and_three : (a b c : Bool) → (a && (b && c)) ≡ ((a && b) && c)
-and_three true b c = refl
-and_three false b c = refl
 
 outer_step : (u : Looked) (b c : Bool) (e : Entry) (ms : List Mark) (es : List Entry) → reread_in u (mark_of e) ≡ Some e → is_fixed e.place ≡ c → filter (λ x. is_fixed x.place) (all_reread u ms) ≡ es
     → filter (λ x. is_fixed x.place) (all_reread u (if b then mark_of e ∷ ms else ms)) ≡ (if b && c then e ∷ es else es)
@@ -216,7 +184,7 @@ pub outer_same : (u : Looked) (es : List Entry) → AreAgain u es → filter (λ
 outer_same u [] all = refl
 outer_same u (e ∷ es) all =
     outer_step u (is_outer (mark_of e)) (is_fixed e.place) e (filter is_outer (map mark_of es)) (filter is_unit_variable es) all.0 refl (outer_same u es all.1)
-    ∙ ap (λ (b : Bool). if b then e ∷ filter is_unit_variable es else filter is_unit_variable es) (sym (and_three (e.level == 2) (is_some e.name && is_variable e.tag) (is_fixed e.place)))
+    ∙ ap (λ (b : Bool). if b then e ∷ filter is_unit_variable es else filter is_unit_variable es) (and_assoc (e.level == 2) (is_some e.name && is_variable e.tag) (is_fixed e.place))
 
 -- ---- one mark
 

@@ -1,6 +1,6 @@
 -- The variables that can be seen at an address (DWARF 4, sections 2.3, 3.3 to 3.5, 4.1 and 5.1 to 5.3).
-use Rattle.std.specs.Prelude.{ℕ, zero, suc, ◌==◌, nat_le, nat_lt, ◌&&◌, ◌||◌, Bool, true, false, not, List, [], ◌∷◌, ◌++◌, map, filter, drop, find, Option, None, Some, take_while, is_some, if◌then◌else◌}
-use Rattle.leb_read.specs.Leb.{is_text_byte}
+use Rattle.std.specs.Prelude.{ℕ, zero, suc, ◌==◌, nat_le, nat_lt, ◌&&◌, ◌||◌, Bool, true, false, not, List, [], ◌∷◌, ◌++◌, map, filter, find, Option, None, Some, take_while, is_some, if◌then◌else◌}
+use Rattle.leb_read.specs.Leb.{text_from}
 use Rattle.debug_info.specs.declared.entry.Entry.{Entry}
 use Rattle.debug_info.specs.declared.entry.Kind.{Kind}
 use Rattle.debug_info.specs.declared.entry.Kind.TheVariants as kind
@@ -27,10 +27,6 @@ pub record Variable : Type 0 where
 pub record Texts : Type 0 where
   pub info : List ℕ
   pub strs : List ℕ
-
--- the bytes up to the first zero byte
-abbrev pub text_from : List ℕ → ℕ → List ℕ
-text_from section at = take_while is_text_byte (drop at section)
 
 abbrev pub name_of : Texts → Option TextPlace → List ℕ
 name_of texts None = []

@@ -1,6 +1,6 @@
 -- How long the texts of a section are, by their places. This project's own.
 use Rattle.std.specs.Prelude.{◌≡◌, ℕ, ◌+◌, ◌-◌, ◌<◌, List, length, get_or}
-use Rattle.debug_info.specs.Scope.{text_from}
+use Rattle.leb_read.specs.Leb.{text_from}
 use Rattle.debug_info.specs.declared.text_lengths.TextLengths.{TextLengths}
 
 -- lengths of the texts at the last places, the last place's first

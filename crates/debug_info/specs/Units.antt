@@ -1,7 +1,7 @@
 -- The units of a section (DWARF 4, section 7.5.1.1; DWARF 2 and 3, section 7.5.1).
 use Rattle.std.specs.Prelude.{ℕ, ◌+◌, ◌==◌, ◌&&◌, nat_le, nat_lt, List, length, Result, Err, if◌then◌else◌}
-use Rattle.leb_read.specs.Leb.{number_at}
-use Rattle.debug_info.specs.Reading.{◌>>=◌, Read, behind_run, found, read}
+use Rattle.leb_read.specs.Leb.{behind_run, number_at}
+use Rattle.debug_info.specs.Reading.{◌>>=◌, Read, found, read}
 use Rattle.debug_info.specs.Entries.{entries_from}
 use Rattle.debug_info.specs.declared.entry.Entry.{Entry}
 use Rattle.debug_info.specs.declared.fault.InfoFault.{InfoFault}
@@ -12,7 +12,7 @@ use Rattle.debug_info.specs.declared.offset.AbbrevOffset.{AbbrevOffset}
 unfoldable pub unit_end : List ℕ → ℕ → Result ℕ InfoFault
 unit_end info at = do
   size ← read (number_at 4 info at)
-  behind_run size.0 info size.1
+  read (behind_run size.0 info size.1)
 
 -- version, debug_abbrev_offset and address_size: the place of the abbreviations
 unfoldable pub header_at : List ℕ → List ℕ → ℕ → Read AbbrevOffset

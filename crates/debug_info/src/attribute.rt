@@ -2,7 +2,7 @@
 
 ghost use Rattle.std.specs.Prelude.{◌≡◌, ◌≤◌, IfOk, length, []};
 ghost use Rattle.debug_info.specs.Attributes.{attributes_at, attributes_of, or_named, with_value};
-ghost use Rattle.debug_info.specs.Forms.{IsReadTo};
+ghost use Rattle.leb_read.specs.Leb.{IsReadTo};
 ghost use Rattle.debug_info.specs.Index.{or_flag, with_flags};
 ghost use Rattle.debug_info.specs.Sources.{IsSource};
 

@@ -5,10 +5,9 @@ ghost use Rattle.debug_info.specs.Contents.{IsSpan, fault_at, spans_of};
 ghost use Rattle.debug_info.specs.Units.{header_at, unit_end};
 
 use crate::fault::{InfoFault, UnitFault};
-use crate::form::behind_run;
 use crate::offset::{AbbrevOffset, InfoOffset, Source};
 use dbg_traits::NoMemory;
-use leb_read::{u8_at, u16_at, u32_at};
+use leb_read::{behind_run, u8_at, u16_at, u32_at};
 use std::alloc::Global;
 
 /// Where a unit begins, and where its bytes end.
@@ -27,14 +26,14 @@ pub struct Spans {
 }
 
 // Where the unit at a place ends.
-#[tactic(auto, using(crate::proofs::Ends::number_next), unfolding(crate::specs::Units::unit_end))]
+#[tactic(auto, unfolding(crate::specs::Units::unit_end))]
 fn unit_end(info: &[u8], at: usize) -> Result<usize, InfoFault>
     ensures value { result ≡ unit_end info.now at }
     ensures within { IfOk result (λ end. end ≤ length info.now) }
     ensures behind { IfOk result (λ end. at + 4 ≤ end) }
 {
     let (length, start) = u32_at(info, at)?;
-    behind_run(u64::from(length), info, start)
+    Ok(behind_run(u64::from(length), info, start)?)
 }
 
 /// The place of the unit's abbreviations, and the next place; its version stands at a place.

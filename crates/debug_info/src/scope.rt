@@ -1,11 +1,10 @@
 //! The variables that can be seen at an address.
 
-ghost use Rattle.std.specs.Prelude.{◌≡◌, ◌<◌, ◌+◌, ◌==◌, ◌++◌, ◌∷◌, [], IfOk, None, OnOk, Some, true, false, drop, filter, find, if◌then◌else◌, length, map, take_while};
-ghost use Rattle.leb_read.specs.Leb.{is_text_byte};
+ghost use Rattle.std.specs.Prelude.{◌≡◌, ◌<◌, ◌+◌, ◌==◌, ◌++◌, ◌∷◌, [], IfOk, None, OnOk, Some, true, false, drop, filter, find, if◌then◌else◌, length, map};
 ghost use Rattle.debug_info.specs.Entries.{entry_list};
 ghost use Rattle.debug_info.specs.Marks.{IsMarkSplit, IsUnit, all_reread, entries_in, is_entered_mark, is_outer, is_own_mark, mark_of, reread_in};
 ghost use Rattle.debug_info.specs.Rising.{IsCount, RisesFrom};
-ghost use Rattle.debug_info.specs.Scope.{from_offset, is_fixed, is_modifier, is_within, kind_of, name_of, own_entries, own_kind, place_in, text_from, type_entry, variable_of, variables_in};
+ghost use Rattle.debug_info.specs.Scope.{from_offset, is_fixed, is_modifier, is_within, kind_of, name_of, own_entries, own_kind, place_in, type_entry, variable_of, variables_in};
 ghost use Rattle.debug_info.specs.Shown.{AreTexts, is_below, seen_texts, shown_variable, shown_variables};
 
 use crate::entry::{Entry, Kind, LEVELS, Range, Tag};
@@ -14,6 +13,7 @@ use crate::form::TextPlace;
 use crate::mark::{Mark, Unit};
 use crate::text_lengths::TextLengths;
 use dbg_traits::NoMemory;
+use leb_read::text_from;
 use std::alloc::Global;
 
 /// A variable that can be seen.
@@ -40,24 +40,6 @@ pub struct Texts<'a> {
 
 /// How many typedefs, consts and volatiles are followed.
 const LINKS: usize = 16;
-
-// How many bytes stand before the first zero byte.
-fn text_length(bytes: &[u8]) -> usize
-    ensures { result ≡ length (take_while is_text_byte bytes.now) }
-{
-    bytes.iter().take_while(|b| **b != 0).count()
-}
-
-// The bytes from a place up to the first zero byte.
-fn text_from(section: &[u8], at: usize) -> &[u8]
-    ensures { result.now ≡ text_from section.now at }
-{
-    if section.len() < at {
-        return &[];
-    }
-    let front = &section[at..];
-    &front[..text_length(front)]
-}
 
 fn name_of<'a>(texts: &Texts<'a>, place: Option<TextPlace>) -> &'a [u8]
     requires { AreTexts texts.now }

@@ -3,7 +3,7 @@
 //! Texts may share their ends, so what stands behind a place is kept for each place, and is filled from the section's end on.
 
 ghost use Rattle.std.specs.Prelude.{◌≡◌, ◌<◌, ◌≤◌, ◌^◌, IfOk, drop, length, nat_lt};
-ghost use Rattle.debug_info.specs.Scope.{text_from};
+ghost use Rattle.leb_read.specs.Leb.{text_from};
 ghost use Rattle.debug_info.specs.TextLengths.{AreLengths};
 
 use dbg_traits::NoMemory;

@@ -30,7 +30,10 @@ by_fde : (pc : ℕ) (section body : List ℕ) (at next : ℕ) (rest : Entries) (
 by_fde pc section body at next rest (Err e) h f more = refl
 by_fde pc section body at next rest (Ok None) h f more = more
 by_fde pc section body at next rest (Ok (Some d)) h f more =
-    elim (covers d pc) as (λ b. cond b (Ok (Some d)) (covering pc rest) ≡ told section (option_map (λ (r : AddressRange ℕ). r.value) (cond b (Some (record { begin = d.initial_location; end = d.initial_location + d.address_range; value = at })) (find (tables.covers pc) (fde_ranges rest)))) (first_fault rest))
+    elim (covers d pc) as (λ b. cond b (Ok (Some d)) (covering pc rest) ≡ told section
+    (option_map (λ (r : AddressRange ℕ). r.value)
+    (cond b (Some (record { begin = d.initial_location; end = d.initial_location + d.address_range; value = at }))
+    (find (tables.covers pc) (fde_ranges rest)))) (first_fault rest))
     [ true ↦ at_place section body at next (Some d) h f | false ↦ more ]
 
 by_entry : (pc most : ℕ) (section : List ℕ) (at : ℕ) (r : Read (List ℕ)) → entry_at section at ≡ r → ((next : ℕ) → IsTold pc section (entries_from most section next)) → IsTold pc section (then_rest at r (entries_from most section))

@@ -29,7 +29,8 @@ by_cie c d pc = by_state (fold_operations (first_rules c.return_column) (record 
     by_state (Ok s) = refl
 
 -- by what is told of the FDE
-pub rules_told : (kept shown : List ℕ) (pc : ℕ) (place : Result (Option ℕ) FrameFault) (d : Result (Option Fde) FrameFault) → kept ≡ shown → fde_told kept place ≡ covering pc (entries kept) → fde_told kept place ≡ d → rules_of shown pc ≡ (d >>= described kept pc)
+pub rules_told : (kept shown : List ℕ) (pc : ℕ) (place : Result (Option ℕ) FrameFault) (d : Result (Option Fde) FrameFault) → kept ≡ shown
+    → fde_told kept place ≡ covering pc (entries kept) → fde_told kept place ≡ d → rules_of shown pc ≡ (d >>= described kept pc)
 unfolding rules_of
 rules_told kept shown pc place d k t f = ap (λ (bytes : List ℕ). rules_of bytes pc) (sym k) ∙ ap (λ (r : Result (Option Fde) FrameFault). r >>= described kept pc) (sym t ∙ f)
 
@@ -42,12 +43,14 @@ described_by section pc d = by_name (named_cie section d.cie_pointer)
     by_name (Err e) = refl
     by_name (Ok c) = by_cie c d pc
 
-pub rules_at_fde : (kept shown : List ℕ) (pc place : ℕ) (told : Option ℕ) (d : Fde) (start : Result Start FrameFault) → kept ≡ shown → fde_told kept (Ok told) ≡ covering pc (entries kept) → told ≡ Some place → fde_at kept place ≡ Ok (Some d) → start_at kept d.cie_pointer ≡ start
+pub rules_at_fde : (kept shown : List ℕ) (pc place : ℕ) (told : Option ℕ) (d : Fde) (start : Result Start FrameFault) → kept ≡ shown
+    → fde_told kept (Ok told) ≡ covering pc (entries kept) → told ≡ Some place → fde_at kept place ≡ Ok (Some d) → start_at kept d.cie_pointer ≡ start
     → rules_of shown pc ≡ rules_behind start d pc
 rules_at_fde kept shown pc place told d start k t o f s =
     rules_told kept shown pc (Ok told) (Ok (Some d)) k t (ap (λ (p : Option ℕ). fde_told kept (Ok p)) o ∙ f) ∙ described_by kept pc d ∙ ap (λ (r : Result Start FrameFault). rules_behind r d pc) s
 
-pub rules_from_fde : (kept shown : List ℕ) (pc place : ℕ) (told : Option ℕ) (d : Fde) (s : Start) (rules : Result Rules FrameFault) → kept ≡ shown → fde_told kept (Ok told) ≡ covering pc (entries kept) → told ≡ Some place → fde_at kept place ≡ Ok (Some d) → start_at kept d.cie_pointer ≡ Ok s → rules ≡ rules_until s d pc
+pub rules_from_fde : (kept shown : List ℕ) (pc place : ℕ) (told : Option ℕ) (d : Fde) (s : Start) (rules : Result Rules FrameFault) → kept ≡ shown
+    → fde_told kept (Ok told) ≡ covering pc (entries kept) → told ≡ Some place → fde_at kept place ≡ Ok (Some d) → start_at kept d.cie_pointer ≡ Ok s → rules ≡ rules_until s d pc
     → rules_of shown pc ≡ (rules >>= (λ (r : Rules). Ok (Some r)))
 rules_from_fde kept shown pc place told d s rules k t o f st u =
     rules_at_fde kept shown pc place told d (Ok s) k t o f st ∙ ap (λ (r : Result Rules FrameFault). r >>= (λ (r : Rules). Ok (Some r))) (sym u)

@@ -32,25 +32,30 @@ record Counted {X : Type 0} (answer : X) (f : Operations → X) (factors : Facto
   enough : length bytes ≤ at + suc more
   same : f (then_rest (operation_at factors bytes at) (operations_from more factors bytes)) ≡ answer
 
-counted_from : {X : Type 0} (answer : X) (f : Operations → X) (factors : Factors) (bytes : List ℕ) (at most : ℕ) → at < length bytes → length bytes ≤ at + most → f (operations_from most factors bytes at) ≡ answer → Counted answer f factors bytes at
+counted_from : {X : Type 0} (answer : X) (f : Operations → X) (factors : Factors) (bytes : List ℕ) (at most : ℕ) → at < length bytes
+    → length bytes ≤ at + most → f (operations_from most factors bytes at) ≡ answer → Counted answer f factors bytes at
 counted_from answer f factors bytes at zero h enough same = absurd (omega arith)
 counted_from answer f factors bytes at (suc most) h enough same = record { more = most; enough = enough; same = ap f (sym (from_step most factors bytes at h)) ∙ same }
 
 counted : {X : Type 0} (answer : X) (f : Operations → X) (factors : Factors) (bytes : List ℕ) (at : ℕ) → at < length bytes → Gives answer f factors bytes at → Counted answer f factors bytes at
 counted answer f factors bytes at h r = counted_from answer f factors bytes at r.most h r.enough r.same
 
-pub gives_fault : {X : Type 0} (answer : X) (f : Operations → X) (factors : Factors) (bytes : List ℕ) (at : ℕ) (e : FrameFault) → at < length bytes → operation_at factors bytes at ≡ Err e → Gives answer f factors bytes at → answer ≡ f (Fails e)
+pub gives_fault : {X : Type 0} (answer : X) (f : Operations → X) (factors : Factors) (bytes : List ℕ) (at : ℕ) (e : FrameFault) → at < length bytes
+    → operation_at factors bytes at ≡ Err e → Gives answer f factors bytes at → answer ≡ f (Fails e)
 gives_fault answer f factors bytes at e h read r =
     let k = counted answer f factors bytes at h r in
     sym k.same ∙ ap (λ x. f (then_rest x (operations_from k.more factors bytes))) read
 
-pub gives_found : {X : Type 0} (answer x : X) (f : Operations → X) (factors : Factors) (bytes : List ℕ) (at next : ℕ) (o : Operation) → at < length bytes → operation_at factors bytes at ≡ found o next → ((rest : Operations) → f (Then o rest) ≡ x) → Gives answer f factors bytes at → answer ≡ x
+pub gives_found : {X : Type 0} (answer x : X) (f : Operations → X) (factors : Factors) (bytes : List ℕ) (at next : ℕ) (o : Operation)
+    → at < length bytes → operation_at factors bytes at ≡ found o next → ((rest : Operations) → f (Then o rest) ≡ x) → Gives answer f factors bytes at → answer ≡ x
 gives_found answer x f factors bytes at next o h read here r =
     let k = counted answer f factors bytes at h r in
     sym k.same ∙ ap (λ x. f (then_rest x (operations_from k.more factors bytes))) read ∙ here (operations_from k.more factors bytes next)
 
 -- g is what f is behind the operation
-pub gives_next : {X : Type 0} (answer : X) (f g : Operations → X) (factors : Factors) (bytes : List ℕ) (at next : ℕ) (o : Operation) → at < length bytes → at < next → operation_at factors bytes at ≡ found o next → ((rest : Operations) → f (Then o rest) ≡ g rest) → Gives answer f factors bytes at → Gives answer g factors bytes next
+pub gives_next : {X : Type 0} (answer : X) (f g : Operations → X) (factors : Factors) (bytes : List ℕ) (at next : ℕ) (o : Operation)
+    → at < length bytes → at < next → operation_at factors bytes at ≡ found o next → ((rest : Operations) → f (Then o rest) ≡ g rest)
+    → Gives answer f factors bytes at → Gives answer g factors bytes next
 gives_next answer f g factors bytes at next o h later read here r =
     let k = counted answer f factors bytes at h r in
     record {

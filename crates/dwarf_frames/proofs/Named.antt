@@ -28,7 +28,7 @@ number_short : (n : ℕ) (bytes : List ℕ) (at : ℕ) (e : Leb) → number_at n
 unfolding number_at
 number_short n bytes at e h = by_room (nat_le (at + n) (length bytes)) h
   where
-    by_room : (b : Bool) → cond b (leb.found (little_number n (drop at bytes)) (at + n)) (Err leb_fault.Short) ≡ Err e → e ≡ leb_fault.Short
+    by_room : (b : Bool) → cond b (found (little_number n (drop at bytes)) (at + n)) (Err leb_fault.Short) ≡ Err e → e ≡ leb_fault.Short
     by_room true h = cc
     by_room false h = cc
 
@@ -87,7 +87,8 @@ among_others : (body : List ℕ) (at place : ℕ) (others : List ℕ) → (at ==
 among_others body at place others e =
     elim (is_cie body) as (λ v. is_among place others ≡ is_among place (cond v (at ∷ []) [] ++ others)) [ true ↦ rw e refl | false ↦ refl ]
 
-by_entry : (place most : ℕ) (section : List ℕ) (at : ℕ) (r : Read (List ℕ)) → entry_at section at ≡ r → ((next : ℕ) → IsNamed place section (entries_from most section next)) → IsNamed place section (then_rest at r (entries_from most section))
+by_entry : (place most : ℕ) (section : List ℕ) (at : ℕ) (r : Read (List ℕ)) → entry_at section at ≡ r
+    → ((next : ℕ) → IsNamed place section (entries_from most section next)) → IsNamed place section (then_rest at r (entries_from most section))
 by_entry place most section at (Err e) h more = ap (λ (x : FrameFault). Err x) (break_short section at e h)
 by_entry place most section at (Ok r) h more =
     let rest = entries_from most section r.1 in

@@ -26,7 +26,8 @@ until_above pc location Ends h = refl
 until_above pc location (Fails e) h = grind (arith, nat_tests)
 until_above pc location (Then o rest) h = grind (arith, nat_tests)
 
-pub fold_until_next : (restored : Rules) (pc location to : ℕ) (s after : State) (o : Operation) → location ≤ pc → to ≡ moved location o → apply restored s o ≡ Ok after → (rest : Operations) → fold_until restored pc s location (Then o rest) ≡ fold_until restored pc after to rest
+pub fold_until_next : (restored : Rules) (pc location to : ℕ) (s after : State) (o : Operation) → location ≤ pc → to ≡ moved location o
+    → apply restored s o ≡ Ok after → (rest : Operations) → fold_until restored pc s location (Then o rest) ≡ fold_until restored pc after to rest
 fold_until_next restored pc location to s after o h m e rest =
     ap (fold_operations restored s) (until_then pc location o rest h)
     ∙ fold_next restored s after o e (operations_until pc (moved location o) rest)

@@ -43,13 +43,15 @@ reaches_break answer f section at e h read r =
     sym k.same ∙ ap (λ x. f (then_rest at x (entries_from k.more section))) read
 
 -- whatever entries follow
-pub reaches_found : {X : Type 0} (answer : X) (f : Entries → X) (x : X) (section body : List ℕ) (at next : ℕ) → at < length section → entry_at section at ≡ found body next → ((rest : Entries) → f (Then at body rest) ≡ x) → Reaches answer f section at → answer ≡ x
+pub reaches_found : {X : Type 0} (answer : X) (f : Entries → X) (x : X) (section body : List ℕ) (at next : ℕ) → at < length section
+    → entry_at section at ≡ found body next → ((rest : Entries) → f (Then at body rest) ≡ x) → Reaches answer f section at → answer ≡ x
 reaches_found answer f x section body at next h read here r =
     let k = counted answer f section at h r in
     sym k.same ∙ ap (λ x. f (then_rest at x (entries_from k.more section))) read ∙ here (entries_from k.more section next)
 
 -- g is what f is behind the entry
-pub reaches_next : {X : Type 0} (answer : X) (f g : Entries → X) (section body : List ℕ) (at next : ℕ) → at < length section → at < next → entry_at section at ≡ found body next → ((rest : Entries) → f (Then at body rest) ≡ g rest) → Reaches answer f section at → Reaches answer g section next
+pub reaches_next : {X : Type 0} (answer : X) (f g : Entries → X) (section body : List ℕ) (at next : ℕ) → at < length section → at < next
+    → entry_at section at ≡ found body next → ((rest : Entries) → f (Then at body rest) ≡ g rest) → Reaches answer f section at → Reaches answer g section next
 reaches_next answer f g section body at next h later read here r =
     let k = counted answer f section at h r in
     record {

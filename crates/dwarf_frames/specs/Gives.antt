@@ -1,15 +1,9 @@
 -- What readers give that lend a part of the bytes.
-use Rattle.std.specs.Prelude.{◌≡◌, ℕ, List, Option, Some, None, Result, Ok, Err}
-use Rattle.std.specs.Borrow.{Bor}
-use Rattle.dwarf_frames.specs.Reading.{Read, found}
+use Rattle.std.specs.Prelude.{◌≡◌, Option, Some, None, Result, Ok, Err}
 use Rattle.dwarf_frames.specs.Entries as entries
 use Rattle.dwarf_frames.specs.declared.fault.FrameFault.{FrameFault}
 use Rattle.dwarf_frames.specs.declared.entry.Cie.{Cie}
 use Rattle.dwarf_frames.specs.declared.entry.Fde.{Fde}
-
-abbrev pub GivesEntry : Result (Bor (List ℕ) × ℕ) FrameFault → Read (List ℕ) → Type 0
-GivesEntry (Ok r) read = read ≡ found r.0.now r.1
-GivesEntry (Err e) read = read ≡ Err e
 
 abbrev pub seen_fde : Fde → entries.Fde
 seen_fde d = record { cie_pointer = d.cie_pointer; initial_location = d.initial_location; address_range = d.address_range; program = d.program.now }

@@ -1,3 +1,4 @@
+-- The definitions of call frame information: its entries and rules, and how marks find them.
 pub mod Reading
 pub mod Operations
 pub mod Table

@@ -1,18 +1,14 @@
 -- Steps of reading, each of which may meet a fault: the first that is met is the answer (numbers: DWARF 5, section 7.6).
-use Rattle.std.specs.Prelude.{ℕ, pos, ◌%◌, ◌^◌, List, Result, Ok, Err, nat_lt, if◌then◌else◌}
+use Rattle.std.specs.Prelude.{ℕ, pos, ◌%◌, ◌^◌, List, Result, Err, nat_lt, if◌then◌else◌}
 use Rattle.std.specs.Int.{int_rem_euclid}
 use Rattle.std.specs.Int.RustNames.{unsigned_abs}
+use Rattle.leb_read.specs.Reading.{Reading, or_fault}
+pub use Rattle.leb_read.specs.Reading.{◌>>=◌, found}
 use Rattle.leb_read.specs.declared.fault.Leb.{Leb}
 use Rattle.leb_read.specs.declared.fault.Leb.TheVariants as leb
 use Rattle.leb_read.specs.Leb.{uleb_at, sleb_at}
 use Rattle.dwarf_frames.specs.declared.fault.FrameFault.{FrameFault}
 use Rattle.dwarf_frames.specs.declared.fault.FrameFault.TheVariants as fault
-
--- the rest of the reading, behind a step
-infixl 10 ◌>>=◌
-abbrev pub ◌>>=◌ : {A B : Type 0} → Result A FrameFault → (A → Result B FrameFault) → Result B FrameFault
-Ok x >>= f = f x
-Err e >>= f = Err e
 
 abbrev pub fault_of : Leb → FrameFault
 fault_of leb.Short = fault.Short
@@ -20,15 +16,11 @@ fault_of leb.Wide = fault.Leb
 
 -- a number or a text of `leb_read`
 abbrev pub read : {A : Type 0} → Result A Leb → Result A FrameFault
-read (Ok x) = Ok x
-read (Err e) = Err (fault_of e)
+read r = or_fault fault_of r
 
 -- what is read, and the place behind it
 abbrev pub Read : Type 0 → Type 0
-Read A = Result (A × ℕ) FrameFault
-
-abbrev pub found : {A : Type 0} → A → ℕ → Read A
-found value next = Ok (value, next)
+Read A = Reading FrameFault A
 
 -- an unsigned number, modulo 2^32
 unfoldable pub unsigned_at : List ℕ → ℕ → Read ℕ

@@ -1,8 +1,9 @@
 //! The entries of a section (DWARF 5, sections 6.4.1 and 7.24).
 
 ghost use Rattle.std.specs.Prelude.{◌≡◌, ◌<◌, IfOk};
-ghost use Rattle.dwarf_frames.specs.Gives.{GivesCie, GivesEntry, GivesFde};
+ghost use Rattle.dwarf_frames.specs.Gives.{GivesCie, GivesFde};
 ghost use Rattle.leb_read.specs.Leb.{IsBehind};
+ghost use Rattle.leb_read.specs.Reading.{GivesText};
 ghost use Rattle.dwarf_frames.specs.Entries.{cie_at, cie_of, is_version, fde_at, fde_of, entry_at, fields_of, return_column_at, size_at, sizes_at, versioned_of};
 ghost use Rattle.dwarf_frames.specs.Index.{is_cie};
 
@@ -41,7 +42,7 @@ pub struct Cie<'a> {
 /// The bytes of the entry at a place, behind its length, and the next entry's place.
 #[tactic(auto, unfolding(crate::specs::Entries::entry_at))]
 pub fn entry_at(section: &[u8], at: usize) -> Result<(&[u8], usize), FrameFault>
-    ensures value { GivesEntry result (entry_at section.now at) }
+    ensures value { GivesText result (entry_at section.now at) }
     ensures within { IfOk result (λ r. IsBehind section.now at r.1) }
 {
     let (length, start) = u32_at(section, at)?;

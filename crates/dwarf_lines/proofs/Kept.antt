@@ -5,9 +5,8 @@ use Rattle.std.specs.List.{take_while}
 use Rattle.std.proofs.lemmas.List.{drop-append-le, drop_all, length-append, map-append, length_push}
 use Rattle.std.proofs.lemmas.List.Sums.{take_while-cons}
 use Rattle.std.proofs.lemmas.List.Elements.{All-head, All-tail, All-cons, All-nil, All-push}
-use Rattle.leb_read.specs.Leb.{is_text_byte}
+use Rattle.leb_read.specs.Leb.{is_text_byte, text_from}
 use Rattle.file_names.specs.Numbers.{names_at}
-use Rattle.file_names.specs.Texts.{text_from}
 use Rattle.line_rows.specs.Sections.{Sections}
 use Rattle.dwarf_lines.specs.Met.{AreEnded, AreMet, Finds, Hold, Keeps, Meets, Opens, names_met}
 use Rattle.dwarf_lines.specs.declared.met.MetNames.{MetNames}
@@ -140,20 +139,6 @@ found_kept s old new text name place h k places line_str strs is =
       within = omega (arith, k.start_is, size);
       is = ap (λ (n : ℕ). text_from new.texts.items n) (sym zero_at) ∙ text_kept old.texts.items new.texts.items text place 0 k (omega arith) ∙ is;
     }
-
-empty_at : (xs : List ℕ) (last : ℕ) → length xs ≡ suc last → get_or xs last 0 ≡ 0 → take_while is_text_byte (drop last xs) ≡ []
-empty_at [] last size e = absurd (cc)
-empty_at (x ∷ xs) zero size e =
-    let test : is_text_byte x ≡ false = ap is_text_byte e in
-    take_while-cons is_text_byte x xs ∙ ap (λ (b : Bool). cond b (x ∷ take_while is_text_byte xs) []) test
-empty_at (x ∷ xs) (suc last) size e = empty_at xs last (omega (arith, size)) e
-
--- an empty name stands at the last zero byte
-pub found_empty : (s : Sections) (met : MetNames) (place : ℕ) → AreMet s met → place + 1 ≡ length met.texts.items → Finds s met met [] place
-found_empty s met place h size =
-    let last : length met.texts.items - 1 ≡ place = omega (arith, size) in
-    let zero_byte : get_or met.texts.items place 0 ≡ 0 = ap (λ (n : ℕ). get_or met.texts.items n 0) (sym last) ∙ h.texts_end in
-    record { met = h; names = refl; within = omega (arith, size); is = empty_at met.texts.items place (omega (arith, size)) zero_byte }
 
 pub text_whole : (section : List ℕ) (at : ℕ) → take_while is_text_byte (text_from section at) ≡ text_from section at
 text_whole section at = whole (drop at section)

@@ -16,7 +16,7 @@ use Rattle.line_headers.specs.declared.header.Header.{Header}
 use Rattle.line_headers.specs.declared.places.NamePlace.{NamePlace}
 use Rattle.line_programs.proofs.Files.{program_in_table}
 use Rattle.file_names.specs.Numbers.{distinct, number_of}
-use Rattle.file_names.specs.Texts.{text_from}
+use Rattle.leb_read.specs.Leb.{text_from}
 use Rattle.dwarf_lines.specs.Adding.{Adds, add_result, add_unit, add_units, added, named}
 use Rattle.dwarf_lines.specs.Met.{Meets, names_met}
 use Rattle.dwarf_lines.specs.Names.{name_in}

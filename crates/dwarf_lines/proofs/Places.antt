@@ -1,41 +1,30 @@
 -- The units of a section.
-use Rattle.std.proofs.Common.{◌≡◌, ℕ, zero, suc, ◌+◌, ◌-◌, ◌<◌, ◌≤◌, Bool, true, false, List, [], ◌∷◌, length, refl, arith, ◌∙◌, ap, sym}
+use Rattle.std.proofs.Common.{◌≡◌, ℕ, zero, suc, ◌+◌, ◌-◌, ◌<◌, ◌≤◌, Bool, true, false, List, [], ◌∷◌, length, refl, arith, ◌∙◌, ap}
 use Rattle.std.specs.Prelude.{Ok, Err, Result, if◌then◌else◌, nat_le}
-use Rattle.leb_read.specs.Leb.{found, number_at}
+use Rattle.leb_read.specs.Leb.{behind_run, number_at}
+use Rattle.leb_read.specs.Reading.{◌>>=◌, found}
 use Rattle.leb_read.specs.declared.fault.Leb.TheVariants.{Short}
 use Rattle.std.proofs.lemmas.Bool.Decides.{nat_tests}
 use Rattle.line_rows.specs.declared.fault.LineFault.{LineFault}
 use Rattle.line_rows.specs.declared.fault.LineFault.TheVariants as fault
-use Rattle.dwarf_lines.specs.Units.{Unit, and_behind, end_by, unit_end, units_from}
-use Rattle.line_rows.specs.Reading.{Reading, fixed_at, in_unit}
+use Rattle.dwarf_lines.specs.Units.{Unit, and_behind, unit_end, units_from}
+use Rattle.line_rows.specs.Reading.{read}
 
-abbrev second : Reading ℕ → ℕ
-second (Ok r) = r.1
-second (Err e) = 0
-
-next_by : (b : Bool) (x m v next : ℕ) → Ok (v, next) ≡ in_unit (if b then found x m else Err Short) → next ≡ m
-next_by true x m v next e = ap second e
-next_by false x m v next e = absurd (cc)
-
--- a number of n bytes ends n bytes behind its place
-pub fixed_next : (n : ℕ) (bytes : List ℕ) (at v next : ℕ) → Ok (v, next) ≡ fixed_at n bytes at → next ≡ at + n
-unfolding fixed_at number_at
-fixed_next n bytes at v next e = next_by (nat_le (at + n) (length bytes)) _ _ v next e
-
-size_by : (section : List ℕ) (at end size next : ℕ) → next ≡ at + 4 → (reserved within : Bool)
-    → (if reserved then Err fault.Header else (if within then Ok (next + size) else Err fault.Short)) ≡ Ok end → at + 4 ≤ end
-size_by section at end size next is true within e = absurd (cc)
-size_by section at end size next is false true e = let same : next + size ≡ end = cc in omega arith
-size_by section at end size next is false false e = absurd (cc)
-
-ends_behind : (section : List ℕ) (at end : ℕ) (r : Reading ℕ) → ((v next : ℕ) → r ≡ Ok (v, next) → next ≡ at + 4) → end_by section r ≡ Ok end → at + 4 ≤ end
-ends_behind section at end (Ok r) next e = size_by section at end r.0 r.1 (next r.0 r.1 refl) (nat_le 0xFFFFFFF0 r.0) (nat_le (r.1 + r.0) (length section)) e
-ends_behind section at end (Err f) next e = absurd (cc)
+-- by whether a length is reserved, and whether so many bytes are left
+end_by : (next size end : ℕ) (reserved within : Bool) → (if reserved then Err fault.Header else read (if within then Ok (next + size) else Err Short)) ≡ Ok end → next ≤ end
+end_by next size end true within e = absurd (cc)
+end_by next size end false true e = let same : next + size ≡ end = cc in omega arith
+end_by next size end false false e = absurd (cc)
 
 -- a unit ends behind its length
 unit_behind : (section : List ℕ) (at end : ℕ) → unit_end section at ≡ Ok end → at + 4 ≤ end
-unfolding unit_end
-unit_behind section at end e = ends_behind section at end (fixed_at 4 section at) (λ v next r. fixed_next 4 section at v next (sym r)) e
+unfolding unit_end number_at behind_run
+unit_behind section at end e = by_length (nat_le (at + 4) (length section)) _ (at + 4) e
+  where
+    by_length : (b : Bool) (size next : ℕ)
+        → (read (if b then found size next else Err Short) >>= (λ r. if nat_le 0xFFFFFFF0 r.0 then Err fault.Header else read (if nat_le r.0 (length section - r.1) then Ok (r.1 + r.0) else Err Short))) ≡ Ok end → next ≤ end
+    by_length true size next e = end_by next size end _ _ e
+    by_length false size next e = absurd (cc)
 
 -- by where the unit at the place ends
 enough_by : (n m : ℕ) (section : List ℕ) (at : ℕ) (end : Result ℕ LineFault) → unit_end section at ≡ end → ((next : ℕ) → end ≡ Ok next → units_from n section next ≡ units_from m section next)

@@ -6,7 +6,7 @@ use Rattle.line_rows.specs.Sections.{Sections}
 use Rattle.line_rows.specs.declared.fault.LineFault.{LineFault}
 use Rattle.line_rows.specs.declared.fault.LineError.{LineError}
 use Rattle.line_rows.specs.declared.fault.LineError.TheVariants as error
-use Rattle.file_names.specs.Texts.{text_from}
+use Rattle.leb_read.specs.Leb.{text_from}
 use Rattle.dwarf_lines.specs.Met.{AreMet, names_met}
 use Rattle.dwarf_lines.specs.Names.{name_in}
 use Rattle.dwarf_lines.specs.Numbers.{UnitRows}

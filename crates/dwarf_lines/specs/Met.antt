@@ -1,7 +1,7 @@
 -- How the names of files are kept while the units are read: as places in texts, in the order of the tables. This project's own.
 use Rattle.std.specs.Prelude.{◌≡◌, ℕ, ◌+◌, ◌-◌, ◌<◌, ◌≤◌, List, [], ◌∷◌, ◌++◌, length, slice_index, All, Some}
 use Rattle.file_names.specs.Numbers.{names_at}
-use Rattle.file_names.specs.Texts.{text_from}
+use Rattle.leb_read.specs.Leb.{text_from}
 use Rattle.line_rows.specs.Sections.{Sections}
 use Rattle.dwarf_lines.specs.declared.met.MetNames.{MetNames}
 

@@ -1,7 +1,7 @@
 -- The names of files (DWARF 5, section 6.2.4.1).
 use Rattle.std.specs.Prelude.{ℕ, List, []}
 use Rattle.line_rows.specs.Sections.{Sections}
-use Rattle.file_names.specs.Texts.{text_from}
+use Rattle.leb_read.specs.Leb.{text_from}
 use Rattle.line_headers.specs.declared.places.NamePlace.{NamePlace}
 use Rattle.line_headers.specs.declared.places.NamePlace.TheVariants as place
 

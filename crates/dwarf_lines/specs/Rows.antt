@@ -12,7 +12,7 @@ use Rattle.line_rows.specs.RowList.{OpenUnit, RowList}
 use Rattle.line_rows.specs.declared.fault.LineFault.{LineFault}
 use Rattle.line_rows.specs.declared.fault.UnitFault.{UnitFault}
 use Rattle.file_names.specs.Numbers.{distinct}
-use Rattle.file_names.specs.Texts.{text_from}
+use Rattle.leb_read.specs.Leb.{text_from}
 use Rattle.dwarf_lines.specs.Names.{name_in}
 use Rattle.dwarf_lines.specs.Numbers.{UnitRows, numbered_sequences}
 use Rattle.dwarf_lines.specs.Units.{Unit, units_of}

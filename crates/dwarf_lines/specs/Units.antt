@@ -1,6 +1,8 @@
 -- The units of a section, one after another (DWARF 5, section 6.2.4, item 1, and section 7.4).
-use Rattle.std.specs.Prelude.{ℕ, zero, suc, ◌+◌, nat_le, List, [], ◌∷◌, length, Result, Ok, Err, if◌then◌else◌}
-use Rattle.line_rows.specs.Reading.{Reading, fixed_at}
+use Rattle.std.specs.Prelude.{ℕ, zero, suc, nat_le, List, [], ◌∷◌, length, Result, Ok, Err, if◌then◌else◌}
+use Rattle.leb_read.specs.Leb.{behind_run, number_at}
+use Rattle.leb_read.specs.Reading.{◌>>=◌}
+use Rattle.line_rows.specs.Reading.{read}
 use Rattle.line_rows.specs.declared.fault.LineFault.{LineFault}
 use Rattle.line_rows.specs.declared.fault.LineFault.TheVariants as fault
 
@@ -9,15 +11,11 @@ pub record Unit : Type 0 where
   pub place : ℕ
   pub end : Result ℕ LineFault
 
--- from 0xFFFFFFF0 on a length is none of the 32-bit format
-abbrev pub end_by : List ℕ → Reading ℕ → Result ℕ LineFault
-end_by section (Ok r) =
-    if nat_le 0xFFFFFFF0 r.0 then Err fault.Header
-    else (if nat_le (r.1 + r.0) (length section) then Ok (r.1 + r.0) else Err fault.Short)
-end_by section (Err e) = Err e
-
+-- unit_length, and so many bytes; from 0xFFFFFFF0 on a length is none of the 32-bit format
 unfoldable pub unit_end : List ℕ → ℕ → Result ℕ LineFault
-unit_end section at = end_by section (fixed_at 4 section at)
+unit_end section at = do
+  size ← read (number_at 4 section at)
+  if nat_le 0xFFFFFFF0 size.0 then Err fault.Header else read (behind_run size.0 section size.1)
 
 -- behind a unit without an end there is none
 abbrev pub and_behind : ℕ → Result ℕ LineFault → (ℕ → List Unit) → List Unit

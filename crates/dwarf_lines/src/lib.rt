@@ -2,7 +2,6 @@
 #![tactic(auto)]
 
 mod adding;
-mod files;
 mod met;
 mod section;
 mod unit;

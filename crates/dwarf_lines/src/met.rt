@@ -1,13 +1,13 @@
 //! The names of the files of all units, in the order of the tables.
 
 ghost use Rattle.std.specs.Prelude.{◌≡◌, ℕ, ◌+◌, [], ◌∷◌, Some, IfOk, length, map, min};
-ghost use Rattle.file_names.specs.Texts.{text_from};
+ghost use Rattle.leb_read.specs.Leb.{text_from};
 ghost use Rattle.line_rows.specs.Sections.{Sections, sections_shown};
 ghost use Rattle.dwarf_lines.specs.Met.{AreEnded, AreMet, Finds, Hold, Keeps, Meets, Opens, names_met};
 ghost use Rattle.dwarf_lines.specs.Names.{name_in};
 
-use crate::files::text_from;
 use dbg_traits::NoMemory;
+use leb_read::text_from;
 use line_headers::NamePlace;
 use line_rows::{LineSections, RowsBuilder};
 use std::alloc::Global;

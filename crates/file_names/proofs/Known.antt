@@ -1,13 +1,18 @@
 -- The numbers of names when one is added.
 use Rattle.std.proofs.Common.{◌≡◌, ℕ, zero, suc, ◌+◌, ◌≤◌, Bool, true, false, cond, eqb, List, [], ◌∷◌, ◌++◌, Option, None, Some, length, refl, arith, ◌∙◌, ap, sym, get_or}
 use Rattle.std.specs.Prelude.{nat_lt, slice_set}
+use Rattle.std.specs.List.{position}
 use Rattle.std.specs.Str.{bytes_eq}
 use Rattle.std.specs.Cmp.Lexicographic.{bytes_decides}
 use Rattle.std.proofs.lemmas.Bool.Decides.{nat_tests}
 use Rattle.std.proofs.lemmas.List.Folds.{position_or_len_push}
 use Rattle.std.proofs.lemmas.List.{length_push}
 use Rattle.std.proofs.lemmas.List.Sums.{prefix_len-le-length}
-use Rattle.file_names.specs.Numbers.{number_of, place_of, with_name}
+use Rattle.file_names.specs.Numbers.{number_of, with_name}
+
+-- where a name stands in the list
+abbrev pub place_of : List (List ℕ) → List ℕ → Option ℕ
+place_of names name = position (bytes_eq name) names
 
 -- the place that a first place in a list of so many says
 abbrev pub place_in : ℕ → ℕ → Option ℕ

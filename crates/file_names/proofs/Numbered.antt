@@ -8,9 +8,9 @@ use Rattle.std.proofs.lemmas.List.{get_or-map, get_or-set_same, get_or_append_le
 use Rattle.std.proofs.lemmas.List.Sums.{fold-append}
 use Rattle.line_rows.specs.RowList.{NameList}
 use Rattle.file_names.specs.Homes.{AreHomes, size_at}
-use Rattle.file_names.specs.Numbers.{Numbers, distinct, names_at, number_of, place_of, with_name}
-use Rattle.file_names.specs.Texts.{text_from}
-use Rattle.file_names.proofs.Known.{get_set_other, known_name, known_push, new_name, new_push, other_push}
+use Rattle.file_names.specs.Numbers.{Numbers, distinct, names_at, number_of, with_name}
+use Rattle.leb_read.specs.Leb.{text_from}
+use Rattle.file_names.proofs.Known.{get_set_other, known_name, known_push, new_name, new_push, other_push, place_of}
 use Rattle.file_names.proofs.Texts.{text_range}
 
 -- what is there when so many names have their numbers
@@ -117,7 +117,8 @@ number_more texts places homes known after before names numbers more done place 
         (subst (λ (l : List (Option ℕ)). AreNumbered texts places homes l (record before { names = before.names ++ name ∷ [] }) (numbers ++ n ∷ []) (done + 1)) (sym known_now) now))
 
 -- when all have their numbers
-pub once_all : (texts places homes : List ℕ) (known : List (Option ℕ)) (names : NameList) (numbers : List ℕ) (done : ℕ) → length places ≤ done → AreNumbered texts places homes known names numbers done → names.names ≡ distinct (names_at texts places)
+pub once_all : (texts places homes : List ℕ) (known : List (Option ℕ)) (names : NameList) (numbers : List ℕ) (done : ℕ) → length places ≤ done
+    → AreNumbered texts places homes known names numbers done → names.names ≡ distinct (names_at texts places)
 once_all texts places homes known names numbers done most h = h.once ∙ ap (λ (l : List ℕ). distinct (names_at texts l)) (take_all done places most)
 
 pub numbers_all : (texts places homes : List ℕ) (known : List (Option ℕ)) (names : NameList) (numbers : List ℕ) (done : ℕ) → length places ≤ done → done ≤ length places → AreNumbered texts places homes known names numbers done

@@ -7,7 +7,7 @@ use Rattle.std.proofs.lemmas.List.{get_or_default, get_or-set_same, length-set}
 use Rattle.std.proofs.lemmas.List.Elements.{Contains-get_or}
 use Rattle.file_names.proofs.Known.{get_set_other}
 use Rattle.std.specs.Ordering.{nat_cmp}
-use Rattle.file_names.specs.Texts.{text_from}
+use Rattle.leb_read.specs.Leb.{text_from}
 use Rattle.file_names.specs.Homes.{AreHomes, AreHomesTo, ArePlaces, Settles, size_at}
 use Rattle.file_names.proofs.Texts.{shorter, size_behind, size_most, size_some, text_more}
 
@@ -80,7 +80,8 @@ put_more bytes places size done old homes met after p key home are below is key_
     put_by q (suc d) e was = step.stays (key_at bytes old q) (get_or homes q 0) was ∙ ap (λ (n : ℕ). Some n) (sym (apart q (λ same. omega (arith, e, same))))
 
     put_at : (k d : ℕ) → k < done + 1 → done - k ≡ d → get nat_cmp after (key_at bytes old (get_or places k 0)) ≡ Some (get_or (slice_set homes p home) (get_or places k 0) 0)
-    put_at k zero low e = let same : get_or places k 0 ≡ p = ap (λ (i : ℕ). get_or places i 0) (omega (arith, low, e)) ∙ sym is in subst (λ (n : ℕ). get nat_cmp after (key_at bytes old n) ≡ Some (get_or (slice_set homes p home) n 0)) (sym same) own
+    put_at k zero low e = let same : get_or places k 0 ≡ p = ap (λ (i : ℕ). get_or places i 0) (omega (arith, low, e)) ∙ sym is in subst
+        (λ (n : ℕ). get nat_cmp after (key_at bytes old n) ≡ Some (get_or (slice_set homes p home) n 0)) (sym same) own
     put_at k (suc d) low e = put_by (get_or places k 0) ((get_or places k 0 - p) + (p - get_or places k 0)) refl (h.put k (omega (arith, e)))
 
     put : (k : ℕ) → k < done + 1 → get nat_cmp after (key_at bytes old (get_or places k 0)) ≡ Some (get_or (slice_set homes p home) (get_or places k 0) 0)
@@ -99,7 +100,8 @@ there bytes places size old homes met p h has =
     let at : get_or places has.0 0 ≡ p = get_or_default places has.0 0 p has.1 ∙ has.2 in
     subst (λ (q : ℕ). get nat_cmp met (key_at bytes old q) ≡ Some (get_or homes q 0)) at (h.put has.0 has.1)
 
-pub settled : (bytes places : List ℕ) (size done : ℕ) (old homes : List ℕ) (met : BTreeMap ℕ ℕ) → AreBytes bytes → AreHomesTo bytes old size → ArePlaces bytes places (size + 1) → length places ≤ done → Puts bytes places size done old homes met → AreHomesTo bytes homes (size + 1)
+pub settled : (bytes places : List ℕ) (size done : ℕ) (old homes : List ℕ) (met : BTreeMap ℕ ℕ) → AreBytes bytes → AreHomesTo bytes old size
+    → ArePlaces bytes places (size + 1) → length places ≤ done → Puts bytes places size done old homes met → AreHomesTo bytes homes (size + 1)
 settled bytes places size done old homes met small before are all puts =
     record { size = puts.length_is; same = same; one = one }
   where

@@ -43,11 +43,14 @@ pub record AreBefore (bytes places before : List ℕ) (size done : ℕ) : Type 0
   pub all : (p k : ℕ) → k < done → get_or places k 0 ≡ p + 1 → size_at bytes p ≡ size + 1 → Contains before p
   pub no_more : (p : ℕ) → Contains before p → (p ≤ length bytes) × (size_at bytes p ≡ size + 1)
 
-pub before_push : (bytes places before after : List ℕ) (size k p : ℕ) → p + 1 ≡ get_or places k 0 → p ≤ length bytes → size_at bytes p ≡ size + 1 → AreBefore bytes places before size k → after ≡ before ++ p ∷ [] → AreBefore bytes places after size (k + 1)
+pub before_push : (bytes places before after : List ℕ) (size k p : ℕ) → p + 1 ≡ get_or places k 0 → p ≤ length bytes → size_at bytes p ≡ size + 1
+    → AreBefore bytes places before size k → after ≡ before ++ p ∷ [] → AreBefore bytes places after size (k + 1)
 before_push bytes places before after size k p is within long h e =
     let now : AreBefore bytes places (before ++ p ∷ []) size (k + 1) =
     record {
-      all = λ q j below at size_is. by_cases j k below (λ lower. Contains-append_left before (p ∷ []) q (h.all q j lower at size_is)) (λ same. let one : q ≡ p = omega (arith, at, is, ap (λ (n : ℕ). get_or places n 0) same) in subst (λ (n : ℕ). Contains (before ++ p ∷ []) n) (sym one) (Contains-push before p));
+      all = λ q j below at size_is. by_cases j k below (λ lower. Contains-append_left before (p ∷ []) q (h.all q j lower at size_is))
+          (λ same. let one : q ≡ p = omega (arith, at, is, ap (λ (n : ℕ). get_or places n 0) same) in subst (λ (n : ℕ). Contains (before ++ p ∷ []) n)
+          (sym one) (Contains-push before p));
       no_more = λ q has. pick q (Contains-push_cases before p q has);
     } in subst (λ (l : List ℕ). AreBefore bytes places l size (k + 1)) (sym e) now
   where
@@ -72,8 +75,3 @@ before_all bytes places before size done most are h =
           h.all p has.0 (omega (arith, has.1, most)) (get_or_default places has.0 0 (p + 1) has.1 ∙ has.2) long;
       no_more = h.no_more;
     }
-
--- where the texts from a place on end
-pub record AreEndsFrom (bytes ends : List ℕ) (from : ℕ) : Type 0 where
-  pub size : length ends ≡ length bytes + 1
-  pub each : (p : ℕ) → from ≤ p → p ≤ length bytes → get_or ends p 0 ≡ p + size_at bytes p

@@ -1,4 +1,3 @@
 -- The definitions of file names' numbers, and of the homes of texts by which they are found.
-pub mod Texts
 pub mod Numbers
 pub mod Homes

@@ -1,9 +1,9 @@
 -- The numbers of file names: distinct names are numbered from 0 in the order in which they first stand in a list. This project's own.
 use Rattle.std.specs.Prelude.{◌≡◌, ◌⊎◌, ℕ, Bool, List, [], ◌∷◌, ◌++◌, length, fold, map, nat_lt, slice_set, Option, None, Some, if◌then◌else◌}
-use Rattle.std.specs.List.{position, position_or_len, slice_index_or}
+use Rattle.std.specs.List.{position_or_len, slice_index_or}
 use Rattle.std.specs.Str.{bytes_eq}
 use Rattle.line_rows.specs.RowList.{NameList}
-use Rattle.file_names.specs.Texts.{text_from}
+use Rattle.leb_read.specs.Leb.{text_from}
 
 -- a name's number, which for a new name is the next one
 abbrev pub number_of : List (List ℕ) → List ℕ → ℕ
@@ -18,10 +18,6 @@ with_name names name = if is_known names name then names else names ++ name ∷ 
 -- each name once
 abbrev pub distinct : List (List ℕ) → List (List ℕ)
 distinct names = fold with_name [] names
-
--- where a name stands in the list
-abbrev pub place_of : List (List ℕ) → List ℕ → Option ℕ
-place_of names name = position (bytes_eq name) names
 
 -- the number of a home: it has one, or it gets the next one and its name comes behind the others
 abbrev pub Numbers : List (Option ℕ) → List (Option ℕ) → NameList → NameList → ℕ → List ℕ → ℕ → Type 0

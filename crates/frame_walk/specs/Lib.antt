@@ -1,3 +1,4 @@
+-- The definitions of a stack's frames.
 pub mod Memory
 pub mod Caller
 pub mod Frames

@@ -8,7 +8,8 @@ use Rattle.std.proofs.lemmas.List.{take_all}
 use Rattle.std.proofs.lemmas.List.Sums.{take_while-cons}
 use Rattle.memchr.specs.Find.{IsFirstByte, is_byte}
 use Rattle.leb_read.specs.declared.fault.Leb.TheVariants.{Short}
-use Rattle.leb_read.specs.Leb.{found, is_text_byte, text_at}
+use Rattle.leb_read.specs.Leb.{is_text_byte, text_at}
+use Rattle.leb_read.specs.Reading.{found}
 
 all_text : (bytes : List ℕ) → ((k : ℕ) → k < length bytes → (get_or bytes k 0 == 0) ≡ false) → take_while is_text_byte bytes ≡ bytes
 all_text [] h = refl

@@ -2,15 +2,13 @@
 -- 7.31, "Integer Representation Names", and 7.5.5, "Classes and Forms").
 use Rattle.std.specs.Prelude.{◌≡◌, ◌<◌, ◌≤◌, ℕ, ℤ, pos, ◌-ℤ◌, ◌+◌, ◌-◌, ◌*◌, ◌%◌, ◌^◌, ◌==◌, ◌&&◌, ◌||◌, true, false, nat_le, nat_lt, not, Bool, List, [], ◌∷◌, length, take, drop, take_while, slice_index, Result, Ok, Err, if◌then◌else◌}
 use Rattle.byteorder.specs.Endian.{little_number}
+use Rattle.leb_read.specs.Reading.{Reading, found, read_map}
 use Rattle.leb_read.specs.declared.fault.Leb.{Leb}
 use Rattle.leb_read.specs.declared.fault.Leb.TheVariants.{Short, Wide}
 
 -- a value and the place behind it, or why there is none
 abbrev pub Read : Type 0 → Type 0
-Read A = Result (A × ℕ) Leb
-
-abbrev pub found : {A : Type 0} → A → ℕ → Read A
-found value next = Ok (value, next)
+Read A = Reading Leb A
 
 -- bit 7 of a byte is set: the number goes on in the next one (DWARF 5, section 7.6)
 abbrev pub goes_on : ℕ → Bool
@@ -66,10 +64,6 @@ leb_at is_signed bytes at =
     if nat_lt (length front) n then Err Short
     else (if is_wide is_signed (take n front) then Err Wide else found (take n front) (at + n))
 
-abbrev pub read_map : {A B : Type 0} → (A → B) → Read A → Read B
-read_map f (Ok r) = found (f r.0) r.1
-read_map f (Err e) = Err e
-
 -- an unsigned number at a place (ULEB128)
 unfoldable pub uleb_at : List ℕ → ℕ → Read ℕ
 uleb_at bytes at = read_map spelled (leb_at false bytes at)
@@ -83,18 +77,31 @@ unfoldable pub number_at : ℕ → List ℕ → ℕ → Read ℕ
 number_at n bytes at =
     if nat_le (at + n) (length bytes) then found (little_number n (drop at bytes)) (at + n) else Err Short
 
+-- the place behind n bytes, where so many are left
+unfoldable pub behind_run : ℕ → List ℕ → ℕ → Result ℕ Leb
+behind_run n bytes at = if nat_le n (length bytes - at) then Ok (at + n) else Err Short
+
 abbrev pub is_text_byte : ℕ → Bool
 is_text_byte b = not (b == 0)
+
+-- the bytes from a place up to the first zero byte, or up to the end
+abbrev pub text_from : List ℕ → ℕ → List ℕ
+text_from bytes at = take_while is_text_byte (drop at bytes)
 
 -- the bytes from a place up to the first zero byte, and the place behind that
 unfoldable pub text_at : List ℕ → ℕ → Read (List ℕ)
 text_at bytes at =
-    let text = take_while is_text_byte (drop at bytes) in
+    let text = text_from bytes at in
     if nat_lt (length text) (length (drop at bytes)) then found text (at + length text + 1) else Err Short
 
 -- a next place stands behind the place and no further than the end
 pub record IsBehind (bytes : List ℕ) (at next : ℕ) : Type 0 where
   pub behind : at < next
+  pub within : next ≤ length bytes
+
+-- a next place stands no further to the front than the place, nor behind the end
+pub record IsReadTo (bytes : List ℕ) (at next : ℕ) : Type 0 where
+  pub behind : at ≤ next
   pub within : next ≤ length bytes
 
 -- a next place stands behind the text at the place and its zero byte, and no further than the end

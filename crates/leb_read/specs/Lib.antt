@@ -1,3 +1,4 @@
--- The definitions of numbers and texts in bytes, and of what their readers give.
+-- The definitions of readings, and of numbers, texts and forms in bytes.
+pub mod Reading
 pub mod Leb
-pub mod Gives
+pub mod Forms

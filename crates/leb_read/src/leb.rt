@@ -1,8 +1,8 @@
 //! Numbers of variable length: seven bits a byte, the lowest first.
 
 ghost use Rattle.std.specs.Prelude.{◌≡◌, ◌<◌, ◌≤◌, ◌^◌, ◌+◌, IfOk, length, take_while, true};
-ghost use Rattle.leb_read.specs.Gives.{GivesText};
 ghost use Rattle.leb_read.specs.Leb.{HasFit, IsBehind, goes_on, is_wide, leb_at, leb_length, sleb_at, spelled, spelled_signed, tenth_of, uleb_at};
+ghost use Rattle.leb_read.specs.Reading.{GivesText};
 
 use crate::fault::Leb;
 

@@ -6,7 +6,8 @@ use Rattle.std.proofs.lemmas.Bool.Decides.{nat_tests}
 use Rattle.std.proofs.lemmas.Bool.{false_from_ne_true}
 use Rattle.std.proofs.lemmas.List.Sums.{take_while-cons}
 use Rattle.memchr.specs.Find.{IsLastByte, is_byte}
-use Rattle.leb_read.specs.Leb.{found, is_text_byte, text_at}
+use Rattle.leb_read.specs.Leb.{is_text_byte, text_at}
+use Rattle.leb_read.specs.Reading.{found}
 use Rattle.leb_read.specs.declared.fault.Leb.TheVariants.{Short}
 use Rattle.line_rows.specs.Sections.{Sections}
 use Rattle.line_headers.specs.Texts.{EndsAt, texts_before, texts_in}

@@ -1,79 +1,76 @@
 -- The tables of directories and files in version 5 (DWARF 5, section 6.2.4, items 13 to 20, and section 7.5.6).
-use Rattle.std.specs.Prelude.{ℕ, zero, suc, ◌==◌, ◌&&◌, not, Bool, true, false, List, [], ◌∷◌, Option, None, Some, option_and_then, Err, Ok, if◌then◌else◌}
-use Rattle.line_rows.specs.Reading.{Reading, fixed_at, unsigned_at}
-use Rattle.line_headers.specs.Reading.{and_then, reading_map, run_at, text_length_at}
+use Rattle.std.specs.Prelude.{ℕ, zero, suc, ◌==◌, ◌&&◌, ◌||◌, not, Bool, true, false, List, [], ◌∷◌, Option, None, Some, option_and_then, Err, Ok, if◌then◌else◌}
+use Rattle.leb_read.specs.Forms.{behind_form, form_of}
+use Rattle.leb_read.specs.Leb.{number_at, text_at, uleb_at}
+use Rattle.leb_read.specs.declared.forms.Form.{Form}
+use Rattle.leb_read.specs.declared.forms.Form.TheVariants as form
+use Rattle.leb_read.specs.declared.forms.Width.TheVariants.{Variable}
+use Rattle.leb_read.specs.Reading.{◌>>=◌, found, read_map}
+use Rattle.line_rows.specs.Reading.{Reading, read}
 use Rattle.line_headers.specs.Texts.{Texts}
 use Rattle.line_headers.specs.declared.places.NamePlace.{NamePlace}
 use Rattle.line_headers.specs.declared.places.NamePlace.TheVariants as place
-use Rattle.line_headers.specs.declared.formats.Form.{Form}
-use Rattle.line_headers.specs.declared.formats.Form.TheVariants as form
 use Rattle.line_headers.specs.declared.formats.Field.{Field}
 use Rattle.line_rows.specs.declared.fault.LineFault.TheVariants as fault
 
--- DW_FORM_string, line_strp, strp, data1, data2, data4, data8, data16, udata and block
-abbrev pub form_of : ℕ → Option Form
-form_of code =
-    if code == 0x08 then Some form.Text
-    else (if code == 0x1F then Some form.LineStr
-    else (if code == 0x0E then Some form.Str
-    else (if code == 0x0B then Some (form.Fixed 1)
-    else (if code == 0x05 then Some (form.Fixed 2)
-    else (if code == 0x06 then Some (form.Fixed 4)
-    else (if code == 0x07 then Some (form.Fixed 8)
-    else (if code == 0x1E then Some (form.Fixed 16)
-    else (if code == 0x0F then Some form.Number
-    else (if code == 0x09 then Some form.Block
-    else None)))))))))
-
 abbrev pub is_text_form : Form → Bool
-is_text_form form.Text = true
-is_text_form form.LineStr = true
-is_text_form form.Str = true
-is_text_form (form.Fixed size) = false
-is_text_form form.Number = false
-is_text_form form.Block = false
+is_text_form form.Inline = true
+is_text_form form.LineShared = true
+is_text_form form.Shared = true
+is_text_form _ = false
+
+-- texts, data1, data2, data4, data8, data16, udata and block
+abbrev pub is_entry_form : Form → Bool
+is_entry_form (form.Constant width) = true
+is_entry_form form.LongConstant = true
+is_entry_form (form.Block Variable) = true
+is_entry_form other = is_text_form other
 
 -- what an entry has, by content type and form: DW_LNCT_path is 1, and has a form of texts
 unfoldable pub field_of : ℕ → ℕ → Option Field
 field_of content code =
     option_and_then
-    (λ form. if (content == 1) && not (is_text_form form) then None else Some (record { is_path = content == 1; form = form }))
+    (λ form. if is_entry_form form && (not (content == 1) || is_text_form form) then Some (record { is_path = content == 1; form = form }) else None)
     (form_of code)
 
 abbrev pub known_field : Option Field → ℕ → Reading Field
 known_field None next = Err fault.Form
-known_field (Some field) next = Ok (field, next)
+known_field (Some field) next = found field next
 
 unfoldable pub field_at : List ℕ → ℕ → Reading Field
-field_at bytes at =
-    and_then (unsigned_at bytes at) (λ content next. and_then (unsigned_at bytes next) (λ code behind. known_field (field_of content code) behind))
+field_at bytes at = do
+  content ← read (uleb_at bytes at)
+  code ← read (uleb_at bytes content.1)
+  known_field (field_of content.0 code.0) code.1
 
 -- n fields one after another
 abbrev pub fields_at : ℕ → List ℕ → ℕ → Reading (List Field)
-fields_at zero bytes at = Ok ([], at)
-fields_at (suc n) bytes at =
-    and_then (field_at bytes at) (λ field next. reading_map (λ fields. field ∷ fields) (fields_at n bytes next))
+fields_at zero bytes at = found [] at
+fields_at (suc n) bytes at = do
+  field ← field_at bytes at
+  read_map (λ fields. field.0 ∷ fields) (fields_at n bytes field.1)
 
 -- the fields that each entry of a table has
 unfoldable pub format_at : List ℕ → ℕ → Reading (List Field)
-format_at bytes at = and_then (fixed_at 1 bytes at) (λ count next. fields_at count bytes next)
+format_at bytes at = do
+  count ← read (number_at 1 bytes at)
+  fields_at count.0 bytes count.1
 
 -- the place that an offset names, which is looked up for a path alone
 abbrev pub text_named : Bool → Bool → NamePlace → ℕ → Reading NamePlace
-text_named is_path stands name next = if is_path && not stands then Err fault.Short else Ok (name, next)
-
-abbrev pub no_name : {A : Type 0} → Reading A → Reading NamePlace
-no_name read = reading_map (λ _. place.Empty) read
+text_named is_path stands name next = if is_path && not stands then Err fault.Short else found name next
 
 abbrev pub value_by : Texts → Bool → Form → List ℕ → ℕ → Reading NamePlace
-value_by texts is_path form.Text bytes at = reading_map (λ _. place.Line at) (text_length_at bytes at)
-value_by texts is_path form.LineStr bytes at =
-    and_then (fixed_at 4 bytes at) (λ offset next. text_named is_path (texts.in_line_str offset) (place.LineStr offset) next)
-value_by texts is_path form.Str bytes at =
-    and_then (fixed_at 4 bytes at) (λ offset next. text_named is_path (texts.in_str offset) (place.Str offset) next)
-value_by texts is_path (form.Fixed size) bytes at = no_name (run_at size bytes at)
-value_by texts is_path form.Number bytes at = no_name (unsigned_at bytes at)
-value_by texts is_path form.Block bytes at = no_name (and_then (unsigned_at bytes at) (λ size next. run_at size bytes next))
+value_by texts is_path form.Inline bytes at = read_map (λ _. place.Line at) (read (text_at bytes at))
+value_by texts is_path form.LineShared bytes at = do
+  offset ← read (number_at 4 bytes at)
+  text_named is_path (texts.in_line_str offset.0) (place.LineStr offset.0) offset.1
+value_by texts is_path form.Shared bytes at = do
+  offset ← read (number_at 4 bytes at)
+  text_named is_path (texts.in_str offset.0) (place.Str offset.0) offset.1
+value_by texts is_path other bytes at = do
+  next ← read (behind_form other bytes at)
+  found place.Empty next
 
 -- a field's name; what is no path is passed over by its size
 unfoldable pub value_at : Texts → Field → List ℕ → ℕ → Reading NamePlace
@@ -81,29 +78,33 @@ value_at texts field bytes at = value_by texts field.is_path field.form bytes at
 
 -- the name that an entry's fields give, of several paths the last
 abbrev pub entry_at : Texts → List Field → NamePlace → List ℕ → ℕ → Reading NamePlace
-entry_at texts [] name bytes at = Ok (name, at)
-entry_at texts (field ∷ fields) name bytes at =
-    and_then (value_at texts field bytes at)
-    (λ value next. entry_at texts fields (if field.is_path then value else name) bytes next)
+entry_at texts [] name bytes at = found name at
+entry_at texts (field ∷ fields) name bytes at = do
+  value ← value_at texts field bytes at
+  entry_at texts fields (if field.is_path then value.0 else name) bytes value.1
 
 -- n entries one after another
 abbrev pub entries_at : Texts → List Field → ℕ → List ℕ → ℕ → Reading (List NamePlace)
-entries_at texts fields zero bytes at = Ok ([], at)
-entries_at texts fields (suc n) bytes at =
-    and_then (entry_at texts fields place.Empty bytes at)
-    (λ name next. reading_map (λ names. name ∷ names) (entries_at texts fields n bytes next))
+entries_at texts fields zero bytes at = found [] at
+entries_at texts fields (suc n) bytes at = do
+  name ← entry_at texts fields place.Empty bytes at
+  read_map (λ names. name.0 ∷ names) (entries_at texts fields n bytes name.1)
 
 -- entries without fields
 abbrev pub counted_at : Texts → List Field → ℕ → List ℕ → ℕ → Reading (List NamePlace)
-counted_at texts [] zero bytes at = Ok ([], at)
+counted_at texts [] zero bytes at = found [] at
 counted_at texts [] (suc n) bytes at = Err fault.Header
 counted_at texts (field ∷ fields) n bytes at = entries_at texts (field ∷ fields) n bytes at
 
 -- a format, a count and so many entries
 unfoldable pub table_at : Texts → List ℕ → ℕ → Reading (List NamePlace)
-table_at texts bytes at =
-    and_then (format_at bytes at) (λ fields next. and_then (unsigned_at bytes next) (λ count behind. counted_at texts fields count bytes behind))
+table_at texts bytes at = do
+  fields ← format_at bytes at
+  count ← read (uleb_at bytes fields.1)
+  counted_at texts fields.0 count.0 bytes count.1
 
 -- the files, behind the directories
 unfoldable pub entry_tables_at : Texts → List ℕ → ℕ → Reading (List NamePlace)
-entry_tables_at texts bytes at = and_then (table_at texts bytes at) (λ directories next. table_at texts bytes next)
+entry_tables_at texts bytes at = do
+  directories ← table_at texts bytes at
+  table_at texts bytes directories.1

@@ -1,8 +1,8 @@
 -- The header of a unit (DWARF 5, section 6.2.4; DWARF 4, section 6.2.4).
 use Rattle.std.specs.Prelude.{◌≡◌, ℕ, ◌==◌, ◌<◌, ◌≤◌, List, length, Result, Ok, Err, if◌then◌else◌}
 use Rattle.std.specs.Global.{Vec}
+use Rattle.leb_read.specs.Reading.{◌>>=◌, found}
 use Rattle.line_rows.specs.Reading.{Reading}
-use Rattle.line_headers.specs.Reading.{and_then, reading_map}
 use Rattle.line_headers.specs.Texts.{Texts}
 use Rattle.line_headers.specs.Names.{name_tables_at}
 use Rattle.line_headers.specs.Entries.{entry_tables_at}
@@ -21,14 +21,14 @@ tables_at texts version bytes at = if version == 5 then entry_tables_at texts by
 
 -- the header from its version on, and its files
 unfoldable pub header_at : Texts → List ℕ → ℕ → Reading (Header × List NamePlace)
-header_at texts bytes at =
-    and_then (version_at bytes at) (λ version a.
-    and_then (sizes_at version bytes a) (λ sizes b.
-    and_then (program_at bytes b) (λ program c.
-    and_then (lines_at version bytes c) (λ lines d.
-    and_then (opcodes_at bytes d) (λ opcodes e.
-    reading_map (λ files. (record { lines = lines; opcodes = opcodes; program = program; first_file = first_file version }, files))
-    (tables_at texts version bytes e))))))
+header_at texts bytes at = do
+  version ← version_at bytes at
+  sizes ← sizes_at version.0 bytes version.1
+  program ← program_at bytes sizes.1
+  lines ← lines_at version.0 bytes program.1
+  opcodes ← opcodes_at bytes lines.1
+  files ← tables_at texts version.0 bytes opcodes.1
+  found (record { lines = lines.0; opcodes = opcodes.0; program = program.0; first_file = first_file version.0 }, files.0) files.1
 
 -- what a reading found, at whichever place it ended
 abbrev pub IsHeader : Header → List NamePlace → Reading (Header × List NamePlace) → Type 0

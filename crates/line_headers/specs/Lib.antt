@@ -1,5 +1,4 @@
 -- The definitions of a unit's header: its fields, its tables of names, and what reading them gives.
-pub mod Reading
 pub mod Texts
 pub mod Names
 pub mod Entries

@@ -6,11 +6,11 @@ ghost use Rattle.line_headers.specs.Texts.{texts_before};
 ghost use Rattle.line_headers.specs.Gives.{Finds, Gives};
 ghost use Rattle.line_headers.specs.Entries.{counted_at, entries_at, entry_at, entry_tables_at, table_at, text_named, value_at};
 
-use crate::fields::{run_at, text_length_at};
-use crate::formats::{Field, Form, format_at};
+use crate::formats::{Field, format_at};
 use crate::places::{NamePlace, name_in_line};
 use crate::texts::TextEnds;
-use line_rows::{LineError, LineFault, unsigned_at, word_at};
+use leb_read::{Form, behind_form, text_at, u32_at, uleb};
+use line_rows::{LineError, LineFault};
 use std::alloc::Global;
 
 // The name at an offset, which is looked up for a path alone.
@@ -39,33 +39,21 @@ fn value_at(
     ensures { Finds result (value_at (texts_before ends) field bytes.now at) }
 {
     match field.form {
-        Form::Text => {
-            let (_, next) = text_length_at(bytes, at)?;
+        Form::Inline => {
+            let (_, next) = text_at(bytes, at)?;
             Ok((name_in_line(at)?, next))
         }
-        Form::LineStr => {
-            let (offset, next) = word_at(bytes, at)?;
+        Form::LineShared => {
+            let (offset, next) = u32_at(bytes, at)?;
             let stands = (offset as usize) < ends.line_str;
             Ok(text_named(field.is_path, stands, NamePlace::LineStr(offset), next)?)
         }
-        Form::Str => {
-            let (offset, next) = word_at(bytes, at)?;
+        Form::Shared => {
+            let (offset, next) = u32_at(bytes, at)?;
             let stands = (offset as usize) < ends.strs;
             Ok(text_named(field.is_path, stands, NamePlace::Str(offset), next)?)
         }
-        Form::Fixed(size) => {
-            let (_, next) = run_at(bytes, at, size)?;
-            Ok((NamePlace::Empty, next))
-        }
-        Form::Number => {
-            let (_, next) = unsigned_at(bytes, at)?;
-            Ok((NamePlace::Empty, next))
-        }
-        Form::Block => {
-            let (size, next) = unsigned_at(bytes, at)?;
-            let (_, next) = run_at(bytes, next, size as usize)?;
-            Ok((NamePlace::Empty, next))
-        }
+        _ => Ok((NamePlace::Empty, behind_form(field.form, bytes, at)?)),
     }
 }
 
@@ -137,7 +125,7 @@ fn table_at(
     ensures { Gives result (table_at (texts_before ends) bytes.now at) }
 {
     let (fields, next) = format_at(alloc, bytes, at)?;
-    let (count, next) = unsigned_at(bytes, next)?;
+    let (count, next) = uleb(bytes, next)?;
     counted_at(alloc, bytes, next, &fields, count, ends)
 }
 

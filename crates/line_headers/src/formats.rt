@@ -3,27 +3,11 @@
 ghost use Rattle.std.specs.Prelude.{◌≡◌, IfOk};
 ghost use Rattle.leb_read.specs.Leb.{IsBehind};
 ghost use Rattle.line_headers.specs.Gives.{Gives};
-ghost use Rattle.line_headers.specs.Entries.{field_at, field_of, fields_at, form_of, format_at, is_text_form};
+ghost use Rattle.line_headers.specs.Entries.{field_at, field_of, fields_at, format_at, is_entry_form, is_text_form};
 
-use line_rows::{LineError, LineFault, byte_at, unsigned_at};
+use leb_read::{Form, Width, form_of, u8_at, uleb};
+use line_rows::{LineError, LineFault};
 use std::alloc::Global;
-
-/// How a value is written.
-#[derive(Clone, Copy)]
-pub enum Form {
-    /// A text in place, up to its zero byte.
-    Text,
-    /// An offset into `.debug_line_str`.
-    LineStr,
-    /// An offset into `.debug_str`.
-    Str,
-    /// So many bytes.
-    Fixed(usize),
-    /// A number of variable length.
-    Number,
-    /// A size of variable length and so many bytes.
-    Block,
-}
 
 /// A value that each entry of a table has.
 #[derive(Clone, Copy)]
@@ -33,28 +17,20 @@ pub struct Field {
     pub form: Form,
 }
 
-fn form_of(code: u64) -> Option<Form>
-    ensures { result ≡ form_of code }
+// Whether entries may have values of a form.
+fn is_entry_form(form: Form) -> bool
+    ensures { result ≡ is_entry_form form }
 {
-    match code {
-        0x08 => Some(Form::Text),
-        0x1F => Some(Form::LineStr),
-        0x0E => Some(Form::Str),
-        0x0B => Some(Form::Fixed(1)),
-        0x05 => Some(Form::Fixed(2)),
-        0x06 => Some(Form::Fixed(4)),
-        0x07 => Some(Form::Fixed(8)),
-        0x1E => Some(Form::Fixed(16)),
-        0x0F => Some(Form::Number),
-        0x09 => Some(Form::Block),
-        _ => None,
+    match form {
+        Form::Constant(_) | Form::LongConstant | Form::Block(Width::Variable) => true,
+        _ => is_text_form(form),
     }
 }
 
 fn is_text_form(form: Form) -> bool
     ensures { result ≡ is_text_form form }
 {
-    matches!(form, Form::Text | Form::LineStr | Form::Str)
+    matches!(form, Form::Inline | Form::LineShared | Form::Shared)
 }
 
 // The content types of DWARF 5 begin with the path.
@@ -66,18 +42,19 @@ fn field_of(content: u64, code: u64) -> Option<Field>
 {
     let form = form_of(code)?;
     let is_path = content == PATH;
-    if is_path && !is_text_form(form) {
-        return None;
+    if is_entry_form(form) && (!is_path || is_text_form(form)) {
+        Some(Field { is_path, form })
+    } else {
+        None
     }
-    Some(Field { is_path, form })
 }
 
 #[tactic(auto, unfolding(crate::specs::Entries::field_at))]
 fn field_at(bytes: &[u8], at: usize) -> Result<(Field, usize), LineFault>
     ensures { result ≡ field_at bytes.now at }
 {
-    let (content, next) = unsigned_at(bytes, at)?;
-    let (code, next) = unsigned_at(bytes, next)?;
+    let (content, next) = uleb(bytes, at)?;
+    let (code, next) = uleb(bytes, next)?;
     match field_of(content, code) {
         Some(field) => Ok((field, next)),
         None => Err(LineFault::Form),
@@ -107,6 +84,6 @@ fn fields_at(
 pub fn format_at(alloc: Global, bytes: &[u8], at: usize) -> Result<(Vec<Field>, usize), LineError>
     ensures { Gives result (format_at bytes.now at) }
 {
-    let (count, next) = byte_at(bytes, at)?;
+    let (count, next) = u8_at(bytes, at)?;
     fields_at(alloc, bytes, next, count)
 }

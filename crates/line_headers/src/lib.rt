@@ -2,7 +2,6 @@
 #![tactic(auto)]
 
 mod entries;
-mod fields;
 mod formats;
 mod header;
 mod names;

@@ -5,9 +5,9 @@ ghost use Rattle.leb_read.specs.Leb.{IsBehind};
 ghost use Rattle.line_headers.specs.Gives.{Finds, Gives};
 ghost use Rattle.line_headers.specs.Names.{entry_at, name_tables_at, names_at, numbers_at};
 
-use crate::fields::text_length_at;
 use crate::places::{NamePlace, name_in_line};
-use line_rows::{LineError, LineFault, unsigned_at};
+use leb_read::{text_at, uleb};
+use line_rows::{LineError, LineFault};
 use std::alloc::Global;
 
 // A file's directory, time and length are passed over.
@@ -16,9 +16,9 @@ fn numbers_at(bytes: &[u8], at: usize) -> Result<(u64, usize), LineFault>
     ensures value { result ≡ numbers_at bytes.now at }
     ensures within { IfOk result (λ r. IsBehind bytes.now at r.1) }
 {
-    let (_, next) = unsigned_at(bytes, at)?;
-    let (_, next) = unsigned_at(bytes, next)?;
-    unsigned_at(bytes, next)
+    let (_, next) = uleb(bytes, at)?;
+    let (_, next) = uleb(bytes, next)?;
+    Ok(uleb(bytes, next)?)
 }
 
 // An entry of a table, or none where its end stands.
@@ -27,8 +27,8 @@ fn entry_at(bytes: &[u8], at: usize, is_file: bool) -> Result<(Option<NamePlace>
     ensures value { Finds result (entry_at is_file bytes.now at) }
     ensures within { IfOk result (λ r. IsBehind bytes.now at r.1) }
 {
-    let (size, next) = text_length_at(bytes, at)?;
-    if size == 0 {
+    let (name, next) = text_at(bytes, at)?;
+    if name.is_empty() {
         return Ok((None, next));
     }
     let name = Some(name_in_line(at)?);

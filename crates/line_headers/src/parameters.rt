@@ -3,8 +3,8 @@ ghost use Rattle.std.specs.Prelude.{◌≡◌, ◌<◌, ◌≤◌, IfOk, length}
 ghost use Rattle.leb_read.specs.Leb.{IsBehind};
 ghost use Rattle.line_headers.specs.Parameters.{AreWithin, constant_at, lines_at, nonzero_at, opcodes_at, program_at, sizes_at, version_at};
 
-use crate::fields::run_at;
-use line_rows::{LineFault, byte_at, half_at, word_at};
+use leb_read::{behind_run, u8_at, u16_at, u32_at};
+use line_rows::LineFault;
 
 /// How a program steps through addresses and lines.
 #[derive(Clone, Copy)]
@@ -32,7 +32,7 @@ pub struct Opcodes {
 pub fn version_at(bytes: &[u8], at: usize) -> Result<(u16, usize), LineFault>
     ensures { result ≡ version_at bytes.now at }
 {
-    let (version, next) = half_at(bytes, at)?;
+    let (version, next) = u16_at(bytes, at)?;
     if !(2..=5).contains(&version) {
         return Err(LineFault::Version);
     }
@@ -43,7 +43,7 @@ pub fn version_at(bytes: &[u8], at: usize) -> Result<(u16, usize), LineFault>
 fn constant_at(bytes: &[u8], at: usize, wanted: u8) -> Result<(u8, usize), LineFault>
     ensures { result ≡ constant_at wanted bytes.now at }
 {
-    let (byte, next) = byte_at(bytes, at)?;
+    let (byte, next) = u8_at(bytes, at)?;
     if byte != wanted {
         return Err(LineFault::Header);
     }
@@ -53,9 +53,10 @@ fn constant_at(bytes: &[u8], at: usize, wanted: u8) -> Result<(u8, usize), LineF
 #[tactic(auto, unfolding(crate::specs::Parameters::nonzero_at))]
 fn nonzero_at(bytes: &[u8], at: usize) -> Result<(u8, usize), LineFault>
     ensures value { result ≡ nonzero_at bytes.now at }
+    ensures within { IfOk result (λ r. IsBehind bytes.now at r.1) }
     ensures some { IfOk result (λ r. 0 < r.0) }
 {
-    let (byte, next) = byte_at(bytes, at)?;
+    let (byte, next) = u8_at(bytes, at)?;
     if byte == 0 {
         return Err(LineFault::Header);
     }
@@ -80,7 +81,7 @@ pub fn program_at(bytes: &[u8], at: usize) -> Result<(usize, usize), LineFault>
     ensures value { result ≡ program_at bytes.now at }
     ensures within { IfOk result (λ r. r.0 ≤ length bytes.now) }
 {
-    let (size, next) = word_at(bytes, at)?;
+    let (size, next) = u32_at(bytes, at)?;
     if bytes.len() - next < size as usize {
         return Err(LineFault::Header);
     }
@@ -93,11 +94,11 @@ pub fn lines_at(bytes: &[u8], at: usize, version: u16) -> Result<(Lines, usize),
     ensures value { result ≡ lines_at version bytes.now at }
     ensures range { IfOk result (λ r. 0 < r.0.line_range) }
 {
-    let (minimum_length, at) = byte_at(bytes, at)?;
+    let (minimum_length, at) = u8_at(bytes, at)?;
     let operations = if version < 4 { 0 } else { 1 };
-    let (_, at) = run_at(bytes, at, operations)?;
-    let (stmt, at) = byte_at(bytes, at)?;
-    let (base, at) = byte_at(bytes, at)?;
+    let at = behind_run(operations, bytes, at)?;
+    let (stmt, at) = u8_at(bytes, at)?;
+    let (base, at) = u8_at(bytes, at)?;
     let (line_range, at) = nonzero_at(bytes, at)?;
     let lines = Lines {
         minimum_length,
@@ -109,12 +110,12 @@ pub fn lines_at(bytes: &[u8], at: usize, version: u16) -> Result<(Lines, usize),
 }
 
 /// The opcodes of the program.
-#[tactic(auto, unfolding(crate::specs::Parameters::opcodes_at, crate::specs::Reading::run_at))]
+#[tactic(auto, unfolding(crate::specs::Parameters::opcodes_at))]
 pub fn opcodes_at(bytes: &[u8], at: usize) -> Result<(Opcodes, usize), LineFault>
     ensures value { result ≡ opcodes_at bytes.now at }
     ensures within { IfOk result (λ r. AreWithin bytes.now r.0) }
 {
-    let (base, at) = nonzero_at(bytes, at)?;
-    let (lengths, at) = run_at(bytes, at, base as usize - 1)?;
-    Ok((Opcodes { base, lengths }, at))
+    let (base, lengths) = nonzero_at(bytes, at)?;
+    let next = behind_run(u64::from(base - 1), bytes, lengths)?;
+    Ok((Opcodes { base, lengths }, next))
 }

@@ -80,7 +80,8 @@ row_clear file line start end pc a (Some r) from below apart on =
     begins_by file line a r (r.address == a) r.is_stmt
     (λ e s. (let same : r.address ≡ a = grind (arith, nat_tests) in other_off r.is_stmt (is_another file line r) s (on (omega (arith, same, from)) (omega (arith, same, below)) (λ is. apart (sym same ∙ is)))))
 
-pub none_begins : (file line start end pc a : ℕ) (rows : List Row) → start ≤ a → a < end → a ≢ pc → All (Clear start end pc (Another file line)) rows → option_map_or (is_another file line) (option_and_then (begins a) (row_in a rows)) false ≡ false
+pub none_begins : (file line start end pc a : ℕ) (rows : List Row) → start ≤ a → a < end → a ≢ pc → All (Clear start end pc (Another file line)) rows
+    → option_map_or (is_another file line) (option_and_then (begins a) (row_in a rows)) false ≡ false
 none_begins file line start end pc a rows from below apart all = row_clear file line start end pc a (row_in a rows) from below apart (row_on (Clear start end pc (Another file line)) a rows all)
 
 -- ---- rows with a mark
@@ -122,8 +123,10 @@ found_below end a (Some b) is =
     ] refl is
 
 -- rows around an address, by what was found below and above it
-pub clear_row : (mark : Mark) (rows : List Row) (pc start end low high k : ℕ) (d : Row) (found : Option ℕ) → below end (least_from (pc + 1) (addresses (has mark) rows)) ≡ found → low ≤ start → high ≤ end → ((f : ℕ) → found ≡ Some f → high ≤ f)
-    → All (λ r. low ≤ r.address → r.address < pc → has mark r ≡ false) rows → k < length rows → start ≤ (get_or rows k d).address → (get_or rows k d).address < high → (get_or rows k d).address ≢ pc → (b : Bool) → has mark (get_or rows k d) ≡ b → b ≡ false
+pub clear_row : (mark : Mark) (rows : List Row) (pc start end low high k : ℕ) (d : Row) (found : Option ℕ)
+    → below end (least_from (pc + 1) (addresses (has mark) rows)) ≡ found → low ≤ start → high ≤ end → ((f : ℕ) → found ≡ Some f → high ≤ f)
+    → All (λ r. low ≤ r.address → r.address < pc → has mark r ≡ false) rows → k < length rows → start ≤ (get_or rows k d).address
+    → (get_or rows k d).address < high → (get_or rows k d).address ≢ pc → (b : Bool) → has mark (get_or rows k d) ≡ b → b ≡ false
 clear_row mark rows pc start end low high k d found is up down first behind within from less apart false marked = refl
 clear_row mark rows pc start end low high k d found is up down first behind within from less apart true marked =
     let n = (get_or rows k d).address in

@@ -5,7 +5,8 @@ use Rattle.std.proofs.lemmas.Bool.Decides.{nat_tests}
 use Rattle.std.proofs.lemmas.List.{length_push}
 use Rattle.std.proofs.lemmas.List.Elements.{All-nil, All-push}
 use Rattle.leb_read.specs.Leb.{text_at}
-use Rattle.line_rows.specs.Reading.{in_unit}
+use Rattle.leb_read.specs.Reading.{◌>>=◌}
+use Rattle.line_rows.specs.Reading.{read}
 use Rattle.line_rows.specs.RowList.{OpenUnit, Sequence, ended_with, finished, last_address}
 use Rattle.line_rows.specs.declared.row.Row.{Row}
 use Rattle.line_rows.specs.declared.fault.LineFault.{LineFault}
@@ -14,7 +15,7 @@ use Rattle.line_programs.specs.declared.operation.Operation.{Operation}
 use Rattle.line_programs.specs.declared.operation.Operation.TheVariants.{Special, Copy, AdvancePc, AdvanceLine, SetFile, NegateStmt, ConstAddPc, FixedAdvancePc, SetPrologueEnd, EndSequence, SetAddress, DefineFile, Ignored}
 use Rattle.line_programs.specs.declared.parameters.Parameters.{Parameters}
 use Rattle.line_programs.specs.declared.registers.Registers.{Registers}
-use Rattle.line_programs.specs.Operations.{◌>>=◌, operations_of}
+use Rattle.line_programs.specs.Operations.{operations_of}
 use Rattle.line_programs.specs.Machine.{State, appended, defined, initial, is_file, moved, program_of, row_of, run, settled, shown, stepped}
 
 abbrev pub InTable : Parameters → ℕ → Row → Type 0
@@ -101,7 +102,7 @@ stepped_in p bytes (FixedAdvancePc n) s t h e = same_rows p s t (moved p (FixedA
 stepped_in p bytes SetPrologueEnd s t h e = same_rows p s t (moved p SetPrologueEnd s.registers) h e
 stepped_in p bytes EndSequence s t h e = ended_by p s.registers s.rows t (row_of p s.rows s.registers) h e
 stepped_in p bytes (SetAddress n) s t h e = same_rows p s t (moved p (SetAddress n) s.registers) h e
-stepped_in p bytes (DefineFile at) s t h e = defined_by p s t (in_unit (text_at bytes at)) h e
+stepped_in p bytes (DefineFile at) s t h e = defined_by p s t (read (text_at bytes at)) h e
 stepped_in p bytes Ignored s t h e = same_rows p s t s.registers h e
 
 run_by : (p : Parameters) (bytes : List ℕ) (rest : List Operation) (t : State) (mid : Result State LineFault) → ((m : State) → mid ≡ Ok m → run p bytes rest m ≡ Ok t → AreFiles p t.rows)

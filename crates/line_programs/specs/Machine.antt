@@ -1,7 +1,8 @@
 -- The state machine of a line number program (DWARF 4 and 5, sections 6.2.2 and 6.2.5).
 use Rattle.std.specs.Prelude.{◌≡◌, ℕ, ◌+◌, ◌-◌, ◌*◌, ◌/◌, ◌%◌, ◌^◌, Bool, true, false, not, ◌&&◌, nat_le, nat_lt, pos, ◌+ℤ◌, List, [], ◌∷◌, ◌++◌, length, Result, Ok, Err, Option, Some, None, if◌then◌else◌}
 use Rattle.leb_read.specs.Leb.{text_at}
-use Rattle.line_rows.specs.Reading.{in_unit}
+use Rattle.leb_read.specs.Reading.{◌>>=◌}
+use Rattle.line_rows.specs.Reading.{read}
 use Rattle.line_rows.specs.RowList.{Building, OpenUnit, ended_with, finished, last_address, nothing_open}
 use Rattle.line_rows.specs.declared.row.Row.{Row}
 use Rattle.line_rows.specs.declared.fault.LineFault.{LineFault}
@@ -12,7 +13,7 @@ use Rattle.line_programs.specs.declared.parameters.Parameters.{Parameters}
 use Rattle.line_rows.specs.declared.fault.LineError.{LineError}
 use Rattle.line_rows.specs.declared.fault.LineError.TheVariants as error
 use Rattle.line_programs.specs.declared.registers.Registers.{Registers}
-use Rattle.line_programs.specs.Operations.{◌>>=◌, Operations, operations_of, residue}
+use Rattle.line_programs.specs.Operations.{Operations, operations_of, residue}
 
 -- how a sequence begins
 abbrev pub initial : Parameters → Registers
@@ -75,7 +76,7 @@ ended p r rows = row_of p rows r >>= (λ row. Ok (record {
 
 -- a file more in the table, whose name stands at a place
 abbrev pub defined : List ℕ → ℕ → State → Result State LineFault
-defined bytes at s = in_unit (text_at bytes at) >>= (λ name. Ok (record s { rows = record s.rows { names = s.rows.names ++ name.0 ∷ [] } }))
+defined bytes at s = read (text_at bytes at) >>= (λ name. Ok (record s { rows = record s.rows { names = s.rows.names ++ name.0 ∷ [] } }))
 
 abbrev pub stepped : Parameters → List ℕ → Operation → State → Result State LineFault
 stepped p bytes (Special k) s = appended p (moved p (Special k) s.registers) s.rows

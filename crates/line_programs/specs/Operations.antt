@@ -1,42 +1,17 @@
 -- The operations of a line number program, as its bytes spell them (DWARF 4 and 5, section 6.2.5).
-use Rattle.std.specs.Prelude.{◌≡◌, ◌≤◌, ℕ, zero, suc, ℤ, pos, negsuc, ◌+◌, ◌-◌, ◌%◌, ◌^◌, ◌==◌, List, [], ◌∷◌, length, slice_index, nat_le, Result, Ok, Err, Option, Some, None, if◌then◌else◌}
-use Rattle.std.specs.Borrow.{Bor}
-use Rattle.leb_read.specs.Leb.{sleb_at, text_at}
-use Rattle.line_rows.specs.Reading.{Reading, fixed_at, in_unit, unsigned_at}
+use Rattle.std.specs.Prelude.{ℕ, zero, suc, ℤ, pos, negsuc, ◌-◌, ◌%◌, ◌^◌, ◌==◌, List, [], ◌∷◌, length, slice_index, nat_le, Result, Ok, Err, Option, Some, None, if◌then◌else◌}
+use Rattle.leb_read.specs.Leb.{behind_run, number_at, sleb_at, text_at, uleb_at}
+use Rattle.leb_read.specs.Reading.{◌>>=◌, found, read_map}
+use Rattle.line_rows.specs.Reading.{Reading, read}
 use Rattle.line_rows.specs.declared.fault.LineFault.{LineFault}
 use Rattle.line_rows.specs.declared.fault.LineFault.TheVariants as fault
 use Rattle.line_programs.specs.declared.operation.Operation.{Operation}
 use Rattle.line_programs.specs.declared.operation.Operation.TheVariants.{Special, Copy, AdvancePc, AdvanceLine, SetFile, NegateStmt, ConstAddPc, FixedAdvancePc, SetPrologueEnd, EndSequence, SetAddress, DefineFile, Ignored}
 use Rattle.line_programs.specs.declared.parameters.Parameters.{Parameters}
 
-infixl 10 ◌>>=◌
--- what comes behind, where there is no fault
-abbrev pub ◌>>=◌ : {A B : Type 0} → Result A LineFault → (A → Result B LineFault) → Result B LineFault
-Ok x >>= f = f x
-Err e >>= f = Err e
-
--- a signed number of variable length (DWARF 5, section 7.6)
-unfoldable pub signed_at : List ℕ → ℕ → Reading ℤ
-signed_at bytes at = in_unit (sleb_at bytes at)
-
--- what a reader that lends bytes gives
-abbrev pub GivesName : Reading (Bor (List ℕ)) → Reading (List ℕ) → Type 0
-GivesName (Ok p) read = read ≡ Ok (p.0.now, p.1)
-GivesName (Err e) read = read ≡ Err e
-
--- a place that isn't before another, nor past the end
-pub record IsFrom (bytes : List ℕ) (at next : ℕ) : Type 0 where
-  pub from : at ≤ next
-  pub within : next ≤ length bytes
-
 -- an operation and the place behind it
 abbrev pub Decoded : Type 0
 Decoded = Reading Operation
-
--- the operation of an operand
-abbrev pub with_operand : {A : Type 0} → (A → Operation) → Reading A → Decoded
-with_operand operation (Ok r) = Ok (operation r.0, r.1)
-with_operand operation (Err e) = Err e
 
 -- a signed number modulo 2 ^ 32
 abbrev pub residue : ℤ → ℕ
@@ -46,59 +21,70 @@ residue (negsuc n) = 2 ^ 32 - 1 - n % 2 ^ 32
 -- the place behind so many unsigned numbers
 unfoldable pub behind_numbers : ℕ → List ℕ → ℕ → Result ℕ LineFault
 behind_numbers zero bytes at = Ok at
-behind_numbers (suc n) bytes at = unsigned_at bytes at >>= (λ r. behind_numbers n bytes r.1)
+behind_numbers (suc n) bytes at = do
+  r ← read (uleb_at bytes at)
+  behind_numbers n bytes r.1
 
 -- so many operands that are passed over
 abbrev pub passed_over : ℕ → List ℕ → ℕ → Decoded
-passed_over n bytes at = behind_numbers n bytes at >>= (λ next. Ok (Ignored, next))
+passed_over n bytes at = do
+  next ← behind_numbers n bytes at
+  found Ignored next
 
 -- a standard opcode, whose operands stand at this place; an unknown one has so many as the header says.
 -- No row shows what set_column (5), set_basic_block (7), set_epilogue_begin (11) and set_isa (12) change.
 unfoldable pub standard_at : List ℕ → ℕ → List ℕ → ℕ → Decoded
 standard_at lengths opcode bytes at =
-    if opcode == 1 then Ok (Copy, at)
-    else (if opcode == 2 then with_operand AdvancePc (unsigned_at bytes at)
-    else (if opcode == 3 then with_operand (λ n. AdvanceLine (residue n)) (signed_at bytes at)
-    else (if opcode == 4 then with_operand SetFile (unsigned_at bytes at)
-    else (if opcode == 5 then with_operand (λ _. Ignored) (unsigned_at bytes at)
-    else (if opcode == 6 then Ok (NegateStmt, at)
-    else (if opcode == 7 then Ok (Ignored, at)
-    else (if opcode == 8 then Ok (ConstAddPc, at)
-    else (if opcode == 9 then with_operand FixedAdvancePc (fixed_at 2 bytes at)
-    else (if opcode == 10 then Ok (SetPrologueEnd, at)
-    else (if opcode == 11 then Ok (Ignored, at)
-    else (if opcode == 12 then with_operand (λ _. Ignored) (unsigned_at bytes at)
+    if opcode == 1 then found Copy at
+    else (if opcode == 2 then read_map AdvancePc (read (uleb_at bytes at))
+    else (if opcode == 3 then read_map (λ n. AdvanceLine (residue n)) (read (sleb_at bytes at))
+    else (if opcode == 4 then read_map SetFile (read (uleb_at bytes at))
+    else (if opcode == 5 then read_map (λ _. Ignored) (read (uleb_at bytes at))
+    else (if opcode == 6 then found NegateStmt at
+    else (if opcode == 7 then found Ignored at
+    else (if opcode == 8 then found ConstAddPc at
+    else (if opcode == 9 then read_map FixedAdvancePc (read (number_at 2 bytes at))
+    else (if opcode == 10 then found SetPrologueEnd at
+    else (if opcode == 11 then found Ignored at
+    else (if opcode == 12 then read_map (λ _. Ignored) (read (uleb_at bytes at))
     else passed_over (slice_index lengths (opcode - 1)) bytes at)))))))))))
 
 -- a file's name, and behind it its directory, time and length
 unfoldable pub file_at : List ℕ → ℕ → Decoded
-file_at bytes at =
-    in_unit (text_at bytes at) >>= (λ name. behind_numbers 3 bytes name.1 >>= (λ next. Ok (DefineFile at, next)))
+file_at bytes at = do
+  name ← read (text_at bytes at)
+  next ← behind_numbers 3 bytes name.1
+  found (DefineFile at) next
 
 -- an unknown extended opcode at a place is passed over by its length
 abbrev pub passed_by_length : ℕ → List ℕ → ℕ → Decoded
-passed_by_length n bytes at = if nat_le (at + n) (length bytes) then Ok (Ignored, at + n) else Err fault.Short
+passed_by_length n bytes at = do
+  next ← read (behind_run n bytes at)
+  found Ignored next
 
 -- an extended opcode, whose length stands at this place: end_sequence, set_address, define_file and set_discriminator are
 -- read by their operands, whatever their length says
 unfoldable pub extended_at : List ℕ → ℕ → Decoded
-extended_at bytes at =
-    unsigned_at bytes at >>= (λ size. fixed_at 1 bytes size.1 >>= (λ opcode.
-    if opcode.0 == 1 then Ok (EndSequence, opcode.1)
-    else (if opcode.0 == 2 then with_operand SetAddress (fixed_at 4 bytes opcode.1)
-    else (if opcode.0 == 3 then file_at bytes opcode.1
-    else (if opcode.0 == 4 then with_operand (λ _. Ignored) (unsigned_at bytes opcode.1)
-    else passed_by_length size.0 bytes size.1)))))
+extended_at bytes at = do
+  size ← read (uleb_at bytes at)
+  opcode ← read (number_at 1 bytes size.1)
+  if opcode.0 == 1 then found EndSequence opcode.1
+      else (if opcode.0 == 2 then read_map SetAddress (read (number_at 4 bytes opcode.1))
+      else (if opcode.0 == 3 then file_at bytes opcode.1
+      else (if opcode.0 == 4 then read_map (λ _. Ignored) (read (uleb_at bytes opcode.1))
+      else passed_by_length size.0 bytes size.1)))
 
 -- by the opcode in front of this place
 abbrev pub operation_by : Parameters → List ℕ → ℕ → List ℕ → ℕ → Decoded
 operation_by p lengths opcode bytes at =
-    if nat_le p.opcode_base opcode then Ok (Special (opcode - p.opcode_base), at)
+    if nat_le p.opcode_base opcode then found (Special (opcode - p.opcode_base)) at
     else (if opcode == 0 then extended_at bytes at else standard_at lengths opcode bytes at)
 
 -- the operation at a place
 unfoldable pub operation_at : Parameters → List ℕ → List ℕ → ℕ → Decoded
-operation_at p lengths bytes at = fixed_at 1 bytes at >>= (λ opcode. operation_by p lengths opcode.0 bytes opcode.1)
+operation_at p lengths bytes at = do
+  opcode ← read (number_at 1 bytes at)
+  operation_by p lengths opcode.0 bytes opcode.1
 
 -- the operations from a place to the end of the bytes, or up to the first fault
 pub record Operations : Type 0 where

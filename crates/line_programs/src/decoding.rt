@@ -1,16 +1,18 @@
 //! The operation at a place.
 
 ghost use Rattle.std.specs.Prelude.{◌≡◌, ◌≤◌, ◌<◌, ◌+◌, ◌-◌, IfOk, length, slice_index};
-ghost use Rattle.leb_read.specs.Leb.{IsBehind};
-ghost use Rattle.line_rows.specs.Reading.{fixed_at, unsigned_at};
-ghost use Rattle.line_programs.specs.Operations.{IsFrom, extended_at, file_at, operation_at, passed_by_length, passed_over, residue, signed_at, standard_at, with_operand};
+ghost use Rattle.leb_read.specs.Leb.{IsBehind, IsReadTo, number_at, sleb_at, uleb_at};
+ghost use Rattle.leb_read.specs.Reading.{read_map};
+ghost use Rattle.line_rows.specs.Reading.{read};
+ghost use Rattle.line_programs.specs.Operations.{extended_at, file_at, operation_at, passed_over, residue, standard_at};
 ghost use Rattle.line_programs.specs.declared.operation.Operation.TheVariants as op;
 
 use crate::operation::Operation;
 use crate::parameters::Parameters;
-use crate::reading::{behind_numbers, name_at, signed_at};
+use crate::reading::behind_numbers;
 use crate::registers::residue;
-use line_rows::{LineFault, byte_at, half_at, unsigned_at, word_at};
+use leb_read::{behind_run, sleb, text_at, u8_at, u16_at, u32_at, uleb};
+use line_rows::LineFault;
 
 // The standard opcodes (DWARF 5, table 7.25).
 const COPY: u8 = 1;
@@ -47,58 +49,58 @@ const DEFINE_FILE: u8 = 3;
 const SET_DISCRIMINATOR: u8 = 4;
 
 fn advance_pc(unit: &[u8], at: usize) -> Result<(Operation, usize), LineFault>
-    ensures value { result ≡ with_operand op.AdvancePc (unsigned_at unit.now at) }
-    ensures within { IfOk result (λ r. IsFrom unit.now at r.1) }
+    ensures value { result ≡ read_map op.AdvancePc (read (uleb_at unit.now at)) }
+    ensures within { IfOk result (λ r. IsReadTo unit.now at r.1) }
 {
-    let (count, next) = unsigned_at(unit, at)?;
+    let (count, next) = uleb(unit, at)?;
     Ok((Operation::AdvancePc(count), next))
 }
 
 fn advance_line(unit: &[u8], at: usize) -> Result<(Operation, usize), LineFault>
-    ensures value { result ≡ with_operand (λ n. op.AdvanceLine (residue n)) (signed_at unit.now at) }
-    ensures within { IfOk result (λ r. IsFrom unit.now at r.1) }
+    ensures value { result ≡ read_map (λ n. op.AdvanceLine (residue n)) (read (sleb_at unit.now at)) }
+    ensures within { IfOk result (λ r. IsReadTo unit.now at r.1) }
 {
-    let (lines, next) = signed_at(unit, at)?;
+    let (lines, next) = sleb(unit, at)?;
     Ok((Operation::AdvanceLine(residue(lines)), next))
 }
 
 fn set_file(unit: &[u8], at: usize) -> Result<(Operation, usize), LineFault>
-    ensures value { result ≡ with_operand op.SetFile (unsigned_at unit.now at) }
-    ensures within { IfOk result (λ r. IsFrom unit.now at r.1) }
+    ensures value { result ≡ read_map op.SetFile (read (uleb_at unit.now at)) }
+    ensures within { IfOk result (λ r. IsReadTo unit.now at r.1) }
 {
-    let (file, next) = unsigned_at(unit, at)?;
+    let (file, next) = uleb(unit, at)?;
     Ok((Operation::SetFile(file), next))
 }
 
 fn fixed_advance_pc(unit: &[u8], at: usize) -> Result<(Operation, usize), LineFault>
-    ensures value { result ≡ with_operand op.FixedAdvancePc (fixed_at 2 unit.now at) }
-    ensures within { IfOk result (λ r. IsFrom unit.now at r.1) }
+    ensures value { result ≡ read_map op.FixedAdvancePc (read (number_at 2 unit.now at)) }
+    ensures within { IfOk result (λ r. IsReadTo unit.now at r.1) }
 {
-    let (bytes, next) = half_at(unit, at)?;
+    let (bytes, next) = u16_at(unit, at)?;
     Ok((Operation::FixedAdvancePc(bytes), next))
 }
 
 fn set_address(unit: &[u8], at: usize) -> Result<(Operation, usize), LineFault>
-    ensures value { result ≡ with_operand op.SetAddress (fixed_at 4 unit.now at) }
-    ensures within { IfOk result (λ r. IsFrom unit.now at r.1) }
+    ensures value { result ≡ read_map op.SetAddress (read (number_at 4 unit.now at)) }
+    ensures within { IfOk result (λ r. IsReadTo unit.now at r.1) }
 {
-    let (address, next) = word_at(unit, at)?;
+    let (address, next) = u32_at(unit, at)?;
     Ok((Operation::SetAddress(address), next))
 }
 
 /// An operation whose one operand no row shows.
 fn passed_operand(unit: &[u8], at: usize) -> Result<(Operation, usize), LineFault>
-    ensures value { result ≡ with_operand (λ _. op.Ignored) (unsigned_at unit.now at) }
-    ensures within { IfOk result (λ r. IsFrom unit.now at r.1) }
+    ensures value { result ≡ read_map (λ _. op.Ignored) (read (uleb_at unit.now at)) }
+    ensures within { IfOk result (λ r. IsReadTo unit.now at r.1) }
 {
-    let (_, next) = unsigned_at(unit, at)?;
+    let (_, next) = uleb(unit, at)?;
     Ok((Operation::Ignored, next))
 }
 
 fn passed_over(count: u8, unit: &[u8], at: usize) -> Result<(Operation, usize), LineFault>
     requires { at ≤ length unit.now }
     ensures value { result ≡ passed_over count unit.now at }
-    ensures within { IfOk result (λ r. IsFrom unit.now at r.1) }
+    ensures within { IfOk result (λ r. IsReadTo unit.now at r.1) }
 {
     let next = behind_numbers(unit, at, count)?;
     Ok((Operation::Ignored, next))
@@ -115,7 +117,7 @@ fn standard_at(
     requires some { 0 < opcode }
     requires start { at ≤ length unit.now }
     ensures value { result ≡ standard_at lengths.now opcode unit.now at }
-    ensures within { IfOk result (λ r. IsFrom unit.now at r.1) }
+    ensures within { IfOk result (λ r. IsReadTo unit.now at r.1) }
 {
     match opcode {
         COPY => Ok((Operation::Copy, at)),
@@ -149,40 +151,27 @@ fn operand_count(lengths: &[u8], opcode: u8) -> u8
 #[tactic(auto, unfolding(crate::specs::Operations::file_at))]
 fn define_file(unit: &[u8], at: usize) -> Result<(Operation, usize), LineFault>
     ensures value { result ≡ file_at unit.now at }
-    ensures within { IfOk result (λ r. IsFrom unit.now at r.1) }
+    ensures within { IfOk result (λ r. IsReadTo unit.now at r.1) }
 {
-    let (_, behind) = name_at(unit, at)?;
+    let (_, behind) = text_at(unit, at)?;
     let next = behind_numbers(unit, behind, 3)?;
     Ok((Operation::DefineFile(at), next))
-}
-
-/// An unknown extended opcode at a place, with its operands, has so many bytes.
-fn passed_by_length(size: u64, unit: &[u8], at: usize) -> Result<(Operation, usize), LineFault>
-    requires { at ≤ length unit.now }
-    ensures value { result ≡ passed_by_length size unit.now at }
-    ensures within { IfOk result (λ r. IsFrom unit.now at r.1) }
-{
-    if size <= (unit.len() - at) as u64 {
-        Ok((Operation::Ignored, at + size as usize))
-    } else {
-        Err(LineFault::Short)
-    }
 }
 
 /// The extended opcode whose length stands at a place.
 #[tactic(auto, unfolding(crate::specs::Operations::extended_at))]
 fn extended_at(unit: &[u8], at: usize) -> Result<(Operation, usize), LineFault>
     ensures value { result ≡ extended_at unit.now at }
-    ensures within { IfOk result (λ r. IsFrom unit.now at r.1) }
+    ensures within { IfOk result (λ r. IsReadTo unit.now at r.1) }
 {
-    let (size, start) = unsigned_at(unit, at)?;
-    let (opcode, next) = byte_at(unit, start)?;
+    let (size, start) = uleb(unit, at)?;
+    let (opcode, next) = u8_at(unit, start)?;
     match opcode {
         END_SEQUENCE => Ok((Operation::EndSequence, next)),
         SET_ADDRESS => set_address(unit, next),
         DEFINE_FILE => define_file(unit, next),
         SET_DISCRIMINATOR => passed_operand(unit, next),
-        _ => passed_by_length(size, unit, start),
+        _ => Ok((Operation::Ignored, behind_run(size, unit, start)?)),
     }
 }
 
@@ -197,7 +186,7 @@ pub fn operation_at(
     ensures value { result ≡ operation_at parameters.now lengths.now unit.now at }
     ensures within { IfOk result (λ r. IsBehind unit.now at r.1) }
 {
-    let (opcode, next) = byte_at(unit, at)?;
+    let (opcode, next) = u8_at(unit, at)?;
     if opcode >= parameters.opcode_base {
         Ok((Operation::Special(opcode - parameters.opcode_base), next))
     } else if opcode == 0 {

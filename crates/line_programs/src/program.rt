@@ -8,8 +8,8 @@ use crate::decoding::operation_at;
 use crate::machine::{initial, moved, row_of};
 use crate::operation::Operation;
 use crate::parameters::Parameters;
-use crate::reading::name_at;
 use crate::registers::Registers;
+use leb_read::text_at;
 use line_rows::{LineError, RowsBuilder};
 
 /// Appends the row that the registers show.
@@ -53,7 +53,7 @@ fn define(
     ensures steps { Steps result (defined unit.now at (record { registers = registers; rows = rows.old.unit })) rows.new.unit }
     ensures rest { Keeps rows.old rows.new }
 {
-    let (name, _) = name_at(unit, at)?;
+    let (name, _) = text_at(unit, at)?;
     rows.push_name(name)?;
     Ok(registers)
 }

@@ -1,8 +1,10 @@
 // The faults of a unit of line tables, and why one wasn't read.
 ghost use Rattle.std.specs.Prelude.{◌≡◌};
+ghost use Rattle.line_rows.specs.Reading.{fault_of};
 ghost use Rattle.line_rows.specs.declared.fault.LineError.TheVariants as error;
 
 use dbg_traits::NoMemory;
+use leb_read::Leb;
 use std::alloc::{AllocError, AllocFailed};
 use thiserror::Error;
 
@@ -32,6 +34,17 @@ pub enum LineFault {
     Form,
 }
 
+impl From<Leb> for LineFault {
+    ghost from_gives = { λ leb fault. fault ≡ fault_of leb };
+
+    fn from(leb: Leb) -> Self {
+        match leb {
+            Leb::Short => LineFault::Short,
+            Leb::Wide => LineFault::Leb,
+        }
+    }
+}
+
 /// Why a unit wasn't read.
 #[derive(Clone, Copy, Debug, Error)]
 pub enum LineError {
@@ -48,6 +61,14 @@ impl From<LineFault> for LineError {
 
     fn from(fault: LineFault) -> Self {
         LineError::Fault(fault)
+    }
+}
+
+impl From<Leb> for LineError {
+    ghost from_gives = { λ leb e. e ≡ error.Fault (fault_of leb) };
+
+    fn from(leb: Leb) -> Self {
+        LineError::Fault(LineFault::from(leb))
     }
 }
 

@@ -4,7 +4,6 @@
 mod fault;
 mod line_sections;
 mod names;
-mod reading;
 mod row;
 mod rows;
 mod sequences;
@@ -12,6 +11,5 @@ mod sequences;
 pub use fault::{LineError, LineFault, UnitFault};
 pub use line_sections::LineSections;
 pub use names::FileNames;
-pub use reading::{byte_at, fault_of, half_at, in_unit, unsigned_at, word_at};
 pub use row::{Row, SequenceView};
 pub use rows::{Rows, RowsBuilder};

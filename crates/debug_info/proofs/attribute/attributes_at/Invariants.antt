@@ -1,6 +1,6 @@
 use Rattle.std.proofs.Common.{◌≡◌, ◌≤◌, ◌+◌, ◌-◌, length}
 use Rattle.debug_info.specs.Attributes.{attributes_at, values_from}
-use Rattle.debug_info.specs.Forms.{IsReadTo}
+use Rattle.leb_read.specs.Leb.{IsReadTo}
 use Rattle.debug_info.specs.Index.{extended}
 use Rattle.debug_info.proofs.attribute.attributes_at.Given as goal
 

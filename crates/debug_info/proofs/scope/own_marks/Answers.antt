@@ -1,7 +1,8 @@
 use Rattle.std.proofs.Common.{◌≡◌, ap, drop, map, sym, ◌∙◌, List}
 use Rattle.debug_info.specs.Marks.{entries_in, mark_of}
 use Rattle.debug_info.specs.declared.mark.Mark.{Mark}
-use Rattle.debug_info.proofs.Walked.{again_drop, drop_marks, walked_end, walked_hidden, walked_over, walked_seen, walked_start}
+use Rattle.std.proofs.lemmas.List.{drop-map}
+use Rattle.debug_info.proofs.Walked.{again_drop, walked_end, walked_hidden, walked_over, walked_seen, walked_start}
 use Rattle.debug_info.proofs.scope.own_marks.Goals as goal
 use Rattle.debug_info.proofs.scope.own_marks.Goals.{then-not-is_below+in_ok-push_named, else-not-is_below}
 
@@ -11,20 +12,20 @@ loop-mark-init c = walked_start c.args.pc c.args.function (drop c.args.number (e
 pub returns-then-mark-function : goal.returns-then-mark-function
 returns-then-mark-function c =
     let es = entries_in c.args.unit.now in
-    let same : c.args.behind.now ≡ map mark_of (drop c.args.number es) = c.requires.behind ∙ ap (λ (ms : List Mark). drop c.args.number ms) c.requires.unit.marks ∙ drop_marks c.args.number es in
+    let same : c.args.behind.now ≡ map mark_of (drop c.args.number es) = c.requires.behind ∙ ap (λ (ms : List Mark). drop c.args.number ms) c.requires.unit.marks ∙ drop-map mark_of c.args.number es in
     walked_over c.args.pc c.args.function _ _ _ c.args.behind.now (drop c.args.number es) c.loop-mark.mark-index _ same c.loop-mark-test.true c.if-mark-function.true c.loop-mark.invariant
 
 pub returns : goal.returns
 returns c =
     let es = entries_in c.args.unit.now in
-    let same : c.args.behind.now ≡ map mark_of (drop c.args.number es) = c.requires.behind ∙ ap (λ (ms : List Mark). drop c.args.number ms) c.requires.unit.marks ∙ drop_marks c.args.number es in
+    let same : c.args.behind.now ≡ map mark_of (drop c.args.number es) = c.requires.behind ∙ ap (λ (ms : List Mark). drop c.args.number ms) c.requires.unit.marks ∙ drop-map mark_of c.args.number es in
     walked_end c.args.pc c.args.function _ _ _ c.args.behind.now (drop c.args.number es) c.loop-mark.mark-index same c.loop-mark-test.false c.loop-mark.invariant
 
 pub loop-mark-preserved : goal.loop-mark-preserved
 loop-mark-preserved c =
     let u = c.args.unit.now in
     let es = entries_in u in
-    let same : c.args.behind.now ≡ map mark_of (drop c.args.number es) = c.requires.behind ∙ ap (λ (ms : List Mark). drop c.args.number ms) c.requires.unit.marks ∙ drop_marks c.args.number es in
+    let same : c.args.behind.now ≡ map mark_of (drop c.args.number es) = c.requires.behind ∙ ap (λ (ms : List Mark). drop c.args.number ms) c.requires.unit.marks ∙ drop-map mark_of c.args.number es in
     elim c.if-not-is_below.branch [
       | then-not-is_below+in_ok-push_named w ↦
           rw (w.found-is, w.shut-is)

@@ -7,7 +7,8 @@ use Rattle.debug_info.specs.Shown.{seen_texts}
 use Rattle.debug_info.specs.declared.entry.Entry.{Entry}
 use Rattle.debug_info.specs.declared.entry.Tag.TheVariants as tag
 use Rattle.debug_info.specs.declared.mark.Mark.{Mark}
-use Rattle.debug_info.proofs.Walked.{map_both, passed_step, taken_step}
+use Rattle.std.proofs.lemmas.List.{map-append}
+use Rattle.debug_info.proofs.Walked.{passed_step, taken_step}
 use Rattle.debug_info.proofs.scope.push_level.Goals as goal
 use Rattle.debug_info.proofs.scope.push_level.Goals.{then-mark-level+in_ok-push_variable, else-mark-level}
 
@@ -23,10 +24,10 @@ loop-mark-preserved c =
           let same = w.if-mark-level.true in
           let test : ((get_or c.args.own.now c.loop-mark.mark-index first).level == c.args.level) ≡ true = grind (arith, nat_tests) in
           rw w.variables-is
-          (taken_step (map f) u (λ m. m.level == c.args.level) c.args.own.now c.loop-mark.mark-index first _ _ _ (map_both f) refl c.loop-mark-test.true test c.loop-mark.invariant w.in_ok-push_variable.ensures)
+          (taken_step (map f) u (λ m. m.level == c.args.level) c.args.own.now c.loop-mark.mark-index first _ _ _ (map-append f) refl c.loop-mark-test.true test c.loop-mark.invariant w.in_ok-push_variable.ensures)
       | else-mark-level w ↦
           let other = w.if-mark-level.false in
           let test : ((get_or c.args.own.now c.loop-mark.mark-index first).level == c.args.level) ≡ false = grind (arith, nat_tests) in
           rw w.variables-is
-          (passed_step (map f) u (λ m. m.level == c.args.level) c.args.own.now c.loop-mark.mark-index first _ _ (map_both f) refl c.loop-mark-test.true test c.loop-mark.invariant)
+          (passed_step (map f) u (λ m. m.level == c.args.level) c.args.own.now c.loop-mark.mark-index first _ _ (map-append f) refl c.loop-mark-test.true test c.loop-mark.invariant)
     ]

@@ -1,13 +1,13 @@
 use Rattle.std.proofs.Common.{◌≡◌, ◌≤◌, ◌+◌, ◌∷◌, [], ℕ, List, None, Some, arith, ap, drop, length, refl, suc, sym, subst, ◌∙◌}
 use Rattle.std.specs.Prelude.{IfOk}
-use Rattle.std.proofs.lemmas.List.{drop_all}
-use Rattle.debug_info.specs.Marks.{entries_in}
+use Rattle.std.proofs.lemmas.List.{drop_all, length-map}
+use Rattle.debug_info.specs.Marks.{entries_in, mark_of}
 use Rattle.debug_info.specs.Scope.{from_offset, variables_in}
 use Rattle.debug_info.specs.Shown.{seen_texts, shown_variables}
 use Rattle.debug_info.specs.declared.entry.Entry.{Entry}
 use Rattle.debug_info.specs.declared.mark.Mark.{Mark}
 use Rattle.debug_info.proofs.Rising.{counted_entries}
-use Rattle.debug_info.proofs.Walked.{length_marks, split_at}
+use Rattle.debug_info.proofs.Walked.{split_at}
 use Rattle.debug_info.proofs.scope.variables_in.Goals as goal
 
 pub returns-in-Some-entry : goal.returns-in-Some-entry
@@ -37,7 +37,7 @@ returns-in_default c =
     let u = c.args.unit.now in
     let es = entries_in u in
     let number = c.count_before-number.result in
-    let size : length u.marks.now ≡ length es = ap length c.requires.unit.marks ∙ length_marks es in
+    let size : length u.marks.now ≡ length es = ap length c.requires.unit.marks ∙ length-map es mark_of in
     let few : length u.marks.now ≤ number = c.in_default.ensures in
     let none : from_offset c.args.offset es ≡ [] = sym (counted_entries _ es c.args.offset number c.requires.unit.marks c.count_before-number.ensures) ∙ drop_all number es (omega arith) in
     rw (c.new.ensures.items, none) refl

@@ -1,5 +1,5 @@
 use Rattle.std.proofs.Common.{◌≡◌, ◌≤◌, ◌+◌, length}
-use Rattle.debug_info.specs.Scope.{text_from}
+use Rattle.leb_read.specs.Leb.{text_from}
 use Rattle.debug_info.specs.TextLengths.{AreLast}
 use Rattle.debug_info.proofs.text_lengths.text_lengths_of.Given as goal
 

@@ -31,7 +31,8 @@ loop-at-preserved c =
     let next = c.in-Ok.entry.1 in
     let read : fde_of body ≡ Ok (option_map seen_fde c.in-Ok-fde_of.fde) = is_read c.in-Ok-fde_of.fde (fde_of body) c.in-Ok-fde_of.ensures in
     record {
-      ranges = reaches_next (fde_ranges (entries section)) (λ rest. c.loop-at.ranges.items ++ fde_ranges rest) (λ rest. c.push_fde.new.ranges.items ++ fde_ranges rest) section body at next c.loop-at-test.true c.in-Ok.ensures.within.behind c.in-Ok.ensures.value
+      ranges = reaches_next (fde_ranges (entries section)) (λ rest. c.loop-at.ranges.items ++ fde_ranges rest)
+          (λ rest. c.push_fde.new.ranges.items ++ fde_ranges rest) section body at next c.loop-at-test.true c.in-Ok.ensures.within.behind c.in-Ok.ensures.value
           (fdes_here c.loop-at.ranges.items c.push_fde.new.ranges.items at body (option_map seen_fde c.in-Ok-fde_of.fde) read c.in_ok-push_fde.ensures) c.loop-at.invariant.ranges;
       fault = reaches_next (first_fault (entries section)) first_fault first_fault section body at next c.loop-at-test.true c.in-Ok.ensures.within.behind c.in-Ok.ensures.value
           (no_fault_here at body (option_map seen_fde c.in-Ok-fde_of.fde) read) c.loop-at.invariant.fault;

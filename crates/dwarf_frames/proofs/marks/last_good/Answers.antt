@@ -9,7 +9,8 @@ pub returns-else-count-eq0-clause-reached : goal.returns-else-count-eq0-clause-r
 returns-else-count-eq0-clause-reached c =
     let marks = c.args.marks.now in
     let pc = c.args.pc in
-    let point = IsPartitionPoint-from_clause (λ (m : Mark). nat_le m.reached pc) marks _ c.partition_point-count.ensures.partitioned (IsPartitionedBy-leb (λ (m : Mark). m.reached) marks pc c.requires.marks.ordered) (λ a r g k. search rules) in
+    let point = IsPartitionPoint-from_clause (λ (m : Mark). nat_le m.reached pc) marks _ c.partition_point-count.ensures.partitioned
+    (IsPartitionedBy-leb (λ (m : Mark). m.reached) marks pc c.requires.marks.ordered) (λ a r g k. search rules) in
     let good = point.0 (c.partition_point-count.result - 1) c.index-marks-count.result (omega arith) (omega arith) in
     let below = leb-true _ pc good in
     let is = ap (λ (m : Mark). m.reached) c.index-marks-count.is in

@@ -24,6 +24,7 @@ loop-at-preserved c =
     let r = c.args.restored.now in
     let next = fold_next r (seen c.loop-at.state) (seen c.apply.new.state) c.in_ok-operation.operation c.in_ok-apply.ensures.value in
     record {
-      gives = gives_next _ (fold_operations r (seen c.loop-at.state)) (fold_operations r (seen c.apply.new.state)) _ _ _ _ _ c.loop-at-test.true c.in_ok-operation.ensures.behind.behind (sym c.in_ok-operation.ensures.value) next c.loop-at.invariant.gives;
+      gives = gives_next _ (fold_operations r (seen c.loop-at.state)) (fold_operations r (seen c.apply.new.state)) _ _ _ _ _ c.loop-at-test.true
+          c.in_ok-operation.ensures.behind.behind (sym c.in_ok-operation.ensures.value) next c.loop-at.invariant.gives;
       within = c.in_ok-apply.ensures.within;
     }

@@ -1,5 +1,5 @@
 use Rattle.std.proofs.Common.{List, map, subst, refl, arith}
-use Rattle.file_names.specs.Texts.{text_from}
+use Rattle.leb_read.specs.Leb.{text_from}
 use Rattle.line_headers.specs.declared.places.NamePlace.{NamePlace}
 use Rattle.line_rows.specs.Sections.{sections_shown}
 use Rattle.dwarf_lines.specs.Adding.{shown}

@@ -1,6 +1,6 @@
 use Rattle.std.proofs.Common.{◌≡◌, ◌∙◌, ℕ, List, ap, subst, sym}
 use Rattle.std.specs.Prelude.{IfOk}
-use Rattle.file_names.specs.Texts.{text_from}
+use Rattle.leb_read.specs.Leb.{text_from}
 use Rattle.line_rows.specs.Sections.{sections_shown}
 use Rattle.dwarf_lines.specs.Met.{Finds}
 use Rattle.dwarf_lines.specs.Names.{name_in}

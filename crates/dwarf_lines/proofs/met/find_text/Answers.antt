@@ -1,6 +1,6 @@
 use Rattle.std.proofs.Common.{refl}
 use Rattle.line_rows.specs.Sections.{sections_shown}
-use Rattle.file_names.specs.Texts.{text_from}
+use Rattle.leb_read.specs.Leb.{text_from}
 use Rattle.dwarf_lines.proofs.Kept.{found_kept, if_ok}
 use Rattle.dwarf_lines.proofs.met.find_text.Goals as goal
 

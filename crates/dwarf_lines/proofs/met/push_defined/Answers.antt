@@ -1,7 +1,7 @@
 use Rattle.std.proofs.Common.{◌≡◌, ◌<◌, ◌≤◌, ◌∙◌, ℕ, List, [], ◌∷◌, ◌++◌, length, map, take, ap, sym, subst, get_or, arith}
 use Rattle.std.proofs.lemmas.List.{map_more, take_all}
 use Rattle.std.proofs.lemmas.Option.{get_or_from_slice_get}
-use Rattle.file_names.specs.Texts.{text_from}
+use Rattle.leb_read.specs.Leb.{text_from}
 use Rattle.line_rows.specs.Sections.{sections_shown}
 use Rattle.dwarf_lines.specs.Met.{Meets}
 use Rattle.dwarf_lines.proofs.Kept.{met_both, met_none}

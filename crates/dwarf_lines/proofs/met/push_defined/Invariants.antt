@@ -1,6 +1,6 @@
 use Rattle.std.proofs.Common.{map, take}
 use Rattle.line_rows.specs.Sections.{sections_shown}
-use Rattle.file_names.specs.Texts.{text_from}
+use Rattle.leb_read.specs.Leb.{text_from}
 use Rattle.dwarf_lines.specs.Met.{Meets}
 use Rattle.dwarf_lines.proofs.met.push_defined.Given as goal
 

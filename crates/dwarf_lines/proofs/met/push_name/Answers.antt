@@ -1,5 +1,5 @@
 use Rattle.std.proofs.Common.{◌≡◌, ◌∙◌, ℕ, List, ap, refl, subst}
-use Rattle.file_names.specs.Texts.{text_from}
+use Rattle.leb_read.specs.Leb.{text_from}
 use Rattle.line_rows.specs.Sections.{sections_shown}
 use Rattle.dwarf_lines.specs.Met.{Finds}
 use Rattle.dwarf_lines.proofs.Kept.{met_more, text_whole}

@@ -25,9 +25,11 @@ loop-place-preserved c =
     let i = c.loop-place.place-index in
     let places = c.args.places.now in
     let within : i < length places = omega arith in
-    put_more c.args.bytes.now places c.args.size i c.args.homes.now c.loop-place.homes c.loop-place.met c.home_of.new.met (get_or places i 0) c.key_of-key.result c.in_ok-home.home c.requires.places within refl c.key_of-key.ensures c.in_ok-home.ensures c.loop-place.invariant
+    put_more c.args.bytes.now places c.args.size i c.args.homes.now c.loop-place.homes c.loop-place.met c.home_of.new.met (get_or places i 0)
+    c.key_of-key.result c.in_ok-home.home c.requires.places within refl c.key_of-key.ensures c.in_ok-home.ensures c.loop-place.invariant
 
 pub returns : goal.returns
 returns c =
     let past = c.loop-place-test.false in
-    settled c.args.bytes.now c.args.places.now c.args.size c.loop-place.place-index c.args.homes.now c.loop-place.homes c.loop-place.met (λ p. omega (arith, c.type_inv.bytes p)) c.requires.homes c.requires.places (omega (arith, past)) c.loop-place.invariant
+    settled c.args.bytes.now c.args.places.now c.args.size c.loop-place.place-index c.args.homes.now c.loop-place.homes c.loop-place.met
+    (λ p. omega (arith, c.type_inv.bytes p)) c.requires.homes c.requires.places (omega (arith, past)) c.loop-place.invariant

@@ -1,7 +1,7 @@
 use Rattle.std.proofs.Common.{◌≡◌, ◌≤◌, ◌∙◌, ℕ, List, [], Option, None, length, map, ap, sym, subst, get_or, refl, arith}
 use Rattle.std.specs.Prelude.{All, ◌++◌}
 use Rattle.std.proofs.lemmas.List.{length-map, length-replicate}
-use Rattle.file_names.specs.Texts.{text_from}
+use Rattle.leb_read.specs.Leb.{text_from}
 use Rattle.line_rows.specs.RowList.{NameList}
 use Rattle.file_names.specs.Homes.{AreEnds, AreHomes}
 use Rattle.file_names.specs.Numbers.{distinct, names_at, number_of}
@@ -30,7 +30,8 @@ returns c =
     let kept : c.keep.new.self ≡ record { texts = texts; names = [] } = c.in_ok-keep.ensures.ok ∙ ap (λ (l : NameList). let n : NameList = record l { texts = l.texts ++ texts } in n) c.new-names.ensures in
     let same : c.keep.new.self.texts ≡ texts = ap (λ (l : NameList). l.texts) kept in
     let given = names_at texts c.args.places.now in
-    let numbers : c.in_ok-numbers.numbers.items ≡ map (number_of (distinct given)) given = c.in_ok-numbers.ensures.numbers ∙ ap (λ (l : List ℕ). map (number_of (distinct (names_at l c.args.places.now))) (names_at l c.args.places.now)) same in
+    let numbers : c.in_ok-numbers.numbers.items ≡ map (number_of (distinct given)) given = c.in_ok-numbers.ensures.numbers ∙ ap
+    (λ (l : List ℕ). map (number_of (distinct (names_at l c.args.places.now))) (names_at l c.args.places.now)) same in
     let count : length c.in_ok-numbers.numbers.items ≡ length c.args.places.now = ap length numbers ∙ length-map given (number_of (distinct given)) ∙ length-map c.args.places.now (text_from texts) in
     record {
       names = c.in_ok-numbers.ensures.names ∙ ap (λ (l : List ℕ). distinct (names_at l c.args.places.now)) same;

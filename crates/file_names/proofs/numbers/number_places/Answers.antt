@@ -36,7 +36,8 @@ loop-place-preserved c =
     let p = get_or c.args.places.now i 0 in
     let within : i < length c.args.places.now = omega arith in
     let low : p ≤ length texts = c.requires.places i 0 within in
-    number_more texts c.args.places.now c.args.homes.now c.loop-place.known c.number_at.new.known c.loop-place.names c.number_at.new.names c.loop-place.numbers.items c.push.new.self.items i p (get_or c.args.homes.now p 0) (get_or c.args.ends.now p 0) c.in_ok-number_at.field-0
+    number_more texts c.args.places.now c.args.homes.now c.loop-place.known c.number_at.new.known c.loop-place.names c.number_at.new.names
+    c.loop-place.numbers.items c.push.new.self.items i p (get_or c.args.homes.now p 0) (get_or c.args.ends.now p 0) c.in_ok-number_at.field-0
     c.requires.homes c.loop-place.invariant within refl low refl (c.requires.ends.each p low) c.in_ok-number_at.ensures c.in_ok-push.ensures.items
 
 pub returns : goal.returns

@@ -5,7 +5,8 @@ use Rattle.frame_walk.proofs.walking.caller.Goals as goal
 pub returns-in_err-outer-clause-some : goal.returns-in_err-outer-clause-some
 returns-in_err-outer-clause-some g c =
     ap is_some c.from_residual.ensures ∙ ap is_some (sym c.in_err-outer.was)
-    ∙ same_second c.args.index.now c.args.image.now (g.V.View.registers c.args.view.now) (g.V.View.bytes c.args.view.now) c.innermost-frame.result c.rules_at-found.result c.caller_by.result c.innermost-frame.ensures c.rules_at-found.ensures.value c.caller_by.ensures
+    ∙ same_second c.args.index.now c.args.image.now (g.V.View.registers c.args.view.now) (g.V.View.bytes c.args.view.now) c.innermost-frame.result
+    c.rules_at-found.result c.caller_by.result c.innermost-frame.ensures c.rules_at-found.ensures.value c.caller_by.ensures
 
 pub returns-clause-value : goal.returns-clause-value
 returns-clause-value g c =
@@ -15,4 +16,5 @@ returns-clause-value g c =
 pub returns-clause-some : goal.returns-clause-some
 returns-clause-some g c =
     ap is_some (sym c.in_ok-outer.was)
-    ∙ same_second c.args.index.now c.args.image.now (g.V.View.registers c.args.view.now) (g.V.View.bytes c.args.view.now) c.innermost-frame.result c.rules_at-found.result c.caller_by.result c.innermost-frame.ensures c.rules_at-found.ensures.value c.caller_by.ensures
+    ∙ same_second c.args.index.now c.args.image.now (g.V.View.registers c.args.view.now) (g.V.View.bytes c.args.view.now) c.innermost-frame.result
+    c.rules_at-found.result c.caller_by.result c.innermost-frame.ensures c.rules_at-found.ensures.value c.caller_by.ensures

@@ -16,7 +16,8 @@ loop-number-preserved g c = record {
       let told = frame_told c.args.index.now frame c.rules_at-found.result c.told.result c.rules_at-found.ensures.value c.told.ensures in
       let pushed = c.push.ensures.items ∙ ap (λ x. c.loop-number.into.items ++ x ∷ []) told in
       let caller = caller_found c.args.index.now c.args.image.now (g.V.View.bytes c.args.view.now) frame c.rules_at-found.result c.caller_by.result c.rules_at-found.ensures.value c.caller_by.ensures in
-      rw pushed (goes_on c.args.index.now c.args.image.now (g.V.View.bytes c.args.view.now) (63 - c.loop-number._number) (63 - (c.loop-number._number + 1)) frame c.in-Some.outer c.loop-number.into.items (omega arith) (sym caller ∙ c.in-Some.is) ∙ c.loop-number.invariant.frames);
+      rw pushed (goes_on c.args.index.now c.args.image.now (g.V.View.bytes c.args.view.now) (63 - c.loop-number._number)
+      (63 - (c.loop-number._number + 1)) frame c.in-Some.outer c.loop-number.into.items (omega arith) (sym caller ∙ c.in-Some.is) ∙ c.loop-number.invariant.frames);
 }
 
 pub returns-in-None-clause-value : goal.returns-in-None-clause-value
@@ -25,7 +26,8 @@ returns-in-None-clause-value g c =
     let told = frame_told c.args.index.now frame c.rules_at-found.result c.told.result c.rules_at-found.ensures.value c.told.ensures in
     let pushed = c.push.ensures.items ∙ ap (λ x. c.loop-number.into.items ++ x ∷ []) told in
     let caller = caller_found c.args.index.now c.args.image.now (g.V.View.bytes c.args.view.now) frame c.rules_at-found.result c.caller_by.result c.rules_at-found.ensures.value c.caller_by.ensures in
-    pushed ∙ ends c.args.index.now c.args.image.now (g.V.View.bytes c.args.view.now) (63 - c.loop-number._number) (63 - (c.loop-number._number + 1)) frame c.loop-number.into.items (omega arith) (sym caller ∙ c.in-None.is) ∙ c.loop-number.invariant.frames
+    pushed ∙ ends c.args.index.now c.args.image.now (g.V.View.bytes c.args.view.now) (63 - c.loop-number._number) (63 - (c.loop-number._number + 1))
+    frame c.loop-number.into.items (omega arith) (sym caller ∙ c.in-None.is) ∙ c.loop-number.invariant.frames
 
 pub returns-clause-value : goal.returns-clause-value
 returns-clause-value g c =

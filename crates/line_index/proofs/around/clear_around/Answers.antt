@@ -24,4 +24,5 @@ pub returns-in-None-clause-clear : goal.returns-in-None-clause-clear
 returns-in-None-clause-clear c =
     let none = ap (λ (n : ℕ). below c.args.span.end (least_from (n + 1) (addresses (has c.args.mark) c.args.rows.now))) (sym c.from.ensures) ∙ (sym c.first_marked.ensures ∙ c.in-None.is) in
     λ k d within from less apart.
-    clear_row c.args.mark c.args.rows.now c.args.pc c.max-start.result c.args.span.end c.behind_marked.result c.args.span.end k d None none (omega (arith, c.max-start.ensures)) (omega arith) (λ f e. cc) c.behind_marked.ensures.clear within from less apart _ refl
+    clear_row c.args.mark c.args.rows.now c.args.pc c.max-start.result c.args.span.end c.behind_marked.result c.args.span.end k d None none
+    (omega (arith, c.max-start.ensures)) (omega arith) (λ f e. cc) c.behind_marked.ensures.clear within from less apart _ refl

@@ -8,7 +8,8 @@ use Rattle.line_index.proofs.around.span_at.Goals as goal
 count_is : (c : goal.After-end_of) → IsCount c.args.entries.now c.args.pc c.partition_point-count.result
 count_is c =
     let entries = c.args.entries.now in
-    IsPartitionPoint-from_clause (λ (e : Entry ℕ). leb e.address c.args.pc) entries _ c.partition_point-count.ensures.partitioned (IsPartitionedBy-leb (λ e. e.address) entries c.args.pc (rises-order 0 entries c.requires)) (λ a r f k. search rules)
+    IsPartitionPoint-from_clause (λ (e : Entry ℕ). leb e.address c.args.pc) entries _ c.partition_point-count.ensures.partitioned
+    (IsPartitionedBy-leb (λ e. e.address) entries c.args.pc (rises-order 0 entries c.requires)) (λ a r f k. search rules)
 
 spans : (c : goal.After-end_of) → Spans c.args.entries.now c.args.pc c.partition_point-count.result c.start_of.result c.end_of.result
 spans c = record {

@@ -31,7 +31,8 @@ pub names-preserved-in_default-2 : goal.names-preserved-in_default-2
 names-preserved-in_default-2 g c =
     let s = standing (g.V.View.registers c.args.view.now) c.args.cfa (shown_variables c.args.vars.now) in
     stays s c.args.text.now (names_in c.args.text.now) c.in-Some.name c.names.rest.now c.in-Some.others.now c.names.from c.names.expanded c.in-Some.ensures
-    (left_none s c.args.text.now c.parts_of.result.1.now c.in-Some.name c.in_ok-standing.field-0 (c.if-not-is_open.ensures ∙ ap (λ (b : List ℕ). is_open b) c.parts_of.ensures.front) c.parts_of.ensures.bytes c.in_ok-standing.ensures c.in_default-2.is)
+    (left_none s c.args.text.now c.parts_of.result.1.now c.in-Some.name c.in_ok-standing.field-0
+    (c.if-not-is_open.ensures ∙ ap (λ (b : List ℕ). is_open b) c.parts_of.ensures.front) c.parts_of.ensures.bytes c.in_ok-standing.ensures c.in_default-2.is)
     c.names.invariant
 
 pub names-preserved-in-Some-2 : goal.names-preserved-in-Some-2
@@ -39,6 +40,7 @@ names-preserved-in-Some-2 g c =
     let s = standing (g.V.View.registers c.args.view.now) c.args.cfa (shown_variables c.args.vars.now) in
     let pushed = c.in_ok-push_replaced.ensures in
     is_replaced s c.args.text.now (names_in c.args.text.now) c.in-Some.name c.names.rest.now c.in-Some.others.now c.names.from c.names.expanded c.deref.result.now c.push_replaced.new.expanded c.in-Some.ensures
-    (found_text s c.args.text.now c.parts_of.result.1.now c.deref.result.now c.in-Some.name c.in_ok-standing.field-0 c.in-Some-2.standing (c.if-not-is_open.ensures ∙ ap (λ (b : List ℕ). is_open b) c.parts_of.ensures.front) c.parts_of.ensures.bytes c.in_ok-standing.ensures
+    (found_text s c.args.text.now c.parts_of.result.1.now c.deref.result.now c.in-Some.name c.in_ok-standing.field-0 c.in-Some-2.standing
+    (c.if-not-is_open.ensures ∙ ap (λ (b : List ℕ). is_open b) c.parts_of.ensures.front) c.parts_of.ensures.bytes c.in_ok-standing.ensures
     c.in-Some-2.is c.deref.ensures.value)
     pushed.text pushed.names pushed.given c.names.invariant

@@ -44,7 +44,8 @@ returns-in-Some-clause-none c =
           (let inner = c.clear_around.ensures.within in
           let same = c.span_at-span.ensures.same a (omega (arith, from, inner.0)) (omega (arith, below, inner.1)) in
           let value : value_among (ranges_from i.text 0 i.rows.sequences) a ≡ Some c.in-Some.number =
-          sym (c.self.invariant.sequences.value a) ∙ sym (ap (λ (es : List (Entry ℕ)). value_from None es a) c.deref.ensures.value) ∙ same ∙ ap (λ (es : List (Entry ℕ)). value_from None es pc) c.deref.ensures.value ∙ c.self.invariant.sequences.value pc ∙ found c in
+          sym (c.self.invariant.sequences.value a) ∙ sym (ap (λ (es : List (Entry ℕ)). value_from None es a) c.deref.ensures.value) ∙ same ∙ ap
+          (λ (es : List (Entry ℕ)). value_from None es pc) c.deref.ensures.value ∙ c.self.invariant.sequences.value pc ∙ found c in
           named_by (seen i) c.args.self.now c.args.file c.args.line a _ c.self.view_is (row_told i.text i.rows.sequences a c.in-Some.number (sequence_shown c.sequence.result) value c.sequence.ensures.value)
           (none_begins c.args.file c.args.line s.start s.end pc a rows from below (λ is. (let on : (a == pc) ≡ true = grind (arith, nat_tests) in cc)) c.clear_around.ensures.clear))
     ] refl

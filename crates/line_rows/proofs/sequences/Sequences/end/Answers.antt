@@ -20,7 +20,9 @@ invariant_of-self-then-start-past c =
     let is : c.push.new.self.items ≡ i.ranges.items ++ r ∷ [] = c.in_ok-push.ensures.items in
     let first : take i.kept c.push.new.self.items ≡ take i.kept i.ranges.items = ap (take i.kept) is ∙ take-append-le i.kept i.ranges.items (r ∷ []) kept.count in
     let rest : drop i.kept c.push.new.self.items ≡ drop i.kept i.ranges.items ++ r ∷ [] = ap (drop i.kept) is ∙ drop-append-le i.kept i.ranges.items (r ∷ []) kept.count in
-    let chained : Chained i.kept_rows (drop i.kept i.ranges.items ++ r ∷ []) past = subst (λ (n : ℕ). Chained i.kept_rows (drop i.kept i.ranges.items ++ r ∷ []) n) behind (chain_push i.kept_rows (drop i.kept i.ranges.items) i.pending r kept.back begin (omega (arith, some, begin, behind))) in
+    let chained : Chained i.kept_rows (drop i.kept i.ranges.items ++ r ∷ []) past = subst
+    (λ (n : ℕ). Chained i.kept_rows (drop i.kept i.ranges.items ++ r ∷ []) n) behind
+    (chain_push i.kept_rows (drop i.kept i.ranges.items) i.pending r kept.back begin (omega (arith, some, begin, behind))) in
     let front : Chained 0 (take i.kept c.push.new.self.items) i.kept_rows = subst (λ (l : List RowRange). Chained 0 l i.kept_rows) (sym first) kept.front in
     let back : Chained i.kept_rows (drop i.kept c.push.new.self.items) past = subst (λ (l : List RowRange). Chained i.kept_rows l past) (sym rest) chained in
     record {
