@@ -55,7 +55,9 @@ changed-above low high number f (x ∷ rest) h below =
     rw other (ap (λ es. x ∷ es) (changed-above x.number high number f rest h.1 (omega arith)))
 
 -- the entry of a number is changed at its place
-pub changed-at : (low high number k : ℕ) (f : Entry → Entry) (entries : List BreakEntry) (after : BreakEntry) → IsRising low (map entry_of entries) high → option_map (λ e. e.number) (slice_get entries k) ≡ Some number → entry_of after ≡ f (entry_of (get_or entries k after)) → map entry_of (set entries k after) ≡ map (changed_entry f number) (map entry_of entries)
+pub changed-at : (low high number k : ℕ) (f : Entry → Entry) (entries : List BreakEntry) (after : BreakEntry)
+    → IsRising low (map entry_of entries) high → option_map (λ e. e.number) (slice_get entries k) ≡ Some number
+    → entry_of after ≡ f (entry_of (get_or entries k after)) → map entry_of (set entries k after) ≡ map (changed_entry f number) (map entry_of entries)
 changed-at low high number k f [] after h at is = refl
 changed-at low high number zero f (x ∷ rest) after h at is =
     let same : x.number ≡ number = cc in

@@ -1,3 +1,4 @@
+-- The definitions of breakpoints: an entry, an arrival at it, the table and its changes.
 pub mod Codes
 pub mod Entry
 pub mod Arrival

@@ -1,3 +1,4 @@
+// Why a breakpoint can't be made or changed.
 use thiserror::Error;
 
 /// Why a breakpoint can't be made or changed. Of several faults the first of these is told.

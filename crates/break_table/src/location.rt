@@ -1,3 +1,4 @@
+// The text of a location.
 ghost use Rattle.std.specs.Prelude.{◌≡◌};
 
 use std::marker::Model;

@@ -62,7 +62,9 @@ joined_goes_on m k side x y s middle rest op joins same read = rw (joins_is_some
 -- what is read at a strength before the rest is looked at: in so many turns the tree and the rest
 abbrev Turned : ℕ → ℕ → List Spot → List Spot → Term → Type 0
 Turned n zero tokens rest x = operand n tokens ≡ (x, rest)
-Turned n (suc below) tokens rest x = (turns : ℕ) × (turns + length rest ≤ length tokens) × ((m : ℕ) → joined (turns + m) (10 - below) (expression n below (operand n)) (expression n below (operand n) tokens).0 (expression n below (operand n) tokens).1 ≡ joined m (10 - below) (expression n below (operand n)) x rest)
+Turned n (suc below) tokens rest x = (turns : ℕ) × (turns + length rest ≤ length tokens) ×
+    ((m : ℕ) → joined (turns + m) (10 - below) (expression n below (operand n)) (expression n below (operand n) tokens).0
+    (expression n below (operand n) tokens).1 ≡ joined m (10 - below) (expression n below (operand n)) x rest)
 
 -- no turn was needed
 turned_none : (m k : ℕ) (side : List Spot → Read) (tokens rest : List Spot) (x : Term) → side tokens ≡ (x, rest) → joined (0 + m) k side (side tokens).0 (side tokens).1 ≡ joined m k side x rest
@@ -80,7 +82,8 @@ whole n (suc below) k tokens rest x e le stops t =
     let here : Stops (10 - below) rest = subst (λ (j : ℕ). Stops j rest) (omega arith) stops in
     let bound = t.1 in
     let all : n ≡ t.0 + (n - t.0) = omega arith in
-    ap (λ (j : ℕ). joined j (10 - below) (expression n below (operand n)) (expression n below (operand n) tokens).0 (expression n below (operand n) tokens).1) all ∙ t.2 (n - t.0) ∙ joined_stops (n - t.0) (10 - below) (expression n below (operand n)) x rest here
+    ap (λ (j : ℕ). joined j (10 - below) (expression n below (operand n)) (expression n below (operand n) tokens).0
+    (expression n below (operand n) tokens).1) all ∙ t.2 (n - t.0) ∙ joined_stops (n - t.0) (10 - below) (expression n below (operand n)) x rest here
 
 read_single : (n : ℕ) (s : Spot) (rest : List Spot) (a : Leaf) → start_of s.token ≡ Operand a → operand (suc n) (s ∷ rest) ≡ (leaf a, rest)
 unfolding operand
@@ -107,8 +110,12 @@ reading {tokens = ts} {rest = r} (operation {middle = middle} {x = x} {y = y} s 
     let bound = t.1 in
     let short = shorter left in
     let up = reading right below n (omega arith) (omega arith) (stops_up (strength op + 1) (strength op + 1 + 1) r (omega arith) stops) in
-    let side : expression n below (operand n) middle ≡ (y, r) = whole n below (strength op + 1) middle r y (omega arith) (omega arith) stops up in
-    (t.0 + 1, omega (arith, shorter right), λ m. turned_once m (10 - below) t.0 (expression n below (operand n)) (expression n below (operand n) ts) ∙ t.2 (suc m) ∙ joined_goes_on m (10 - below) (expression n below (operand n)) x y s middle r op joins (omega arith) side)
+    let side : expression n below (operand n) middle ≡ (y, r) = whole n below (strength op + 1) middle r y (omega arith) (omega arith) stops up in (
+      t.0 + 1,
+      omega (arith, shorter right),
+      λ m. turned_once m (10 - below) t.0 (expression n below (operand n)) (expression n below (operand n) ts) ∙
+          t.2 (suc m) ∙ joined_goes_on m (10 - below) (expression n below (operand n)) x y s middle r op joins (omega arith) side,
+    )
 reading {rest = r} (prefixed {tokens = ts} {x = x} s op starts room h) below zero e le stops = absurd (omega arith)
 reading (prefixed s op starts room h) (suc below) (suc n) e le stops = absurd (omega arith)
 reading {rest = r} (prefixed {tokens = ts} {x = x} s op starts room h) zero (suc n) e le stops =

@@ -15,7 +15,8 @@ use Rattle.cond_expr.specs.Fault.{fault, wanting, behind, first_fault}
 use Rattle.cond_expr.specs.Stops.{Stops, IsWeaker}
 use Rattle.cond_expr.proofs.Climb.{strength_le, strength_pos, weaker, stops_12, joins_below, is_weaker}
 use Rattle.cond_expr.proofs.Unique.{stops_11}
-use Rattle.cond_expr.proofs.Scan.{wanting-operand, wanting-before, wanting-before_full, wanting-opens, wanting-opens_full, wanting-cut_off, wanting-cut_off_full, wanting-refused, wanting-nothing, behind-joins, behind-closes, behind-neither, behind-open, behind-extra}
+use Rattle.cond_expr.proofs.Scan.{wanting-operand, wanting-before, wanting-before_full, wanting-opens, wanting-opens_full, wanting-cut_off, wanting-cut_off_full}
+use Rattle.cond_expr.proofs.Scan.{wanting-refused, wanting-nothing, behind-joins, behind-closes, behind-neither, behind-open, behind-extra}
 
 record Found (end : ℕ) (parens : List ℕ) (outer depth level : ℕ) (tokens : List Spot) : Type 0 where
   x : Term
@@ -92,13 +93,16 @@ module _ (m : ℕ) (level_at : LevelAt m) (end : ℕ) (parens : List ℕ) (depth
       done w = record { x = x; rest = s ∷ more; spelled = weaker least le h; stops = w; passes = passes; shorter = short }
 
       goes_on : (op : Binary) → follow_of s.token ≡ Joins op → least ≤ strength op → (r : Found end parens depth depth (strength op + 1) more)
-          → ((rest : List Spot) (level : ℕ) (x : Term) → length rest ≤ k → least ≤ level → Spells depth level tokens rest x → Stops (level + 1) rest → behind end parens depth rest ≡ None → length rest < length tokens → Found end parens depth depth least tokens)
+          → ((rest : List Spot) (level : ℕ) (x : Term) → length rest ≤ k → least ≤ level → Spells depth level tokens rest x → Stops (level + 1) rest
+          → behind end parens depth rest ≡ None → length rest < length tokens → Found end parens depth depth least tokens)
           → Found end parens depth depth least tokens
       goes_on op e low r again =
           let below = joins_below (level + 1) (follow_of s.token) op e stops in
           again r.rest (strength op) (binary op x r.x) (omega (arith, r.shorter)) low (operation s op e (weaker (strength op) (omega arith) h) r.spelled) r.stops r.passes (omega (arith, r.shorter))
 
-      by_follow : ((rest : List Spot) (level : ℕ) (x : Term) → length rest ≤ k → least ≤ level → Spells depth level tokens rest x → Stops (level + 1) rest → behind end parens depth rest ≡ None → length rest < length tokens → Found end parens depth depth least tokens) → (f : Follow) → follow_of s.token ≡ f → Found end parens depth depth least tokens
+      by_follow : ((rest : List Spot) (level : ℕ) (x : Term) → length rest ≤ k → least ≤ level → Spells depth level tokens rest x
+          → Stops (level + 1) rest → behind end parens depth rest ≡ None → length rest < length tokens → Found end parens depth depth least tokens)
+          → (f : Follow) → follow_of s.token ≡ f → Found end parens depth depth least tokens
       by_follow again (Joins op) e =
           elim (cases_lt (strength op) least) [
             | inl lt ↦ done (is_weaker least (follow_of s.token) op e lt)

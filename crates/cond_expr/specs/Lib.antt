@@ -1,3 +1,4 @@
+-- The definitions of conditions: their tokens, grammar, faults and values.
 pub mod Token
 pub mod Term
 pub mod Grammar

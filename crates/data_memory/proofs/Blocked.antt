@@ -1,16 +1,9 @@
 -- Blocks that runs are given, and items that are put in them.
-use Rattle.std.proofs.Common.{◌≡◌, ◌≢◌, ℕ, suc, zero, ◌+◌, ◌*◌, ◌/◌, ◌%◌, ◌<◌, ◌≤◌, ◌⊎◌, inl, inr, List, ◌∷◌, ◌++◌, length, refl, ap, sym, ◌∙◌, arith, true, false, ◌-◌, replicate, length-set, length-append, get_or-set_same, get_or-set_other}
+use Rattle.std.proofs.Common.{◌≡◌, ◌≢◌, ℕ, suc, zero, ◌+◌, ◌*◌, ◌/◌, ◌%◌, ◌<◌, ◌≤◌, ◌⊎◌, inl, inr, List, ◌∷◌, ◌++◌, length, refl, ap, sym, ◌∙◌, arith, ◌-◌, replicate, length-set, length-append, get_or-set_same, get_or-set_other}
 use Rattle.std.proofs.lemmas.Bool.{cases_eq}
-use Rattle.std.proofs.lemmas.Bool.Decides.{nat_tests}
 use Rattle.std.proofs.lemmas.List.{get_or_append_left, get_or-append_right, length-replicate}
-use Rattle.std.specs.Prelude.{slice_index, slice_set, slice_index_or, ◌==◌}
+use Rattle.std.specs.Prelude.{slice_index, slice_set, slice_index_or}
 use Rattle.data_memory.specs.Blocks.{spot, item_at, IsBlocked, GivenBlock, listed}
-
-pub is_same : (a b : ℕ) → a ≡ b → (a == b) ≡ true
-is_same a b e = grind (arith, nat_tests)
-
-pub not_same : (a b : ℕ) → a ≢ b → (a == b) ≡ false
-not_same a b d = grind (arith, nat_tests)
 
 at_run : (blocks : List ℕ) (p n q : ℕ) → p < length blocks → q ≡ p → slice_index (slice_set blocks p n) q ≡ n
 at_run blocks p n q l e = ap (slice_index (slice_set blocks p n)) e ∙ get_or-set_same blocks p n 0 l

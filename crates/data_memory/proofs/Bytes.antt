@@ -1,5 +1,5 @@
 -- Bytes by their accesses and values.
-use Rattle.std.proofs.Common.{◌≡◌, ℕ, suc, zero, ◌+◌, ◌*◌, ◌/◌, ◌%◌, ◌<◌, ◌≤◌, List, [], ◌∷◌, ◌++◌, length, refl, ap, sym, ◌∙◌, arith, Bool, true, false, ◌&&◌, replicate, take, Some, None, Option, length-set}
+use Rattle.std.proofs.Common.{◌≡◌, ℕ, suc, zero, ◌+◌, ◌*◌, ◌/◌, ◌%◌, ◌<◌, ◌≤◌, List, [], ◌∷◌, ◌++◌, length, refl, ap, sym, ◌∙◌, arith, Bool, true, false, ◌&&◌, replicate, take, Some, None, Option, length-set, cond}
 use Rattle.std.proofs.lemmas.List.{take_all, length-replicate}
 use Rattle.std.specs.Prelude.{slice_index, slice_index_or, slice_set}
 use Rattle.std.specs.Option.{option_map}
@@ -190,3 +190,17 @@ module _ (xs : List Access) (vs : List ℕ) (s : List (Option Byte)) (i : ℕ) (
 
   pub store_seen : may_store a ≡ is_writable (byte s i)
   store_seen = sym (ap is_writable seen ∙ stores a (slice_index vs i))
+
+-- accesses and values that are written over the same places
+over : (t : Bool) (a x : Access) (v y : ℕ) → byte_of (cond t a x) (cond t v y) ≡ cond t (byte_of a v) (byte_of x y)
+over true a x v y = refl
+over false a x v y = refl
+
+pub block_seen : (xs xs' : List Access) (vs vs' : List ℕ) (s : List (Option Byte)) (t : Bool) (a : Access) (v i : ℕ) → bytes_of xs vs ≡ s → length xs ≡ length vs → length xs' ≡ length vs'
+    → slice_index_or xs' i Absent ≡ cond t a (slice_index_or xs i Absent) → slice_index vs' i ≡ cond t v (slice_index vs i) → byte (bytes_of xs' vs') i ≡ cond t (byte_of a v) (byte s i)
+block_seen xs xs' vs vs' s t a v i is e e' x y =
+    byte_is xs' vs' i e'
+    ∙ ap (λ z. byte_of z (slice_index vs' i)) x
+    ∙ ap (byte_of (cond t a (slice_index_or xs i Absent))) y
+    ∙ over t a (slice_index_or xs i Absent) v (slice_index vs i)
+    ∙ ap (cond t (byte_of a v)) (sym (byte_is xs vs i e) ∙ ap (λ z. byte z i) is)

@@ -1,6 +1,7 @@
 pub mod Maps
 pub mod Blocked
 pub mod Bytes
+pub mod Parts
 pub mod Pages
 pub mod Along
 pub mod Filled

@@ -1,5 +1,5 @@
 -- Bytes kept in pages.
-use Rattle.std.specs.Prelude.{◌≡◌, ℕ, zero, suc, ◌+◌, ◌*◌, ◌/◌, ◌%◌, ◌^◌, ◌<◌, Bool, true, false, ◌&&◌, List, [], ◌∷◌, ◌++◌, length, slice_index, slice_index_or, slice_set, Option, Some, None, ◌==◌, if◌then◌else◌}
+use Rattle.std.specs.Prelude.{◌≡◌, ℕ, zero, suc, ◌+◌, ◌*◌, ◌/◌, ◌%◌, ◌^◌, ◌<◌, Bool, true, false, ◌&&◌, List, [], ◌∷◌, ◌++◌, length, slice_index, slice_index_or, slice_set, Option, Some, None, if◌then◌else◌}
 use Rattle.rv_exec.specs.Memory.{Memory, Byte, with_byte, is_writable}
 use Rattle.elf32_read.specs.Fields.{spans}
 use Rattle.data_memory.specs.Blocks.{spot, IsBlocked}
@@ -89,10 +89,6 @@ pub record GrowsByFrame (old new : List (Option Byte)) : Type 0 where
 pub record Holds (pages : List ℕ) (bytes : List (Option Byte)) (f : ℕ → Option Byte) : Type 0 where
   pub kept : IsPaged pages bytes
   pub each : (q : ℕ) → q < 2 ^ 32 → byte_at pages bytes q ≡ f q
-
--- one byte changed
-abbrev pub changed : (ℕ → Option Byte) → ℕ → Option Byte → ℕ → Option Byte
-changed f addr b q = if q == addr then b else f q
 
 -- the bytes of the `size` addresses from `start` on replaced
 abbrev pub replaced : (ℕ → Option Byte) → ℕ → ℕ → (ℕ → Option Byte) → ℕ → Option Byte

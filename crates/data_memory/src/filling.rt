@@ -1,12 +1,15 @@
 // Pages that are given frames, and ranges of addresses that are filled.
-ghost use Rattle.std.specs.Prelude.{◌≡◌, ◌≢◌, ◌<◌, ◌-◌, ◌+◌, ◌/◌, ◌^◌, ℕ, OnOk, slice_index, Some, SomeIff};
-ghost use Rattle.data_memory.specs.Paged.{IsPaged, Holds, byte_of, byte_at, changed, replaced};
+ghost use Rattle.std.specs.Prelude.{◌≡◌, ◌≢◌, ◌<◌, ◌≤◌, ◌-◌, ◌+◌, ◌/◌, ◌%◌, ◌^◌, ℕ, OnOk, length, min, slice_index, Some};
+ghost use Rattle.data_memory.specs.Paged.{IsPaged, Holds, byte_of, byte_at, replaced};
 
 use crate::access::Access;
 use crate::frames::Frames;
 use crate::page_table::{BLOCK, PageTable};
 use crate::paged::spot;
 use std::alloc::AllocError;
+
+/// How many addresses there are.
+const ADDRESSES: u64 = 0x1_0000_0000;
 
 /// Gives the page of the address a frame, if it has none.
 fn add_page(pages: &mut PageTable, frames: &mut Frames, addr: u32) -> Result<(), AllocError>
@@ -25,49 +28,72 @@ fn add_page(pages: &mut PageTable, frames: &mut Frames, addr: u32) -> Result<(),
     Ok(())
 }
 
-/// Puts a byte at an address.
-fn place(
+/// Puts `len` bytes of one page: zeros behind the values that are given.
+fn place_block(
     pages: &mut PageTable,
     frames: &mut Frames,
     addr: u32,
+    len: usize,
+    values: &[u8],
     access: Access,
-    value: u8,
 ) -> Result<(), AllocError>
-    requires { IsPaged pages.old frames.old }
-    ensures { OnOk result (Holds pages.new frames.new (changed (byte_at pages.old frames.old) addr (byte_of access value))) }
+    requires kept { IsPaged pages.old frames.old }
+    requires within { addr % 512 + len ≤ 512 }
+    requires values { length values.now ≤ len }
+    ensures { OnOk result (Holds pages.new frames.new (replaced (byte_at pages.old frames.old) addr len (λ q. byte_of access (slice_index values.now (q - addr))))) }
 {
     add_page(pages, frames, addr)?;
     let at = spot(pages, addr);
-    frames.set(at, access, value);
+    frames.fill(at, len, values, access);
     Ok(())
 }
 
-/// The address `i` bytes above the start, if there is one.
-fn above(start: u32, i: u64) -> Option<u32>
-    ensures { SomeIff result (start + i < 2 ^ 32) (start + i) }
+/// How many of the addresses of a range there are.
+fn addresses(start: u32, size: u64) -> usize
+    ensures { result ≡ min size (2 ^ 32 - start) }
 {
-    match u32::try_from(i) {
-        Ok(low) => start.checked_add(low),
-        Err(_) => None,
-    }
+    size.min(ADDRESSES - u64::from(start)) as usize
 }
 
-/// Puts a byte `i` bytes above the start; nothing past the last address.
-fn place_above(
+/// How many of the next addresses, at most `most`, are of one page.
+fn block_len(addr: u32, most: usize) -> usize
+    ensures { result ≡ min most (512 - addr % 512) }
+{
+    most.min(BLOCK - addr as usize % BLOCK)
+}
+
+/// At most `len` of the values from a place on.
+fn part(values: &[u8], from: usize, len: usize) -> &[u8]
+    ensures few { length result.now ≤ len }
+    ensures each { (j : ℕ) → j < len → slice_index result.now j ≡ slice_index values.now (from + j) }
+{
+    if from >= values.len() {
+        return &[];
+    }
+    &values[from..from + len.min(values.len() - from)]
+}
+
+/// Puts the values from the start on, and zeros behind them, page by page; nothing past the last address.
+fn place(
     pages: &mut PageTable,
     frames: &mut Frames,
     start: u32,
-    i: u64,
+    size: u64,
+    values: &[u8],
     access: Access,
-    value: u8,
 ) -> Result<(), AllocError>
     requires { IsPaged pages.old frames.old }
-    ensures { OnOk result (Holds pages.new frames.new (changed (byte_at pages.old frames.old) (start + i) (byte_of access value))) }
+    ensures { OnOk result (Holds pages.new frames.new (replaced (byte_at pages.old frames.old) start size (λ q. byte_of access (slice_index values.now (q - start))))) }
 {
-    match above(start, i) {
-        Some(addr) => place(pages, frames, addr, access, value),
-        None => Ok(()),
+    let count = addresses(start, size);
+    let mut i = 0;
+    while i < count {
+        let addr = start + i as u32;
+        let len = block_len(addr, count - i);
+        place_block(pages, frames, addr, len, part(values, i, len), access)?;
+        i += len;
     }
+    Ok(())
 }
 
 /// Puts zeros at each address of a range.
@@ -81,21 +107,7 @@ pub fn fill(
     requires { IsPaged pages.old frames.old }
     ensures { OnOk result (Holds pages.new frames.new (replaced (byte_at pages.old frames.old) start size (λ q. byte_of access 0))) }
 {
-    for i in 0..size {
-        place_above(pages, frames, start, i, access, 0)?;
-    }
-    Ok(())
-}
-
-/// The byte at a place, and 0 past the end.
-fn byte_or_zero(bytes: &[u8], i: u64) -> u8
-    ensures { result ≡ slice_index bytes.now i }
-{
-    if i < bytes.len() as u64 {
-        bytes[i as usize]
-    } else {
-        0
-    }
+    place(pages, frames, start, size, &[], access)
 }
 
 /// How the bytes of a segment may be accessed.
@@ -121,9 +133,5 @@ pub fn fill_data(
     requires { IsPaged pages.old frames.old }
     ensures { OnOk result (Holds pages.new frames.new (replaced (byte_at pages.old frames.old) start size (λ q. Some (record { value = slice_index bytes.now (q - start); is_writable = is_writable })))) }
 {
-    let access = data_access(is_writable);
-    for i in 0..size {
-        place_above(pages, frames, start, i, access, byte_or_zero(bytes, i))?;
-    }
-    Ok(())
+    place(pages, frames, start, size, bytes, data_access(is_writable))
 }

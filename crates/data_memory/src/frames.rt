@@ -1,7 +1,9 @@
 // The bytes of pages, in frames.
-ghost use Rattle.std.specs.Prelude.{◌≡◌, ◌<◌, ◌≤◌, ◌+◌, ◌*◌, ◌^◌, length, true, IfSome, IfOk, OnOk, None, slice_set};
+ghost use Rattle.std.specs.Prelude.{◌≡◌, ◌<◌, ◌≤◌, ◌+◌, ◌-◌, ◌*◌, ◌^◌, ℕ, length, true, IfSome, IfOk, OnOk, None, slice_index, slice_index_or, slice_set, if◌then◌else◌};
 ghost use Rattle.rv_exec.specs.Memory.{IsLen};
+ghost use Rattle.elf32_read.specs.Fields.{spans};
 ghost use Rattle.data_memory.specs.Paged.{number_of, with_values};
+ghost use Rattle.data_memory.specs.declared.access.Access.TheVariants.{Absent};
 
 use crate::access::{Access, all_mapped, all_writable};
 use crate::page_table::BLOCK;
@@ -32,10 +34,9 @@ impl Model for Frames {
 }
 
 impl Frames {
-    ghost use Rattle.std.specs.Prelude.{ℕ};
     ghost use Rattle.std.specs.Option.{option_map};
     ghost use Rattle.rv_exec.specs.Memory.{is_writable};
-    ghost use Rattle.data_memory.specs.Paged.{byte, byte_of, spelled, are_writable, with_number_at, GrowsByFrame};
+    ghost use Rattle.data_memory.specs.Paged.{byte, byte_of, replaced, spelled, are_writable, with_number_at, GrowsByFrame};
 
     /// One frame of absent bytes.
     pub fn new(alloc: Global) -> Result<Frames, AllocError>
@@ -96,6 +97,17 @@ impl Frames {
     {
         self.accesses[at] = access;
         self.values[at] = value;
+    }
+
+    /// Puts `len` bytes from a place on, zeros behind the values that are given, and how they may be accessed.
+    pub fn fill(&mut self, at: usize, len: usize, values: &[u8], access: Access)
+        requires within { at + len ≤ length self.old }
+        requires values { length values.now ≤ len }
+        ensures size { length self.new ≡ length self.old }
+        ensures each { (i : ℕ) → byte self.new i ≡ replaced (byte self.old) at len (λ j. byte_of access (slice_index values.now (j - at))) i }
+    {
+        fill_accesses(self.accesses.as_mut_slice(), at, len, access);
+        fill_values(self.values.as_mut_slice(), at, len, values);
     }
 
     /// The number that the `len` bytes from a place on spell, if all are mapped.
@@ -173,4 +185,24 @@ fn put_values(values: &mut [u8], at: usize, len: u32, value: u32)
         values[at + 1] = b;
         values[at] = a;
     }
+}
+
+/// Puts one way of access to `len` bytes.
+fn fill_accesses(accesses: &mut [Access], at: usize, len: usize, access: Access)
+    requires { at + len ≤ length accesses.old }
+    ensures size { length accesses.new ≡ length accesses.old }
+    ensures each { (i : ℕ) → slice_index_or accesses.new i Absent ≡ (if spans at len i then access else slice_index_or accesses.old i Absent) }
+{
+    accesses[at..at + len].fill(access);
+}
+
+/// Puts `len` values: those that are given, and zeros behind them.
+fn fill_values(values: &mut [u8], at: usize, len: usize, given: &[u8])
+    requires within { at + len ≤ length values.old }
+    requires given { length given.now ≤ len }
+    ensures size { length values.new ≡ length values.old }
+    ensures each { (i : ℕ) → slice_index values.new i ≡ (if spans at len i then slice_index given.now (i - at) else slice_index values.old i) }
+{
+    values[at..at + len].fill(0);
+    values[at..at + given.len()].copy_from_slice(given);
 }

@@ -1,3 +1,4 @@
+// The bytes that harts load and store.
 ghost use Rattle.std.specs.Prelude.{◌≡◌};
 
 use crate::accesses::{amo_at, load_at, store_at};

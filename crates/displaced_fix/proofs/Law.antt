@@ -54,7 +54,12 @@ set-set_pc r n v p =
 moved_value : (r : Registers) (rd v w by : ℕ) → plus v by ≡ w → moved_register (set r rd v) rd by ≡ set r rd w
 moved_value r rd v w by e =
     elim (rd == 0) as (λ b. (if b then (if b then r else record { x = slice_set r.x rd v; pc = r.pc })
-    else record { x = slice_set (if b then r else record { x = slice_set r.x rd v; pc = r.pc }).x rd (plus (if b then 0 else slice_index (if b then r else record { x = slice_set r.x rd v; pc = r.pc }).x rd) by); pc = (if b then r else record { x = slice_set r.x rd v; pc = r.pc }).pc })
+    else record {
+      x = slice_set (if b then r else record { x = slice_set r.x rd v; pc = r.pc }).x rd
+          (plus (if b then 0 else slice_index (if b then r else record { x = slice_set r.x rd v; pc = r.pc }).x rd) by);
+      pc =
+          (if b then r else record { x = slice_set r.x rd v; pc = r.pc }).pc;
+    })
     ≡ (if b then r else record { x = slice_set r.x rd w; pc = r.pc })) [
       | true ↦ refl
       | false ↦ rw (set-set r.x rd v) (ap (λ xs. record { x = xs; pc = r.pc }) (moved_item r.x rd v w by e))

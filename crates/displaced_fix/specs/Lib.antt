@@ -1,1 +1,2 @@
+-- The definition of an instruction that is executed elsewhere.
 pub mod Fix

@@ -1,3 +1,4 @@
+-- The definitions of a linked file: its headers, its program, and what is kept of it.
 pub mod Abi
 pub mod Fields
 pub mod Program

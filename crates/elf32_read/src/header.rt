@@ -1,3 +1,4 @@
+// The headers of a file, as far as they are used.
 ghost use Rattle.std.specs.Prelude.{◌≡◌, ◌+◌, ◌*◌, ◌≤◌, length, IfOk, filter};
 ghost use Rattle.elf32_read.specs.Headers.{file_header, program_header, section_header, is_loaded, is_text, loaded, names, section_bytes, section_headers};
 

@@ -1,3 +1,4 @@
+// A linked program that was read.
 ghost use Rattle.std.specs.Prelude.{◌≡◌, ◌<◌, IfOk, Some, length, slice_get};
 ghost use Rattle.std.specs.Option.{option_copied, option_map};
 ghost use Rattle.elf32_read.specs.Program.{in_text, mapped, section, text_word, writable};

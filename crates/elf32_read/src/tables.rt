@@ -1,3 +1,4 @@
+// What is kept of a file's headers.
 use crate::header::{FileHeader, ProgramHeader, SectionHeader};
 use crate::spans::Span;
 

@@ -1,3 +1,4 @@
+// Where the text sections stand.
 ghost use Rattle.std.specs.Prelude.{◌≡◌, ◌+◌, find};
 ghost use Rattle.std.specs.List.{list_any};
 ghost use Rattle.std.specs.Option.{option_map};

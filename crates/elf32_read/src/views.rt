@@ -1,3 +1,4 @@
+// Segments and sections, as a caller sees them.
 use byteorder::{ByteOrder, LittleEndian};
 
 /// A loadable segment of an image (gABI, Program Header, `PT_LOAD`).

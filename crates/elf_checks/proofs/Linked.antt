@@ -1,5 +1,6 @@
 -- The program of a file that fails no check is linked.
-use Rattle.std.proofs.Common.{◌≡◌, ℕ, zero, suc, get_or, ◌+◌, ◌*◌, ◌-◌, ◌/◌, ◌%◌, ◌≤◌, ◌<◌, ◌^◌, Bool, true, false, List, [], ◌∷◌, ◌++◌, length, take, drop, map, find, Option, None, Some, refl, sym, ◌∙◌, ap, arith, leb-true, ltb-true, eqb-true}
+use Rattle.std.proofs.Common.{◌≡◌, ℕ, zero, suc, get_or, ◌+◌, ◌*◌, ◌-◌, ◌/◌, ◌%◌, ◌≤◌, ◌<◌, ◌^◌, Bool, true, false, List, []}
+use Rattle.std.proofs.Common.{◌∷◌, ◌++◌, length, take, drop, map, find, Option, None, Some, refl, sym, ◌∙◌, ap, arith, leb-true, ltb-true, eqb-true}
 use Rattle.std.specs.Prelude.{◌==◌, ◌||◌, nat_le, nat_lt, All, AllPairs, sum_by}
 use Rattle.std.specs.List.{list_any}
 use Rattle.std.specs.Option.{option_map_or}

@@ -1,3 +1,4 @@
+// The checks of a file, one by one.
 ghost use Rattle.std.specs.Prelude.{◌≡◌, ◌+◌, ◌*◌, ◌%◌, ◌==◌, ◌&&◌, ◌≤◌, ◌<◌, ◌⊎◌, ◌∷◌, [], length, not, take, IfOk, map, slice_index, slice_index_or};
 ghost use Rattle.std.specs.Bool.{OnTrue};
 ghost use Rattle.std.specs.List.{list_any};

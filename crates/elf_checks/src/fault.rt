@@ -1,3 +1,4 @@
+// Which check a file fails, and where.
 ghost use Rattle.std.specs.Prelude.{◌≡◌};
 ghost use Rattle.elf_checks.specs.declared.fault.ElfReadError.TheVariants.{Fault, Memory};
 

@@ -1,3 +1,4 @@
+// A file whose checks hold becomes an image.
 ghost use Rattle.std.specs.Prelude.{◌≡◌, ◌<◌, IfOk, find, map};
 ghost use Rattle.std.specs.Option.{option_map_or};
 ghost use Rattle.elf32_read.specs.Headers.{holds_text, program_of};

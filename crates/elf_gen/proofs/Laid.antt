@@ -116,7 +116,19 @@ loaded_are t b text bytes s =
 
 pub file_header_is : (t b : ℕ) (text bytes : List ℕ) → Sizes t b text bytes
     → file_header (laid t b text bytes)
-    ≡ record { kind = 2; machine = 243; entry = 0x10074; program_headers = 52; section_headers = 139 + t + b; flags = 0; program_header_size = 32; program_header_count = 2; section_header_size = 40; section_header_count = 4; section_names = 3 }
+    ≡ record {
+      kind = 2;
+      machine = 243;
+      entry = 0x10074;
+      program_headers = 52;
+      section_headers = 139 + t + b;
+      flags = 0;
+      program_header_size = 32;
+      program_header_count = 2;
+      section_header_size = 40;
+      section_header_count = 4;
+      section_names = 3;
+    }
 unfolding u16_at u32_at
 file_header_is t b text bytes s =
     let row : ℕ → FileHeader =

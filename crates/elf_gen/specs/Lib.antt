@@ -1,3 +1,4 @@
+-- The definitions of the files and lines that are made here.
 pub mod Layout
 pub mod Plain
 pub mod Generated

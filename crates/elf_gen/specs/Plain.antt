@@ -1,5 +1,5 @@
 -- A file of words of text and bytes of data alone.
-use Rattle.std.specs.Prelude.{ℕ, ◌+◌, ◌*◌, ◌<◌, ◌≤◌, nat_lt, List, [], ◌∷◌, ◌++◌, length, codes, Some, if◌then◌else◌}
+use Rattle.std.specs.Prelude.{ℕ, ◌+◌, ◌*◌, ◌^◌, ◌<◌, ◌≤◌, nat_lt, Bool, List, [], ◌∷◌, ◌++◌, length, codes, Some, if◌then◌else◌}
 use Rattle.elf32_read.specs.Program.{Program, Section}
 use Rattle.elf_gen.specs.Layout.{words_of, string_table, elf_header, segment_headers}
 
@@ -26,6 +26,10 @@ plain_file words bytes =
     ++ (bytes
     ++ (plain_names
     ++ plain_sections text (length bytes)))))
+
+-- fewer than 2^32 bytes, so each place in the file is a number of 32 bits: 299 stand beside the text and the data
+abbrev pub fits : List ℕ → List ℕ → Bool
+fits words bytes = nat_lt (299 + 4 * length words + length bytes) (2 ^ 32)
 
 -- a section that is linked with none, by its name, type, flags, address and bytes
 abbrev pub section : List ℕ → ℕ → ℕ → ℕ → List ℕ → Section

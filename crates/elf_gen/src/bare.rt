@@ -1,7 +1,7 @@
-ghost use Rattle.std.specs.Bool.{OnTrue};
-ghost use Rattle.std.specs.Prelude.{◌≡◌, ◌+◌, ◌*◌, ◌++◌, ◌<◌, ◌^◌, IfOk, OnOk, length};
+// A file of words and bytes alone.
+ghost use Rattle.std.specs.Prelude.{◌≡◌, ◌+◌, ◌++◌, ◌<◌, ◌^◌, true, IfOk, OnOk};
 ghost use Rattle.elf_checks.specs.Reading.{IsImage};
-ghost use Rattle.elf_gen.specs.Plain.{IsPlain, plain_file, plain_names, plain_program, plain_sections};
+ghost use Rattle.elf_gen.specs.Plain.{IsPlain, fits, plain_file, plain_names, plain_program, plain_sections};
 
 use crate::layout::{DATA, ENTRY, FRONT, put_header, put_segments};
 use crate::numbers::put_words;
@@ -17,10 +17,8 @@ const SECTION: usize = 40;
 /// The size of the headers and the names.
 const FILE_ROOM: usize = FRONT + 23 + 4 * SECTION;
 
-/// More words or bytes than these have no file: the places in it are numbers of 32 bits.
-const MOST_WORDS: usize = 1 << 29;
-
-const MOST_BYTES: usize = 1 << 30;
+/// A file is shorter: the places in it are numbers of 32 bits.
+const MOST: usize = 1 << 32;
 
 /// The section headers, by the sizes of text and data in bytes: each is name, type, flags, address, offset, size,
 /// link, info, alignment and entry size (gABI, Section Header).
@@ -38,7 +36,7 @@ fn put_sections(file: &mut Vec<u8>, text: u32, bytes: u32) -> Result<(), AllocEr
 
 /// The file, piece by piece.
 fn laid_out(alloc: Global, words: &[u32], bytes: &[u8]) -> Result<Vec<u8>, AllocError>
-    requires { FILE_ROOM + 4 * length words.now + length bytes.now < 2 ^ 32 }
+    requires { fits words.now bytes.now ≡ true }
     ensures { IfOk result (λ file. file.items ≡ plain_file words.now bytes.now) }
 {
     let text = 4 * words.len();
@@ -53,23 +51,23 @@ fn laid_out(alloc: Global, words: &[u32], bytes: &[u8]) -> Result<Vec<u8>, Alloc
     Ok(file)
 }
 
-/// Whether each place in the file is a number of 32 bits.
-fn has_room(words: &[u32], bytes: &[u8]) -> bool
-    ensures { OnTrue result (FILE_ROOM + 4 * length words.now + length bytes.now < 2 ^ 32) }
+/// Whether the file of these words and bytes is shorter than 2^32 bytes, as that of any program is.
+pub fn fits(words: &[u32], bytes: &[u8]) -> bool
+    ensures { result ≡ fits words.now bytes.now }
 {
-    words.len() < MOST_WORDS && bytes.len() < MOST_BYTES
+    // Each alone first, so that the sum can't wrap.
+    words.len() < MOST && bytes.len() < MOST && FILE_ROOM + 4 * words.len() + bytes.len() < MOST
 }
 
-/// The file of a program: its words of text at 0x10074, where it begins, and its bytes of data at 0x20000.
+/// The file of a program: its words of text at 0x10074, where it begins, and its bytes of data at 0x20000. `fits` tells whether
+/// they have a file. The one error is out of memory.
 ///
 /// Reading the file accepts it where there is a word, the text ends before the data begins, and the two fit the memory
-/// of a program. Files of 2 GiB of words or 1 GiB of bytes aren't made: for those it answers out of memory.
+/// of a program.
 pub fn plain(alloc: Global, words: &[u32], bytes: &[u8]) -> Result<Vec<u8>, NoMemory>
+    requires { fits words.now bytes.now ≡ true }
     ensures bytes { IfOk result (λ file. file.items ≡ plain_file words.now bytes.now) }
     ensures image { IsPlain words.now bytes.now → IfOk result (λ file. IsImage file.items (plain_program words.now bytes.now)) }
 {
-    if !has_room(words, bytes) {
-        return Err(NoMemory);
-    }
     Ok(laid_out(alloc, words, bytes)?)
 }

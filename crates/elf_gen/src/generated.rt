@@ -1,3 +1,4 @@
+// The program of a generated session.
 ghost use Rattle.std.specs.Prelude.{◌≡◌, ◌++◌, IfOk, OnOk};
 ghost use Rattle.elf_checks.specs.Reading.{IsImage};
 ghost use Rattle.elf_gen.specs.Generated.{debug_bytes, generated_file, generated_program, generated_sections, symbol, symbols};

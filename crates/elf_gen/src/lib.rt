@@ -7,6 +7,6 @@ mod layout;
 mod numbers;
 mod session;
 
-pub use bare::plain;
+pub use bare::{fits, plain};
 pub use generated::generate;
 pub use session::script;

@@ -1,3 +1,4 @@
+// The lines of a generated session.
 ghost use Rattle.std.specs.Prelude.{◌≡◌, IfOk};
 ghost use Rattle.elf_gen.specs.Script.{script_text};
 

@@ -1,3 +1,4 @@
+-- The definitions of symbols: entries, names and look-ups.
 pub mod Entries
 pub mod Names
 pub mod Views

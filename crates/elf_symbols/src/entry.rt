@@ -1,3 +1,4 @@
+// An entry of a symbol table.
 ghost use Rattle.std.specs.Prelude.{◌≡◌, ◌+◌, ◌*◌, ◌<◌, ◌≤◌, ◌&&◌, ◌==◌, IfOk, length, filter};
 ghost use Rattle.elf32_read.specs.Fields.{name_at, zero_end};
 ghost use Rattle.elf_symbols.specs.Entries.{all_entries, is_counted, is_proper, symbol_entry};

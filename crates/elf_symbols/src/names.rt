@@ -1,3 +1,4 @@
+// Symbols by their names and by addresses.
 ghost use Rattle.std.specs.Prelude.{◌≡◌, ◌+◌, ◌&&◌, IfOk, IfNone, IfSome, None, Some, [], true, false, filter, is_some, length, map, nat_le, nat_lt, option_and_then, slice_get, unwrap_or};
 ghost use Rattle.std.specs.Option.{option_map, option_map_or};
 ghost use Rattle.elf32_read.specs.Fields.{name_at, name_from, zero_end};

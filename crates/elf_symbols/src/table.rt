@@ -1,3 +1,4 @@
+// The symbol table of an image, and its names.
 ghost use Rattle.std.specs.Prelude.{◌≡◌, IfOk, [], filter, slice_get};
 ghost use Rattle.std.specs.Option.{option_map, option_map_or};
 ghost use Rattle.elf32_read.specs.Views.{section_shown, unnamed};

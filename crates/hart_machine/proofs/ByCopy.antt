@@ -39,7 +39,9 @@ slots_back slots slot u (Some k) least e =
 
 -- a hart that executed a copy at the slot that it claimed stepped over the word
 pub stepped_by_copy : (old : Patched) (h word slot : ℕ) (i : Instr) (c d : Core) (q : Memory) (taken freed : List (Option SlotUse)) → slice_get old.cores h ≡ Some c → slot < 2 ^ 32 → Some i ≡ decode word → CopiesCore i slot c d old.memory q
-    → Some slot ≡ option_map slot_address (least_free old.slots) → taken ≡ with_use old.slots (least_free old.slots) (record { hart = h; word = word }) → use_at old.slots slot ≡ None → use_at taken slot ≡ Some (record { hart = h; word = word })
+    → Some slot ≡ option_map slot_address (least_free old.slots)
+    → taken ≡ with_use old.slots (least_free old.slots) (record { hart = h; word = word }) → use_at old.slots slot ≡ None
+    → use_at taken slot ≡ Some (record { hart = h; word = word })
     → ((other : ℕ) → Some slot ≢ Some other → use_at taken other ≡ use_at old.slots other) → freed ≡ slice_set taken (slot_number slot) None → use_at freed slot ≡ None → ((other : ℕ) → other ≢ slot → use_at freed other ≡ use_at taken other)
     → StepsByCopy old h word (record old { cores = slice_set old.cores h d; memory = q; slots = freed })
 stepped_by_copy old h word slot i c d q taken freed at low found k least taken_is was out others freed_is free left =

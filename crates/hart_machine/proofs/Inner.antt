@@ -1,22 +1,22 @@
 -- Steps of a hart that stays within some addresses, as steps of the machine.
-use Rattle.std.proofs.Common.{◌≡◌, ℕ, zero, suc, ◌+◌, ◌<◌, ◌^◌, Bool, true, false, List, ap, sym, ◌∙◌, subst, refl, arith, add-one}
-use Rattle.std.specs.Prelude.{Option, Some, None, slice_get, slice_set}
+use Rattle.std.proofs.Common.{◌≡◌, ℕ, zero, suc, ◌+◌, ◌<◌, ◌^◌, Bool, true, List, ap, sym, ◌∙◌, subst, refl, arith, add-one}
+use Rattle.std.specs.Prelude.{Some, None, slice_get, slice_set}
 use Rattle.rv_exec.specs.declared.effect.Stepped.TheVariants as stepped
 use Rattle.rv_exec.specs.Memory.{Memory}
 use Rattle.rv_exec.specs.Registers.{Registers}
 use Rattle.text_words.specs.Words.{Words, fetched}
-use Rattle.scratch_slots.specs.declared.slots.SlotUse.{SlotUse}
 use Rattle.hart_machine.specs.declared.hart.Core.{Core}
 use Rattle.hart_machine.specs.Patched.{Patched}
-use Rattle.hart_machine.specs.Stepping.{CoreSteps, FetchGives, Steps, counted, fetched_by}
+use Rattle.hart_machine.specs.Stepping.{FetchGives, counted}
 use Rattle.hart_machine.specs.Slices.{taken_core}
-use Rattle.hart_machine.specs.Within.{AllRanAt, CoreRanAt, CoreRuns, RegistersRanAt, StepsAt, is_inner}
+use Rattle.hart_machine.specs.Within.{AllRanAt, CoreRanAt, RegistersRanAt, StepsAt, is_inner}
 use Rattle.hart_machine.proofs.Places.{set_known, get-set_same}
 use Rattle.hart_machine.proofs.Runs.{fetched_step, lifted}
 use Rattle.hart_machine.proofs.Slices.{none_taken}
 
 -- one more step of the registers
-pub one_more_at : (P : ℕ → Bool) (n earlier : ℕ) (t : Words) (old mid new : Registers) (m q m' : Memory) (addr : ℕ) → mid.pc ≡ addr → RegistersRanAt P n earlier t old m mid q → mid.pc < 2 ^ 32 → P addr ≡ true → is_inner (fetched t mid.pc) ≡ true
+pub one_more_at : (P : ℕ → Bool) (n earlier : ℕ) (t : Words) (old mid new : Registers) (m q m' : Memory) (addr : ℕ) → mid.pc ≡ addr
+    → RegistersRanAt P n earlier t old m mid q → mid.pc < 2 ^ 32 → P addr ≡ true → is_inner (fetched t mid.pc) ≡ true
     → FetchGives stepped.Ran (fetched t mid.pc) mid new q m' → RegistersRanAt P (n + 1) addr t old m new m'
 one_more_at P n earlier t old mid new m q m' addr pc ran low holds inner gives =
     rw add-one (record { regs = mid; memory = q; earlier = earlier; before = ran; below = low; pc = pc; holds = holds; inner = subst (λ a. is_inner (fetched t a) ≡ true) pc inner; gives = gives })
@@ -35,7 +35,8 @@ module _ (P : ℕ → Bool) (old : Patched) (h : ℕ) (c : Core) (at : slice_get
   abbrev after : ℕ → Registers → Memory → Patched
   after n r m = with_hart old h (taken_core c n r) m
 
-  step_at : (n addr : ℕ) (r r' : Registers) (m m' : Memory) → r.pc < 2 ^ 32 → r.pc ≡ addr → P addr ≡ true → is_inner (fetched old.text addr) ≡ true → FetchGives stepped.Ran (fetched old.text r.pc) r r' m m' → StepsAt P addr (after n r m) h (after (suc n) r' m')
+  step_at : (n addr : ℕ) (r r' : Registers) (m m' : Memory) → r.pc < 2 ^ 32 → r.pc ≡ addr → P addr ≡ true → is_inner (fetched old.text addr) ≡ true
+      → FetchGives stepped.Ran (fetched old.text r.pc) r r' m m' → StepsAt P addr (after n r m) h (after (suc n) r' m')
   step_at n addr r r' m m' low pc holds inner gives =
       let d : Core = taken_core c n r in
       let d' : Core = taken_core c (suc n) r' in
@@ -55,7 +56,8 @@ module _ (P : ℕ → Bool) (old : Patched) (h : ℕ) (c : Core) (at : slice_get
   ran_at (suc n) last r m k =
       record { machine = after n k.regs k.memory; earlier = k.earlier; before = ran_at n k.earlier k.regs k.memory k.before; step = step_at n last k.regs r k.memory m k.below k.pc k.holds k.inner k.gives }
 
-core_ran_at : (P : ℕ → Bool) (m : Patched) (h : ℕ) (c d : Core) (q : Memory) (n last : ℕ) → slice_get m.cores h ≡ Some c → CoreRanAt P n last m.text c m.memory d q → AllRanAt P n last m h (record m { cores = slice_set m.cores h d; memory = q })
+core_ran_at : (P : ℕ → Bool) (m : Patched) (h : ℕ) (c d : Core) (q : Memory) (n last : ℕ) → slice_get m.cores h ≡ Some c
+    → CoreRanAt P n last m.text c m.memory d q → AllRanAt P n last m h (record m { cores = slice_set m.cores h d; memory = q })
 core_ran_at P m h c d q zero last at k =
     ap (λ (e : Core). let b : Patched = record m { cores = slice_set m.cores h e; memory = q } in b) k.0 ∙ ap (λ (u : Memory). let b : Patched = record m { cores = slice_set m.cores h c; memory = u } in b) k.1
     ∙ ap (λ (cs : List Core). record m { cores = cs }) (set_known m.cores h c at)

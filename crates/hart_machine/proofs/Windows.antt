@@ -1,9 +1,10 @@
 -- Windows of stored words.
-use Rattle.std.proofs.Common.{◌≡◌, ℕ, zero, suc, ◌+◌, ◌-◌, ◌*◌, ◌^◌, ◌<◌, ◌≤◌, length, length-take-le, take, arith, List, [], ◌∷◌, ◌++◌, ap, sym, ◌∙◌, refl, subst, append_assoc, append-nil, Bool, true, false, inl, inr, get_or-set_other, get_or-set_same}
+use Rattle.std.proofs.Common.{◌≡◌, ℕ, zero, suc, ◌+◌, ◌-◌, ◌*◌, ◌^◌, ◌<◌, ◌≤◌, length, length-append, length-take-le, take, drop, arith, List, [], ◌∷◌, ◌++◌, ap, sym, ◌∙◌, refl, subst, Bool, true, false, inl, inr}
+use Rattle.std.proofs.Common.{append_assoc, append-nil, get_or-set_other, get_or-set_same}
 use Rattle.std.specs.Prelude.{Option, Some, None, IsSome, Result, Ok, OnOk, slice_get, slice_index, slice_index_or, slice_set, unwrap_or, replicate, if◌then◌else◌}
 use Rattle.std.specs.Option.{option_and_then, option_map}
 use Rattle.std.proofs.lemmas.Bool.{cases_lt}
-use Rattle.std.proofs.lemmas.List.{get_or-take}
+use Rattle.std.proofs.lemmas.List.{get_or_append_left, get_or-append_right, get_or-drop, get_or-take, length-drop, length-replicate}
 use Rattle.std.proofs.lemmas.Option.{slice_get_within}
 use Rattle.std.proofs.Math.Seq.{take-suc}
 use Rattle.rv_decode.specs.declared.instr.Instr.{Instr}
@@ -177,3 +178,27 @@ pub window_stored : (t : Words) (at : ℕ) → at < 2 ^ 32 → AreStored t at (w
 window_stored t at low i w is =
     let here : i < length (window t at) = slice_get_within (window t at) i w is in
     ((within_room t at i low here).1, sym (word_is t at (window_room at) i here) ∙ is)
+
+-- ---- instructions that are copied to the front of a list
+
+module _ (near : ℕ) (is : List Instr) (few : near ≤ length is) where
+  first : length (take near is) ≡ near
+  first = length-take-le near is few
+
+  pub copied_rest : (k : ℕ) → near ≤ k → slice_index_or (take near is ++ drop near (replicate 64 Ebreak)) k Ebreak ≡ Ebreak
+  copied_rest k high =
+      get_or-append_right (take near is) (drop near (replicate 64 Ebreak)) near k Ebreak first high
+      ∙ get_or-drop near (replicate 64 Ebreak) (k - near) Ebreak
+      ∙ none_decoded 64 (near + (k - near))
+
+  pub copied_whole : near ≤ 64 → length (take near is ++ drop near (replicate 64 Ebreak)) ≡ 64
+  copied_whole low = omega (arith, first, low, length-append (take near is) (drop near (replicate 64 Ebreak)), length-drop near (replicate 64 Ebreak), length-replicate 64 Ebreak)
+
+pub copied_first : (t : Words) (at near : ℕ) (words : List ℕ) (is : List Instr) → words ≡ window t at → AreInstructions t at is → near ≤ length is → near ≤ length words → (k : ℕ) → k < near
+    → slice_index_or (take near is ++ drop near (replicate 64 Ebreak)) k Ebreak ≡ unwrap_or (option_and_then decode (slice_get words k)) Ebreak
+copied_first t at near words is same run few some k low =
+    let here : k < length (window t at) = omega (arith, low, some, ap length same) in
+    get_or_append_left (take near is) (drop near (replicate 64 Ebreak)) Ebreak k (omega (arith, low, length-take-le near is few))
+    ∙ get_or-take near is k Ebreak low
+    ∙ stored_is t (at + 4 * k) (fetched t (at + 4 * k)) (slice_index_or is k Ebreak) refl (run.are k (omega (arith, low, few)))
+    ∙ sym (ap (λ o. unwrap_or (option_and_then decode o) Ebreak) (ap (λ ws. slice_get ws k) same ∙ word_is t at (window_room at) k here))

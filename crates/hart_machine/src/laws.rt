@@ -1,3 +1,4 @@
+// What the machine's copies keep, as a law.
 ghost use Rattle.hart_machine.specs.Copying.{CopyIsStepAtHome};
 
 /// A law: each step of a hart at a slot that it entered is, once it is settled, the plain step of the slot's word at

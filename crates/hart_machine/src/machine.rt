@@ -1,4 +1,5 @@
-ghost use Rattle.std.specs.Prelude.{◌≡◌, ◌≢◌, ◌<◌, ◌≤◌, ℕ, [], length, IfOk, IfErr, IfSome, IfNone, MatchResult, Err, Some, None, is_some, IsSome, true, false, slice_get, slice_set};
+// The machine: harts over patched text, one memory and the scratch slots.
+ghost use Rattle.std.specs.Prelude.{◌≡◌, ◌≢◌, ◌<◌, ◌≤◌, ℕ, [], length, IfOk, IfErr, IfSome, IfNone, MatchResult, Err, Some, None, is_some, IsSome, true, false, replicate, slice_get, slice_set};
 ghost use Rattle.std.specs.Option.{option_map};
 ghost use Rattle.std.specs.FinSet as set;
 ghost use Rattle.text_words.specs.Words as text;
@@ -40,7 +41,8 @@ pub struct Machine {
     text: TextWords,
     cores: Vec<Core>,
     memory: DataMemory,
-    slots: Slots,
+    // On the heap, since a session is handed about with its machine.
+    slots: Box<Slots>,
 }
 
 impl Model for Machine {
@@ -54,9 +56,17 @@ impl Model for Machine {
 
     ghost coded = { Prim.hlevel (codes, memory_code, words_code) };
 
-    ghost view = { λ m. record { text = m.text; cores = m.cores.items; memory = m.memory; slots = m.slots } };
+    ghost view = { λ m. record { text = m.text; cores = m.cores.items; memory = m.memory; slots = m.slots.value } };
 
     ghost invariant = { λ m. AreCounted m.cores.items };
+}
+
+// So many slots, all free.
+fn first_slots(alloc: Global, count: u32) -> Result<Box<Slots>, NoMemory>
+    requires { count ≤ 512 }
+    ensures { IfOk result (λ s. s.value ≡ replicate count None) }
+{
+    Ok(Box::new(alloc, Slots::new(count))?)
 }
 
 impl Machine {
@@ -69,7 +79,7 @@ impl Machine {
             text: TextWords::load(alloc, image)?,
             cores: first_cores(alloc, image.entry(), settings.harts)?,
             memory: DataMemory::load(alloc, image, settings.harts)?,
-            slots: Slots::new(settings.slots),
+            slots: first_slots(alloc, settings.slots)?,
         })
     }
 

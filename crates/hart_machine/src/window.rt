@@ -1,16 +1,11 @@
 // Windows of stored words, and their instructions.
-ghost use Rattle.std.specs.Prelude.{◌≡◌, ◌≤◌, [], IfSome, length, unwrap_or};
-ghost use Rattle.std.specs.Option.{option_and_then};
-ghost use Rattle.rv_decode.specs.Decode.{decode};
-ghost use Rattle.rv_decode.specs.declared.instr.Instr.TheVariants.{Ebreak};
+ghost use Rattle.std.specs.Prelude.{◌≡◌, ◌≤◌, [], IfSome, length};
 ghost use Rattle.reg_slices.specs.Slices.{AreDecoded};
-ghost use Rattle.text_words.specs.Fronts.{IsFront};
-ghost use Rattle.text_words.specs.Words.{instruction_of, stored};
 ghost use Rattle.hart_machine.specs.Slices as slices;
 
 use arrayvec::ArrayVec;
 use rv_decode::Instr;
-use text_words::{Fetch, Front, TextWords};
+use text_words::TextWords;
 
 /// The most words of a window.
 const MOST_WORDS: usize = 64;
@@ -39,39 +34,18 @@ pub fn push_window(text: &TextWords, at: u32, words: &mut ArrayVec<u32, 64>)
     }
 }
 
-// What stands for a hart, as an instruction: EBREAK where a breakpoint is planted, and where there is no instruction.
-#[inline(always)]
-fn instruction_of(fetched: Fetch) -> Instr
-    ensures { result ≡ instruction_of fetched }
-{
-    match fetched {
-        Fetch::Instruction(instruction) => instruction,
-        Fetch::Absent | Fetch::Planted | Fetch::Illegal => Instr::Ebreak,
-    }
-}
-
-// The instruction of the word that is stored at an address, and EBREAK where there is none. It was decoded when the text was
-// loaded.
-#[inline(always)]
-fn stored_instruction(front: &Front<'_>, text: &TextWords, addr: u32) -> Instr
-    requires { IsFront text.now front.now.address front.now.count front.now.code.now }
-    ensures { result ≡ unwrap_or (option_and_then decode (stored text.now addr)) Ebreak }
-{
-    match front.instruction(addr) {
-        Some(instruction) => instruction,
-        None => instruction_of(text.fetch(addr)),
-    }
-}
-
-/// The instruction of each word of the window at an address: EBREAK where a word is none, and behind the last.
+/// The instruction of each word of the window at an address: EBREAK where a word is none, and behind the last. Those of one section
+/// are copied at once.
 pub fn window_instructions(text: &TextWords, at: u32, words: &[u32]) -> [Instr; MOST_WORDS]
     requires { words.now ≡ slices.window text.now at }
     ensures { AreDecoded words.now result }
 {
-    let front = text.front();
     let mut instructions = [Instr::Ebreak; MOST_WORDS];
-    for i in 0..words.len() {
-        instructions[i] = stored_instruction(&front, text, at + 4 * i as u32);
+    let run = text.instructions_at(at);
+    let near = words.len().min(run.len());
+    instructions[..near].copy_from_slice(&run[..near]);
+    'far: for i in near..words.len() {
+        instructions[i] = text.fetch(at + 4 * i as u32).instruction();
     }
     instructions
 }

@@ -1,3 +1,4 @@
+-- The definitions of the machine that runs unpatched text.
 pub mod Environment
 pub mod Plain
 pub mod PlainRun

@@ -1,3 +1,4 @@
+// The registers that a hart starts with.
 ghost use Rattle.std.specs.Prelude.{◌≡◌, ◌<◌};
 ghost use Rattle.plain_machine.specs.Plain.{first_registers};
 

@@ -1,1 +1,2 @@
+-- The definitions of runs over registers alone.
 pub mod Slices

@@ -91,8 +91,29 @@ pub at_immediate : (w : ℕ) → bits 0 7 w ≡ 0x13 → bits 12 3 w ≢ 1 → b
 unfolding decode
 at_immediate w h a b = rw (h, ne_eqb _ _ a, ne_eqb _ _ b) (simp (and-true, and-false, option_map-cond))
 
-pub at_other : (w : ℕ) → bits 0 7 w ≢ 0x37 → bits 0 7 w ≢ 0x17 → bits 0 7 w ≢ 0x6F → bits 0 7 w ≢ 0x67 → bits 0 7 w ≢ 0x63 → bits 0 7 w ≢ 0x03 → bits 0 7 w ≢ 0x23 → bits 0 7 w ≢ 0x13 → bits 0 7 w ≢ 0x33 → bits 0 7 w ≢ 0x0F → bits 0 7 w ≢ 0x73 → bits 0 7 w ≢ 0x2F → decode w ≡ None
+pub at_other : (w : ℕ) → bits 0 7 w ≢ 0x37 → bits 0 7 w ≢ 0x17 → bits 0 7 w ≢ 0x6F → bits 0 7 w ≢ 0x67 → bits 0 7 w ≢ 0x63 → bits 0 7 w ≢ 0x03
+    → bits 0 7 w ≢ 0x23 → bits 0 7 w ≢ 0x13 → bits 0 7 w ≢ 0x33 → bits 0 7 w ≢ 0x0F → bits 0 7 w ≢ 0x73 → bits 0 7 w ≢ 0x2F → decode w ≡ None
 unfolding decode
 at_other w a b c d e f g h i j k l = rw (ne_eqb _ _ a, ne_eqb _ _ b, ne_eqb _ _ c, ne_eqb _ _ d, ne_eqb _ _ e, ne_eqb _ _ f, ne_eqb _ _ g, ne_eqb _ _ h, ne_eqb _ _ i, ne_eqb _ _ j, ne_eqb _ _ k, ne_eqb _ _ l) refl
 
-pub ruleset opcodes = (at_lui, at_auipc, at_jal, at_jalr, at_branch, at_load, at_store, at_plain, at_multiply, at_atomic, at_subtract, at_plain_other, at_fence, at_system, at_atomic_other, at_shift_left, at_shift_right, at_immediate, at_other)
+pub ruleset opcodes = (
+  at_lui,
+  at_auipc,
+  at_jal,
+  at_jalr,
+  at_branch,
+  at_load,
+  at_store,
+  at_plain,
+  at_multiply,
+  at_atomic,
+  at_subtract,
+  at_plain_other,
+  at_fence,
+  at_system,
+  at_atomic_other,
+  at_shift_left,
+  at_shift_right,
+  at_immediate,
+  at_other,
+)

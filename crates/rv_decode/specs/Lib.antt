@@ -1,3 +1,4 @@
+-- The definitions of instruction words.
 pub mod Word
 pub mod Decode
 pub mod Registers

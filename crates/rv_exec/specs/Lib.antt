@@ -1,3 +1,4 @@
+-- The definitions of what an instruction does.
 pub mod Causes
 pub mod Registers
 pub mod Arithmetic

@@ -1,3 +1,4 @@
+// A memory in which nothing is mapped.
 use crate::effect::Cause;
 use crate::port::DataPort;
 use rv_decode::AmoOp;

@@ -1,2 +1,3 @@
+-- The definitions of scratch slots.
 pub mod Index
 pub mod Table

@@ -1,3 +1,4 @@
+// The scratch slots, and who has each.
 ghost use Rattle.std.specs.Prelude.{◌≡◌, ◌≢◌, ◌≤◌, ◌<◌, ℕ, IfSome, IfNone, length, replicate, None, Some, slice_set, is_some, IsSome};
 ghost use Rattle.std.specs.Option.{option_map};
 

@@ -1,3 +1,4 @@
+// What stepping over a breakpoint keeps, as laws.
 ghost use Rattle.step_over.specs.Phases.{RunsOnce};
 ghost use Rattle.step_over.specs.Shown.{RunIsPlainStep, OtherMarksShowTheSame, OneStepOrNone, SlotsAreWords};
 

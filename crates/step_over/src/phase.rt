@@ -1,3 +1,4 @@
+// Where a hart is in stepping over a breakpoint.
 ghost use Rattle.std.specs.Prelude.{◌≡◌};
 
 /// Where a hart is in stepping over a breakpoint. A `slot` is the address of a scratch slot, and a `home` that of the

@@ -1,5 +1,6 @@
 -- Words, marks and instructions at the places of addresses.
-use Rattle.std.proofs.Common.{◌≡◌, ◌≢◌, ℕ, suc, zero, ◌%◌, ◌/◌, ◌*◌, ◌+◌, ◌-◌, ◌≤◌, ◌^◌, ◌<◌, List, [], ◌∷◌, length, map, subst, refl, ap, sym, ◌∙◌, arith, Bool, true, false, cond, Some, None, Option, get_or-set_same, get_or-set_other, length-set, inl, inr, true≢false}
+use Rattle.std.proofs.Common.{◌≡◌, ◌≢◌, ℕ, suc, zero, ◌%◌, ◌/◌, ◌*◌, ◌+◌, ◌-◌, ◌≤◌, ◌^◌, ◌<◌, List, [], ◌∷◌, length, map, subst}
+use Rattle.std.proofs.Common.{refl, ap, sym, ◌∙◌, arith, Bool, true, false, cond, Some, None, Option, get_or-set_same, get_or-set_other, length-set, inl, inr, true≢false}
 use Rattle.std.specs.Prelude.{IfSome, slice_get, slice_index, slice_index_or, slice_set, is_some, IsSome, ◌==◌, ◌⊎◌, if◌then◌else◌}
 use Rattle.std.specs.Option.{option_map, option_map_or}
 use Rattle.std.specs.FinSet as set

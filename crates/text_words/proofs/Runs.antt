@@ -1,5 +1,6 @@
 -- Stored words of text side by side.
-use Rattle.std.proofs.Common.{◌≡◌, ℕ, zero, suc, ◌+◌, ◌-◌, ◌*◌, ◌/◌, ◌%◌, ◌^◌, ◌<◌, ◌≤◌, List, length, drop, take, refl, ap, sym, ◌∙◌, subst, arith, Bool, true, false, not, nat_eq, cond, Some, None, Option, length-drop, length-take-le, drop_of_length-le, true≢false}
+use Rattle.std.proofs.Common.{◌≡◌, ℕ, zero, suc, ◌+◌, ◌-◌, ◌*◌, ◌/◌, ◌%◌, ◌^◌, ◌<◌, ◌≤◌, List, length, drop, take, refl, ap}
+use Rattle.std.proofs.Common.{sym, ◌∙◌, subst, arith, Bool, true, false, not, nat_eq, cond, Some, None, Option, length-drop, length-take-le, drop_of_length-le, true≢false}
 use Rattle.std.specs.Prelude.{slice_get, slice_index, slice_index_or, IsSome, ◌==◌, if◌then◌else◌}
 use Rattle.std.specs.Option.{option_map, option_map_or}
 use Rattle.std.specs.Cmp.Lexicographic.{pointwise, same_text, other_text}

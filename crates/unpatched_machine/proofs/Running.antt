@@ -70,6 +70,8 @@ goes_on s old new h steps t x shows at live =
     let step = steps x.regs there in
     let gives : StepGives s (plain old.program x.regs t.memory) x.regs step.regs t.memory step.memory = subst (λ m. StepGives s (plain old.program x.regs m) x.regs step.regs m step.memory) (sym shows.memory) step.gives in
     let P : Unpatched → Type 0 = λ n. MatchOption (take_item old.program t (Step h)) (IsTrap s) (λ u. Shows n u) in
-    let done : P (stepped_to old.program t h step.regs step.memory) = subst (λ o. MatchOption o (IsTrap s) (λ u. Shows (stepped_to old.program t h step.regs step.memory) u)) (sym (item_is old.program t h x at live)) (on_answer s old.program t h x.regs step.regs step.memory (plain old.program x.regs t.memory) gives) in
+    let done : P (stepped_to old.program t h step.regs step.memory) = subst
+    (λ o. MatchOption o (IsTrap s) (λ u. Shows (stepped_to old.program t h step.regs step.memory) u)) (sym (item_is old.program t h x at live))
+    (on_answer s old.program t h x.regs step.regs step.memory (plain old.program x.regs t.memory) gives) in
     let there' : P (record old { harts = slice_set old.harts h step.regs; memory = step.memory }) = subst (λ rs. P (record old { harts = slice_set rs h step.regs; memory = step.memory })) shows.harts done in
     subst P (sym step.machine) there'

@@ -1,2 +1,3 @@
+-- The definitions of a machine without breakpoints.
 pub mod Unpatched
 pub mod Instruction

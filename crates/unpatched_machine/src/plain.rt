@@ -1,3 +1,4 @@
+// The machine over unpatched text, without breakpoints.
 ghost use Rattle.std.specs.Prelude.{◌≡◌, ◌<◌, ◌≤◌, Err, IfErr, IfOk, MatchResult, Ok, Some, length, map, slice_get};
 ghost use Rattle.data_memory.specs.Ranges.{range_at};
 ghost use Rattle.dbg_traits.specs.Settings.{AreSettings};

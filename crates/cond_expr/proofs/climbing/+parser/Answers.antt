@@ -34,7 +34,8 @@ expression-returns-in_err-y-clause-met t c =
 
 pub expression-turns-preserved : goal.expression-turns-preserved
 expression-turns-preserved t c =
-    turns c.args.end c.args.depth c.args.least c.args.tokens.now c.turns.rest.now c.in-Some.more.now c.in_ok-y.after.now c.in-Some.first c.in-Joins.op _ _ _ c.strength-strength.result c.turns.invariant c.in-Some.ensures (sym c.in-Joins.ensures)
+    turns c.args.end c.args.depth c.args.least c.args.tokens.now c.turns.rest.now c.in-Some.more.now c.in_ok-y.after.now c.in-Some.first c.in-Joins.op
+    _ _ _ c.strength-strength.result c.turns.invariant c.in-Some.ensures (sym c.in-Joins.ensures)
     c.strength-strength.ensures.value c.if-strength-least.false c.in_ok-y.ensures.spelled c.in_ok-y.ensures.stops c.in_ok-y.ensures.shorter c.in_ok-y.ensures.met c.in_ok-x-2.ensures
 
 pub operand-returns-in_default-clause-met : goal.operand-returns-in_default-clause-met
@@ -115,7 +116,8 @@ operand-returns-in-Refused-clause-met t c =
 pub operand-returns-then-depth-ge-MAX_OPEN-3-clause-met : goal.operand-returns-then-depth-ge-MAX_OPEN-3-clause-met
 operand-returns-then-depth-ge-MAX_OPEN-3-clause-met t c =
     λ parens outer. meets_fault Deep c.in-Some.first.at _ _ c.fault-then-depth-ge-MAX_OPEN-3.result c.fault-then-depth-ge-MAX_OPEN-3.ensures
-    (ap (wanting c.args.end parens outer c.args.depth) c.in-Some.ensures ∙ wanting-cut_off_full c.args.end parens outer c.args.depth c.in-Some.first c.in-Some.rest.now c.in-CutOff.place (sym c.in-CutOff.ensures) c.if-depth-ge-MAX_OPEN-3.true)
+    (ap (wanting c.args.end parens outer c.args.depth) c.in-Some.ensures ∙ wanting-cut_off_full c.args.end parens outer c.args.depth c.in-Some.first
+    c.in-Some.rest.now c.in-CutOff.place (sym c.in-CutOff.ensures) c.if-depth-ge-MAX_OPEN-3.true)
 
 pub operand-returns-else-depth-ge-MAX_OPEN-3-clause-met : goal.operand-returns-else-depth-ge-MAX_OPEN-3-clause-met
 operand-returns-else-depth-ge-MAX_OPEN-3-clause-met t c =

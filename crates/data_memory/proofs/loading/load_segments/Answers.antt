@@ -10,7 +10,8 @@ loop-k-preserved c =
     let back : c.loop-k.k ≡ c.loop-k.k - 1 + 1 = omega arith in
     record {
       within = let w = c.loop-k.invariant.within in omega arith;
-      holds = segment_more c.loop-k.pages c.fill_data.new.pages c.loop-k.frames c.fill_data.new.frames c.args.image.now.segments (segment_shown c.segment-segment.result) (c.loop-k.k - 1) c.from.result c.segment-segment.ensures c.from.ensures
+      holds = segment_more c.loop-k.pages c.fill_data.new.pages c.loop-k.frames c.fill_data.new.frames c.args.image.now.segments
+          (segment_shown c.segment-segment.result) (c.loop-k.k - 1) c.from.result c.segment-segment.ensures c.from.ensures
           (subst (λ k. Holds c.loop-k.pages c.loop-k.frames (data_byte (drop k c.args.image.now.segments))) back c.loop-k.invariant.holds)
           c.in_ok-fill_data.ensures;
     }

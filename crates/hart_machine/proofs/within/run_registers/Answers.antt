@@ -1,4 +1,4 @@
-use Rattle.std.proofs.Common.{refl, sym, ap, ◌∙◌}
+use Rattle.std.proofs.Common.{refl, sym}
 use Rattle.hart_machine.specs.Within.{is_among}
 use Rattle.hart_machine.proofs.Inner.{one_more_at}
 use Rattle.hart_machine.proofs.within.run_registers.Goals as goal

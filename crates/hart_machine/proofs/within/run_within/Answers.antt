@@ -1,7 +1,7 @@
-use Rattle.std.proofs.Common.{◌≡◌, ◌<◌, ◌+◌, ◌-◌, ◌^◌, ℕ, min, arith, subst, sym, ap, ◌∙◌}
+use Rattle.std.proofs.Common.{◌≡◌, ◌<◌, ◌+◌, ◌-◌, ◌^◌, ℕ, min, arith, ap}
 use Rattle.std.specs.Prelude.{None}
 use Rattle.hart_machine.specs.declared.hart.Core.{Core}
-use Rattle.hart_machine.specs.Within.{CoreRanAt, is_among}
+use Rattle.hart_machine.specs.Within.{is_among}
 use Rattle.hart_machine.proofs.Inner.{core_at}
 use Rattle.hart_machine.proofs.Runs.{none_there}
 use Rattle.hart_machine.proofs.within.run_within.Goals as goal

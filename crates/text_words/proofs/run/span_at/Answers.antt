@@ -25,7 +25,8 @@ loop-section-preserved c =
         low = λ k l. c.loop-section.invariant.low k (omega (arith, w.most-is, w.min-most.ensures));
         some = omega (arith, w.most-is, w.min-most.ensures, c.loop-section.invariant.some);
         passed = λ k l.
-            later_section c.args.sections.now c.loop-section.section-index c.args.addr c.if-addr-section.most k (record { address = 0; count = 0; first = 0 }) (omega arith) w.if-addr-section.true (omega (arith, w.most-is, w.min-most.ensures)) l
+            later_section c.args.sections.now c.loop-section.section-index c.args.addr c.if-addr-section.most k
+            (record { address = 0; count = 0; first = 0 }) (omega arith) w.if-addr-section.true (omega (arith, w.most-is, w.min-most.ensures)) l
             (c.loop-section.invariant.passed k (omega (arith, w.most-is, w.min-most.ensures)));
       }
       | else-addr-section+else-i-section w ↦ record {

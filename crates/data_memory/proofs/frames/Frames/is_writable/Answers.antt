@@ -11,4 +11,6 @@ pub returns : goal.returns
 returns c =
     c.may_store.ensures
     ∙ store_seen c.self.inside.accesses.items c.self.inside.values.items c.args.self.now c.args.at c.index.result.now c.self.view_is c.self.invariant
-    (c.index.ensures ∙ access_default c.self.inside.accesses.items c.args.at c.index.result.now (let same : length c.self.inside.accesses.items ≡ length c.self.inside.values.items = c.self.invariant in omega (arith, c.requires, same, seen_length c.self.inside.accesses.items c.self.inside.values.items c.args.self.now c.self.view_is c.self.invariant)))
+    (c.index.ensures ∙ access_default c.self.inside.accesses.items c.args.at c.index.result.now
+    (let same : length c.self.inside.accesses.items ≡ length c.self.inside.values.items = c.self.invariant in omega
+    (arith, c.requires, same, seen_length c.self.inside.accesses.items c.self.inside.values.items c.args.self.now c.self.view_is c.self.invariant)))

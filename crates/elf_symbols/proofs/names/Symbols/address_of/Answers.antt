@@ -17,10 +17,12 @@ returns-in-Some c =
     let i = c.self.inside in
     ap (λ (s : Symbol). Some s) (c.shown.ensures ∙ ap (λ (strings : List ℕ). symbol_of strings c.in-Some.entry.now) c.deref-in-Some.ensures.value)
     ∙ ap (option_map (symbol_of i.strings.items)) c.in-Some.ensures.value
-    ∙ found_address i.strings.items c.args.name.now i.symbols.items c.args.self.now i.by_name c.self.invariant.by_name c.if-name-gt-MOST_KEPT.false (sym c.is_empty.ensures ∙ c.if-is_empty.false) (ap (λ (n : Names). n.symbols) c.self.view_is)
+    ∙ found_address i.strings.items c.args.name.now i.symbols.items c.args.self.now i.by_name c.self.invariant.by_name c.if-name-gt-MOST_KEPT.false
+    (sym c.is_empty.ensures ∙ c.if-is_empty.false) (ap (λ (n : Names). n.symbols) c.self.view_is)
 
 pub returns-in-None : goal.returns-in-None
 returns-in-None c =
     let i = c.self.inside in
     ap (option_map (symbol_of i.strings.items)) c.in-None.ensures.value
-    ∙ found_address i.strings.items c.args.name.now i.symbols.items c.args.self.now i.by_name c.self.invariant.by_name c.if-name-gt-MOST_KEPT.false (sym c.is_empty.ensures ∙ c.if-is_empty.false) (ap (λ (n : Names). n.symbols) c.self.view_is)
+    ∙ found_address i.strings.items c.args.name.now i.symbols.items c.args.self.now i.by_name c.self.invariant.by_name c.if-name-gt-MOST_KEPT.false
+    (sym c.is_empty.ensures ∙ c.if-is_empty.false) (ap (λ (n : Names). n.symbols) c.self.view_is)

@@ -22,5 +22,6 @@ invariant_of-self c = set_counted c.self.inside.cores.items c.args.h c.run_withi
 
 pub returns-clause-runs : goal.returns-clause-runs
 returns-clause-runs c =
-    machine_ran_at (is_among c.args.bounds.start c.args.bounds.end) (the_view c.self.inside) c.args.self.now c.args.h c.index_mut.result.now c.run_within.new.core c.run_within.new.memory c.run_within.result.count c.run_within.result.last c.self.view_is (core_in c)
+    machine_ran_at (is_among c.args.bounds.start c.args.bounds.end) (the_view c.self.inside) c.args.self.now c.args.h c.index_mut.result.now
+    c.run_within.new.core c.run_within.new.memory c.run_within.result.count c.run_within.result.last c.self.view_is (core_in c)
     c.run_within.ensures.runs

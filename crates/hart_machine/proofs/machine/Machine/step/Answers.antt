@@ -4,7 +4,7 @@ use Rattle.std.proofs.lemmas.Option.{get_or_from_slice_get, slice_get_read}
 use Rattle.hart_machine.specs.contracts.machine.Machine.{the_view}
 use Rattle.hart_machine.specs.declared.hart.Core.{Core}
 use Rattle.hart_machine.specs.Patched.{Patched}
-use Rattle.hart_machine.specs.Stepping.{AreCounted}
+use Rattle.hart_machine.specs.Stepping.{AreCounted, CoreSteps, fetched_by}
 use Rattle.hart_machine.proofs.Counts.{set_counted}
 use Rattle.hart_machine.proofs.Stepping.{steps_to, machine_same}
 use Rattle.hart_machine.proofs.machine.Machine.step.Goals as goal
@@ -27,7 +27,9 @@ returns-clause-step c =
     λ k at.
     steps_to (the_view c.self.inside) c.args.self.now c.args.h k c.index_mut.result.now c.step_core.new.core c.step_core.new.memory c.step_core.result c.self.view_is at
     (c.index_mut.ensures.value ∙ get_or_from_slice_get c.self.inside.cores.items c.args.h k c.index_mut.result.now (ap (λ (m : Patched). slice_get m.cores c.args.h) c.self.view_is ∙ at))
-    c.step_core.ensures.pc c.step_core.ensures.step
+    c.step_core.ensures.pc
+    (subst (λ s. CoreSteps c.step_core.result (fetched_by c.self.inside.text s c.index_mut.result.now) c.index_mut.result.now c.step_core.new.core c.self.inside.memory c.step_core.new.memory)
+    c.deref.ensures c.step_core.ensures.step)
 
 pub returns-clause-stopped : goal.returns-clause-stopped
 returns-clause-stopped c =
