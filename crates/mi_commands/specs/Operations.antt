@@ -18,12 +18,13 @@ abbrev pub or_else : {X : Type 0} → Option X → Option X → Option X
 or_else (Some x) other = Some x
 or_else None other = other
 
--- The operations that have a name of their own. `SetRegister` has none: it is a form of `-gdb-set`.
+-- The operations that have a name of their own, those that lines ask for most in front. `SetRegister` has none: it is a form
+-- of `-gdb-set`.
 unfoldable pub operations : List Operation
 operations =
-    op.BreakInsert ∷ op.BreakDelete ∷ op.BreakEnable ∷ op.BreakDisable ∷ op.BreakCondition ∷ op.BreakAfter ∷
-    op.BreakList ∷ op.BreakWatch ∷ op.Continue ∷ op.Interrupt ∷ op.Step ∷ op.Next ∷ op.StepInstruction ∷
-    op.NextInstruction ∷ op.Finish ∷ op.Wait ∷ op.ThreadInfo ∷ op.ThreadSelect ∷ op.ThreadList ∷ op.FrameList ∷
+    op.Wait ∷ op.Continue ∷ op.Next ∷ op.Step ∷ op.NextInstruction ∷ op.StepInstruction ∷ op.BreakInsert ∷
+    op.BreakDelete ∷ op.BreakEnable ∷ op.BreakDisable ∷ op.BreakCondition ∷ op.BreakAfter ∷ op.BreakList ∷
+    op.BreakWatch ∷ op.Interrupt ∷ op.Finish ∷ op.ThreadInfo ∷ op.ThreadSelect ∷ op.ThreadList ∷ op.FrameList ∷
     op.FrameDepth ∷ op.FrameInfo ∷ op.VariableList ∷ op.RegisterNames ∷ op.RegisterValues ∷ op.ReadMemory ∷
     op.WriteMemory ∷ op.Evaluate ∷ op.Set ∷ op.Show ∷ op.Exit ∷ []
 

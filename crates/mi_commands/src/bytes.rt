@@ -3,7 +3,7 @@
 ghost use Rattle.std.specs.Prelude.{◌≡◌, ◌<◌, length, IfOk};
 ghost use Rattle.mi_commands.specs.Bytes.{first_of, repeated};
 
-use crate::lists::ByteList;
+use dbg_traits::ByteList;
 use std::alloc::{AllocError, Global};
 
 // So many bytes: those that are given, again from the first where they end.

@@ -1,6 +1,6 @@
 //! `Command`: what a line asks for.
 
-use crate::lists::{ByteList, NumberList};
+use dbg_traits::{ByteList, NumberList};
 use mi_text::Token;
 
 /// Which threads a command resumes or interrupts.

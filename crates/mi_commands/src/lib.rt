@@ -3,22 +3,20 @@
 //! The commands are those of GDB's manual, chapter "The GDB/MI Interface"; `-exec-wait` is this project's own.
 #![tactic(auto)]
 
-mod answering;
 mod bytes;
 mod command;
 mod counts;
-mod lists;
 mod location;
 mod number;
 mod operation;
 mod options;
+mod parsing;
 mod print;
 mod reading;
 mod refusal;
 mod registers;
 mod setting;
 
-pub use answering::command_of;
 pub use command::{Command, CommandLine, Displaced, Format, Insertion, Location, Setting, Target};
-pub use lists::{ByteList, ItemList, NumberList};
+pub use parsing::command_of;
 pub use refusal::{Fault, Refusal};

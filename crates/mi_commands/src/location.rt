@@ -5,7 +5,7 @@ ghost use Rattle.std.specs.Option.{option_map};
 ghost use Rattle.mi_commands.specs.Locations.{last_colon, line_of, location_of, location_at};
 
 use crate::command::Location;
-use crate::lists::ByteList;
+use dbg_traits::ByteList;
 use mi_text::{digits_number, number_of};
 use std::alloc::{AllocError, Global};
 

@@ -55,8 +55,14 @@ pub enum Operation {
     Exit,
 }
 
-// The operations that have a name of their own.
+// The operations that have a name of their own, those that lines ask for most in front.
 const OPERATIONS: [Operation; 31] = [
+    Operation::Wait,
+    Operation::Continue,
+    Operation::Next,
+    Operation::Step,
+    Operation::NextInstruction,
+    Operation::StepInstruction,
     Operation::BreakInsert,
     Operation::BreakDelete,
     Operation::BreakEnable,
@@ -65,14 +71,8 @@ const OPERATIONS: [Operation; 31] = [
     Operation::BreakAfter,
     Operation::BreakList,
     Operation::BreakWatch,
-    Operation::Continue,
     Operation::Interrupt,
-    Operation::Step,
-    Operation::Next,
-    Operation::StepInstruction,
-    Operation::NextInstruction,
     Operation::Finish,
-    Operation::Wait,
     Operation::ThreadInfo,
     Operation::ThreadSelect,
     Operation::ThreadList,

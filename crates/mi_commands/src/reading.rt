@@ -11,11 +11,11 @@ ghost use Rattle.mi_commands.specs.Operations.{or_else};
 
 use crate::command::Target;
 use crate::counts::OptionName;
-use crate::lists::{ByteList, NumberList};
 use crate::number::{Range, is_bad, number};
 use crate::operation::Operation;
 use crate::options::{has, option_in_front, value_in};
 use crate::registers::assignment;
+use dbg_traits::{ByteList, NumberList};
 use mi_input::Word;
 use mi_text::are_bytes;
 use std::alloc::{AllocError, Global};

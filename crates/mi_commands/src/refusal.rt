@@ -5,7 +5,7 @@ ghost use Rattle.mi_commands.specs.Faults.{fault_number};
 ghost use Rattle.mi_commands.specs.declared.refusal.Failure.TheVariants as failures;
 ghost use Rattle.mi_commands.specs.declared.refusal.Refusal.TheVariants as refusals;
 
-use crate::lists::ByteList;
+use dbg_traits::ByteList;
 use mi_input::InputFault;
 use mi_text::Token;
 use std::alloc::AllocError;

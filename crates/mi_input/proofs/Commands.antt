@@ -48,12 +48,14 @@ operation_bytes [] h = absurd cc
 operation_bytes (b ∷ bs) h = h
 
 -- the operation is the whole run
-one_operation : (bytes operation rest : List ℕ) (n : ℕ) → n ≡ length (take_while is_operation_byte bytes) → bytes ≡ operation ++ rest → is_operation operation ≡ true → is_parted rest ≡ true → (take n bytes ≡ operation) × (drop n bytes ≡ rest)
+one_operation : (bytes operation rest : List ℕ) (n : ℕ) → n ≡ length (take_while is_operation_byte bytes) → bytes ≡ operation ++ rest
+    → is_operation operation ≡ true → is_parted rest ≡ true → (take n bytes ≡ operation) × (drop n bytes ≡ rest)
 one_operation bytes operation rest n counted e named parted =
     let n_is = run_length is_operation_byte bytes n counted in
     let P : ℕ → Type 0 = λ k. (take k bytes ≡ operation) × (drop k bytes ≡ rest) in
     let k = prefix_len is_operation_byte bytes in
-    subst P (sym n_is) (one_run is_operation_byte (take k bytes) operation (drop k bytes) rest (run_passes is_operation_byte bytes) (operation_bytes operation named) (run_stops is_operation_byte bytes) (parted_ends rest parted) (take-append-drop k bytes ∙ e))
+    subst P (sym n_is) (one_run is_operation_byte (take k bytes) operation (drop k bytes) rest (run_passes is_operation_byte bytes)
+    (operation_bytes operation named) (run_stops is_operation_byte bytes) (parted_ends rest parted) (take-append-drop k bytes ∙ e))
 
 pub not_parted : (bytes : List ℕ) (n : ℕ) → n ≡ length (take_while is_operation_byte bytes) → false ≡ is_parted (take (length bytes - n) (drop n bytes)) → (operation : List ℕ) (words : List WordView) → IsOperation bytes operation words → ⊥
 not_parted bytes n counted fails operation words is =
@@ -71,7 +73,8 @@ named_by [] n e some h = absurd (some e)
 named_by (b ∷ bs) zero e some h = absurd (some refl)
 named_by (b ∷ bs) (suc n) e some h = h
 
-pub command_read : (bytes operation : List ℕ) (n : ℕ) (words : List WordView) → n ≡ length (take_while is_operation_byte bytes) → (n ≡ 0 → ⊥) → true ≡ is_parted (take (length bytes - n) (drop n bytes)) → operation ≡ take n bytes → IsWords (take (length bytes - n) (drop n bytes)) words
+pub command_read : (bytes operation : List ℕ) (n : ℕ) (words : List WordView) → n ≡ length (take_while is_operation_byte bytes) → (n ≡ 0 → ⊥)
+    → true ≡ is_parted (take (length bytes - n) (drop n bytes)) → operation ≡ take n bytes → IsWords (take (length bytes - n) (drop n bytes)) words
     → IsOperation bytes operation words
 command_read bytes operation n words counted some parted taken h =
     let n_is = run_length is_operation_byte bytes n counted in
@@ -113,12 +116,14 @@ begins_not : (xs : List ℕ) → ((x : List ℕ) → xs ≡ 45 ∷ x → ⊥) �
 begins_not [] h = refl
 begins_not (b ∷ bs) h = ne_eqb b 45 (λ e. h bs (ap (λ (n : ℕ). n ∷ bs) e))
 
-pub cli_splits : (line start behind token : List ℕ) (t : List ℕ) → length line ≤ 4096 → start ≡ after_blanks line → false ≡ eqb (length start) 0 → ((x : List ℕ) → start ≡ 34 ∷ x → ⊥) → behind ≡ behind_token start → ((x : List ℕ) → behind ≡ 45 ∷ x → ⊥) → token ≡ token_of start
+pub cli_splits : (line start behind token : List ℕ) (t : List ℕ) → length line ≤ 4096 → start ≡ after_blanks line → false ≡ eqb (length start) 0
+    → ((x : List ℕ) → start ≡ 34 ∷ x → ⊥) → behind ≡ behind_token start → ((x : List ℕ) → behind ≡ 45 ∷ x → ⊥) → token ≡ token_of start
     → (length line ≤ 4096) × (is_cli (after_blanks line) ≡ true) × (token ≡ token_of (after_blanks line))
 cli_splits line start behind token t short e some quote b none is =
     (short, ap is_cli (sym e) ∙ cli_by start some quote false (ap (begins 45) (sym b) ∙ begins_not behind none), is ∙ ap token_of e)
 
-pub command_splits : (line start behind rest : List ℕ) (f : ReadFault) → length line ≤ 4096 → start ≡ after_blanks line → false ≡ eqb (length start) 0 → ((x : List ℕ) → start ≡ 34 ∷ x → ⊥) → behind ≡ behind_token start → behind ≡ 45 ∷ rest → ReadsCommand rest (Err f) → Splits line (Err (fault_of f))
+pub command_splits : (line start behind rest : List ℕ) (f : ReadFault) → length line ≤ 4096 → start ≡ after_blanks line → false ≡ eqb (length start) 0
+    → ((x : List ℕ) → start ≡ 34 ∷ x → ⊥) → behind ≡ behind_token start → behind ≡ 45 ∷ rest → ReadsCommand rest (Err f) → Splits line (Err (fault_of f))
 command_splits line start behind rest reading.NoMemory short e some quote b dash h = tt
 command_splits line start behind rest reading.Text short e some quote b dash h =
     (short, no_parts line start e some none, ap is_cli (sym e) ∙ cli_by start some quote true (ap (begins 45) (sym b ∙ dash)))
@@ -129,7 +134,8 @@ command_splits line start behind rest reading.Text short e some quote b dash h =
         let same : rest ≡ operation ++ is.rest = cc in
         h operation words (record { rest = is.rest; spelled = same; named = is.named; parted = is.parted; words_are = is.words_are })
 
-pub has_command : (line start behind rest token operation : List ℕ) (words : List WordView) → start ≡ after_blanks line → behind ≡ behind_token start → behind ≡ 45 ∷ rest → token ≡ token_of start → IsOperation rest operation words → IsCommand (after_blanks line) token operation words
+pub has_command : (line start behind rest token operation : List ℕ) (words : List WordView) → start ≡ after_blanks line → behind ≡ behind_token start
+    → behind ≡ 45 ∷ rest → token ≡ token_of start → IsOperation rest operation words → IsCommand (after_blanks line) token operation words
 has_command line start behind rest token operation words e b dash t is =
     subst (λ (l : List ℕ). IsCommand l token operation words) e (record {
       token_is = t;

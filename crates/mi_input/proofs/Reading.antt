@@ -9,7 +9,8 @@ use Rattle.std.proofs.lemmas.List.Folds.{length-prefix_len}
 use Rattle.mi_input.specs.declared.parts.Parts.{Parts}
 use Rattle.mi_input.specs.declared.parts.InputFault.{InputFault}
 use Rattle.mi_input.specs.declared.parts.InputFault.TheVariants as faults
-use Rattle.mi_input.specs.Parts.{PartsView, WordView, begins, is_blank, is_word_byte, is_plain, is_parted, after_blanks, token_of, behind_token, is_operation, is_operation_byte, IsWord, IsWordOf, IsWords, IsCommand, HasOperation, HasParts, is_cli}
+use Rattle.mi_input.specs.Parts.{PartsView, WordView, begins, is_blank, is_word_byte, is_plain, is_parted, after_blanks, token_of, behind_token}
+use Rattle.mi_input.specs.Parts.{is_operation, is_operation_byte, IsWord, IsWordOf, IsWords, IsCommand, HasOperation, HasParts, is_cli}
 use Rattle.mi_input.specs.Split.{parts_view, Splits}
 use Rattle.mi_input.specs.Reading.{text_read, longer, parted_read, plain_run, word_read, words_read, with_words, operation_run, behind_operation, operation_parts, operation_read, command_read, blank_parts, parts_read, Reads}
 use Rattle.mi_input.proofs.Options.{bind_some, map_some, guard_some, same_some}
@@ -212,7 +213,8 @@ operation_sound start bytes p there h =
 operation_complete : (start token op : List ℕ) (ws : List WordView) → IsCommand start token op ws → command_read start ≡ Some (with_words token op ws)
 operation_complete start token op ws h =
     let bytes = op ++ h.rest in
-    let cut = one_run is_operation_byte (operation_run bytes) op (behind_operation bytes) h.rest (run_all is_operation_byte bytes) (operation_bytes op h.named) (run_end is_operation_byte bytes) (parted_ends h.rest h.parted) (run_split is_operation_byte bytes) in
+    let cut = one_run is_operation_byte (operation_run bytes) op (behind_operation bytes) h.rest (run_all is_operation_byte bytes)
+    (operation_bytes op h.named) (run_end is_operation_byte bytes) (parted_ends h.rest h.parted) (run_split is_operation_byte bytes) in
     let words : words_read (suc (length h.rest)) h.rest ≡ Some ws = words_complete ws (suc (length h.rest)) h.rest (omega arith) h.words_are in
     let ok : (is_operation op && is_parted h.rest) ≡ true = and_true (is_operation op) (is_parted h.rest) h.named h.parted in
     let there : operation_parts (token_of start) op h.rest ≡ Some (with_words (token_of start) op ws) = rw (ok, words) refl in

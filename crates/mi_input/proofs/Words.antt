@@ -174,7 +174,8 @@ later_words rest start more w (v ∷ vs) e some h g =
     let p = one_word start v w g.0 more (subst (λ (l : List ℕ). IsWord l v g.0) (sym e) g.1) h in
     (vs, ap (λ (x : WordView). x ∷ vs) p.0, subst (λ (l : List ℕ). IsWords l vs) p.1 g.2)
 
-pub wording_turns : (bytes rest start more : List ℕ) (words words' : List Word) (w : Word) → Wording bytes rest words → start ≡ after_blanks rest → false ≡ eqb (length start) 0 → IsWord start (word_view w) more → words' ≡ words ++ w ∷ [] → Wording bytes more words'
+pub wording_turns : (bytes rest start more : List ℕ) (words words' : List Word) (w : Word) → Wording bytes rest words → start ≡ after_blanks rest
+    → false ≡ eqb (length start) 0 → IsWord start (word_view w) more → words' ≡ words ++ w ∷ [] → Wording bytes more words'
 wording_turns bytes rest start more words words' w q e some h pushed =
     subst (λ (l : List Word). Wording bytes more l) (sym pushed) (record {
       so_far = λ ws g. subst (λ (l : List WordView). IsWords bytes l) (sym (views-push words w ws)) (q.so_far (word_view w ∷ ws) (more, subst (λ (l : List ℕ). IsWord l (word_view w) more) e h, g));

@@ -18,7 +18,7 @@ abbrev pub words_view : List Word → List WordView
 words_view = map word_view
 
 abbrev pub parts_view : Parts → PartsView
-parts_view p = record { token = p.token; operation = option_map (λ v. v.items) p.operation; words = words_view p.words.items }
+parts_view p = record { token = p.token; operation = option_map (λ v. v.now) p.operation; words = words_view p.words.items }
 
 abbrev pub ReadsWord : List ℕ → Result (Word × Bor (List ℕ)) ReadFault → Type 0
 ReadsWord bytes (Ok r) = IsWord bytes (word_view r.0) r.1.now
@@ -58,7 +58,7 @@ pub record IsOperation (bytes operation : List ℕ) (words : List WordView) : Ty
   pub parted : is_parted rest ≡ true
   pub words_are : IsWords rest words
 
-abbrev pub ReadsCommand : List ℕ → Result (Vec ℕ × Vec Word) ReadFault → Type 0
-ReadsCommand bytes (Ok r) = IsOperation bytes r.0.items (words_view r.1.items)
+abbrev pub ReadsCommand : List ℕ → Result (Bor (List ℕ) × Vec Word) ReadFault → Type 0
+ReadsCommand bytes (Ok r) = IsOperation bytes r.0.now (words_view r.1.items)
 ReadsCommand bytes (Err reading.NoMemory) = Unit {0}
 ReadsCommand bytes (Err reading.Text) = (operation : List ℕ) (words : List WordView) → IsOperation bytes operation words → ⊥

@@ -46,7 +46,7 @@ fn operation_length(bytes: &[u8]) -> usize
 }
 
 /// The operation and the words behind a `-`.
-fn command(alloc: Global, bytes: &[u8]) -> Result<(Vec<u8>, Vec<Word>), ReadFault>
+fn command(alloc: Global, bytes: &[u8]) -> Result<(&[u8], Vec<Word>), ReadFault>
     ensures { ReadsCommand bytes.now result }
 {
     let end = operation_length(bytes);
@@ -57,12 +57,11 @@ fn command(alloc: Global, bytes: &[u8]) -> Result<(Vec<u8>, Vec<Word>), ReadFaul
     if !is_parted(rest) {
         return Err(ReadFault::Text);
     }
-    let operation = Vec::from_slice(alloc, &bytes[..end])?;
     let found = words(alloc, rest)?;
-    Ok((operation, found))
+    Ok((&bytes[..end], found))
 }
 
-fn split_line(alloc: Global, line: &[u8]) -> Result<Parts, InputFault>
+fn split_line(alloc: Global, line: &[u8]) -> Result<Parts<'_>, InputFault>
     ensures { Splits line.now result }
 {
     if line.len() > LONGEST {
@@ -97,7 +96,7 @@ fn split_line(alloc: Global, line: &[u8]) -> Result<Parts, InputFault>
 /// # Errors
 /// `Long` where the line has more than 4096 bytes; else `Syntax` where a command is malformed or the line begins with
 /// `"`; else `Cli`, with the token, where no `-` follows the token.
-pub fn split(alloc: Global, line: &[u8]) -> Result<Parts, InputFault>
+pub fn split(alloc: Global, line: &[u8]) -> Result<Parts<'_>, InputFault>
     ensures splits { Splits line.now result }
 
     // A line has one list of parts.

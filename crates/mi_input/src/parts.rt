@@ -17,11 +17,11 @@ pub struct Word {
 
 /// The parts of a line.
 #[derive(Drop)]
-pub struct Parts {
+pub struct Parts<'a> {
     /// At most 18 digits, none where there is no token.
     pub token: Token,
-    /// The operation without the `-` before it; a line of blanks has none.
-    pub operation: Option<Vec<u8>>,
+    /// The operation without the `-` before it, where it stands in the line; a line of blanks has none.
+    pub operation: Option<&'a [u8]>,
     pub words: Vec<Word>,
 }
 

@@ -78,7 +78,8 @@ quiet_said : (o : Opening) (j : List Entry) → said_lines o (j ++ []) ≡ said_
 quiet_said o j = ap (said_lines o) (append-nil j) ∙ sym (append-nil (said_lines o j))
 
 -- the line of a hart that leaves
-left_says : (o : Opening) (s : State) (front : List Hart) (x : Hart) (xs : List Hart) (code noted : ℕ) → entry_lines o (placed s (front ++ x ∷ xs) noted) (Left (length front) code) ≡ gone_lines (length front) ++ last_lines (all_gone front && all_gone xs) code
+left_says : (o : Opening) (s : State) (front : List Hart) (x : Hart) (xs : List Hart) (code noted : ℕ)
+    → entry_lines o (placed s (front ++ x ∷ xs) noted) (Left (length front) code) ≡ gone_lines (length front) ++ last_lines (all_gone front && all_gone xs) code
 left_says o s front x xs code noted =
     let h = length front in
     let at : exited_at (front ++ x ∷ xs) h (slice_get (front ++ x ∷ xs) h) ≡ front ++ exited x ∷ xs = ap (exited_at (front ++ x ∷ xs) h) (at_end front x xs) ∙ set_end front x (exited x) xs in
@@ -176,7 +177,9 @@ ends_leaver g k xs code false is ih =
     let same = quiet_map xs is in
     let lefts = quiet_lefts (k + 1) xs is in
     let all = all_gone (map gone xs) in
-    let rest : leaving_lines (g && true) (k + 1) xs ≡ [] = ih ∙ (ap (λ es. gone_trees es ++ last_lines (((g && true) && all) && any_leaves xs) code) lefts ∙ ap (λ c. last_lines c code) (ap (λ c. ((g && true) && all) && c) is ∙ and_false ((g && true) && all))) in
+    let rest : leaving_lines (g && true) (k + 1) xs ≡ [] = ih ∙
+    (ap (λ es. gone_trees es ++ last_lines (((g && true) && all) && any_leaves xs) code) lefts ∙ ap (λ c. last_lines c code)
+    (ap (λ c. ((g && true) && all) && c) is ∙ and_false ((g && true) && all))) in
     let end : (g && all_gone xs) ≡ ((g && all) && true) = ap (λ ys. g && all_gone ys) (sym same) ∙ sym (and_true (g && all)) in
     ap (λ t. (gone_lines k ++ last_lines (g && all_gone xs) code) ++ t) rest
     ∙ (append-nil (gone_lines k ++ last_lines (g && all_gone xs) code)

@@ -79,7 +79,8 @@ rest_good : (f : ShownFrame) (d : ℕ) → nat_lt 0 d ≡ true → frame_fits f 
 unfolding frame_rest frame_fits
 rest_good f d l h =
     let p = both (text_fits f.function) (source_fits f.source) h in
-    join (says_some key.Func f.function) ((key_text key.Args, items no_item) ∷ source_fields f.source) d (some_good key.Func f.function d l p.0) (value key.Args (items no_item) (source_fields f.source) d (empty_good d l) (source_good f.source d l p.1))
+    join (says_some key.Func f.function) ((key_text key.Args, items no_item) ∷ source_fields f.source) d (some_good key.Func f.function d l p.0)
+    (value key.Args (items no_item) (source_fields f.source) d (empty_good d l) (source_good f.source d l p.1))
 
 fields_good : (level : Option ℕ) (f : ShownFrame) (d : ℕ) → nat_lt 0 d ≡ true → frame_fits f ≡ true → Good (frame_fields level f) d
 unfolding frame_fields

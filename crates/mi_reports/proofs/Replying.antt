@@ -29,7 +29,8 @@ use Rattle.mi_reports.specs.Frames.{source_fields, frame_field}
 use Rattle.mi_reports.specs.Breakpoints.{disposition, enabled, for_thread, ignored, front_fields, place_fields, term_fields, count_fields, breakpoint_fields, breakpoint_field}
 use Rattle.mi_reports.specs.Table.{row_field, table_fields}
 use Rattle.mi_reports.specs.Errors.{message, error_code, error_fields}
-use Rattle.mi_reports.specs.Replies.{state_fields, thread_fields, thread_tree, threads_fields, number_field, numbers_fields, names_field, value_text, register_fields, register_tree, registers_field, block_fields, memory_field, setting, done_fields}
+use Rattle.mi_reports.specs.Replies.{state_fields, thread_fields, thread_tree, threads_fields, number_field, numbers_fields, names_field, value_text}
+use Rattle.mi_reports.specs.Replies.{register_fields, register_tree, registers_field, block_fields, memory_field, setting, done_fields}
 use Rattle.mi_reports.proofs.Bytes.{decimal_bytes, address_bytes, joined_bytes}
 use Rattle.mi_reports.proofs.Names.{phrase_bytes}
 use Rattle.mi_reports.proofs.Listing.{variables_good}
@@ -152,7 +153,9 @@ block_good : (addr : ℕ) (bytes : List ℕ) → are_bytes (encode_lower bytes) 
 unfolding block_fields
 block_good addr bytes h =
     says_good key.Begin (address_text addr) _ 14 refl (address_bytes addr)
-    (says_good key.Offset (address_text 0) _ 14 refl (address_bytes 0) (says_good key.End (address_text ((addr + length bytes) % 2 ^ 32)) _ 14 refl (address_bytes ((addr + length bytes) % 2 ^ 32)) (says_good key.Contents (encode_lower bytes) [] 14 refl h (none_good 14))))
+    (says_good key.Offset (address_text 0) _ 14 refl (address_bytes 0)
+    (says_good key.End (address_text ((addr + length bytes) % 2 ^ 32)) _ 14 refl (address_bytes ((addr + length bytes) % 2 ^ 32))
+    (says_good key.Contents (encode_lower bytes) [] 14 refl h (none_good 14))))
 
 memory_good : (addr : ℕ) (bytes : List ℕ) → are_bytes (encode_lower bytes) ≡ true → Good (memory_field addr bytes ∷ []) 16
 unfolding memory_field

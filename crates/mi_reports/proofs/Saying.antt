@@ -77,7 +77,8 @@ longer o front h n s by =
     let more : ran_lines o h p.state (n + 1) ≡ ran_lines o h p.state n ++ stream_lines (one_out o h s) = rw add-one (ap (λ x. ran_lines o h p.state n ++ wrote_lines o h x) r ∙ ap (λ t. ran_lines o h p.state n ++ t) (wrote_shows o h s)) in
     new ∙ (ap (λ t. said_lines o front ++ t) more ∙ (sym (append_assoc (said_lines o front) (ran_lines o h p.state n) (stream_lines (one_out o h s))) ∙ ap (λ t. t ++ stream_lines (one_out o h s)) (sym old)))
 
-last_ran : (o : Opening) (front : List Entry) (k n h : ℕ) (b : Bool) (s : State) → (k == h) ≡ b → CameBy o front (Ran k n) s → said_lines o (front ++ one_more_by (cond b (Some n) None) (Ran k n) h) ≡ said_lines o (front ++ Ran k n ∷ []) ++ stream_lines (one_out o h s)
+last_ran : (o : Opening) (front : List Entry) (k n h : ℕ) (b : Bool) (s : State) → (k == h) ≡ b → CameBy o front (Ran k n) s
+    → said_lines o (front ++ one_more_by (cond b (Some n) None) (Ran k n) h) ≡ said_lines o (front ++ Ran k n ∷ []) ++ stream_lines (one_out o h s)
 last_ran o front k n h true s is by =
     let same : k ≡ h = grind (arith, nat_tests) in
     let P : ℕ → Type 0 = λ j. CameBy o front (Ran j n) s in

@@ -1,7 +1,7 @@
 -- The line of a stop by a watch.
 use Rattle.std.proofs.Common.{◌≡◌, ℕ, List, [], ◌∷◌, ◌++◌, Bool, true, false, cond, eqb, Option, Some, None, refl, ap, ◌∙◌}
 use Rattle.dbg_model.specs.declared.frame.ShownFrame.{ShownFrame}
-use Rattle.dbg_model.specs.declared.watch.Fired.{Fired}
+use Rattle.watch_points.specs.declared.watchpoint.Fired.{Fired}
 use Rattle.dbg_model.specs.declared.shown.ShownWatch.{ShownWatch}
 use Rattle.mi_values.specs.Record.{LineTree}
 use Rattle.mi_values.specs.Testing.{are_bytes}

@@ -1,7 +1,7 @@
 -- The fields of watches are proper.
 use Rattle.std.specs.Prelude.{nat_lt, decimal}
 use Rattle.std.proofs.Common.{◌≡◌, ℕ, ◌-◌, List, [], ◌∷◌, true, refl}
-use Rattle.dbg_model.specs.declared.watch.Watch.{Watch}
+use Rattle.watch_points.specs.declared.watchpoint.Watch.{Watch}
 use Rattle.mi_values.specs.Tree.{Tree}
 use Rattle.mi_values.specs.Testing.{are_bytes}
 use Rattle.mi_reports.specs.declared.words.Key.TheVariants as key

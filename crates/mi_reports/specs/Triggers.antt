@@ -1,7 +1,7 @@
 -- The line of a stop by a watch (GDB manual, "GDB/MI Async Records", "GDB/MI Breakpoint Commands").
 use Rattle.std.specs.Prelude.{ℕ, not, Bool, true, List, [], ◌∷◌, ◌++◌, Option, Some, None}
 use Rattle.dbg_model.specs.declared.frame.ShownFrame.{ShownFrame}
-use Rattle.dbg_model.specs.declared.watch.Fired.{Fired}
+use Rattle.watch_points.specs.declared.watchpoint.Fired.{Fired}
 use Rattle.dbg_model.specs.declared.shown.ShownWatch.{ShownWatch}
 use Rattle.mi_values.specs.Tree.{Tree}
 use Rattle.mi_values.specs.Record.{LineTree}

@@ -1,6 +1,6 @@
 -- Watches as they are told and listed (GDB manual, "GDB/MI Breakpoint Commands": `-break-watch`, `-break-list`).
 use Rattle.std.specs.Prelude.{ℕ, List, [], ◌∷◌, decimal}
-use Rattle.dbg_model.specs.declared.watch.Watch.{Watch}
+use Rattle.watch_points.specs.declared.watchpoint.Watch.{Watch}
 use Rattle.mi_values.specs.Tree.{Tree}
 use Rattle.mi_values.specs.FieldLists.{tuple_of}
 use Rattle.mi_reports.specs.declared.words.Key.TheVariants as key

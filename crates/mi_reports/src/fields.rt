@@ -10,8 +10,8 @@ ghost use Rattle.mi_reports.specs.Words.{key_text, says, says_some};
 ghost use Rattle.mi_reports.specs.Phrases.{phrase_text};
 
 use crate::words::{Key, Phrase, name_of, wording};
+use dbg_traits::ByteList;
 use itoa::Buffer;
-use mi_commands::ByteList;
 use mi_text::{address_text, write_exit_code};
 use mi_values::{Name, Value, known_bytes};
 use std::alloc::{AllocError, Global};

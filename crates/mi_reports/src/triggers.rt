@@ -13,8 +13,9 @@ use crate::registers::push_worth;
 use crate::stops::{push_place, push_stopped};
 use crate::watches::push_watch;
 use crate::words::{Key, Phrase};
-use dbg_model::{Fired, ShownFrame, ShownWatch};
+use dbg_model::{ShownFrame, ShownWatch};
 use std::alloc::AllocError;
+use watch_points::Fired;
 
 // The text by which its bytes were given.
 fn expression(watch: &Option<ShownWatch>) -> &[u8]

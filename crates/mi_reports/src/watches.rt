@@ -7,8 +7,8 @@ ghost use Rattle.mi_reports.specs.Watches.{watch_field, listed_fields, listed_fi
 use crate::breakpoints::enabled;
 use crate::fields::{FieldList, tuple};
 use crate::words::{Key, Phrase};
-use dbg_model::Watch;
 use std::alloc::AllocError;
+use watch_points::Watch;
 
 /// Appends a watch by its number, with the text by which its bytes were given.
 #[tactic(auto, unfolding(crate::specs::Watches::told_fields, crate::specs::Watches::watch_field))]

@@ -11,7 +11,9 @@ digit : (c : ℕ) → is_hex_digit c ≡ is_ascii_hexdigit c
 digit c = grind arith
 
 -- a pair of digits, and what stands behind it
-pair : (a b i : ℕ) (x y : Option ℕ) (r : Result (List ℕ) FromHexError) → is_decoded ((digit_or_error a i x >>= (λ h. digit_or_error b (i + 1) y >>= (λ l. Ok (h * 16 + l)))) >>= (λ byte. r >>= (λ bytes. Ok (byte ∷ bytes)))) ≡ (is_some x && (is_some y && is_decoded r))
+pair : (a b i : ℕ) (x y : Option ℕ) (r : Result (List ℕ) FromHexError)
+    → is_decoded ((digit_or_error a i x >>= (λ h. digit_or_error b (i + 1) y >>= (λ l. Ok (h * 16 + l)))) >>=
+    (λ byte. r >>= (λ bytes. Ok (byte ∷ bytes)))) ≡ (is_some x && (is_some y && is_decoded r))
 pair a b i None y r = refl
 pair a b i (Some v) None r = refl
 pair a b i (Some v) (Some w) (Ok bytes) = refl

@@ -7,7 +7,8 @@ pub mod Names
 -- Reading: values, and lines.
 pub mod Reading
 pub mod Lines
--- Proper fields: the test that computes, what slices hold, and fields that are joined.
+-- Proper fields: the test that computes, what slices hold, tests of parts, and fields that are joined.
 pub mod Testing
 pub mod Fitting
+pub mod Tested
 pub mod Joined

@@ -54,7 +54,8 @@ pub result_bytes : (line : Line) (token class : List ℕ) (fields : FieldList) �
 unfolding line_bytes
 result_bytes line token class fields e = ap (λ (l : Line). line_bytes (line_view l)) e
 
-pub notice_bytes : (line : Line) (sign : NoticeSign) (class : List ℕ) (fields : FieldList) (s : ℕ) → line ≡ lines.Notice sign class fields → s ≡ notice_byte sign → line_bytes (line_view line) ≡ s ∷ class_bytes class (fields_view fields.items.items)
+pub notice_bytes : (line : Line) (sign : NoticeSign) (class : List ℕ) (fields : FieldList) (s : ℕ) → line ≡ lines.Notice sign class fields
+    → s ≡ notice_byte sign → line_bytes (line_view line) ≡ s ∷ class_bytes class (fields_view fields.items.items)
 unfolding line_bytes
 notice_bytes line sign class fields s e same = ap (λ (l : Line). line_bytes (line_view l)) e ∙ ap (λ (n : ℕ). n ∷ class_bytes class (fields_view fields.items.items)) (sym same)
 
@@ -218,7 +219,8 @@ token_split bytes k some =
 cut_back : (xs : List ℕ) (n : ℕ) → take (length xs - n) (drop n xs) ≡ drop n xs
 cut_back xs n = ap (λ (k : ℕ). take k (drop n xs)) (sym (length-drop n xs)) ∙ take-length (drop n xs)
 
-pub token_taken : (bytes token : List ℕ) (k : ℕ) → Some k ≡ position is_caret bytes → token ≡ take k bytes → true ≡ is_token (take k bytes) → (bytes ≡ token ++ 94 ∷ take (length bytes - (k + 1)) (drop (k + 1) bytes)) × (is_token token ≡ true)
+pub token_taken : (bytes token : List ℕ) (k : ℕ) → Some k ≡ position is_caret bytes → token ≡ take k bytes → true ≡ is_token (take k bytes)
+    → (bytes ≡ token ++ 94 ∷ take (length bytes - (k + 1)) (drop (k + 1) bytes)) × (is_token token ≡ true)
 token_taken bytes token k some same is =
     (token_split bytes k some ∙ ap (λ (l : List ℕ). l ++ 94 ∷ drop (k + 1) bytes) (sym same) ∙ ap (λ (l : List ℕ). token ++ 94 ∷ l) (sym (cut_back bytes (k + 1))), ap is_token same ∙ sym is)
 
@@ -239,7 +241,8 @@ one_token (c ∷ t) (d ∷ u) x y ht hu e =
     let ih = one_token t u x y p.1 q.1 cc in
     let heads : c ≡ d = cc in let tails : t ≡ u = ih.0 in (cc, ih.1)
 
-pub result_read : (bytes token rest class : List ℕ) (fields : FieldList) → bytes ≡ token ++ 94 ∷ rest → is_token token ≡ true → HasClass rest class (fields_view fields.items.items) → Begins bytes (line_view (lines.Result token class fields))
+pub result_read : (bytes token rest class : List ℕ) (fields : FieldList) → bytes ≡ token ++ 94 ∷ rest → is_token token ≡ true
+    → HasClass rest class (fields_view fields.items.items) → Begins bytes (line_view (lines.Result token class fields))
 unfolding line_bytes
 result_read bytes token rest class fields e t h =
     let tail = class_bytes class (fields_view fields.items.items) in
@@ -332,7 +335,8 @@ gives_line bytes (Err failures.NoMemory) h tree text rest is e = tt
 gives_line bytes (Err failures.Text) h tree text rest is e = h tree (record { front = text; rest = rest; line = is; whole = e })
 
 -- only a line of this kind begins with this byte
-notice_only : (sign : NoticeSign) (bytes : List ℕ) → ((class : List ℕ) (fields : Fields) → HasClass bytes class fields → ⊥) → (tree : LineTree) (rest : List ℕ) → IsLine tree → kind_byte (notice_byte sign) ≡ kind_of tree → notice_byte sign ∷ bytes ≡ line_bytes tree ++ rest → ⊥
+notice_only : (sign : NoticeSign) (bytes : List ℕ) → ((class : List ℕ) (fields : Fields) → HasClass bytes class fields → ⊥)
+    → (tree : LineTree) (rest : List ℕ) → IsLine tree → kind_byte (notice_byte sign) ≡ kind_of tree → notice_byte sign ∷ bytes ≡ line_bytes tree ++ rest → ⊥
 unfolding line_bytes kind_of kind_byte
 notice_only Exec bytes none (notice Exec c f) rest h k e = none c f (rest, cc, h.0, h.1)
 notice_only Notify bytes none (notice Notify c f) rest h k e = none c f (rest, cc, h.0, h.1)
@@ -340,7 +344,8 @@ notice_only Exec bytes none (notice Notify c f) rest h k e = absurd (apart 42 61
 notice_only Notify bytes none (notice Exec c f) rest h k e = absurd (apart 61 42 _ _ e refl)
 notice_only sign bytes none tree rest h k e = absurd (omega arith)
 
-stream_only : (sign : StreamSign) (bytes : List ℕ) → ((text end : List ℕ) → AreBytes text → bytes ≡ c_string text ++ 10 ∷ end → ⊥) → (tree : LineTree) (rest : List ℕ) → IsLine tree → kind_byte (stream_byte sign) ≡ kind_of tree → stream_byte sign ∷ bytes ≡ line_bytes tree ++ rest → ⊥
+stream_only : (sign : StreamSign) (bytes : List ℕ) → ((text end : List ℕ) → AreBytes text → bytes ≡ c_string text ++ 10 ∷ end → ⊥)
+    → (tree : LineTree) (rest : List ℕ) → IsLine tree → kind_byte (stream_byte sign) ≡ kind_of tree → stream_byte sign ∷ bytes ≡ line_bytes tree ++ rest → ⊥
 unfolding line_bytes kind_of kind_byte
 stream_only Target bytes none (stream Target t) rest h k e = let tails : bytes ≡ (c_string t ++ 10 ∷ []) ++ rest = cc in none t rest h (tails ∙ append_assoc (c_string t) (10 ∷ []) rest)
 stream_only Log bytes none (stream Log t) rest h k e = let tails : bytes ≡ (c_string t ++ 10 ∷ []) ++ rest = cc in none t rest h (tails ∙ append_assoc (c_string t) (10 ∷ []) rest)
@@ -383,7 +388,8 @@ result_only bytes n1 n2 n3 n4 n5 none (stream Target t) rest h e = n3 _ e
 result_only bytes n1 n2 n3 n4 n5 none (stream Log t) rest h e = n4 _ e
 result_only bytes n1 n2 n3 n4 n5 none prompt rest h e = n5 rest e
 
-pub result_whole : (bytes : List ℕ) (r : Result Line ReadFault) → ((x : List ℕ) → bytes ≡ 42 ∷ x → ⊥) → ((x : List ℕ) → bytes ≡ 61 ∷ x → ⊥) → ((x : List ℕ) → bytes ≡ 64 ∷ x → ⊥) → ((x : List ℕ) → bytes ≡ 38 ∷ x → ⊥) → ((x : List ℕ) → bytes ≡ prompt_text ++ x → ⊥)
+pub result_whole : (bytes : List ℕ) (r : Result Line ReadFault) → ((x : List ℕ) → bytes ≡ 42 ∷ x → ⊥) → ((x : List ℕ) → bytes ≡ 61 ∷ x → ⊥)
+    → ((x : List ℕ) → bytes ≡ 64 ∷ x → ⊥) → ((x : List ℕ) → bytes ≡ 38 ∷ x → ⊥) → ((x : List ℕ) → bytes ≡ prompt_text ++ x → ⊥)
     → ReadsResult bytes r → ReadsLine bytes r
 result_whole bytes (Ok line) n1 n2 n3 n4 n5 h = h
 result_whole bytes (Err failures.NoMemory) n1 n2 n3 n4 n5 h = tt

@@ -121,7 +121,8 @@ mutual
       let q = one_items vs ws true d k x y h.1 g.1 p.1 in
       let heads : v ≡ w = p.0 in let tails : vs ≡ ws = q.0 in (cc, q.1)
 
-  pub one_fields : (fs gs : Fields) (close : ℕ) (started : Bool) (d k : ℕ) (x y : List ℕ) → is_close close ≡ true → AreProperFields fs d → AreProperFields gs k → fields_from close started fs ++ x ≡ fields_from close started gs ++ y → (fs ≡ gs) × (x ≡ y)
+  pub one_fields : (fs gs : Fields) (close : ℕ) (started : Bool) (d k : ℕ) (x y : List ℕ) → is_close close ≡ true → AreProperFields fs d
+      → AreProperFields gs k → fields_from close started fs ++ x ≡ fields_from close started gs ++ y → (fs ≡ gs) × (x ≡ y)
   one_fields no_field no_field close started d k x y c h g e = (refl, cc)
   one_fields no_field (field m w gs) close true d k x y c h g e = absurd (no_comma close c cc)
   one_fields no_field (field m w gs) close false d k x y c h g e = absurd (no_name m _ x close g.0 (no_close close c) (sym (e ∙ append_assoc m (61 ∷ (value_bytes w ++ fields_from close true gs)) y)))

@@ -78,7 +78,8 @@ spelled_on : (x : Tree) (later : Trees) (next r : List ℕ) → next ≡ value_b
 unfolding value_bytes
 spelled_on x later next r e = ap (λ (l : List ℕ). 44 ∷ l) (e ∙ sym (append_assoc (value_bytes x) (items_from true later) r))
 
-pub listing_turns : (bytes rest more next : List ℕ) (d : ℕ) (vs vs' : List Value) (v : Value) → Listing bytes rest d vs → rest ≡ value_bytes (value_view v) ++ more → IsProper (value_view v) d → more ≡ 44 ∷ next → vs' ≡ vs ++ v ∷ [] → Listing bytes next d vs'
+pub listing_turns : (bytes rest more next : List ℕ) (d : ℕ) (vs vs' : List Value) (v : Value) → Listing bytes rest d vs
+    → rest ≡ value_bytes (value_view v) ++ more → IsProper (value_view v) d → more ≡ 44 ∷ next → vs' ≡ vs ++ v ∷ [] → Listing bytes next d vs'
 listing_turns bytes rest more next d vs vs' v l e h comma_is pushed =
     subst (λ (w : List Value). Listing bytes next d w) (sym pushed) (record {
       so_far = λ x later r f.
@@ -108,12 +109,14 @@ unfolding value_bytes
 neither more r no_item close comma_not e = close r e
 neither more r (item w ws) close comma_not e = comma_not _ e
 
-pub listing_fails : (bytes rest more : List ℕ) (d : ℕ) (vs : List Value) (v : Value) → Listing bytes rest d vs → rest ≡ value_bytes (value_view v) ++ more → IsProper (value_view v) d → ((x : List ℕ) → more ≡ 93 ∷ x → ⊥) → ((x : List ℕ) → more ≡ 44 ∷ x → ⊥)
+pub listing_fails : (bytes rest more : List ℕ) (d : ℕ) (vs : List Value) (v : Value) → Listing bytes rest d vs
+    → rest ≡ value_bytes (value_view v) ++ more → IsProper (value_view v) d → ((x : List ℕ) → more ≡ 93 ∷ x → ⊥) → ((x : List ℕ) → more ≡ 44 ∷ x → ⊥)
     → (ws : Trees) (r : List ℕ) → AreProperItems ws d → bytes ≡ items_from false ws ++ r → ⊥
 listing_fails bytes rest more d vs v l e h close comma_not ws r g f =
     let n = l.only ws r g f in neither more r n.later close comma_not (behind_value rest more r d (value_view v) e h n)
 
-pub no_next : (bytes rest : List ℕ) (d : ℕ) (vs : List Value) → Listing bytes rest d vs → ((v : Tree) (r : List ℕ) → IsProper v d → rest ≡ value_bytes v ++ r → ⊥) → (ws : Trees) (r : List ℕ) → AreProperItems ws d → bytes ≡ items_from false ws ++ r → ⊥
+pub no_next : (bytes rest : List ℕ) (d : ℕ) (vs : List Value) → Listing bytes rest d vs
+    → ((v : Tree) (r : List ℕ) → IsProper v d → rest ≡ value_bytes v ++ r → ⊥) → (ws : Trees) (r : List ℕ) → AreProperItems ws d → bytes ≡ items_from false ws ++ r → ⊥
 no_next bytes rest d vs l none ws r g f = let n = l.only ws r g f in none n.value (items_from true n.later ++ r) n.is_proper n.spelled
 
 pub empty_list : (bytes end : List ℕ) → bytes ≡ 93 ∷ end → bytes ≡ items_from false no_item ++ end
@@ -199,7 +202,8 @@ field_on : (close : ℕ) (n : List ℕ) (x : Tree) (later : Fields) (next r : Li
 unfolding value_bytes
 field_on close n x later next r e = ap (λ (l : List ℕ). 44 ∷ l) (e ∙ sym (field_regroup n x (fields_from close true later) r))
 
-pub fields_turn : (close : ℕ) (bytes rest more next : List ℕ) (d : ℕ) (fs fs' : List F) (f : F) → is_close close ≡ true → FieldListing close bytes rest d fs → rest ≡ field_text f.0 (value_view f.1) more → is_name f.0 ≡ true → IsProper (value_view f.1) d
+pub fields_turn : (close : ℕ) (bytes rest more next : List ℕ) (d : ℕ) (fs fs' : List F) (f : F) → is_close close ≡ true
+    → FieldListing close bytes rest d fs → rest ≡ field_text f.0 (value_view f.1) more → is_name f.0 ≡ true → IsProper (value_view f.1) d
     → more ≡ 44 ∷ next → fs' ≡ fs ++ f ∷ [] → FieldListing close bytes next d fs'
 fields_turn close bytes rest more next d fs fs' f c l e hn h comma_is pushed =
     subst (λ (w : List F). FieldListing close bytes next d w) (sym pushed) (record {
@@ -217,7 +221,8 @@ closes_fields : (close : ℕ) (end : List ℕ) → close ∷ end ≡ fields_from
 unfolding value_bytes
 closes_fields close end = refl
 
-pub fields_end : (close : ℕ) (bytes rest more end : List ℕ) (d : ℕ) (fs fs' : List F) (f : F) → FieldListing close bytes rest d fs → rest ≡ field_text f.0 (value_view f.1) more → is_name f.0 ≡ true → IsProper (value_view f.1) d → more ≡ close ∷ end → fs' ≡ fs ++ f ∷ []
+pub fields_end : (close : ℕ) (bytes rest more end : List ℕ) (d : ℕ) (fs fs' : List F) (f : F) → FieldListing close bytes rest d fs
+    → rest ≡ field_text f.0 (value_view f.1) more → is_name f.0 ≡ true → IsProper (value_view f.1) d → more ≡ close ∷ end → fs' ≡ fs ++ f ∷ []
     → (bytes ≡ fields_from close false (fields_view fs') ++ end) × AreProperFields (fields_view fs') d
 fields_end close bytes rest more end d fs fs' f l e hn h close_is pushed =
     let whole = l.so_far f.0 (value_view f.1) no_field end (e ∙ ap (field_text f.0 (value_view f.1)) (close_is ∙ closes_fields close end)) in
@@ -347,7 +352,8 @@ items_value_on_err bytes inner d failures.Text e b h = by_value
     by_value (text t) r p g = apart 91 34 _ _ (sym e ∙ g) refl
     by_value (tuple fs) r p g = apart 91 123 _ _ (sym e ∙ g) refl
     by_value (items vs) r p g = h vs r p.1 (tail_of 91 inner (items_from false vs ++ r) bytes e g)
-    by_value (named fs) r p g = let same : begins_item inner ≡ begins_item (fields_from 93 false fs ++ r) = ap begins_item (tail_of 91 inner (fields_from 93 false fs ++ r) bytes e g) in let other = begins-fields fs (d - 1) r p.1 p.2 in absurd cc
+    by_value (named fs) r p g = let same : begins_item inner ≡ begins_item (fields_from 93 false fs ++ r) = ap begins_item
+        (tail_of 91 inner (fields_from 93 false fs ++ r) bytes e g) in let other = begins-fields fs (d - 1) r p.1 p.2 in absurd cc
 
 pub named_on_err : (bytes inner : List ℕ) (d : ℕ) (f : ReadFault) → bytes ≡ 91 ∷ inner → begins_item inner ≡ false → ReadsFields 93 inner (d - 1) (Err f) → ReadsValue bytes d (Err f)
 unfolding value_bytes

@@ -27,7 +27,8 @@ view-Tuple v = search (rules, the_lemmas)
 pub view-Named : (v : Vec (List ℕ × Value)) → value_view (Named v) ≡ named (fields_view v.items)
 view-Named v = search (rules, the_lemmas)
 
-pub items-more : (started : Bool) (xs : List Value) (i : ℕ) (x : Value) → i < length xs → x ≡ get_or xs i x → items_from started (items_view (drop i xs)) ≡ comma started ++ (value_bytes (value_view x) ++ items_from true (items_view (drop (i + 1) xs)))
+pub items-more : (started : Bool) (xs : List Value) (i : ℕ) (x : Value) → i < length xs → x ≡ get_or xs i x
+    → items_from started (items_view (drop i xs)) ≡ comma started ++ (value_bytes (value_view x) ++ items_from true (items_view (drop (i + 1) xs)))
 unfolding value_bytes
 items-more started xs i x lt e =
     let here : drop i xs ≡ x ∷ drop (i + 1) xs = drop_more xs i x lt ∙ ap (λ (y : Value). y ∷ drop (i + 1) xs) (sym e) in
@@ -52,7 +53,8 @@ fields-more close started xs i x lt e =
     let here : drop i xs ≡ x ∷ drop (i + 1) xs = drop_more xs i x lt ∙ ap (λ (y : F). y ∷ drop (i + 1) xs) (sym e) in
     ap (λ (ys : List F). fields_from close started (fields_view ys)) here
 
-pub field_written : (close : ℕ) (started : Bool) (xs : List F) (i : ℕ) (x : F) (old signed new total : List ℕ) → i < length xs → x ≡ get_or xs i x → signed ≡ old ++ (comma started ++ (x.0 ++ 61 ∷ [])) → new ≡ signed ++ value_bytes (value_view x.1)
+pub field_written : (close : ℕ) (started : Bool) (xs : List F) (i : ℕ) (x : F) (old signed new total : List ℕ) → i < length xs → x ≡ get_or xs i x
+    → signed ≡ old ++ (comma started ++ (x.0 ++ 61 ∷ [])) → new ≡ signed ++ value_bytes (value_view x.1)
     → old ++ fields_from close started (fields_view (drop i xs)) ≡ total → new ++ fields_from close true (fields_view (drop (i + 1) xs)) ≡ total
 field_written close started xs i x old signed new total lt e one two so_far =
     let later = fields_from close true (fields_view (drop (i + 1) xs)) in
@@ -91,7 +93,8 @@ unfolding value_bytes
 items_closed started xs ys i old new total le so_far same e =
     e ∙ ap (λ (l : List Value). old ++ items_from started (items_view l)) (sym (drop_past xs i le)) ∙ so_far ∙ ap (λ (l : List Value). total ++ items_from false (items_view l)) same
 
-pub fields_closed : (close : ℕ) (first started : Bool) (xs ys : List F) (i : ℕ) (old new total : List ℕ) → length xs ≤ i → old ++ fields_from close started (fields_view (drop i xs)) ≡ total ++ fields_from close first (fields_view xs) → xs ≡ ys → new ≡ old ++ close ∷ []
+pub fields_closed : (close : ℕ) (first started : Bool) (xs ys : List F) (i : ℕ) (old new total : List ℕ) → length xs ≤ i
+    → old ++ fields_from close started (fields_view (drop i xs)) ≡ total ++ fields_from close first (fields_view xs) → xs ≡ ys → new ≡ old ++ close ∷ []
     → new ≡ total ++ fields_from close first (fields_view ys)
 unfolding value_bytes
 fields_closed close first started xs ys i old new total le so_far same e =

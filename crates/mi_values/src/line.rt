@@ -18,7 +18,7 @@ pub struct Fields {
 }
 
 impl Fields {
-    /// These fields, in this order.
+    /// These fields, in this order; `are_proper` tells whether a line takes them.
     pub fn new(items: Vec<(Name, Value)>) -> Fields
         requires { AreProperFields (fields_view items.items) 16 }
         ensures { result.items ≡ items }

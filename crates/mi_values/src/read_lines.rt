@@ -8,14 +8,12 @@ ghost use Rattle.mi_values.specs.LineParts.{ReadsToken, ReadsTail, ReadsClass, R
 use crate::c_string::read_c_string;
 use crate::line::{Fields, Line};
 use crate::name::Name;
+use crate::proper::DEPTH;
 use crate::read::{read_fields, read_word};
 use crate::sign::{NoticeSign, StreamSign};
 use crate::value::Value;
 use mi_text::{ReadFault, Token, after, is_token};
 use std::alloc::Global;
-
-/// How deep the values of a line nest.
-const DEPTH: u32 = 16;
 
 /// The fields behind a class, each behind a comma, up to LF.
 fn read_tail(alloc: Global, bytes: &[u8]) -> Result<(Vec<(Name, Value)>, &[u8]), ReadFault>

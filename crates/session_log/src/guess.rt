@@ -5,12 +5,12 @@ ghost use Rattle.session_log.specs.Guess.{is_gap, word, behind, u64_of, u32_of, 
 
 use crate::row::LogRow;
 use break_table::CondError;
-use dbg_model::{Entry, Fired, Poke, Why};
-use dbg_traits::Settings;
+use dbg_model::{Entry, Poke, Why};
+use dbg_traits::{ByteList, Settings};
 use hex::FromHexError;
-use mi_commands::ByteList;
 use rv_exec::Cause;
 use std::alloc::{AllocError, Global};
+use watch_points::Fired;
 
 // Where the first word ends.
 fn gap_at(bytes: &[u8]) -> Option<usize>

@@ -20,4 +20,5 @@ turns-smaller c = word_shorter c.after_blanks-start.result.now c.turns.rest.now 
 
 pub turns-preserved : goal.turns-preserved
 turns-preserved c =
-    wording_turns c.args.bytes.now c.turns.rest.now c.after_blanks-start.result.now c.in_ok-next.more.now c.turns.words.items c.push.new.self.items c.in_ok-next.next c.turns.invariant c.after_blanks-start.ensures c.if-is_empty.ensures c.in_ok-next.ensures c.in_ok-push.ensures.items
+    wording_turns c.args.bytes.now c.turns.rest.now c.after_blanks-start.result.now c.in_ok-next.more.now c.turns.words.items c.push.new.self.items
+    c.in_ok-next.next c.turns.invariant c.after_blanks-start.ensures c.if-is_empty.ensures c.in_ok-next.ensures c.in_ok-push.ensures.items

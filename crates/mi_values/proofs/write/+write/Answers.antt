@@ -17,20 +17,23 @@ write_fields-loop-field-preserved t c = (
 
 pub write_fields-returns : goal.write_fields-returns
 write_fields-returns t c = record {
-  written = on_ok_weaker c.write_byte.result (fields_closed c.args.close c.args.started c.loop-field.started c.deref-field-items.result.now _ c.loop-field.field-index _ _ _ (omega arith) c.loop-field.invariant.0 c.deref-field-items.ensures.value)
+  written = on_ok_weaker c.write_byte.result (fields_closed c.args.close c.args.started c.loop-field.started c.deref-field-items.result.now _
+      c.loop-field.field-index _ _ _ (omega arith) c.loop-field.invariant.0 c.deref-field-items.ensures.value)
       c.write_byte.ensures.written;
   kept = keeps_on _ _ _ c.loop-field.invariant.1 c.write_byte.ensures.kept;
 }
 
 pub write_items-loop-value-preserved : goal.write_items-loop-value-preserved
 write_items-loop-value-preserved t c = (
-  item_written c.loop-value.started c.deref-value-items.result.now c.loop-value.value-index c.value-item.result _ _ _ _ (omega arith) c.value-item.is c.in_ok-separate.ensures.written c.in_ok-write_value.ensures.written c.loop-value.invariant.0,
+  item_written c.loop-value.started c.deref-value-items.result.now c.loop-value.value-index c.value-item.result _ _ _ _ (omega arith) c.value-item.is
+      c.in_ok-separate.ensures.written c.in_ok-write_value.ensures.written c.loop-value.invariant.0,
   keeps_on _ _ _ (keeps_on _ _ _ c.loop-value.invariant.1 c.in_ok-separate.ensures.kept) c.in_ok-write_value.ensures.kept,
 )
 
 pub write_items-returns : goal.write_items-returns
 write_items-returns t c = record {
-  written = on_ok_weaker c.write_byte.result (items_closed c.loop-value.started c.deref-value-items.result.now _ c.loop-value.value-index _ _ _ (omega arith) c.loop-value.invariant.0 c.deref-value-items.ensures.value) c.write_byte.ensures.written;
+  written = on_ok_weaker c.write_byte.result (items_closed c.loop-value.started c.deref-value-items.result.now _ c.loop-value.value-index _ _ _
+      (omega arith) c.loop-value.invariant.0 c.deref-value-items.ensures.value) c.write_byte.ensures.written;
   kept = keeps_on _ _ _ c.loop-value.invariant.1 c.write_byte.ensures.kept;
 }
 

@@ -6,11 +6,11 @@ use Rattle.mi_input.specs.Split.{parts_view, words_view}
 use Rattle.mi_commands.specs.declared.command.Command.{Command}
 use Rattle.mi_commands.specs.declared.refusal.Fault.{Fault}
 use Rattle.mi_commands.specs.Commands.{answer, answer_of}
-use Rattle.mi_commands.proofs.answering.command_of.Goals as goal
+use Rattle.mi_commands.proofs.parsing.command_of.Goals as goal
 
 -- the answer to a line's operation and words is that to its parts
-answer_to_parts : (p : Parts) (ws : List Word) (a : Result Command Fault) → ws ≡ p.words.items → answer_of (option_map (λ v. v.items) p.operation) (words_view ws) ≡ a → a ≡ answer (parts_view p)
-answer_to_parts p ws a same is = sym is ∙ ap (λ words. answer_of (option_map (λ v. v.items) p.operation) (words_view words)) same
+answer_to_parts : (p : Parts) (ws : List Word) (a : Result Command Fault) → ws ≡ p.words.items → answer_of (option_map (λ v. v.now) p.operation) (words_view ws) ≡ a → a ≡ answer (parts_view p)
+answer_to_parts p ws a same is = sym is ∙ ap (λ words. answer_of (option_map (λ v. v.now) p.operation) (words_view words)) same
 
 pub returns-in-Ok-clause-commands : goal.returns-in-Ok-clause-commands
 returns-in-Ok-clause-commands c = (

@@ -20,7 +20,6 @@ ghost use Rattle.mi_commands.specs.Gives.{Answers, Commands, GivesAnswer};
 use crate::bytes::repeated;
 use crate::command::{Command, CommandLine, Insertion};
 use crate::counts::OptionName;
-use crate::lists::ByteList;
 use crate::location::{Place, location_of};
 use crate::number::number;
 use crate::operation::Operation;
@@ -33,6 +32,7 @@ use crate::reading::{
 use crate::refusal::{Failure, Fault, Refusal};
 use crate::registers::assignment;
 use crate::setting::{format_of, set_command, setting_of};
+use dbg_traits::ByteList;
 use mi_input::{InputFault, Word, split};
 use mi_text::bytes_of;
 use rv_decode::register_of;
@@ -247,18 +247,19 @@ fn command(
 
 // What the parts of a line ask for.
 #[tactic(auto, unfolding(crate::specs::Commands::answer_of))]
-fn answer(alloc: Global, operation: Option<Vec<u8>>, words: &mut [Word]) -> Result<Command, Failure>
-    ensures { Answers result (answer_of (option_map (λ v. v.items) operation) (words_view words.old)) }
+fn answer(alloc: Global, operation: Option<&[u8]>, words: &mut [Word]) -> Result<Command, Failure>
+    ensures { Answers result (answer_of (option_map (λ v. v.now) operation.entry) (words_view words.old)) }
 {
     let Some(name) = operation else {
         return Ok(Command::Blank);
     };
-    let Some(operation) = Operation::named(&name) else {
+    let Some(operation) = Operation::named(name) else {
+        let name = Vec::from_slice(alloc, name)?;
         return Err(Failure::Faulty(Fault::Undefined(ByteList::of(name))));
     };
     words_for(operation, words);
     let operation = operation.form(parameters(words));
-    if let Some(fault) = words_fault(alloc, operation, &name, words)? {
+    if let Some(fault) = words_fault(alloc, operation, name, words)? {
         return Err(Failure::Faulty(fault));
     }
     match command(alloc, operation, words)? {

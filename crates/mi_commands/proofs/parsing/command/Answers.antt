@@ -10,7 +10,7 @@ use Rattle.mi_commands.specs.Commands.{command_for, set_register}
 use Rattle.mi_commands.specs.Faults.{first_word, number_in}
 use Rattle.mi_commands.specs.Registers.{assignment}
 use Rattle.mi_commands.specs.Words.{parameters}
-use Rattle.mi_commands.proofs.answering.command.Goals as goal
+use Rattle.mi_commands.proofs.parsing.command.Goals as goal
 
 -- what `-gdb-set $NAME=VALUE` asks for, by what is read of its words
 set_asked : (o : Operation) (ws ps : List WordView) (word : List ℕ) (thread : Option ℕ) → o ≡ op.SetRegister → ps ≡ parameters ws → word ≡ first_word ps →
