@@ -1,5 +1,5 @@
 -- Of all that stands against a command the least number is answered.
-use Rattle.std.proofs.Common.{◌≡◌, ℕ, zero, suc, ◌+◌, ◌%◌, ◌^◌, ◌≤◌, List, [], ◌∷◌, ◌++◌, refl, ap, sym, subst, ◌∙◌, arith}
+use Rattle.std.proofs.Common.{◌≡◌, ℕ, zero, suc, ◌+◌, ◌%◌, ◌^◌, List, [], ◌∷◌, ◌++◌, refl, ap, sym, subst, arith}
 use Rattle.std.specs.Prelude.{Bool, true, false, not, ◌||◌, Option, Some, None, Result, Ok, Err, is_some, length, nat_lt}
 use Rattle.elf32_read.specs.Program.{text_word}
 use Rattle.elf_symbols.specs.Names.{Names, Symbol, address_of}
@@ -37,8 +37,9 @@ use Rattle.dbg_model.specs.declared.thread_view.ThreadView.{ThreadView}
 use Rattle.dbg_model.specs.declared.thread_view.ThreadView.TheVariants as view
 use Rattle.dbg_model.specs.Breaks.{missing_number}
 use Rattle.cond_expr.specs.Reader.{parsed}
-use Rattle.dbg_model.specs.Limits.{breakpoints, most_watches}
-use Rattle.dbg_model.specs.Watches.{has_watch}
+use Rattle.dbg_model.specs.Limits.{breakpoints}
+use Rattle.watch_points.specs.Watches.{most_watches}
+use Rattle.watch_points.specs.Watches.{has_watch}
 use Rattle.dbg_model.specs.Views.{register, shown_byte}
 use Rattle.dbg_model.specs.Sight.{Sight, thread_at, live, live_as, running, running_as, stopped, stopped_as, thread_or}
 use Rattle.dbg_model.specs.Outcome.{Outcome, and_then, showing}
@@ -49,7 +50,8 @@ use Rattle.dbg_model.specs.Steps.{caller_at, finish_plan, finish_step, line_plan
 use Rattle.dbg_model.specs.Watchpoints.{adding, all_read, are_data, watch, watch_room, watched, watched_as}
 use Rattle.dbg_model.specs.Writes.{none_unwritable, set_register, settable}
 use Rattle.dbg_model.specs.Command.{asked_reply, reply}
-use Rattle.dbg_model.specs.Refusals.{Judges, absent, absent_from_both, against, against_asked, against_evaluate, against_insert, against_live, against_named, against_running, against_step, against_stopped, against_target, against_watch, failed, is_exited_view, is_stopped_view, no_data, no_expression, no_plan, no_text, number, is_running_view, unknown, unreadable, unwatched_bytes, unwritable, when}
+use Rattle.dbg_model.specs.Refusals.{Judges, absent, absent_from_both, against, against_asked, against_evaluate, against_insert, against_live, against_named, against_running, against_step, against_stopped, against_target, against_watch}
+use Rattle.dbg_model.specs.Refusals.{failed, is_exited_view, is_stopped_view, no_data, no_expression, no_plan, no_text, number, is_running_view, unknown, unreadable, unwatched_bytes, unwritable, when}
 use Rattle.dbg_model.specs.Variables.{expression_in}
 use Rattle.dbg_answers.proofs.Naming.{kind_within, spelled_from, spelled_judged}
 use Rattle.dbg_answers.proofs.Tests.{From, UpTo, alone, both_from, chain, ensured_judged, ensured_up, failed_judged, first, less_from, none_from, one_from, then_done, up_then, when_from}

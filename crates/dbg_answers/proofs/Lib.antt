@@ -2,6 +2,8 @@
 pub mod Tests
 pub mod Naming
 pub mod Judging
+pub mod Shows
+pub mod Standing
 -- What is read: expressions, bytes of a range, and lines.
 pub mod Reading
 pub mod Ranges

@@ -20,7 +20,8 @@ line_answered s line (Err (Input Syntax)) a h e = e ∙ sym (reply_malformed s l
 line_answered s line (Err (Input (Cli token))) a h e = e ∙ sym (reply_cli s line token h.0 h.1 h.2)
 line_answered s line (Err (Faulty token f)) a h e = e ∙ sym (reply_answers s line token (Err f) h.0 h.1)
 
-pub if_answered : {A E : Type 0} (answer_in : A → Answer) (s : Sight) (line : List ℕ) (r : Result CommandLine Refusal) (a : Result A E) → Commands line r → IfOk a (λ x. AnswersRead s r (answer_in x)) → IfOk a (λ x. answer_in x ≡ answer_to s line)
+pub if_answered : {A E : Type 0} (answer_in : A → Answer) (s : Sight) (line : List ℕ) (r : Result CommandLine Refusal) (a : Result A E)
+    → Commands line r → IfOk a (λ x. AnswersRead s r (answer_in x)) → IfOk a (λ x. answer_in x ≡ answer_to s line)
 if_answered answer_in s line r (Ok x) h e = line_answered s line r (answer_in x) h e
 if_answered answer_in s line r (Err x) h e = e
 

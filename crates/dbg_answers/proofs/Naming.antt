@@ -1,5 +1,5 @@
 -- What stands against an expression, and that of it the least number is answered.
-use Rattle.std.proofs.Common.{◌≡◌, ℕ, ◌≤◌, List, ◌++◌, sym, subst, arith}
+use Rattle.std.proofs.Common.{◌≡◌, ℕ, ◌≤◌, List, sym, subst, arith}
 use Rattle.std.specs.Prelude.{Option, Result, Ok, Err}
 use Rattle.rv_exec.specs.Registers.{Registers}
 use Rattle.cond_expr.specs.declared.evaluating.Value.{Value}

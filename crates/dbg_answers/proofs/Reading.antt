@@ -17,7 +17,8 @@ use Rattle.dbg_answers.specs.Reading.{ReadsAs}
 fits_or : (n : ℕ) → (256 < n) ⊎ (n ≤ 256)
 fits_or n = elim (cases_order n 256) [ inl e ↦ inr (omega arith) | inr (inl lt) ↦ inr (omega arith) | inr (inr gt) ↦ inl gt ]
 
-pub reads_as : (names : Names) (text : List ℕ) (r : Result Expr ParseError) → (256 < length text → r ≡ Err (failures.Fault (record { kind = kind.Long; at = 256 }))) → IfOk r (λ e. Tree text names (tree_of e)) → IfOk r (λ e. text_of e ≡ text)
+pub reads_as : (names : Names) (text : List ℕ) (r : Result Expr ParseError)
+    → (256 < length text → r ≡ Err (failures.Fault (record { kind = kind.Long; at = 256 }))) → IfOk r (λ e. Tree text names (tree_of e)) → IfOk r (λ e. text_of e ≡ text)
     → (length text ≤ 256 → MeetsFault r (first_fault (length text) (tokens_of names text))) → ReadsAs r (parsed names text) text
 reads_as names text (Ok e) long found is fault = (parsed_tree names text (tree_of e) found, is)
 reads_as names text (Err failures.NoMemory) long found is fault = tt

@@ -7,3 +7,4 @@ pub mod Each
 pub mod Steps
 pub mod Rows
 pub mod Subjects
+pub mod LineRefusals

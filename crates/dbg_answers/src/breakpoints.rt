@@ -6,7 +6,8 @@ ghost use Rattle.line_index.specs.Lines as tables;
 ghost use Rattle.break_table.specs.Entry.{asked_of, condition_of, entry_of, new_entry};
 ghost use Rattle.break_table.specs.Table.{has_number};
 ghost use Rattle.dbg_model.specs.Breaks.{missing_number};
-ghost use Rattle.dbg_model.specs.Watches.{has_watch, missing_of};
+ghost use Rattle.dbg_model.specs.Breakpoints.{missing_of};
+ghost use Rattle.watch_points.specs.Watches.{has_watch};
 ghost use Rattle.dbg_answers.specs.Rows.{rows_below};
 ghost use Rattle.dbg_model.specs.Breakpoints.{after, asked_at, breakpoint_row, change_condition, condition_text, delete, enable, insert, inserting, known, known_either, known_thread, list, listed, named, on_line, place, placed, room, with_row, with_watches};
 ghost use Rattle.dbg_answers.specs.Debuggee.{seen};
@@ -19,11 +20,13 @@ use break_table::{BreakEntry, Location as PlaceText, Spec};
 use cond_expr::Expr;
 use dbg_effects::Effect;
 use dbg_model::{
-    Breakpoint, Content, MOST_BREAKPOINTS, Obstacle, Refused, Row, RowList, SourceIndex, Watch,
-    bytes_of, function_name, source_line,
+    Breakpoint, Content, MOST_BREAKPOINTS, Obstacle, Refused, Row, RowList, SourceIndex, bytes_of,
+    function_name, source_line,
 };
-use mi_commands::{ByteList, Insertion, Location, NumberList};
+use dbg_traits::{ByteList, NumberList};
+use mi_commands::{Insertion, Location};
 use std::alloc::{AllocError, Global};
+use watch_points::Watch;
 
 fn has_number(entries: &[BreakEntry], number: u32) -> bool
     ensures { result ≡ has_number number (map entry_of entries.now) }
@@ -231,7 +234,7 @@ pub fn known_thread(debuggee: &Debuggee<'_>, thread: Option<u32>) -> Result<(), 
     let Some(thread) = thread else {
         return Ok(());
     };
-    match debuggee.hart(thread) {
+    match debuggee.thread_view(thread) {
         Some(_) => Ok(()),
         None => Err(Refused::Hindered(Obstacle::UnknownThread(thread))),
     }

@@ -8,10 +8,11 @@ ghost use Rattle.dbg_answers.specs.Live.{live_shown};
 use crate::live::{LiveThread, live_thread};
 use break_table::BreakTable;
 use data_memory::DataMemory;
-use dbg_model::{Obstacle, Refused, SourceIndex, ThreadView, Watch};
+use dbg_model::{Obstacle, Refused, SourceIndex, ThreadView};
 use elf32_read::Image;
 use mi_commands::Displaced;
 use rv_exec::Regs;
+use watch_points::Watch;
 
 /// What a command may see.
 #[derive(Clone, Copy)]
@@ -32,8 +33,8 @@ pub struct Debuggee<'a> {
 }
 
 impl<'a> Debuggee<'a> {
-    /// The hart of a thread.
-    pub fn hart(&self, thread: u32) -> Option<ThreadView>
+    /// What is seen of a thread, if there is one of this number.
+    pub fn thread_view(&self, thread: u32) -> Option<ThreadView>
         ensures { result ≡ thread_at (seen self.now).threads thread }
     {
         if thread == 0 {
@@ -52,7 +53,7 @@ impl<'a> Debuggee<'a> {
         ensures { result ≡ stopped (seen self.now) thread }
     {
         let hart = self
-            .hart(thread)
+            .thread_view(thread)
             .ok_or(Refused::Hindered(Obstacle::UnknownThread(thread)))?;
         match hart {
             ThreadView::Stopped(regs) => Ok(regs),
@@ -66,7 +67,7 @@ impl<'a> Debuggee<'a> {
         ensures { result ≡ running (seen self.now) thread }
     {
         let hart = self
-            .hart(thread)
+            .thread_view(thread)
             .ok_or(Refused::Hindered(Obstacle::UnknownThread(thread)))?;
         match hart {
             ThreadView::Stopped(_) => Err(Refused::Hindered(Obstacle::NotRunning(thread))),
@@ -80,7 +81,7 @@ impl<'a> Debuggee<'a> {
         ensures { and_then result (λ x. Ok (live_shown (seen self.now).sources x)) ≡ live (seen self.now) thread }
     {
         let hart = self
-            .hart(thread)
+            .thread_view(thread)
             .ok_or(Refused::Hindered(Obstacle::UnknownThread(thread)))?;
         live_thread(thread, hart).ok_or(Refused::Hindered(Obstacle::HasExited(thread)))
     }

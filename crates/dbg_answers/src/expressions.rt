@@ -19,8 +19,8 @@ use crate::variables::read_in;
 use crate::view::SeenHart;
 use cond_expr::{Expr, ParseError, Value, parse, value};
 use dbg_model::{Content, Obstacle, Refused};
+use dbg_traits::ByteList;
 use elf_symbols::Symbols;
-use mi_commands::ByteList;
 use rv_exec::Regs;
 use std::alloc::Global;
 

@@ -4,6 +4,7 @@ ghost use Rattle.mi_commands.specs.Gives.{Commands};
 ghost use Rattle.dbg_model.specs.Outcome.{told};
 ghost use Rattle.dbg_model.specs.Command.{asked_reply};
 ghost use Rattle.dbg_model.specs.Refusals.{Judges, against_asked};
+ghost use Rattle.dbg_answers.specs.LineRefusals.{IsAnswered, against_line, refused_in};
 ghost use Rattle.dbg_model.specs.Reply.{answer_to, answering, is_wait, waits};
 ghost use Rattle.dbg_answers.specs.Debuggee.{seen};
 ghost use Rattle.dbg_answers.specs.Answer.{Gives, line_answer_of, outcome_of};
@@ -114,7 +115,10 @@ pub fn answer_line(
 ) -> Result<LineAnswer, NoMemory>
     requires few { length debuggee.now.threads.now ≤ 16 }
     requires given { debuggee.now.table.now.given < 2 ^ 32 - 1 }
-    ensures { (line : List ℕ) → Commands line read → IfOk result (λ a. line_answer_of a ≡ answer_to (seen debuggee.now) line) }
+    ensures gives { (line : List ℕ) → Commands line read → IfOk result (λ a. line_answer_of a ≡ answer_to (seen debuggee.now) line) }
+
+    // Refused with the least number of all that stands against the line, and done where nothing does.
+    ensures least { (line : List ℕ) → Commands line read → IfOk result (λ a. IsAnswered (refused_in a.answer.content) (against_line (seen debuggee.now) line)) }
 {
     answer_read(alloc, debuggee, read)
 }

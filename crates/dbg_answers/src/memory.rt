@@ -8,7 +8,7 @@ use crate::answer::{Answer, Failure, showing};
 use crate::debuggee::Debuggee;
 use crate::view::shown_byte;
 use dbg_model::{Content, Obstacle, Refused};
-use mi_commands::ByteList;
+use dbg_traits::ByteList;
 use std::alloc::{AllocError, Global};
 
 fn push_byte(into: &mut Vec<u8>, byte: u8) -> Result<(), AllocError>

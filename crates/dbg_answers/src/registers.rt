@@ -9,7 +9,8 @@ use crate::answer::{Answer, Failure, showing};
 use crate::debuggee::Debuggee;
 use crate::view::register;
 use dbg_model::{Content, Register, RegisterList};
-use mi_commands::{Format, NumberList};
+use dbg_traits::NumberList;
+use mi_commands::Format;
 use rv_exec::Regs;
 use std::alloc::{AllocError, Global};
 

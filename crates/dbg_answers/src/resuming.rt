@@ -11,7 +11,8 @@ use crate::debuggee::Debuggee;
 use crate::each::each;
 use dbg_effects::Effect;
 use dbg_model::{Content, ThreadView};
-use mi_commands::{NumberList, Target};
+use dbg_traits::NumberList;
+use mi_commands::Target;
 use std::alloc::{AllocError, Global};
 use step_plans::Plan;
 

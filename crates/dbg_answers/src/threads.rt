@@ -11,7 +11,7 @@ use crate::each::each;
 use crate::live::{live_thread, show, show_all};
 use dbg_effects::Effect;
 use dbg_model::{Content, Thread, ThreadList, ThreadView};
-use mi_commands::NumberList;
+use dbg_traits::NumberList;
 use std::alloc::{AllocError, Global};
 
 // Each live thread as it is shown.

@@ -10,11 +10,11 @@ use crate::answer::{Answer, Failure};
 use crate::debuggee::Debuggee;
 use data_memory::DataMemory;
 use dbg_effects::Effect;
-use dbg_model::{Content, MOST_WATCHES, Obstacle, Refused, bytes_of};
+use dbg_model::{Content, Obstacle, Refused, bytes_of};
+use dbg_traits::ByteList;
 use elf_symbols::Symbols;
-use mi_commands::ByteList;
 use std::alloc::Global;
-use watch_points::{WatchError, WatchFault, Watched, watch_of};
+use watch_points::{MOST_WATCHES, WatchError, WatchFault, Watched, watch_of};
 
 fn hindered(obstacle: Obstacle) -> Failure
     ensures { result ≡ Failure.Refused (Refused.Hindered obstacle) }

@@ -9,7 +9,7 @@ use crate::answer::{Answer, Failure, doing};
 use crate::debuggee::Debuggee;
 use dbg_effects::Effect;
 use dbg_model::{Obstacle, Poke, Refused};
-use mi_commands::ByteList;
+use dbg_traits::ByteList;
 
 /// Whether a register is one that is set: not x0 and not pc, which is 32.
 pub fn is_settable(register: u32) -> bool

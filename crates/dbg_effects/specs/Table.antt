@@ -5,8 +5,8 @@ use Rattle.break_table.specs.Entry.{asked_of}
 use Rattle.break_table.specs.Table.{Table, insert_fault}
 use Rattle.break_table.specs.declared.fault.BreakFault.{BreakFault}
 use Rattle.break_table.specs.declared.fault.BreakFault.TheVariants.{NoNumber}
-use Rattle.dbg_model.specs.declared.watch.Watch.{Watch}
-use Rattle.dbg_model.specs.Limits.{most_watches}
+use Rattle.watch_points.specs.declared.watchpoint.Watch.{Watch}
+use Rattle.watch_points.specs.Watches.{most_watches}
 use Rattle.dbg_model.specs.Outcome.{Change}
 use Rattle.dbg_model.specs.Reply.{breaks_after, given_after}
 use Rattle.dbg_effects.specs.declared.effect.Effect.{Effect}

@@ -2,7 +2,8 @@
 use break_table::Spec;
 use cond_expr::Expr;
 use dbg_model::Poke;
-use mi_commands::{ByteList, Displaced, NumberList};
+use dbg_traits::{ByteList, NumberList};
+use mi_commands::Displaced;
 use step_plans::Plan;
 use watch_points::Watched;
 

@@ -5,18 +5,17 @@ ghost use Rattle.break_table.specs.Entry.{asked_of, condition_of};
 ghost use Rattle.rv_exec.specs.Memory.{IsLen};
 ghost use Rattle.break_table.specs.Table.{changed, deleted, drawn, insert_fault, inserted, with_condition, with_enabled, with_ignore};
 ghost use Rattle.dbg_model.specs.Breaks.{enabling, without};
-ghost use Rattle.dbg_model.specs.Limits.{most_watches};
+ghost use Rattle.watch_points.specs.Watches.{most_watches};
 ghost use Rattle.dbg_model.specs.Reply.{watches_after};
-ghost use Rattle.dbg_model.specs.Watches.{new_watch};
+ghost use Rattle.watch_points.specs.Watches.{new_watch};
 ghost use Rattle.dbg_effects.specs.Effect.{change_of};
 ghost use Rattle.dbg_effects.specs.Table.{CanBeMade, CanBeWatched, LacksAtMost, changed_table};
 
 use crate::effect::Effect;
 use break_table::{BreakFault, BreakTable, Spec};
 use cond_expr::Expr;
-use dbg_model::{Watch, WatchList};
-use mi_commands::ByteList;
-use watch_points::Watched;
+use dbg_traits::ByteList;
+use watch_points::{Watch, WatchList, Watched};
 
 // A call that names a number is done, or nothing is there to be changed: a line may delete a number twice.
 fn done_where_there(call: Result<(), BreakFault>)

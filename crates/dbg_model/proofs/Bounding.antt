@@ -26,7 +26,9 @@ go_below o s may =
 one_by_below : (o : Opening) (s t : State) (h : ℕ) (r : Option Hart) → one_by o s h r ≡ Some t → s.retired < o.settings.budget
 one_by_below o s t h None is = cc
 one_by_below o s t h (Some x) is =
-    go_below o s (both_true (may_go o s) (is_running x.mode) (both_true (may_move o s x) (not (is_due (due o.image s h x))) (guard_some (may_run o s h x) (stepped_by (plain o.image x.regs s.memory) s h (set_out (due o.image s h x) x)) t is).0).0).0
+    go_below o s (both_true (may_go o s) (is_running x.mode)
+    (both_true (may_move o s x) (not (is_due (due o.image s h x)))
+    (guard_some (may_run o s h x) (stepped_by (plain o.image x.regs s.memory) s h (set_out (due o.image s h x) x)) t is).0).0).0
 
 one_below : (o : Opening) (h : ℕ) (s t : State) → one o h s ≡ Some t → s.retired < o.settings.budget
 unfolding one

@@ -19,7 +19,7 @@ use Rattle.dbg_model.specs.declared.opening.Opening.{Opening}
 use Rattle.dbg_model.specs.Breaks.{is_stop}
 use Rattle.dbg_model.specs.declared.hart.Hart.{Hart}
 use Rattle.dbg_model.specs.Judging.{ends_function, ends_step, fires, is_counted}
-use Rattle.dbg_model.specs.Watches.{is_fired}
+use Rattle.watch_points.specs.Watches.{is_fired}
 use Rattle.dbg_model.specs.Pokes.{bytes_poked, is_pending, item_of, register_poked, with_poke, with_register, written}
 use Rattle.dbg_model.specs.State.{State, due, is_stopped}
 use Rattle.dbg_model.specs.Reply.{done_by}

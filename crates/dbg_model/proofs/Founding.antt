@@ -37,7 +37,8 @@ use Rattle.dbg_model.specs.declared.reply.Obstacle.TheVariants.{UnknownThread}
 use Rattle.dbg_model.specs.declared.reply.Refused.{Refused}
 use Rattle.dbg_model.specs.declared.reply.Refused.TheVariants.{FixedRegister}
 use Rattle.dbg_model.specs.declared.reply.Thread.{Thread}
-use Rattle.dbg_model.specs.Limits.{breakpoints, most_watches}
+use Rattle.dbg_model.specs.Limits.{breakpoints}
+use Rattle.watch_points.specs.Watches.{most_watches}
 use Rattle.dbg_model.specs.declared.hart.Hart.{Hart}
 use Rattle.dbg_model.specs.State.{State, is_stopped}
 use Rattle.dbg_model.specs.Sight.{Sight, thread_at, live, live_as, running, sight_of, stopped, stopped_as, thread_or, view_by, view_of}

@@ -16,9 +16,5 @@ pub mod Replying
 pub mod Founding
 pub mod Ending
 pub mod Naming
--- Where a hart has arrived: what is judged without a plan, and which instructions make no watch fire.
+-- Where a hart has arrived: what is judged without a plan.
 pub mod Judged
-pub mod Firing
--- Lists: marks that are put one after another, and watches that keep their sizes.
-pub mod Marking
-pub mod Sizing

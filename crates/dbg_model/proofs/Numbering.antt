@@ -18,7 +18,7 @@ use Rattle.dbg_model.specs.declared.hart.Hart.{Hart}
 use Rattle.data_memory.specs.Ranges.{first_unwritable, with_bytes}
 use Rattle.plain_machine.specs.PlainRun.{is_settable}
 use Rattle.dbg_model.specs.Judging.{ends_function, ends_step, fires, is_counted}
-use Rattle.dbg_model.specs.Watches.{is_fired}
+use Rattle.watch_points.specs.Watches.{is_fired}
 use Rattle.dbg_model.specs.Pokes.{bytes_poked, is_pending, register_poked, with_poke, with_register, written}
 use Rattle.dbg_model.specs.State.{State, due, is_stopped}
 use Rattle.dbg_model.specs.Outcome.{Change, stays, resumes, selects, inserts, adds_watch, deletes, enables, conditions, ignores, interrupts, displaces, pokes, exits}

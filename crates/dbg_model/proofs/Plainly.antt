@@ -16,7 +16,7 @@ use Rattle.dbg_model.specs.declared.entry.Mode.{Mode}
 use Rattle.dbg_model.specs.declared.entry.Mode.TheVariants as mode
 use Rattle.dbg_model.specs.declared.entry.Poke.{Poke}
 use Rattle.dbg_model.specs.declared.entry.Poke.TheVariants as poke
-use Rattle.dbg_model.specs.declared.watch.Fired.{Fired}
+use Rattle.watch_points.specs.declared.watchpoint.Fired.{Fired}
 use Rattle.dbg_model.specs.declared.entry.Why.{Why}
 use Rattle.dbg_model.specs.declared.entry.Why.TheVariants.{Break, Watch, Stepped, Finished, Interrupted, Fault}
 use Rattle.dbg_model.specs.declared.entry.Entry.{Entry}
@@ -27,12 +27,13 @@ use Rattle.step_plans.specs.declared.plan.Plan.{Plan}
 use Rattle.dbg_model.specs.declared.hart.Hart.{Hart}
 use Rattle.dbg_model.specs.Courses.{at_stop}
 use Rattle.dbg_model.specs.Judging.{ends_function, ends_step, fires, is_counted, is_due}
-use Rattle.dbg_model.specs.Watches.{fired_by, is_fired}
+use Rattle.watch_points.specs.Watches.{fired_by, is_fired}
 use Rattle.dbg_model.specs.Pokes.{bytes_poked, is_pending, item_of, register_poked, with_poke, with_register, written}
 use Rattle.dbg_model.specs.State.{State, first_state, first_harts, is_running, is_stopped, due}
 use Rattle.dbg_model.specs.Outcome.{Change, deletes, enables, resumes, interrupts}
 use Rattle.dbg_model.specs.Reply.{done_by, answer_of, changed_by, resumed, resumed_by, asked_by, asked, forgetting, is_named, on_threads, harts_after}
-use Rattle.dbg_model.specs.Lawful.{enter, one, one_by, ran, may_run, may_move, may_go, may_do, stepped_by, stepped, leaving, leaving_at, with_leavers, with_stop, stopped_hart, faulted_by, stopped_by, counted, counted_by, with_arrival, with_count, set_out, left_by, leaver_from, leaver_or, exited, exited_at, poked_by, with_step}
+use Rattle.dbg_model.specs.Lawful.{enter, one, one_by, ran, may_run, may_move, may_go, may_do, stepped_by, stepped, leaving, leaving_at, with_leavers, with_stop, stopped_hart}
+use Rattle.dbg_model.specs.Lawful.{faulted_by, stopped_by, counted, counted_by, with_arrival, with_count, set_out, left_by, leaver_from, leaver_or, exited, exited_at, poked_by, with_step}
 use Rattle.dbg_model.specs.Journals.{Place, come, follows, ran_hart, replay_from, replay, first_place, Leaves}
 use Rattle.dbg_model.specs.Erase.{erase, erase_one}
 use Rattle.dbg_model.proofs.Options.{map_some, bind_some, guard_some, bind_bind, bind_return, same_some, both_true}

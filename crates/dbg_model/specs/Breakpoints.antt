@@ -1,5 +1,5 @@
 -- What is answered to commands on breakpoints, and what they change (GDB manual, "GDB/MI Breakpoint Commands").
-use Rattle.std.specs.Prelude.{ℕ, ◌+◌, Bool, not, List, [], ◌∷◌, length, map, Option, Some, None, Result, Ok, Err, is_some, if◌then◌else◌, nat_lt}
+use Rattle.std.specs.Prelude.{ℕ, ◌+◌, ◌||◌, Bool, not, List, [], ◌∷◌, length, map, Option, Some, None, Result, Ok, Err, is_some, if◌then◌else◌, nat_lt}
 use Rattle.std.specs.Option.{option_map}
 use Rattle.elf32_read.specs.Program.{text_word}
 use Rattle.elf_symbols.specs.Names.{Names, Symbol}
@@ -9,20 +9,21 @@ use Rattle.dbg_model.specs.Sources.{Sources}
 use Rattle.cond_expr.specs.declared.fault.ExprFault.{ExprFault}
 use Rattle.cond_expr.specs.Term.{Term}
 use Rattle.break_table.specs.Entry.{Asked, Condition, Entry, new_entry}
+use Rattle.break_table.specs.Table.{has_number}
 use Rattle.mi_commands.specs.declared.command.Insertion.{Insertion}
 use Rattle.mi_commands.specs.declared.command.Location.{Location}
 use Rattle.mi_commands.specs.declared.command.Location.TheVariants as location
 use Rattle.dbg_model.specs.declared.breakpoint.Breakpoint.{Breakpoint}
 use Rattle.dbg_model.specs.declared.row.Row.{Row}
 use Rattle.dbg_model.specs.declared.row.Row.TheVariants as row
-use Rattle.dbg_model.specs.declared.watch.Watch.{Watch}
+use Rattle.watch_points.specs.declared.watchpoint.Watch.{Watch}
 use Rattle.dbg_model.specs.declared.reply.Content.TheVariants as content
 use Rattle.dbg_model.specs.declared.reply.Obstacle.{Obstacle}
 use Rattle.dbg_model.specs.declared.reply.Obstacle.TheVariants.{UnknownThread, NoBreakpoint, NoInstruction, TooManyBreakpoints, Expression}
 use Rattle.dbg_model.specs.declared.reply.Refused.{Refused}
 use Rattle.dbg_model.specs.declared.reply.Refused.TheVariants.{Hindered, UnknownName, UnknownLine}
 use Rattle.dbg_model.specs.Breaks.{missing_number}
-use Rattle.dbg_model.specs.Watches.{missing_of}
+use Rattle.watch_points.specs.Watches.{has_watch}
 use Rattle.cond_expr.specs.Reader.{parsed}
 use Rattle.dbg_model.specs.Limits.{breakpoints}
 use Rattle.dbg_model.specs.Sight.{Sight, thread_at}
@@ -88,6 +89,11 @@ known s numbers = none_missing (missing_number s.breaks numbers)
 
 abbrev pub of_known : Sight → List ℕ → Change → Result Outcome Refused
 of_known s numbers c = and_then (known s numbers) (λ u. Ok (doing c))
+
+-- the first of the numbers that neither a breakpoint nor a watch has
+abbrev pub missing_of : List Entry → List Watch → List ℕ → Option ℕ
+missing_of es ws [] = None
+missing_of es ws (n ∷ ns) = if has_number n es || has_watch n ws then missing_of es ws ns else Some n
 
 -- each of the numbers has to be a breakpoint's or a watch's
 abbrev pub known_either : Sight → List ℕ → Result Unit Refused

@@ -4,8 +4,8 @@ use Rattle.step_plans.specs.declared.plan.Plan.{Plan}
 use Rattle.step_plans.specs.declared.plan.Plan.TheVariants as plans
 use Rattle.step_plans.specs.Verdicts.{asks}
 use Rattle.dbg_model.specs.declared.course.Course.{Course}
-use Rattle.dbg_model.specs.declared.watch.Fired.{Fired}
-use Rattle.dbg_model.specs.Watches.{unless_of}
+use Rattle.watch_points.specs.declared.watchpoint.Fired.{Fired}
+use Rattle.watch_points.specs.Watches.{unless_of}
 
 -- the address of an instruction, which is noted where the plan asks for it
 abbrev pub noted_with : Plan → ℕ → Option ℕ

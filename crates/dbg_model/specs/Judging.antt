@@ -16,7 +16,7 @@ use Rattle.step_plans.specs.declared.plan.Verdict.TheVariants as verdicts
 use Rattle.step_plans.specs.Verdicts.{verdict}
 use Rattle.dbg_model.specs.declared.course.Course.{Course}
 use Rattle.dbg_model.specs.declared.judgement.Judgement.{Judgement}
-use Rattle.dbg_model.specs.declared.watch.Fired.{Fired}
+use Rattle.watch_points.specs.declared.watchpoint.Fired.{Fired}
 use Rattle.dbg_model.specs.Breaks.{nothing_due}
 
 -- ---- the plan of a step

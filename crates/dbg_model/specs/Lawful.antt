@@ -17,14 +17,14 @@ use Rattle.dbg_model.specs.declared.entry.Poke.{Poke}
 use Rattle.dbg_model.specs.declared.hart.Hart.{Hart}
 use Rattle.dbg_model.specs.declared.judgement.Judgement.{Judgement}
 use Rattle.dbg_model.specs.declared.opening.Opening.{Opening}
-use Rattle.dbg_model.specs.declared.watch.Fired.{Fired}
+use Rattle.watch_points.specs.declared.watchpoint.Fired.{Fired}
 use Rattle.dbg_model.specs.Limits.{history}
 use Rattle.dbg_model.specs.Breaks.{is_stop}
 use Rattle.dbg_model.specs.Courses.{after_count, after_instruction, at_stop, noted_with, with_plan}
 use Rattle.dbg_model.specs.Judging.{ends_function, ends_step, fires, is_counted, is_due, plan_after}
 use Rattle.break_table.specs.Table.{stands}
 use Rattle.dbg_model.specs.State.{State, is_running, has_exited, is_off, any_runs, any_leaves, due, arrived}
-use Rattle.dbg_model.specs.Watches.{fired_by, is_fired, risen}
+use Rattle.watch_points.specs.Watches.{fired_by, is_fired, risen}
 use Rattle.dbg_model.specs.Pokes.{is_pending, with_poke, written}
 use Rattle.dbg_model.specs.Reply.{done_by, is_wait}
 

@@ -3,9 +3,7 @@ pub mod Limits
 pub mod Breaks
 pub mod Views
 pub mod Judging
-pub mod Watches
 pub mod Courses
-pub mod WatchKept
 pub mod State
 pub mod Places
 pub mod Sight

@@ -12,7 +12,3 @@ input = 67108864
 -- so many breakpoints of the user stand at most
 abbrev pub breakpoints : ℕ
 breakpoints = 128
-
--- so many watches of the user stand at most
-abbrev pub most_watches : ℕ
-most_watches = 16

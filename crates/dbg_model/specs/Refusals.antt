@@ -27,14 +27,15 @@ use Rattle.dbg_model.specs.declared.reply.Obstacle.{Obstacle}
 use Rattle.dbg_model.specs.declared.reply.Obstacle.TheVariants.{UnknownThread, HasExited, IsRunning, NotRunning, NoBreakpoint, NoInstruction, TooManyBreakpoints, Expression, DivisionByZero, Unreadable, NoLine, NoCaller, Unwritable, TooManyWatches}
 use Rattle.dbg_model.specs.declared.reply.Refused.{Refused}
 use Rattle.dbg_model.specs.declared.reply.Refused.TheVariants as refused
-use Rattle.dbg_model.specs.Limits.{breakpoints, most_watches}
+use Rattle.dbg_model.specs.Limits.{breakpoints}
+use Rattle.watch_points.specs.Watches.{most_watches}
 use Rattle.dbg_model.specs.Views.{shown_byte}
 use Rattle.dbg_model.specs.Sight.{Sight, thread_at, stopped, thread_or}
 use Rattle.dbg_model.specs.Breakpoints.{condition, place}
 use Rattle.dbg_model.specs.Data.{address_at, worth_of}
 use Rattle.dbg_model.specs.Steps.{finish_step, line_step, one_step}
 use Rattle.dbg_model.specs.Variables.{expression_in}
-use Rattle.dbg_model.specs.Watches.{has_watch}
+use Rattle.watch_points.specs.Watches.{has_watch}
 use Rattle.dbg_model.specs.Watchpoints.{watched}
 use Rattle.dbg_model.specs.Writes.{settable}
 

@@ -22,8 +22,8 @@ use Rattle.dbg_model.specs.declared.opening.Opening.{Opening}
 use Rattle.dbg_model.specs.Breaks.{without, enabling}
 use Rattle.dbg_model.specs.Courses.{after_forgetting, after_resume}
 use Rattle.dbg_model.specs.Sight.{Sight, sight_of}
-use Rattle.dbg_model.specs.declared.watch.Watch.{Watch}
-use Rattle.dbg_model.specs.Watches.{new_watch, switched, unwatched}
+use Rattle.watch_points.specs.declared.watchpoint.Watch.{Watch}
+use Rattle.watch_points.specs.Watches.{new_watch, switched, unwatched}
 use Rattle.dbg_model.specs.Outcome.{Change, Outcome, adds_watch, conditions, deletes, displaces, enables, exits, ignores, inserts, interrupts, pokes, resumes, selects, told}
 use Rattle.dbg_model.specs.Command.{asked_reply}
 use Rattle.dbg_model.specs.State.{State, is_off}

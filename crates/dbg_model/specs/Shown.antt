@@ -12,7 +12,7 @@ use Rattle.dbg_model.specs.declared.opening.Opening.{Opening}
 use Rattle.dbg_model.specs.declared.shown.Shown.{Shown}
 use Rattle.dbg_model.specs.declared.shown.Shown.TheVariants.{Nothing, Wrote, Stop, Exit, Answer}
 use Rattle.dbg_model.specs.declared.shown.ShownWatch.{ShownWatch}
-use Rattle.dbg_model.specs.declared.watch.Watch.{Watch}
+use Rattle.watch_points.specs.declared.watchpoint.Watch.{Watch}
 use Rattle.dbg_model.specs.Breaks.{is_temporary}
 use Rattle.dbg_model.specs.Sources.{Sources, sources_of}
 use Rattle.dbg_model.specs.Places.{own_frame}

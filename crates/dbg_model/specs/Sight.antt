@@ -17,7 +17,7 @@ use Rattle.dbg_model.specs.declared.reply.Refused.TheVariants.{Hindered}
 use Rattle.dbg_model.specs.declared.reply.Thread.{Thread}
 use Rattle.dbg_model.specs.Places.{own_frame}
 use Rattle.dbg_model.specs.declared.hart.Hart.{Hart}
-use Rattle.dbg_model.specs.declared.watch.Watch.{Watch}
+use Rattle.watch_points.specs.declared.watchpoint.Watch.{Watch}
 use Rattle.dbg_model.specs.State.{State}
 
 pub record Sight : Type 0 where

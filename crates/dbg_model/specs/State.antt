@@ -16,7 +16,7 @@ use Rattle.dbg_model.specs.declared.entry.Poke.{Poke}
 use Rattle.dbg_model.specs.declared.hart.Hart.{Hart}
 use Rattle.dbg_model.specs.declared.judgement.Judgement.{Judgement}
 use Rattle.dbg_model.specs.declared.opening.Opening.{Opening}
-use Rattle.dbg_model.specs.declared.watch.Watch.{Watch}
+use Rattle.watch_points.specs.declared.watchpoint.Watch.{Watch}
 use Rattle.dbg_model.specs.Courses.{at_stop}
 use Rattle.dbg_model.specs.Judging.{judgement_of}
 use Rattle.dbg_model.specs.Views.{register, shown_byte}

@@ -10,7 +10,7 @@ use Rattle.dbg_model.specs.declared.reply.Content.TheVariants as content
 use Rattle.dbg_model.specs.declared.reply.Obstacle.TheVariants.{DivisionByZero, Expression, TooManyWatches, Unreadable}
 use Rattle.dbg_model.specs.declared.reply.Refused.{Refused}
 use Rattle.dbg_model.specs.declared.reply.Refused.TheVariants.{Hindered, Unwatchable}
-use Rattle.dbg_model.specs.Limits.{most_watches}
+use Rattle.watch_points.specs.Watches.{most_watches}
 use Rattle.dbg_model.specs.Sight.{Sight}
 use Rattle.dbg_model.specs.Breakpoints.{ensured}
 use Rattle.dbg_model.specs.Outcome.{Outcome, and_then, adds_watch}

@@ -1,7 +1,7 @@
 // Breakpoints as they are listed.
 
 use crate::SourceLine;
-use mi_commands::ByteList;
+use dbg_traits::ByteList;
 
 /// A breakpoint that the user set, as it is listed.
 #[derive(Drop)]

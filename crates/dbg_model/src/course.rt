@@ -2,8 +2,8 @@
 ghost use Rattle.std.specs.Prelude.{◌≡◌};
 ghost use Rattle.dbg_model.specs.Courses.{after_count, after_forgetting, after_instruction, after_resume, noted_with, with_plan};
 
-use crate::{Fired, unless_of};
 use step_plans::Plan;
+use watch_points::{Fired, unless_of};
 
 /// How a hart goes on.
 #[derive(Clone, Copy)]

@@ -1,9 +1,8 @@
 // Entries of a journal, and what they say of a hart.
-use crate::Fired;
 use break_table::CondError;
-use mi_commands::ByteList;
+use dbg_traits::ByteList;
 use rv_exec::Cause;
-
+use watch_points::Fired;
 /// What a hart is at. A hart that isn't `Exited` is live.
 #[derive(Clone, Copy, Debug, PartialEq, Eq)]
 pub enum Mode {

@@ -1,6 +1,6 @@
 // Frames as they are shown.
-use mi_commands::{ByteList, ItemList};
 
+use dbg_traits::{ByteList, ItemList};
 /// A line of a source file.
 #[derive(Drop)]
 pub struct SourceLine {

@@ -2,12 +2,13 @@
 ghost use Rattle.std.specs.Prelude.{◌≡◌, option_and_then};
 ghost use Rattle.dbg_model.specs.Judging.{ends_function, ends_step, fires, is_counted, is_due, is_end, is_finished, is_stepped, judgement_of, last_at, no_stop, plan_after, verdict_behind};
 
-use crate::{Course, Fired, SourceIndex};
+use crate::{Course, SourceIndex};
 use break_table::{BreakTable, Due};
 use dbg_traits::View;
 use elf32_read::Image;
 use rv_decode::decode;
 use step_plans::{Last, Plan, Verdict, arrive};
+use watch_points::Fired;
 
 /// What is judged of a hart where it has just arrived.
 #[derive(Clone, Copy)]

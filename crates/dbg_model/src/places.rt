@@ -3,9 +3,9 @@ ghost use Rattle.std.specs.Prelude.{◌≡◌, IfOk};
 ghost use Rattle.dbg_model.specs.Places.{function_name, line_of_row, place_frame, source_line};
 
 use crate::{ShownFrame, SourceIndex, SourceLine};
+use dbg_traits::ByteList;
 use line_index::LineIndex;
 use line_rows::Row;
-use mi_commands::ByteList;
 use std::alloc::{AllocError, Global};
 
 /// These bytes, in memory of their own.

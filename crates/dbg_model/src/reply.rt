@@ -4,7 +4,8 @@ ghost use Rattle.dbg_model.specs.Refusals.{kind_number, number, obstacle_number,
 
 use crate::{Breakpoint, FrameList, RowList, ShownFrame, VariableList};
 use cond_expr::{ExprFault, FaultKind};
-use mi_commands::{ByteList, Displaced, Fault, Format, ItemList, NumberList};
+use dbg_traits::{ByteList, ItemList, NumberList};
+use mi_commands::{Displaced, Fault, Format};
 use mi_text::Token;
 
 /// What a command finds that stands against it. Threads are counted from 1.

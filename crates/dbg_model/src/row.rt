@@ -2,8 +2,9 @@
 ghost use Rattle.std.specs.Prelude.{◌≡◌};
 ghost use Rattle.dbg_model.specs.Breakpoints.{row_number};
 
-use crate::{Breakpoint, Watch};
-use mi_commands::ItemList;
+use crate::Breakpoint;
+use dbg_traits::ItemList;
+use watch_points::Watch;
 
 /// What stands under a number.
 #[derive(Drop)]

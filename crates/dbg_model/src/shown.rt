@@ -1,7 +1,7 @@
 // What an entry of a journal shows.
 
 use crate::{Reply, ShownFrame};
-use mi_commands::ByteList;
+use dbg_traits::ByteList;
 
 /// A watch that stopped a hart, as it is told.
 #[derive(Drop)]

@@ -1,6 +1,6 @@
 // Variables as they are shown.
-use mi_commands::{ByteList, ItemList};
 
+use dbg_traits::{ByteList, ItemList};
 /// What is shown as the value of a variable.
 #[derive(Clone, Copy)]
 pub enum VariableValue {

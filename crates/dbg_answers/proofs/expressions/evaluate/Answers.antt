@@ -1,4 +1,4 @@
-use Rattle.std.proofs.Common.{rules, ◌≡◌, ℕ, List, ap, sym, subst}
+use Rattle.std.proofs.Common.{rules, ◌≡◌, ℕ, List, sym, subst}
 use Rattle.std.specs.Prelude.{Result, Ok}
 use Rattle.rv_exec.specs.Registers.{Registers}
 use Rattle.cond_expr.specs.Condition.{tree_of}

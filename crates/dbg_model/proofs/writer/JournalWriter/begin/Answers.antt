@@ -16,4 +16,6 @@ invariant_of-self c =
     }
 
 pub returns-clause-entries : goal.returns-clause-entries
-returns-clause-entries c = rw (c.settle.ensures.marks, ← c.self.view_is) (ap (λ (es : List Entry). es ++ Ran c.args.run.hart c.args.run.count ∷ []) (merged-settled c.self.inside.tape.marks c.self.inside.noted.items c.self.inside.pending c.self.invariant.marked))
+returns-clause-entries c = rw (c.settle.ensures.marks, ← c.self.view_is)
+    (ap (λ (es : List Entry). es ++ Ran c.args.run.hart c.args.run.count ∷ [])
+    (merged-settled c.self.inside.tape.marks c.self.inside.noted.items c.self.inside.pending c.self.invariant.marked))

@@ -12,7 +12,13 @@ invariant_of-self c =
     record {
       marked = rw (c.note.ensures.marks, c.settle.ensures.marks, c.push_reserved.ensures.items) (notes_in-noted ms es c.self.inside.pending c.args.entry c.self.invariant.marked);
       others = rw c.push_reserved.ensures.items (noted-more es c.args.entry c.requires.other c.self.invariant.others);
-      quiet = λ none. rw (c.note.ensures.marks, c.settle.ensures.marks, c.push_reserved.ensures.items, merged-noted ms es c.self.inside.pending c.args.entry c.self.invariant.marked) (last_noted_one-push (merged ms es ++ pending_entries c.self.inside.pending) c.args.entry ∙ c.requires.other);
+      quiet = λ none. rw (
+        c.note.ensures.marks,
+        c.settle.ensures.marks,
+        c.push_reserved.ensures.items,
+        merged-noted ms es c.self.inside.pending
+            c.args.entry c.self.invariant.marked,
+      ) (last_noted_one-push (merged ms es ++ pending_entries c.self.inside.pending) c.args.entry ∙ c.requires.other);
       bytes = omega arith;
       entries = omega arith;
     }

@@ -1,5 +1,0 @@
-use Rattle.dbg_model.proofs.Firing.{apart_fires, none_fires, store_keeps}
-use Rattle.dbg_model.proofs.watch_list.apart_fires_none.Goals as goal
-
-pub returns : goal.returns
-returns c = record { none = none_fires; apart = apart_fires; store = store_keeps }

@@ -1,9 +1,0 @@
--- What a list of watches keeps of its fields. This project's own.
-use Rattle.std.specs.Prelude.{◌≤◌, vec_capacity, vec_len}
-use Rattle.dbg_model.specs.declared.watch_list.WatchList.TheInside.{Inside}
-use Rattle.dbg_model.specs.Watches.{AreSized}
-
-pub record IsKept (l : Inside) : Type 0 where
-  pub few : vec_len l.watches ≤ 16
-  pub room : 16 ≤ vec_capacity l.watches
-  pub sized : AreSized l.watches.items
