@@ -1,16 +1,14 @@
 -- A change that a line makes can be made.
-use Rattle.std.proofs.Common.{◌≡◌, ℕ, ◌+◌, ◌^◌, ◌-◌, ◌/◌, ◌<◌, ◌≤◌, ◌%◌, true, false, List, ◌∷◌, ◌++◌, length, refl, sym, ap, ◌∙◌, subst, arith}
-use Rattle.std.specs.Prelude.{Option, Some, None, is_some, ◌&&◌, ◌||◌, ◌==◌, nat_le}
+use Rattle.std.proofs.Common.{◌≡◌, ℕ, ◌^◌, ◌<◌, ◌≤◌, true, false, List, length, refl, sym, ap, ◌∙◌, subst, arith}
+use Rattle.std.specs.Prelude.{Option, Some, None, is_some, ◌&&◌, nat_le}
 use Rattle.std.proofs.lemmas.Bool.Decides.{nat_tests}
 use Rattle.elf32_read.specs.Program.{Program, text_word}
 use Rattle.text_words.proofs.Below.{word_below}
 use Rattle.break_table.specs.Entry.{asked_of}
 use Rattle.break_table.specs.Table.{Table, insert_fault, is_thread}
 use Rattle.break_table.specs.Text.{is_place}
-use Rattle.dbg_model.specs.declared.entry.Poke.{Poke}
 use Rattle.dbg_model.specs.declared.opening.Opening.{Opening}
 use Rattle.dbg_model.specs.declared.hart.Hart.{Hart}
-use Rattle.dbg_model.specs.declared.watch.Watch.{Watch}
 use Rattle.dbg_model.proofs.Founding.{IsFounded, IsThereOr, change_founded, change_watchable}
 use Rattle.engine_parts.specs.Seen.{Engine, seen}
 use Rattle.engine_parts.specs.Facts.{Sound, IsThread, wants_of, InText}

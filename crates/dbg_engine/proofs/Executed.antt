@@ -11,8 +11,8 @@ use Rattle.hart_machine.specs.declared.hart.Core.{Core}
 use Rattle.hart_machine.specs.Patched.{Patched}
 use Rattle.hart_machine.specs.Stepping.{AreCounted, Steps, StepsTo, has_run}
 use Rattle.dbg_model.specs.Courses.{noted_with}
-use Rattle.dbg_model.specs.Watches.{fired_by}
-use Rattle.dbg_model.specs.declared.watch.Fired.{Fired}
+use Rattle.watch_points.specs.Watches.{fired_by}
+use Rattle.watch_points.specs.declared.watchpoint.Fired.{Fired}
 use Rattle.engine_parts.specs.declared.mind.Hold.{Hold}
 use Rattle.engine_parts.specs.declared.mind.Mind.{Mind}
 use Rattle.engine_parts.specs.Homecoming.{IsSlotted}
@@ -25,7 +25,8 @@ use Rattle.engine_parts.proofs.Stepping.{ran_of}
 use Rattle.engine_parts.specs.Steps.{Parts, applied}
 use Rattle.engine_parts.specs.Homing.{HomedBy}
 use Rattle.engine_parts.specs.Calls.{Before, GoesWith, Of, Undue}
-use Rattle.engine_parts.proofs.Executing.{Executed, Prepared, Ready, Readied, readied, done, prepared, executed_to, applied_twice, noted_by, parts_of, ran_is, run_with}
+use Rattle.engine_parts.proofs.Executing.{Executed, Ready, Readied, readied, done, noted_by, parts_of, ran_is, run_with}
+use Rattle.engine_parts.proofs.Departing.{Prepared, prepared, executed_to, applied_twice}
 
 -- an instruction of hart h, of which x was kept and z is
 pub record Known (s : Stepped) (r : Engine) (h : ℕ) (x z : Mind) (new : Patched) : Type 0 where
@@ -77,10 +78,12 @@ pub parts_is : (s : Stepped) (h : ℕ) (z : Mind) (r : Engine) (p : Parts) (xs :
 parts_is s h z r p xs d same is = is ∙ (ap (λ ys. applied s h z (record { journal = r.journal; minds = ys })) same ∙ applied_twice s h z (parts_of r) d)
 
 -- the engine then, where harts that left came home and this is noted
-pub ended : (s : Stepped) (r : Engine) (h spare : ℕ) (x z : Mind) (new m : Patched) (hold : Option Hold) (xs ys : List Mind) (p : Parts) → Known s r h x z new → xs ≡ slice_set r.minds h z → HomedBy s (wants_of r) hold (record { hart = h; phase = z.phase; minds = xs }) new m
+pub ended : (s : Stepped) (r : Engine) (h spare : ℕ) (x z : Mind) (new m : Patched) (hold : Option Hold) (xs ys : List Mind) (p : Parts)
+    → Known s r h x z new → xs ≡ slice_set r.minds h z → HomedBy s (wants_of r) hold (record { hart = h; phase = z.phase; minds = xs }) new m
     → ys ≡ slice_set r.minds h z → p ≡ applied s h z (record { journal = r.journal; minds = ys }) → Executed s r (run_with r m p (noted_by s h z r.minds r.noted) hold spare) h z
 ended s r h spare x z new m hold xs ys p k same homed again is =
     let H : List Mind → Type 0 = λ xs. HomedBy s (wants_of r) hold (record { hart = h; phase = z.phase; minds = xs }) new m in
-    let E : Mind → Type 0 = λ z. HomedBy s (wants_of r) hold (record { hart = h; phase = z.phase; minds = slice_set r.minds h z }) new m → p ≡ applied s h z (parts_of r) → Executed s r (run_with r m p (noted_by s h z r.minds r.noted) hold spare) h z in
+    let E : Mind → Type 0 = λ z. HomedBy s (wants_of r) hold (record { hart = h; phase = z.phase; minds = slice_set r.minds h z }) new m
+    → p ≡ applied s h z (parts_of r) → Executed s r (run_with r m p (noted_by s h z r.minds r.noted) hold spare) h z in
     let z' : Mind = ran_of r h k.core x new.memory in
     subst E (sym k.kept) (λ a b. executed_to s r h spare k.core x new m hold p (noted_by s h z' r.minds r.noted) k.done k.ready k.step a b refl) (subst H same homed) (parts_is s h z r p ys k.done again is)

@@ -2,3 +2,4 @@
 pub mod Applying
 -- An instruction that doesn't trap.
 pub mod Executed
+pub mod OwnLines

@@ -15,12 +15,12 @@ use break_table::{BreakEntry, BreakTable, Due, Spec};
 use dbg_effects::{
     Effect, change_table as change_entries, delete_entry, enable_entry, insert_entry,
 };
-use dbg_model::WatchList;
 use elf32_read::Image;
 use engine_parts::Hold;
 use engine_parts::patching::plant_as_wanted;
 use engine_parts::view::ShownHart;
 use hart_machine::Machine;
+use watch_points::WatchList;
 
 // The address of the breakpoint of a number.
 fn place_of(entries: &[BreakEntry], number: u32) -> Option<u32>

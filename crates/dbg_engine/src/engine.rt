@@ -36,9 +36,7 @@ mod turn;
 
 use break_table::BreakTable;
 use data_memory::DataMemory;
-use dbg_model::{
-    Entries, HISTORY, JournalWriter, Opening, SourceIndex, ThreadView, Watch, WatchList,
-};
+use dbg_model::{Entries, HISTORY, JournalWriter, Opening, SourceIndex, ThreadView};
 use dbg_traits::{NoMemory, Settings};
 use elf32_read::Image;
 use engine_parts::ending::{Closed, End};
@@ -53,6 +51,7 @@ use mi_commands::Displaced;
 pub use slicing::Commit;
 use std::alloc::{AllocError, Global};
 use std::marker::Model;
+use watch_points::{Watch, WatchList};
 
 /// So many entries find room before a turn.
 pub const SPARE: usize = 32;
@@ -249,16 +248,16 @@ impl Engine {
         self.machine.data()
     }
 
-    /// What a command may see of the harts: of those that are stopped, their registers.
+    /// What a command may see of the harts, of those that are stopped their registers, in the place of what stood in `into`.
     ///
     /// # Errors
     ///
     /// No memory for them.
-    pub fn threads(&self) -> Result<Vec<ThreadView>, AllocError>
-        ensures views { IfOk result (λ v. v.items ≡ own_views self.now.machine.cores self.now.minds) }
+    pub fn threads(&self, into: &mut Vec<ThreadView>) -> Result<(), AllocError>
+        ensures views { OnOk result (into.new.items ≡ own_views self.now.machine.cores self.now.minds) }
         ensures facts { Facts self.now }
     {
-        views(self.alloc, self.machine.cores(), self.minds.as_slice())
+        views(self.machine.cores(), self.minds.as_slice(), into)
     }
 
     /// The breakpoints with what is asked of them, how many numbers were given to breakpoints and watches, where text stands,

@@ -35,17 +35,15 @@ use Rattle.engine_parts.proofs.Awaiting.{wait_at}
 use Rattle.engine_parts.proofs.Bounding.{Small, below, may_go_by, small_at}
 use Rattle.engine_parts.proofs.Stepping.{fact_of}
 use Rattle.elf32_read.specs.Program.{Program}
-use Rattle.break_table.specs.Entry.{Entry as BreakEntry}
 use Rattle.dbg_model.specs.Judging.{is_due}
 use Rattle.dbg_model.specs.State.{due, is_off}
-use Rattle.dbg_model.specs.Watches.{fired_by}
-use Rattle.dbg_model.specs.declared.watch.Fired.{Fired}
-use Rattle.dbg_model.specs.declared.watch.Watch.{Watch}
+use Rattle.watch_points.specs.Watches.{fired_by}
+use Rattle.watch_points.specs.declared.watchpoint.Fired.{Fired}
 use Rattle.break_table.specs.Table.{is_wait, stands}
 use Rattle.std.specs.List.{list_any}
 use Rattle.engine_parts.specs.Going.{Way, InPlace, ByCopy, Goes, GoesBy, Passes, SurroundingsView, is_kept, turns_of}
 use Rattle.dbg_model.specs.Journals.{lengthened_by}
-use Rattle.engine_parts.specs.Several.{AllTurned, goes_alone, is_alone}
+use Rattle.engine_parts.specs.Several.{AllTurned, goes_alone, is_alone, is_line}
 use Rattle.engine_parts.specs.Slicing.{is_word}
 use Rattle.engine_parts.specs.Calls.{Before, Of, Turns, Undue}
 use Rattle.engine_parts.specs.Rows.{Executes, row_at}
@@ -57,7 +55,7 @@ use Rattle.engine_parts.proofs.Rows.{row_executes, not_so, open_by}
 use Rattle.engine_parts.proofs.Executing.{own_pc, ran_to, ready, same_hart}
 
 -- where a step answered `Ran`, there is a word, which isn't planted
-ran_word : (o : Option ℕ) (b : Bool) (r r' : Registers) (m m' : Memory) → FetchGives stepped.Ran (fetched_as o b) r r' m m' → (is_some o ≡ true) × (b ≡ false)
+pub ran_word : (o : Option ℕ) (b : Bool) (r r' : Registers) (m m' : Memory) → FetchGives stepped.Ran (fetched_as o b) r r' m m' → (is_some o ≡ true) × (b ≡ false)
 ran_word None true r r' m m' g = cc
 ran_word (Some w) true r r' m m' g = let e = g.0 in cc
 ran_word None false r r' m m' g = cc
@@ -123,11 +121,11 @@ run_next n r h x m m' spare idle =
     ap (λ (xs : List Mind). let q : Engine = record r { journal = lengthened_by (suc n) r.journal h; spare = spare; machine = m'; minds = xs; retired = r.retired + n + 1 } in q) (minds_next n r.minds h x idle)
     ∙ ap (λ (k : ℕ). let q : Engine = record r { journal = lengthened_by (suc n) r.journal h; spare = spare; machine = m'; minds = slice_set r.minds h (kept_ran x); retired = k } in q) (omega arith)
 
-none_called : (a b : Bool) → (a || b) ≡ false → (a ≡ false) × (b ≡ false)
+pub none_called : (a b : Bool) → (a || b) ≡ false → (a ≡ false) × (b ≡ false)
 none_called true b e = cc
 none_called false b e = (refl, e)
 
-idle_copies : (q : Phase) (A : Type 0) → q ≡ phase.Idle → is_copied q ≡ true → A
+pub idle_copies : (q : Phase) (A : Type 0) → q ≡ phase.Idle → is_copied q ≡ true → A
 idle_copies q A idle is = let e = sym (ap is_copied idle) ∙ is in absurd cc
 
 -- a hart that is about to execute where nothing is due
@@ -140,7 +138,8 @@ record Undisturbed (q : Engine) (h : ℕ) (x : Mind) : Type 0 where
   undue : Undue q h
   before : Before q h x
 
-undisturbed : (q : Engine) (h : ℕ) (x : Mind) (m : Patched) → Facts q → slice_get q.minds h ≡ Some x → Apart x → q.hold ≡ None → Going q → ((c : Core) → slice_get q.machine.cores h ≡ Some c → StepsTo stepped.Ran q.machine h c m) → Undisturbed q h x
+undisturbed : (q : Engine) (h : ℕ) (x : Mind) (m : Patched) → Facts q → slice_get q.minds h ≡ Some x → Apart x → q.hold ≡ None → Going q
+    → ((c : Core) → slice_get q.machine.cores h ≡ Some c → StepsTo stepped.Ran q.machine h c m) → Undisturbed q h x
 undisturbed q h x m f at a none going steps =
     let k = core_at q h x f.sound at in
     let c = k.0 in
@@ -171,7 +170,8 @@ pub record OneTurn (q new : Engine) (h : ℕ) : Type 0 where
   pub facts : Facts new
   pub does : Turns (turned.Moved move.Ran) q new h
 
-pub one_turn : (q : Engine) (h spare : ℕ) (x : Mind) (m : Patched) → Facts q → slice_get q.minds h ≡ Some x → Apart x → q.hold ≡ None → Going q → fired_by q.watches q.machine.memory m.memory ≡ None → ((c : Core) → slice_get q.machine.cores h ≡ Some c → StepsTo stepped.Ran q.machine h c m)
+pub one_turn : (q : Engine) (h spare : ℕ) (x : Mind) (m : Patched) → Facts q → slice_get q.minds h ≡ Some x → Apart x → q.hold ≡ None → Going q
+    → fired_by q.watches q.machine.memory m.memory ≡ None → ((c : Core) → slice_get q.machine.cores h ≡ Some c → StepsTo stepped.Ran q.machine h c m)
     → OneTurn q (ran_to stepped.Ran q h (kept_ran x) m q.hold spare) h
 one_turn q h spare x m f at a none going unfired steps =
     let u = undisturbed q h x m f at a none going steps in
@@ -183,7 +183,8 @@ one_turn q h spare x m f at a none going unfired steps =
     record { facts = kept_facts q h spare x m f at (ap is_active a.runs) e; does = e.does m.text q.waits }
 
 -- where no interrupt is asked, it is the first move that fits
-first_row : (q : Engine) (h : ℕ) (x : Mind) (m : Patched) → Facts q → slice_get q.minds h ≡ Some x → Alone x → q.hold ≡ None → Going q → ((c : Core) → slice_get q.machine.cores h ≡ Some c → StepsTo stepped.Ran q.machine h c m) → row_at q h ≡ Executes
+first_row : (q : Engine) (h : ℕ) (x : Mind) (m : Patched) → Facts q → slice_get q.minds h ≡ Some x → Alone x → q.hold ≡ None → Going q
+    → ((c : Core) → slice_get q.machine.cores h ≡ Some c → StepsTo stepped.Ran q.machine h c m) → row_at q h ≡ Executes
 first_row q h x m f at a none going steps =
     let u = undisturbed q h x m f at (apart_of x a) none going steps in
     row_executes q h u.core.regs.pc x f.sound u.before u.undue u.pc a.idle a.asked u.unplanted
@@ -192,7 +193,8 @@ turned_on : {a : SurroundingsView} {m n : Patched} → Passes a m n → Passes (
 turned_on s = record { unwatched = s.unwatched; is_on = refl; kept = s.kept; core = s.core; word = s.word; at = s.at; low = s.low; planted = s.planted; word_is = s.word_is; undue = s.undue; counted = s.counted; steps = s.steps }
 
 -- what a hart did in one call, as turns
-pub ahead : (ws : List Way) (r : Engine) (h spare most : ℕ) (copies : Bool) (x : Mind) (m : Patched) → Facts r → slice_get r.minds h ≡ Some x → Alone x → r.hold ≡ None → r.retired + most ≤ r.opening.settings.budget → r.noted < history → r.exited ≡ false
+pub ahead : (ws : List Way) (r : Engine) (h spare most : ℕ) (copies : Bool) (x : Mind) (m : Patched) → Facts r → slice_get r.minds h ≡ Some x
+    → Alone x → r.hold ≡ None → r.retired + most ≤ r.opening.settings.budget → r.noted < history → r.exited ≡ false
     → (copies ≡ true → is_off r.displaced ≡ false)
     → GoesBy (around r h x.course.plan copies) most ws r.machine m → Ahead (turns_of ws) r (run_after (length ws) r h x m spare) h
 ahead [] r h spare most copies x m f at a none budget low still on went =
@@ -217,7 +219,9 @@ ahead (ByCopy ∷ ws) r h spare most copies x m f at a none budget low still on 
     let n = length ws in
     let q = run_after n r h x went.1.machine spare in
     let before = ahead ws r h spare most copies x went.1.machine f at a none budget low still on went.1.before in
-    let e = passed (turns_of ws) r q h spare (mind_after n x) m before.turns before.facts (at_after n r.minds h x at) (alone_after n x a) none (record { budget = omega (arith, went.0); history = low; going = still }) (omega (arith, went.0)) (on went.1.step.is_on) (subst (λ (u : Plan). Passes (around r h u true) went.1.machine m) (sym (plan_after n x)) (turned_on went.1.step)) in
+    let e = passed (turns_of ws) r q h spare (mind_after n x) m before.turns before.facts (at_after n r.minds h x at) (alone_after n x a) none
+    (record { budget = omega (arith, went.0); history = low; going = still }) (omega (arith, went.0)) (on went.1.step.is_on)
+    (subst (λ (u : Plan). Passes (around r h u true) went.1.machine m) (sym (plan_after n x)) (turned_on went.1.step)) in
     let next = run_next n r h x went.1.machine m spare a.idle in
     let P : Engine → Type 0 = λ u. Ahead (suc (suc (suc (turns_of ws)))) r u h in
     subst P next e
@@ -231,12 +235,15 @@ after_is (suc n) r h spare x y m j k some ej ey ek =
     ∙ (ap (λ (z : Mind). let q : Engine = record r { journal = j; spare = spare; machine = m; minds = slice_set r.minds h z; retired = r.retired + suc n } in q) (sym ey)
     ∙ ap (λ (i : ℕ). let q : Engine = record r { journal = j; spare = spare; machine = m; minds = slice_set r.minds h y; retired = r.retired + i } in q) (sym ek))
 
-pub ahead_to : (r s : Engine) (h spare most turns n : ℕ) (copies : Bool) (x y : Mind) (m : Patched) (j : List Entry) (k : ℕ) → r ≡ s → 0 < n → Facts r → slice_get s.minds h ≡ Some x → x.phase ≡ phase.Idle → x.activity ≡ activity.Running → x.asked ≡ false → goes_alone r.opening.image x ≡ true → x.course.fired ≡ None → r.hold ≡ None
-    → r.retired + most ≤ r.opening.settings.budget → r.noted < history → r.exited ≡ false → (copies ≡ true → is_off r.displaced ≡ false) → Goes (around r h x.course.plan copies) most turns n r.machine m → j ≡ lengthened_by n r.journal h → y ≡ kept_ran x → k ≡ n
+pub ahead_to : (r s : Engine) (h spare most turns n : ℕ) (copies : Bool) (x y : Mind) (m : Patched) (j : List Entry) (k : ℕ) → r ≡ s → 0 < n → Facts r → slice_get s.minds h ≡ Some x
+    → x.phase ≡ phase.Idle → x.activity ≡ activity.Running → x.asked ≡ false → is_line x.course.plan ≡ false → goes_alone r.opening.image x ≡ true → x.course.fired ≡ None → r.hold ≡ None
+    → r.retired + most ≤ r.opening.settings.budget → r.noted < history → r.exited ≡ false → (copies ≡ true → is_off r.displaced ≡ false) → Goes (around r h x.course.plan copies) most turns n r.machine m
+    → j ≡ lengthened_by n r.journal h → y ≡ kept_ran x → k ≡ n
     → Ahead turns r (record r { journal = j; spare = spare; machine = m; minds = slice_set r.minds h y; retired = r.retired + k }) h
-ahead_to r s h spare most turns n copies x y m j k same some f at idle runs unasked free unfired none budget low still on went ej ey ek =
+ahead_to r s h spare most turns n copies x y m j k same some f at idle runs unasked off free unfired none budget low still on went ej ey ek =
     let ws = went.ways in
-    let base = ahead ws r h spare most copies x m f (ap (λ (q : Engine). slice_get q.minds h) same ∙ at) (record { idle = idle; runs = runs; asked = unasked; plan = alone_takes r.opening.image x free; unfired = unfired }) none budget low still on went.goes in
+    let alone : Alone x = record { idle = idle; runs = runs; asked = unasked; plan = alone_takes r.opening.image x off free; unfired = unfired } in
+    let base = ahead ws r h spare most copies x m f (ap (λ (q : Engine). slice_get q.minds h) same ∙ at) alone none budget low still on went.goes in
     let is = ap (λ (i : ℕ). run_after i r h x m spare) (sym went.instructions_are) ∙ after_is n r h spare x y m j k some ej ey ek in
     let T : ℕ → Type 0 = λ t. Ahead t r (record r { journal = j; spare = spare; machine = m; minds = slice_set r.minds h y; retired = r.retired + k }) h in
     subst T (sym went.turns_are) (subst (λ (q : Engine). Ahead (turns_of ws) r q h) is base)
@@ -271,15 +278,15 @@ unfired_so None e = refl
 unfired_so (Some f) e = cc
 
 -- a hart that is alone
-record IsAlone (p : Program) (x : Mind) (hold : Option Hold) : Type 0 where
-  idle : x.phase ≡ phase.Idle
-  runs : x.activity ≡ activity.Running
-  asked : x.asked ≡ false
-  plan : goes_alone p x ≡ true
-  unfired : x.course.fired ≡ None
-  none : hold ≡ None
+pub record IsAlone (p : Program) (x : Mind) (hold : Option Hold) : Type 0 where
+  pub idle : x.phase ≡ phase.Idle
+  pub runs : x.activity ≡ activity.Running
+  pub asked : x.asked ≡ false
+  pub plan : goes_alone p x ≡ true
+  pub unfired : x.course.fired ≡ None
+  pub none : hold ≡ None
 
-alone_so : (p : Program) (x : Mind) (hold : Option Hold) → is_alone p x hold ≡ true → IsAlone p x hold
+pub alone_so : (p : Program) (x : Mind) (hold : Option Hold) → is_alone p x hold ≡ true → IsAlone p x hold
 alone_so p x hold is =
     let a = both_true ((((runs x && is_idle x.phase) && not x.asked) && goes_alone p x) && is_none x.course.fired) (is_none hold) is in
     let e = both_true (((runs x && is_idle x.phase) && not x.asked) && goes_alone p x) (is_none x.course.fired) a.0 in
@@ -289,13 +296,14 @@ alone_so p x hold is =
     record { idle = idle_so x.phase c.1; runs = running_so x.activity c.0; asked = not_so x.asked b.1; plan = d.1; unfired = unfired_so x.course.fired e.1; none = none_so hold a.1 }
 
 -- the engine after a call, by its parts
-pub gone_to : (r s : Engine) (h spare most turns n : ℕ) (copies : Bool) (x y : Mind) (m : Patched) (j : List Entry) (k : ℕ) → r ≡ s → 0 < n → Facts r → may_go s.opening (seen s) ≡ true → slice_get s.minds h ≡ Some x → is_alone r.opening.image x r.hold ≡ true
+pub gone_to : (r s : Engine) (h spare most turns n : ℕ) (copies : Bool) (x y : Mind) (m : Patched) (j : List Entry) (k : ℕ) → r ≡ s → 0 < n → Facts r → may_go s.opening (seen s) ≡ true
+    → slice_get s.minds h ≡ Some x → is_line x.course.plan ≡ false → is_alone r.opening.image x r.hold ≡ true
     → r.retired + most ≤ r.opening.settings.budget → (copies ≡ true → is_off r.displaced ≡ false) → Goes (around r h x.course.plan copies) most turns n r.machine m → j ≡ lengthened_by n r.journal h → y ≡ kept_ran x → k ≡ n
     → Ahead turns r (record r { journal = j; spare = spare; machine = m; minds = slice_set r.minds h y; retired = r.retired + k }) h
-gone_to r s h spare most turns n copies x y m j k same some f may at alone budget on went ej ey ek =
+gone_to r s h spare most turns n copies x y m j k same some f may at off alone budget on went ej ey ek =
     let go : may_go r.opening (seen r) ≡ true = ap (λ (q : Engine). may_go q.opening (seen q)) same ∙ may in
     let a = alone_so r.opening.image x r.hold alone in
-    ahead_to r s h spare most turns n copies x y m j k same some f at a.idle a.runs a.asked a.plan a.unfired a.none budget (below r go).1 (open_by r go) on went ej ey ek
+    ahead_to r s h spare most turns n copies x y m j k same some f at a.idle a.runs a.asked off a.plan a.unfired a.none budget (below r go).1 (open_by r go) on went ej ey ek
 
 pub small_of : (r s : Engine) → r ≡ s → Sound r → may_go s.opening (seen s) ≡ true → Small r
 small_of r s same f may = small_at r f (ap (λ (q : Engine). may_go q.opening (seen q)) same ∙ may)

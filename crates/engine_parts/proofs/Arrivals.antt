@@ -10,9 +10,9 @@ use Rattle.dbg_model.specs.declared.entry.Entry.TheVariants.{Stopped}
 use Rattle.dbg_model.specs.declared.entry.Why.{Why}
 use Rattle.dbg_model.specs.declared.entry.Why.TheVariants as whys
 use Rattle.dbg_model.specs.declared.judgement.Judgement.{Judgement}
-use Rattle.dbg_model.specs.declared.watch.Fired.{Fired}
-use Rattle.dbg_model.specs.declared.watch.Watch.{Watch}
-use Rattle.dbg_model.specs.Watches.{risen}
+use Rattle.watch_points.specs.declared.watchpoint.Fired.{Fired}
+use Rattle.watch_points.specs.declared.watchpoint.Watch.{Watch}
+use Rattle.watch_points.specs.Watches.{risen}
 use Rattle.dbg_model.specs.Judging.{is_counted, is_due, is_end}
 use Rattle.dbg_model.specs.State.{State, due}
 use Rattle.dbg_model.specs.Journals.{last_why}

@@ -19,7 +19,7 @@ use Rattle.dbg_model.specs.Views.{register, shown_byte}
 use Rattle.dbg_model.specs.declared.hart.Hart.{Hart}
 use Rattle.dbg_model.specs.declared.course.Course.{Course}
 use Rattle.dbg_model.specs.declared.judgement.Judgement.{Judgement}
-use Rattle.dbg_model.specs.declared.watch.Fired.{Fired}
+use Rattle.watch_points.specs.declared.watchpoint.Fired.{Fired}
 use Rattle.dbg_model.specs.Judging.{is_due, judgement_of, no_arrival, verdict_behind}
 use Rattle.dbg_model.specs.State.{State, due, arrived}
 use Rattle.dbg_model.proofs.Judged.{free_goes}

@@ -1,6 +1,6 @@
 -- A line asks for a write into the program, and what it asks for is written.
 use Rattle.std.proofs.Common.{◌≡◌, ℕ, ◌+◌, true, cond, List, [], ◌∷◌, ◌++◌, length, refl, sym, ap, ◌∙◌, subst, arith, inl}
-use Rattle.std.specs.Prelude.{Some, None, slice_get, slice_set, ◌==◌}
+use Rattle.std.specs.Prelude.{Some, None, slice_set}
 use Rattle.std.specs.Option.{option_map}
 use Rattle.std.specs.Str.{bytes_eq}
 use Rattle.rv_exec.specs.Registers.{set}
@@ -14,7 +14,6 @@ use Rattle.hart_machine.proofs.Places.{set_known}
 use Rattle.dbg_model.specs.declared.entry.Entry.TheVariants.{Did, Poked}
 use Rattle.dbg_model.specs.declared.entry.Poke.{Poke}
 use Rattle.dbg_model.specs.declared.entry.Poke.TheVariants as poke
-use Rattle.dbg_model.specs.declared.hart.Hart.{Hart}
 use Rattle.dbg_model.specs.declared.opening.Opening.{Opening}
 use Rattle.dbg_model.specs.Lawful.{enter}
 use Rattle.dbg_model.specs.Outcome.{pokes}
@@ -27,7 +26,7 @@ use Rattle.engine_parts.specs.declared.mind.Mind.{Mind}
 use Rattle.engine_parts.specs.Seen.{Engine, seen, seen_with, told_of, seen_hart, seen_harts}
 use Rattle.engine_parts.specs.Facts.{Sound, Harts, HartFact, Placed, Retired, AreCopied}
 use Rattle.engine_parts.specs.Minds.{is_active}
-use Rattle.engine_parts.specs.Moves.{poked}
+use Rattle.engine_parts.proofs.Built.{poked}
 use Rattle.engine_parts.proofs.Showing.{seen-set}
 use Rattle.engine_parts.proofs.Counting.{retired_noted, retired_same, copied_same}
 use Rattle.engine_parts.proofs.Updating.{Changes, updated, slots_same, equals}
@@ -150,7 +149,8 @@ register_rewrites r h n v c x f m stops =
     }
 
 -- a register of a stopped hart is set
-pub writes_register : (r : Engine) (line : List ℕ) (h n v spare : ℕ) (c : Core) (x : Mind) → Sound r → enter r.opening (seen r) (Did line) ≡ Some (asking (seen r) (poke.Register h n v)) → Mover r h c x → x.activity ≡ activity.Stopped → is_settable n ≡ true
+pub writes_register : (r : Engine) (line : List ℕ) (h n v spare : ℕ) (c : Core) (x : Mind) → Sound r
+    → enter r.opening (seen r) (Did line) ≡ Some (asking (seen r) (poke.Register h n v)) → Mover r h c x → x.activity ≡ activity.Stopped → is_settable n ≡ true
     → Writes r (poked r line (poke.Register h n v) (slice_set r.machine.cores h (poked_core c n v)) r.machine.memory spare) (poke.Register h n v)
 writes_register r line h n v spare c x f did m stops set =
     writes r line (poke.Register h n v) (slice_set r.machine.cores h (poked_core c n v)) r.machine.memory spare f did (register_enters r line h n v spare c x m stops set) (register_rewrites r h n v c x f m stops)

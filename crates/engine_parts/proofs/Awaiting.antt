@@ -42,7 +42,8 @@ set_by a new true false is same e = inl refl
 set_by a new false old true same e = inr same
 set_by a new false old false same e = let clash : (false || false) ≡ true = ap (λ b. b || false) (sym same) ∙ e in cc
 
-rest_by : (ws : List (Option ℕ)) (h a : ℕ) (new : Option ℕ) (b : Bool) → (b || list_any (is_wait a) (slice_set ws h new)) ≡ true → (list_any (is_wait a) (slice_set ws h new) ≡ true → (list_any (is_wait a) ws ≡ true) ⊎ (is_wait a new ≡ true))
+rest_by : (ws : List (Option ℕ)) (h a : ℕ) (new : Option ℕ) (b : Bool) → (b || list_any (is_wait a) (slice_set ws h new)) ≡ true
+    → (list_any (is_wait a) (slice_set ws h new) ≡ true → (list_any (is_wait a) ws ≡ true) ⊎ (is_wait a new ≡ true))
     → ((b || list_any (is_wait a) ws) ≡ true) ⊎ (is_wait a new ≡ true)
 rest_by ws h a new true e ih = inl refl
 rest_by ws h a new false e ih = ih e
@@ -91,7 +92,9 @@ await_text p [] a e = cc
 await_text p (x ∷ xs) a e = any_by p a x xs (is_wait a (awaited p x)) refl e (await_text p xs a)
 
 -- the harts wait where their plans have them wait
-pub rewaited : (r : Engine) (t : Words) → Sound r → t.words ≡ r.machine.text.words → (let ws = map (awaited r.opening.image) r.minds in ArePlanted t (record (wants_of r) { waits = ws }) → Facts (record r { machine = record r.machine { text = t }; waits = ws }))
+pub rewaited : (r : Engine) (t : Words) → Sound r → t.words ≡ r.machine.text.words
+    → (let ws = map (awaited r.opening.image) r.minds in ArePlanted t (record (wants_of r) { waits = ws })
+    → Facts (record r { machine = record r.machine { text = t }; waits = ws }))
 rewaited r t f same p =
     record {
       sound = record {

@@ -21,7 +21,7 @@ use Rattle.break_table.specs.Entry.{Entry as BreakEntry}
 use Rattle.dbg_model.specs.declared.entry.Entry.{Entry}
 use Rattle.dbg_model.specs.declared.opening.Opening.{Opening}
 use Rattle.dbg_model.specs.State.{State, first_state}
-use Rattle.dbg_model.specs.declared.watch.Watch.{Watch}
+use Rattle.watch_points.specs.declared.watchpoint.Watch.{Watch}
 use Rattle.dbg_model.specs.Journals.{Leaves}
 use Rattle.dbg_model.proofs.Adding.{starts}
 use Rattle.engine_parts.specs.declared.mind.Mind.{Mind}
@@ -172,7 +172,8 @@ pub record Begins (o : Opening) (r : Engine) : Type 0 where
   pub facts : Facts r
   pub state : seen r ≡ first_state o
 
-pub begins_at : (o : Opening) (spare : ℕ) (j : List Entry) (m : Patched) (xs : List Mind) (ws : List Watch) (t : Table) (sources : Sources) → AreSettings o.settings → j ≡ [] → m ≡ loaded o.image o.settings.harts o.settings.slots → xs ≡ replicate o.settings.harts first_mind → ws ≡ []
+pub begins_at : (o : Opening) (spare : ℕ) (j : List Entry) (m : Patched) (xs : List Mind) (ws : List Watch) (t : Table) (sources : Sources)
+    → AreSettings o.settings → j ≡ [] → m ≡ loaded o.image o.settings.harts o.settings.slots → xs ≡ replicate o.settings.harts first_mind → ws ≡ []
     → t ≡ first_table o.image o.settings.harts → KnowsText o t → sources ≡ sources_of o.image → Begins o (run_at o spare j m xs ws t sources)
 begins_at o spare j m xs ws t sources s none is are unwatched table places same =
     let P : List Entry → Patched → List Mind → List Watch → Table → Sources → Type 0 = λ j m xs ws t sources. Begins o (run_at o spare j m xs ws t sources) in

@@ -68,7 +68,8 @@ pub stands-enabled : (e : Bool) (bs : List BreakEntry) (n a c low high : ℕ) �
 stands-enabled e [] n a c low high r at apart = cc
 stands-enabled e (b ∷ bs) n a c low high r at apart = enabled_by e b bs n a c low high (b.number == n) refl r at apart (λ f. stands-enabled e bs n a c b.number high r.1 f apart)
 
-absent_deleted_by : (b : BreakEntry) (bs : List BreakEntry) (n : ℕ) (t : Bool) → number_place_by t b (number_place bs n) ≡ None → (number_place bs n ≡ None → filter (is_other n) bs ≡ bs) → cond (not t) (b ∷ filter (is_other n) bs) (filter (is_other n) bs) ≡ b ∷ bs
+absent_deleted_by : (b : BreakEntry) (bs : List BreakEntry) (n : ℕ) (t : Bool) → number_place_by t b (number_place bs n) ≡ None
+    → (number_place bs n ≡ None → filter (is_other n) bs ≡ bs) → cond (not t) (b ∷ filter (is_other n) bs) (filter (is_other n) bs) ≡ b ∷ bs
 absent_deleted_by b bs n true at ih = cc
 absent_deleted_by b bs n false at ih = ap (λ t. b ∷ t) (ih at)
 
@@ -77,7 +78,8 @@ pub absent-deleted : (bs : List BreakEntry) (n : ℕ) → number_place bs n ≡ 
 absent-deleted [] n at = refl
 absent-deleted (b ∷ bs) n at = absent_deleted_by b bs n (b.number == n) at (absent-deleted bs n)
 
-absent_changed_by : (f : BreakEntry → BreakEntry) (b : BreakEntry) (bs : List BreakEntry) (n : ℕ) (t : Bool) → number_place_by t b (number_place bs n) ≡ None → (number_place bs n ≡ None → map (changed_entry f n) bs ≡ bs) → cond t (f b) b ∷ map (changed_entry f n) bs ≡ b ∷ bs
+absent_changed_by : (f : BreakEntry → BreakEntry) (b : BreakEntry) (bs : List BreakEntry) (n : ℕ) (t : Bool)
+    → number_place_by t b (number_place bs n) ≡ None → (number_place bs n ≡ None → map (changed_entry f n) bs ≡ bs) → cond t (f b) b ∷ map (changed_entry f n) bs ≡ b ∷ bs
 absent_changed_by f b bs n true at ih = cc
 absent_changed_by f b bs n false at ih = ap (λ t. b ∷ t) (ih at)
 
@@ -168,10 +170,16 @@ kept_words v bs t f same each = record { patches = λ c. f.patches c ∙ ap (λ 
 
 -- what is planted in an engine
 pub are_planted : (r : Engine) → Sound r → ArePlanted r.machine.text (wants_of r)
-are_planted r f = record { patches = f.planted.patches; words = λ k b at. text_shown r.opening.image r.machine.text (wants_of r) b.address f.planted (f.texts k b at); awaits = λ a e. text_shown r.opening.image r.machine.text (wants_of r) a f.planted (f.awaits a e) }
+are_planted r f = record {
+  patches = f.planted.patches;
+  words = λ k b at. text_shown r.opening.image r.machine.text (wants_of r) b.address f.planted
+      (f.texts k b at);
+  awaits = λ a e. text_shown r.opening.image r.machine.text (wants_of r) a f.planted (f.awaits a e);
+}
 
 -- and back
-pub planted_again : (r : Engine) (t : Words) (bs : List BreakEntry) → Sound r → t.words ≡ r.machine.text.words → (let v : Wants = record (wants_of r) { entries = bs } in ArePlanted t v → Planted r.opening.image t v × AreInText r.opening.image bs)
+pub planted_again : (r : Engine) (t : Words) (bs : List BreakEntry) → Sound r → t.words ≡ r.machine.text.words
+    → (let v : Wants = record (wants_of r) { entries = bs } in ArePlanted t v → Planted r.opening.image t v × AreInText r.opening.image bs)
 planted_again r t bs f same p =
     let v : Wants = record (wants_of r) { entries = bs } in
     let planted : Planted r.opening.image t v = record { words = same ∙ f.planted.words; patches = p.patches } in

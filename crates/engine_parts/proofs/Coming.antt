@@ -9,12 +9,11 @@ use Rattle.dbg_model.specs.declared.entry.Entry.{Entry}
 use Rattle.dbg_model.specs.declared.entry.Entry.TheVariants.{Ran, Counted, Stopped, Left, Did, Poked}
 use Rattle.dbg_model.specs.declared.entry.Mode.{Mode}
 use Rattle.dbg_model.specs.declared.entry.Mode.TheVariants as mode
-use Rattle.dbg_model.specs.declared.entry.Why.{Why}
 use Rattle.dbg_model.specs.declared.hart.Hart.{Hart}
 use Rattle.dbg_model.specs.declared.opening.Opening.{Opening}
 use Rattle.dbg_model.specs.declared.shown.Shown.{Shown}
-use Rattle.dbg_model.specs.declared.shown.Shown.TheVariants.{Nothing, Wrote, Exit}
-use Rattle.dbg_model.specs.State.{State, all_gone, has_exited, hart_gone}
+use Rattle.dbg_model.specs.declared.shown.Shown.TheVariants.{Wrote, Exit}
+use Rattle.dbg_model.specs.State.{State, all_gone, has_exited}
 use Rattle.dbg_model.specs.Lawful.{enter, exited_at, leaver_from, leaver_or, left_by, one_out}
 use Rattle.dbg_model.specs.Journals.{Leaves, Place, come, first_place, follows, ran_hart, replay, replay_from}
 use Rattle.dbg_model.specs.Shown.{shown_of, written}

@@ -25,7 +25,7 @@ use Rattle.step_over.specs.declared.phase.Phase.{Phase}
 use Rattle.dbg_model.specs.Limits.{history}
 use Rattle.dbg_model.specs.declared.hart.Hart.{Hart}
 use Rattle.dbg_model.specs.State.{State, any_runs, is_off, is_stopped}
-use Rattle.dbg_model.specs.declared.watch.Watch.{Watch}
+use Rattle.watch_points.specs.declared.watchpoint.Watch.{Watch}
 use Rattle.dbg_model.specs.Outcome.{Change, stays, resumes, selects, inserts, adds_watch, deletes, enables, conditions, ignores, interrupts, displaces, pokes, exits}
 use Rattle.dbg_model.specs.Sight.{thread_at}
 use Rattle.dbg_model.specs.Reply.{exited_after, answer_of, changed_by, done_by, is_wait, selected_after, displaced_after, sets_after, breaks_after, given_after, pending_after, watches_after}
@@ -39,7 +39,7 @@ use Rattle.engine_parts.specs.declared.mind.Activity.TheVariants as activity
 use Rattle.engine_parts.specs.Minds.{awaited, entered_of, is_active, is_lifted, mode_of}
 use Rattle.engine_parts.specs.Seen.{Engine, seen, seen_with, told_of, seen_hart, seen_harts}
 use Rattle.engine_parts.specs.Facts.{Facts, Sound, IsThread, wants_of, Planted, AreInText, pending}
-use Rattle.engine_parts.specs.Moves.{lined, poked}
+use Rattle.engine_parts.proofs.Built.{lined, poked}
 use Rattle.engine_parts.specs.Tables.{ArePlanted}
 use Rattle.engine_parts.proofs.Stopping.{lines}
 use Rattle.engine_parts.proofs.Bounding.{below}
@@ -53,7 +53,8 @@ use Rattle.engine_parts.specs.Calls.{Lines, pokes_of, poked_after}
 use Rattle.engine_parts.specs.Writing.{CanPoke, Pokes}
 use Rattle.engine_parts.specs.Resuming.{minds_after}
 use Rattle.engine_parts.proofs.GoingOn.{line_ordered}
-use Rattle.engine_parts.proofs.Holds.{Moved, Noted}
+use Rattle.engine_parts.proofs.Holds.{Moved}
+use Rattle.engine_parts.proofs.Halting.{Noted}
 
 enter_did : (o : Opening) (s : State) (line : List ℕ) → may_do o s line ≡ true → enter o s (Did line) ≡ Some (done_by o s line)
 unfolding enter
@@ -132,7 +133,8 @@ sets_more d sets (displaces value) q = sets_by_more d value q sets (is_off value
 sets_more d sets (pokes w) q = omega arith
 sets_more d sets exits q = omega arith
 
-lined_to : (r : Engine) (line : List ℕ) (c : Change) (t : Words) (spare : ℕ) → Sound r → may_do r.opening (seen r) line ≡ true → Makes r line c → pending_after None c ≡ None → Planted r.opening.image t (record (wants_of r) { entries = breaks_after r.breaks r.given c })
+lined_to : (r : Engine) (line : List ℕ) (c : Change) (t : Words) (spare : ℕ) → Sound r → may_do r.opening (seen r) line ≡ true → Makes r line c
+    → pending_after None c ≡ None → Planted r.opening.image t (record (wants_of r) { entries = breaks_after r.breaks r.given c })
     → AreInText r.opening.image (breaks_after r.breaks r.given c) → LinedTo r (after_line r line c t spare) line
 lined_to r line c t spare f may is none p texts =
     let image = r.opening.image in
@@ -145,7 +147,8 @@ lined_to r line c t spare f may is none p texts =
     let founded = subst (IsFounded image (seen r).harts r.breaks) is (change_founded r.opening (seen r) line) in
     let len : length (seen r).harts ≡ r.opening.settings.harts = harts_length image r.machine.cores r.minds f.harts.len ∙ f.count in
     let e : Enters n s =
-    lines r (Did line) (minds_after r.minds c) (selected_after r.selected c) (displaced_after r.displaced c) t (breaks_after r.breaks r.given c) (watches_after r.watches r.given c) (given_after r.given c) (exited_after r.exited c) spare s f refl (enter_did r.opening (seen r) line may ∙ ap Some done) same
+    lines r (Did line) (minds_after r.minds c) (selected_after r.selected c) (displaced_after r.displaced c) t (breaks_after r.breaks r.given c)
+    (watches_after r.watches r.given c) (given_after r.given c) (exited_after r.exited c) spare s f refl (enter_did r.opening (seen r) line may ∙ ap Some done) same
     o.len
     (selected_within r.opening image (seen r).harts r.breaks r.selected c f.selected len founded)
     o.harts
@@ -167,7 +170,8 @@ abbrev pub written_run : Engine → List Entry → Patched → ℕ → Engine
 written_run r j m spare = record r { journal = j; spare = spare; machine = m; noted = r.noted + 2 }
 
 -- the line and its write are in the journal, and the state is that after both
-write_lines : (r new : Engine) (line : List ℕ) (p : Poke) → Facts r → Makes r line (pokes p) → Writes r new p → new.journal ≡ (r.journal ++ Did line ∷ []) ++ Poked p ∷ [] → new.opening ≡ r.opening → new.waits ≡ r.waits → new.minds ≡ r.minds → Moved new (Lines r new line)
+write_lines : (r new : Engine) (line : List ℕ) (p : Poke) → Facts r → Makes r line (pokes p) → Writes r new p
+    → new.journal ≡ (r.journal ++ Did line ∷ []) ++ Poked p ∷ [] → new.opening ≡ r.opening → new.waits ≡ r.waits → new.minds ≡ r.minds → Moved new (Lines r new line)
 write_lines r new line p f is w journal opening waits minds =
     let done = done_is r.opening (seen r) line (pokes p) is in
     let asks : (done_by r.opening (seen r) line).pending ≡ Some p = ap (λ (t : State). t.pending) done in
@@ -234,21 +238,53 @@ wrote_by r spare line (poke.Bytes a bytes) m f may is can w =
     subst P (sym w) (write_lines r (poked r line p r.machine.cores (with_bytes r.machine.memory a bytes) spare) line p f is e refl refl refl refl)
 
 -- A line that asks for a write was done, and that was written.
-pub wrote_line : (r : Engine) (spare : ℕ) (line : List ℕ) (p : Poke) (j : List Entry) (m : Patched) → Facts r → may_do r.opening (seen r) line ≡ true → Makes r line (pokes p) → j ≡ (r.journal ++ Did line ∷ []) ++ Poked p ∷ [] → Pokes r.machine p m
+pub wrote_line : (r : Engine) (spare : ℕ) (line : List ℕ) (p : Poke) (j : List Entry) (m : Patched) → Facts r → may_do r.opening (seen r) line ≡ true
+    → Makes r line (pokes p) → j ≡ (r.journal ++ Did line ∷ []) ++ Poked p ∷ [] → Pokes r.machine p m
     → (let new = written_run r j m spare in Moved new (Lines r new line))
 wrote_line r spare line p j m f may is journal w =
     let P : List Entry → Type 0 = λ es. (let new = written_run r es m spare in Moved new (Lines r new line)) in
     subst P (sym journal) (wrote_by r spare line p m f may is (change_writable r.opening (seen r) line p is) w)
 
 -- A line that makes a change was done: the journal, what is kept of the harts, the settings and the table are those after it.
-pub done_line : (r : Engine) (spare : ℕ) (line : List ℕ) (c : Change) (j : List Entry) (m : Patched) (xs : List Mind) (selected : ℕ) (d : Displaced) (exited : Bool) (watches : List Watch) (old new : Table) → Sound r → may_do r.opening (seen r) line ≡ true → Makes r line c → pending_after None c ≡ None
+pub done_line : (r : Engine) (spare : ℕ) (line : List ℕ) (c : Change) (j : List Entry) (m : Patched) (xs : List Mind) (selected : ℕ) (d : Displaced)
+    (exited : Bool) (watches : List Watch) (old new : Table) → Sound r → may_do r.opening (seen r) line ≡ true → Makes r line c → pending_after None c ≡ None
     → r.breaks ≡ old.entries → r.given ≡ old.given → r.bounds ≡ old.text → r.waits ≡ old.waits
     → j ≡ r.journal ++ Did line ∷ [] → xs ≡ minds_after r.minds c → selected ≡ selected_after r.selected c → d ≡ displaced_after r.displaced c → exited ≡ exited_after r.exited c
     → new ≡ record old { entries = breaks_after old.entries old.given c; given = given_after old.given c } → watches ≡ watches_after r.watches old.given c → Retabled r.machine m (wants_by new r.hold)
-    → LinedTo r (record r { journal = j; spare = spare; machine = m; minds = xs; watches = watches; breaks = new.entries; given = new.given; bounds = new.text; waits = new.waits; selected = selected; displaced = d; noted = r.noted + 1; exited = exited }) line
+    → LinedTo r (record r {
+      journal = j;
+      spare = spare;
+      machine = m;
+      minds = xs;
+      watches = watches;
+      breaks = new.entries;
+      given = new.given;
+      bounds =
+          new.text;
+      waits = new.waits;
+      selected = selected;
+      displaced = d;
+      noted = r.noted + 1;
+      exited = exited;
+    }) line
 done_line r spare line c j m xs selected d exited watches old new f may is none breaks given bounds waits same minds chosen set ended table watched w =
     let N : List Watch → List Entry → Patched → List Mind → ℕ → Displaced → Bool → List BreakEntry → ℕ → List Span → List (Option ℕ) → Type 0 =
-    λ ps es n ys t v x cs g us vs. LinedTo r (record r { watches = ps; journal = es; spare = spare; machine = n; minds = ys; selected = t; displaced = v; breaks = cs; given = g; bounds = us; waits = vs; noted = r.noted + 1; exited = x }) line in
+    λ ps es n ys t v x cs g us vs. LinedTo r (record r {
+      watches = ps;
+      journal = es;
+      spare = spare;
+      machine = n;
+      minds = ys;
+      selected = t;
+      displaced = v;
+      breaks = cs;
+      given = g;
+      bounds = us;
+      waits
+          = vs;
+      noted = r.noted + 1;
+      exited = x;
+    }) line in
     let es = r.journal ++ Did line ∷ [] in
     let m' : Patched = record r.machine { text = m.text } in
     let ys = minds_after r.minds c in

@@ -15,7 +15,8 @@ use Rattle.engine_parts.specs.declared.mind.Mind.{Mind}
 use Rattle.engine_parts.specs.Minds.{lifted_of, slot_of, with_phase}
 use Rattle.engine_parts.specs.Seen.{Engine, running_regs}
 use Rattle.engine_parts.specs.Facts.{Sound, pending}
-use Rattle.engine_parts.specs.Moves.{Takes, rehomed}
+use Rattle.engine_parts.specs.Moves.{Takes}
+use Rattle.engine_parts.proofs.Built.{rehomed}
 use Rattle.engine_parts.proofs.Updating.{slots_taken}
 use Rattle.engine_parts.proofs.Keeping.{Mover, StaysSeen, silent_home}
 use Rattle.engine_parts.proofs.Stepping.{fact_of, runs_not, seen_alike, shown_alike}
@@ -28,7 +29,8 @@ copied_pending d slot home = ap (λ b. cond b 1 0) (and_off (not (is_off d)))
 entered_seen : (p : Program) (r : Registers) (slot home : ℕ) → r.pc ≡ home → running_regs p (set_pc r slot) (phase.Copied slot home) ≡ r
 entered_seen p r slot home pc = ap (set_pc r) (sym pc)
 
-pub copies : (r : Engine) (h slot home word : ℕ) (c : Core) (x : Mind) (slots : List (Option SlotUse)) → Sound r → Mover r h c x → x.activity ≡ activity.Running → x.phase ≡ phase.Idle → c.regs.pc ≡ home → text_word r.opening.image home ≡ Some word
+pub copies : (r : Engine) (h slot home word : ℕ) (c : Core) (x : Mind) (slots : List (Option SlotUse)) → Sound r → Mover r h c x
+    → x.activity ≡ activity.Running → x.phase ≡ phase.Idle → c.regs.pc ≡ home → text_word r.opening.image home ≡ Some word
     → IsWordAddress slot → IsWordAddress home → Takes r.machine.slots slots h slot word → StaysSeen r (rehomed r h (entered_core c slot) (with_phase x (phase.Copied slot home)) r.machine.text slots r.hold)
 copies r h slot home word c x slots f m runs idle pc image at_slot at_home takes =
     let p = r.opening.image in

@@ -17,7 +17,8 @@ use Rattle.engine_parts.specs.declared.mind.Mind.{Mind}
 use Rattle.engine_parts.specs.Minds.{lefts_live, left_live}
 use Rattle.engine_parts.specs.Facts.{Retired, AreCopied, pending}
 
-counts_at : (cs : List Core) (h n : ℕ) (c c' : Core) (j k : List Entry) → slice_get cs h ≡ Some c → c'.retired ≡ c.retired + n → ((i : ℕ) → (h ≡ i → ⊥) → steps_of i (erase k) ≡ steps_of i (erase j)) → steps_of h (erase k) ≡ steps_of h (erase j) + n
+counts_at : (cs : List Core) (h n : ℕ) (c c' : Core) (j k : List Entry) → slice_get cs h ≡ Some c → c'.retired ≡ c.retired + n
+    → ((i : ℕ) → (h ≡ i → ⊥) → steps_of i (erase k) ≡ steps_of i (erase j)) → steps_of h (erase k) ≡ steps_of h (erase j) + n
     → Retired cs j → (i : ℕ) (d : Core) → ((h ≡ i) × (c' ≡ d)) ⊎ ((h ≡ i → ⊥) × (slice_get cs i ≡ Some d)) → d.retired ≡ steps_of i (erase k)
 counts_at cs h n c c' j k at more others own r i d (inl p) =
     let had = r h c at in
@@ -26,7 +27,8 @@ counts_at cs h n c c' j k at more others own r i d (inl p) =
 counts_at cs h n c c' j k at more others own r i d (inr p) = r i d p.1 ∙ sym (others i p.0)
 
 -- one hart has executed n more, and the journal has them
-counts_more : (cs : List Core) (h n : ℕ) (c c' : Core) (j k : List Entry) → slice_get cs h ≡ Some c → c'.retired ≡ c.retired + n → ((i : ℕ) → (h ≡ i → ⊥) → steps_of i (erase k) ≡ steps_of i (erase j)) → steps_of h (erase k) ≡ steps_of h (erase j) + n
+counts_more : (cs : List Core) (h n : ℕ) (c c' : Core) (j k : List Entry) → slice_get cs h ≡ Some c → c'.retired ≡ c.retired + n
+    → ((i : ℕ) → (h ≡ i → ⊥) → steps_of i (erase k) ≡ steps_of i (erase j)) → steps_of h (erase k) ≡ steps_of h (erase j) + n
     → Retired cs j → Retired (slice_set cs h c') k
 counts_more cs h n c c' j k at more others own r = λ i d there. counts_at cs h n c c' j k at more others own r i d (at_set cs h c' i d there)
 
@@ -100,7 +102,8 @@ other_at : (ns : List ℕ) (h k : ℕ) (b : Bool) → (h ≡ k → ⊥) → slic
 other_at ns h k false n = refl
 other_at ns h k true n = index-set_other ns h k (slice_index ns h + 1) n
 
-copied_by : (count : ℕ) (cs : List Core) (xs : List Mind) (h : ℕ) (c c' : Core) (x x' : Mind) (d : Displaced) (passed : List ℕ) (sets : ℕ) (b : Bool) → slice_get cs h ≡ Some c → slice_get xs h ≡ Some x → Balances count d c c' x.phase x'.phase (adds b)
+copied_by : (count : ℕ) (cs : List Core) (xs : List Mind) (h : ℕ) (c c' : Core) (x x' : Mind) (d : Displaced) (passed : List ℕ) (sets : ℕ) (b : Bool)
+    → slice_get cs h ≡ Some c → slice_get xs h ≡ Some x → Balances count d c c' x.phase x'.phase (adds b)
     → AreCopied count cs xs d passed sets → 0 < count → (k : ℕ) (e : Core) (y : Mind) → ((h ≡ k) × (c' ≡ e)) ⊎ ((h ≡ k → ⊥) × (slice_get cs k ≡ Some e)) → ((h ≡ k) × (x' ≡ y)) ⊎ ((h ≡ k → ⊥) × (slice_get xs k ≡ Some y))
     → slice_index (one_more_at passed h b) k + pending d y.phase ≤ e.copied + sets
 copied_by count cs xs h c c' x x' d passed sets b ec ex bal f some k e y (inl p) (inl q) =
@@ -120,7 +123,8 @@ copied_by count cs xs h c c' x x' d passed sets b ec ex bal f some k e y (inr p)
     omega (arith, had, same)
 
 -- one hart changes, and executed where a breakpoint stood or didn't
-pub copied_more : (count : ℕ) (cs : List Core) (xs : List Mind) (h : ℕ) (c c' : Core) (x x' : Mind) (d : Displaced) (passed : List ℕ) (sets : ℕ) (b : Bool) → slice_get cs h ≡ Some c → slice_get xs h ≡ Some x → Balances count d c c' x.phase x'.phase (adds b)
+pub copied_more : (count : ℕ) (cs : List Core) (xs : List Mind) (h : ℕ) (c c' : Core) (x x' : Mind) (d : Displaced) (passed : List ℕ) (sets : ℕ)
+    (b : Bool) → slice_get cs h ≡ Some c → slice_get xs h ≡ Some x → Balances count d c c' x.phase x'.phase (adds b)
     → AreCopied count cs xs d passed sets → AreCopied count (slice_set cs h c') (slice_set xs h x') d (one_more_at passed h b) sets
 copied_more count cs xs h c c' x x' d passed sets b ec ex bal f some k e y ek yk =
     copied_by count cs xs h c c' x x' d passed sets b ec ex bal f some k e y (at_set cs h c' k e ek) (at_set xs h x' k y yk)

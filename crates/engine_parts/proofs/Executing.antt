@@ -1,7 +1,6 @@
 -- An instruction of a running hart keeps what the type of an engine keeps.
-use Rattle.std.proofs.Common.{◌≡◌, ◌<◌, ◌≤◌, ℕ, ◌+◌, ◌-◌, ◌^◌, ◌++◌, Bool, true, false, cond, List, [], ◌∷◌, length, refl, sym, ap, ◌∙◌, subst, arith, length-set}
-use Rattle.std.specs.Prelude.{Option, Some, None, map, slice_get, slice_set}
-use Rattle.std.proofs.lemmas.Option.{slice_get_within}
+use Rattle.std.proofs.Common.{◌≡◌, ◌<◌, ◌≤◌, ℕ, ◌+◌, ◌-◌, ◌^◌, Bool, true, false, cond, List, [], length, refl, sym, ap, ◌∙◌, subst, arith}
+use Rattle.std.specs.Prelude.{Option, Some, None, slice_get, slice_set}
 use Rattle.rv_exec.specs.declared.effect.Cause.{Cause}
 use Rattle.rv_exec.specs.declared.effect.Stepped.{Stepped}
 use Rattle.rv_exec.specs.declared.effect.Stepped.TheVariants as stepped
@@ -10,7 +9,6 @@ use Rattle.rv_exec.specs.Memory.{Memory}
 use Rattle.text_words.specs.Words.{Words, is_planted}
 use Rattle.plain_machine.specs.Environment.{Answer, Traps, Goes, Leave, Stays, LeavesAlone, LeavesAll}
 use Rattle.plain_machine.specs.Plain.{plain}
-use Rattle.scratch_slots.specs.declared.slots.SlotUse.{SlotUse}
 use Rattle.step_over.specs.declared.phase.Phase.{Phase}
 use Rattle.step_over.specs.declared.phase.Phase.TheVariants as phase
 use Rattle.hart_machine.specs.declared.hart.Core.{Core}
@@ -21,38 +19,32 @@ use Rattle.hart_machine.proofs.Copying.{in_slot}
 use Rattle.hart_machine.specs.Stepping.{AreCounted}
 use Rattle.hart_machine.proofs.Counts.{counted_more}
 use Rattle.hart_machine.proofs.Stepping.{machine_same}
-use Rattle.hart_machine.proofs.Places.{same_some, set_twice, get-set_same}
-use Rattle.dbg_model.specs.declared.entry.Entry.{Entry}
-use Rattle.dbg_model.specs.declared.entry.Entry.TheVariants.{Left}
+use Rattle.hart_machine.proofs.Places.{same_some}
 use Rattle.dbg_model.specs.declared.hart.Hart.{Hart}
 use Rattle.dbg_model.specs.Courses.{noted_with}
 use Rattle.dbg_model.specs.Judging.{is_due}
 use Rattle.step_plans.specs.declared.plan.Plan.{Plan}
 use Rattle.dbg_model.specs.State.{due}
-use Rattle.dbg_model.specs.Watches.{fired_by}
-use Rattle.dbg_model.specs.declared.watch.Fired.{Fired}
+use Rattle.watch_points.specs.Watches.{fired_by}
+use Rattle.watch_points.specs.declared.watchpoint.Fired.{Fired}
 use Rattle.dbg_model.specs.Lawful.{may_go, may_move, may_run}
-use Rattle.dbg_model.specs.Journals.{lengthened}
 use Rattle.engine_parts.specs.declared.mind.Activity.TheVariants as activity
 use Rattle.engine_parts.specs.declared.mind.Hold.{Hold}
 use Rattle.engine_parts.specs.declared.mind.Mind.{Mind}
-use Rattle.engine_parts.specs.Minds.{after_step, is_before, is_copied, slot_of, entered_of, gone_mind, ran_mind, lefts_live}
+use Rattle.engine_parts.specs.Minds.{after_step, is_before, is_copied, slot_of, entered_of, ran_mind, lefts_live}
 use Rattle.engine_parts.specs.Seen.{Engine, seen, seen_hart, seen_regs, running_regs}
-use Rattle.engine_parts.specs.Facts.{Sound, Harts, Placed, Planted, called, other_holder, wants_of}
-use Rattle.engine_parts.specs.Moves.{HeldInText, executed, departed, plan_for}
-use Rattle.engine_parts.specs.Homecoming.{IsSlotted, home_core, GoesHome, AllGoHome}
+use Rattle.engine_parts.specs.Facts.{Sound, Harts, Placed, called, other_holder}
+use Rattle.engine_parts.specs.Moves.{plan_for}
+use Rattle.engine_parts.proofs.Built.{executed}
 use Rattle.engine_parts.proofs.Counting.{adds}
 use Rattle.engine_parts.proofs.Keeping.{Mover, hart_at}
-use Rattle.engine_parts.proofs.Holding.{core_at, released, unholds, own_seen, clear_stands, held_text}
-use Rattle.engine_parts.proofs.Homecoming.{slotted_by, home_is, home_counts, home_out, home_known, home_slots, home_rest, all_are_home, all_are_free, all_ready, all_slotted}
+use Rattle.engine_parts.proofs.Holding.{core_at, own_seen, clear_stands}
 use Rattle.engine_parts.proofs.Bounding.{Small, small_at}
 use Rattle.engine_parts.proofs.Planting.{no_hit}
-use Rattle.engine_parts.proofs.Stepping.{after_regs, after_slot, executes, fact_of, gives_seen, one_seen, ran_harts, ran_of}
-use Rattle.engine_parts.proofs.Exiting.{Departs, departs_alone, departs_all}
+use Rattle.engine_parts.proofs.Stepping.{after_regs, executes, fact_of, gives_seen, one_seen, ran_harts, ran_of}
 use Rattle.engine_parts.proofs.Stopping.{may_by}
-use Rattle.engine_parts.specs.Steps.{Parts, applied, exits_of, leaves, left_minds}
-use Rattle.engine_parts.specs.Homing.{ComesHome, HomedBy}
-use Rattle.engine_parts.specs.Calls.{Of, GoesWith, Undue, Executes, Runs, Exits, TrapsAt}
+use Rattle.engine_parts.specs.Steps.{Parts, applied}
+use Rattle.engine_parts.specs.Calls.{Of, GoesWith, Undue, Executes, Runs, TrapsAt}
 
 abbrev pub parts_of : Engine → Parts
 parts_of r = record { journal = r.journal; minds = r.minds }
@@ -125,7 +117,8 @@ ready r h x pc f at before runs free is none clear may copies =
     )
 
 -- what is kept of a hart after an instruction, as the code makes it
-pub ran_is : (r : Engine) (h pc : ℕ) (c : Core) (x z : Mind) (plan : Plan) (last : Option ℕ) (fired : Option Fired) (new : Patched) → Mover r h c x → GoesWith r h plan → Of r h (λ y. y.regs.pc ≡ pc) → z ≡ ran_mind plan last fired x → last ≡ noted_with plan pc
+pub ran_is : (r : Engine) (h pc : ℕ) (c : Core) (x z : Mind) (plan : Plan) (last : Option ℕ) (fired : Option Fired) (new : Patched) → Mover r h c x
+    → GoesWith r h plan → Of r h (λ y. y.regs.pc ≡ pc) → z ≡ ran_mind plan last fired x → last ≡ noted_with plan pc
     → fired ≡ fired_by r.watches r.machine.memory new.memory → z ≡ ran_of r h c x new.memory
 ran_is r h pc c x z plan last fired new m goes here is noted watched =
     let y = seen_hart r.opening.image c x in
@@ -264,11 +257,11 @@ pub record Executed (s : Stepped) (r new : Engine) (h : ℕ) (z : Mind) : Type 0
   pub does : (t : Words) (ws : List (Option ℕ)) → Executes s r (rewoven new t ws) h
 
 -- the machine after an instruction, before harts come home
-abbrev stepped_to : Engine → ℕ → Core → Memory → Patched
+abbrev pub stepped_to : Engine → ℕ → Core → Memory → Patched
 stepped_to r h c memory = record r.machine { cores = slice_set r.machine.cores h c; memory = memory }
 
 -- it is a step of the machine
-stepped_as : (s : Stepped) (r : Engine) (h : ℕ) (c : Core) (x : Mind) (new : Patched) → Mover r h c x → (t : StepsTo s r.machine h c new) → Steps s r.machine h (stepped_to r h t.core t.memory)
+pub stepped_as : (s : Stepped) (r : Engine) (h : ℕ) (c : Core) (x : Mind) (new : Patched) → Mover r h c x → (t : StepsTo s r.machine h c new) → Steps s r.machine h (stepped_to r h t.core t.memory)
 stepped_as s r h c x new m t d at =
     let P : Core → Type 0 = λ e. StepsTo s r.machine h e (stepped_to r h t.core t.memory) in
     subst P (same_some c d (sym m.core ∙ at)) (record { core = t.core; memory = t.memory; below = t.below; steps = t.steps; machine = refl })
@@ -278,7 +271,7 @@ pub record Ran (s : Stepped) (r new : Engine) (h : ℕ) (out : List ℕ) : Type 
   pub facts : Sound new
   pub runs : (t : Words) (ws : List (Option ℕ)) → Runs s r (rewoven new t ws) h out
 
-ran_on : (r : Engine) (h spare : ℕ) (c c' : Core) (x : Mind) (mem : Memory) (out : List ℕ) (s : Stepped) → Ready r h c x → Counted s r c c' x
+pub ran_on : (r : Engine) (h spare : ℕ) (c c' : Core) (x : Mind) (mem : Memory) (out : List ℕ) (s : Stepped) → Ready r h c x → Counted s r c c' x
     → plain r.opening.image (seen_hart r.opening.image c x).regs r.machine.memory ≡ Goes (running_regs r.opening.image c'.regs (after_step x.phase)) mem out Stays → Steps s r.machine h (stepped_to r h c' mem)
     → Ran s r (executed r h c' (ran_of r h c x mem) mem spare) h out
 ran_on r h spare c c' x mem out s k n is st =
@@ -287,215 +280,21 @@ ran_on r h spare c c' x mem out s k n is st =
     record {
       facts = e.facts;
       runs = λ t ws.
-          record { mind = x; at = k.mover.mind; before = k.before; hart = seen_hart r.opening.image c x; shown = hart_at r h c x k.mover; machine = stepped_to r h c' mem; steps = st; patched = refl; minds = refl; hold = refl; journal = refl; one = goes.one ∙ ap Some e.seen; wrote = goes.wrote; opening = refl };
+          record {
+            mind = x;
+            at = k.mover.mind;
+            before = k.before;
+            hart = seen_hart r.opening.image c x;
+            shown = hart_at r h c x k.mover;
+            machine =
+                stepped_to r h c' mem;
+            steps = st;
+            patched = refl;
+            minds = refl;
+            hold = refl;
+            journal = refl;
+            one = goes.one ∙ ap Some e.seen;
+            wrote = goes.wrote;
+            opening = refl;
+          };
     }
-
--- what is known of the harts that left
-record Leaving (s : Stepped) (r : Engine) (h : ℕ) (c : Core) (x : Mind) (m : Patched) (xs : List Mind) : Type 0 where
-  mover : Mover r h c x
-  before : is_before x.phase ≡ true
-  machine : Patched
-  steps : Steps s r.machine h machine
-  homed : HomedBy s (wants_of r) None (record { hart = h; phase = after_step x.phase; minds = slice_set r.minds h (ran_of r h c x machine.memory) }) machine m
-  minds : xs ≡ left_minds s h (ran_of r h c x machine.memory) r.minds
-
-exits_as : (s : Stepped) (r : Engine) (h code count spare : ℕ) (c : Core) (x : Mind) (cs : List Core) (xs : List Mind) (mem : Memory) (t : Words) (slots : List (Option SlotUse)) (es : List Entry) → length es ≡ count
-    → Leaving s r h c x (record { text = t; cores = cs; memory = mem; slots = slots }) xs
-    → Departs r (departed r h cs xs mem t slots es count spare) h code es → (u : Words) (ws : List (Option ℕ)) → Exits s r (rewoven (departed r h cs xs mem t slots es count spare) u ws) h count code
-exits_as s r h code count spare c x cs xs mem t slots es len l d u ws =
-    record {
-      mind = x;
-      at = l.mover.mind;
-      before = l.before;
-      hart = seen_hart r.opening.image c x;
-      shown = hart_at r h c x l.mover;
-      machine = l.machine;
-      steps = l.steps;
-      home = record { text = t; cores = cs; memory = mem; slots = slots };
-      homed = l.homed;
-      patched = refl;
-      minds = l.minds;
-      between = d.between;
-      codes = d.codes;
-      some = d.some;
-      one = d.one;
-      wrote = d.wrote;
-      journal = ap (λ ls. lengthened r.journal h ++ ls) (sym d.reported);
-      harts = d.harts;
-      counted = ap length d.reported ∙ len;
-      retired = refl;
-      opening = refl;
-    }
-
--- the same with the machine and the hold of an instruction by which none exits
-kept_by : (s : Stepped) (r : Engine) (h spare : ℕ) (z : Mind) (m n : Patched) (hold : Option Hold) → (hold ≡ r.hold) × (n ≡ m) → Executed s r (ran_to s r h z m r.hold spare) h z → Executed s r (ran_to s r h z n hold spare) h z
-kept_by s r h spare z m n hold rel e =
-    let P : Patched → Option Hold → Type 0 = λ n o. Executed s r (ran_to s r h z n o spare) h z in
-    subst (λ (o : Option Hold). P n o) (sym rel.0) (subst (λ (n : Patched). P n r.hold) (sym rel.1) e)
-
--- the machine at the end, by its parts
-whole : (s : Stepped) (r : Engine) (h spare : ℕ) (z : Mind) (m n : Patched) (hold : Option Hold) → hold ≡ None → n ≡ m → Executed s r (ran_to s r h z m None spare) h z → Executed s r (ran_to s r h z n hold spare) h z
-whole s r h spare z m n hold none same e =
-    let P : Patched → Option Hold → Type 0 = λ n o. Executed s r (ran_to s r h z n o spare) h z in
-    subst (λ (o : Option Hold). P n o) (sym none) (subst (λ (n : Patched). P n None) (sym same) e)
-
--- the machine after harts came home, by its parts
-parts_home : (old between new : Patched) (cs : List Core) (slots : List (Option SlotUse)) → between ≡ record old { cores = between.cores; slots = between.slots } → between.cores ≡ cs → new ≡ record between { text = new.text }
-    → new ≡ record { text = new.text; cores = cs; memory = old.memory; slots = between.slots }
-parts_home old between new cs slots rest cores text =
-    text ∙ (ap (λ (m : Patched). let n : Patched = record { text = new.text; cores = m.cores; memory = m.memory; slots = m.slots } in n) rest
-    ∙ ap (λ ds. let n : Patched = record { text = new.text; cores = ds; memory = old.memory; slots = between.slots } in n) cores)
-
--- this hart left
-left_alone : (r : Engine) (h spare code : ℕ) (c : Core) (x : Mind) (new m : Patched) (hold : Option Hold) → Ready r h c x → (t : StepsTo (stepped.HartExit code) r.machine h c new)
-    → ComesHome (stepped_to r h t.core t.memory) m (wants_of r) hold (λ k. GoesHome (stepped_to r h t.core t.memory) k h (after_step x.phase)) → Executed (stepped.HartExit code) r (ran_to (stepped.HartExit code) r h (ran_of r h c x t.memory) m hold spare) h (ran_of r h c x t.memory)
-left_alone r h spare code c x new m hold k t rel =
-    let p = r.opening.image in
-    let s = stepped.HartExit code in
-    let mid = stepped_to r h t.core t.memory in
-    let q = after_step x.phase in
-    let g = rel.between in
-    let hs = known s r h c x new refl k t in
-    let at : slice_get mid.cores h ≡ Some t.core = get-set_same r.machine.cores h t.core c k.mover.core in
-    let z = ran_of r h c x t.memory in
-    let x_at : slice_get (slice_set r.minds h z) h ≡ Some z = get-set_same r.minds h z x k.mover.mind in
-    let fact = hs.each h t.core z at x_at in
-    let own = slotted_by p mid h t.core q fact.placed in
-    let d = home_core r.machine.slots t.core q in
-    let n = counts s r h c x new refl k t in
-    let same = home_counts r.machine.slots t.core q in
-    let cores : g.cores ≡ slice_set r.machine.cores h d = home_known mid g h t.core q at rel.home ∙ set_twice r.machine.cores h t.core d in
-    let free = home_slots p r.machine.cores mid g r.minds r.hold h x q k.facts.harts k.mover.mind (after_slot x.phase) own rel.home in
-    let one = home_rest mid g h q rel.home in
-    let texts = released p g.text m.text (wants_of r) (subst (λ (u : Words). Planted p u (wants_of r)) (ap (λ (u : Patched). u.text) (sym one.rest)) k.facts.planted) rel.released in
-    let is = plain_gives s r h c x new k t ∙ ap (λ u. Goes u t.memory [] (LeavesAlone code)) (home_is p r.machine.slots h t.core q fact.placed) in
-    let e = departs_alone r h spare code c d x t.memory m.text g.slots k.facts k.mover k.runs k.before k.none k.may is (same.0 ∙ n.retired) (same.1 ∙ n.copied)
-    (home_out p r.machine.slots h t.core q fact.placed (λ without. n.entered)) (unholds r.hold h k.free) free one.slots_len texts in
-    let end : Patched = record { text = m.text; cores = slice_set r.machine.cores h d; memory = t.memory; slots = g.slots } in
-    let parts = parts_home mid g m (slice_set r.machine.cores h d) g.slots one.rest cores rel.rest in
-    let P : Patched → Option Hold → Type 0 = λ n o. ComesHome mid n (wants_of r) o (λ k. GoesHome mid k h q) in
-    let homed = subst (λ (o : Option Hold). P end o) rel.none (subst (λ (n : Patched). P n hold) parts rel) in
-    let l : Leaving s r h c x end (slice_set r.minds h (gone_mind z)) = record { mover = k.mover; before = k.before; machine = mid; steps = stepped_as s r h c x new k.mover t; homed = homed; minds = refl } in
-    whole s r h spare z end m hold rel.none parts (record { facts = e.facts; does = λ u ws. (code, exits_as s r h code 1 spare c x (slice_set r.machine.cores h d) (slice_set r.minds h (gone_mind z)) t.memory m.text g.slots (Left h code ∷ []) refl l e u ws) })
-
--- all harts left
-left_all : (r : Engine) (h spare code : ℕ) (c : Core) (x : Mind) (new m : Patched) (hold : Option Hold) → Ready r h c x → (t : StepsTo (stepped.AllExit code) r.machine h c new)
-    → ComesHome (stepped_to r h t.core t.memory) m (wants_of r) hold (λ k. AllGoHome (stepped_to r h t.core t.memory) k 0 (slice_set r.minds h (ran_of r h c x t.memory)))
-    → Executed (stepped.AllExit code) r (ran_to (stepped.AllExit code) r h (ran_of r h c x t.memory) m hold spare) h (ran_of r h c x t.memory)
-left_all r h spare code c x new m hold k t rel =
-    let p = r.opening.image in
-    let s = stepped.AllExit code in
-    let mid = stepped_to r h t.core t.memory in
-    let z = ran_of r h c x t.memory in
-    let xs = slice_set r.minds h z in
-    let g = rel.between in
-    let hs = known s r h c x new refl k t in
-    let n = counts s r h c x new refl k t in
-    let home = all_are_home p mid g xs hs.len (all_ready p mid.cores r.machine.slots xs r.hold hs) rel.home in
-    let free = all_are_free mid g xs hs.used rel.home in
-    let cores : length g.cores ≡ length r.machine.cores = rel.home.len ∙ length-set r.machine.cores h t.core in
-    let texts = released p g.text m.text (wants_of r) (subst (λ (u : Words). Planted p u (wants_of r)) (ap (λ (u : Patched). u.text) (sym rel.home.rest)) k.facts.planted) rel.released in
-    let es = lefts_live code 0 xs in
-    let e = departs_all r h spare code c t.core x g.cores t.memory m.text g.slots k.facts k.mover k.runs k.before k.none k.may (plain_gives s r h c x new k t) n.retired n.copied home free rel.home.slots_len cores texts in
-    let end : Patched = record { text = m.text; cores = g.cores; memory = t.memory; slots = g.slots } in
-    let parts = parts_home mid g m g.cores g.slots rel.home.rest refl rel.rest in
-    let P : Patched → Option Hold → Type 0 = λ n o. ComesHome mid n (wants_of r) o (λ k. AllGoHome mid k 0 xs) in
-    let homed = subst (λ (o : Option Hold). P end o) rel.none (subst (λ (n : Patched). P n hold) parts rel) in
-    let l : Leaving s r h c x end (map gone_mind xs) = record { mover = k.mover; before = k.before; machine = mid; steps = stepped_as s r h c x new k.mover t; homed = homed; minds = refl } in
-    whole s r h spare z end m hold rel.none parts (record { facts = e.facts; does = λ u ws. (code, length es, exits_as s r h code (length es) spare c x g.cores (map gone_mind xs) t.memory m.text g.slots es refl l e u ws) })
-
-executed_by : (s : Stepped) (r : Engine) (h spare : ℕ) (c : Core) (x : Mind) (new m : Patched) (hold : Option Hold) → has_run s ≡ true → Ready r h c x → (t : StepsTo s r.machine h c new)
-    → HomedBy s (wants_of r) hold (record { hart = h; phase = after_step x.phase; minds = slice_set r.minds h (ran_of r h c x t.memory) }) (stepped_to r h t.core t.memory) m → Executed s r (ran_to s r h (ran_of r h c x t.memory) m hold spare) h (ran_of r h c x t.memory)
-executed_by stepped.Ran r h spare c x new m hold d k t rel =
-    let g = ran_on r h spare c t.core x t.memory [] stepped.Ran k (counts stepped.Ran r h c x new d k t) (plain_gives stepped.Ran r h c x new k t) (stepped_as stepped.Ran r h c x new k.mover t) in
-    kept_by stepped.Ran r h spare (ran_of r h c x t.memory) (stepped_to r h t.core t.memory) m hold rel (record { facts = g.facts; does = g.runs })
-executed_by (stepped.Wrote addr len) r h spare c x new m hold d k t rel =
-    let s = stepped.Wrote addr len in
-    let p = plain_gives s r h c x new k t in
-    let g = ran_on r h spare c t.core x t.memory p.0 s k (counts s r h c x new d k t) p.3 (stepped_as s r h c x new k.mover t) in
-    kept_by s r h spare (ran_of r h c x t.memory) (stepped_to r h t.core t.memory) m hold rel (record { facts = g.facts; does = λ u ws. (p.0, p.1, p.2, g.runs u ws) })
-executed_by (stepped.HartExit code) r h spare c x new m hold d k t rel = left_alone r h spare code c x new m hold k t rel
-executed_by (stepped.AllExit code) r h spare c x new m hold d k t rel = left_all r h spare code c x new m hold k t rel
-executed_by stepped.Hit r h spare c x new m hold d k t rel = cc
-executed_by (stepped.Trap cause) r h spare c x new m hold d k t rel = cc
-
-pub executed_to : (s : Stepped) (r : Engine) (h spare : ℕ) (c : Core) (x : Mind) (new m : Patched) (hold : Option Hold) (q : Parts) (noted : ℕ) → has_run s ≡ true → Ready r h c x → StepsTo s r.machine h c new
-    → HomedBy s (wants_of r) hold (record { hart = h; phase = after_step x.phase; minds = slice_set r.minds h (ran_of r h c x new.memory) }) new m → q ≡ applied s h (ran_of r h c x new.memory) (parts_of r) → noted ≡ noted_by s h (ran_of r h c x new.memory) r.minds r.noted
-    → Executed s r (run_with r m q noted hold spare) h (ran_of r h c x new.memory)
-executed_to s r h spare c x new m hold q noted d k t rel is count =
-    let Z : Patched → Mind = λ n. ran_of r h c x n.memory in
-    let Q : Parts → Type 0 = λ u. Executed s r (run_with r m u noted hold spare) h (Z new) in
-    let N : ℕ → Type 0 = λ n. Executed s r (run_with r m (applied s h (Z new) (parts_of r)) n hold spare) h (Z new) in
-    let R : Patched → Type 0 = λ n. HomedBy s (wants_of r) hold (record { hart = h; phase = after_step x.phase; minds = slice_set r.minds h (Z n) }) n m in
-    let E : Patched → Type 0 = λ n. Executed s r (ran_to s r h (Z n) m hold spare) h (Z n) in
-    subst Q (sym is) (subst N (sym count) (subst E (sym t.machine) (executed_by s r h spare c x new m hold d k t (subst R t.machine rel))))
-
--- what holds of the engine then, where this is kept of the hart
-pub executed_as : (s : Stepped) (r : Engine) (h spare : ℕ) (c : Core) (x z : Mind) (new m : Patched) (hold : Option Hold) (q : Parts) → has_run s ≡ true → Ready r h c x → StepsTo s r.machine h c new → ran_of r h c x new.memory ≡ z
-    → HomedBy s (wants_of r) hold (record { hart = h; phase = z.phase; minds = slice_set r.minds h z }) new m → q ≡ applied s h z (parts_of r) → Sound (run_with r m q (noted_by s h z r.minds r.noted) hold spare)
-executed_as s r h spare c x z new m hold q d k t same rel is =
-    let P : Mind → Type 0 = λ z. HomedBy s (wants_of r) hold (record { hart = h; phase = z.phase; minds = slice_set r.minds h z }) new m → q ≡ applied s h z (parts_of r) → Sound (run_with r m q (noted_by s h z r.minds r.noted) hold spare) in
-    subst P same (λ rel is. (executed_to s r h spare c x new m hold q (noted_by s h (ran_of r h c x new.memory) r.minds r.noted) d k t rel is refl).facts) rel is
-
--- what is kept of the harts where none leaves
-pub stayed : (s : Stepped) (h : ℕ) (z : Mind) (p : Parts) → has_run s ≡ true → leaves s ≡ false → (applied s h z p).minds ≡ slice_set p.minds h z
-stayed stepped.Ran h z p done none = refl
-stayed (stepped.Wrote addr len) h z p done none = refl
-stayed (stepped.HartExit code) h z p done none = cc
-stayed (stepped.AllExit code) h z p done none = cc
-stayed stepped.Hit h z p done none = cc
-stayed (stepped.Trap cause) h z p done none = cc
-
--- the parts after an instruction, where what is kept of the hart was set before
-pub applied_twice : (s : Stepped) (h : ℕ) (z : Mind) (p : Parts) → has_run s ≡ true → applied s h z (record p { minds = slice_set p.minds h z }) ≡ applied s h z p
-applied_twice stepped.Ran h z p done = ap (λ xs. let q : Parts = record { journal = lengthened p.journal h; minds = xs } in q) (set_twice p.minds h z z)
-applied_twice (stepped.Wrote addr len) h z p done = ap (λ xs. let q : Parts = record { journal = lengthened p.journal h; minds = xs } in q) (set_twice p.minds h z z)
-applied_twice (stepped.HartExit code) h z p done = ap (λ xs. let q : Parts = record { journal = lengthened p.journal h ++ Left h code ∷ []; minds = xs } in q) (set_twice p.minds h z (gone_mind z))
-applied_twice (stepped.AllExit code) h z p done = ap (λ xs. let q : Parts = record { journal = lengthened p.journal h ++ lefts_live code 0 xs; minds = map gone_mind xs } in q) (set_twice p.minds h z z)
-applied_twice stepped.Hit h z p done = cc
-applied_twice (stepped.Trap cause) h z p done = cc
-
-pub exits_twice : (s : Stepped) (h : ℕ) (z : Mind) (xs : List Mind) → exits_of s h z (slice_set xs h z) ≡ exits_of s h z xs
-exits_twice stepped.Ran h z xs = refl
-exits_twice (stepped.Wrote addr len) h z xs = refl
-exits_twice (stepped.HartExit code) h z xs = refl
-exits_twice (stepped.AllExit code) h z xs = ap (λ ys. length (lefts_live code 0 ys)) (set_twice xs h z z)
-exits_twice stepped.Hit h z xs = refl
-exits_twice (stepped.Trap cause) h z xs = refl
-
--- each hart that left is noted
-pub exits_noted : (s : Stepped) (h : ℕ) (z : Mind) (xs : List Mind) (n : ℕ) → n + exits_of s h z xs ≡ noted_by s h z xs n
-exits_noted stepped.Ran h z xs n = omega arith
-exits_noted (stepped.Wrote addr len) h z xs n = omega arith
-exits_noted (stepped.HartExit code) h z xs n = refl
-exits_noted (stepped.AllExit code) h z xs n = refl
-exits_noted stepped.Hit h z xs n = omega arith
-exits_noted (stepped.Trap cause) h z xs n = omega arith
-
--- what the harts that leave need to come home
-pub record Prepared (r : Engine) (h : ℕ) (c : Core) (x : Mind) (new : Patched) : Type 0 where
-  pub text : HeldInText new.text r.hold
-  pub few : length new.cores ≤ 16
-  pub harts : length (slice_set r.minds h (ran_of r h c x new.memory)) ≤ length new.cores
-  pub hart : h < length new.cores
-  pub slot : IsSlotted new h (after_step x.phase)
-  pub slots : (j : ℕ) (y : Mind) → slice_get (slice_set r.minds h (ran_of r h c x new.memory)) j ≡ Some y → IsSlotted new j y.phase
-
-pub prepared : (s : Stepped) (r : Engine) (h : ℕ) (c : Core) (x : Mind) (new : Patched) → has_run s ≡ true → Ready r h c x → Small r → StepsTo s r.machine h c new → Prepared r h c x new
-prepared s r h c x new d k small t =
-    let mid = stepped_to r h t.core t.memory in
-    let xs = slice_set r.minds h (ran_of r h c x t.memory) in
-    let hs = known s r h c x new d k t in
-    let slots = all_slotted r.opening.image mid xs r.hold hs in
-    let len : length xs ≡ length r.minds = length-set r.minds h (ran_of r h c x t.memory) in
-    let low : h < length r.minds = slice_get_within r.minds h x k.mover.mind in
-    let x_at : slice_get xs h ≡ Some (ran_of r h c x t.memory) = get-set_same r.minds h (ran_of r h c x t.memory) x k.mover.mind in
-    subst (Prepared r h c x) (sym t.machine)
-    (record {
-      text = held_text r k.facts;
-      few = omega (arith, hs.len, len, small.harts);
-      harts = omega (arith, hs.len);
-      hart = omega (arith, hs.len, len, low);
-      slot = slots h (ran_of r h c x t.memory) x_at;
-      slots = slots;
-    })

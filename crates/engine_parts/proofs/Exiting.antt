@@ -18,7 +18,7 @@ use Rattle.dbg_model.specs.declared.entry.Entry.TheVariants.{Left}
 use Rattle.dbg_model.specs.declared.entry.Mode.TheVariants as mode
 use Rattle.dbg_model.specs.declared.hart.Hart.{Hart}
 use Rattle.dbg_model.specs.State.{State, any_leaves}
-use Rattle.dbg_model.specs.Watches.{fired_by}
+use Rattle.watch_points.specs.Watches.{fired_by}
 use Rattle.dbg_model.specs.Lawful.{one, one_out, one_more_at, may_run, leaving, passes}
 use Rattle.dbg_model.specs.Lawful as lawful
 use Rattle.dbg_model.specs.Leaving.{lefts_from, gone, LeaveWith}
@@ -31,7 +31,8 @@ use Rattle.engine_parts.specs.declared.mind.Mind.{Mind}
 use Rattle.engine_parts.specs.Minds.{mode_of, after_step, is_before, is_copied, gone_mind, lefts_live}
 use Rattle.engine_parts.specs.Seen.{Engine, seen, seen_hart, seen_harts, running_regs}
 use Rattle.engine_parts.specs.Facts.{Sound, Planted, AreCopied, Retired, called, held_by, pending, wants_of}
-use Rattle.engine_parts.specs.Moves.{AreHome, departed}
+use Rattle.engine_parts.specs.Moves.{AreHome}
+use Rattle.engine_parts.proofs.Built.{departed}
 use Rattle.engine_parts.proofs.Showing.{seen-set, seen_quiet, alone_lefts, alone_gone, alone_with, alone_some, all_lefts, all_left, all_with, all_some}
 use Rattle.engine_parts.proofs.Counting.{retired_ran, retired_quiet, quiet_lefts_live, copied_more, Balances, adds}
 use Rattle.engine_parts.proofs.Updating.{SlotChange, AllFree, updated, all_updated, home_at, gone_by, none_some}
@@ -51,7 +52,8 @@ pub record Departs (r n : Engine) (h code : ℕ) (lefts : List Entry) : Type 0 w
   pub harts : (seen n).harts ≡ map gone between.harts
 
 -- the state after the entries of the harts that leave
-drained : (r n : Engine) (h : ℕ) (t : State) (lefts : List Entry) → Sound r → n.opening ≡ r.opening → n.journal ≡ lengthened r.journal h ++ lefts → Leaves r.opening (lengthened r.journal h) t → t.exited ≡ false → lefts_from 0 t.harts ≡ lefts
+drained : (r n : Engine) (h : ℕ) (t : State) (lefts : List Entry) → Sound r → n.opening ≡ r.opening → n.journal ≡ lengthened r.journal h ++ lefts
+    → Leaves r.opening (lengthened r.journal h) t → t.exited ≡ false → lefts_from 0 t.harts ≡ lefts
     → Leaves n.opening n.journal (record t { harts = map gone t.harts; noted = t.noted + length lefts })
 drained r n h t lefts f same journal l still is =
     let d = drains r.opening (lengthened r.journal h) t [] t.harts t.noted still refl l in
@@ -130,7 +132,8 @@ retired_home p cs xs ds j home r k d at =
     a.home.retired ∙ r k a.core a.core_at
 
 -- what the copies of harts that have exited count
-copied_gone : (p : Program) (count : ℕ) (cs : List Core) (xs : List Mind) (ds : List Core) (d : Displaced) (passed : List ℕ) (sets : ℕ) → AreHome p cs xs ds → AreCopied count cs xs d passed sets → AreCopied count ds (map gone_mind xs) d passed sets
+copied_gone : (p : Program) (count : ℕ) (cs : List Core) (xs : List Mind) (ds : List Core) (d : Displaced) (passed : List ℕ) (sets : ℕ)
+    → AreHome p cs xs ds → AreCopied count cs xs d passed sets → AreCopied count ds (map gone_mind xs) d passed sets
 copied_gone p count cs xs ds d passed sets home f some k e y ek yk =
     let a = home_at p cs xs ds k e home ek in
     let had : slice_index passed k + pending d a.mind.phase ≤ a.core.copied + sets = f some k a.core a.mind a.core_at a.mind_at in
@@ -141,8 +144,10 @@ copied_gone p count cs xs ds d passed sets home f some k e y ek yk =
 -- all harts exit, and are home
 pub departs_all : (r : Engine) (h spare code : ℕ) (c c' : Core) (x : Mind) (ds : List Core) (mem : Memory) (t : Words) (slots : List (Option SlotUse)) → Sound r → Mover r h c x → x.activity ≡ activity.Running → is_before x.phase ≡ true
     → (x.phase ≡ phase.Idle → called r.breaks r.waits c.regs.pc ≡ false) → may_run r.opening (seen r) h (seen_hart r.opening.image c x) ≡ true
-    → plain r.opening.image (seen_hart r.opening.image c x).regs r.machine.memory ≡ Goes (running_regs r.opening.image c'.regs (after_step x.phase)) mem [] (LeavesAll code) → c'.retired ≡ c.retired + 1 → c'.copied ≡ c.copied + adds (is_copied x.phase)
-    → AreHome r.opening.image (slice_set r.machine.cores h c') (slice_set r.minds h (ran_of r h c x mem)) ds → AllFree slots → length slots ≡ length r.machine.slots → length ds ≡ length r.machine.cores → Planted r.opening.image t (record (wants_of r) { hold = None })
+    → plain r.opening.image (seen_hart r.opening.image c x).regs r.machine.memory ≡ Goes (running_regs r.opening.image c'.regs (after_step x.phase))
+    mem [] (LeavesAll code) → c'.retired ≡ c.retired + 1 → c'.copied ≡ c.copied + adds (is_copied x.phase)
+    → AreHome r.opening.image (slice_set r.machine.cores h c') (slice_set r.minds h (ran_of r h c x mem)) ds → AllFree slots
+    → length slots ≡ length r.machine.slots → length ds ≡ length r.machine.cores → Planted r.opening.image t (record (wants_of r) { hold = None })
     → (let es = lefts_live code 0 (slice_set r.minds h (ran_of r h c x mem)) in Departs r (departed r h ds (map gone_mind (slice_set r.minds h (ran_of r h c x mem))) mem t slots es (length es) spare) h code es)
 departs_all r h spare code c c' x ds mem t slots f m runs before none may is more copied home free slots_len ds_len p =
     let image = r.opening.image in

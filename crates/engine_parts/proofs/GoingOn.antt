@@ -19,7 +19,7 @@ use Rattle.engine_parts.specs.declared.mind.Hold.{Hold}
 use Rattle.engine_parts.specs.declared.mind.Mind.{Mind}
 use Rattle.engine_parts.specs.Minds.{is_active, slot_of}
 use Rattle.engine_parts.specs.Seen.{seen_hart, seen_harts}
-use Rattle.engine_parts.specs.Facts.{HartFact, Harts, HasSlot}
+use Rattle.engine_parts.specs.Facts.{HartFact, Harts}
 use Rattle.engine_parts.proofs.Holding.{get_within}
 use Rattle.engine_parts.proofs.Stopping.{going_fact, phase_at, phase_of, resumed_fact}
 use Rattle.engine_parts.specs.Resuming.{gone_on, gone_on_by, asked, asked_by, forgetting, minds_after}
@@ -150,7 +150,8 @@ by_forgetting p cs slots hold xs ns c is hs =
     ordered (λ n. forgetting ns) (λ n. model.forgetting ns) (λ n. forget ns) p cs slots hold xs (map (forgetting ns) xs) c (sym (each_hart (forgetting ns) 1 xs)) (is ∙ each_hart (model.forgetting ns) 1 (seen_harts p cs xs)) hs
 
 -- none is meant
-none_ordered : (p : Program) (cs : List Core) (slots : List (Option SlotUse)) (hold : Option Hold) (xs : List Mind) (c : Change) → harts_after (seen_harts p cs xs) c ≡ seen_harts p cs xs → Harts p cs slots xs hold → Ordered p cs slots hold xs xs c
+none_ordered : (p : Program) (cs : List Core) (slots : List (Option SlotUse)) (hold : Option Hold) (xs : List Mind) (c : Change)
+    → harts_after (seen_harts p cs xs) c ≡ seen_harts p cs xs → Harts p cs slots xs hold → Ordered p cs slots hold xs xs c
 none_ordered p cs slots hold xs c is hs = record { sees = sym is; harts = hs; phases = refl; len = refl }
 
 pub line_ordered : (p : Program) (cs : List Core) (slots : List (Option SlotUse)) (hold : Option Hold) (xs : List Mind) (c : Change) → Harts p cs slots xs hold → Ordered p cs slots hold xs (minds_after xs c) c

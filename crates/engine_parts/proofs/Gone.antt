@@ -1,5 +1,5 @@
 -- The ways that a hart went, with those that it went before.
-use Rattle.std.proofs.Common.{◌≡◌, ◌<◌, ◌≤◌, ℕ, zero, suc, ◌+◌, Bool, List, [], ◌∷◌, length, refl, sym, ap, ◌∙◌, subst, arith}
+use Rattle.std.proofs.Common.{◌≡◌, ◌<◌, ◌≤◌, ℕ, zero, suc, ◌+◌, List, [], ◌∷◌, length, refl, sym, ap, ◌∙◌, subst, arith}
 use Rattle.std.proofs.lemmas.Bool.Decides.{nat_tests}
 use Rattle.std.specs.Prelude.{◌^◌, ◌==◌, true, false, Some, None, is_some, slice_get}
 use Rattle.rv_exec.specs.Registers.{set_pc}
@@ -9,8 +9,8 @@ use Rattle.hart_machine.specs.Copying.{StepsByCopy}
 use Rattle.hart_machine.specs.Stepping.{AreCounted, Steps}
 use Rattle.rv_exec.specs.Memory.{Memory}
 use Rattle.rv_exec.specs.declared.effect.Stepped.TheVariants as stepped
-use Rattle.dbg_model.specs.declared.watch.Watch.{Watch}
-use Rattle.dbg_model.specs.Watches.{fired_by}
+use Rattle.watch_points.specs.declared.watchpoint.Watch.{Watch}
+use Rattle.watch_points.specs.Watches.{fired_by}
 use Rattle.break_table.specs.Arrival.{due_of}
 use Rattle.dbg_model.specs.Views.{register, shown_byte}
 use Rattle.break_table.specs.declared.due.Due.{Due}
@@ -37,8 +37,15 @@ turns_more (suc n) ws = let ih = turns_more n ws in omega arith
 module _ (a : SurroundingsView) (most : ℕ) (old : Patched) where
   more_by : (n : ℕ) (ws : List Way) (mid new : Patched) → a.watches ≡ [] → length ws + n ≤ most → GoesBy a most ws old mid → AllRan n mid a.hart new → GoesBy a most (in_place n ws) old new
   more_by zero ws mid new none room went ran = subst (λ (m : Patched). GoesBy a most ws old m) (sym ran) went
-  more_by (suc n) ws mid new none room went ran =
-      (let len = length_more n ws in omega arith, record { machine = ran.machine; before = more_by n ws mid ran.machine none (omega arith) went ran.before; step = record { steps = ran.step; unfired = none_fire a.watches ran.machine.memory new.memory none } })
+  more_by (suc n) ws mid new none room went ran = (
+    let len = length_more n ws in omega arith,
+    record {
+      machine = ran.machine;
+      before = more_by n ws mid ran.machine none (omega arith) went ran.before;
+      step = record
+          { steps = ran.step; unfired = none_fire a.watches ran.machine.memory new.memory none };
+    },
+  )
 
   -- n more instructions in their places
   pub ran_more : (t i n : ℕ) (mid new : Patched) → a.watches ≡ [] → i + n ≤ most → Goes a most t i old mid → AllRan n mid a.hart new → Goes a most (t + n) (i + n) old new
@@ -77,7 +84,8 @@ module _ (a : SurroundingsView) (most : ℕ) (old : Patched) where
   none_yet = record { ways = []; turns_are = refl; instructions_are = refl; goes = refl }
 
 -- a planted word that was passed, by the pc of its hart
-pub passes_at : (a : SurroundingsView) (m new : Patched) (pc word : ℕ) (k : Core) → a.watches ≡ [] → slice_get m.cores a.hart ≡ Some k → pc ≡ k.regs.pc → pc < 2 ^ 32 → a.copies ≡ true → is_planted m.text pc ≡ true → Some word ≡ shown m.text pc
+pub passes_at : (a : SurroundingsView) (m new : Patched) (pc word : ℕ) (k : Core) → a.watches ≡ [] → slice_get m.cores a.hart ≡ Some k
+    → pc ≡ k.regs.pc → pc < 2 ^ 32 → a.copies ≡ true → is_planted m.text pc ≡ true → Some word ≡ shown m.text pc
     → meets (due_of a.hart (register (set_pc k.regs pc)) (shown_byte a.image m.memory) a.breaks) ≡ false → is_kept a.plan pc ≡ true → AreCounted m.cores → StepsByCopy m a.hart word new → Passes a m new
 passes_at a m new pc word k none at is low is_on planted found undue kept counted steps =
     let A : ℕ → Type 0 = λ b. b < 2 ^ 32 in
@@ -85,7 +93,21 @@ passes_at a m new pc word k none at is low is_on planted found undue kept counte
     let C : ℕ → Type 0 = λ b. Some word ≡ shown m.text b in
     let D : ℕ → Type 0 = λ b. meets (due_of a.hart (register (set_pc k.regs b)) (shown_byte a.image m.memory) a.breaks) ≡ false in
     let K : ℕ → Type 0 = λ b. is_kept a.plan b ≡ true in
-    record { unwatched = none; is_on = is_on; kept = subst K is kept; core = k; word = word; at = at; low = subst A is low; planted = subst B is planted; word_is = subst C is found; undue = subst D is undue; counted = counted; steps = steps }
+    record {
+      unwatched = none;
+      is_on = is_on;
+      kept = subst K is kept;
+      core = k;
+      word = word;
+      at = at;
+      low = subst A is low;
+      planted = subst B is
+          planted;
+      word_is = subst C is found;
+      undue = subst D is undue;
+      counted = counted;
+      steps = steps;
+    }
 
 -- neither a stop nor a count
 pub unmet : (d : Due) → is_some d.stop ≡ false → d.counts ≡ false → meets d ≡ false

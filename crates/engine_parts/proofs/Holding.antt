@@ -27,7 +27,8 @@ use Rattle.engine_parts.specs.declared.mind.Mind.{Mind}
 use Rattle.engine_parts.specs.Minds.{lifted_of, slot_of, entered_of, with_phase}
 use Rattle.engine_parts.specs.Seen.{Engine, seen_regs, running_regs, landed_regs}
 use Rattle.engine_parts.specs.Facts.{Sound, Planted, InText, AreInText, Wants, called, held_by, is_home, wanted, wants_of, other_holder, pending, OneLifted}
-use Rattle.engine_parts.specs.Moves.{Repatched, HeldInText, Released, Frees, rehomed, rephased}
+use Rattle.engine_parts.specs.Moves.{Repatched, HeldInText, Released, Frees}
+use Rattle.engine_parts.proofs.Built.{rehomed, rephased}
 use Rattle.engine_parts.proofs.Updating.{slots_same, slots_freed, differs, equals, none_held, none_some}
 use Rattle.engine_parts.proofs.Planting.{replanted, text_shown}
 use Rattle.engine_parts.proofs.Keeping.{Mover, StaysSeen, silent, silent_home}
@@ -148,7 +149,8 @@ unslotted (phase.Lifted home) e = refl
 unslotted (phase.Ran home) e = refl
 
 -- a hart without a slot
-pub unwinds : (r : Engine) (h : ℕ) (c : Core) (x : Mind) (t : Words) → Sound r → Mover r h c x → slot_of x.phase ≡ None → other_holder r.hold h ≡ None → Released r.machine.text t r.breaks r.waits r.hold → StaysSeen r (rephased r h (with_phase x phase.Idle) t None)
+pub unwinds : (r : Engine) (h : ℕ) (c : Core) (x : Mind) (t : Words) → Sound r → Mover r h c x → slot_of x.phase ≡ None → other_holder r.hold h ≡ None
+    → Released r.machine.text t r.breaks r.waits r.hold → StaysSeen r (rephased r h (with_phase x phase.Idle) t None)
 unwinds r h c x t f m without free w =
     let p = r.opening.image in
     silent r h c x (with_phase x phase.Idle) t None f m
@@ -169,7 +171,8 @@ pub home_landed : (p : Program) (w slot home : ℕ) (r : Registers) → text_wor
 home_landed p w slot home r image = ap (λ o. landed_regs o slot home r) (sym image)
 
 -- a hart with a slot comes home, and gives the slot back
-pub comes_home : (r : Engine) (h slot word : ℕ) (c d : Core) (x : Mind) (slots : List (Option SlotUse)) → Sound r → Mover r h c x → x.activity ≡ activity.Running → slot_of x.phase ≡ Some slot → lifted_of x.phase ≡ None → other_holder r.hold h ≡ None
+pub comes_home : (r : Engine) (h slot word : ℕ) (c d : Core) (x : Mind) (slots : List (Option SlotUse)) → Sound r → Mover r h c x
+    → x.activity ≡ activity.Running → slot_of x.phase ≡ Some slot → lifted_of x.phase ≡ None → other_holder r.hold h ≡ None
     → use_at r.machine.slots slot ≡ Some (record { hart = h; word = word }) → Frees r.machine.slots slots slot → d.regs ≡ running_regs r.opening.image c.regs x.phase → d.retired ≡ c.retired → d.copied ≡ c.copied → d.entered ≡ None
     → StaysSeen r (rehomed r h d (with_phase x phase.Idle) r.machine.text slots None)
 comes_home r h slot word c d x slots f m runs has lifted free was frees regs retired copied out =

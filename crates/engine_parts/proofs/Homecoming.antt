@@ -62,7 +62,8 @@ home_counts slots c (phase.Lifted home) = (refl, refl)
 home_counts slots c (phase.Ran home) = (refl, refl)
 
 -- a hart with a slot comes home
-slot_unwound : (r : Engine) (h slot : ℕ) (c : Core) (x : Mind) (m' : Patched) (t : Words) → Sound r → Mover r h c x → x.activity ≡ activity.Running → other_holder r.hold h ≡ None → slot_of x.phase ≡ Some slot → lifted_of x.phase ≡ None → Owns r.machine h slot
+slot_unwound : (r : Engine) (h slot : ℕ) (c : Core) (x : Mind) (m' : Patched) (t : Words) → Sound r → Mover r h c x → x.activity ≡ activity.Running
+    → other_holder r.hold h ≡ None → slot_of x.phase ≡ Some slot → lifted_of x.phase ≡ None → Owns r.machine h slot
     → (home_core r.machine.slots c x.phase).entered ≡ None → Leaves r.machine m' h slot x.phase → Released m'.text t r.breaks r.waits r.hold
     → StaysSeen r (record r { machine = record m' { text = t }; minds = slice_set r.minds h (with_phase x phase.Idle); hold = None })
 slot_unwound r h slot c x m' t f m runs free has lifted owns out l w =
@@ -72,7 +73,8 @@ slot_unwound r h slot c x m' t f m runs free has lifted owns out l w =
     let core : l.core ≡ c = same_some l.core c (sym l.at ∙ m.core) in
     let counts = home_counts r.machine.slots c x.phase in
     let done = comes_home r h slot owns.word c d x m'.slots f m runs has lifted free owns.out l.frees (sym (home_is r.opening.image r.machine.slots h c x.phase fact.placed)) counts.0 counts.1 out in
-    let same : m' ≡ record r.machine { cores = slice_set r.machine.cores h d; slots = m'.slots } = l.machine ∙ ap (λ e. record r.machine { cores = slice_set r.machine.cores h (home_core r.machine.slots e x.phase); slots = m'.slots }) core in
+    let same : m' ≡ record r.machine { cores = slice_set r.machine.cores h d; slots = m'.slots } = l.machine ∙ ap
+    (λ e. record r.machine { cores = slice_set r.machine.cores h (home_core r.machine.slots e x.phase); slots = m'.slots }) core in
     let text : t ≡ r.machine.text = subst (λ (o : Option Hold). Released m'.text t r.breaks r.waits o) hold w ∙ ap (λ (n : Patched). n.text) same in
     let P : Patched → Type 0 = λ n. StaysSeen r (record r { machine = n; minds = slice_set r.minds h (with_phase x phase.Idle); hold = None }) in
     let whole : record r.machine { cores = slice_set r.machine.cores h d; slots = m'.slots } ≡ record m' { text = t } =
@@ -92,20 +94,24 @@ settled_out : (slots : List (Option SlotUse)) (c : Core) (o : Option SlotUse) (s
 settled_out slots c None slot home b u e = cc
 settled_out slots c (Some v) slot home b u e = refl
 
-unwound_by : (r : Engine) (h : ℕ) (c : Core) (x : Mind) (m' : Patched) (t : Words) (q : Phase) → x.phase ≡ q → Sound r → Mover r h c x → x.activity ≡ activity.Running → other_holder r.hold h ≡ None → IsSlotted r.machine h q → GoesHome r.machine m' h q → Released m'.text t r.breaks r.waits r.hold
+unwound_by : (r : Engine) (h : ℕ) (c : Core) (x : Mind) (m' : Patched) (t : Words) (q : Phase) → x.phase ≡ q → Sound r → Mover r h c x
+    → x.activity ≡ activity.Running → other_holder r.hold h ≡ None → IsSlotted r.machine h q → GoesHome r.machine m' h q → Released m'.text t r.breaks r.waits r.hold
     → StaysSeen r (record r { machine = record m' { text = t }; minds = slice_set r.minds h (with_phase x phase.Idle); hold = None })
 unwound_by r h c x m' t phase.Idle is f m runs free own g w = text_unwound r h c x m' t f m free (ap slot_of is) g w
 unwound_by r h c x m' t (phase.Copied slot home) is f m runs free own g w =
-    let out : (home_core r.machine.slots c x.phase).entered ≡ None = ap (λ q. (home_core r.machine.slots c q).entered) is ∙ settled_out r.machine.slots c (use_at r.machine.slots slot) slot home false (record { hart = h; word = own.word }) own.out in
+    let out : (home_core r.machine.slots c x.phase).entered ≡ None = ap (λ q. (home_core r.machine.slots c q).entered) is ∙ settled_out
+    r.machine.slots c (use_at r.machine.slots slot) slot home false (record { hart = h; word = own.word }) own.out in
     slot_unwound r h slot c x m' t f m runs free (ap slot_of is) (ap lifted_of is) own out (subst (λ q. Leaves r.machine m' h slot q) (sym is) g) w
 unwound_by r h c x m' t (phase.Landed slot home) is f m runs free own g w =
-    let out : (home_core r.machine.slots c x.phase).entered ≡ None = ap (λ q. (home_core r.machine.slots c q).entered) is ∙ settled_out r.machine.slots c (use_at r.machine.slots slot) slot home true (record { hart = h; word = own.owns.word }) own.owns.out in
+    let out : (home_core r.machine.slots c x.phase).entered ≡ None = ap (λ q. (home_core r.machine.slots c q).entered) is ∙ settled_out
+    r.machine.slots c (use_at r.machine.slots slot) slot home true (record { hart = h; word = own.owns.word }) own.owns.out in
     slot_unwound r h slot c x m' t f m runs free (ap slot_of is) (ap lifted_of is) own.owns out (subst (λ q. Leaves r.machine m' h slot q) (sym is) g) w
 unwound_by r h c x m' t (phase.Lifted home) is f m runs free own g w = text_unwound r h c x m' t f m free (ap slot_of is) g w
 unwound_by r h c x m' t (phase.Ran home) is f m runs free own g w = text_unwound r h c x m' t f m free (ap slot_of is) g w
 
 -- a running hart steps over nothing any more
-pub unwound : (r : Engine) (h : ℕ) (c : Core) (x : Mind) (m' : Patched) (t : Words) → Sound r → Mover r h c x → x.activity ≡ activity.Running → other_holder r.hold h ≡ None → GoesHome r.machine m' h x.phase → Released m'.text t r.breaks r.waits r.hold
+pub unwound : (r : Engine) (h : ℕ) (c : Core) (x : Mind) (m' : Patched) (t : Words) → Sound r → Mover r h c x → x.activity ≡ activity.Running
+    → other_holder r.hold h ≡ None → GoesHome r.machine m' h x.phase → Released m'.text t r.breaks r.waits r.hold
     → StaysSeen r (record r { machine = record m' { text = t }; minds = slice_set r.minds h (with_phase x phase.Idle); hold = None })
 unwound r h c x m' t f m runs free g w = unwound_by r h c x m' t x.phase refl f m runs free (is_slotted r h c x f m) g w
 
@@ -201,7 +207,8 @@ no_mind (suc j) x e = cc
 pub all_home_none : (m : Patched) (h : ℕ) → AllGoHome m m h []
 all_home_none m h = record { len = refl; before = λ j low. refl; home = λ j c x a b. no_mind j x b; out = λ slot u e. (e, λ j x b is has. no_mind j x b); slots_len = refl; rest = refl }
 
-home_next : (old mid new : Patched) (h : ℕ) (x : Mind) (xs : List Mind) → IsSlotted old h x.phase → GoesHome old mid h x.phase → ((j : ℕ) (y : Mind) → slice_get (x ∷ xs) j ≡ Some y → IsSlotted old (h + j) y.phase) → AllGoHome mid new (h + 1) xs
+home_next : (old mid new : Patched) (h : ℕ) (x : Mind) (xs : List Mind) → IsSlotted old h x.phase → GoesHome old mid h x.phase
+    → ((j : ℕ) (y : Mind) → slice_get (x ∷ xs) j ≡ Some y → IsSlotted old (h + j) y.phase) → AllGoHome mid new (h + 1) xs
     → (j : ℕ) (c : Core) (y : Mind) → slice_get old.cores (h + j) ≡ Some c → slice_get (x ∷ xs) j ≡ Some y → slice_get new.cores (h + j) ≡ Some (home_core old.slots c y.phase)
 home_next old mid new h x xs own g each rec zero c y at is =
     let o = one_home old mid h x.phase g in
@@ -216,12 +223,14 @@ home_next old mid new h x xs own g each rec (suc j) c y at is =
     let at' : slice_get mid.cores ((h + 1) + j) ≡ Some c = ap (slice_get mid.cores) (sym there) ∙ (o.others (h + suc j) apart ∙ at) in
     ap (slice_get new.cores) there ∙ (rec.home j c y at' is ∙ ap Some (same_home old mid h (h + suc j) x.phase y.phase c own g apart (each (suc j) y is)))
 
-out_next : (old mid new : Patched) (h : ℕ) (x : Mind) (xs : List Mind) (slot : ℕ) (u : SlotUse) → OneHome old mid h x.phase → AllGoHome mid new (h + 1) xs → use_at new.slots slot ≡ Some u → (j : ℕ) (y : Mind) → slice_get (x ∷ xs) j ≡ Some y → u.hart ≡ h + j → slot_of y.phase ≡ Some slot → ⊥
+out_next : (old mid new : Patched) (h : ℕ) (x : Mind) (xs : List Mind) (slot : ℕ) (u : SlotUse) → OneHome old mid h x.phase
+    → AllGoHome mid new (h + 1) xs → use_at new.slots slot ≡ Some u → (j : ℕ) (y : Mind) → slice_get (x ∷ xs) j ≡ Some y → u.hart ≡ h + j → slot_of y.phase ≡ Some slot → ⊥
 out_next old mid new h x xs slot u o rec e zero y is at has = (o.out slot u (rec.out slot u e).0).1 (ap (λ (z : Mind). slot_of z.phase) (same_some x y is) ∙ has)
 out_next old mid new h x xs slot u o rec e (suc j) y is at has = let there : u.hart ≡ (h + 1) + j = omega (arith, at) in (rec.out slot u e).1 j y is there has
 
 -- one hart came home, and then the others of the list
-pub all_home_next : (old mid new : Patched) (h : ℕ) (x : Mind) (xs : List Mind) → GoesHome old mid h x.phase → ((j : ℕ) (y : Mind) → slice_get (x ∷ xs) j ≡ Some y → IsSlotted old (h + j) y.phase) → AllGoHome mid new (h + 1) xs → AllGoHome old new h (x ∷ xs)
+pub all_home_next : (old mid new : Patched) (h : ℕ) (x : Mind) (xs : List Mind) → GoesHome old mid h x.phase
+    → ((j : ℕ) (y : Mind) → slice_get (x ∷ xs) j ≡ Some y → IsSlotted old (h + j) y.phase) → AllGoHome mid new (h + 1) xs → AllGoHome old new h (x ∷ xs)
 all_home_next old mid new h x xs g each rec =
     let o = one_home old mid h x.phase g in
     let none : h + 0 ≡ h = omega arith in
@@ -236,7 +245,8 @@ all_home_next old mid new h x xs g each rec =
     }
 
 -- the others of the list have their slots still
-pub rest_slotted : (old mid : Patched) (h : ℕ) (x : Mind) (xs : List Mind) → GoesHome old mid h x.phase → ((j : ℕ) (y : Mind) → slice_get (x ∷ xs) j ≡ Some y → IsSlotted old (h + j) y.phase) → (j : ℕ) (y : Mind) → slice_get xs j ≡ Some y → IsSlotted mid ((h + 1) + j) y.phase
+pub rest_slotted : (old mid : Patched) (h : ℕ) (x : Mind) (xs : List Mind) → GoesHome old mid h x.phase
+    → ((j : ℕ) (y : Mind) → slice_get (x ∷ xs) j ≡ Some y → IsSlotted old (h + j) y.phase) → (j : ℕ) (y : Mind) → slice_get xs j ≡ Some y → IsSlotted mid ((h + 1) + j) y.phase
 rest_slotted old mid h x xs g each j y is =
     let none : h + 0 ≡ h = omega arith in
     let own : IsSlotted old h x.phase = subst (λ (k : ℕ). IsSlotted old k x.phase) none (each 0 x refl) in
@@ -247,7 +257,8 @@ rest_slotted old mid h x xs g each j y is =
 -- ---- what is known of harts that all came home
 
 -- lists with the same at each place
-are_home : (p : Program) (cs : List Core) (xs : List Mind) (ds : List Core) → length cs ≡ length xs → length ds ≡ length cs → ((j : ℕ) (c : Core) (x : Mind) (d : Core) → slice_get cs j ≡ Some c → slice_get xs j ≡ Some x → slice_get ds j ≡ Some d → IsHome p c x d) → AreHome p cs xs ds
+are_home : (p : Program) (cs : List Core) (xs : List Mind) (ds : List Core) → length cs ≡ length xs → length ds ≡ length cs
+    → ((j : ℕ) (c : Core) (x : Mind) (d : Core) → slice_get cs j ≡ Some c → slice_get xs j ≡ Some x → slice_get ds j ≡ Some d → IsHome p c x d) → AreHome p cs xs ds
 are_home p [] xs [] a b each = tt
 are_home p [] xs (d ∷ ds) a b each = absurd (omega arith)
 are_home p (c ∷ cs) xs [] a b each = absurd (omega arith)
@@ -263,7 +274,8 @@ pub record Ready (p : Program) (slots : List (Option SlotUse)) (h : ℕ) (c : Co
   pub out : slot_of x.phase ≡ None → c.entered ≡ None
   pub idle : x.activity ≡ activity.Running ⊎ (x.phase ≡ phase.Idle)
 
-ready_regs : (p : Program) (slots : List (Option SlotUse)) (h : ℕ) (c : Core) (x : Mind) (i : x.activity ≡ activity.Running ⊎ (x.phase ≡ phase.Idle)) → Placed p slots h c x.phase → (home_core slots c x.phase).regs ≡ seen_regs p c.regs x.activity x.phase
+ready_regs : (p : Program) (slots : List (Option SlotUse)) (h : ℕ) (c : Core) (x : Mind) (i : x.activity ≡ activity.Running ⊎ (x.phase ≡ phase.Idle))
+    → Placed p slots h c x.phase → (home_core slots c x.phase).regs ≡ seen_regs p c.regs x.activity x.phase
 ready_regs p slots h c x (inl runs) a = sym (home_is p slots h c x.phase a) ∙ ap (λ t. seen_regs p c.regs t x.phase) (sym runs)
 ready_regs p slots h c x (inr idle) a = ap (λ q. (home_core slots c q).regs) idle ∙ sym (own_seen p c.regs x.activity x.phase (ap slot_of idle))
 
@@ -280,7 +292,9 @@ ready_home p slots h c x r =
     record { regs = ready_regs p slots h c x r.idle r.placed; retired = counts.0; copied = counts.1; entered = home_out p slots h c x.phase r.placed r.out }
 
 -- all harts of a machine that came home
-pub all_are_home : (p : Program) (old new : Patched) (xs : List Mind) → length old.cores ≡ length xs → ((h : ℕ) (c : Core) (x : Mind) → slice_get old.cores h ≡ Some c → slice_get xs h ≡ Some x → Ready p old.slots h c x) → AllGoHome old new 0 xs → AreHome p old.cores xs new.cores
+pub all_are_home : (p : Program) (old new : Patched) (xs : List Mind) → length old.cores ≡ length xs
+    → ((h : ℕ) (c : Core) (x : Mind) → slice_get old.cores h ≡ Some c → slice_get xs h ≡ Some x → Ready p old.slots h c x) → AllGoHome old new 0 xs
+    → AreHome p old.cores xs new.cores
 all_are_home p old new xs len ready all =
     are_home p old.cores xs new.cores len all.len
     (λ j c x d ec ex ed.
@@ -317,7 +331,8 @@ home_known old new h c (phase.Lifted home) at g = stays_known old new h c at g
 home_known old new h c (phase.Ran home) at g = stays_known old new h c at g
 
 -- the slots after a hart came home
-pub home_slots : (p : Program) (cs : List Core) (old new : Patched) (xs : List Mind) (hold : Option Hold) (h : ℕ) (x : Mind) (q : Phase) → Harts p cs old.slots xs hold → slice_get xs h ≡ Some x → slot_of q ≡ slot_of x.phase → IsSlotted old h q → GoesHome old new h q
+pub home_slots : (p : Program) (cs : List Core) (old new : Patched) (xs : List Mind) (hold : Option Hold) (h : ℕ) (x : Mind) (q : Phase)
+    → Harts p cs old.slots xs hold → slice_get xs h ≡ Some x → slot_of q ≡ slot_of x.phase → IsSlotted old h q → GoesHome old new h q
     → SlotChange old.slots new.slots h phase.Idle
 home_slots p cs old new xs hold h x phase.Idle hs f alike own g =
     subst (λ (m : Patched). SlotChange old.slots m.slots h phase.Idle) (sym g) (slots_same p cs old.slots xs hold h x phase.Idle hs f alike)
@@ -338,7 +353,8 @@ running_or_idle x activity.Running is idle = inl is
 running_or_idle x activity.Exited is idle = inr (idle (ap is_active is))
 
 -- each hart of which the facts are known can come home
-pub all_ready : (p : Program) (cs : List Core) (slots : List (Option SlotUse)) (xs : List Mind) (hold : Option Hold) → Harts p cs slots xs hold → (h : ℕ) (c : Core) (x : Mind) → slice_get cs h ≡ Some c → slice_get xs h ≡ Some x → Ready p slots h c x
+pub all_ready : (p : Program) (cs : List Core) (slots : List (Option SlotUse)) (xs : List Mind) (hold : Option Hold) → Harts p cs slots xs hold
+    → (h : ℕ) (c : Core) (x : Mind) → slice_get cs h ≡ Some c → slice_get xs h ≡ Some x → Ready p slots h c x
 all_ready p cs slots xs hold hs h c x ec ex =
     let f = hs.each h c x ec ex in
     record { placed = f.placed; out = λ e. f.entered ∙ unslotted x.phase e; idle = running_or_idle x x.activity refl f.idle }

@@ -84,7 +84,8 @@ some_by zero none = absurd (none refl)
 some_by (suc n) none = let some : 0 < suc n = omega arith in grind (arith, nat_tests)
 
 -- a hart that is not in text gets none
-pub no_word : (r s : Engine) (h pc : ℕ) (x : Mind) → r ≡ s → Sound r → slice_get s.minds h ≡ Some x → goes_apart x ≡ true → ((c : Core) → slice_get r.machine.cores h ≡ Some c → pc ≡ c.regs.pc) → (InText s.opening.image pc → IsTrue false) → false ≡ gives_job s h
+pub no_word : (r s : Engine) (h pc : ℕ) (x : Mind) → r ≡ s → Sound r → slice_get s.minds h ≡ Some x → goes_apart x ≡ true
+    → ((c : Core) → slice_get r.machine.cores h ≡ Some c → pc ≡ c.regs.pc) → (InText s.opening.image pc → IsTrue false) → false ≡ gives_job s h
 no_word r s h pc x same f at apart here out =
     let k = core_at r h x f (ap (λ (q : Engine). slice_get q.minds h) same ∙ at) in
     let c = k.0 in
@@ -105,10 +106,13 @@ given r s h pc x same f at some may free apart unasked here word =
     let y = seen_hart r.opening.image c x in
     let own : pc ≡ y.regs.pc = here c k.1.core ∙ ap (λ (q : Registers). q.pc) (sym (own_regs r c x apart)) in
     let go : may_go r.opening (seen r) ≡ true = ap (λ (q : Engine). may_go q.opening (seen q)) same ∙ may in
-    let is = all_on (nat_lt 0 r.opening.settings.slice) (may_go r.opening (seen r)) (is_free r.hold h) (goes_apart x) (not x.asked) (is_word r.opening.image y.regs.pc) (some_by r.opening.settings.slice some) go free apart (ap not unasked) (ap (is_word r.opening.image) (sym own) ∙ (ap (λ (q : Engine). is_word q.opening.image pc) same ∙ word)) in
+    let is = all_on (nat_lt 0 r.opening.settings.slice) (may_go r.opening (seen r)) (is_free r.hold h) (goes_apart x) (not x.asked)
+    (is_word r.opening.image y.regs.pc) (some_by r.opening.settings.slice some) go free apart (ap not unasked)
+    (ap (is_word r.opening.image) (sym own) ∙ (ap (λ (q : Engine). is_word q.opening.image pc) same ∙ word)) in
     subst (λ (q : Engine). true ≡ gives_job q h) same (sym (job_is r h c x k.1 ∙ is))
 
-pub gives_by : (b : Bool) (r s : Engine) (h pc : ℕ) (x : Mind) → r ≡ s → Sound r → slice_get s.minds h ≡ Some x → (r.opening.settings.slice ≡ 0 → ⊥) → may_go s.opening (seen s) ≡ true → is_free r.hold h ≡ true → goes_apart x ≡ true → x.asked ≡ false
+pub gives_by : (b : Bool) (r s : Engine) (h pc : ℕ) (x : Mind) → r ≡ s → Sound r → slice_get s.minds h ≡ Some x → (r.opening.settings.slice ≡ 0 → ⊥)
+    → may_go s.opening (seen s) ≡ true → is_free r.hold h ≡ true → goes_apart x ≡ true → x.asked ≡ false
     → ((c : Core) → slice_get r.machine.cores h ≡ Some c → pc ≡ c.regs.pc) → IsTrue b ↔ InText s.opening.image pc → b ≡ gives_job s h
 gives_by true r s h pc x same f at some may free apart unasked here word = given r s h pc x same f at some may free apart unasked here (word.0 refl)
 gives_by false r s h pc x same f at some may free apart unasked here word = no_word r s h pc x same f at apart here word.1
@@ -142,7 +146,8 @@ pub found : (r s : Engine) (slice : Slice) (ws : List ℕ) → r ≡ s → ws �
 found r s slice ws same are can = subst (AreStored r.machine.text slice.at) (sym are) (subst (λ (q : Engine). CanTake q slice) (sym same) can).words
 
 -- a slice of which all of this is so can be taken
-pub takes : (r s : Engine) (slice : Slice) (x : Mind) (count : ℕ) (ws : List ℕ) → r ≡ s → Sound r → may_go s.opening (seen s) ≡ true → count ≤ r.opening.settings.budget - r.retired → count ≡ slice.count → is_free r.hold slice.hart ≡ true → slice_get s.minds slice.hart ≡ Some x → goes_apart x ≡ true
+pub takes : (r s : Engine) (slice : Slice) (x : Mind) (count : ℕ) (ws : List ℕ) → r ≡ s → Sound r → may_go s.opening (seen s) ≡ true
+    → count ≤ r.opening.settings.budget - r.retired → count ≡ slice.count → is_free r.hold slice.hart ≡ true → slice_get s.minds slice.hart ≡ Some x → goes_apart x ≡ true
     → ((c : Core) → slice_get r.machine.cores slice.hart ≡ Some c → c.regs ≡ slice.regs) → ws ≡ slice.words.items → AreStored r.machine.text slice.at ws → CanTake s slice
 takes r s slice x count ws same f may budget many free at apart began are words =
     let go : may_go r.opening (seen r) ≡ true = ap (λ (q : Engine). may_go q.opening (seen q)) same ∙ may in

@@ -16,7 +16,7 @@ use Rattle.engine_parts.specs.declared.mind.Hold.{Hold}
 use Rattle.engine_parts.specs.declared.mind.Mind.{Mind}
 use Rattle.engine_parts.specs.Seen.{Engine, Told, seen, seen_with, told_of, seen_hart, seen_harts}
 use Rattle.engine_parts.specs.Facts.{Sound, Harts, Planted, AreInText, AwaitText, AreCopied, Retired, IsThread, pending, wants_of}
-use Rattle.engine_parts.specs.Moves.{rehomed, rephased}
+use Rattle.engine_parts.proofs.Built.{rehomed, rephased}
 use Rattle.engine_parts.proofs.Showing.{reseen, seen_at, seen_same}
 use Rattle.engine_parts.proofs.Counting.{retired_same, copied_same}
 use Rattle.engine_parts.proofs.Updating.{Changes, updated}
@@ -85,7 +85,8 @@ pub record Recounts (count : ℕ) (d : Displaced) (c c' : Core) (q q' : Phase) :
 
 -- a move that shows nothing: a hart has another phase, with other registers, patches, slots and another hold
 pub silent_home : (r : Engine) (h : ℕ) (c c' : Core) (x x' : Mind) (t : Words) (slots : List (Option SlotUse)) (hold : Option Hold) → Sound r → Mover r h c x → seen_hart r.opening.image c' x' ≡ seen_hart r.opening.image c x
-    → Changes r.opening.image r.machine.slots slots r.hold hold h c' x' → length slots ≡ length r.machine.slots → Recounts r.opening.settings.slots r.displaced c c' x.phase x'.phase → Planted r.opening.image t (record (wants_of r) { hold = hold })
+    → Changes r.opening.image r.machine.slots slots r.hold hold h c' x' → length slots ≡ length r.machine.slots
+    → Recounts r.opening.settings.slots r.displaced c c' x.phase x'.phase → Planted r.opening.image t (record (wants_of r) { hold = hold })
     → StaysSeen r (rehomed r h c' x' t slots hold)
 silent_home r h c c' x x' t slots hold f m same ch len n p =
     let p' = r.opening.image in

@@ -1,5 +1,5 @@
 -- A plan that stays as it is where a hart arrives.
-use Rattle.std.proofs.Common.{◌≡◌, ℕ, zero, suc, Bool, true, false, cond, List, [], ◌∷◌, refl, sym, ap, ◌∙◌, not, arith}
+use Rattle.std.proofs.Common.{◌≡◌, ℕ, zero, suc, Bool, true, false, cond, List, [], ◌∷◌, refl, sym, ap, ◌∙◌, subst, not, arith}
 use Rattle.std.specs.Prelude.{Option, Some, None, is_some, option_and_then, ◌||◌, ◌&&◌, ◌==◌, nat_le, slice_get}
 use Rattle.std.specs.List.{list_any}
 use Rattle.std.proofs.lemmas.Bool.Decides.{nat_tests}
@@ -25,21 +25,22 @@ use Rattle.dbg_model.specs.Views.{register, shown_byte}
 use Rattle.dbg_model.specs.declared.hart.Hart.{Hart}
 use Rattle.dbg_model.specs.declared.course.Course.{Course}
 use Rattle.dbg_model.specs.declared.judgement.Judgement.{Judgement}
-use Rattle.dbg_model.specs.declared.watch.Fired.{Fired}
+use Rattle.watch_points.specs.declared.watchpoint.Fired.{Fired}
 use Rattle.dbg_model.specs.Courses.{noted_with, with_plan}
 use Rattle.dbg_model.specs.Judging.{is_due, is_end, judgement_of, last_at, no_arrival, plan_after, verdict_behind}
 use Rattle.dbg_model.specs.State.{State, due}
-use Rattle.dbg_model.specs.Watches.{fired_by}
+use Rattle.watch_points.specs.Watches.{fired_by}
 use Rattle.engine_parts.specs.declared.mind.Mind.{Mind}
 use Rattle.engine_parts.specs.Minds.{awaited, in_place, ran_mind, return_of, runs}
 use Rattle.engine_parts.specs.Seen.{Engine, seen, seen_hart}
 use Rattle.engine_parts.proofs.Arriving.{due_breaks, due_fired, undue}
 use Rattle.engine_parts.proofs.Stepping.{ran_of}
 use Rattle.engine_parts.specs.Going.{is_kept, meets}
-use Rattle.engine_parts.specs.Several.{goes_alone, is_unplanned}
+use Rattle.engine_parts.specs.Several.{goes_alone, is_line, is_unplanned}
+use Rattle.engine_parts.specs.Staying.{came_within}
 use Rattle.engine_parts.specs.Slicing.{is_word, takes_slices}
 
-not_so : (b : Bool) → not b ≡ true → b ≡ false
+pub not_so : (b : Bool) → not b ≡ true → b ≡ false
 not_so true e = cc
 not_so false e = refl
 
@@ -55,7 +56,7 @@ behind_kept : (p : Program) (sources : Sources) (q : Plan) (rs : ℕ → ℕ) (n
 unfolding verdict_behind
 behind_kept p sources q rs noted kept = judged_kept q (arrival_of (option_and_then (last_at p) noted) rs) sources.lines sources.names kept
 
-kept_by : (b : Bool) (d : Due) (f : Option Fired) (v : Verdict) (q : Plan) → v ≡ verdicts.Go q → (let j : Judgement = record { breaks = d; fired = f; verdict = v } in (cond b j (no_arrival q)).verdict) ≡ verdicts.Go q
+pub kept_by : (b : Bool) (d : Due) (f : Option Fired) (v : Verdict) (q : Plan) → v ≡ verdicts.Go q → (let j : Judgement = record { breaks = d; fired = f; verdict = v } in (cond b j (no_arrival q)).verdict) ≡ verdicts.Go q
 kept_by true d f v q is = is
 kept_by false d f v q is = refl
 
@@ -83,15 +84,18 @@ met_by true b c e = cc
 met_by false true c e = cc
 met_by false false c e = refl
 
--- nothing is due where no breakpoint stands and no watch fired
-pub kept_undue : (p : Program) (s : State) (h : ℕ) (x : Hart) → is_kept x.course.plan x.regs.pc ≡ true → x.course.fired ≡ None → stands x.regs.pc s.breaks ≡ false → is_due (due p s h x) ≡ false
-kept_undue p s h x kept unwatched off =
+-- nothing is due where the plan goes on, no breakpoint stands and no watch fired
+pub goes_undue : (p : Program) (s : State) (h : ℕ) (x : Hart) → (due p s h x).verdict ≡ verdicts.Go x.course.plan → x.course.fired ≡ None → stands x.regs.pc s.breaks ≡ false → is_due (due p s h x) ≡ false
+goes_undue p s h x goes unwatched off =
     let y : Hart = record x { course = with_plan plans.Free x.course } in
     let free = undue p s h y refl unwatched off in
     let j = due p s h y in
     let none : meets j.breaks ≡ false = met_by (is_some j.breaks.stop) j.breaks.counts (is_some j.fired || is_end j.verdict) free in
     let same : (due p s h x).breaks ≡ j.breaks = due_breaks p s h x ∙ sym (due_breaks p s h y) in
-    quiet_as (due p s h x) x.course.plan (ap meets same ∙ none) (due_fired p s h x unwatched) (kept_verdict p s h x kept)
+    quiet_as (due p s h x) x.course.plan (ap meets same ∙ none) (due_fired p s h x unwatched) goes
+
+pub kept_undue : (p : Program) (s : State) (h : ℕ) (x : Hart) → is_kept x.course.plan x.regs.pc ≡ true → x.course.fired ≡ None → stands x.regs.pc s.breaks ≡ false → is_due (due p s h x) ≡ false
+kept_undue p s h x kept unwatched off = goes_undue p s h x (kept_verdict p s h x kept) unwatched off
 
 -- what is kept of a hart whose plan stays after an instruction that made no watch fire
 abbrev pub kept_ran : Mind → Mind
@@ -109,7 +113,8 @@ pub ran_kept : (q : Engine) (h : ℕ) (c : Core) (x : Mind) (m : Memory) → is_
 ran_kept q h c x m kept none =
     let y = seen_hart q.opening.image c x in
     let f = fired_by q.watches q.machine.memory m in
-    ap (λ (v : Verdict). ran_mind (plan_after v) (noted_with (plan_after v) y.regs.pc) f x) (kept_verdict q.opening.image (seen q) h y kept) ∙ (ap (λ o. ran_mind x.course.plan o f x) (unnoted x.course.plan y.regs.pc y.regs.pc kept) ∙ ap (λ w. ran_mind x.course.plan None w x) none)
+    ap (λ (v : Verdict). ran_mind (plan_after v) (noted_with (plan_after v) y.regs.pc) f x) (kept_verdict q.opening.image (seen q) h y kept) ∙
+    (ap (λ o. ran_mind x.course.plan o f x) (unnoted x.course.plan y.regs.pc y.regs.pc kept) ∙ ap (λ w. ran_mind x.course.plan None w x) none)
 
 -- ---- a hart that waits isn't where it waits
 
@@ -143,22 +148,32 @@ plan_kept p (plans.ToBody a ret sp file line) pc h ws takes on at none = cc
 plan_kept p (plans.Finish ret sp) pc h ws takes on at none = place_kept (is_word p) ret pc h ws (is_word p ret) refl on at none
 
 -- where no patch is called for, a plan that takes slices stays as it is at each word of text
-pub kept_at : (p : Program) (x : Mind) (pc h : ℕ) (ws : List (Option ℕ)) → runs x ≡ true → takes_slices x.course.plan ≡ true → is_word p pc ≡ true → slice_get ws h ≡ Some (awaited p x) → list_any (is_wait pc) ws ≡ false → is_kept x.course.plan pc ≡ true
+pub kept_at : (p : Program) (x : Mind) (pc h : ℕ) (ws : List (Option ℕ)) → runs x ≡ true → takes_slices x.course.plan ≡ true → is_word p pc ≡ true
+    → slice_get ws h ≡ Some (awaited p x) → list_any (is_wait pc) ws ≡ false → is_kept x.course.plan pc ≡ true
 kept_at p x pc h ws run takes on at none =
     let wait : awaited p x ≡ in_place p (return_of x.course.plan) = ap (λ b. cond b (in_place p (return_of x.course.plan)) None) run in
     plan_kept p x.course.plan pc h ws takes on (at ∙ ap Some wait) none
 
-alone_by : (p : Program) (q : Plan) (run : Bool) → (is_unplanned q || is_some (cond run (in_place p (return_of q)) None)) ≡ true → takes_slices q ≡ true
-alone_by p plans.Free run goes = refl
-alone_by p (plans.One over) true goes = cc
-alone_by p (plans.One over) false goes = cc
-alone_by p (plans.Line file line into) true goes = cc
-alone_by p (plans.Line file line into) false goes = cc
-alone_by p (plans.ToReturn ret sp after) run goes = refl
-alone_by p (plans.ToBody a ret sp file line) true goes = cc
-alone_by p (plans.ToBody a ret sp file line) false goes = cc
-alone_by p (plans.Finish ret sp) run goes = refl
+alone_by : (p : Program) (q : Plan) (run came : Bool) → is_line q ≡ false → ((is_unplanned q || is_some (cond run (in_place p (return_of q)) None)) || (is_line q && came)) ≡ true → takes_slices q ≡ true
+alone_by p plans.Free run came off goes = refl
+alone_by p (plans.One over) true came off goes = cc
+alone_by p (plans.One over) false came off goes = cc
+alone_by p (plans.Line file line into) run came off goes = cc
+alone_by p (plans.ToReturn ret sp after) run came off goes = refl
+alone_by p (plans.ToBody a ret sp file line) true came off goes = cc
+alone_by p (plans.ToBody a ret sp file line) false came off goes = cc
+alone_by p (plans.Finish ret sp) run came off goes = refl
 
--- a hart that goes alone has such a plan
-pub alone_takes : (p : Program) (x : Mind) → goes_alone p x ≡ true → takes_slices x.course.plan ≡ true
-alone_takes p x goes = alone_by p x.course.plan (runs x) goes
+-- a hart that goes alone, and isn't to come to another line, has such a plan
+pub alone_takes : (p : Program) (x : Mind) → is_line x.course.plan ≡ false → goes_alone p x ≡ true → takes_slices x.course.plan ≡ true
+alone_takes p x off goes = alone_by p x.course.plan (runs x) (came_within p x.course.last) off goes
+
+line_by : (p : Program) (file line : ℕ) (into run came : Bool) → ((false || is_some (cond run (in_place p (return_of (plans.Line file line into))) None)) || (true && came)) ≡ true → came ≡ true
+line_by p file line into true came goes = goes
+line_by p file line into false came goes = goes
+
+-- one that is to came neither by a call nor by a return
+pub alone_came : (p : Program) (x : Mind) (file line : ℕ) (into : Bool) → x.course.plan ≡ plans.Line file line into → goes_alone p x ≡ true → came_within p x.course.last ≡ true
+alone_came p x file line into is goes =
+    let G : Plan → Type 0 = λ q. ((is_unplanned q || is_some (cond (runs x) (in_place p (return_of q)) None)) || (is_line q && came_within p x.course.last)) ≡ true in
+    line_by p file line into (runs x) (came_within p x.course.last) (subst G is goes)

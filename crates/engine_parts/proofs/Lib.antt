@@ -1,3 +1,5 @@
+-- Engines as the moves make them.
+pub mod Built
 -- The parts of a move: counts, one hart and one word of text; and what each kind of move keeps.
 pub mod Counting
 pub mod Updating
@@ -26,11 +28,12 @@ pub mod Showing
 pub mod Seeing
 -- The facts of an engine, kept by each move of a hart and by each line of the user.
 pub mod Executing
+pub mod Departing
 pub mod Holds
+pub mod Halting
+pub mod Sighted
 pub mod Homes
 pub mod Commanding
--- Lists: marks that are put one after another.
-pub mod Marking
 -- Words that are planted anew: for a change of the table, and where a hart waits.
 pub mod Words
 pub mod Tabling
@@ -62,3 +65,8 @@ pub mod Serving
 pub mod Stretching
 -- What an entry shows, by the state in which it comes.
 pub mod Coming
+-- Several instructions within a line are turns.
+pub mod LineVerdicts
+pub mod OnLines
+pub mod Resting
+pub mod Strides

@@ -9,7 +9,6 @@ use Rattle.step_over.specs.Phases.{after, IsIdle}
 use Rattle.step_over.proofs.Marks.{not_idle, same}
 use Rattle.dbg_model.specs.declared.entry.Why.{Why}
 use Rattle.dbg_model.specs.declared.entry.Why.TheVariants as whys
-use Rattle.dbg_model.specs.Journals.{last_why}
 use Rattle.engine_parts.specs.declared.mind.Mind.{Mind}
 use Rattle.engine_parts.specs.Minds.{after_step, is_before, first_mind, counted_mind, gone_mind, with_phase}
 use Rattle.engine_parts.specs.Moves.{plan_for, ran_by}
@@ -17,7 +16,7 @@ use Rattle.engine_parts.specs.Seen.{Engine}
 use Rattle.engine_parts.specs.declared.moving.Turned.{Turned}
 use Rattle.engine_parts.specs.declared.moving.Turned.TheVariants as turned
 use Rattle.engine_parts.specs.declared.moving.Move.TheVariants as move
-use Rattle.engine_parts.specs.Calls.{Halts, StopsFor, Turns}
+use Rattle.engine_parts.specs.Calls.{Halts, StopsFor}
 use Rattle.engine_parts.proofs.Arrivals.{halts_why, stopped_halts}
 use Rattle.engine_parts.specs.Marks.{Ends, Leaves, Marks, MovesMark, MovesToIdle, OneInstructionOrNone, StopsFrom, executed, executed_by}
 

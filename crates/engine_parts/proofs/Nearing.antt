@@ -30,9 +30,9 @@ use Rattle.hart_machine.specs.Patched.{Patched}
 use Rattle.hart_machine.specs.Running.{AllRan}
 use Rattle.hart_machine.specs.Stepping.{FetchGives, StepGives, Steps, StepsTo}
 use Rattle.hart_machine.proofs.Copying.{fetch_text}
-use Rattle.dbg_model.specs.declared.watch.Watch.{Watch}
-use Rattle.dbg_model.specs.Watches.{IsKeptBut, behind, fired_by}
-use Rattle.dbg_model.proofs.Firing.{apart_fires, none_fires}
+use Rattle.watch_points.specs.declared.watchpoint.Watch.{Watch}
+use Rattle.watch_points.specs.Watches.{IsKeptBut, behind, fired_by}
+use Rattle.watch_points.proofs.Firing.{apart_fires, none_fires}
 use Rattle.engine_parts.specs.Watching.{is_near, meets_stored, stored_at, stored_by, written}
 
 -- ---- the memory behind an instruction

@@ -22,7 +22,7 @@ use Rattle.dbg_model.specs.declared.hart.Hart.{Hart}
 use Rattle.dbg_model.specs.Breaks.{nothing_due}
 use Rattle.dbg_model.specs.Judging.{is_due}
 use Rattle.dbg_model.specs.State.{State, due, is_off}
-use Rattle.dbg_model.specs.Watches.{fired_by}
+use Rattle.watch_points.specs.Watches.{fired_by}
 use Rattle.engine_parts.specs.declared.mind.Activity.TheVariants as activity
 use Rattle.engine_parts.specs.declared.mind.Hold.{Hold}
 use Rattle.engine_parts.specs.declared.mind.Mind.{Mind}
@@ -46,8 +46,10 @@ use Rattle.engine_parts.specs.Slicing.{takes_slices}
 use Rattle.engine_parts.specs.Steps.{applied}
 use Rattle.engine_parts.specs.declared.moving.Turned.TheVariants as turned
 use Rattle.engine_parts.specs.declared.moving.Move.TheVariants as move
-use Rattle.engine_parts.proofs.Executing.{Executed, Ready, executed_to, of_hart, own_pc, parts_of, ran_to, ready, same_hart}
-use Rattle.engine_parts.proofs.Holds.{Claims, copied, shown_is, unwound_to}
+use Rattle.engine_parts.proofs.Executing.{Executed, Ready, of_hart, own_pc, parts_of, ran_to, ready, same_hart}
+use Rattle.engine_parts.proofs.Departing.{executed_to}
+use Rattle.engine_parts.proofs.Holds.{Claims, copied, unwound_to}
+use Rattle.engine_parts.proofs.Halting.{shown_is}
 use Rattle.engine_parts.proofs.Gone.{none_fire}
 use Rattle.engine_parts.proofs.Homes.{left_slot}
 use Rattle.engine_parts.proofs.Kept.{kept_ran, kept_verdict, quiet_as, ran_kept}
@@ -81,13 +83,16 @@ pub record Ahead (n : ℕ) (r new : Engine) (h : ℕ) : Type 0 where
   pub turns : AllTurned n r new h
 
 -- its instruction
-pub kept_executed : (q : Engine) (h spare : ℕ) (c : Core) (x : Mind) (m : Patched) → is_kept x.course.plan (seen_hart q.opening.image c x).regs.pc ≡ true → fired_by q.watches q.machine.memory m.memory ≡ None → Ready q h c x → StepsTo stepped.Ran q.machine h c m → Executed stepped.Ran q (ran_to stepped.Ran q h (kept_ran x) m q.hold spare) h (kept_ran x)
+pub kept_executed : (q : Engine) (h spare : ℕ) (c : Core) (x : Mind) (m : Patched)
+    → is_kept x.course.plan (seen_hart q.opening.image c x).regs.pc ≡ true → fired_by q.watches q.machine.memory m.memory ≡ None → Ready q h c x
+    → StepsTo stepped.Ran q.machine h c m → Executed stepped.Ran q (ran_to stepped.Ran q h (kept_ran x) m q.hold spare) h (kept_ran x)
 kept_executed q h spare c x m kept none k t =
     let P : Mind → Type 0 = λ z. Executed stepped.Ran q (ran_to stepped.Ran q h z m q.hold spare) h z in
     subst P (ran_kept q h c x m.memory kept none) (executed_to stepped.Ran q h spare c x m m q.hold (applied stepped.Ran h (ran_of q h c x m.memory) (parts_of q)) q.noted refl k t (refl, refl) refl refl)
 
 -- the hart waits where it did
-pub kept_facts : (q : Engine) (h spare : ℕ) (x : Mind) (m : Patched) → Facts q → slice_get q.minds h ≡ Some x → runs x ≡ true → Executed stepped.Ran q (ran_to stepped.Ran q h (kept_ran x) m q.hold spare) h (kept_ran x) → Facts (ran_to stepped.Ran q h (kept_ran x) m q.hold spare)
+pub kept_facts : (q : Engine) (h spare : ℕ) (x : Mind) (m : Patched) → Facts q → slice_get q.minds h ≡ Some x → runs x ≡ true
+    → Executed stepped.Ran q (ran_to stepped.Ran q h (kept_ran x) m q.hold spare) h (kept_ran x) → Facts (ran_to stepped.Ran q h (kept_ran x) m q.hold spare)
 kept_facts q h spare x m f at run e =
     record { sound = e.facts; waits = waits_same q h x (kept_ran x) f at (same_waits q.opening.image x (kept_ran x) (sym run) refl) }
 
@@ -95,7 +100,8 @@ met_by : (d : Due) (b : Bool) → meets d ≡ false → meets (cond b d nothing_
 met_by d true none = none
 met_by d false none = refl
 
-quiet_by : (p : Program) (s : State) (h : ℕ) (c : Core) (x : Mind) → x.course.fired ≡ None → is_kept x.course.plan (seen_hart p c x).regs.pc ≡ true → (seen_hart p c x).regs ≡ set_pc c.regs c.regs.pc → meets (due_of h (register (set_pc c.regs c.regs.pc)) (shown_byte p s.memory) s.breaks) ≡ false
+quiet_by : (p : Program) (s : State) (h : ℕ) (c : Core) (x : Mind) → x.course.fired ≡ None → is_kept x.course.plan (seen_hart p c x).regs.pc ≡ true
+    → (seen_hart p c x).regs ≡ set_pc c.regs c.regs.pc → meets (due_of h (register (set_pc c.regs c.regs.pc)) (shown_byte p s.memory) s.breaks) ≡ false
     → is_due (due p s h (seen_hart p c x)) ≡ false
 quiet_by p s h c x unfired kept is none =
     let y = seen_hart p c x in
@@ -133,7 +139,8 @@ comes q h x m f at a none going s =
           ∙ (ap (λ b. row_idle b (is_planted q.machine.text c.regs.pc)) a.asked ∙ ap (row_idle false) s.planted);
     }
 
-pub passed : (n : ℕ) (r q : Engine) (h spare : ℕ) (x : Mind) (m : Patched) → AllTurned n r q h → Facts q → slice_get q.minds h ≡ Some x → Alone x → q.hold ≡ None → Going q → q.retired + 1 < q.opening.settings.budget → is_off q.displaced ≡ false
+pub passed : (n : ℕ) (r q : Engine) (h spare : ℕ) (x : Mind) (m : Patched) → AllTurned n r q h → Facts q → slice_get q.minds h ≡ Some x → Alone x
+    → q.hold ≡ None → Going q → q.retired + 1 < q.opening.settings.budget → is_off q.displaced ≡ false
     → Passes (around q h x.course.plan true) q.machine m → Ahead (suc (suc (suc n))) r (ran_to stepped.Ran q h (kept_ran x) m q.hold spare) h
 passed n r q h spare x m ahead f at a none going low on s =
     let c = s.core in

@@ -15,7 +15,8 @@ use Rattle.engine_parts.specs.Facts.{Sound}
 use Rattle.engine_parts.proofs.Awaiting.{rewaited}
 use Rattle.engine_parts.specs.Changing.{Retabled, wants_by}
 use Rattle.engine_parts.proofs.Commanding.{word_place}
-use Rattle.engine_parts.proofs.Holds.{Moved, Noted}
+use Rattle.engine_parts.proofs.Holds.{Moved}
+use Rattle.engine_parts.proofs.Halting.{Noted}
 
 -- an engine with this machine and this table
 abbrev pub with_table : Engine → Patched → Table → Engine

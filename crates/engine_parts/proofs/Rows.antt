@@ -13,7 +13,7 @@ use Rattle.dbg_model.specs.declared.entry.Why.{Why}
 use Rattle.dbg_model.specs.Limits.{history}
 use Rattle.dbg_model.specs.declared.hart.Hart.{Hart}
 use Rattle.dbg_model.specs.declared.judgement.Judgement.{Judgement}
-use Rattle.dbg_model.specs.declared.watch.Fired.{Fired}
+use Rattle.watch_points.specs.declared.watchpoint.Fired.{Fired}
 use Rattle.dbg_model.specs.Judging.{is_due, is_end}
 use Rattle.dbg_model.specs.Shown.{stops_once}
 use Rattle.dbg_model.specs.State.{State, due, any_leaves}
@@ -32,51 +32,63 @@ use Rattle.engine_parts.specs.Rows.{Row, Over, Rests, Waits, Finishes, Stops, Co
 use Rattle.engine_parts.specs.Calls.{Of, Before, DueIs, Undue, Rephases, Halts}
 use Rattle.engine_parts.proofs.Executing.{of_hart}
 
+abbrev hart_row : Engine → ℕ → Option Mind → Option Hart → Row
+hart_row r h = row_hart r.opening.image (seen r) r.machine.text r.hold h
+
+abbrev running_row : Engine → ℕ → Mind → Hart → Option ℕ → Row
+running_row r h x y = row_running r.opening.image (seen r) r.machine.text h x y
+
+abbrev before_row : Engine → ℕ → Mind → Hart → Row
+before_row r h x y = row_before r.opening.image (seen r) r.machine.text h x y
+
 pub row_over : (r : Engine) (h : ℕ) → may_go r.opening (seen r) ≡ false → row_at r h ≡ Over
-row_over r h may = ap (λ b. cond b (row_hart r h (slice_get r.minds h) (slice_get (seen r).harts h)) Over) may
+row_over r h may = ap (λ b. cond b (hart_row r h (slice_get r.minds h) (slice_get (seen r).harts h)) Over) may
 
 -- the row of a hart of which this is kept
-row_known : (r : Engine) (h : ℕ) (x : Mind) (y : Hart) → may_go r.opening (seen r) ≡ true → slice_get r.minds h ≡ Some x → slice_get (seen r).harts h ≡ Some y → row_at r h ≡ cond (runs x) (row_running r h x y (other_holder r.hold h)) Rests
+row_known : (r : Engine) (h : ℕ) (x : Mind) (y : Hart) → may_go r.opening (seen r) ≡ true → slice_get r.minds h ≡ Some x → slice_get (seen r).harts h ≡ Some y → row_at r h ≡ cond (runs x) (running_row r h x y (other_holder r.hold h)) Rests
 row_known r h x y may at there =
-    ap (λ b. cond b (row_hart r h (slice_get r.minds h) (slice_get (seen r).harts h)) Over) may
-    ∙ (ap (λ o. row_hart r h o (slice_get (seen r).harts h)) at ∙ ap (row_hart r h (Some x)) there)
+    ap (λ b. cond b (hart_row r h (slice_get r.minds h) (slice_get (seen r).harts h)) Over) may
+    ∙ (ap (λ o. hart_row r h o (slice_get (seen r).harts h)) at ∙ ap (hart_row r h (Some x)) there)
 
 pub row_rests : (r : Engine) (h : ℕ) (x : Mind) → Sound r → may_go r.opening (seen r) ≡ true → slice_get r.minds h ≡ Some x → runs x ≡ false → row_at r h ≡ Rests
 row_rests r h x f may at not =
     let k = core_at r h x f at in
     let y = seen_hart r.opening.image k.0 x in
-    row_known r h x y may at (hart_at r h k.0 x k.1) ∙ ap (λ b. cond b (row_running r h x y (other_holder r.hold h)) Rests) not
+    row_known r h x y may at (hart_at r h k.0 x k.1) ∙ ap (λ b. cond b (running_row r h x y (other_holder r.hold h)) Rests) not
 
 -- the row of a hart that runs
-row_goes : (r : Engine) (h : ℕ) (x : Mind) (y : Hart) → may_go r.opening (seen r) ≡ true → slice_get r.minds h ≡ Some x → slice_get (seen r).harts h ≡ Some y → x.activity ≡ activity.Running → row_at r h ≡ row_running r h x y (other_holder r.hold h)
-row_goes r h x y may at there run = row_known r h x y may at there ∙ ap (λ a. cond (is_active a) (row_running r h x y (other_holder r.hold h)) Rests) run
+row_goes : (r : Engine) (h : ℕ) (x : Mind) (y : Hart) → may_go r.opening (seen r) ≡ true → slice_get r.minds h ≡ Some x
+    → slice_get (seen r).harts h ≡ Some y → x.activity ≡ activity.Running → row_at r h ≡ running_row r h x y (other_holder r.hold h)
+row_goes r h x y may at there run = row_known r h x y may at there ∙ ap (λ a. cond (is_active a) (running_row r h x y (other_holder r.hold h)) Rests) run
 
 pub row_waits : (r : Engine) (h by : ℕ) (x : Mind) → Sound r → may_go r.opening (seen r) ≡ true → slice_get r.minds h ≡ Some x → x.activity ≡ activity.Running → other_holder r.hold h ≡ Some by → row_at r h ≡ Waits by
 row_waits r h by x f may at run held =
     let k = core_at r h x f at in
     let y = seen_hart r.opening.image k.0 x in
-    row_goes r h x y may at (hart_at r h k.0 x k.1) run ∙ ap (row_running r h x y) held
+    row_goes r h x y may at (hart_at r h k.0 x k.1) run ∙ ap (running_row r h x y) held
 
 -- the row of a hart that no other holds up
 row_free : (r : Engine) (h : ℕ) (x : Mind) (y : Hart) → may_go r.opening (seen r) ≡ true → slice_get r.minds h ≡ Some x → slice_get (seen r).harts h ≡ Some y → x.activity ≡ activity.Running → other_holder r.hold h ≡ None
-    → row_at r h ≡ cond (is_before x.phase) (row_before r h x y) Finishes
-row_free r h x y may at there run free = row_goes r h x y may at there run ∙ ap (row_running r h x y) free
+    → row_at r h ≡ cond (is_before x.phase) (before_row r h x y) Finishes
+row_free r h x y may at there run free = row_goes r h x y may at there run ∙ ap (running_row r h x y) free
 
-pub row_finishes : (r : Engine) (h : ℕ) (x : Mind) → Sound r → may_go r.opening (seen r) ≡ true → slice_get r.minds h ≡ Some x → x.activity ≡ activity.Running → other_holder r.hold h ≡ None → is_before x.phase ≡ false → row_at r h ≡ Finishes
+pub row_finishes : (r : Engine) (h : ℕ) (x : Mind) → Sound r → may_go r.opening (seen r) ≡ true → slice_get r.minds h ≡ Some x
+    → x.activity ≡ activity.Running → other_holder r.hold h ≡ None → is_before x.phase ≡ false → row_at r h ≡ Finishes
 row_finishes r h x f may at run free behind =
     let k = core_at r h x f at in
     let y = seen_hart r.opening.image k.0 x in
-    row_free r h x y may at (hart_at r h k.0 x k.1) run free ∙ ap (λ b. cond b (row_before r h x y) Finishes) behind
+    row_free r h x y may at (hart_at r h k.0 x k.1) run free ∙ ap (λ b. cond b (before_row r h x y) Finishes) behind
 
 -- the row of a hart with nothing to finish, where the breakpoints do this with it
-pub row_arrives : (r : Engine) (h pc : ℕ) (x : Mind) (d : Judgement) → Sound r → Before r h x → DueIs r h d → Of r h (λ y. y.regs.pc ≡ pc) → row_at r h ≡ row_due d (cond (is_idle x.phase) (row_idle x.asked (is_planted r.machine.text pc)) Executes)
+pub row_arrives : (r : Engine) (h pc : ℕ) (x : Mind) (d : Judgement) → Sound r → Before r h x → DueIs r h d → Of r h (λ y. y.regs.pc ≡ pc)
+    → row_at r h ≡ row_due d (cond (is_idle x.phase) (row_idle x.asked (is_planted r.machine.text pc)) Executes)
 row_arrives r h pc x d f b is here =
     let k = core_at r h x f b.at in
     let y = seen_hart r.opening.image k.0 x in
     let due_is = of_hart r h k.0 x (λ y. due r.opening.image (seen r) h y ≡ d) k.1 is in
     let pc_is = of_hart r h k.0 x (λ y. y.regs.pc ≡ pc) k.1 here in
     row_free r h x y b.may b.at (hart_at r h k.0 x k.1) b.runs b.free
-    ∙ (ap (λ c. cond c (row_before r h x y) Finishes) b.before
+    ∙ (ap (λ c. cond c (before_row r h x y) Finishes) b.before
     ∙ (ap (λ e. row_due e (cond (is_idle x.phase) (row_idle x.asked (is_planted r.machine.text y.regs.pc)) Executes)) due_is
     ∙ ap (λ a. row_due d (cond (is_idle x.phase) (row_idle x.asked (is_planted r.machine.text a)) Executes)) pc_is))
 
@@ -107,7 +119,8 @@ row_steps r h pc x d f b is here none steps =
     row_arrives r h pc x d f b is here ∙ (row_undue d (cond (is_idle x.phase) other Executes) none ∙ ap (λ b. cond b other Executes) (unidle x.phase steps))
 
 -- and of one that steps over nothing
-pub row_idles : (r : Engine) (h pc : ℕ) (x : Mind) (d : Judgement) → Sound r → Before r h x → DueIs r h d → Of r h (λ y. y.regs.pc ≡ pc) → is_due d ≡ false → x.phase ≡ phase.Idle → row_at r h ≡ row_idle x.asked (is_planted r.machine.text pc)
+pub row_idles : (r : Engine) (h pc : ℕ) (x : Mind) (d : Judgement) → Sound r → Before r h x → DueIs r h d → Of r h (λ y. y.regs.pc ≡ pc)
+    → is_due d ≡ false → x.phase ≡ phase.Idle → row_at r h ≡ row_idle x.asked (is_planted r.machine.text pc)
 row_idles r h pc x d f b is here none idle =
     let other = row_idle x.asked (is_planted r.machine.text pc) in
     row_arrives r h pc x d f b is here ∙ (row_undue d (cond (is_idle x.phase) other Executes) none ∙ ap (λ q. cond (is_idle q) other Executes) idle)

@@ -1,6 +1,6 @@
 -- A hart whose stretch was executed in place is served.
-use Rattle.std.proofs.Common.{◌≡◌, ◌<◌, ◌≤◌, ◌+◌, ℕ, Bool, true, List, ap, arith, sym, subst, ◌∙◌}
-use Rattle.std.specs.Prelude.{◌&&◌, Some, None, nat_le, nat_lt, slice_get, slice_set}
+use Rattle.std.proofs.Common.{◌≡◌, ◌<◌, ◌≤◌, ◌+◌, ℕ, true, List, ap, arith, sym, subst, ◌∙◌}
+use Rattle.std.specs.Prelude.{◌&&◌, Some, nat_le, nat_lt, slice_get, slice_set}
 use Rattle.std.proofs.lemmas.Bool.Decides.{nat_tests}
 use Rattle.rv_exec.specs.Registers.{Registers}
 use Rattle.reg_slices.specs.Slices.{SliceOf}
@@ -15,7 +15,7 @@ use Rattle.dbg_model.proofs.Options.{same_some}
 use Rattle.engine_parts.specs.declared.mind.Mind.{Mind}
 use Rattle.engine_parts.specs.Facts.{Facts, Sound, other_holder}
 use Rattle.engine_parts.specs.Minds.{entered_of}
-use Rattle.engine_parts.specs.Seen.{Engine, seen, seen_hart}
+use Rattle.engine_parts.specs.Seen.{Engine}
 use Rattle.engine_parts.specs.Slicing.{IsStretch, Serves, ServesBy, Stretches, TakesIf, gives_job, goes_apart, has_room}
 use Rattle.engine_parts.proofs.Aheads.{after_is}
 use Rattle.engine_parts.proofs.Bounding.{below}
@@ -82,7 +82,8 @@ pub served_here : (r s new : Engine) (h n : ℕ) (m : Patched) → r ≡ s → S
 served_here r s new h n m same f is some few room stretches machine taken =
     let gives : gives_job r h ≡ true = ap (λ (q : Engine). gives_job q h) same ∙ is in
     let k = stretch_here r h n m f gives few stretches in
-    let takes : TakesIf (has_room r n) r new h n k.0 = subst (λ b. TakesIf b r new h n k.0) (sym (has_room_so n (r.retired + n) r.opening.settings.budget some room)) (record { ran = taken.ran; machine = subst (TakesSlice r.machine h n k.0) machine k.1.1 }) in
+    let takes : TakesIf (has_room r n) r new h n k.0 = subst (λ b. TakesIf b r new h n k.0)
+    (sym (has_room_so n (r.retired + n) r.opening.settings.budget some room)) (record { ran = taken.ran; machine = subst (TakesSlice r.machine h n k.0) machine k.1.1 }) in
     let done : Stretches h r new = record { count = n; after = k.0; is = k.1.0; takes = takes } in
     subst (λ (q : Engine). Serves h q new) same (subst (λ b. ServesBy b h r new) (sym gives) done)
 
@@ -92,7 +93,8 @@ nothing_here r s h n m same f is none steps =
     let gives : gives_job r h ≡ true = ap (λ (q : Engine). gives_job q h) same ∙ is in
     subst (λ k. AllInPlace k r.machine h m) none (steps (out_so r h f gives))
 
-pub served_nothing : (r s : Engine) (h n : ℕ) (m : Patched) → r ≡ s → Sound r → gives_job s h ≡ true → n ≡ 0 → n ≤ r.opening.settings.slice → StretchesTo r.machine h r.opening.settings.slice n m → m ≡ r.machine → Serves h s (record r { machine = m })
+pub served_nothing : (r s : Engine) (h n : ℕ) (m : Patched) → r ≡ s → Sound r → gives_job s h ≡ true → n ≡ 0 → n ≤ r.opening.settings.slice
+    → StretchesTo r.machine h r.opening.settings.slice n m → m ≡ r.machine → Serves h s (record r { machine = m })
 served_nothing r s h n m same f is none few stretches kept =
     let gives : gives_job r h ≡ true = ap (λ (q : Engine). gives_job q h) same ∙ is in
     let k = stretch_here r h n m f gives few stretches in

@@ -146,7 +146,8 @@ pub reseen : (r : Engine) (s : State) → Leaves r.opening r.journal s → s ≡
 reseen r s l e = e ∙ ap (seen_with r) (sym (told_is r.opening r.journal s l))
 
 -- a hart that shows the same
-pub seen_same : (p : Program) (cs : List Core) (xs : List Mind) (h : ℕ) (c c' : Core) (x x' : Mind) → slice_get cs h ≡ Some c → slice_get xs h ≡ Some x → seen_hart p c' x' ≡ seen_hart p c x → seen_harts p (slice_set cs h c') (slice_set xs h x') ≡ seen_harts p cs xs
+pub seen_same : (p : Program) (cs : List Core) (xs : List Mind) (h : ℕ) (c c' : Core) (x x' : Mind) → slice_get cs h ≡ Some c
+    → slice_get xs h ≡ Some x → seen_hart p c' x' ≡ seen_hart p c x → seen_harts p (slice_set cs h c') (slice_set xs h x') ≡ seen_harts p cs xs
 seen_same p cs xs h c c' x x' e f s = seen-set p cs xs h c' x' ∙ (ap (slice_set (seen_harts p cs xs) h) s ∙ set_known (seen_harts p cs xs) h (seen_hart p c x) (seen_at p cs xs h c x e f))
 
 -- one mind changes, and no core

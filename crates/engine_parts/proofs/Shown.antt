@@ -9,16 +9,15 @@ use Rattle.dbg_model.specs.declared.entry.Why.{Why}
 use Rattle.dbg_model.specs.declared.entry.Why.TheVariants as whys
 use Rattle.dbg_model.specs.declared.hart.Hart.{Hart}
 use Rattle.dbg_model.specs.declared.shown.Shown.TheVariants.{Stop}
-use Rattle.dbg_model.specs.declared.shown.ShownWatch.{ShownWatch}
-use Rattle.dbg_model.specs.declared.watch.Fired.{Fired}
-use Rattle.dbg_model.specs.declared.watch.Watch.{Watch}
+use Rattle.watch_points.specs.declared.watchpoint.Fired.{Fired}
+use Rattle.watch_points.specs.declared.watchpoint.Watch.{Watch}
 use Rattle.dbg_model.specs.declared.opening.Opening.{Opening}
 use Rattle.dbg_model.specs.Sources.{Sources, sources_of}
 use Rattle.dbg_model.specs.Places.{own_frame}
 use Rattle.dbg_model.specs.Shown.{frame_at, hart_pc, shown_of, shown_watch, stopping_watch, stops_once, watch_of}
 use Rattle.dbg_model.specs.State.{State}
 use Rattle.dbg_model.specs.Lawful.{enter}
-use Rattle.dbg_model.specs.Watches.{is_of, risen}
+use Rattle.watch_points.specs.Watches.{is_of, risen}
 use Rattle.dbg_model.proofs.Options.{same_some}
 use Rattle.dbg_model.proofs.Plainly.{enter_plain, plain_hart, plain_of}
 use Rattle.engine_parts.specs.declared.moving.Move.TheVariants as move

@@ -25,7 +25,7 @@ use Rattle.std.specs.List.{list_any}
 use Rattle.dbg_model.specs.declared.opening.Opening.{Opening}
 use Rattle.dbg_model.specs.declared.hart.Hart.{Hart}
 use Rattle.dbg_model.specs.State.{State, due, is_off}
-use Rattle.dbg_model.specs.Watches.{fired_by}
+use Rattle.watch_points.specs.Watches.{fired_by}
 use Rattle.dbg_model.specs.Lawful.{one, one_out, may_run, passes}
 use Rattle.dbg_model.specs.Lawful as lawful
 use Rattle.dbg_model.proofs.Adding.{lengthens}
@@ -36,7 +36,8 @@ use Rattle.engine_parts.specs.declared.mind.Mind.{Mind}
 use Rattle.engine_parts.specs.Minds.{mode_of, is_active, is_lifted, lifted_of, slot_of, entered_of, is_copied, after_step, is_before, with_phase}
 use Rattle.engine_parts.specs.Seen.{Engine, seen, seen_hart, seen_harts, seen_regs, running_regs, landed_regs}
 use Rattle.engine_parts.specs.Facts.{Sound, Harts, HartFact, InText, Placed, Slotted, Wants, called, held_by, is_home, wanted, wants_of, Planted, pending}
-use Rattle.engine_parts.specs.Moves.{Repatched, ran_by, rephased, executed}
+use Rattle.engine_parts.specs.Moves.{Repatched, ran_by}
+use Rattle.engine_parts.proofs.Built.{rephased, executed}
 use Rattle.engine_parts.proofs.Showing.{seen-set}
 use Rattle.engine_parts.proofs.Counting.{retired_ran, copied_more, Balances, adds}
 use Rattle.engine_parts.proofs.Updating.{updated, slots_same, holds_by, holds_own, equals, differs}
@@ -74,7 +75,8 @@ none_pending : (d : Displaced) (home : ℕ) → is_off d ≡ true → pending d 
 none_pending d home off = rw off refl
 
 -- a patch is lifted for a hart, where it can't be stepped over by a copy
-pub lifts : (r : Engine) (h : ℕ) (c : Core) (x : Mind) (home : ℕ) (t : Words) → Sound r → Mover r h c x → x.activity ≡ activity.Running → x.phase ≡ phase.Idle → (0 < r.opening.settings.slots → is_off r.displaced ≡ true) → r.hold ≡ None → c.regs.pc ≡ home
+pub lifts : (r : Engine) (h : ℕ) (c : Core) (x : Mind) (home : ℕ) (t : Words) → Sound r → Mover r h c x → x.activity ≡ activity.Running
+    → x.phase ≡ phase.Idle → (0 < r.opening.settings.slots → is_off r.displaced ≡ true) → r.hold ≡ None → c.regs.pc ≡ home
     → InText r.opening.image home → Repatched r.machine.text t home false → StaysSeen r (rephased r h (with_phase x (phase.Lifted home)) t (Some (record { hart = h; home = home })))
 lifts r h c x home t f m runs idle only none pc text w =
     let p = r.opening.image in
@@ -117,7 +119,8 @@ after_regs p r q true = running_regs p r (after_step q)
 after_regs p r q false = running_regs p r q
 
 -- in text no patch is met
-text_gives : (r : Engine) (s : Stepped) (c c' : Core) (m' : Memory) (q : Phase) → Sound r → c.regs.pc < 2 ^ 32 → c.entered ≡ None → wanted (wants_of r) c.regs.pc ≡ false → FetchGives s (fetch_of r.machine c) c.regs c'.regs r.machine.memory m'
+text_gives : (r : Engine) (s : Stepped) (c c' : Core) (m' : Memory) (q : Phase) → Sound r → c.regs.pc < 2 ^ 32 → c.entered ≡ None
+    → wanted (wants_of r) c.regs.pc ≡ false → FetchGives s (fetch_of r.machine c) c.regs c'.regs r.machine.memory m'
     → StepGives s (plain r.opening.image c.regs r.machine.memory) c.regs c'.regs r.machine.memory m'
 text_gives r s c c' m' q f low out none g =
     let P : Fetch → Type 0 = λ w. FetchGives s w c.regs c'.regs r.machine.memory m' in
@@ -140,7 +143,8 @@ abbrev pub GivesSeen : Engine → Stepped → Core → Core → Memory → Phase
 GivesSeen r s c c' m' q =
     StepGives s (plain r.opening.image (running_regs r.opening.image c.regs q) r.machine.memory) (running_regs r.opening.image c.regs q) (after_regs r.opening.image c'.regs q (has_run s)) r.machine.memory m'
 
-gives_by : (r : Engine) (h : ℕ) (s : Stepped) (c c' : Core) (x : Mind) (m' : Memory) (q : Phase) → x.phase ≡ q → Sound r → Mover r h c x → is_before q ≡ true → (q ≡ phase.Idle → called r.breaks r.waits c.regs.pc ≡ false) → c.regs.pc < 2 ^ 32
+gives_by : (r : Engine) (h : ℕ) (s : Stepped) (c c' : Core) (x : Mind) (m' : Memory) (q : Phase) → x.phase ≡ q → Sound r → Mover r h c x
+    → is_before q ≡ true → (q ≡ phase.Idle → called r.breaks r.waits c.regs.pc ≡ false) → c.regs.pc < 2 ^ 32
     → FetchGives s (fetch_of r.machine c) c.regs c'.regs r.machine.memory m' → GivesSeen r s c c' m' q
 unfolding plain
 gives_by r h s c c' x m' phase.Idle is f m before none low g =
@@ -167,7 +171,8 @@ gives_by r h s c c' x m' (phase.Lifted home) is f m before none low g =
     let P : Phase → Type 0 = λ q. Placed p r.machine.slots h c q in
     let a : Placed p r.machine.slots h c (phase.Lifted home) = subst P is (fact_of r h c x f m).placed in
     let hold = holds_is r h c x home f m (ap lifted_of is) in
-    let off : wanted (wants_of r) c.regs.pc ≡ false = ap (λ (o : Option Hold). wanted (record (wants_of r) { hold = o }) c.regs.pc) hold ∙ (ap (wanted (record (wants_of r) { hold = Some (record { hart = h; home = home }) })) a.1 ∙ unwanted_home (wants_of r) h home) in
+    let off : wanted (wants_of r) c.regs.pc ≡ false = ap (λ (o : Option Hold). wanted (record (wants_of r) { hold = o }) c.regs.pc) hold ∙
+    (ap (wanted (record (wants_of r) { hold = Some (record { hart = h; home = home }) })) a.1 ∙ unwanted_home (wants_of r) h home) in
     let out : c.entered ≡ None = (fact_of r h c x f m).entered ∙ ap entered_of is in
     let Q : Registers → Type 0 = λ q. StepGives s (plain p c.regs r.machine.memory) c.regs q r.machine.memory m' in
     subst Q (lifted_ran p c'.regs home (has_run s)) (text_gives r s c c' m' (phase.Lifted home) f low out off g)
@@ -221,7 +226,8 @@ pub ran_seen : (r : Engine) (h : ℕ) (c c' : Core) (x : Mind) (m : Memory) → 
 ran_seen r h c c' x m runs = ap (λ a. let y : Hart = record (seen_hart r.opening.image c' (ran_of r h c x m)) { mode = mode_of a } in y) runs
 
 -- where a hart is after an instruction
-after_placed : (p : Program) (slots : List (Option SlotUse)) (h : ℕ) (c c' : Core) (q : Phase) → Placed p slots h c q → is_before q ≡ true → (is_copied q ≡ true → (slot home : ℕ) (e : q ≡ phase.Copied slot home) (a : Slotted p slots h slot home) → IsSome (decode a.word)) → Placed p slots h c' (after_step q)
+after_placed : (p : Program) (slots : List (Option SlotUse)) (h : ℕ) (c c' : Core) (q : Phase) → Placed p slots h c q → is_before q ≡ true
+    → (is_copied q ≡ true → (slot home : ℕ) (e : q ≡ phase.Copied slot home) (a : Slotted p slots h slot home) → IsSome (decode a.word)) → Placed p slots h c' (after_step q)
 after_placed p slots h c c' phase.Idle a before runs = tt
 after_placed p slots h c c' (phase.Copied slot home) a before runs = record { slotted = a.0; decodes = runs refl slot home refl a.0 }
 after_placed p slots h c c' (phase.Landed slot home) a before runs = cc
@@ -258,7 +264,8 @@ word_decodes r q m m' out leave None e = cc
 word_decodes r q m m' out leave (Some i) e = refl
 
 -- a copy that goes is of an instruction
-pub copy_decodes : (r : Engine) (h : ℕ) (c : Core) (x : Mind) (q : Registers) (m' : Memory) (out : List ℕ) (leave : Leave) → x.activity ≡ activity.Running → plain r.opening.image (seen_hart r.opening.image c x).regs r.machine.memory ≡ Goes q m' out leave
+pub copy_decodes : (r : Engine) (h : ℕ) (c : Core) (x : Mind) (q : Registers) (m' : Memory) (out : List ℕ) (leave : Leave)
+    → x.activity ≡ activity.Running → plain r.opening.image (seen_hart r.opening.image c x).regs r.machine.memory ≡ Goes q m' out leave
     → (slot home : ℕ) → x.phase ≡ phase.Copied slot home → (a : Slotted r.opening.image r.machine.slots h slot home) → IsSome (decode a.word)
 unfolding plain
 copy_decodes r h c x q m' out leave runs is slot home e a =
@@ -285,7 +292,8 @@ adds_most false = omega arith
 adds_none : (d : Displaced) (b : Bool) → b ≡ false → adds (not (is_off d) && b) ≡ 0
 adds_none d b e = ap (λ t. adds (not (is_off d) && t)) e ∙ ap adds (and_off (not (is_off d)))
 
-pub balances : (count : ℕ) (d : Displaced) (c c' : Core) (q : Phase) (here : Bool) → is_before q ≡ true → c'.copied ≡ c.copied + adds (is_copied q) → (q ≡ phase.Idle → here ≡ false) → Balances count d c c' q (after_step q) (adds (not (is_off d) && here))
+pub balances : (count : ℕ) (d : Displaced) (c c' : Core) (q : Phase) (here : Bool) → is_before q ≡ true → c'.copied ≡ c.copied + adds (is_copied q)
+    → (q ≡ phase.Idle → here ≡ false) → Balances count d c c' q (after_step q) (adds (not (is_off d) && here))
 balances count d c c' phase.Idle here before copied none some = let z = adds_none d here (none refl) in omega (arith, copied, z)
 balances count d c c' (phase.Copied slot home) here before copied none some = let z = adds_most (not (is_off d) && here) in let n = none_ahead d (phase.Landed slot home) refl in omega (arith, copied, z, n)
 balances count d c c' (phase.Landed slot home) here before copied none some = cc
@@ -305,7 +313,8 @@ here_none r c x none runs idle =
 
 -- what is known of the harts after an instruction of one, whatever watch it made fire
 pub ran_harts : (r : Engine) (h : ℕ) (c c' : Core) (x : Mind) (q : Registers) (mem after : Memory) (out : List ℕ) (leave : Leave) → Sound r → Mover r h c x → x.activity ≡ activity.Running → is_before x.phase ≡ true
-    → plain r.opening.image (seen_hart r.opening.image c x).regs r.machine.memory ≡ Goes q mem out leave → c'.entered ≡ None → Harts r.opening.image (slice_set r.machine.cores h c') r.machine.slots (slice_set r.minds h (ran_of r h c x after)) r.hold
+    → plain r.opening.image (seen_hart r.opening.image c x).regs r.machine.memory ≡ Goes q mem out leave → c'.entered ≡ None
+    → Harts r.opening.image (slice_set r.machine.cores h c') r.machine.slots (slice_set r.minds h (ran_of r h c x after)) r.hold
 ran_harts r h c c' x q mem after out leave f m runs before is left =
     let p = r.opening.image in
     let x' = ran_of r h c x after in
@@ -324,7 +333,8 @@ ran_harts r h c c' x q mem after out leave f m runs before is left =
     })
 
 -- one instruction, by which none exits
-pub executes : (r : Engine) (h spare : ℕ) (c c' : Core) (x : Mind) (mem : Memory) (out : List ℕ) → Sound r → Mover r h c x → x.activity ≡ activity.Running → is_before x.phase ≡ true → (x.phase ≡ phase.Idle → called r.breaks r.waits c.regs.pc ≡ false)
+pub executes : (r : Engine) (h spare : ℕ) (c c' : Core) (x : Mind) (mem : Memory) (out : List ℕ) → Sound r → Mover r h c x
+    → x.activity ≡ activity.Running → is_before x.phase ≡ true → (x.phase ≡ phase.Idle → called r.breaks r.waits c.regs.pc ≡ false)
     → may_run r.opening (seen r) h (seen_hart r.opening.image c x) ≡ true → plain r.opening.image (seen_hart r.opening.image c x).regs r.machine.memory ≡ Goes (running_regs r.opening.image c'.regs (after_step x.phase)) mem out Stays
     → c'.retired ≡ c.retired + 1 → c'.copied ≡ c.copied + adds (is_copied x.phase) → c'.entered ≡ None
     → Enters (executed r h c' (ran_of r h c x mem) mem spare) (after_one r h c x (running_regs r.opening.image c'.regs (after_step x.phase)) mem out Stays)

@@ -30,13 +30,13 @@ use Rattle.dbg_model.specs.declared.opening.Opening.{Opening}
 use Rattle.dbg_model.specs.Breaks.{is_stop, same_error}
 use Rattle.dbg_model.specs.declared.hart.Hart.{Hart}
 use Rattle.dbg_model.specs.declared.judgement.Judgement.{Judgement}
-use Rattle.dbg_model.specs.declared.watch.Fired.{Fired}
-use Rattle.dbg_model.specs.declared.watch.Watch.{Watch as Watchpoint}
+use Rattle.watch_points.specs.declared.watchpoint.Fired.{Fired}
+use Rattle.watch_points.specs.declared.watchpoint.Watch.{Watch as Watchpoint}
 use Rattle.dbg_model.specs.declared.course.Course.{Course}
 use Rattle.dbg_model.specs.Courses.{after_count, with_plan}
 use Rattle.dbg_model.specs.Judging.{ends_function, ends_step, fires, is_counted, is_due}
 use Rattle.dbg_model.specs.State.{State, due, arrived}
-use Rattle.dbg_model.specs.Watches.{is_fired, risen}
+use Rattle.watch_points.specs.Watches.{is_fired, risen}
 use Rattle.dbg_model.specs.Lawful.{enter, may_move, may_run, stopped_hart, with_arrival, with_stop, with_count}
 use Rattle.dbg_model.specs.Journals.{ran_hart}
 use Rattle.dbg_model.proofs.Adding.{added}
@@ -45,7 +45,8 @@ use Rattle.engine_parts.specs.declared.mind.Mind.{Mind}
 use Rattle.engine_parts.specs.Minds.{first_mind, resumed_mind, counted_mind, lifted_of, slot_of, entered_of, runs}
 use Rattle.engine_parts.specs.Seen.{Engine, seen, seen_with, told_of, seen_hart, seen_harts, seen_regs}
 use Rattle.engine_parts.specs.Facts.{Sound, Harts, HartFact, Planted, AreInText, AreCopied, Wants, wanted, wants_of, is_home, held_by, pending, IsThread}
-use Rattle.engine_parts.specs.Moves.{Repatched, halted, lined, plan_for, stop_by, stop_of}
+use Rattle.engine_parts.specs.Moves.{Repatched, plan_for, stop_by, stop_of}
+use Rattle.engine_parts.proofs.Built.{halted, lined}
 use Rattle.engine_parts.proofs.Showing.{seen-set_mind}
 use Rattle.engine_parts.proofs.Counting.{retired_noted, copied_mind}
 use Rattle.engine_parts.proofs.Updating.{updated_mind, slots_same, equals}
@@ -70,8 +71,10 @@ pub record Rests (r : Engine) (x x' : Mind) : Type 0 where
   pub pending : 0 < r.opening.settings.slots → pending r.displaced x'.phase ≤ pending r.displaced x.phase
 
 -- a hart stops or is counted, with these patches, breakpoints and watches
-pub halts : (r : Engine) (e : Entry) (h spare : ℕ) (c : Core) (x x' : Mind) (t : Words) (bs : List BreakEntry) (ws : List Watchpoint) → Sound r → Mover r h c x → HartFact r.opening.image r.machine.slots r.hold h c x' → Rests r x x' → ran_hart e ≡ None
-    → enter r.opening (seen r) e ≡ Some (stop_state (seen r) h (seen_hart r.opening.image c x') bs ws) → Planted r.opening.image t (record (wants_of r) { entries = bs }) → AreInText r.opening.image bs → Comes r (halted r e h x' t bs ws spare) e
+pub halts : (r : Engine) (e : Entry) (h spare : ℕ) (c : Core) (x x' : Mind) (t : Words) (bs : List BreakEntry) (ws : List Watchpoint) → Sound r
+    → Mover r h c x → HartFact r.opening.image r.machine.slots r.hold h c x' → Rests r x x' → ran_hart e ≡ None
+    → enter r.opening (seen r) e ≡ Some (stop_state (seen r) h (seen_hart r.opening.image c x') bs ws)
+    → Planted r.opening.image t (record (wants_of r) { entries = bs }) → AreInText r.opening.image bs → Comes r (halted r e h x' t bs ws spare) e
 halts r e h spare c x x' t bs ws f m fact rests quiet comes p texts =
     let image = r.opening.image in
     let s = stop_state (seen r) h (seen_hart image c x') bs ws in
@@ -114,7 +117,8 @@ stopped_seen p c x idle =
     ap (λ q. let y : Hart = record (seen_hart p c first_mind) { regs = q } in y) regs
 
 -- what is known of a hart stays, whether an interrupt is asked of it and however it goes on
-pub going_fact : (p : Program) (slots : List (Option SlotUse)) (hold : Option Hold) (h : ℕ) (c : Core) (x : Mind) (asked : Bool) (course : Course) → HartFact p slots hold h c x → HartFact p slots hold h c (record x { asked = asked; course = course })
+pub going_fact : (p : Program) (slots : List (Option SlotUse)) (hold : Option Hold) (h : ℕ) (c : Core) (x : Mind) (asked : Bool) (course : Course)
+    → HartFact p slots hold h c x → HartFact p slots hold h c (record x { asked = asked; course = course })
 going_fact p slots hold h c x asked course k = record { placed = k.placed; entered = k.entered; held = k.held; idle = k.idle }
 
 -- the stop by a fault comes
@@ -254,7 +258,9 @@ counts r h spare c x t f m may is w =
     let y = seen_hart r.opening.image c x in
     let bs = after_arrival r h c x in
     let plan = goes_with r h c x in
-    halts r (Counted h) h spare c x (counted_mind plan x) t bs r.watches f m (going_fact r.opening.image r.machine.slots r.hold h c x x.asked (after_count (with_plan plan x.course)) (fact_of r h c x f m)) (record { slot = refl; pending = λ some. omega arith }) refl
+    halts r (Counted h) h spare c x (counted_mind plan x) t bs r.watches f m
+    (going_fact r.opening.image r.machine.slots r.hold h c x x.asked (after_count (with_plan plan x.course)) (fact_of r h c x f m))
+    (record { slot = refl; pending = λ some. omega arith }) refl
     (enter_count r.opening (seen r) h y (hart_at r h c x m) may is) (planted_after r h c x t f w) (text-arrived r.opening.image (seen r) h y f.texts)
 
 -- ---- lines
@@ -307,7 +313,8 @@ copied_line r xs d s f l some h c x ec ex =
     omega (arith, had, same, more, passed)
 
 -- a line is done that changes harts, the selected thread, the setting, the breakpoints and the watches
-pub lines : (r : Engine) (e : Entry) (xs : List Mind) (selected : ℕ) (d : Displaced) (t : Words) (bs : List BreakEntry) (ws : List Watchpoint) (given : ℕ) (exited : Bool) (spare : ℕ) (s : State) → Sound r → ran_hart e ≡ None → enter r.opening (seen r) e ≡ Some s
+pub lines : (r : Engine) (e : Entry) (xs : List Mind) (selected : ℕ) (d : Displaced) (t : Words) (bs : List BreakEntry) (ws : List Watchpoint)
+    (given : ℕ) (exited : Bool) (spare : ℕ) (s : State) → Sound r → ran_hart e ≡ None → enter r.opening (seen r) e ≡ Some s
     → s ≡ seen_with (lined r e xs selected d t bs ws given exited spare) (told_of s) → length xs ≡ length r.minds → IsThread r.opening selected → Harts r.opening.image r.machine.cores r.machine.slots xs r.hold → Resets r xs d s
     → Planted r.opening.image t (record (wants_of r) { entries = bs }) → AreInText r.opening.image bs → Enters (lined r e xs selected d t bs ws given exited spare) s
 lines r e xs selected d t bs ws given exited spare s f quiet comes same len thread hs l p texts =

@@ -135,7 +135,8 @@ pub empty : (r s : Engine) (h : ℕ) (n : ℕ) (after : Registers) → n ≡ 0 �
 empty r s h n after none same = subst (λ b. TakesIf b r s h n after) (sym (none_of n (r.retired + n) r.opening.settings.budget none)) same
 
 -- so the hart is served
-pub served_apart : (r s : Engine) (h : ℕ) (job : Job) (slice : Slice) → gives_job r h ≡ true → IsJobOf r h job → OfJob job slice → slice.count ≤ job.limit → ((n : ℕ) (q : Registers) → n ≤ job.limit → SliceOf job.regs job.at job.words.items n q → n ≤ slice.count)
+pub served_apart : (r s : Engine) (h : ℕ) (job : Job) (slice : Slice) → gives_job r h ≡ true → IsJobOf r h job → OfJob job slice
+    → slice.count ≤ job.limit → ((n : ℕ) (q : Registers) → n ≤ job.limit → SliceOf job.regs job.at job.words.items n q → n ≤ slice.count)
     → TakesIf (has_room r slice.count) r s slice.hart slice.count slice.after → Serves h r s
 served_apart r s h job slice is j of few greatest takes =
     let here : slice.hart ≡ h = of.0 ∙ j.hart in

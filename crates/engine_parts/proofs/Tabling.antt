@@ -44,7 +44,8 @@ none_deleted old k at = ap (λ es. let t : Table = record old { entries = es } i
 pub none_changed : (f : BreakEntry → BreakEntry) (old : Table) (k : ℕ) → number_place old.entries k ≡ None → old ≡ changed f k old
 none_changed f old k at = ap (λ es. let t : Table = record old { entries = es } in t) (sym (absent-changed f old.entries k at))
 
-pub enabled_words : (e : Bool) (m n : Patched) (old new : Table) (hold : Option Hold) (k a : ℕ) → ArePlanted m.text (wants_by old hold) → IsRising 0 old.entries old.given → number_place old.entries k ≡ Some a → new ≡ changed (with_enabled e) k old
+pub enabled_words : (e : Bool) (m n : Patched) (old new : Table) (hold : Option Hold) (k a : ℕ) → ArePlanted m.text (wants_by old hold)
+    → IsRising 0 old.entries old.given → number_place old.entries k ≡ Some a → new ≡ changed (with_enabled e) k old
     → Repatched m.text n.text a (wanted (wants_by new hold) a) → n ≡ record m { text = n.text } → Retabled m n (wants_by new hold)
 enabled_words e m n old new hold k a f rising at is w rest =
     let es = (changed (with_enabled e) k old).entries in
@@ -53,7 +54,8 @@ enabled_words e m n old new hold k a f rising at is w rest =
     (λ w. retabled m n (wants_by old hold) es a f (λ c apart. stands-enabled e old.entries k a c 0 old.given rising at apart) (words-changed m.text (with_enabled e) old.entries k (λ x. refl) f.words) w rest) w
 
 -- a change that leaves each breakpoint where it stands leaves the machine too
-pub kept_table : (f : BreakEntry → BreakEntry) (m : Patched) (old new : Table) (hold : Option Hold) (k : ℕ) → ((c : ℕ) (x : BreakEntry) → stands_at c (f x) ≡ stands_at c x) → ((x : BreakEntry) → (f x).address ≡ x.address) → ArePlanted m.text (wants_by old hold)
+pub kept_table : (f : BreakEntry → BreakEntry) (m : Patched) (old new : Table) (hold : Option Hold) (k : ℕ)
+    → ((c : ℕ) (x : BreakEntry) → stands_at c (f x) ≡ stands_at c x) → ((x : BreakEntry) → (f x).address ≡ x.address) → ArePlanted m.text (wants_by old hold)
     → new ≡ changed f k old → Retabled m m (wants_by new hold)
 kept_table f m old new hold k same addresses p is =
     let q = kept_words (wants_by old hold) (changed f k old).entries m.text p (λ c. stands-kept f old.entries k c (same c)) (words-changed m.text f old.entries k addresses p.words) in

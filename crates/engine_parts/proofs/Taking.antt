@@ -8,9 +8,9 @@ use Rattle.step_over.specs.declared.phase.Phase.TheVariants as phase
 use Rattle.dbg_model.specs.declared.entry.Entry.{Entry}
 use Rattle.dbg_model.specs.declared.hart.Hart.{Hart}
 use Rattle.dbg_model.specs.Limits.{history}
-use Rattle.dbg_model.specs.Watches.{fired_by}
-use Rattle.dbg_model.specs.declared.watch.Watch.{Watch}
-use Rattle.dbg_model.proofs.Firing.{none_fires}
+use Rattle.watch_points.specs.Watches.{fired_by}
+use Rattle.watch_points.specs.declared.watchpoint.Watch.{Watch}
+use Rattle.watch_points.proofs.Firing.{none_fires}
 use Rattle.rv_exec.specs.Memory.{Memory}
 use Rattle.dbg_model.proofs.Options.{both_true, same_some}
 use Rattle.engine_parts.specs.declared.mind.Mind.{Mind}
@@ -51,7 +51,8 @@ taken_by zero r h spare x m f at a none budget low still went =
 taken_by (suc n) r h spare x m f at a none budget low still went =
     let q = run_after n r h x went.machine spare in
     let before = taken_by n r h spare x went.machine f at a none (omega (arith, budget)) low still went.before in
-    let e = one_turn q h spare (mind_after n x) m before.facts (at_after n r.minds h x at) (apart_after n x a) none (record { budget = omega (arith, budget); history = low; going = still }) (kept_fires r.watches went.machine.memory m.memory went.kept) went.step in
+    let e = one_turn q h spare (mind_after n x) m before.facts (at_after n r.minds h x at) (apart_after n x a) none
+    (record { budget = omega (arith, budget); history = low; going = still }) (kept_fires r.watches went.machine.memory m.memory went.kept) went.step in
     let next = run_next n r h x went.machine m spare a.idle in
     let P : Engine → Type 0 = λ u. Turns (turned.Moved move.Ran) q u h in
     record {
@@ -92,7 +93,9 @@ begun r slice f c =
       stored = c.words;
     }
 
-taken_so : (r : Engine) (slice : Slice) (spare : ℕ) (m : Patched) → Facts r → (c : CanTake r slice) → (Fits r.machine slice.hart slice.regs slice.at slice.words.items → AllInPlace slice.count r.machine slice.hart m) → Taken slice.count r (run_after slice.count r slice.hart c.mind m spare) slice.hart
+taken_so : (r : Engine) (slice : Slice) (spare : ℕ) (m : Patched) → Facts r → (c : CanTake r slice)
+    → (Fits r.machine slice.hart slice.regs slice.at slice.words.items → AllInPlace slice.count r.machine slice.hart m)
+    → Taken slice.count r (run_after slice.count r slice.hart c.mind m spare) slice.hart
 taken_so r slice spare m f c steps =
     let x = c.mind in
     let a = apart_so x c.apart in

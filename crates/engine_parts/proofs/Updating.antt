@@ -66,7 +66,8 @@ used_updated p cs old xs hold h x x' slot u hs f (inr b) =
     let P : ℕ → Type 0 = λ k. HasSlot (slice_set xs h x') k slot in
     subst P b.0 (record { mind = x'; at = get-set_same xs h x' x f; has = b.1 })
 
-pub updated : (p : Program) (cs : List Core) (old new : List (Option SlotUse)) (xs : List Mind) (hold hold' : Option Hold) (h : ℕ) (c' : Core) (x x' : Mind) → Harts p cs old xs hold → slice_get xs h ≡ Some x → Changes p old new hold hold' h c' x'
+pub updated : (p : Program) (cs : List Core) (old new : List (Option SlotUse)) (xs : List Mind) (hold hold' : Option Hold) (h : ℕ) (c' : Core)
+    (x x' : Mind) → Harts p cs old xs hold → slice_get xs h ≡ Some x → Changes p old new hold hold' h c' x'
     → Harts p (slice_set cs h c') new (slice_set xs h x') hold'
 updated p cs old new xs hold hold' h c' x x' hs f ch =
     record {
@@ -85,20 +86,23 @@ updated_mind p cs slots xs hold hold' h c x x' hs e f ch =
 -- ---- what can happen to the slots
 
 -- the slot that is out for hart h is its own by its phase
-pub own_slot : (p : Program) (cs : List Core) (slots : List (Option SlotUse)) (xs : List Mind) (hold : Option Hold) (h : ℕ) (x : Mind) (slot : ℕ) (u : SlotUse) → Harts p cs slots xs hold → slice_get xs h ≡ Some x → use_at slots slot ≡ Some u → h ≡ u.hart
+pub own_slot : (p : Program) (cs : List Core) (slots : List (Option SlotUse)) (xs : List Mind) (hold : Option Hold) (h : ℕ) (x : Mind) (slot : ℕ)
+    (u : SlotUse) → Harts p cs slots xs hold → slice_get xs h ≡ Some x → use_at slots slot ≡ Some u → h ≡ u.hart
     → slot_of x.phase ≡ Some slot
 own_slot p cs slots xs hold h x slot u hs f e is =
     let had = hs.used slot u e in
     let same : x ≡ had.mind = same_some x had.mind (sym f ∙ (ap (slice_get xs) is ∙ had.at)) in
     ap (λ (y : Mind). slot_of y.phase) same ∙ had.has
 
-same_by : (p : Program) (cs : List Core) (slots : List (Option SlotUse)) (xs : List Mind) (hold : Option Hold) (h : ℕ) (x : Mind) (q : Phase) (slot : ℕ) (u : SlotUse) → Harts p cs slots xs hold → slice_get xs h ≡ Some x → slot_of q ≡ slot_of x.phase
+same_by : (p : Program) (cs : List Core) (slots : List (Option SlotUse)) (xs : List Mind) (hold : Option Hold) (h : ℕ) (x : Mind) (q : Phase)
+    (slot : ℕ) (u : SlotUse) → Harts p cs slots xs hold → slice_get xs h ≡ Some x → slot_of q ≡ slot_of x.phase
     → use_at slots slot ≡ Some u → (h ≡ u.hart) ⊎ (h ≡ u.hart → ⊥) → ((h ≡ u.hart → ⊥) × (use_at slots slot ≡ Some u)) ⊎ ((h ≡ u.hart) × (slot_of q ≡ Some slot))
 same_by p cs slots xs hold h x q slot u hs f alike e (inl is) = inr (is, alike ∙ own_slot p cs slots xs hold h x slot u hs f e is)
 same_by p cs slots xs hold h x q slot u hs f alike e (inr n) = inl (n, e)
 
 -- all stay
-pub slots_same : (p : Program) (cs : List Core) (slots : List (Option SlotUse)) (xs : List Mind) (hold : Option Hold) (h : ℕ) (x : Mind) (q : Phase) → Harts p cs slots xs hold → slice_get xs h ≡ Some x → slot_of q ≡ slot_of x.phase → SlotChange slots slots h q
+pub slots_same : (p : Program) (cs : List Core) (slots : List (Option SlotUse)) (xs : List Mind) (hold : Option Hold) (h : ℕ) (x : Mind) (q : Phase)
+    → Harts p cs slots xs hold → slice_get xs h ≡ Some x → slot_of q ≡ slot_of x.phase → SlotChange slots slots h q
 slots_same p cs slots xs hold h x q hs f alike =
     record { kept = λ slot u e n. e; out = λ slot u e. same_by p cs slots xs hold h x q slot u hs f alike e (same_place h u.hart) }
 
@@ -121,7 +125,8 @@ taken_out p cs old new xs hold h slot home word s x u hs f without one e (inr n)
 taken_out p cs old new xs hold h slot home word s x u hs f without one e (inr n) (inr m) = inl (m, sym (one.others s n) ∙ e)
 
 -- a hart without a slot takes one that is free
-pub slots_taken : (p : Program) (cs : List Core) (old new : List (Option SlotUse)) (xs : List Mind) (hold : Option Hold) (h slot home word : ℕ) (x : Mind) → Harts p cs old xs hold → slice_get xs h ≡ Some x → slot_of x.phase ≡ None → use_at old slot ≡ None
+pub slots_taken : (p : Program) (cs : List Core) (old new : List (Option SlotUse)) (xs : List Mind) (hold : Option Hold) (h slot home word : ℕ)
+    (x : Mind) → Harts p cs old xs hold → slice_get xs h ≡ Some x → slot_of x.phase ≡ None → use_at old slot ≡ None
     → OneSlot old new slot (Some (record { hart = h; word = word })) → SlotChange old new h (phase.Copied slot home)
 slots_taken p cs old new xs hold h slot home word x hs f without was one =
     record {
@@ -129,13 +134,15 @@ slots_taken p cs old new xs hold h slot home word x hs f without was one =
       out = λ s u e. taken_out p cs old new xs hold h slot home word s x u hs f without one e (same_place slot s) (same_place h u.hart);
     }
 
-freed_kept : (old new : List (Option SlotUse)) (h slot s word : ℕ) (u : SlotUse) → use_at old slot ≡ Some (record { hart = h; word = word }) → OneSlot old new slot None → use_at old s ≡ Some u → (h ≡ u.hart → ⊥) → (slot ≡ s) ⊎ (slot ≡ s → ⊥) → use_at new s ≡ Some u
+freed_kept : (old new : List (Option SlotUse)) (h slot s word : ℕ) (u : SlotUse) → use_at old slot ≡ Some (record { hart = h; word = word })
+    → OneSlot old new slot None → use_at old s ≡ Some u → (h ≡ u.hart → ⊥) → (slot ≡ s) ⊎ (slot ≡ s → ⊥) → use_at new s ≡ Some u
 freed_kept old new h slot s word u was one e n (inl is) =
     let v : SlotUse = record { hart = h; word = word } in
     absurd (n (ap (λ (w : SlotUse). w.hart) (same_some v u (sym was ∙ (ap (use_at old) is ∙ e)))))
 freed_kept old new h slot s word u was one e n (inr m) = one.others s m ∙ e
 
-freed_out : (p : Program) (cs : List Core) (old new : List (Option SlotUse)) (xs : List Mind) (hold : Option Hold) (h slot s : ℕ) (x : Mind) (q : Phase) (u : SlotUse) → Harts p cs old xs hold → slice_get xs h ≡ Some x → slot_of x.phase ≡ Some slot
+freed_out : (p : Program) (cs : List Core) (old new : List (Option SlotUse)) (xs : List Mind) (hold : Option Hold) (h slot s : ℕ) (x : Mind)
+    (q : Phase) (u : SlotUse) → Harts p cs old xs hold → slice_get xs h ≡ Some x → slot_of x.phase ≡ Some slot
     → OneSlot old new slot None → use_at new s ≡ Some u → (slot ≡ s) ⊎ (slot ≡ s → ⊥) → (h ≡ u.hart) ⊎ (h ≡ u.hart → ⊥) → ((h ≡ u.hart → ⊥) × (use_at old s ≡ Some u)) ⊎ ((h ≡ u.hart) × (slot_of q ≡ Some s))
 freed_out p cs old new xs hold h slot s x q u hs f has one e (inl is) own = some_none u (sym e ∙ (ap (use_at new) (sym is) ∙ one.here))
 freed_out p cs old new xs hold h slot s x q u hs f has one e (inr n) (inl is) =
@@ -143,7 +150,8 @@ freed_out p cs old new xs hold h slot s x q u hs f has one e (inr n) (inl is) =
 freed_out p cs old new xs hold h slot s x q u hs f has one e (inr n) (inr m) = inl (m, sym (one.others s n) ∙ e)
 
 -- a hart gives its slot back
-pub slots_freed : (p : Program) (cs : List Core) (old new : List (Option SlotUse)) (xs : List Mind) (hold : Option Hold) (h slot word : ℕ) (x : Mind) (q : Phase) → Harts p cs old xs hold → slice_get xs h ≡ Some x → slot_of x.phase ≡ Some slot
+pub slots_freed : (p : Program) (cs : List Core) (old new : List (Option SlotUse)) (xs : List Mind) (hold : Option Hold) (h slot word : ℕ) (x : Mind)
+    (q : Phase) → Harts p cs old xs hold → slice_get xs h ≡ Some x → slot_of x.phase ≡ Some slot
     → use_at old slot ≡ Some (record { hart = h; word = word }) → OneSlot old new slot None → SlotChange old new h q
 slots_freed p cs old new xs hold h slot word x q hs f has was one =
     record {

@@ -4,7 +4,7 @@ use Rattle.rv_exec.specs.Memory.{Memory}
 use Rattle.elf32_read.specs.Program.{Program}
 use Rattle.hart_machine.specs.declared.hart.Core.{Core}
 use Rattle.dbg_model.specs.declared.thread_view.ThreadView.{ThreadView}
-use Rattle.dbg_model.specs.declared.watch.Watch.{Watch}
+use Rattle.watch_points.specs.declared.watchpoint.Watch.{Watch}
 use Rattle.dbg_model.specs.Sight.{Sight, sight_of, view_by, view_of}
 use Rattle.engine_parts.specs.declared.mind.Activity.{Activity}
 use Rattle.engine_parts.specs.declared.mind.Activity.TheVariants as activity

@@ -89,7 +89,8 @@ pub record Partly (m n : Patched) (old new : Table) (f : Mind → Option ℕ) (x
 pub partly_none : (m : Patched) (t : Table) (f : Mind → Option ℕ) (xs : List Mind) (hold : Option Hold) → ArePlanted m.text (wants_by t hold) → Partly m m t t f xs hold 0
 partly_none m t f xs hold planted = record { rest = refl; len = refl; done = λ j x low at. absurd (omega arith); machine = record { planted = planted; words = refl; rest = refl } }
 
-more_at : (ws : List (Option ℕ)) (f : Mind → Option ℕ) (xs : List Mind) (k j : ℕ) (w : Option ℕ) (x : Mind) → ((i : ℕ) (y : Mind) → i < k → slice_get xs i ≡ Some y → slice_get ws i ≡ Some (f y)) → ((y : Mind) → slice_get xs k ≡ Some y → w ≡ f y)
+more_at : (ws : List (Option ℕ)) (f : Mind → Option ℕ) (xs : List Mind) (k j : ℕ) (w : Option ℕ) (x : Mind)
+    → ((i : ℕ) (y : Mind) → i < k → slice_get xs i ≡ Some y → slice_get ws i ≡ Some (f y)) → ((y : Mind) → slice_get xs k ≡ Some y → w ≡ f y)
     → k < length ws → j < suc k → slice_get xs j ≡ Some x → (k ≡ j) ⊎ (k ≡ j → ⊥) → slice_get (slice_set ws k w) j ≡ Some (f x)
 more_at ws f xs k j w x done now within low at (inl is) =
     let old = get_within ws k within in

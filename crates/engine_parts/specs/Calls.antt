@@ -24,8 +24,8 @@ use Rattle.dbg_model.specs.declared.entry.Why.TheVariants.{Interrupted, Fault}
 use Rattle.dbg_model.specs.declared.entry.Why.TheVariants as whys
 use Rattle.dbg_model.specs.Limits.{history}
 use Rattle.dbg_model.specs.Shown.{stops_once}
-use Rattle.dbg_model.specs.Watches.{risen}
-use Rattle.dbg_model.specs.declared.watch.Fired.{Fired}
+use Rattle.watch_points.specs.Watches.{risen}
+use Rattle.watch_points.specs.declared.watchpoint.Fired.{Fired}
 use Rattle.dbg_model.specs.declared.hart.Hart.{Hart}
 use Rattle.dbg_model.specs.declared.judgement.Judgement.{Judgement}
 use Rattle.dbg_model.specs.Judging.{is_due}

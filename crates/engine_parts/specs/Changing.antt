@@ -1,5 +1,5 @@
 -- What a line changes, and the words that are planted for it. This project's own.
-use Rattle.std.specs.Prelude.{◌≡◌, ◌<◌, ◌^◌, ℕ, List, Option, None}
+use Rattle.std.specs.Prelude.{◌≡◌, ℕ, List, Option}
 use Rattle.hart_machine.specs.Patched.{Patched}
 use Rattle.break_table.specs.Table.{Table}
 use Rattle.dbg_model.specs.Outcome.{Change}

@@ -12,8 +12,8 @@ use Rattle.break_table.specs.Entry.{Entry as BreakEntry}
 use Rattle.break_table.specs.Arrival.{due_of}
 use Rattle.dbg_model.specs.Views.{register, shown_byte}
 use Rattle.break_table.specs.declared.due.Due.{Due}
-use Rattle.dbg_model.specs.declared.watch.Watch.{Watch}
-use Rattle.dbg_model.specs.Watches.{fired_by}
+use Rattle.watch_points.specs.declared.watchpoint.Watch.{Watch}
+use Rattle.watch_points.specs.Watches.{fired_by}
 use Rattle.engine_parts.specs.declared.going.Surroundings.{Surroundings}
 use Rattle.step_plans.specs.declared.plan.Plan.{Plan}
 use Rattle.step_plans.specs.declared.plan.Plan.TheVariants as plans

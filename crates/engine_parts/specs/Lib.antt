@@ -10,6 +10,7 @@ pub mod Steps
 pub mod Rows
 pub mod Shown
 pub mod Calls
+pub mod Staying
 pub mod Several
 pub mod Slicing
 pub mod Going

@@ -6,7 +6,7 @@ use Rattle.dbg_model.specs.declared.entry.Entry.{Entry}
 use Rattle.dbg_model.specs.declared.entry.Entry.TheVariants.{Left}
 use Rattle.dbg_model.specs.declared.entry.Mode.{Mode}
 use Rattle.dbg_model.specs.declared.entry.Mode.TheVariants as mode
-use Rattle.dbg_model.specs.declared.watch.Fired.{Fired}
+use Rattle.watch_points.specs.declared.watchpoint.Fired.{Fired}
 use Rattle.dbg_model.specs.Courses.{after_count, after_instruction, after_resume, at_stop, with_plan}
 use Rattle.engine_parts.specs.declared.mind.Activity.{Activity}
 use Rattle.engine_parts.specs.declared.mind.Activity.TheVariants as activity

@@ -1,12 +1,15 @@
 -- The table of moves: what a hart does next is the first row that fits. This project's own.
-use Rattle.std.specs.Prelude.{ℕ, Bool, Option, Some, None, is_some, slice_get, if◌then◌else◌}
-use Rattle.text_words.specs.Words.{is_planted}
+use Rattle.std.specs.Prelude.{ℕ, Bool, List, Option, Some, None, is_some, slice_get, if◌then◌else◌}
+use Rattle.elf32_read.specs.Program.{Program}
+use Rattle.text_words.specs.Words.{Words, is_planted}
 use Rattle.dbg_model.specs.declared.entry.Why.{Why}
 use Rattle.dbg_model.specs.declared.entry.Why.TheVariants.{Interrupted, Fault}
 use Rattle.dbg_model.specs.declared.hart.Hart.{Hart}
 use Rattle.dbg_model.specs.declared.judgement.Judgement.{Judgement}
-use Rattle.dbg_model.specs.State.{due}
+use Rattle.dbg_model.specs.declared.opening.Opening.{Opening}
+use Rattle.dbg_model.specs.State.{State, due}
 use Rattle.dbg_model.specs.Lawful.{may_go}
+use Rattle.engine_parts.specs.declared.mind.Hold.{Hold}
 use Rattle.engine_parts.specs.declared.mind.Mind.{Mind}
 use Rattle.engine_parts.specs.Minds.{runs, is_before}
 use Rattle.engine_parts.specs.Movers.{is_idle}
@@ -68,19 +71,23 @@ abbrev pub row_idle : (asked planted : Bool) → Row
 row_idle asked planted = if asked then Interrupts else if planted then Begins else Executes
 
 -- of a hart with no step over a breakpoint to finish
-abbrev pub row_before : Engine → ℕ → Mind → Hart → Row
-row_before r h x y = row_due (due r.opening.image (seen r) h y) (if is_idle x.phase then row_idle x.asked (is_planted r.machine.text y.regs.pc) else Executes)
+abbrev pub row_before : Program → State → Words → ℕ → Mind → Hart → Row
+row_before p s text h x y = row_due (due p s h y) (if is_idle x.phase then row_idle x.asked (is_planted text y.regs.pc) else Executes)
 
 -- of a running hart, where this other one holds it up
-abbrev pub row_running : Engine → ℕ → Mind → Hart → Option ℕ → Row
-row_running r h x y (Some by) = Waits by
-row_running r h x y None = if is_before x.phase then row_before r h x y else Finishes
+abbrev pub row_running : Program → State → Words → ℕ → Mind → Hart → Option ℕ → Row
+row_running p s text h x y (Some by) = Waits by
+row_running p s text h x y None = if is_before x.phase then row_before p s text h x y else Finishes
 
-abbrev pub row_hart : Engine → ℕ → Option Mind → Option Hart → Row
-row_hart r h (Some x) (Some y) = if runs x then row_running r h x y (other_holder r.hold h) else Rests
-row_hart r h (Some x) None = Rests
-row_hart r h None y = Rests
+abbrev pub row_hart : Program → State → Words → Option Hold → ℕ → Option Mind → Option Hart → Row
+row_hart p s text hold h (Some x) (Some y) = if runs x then row_running p s text h x y (other_holder hold h) else Rests
+row_hart p s text hold h (Some x) None = Rests
+row_hart p s text hold h None y = Rests
 
--- the first row that fits hart h
+-- the first row that fits hart h, by the state, what is kept of the harts, the hold and the patches
+abbrev pub row_in : Opening → State → List Mind → Option Hold → Words → ℕ → Row
+row_in o s minds hold text h = if may_go o s then row_hart o.image s text hold h (slice_get minds h) (slice_get s.harts h) else Over
+
+-- and in an engine
 abbrev pub row_at : Engine → ℕ → Row
-row_at r h = if may_go r.opening (seen r) then row_hart r h (slice_get r.minds h) (slice_get (seen r).harts h) else Over
+row_at r h = row_in r.opening (seen r) r.minds r.hold r.machine.text h

@@ -15,7 +15,7 @@ use Rattle.step_over.specs.declared.phase.Phase.TheVariants as phase
 use Rattle.dbg_model.specs.declared.entry.Entry.{Entry}
 use Rattle.dbg_model.specs.declared.opening.Opening.{Opening}
 use Rattle.dbg_model.specs.declared.hart.Hart.{Hart}
-use Rattle.dbg_model.specs.declared.watch.Watch.{Watch}
+use Rattle.watch_points.specs.declared.watchpoint.Watch.{Watch}
 use Rattle.dbg_model.specs.State.{State, is_running}
 use Rattle.dbg_model.specs.Journals.{replay}
 use Rattle.engine_parts.specs.declared.mind.Hold.{Hold}

@@ -1,6 +1,10 @@
 -- Several quiet turns of a hart: nothing is said of them. This project's own.
 use Rattle.std.specs.Prelude.{◌≡◌, ◌⊎◌, ◌&&◌, ◌||◌, not, is_some, ℕ, zero, suc, Bool, true, false, Option, Some, None, is_none, slice_get}
+use Rattle.text_words.specs.Words.{Words, fetched}
+use Rattle.hart_machine.specs.declared.hart.Core.{Core}
 use Rattle.hart_machine.specs.Running.{HasStopped}
+use Rattle.hart_machine.specs.Within.{is_inner}
+use Rattle.line_index.specs.Lines.{Lines, begins_another}
 use Rattle.dbg_model.specs.Lawful.{may_go}
 use Rattle.elf32_read.specs.Program.{Program}
 use Rattle.step_plans.specs.declared.plan.Plan.{Plan}
@@ -16,6 +20,7 @@ use Rattle.engine_parts.specs.declared.moving.Turned.TheVariants as turned
 use Rattle.engine_parts.specs.declared.moving.Move.TheVariants as move
 use Rattle.engine_parts.specs.Rows.{row_at, row_of}
 use Rattle.engine_parts.specs.Calls.{Turns}
+use Rattle.engine_parts.specs.Staying.{came_within}
 use Rattle.engine_parts.specs.Watching.{WritesNear}
 
 -- the moves of which nothing is said, and nothing but an instruction is noted
@@ -67,16 +72,35 @@ abbrev pub is_unplanned : Plan → Bool
 is_unplanned plans.Free = true
 is_unplanned _ = false
 
--- nor more than to wait for a return, at a word that is planted for it
-abbrev pub goes_alone : Program → Mind → Bool
-goes_alone p x = is_unplanned x.course.plan || is_some (awaited p x)
+-- another line is asked for
+abbrev pub is_line : Plan → Bool
+is_line (plans.Line file line into) = true
+is_line _ = false
 
--- a hart that runs, steps over nothing, isn't interrupted and has no plan but to wait for a return, for which no watch fired,
--- and no patch is lifted
+-- nor more than to wait for a return, at a word that is planted for it, or to come to another line, where the hart came neither by a call nor by
+-- a return
+abbrev pub goes_alone : Program → Mind → Bool
+goes_alone p x = (is_unplanned x.course.plan || is_some (awaited p x)) || (is_line x.course.plan && came_within p x.course.last)
+
+-- a hart that runs, steps over nothing, isn't interrupted and has no plan but to wait for a return or to come to another line, for which no watch
+-- fired, and no patch is lifted
 abbrev pub is_alone : Program → Mind → Option Hold → Bool
 is_alone p x hold = ((((runs x && is_idle x.phase) && not x.asked) && goes_alone p x) && is_none x.course.fired) && is_none hold
 
--- Hart h goes no further by such turns in one call: the session is over, the hart isn't alone, it stops at its pc, or its
--- instruction writes where a watch has its bytes.
+-- a line goes on at an address: no other begins there, and the instruction there neither calls nor returns
+abbrev pub line_goes : Lines → Words → Plan → ℕ → Bool
+line_goes lines t (plans.Line file line into) pc = not (begins_another file line lines pc) && is_inner (fetched t pc)
+line_goes lines t _ pc = true
+
+-- the line that hart h is to leave ends at its pc
+abbrev pub LineEnds : Engine → ℕ → Type 0
+LineEnds r h = (x : Mind) (c : Core) → slice_get r.minds h ≡ Some x → slice_get r.machine.cores h ≡ Some c → line_goes r.sources.lines r.machine.text x.course.plan c.regs.pc ≡ false
+
+-- a hart goes no further by itself
+abbrev pub GoesNoFurther : Engine → ℕ → Type 0
+GoesNoFurther r h = HasStopped r.machine h ⊎ (WritesNear r.machine h r.watches ⊎ LineEnds r h)
+
+-- Hart h goes no further by such turns in one call: the session is over, the hart isn't alone, it stops at its pc, its instruction writes where a
+-- watch has its bytes, or the line that it is to leave ends there.
 abbrev pub Rests : Engine → ℕ → Type 0
-Rests r h = (may_go r.opening (seen r) ≡ false) ⊎ (((x : Mind) → slice_get r.minds h ≡ Some x → is_alone r.opening.image x r.hold ≡ false) ⊎ (HasStopped r.machine h ⊎ WritesNear r.machine h r.watches))
+Rests r h = (may_go r.opening (seen r) ≡ false) ⊎ (((x : Mind) → slice_get r.minds h ≡ Some x → is_alone r.opening.image x r.hold ≡ false) ⊎ GoesNoFurther r h)

@@ -9,8 +9,8 @@ use Rattle.text_words.specs.declared.fetch.Fetch.TheVariants.{Instruction}
 use Rattle.text_words.specs.Words.{Words, fetched}
 use Rattle.hart_machine.specs.declared.hart.Core.{Core}
 use Rattle.hart_machine.specs.Patched.{Patched}
-use Rattle.dbg_model.specs.declared.watch.Watch.{Watch}
-use Rattle.dbg_model.specs.Watches.{meets}
+use Rattle.watch_points.specs.declared.watchpoint.Watch.{Watch}
+use Rattle.watch_points.specs.Watches.{meets}
 use Rattle.engine_parts.specs.declared.watching.Stored.{Stored}
 
 -- the bytes that an instruction writes; stores and AMOs alone write

@@ -7,10 +7,10 @@ ghost use Rattle.engine_parts.specs.Watching.{WritesNear};
 use crate::hits::due_at;
 use crate::watching::is_near;
 use break_table::BreakTable;
-use dbg_model::WatchList;
 use elf32_read::Image;
 use hart_machine::Machine;
 use step_plans::Plan;
+use watch_points::WatchList;
 
 /// A hart that goes on, and what it meets there.
 #[derive(Clone, Copy)]

@@ -5,7 +5,7 @@ ghost use Rattle.engine_parts.specs.Minds.{lefts_live};
 
 use crate::{Activity, Mind};
 use dbg_model::{Entry, JournalWriter};
-use mi_commands::ByteList;
+use dbg_traits::ByteList;
 use std::alloc::{AllocError, Global};
 
 /// Notes that a line was done, and makes room for one entry more.

@@ -12,6 +12,7 @@ mod mind;
 pub mod minds;
 pub mod moving;
 pub mod patching;
+pub mod staying;
 pub mod view;
 pub mod views;
 pub mod waiting;

@@ -7,9 +7,10 @@ ghost use Rattle.engine_parts.specs.Steps.{applied, exits_of, moved_by};
 
 use crate::journal::note_lefts;
 use crate::{Activity, Mind, Phase};
-use dbg_model::{Entry, Fired, JournalWriter};
+use dbg_model::{Entry, JournalWriter};
 use rv_exec::Stepped;
 use step_plans::Plan;
+use watch_points::Fired;
 
 /// What a turn of a hart did.
 #[derive(Clone, Copy)]
@@ -117,7 +118,7 @@ fn mark_gone(minds: &mut [Mind])
 
 /// What an instruction of hart h does beside the machine and the counts; `ran` is kept of the hart where it stays. How many
 /// harts have exited by it.
-pub fn apply(
+pub fn note_outcome(
     stepped: Stepped,
     h: u32,
     ran: Mind,

@@ -1,11 +1,11 @@
 // What a command may see of the harts.
-ghost use Rattle.std.specs.Prelude.{◌≡◌, IfOk};
+ghost use Rattle.std.specs.Prelude.{◌≡◌, OnOk};
 ghost use Rattle.engine_parts.specs.Viewing.{own_view, own_views};
 
 use crate::{Activity, Mind};
 use dbg_model::ThreadView;
 use hart_machine::Core;
-use std::alloc::{AllocError, Global};
+use std::alloc::AllocError;
 
 fn view(core: &Core, mind: Mind) -> ThreadView
     ensures { result ≡ own_view core.now mind }
@@ -17,20 +17,20 @@ fn view(core: &Core, mind: Mind) -> ThreadView
     }
 }
 
-/// What a command may see of the harts: of those that are stopped, their registers.
-pub fn views(alloc: Global, cores: &[Core], minds: &[Mind]) -> Result<Vec<ThreadView>, AllocError>
-    ensures { IfOk result (λ v. v.items ≡ own_views cores.now minds.now) }
+/// What a command may see of the harts, of those that are stopped their registers, in the place of what stood in `into`.
+pub fn views(cores: &[Core], minds: &[Mind], into: &mut Vec<ThreadView>) -> Result<(), AllocError>
+    ensures { OnOk result (into.new.items ≡ own_views cores.now minds.now) }
 {
-    let mut views = Vec::new(alloc);
+    into.clear();
     let mut cores = cores;
     let mut minds = minds;
     while let (Some((core, later_cores)), Some((mind, later_minds))) = (
         cores.split_first(),
         minds.split_first(),
     ) {
-        views.push(view(core, *mind))?;
+        into.push(view(core, *mind))?;
         cores = later_cores;
         minds = later_minds;
     }
-    Ok(views)
+    Ok(())
 }

@@ -2,14 +2,14 @@
 ghost use Rattle.std.specs.Prelude.{◌≡◌, ◌<◌, length, slice_get, false, None};
 ghost use Rattle.hart_machine.specs.Stepping.{AreCounted, IsByteCode, Steps, has_run};
 ghost use Rattle.hart_machine.specs.declared.hart.Core.{Core};
-ghost use Rattle.dbg_model.specs.Watches.{fired_by};
+ghost use Rattle.watch_points.specs.Watches.{fired_by};
 ghost use Rattle.engine_parts.specs.Watching.{is_near, stored_by, written};
 
-use dbg_model::{Fired, WatchList};
 use hart_machine::Machine;
 use rv_decode::Instr;
 use rv_exec::{Regs, Stepped, length_of_store};
 use text_words::Fetch;
+use watch_points::{Fired, WatchList};
 
 /// Bytes that an instruction writes.
 #[derive(Clone, Copy)]

@@ -8,12 +8,13 @@ ghost use Rattle.hart_machine.specs.Stepping.{loaded};
 ghost use Rattle.dbg_model.specs.Sources.{sources_of};
 
 use break_table::BreakTable;
-use dbg_model::{Opening, SourceIndex, WatchList};
+use dbg_model::{Opening, SourceIndex};
 use dbg_traits::NoMemory;
 use engine_parts::Mind;
 use engine_parts::minds::first_minds;
 use hart_machine::Machine;
 use std::alloc::Global;
+use watch_points::WatchList;
 
 /// What is known of each hart, and what the user has set.
 #[derive(Drop)]

@@ -2,7 +2,7 @@
 ghost use Rattle.std.specs.Prelude.{◌≡◌, ◌≤◌, true};
 ghost use Rattle.dbg_model.specs.Judging.{is_counted};
 ghost use Rattle.dbg_model.specs.Shown.{stops_once};
-ghost use Rattle.dbg_model.specs.Watches.{risen};
+ghost use Rattle.watch_points.specs.Watches.{risen};
 
 use super::Engine;
 use crate::engine::waiting_of;

@@ -9,10 +9,10 @@ ghost use Rattle.engine_parts.specs.Shown.{ComesIn, IsMoved, ran_shows, shown_by
 
 use super::Engine;
 use crate::Move;
-use dbg_model::{Entry, Shown, ShownWatch, Watch, Why, bytes_of, shown_frame};
-use dbg_traits::NoMemory;
-use mi_commands::ByteList;
+use dbg_model::{Entry, Shown, ShownWatch, Why, bytes_of, shown_frame};
+use dbg_traits::{ByteList, NoMemory};
 use std::alloc::{AllocError, Global};
+use watch_points::Watch;
 
 // The watch of that number.
 fn watch_of(watches: &[Watch], number: u32) -> Option<&Watch>

@@ -14,7 +14,7 @@ use crate::{Move, Standing, Turned};
 use dbg_model::{Judge, Judgement, Why, noted_with, plan_after};
 use engine_parts::homing::{Leaving, go_home_at_exit, landed_pc};
 use engine_parts::minds::{other_holder, with_phase};
-use engine_parts::moving::{apply, moved_by, ran_mind};
+use engine_parts::moving::{moved_by, note_outcome, ran_mind};
 use engine_parts::view::ShownHart;
 use engine_parts::waiting::{Waiting, changes, rewait};
 use engine_parts::watching::step_watched;
@@ -197,7 +197,7 @@ impl Engine {
             &self.table,
             &leaving,
         );
-        let exits = apply(stepped, h, ran, &mut self.journal, &mut self.minds);
+        let exits = note_outcome(stepped, h, ran, &mut self.journal, &mut self.minds);
         let waiting = waiting_of!(self);
         let moved = is_moved(mind.course.plan, plan, stepped);
         rewait(&mut self.machine, &mut self.table, &waiting, moved);

@@ -20,12 +20,14 @@ same : (m : Patched) (old new : Table) (hold : Option Hold) → ArePlanted m.tex
 same m old new hold p is = subst (λ w. Retabled m m w) (sym is) (record { planted = p; words = refl; rest = refl })
 
 -- an effect that neither sets, deletes nor enables a breakpoint leaves the machine as it is
-others : (e : Effect) (m : Patched) (old : Table) (hold : Option Hold) → ((spec : Spec) → e ≡ effect.Insert spec → ⊥) → ((numbers : List ℕ) → e ≡ effect.Delete numbers → ⊥) → ((numbers : List ℕ) (enabled : Bool) → e ≡ effect.Enable numbers enabled → ⊥)
+others : (e : Effect) (m : Patched) (old : Table) (hold : Option Hold) → ((spec : Spec) → e ≡ effect.Insert spec → ⊥)
+    → ((numbers : List ℕ) → e ≡ effect.Delete numbers → ⊥) → ((numbers : List ℕ) (enabled : Bool) → e ≡ effect.Enable numbers enabled → ⊥)
     → ArePlanted m.text (wants_by old hold) → Retabled m m (wants_by (changed_table old (change_of e)) hold)
 others (effect.Insert spec) m old hold i d n p = absurd (i spec refl)
 others (effect.Delete numbers) m old hold i d n p = absurd (d numbers refl)
 others (effect.Enable numbers enabled) m old hold i d n p = absurd (n numbers enabled refl)
-others (effect.Condition number condition) m old hold i d n p = kept_table (with_condition (option_map condition_of condition)) m old (changed_table old (change_of (effect.Condition number condition))) hold number (λ a x. refl) (λ x. refl) p refl
+others (effect.Condition number condition) m old hold i d n p = kept_table (with_condition (option_map condition_of condition)) m old
+    (changed_table old (change_of (effect.Condition number condition))) hold number (λ a x. refl) (λ x. refl) p refl
 others (effect.After number count) m old hold i d n p = kept_table (with_ignore count) m old (changed_table old (change_of (effect.After number count))) hold number (λ a x. refl) (λ x. refl) p refl
 others effect.Nothing m old hold i d n p = same m old old hold p refl
 others (effect.Resume threads plan) m old hold i d n p = same m old old hold p refl

@@ -8,14 +8,16 @@ pub returns-then-limit-turns-lt3-clause-goes : goal.returns-then-limit-turns-lt3
 returns-then-limit-turns-lt3-clause-goes c =
     let o = c.args.around.now in
     let l = c.loop-turns in
-    ran_more (surroundings_view o) c.args.most c.args.machine.now l.turns l.instructions c.run-count.result l.machine c.run-count.new.self c.requires.unwatched (omega (arith, c.min-left.ensures, c.run-count.ensures.limit)) l.invariant.goes c.run-count.ensures.runs
+    ran_more (surroundings_view o) c.args.most c.args.machine.now l.turns l.instructions c.run-count.result l.machine c.run-count.new.self
+    c.requires.unwatched (omega (arith, c.min-left.ensures, c.run-count.ensures.limit)) l.invariant.goes c.run-count.ensures.runs
 
 pub returns-then-not-pass-clause-goes : goal.returns-then-not-pass-clause-goes
 returns-then-not-pass-clause-goes c =
     let o = c.args.around.now in
     let l = c.loop-turns in
     let n = c.run-count.result in
-    let ran = ran_more (surroundings_view o) c.args.most c.args.machine.now l.turns l.instructions n l.machine c.run-count.new.self c.requires.unwatched (omega (arith, c.min-left.ensures, c.run-count.ensures.limit)) l.invariant.goes c.run-count.ensures.runs in
+    let ran = ran_more (surroundings_view o) c.args.most c.args.machine.now l.turns l.instructions n l.machine c.run-count.new.self
+    c.requires.unwatched (omega (arith, c.min-left.ensures, c.run-count.ensures.limit)) l.invariant.goes c.run-count.ensures.runs in
     let P : Patched → Type 0 = λ m. Goes (surroundings_view o) c.args.most (l.turns + n) (l.instructions + n) c.args.machine.now m in
     subst P (sym (c.if-not-pass.ensures.kept refl)) ran
 
@@ -24,7 +26,8 @@ loop-turns-preserved c =
     let o = c.args.around.now in
     let l = c.loop-turns in
     let n = c.run-count.result in
-    let ran = ran_more (surroundings_view o) c.args.most c.args.machine.now l.turns l.instructions n l.machine c.run-count.new.self c.requires.unwatched (omega (arith, c.min-left.ensures, c.run-count.ensures.limit)) l.invariant.goes c.run-count.ensures.runs in
+    let ran = ran_more (surroundings_view o) c.args.most c.args.machine.now l.turns l.instructions n l.machine c.run-count.new.self
+    c.requires.unwatched (omega (arith, c.min-left.ensures, c.run-count.ensures.limit)) l.invariant.goes c.run-count.ensures.runs in
     record {
       hart = omega (arith, c.run-count.ensures.harts, c.pass.ensures.harts);
       limit = omega arith;

@@ -11,4 +11,5 @@ use Rattle.engine_parts.proofs.hits.settle.Goals as goal
 pub returns-clause-entries : goal.returns-clause-entries
 returns-clause-entries c k at =
     let same = get_or_from_slice_get c.cores.result.now c.args.h k c.index-cores-h.result (ap (λ cs. slice_get cs c.args.h) c.cores.ensures ∙ at) in
-    subst (λ (q : Core). c.settle_arrival.new.self.entries ≡ settled c.args.h (register (set_pc q.regs c.args.pc)) (shown_byte c.args.image.now c.args.machine.now.memory) c.args.table.now.entries) same (ap (λ (t : Table). t.entries) c.settle_arrival.ensures)
+    subst (λ (q : Core). c.settle_arrival.new.self.entries ≡ settled c.args.h (register (set_pc q.regs c.args.pc))
+    (shown_byte c.args.image.now c.args.machine.now.memory) c.args.table.now.entries) same (ap (λ (t : Table). t.entries) c.settle_arrival.ensures)

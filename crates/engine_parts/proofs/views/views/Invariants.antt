@@ -3,7 +3,7 @@ use Rattle.engine_parts.specs.Viewing.{own_views}
 use Rattle.engine_parts.proofs.views.views.Given as goal
 
 abbrev pub invariant-loop-core : goal.invariant-loop-core
-invariant-loop-core l = l.views.items ++ own_views l.cores l.minds ≡ own_views l.fn.cores l.fn.minds
+invariant-loop-core l = l.into.items ++ own_views l.cores l.minds ≡ own_views l.fn.cores l.fn.minds
 
 abbrev pub decreases-loop-core : goal.decreases-loop-core
 decreases-loop-core l = length l.cores

@@ -27,7 +27,8 @@ pub loop-h-preserved : goal.loop-h-preserved
 loop-h-preserved c =
     let l = c.loop-h in
     let w = c.args.waiting.now in
-    partly_more c.args.machine.now l.machine c.wait_for.new.machine c.args.table.now l.table c.wait_for.new.table (awaited w.image.now) w.minds.now w.hold l.h c.requires.many (omega arith) l.invariant c.wait_for.ensures.table c.wait_for.ensures.machine
+    partly_more c.args.machine.now l.machine c.wait_for.new.machine c.args.table.now l.table c.wait_for.new.table (awaited w.image.now) w.minds.now
+    w.hold l.h c.requires.many (omega arith) l.invariant c.wait_for.ensures.table c.wait_for.ensures.machine
 
 pub returns-clause-table : goal.returns-clause-table
 returns-clause-table c =

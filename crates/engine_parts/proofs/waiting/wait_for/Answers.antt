@@ -40,4 +40,5 @@ returns-clause-table c x at =
 
 pub returns-clause-machine : goal.returns-clause-machine
 returns-clause-machine c =
-    retabled_twice c.args.machine.now c.end_wait.new.machine c.begin_wait.new.machine (wants_by c.end_wait.new.table c.args.waiting.now.hold) (wants_by c.begin_wait.new.table c.args.waiting.now.hold) c.end_wait.ensures.machine c.begin_wait.ensures.machine
+    retabled_twice c.args.machine.now c.end_wait.new.machine c.begin_wait.new.machine (wants_by c.end_wait.new.table c.args.waiting.now.hold)
+    (wants_by c.begin_wait.new.table c.args.waiting.now.hold) c.end_wait.ensures.machine c.begin_wait.ensures.machine

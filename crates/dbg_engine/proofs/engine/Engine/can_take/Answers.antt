@@ -11,6 +11,8 @@ returns-then-not-has_registers c =
 pub returns : goal.returns
 returns c =
     let r = run_of c.self.inside in (
-      λ yes. takes r c.args.self.now c.args.slice.now c.mind.result _ _ c.self.view_is c.self.invariant.facts.sound (sym c.if-not-may_go.ensures) c.if-self-from.false c.from.ensures (free_by r c.args.slice.now.hart c.other_holder.result c.other_holder.ensures c.if-is_some.ensures) c.mind.ensures (sym c.if-not-goes_apart.ensures) (λ k at. (c.if-not-has_registers.ensures k at).0 refl) c.as_slice.ensures.value (c.stores.ensures.yes yes),
+      λ yes. takes r c.args.self.now c.args.slice.now c.mind.result _ _ c.self.view_is c.self.invariant.facts.sound (sym c.if-not-may_go.ensures)
+          c.if-self-from.false c.from.ensures (free_by r c.args.slice.now.hart c.other_holder.result c.other_holder.ensures c.if-is_some.ensures)
+          c.mind.ensures (sym c.if-not-goes_apart.ensures) (λ k at. (c.if-not-has_registers.ensures k at).0 refl) c.as_slice.ensures.value (c.stores.ensures.yes yes),
       λ can. c.stores.ensures.no (found r c.args.self.now c.args.slice.now _ c.self.view_is c.as_slice.ensures.value can),
     )

@@ -1,4 +1,4 @@
-use Rattle.std.proofs.Common.{◌≡◌, ◌-◌, ◌+◌, List, sym, ap, ◌∙◌, subst, arith, refl}
+use Rattle.std.proofs.Common.{◌≡◌, ◌+◌, List, sym, ap, ◌∙◌, subst, arith, refl}
 use Rattle.std.specs.Prelude.{length, map}
 use Rattle.break_table.specs.Table.{Table}
 use Rattle.break_table.specs.Text.{is_place}
@@ -17,7 +17,8 @@ use Rattle.dbg_engine.specs.EngineInside.{run_of}
 use Rattle.engine_parts.specs.Resuming.{minds_after}
 use Rattle.engine_parts.proofs.Commanding.{done_line, noted_low, numbers_room}
 use Rattle.dbg_engine.proofs.Applying.{applies, watchable}
-use Rattle.engine_parts.proofs.Holds.{Moved, Noted}
+use Rattle.engine_parts.proofs.Holds.{Moved}
+use Rattle.engine_parts.proofs.Halting.{Noted}
 use Rattle.engine_parts.proofs.Rewaits.{rewaits, text_place, with_table}
 use Rattle.dbg_engine.proofs.engine.Engine.change.Goals as goal
 use Rattle.dbg_engine.proofs.engine.Engine.change.Goals.{After-self-5-1, After-waiting-3-1}
@@ -52,7 +53,22 @@ abbrev changed_run : After-waiting-3-1 → Engine
 changed_run c =
     let r = run_of c.self.inside in
     let t = c.change_table.new.table in
-    record r { journal = c.did.new.journal.entries; spare = c.did.new.journal.spare; machine = c.change_table.new.machine; minds = c.change_threads.new.minds; watches = c.change_table.new.watches; breaks = t.entries; given = t.given; bounds = t.text; waits = t.waits; selected = c.selected_after-self-inside.result; displaced = c.displaced_after-self-inside.result; noted = r.noted + 1; exited = c.exited_after-self-inside.result }
+    record r {
+      journal = c.did.new.journal.entries;
+      spare = c.did.new.journal.spare;
+      machine = c.change_table.new.machine;
+      minds =
+          c.change_threads.new.minds;
+      watches = c.change_table.new.watches;
+      breaks = t.entries;
+      given = t.given;
+      bounds = t.text;
+      waits = t.waits;
+      selected = c.selected_after-self-inside.result;
+      displaced = c.displaced_after-self-inside.result;
+      noted = r.noted + 1;
+      exited = c.exited_after-self-inside.result;
+    }
 
 -- the change is the line's, whatever patches are planted for the harts that wait then
 changed : (c : After-waiting-3-1) → Noted (changed_run c) (λ n. Lines (run_of c.self.inside) n c.args.line.now)
@@ -61,7 +77,9 @@ changed c =
     let d = change_of c.args.effect in
     let P : Engine → Type 0 = λ q. Makes q c.args.line.now d in
     let minds = c.change_threads.ensures ∙ ap (λ xs. minds_after xs d) c.deref_mut.ensures.value in
-    done_line r c.did.new.journal.spare c.args.line.now d c.did.new.journal.entries c.change_table.new.machine c.change_threads.new.minds c.selected_after-self-inside.result c.displaced_after-self-inside.result c.exited_after-self-inside.result c.change_table.new.watches c.self.inside.table c.change_table.new.table c.self.invariant.facts.sound
+    done_line r c.did.new.journal.spare c.args.line.now d c.did.new.journal.entries c.change_table.new.machine c.change_threads.new.minds
+    c.selected_after-self-inside.result c.displaced_after-self-inside.result c.exited_after-self-inside.result c.change_table.new.watches
+    c.self.inside.table c.change_table.new.table c.self.invariant.facts.sound
     (ap (λ (q : Engine). may_do q.opening (seen q) c.args.line.now) c.self.view_is ∙ c.requires.may) (subst P (sym c.self.view_is) c.requires.makes) c.requires.asks refl refl refl refl
     c.in_ok-did.ensures.done minds c.selected_after-self-inside.ensures c.displaced_after-self-inside.ensures c.exited_after-self-inside.ensures c.change_table.ensures.table c.change_table.ensures.watches c.change_table.ensures.machine
 
@@ -92,7 +110,23 @@ abbrev new_run : After-self-5-1 → List Mind → Engine
 new_run c xs =
     let r = run_of c.self.inside in
     let t = c.change_table.new.table in
-    record r { journal = c.did.new.journal.entries; spare = c.did.new.journal.spare; machine = c.change_table.new.machine; minds = xs; watches = c.change_table.new.watches; breaks = t.entries; given = t.given; bounds = t.text; waits = t.waits; selected = c.selected_after-self-inside.result; displaced = c.displaced_after-self-inside.result; noted = r.noted + 1; exited = c.exited_after-self-inside.result }
+    record r {
+      journal = c.did.new.journal.entries;
+      spare = c.did.new.journal.spare;
+      machine = c.change_table.new.machine;
+      minds = xs;
+      watches =
+          c.change_table.new.watches;
+      breaks = t.entries;
+      given = t.given;
+      bounds = t.text;
+      waits = t.waits;
+      selected =
+          c.selected_after-self-inside.result;
+      displaced = c.displaced_after-self-inside.result;
+      noted = r.noted + 1;
+      exited = c.exited_after-self-inside.result;
+    }
 
 -- the minds, written back
 minds_are : (c : After-self-5-1) → c.change_threads.new.minds ≡ (with_items c.self.inside.minds c.change_threads.new.minds).items
@@ -104,7 +138,8 @@ done : (c : After-self-5-1) → Noted (new_run c c.change_threads.new.minds) (λ
 done c n =
     let r = run_of c.self.inside in
     let all : List Mind → Table = λ xs. record c.change_table.new.table { waits = map (awaited r.opening.image) xs } in
-    rewaits (λ n. Lines r n c.args.line.now) (new_run c c.change_threads.new.minds) c.rewait.new.machine c.rewait.new.table n (record { table = c.rewait.ensures.table ∙ ap all (c.as_slice.ensures.value ∙ sym (minds_are c)); machine = c.rewait.ensures.machine })
+    rewaits (λ n. Lines r n c.args.line.now) (new_run c c.change_threads.new.minds) c.rewait.new.machine c.rewait.new.table n
+    (record { table = c.rewait.ensures.table ∙ ap all (c.as_slice.ensures.value ∙ sym (minds_are c)); machine = c.rewait.ensures.machine })
 
 pub invariant_of-self-2 : goal.invariant_of-self-2
 invariant_of-self-2 c =

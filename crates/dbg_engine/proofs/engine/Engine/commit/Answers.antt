@@ -1,4 +1,4 @@
-use Rattle.std.proofs.Common.{◌+◌, ◌-◌, refl, ap, ◌∙◌, subst, arith}
+use Rattle.std.proofs.Common.{◌+◌, refl, ap, ◌∙◌, subst, arith}
 use Rattle.std.specs.Prelude.{slice_get, slice_set}
 use Rattle.std.proofs.lemmas.Option.{slice_get_within}
 use Rattle.hart_machine.specs.Slices.{TakesSlice}
@@ -17,7 +17,8 @@ lengthen-requires-clause-last c =
     omega (arith, k.last, c.from-count.ensures, can.budget, ap (λ (q : Engine). q.opening.settings.budget) c.self.view_is, c.self.invariant.facts.sound.settings.budget.1)
 
 pub index_mut-requires : goal.index_mut-requires
-index_mut-requires c = let within = slice_get_within c.self.inside.minds.items c.args.slice.now.hart c.mind-mind.result (ap (λ (q : Engine). slice_get q.minds c.args.slice.now.hart) c.self.view_is ∙ c.mind-mind.ensures) in omega (arith, within)
+index_mut-requires c = let within = slice_get_within c.self.inside.minds.items c.args.slice.now.hart c.mind-mind.result
+    (ap (λ (q : Engine). slice_get q.minds c.args.slice.now.hart) c.self.view_is ∙ c.mind-mind.ensures) in omega (arith, within)
 
 -- the engine with the slice's instructions done
 abbrev new_run : goal.After-self-2-1 → Engine

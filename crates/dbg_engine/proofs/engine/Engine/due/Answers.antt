@@ -7,7 +7,7 @@ use Rattle.dbg_model.specs.Judging.{is_due, judgement_of}
 use Rattle.dbg_model.specs.Views.{register, shown_byte}
 use Rattle.dbg_model.specs.declared.judgement.Judgement.{Judgement}
 use Rattle.dbg_engine.specs.EngineInside.{run_of}
-use Rattle.engine_parts.proofs.Holds.{counts_fresh, due_is_fired, judged}
+use Rattle.engine_parts.proofs.Sighted.{counts_fresh, due_is_fired, judged}
 use Rattle.dbg_engine.proofs.engine.Engine.due.Goals as goal
 
 pub returns-clause-due : goal.returns-clause-due

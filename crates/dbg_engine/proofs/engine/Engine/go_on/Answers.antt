@@ -7,7 +7,7 @@ use Rattle.engine_parts.specs.Seen.{Engine}
 use Rattle.engine_parts.specs.Rows.{row_idle}
 use Rattle.dbg_model.specs.declared.entry.Why.TheVariants.{Interrupted}
 use Rattle.engine_parts.proofs.Arrivals.{halts_row}
-use Rattle.engine_parts.proofs.Holds.{unheld}
+use Rattle.engine_parts.proofs.Halting.{unheld}
 use Rattle.engine_parts.proofs.Rows.{row_arrives, row_steps, row_idles}
 use Rattle.dbg_engine.proofs.engine.Engine.go_on.Goals as goal
 

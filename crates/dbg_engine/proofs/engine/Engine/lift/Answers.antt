@@ -8,13 +8,19 @@ use Rattle.dbg_model.specs.State.{is_off}
 use Rattle.engine_parts.specs.Seen.{Engine}
 use Rattle.engine_parts.specs.Calls.{AtPlanted, Lifts}
 use Rattle.dbg_engine.specs.EngineInside.{run_of}
-use Rattle.engine_parts.proofs.Holds.{Moved, lifted, planted_shown}
+use Rattle.engine_parts.proofs.Holds.{Moved, lifted}
+use Rattle.engine_parts.proofs.Halting.{planted_shown}
 use Rattle.dbg_engine.proofs.engine.Engine.lift.Goals as goal
 
 pub repatch-requires-clause-planted : goal.repatch-requires-clause-planted
 repatch-requires-clause-planted c = planted_shown (run_of c.self.inside) c.args.pc c.self.invariant.facts.sound
 
-move : (c : goal.After-self-2-1) → (let r = run_of c.self.inside in let new : Engine = record r { machine = c.repatch.new.machine; minds = slice_set r.minds c.args.h (with_phase c.index_mut.result.now (Lifted c.args.pc)); hold = Some (record { hart = c.args.h; home = c.args.pc }) } in Moved new (Lifts r new c.args.h))
+move : (c : goal.After-self-2-1) → (let r = run_of c.self.inside in let new : Engine = record r {
+  machine = c.repatch.new.machine;
+  minds = slice_set r.minds c.args.h (with_phase c.index_mut.result.now (Lifted c.args.pc));
+  hold = Some
+      (record { hart = c.args.h; home = c.args.pc });
+} in Moved new (Lifts r new c.args.h))
 move c =
     let r = run_of c.self.inside in
     let P : Engine → Type 0 = λ q. AtPlanted q c.args.h c.args.mind c.args.pc in

@@ -1,4 +1,4 @@
-use Rattle.std.proofs.Common.{◌≡◌, ◌-◌, ◌+◌, List, length, map, sym, ap, ◌∙◌, subst, arith, length-set}
+use Rattle.std.proofs.Common.{◌≡◌, ◌+◌, List, length, map, sym, ap, ◌∙◌, subst, arith, length-set}
 use Rattle.std.specs.Prelude.{Some, slice_get, slice_set}
 use Rattle.break_table.specs.Table.{Table}
 use Rattle.break_table.specs.Text.{is_place}
@@ -14,7 +14,8 @@ use Rattle.engine_parts.specs.Facts.{wanted}
 use Rattle.engine_parts.specs.Tables.{ArePlanted}
 use Rattle.engine_parts.specs.Changing.{wants_by}
 use Rattle.engine_parts.specs.Calls.{Halts, Of, StopsBy}
-use Rattle.engine_parts.proofs.Holds.{Moved, Noted, Settles, arrived, planted_shown, wanted_text}
+use Rattle.engine_parts.proofs.Holds.{Moved}
+use Rattle.engine_parts.proofs.Halting.{Noted, Settles, arrived, planted_shown, wanted_text}
 use Rattle.engine_parts.proofs.Rewaits.{rewaits, text_place, with_table}
 use Rattle.dbg_engine.proofs.engine.Engine.note_arrival.Goals as goal
 use Rattle.dbg_engine.proofs.engine.Engine.note_arrival.Goals.{After-self-3-1, After-waiting-3-1}
@@ -31,7 +32,9 @@ repatch-requires-clause-wants c =
     let mind : slice_get r.minds c.args.h ≡ Some c.args.mind = ap (λ (q : Engine). slice_get q.minds c.args.h) c.self.view_is ∙ c.requires.before.at in
     let Q : Engine → Type 0 = λ q. Of q c.args.h (λ y. y.regs.pc ≡ c.args.pc) in
     let settles : Settles r c.args.h c.args.pc c.settle.new.table.entries = λ k at. c.settle.ensures.entries k at in
-    wanted_text r c.args.h c.args.pc c.args.mind c.settle.new.table.entries c.wants-wants.result c.self.invariant.facts.sound mind c.requires.before.before c.requires.before.runs (subst Q (sym c.self.view_is) c.requires.pc) settles (c.wants-wants.ensures ∙ ap (λ (t : Table). wanted (wants_by t r.hold) c.args.pc) c.settle.ensures.rest)
+    wanted_text r c.args.h c.args.pc c.args.mind c.settle.new.table.entries c.wants-wants.result c.self.invariant.facts.sound mind
+    c.requires.before.before c.requires.before.runs (subst Q (sym c.self.view_is) c.requires.pc) settles
+    (c.wants-wants.ensures ∙ ap (λ (t : Table). wanted (wants_by t r.hold) c.args.pc) c.settle.ensures.rest)
 
 pub repatch-requires-clause-planted : goal.repatch-requires-clause-planted
 repatch-requires-clause-planted c = planted_shown (run_of c.self.inside) c.args.pc c.self.invariant.facts.sound
@@ -56,7 +59,17 @@ rewait-requires-clause-places c a is = ap (λ (t : Table). is_place t.text a) c.
 
 -- the engine then, before harts wait elsewhere
 abbrev arrived_run : After-waiting-3-1 → Engine
-arrived_run c = let r = run_of c.self.inside in record r { journal = c.push.new.self.entries; spare = c.push.new.self.spare; machine = c.repatch.new.machine; minds = slice_set r.minds c.args.h first_mind; watches = c.rise.new.self; breaks = c.settle.new.table.entries; noted = r.noted + 1; temporary = c.stops_once-self-inside.result }
+arrived_run c = let r = run_of c.self.inside in record r {
+  journal = c.push.new.self.entries;
+  spare = c.push.new.self.spare;
+  machine = c.repatch.new.machine;
+  minds = slice_set r.minds c.args.h
+      first_mind;
+  watches = c.rise.new.self;
+  breaks = c.settle.new.table.entries;
+  noted = r.noted + 1;
+  temporary = c.stops_once-self-inside.result;
+}
 
 -- the hart has stopped, whatever patches are planted for the harts that wait then
 arrived_at : (c : After-waiting-3-1) → Noted (arrived_run c) (λ n. Halts (run_of c.self.inside) n c.args.h c.args.why)
@@ -66,8 +79,11 @@ arrived_at c =
     let P : Engine → Type 0 = λ q. StopsBy q c.args.h c.args.why in
     let Q : Engine → Type 0 = λ q. Of q c.args.h (λ y. y.regs.pc ≡ c.args.pc) in
     let settles : Settles r c.args.h c.args.pc c.settle.new.table.entries = λ k at. c.settle.ensures.entries k at in
-    arrived r c.args.h c.args.pc c.push.new.self.spare c.args.why c.args.mind c.push.new.self.entries c.repatch.new.machine c.settle.new.table.entries c.rise.new.self c.wants-wants.result c.stops_once-self-inside.result c.stops_once-self-inside.ensures c.self.invariant.facts.sound mind
-    c.requires.idle c.requires.before.runs (ap (λ (q : Engine). other_holder q.hold c.args.h) c.self.view_is ∙ c.requires.before.free) (subst Q (sym c.self.view_is) c.requires.pc) (subst P (sym c.self.view_is) c.requires.stops) (ap (λ (q : Engine). may_go q.opening (seen q)) c.self.view_is ∙ c.requires.before.may)
+    arrived r c.args.h c.args.pc c.push.new.self.spare c.args.why c.args.mind c.push.new.self.entries c.repatch.new.machine c.settle.new.table.entries
+    c.rise.new.self c.wants-wants.result c.stops_once-self-inside.result c.stops_once-self-inside.ensures c.self.invariant.facts.sound mind
+    c.requires.idle c.requires.before.runs (ap (λ (q : Engine). other_holder q.hold c.args.h) c.self.view_is ∙ c.requires.before.free)
+    (subst Q (sym c.self.view_is) c.requires.pc) (subst P (sym c.self.view_is) c.requires.stops)
+    (ap (λ (q : Engine). may_go q.opening (seen q)) c.self.view_is ∙ c.requires.before.may)
     c.push.ensures.entries settles c.rise.ensures (c.wants-wants.ensures ∙ ap (λ (t : Table). wanted (wants_by t r.hold) c.args.pc) c.settle.ensures.rest) c.repatch.ensures.text c.repatch.ensures.rest
 
 pub rewait-requires-clause-planted : goal.rewait-requires-clause-planted
@@ -77,7 +93,17 @@ rewait-requires-clause-planted c =
     subst P (sym c.settle.ensures.rest) (are_planted (arrived_run c) (arrived_at c).sound)
 
 abbrev new_run : After-self-3-1 → Engine
-new_run c = let r = run_of c.self.inside in record r { journal = c.push.new.self.entries; spare = c.push.new.self.spare; machine = c.repatch.new.machine; minds = slice_set r.minds c.args.h first_mind; watches = c.rise.new.self; breaks = c.settle.new.table.entries; noted = r.noted + 1; temporary = c.stops_once-self-inside.result }
+new_run c = let r = run_of c.self.inside in record r {
+  journal = c.push.new.self.entries;
+  spare = c.push.new.self.spare;
+  machine = c.repatch.new.machine;
+  minds = slice_set r.minds c.args.h
+      first_mind;
+  watches = c.rise.new.self;
+  breaks = c.settle.new.table.entries;
+  noted = r.noted + 1;
+  temporary = c.stops_once-self-inside.result;
+}
 
 move : (c : After-self-3-1) → Noted (new_run c) (λ n. Halts (run_of c.self.inside) n c.args.h c.args.why)
     → (let r = run_of c.self.inside in let n = with_table (new_run c) c.rewait.new.machine c.rewait.new.table in Moved n (Halts r n c.args.h c.args.why))

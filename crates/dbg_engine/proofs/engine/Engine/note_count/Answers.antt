@@ -1,4 +1,4 @@
-use Rattle.std.proofs.Common.{◌≡◌, ◌-◌, ◌+◌, List, length, map, refl, sym, ap, ◌∙◌, subst, arith, length-set}
+use Rattle.std.proofs.Common.{◌≡◌, ◌+◌, List, length, map, refl, sym, ap, ◌∙◌, subst, arith, length-set}
 use Rattle.std.specs.Prelude.{Some, slice_get, slice_set}
 use Rattle.break_table.specs.Table.{Table}
 use Rattle.break_table.specs.Text.{is_place}
@@ -14,7 +14,8 @@ use Rattle.engine_parts.specs.Facts.{wanted}
 use Rattle.engine_parts.specs.Tables.{ArePlanted}
 use Rattle.engine_parts.specs.Changing.{wants_by}
 use Rattle.engine_parts.specs.Calls.{Counts, Of, DueIs}
-use Rattle.engine_parts.proofs.Holds.{Moved, Noted, Settles, counted, planted_shown, wanted_text}
+use Rattle.engine_parts.proofs.Holds.{Moved}
+use Rattle.engine_parts.proofs.Halting.{Noted, Settles, counted, planted_shown, wanted_text}
 use Rattle.engine_parts.proofs.Rewaits.{rewaits, same_waits, text_place, with_table}
 use Rattle.dbg_engine.proofs.engine.Engine.note_count.Goals as goal
 use Rattle.dbg_engine.proofs.engine.Engine.note_count.Goals.{After-self-2-1, After-waiting-3-1}
@@ -31,7 +32,9 @@ repatch-requires-clause-wants c =
     let mind : slice_get r.minds c.args.h ≡ Some c.args.mind = ap (λ (q : Engine). slice_get q.minds c.args.h) c.self.view_is ∙ c.requires.before.at in
     let Q : Engine → Type 0 = λ q. Of q c.args.h (λ y. y.regs.pc ≡ c.args.pc) in
     let settles : Settles r c.args.h c.args.pc c.settle.new.table.entries = λ k at. c.settle.ensures.entries k at in
-    wanted_text r c.args.h c.args.pc c.args.mind c.settle.new.table.entries c.wants-wants.result c.self.invariant.facts.sound mind c.requires.before.before c.requires.before.runs (subst Q (sym c.self.view_is) c.requires.pc) settles (c.wants-wants.ensures ∙ ap (λ (t : Table). wanted (wants_by t r.hold) c.args.pc) c.settle.ensures.rest)
+    wanted_text r c.args.h c.args.pc c.args.mind c.settle.new.table.entries c.wants-wants.result c.self.invariant.facts.sound mind
+    c.requires.before.before c.requires.before.runs (subst Q (sym c.self.view_is) c.requires.pc) settles
+    (c.wants-wants.ensures ∙ ap (λ (t : Table). wanted (wants_by t r.hold) c.args.pc) c.settle.ensures.rest)
 
 pub repatch-requires-clause-planted : goal.repatch-requires-clause-planted
 repatch-requires-clause-planted c = planted_shown (run_of c.self.inside) c.args.pc c.self.invariant.facts.sound
@@ -56,7 +59,15 @@ rewait-requires-clause-places c a is = ap (λ (t : Table). is_place t.text a) c.
 
 -- the engine then, before harts wait elsewhere
 abbrev counted_run : After-waiting-3-1 → Engine
-counted_run c = let r = run_of c.self.inside in record r { journal = c.push.new.self.entries; spare = c.push.new.self.spare; machine = c.repatch.new.machine; minds = slice_set r.minds c.args.h c.counted_mind.result; breaks = c.settle.new.table.entries; noted = r.noted + 1 }
+counted_run c = let r = run_of c.self.inside in record r {
+  journal = c.push.new.self.entries;
+  spare = c.push.new.self.spare;
+  machine = c.repatch.new.machine;
+  minds = slice_set r.minds c.args.h
+      c.counted_mind.result;
+  breaks = c.settle.new.table.entries;
+  noted = r.noted + 1;
+}
 
 -- the hart is counted, whatever patches are planted for the harts that wait then
 counted_at : (c : After-waiting-3-1) → Noted (counted_run c) (λ n. Counts (run_of c.self.inside) n c.args.h)
@@ -66,9 +77,12 @@ counted_at c =
     let P : Engine → Type 0 = λ q. DueIs q c.args.h c.args.due in
     let Q : Engine → Type 0 = λ q. Of q c.args.h (λ y. y.regs.pc ≡ c.args.pc) in
     let settles : Settles r c.args.h c.args.pc c.settle.new.table.entries = λ k at. c.settle.ensures.entries k at in
-    counted r c.args.h c.args.pc c.push.new.self.spare c.args.due c.args.mind c.counted_mind.result c.plan_after-plan.result c.push.new.self.entries c.repatch.new.machine c.settle.new.table.entries c.wants-wants.result c.self.invariant.facts.sound mind
-    c.requires.before.before c.requires.before.runs (subst Q (sym c.self.view_is) c.requires.pc) (subst P (sym c.self.view_is) c.requires.due) c.requires.counts (ap (λ (q : Engine). may_go q.opening (seen q)) c.self.view_is ∙ c.requires.before.may)
-    c.push.ensures.entries settles (c.wants-wants.ensures ∙ ap (λ (t : Table). wanted (wants_by t r.hold) c.args.pc) c.settle.ensures.rest) c.repatch.ensures.text c.repatch.ensures.rest c.counted_mind.ensures c.plan_after-plan.ensures c.requires.fresh
+    counted r c.args.h c.args.pc c.push.new.self.spare c.args.due c.args.mind c.counted_mind.result c.plan_after-plan.result c.push.new.self.entries
+    c.repatch.new.machine c.settle.new.table.entries c.wants-wants.result c.self.invariant.facts.sound mind
+    c.requires.before.before c.requires.before.runs (subst Q (sym c.self.view_is) c.requires.pc) (subst P (sym c.self.view_is) c.requires.due)
+    c.requires.counts (ap (λ (q : Engine). may_go q.opening (seen q)) c.self.view_is ∙ c.requires.before.may)
+    c.push.ensures.entries settles (c.wants-wants.ensures ∙ ap (λ (t : Table). wanted (wants_by t r.hold) c.args.pc) c.settle.ensures.rest)
+    c.repatch.ensures.text c.repatch.ensures.rest c.counted_mind.ensures c.plan_after-plan.ensures c.requires.fresh
 
 pub rewait-requires-clause-planted : goal.rewait-requires-clause-planted
 rewait-requires-clause-planted c =
@@ -80,10 +94,21 @@ pub rewait-requires-clause-stays : goal.rewait-requires-clause-stays
 rewait-requires-clause-stays c off =
     let r = run_of c.self.inside in
     let mind : slice_get r.minds c.args.h ≡ Some c.args.mind = ap (λ (q : Engine). slice_get q.minds c.args.h) c.self.view_is ∙ c.requires.before.at in
-    ap (λ (t : Table). t.waits) c.settle.ensures.rest ∙ (waits_same r c.args.h c.args.mind c.counted_mind.result c.self.invariant.facts mind (ap (awaited r.opening.image) c.counted_mind.ensures ∙ same_waits r.opening.image c.args.mind (counted_mind c.plan_after-plan.result c.args.mind) refl (c.changes-moved.ensures off)) ∙ ap (map (awaited r.opening.image)) (sym c.as_slice.ensures.value))
+    ap (λ (t : Table). t.waits) c.settle.ensures.rest ∙
+    (waits_same r c.args.h c.args.mind c.counted_mind.result c.self.invariant.facts mind
+    (ap (awaited r.opening.image) c.counted_mind.ensures ∙ same_waits r.opening.image c.args.mind
+    (counted_mind c.plan_after-plan.result c.args.mind) refl (c.changes-moved.ensures off)) ∙ ap (map (awaited r.opening.image)) (sym c.as_slice.ensures.value))
 
 abbrev new_run : After-self-2-1 → Engine
-new_run c = let r = run_of c.self.inside in record r { journal = c.push.new.self.entries; spare = c.push.new.self.spare; machine = c.repatch.new.machine; minds = slice_set r.minds c.args.h c.counted_mind.result; breaks = c.settle.new.table.entries; noted = r.noted + 1 }
+new_run c = let r = run_of c.self.inside in record r {
+  journal = c.push.new.self.entries;
+  spare = c.push.new.self.spare;
+  machine = c.repatch.new.machine;
+  minds = slice_set r.minds c.args.h
+      c.counted_mind.result;
+  breaks = c.settle.new.table.entries;
+  noted = r.noted + 1;
+}
 
 move : (c : After-self-2-1) → Noted (new_run c) (λ n. Counts (run_of c.self.inside) n c.args.h)
     → (let r = run_of c.self.inside in let n = with_table (new_run c) c.rewait.new.machine c.rewait.new.table in Moved n (Counts r n c.args.h))

@@ -1,5 +1,5 @@
-use Rattle.std.proofs.Common.{◌≡◌, ◌-◌, ◌+◌, List, length, map, sym, ap, ◌∙◌, subst, arith, length-set}
-use Rattle.std.specs.Prelude.{Some, slice_get, slice_set}
+use Rattle.std.proofs.Common.{◌≡◌, List, length, map, sym, ap, ◌∙◌, subst, arith, length-set}
+use Rattle.std.specs.Prelude.{Some, slice_get}
 use Rattle.break_table.specs.Table.{Table}
 use Rattle.dbg_model.specs.Lawful.{may_go}
 use Rattle.engine_parts.specs.declared.mind.Mind.{Mind}
@@ -9,7 +9,8 @@ use Rattle.engine_parts.specs.Facts.{other_holder}
 use Rattle.engine_parts.proofs.Breaking.{are_planted}
 use Rattle.dbg_engine.specs.EngineInside.{run_of}
 use Rattle.engine_parts.specs.Calls.{MayStop, StopsFor, Undue}
-use Rattle.engine_parts.proofs.Holds.{Moved, halted_run, stopped}
+use Rattle.engine_parts.proofs.Holds.{Moved}
+use Rattle.engine_parts.proofs.Halting.{halted_run, stopped}
 use Rattle.engine_parts.proofs.Rewaits.{rewaits, text_place, with_table}
 use Rattle.dbg_engine.proofs.engine.Engine.note_stop.Goals as goal
 
@@ -35,7 +36,8 @@ pub rewait-requires-clause-planted : goal.rewait-requires-clause-planted
 rewait-requires-clause-planted c =
     are_planted (run_of c.self.inside) c.self.invariant.facts.sound
 
-move : (c : goal.After-self-3-1) → (let r = run_of c.self.inside in let n = with_table (halted_run r c.args.h c.push.new.self.spare c.push.new.self.entries) c.rewait.new.machine c.rewait.new.table in Moved n (StopsFor c.args.why r n c.args.h))
+move : (c : goal.After-self-3-1) → (let r = run_of c.self.inside in let n = with_table
+    (halted_run r c.args.h c.push.new.self.spare c.push.new.self.entries) c.rewait.new.machine c.rewait.new.table in Moved n (StopsFor c.args.why r n c.args.h))
 move c =
     let r = run_of c.self.inside in
     let f = c.self.invariant.facts.sound in
@@ -43,9 +45,12 @@ move c =
     let mind : slice_get r.minds c.args.h ≡ Some c.args.mind = ap (λ (q : Engine). slice_get q.minds c.args.h) c.self.view_is ∙ c.requires.before.at in
     let P : Engine → Type 0 = λ q. Undue q c.args.h in
     let Q : Engine → Type 0 = λ q. MayStop c.args.why q c.args.h c.args.mind in
-    let n = stopped r c.args.h spare c.args.mind c.args.why c.push.new.self.entries f mind c.requires.idle c.requires.before.runs (ap (λ (q : Engine). other_holder q.hold c.args.h) c.self.view_is ∙ c.requires.before.free) (subst P (sym c.self.view_is) c.requires.due) (subst Q (sym c.self.view_is) c.requires.by) (ap (λ (q : Engine). may_go q.opening (seen q)) c.self.view_is ∙ c.requires.before.may) c.push.ensures.entries in
+    let n = stopped r c.args.h spare c.args.mind c.args.why c.push.new.self.entries f mind c.requires.idle c.requires.before.runs
+    (ap (λ (q : Engine). other_holder q.hold c.args.h) c.self.view_is ∙ c.requires.before.free) (subst P (sym c.self.view_is) c.requires.due)
+    (subst Q (sym c.self.view_is) c.requires.by) (ap (λ (q : Engine). may_go q.opening (seen q)) c.self.view_is ∙ c.requires.before.may) c.push.ensures.entries in
     let all : List Mind → Table = λ xs. record c.self.inside.table { waits = map (awaited r.opening.image) xs } in
-    rewaits (λ n. StopsFor c.args.why r n c.args.h) (halted_run r c.args.h spare c.push.new.self.entries) c.rewait.new.machine c.rewait.new.table n (record { table = c.rewait.ensures.table ∙ ap all c.as_slice.ensures.value; machine = c.rewait.ensures.machine })
+    rewaits (λ n. StopsFor c.args.why r n c.args.h) (halted_run r c.args.h spare c.push.new.self.entries) c.rewait.new.machine c.rewait.new.table n
+    (record { table = c.rewait.ensures.table ∙ ap all c.as_slice.ensures.value; machine = c.rewait.ensures.machine })
 
 pub invariant_of-self : goal.invariant_of-self
 invariant_of-self c = record { facts = (move c).facts }

@@ -1,53 +1,19 @@
-use Rattle.std.proofs.Common.{◌+◌, ◌-◌, sym, ap, ◌∙◌, subst, arith}
-use Rattle.hart_machine.specs.Patched.{Patched}
-use Rattle.engine_parts.specs.Seen.{Engine}
-use Rattle.engine_parts.specs.Facts.{Facts}
-use Rattle.std.specs.Prelude.{slice_set}
-use Rattle.dbg_model.specs.Journals.{lengthened_by}
-use Rattle.dbg_engine.specs.EngineInside.{run_of}
-use Rattle.engine_parts.proofs.Aheads.{gone_to, none_gone, small_of, turned_at}
-use Rattle.engine_parts.proofs.Passing.{Ahead, around}
+use Rattle.std.proofs.Common.{◌≡◌, ℕ, Bool, false, refl}
+use Rattle.step_plans.specs.declared.plan.Plan.{Plan}
+use Rattle.step_plans.specs.declared.plan.Plan.TheVariants as plans
+use Rattle.engine_parts.specs.Several.{is_line}
 use Rattle.dbg_engine.proofs.engine.Engine.run.Goals as goal
 
-pub lengthen-requires-clause-last : goal.lengthen-requires-clause-last
-lengthen-requires-clause-last c =
-    let r = run_of c.self.inside in
-    let k = small_of r c.args.self.now c.self.view_is c.self.invariant.facts.sound (sym c.if-not-may_go.ensures) in
-    omega (arith, k.last, c.min-most.ensures, c.from.ensures, c.from-count.ensures, c.go-progress.ensures.most)
+not_line : (q : Plan) → ((file line : ℕ) (into : Bool) → q ≡ plans.Line file line into → ⊥) → is_line q ≡ false
+not_line plans.Free n = refl
+not_line (plans.One over) n = refl
+not_line (plans.Line file line into) n = absurd (n file line into refl)
+not_line (plans.ToReturn ret sp after) n = refl
+not_line (plans.ToBody a ret sp file line) n = refl
+not_line (plans.Finish ret sp) n = refl
 
-pub returns-then-progress-eq0-clause-facts : goal.returns-then-progress-eq0-clause-facts
-returns-then-progress-eq0-clause-facts c =
-    let r = run_of c.self.inside in
-    let p = c.go-progress.result in
-    let M : Patched → Type 0 = λ m. Facts (record r { machine = m }) in
-    subst M (sym (none_gone (around r c.args.h c.mind-mind.result.course.plan c.by_copies.result) c.min-most.result p.turns p.instructions r.machine c.go-progress.new.machine c.if-progress-eq0.true c.go-progress.ensures.goes)) c.self.invariant.facts
+pub run_on_line-requires-clause-plan : goal.run_on_line-requires-clause-plan
+run_on_line-requires-clause-plan c = (c.in-Line.into, c.in-Line.is)
 
-pub invariant_of-self : goal.invariant_of-self
-invariant_of-self c =
-    let r = run_of c.self.inside in
-    let p = c.go-progress.result in
-    let M : Patched → Type 0 = λ m. Facts (record r { machine = m }) in
-    record { facts = subst M (sym (none_gone (around r c.args.h c.mind-mind.result.course.plan c.by_copies.result) c.min-most.result p.turns p.instructions r.machine c.go-progress.new.machine c.if-progress-eq0.true c.go-progress.ensures.goes)) c.self.invariant.facts }
-
--- the engine so many turns on
-abbrev new_run : goal.After-self-2-1 → Engine
-new_run c =
-    let r = run_of c.self.inside in
-    record r { journal = c.lengthen.new.self.entries; spare = c.lengthen.new.self.spare; machine = c.go-progress.new.machine; minds = slice_set r.minds c.args.h c.ran_mind.result; retired = r.retired + c.from-count.result }
-
-gone : (c : goal.After-self-2-1) → Ahead c.go-progress.result.turns (run_of c.self.inside) (new_run c) c.args.h
-gone c =
-    let r = run_of c.self.inside in
-    let p = c.go-progress.result in
-    gone_to r c.args.self.now c.args.h c.lengthen.new.self.spare c.min-most.result p.turns p.instructions c.by_copies.result c.mind-mind.result c.ran_mind.result c.go-progress.new.machine c.lengthen.new.self.entries c.from-count.result
-    c.self.view_is (omega arith) c.self.invariant.facts (sym c.if-not-may_go.ensures) c.mind-mind.ensures (sym c.if-not-is_alone.ensures) (omega (arith, c.min-most.ensures)) (λ e. (c.by_copies.ensures.yes e).0) c.go-progress.ensures.goes
-    (c.lengthen.ensures.entries ∙ ap (λ n. lengthened_by n r.journal c.args.h) c.from-count.ensures) c.ran_mind.ensures c.from-count.ensures
-
-pub invariant_of-self-2 : goal.invariant_of-self-2
-invariant_of-self-2 c = record { facts = (gone c).facts }
-
-pub returns-clause-facts : goal.returns-clause-facts
-returns-clause-facts c = (gone c).facts
-
-pub returns-clause-turns : goal.returns-clause-turns
-returns-clause-turns c = turned_at c.go-progress.result.turns (run_of c.self.inside) c.args.self.now (new_run c) c.args.h c.self.view_is (gone c).turns
+pub run_freely-requires-clause-off : goal.run_freely-requires-clause-off
+run_freely-requires-clause-off c = not_line c.mind-mind.result.course.plan c.in_default.not-Line

@@ -1,4 +1,4 @@
-use Rattle.std.proofs.Common.{◌∙◌, refl, subst}
+use Rattle.std.proofs.Common.{subst}
 use Rattle.dbg_model.specs.declared.entry.Why.TheVariants.{Fault}
 use Rattle.engine_parts.specs.Seen.{Engine}
 use Rattle.engine_parts.specs.Calls.{Halts}

@@ -1,4 +1,4 @@
-use Rattle.std.proofs.Common.{◌≡◌, ◌+◌, ◌-◌, ◌<◌, ap, arith, refl, subst, sym, ◌∙◌}
+use Rattle.std.proofs.Common.{◌+◌, ap, arith, refl, subst, sym, ◌∙◌}
 use Rattle.std.specs.Prelude.{slice_set}
 use Rattle.hart_machine.specs.Patched.{Patched}
 use Rattle.dbg_model.specs.Journals.{lengthened_by}
@@ -30,7 +30,8 @@ kept c =
     let r = run_of c.self.inside in
     let m = c.stretch-instructions.new.self in
     let M : Patched → Type 0 = λ u. Facts (record r { machine = u }) in
-    subst M (sym (nothing_here r c.args.self.now c.args.h c.stretch-instructions.result m c.self.view_is c.self.invariant.facts.sound (sym c.if-not-gives_job.ensures) c.if-instructions-eq0.true c.stretch-instructions.ensures.steps)) c.self.invariant.facts
+    subst M (sym (nothing_here r c.args.self.now c.args.h c.stretch-instructions.result m c.self.view_is c.self.invariant.facts.sound
+    (sym c.if-not-gives_job.ensures) c.if-instructions-eq0.true c.stretch-instructions.ensures.steps)) c.self.invariant.facts
 
 pub returns-then-instructions-eq0-clause-facts : goal.returns-then-instructions-eq0-clause-facts
 returns-then-instructions-eq0-clause-facts c = kept c
@@ -56,7 +57,8 @@ taken c =
     let r = run_of c.self.inside in
     let g = giver r c.args.h (ap (λ (q : Engine). gives_job q c.args.h) c.self.view_is ∙ sym c.if-not-gives_job.ensures) in
     let k = small_of r r refl c.self.invariant.facts.sound g.may in
-    served_to r c.args.self.now c.args.h c.stretch-instructions.result c.lengthen.new.self.spare c.mind-mind.result c.ran_mind.result c.stretch-instructions.new.self c.lengthen.new.self.entries c.from-count.result c.self.view_is (omega arith) c.self.invariant.facts
+    served_to r c.args.self.now c.args.h c.stretch-instructions.result c.lengthen.new.self.spare c.mind-mind.result c.ran_mind.result
+    c.stretch-instructions.new.self c.lengthen.new.self.entries c.from-count.result c.self.view_is (omega arith) c.self.invariant.facts
     (sym c.if-not-gives_job.ensures) (omega (arith, k.last, c.from.ensures, c.stretch-instructions.ensures.limit, c.if-self-from.false)) c.mind-mind.ensures c.stretch-instructions.ensures.steps
     (c.lengthen.ensures.entries ∙ ap (λ n. lengthened_by n r.journal c.args.h) c.from-count.ensures) c.ran_mind.ensures c.from-count.ensures
 
@@ -71,5 +73,6 @@ returns-clause-serves c =
     let r = run_of c.self.inside in
     let g = giver r c.args.h (ap (λ (q : Engine). gives_job q c.args.h) c.self.view_is ∙ sym c.if-not-gives_job.ensures) in
     let k = small_of r r refl c.self.invariant.facts.sound g.may in
-    served_here r c.args.self.now (new_run c) c.args.h c.stretch-instructions.result c.stretch-instructions.new.self c.self.view_is c.self.invariant.facts.sound (sym c.if-not-gives_job.ensures) (omega arith) c.stretch-instructions.ensures.limit
+    served_here r c.args.self.now (new_run c) c.args.h c.stretch-instructions.result c.stretch-instructions.new.self c.self.view_is
+    c.self.invariant.facts.sound (sym c.if-not-gives_job.ensures) (omega arith) c.stretch-instructions.ensures.limit
     (omega (arith, k.last, c.from.ensures, c.stretch-instructions.ensures.limit, c.if-self-from.false)) c.stretch-instructions.ensures.stretches refl (taken c)

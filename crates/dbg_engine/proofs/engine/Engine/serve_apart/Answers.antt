@@ -14,7 +14,8 @@ returns-in_default-clause-serves c =
     let none : false ≡ _ = ap is_some (sym c.in_default.is) ∙ c.check_out.ensures.exactly in
     subst (λ b. ServesBy b c.args.h r r) none refl
 
-by_commit : (x : Commit) (r s : Engine) (slice : Slice) → 0 < slice.count → (x ≡ commit.Took) ↔ CanTake r slice → (x ≡ commit.Took → Takes r s slice) → (x ≡ commit.Stale → s ≡ r) → (r.retired + slice.count ≤ r.opening.settings.budget → CanTake r slice)
+by_commit : (x : Commit) (r s : Engine) (slice : Slice) → 0 < slice.count → (x ≡ commit.Took) ↔ CanTake r slice → (x ≡ commit.Took → Takes r s slice)
+    → (x ≡ commit.Stale → s ≡ r) → (r.retired + slice.count ≤ r.opening.settings.budget → CanTake r slice)
     → TakesIf (has_room r slice.count) r s slice.hart slice.count slice.after
 by_commit commit.Took r s slice some exactly taken stale can = took r s slice some (exactly.0 refl) (taken refl)
 by_commit commit.Stale r s slice some exactly taken stale can = left r s slice.hart slice.count slice.after (λ room. let e = exactly.1 (can room) in cc) (stale refl)

@@ -1,4 +1,4 @@
-use Rattle.std.proofs.Common.{◌-◌, ◌++◌, List, [], ◌∷◌, sym, ap, ◌∙◌, subst}
+use Rattle.std.proofs.Common.{◌++◌, List, [], ◌∷◌, sym, ap, ◌∙◌, subst}
 use Rattle.dbg_model.specs.Lawful.{may_do}
 use Rattle.dbg_model.specs.Outcome.{pokes}
 use Rattle.dbg_model.specs.declared.entry.Entry.{Entry}

@@ -1,0 +1,74 @@
+use Rattle.std.proofs.Common.{◌+◌, sym, ap, ◌∙◌, subst, arith}
+use Rattle.hart_machine.specs.Patched.{Patched}
+use Rattle.engine_parts.specs.Seen.{Engine}
+use Rattle.engine_parts.specs.Facts.{Facts}
+use Rattle.std.specs.Prelude.{slice_set}
+use Rattle.dbg_model.specs.Journals.{lengthened_by}
+use Rattle.engine_parts.specs.Several.{is_alone}
+use Rattle.dbg_engine.specs.EngineInside.{run_of}
+use Rattle.engine_parts.proofs.Aheads.{gone_to, none_gone, small_of, turned_at}
+use Rattle.engine_parts.proofs.Passing.{Ahead, around}
+use Rattle.engine_parts.proofs.Resting.{rests_freely}
+use Rattle.dbg_engine.proofs.engine.Engine.run_freely.Goals as goal
+
+pub lengthen-requires-clause-last : goal.lengthen-requires-clause-last
+lengthen-requires-clause-last c =
+    let r = run_of c.self.inside in
+    let k = small_of r c.args.self.now c.self.view_is c.self.invariant.facts.sound c.requires.may in
+    omega (arith, k.last, c.min-most.ensures, c.from.ensures, c.from-count.ensures, c.go-progress.ensures.most)
+
+pub returns-then-progress-eq0-clause-facts : goal.returns-then-progress-eq0-clause-facts
+returns-then-progress-eq0-clause-facts c =
+    let r = run_of c.self.inside in
+    let p = c.go-progress.result in
+    let new = c.go-progress.new.machine in
+    let M : Patched → Type 0 = λ m. Facts (record r { machine = m }) in
+    let a = around r c.args.h c.args.mind.course.plan c.by_copies.result in
+    subst M (sym (none_gone a c.min-most.result p.turns p.instructions r.machine new c.if-progress-eq0.true c.go-progress.ensures.goes)) c.self.invariant.facts
+
+pub invariant_of-self : goal.invariant_of-self
+invariant_of-self c =
+    let r = run_of c.self.inside in
+    let p = c.go-progress.result in
+    let new = c.go-progress.new.machine in
+    let M : Patched → Type 0 = λ m. Facts (record r { machine = m }) in
+    let a = around r c.args.h c.args.mind.course.plan c.by_copies.result in
+    record { facts = subst M (sym (none_gone a c.min-most.result p.turns p.instructions r.machine new c.if-progress-eq0.true c.go-progress.ensures.goes)) c.self.invariant.facts }
+
+-- the engine so many turns on
+abbrev new_run : goal.After-self-2-1 → Engine
+new_run c =
+    let r = run_of c.self.inside in
+    record r {
+      journal = c.lengthen.new.self.entries;
+      spare = c.lengthen.new.self.spare;
+      machine = c.go-progress.new.machine;
+      minds = slice_set r.minds c.args.h c.ran_mind.result;
+      retired = r.retired + c.from-count.result;
+    }
+
+gone : (c : goal.After-self-2-1) → Ahead c.go-progress.result.turns (run_of c.self.inside) (new_run c) c.args.h
+gone c =
+    let r = run_of c.self.inside in
+    let s = c.args.self.now in
+    let p = c.go-progress.result in
+    gone_to r s c.args.h c.lengthen.new.self.spare c.min-most.result p.turns p.instructions c.by_copies.result c.args.mind c.ran_mind.result c.go-progress.new.machine c.lengthen.new.self.entries c.from-count.result
+    c.self.view_is (omega arith) c.self.invariant.facts c.requires.may c.requires.mind c.requires.off
+    (ap (λ (q : Engine). is_alone q.opening.image c.args.mind q.hold) c.self.view_is ∙ c.requires.alone)
+    (omega (arith, c.min-most.ensures)) (λ e. (c.by_copies.ensures.yes e).0) c.go-progress.ensures.goes
+    (c.lengthen.ensures.entries ∙ ap (λ n. lengthened_by n r.journal c.args.h) c.from-count.ensures) c.ran_mind.ensures c.from-count.ensures
+
+pub invariant_of-self-2 : goal.invariant_of-self-2
+invariant_of-self-2 c = record { facts = (gone c).facts }
+
+pub returns-clause-facts : goal.returns-clause-facts
+returns-clause-facts c = (gone c).facts
+
+pub returns-clause-turns : goal.returns-clause-turns
+returns-clause-turns c = turned_at c.go-progress.result.turns (run_of c.self.inside) c.args.self.now (new_run c) c.args.h c.self.view_is (gone c).turns
+
+pub returns-clause-far : goal.returns-clause-far
+returns-clause-far c =
+    let p = c.go-progress.result in
+    let e = c.go-progress.ensures in
+    λ less. rests_freely (new_run c) c.args.h p.instructions p.turns c.min-most.result c.args.limit e.fewer less (λ few same. omega (arith, c.min-most.ensures, c.from-count.ensures, few, same)) e.most e.far

@@ -1,0 +1,103 @@
+use Rattle.std.proofs.Common.{◌+◌, sym, ap, ◌∙◌, subst, arith}
+use Rattle.std.specs.Prelude.{slice_get, slice_set}
+use Rattle.hart_machine.specs.Patched.{Patched}
+use Rattle.hart_machine.proofs.Places.{get-set_same}
+use Rattle.dbg_model.specs.Journals.{lengthened_by}
+use Rattle.engine_parts.specs.declared.mind.Mind.{Mind}
+use Rattle.engine_parts.specs.Seen.{Engine}
+use Rattle.engine_parts.specs.Facts.{Facts}
+use Rattle.engine_parts.specs.Several.{is_alone}
+use Rattle.dbg_engine.specs.EngineInside.{run_of}
+use Rattle.engine_parts.proofs.Aheads.{small_of, turned_at}
+use Rattle.engine_parts.proofs.OnLines.{none_stayed, on_line, stayed_to}
+use Rattle.engine_parts.proofs.Passing.{Ahead}
+use Rattle.engine_parts.proofs.Resting.{rests_on}
+use Rattle.dbg_engine.proofs.OwnLines.{own_ends, own_stays}
+use Rattle.dbg_engine.proofs.engine.Engine.run_on_line.Goals as goal
+
+pub lengthen-requires-clause-last : goal.lengthen-requires-clause-last
+lengthen-requires-clause-last c =
+    let r = run_of c.self.inside in
+    let k = small_of r c.args.self.now c.self.view_is c.self.invariant.facts.sound c.requires.may in
+    omega (arith, k.last, c.min-most.ensures, c.from.ensures, c.from-count.ensures, c.stay-stayed.ensures.limit)
+
+pub returns-then-stayed-eq0-clause-facts : goal.returns-then-stayed-eq0-clause-facts
+returns-then-stayed-eq0-clause-facts c =
+    let r = run_of c.self.inside in
+    let p = c.stay-stayed.result in
+    let new = c.stay-stayed.new.machine in
+    let M : Patched → Type 0 = λ m. Facts (record r { machine = m }) in
+    let stays = own_stays r c.args.h c.args.file c.args.line p.count p.last _ r.machine new c.lines.ensures c.stay-stayed.ensures.stays in
+    subst M (sym (none_stayed (on_line r c.args.h c.args.file c.args.line) p.count p.last r.machine new c.if-stayed-eq0.true stays)) c.self.invariant.facts
+
+pub returns-then-stayed-eq0-clause-turns : goal.returns-then-stayed-eq0-clause-turns
+returns-then-stayed-eq0-clause-turns c =
+    let r = run_of c.self.inside in
+    let p = c.stay-stayed.result in
+    let new = c.stay-stayed.new.machine in
+    let stays = own_stays r c.args.h c.args.file c.args.line p.count p.last _ r.machine new c.lines.ensures c.stay-stayed.ensures.stays in
+    let same = none_stayed (on_line r c.args.h c.args.file c.args.line) p.count p.last r.machine new c.if-stayed-eq0.true stays in
+    ap (λ (m : Patched). let q : Engine = record r { machine = m } in q) same ∙ c.self.view_is
+
+pub invariant_of-self : goal.invariant_of-self
+invariant_of-self c =
+    let r = run_of c.self.inside in
+    let p = c.stay-stayed.result in
+    let new = c.stay-stayed.new.machine in
+    let M : Patched → Type 0 = λ m. Facts (record r { machine = m }) in
+    let stays = own_stays r c.args.h c.args.file c.args.line p.count p.last _ r.machine new c.lines.ensures c.stay-stayed.ensures.stays in
+    record { facts = subst M (sym (none_stayed (on_line r c.args.h c.args.file c.args.line) p.count p.last r.machine new c.if-stayed-eq0.true stays)) c.self.invariant.facts }
+
+-- the engine so many instructions on
+abbrev new_run : goal.After-self-2-1 → Engine
+new_run c =
+    let r = run_of c.self.inside in
+    record r {
+      journal = c.lengthen.new.self.entries;
+      spare = c.lengthen.new.self.spare;
+      machine = c.stay-stayed.new.machine;
+      minds = slice_set r.minds c.args.h c.ran_mind.result;
+      retired = r.retired + c.from-count.result;
+    }
+
+gone : (c : goal.After-self-2-1) → Ahead c.stay-stayed.result.count (run_of c.self.inside) (new_run c) c.args.h
+gone c =
+    let r = run_of c.self.inside in
+    let p = c.stay-stayed.result in
+    let stays = own_stays r c.args.h c.args.file c.args.line p.count p.last _ r.machine c.stay-stayed.new.machine c.lines.ensures c.stay-stayed.ensures.stays in
+    stayed_to r c.args.self.now c.args.h c.lengthen.new.self.spare p.count p.last c.args.file c.args.line c.requires.plan.0 c.args.mind c.ran_mind.result c.stay-stayed.new.machine c.lengthen.new.self.entries c.from-count.result
+    c.self.view_is (omega arith) c.self.invariant.facts c.requires.may c.requires.mind c.requires.plan.1
+    (ap (λ (q : Engine). is_alone q.opening.image c.args.mind q.hold) c.self.view_is ∙ c.requires.alone)
+    (omega (arith, c.min-most.ensures, c.stay-stayed.ensures.limit)) stays
+    (c.lengthen.ensures.entries ∙ ap (λ n. lengthened_by n r.journal c.args.h) c.from-count.ensures) c.ran_mind.ensures c.from-count.ensures
+
+pub invariant_of-self-2 : goal.invariant_of-self-2
+invariant_of-self-2 c = record { facts = (gone c).facts }
+
+pub returns-clause-facts : goal.returns-clause-facts
+returns-clause-facts c = (gone c).facts
+
+pub returns-clause-turns : goal.returns-clause-turns
+returns-clause-turns c = turned_at c.stay-stayed.result.count (run_of c.self.inside) c.args.self.now (new_run c) c.args.h c.self.view_is (gone c).turns
+
+pub returns-clause-far : goal.returns-clause-far
+returns-clause-far c =
+    let r = run_of c.self.inside in
+    let p = c.stay-stayed.result in
+    let at = ap (λ (q : Engine). slice_get q.minds c.args.h) c.self.view_is ∙ c.requires.mind in
+    let set = get-set_same r.minds c.args.h c.ran_mind.result c.args.mind at in
+    let plan = ap (λ (x : Mind). x.course.plan) c.ran_mind.ensures ∙ c.requires.plan.1 in
+    λ less.
+    rests_on (new_run c) c.args.h c.args.file c.args.line p.count c.min-most.result c.args.limit c.requires.plan.0 c.ran_mind.result set plan less
+    (λ few same. omega (arith, c.min-most.ensures, c.from-count.ensures, few, same)) c.stay-stayed.ensures.limit
+    (λ e. own_ends r c.args.h c.args.file c.args.line _ c.stay-stayed.new.machine c.lines.ensures (c.stay-stayed.ensures.far e))
+
+pub returns-then-stayed-eq0-clause-far : goal.returns-then-stayed-eq0-clause-far
+returns-then-stayed-eq0-clause-far c =
+    let r = run_of c.self.inside in
+    let p = c.stay-stayed.result in
+    let at = ap (λ (q : Engine). slice_get q.minds c.args.h) c.self.view_is ∙ c.requires.mind in
+    λ less.
+    rests_on (record r { machine = c.stay-stayed.new.machine }) c.args.h c.args.file c.args.line p.count c.min-most.result c.args.limit c.requires.plan.0 c.args.mind at c.requires.plan.1
+    (omega (arith, less, c.if-stayed-eq0.true)) (λ few same. omega (arith, c.min-most.ensures, few, same, c.if-stayed-eq0.true)) c.stay-stayed.ensures.limit
+    (λ e. own_ends r c.args.h c.args.file c.args.line _ c.stay-stayed.new.machine c.lines.ensures (c.stay-stayed.ensures.far e))
