@@ -1,189 +1,19 @@
--- What lines effect.
-use Rattle.std.proofs.Common.{◌≡◌, ◌≤◌, ◌<◌, ◌+◌, ◌-◌, ◌^◌, ◌/◌, ◌%◌, ℕ, zero, suc, Bool, true, false, cond, List, [], ◌∷◌, length, refl, sym, ap, ◌∙◌, subst, arith}
-use Rattle.std.specs.Prelude.{Option, Some, None, Ok, is_some, find, not, nat_lt, option_and_then, slice_get, slice_index, ◌&&◌, ◌||◌, ◌==◌, nat_le}
-use Rattle.std.specs.List.{list_any}
-use Rattle.std.proofs.lemmas.Bool.Decides.{nat_tests}
-use Rattle.std.proofs.lemmas.Option.{slice_get_within}
-use Rattle.std.proofs.lemmas.List.{length-map}
-use Rattle.elf32_read.specs.Program.{Program, Text, text_word, in_words}
-use Rattle.break_table.specs.Table.{Table, is_thread}
-use Rattle.break_table.specs.Text.{is_instruction, is_place}
+-- What is answered to a line, and what comes of it.
+use Rattle.std.proofs.Common.{◌≡◌, Bool, true, cond, List, ℕ, sym, ap, ◌∙◌}
+use Rattle.std.specs.Prelude.{Some, None, Ok}
 use Rattle.dbg_model.specs.declared.opening.Opening.{Opening}
-use Rattle.dbg_model.specs.Limits.{history}
-use Rattle.dbg_model.specs.declared.hart.Hart.{Hart}
-use Rattle.dbg_model.specs.State.{State, any_leaves, is_off}
-use Rattle.dbg_model.specs.Lawful.{may_do, may_go}
-use Rattle.dbg_model.specs.Sight.{thread_at}
-use Rattle.dbg_model.specs.Outcome.{Change, stays, resumes, selects, interrupts, displaces, inserts, adds_watch, deletes, enables, conditions, ignores, pokes, exits}
-use Rattle.dbg_model.specs.Reply.{answer_of, asked, changed_by, done_by, forgetting, given_after, harts_after, resumed, sets_after}
-use Rattle.dbg_model.proofs.Options.{both_true}
-use Rattle.dbg_model.proofs.Founding.{IsFounded, IsThereOr, change_founded, change_watchable}
-use Rattle.dbg_model.proofs.Naming.{length-on_threads}
-use Rattle.dbg_model.specs.Reply.{Answer, reply_of}
 use Rattle.dbg_model.specs.declared.shown.Shown.TheVariants as shows
+use Rattle.dbg_model.specs.State.{State}
+use Rattle.dbg_model.specs.Lawful.{may_do}
+use Rattle.dbg_model.specs.Reply.{Answer, answer_of, changed_by, done_by, reply_of}
+use Rattle.dbg_effects.specs.Effect.{change_of}
+use Rattle.dbg_effects.specs.Table.{changed_table}
 use Rattle.dbg_answers.specs.declared.line.LineAnswer.{LineAnswer}
 use Rattle.dbg_answers.specs.Answer.{line_answer_of}
-use Rattle.dbg_effects.specs.declared.effect.Effect.{Effect}
-use Rattle.dbg_effects.specs.declared.effect.Effect.TheVariants as effect
-use Rattle.dbg_effects.specs.Effect.{change_of}
-use Rattle.dbg_effects.specs.Table.{CanBeMade, CanBeWatched, changed_table}
-use Rattle.dbg_replay.specs.declared.state.Parts.{Parts}
-use Rattle.dbg_replay.specs.Parts.{state_of}
-use Rattle.dbg_replay.specs.Going.{Enters, Kept}
-
--- ---- a line may be done
-
--- where one may be done there is room for a number more
-pub numbers_low : (o : Opening) (p : Parts) (line : List ℕ) → Kept o p → may_do o (state_of p) line ≡ true → p.table.given < 2 ^ 32 - 1
-numbers_low o p line kept may =
-    let goes = (both_true (may_go o (state_of p)) _ may).0 in
-    let behind = (both_true (not (any_leaves p.harts.items)) _ goes).1 in
-    let second = (both_true (nat_lt p.retired o.settings.budget) _ behind).1 in
-    let low = (both_true (nat_lt p.noted history) _ second).0 in
-    below p.table.given p.noted kept.given low
-  where
-    below : (given noted : ℕ) → given ≤ noted → nat_lt noted history ≡ true → given < 2 ^ 32 - 1
-    below given noted le low = grind (arith, nat_tests)
-
--- and for an entry more
-pub history_low : (o : Opening) (s : State) (line : List ℕ) → may_do o s line ≡ true → s.noted < history
-history_low o s line may =
-    let goes = (both_true (may_go o s) _ may).0 in
-    let behind = (both_true (not (any_leaves s.harts)) _ goes).1 in
-    let second = (both_true (nat_lt s.retired o.settings.budget) _ behind).1 in
-    let low = (both_true (nat_lt s.noted history) _ second).0 in
-    grind (arith, nat_tests)
-
--- ---- a change can be made
-
-found_by : (x : Text) (xs : List Text) (holds : Text → Bool) (f : Text → Option ℕ) (b : Bool) → holds x ≡ b → is_some (option_and_then f (cond b (Some x) (find holds xs))) ≡ true
-    → (is_some (option_and_then f (find holds xs)) ≡ true → list_any holds xs ≡ true) → (b || list_any holds xs) ≡ true
-found_by x xs holds f true is e ih = refl
-found_by x xs holds f false is e ih = ih e
-
-found_any : (xs : List Text) (holds : Text → Bool) (f : Text → Option ℕ) → is_some (option_and_then f (find holds xs)) ≡ true → list_any holds xs ≡ true
-found_any [] holds f e = cc
-found_any (x ∷ xs) holds f e = found_by x xs holds f (holds x) refl e (found_any xs holds f)
-
-word_by : (p : Program) (a : ℕ) (b : Bool) → (a % 4 == 0) ≡ b → is_some (cond b (option_and_then (λ (t : Text). slice_get t.words ((a - t.address) / 4)) (find (in_words a) p.text)) None) ≡ true → (b && list_any (in_words a) p.text) ≡ true
-word_by p a true is e = found_any p.text (in_words a) (λ (t : Text). slice_get t.words ((a - t.address) / 4)) e
-word_by p a false is e = cc
-
--- a word of text is an instruction's place
-word_place : (p : Program) (a : ℕ) → is_some (text_word p a) ≡ true → is_instruction p a ≡ true
-word_place p a e = word_by p a (a % 4 == 0) refl e
-
-there : (r : Option Hart) → is_some r ≡ true → (x : Hart) × (r ≡ Some x)
-there None e = cc
-there (Some x) e = (x, refl)
-
-thread_by : (xs : List Hart) (n t : ℕ) → length xs ≡ n → is_some (thread_at xs t) ≡ true → (nat_le 1 t && nat_le t n) ≡ true
-thread_by xs n zero len e = cc
-thread_by xs n (suc h) len e =
-    let x = there (slice_get xs h) e in
-    let low = slice_get_within xs h x.0 x.1 in
-    let first : nat_le 1 (suc h) ≡ true = grind (arith, nat_tests) in
-    let second : nat_le (suc h) n ≡ true = grind (arith, nat_tests) in
-    rw (first, second) refl
-
-thread_known : (xs : List Hart) (n : ℕ) (t : Option ℕ) → length xs ≡ n → IsThereOr xs t → is_thread n t ≡ true
-thread_known xs n None len is = refl
-thread_known xs n (Some t) len is = thread_by xs n t len is
-
-not_full : (n : ℕ) → n < 128 → nat_le 128 n ≡ false
-not_full n low = grind (arith, nat_tests)
-
-can_by : (o : Opening) (p : Parts) (x : Effect) → Kept o p → IsFounded o.image p.harts.items p.table.entries (change_of x) → CanBeMade p.table x
-can_by o p (effect.Insert spec) kept f =
-    let place : is_place p.table.text spec.address ≡ true = kept.places spec.address ∙ word_place o.image spec.address f.0 in
-    let full : nat_le 128 (length p.table.entries) ≡ false = not_full (length p.table.entries) f.1 in
-    let known : is_thread (length p.table.waits) spec.thread ≡ true = thread_known p.harts.items (length p.table.waits) spec.thread (kept.harts ∙ sym kept.waits) f.2 in
-    rw (place, full, known) refl
-can_by o p _ kept f = tt
-
--- the change of a line can be made
-pub can_be_made : (o : Opening) (p : Parts) (line : List ℕ) (x : Effect) → Kept o p → change_of x ≡ (answer_of o (state_of p) line).outcome.change → CanBeMade p.table x
-can_be_made o p line x kept is = can_by o p x kept (subst (IsFounded o.image p.harts.items p.table.entries) (sym is) (change_founded o (state_of p) line))
-
-watched_by : (o : Opening) (p : Parts) (line : List ℕ) (x : Effect) → change_of x ≡ (answer_of o (state_of p) line).outcome.change → CanBeWatched p.watches x
-watched_by o p line (effect.Watch text b) is = change_watchable o (state_of p) line text b (sym is)
-watched_by o p line _ is = tt
-
--- a watch of a line can be added
-pub can_be_watched : (o : Opening) (p : Parts) (line : List ℕ) (x : Effect) → change_of x ≡ (answer_of o (state_of p) line).outcome.change → CanBeWatched p.watches x
-can_be_watched o p line x is = watched_by o p line x is
-
--- ---- the state after a line
-
-done_is : (o : Opening) (s : State) (line : List ℕ) (c : Change) → c ≡ (answer_of o s line).outcome.change → changed_by s c ≡ done_by o s line
-unfolding done_by
-done_is o s line c is = ap (changed_by s) is
-
-length_after : (xs : List Hart) (c : Change) → length (harts_after xs c) ≡ length xs
-length_after xs (resumes ts plan) = length-on_threads (resumed plan) ts 1 xs
-length_after xs (interrupts ts) = length-on_threads asked ts 1 xs
-length_after xs (deletes ns) = length-map xs (forgetting ns)
-length_after xs (enables true ns) = refl
-length_after xs (enables false ns) = length-map xs (forgetting ns)
-length_after xs _ = refl
-
-given_more : (n : ℕ) (c : Change) → given_after n c ≤ n + 1
-given_more n stays = omega arith
-given_more n (resumes ts plan) = omega arith
-given_more n (selects t) = omega arith
-given_more n (inserts a) = omega arith
-given_more n (adds_watch text b) = omega arith
-given_more n (deletes ns) = omega arith
-given_more n (enables b ns) = omega arith
-given_more n (conditions k c) = omega arith
-given_more n (ignores k m) = omega arith
-given_more n (interrupts ts) = omega arith
-given_more n (displaces d) = omega arith
-given_more n (pokes p) = omega arith
-given_more n exits = omega arith
-
-sets_by_more : (n : ℕ) (b : Bool) → cond b n (n + 1) ≤ n + 1
-sets_by_more n true = omega arith
-sets_by_more n false = omega arith
-
-sets_more : (n : ℕ) (c : Change) → sets_after n c ≤ n + 1
-sets_more n stays = omega arith
-sets_more n (resumes ts plan) = omega arith
-sets_more n (selects t) = omega arith
-sets_more n (inserts a) = omega arith
-sets_more n (adds_watch text b) = omega arith
-sets_more n (deletes ns) = omega arith
-sets_more n (enables b ns) = omega arith
-sets_more n (conditions k c) = omega arith
-sets_more n (ignores k m) = omega arith
-sets_more n (interrupts ts) = omega arith
-sets_more n (displaces d) = sets_by_more n (is_off d)
-sets_more n (pokes p) = omega arith
-sets_more n exits = omega arith
-
-still_kept : (o : Opening) (old new : Parts) (c : Change) → Kept o old → old.noted < history → state_of new ≡ changed_by (state_of old) c → new.table ≡ changed_table old.table c → new.sources ≡ old.sources → Kept o new
-still_kept o old new c kept low state table sources =
-    let given : new.table.given ≡ given_after old.table.given c = ap (λ (t : Table). t.given) table in
-    let noted : new.noted ≡ old.noted + 1 = ap (λ (s : State). s.noted) state in
-    let more = given_more old.table.given c in
-    let before = kept.given in
-    let sets : new.sets ≡ sets_after old.sets c = ap (λ (s : State). s.sets) state in
-    let sets_low = sets_more old.sets c in
-    let sets_before = kept.sets in
-    record {
-      sources = sources ∙ kept.sources;
-      harts = ap (λ (s : State). length s.harts) state ∙ (length_after old.harts.items c ∙ kept.harts);
-      places = λ addr. ap (λ (t : Table). is_place t.text addr) table ∙ kept.places addr;
-      waits = ap (λ (t : Table). length t.waits) table ∙ kept.waits;
-      given = omega arith;
-      few = kept.few;
-      budget = kept.budget;
-      counts = ap (λ (s : State). length s.passed) state ∙ kept.counts;
-      passed = λ k. subst (λ (s : State). slice_index s.passed k ≤ s.retired) (sym state) (kept.passed k);
-      sets = omega arith;
-      noted = omega (arith, low, noted);
-      owing = λ p is. omega (arith, low, noted);
-    }
+use Rattle.replay_parts.specs.declared.state.Parts.{Parts}
+use Rattle.replay_parts.specs.Parts.{state_of}
+use Rattle.replay_parts.specs.Going.{Enters, Kept}
+use Rattle.replay_parts.proofs.Changing.{done_is, history_low, still_kept}
 
 -- what is answered to a line changes this, and is its reply
 pub changes_so : (o : Opening) (s : State) (line : List ℕ) (l : LineAnswer) → line_answer_of l ≡ answer_of o s line → change_of l.answer.effect ≡ (answer_of o s line).outcome.change
@@ -195,11 +25,11 @@ replies_so o s line l is = ap (λ (a : Answer). shows.Answer (record { token = a
 -- a line came
 pub line_comes : (o : Opening) (old new : Parts) (line : List ℕ) (l : LineAnswer) (b : Bool) → Kept o old → may_do o (state_of old) line ≡ true → b ≡ true → line_answer_of l ≡ answer_of o (state_of old) line
     → state_of new ≡ changed_by (state_of old) (change_of l.answer.effect)
-    → new.table ≡ changed_table old.table (change_of l.answer.effect) → new.sources ≡ old.sources
+    → new.table ≡ changed_table old.table (change_of l.answer.effect) → new.sources ≡ old.sources → new.words ≡ old.words
     → Enters o (Ok (shows.Answer (record { token = l.token; content = l.answer.content }))) (cond b (Some (done_by o (state_of old) line)) None) (shows.Answer (reply_of o (state_of old) line)) old new
-line_comes o old new line l b kept may is answers state table sources =
+line_comes o old new line l b kept may is answers state table sources words =
     let x = l.answer.effect in (
       rw is (ap Some (sym (state ∙ done_is o (state_of old) line (change_of x) (changes_so o (state_of old) line l answers)))),
       replies_so o (state_of old) line l answers,
-      still_kept o old new (change_of x) kept (history_low o (state_of old) line may) state table sources,
+      still_kept o old new (change_of x) kept (history_low o (state_of old) line may) state table sources words,
     )

@@ -13,14 +13,13 @@ use Rattle.dbg_model.specs.Lawful.{enter, one, one_out, ran}
 use Rattle.dbg_model.specs.Shown.{shown_of, written}
 use Rattle.dbg_model.specs.Journals.{Place, come, follows, noted_one, ran_hart}
 use Rattle.dbg_model.proofs.Adding.{comes}
-use Rattle.dbg_replay.specs.declared.state.Parts.{Parts}
-use Rattle.dbg_replay.specs.Parts.{state_of, standing_of}
-use Rattle.dbg_replay.specs.Standing.{IsOf, Standing, Takes, come_one, lengthen}
-use Rattle.dbg_replay.specs.declared.halt.Halt.TheVariants.{Unlawful}
-use Rattle.dbg_replay.specs.Going.{Enters, IsLike, Kept}
-
-abbrev pub place_at : Option ℕ → State → Place
-place_at prev s = record { prev = prev; state = s }
+use Rattle.replay_parts.specs.declared.state.Parts.{Parts}
+use Rattle.replay_parts.specs.Parts.{state_of}
+use Rattle.replay_parts.specs.Further.{LengthensBy, lengthen}
+use Rattle.replay_parts.proofs.Alone.{place_at}
+use Rattle.dbg_replay.specs.Standing.{IsOf, Standing, Takes, come_one, standing_of}
+use Rattle.replay_parts.specs.declared.halt.Halt.TheVariants.{Unlawful}
+use Rattle.replay_parts.specs.Going.{Enters, IsLike, Kept}
 
 abbrev behind : ℕ → State → Place
 behind h s = place_at (Some h) s
@@ -157,6 +156,19 @@ none_by o p h false is = rw is refl
 pub longer_comes : (o : Opening) (p q r : Place) (h n : ℕ) → 0 < n → come o p (Ran h n) ≡ Some q → lengthen o q h ≡ Some r → come o p (Ran h (n + 1)) ≡ Some r
 longer_comes o p q r h n low comes more = come_lengthened o p h n low ∙ (ap (option_and_then (λ s. lengthen o s h)) comes ∙ more)
 
+pub none_more : (n : ℕ) (o : Opening) (p q : Place) (h : ℕ) → n ≡ 0 → LengthensBy n o h p q → q ≡ p
+none_more zero o p q h is more = more
+none_more (suc n) o p q h is more = absurd (omega (arith, is))
+
+-- so many more come
+pub longer_by : (k : ℕ) (o : Opening) (p q r : Place) (h n : ℕ) → 0 < n → come o p (Ran h n) ≡ Some q → LengthensBy k o h q r → come o p (Ran h (n + k)) ≡ Some r
+longer_by zero o p q r h n low comes more =
+    let is : n + 0 ≡ n = omega arith in
+    ap (λ m. come o p (Ran h m)) is ∙ (comes ∙ ap Some (sym more))
+longer_by (suc k) o p q r h n low comes more =
+    let is : n + suc k ≡ (n + k) + 1 = omega arith in
+    ap (λ m. come o p (Ran h m)) is ∙ longer_comes o p more.place r h (n + k) (omega (arith, low)) (longer_by k o p q more.place h n low comes more.before) more.lengthens
+
 -- where it may not come, no longer `Ran` may
 pub longer_fails : (o : Opening) (p q : Place) (h n count : ℕ) → 0 < n → n < count → come o p (Ran h n) ≡ Some q → lengthen o q h ≡ None → come o p (Ran h count) ≡ None
 longer_fails o p q h n count low less comes none =
@@ -171,3 +183,14 @@ first_fails o p h count low none =
 -- no `Ran` of no instruction comes
 pub none_comes : (o : Opening) (p : Place) (h : ℕ) → come o p (Ran h 0) ≡ None
 none_comes o p h = none_by o p h (follows p.prev (Ran h 0)) refl
+
+-- ---- several of a hart that goes on by itself
+
+number_is : (prev : Option ℕ) (h : ℕ) → is_number prev h ≡ true → prev ≡ Some h
+number_is None h is = cc
+number_is (Some k) h is = let same : k ≡ h = grind (arith, nat_tests) in ap Some same
+
+pub taken_more : (n : ℕ) (o : Opening) (t : Standing) (p : Parts) (q : Place) (prev : Option ℕ) (shown : Option Shown) (h : ℕ) → standing_of p prev shown ≡ t → is_number prev h ≡ true
+    → LengthensBy n o h (place_at (Some h) (state_of p)) q → LengthensBy n o h t.place q
+taken_more n o t p q prev shown h is number all =
+    subst (λ (u : Standing). LengthensBy n o h u.place q) is (subst (λ w. LengthensBy n o h (place_at w (state_of p)) q) (sym (number_is prev h number)) all)

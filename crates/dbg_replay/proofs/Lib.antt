@@ -1,10 +1,6 @@
--- What one instruction does, and what comes of one and of several.
-pub mod Running
+-- What comes of one instruction and of several.
 pub mod Coming
--- What lines effect.
+-- What lines are answered and change.
 pub mod Answering
--- How many entries may still come.
-pub mod Exiting
--- A whole journal: where it begins, and its entries one behind another.
-pub mod Beginning
+-- A whole journal: its entries one behind another.
 pub mod Passing

@@ -1,4 +1,2 @@
--- The definitions of a replay: the state that its parts show, and what each of them answers.
+-- The definitions of a replay: where it stands, and what each of its steps takes.
 pub mod Standing
-pub mod Parts
-pub mod Going

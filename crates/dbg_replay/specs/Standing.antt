@@ -1,20 +1,17 @@
 -- Where the model's program stands in a journal, and what each of its steps takes. This project's own.
-use Rattle.std.specs.Prelude.{◌≡◌, ◌≤◌, ◌+◌, ℕ, Bool, true, false, List, [], ◌∷◌, length, Option, Some, None, Result, Ok, Err, if◌then◌else◌, slice_index}
-use Rattle.std.specs.Option.{option_map}
+use Rattle.std.specs.Prelude.{◌≡◌, ℕ, Bool, true, false, List, Option, Some, None, Result, Ok, Err}
 use Rattle.elf32_read.specs.declared.spans.Span.{Span}
-use Rattle.break_table.specs.Text.{is_instruction, is_place}
+use Rattle.text_words.specs.Words.{Words}
 use Rattle.dbg_traits.specs.declared.text.NoMemory.{NoMemory}
 use Rattle.dbg_model.specs.declared.entry.Entry.TheVariants.{Ran}
-use Rattle.dbg_model.specs.declared.entry.Poke.{Poke}
-use Rattle.dbg_model.specs.declared.hart.Hart.{Hart}
 use Rattle.dbg_model.specs.declared.opening.Opening.{Opening}
 use Rattle.dbg_model.specs.declared.shown.Shown.{Shown}
-use Rattle.dbg_model.specs.Limits.{history}
-use Rattle.dbg_model.specs.Sources.{Sources, sources_of}
-use Rattle.dbg_model.specs.State.{State, hart_gone}
-use Rattle.dbg_model.specs.Lawful.{one}
+use Rattle.dbg_model.specs.Sources.{Sources}
 use Rattle.dbg_model.specs.Journals.{Place, come}
-use Rattle.dbg_model.specs.Breaks.{is_number}
+use Rattle.replay_parts.specs.declared.state.Parts.{Parts}
+use Rattle.replay_parts.specs.Parts.{state_of}
+use Rattle.replay_parts.specs.Keeping.{Keeps}
+use Rattle.replay_parts.specs.Further.{lengthen}
 
 pub record Standing : Type 0 where
   -- behind what was taken
@@ -23,6 +20,8 @@ pub record Standing : Type 0 where
   pub shown : Option Shown
   -- what the program's file tells of its source
   pub sources : Sources
+  -- the program's text, with nothing planted
+  pub words : Words
   -- where text stands, and for each hart where it waits: nowhere
   pub text : List Span
   pub waits : List (Option ℕ)
@@ -30,34 +29,20 @@ pub record Standing : Type 0 where
 abbrev pub place_of : Standing → Place
 place_of t = t.place
 
--- how many harts have exited
-abbrev pub gone : List Hart → ℕ
-gone [] = 0
-gone (x ∷ xs) = (if hart_gone x then 1 else 0) + gone xs
-
--- what is kept of an opening beside a state, with the bounds of the state's numbers
-pub record Keeps (o : Opening) (s : State) (told : Sources) (spans : List Span) (holds : List (Option ℕ)) : Type 0 where
-  pub sources : told ≡ sources_of o.image
-  pub harts : length s.harts ≡ o.settings.harts
-  pub places : (addr : ℕ) → is_place spans addr ≡ is_instruction o.image addr
-  pub waits : length holds ≡ o.settings.harts
-  pub given : s.given ≤ s.noted
-  pub few : o.settings.harts ≤ 16
-  pub budget : o.settings.budget ≤ 1_000_000_000_000
-  pub counts : length s.passed ≡ o.settings.harts
-  pub passed : (k : ℕ) → slice_index s.passed k ≤ s.retired
-  pub sets : s.sets ≤ s.noted
-  -- behind the history come at most a write that it still owes, and an exit of each hart
-  pub noted : s.noted ≤ history + 1 + gone s.harts
-  pub owing : (p : Poke) → s.pending ≡ Some p → s.noted ≤ history + gone s.harts
+-- parts behind an entry of that hart, if it is a `Ran`, and with what was shown last
+abbrev pub standing_of : Parts → Option ℕ → Option Shown → Standing
+standing_of p prev shown = record {
+  place = record { prev = prev; state = state_of p };
+  shown = shown;
+  sources = p.sources;
+  words = p.words;
+  text = p.table.text;
+  waits = p.table.waits;
+}
 
 -- it is of this opening
 abbrev pub IsOf : Opening → Standing → Type 0
-IsOf o t = Keeps o t.place.state t.sources t.text t.waits
-
--- the place behind one more instruction of the `Ran` that was taken last, which has to be of this hart
-abbrev pub lengthen : Opening → Place → ℕ → Option Place
-lengthen o p h = if is_number p.prev h then option_map (λ s. record { prev = Some h; state = s }) (one o h p.state) else None
+IsOf o t = Keeps o t.place.state t.sources t.words t.text t.waits
 
 -- the place behind one instruction of a hart: the first of a new `Ran`, or one more of the last
 abbrev pub come_one : Opening → Place → ℕ → Bool → Option Place

@@ -8,18 +8,17 @@ ghost use Rattle.dbg_model.specs.Sight.{view_of};
 ghost use Rattle.dbg_model.specs.declared.shown.Shown.TheVariants.{Answer};
 ghost use Rattle.dbg_answers.specs.Answer.{line_answer_of};
 ghost use Rattle.dbg_answers.specs.Reading.{IsRead};
-ghost use Rattle.dbg_replay.specs.Parts.{state_of};
-ghost use Rattle.dbg_replay.specs.Going.{Enters, Kept};
+ghost use Rattle.replay_parts.specs.Parts.{state_of};
+ghost use Rattle.replay_parts.specs.Going.{Enters, Kept};
 
-use crate::changes::make;
-use crate::halt::Halt;
-use crate::modes::any_runs;
-use crate::movers::may_go;
-use crate::state::Parts;
 use dbg_answers::{Debuggee, LineAnswer, answer_line, read_line, waits};
 use dbg_model::{Hart, Mode, Opening, Reply, Shown, ThreadView};
 use dbg_traits::NoMemory;
 use mi_commands::{CommandLine, Refusal};
+use replay_parts::changes::make;
+use replay_parts::modes::any_runs;
+use replay_parts::movers::may_go;
+use replay_parts::{Halt, Parts};
 use std::alloc::{AllocError, Global};
 
 fn view(hart: Hart) -> ThreadView

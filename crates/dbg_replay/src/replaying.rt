@@ -8,7 +8,7 @@ ghost use Rattle.dbg_model.specs.Keeping.{entry_of};
 ghost use Rattle.dbg_replay.specs.Standing.{IsOf, Passes, place_of};
 
 use crate::state::ModelState;
-use crate::taking::{start, take_entry, take_ran};
+use crate::taking::{start, take_entry, take_more, take_ran};
 use dbg_model::{Entries, Entry, EntryRef, Journal, Opening};
 use dbg_traits::NoMemory;
 use std::alloc::Global;
@@ -31,10 +31,17 @@ fn run(
     if !take_ran(alloc, opening, state, hart, false)? {
         return Ok(false);
     }
-    for done in 1..count {
+    let mut done = 1;
+    while done < count {
+        let more = take_more(opening, state, hart, count - done);
+        if more > 0 {
+            done += more;
+            continue;
+        }
         if !take_ran(alloc, opening, state, hart, true)? {
             return Ok(false);
         }
+        done += 1;
     }
     Ok(true)
 }

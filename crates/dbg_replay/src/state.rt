@@ -1,44 +1,12 @@
-// What the model's program keeps, and the state that it shows.
+// The model's state behind what was taken of a journal.
 ghost use Rattle.std.specs.Prelude.{◌≡◌, true, Some, is_some, map};
 ghost use Rattle.break_table.specs.Entry.{entry_of};
 
-use break_table::{BreakEntry, BreakTable};
-use data_memory::DataMemory;
-use dbg_model::{Hart, Poke, Shown, SourceIndex, Watch, WatchList};
-use mi_commands::Displaced;
+use break_table::BreakEntry;
+use dbg_model::{Hart, Shown};
+use replay_parts::Parts;
 use std::marker::Model;
-
-/// What a replay keeps: what a state is made of, and what the program's file tells of its source.
-#[derive(Drop)]
-pub struct Parts {
-    pub sources: SourceIndex,
-    /// Counted from 0.
-    pub harts: Vec<Hart>,
-    /// The data; the text is the image's.
-    pub memory: DataMemory,
-    /// The bytes that the program wrote.
-    pub out: Vec<u8>,
-    /// The breakpoints that the user set, and how many numbers were given to breakpoints and watches.
-    pub table: BreakTable,
-    /// The watches that the user set.
-    pub watches: WatchList,
-    /// The selected thread, counted from 1.
-    pub selected: u32,
-    /// Whether a planted instruction is executed as a copy in a slot.
-    pub displaced: Displaced,
-    /// How many lines set that to on or auto.
-    pub sets: u64,
-    /// For each hart, how many of its instructions were executed where an enabled breakpoint stood, while that wasn't off.
-    pub passed: Vec<u64>,
-    /// What the line before asked to be written, and isn't written yet.
-    pub pending: Option<Poke>,
-    /// How many instructions were executed.
-    pub retired: u64,
-    /// How many entries other than `Ran` there are.
-    pub noted: u64,
-    /// Whether `-gdb-exit` was done.
-    pub exited: bool,
-}
+use watch_points::Watch;
 
 /// The model's state behind what was taken of a journal, and what the last of that shows. Contracts see a `Standing`.
 #[derive(Drop)]
@@ -54,12 +22,13 @@ impl Model for ModelState {
     ghost use Rattle.std.specs.Coded.{codes};
     ghost use Rattle.data_memory.specs.Maps.{memory_code};
     ghost use Rattle.break_table.specs.Codes.{term_code};
+    ghost use Rattle.text_words.specs.Words.{words_code};
 
     ghost Value = { Standing };
 
-    ghost coded = { Prim.hlevel (codes, memory_code, term_code) };
+    ghost coded = { Prim.hlevel (codes, memory_code, term_code, words_code) };
 
-    ghost use Rattle.dbg_replay.specs.Parts.{standing_of};
+    ghost use Rattle.dbg_replay.specs.Standing.{standing_of};
 
     ghost view = { λ s. standing_of s.parts s.prev s.shown };
 }

@@ -1,21 +1,25 @@
 // The model as a program: where a journal begins, and what each entry of it, or each instruction, takes.
-ghost use Rattle.std.specs.Prelude.{◌≡◌, ◌==◌, ℕ, Bool, IfOk, None, Option, Some};
+ghost use Rattle.std.specs.Prelude.{◌≡◌, ◌==◌, ◌≤◌, ◌<◌, ℕ, Bool, IfOk, None, Option, Some, if◌then◌else◌};
 ghost use Rattle.dbg_traits.specs.Settings.{AreSettings};
 ghost use Rattle.dbg_model.specs.declared.entry.Entry.TheVariants.{Ran};
 ghost use Rattle.dbg_model.specs.declared.shown.Shown.{Shown};
+ghost use Rattle.dbg_model.specs.declared.shown.Shown.TheVariants.{Nothing};
 ghost use Rattle.dbg_model.specs.State.{State};
 ghost use Rattle.dbg_model.specs.Breaks.{is_number};
 ghost use Rattle.dbg_model.specs.Journals.{Place, come, first_place, noted_one};
 ghost use Rattle.dbg_model.specs.Shown.{shown_of};
 ghost use Rattle.dbg_replay.specs.Standing.{IsOf, Takes, come_one};
+ghost use Rattle.replay_parts.specs.Further.{GoesNoFurther, LengthensBy};
 
-use crate::entries::{enter, is_number};
-use crate::halt::Halt;
-use crate::loading::first_parts;
+use crate::entries::enter;
 use crate::state::ModelState;
-use crate::stepping::step;
 use dbg_model::{Entry, Opening, Shown};
 use dbg_traits::NoMemory;
+use replay_parts::Halt;
+use replay_parts::further::go_on;
+use replay_parts::hart_entries::is_number;
+use replay_parts::loading::first_parts;
+use replay_parts::stepping::step;
 use std::alloc::Global;
 
 /// The state in which a session begins. Nothing was taken yet.
@@ -98,4 +102,28 @@ pub fn take_ran(
         Err(Halt::Unlawful) => Ok(false),
         Err(Halt::NoMemory) => Err(NoMemory),
     }
+}
+
+/// Takes at most `most` further instructions of the `Ran` that was taken last, which has to be of this hart, and answers how many they
+/// were. Each shows nothing. No memory is taken.
+///
+/// Fewer are taken where the hart comes to an instruction that asks the environment or traps, or to an enabled breakpoint; where
+/// there are watches or its plan asks for each instruction, none is. What isn't taken here may still come.
+pub fn take_more(opening: &Opening, state: &mut ModelState, hart: u32, most: u64) -> u64
+    requires { IsOf opening.now state.old }
+    ensures most { result ≤ most }
+    ensures lengthens { LengthensBy result opening.now hart state.old.place state.new.place }
+    ensures shown { state.new.shown ≡ (if result == 0 then state.old.shown else Some Nothing) }
+    ensures far { result < most → GoesNoFurther opening.now hart state.new.place }
+    ensures of { IsOf opening.now state.new }
+{
+    if !is_number(state.prev, hart) {
+        return 0;
+    }
+    let count = go_on(opening, &mut state.parts, hart, most);
+    if count == 0 {
+        return 0;
+    }
+    note(state, Some(hart), Shown::Nothing);
+    count
 }

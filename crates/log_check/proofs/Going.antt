@@ -13,7 +13,8 @@ use Rattle.dbg_model.specs.Lawful.{enter, one, ran}
 use Rattle.dbg_model.specs.Journals.{Place, come, follows, noted_one, replay, replay_from, first_place}
 use Rattle.dbg_model.specs.Shown.{shown_of}
 use Rattle.dbg_model.proofs.Options.{guard_some, map_some, same_some}
-use Rattle.dbg_replay.specs.Standing.{Standing, Takes, lengthen}
+use Rattle.replay_parts.specs.Further.{lengthen}
+use Rattle.dbg_replay.specs.Standing.{Standing, Takes}
 use Rattle.log_check.specs.declared.hearing.Hearing.{Hearing}
 use Rattle.log_check.specs.declared.verdict.CheckVerdict.{CheckVerdict}
 use Rattle.log_check.specs.declared.verdict.CheckVerdict.TheVariants.{Accepted, Unlawful, Differs}
@@ -52,7 +53,7 @@ pub record HasRun (o : Opening) (p q : Place) (h n : ℕ) : Type 0 where
   pub prev : q.prev ≡ Some h
   pub ran : ran o h p.state n ≡ Some q.state
 
-same_follow : (prev : Option ℕ) (h m n : ℕ) → follows prev (Ran h m) ≡ follows prev (Ran h n)
+pub same_follow : (prev : Option ℕ) (h m n : ℕ) → follows prev (Ran h m) ≡ follows prev (Ran h n)
 same_follow None h m n = refl
 same_follow (Some k) h m n = refl
 
@@ -66,7 +67,7 @@ first_run o p q h c =
     let m = map_some (λ (s : State). let q : Place = record { prev = Some h; state = s } in q) (one o h p.state) q g.1 in
     record { follow = g.0; prev = sym (ap (λ (r : Place). r.prev) m.2); ran = m.1 ∙ ap Some (ap (λ (r : Place). r.state) m.2) }
 
-ran_more : (o : Opening) (h : ℕ) (s : State) (n : ℕ) → ran o h s (n + 1) ≡ option_and_then (one o h) (ran o h s n)
+pub ran_more : (o : Opening) (h : ℕ) (s : State) (n : ℕ) → ran o h s (n + 1) ≡ option_and_then (one o h) (ran o h s n)
 ran_more o h s n = let is : n + 1 ≡ suc n = omega arith in ap (ran o h s) is
 
 goes_by : (o : Opening) (q : Place) (h : ℕ) → q.prev ≡ Some h → lengthen o q h ≡ option_map (λ (s : State). let r : Place = record { prev = Some h; state = s } in r) (one o h q.state)

@@ -4,3 +4,5 @@ pub mod Comparing
 pub mod Going
 -- A journal and a text have one verdict.
 pub mod One
+-- Further instructions that are taken at once.
+pub mod Further

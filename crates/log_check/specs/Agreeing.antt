@@ -1,12 +1,14 @@
 -- How far a text agrees with what was said so far.
-use Rattle.std.specs.Prelude.{◌≡◌, ◌≢◌, ◌≤◌, ◌<◌, ℕ, Bool, true, false, List, ◌∷◌, ◌++◌, length, slice_index, Option, Some, None, Result, Ok, Err}
+use Rattle.std.specs.Prelude.{◌≡◌, ◌≢◌, ◌≤◌, ◌<◌, ℕ, zero, suc, Bool, true, false, List, [], ◌∷◌, ◌++◌, length, slice_index, Option, Some, None, Result, Ok, Err}
 use Rattle.dbg_traits.specs.declared.text.NoMemory.{NoMemory}
 use Rattle.dbg_model.specs.declared.entry.Entry.{Entry}
 use Rattle.dbg_model.specs.declared.opening.Opening.{Opening}
 use Rattle.dbg_model.specs.Journals.{Place}
+use Rattle.dbg_model.specs.Lawful.{ran}
+use Rattle.replay_parts.specs.Further.{lengthen}
 use Rattle.dbg_replay.specs.Standing.{Standing}
 use Rattle.log_check.specs.declared.hearing.Hearing.{Hearing}
-use Rattle.log_check.specs.Speech.{Voice, speech}
+use Rattle.log_check.specs.Speech.{Voice, ran_text, speech}
 use Rattle.log_check.specs.Verdict.{BeginApart, IsFirstUnlawful, IsLawful}
 
 -- two texts are the same so far, and no longer
@@ -54,6 +56,17 @@ abbrev pub Heard : Result Bool NoMemory → Option Place → List ℕ → Standi
 Heard (Ok true) after piece new old_hearing new_hearing = (after ≡ Some new.place) × Hears piece old_hearing new_hearing
 Heard (Ok false) after piece new old_hearing new_hearing = after ≡ None
 Heard (Err f) after piece new old_hearing new_hearing = Unit {0}
+
+-- a piece, so many times
+abbrev pub repeated : List ℕ → ℕ → List ℕ
+repeated piece zero = []
+repeated piece (suc n) = repeated piece n ++ piece
+
+-- so many further instructions of the last `Ran` came, which lead from one place to another, and what they show was said; or none may come
+abbrev pub HeardMore : Voice → Result ℕ NoMemory → Opening → ℕ → Place → Place → Hearing → Hearing → Type 0
+HeardMore v (Ok zero) o h p q old new = lengthen o p h ≡ None
+HeardMore v (Ok (suc n)) o h p q old new = (q.prev ≡ Some h) × (ran o h p.state (suc n) ≡ Some q.state) × Hears (ran_text v o h p.state (suc n)) old new
+HeardMore v (Err f) o h p q old new = Unit {0}
 
 -- all of a journal came, and was said; or the entry of that number is the first that may not come
 abbrev pub Through : Voice → Opening → List Entry → Option ℕ → Hearing → Hearing → Type 0

@@ -1,15 +1,16 @@
 //! A journal and a text, gone through.
 
-ghost use Rattle.std.specs.Prelude.{◌≡◌, IfOk, List, OnOk};
+ghost use Rattle.std.specs.Prelude.{◌≡◌, ◌<◌, ◌≤◌, IfOk, List, OnOk};
 ghost use Rattle.dbg_traits.specs.Settings.{AreSettings};
 ghost use Rattle.dbg_model.specs.declared.entry.Entry.{Entry};
 ghost use Rattle.dbg_model.specs.declared.entry.Entry.TheVariants.{Ran};
 ghost use Rattle.dbg_model.specs.declared.opening.Opening.{Opening};
+ghost use Rattle.dbg_model.specs.declared.shown.Shown.TheVariants.{Nothing};
 ghost use Rattle.dbg_model.specs.Journals.{come, first_place, noted_one};
 ghost use Rattle.dbg_model.specs.Shown.{shown_of};
 ghost use Rattle.dbg_replay.specs.Standing.{IsOf, come_one};
 ghost use Rattle.log_check.specs.Speech.{CanShow, Voice, entry_text};
-ghost use Rattle.log_check.specs.Agreeing.{Agrees, Heard, Hears, IsWithin, Through};
+ghost use Rattle.log_check.specs.Agreeing.{Agrees, Heard, HeardMore, Hears, IsWithin, Through, repeated};
 ghost use Rattle.log_check.specs.Verdict.{Checked};
 ghost use Rattle.log_check.specs.declared.hearing.Hearing.{Hearing};
 
@@ -17,7 +18,7 @@ use crate::hearing::Hearing;
 use crate::speaker::Speaker;
 use crate::verdict::CheckVerdict;
 use dbg_model::{Entry, Opening, Shown};
-use dbg_replay::{ModelState, start, take_entry, take_ran};
+use dbg_replay::{ModelState, start, take_entry, take_more, take_ran};
 use dbg_traits::NoMemory;
 use std::alloc::Global;
 
@@ -61,6 +62,50 @@ fn instruction<S: Speaker>(
     Ok(true)
 }
 
+// So many instructions that show nothing are said.
+fn say_often<S: Speaker>(
+    speaker: &mut S,
+    hart: u32,
+    count: u64,
+    hearing: &mut Hearing<'_>,
+) -> Result<(), NoMemory>
+    requires shows { CanShow (Ran hart 1) Nothing }
+    requires within { IsWithin hearing.old }
+    ensures { OnOk result (Hears (repeated (S.voice.entry (Ran hart 1) Nothing) count) hearing.old hearing.new) }
+{
+    let entry = Entry::Ran { hart, count: 1 };
+    hearing.piece.clear();
+    speaker.say(&entry, &Shown::Nothing, &mut hearing.piece)?;
+    hearing.hear_often(count);
+    Ok(())
+}
+
+// At least one further instruction of the `Ran` that was taken last, and at most `most`; none where none may come.
+fn further<S: Speaker>(
+    alloc: Global,
+    opening: &Opening,
+    state: &mut ModelState,
+    hart: u32,
+    most: u64,
+    speaker: &mut S,
+    hearing: &mut Hearing<'_>,
+) -> Result<u64, NoMemory>
+    requires most { 0 < most }
+    requires of { IsOf opening.now state.old }
+    requires within { IsWithin hearing.old }
+    ensures most { IfOk result (λ n. n ≤ most) }
+    ensures of { IsOf opening.now state.new }
+    ensures heard { HeardMore S.voice result opening.now hart state.old.place state.new.place hearing.old hearing.new }
+{
+    let count = take_more(opening, state, hart, most);
+    if count == 0 {
+        let came = instruction(alloc, opening, state, hart, true, speaker, hearing)?;
+        return Ok(u64::from(came));
+    }
+    say_often(speaker, hart, count, hearing)?;
+    Ok(count)
+}
+
 // So many instructions of a hart.
 fn run<S: Speaker>(
     alloc: Global,
@@ -82,10 +127,13 @@ fn run<S: Speaker>(
     if !instruction(alloc, opening, state, hart, false, speaker, hearing)? {
         return Ok(false);
     }
-    for done in 1..count {
-        if !instruction(alloc, opening, state, hart, true, speaker, hearing)? {
+    let mut done = 1;
+    while done < count {
+        let taken = further(alloc, opening, state, hart, count - done, speaker, hearing)?;
+        if taken == 0 {
             return Ok(false);
         }
+        done += taken;
     }
     Ok(true)
 }

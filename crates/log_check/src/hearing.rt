@@ -1,7 +1,7 @@
 //! A text, compared with what is said while it is said.
 
 ghost use Rattle.std.specs.Prelude.{◌≡◌, ℕ, List, [], true};
-ghost use Rattle.log_check.specs.Agreeing.{Agrees, Hears, IsCommon, IsWithin};
+ghost use Rattle.log_check.specs.Agreeing.{Agrees, Hears, IsCommon, IsWithin, repeated};
 ghost use Rattle.log_check.specs.Verdict.{Told};
 
 use crate::verdict::CheckVerdict;
@@ -50,7 +50,8 @@ impl<'a> Hearing<'a> {
     /// The piece was said behind what was said before.
     pub fn hear(&mut self)
         requires { IsWithin self.old }
-        ensures { Hears self.old.piece.items self.old self.new }
+        ensures hears { Hears self.old.piece.items self.old self.new }
+        ensures piece { self.new.piece ≡ self.old.piece }
     {
         if !self.same {
             return;
@@ -58,6 +59,19 @@ impl<'a> Hearing<'a> {
         let common = common_length(&self.text[self.at..], self.piece.as_slice());
         self.at += common;
         self.same = common == self.piece.len();
+    }
+
+    /// The piece was said so many times.
+    pub fn hear_often(&mut self, count: u64)
+        requires { IsWithin self.old }
+        ensures { Hears (repeated self.old.piece.items count) self.old self.new }
+    {
+        if self.piece.is_empty() {
+            return;
+        }
+        for said in 0..count {
+            self.hear();
+        }
     }
 
     /// Nothing more is said.

@@ -125,7 +125,8 @@ each : (o : Option (List ℕ)) (P Q : List ℕ → Type 0) → ((x : List ℕ) �
 each None P Q f h = tt
 each (Some x) P Q f h = f x h
 
-recorded : (source : Source) (has_log : Bool) (s : Status) (t : Told) (c : Closed) (h : Headline s t c) → served_words t.words ≡ Some (record { source = source; settings = c.opening.settings; has_log = has_log }) → Prints source has_log s t c h.state
+recorded : (source : Source) (has_log : Bool) (s : Status) (t : Told) (c : Closed) (h : Headline s t c)
+    → served_words t.words ≡ Some (record { source = source; settings = c.opening.settings; has_log = has_log }) → Prints source has_log s t c h.state
     → has_log ≡ true → is_logged s ≡ true → IfSome t.written (λ written. length written ≤ most_input → Finds c.opening.image written (Accepted (length c.journal)))
 recorded (File name) true s t c h asked prints has logged =
     each t.written (λ written. Tells true s written c) (λ written. length written ≤ most_input → Finds c.opening.image written (Accepted (length c.journal)))

@@ -19,6 +19,7 @@ pub is_record : (p : Program) (s : Settings) (j : List Entry) (input : List ℕ)
 is_record p s j input lawful lines text = record { settings = s; journal = j; lawful = lawful; plain = plain_said (opened p s) j lines; text = text; count_is = refl }
 
 -- the same, with what was said as the text of its lines
-pub written_record : (p : Program) (s : Settings) (j : List Entry) (input : List ℕ) → IsLawful (opened p s) j → AreLines (said_lines (opened p s) j) → Transcript (lines_bytes (said_lines (opened p s) j)) s j input → IsRecord p input (length j)
+pub written_record : (p : Program) (s : Settings) (j : List Entry) (input : List ℕ) → IsLawful (opened p s) j → AreLines (said_lines (opened p s) j)
+    → Transcript (lines_bytes (said_lines (opened p s) j)) s j input → IsRecord p input (length j)
 unfolding said
 written_record p s j input lawful lines text = is_record p s j input lawful lines text

@@ -1,7 +1,8 @@
 use Rattle.std.proofs.Common.{◌≡◌, true, rules, sym, ◌∙◌, arith}
 use Rattle.dbg_model.specs.Lawful.{may_do}
-use Rattle.dbg_replay.specs.Parts.{state_of}
-use Rattle.dbg_replay.proofs.Answering.{can_be_made, can_be_watched, changes_so, history_low, line_comes, numbers_low}
+use Rattle.replay_parts.specs.Parts.{state_of}
+use Rattle.replay_parts.proofs.Changing.{can_be_made, can_be_watched, history_low, numbers_low}
+use Rattle.dbg_replay.proofs.Answering.{changes_so, line_comes}
 use Rattle.dbg_replay.proofs.lines.do_seen.Goals as goal
 
 pub answer_to-requires-clause-given : goal.answer_to-requires-clause-given
@@ -45,4 +46,4 @@ returns c =
     let is : c.may_do.result ≡ true = search rules in
     let may : may_do o (state_of old) line ≡ true = sym (c.may_do.ensures line c.in_ok-read.ensures.commands) ∙ is in
     let answers = c.in_ok-token.ensures line c.in_ok-read.ensures.commands in
-    line_comes o old c.make.new.parts line c.in_ok-token.field-0 (may_do o (state_of old) line) c.requires.kept may may answers c.make.ensures.state c.make.ensures.table c.make.ensures.sources
+    line_comes o old c.make.new.parts line c.in_ok-token.field-0 (may_do o (state_of old) line) c.requires.kept may may answers c.make.ensures.state c.make.ensures.table c.make.ensures.sources c.make.ensures.words

@@ -4,10 +4,10 @@ use Rattle.dbg_model.specs.declared.entry.Entry.TheVariants.{Ran}
 use Rattle.dbg_model.specs.Breaks.{is_number}
 use Rattle.dbg_model.specs.Lawful.{one, one_out}
 use Rattle.dbg_model.specs.Shown.{shown_of, written}
-use Rattle.dbg_replay.specs.declared.halt.Halt.{Halt}
-use Rattle.dbg_replay.specs.Parts.{state_of}
+use Rattle.replay_parts.specs.declared.halt.Halt.{Halt}
+use Rattle.replay_parts.specs.Parts.{state_of}
 use Rattle.dbg_replay.specs.Standing.{Standing, Takes, come_one}
-use Rattle.dbg_replay.specs.Going.{Enters}
+use Rattle.replay_parts.specs.Going.{Enters}
 use Rattle.dbg_replay.proofs.Coming.{ran_refused, ran_taken}
 use Rattle.dbg_replay.proofs.taking.take_ran.Goals as goal
 

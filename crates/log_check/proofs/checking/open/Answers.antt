@@ -11,4 +11,4 @@ returns-clause-agrees g c =
     let piece = c.opening.new.into.items in
     let h : Hearing = record c.new-hearing.result { piece = c.opening.new.into } in
     let said : piece ≡ v.opening o = c.in_ok-opening.ensures ∙ ap (λ (l : List ℕ). l ++ v.opening o) first.piece in
-    opened v o piece h c.hear.new.self first.at first.same said c.hear.ensures
+    opened v o piece h c.hear.new.self first.at first.same said c.hear.ensures.hears

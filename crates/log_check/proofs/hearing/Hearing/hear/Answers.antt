@@ -4,8 +4,8 @@ use Rattle.log_check.specs.Agreeing.{IsCommon}
 use Rattle.log_check.proofs.Comparing.{hears_on}
 use Rattle.log_check.proofs.hearing.Hearing.hear.Goals as goal
 
-pub returns : goal.returns
-returns c =
+pub returns-clause-hears : goal.returns-clause-hears
+returns-clause-hears c =
     let old = c.args.self.now in
     let text = old.text.now in
     let n = c.common_length-common.result in

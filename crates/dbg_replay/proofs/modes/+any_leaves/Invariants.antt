@@ -1,5 +1,0 @@
-use Rattle.std.proofs.Common.{length}
-use Rattle.dbg_replay.proofs.modes.+any_leaves.Given as goal
-
-abbrev pub decreases-any_leaves : goal.decreases-any_leaves
-decreases-any_leaves l = length l.harts.now

@@ -1,5 +1,0 @@
-use Rattle.std.proofs.Common.{length}
-use Rattle.dbg_replay.proofs.modes.+any_runs.Given as goal
-
-abbrev pub decreases-any_runs : goal.decreases-any_runs
-decreases-any_runs l = length l.harts.now

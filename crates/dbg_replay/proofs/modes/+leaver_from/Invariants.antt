@@ -1,5 +1,0 @@
-use Rattle.std.proofs.Common.{length}
-use Rattle.dbg_replay.proofs.modes.+leaver_from.Given as goal
-
-abbrev pub decreases-leaver_from : goal.decreases-leaver_from
-decreases-leaver_from l = length l.harts.now

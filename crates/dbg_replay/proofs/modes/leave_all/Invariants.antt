@@ -1,6 +1,0 @@
-use Rattle.std.proofs.Common.{◌≡◌, ◌++◌, map, take, drop}
-use Rattle.dbg_model.specs.Lawful.{leaving}
-use Rattle.dbg_replay.proofs.modes.leave_all.Given as goal
-
-abbrev pub invariant-loop-k : goal.invariant-loop-k
-invariant-loop-k l = l.harts ≡ map (leaving l.code) (take l.k l.fn.harts) ++ drop l.k l.fn.harts
