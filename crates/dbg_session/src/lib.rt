@@ -1,14 +1,9 @@
-//! The session: it runs one program by lines of commands.
+//! The run of the debugger: a session of one program by lines of commands, or the check of a log, as the words ask.
 #![tactic(auto)]
 
-mod ending;
-mod lines;
 mod run;
-mod session;
-mod steps;
 
 pub use dbg_engine::Closed;
-pub use lines::{command, must_wait};
 pub use run::debug_run;
-pub use session::Session;
+pub use session_loop::{Session, command, must_wait};
 pub use session_parts::{Ended, Status};

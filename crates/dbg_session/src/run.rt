@@ -1,19 +1,19 @@
 // The top call, `debug_run`: the debugger over a world, which is handed back.
-ghost use Rattle.std.specs.Prelude.{◌≡◌, None, MatchResult};
+ghost use Rattle.std.specs.Prelude.{◌≡◌, ◌≢◌, None, MatchResult};
 ghost use Rattle.dbg_traits.specs.Told.{IsFresh};
 ghost use Rattle.elf_checks.specs.declared.fault.ElfFault.{ElfFault};
 ghost use Rattle.session_parts.specs.Early.{Early};
 ghost use Rattle.session_parts.specs.Words.{AreRefused, checked_words};
-ghost use Rattle.session_parts.specs.Headline.{Good, IsFine, IsWords, IsFile, Refused};
+ghost use Rattle.session_parts.specs.Headline.{Ends, Good, IsFine, IsWords, IsFile, Refused};
 ghost use Rattle.session_check.specs.RunEnds.{GoodCheck, IsJudged, IsRecorded, RunEnds};
 
-use crate::Session;
 use dbg_engine::Engine;
 use dbg_model::Opening;
 use dbg_traits::{Gate, World};
 use hart_workers::run_crew;
 use mi_reports::report_opening;
 use session_check::check_if_asked;
+use session_loop::Session;
 use session_parts::{Ended, Loaded, Outside, Status, Unloaded, finish, load};
 use std::alloc::Global;
 use std::sync::{Mutex, Wait};
@@ -69,6 +69,30 @@ fn serve<R: Threads + Wait + Sync, W: World + Send, G: Gate + Sync>(
     crew.into_inner()
 }
 
+// What is left of a session that is over. What is moved about here takes no stack while it goes on.
+#[inline(never)]
+fn end<W: World>(alloc: Global, session: Session<Outside<W>>) -> Ended<W>
+    requires { session.status ≢ None }
+    ensures { Ends result.status (W.told result.world) result.closed }
+{
+    finish(alloc, session.close())
+}
+
+// A session goes on until it is over, and hands its world back. What is moved about here takes no stack while one begins.
+#[inline(never)]
+fn run_session<R: Threads + Wait + Sync, W: World + Send, G: Gate + Sync>(
+    rt: &R,
+    alloc: Global,
+    session: Session<Outside<W>>,
+    gate: &G,
+) -> Ended<W>
+    ensures { Ends result.status (W.told result.world) result.closed }
+{
+    let mut session = serve(rt, session, gate);
+    session.run_serial();
+    end(alloc, session)
+}
+
 /// Runs the debugger over a world, and hands the world back: a session, or the check of a log, as the words ask.
 pub fn debug_run<R: Threads + Wait + Sync, W: World + Send, G: Gate + Sync>(
     rt: &R,
@@ -97,11 +121,7 @@ pub fn debug_run<R: Threads + Wait + Sync, W: World + Send, G: Gate + Sync>(
         Err(ended) => return ended,
     };
     match begin(alloc, world) {
-        Ok(session) => {
-            let mut session = serve(rt, session, gate);
-            session.run_serial();
-            finish(alloc, session.close())
-        }
+        Ok(session) => run_session(rt, alloc, session, gate),
         Err(Unloaded { status, world }) => Ended {
             status,
             world,

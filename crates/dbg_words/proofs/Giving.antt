@@ -60,7 +60,8 @@ flag_away : (us : List Use) → is_given log us ≡ false → one_of log (rows u
 flag_away [] e = refl
 flag_away (u ∷ us) e = go (bytes_eq u.0 log) e (flag_away us)
   where
-    go : (b : Bool) → (b || is_given log us) ≡ false → (is_given log us ≡ false → one_of log (rows us ++ clear ∷ []) ≡ Some (codes "false")) → flag_text (cond b (Some (row u)) (find (λ (r : Row). bytes_eq r.id log) (rows us ++ clear ∷ []))) ≡ Some (codes "false")
+    go : (b : Bool) → (b || is_given log us) ≡ false → (is_given log us ≡ false → one_of log (rows us ++ clear ∷ []) ≡ Some (codes "false"))
+        → flag_text (cond b (Some (row u)) (find (λ (r : Row). bytes_eq r.id log) (rows us ++ clear ∷ []))) ≡ Some (codes "false")
     go true k rest = absurd (true≢false k)
     go false k rest = rest k
 

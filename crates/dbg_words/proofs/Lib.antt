@@ -4,6 +4,7 @@ pub mod Rules
 pub mod Kinding
 pub mod Walking
 pub mod Simulating
+pub mod Induction
 pub mod Whole
 pub mod Numbers
 pub mod Known

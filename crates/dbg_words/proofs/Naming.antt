@@ -152,7 +152,8 @@ check-part names w ws name value is same =
     let P : Text → Type 0 = λ t. Contains (w ∷ ws) t in
     (codes "--check=", subst P whole (contains_here w ws))
 
-word-known : (names : List Text) → Apart names → (x : Word) (w : Text) (ws : List Text) (next : Option (List Use)) (wait : Text → Option (List Use)) → Fits names w x → AllKnown ws next → ((name : Text) → is_name names name ≡ true → AllKnown ws (wait name))
+word-known : (names : List Text) → Apart names → (x : Word) (w : Text) (ws : List Text) (next : Option (List Use)) (wait : Text → Option (List Use))
+    → Fits names w x → AllKnown ws next → ((name : Text) → is_name names name ≡ true → AllKnown ws (wait name))
     → AllKnown (w ∷ ws) (with_word x w ws next wait)
 word-known names apart ends w ws next wait f k waits = each_there w ws (map (λ f. (file, f)) ws) (files-known ws)
 word-known names apart (takes name) w ws next wait f k waits = all_there w ws (wait name) (waits name f)

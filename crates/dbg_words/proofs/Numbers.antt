@@ -30,7 +30,11 @@ pub number_holds : (t : Text) → IsNumeral 10 (without_leading_plus t) → is_n
 number_holds t h = both_true _ _ (let x = h.0 in grind (arith, nat_tests)) (digits_pass _ h.1)
 
 pub number_is : (t : Text) → is_number t ≡ true → IsNumeral 10 (without_leading_plus t)
-number_is t h = (let x = first_true (nat_lt 0 (length (without_leading_plus t))) (list_all is_digit (without_leading_plus t)) h in grind (arith, nat_tests), digits_are _ (second_true (nat_lt 0 (length (without_leading_plus t))) (list_all is_digit (without_leading_plus t)) h))
+number_is t h = (
+  let x = first_true (nat_lt 0 (length (without_leading_plus t))) (list_all is_digit (without_leading_plus t)) h in grind
+      (arith, nat_tests),
+  digits_are _ (second_true (nat_lt 0 (length (without_leading_plus t))) (list_all is_digit (without_leading_plus t)) h),
+)
 
 chosen : (t : Text) (n low high : ℕ) → IsNumeral 10 (without_leading_plus t) → n ≡ value_of t → number_in low high t ≡ (if nat_le low n && nat_le n high then Some n else None)
 chosen t n low high h is =

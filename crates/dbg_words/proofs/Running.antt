@@ -63,7 +63,8 @@ files-joined us (w ∷ ws) =
 joined-add : (us : List Use) (u : Use) (next : List Use → Option (List Use)) (o : Option (List Use)) → ((now : List Use) → next now ≡ joined now o) → add us u next ≡ joined us (after u o)
 joined-add us u next o same = add-same us u next (λ now. joined now o) same ∙ sym (joined-after us u o)
 
-joined-word : (x : Word) (w : Text) (us : List Use) (ws : List Text) (next : List Use → Option (List Use)) (o : Option (List Use)) (wait wait_o : Text → Option (List Use)) → ((now : List Use) → next now ≡ joined now o) → ((name : Text) → wait name ≡ joined us (wait_o name))
+joined-word : (x : Word) (w : Text) (us : List Use) (ws : List Text) (next : List Use → Option (List Use)) (o : Option (List Use))
+    (wait wait_o : Text → Option (List Use)) → ((now : List Use) → next now ≡ joined now o) → ((name : Text) → wait name ≡ joined us (wait_o name))
     → run_word x w us (run_files us ws) next wait ≡ joined us (with_word x w ws o wait_o)
 joined-word ends w us ws next o wait wait_o same waits = files-joined us ws
 joined-word (takes name) w us ws next o wait wait_o same waits = waits name

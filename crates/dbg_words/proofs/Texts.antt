@@ -6,7 +6,8 @@ use Rattle.std.proofs.lemmas.Bool.Decides.{nat_tests}
 use Rattle.std.specs.Str.{IsUtf8}
 use Rattle.dbg_words.specs.Uses.{Text}
 
-pub one_more : (words : List Text) (i : ℕ) (x : Text) → ((k : ℕ) (d : Text) → k < i → IsUtf8 (slice_index_or words k d)) → x ≡ slice_index_or words i x → i < length words → IsUtf8 x → (k : ℕ) (d : Text) → k < i + 1 → IsUtf8 (slice_index_or words k d)
+pub one_more : (words : List Text) (i : ℕ) (x : Text) → ((k : ℕ) (d : Text) → k < i → IsUtf8 (slice_index_or words k d))
+    → x ≡ slice_index_or words i x → i < length words → IsUtf8 x → (k : ℕ) (d : Text) → k < i + 1 → IsUtf8 (slice_index_or words k d)
 one_more words i x before is in_list here k d l = go (nat_lt k i) refl
   where
     go : (b : Bool) → nat_lt k i ≡ b → IsUtf8 (slice_index_or words k d)

@@ -4,7 +4,8 @@ use Rattle.std.specs.Prelude.{if◌then◌else◌, fold, slice_get, nat_lt, drop
 use Rattle.std.specs.Option.{option_map_or}
 use Rattle.std.specs.Str.{bytes_eq, chars}
 use Rattle.clap.specs.Lexer.{long_of, short_of}
-use Rattle.clap.specs.Walk.{Held, Row, Rule, Step, Waiting, Walk, after_flag, after_step, arg_by_long, idle, is_pending, long_met, long_or_other, next, option, option_word, plain_word, pushed, reacted, settled, short_or_plain, to_positional, trailing, value, walked}
+use Rattle.clap.specs.Walk.{Held, Row, Rule, Step, Waiting, Walk, after_flag, after_step, arg_by_long, idle, is_pending, long_met, long_or_other}
+use Rattle.clap.specs.Walk.{next, option, option_word, plain_word, pushed, reacted, settled, short_or_plain, to_positional, trailing, value, walked}
 use Rattle.clap.specs.Faults.{bundle_fault, bundle_step_fault, flag_word_fault, flags_fault, long_fault, positional_fault, short_fault, settle_fault, step_fault, stray_fault, turn_fault, use_fault, walk_fault}
 use Rattle.clap.specs.Kinds.{Kinds, or_else}
 use Rattle.clap.specs.declared.error.kind.ErrorKind.{ErrorKind}
@@ -87,7 +88,8 @@ turn-at names h _ position x r_idle = refl
 turn-at names h _ position x (r_option id) = refl
 
 walked-at : (names : List Text) (h : Held) (waiting : Waiting) (position : ℕ) (x : Text) → Reads waiting
-    → walked (rules names) [] (at h waiting position false) x ≡ after_step (rules names) x (at h waiting position false) (met_at names h waiting position x (bytes_eq x hyphens) (long_of x)).0 (met_at names h waiting position x (bytes_eq x hyphens) (long_of x)).1
+    → walked (rules names) [] (at h waiting position false) x ≡ after_step (rules names) x (at h waiting position false)
+    (met_at names h waiting position x (bytes_eq x hyphens) (long_of x)).0 (met_at names h waiting position x (bytes_eq x hyphens) (long_of x)).1
 unfolding walked
 walked-at names h _ position x r_idle = refl
 walked-at names h _ position x (r_option id) = refl
@@ -127,7 +129,8 @@ option_is names name known = by_long names name ∙ ap (λ t. long_rule name t (
 flag_is : (names : List Text) (name : Text) (b : Bool) → is_name names name ≡ false → bytes_eq log name ≡ b → arg_by_long (rules names) name ≡ (if b then Some flag_one else None)
 flag_is names name b missing e = by_long names name ∙ ap (λ t. long_rule name t (bytes_eq log name)) missing ∙ ap (λ t. long_rule name false t) e
 
-pub unknown_turn : (names : List Text) (h : Held) (waiting : Waiting) (position : ℕ) (x name : Text) (v : Option Text) → Reads waiting → bytes_eq x hyphens ≡ false → long_of x ≡ Some (name, v) → is_name names name ≡ false → bytes_eq log name ≡ false
+pub unknown_turn : (names : List Text) (h : Held) (waiting : Waiting) (position : ℕ) (x name : Text) (v : Option Text) → Reads waiting
+    → bytes_eq x hyphens ≡ false → long_of x ≡ Some (name, v) → is_name names name ≡ false → bytes_eq log name ≡ false
     → Refused (turn_fault (shape names) [] (at h waiting position false) x)
 unknown_turn names h waiting position x name v r e l missing other =
     refused_at _ _ (long_turn names h waiting position x name v None r e l (flag_is names name false missing other)).0 (cons_refused kind.UnknownArgument [])

@@ -19,7 +19,8 @@ use Rattle.dbg_words.specs.Uses.{Text, Use, file, log, is_given, is_name, option
 use Rattle.dbg_words.proofs.Rules.{at_row-absent, flag_one, has_row-rows, opt, rows, rules, shape}
 use Rattle.dbg_words.proofs.Running.{run-uses}
 use Rattle.dbg_words.proofs.Walking.{AllSpelled, Matches, Spelled, at, faults, found}
-use Rattle.dbg_words.proofs.Simulating.{Holds, sim}
+use Rattle.dbg_words.proofs.Simulating.{Holds}
+use Rattle.dbg_words.proofs.Induction.{sim}
 
 abbrev leaf : List Text → App
 leaf names = record { top = shape names; subs = [] }

@@ -1,3 +1,4 @@
+-- The definitions of the command line.
 pub mod Command
 pub mod Uses
 pub mod Number

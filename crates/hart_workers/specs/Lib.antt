@@ -1,1 +1,2 @@
+-- The definition of what a worker does next.
 pub mod Next

@@ -1,3 +1,4 @@
+// What hands out jobs to workers.
 ghost use Rattle.std.specs.Prelude.{◌≡◌, Bool, true, ◌↔◌};
 
 /// What a worker is to do next.

@@ -4,9 +4,6 @@ ghost use Rattle.hart_workers.specs.Next.{next_of};
 
 use crate::{Crew, Duty};
 
-// How many duties a worker asks for under one lock.
-const DUTIES: u32 = 32;
-
 /// What a worker does next.
 #[derive(Drop)]
 pub enum Next<J> {
@@ -20,8 +17,9 @@ pub enum Next<J> {
     End,
 }
 
-/// What a worker does after a duty, where its crew is idle or isn't.
-pub fn next_of<J>(duty: Duty<J>, idle: bool) -> Next<J>
+// What a worker does after a duty, where its crew is idle or isn't.
+#[inline(always)]
+fn next_of<J>(duty: Duty<J>, idle: bool) -> Next<J>
     ensures { result ≡ next_of duty idle }
 {
     match duty {
@@ -31,22 +29,12 @@ pub fn next_of<J>(duty: Duty<J>, idle: bool) -> Next<J>
     }
 }
 
-// What a worker does after its next duty. It ends exactly where the crew was over.
-fn next_of_duty<C: Crew>(crew: &mut C, worker: u32) -> Next<C::Job>
+/// What a worker does after its next duty. It ends exactly where the crew was over.
+#[inline(always)]
+pub fn next_of_duty<C: Crew>(crew: &mut C, worker: u32) -> Next<C::Job>
     ensures { (result ≡ Next.End) ↔ (C.is_over crew.old ≡ true) }
 {
     let duty = crew.duty(worker);
     let idle = matches!(duty, Duty::Again) && crew.is_idle();
     next_of(duty, idle)
-}
-
-/// Asks a crew for duties while it has something to do and gives no job, and what the worker does then.
-pub fn next_of_duties<C: Crew>(crew: &mut C, worker: u32) -> Next<C::Job> {
-    for _ in 1..DUTIES {
-        match next_of_duty(crew, worker) {
-            Next::Ask => {}
-            next => return next,
-        }
-    }
-    next_of_duty(crew, worker)
 }

@@ -1,15 +1,14 @@
+// Workers on threads of their own.
 ghost use Rattle.std.specs.Prelude.{◌≤◌};
 
 use crate::Crew;
-use crate::next::Next;
-use crate::worker::Worker;
+use crate::worker::{BRIEF, Worker};
 use dbg_traits::Gate;
 use std::sync::{Mutex, Wait};
 use std::thread;
 use std::thread::Threads;
 
-// One worker, until it gets Over. One that finds nothing to do lets others run, since they would have to wait for the lock that
-// it asks for again.
+// One worker, until it gets Over.
 fn serve<R: Wait, C: Crew, G: Gate>(rt: &R, crew: &Mutex<C>, number: u32, gate: &G) {
     let worker = Worker {
         rt,
@@ -17,27 +16,12 @@ fn serve<R: Wait, C: Crew, G: Gate>(rt: &R, crew: &Mutex<C>, number: u32, gate: 
         gate,
         number,
     };
-    let mut kept = None;
+    let mut held = worker.hold(BRIEF);
     for _ in rt.forever() {
-        let next = match kept {
-            Some(job) => worker.work(job),
-            None => worker.ask(),
+        held = match worker.serve_once(held) {
+            Some(held) => held,
+            None => return,
         };
-        kept = match next {
-            Next::Work(job) => Some(job),
-            Next::Ask => None,
-            Next::Rest => {
-                gate.idle(number);
-                thread::yield_now();
-                None
-            }
-            Next::End => return,
-        };
-    }
-    // No run comes here; a job that is kept is worked all the same.
-    if let Some(job) = kept {
-        let done = C::work(job);
-        crew.lock(rt).take(done);
     }
 }
 

@@ -182,7 +182,8 @@ none_within [] k h is = cc
 none_within (x ∷ xs) k h is = omega arith
 
 -- either way
-fewer_by : (next h : ℕ) (ms : List Bool) (xs : List Mind) (first : Option ℕ) → length ms ≡ length xs → AreBelow ms xs → running_from next (drop next xs) ≡ first → some_or first (running_from 0 xs) ≡ Some h → get_or ms h false ≡ false → any_of ms ≡ true
+fewer_by : (next h : ℕ) (ms : List Bool) (xs : List Mind) (first : Option ℕ) → length ms ≡ length xs → AreBelow ms xs
+    → running_from next (drop next xs) ≡ first → some_or first (running_from 0 xs) ≡ Some h → get_or ms h false ≡ false → any_of ms ≡ true
     → ahead ms (h + 1) < ahead ms next
 fewer_by next h ms xs (Some k) len below found is rests some =
     let there = found ∙ is in

@@ -26,7 +26,7 @@ use Rattle.dbg_model.specs.Outcome.{Change, pokes}
 use Rattle.dbg_model.specs.Pokes.{bytes_poked, is_pending, register_poked, same_poke, with_poke, with_register, written}
 use Rattle.dbg_model.specs.Reply.{answer_of, done_by, pending_after}
 use Rattle.dbg_model.specs.State.{State, due, is_stopped}
-use Rattle.dbg_model.specs.Watches.{is_fired}
+use Rattle.watch_points.specs.Watches.{is_fired}
 use Rattle.dbg_model.proofs.Options.{bind_some, guard_some, map_some, same_some, both_true}
 use Rattle.session_log.specs.Rows.{has_bytes}
 use Rattle.session_parts.proofs.Filling.{Fills, FillsChange, change_fills}

@@ -27,7 +27,8 @@ first_line true rest line next is = (lines (drop next rest) true, is)
 first_line false rest line next is = (lines (drop next rest ++ []) false, ap (λ bs. lines bs false) (sym (append-nil rest)) ∙ is [] false)
 
 -- the line that was done is the next of the rest
-pub does_line : (ended : Bool) (rest line : List ℕ) (next : ℕ) (r s : Engine) (answer : Reply) → IsNext ended rest line next → 0 < next → next ≤ length rest → false ≡ any_runs (seen r).harts && is_wait line → DoneSaid r s line answer → DoesLine ended rest next (stage_of r) (stage_of s)
+pub does_line : (ended : Bool) (rest line : List ℕ) (next : ℕ) (r s : Engine) (answer : Reply) → IsNext ended rest line next → 0 < next
+    → next ≤ length rest → false ≡ any_runs (seen r).harts && is_wait line → DoneSaid r s line answer → DoesLine ended rest next (stage_of r) (stage_of s)
 does_line ended rest line next r s answer is_next some within may d = record {
   line = line;
   is_next = is_next;

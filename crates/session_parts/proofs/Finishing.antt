@@ -29,7 +29,7 @@ use Rattle.session_parts.specs.declared.file.Source.TheVariants.{Generated}
 use Rattle.session_parts.specs.declared.status.Status.{Status}
 use Rattle.session_parts.specs.declared.status.Status.TheVariants as status
 use Rattle.session_parts.proofs.Heading.{heading, named, numbers, with_put}
-use Rattle.session_parts.proofs.Timing.{told_none}
+use Rattle.session_parts.proofs.Telling.{told_none}
 use Rattle.session_parts.proofs.Tying.{gives_end}
 use Rattle.session_parts.specs.Ties as ties
 
@@ -43,7 +43,8 @@ script_short : (n : ℕ) → n ≤ 1000000 → length (script_text n) < 1000
 script_short n most =
     let digits : length (decimal (2 * n)) ≤ 7 = length-decimal-le 7 (2 * n) (omega arith) (omega (arith, most)) (omega (arith, most)) in
     let is = long
-    (lines_of (codes "-break-insert count.c:12" ∷ codes "-exec-continue --thread 1" ∷ codes "-exec-wait" ∷ codes "-exec-next --thread 1" ∷ codes "-exec-wait" ∷ codes "-break-delete 1" ∷ codes "-exec-finish --thread 1" ∷ codes "-exec-wait" ∷ []))
+    (lines_of (codes "-break-insert count.c:12" ∷ codes "-exec-continue --thread 1" ∷ codes "-exec-wait" ∷ codes "-exec-next --thread 1" ∷ codes
+    "-exec-wait" ∷ codes "-break-delete 1" ∷ codes "-exec-finish --thread 1" ∷ codes "-exec-wait" ∷ []))
     (codes "-break-insert -c \"{int} &count == ")
     (decimal (2 * n))
     (lines_of (codes "\" count.c:13" ∷ codes "-exec-continue --all" ∷ codes "-exec-wait" ∷ codes "-thread-info" ∷ codes "-exec-continue --all" ∷ codes "-exec-wait" ∷ [])) in
@@ -78,7 +79,8 @@ done_by t p r i c w e h held d =
       still = d.still;
     }
 
-pub whys : (s : Status) (t : Told) (p : Play) (r : Stage) (i : Taken) (c : Closed) (w : Option (List ℕ)) → sums_up s ≡ true → IsUnread t → IsLeft r c → IsPlayed t p → IsTied (Some s) (told_by (Some p) t) r i → Why (Generated p.number) s (with_put t w 0) c r.state
+pub whys : (s : Status) (t : Told) (p : Play) (r : Stage) (i : Taken) (c : Closed) (w : Option (List ℕ)) → sums_up s ≡ true → IsUnread t → IsLeft r c
+    → IsPlayed t p → IsTied (Some s) (told_by (Some p) t) r i → Why (Generated p.number) s (with_put t w 0) c r.state
 whys status.Done t p r i c w so un e h tied =
     let d = tied.cause in (
       record { file = un.faults; poll = h.unused.unpolled.faults; put = refl },
@@ -170,7 +172,8 @@ written_records (status.File g) t p r i so tied = let f : false ≡ true = so in
 written_records status.Rejected t p r i so tied = let f : false ≡ true = so in absurd cc
 
 -- so a text that counts what the records show is the summary
-pub text_is : (s : Status) (t : Told) (p : Play) (c : Closed) (o : IsPlayedOut s p t c) (text : List ℕ) → sums_up s ≡ true → ((trees : List LineTree) → AreRecords p.output trees → text ≡ summary p.number c.journal (streamed trees) s) → text ≡ summary p.number c.journal o.run.state.out s
+pub text_is : (s : Status) (t : Told) (p : Play) (c : Closed) (o : IsPlayedOut s p t c) (text : List ℕ) → sums_up s ≡ true
+    → ((trees : List LineTree) → AreRecords p.output trees → text ≡ summary p.number c.journal (streamed trees) s) → text ≡ summary p.number c.journal o.run.state.out s
 text_is s t p c o text so counts =
     let trees = said_lines o.run.opening o.run.journal in
     let are = written_records s t p o.run o.input so o.tied in

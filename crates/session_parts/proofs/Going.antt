@@ -43,7 +43,8 @@ round_whole k p a b c d t is l on m going e =
 takes_when : (ended has : Bool) (p q : Moment) → ended ≡ false → has ≡ false → Polls p q → TakesBy (not ended && not has) p q
 takes_when ended has p q un none polls = rw (un, none) polls
 
-pub took : (p : Moment) (n : ℕ) (bytes : List ℕ) (u : Told) (rest : List ℕ) (s : Option Status) (wait : Bool) → p.input.ended ≡ false → lines p.input.rest false ≡ [] → wait ≡ any_runs p.run.state.harts → 0 < n → length bytes ≡ n → n ≤ 4096 → rest ≡ p.input.rest ++ bytes
+pub took : (p : Moment) (n : ℕ) (bytes : List ℕ) (u : Told) (rest : List ℕ) (s : Option Status) (wait : Bool) → p.input.ended ≡ false
+    → lines p.input.rest false ≡ [] → wait ≡ any_runs p.run.state.harts → 0 < n → length bytes ≡ n → n ≤ 4096 → rest ≡ p.input.rest ++ bytes
     → u ≡ record (with_poll p.told) { polled = more p.told.polled bytes; input_length = raised p.told.input_length n; asks = with_ask (not wait) p.told } → OverBy s p.run (p.input.count + n)
     → Takes p (record p { told = u; input = record { rest = rest; count = p.input.count + n; ended = p.input.ended }; status = s })
 took p n bytes u rest s wait un none runs some len few behind is over =
@@ -55,7 +56,8 @@ took p n bytes u rest s wait un none runs some len few behind is over =
 lines_when : (can : Bool) (p q : Moment) → can ≡ true → DoesOne p q → LinesBy can p q
 lines_when can p q is does = rw is does
 
-pub does : (p : Moment) (answer : Done) (u : Told) (r : Stage) (s : Option Status) (rest : List ℕ) → can_do p.run p.input.ended p.input.rest ≡ true → r.opening ≡ p.run.opening → Does answer p.input.ended p.input.rest p.told u p.run r → AfterLine answer r p.input.count s
+pub does : (p : Moment) (answer : Done) (u : Told) (r : Stage) (s : Option Status) (rest : List ℕ) → can_do p.run p.input.ended p.input.rest ≡ true
+    → r.opening ≡ p.run.opening → Does answer p.input.ended p.input.rest p.told u p.run r → AfterLine answer r p.input.count s
     → rest ≡ drop (behind answer) p.input.rest → Lines p (record p { told = u; run = r; input = record p.input { rest = rest }; status = s })
 does p answer u r s rest can opening d after same =
     inl (lines_when (can_do p.run p.input.ended p.input.rest) p (record p { told = u; run = r; input = record p.input { rest = rest }; status = s }) can (record {

@@ -6,6 +6,7 @@ pub mod Writing
 pub mod Working
 -- What was done and said when input was asked for.
 pub mod Timing
+pub mod Telling
 -- What a turn and a line say, by the entries that they noted.
 pub mod Noting
 pub mod Exits
@@ -14,17 +15,21 @@ pub mod Doing
 -- The steps of a session keep what ties it to its world.
 pub mod Picking
 pub mod Tying
+pub mod Beginning
 -- A session that may begin, and a run that ends before.
 pub mod Opening
 -- Rounds get on: the steps of each, turns of one call, and harts that are picked in vain.
 pub mod Ahead
 pub mod Getting
+pub mod Firsts
 pub mod Several
 pub mod Going
 pub mod Passing
 -- What a stop by a watch tells: its hart's last instruction changed the bytes, and it executed nothing since.
 pub mod Triggering
+pub mod Firing
 pub mod Holding
+pub mod Lasting
 -- A generated run: its records, what its journal counts up to, and what its script keeps.
 pub mod Showing
 pub mod Summing

@@ -75,7 +75,9 @@ ready t u bytes name o has_log fresh asked reads image r opening journal = rw re
 })
 
 -- and so may one over a script
-pub ready_script : (t : Told) (number : ℕ) (text : List ℕ) (o : Opening) → IsFresh t → served_words t.words ≡ Some (record { source = Generated number; settings = o.settings; has_log = false }) → IsImage (generated_file number) o.image → MayBegin (told_by (Some (begun number text)) t) o
+pub ready_script : (t : Told) (number : ℕ) (text : List ℕ) (o : Opening) → IsFresh t
+    → served_words t.words ≡ Some (record { source = Generated number; settings = o.settings; has_log = false })
+    → IsImage (generated_file number) o.image → MayBegin (told_by (Some (begun number text)) t) o
 ready_script t number text o fresh asked image r opening journal = record {
   opened = rw opening (record { source = Generated number; has_log = false; asked = asked; comes = (let h = unread t fresh in record { name = h.name; taken = h.taken; bytes = h.bytes; faults = h.faults; ended = h.ended }, image) });
   clean = record { file = fresh.file_faults; poll = fresh.poll_faults; put = refl };
@@ -189,8 +191,22 @@ early_room t u name settings has_log fresh asked reads =
     )
 
 put_fault : (b : Bool) (t u : Told) (f : ElfFault) (piece : List ℕ) → PutsAll b piece t u → HasFault t f → HasFault u f
-put_fault true t u f piece puts h = rw puts (record { read = record { name = h.read.name; settings = h.read.settings; has_log = h.read.has_log; words = h.read.words; named = h.read.named }; whole = h.whole; faults = h.faults; length = h.length; fault = h.fault })
-put_fault false t u f piece puts h = rw puts.3 (record { read = record { name = h.read.name; settings = h.read.settings; has_log = h.read.has_log; words = h.read.words; named = h.read.named }; whole = h.whole; faults = h.faults; length = h.length; fault = h.fault })
+put_fault true t u f piece puts h = rw puts (record {
+  read = record { name = h.read.name; settings = h.read.settings; has_log = h.read.has_log; words = h.read.words; named = h.read.named };
+  whole =
+      h.whole;
+  faults = h.faults;
+  length = h.length;
+  fault = h.fault;
+})
+put_fault false t u f piece puts h = rw puts.3 (record {
+  read = record { name = h.read.name; settings = h.read.settings; has_log = h.read.has_log; words = h.read.words; named = h.read.named };
+  whole =
+      h.whole;
+  faults = h.faults;
+  length = h.length;
+  fault = h.fault;
+})
 
 read_fault : (t u : Told) (name : List ℕ) (settings : Settings) (has_log : Bool) (bytes : List ℕ) (f : ElfFault) → IsFresh t → AsksFile t name settings has_log → ReadsAll bytes name t u → Refused bytes f → HasFault u f
 read_fault t u name settings has_log bytes f fresh asked reads fault = rw reads.3 (record {
@@ -206,7 +222,8 @@ pub asks_still : (t u : Told) (name : List ℕ) (settings : Settings) (has_log :
 asks_still t u name settings has_log bytes asked ranges reads = rw reads.3 (record { name = name; settings = settings; served = asked; ranges = ranges })
 
 -- the file was refused
-pub early_file : (b : Bool) (t u v : Told) (name : List ℕ) (settings : Settings) (has_log : Bool) (bytes : List ℕ) (f : ElfFault) → IsFresh t → AsksFile t name settings has_log → ReadsAll bytes name t u → Refused bytes f → PutsLines b (refusal_lines (file_fields f)) u v → Early (status.File f) v
+pub early_file : (b : Bool) (t u v : Told) (name : List ℕ) (settings : Settings) (has_log : Bool) (bytes : List ℕ) (f : ElfFault) → IsFresh t
+    → AsksFile t name settings has_log → ReadsAll bytes name t u → Refused bytes f → PutsLines b (refusal_lines (file_fields f)) u v → Early (status.File f) v
 early_file b t u v name settings has_log bytes f fresh asked reads fault p =
     let text = lines_bytes (refusal_lines (file_fields f)) in
     let written : u.written ≡ t.written = ap (λ (x : Told). x.written) reads.3 in

@@ -5,7 +5,8 @@ use mathlib.Core.Logic.{inl, inr}
 use Rattle.dbg_model.specs.State.{any_runs}
 use Rattle.engine_parts.specs.Steps.{NoneOut}
 use Rattle.session_parts.specs.declared.status.Status.{Status}
-use Rattle.session_parts.specs.Steps.{can_do}
+use Rattle.session_parts.specs.Steps.{IsMove, IsStep, can_do}
+use Rattle.session_parts.specs.Stage.{Stage}
 use Rattle.session_parts.specs.Taking.{has_line}
 use Rattle.reg_slices.specs.declared.slice.Job.{Job}
 use Rattle.reg_slices.specs.declared.slice.Slice.{Slice}
@@ -35,13 +36,13 @@ pub lines_out : (p q : Moment) → Lines p q → q.out ≡ p.out
 lines_out p q (inl l) = lines_by (can_do p.run p.input.ended p.input.rest) p q l
 lines_out p q (inr u) = ap (λ (m : Moment). m.out) u.1
 
-pub moved_out : (n h : ℕ) (p q : Moment) → Moved n h p q → q.out ≡ p.out
-moved_out zero h p q m = same p q m
-moved_out (suc n) h p q m = ap (λ (x : Moment). x.out) m.3.is ∙ moved_out n h p m.0 m.1
+pub moved_out : (F : Stage → Stage → Type 0) (n h : ℕ) (p q : Moment) → Moved F n h p q → q.out ≡ p.out
+moved_out F zero h p q m = same p q m
+moved_out F (suc n) h p q m = ap (λ (x : Moment). x.out) m.3.is ∙ moved_out F n h p m.0 m.1
 
 moves_by : (k : Option ℕ) (p q : Moment) → MovesBy k p q → IsKept p q
 moves_by None p q m = same p q m
-moves_by (Some h) p q m = moved_out m.count h (record p { next = h + 1 }) q m.moved
+moves_by (Some h) p q m = moved_out (IsMove h) m.count h (record p { next = h + 1 }) q m.moved
 
 settles_by : (b : Bool) (p q : Moment) → SettlesBy b p q → IsKept p q
 settles_by true p q s = ap (λ (m : Moment). m.out) s
@@ -87,7 +88,7 @@ job_out job p q g =
     ap (λ (m : Moment). m.out) g.hands.3 ∙ ap (λ xs. slice_set xs job.hart true) (round_out g.pick p g.between g.round)
 
 taken_out : (b : Bool) (slice : Slice) (p q : Moment) → crew.TakesBy b slice p q → q.out ≡ p.out
-taken_out true slice p q (inl c) = moved_out slice.count slice.hart p q c.moved
+taken_out true slice p q (inl c) = moved_out (IsStep slice.hart) slice.count slice.hart p q c.moved
 taken_out true slice p q (inr (inl f)) = same p q f.is
 taken_out true slice p q (inr (inr e)) = ap (λ (m : Moment). m.out) e
 taken_out false slice p q e = same p q e

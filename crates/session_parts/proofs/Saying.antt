@@ -54,7 +54,7 @@ use Rattle.dbg_model.specs.State.{is_running}
 use Rattle.dbg_model.specs.Lawful.{may_go}
 use Rattle.engine_parts.specs.declared.mind.Activity.{Activity}
 use Rattle.engine_parts.specs.declared.mind.Activity.TheVariants as activity
-use Rattle.session_parts.specs.Steps.{lines_by, Goes, IsMove}
+use Rattle.session_parts.specs.Steps.{lines_by, Goes}
 use Rattle.session_parts.specs.Reported.{Notes, move_lines, noted_since, shown_lines}
 use Rattle.session_parts.proofs.Exits.{are_lefts, last_lines, lefts_last, shows_lefts}
 use Rattle.session_parts.proofs.Noting.{lefts_moved, lefts_noted, lengthened_notes, notes, since}
@@ -69,7 +69,6 @@ pub record Said (m : Move) (r s : Engine) (h : ℕ) : Type 0 where
   pub notes : Notes s r.noted
   pub said : lines_by (stage_of s) ≡ lines_by (stage_of r) ++ move_lines s m h r.noted
   pub goes : Goes (stage_of r) (stage_of s)
-  pub move : IsMove h (stage_of r) (stage_of s)
   pub work : work_of (stage_of s) < work_of (stage_of r)
 
 goes_by : (r s : Engine) → Grown r.journal s.journal → (s.journal ≡ r.journal) ⊎ (any_runs (seen r).harts ≡ true) → Goes (stage_of r) (stage_of s)
@@ -112,7 +111,6 @@ runs_say t v r s h out f g m text =
       notes = notes r s [] k refl tt;
       said = said_is r s (lengthened r.journal h) (move_lines s t h r.noted) m.opening m.journal (l ∙ ap (λ u. said_lines r.opening r.journal ++ u) (ap stream_lines m.wrote ∙ text));
       goes = goes_by r s (grown_lengthened r.journal s.journal h m.journal) (inr (one_runs r.opening h (seen r) (seen s) m.one));
-      move = inr (inl ([], m.journal ∙ sym (append-nil (lengthened r.journal h))));
       work = ran_less r s h (seen s) m.one refl (let z : running (seen s).harts ≤ running (seen s).harts = omega arith in z) m.opening g;
     }
 
@@ -122,7 +120,8 @@ exits_say t v r s h count code f g m text =
     let lefts = lefts_from 0 m.between.harts in
     let all = all_gone (map gone m.between.harts) in
     let l = lengthens r.opening r.journal h (seen r) m.between f.sound.leaves m.one in
-    let first : said_lines r.opening j ≡ said_lines r.opening r.journal = said_lengthened r.opening r.journal h (seen r) f.sound.leaves ∙ (ap (λ u. said_lines r.opening r.journal ++ u) (ap stream_lines m.wrote ∙ nothing_written) ∙ append-nil (said_lines r.opening r.journal)) in
+    let first : said_lines r.opening j ≡ said_lines r.opening r.journal = said_lengthened r.opening r.journal h (seen r) f.sound.leaves ∙
+    (ap (λ u. said_lines r.opening r.journal ++ u) (ap stream_lines m.wrote ∙ nothing_written) ∙ append-nil (said_lines r.opening r.journal)) in
     let exits = said_exits r.opening j m.between code l (one_open r.opening h (seen r) m.between m.one) m.codes m.some in
     let k = since r s j lefts f g m.journal (lengthened_notes r.journal h) (lefts_noted 0 m.between.harts) in
     let shown : shown_lines s t lefts ≡ lefts_lines lefts all code =
@@ -134,8 +133,8 @@ exits_say t v r s h count code f g m text =
       notes = notes r s lefts k (lefts_noted 0 m.between.harts) (lefts_moved (length s.minds) 0 m.between.harts);
       said = said_is r s (j ++ lefts) (move_lines s t h r.noted) m.opening m.journal (exits ∙ (ap (λ u. u ++ lefts_lines lefts all code) first ∙ ap (λ u. said_lines r.opening r.journal ++ u) last));
       goes = goes_by r s (grown_exits r.journal s.journal h m.between.harts m.journal) (inr (one_runs r.opening h (seen r) m.between m.one));
-      move = inr (inl (m.between.harts, m.journal));
-      work = ran_less r s h m.between m.one (m.retired ∙ sym (one_works r.opening h (seen r) m.between m.one).retired) (let e = ap running m.harts ∙ running_gone m.between.harts in let z : running (seen s).harts ≤ running m.between.harts = omega arith in z) m.opening g;
+      work = ran_less r s h m.between m.one (m.retired ∙ sym (one_works r.opening h (seen r) m.between m.one).retired)
+          (let e = ap running m.harts ∙ running_gone m.between.harts in let z : running (seen s).harts ≤ running m.between.harts = omega arith in z) m.opening g;
     }
 
 get_within : {A : Type 0} (xs : List A) (h : ℕ) → h < length xs → (x : A) × (slice_get xs h ≡ Some x)
@@ -162,7 +161,6 @@ halts_say why r s h f g low does =
       notes = notes r s (e ∷ []) k refl (there, tt);
       said = said_is r s (r.journal ++ e ∷ []) (move_lines s move.Stopped h r.noted) m.opening m.journal (said_added r.opening r.journal (seen r) e f.sound.leaves ∙ ap (λ u. said_lines r.opening r.journal ++ u) shown);
       goes = goes_by r s (grown_more r.journal (e ∷ []) s.journal m.journal refl) (inr (halt_runs r.opening h why (seen r) (seen s) m.enters));
-      move = inr (inr (e, refl, m.journal));
       work = subst P (sym m.opening) (omega arith);
     }
 
@@ -185,12 +183,12 @@ counts_say r s h f g m =
       notes = notes r s (e ∷ []) (since r s r.journal (e ∷ []) f g m.journal refl refl) refl (tt, tt);
       said = said_is r s (r.journal ++ e ∷ []) [] m.opening m.journal (said_added r.opening r.journal (seen r) e f.sound.leaves);
       goes = goes_by r s (grown_more r.journal (e ∷ []) s.journal m.journal refl) (inr (count_runs r.opening h (seen r) (seen s) m.enters));
-      move = inr (inr (e, refl, m.journal));
       work = subst P (sym m.opening) (omega arith);
     }
 
 -- a move that nothing shows
-quiets_say : (t : Move) (r s : Engine) (h : ℕ) (x : Mind) (p : Phase) (hold : Option Hold) → Facts r → Facts s → Rephases r s h x p hold → slice_get r.minds h ≡ Some x → moves_of p < moves_of x.phase → [] ≡ move_lines s t h r.noted → Said t r s h
+quiets_say : (t : Move) (r s : Engine) (h : ℕ) (x : Mind) (p : Phase) (hold : Option Hold) → Facts r → Facts s → Rephases r s h x p hold
+    → slice_get r.minds h ≡ Some x → moves_of p < moves_of x.phase → [] ≡ move_lines s t h r.noted → Said t r s h
 quiets_say t r s h x p hold f g m at less text =
     let set = moves_set r.minds h x (with_phase x p) at in
     let fewer : moves s.minds < moves r.minds = omega (arith, ap moves m.minds) in
@@ -202,7 +200,6 @@ quiets_say t r s h x p hold f g m at less text =
       notes = notes r s [] (since r s r.journal [] f g (m.journal ∙ sym (append-nil r.journal)) refl refl) refl tt;
       said = said_is r s r.journal (move_lines s t h r.noted) m.opening m.journal (sym (append-nil (said_lines r.opening r.journal)) ∙ ap (λ u. said_lines r.opening r.journal ++ u) text);
       goes = goes_by r s (grown_same r.journal s.journal m.journal) (inl m.journal);
-      move = inl (m.journal, (with_phase x p, m.minds));
       work = omega (arith, shown);
     }
 
@@ -249,7 +246,7 @@ says move.Counted r s h f g low m = counts_say r s h f g m
 says move.Stopped r s h f g low (why, m) = halts_say why r s h f g low m
 
 spared : (t : Move) (e s : Engine) (n h : ℕ) → Said t (record e { spare = n }) s h → Said t e s h
-spared t e s n h d = record { opening = d.opening; notes = d.notes; said = d.said; goes = spared_goes e s n d.goes; move = d.move; work = d.work }
+spared t e s n h d = record { opening = d.opening; notes = d.notes; said = d.said; goes = spared_goes e s n d.goes; work = d.work }
 
 -- a line that was done
 pub record DoneSaid (r s : Engine) (line : List ℕ) (answer : Reply) : Type 0 where
@@ -266,7 +263,8 @@ settled_retired o s t None is = ap (λ (u : State). u.retired) (sym (same_some s
 settled_retired o s t (Some p) is = let a = poked_adds s t p is in omega (arith, a.retired)
 
 -- and says nothing
-said_settled : (o : Opening) (j : List Entry) (line : List ℕ) (q : Option Poke) (s t : State) → Leaves o j s → Leaves o (j ++ Did line ∷ pokes_of q) t → said_lines o (j ++ Did line ∷ pokes_of q) ≡ said_lines o j ++ entry_lines o s (Did line)
+said_settled : (o : Opening) (j : List Entry) (line : List ℕ) (q : Option Poke) (s t : State) → Leaves o j s → Leaves o (j ++ Did line ∷ pokes_of q) t
+    → said_lines o (j ++ Did line ∷ pokes_of q) ≡ said_lines o j ++ entry_lines o s (Did line)
 said_settled o j line None s t before after = said_added o j s (Did line) before
 said_settled o j line (Some p) s t before after =
     let done = j ++ Did line ∷ [] in
@@ -298,7 +296,23 @@ spare_facts : (e : Engine) (n : ℕ) → Facts e → Facts (record e { spare = n
 spare_facts e n f =
     let s = f.sound in
     record {
-      sound = record { leaves = s.leaves; settings = s.settings; count = s.count; selected = s.selected; harts = s.harts; slots = s.slots; planted = s.planted; texts = s.texts; places = s.places; many = s.many; awaits = s.awaits; sources = s.sources; retired = s.retired; copied = s.copied };
+      sound = record {
+        leaves = s.leaves;
+        settings = s.settings;
+        count = s.count;
+        selected = s.selected;
+        harts = s.harts;
+        slots = s.slots;
+        planted =
+            s.planted;
+        texts = s.texts;
+        places = s.places;
+        many = s.many;
+        awaits = s.awaits;
+        sources = s.sources;
+        retired = s.retired;
+        copied = s.copied;
+      };
       waits = f.waits;
     }
 

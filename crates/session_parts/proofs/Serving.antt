@@ -17,7 +17,6 @@ use Rattle.engine_parts.specs.Seen.{Engine}
 use Rattle.engine_parts.specs.Facts.{Facts}
 use Rattle.engine_parts.specs.Steps.{NoneOut}
 use Rattle.engine_parts.specs.Slicing.{IsStretch, Serves, ServesBy, TakesIf, gives_job}
-use Rattle.engine_parts.proofs.Quiet.{ran_quiet}
 use Rattle.engine_parts.proofs.Stretching.{can_take}
 use Rattle.session_parts.specs.declared.status.Status.{Status}
 use Rattle.session_parts.specs.declared.status.Status.TheVariants as status
@@ -123,7 +122,7 @@ module _ (p : Moment) (r s : Engine) (h : ℕ) (o : Option Status) (none : NoneO
     (over : OverBy o (stage_of s) p.input.count) (n : ℕ) (after : Registers) (st : IsStretch r h n after) where
   by_room : (a b : Bool) → nat_lt 0 n ≡ a → nat_le (r.retired + n) r.opening.settings.budget ≡ b → TakesIf (a && b) r s h n after → Served p r s h o
   by_room true true any room t =
-      let done = ran_on n p r r s h o refl (some n any) f g k (ran_quiet n r s h t.ran) over in
+      let done = ran_on n p r r s h o refl (some n any) f g k t.ran over in
       let can = can_take r (slice_for r h n after st) st.hart is st.shown refl refl refl (within (r.retired + n) r.opening.settings.budget room) in
       let commits : Commits (slice_for r h n after st) (standing p r None) (standing p s o) = record { can = can; moved = done.moved; journal = ran_noted n r s h t.ran; told = refl } in
       record {

@@ -41,7 +41,8 @@ pub record Shows (text again : List ℕ) (count : ℕ) : Type 0 where
   pub rest : (trees : List LineTree) → AreRecords text trees → (rest : List LineTree) × AreRecords (drop (length again) text) rest × (count + length (streamed rest) ≡ length (streamed trees))
 
 -- a record was read at the end of those
-further : (text again more : List ℕ) (count n total : ℕ) (tree : LineTree) (rest : List LineTree) → AreRecords (drop (length again) text) rest → count + length (streamed rest) ≡ total → n ≡ length (streamed_by tree) → more ≡ again ++ line_bytes tree → Begins (drop (length again) text) tree
+further : (text again more : List ℕ) (count n total : ℕ) (tree : LineTree) (rest : List LineTree) → AreRecords (drop (length again) text) rest
+    → count + length (streamed rest) ≡ total → n ≡ length (streamed_by tree) → more ≡ again ++ line_bytes tree → Begins (drop (length again) text) tree
     → ((t : LineTree) (front behind : List ℕ) → Record front t → drop (length again) text ≡ front ++ behind → tree ≡ t) → (ts : List LineTree) × AreRecords (drop (length more) text) ts × ((count + n) + length (streamed ts) ≡ total)
 further text again more count n total tree [] are sum is grows begins only =
     let some = shown_less tree in
@@ -52,7 +53,8 @@ further text again more count n total tree (t ∷ ts) are sum is grows begins on
     let cut : drop (length again) text ≡ line_bytes t ++ lines_bytes ts = are.text ∙ flat_map-cons line_bytes t ts in
     let same : tree ≡ t = only t (line_bytes t) (lines_bytes ts) (record { line = are.lines.0; text = refl }) cut in
     let size : length again + length (line_bytes t) ≡ length more = ap (λ (x : LineTree). length again + length (line_bytes x)) (sym same) ∙ (sym (length-append again (line_bytes tree)) ∙ ap length (sym grows)) in
-    let behind : drop (length more) text ≡ lines_bytes ts = ap (λ (k : ℕ). drop k text) (sym size) ∙ (sym (drop-drop (length (line_bytes t)) (length again) text) ∙ (ap (drop (length (line_bytes t))) cut ∙ drop-append_seam (line_bytes t) (lines_bytes ts))) in
+    let behind : drop (length more) text ≡ lines_bytes ts = ap (λ (k : ℕ). drop k text) (sym size) ∙
+    (sym (drop-drop (length (line_bytes t)) (length again) text) ∙ (ap (drop (length (line_bytes t))) cut ∙ drop-append_seam (line_bytes t) (lines_bytes ts))) in
     let shown : length (streamed (t ∷ ts)) ≡ length (streamed_by t) + length (streamed ts) = ap length (flat_map-cons streamed_by t ts) ∙ length-append (streamed_by t) (streamed ts) in
     let one : n ≡ length (streamed_by t) = is ∙ ap (λ (x : LineTree). length (streamed_by x)) same in
     (ts, record { lines = are.lines.1; text = behind }, omega (arith, sum, shown, one))

@@ -1,5 +1,5 @@
 -- The steps of a session keep what ties it to its world.
-use Rattle.std.proofs.Common.{◌≡◌, ◌<◌, ◌≤◌, ℕ, zero, suc, not, ◌+◌, ◌-◌, Bool, true, false, cond, List, [], ◌∷◌, ◌++◌, length, take, drop, refl, sym, ap, ◌∙◌, append_assoc, arith, subst, length-append, length-drop}
+use Rattle.std.proofs.Common.{◌≡◌, ◌<◌, ◌≤◌, ℕ, zero, suc, not, ◌+◌, ◌-◌, Bool, true, false, List, [], ◌∷◌, ◌++◌, length, take, drop, refl, sym, ap, ◌∙◌, append_assoc, arith, subst, length-append, length-drop}
 use Rattle.std.specs.Prelude.{Option, Some, None, IfSome}
 use mathlib.Core.Logic.{inr}
 use Rattle.dbg_traits.specs.Causes.{Rose}
@@ -8,17 +8,12 @@ use Rattle.std.proofs.lemmas.List.{take-append-drop, take_all}
 use Rattle.dbg_traits.specs.Told.{Told, more, raised, with_ask}
 use Rattle.mi_input.specs.Lines.{IsNext, lines}
 use Rattle.dbg_model.specs.Limits as limits
-use Rattle.dbg_traits.specs.Settings.{AreSettings}
-use Rattle.dbg_model.specs.declared.entry.Entry.{Entry}
-use Rattle.dbg_model.specs.State.{State, any_runs, first_state}
-use Rattle.dbg_model.specs.Journals.{did, Leaves, Place, first_place, replay}
-use Rattle.dbg_model.proofs.Options.{same_some}
+use Rattle.dbg_model.specs.State.{any_runs}
+use Rattle.dbg_model.specs.Journals.{did, Leaves}
 use Rattle.mi_values.specs.Record.{LineTree}
 use Rattle.mi_values.specs.Records.{lines_bytes, AreLines, AreRecords}
 use Rattle.mi_values.proofs.Joined.{records_joined}
-use Rattle.mi_reports.specs.Text.{opening_lines}
-use Rattle.mi_reports.specs.Said.{said, said_lines}
-use Rattle.mi_reports.proofs.Saying.{said_nothing}
+use Rattle.mi_reports.specs.Said.{said}
 use Rattle.dbg_model.specs.Reply.{done_by}
 use Rattle.engine_parts.specs.Calls.{pokes_of}
 use Rattle.session_parts.specs.Stage.{Stage}
@@ -30,9 +25,8 @@ use Rattle.elf32_read.specs.Program.{Program}
 use Rattle.session_parts.specs.Words.{served_words}
 use Rattle.session_parts.specs.declared.file.Source.{Source}
 use Rattle.session_parts.specs.declared.file.Source.TheVariants.{File, Generated}
-use Rattle.session_parts.specs.Ties.{IsTied, IsHeld, Taken, ComesFrom, Opened, Clean, GoesOn, IsCut, OverBy, IsReady, IsEmpty, IsCounted}
-use Rattle.session_parts.specs.Puts.{PutsAll}
-use Rattle.session_parts.proofs.Timing.{told_line, told_goes, told_took, told_end, told_none}
+use Rattle.session_parts.specs.Ties.{IsTied, IsHeld, Taken, ComesFrom, Opened, Clean, IsCut, OverBy, IsCounted}
+use Rattle.session_parts.proofs.Telling.{told_line, told_goes, told_took, told_end}
 use Rattle.session_parts.specs.declared.status.Status.{Status}
 use Rattle.session_parts.specs.declared.status.Status.TheVariants as status
 
@@ -98,7 +92,8 @@ comes_as (Generated n) t u p h name taken long ended faults = (
 )
 
 -- what was opened stays so, where the words and the file are as they were
-opened_as : (t u : Told) (o p : Opening) → p ≡ o → Opened t o → u.words ≡ t.words → u.file_name ≡ t.file_name → u.file_taken ≡ t.file_taken → u.file_length ≡ t.file_length → u.file_ended ≡ t.file_ended → u.file_faults ≡ t.file_faults → Opened u p
+pub opened_as : (t u : Told) (o p : Opening) → p ≡ o → Opened t o → u.words ≡ t.words → u.file_name ≡ t.file_name → u.file_taken ≡ t.file_taken
+    → u.file_length ≡ t.file_length → u.file_ended ≡ t.file_ended → u.file_faults ≡ t.file_faults → Opened u p
 opened_as t u o p same h words name taken long ended faults =
     let P : Opening → Type 0 = λ q. Opened u q in
     subst P (sym same) (record {
@@ -138,12 +133,14 @@ held_took t r i wait bytes n h q len few =
     }
 
 pub tied_took : (s : Option Status) (t u : Told) (r : Stage) (i j : Taken) (wait : Bool) (bytes : List ℕ) (n : ℕ) → IsTied None t r i → IsQuiet wait r i → length bytes ≡ n → n ≤ 4096
-    → u ≡ record (with_poll t) { polled = more t.polled bytes; input_length = raised t.input_length n; asks = with_ask wait t } → j ≡ record { rest = i.rest ++ bytes; count = i.count + n; ended = i.ended } → OverBy s r j.count → IsTied s u r j
+    → u ≡ record (with_poll t) { polled = more t.polled bytes; input_length = raised t.input_length n; asks = with_ask wait t }
+    → j ≡ record { rest = i.rest ++ bytes; count = i.count + n; ended = i.ended } → OverBy s r j.count → IsTied s u r j
 tied_took s t u r i j wait bytes n h q len few is eq over =
     let k : Taken = record { rest = i.rest ++ bytes; count = i.count + n; ended = i.ended } in
     let o : OverBy s r k.count = subst (λ (x : Taken). OverBy s r x.count) eq over in
     let c = h.cause.0 in
-    rw (is, eq) (tied_over s (record (with_poll t) { polled = more t.polled bytes; input_length = raised t.input_length n; asks = with_ask wait t }) r k o (held_took t r i wait bytes n h q len few) (record { file = c.file; poll = c.poll; put = c.put }) h.written)
+    rw (is, eq) (tied_over s (record (with_poll t) { polled = more t.polled bytes; input_length = raised t.input_length n; asks = with_ask wait t }) r
+    k o (held_took t r i wait bytes n h q len few) (record { file = c.file; poll = c.poll; put = c.put }) h.written)
 
 -- the input ended
 pub tied_end : (t u : Told) (r : Stage) (i j : Taken) (wait : Bool) → IsTied None t r i → IsQuiet wait r i → u ≡ record (with_poll t) { poll_ended = true; asks = with_ask wait t } → j ≡ record i { ended = true } → IsTied None u r j
@@ -187,7 +184,8 @@ both : (w : List ℕ) (before after trees : List LineTree) → after ≡ before 
 both w before after trees said are h = subst (λ (ls : List LineTree). AreRecords (w ++ lines_bytes trees) ls) (sym said) (records_joined w (lines_bytes trees) before trees h (record { lines = are; text = refl }))
 
 -- a put that failed left a front of what was said
-cut_by : (o : Option (List ℕ)) (before after trees : List LineTree) (n : ℕ) → after ≡ before ++ trees → AreLines trees → IfSome o (λ w. AreRecords w before) → IfSome (more o (take n (lines_bytes trees))) (λ w. AreLines after × IsCut w (lines_bytes after))
+cut_by : (o : Option (List ℕ)) (before after trees : List LineTree) (n : ℕ) → after ≡ before ++ trees → AreLines trees
+    → IfSome o (λ w. AreRecords w before) → IfSome (more o (take n (lines_bytes trees))) (λ w. AreLines after × IsCut w (lines_bytes after))
 cut_by None before after trees n said are h = tt
 cut_by (Some w) before after trees n said are h =
     let text = lines_bytes trees in
@@ -200,7 +198,8 @@ put_by None before after trees said are h = tt
 put_by (Some w) before after trees said are h = both w before after trees said are h
 
 -- what was written are the first lines of what was said since
-unsaid : (o : Option (List ℕ)) (before after trees : List LineTree) → after ≡ before ++ trees → IfSome o (λ w. AreRecords w before) → IfSome o (λ w. (first : List LineTree) × (rest : List LineTree) × (first ++ rest ≡ after) × AreRecords w first)
+unsaid : (o : Option (List ℕ)) (before after trees : List LineTree) → after ≡ before ++ trees → IfSome o (λ w. AreRecords w before)
+    → IfSome o (λ w. (first : List LineTree) × (rest : List LineTree) × (first ++ rest ≡ after) × AreRecords w first)
 unsaid None before after trees said h = tt
 unsaid (Some w) before after trees said h = (before, trees, sym said, h)
 
@@ -213,7 +212,8 @@ turn_input : (t : Told) (r s : Stage) (i : Taken) → IsHeld t r i → Goes r s 
 turn_input t r s i h goes = told_same t.polled (λ b. Gives i.ended b (did r.journal) i.rest) (λ b. Gives i.ended b (did s.journal) i.rest) (λ bytes g. rw goes.lines g) h.input
 
 -- What is tied after a step that put its lines, or a part of them. What is known of the input is handed in.
-held_put : (t u : Told) (r s : Stage) (i j : Taken) → IsHeld t r i → s.opening ≡ r.opening → u.words ≡ t.words → u.file_name ≡ t.file_name → u.file_taken ≡ t.file_taken → u.file_length ≡ t.file_length → u.file_ended ≡ t.file_ended → u.file_faults ≡ t.file_faults
+held_put : (t u : Told) (r s : Stage) (i j : Taken) → IsHeld t r i → s.opening ≡ r.opening → u.words ≡ t.words → u.file_name ≡ t.file_name
+    → u.file_taken ≡ t.file_taken → u.file_length ≡ t.file_length → u.file_ended ≡ t.file_ended → u.file_faults ≡ t.file_faults
     → u.polled ≡ t.polled → u.input_length ≡ t.input_length → u.poll_ended ≡ t.poll_ended → u.asks ≡ t.asks → j.count ≡ i.count → j.ended ≡ i.ended
     → IfSome t.polled (λ b. Gives j.ended b (did s.journal) j.rest) → ToldInTime s.opening s.journal t.polled t.asks → IsHeld u s j
 held_put t u r s i j h opened words name taken long fended faults polled length poll_ended asks count ended input times = record {
@@ -253,7 +253,9 @@ unsaid_by t u r s i j h opened keeps count ended input times =
 pub tied_short : (t : Told) (r : Stage) (i : Taken) → IsTied None t r i → IsTied (Some status.NoMemory) t r i
 tied_short t r i h = record {
   held = h.held;
-  written = told_same t.written (λ w. AreRecords w (lines_by r)) (λ w. (first : List LineTree) × (rest : List LineTree) × (first ++ rest ≡ lines_by r) × AreRecords w first) (λ w are. (lines_by r, [], append-nil (lines_by r), are)) h.written;
+  written = told_same t.written (λ w. AreRecords w (lines_by r))
+      (λ w. (first : List LineTree) × (rest : List LineTree) × (first ++ rest ≡ lines_by r) × AreRecords w first)
+      (λ w are. (lines_by r, [], append-nil (lines_by r), are)) h.written;
   cause = tt;
 }
 
@@ -268,19 +270,24 @@ put_of o t u r s i j h opened says count ended input times over =
     (record { file = c.file; poll = c.poll; put = c.put })
     (put_by t.written (lines_by r) (lines_by s) says.trees says.said says.grammar h.written))
 
-pub line_unput : (t u : Told) (r s : Stage) (i : Taken) (next : ℕ) → IsTied None t r i → s.opening ≡ r.opening → Says t u r s false → DoesLine i.ended i.rest next r s → IsTied (Some status.WriteFault) u s (record i { rest = drop next i.rest })
+pub line_unput : (t u : Told) (r s : Stage) (i : Taken) (next : ℕ) → IsTied None t r i → s.opening ≡ r.opening → Says t u r s false
+    → DoesLine i.ended i.rest next r s → IsTied (Some status.WriteFault) u s (record i { rest = drop next i.rest })
 line_unput t u r s i next h opened says does =
-    unput_by t u r s i (record i { rest = drop next i.rest }) h opened says refl refl (line_input t r s i next h.held does) (told_line r s does.line (pokes_of (done_by r.opening r.state does.line).pending) t.polled t.asks opened does.journal h.held.asks)
+    unput_by t u r s i (record i { rest = drop next i.rest }) h opened says refl refl (line_input t r s i next h.held does)
+    (told_line r s does.line (pokes_of (done_by r.opening r.state does.line).pending) t.polled t.asks opened does.journal h.held.asks)
 
 -- A line was done, and there was no memory for its reply.
 pub line_unsaid : (t u : Told) (r s : Stage) (i : Taken) (next : ℕ) → IsTied None t r i → s.opening ≡ r.opening → Keeps t u r s → DoesLine i.ended i.rest next r s → IsTied (Some status.NoMemory) u s (record i { rest = drop next i.rest })
 line_unsaid t u r s i next h opened keeps does =
-    unsaid_by t u r s i (record i { rest = drop next i.rest }) h opened keeps refl refl (line_input t r s i next h.held does) (told_line r s does.line (pokes_of (done_by r.opening r.state does.line).pending) t.polled t.asks opened does.journal h.held.asks)
+    unsaid_by t u r s i (record i { rest = drop next i.rest }) h opened keeps refl refl (line_input t r s i next h.held does)
+    (told_line r s does.line (pokes_of (done_by r.opening r.state does.line).pending) t.polled t.asks opened does.journal h.held.asks)
 
 -- A line was done, and its reply put.
-pub line_done : (o : Option Status) (t u : Told) (r s : Stage) (i : Taken) (next : ℕ) → IsTied None t r i → s.opening ≡ r.opening → Says t u r s true → DoesLine i.ended i.rest next r s → OverBy o s i.count → IsTied o u s (record i { rest = drop next i.rest })
+pub line_done : (o : Option Status) (t u : Told) (r s : Stage) (i : Taken) (next : ℕ) → IsTied None t r i → s.opening ≡ r.opening → Says t u r s true
+    → DoesLine i.ended i.rest next r s → OverBy o s i.count → IsTied o u s (record i { rest = drop next i.rest })
 line_done o t u r s i next h opened says does over =
-    put_of o t u r s i (record i { rest = drop next i.rest }) h opened says refl refl (line_input t r s i next h.held does) (told_line r s does.line (pokes_of (done_by r.opening r.state does.line).pending) t.polled t.asks opened does.journal h.held.asks) over
+    put_of o t u r s i (record i { rest = drop next i.rest }) h opened says refl refl (line_input t r s i next h.held does)
+    (told_line r s does.line (pokes_of (done_by r.opening r.state does.line).pending) t.polled t.asks opened does.journal h.held.asks) over
 
 -- A hart moved, and its lines were put.
 pub turn_put : (o : Option Status) (t u : Told) (r s : Stage) (i : Taken) → IsTied None t r i → s.opening ≡ r.opening → Leaves r.opening r.journal r.state → Says t u r s true → Goes r s → OverBy o s i.count → IsTied o u s i
@@ -328,68 +335,3 @@ counted_by (Some s) r count n low few o = omega arith
 pub counted_same : (s : Option Status) (r : Stage) (count : ℕ) → count < limits.input → OverBy s r count → IsCounted s count
 counted_same None r count low o = o.below.input
 counted_same (Some s) r count low o = omega arith
-
--- the opening lines
-gives_none : (o : Option (List ℕ)) → IsEmpty o → IfSome o (λ bytes. Gives false bytes [] [])
-gives_none None h = tt
-gives_none (Some bytes) h = λ more e. ap (λ t. lines (t ++ more) e) h
-
-count_none : (o : Option (List ℕ)) → IsEmpty o → IfSome o (λ bytes. length bytes ≡ 0)
-count_none None h = tt
-count_none (Some bytes) h = ap length h
-
-all_put : (o : Option (List ℕ)) (text : List ℕ) (trees : List LineTree) → IsEmpty o → AreRecords text trees → IfSome (more o text) (λ w. AreRecords w trees)
-all_put None text trees h are = tt
-all_put (Some bytes) text trees h are = subst (λ (t : List ℕ). AreRecords (t ++ text) trees) (sym h) are
-
-some_put : (o : Option (List ℕ)) (text : List ℕ) (trees : List LineTree) (n : ℕ) → IsEmpty o → AreRecords text trees → IfSome (more o (take n text)) (λ w. AreLines trees × IsCut w (lines_bytes trees))
-some_put None text trees n h are = tt
-some_put (Some bytes) text trees n h are = (are.lines, (drop n text, ap (λ t. (t ++ take n text) ++ drop n text) h ∙ (take-append-drop n text ∙ are.text)))
-
-opened_with : (r : Stage) (text : List ℕ) → r.journal ≡ [] → AreRecords text (opening_lines r.opening.settings.harts) → AreRecords text (lines_by r)
-opened_with r text h are = subst (λ (trees : List LineTree). AreRecords text trees) (sym (ap (said_lines r.opening) h ∙ said_nothing r.opening)) are
-
-first_left : (o : Opening) (s : State) → Leaves o [] s → first_state o ≡ s
-unfolding replay
-first_left o s l = ap (λ (p : Place). p.state) (same_some (first_place o) (record { prev = l.prev; state = s }) l.replays)
-
--- an engine that has done nothing goes on
-pub begins : (r : Stage) → Leaves r.opening r.journal r.state → r.journal ≡ [] → AreSettings r.opening.settings → GoesOn r 0
-begins r leaves none ranges =
-    let empty : Leaves r.opening [] r.state = subst (λ (j : List Entry). Leaves r.opening j r.state) none leaves in
-    let is : first_state r.opening ≡ r.state = first_left r.opening r.state empty in
-    let some = ranges.budget.0 in
-    subst (λ (s : State). GoesOn (record r { state = s }) 0) is (record { below = record { budget = omega arith; history = omega arith; input = omega arith }; open_ = refl })
-
-pub tied_open : (b : Bool) (t u : Told) (r : Stage) (text : List ℕ) → IsReady t r → GoesOn r 0 → AreRecords text (opening_lines r.opening.settings.harts) → PutsAll b text t u → IsTied (cond b None (Some status.WriteFault)) u r (record { rest = []; count = 0; ended = false })
-tied_open true t u r text h goes are puts = rw puts (record {
-  held = record {
-    file = opened_as t (record t { written = more t.written text }) r.opening r.opening refl h.opened refl refl refl refl refl refl;
-    input = rw h.journal (gives_none t.polled h.polled);
-    polled = count_none t.polled h.polled;
-    count = h.taken;
-    ended = h.running;
-    asks = told_none r.opening r.journal t.polled t.asks h.asks;
-  };
-  written = all_put t.written text (lines_by r) h.written (opened_with r text h.journal are);
-  cause = (record { file = h.clean.file; poll = h.clean.poll; put = h.clean.put }, goes);
-})
-tied_open false t u r text h goes are puts =
-    let c = h.clean.put in
-    let rose : 0 < puts.1 = omega (arith, puts.2) in
-    rw puts.3 (record {
-      held = record {
-        file = opened_as t (record t { written = more t.written (take puts.0 text); put_faults = puts.1 }) r.opening r.opening refl h.opened refl refl refl refl refl refl;
-        input = rw h.journal (gives_none t.polled h.polled);
-        polled = count_none t.polled h.polled;
-        count = h.taken;
-        ended = h.running;
-        asks = told_none r.opening r.journal t.polled t.asks h.asks;
-      };
-      written = some_put t.written text (lines_by r) puts.0 h.written (opened_with r text h.journal are);
-      cause = rose;
-    })
-
-pub counted_open : (b : Bool) → IsCounted (cond b None (Some status.WriteFault)) 0
-counted_open true = omega arith
-counted_open false = omega arith

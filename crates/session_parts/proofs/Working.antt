@@ -18,9 +18,10 @@ use Rattle.dbg_model.specs.declared.judgement.Judgement.{Judgement}
 use Rattle.dbg_model.specs.declared.opening.Opening.{Opening}
 use Rattle.dbg_model.specs.Judging.{ends_function, ends_step, fires, is_counted, is_due}
 use Rattle.dbg_model.specs.State.{State, hart_runs, any_runs, any_leaves, is_running, due}
-use Rattle.dbg_model.specs.Watches.{fired_by, is_fired}
+use Rattle.watch_points.specs.Watches.{fired_by, is_fired}
 use Rattle.dbg_model.specs.Reply.{done_by}
-use Rattle.dbg_model.specs.Lawful.{one, one_by, enter, may_go, may_move, may_run, stepped_by, stepped, stopped_hart, with_stop, faulted_by, stopped_by, counted, counted_by, set_out, with_arrival, with_count, with_leavers, leaving, leaving_at, with_step}
+use Rattle.dbg_model.specs.Lawful.{one, one_by, enter, may_go, may_move, may_run, stepped_by, stepped, stopped_hart, with_stop, faulted_by}
+use Rattle.dbg_model.specs.Lawful.{stopped_by, counted, counted_by, set_out, with_arrival, with_count, with_leavers, leaving, leaving_at, with_step}
 use Rattle.dbg_model.specs.Leaving.{gone, gone_by}
 use Rattle.dbg_model.proofs.Options.{guard_some, same_some, both_true}
 use Rattle.engine_parts.specs.declared.mind.Mind.{Mind}

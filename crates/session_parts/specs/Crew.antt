@@ -12,7 +12,7 @@ use Rattle.engine_parts.specs.Slicing.{gives_job_in, IsJobIn, CanTakeIn}
 use Rattle.engine_parts.specs.Steps.{NoneOut, next_running}
 use Rattle.session_parts.specs.Stage.{Stage}
 use Rattle.session_parts.specs.Round.{Moment, Moved, Round}
-use Rattle.session_parts.specs.Steps.{can_do}
+use Rattle.session_parts.specs.Steps.{IsStep, can_do}
 use Rattle.session_parts.specs.declared.status.Status.TheVariants as status
 
 -- whether a hart gives a job
@@ -80,10 +80,10 @@ pub record IsWorkOf (job : Job) (slice : Slice) : Type 0 where
 abbrev pub CanTake : Stage → Slice → Type 0
 CanTake r slice = CanTakeIn r.opening r.state r.minds r.hold r.text slice
 
--- the instructions of a slice become moves of its hart, and no line is put
+-- the instructions of a slice become moves of its hart, each an instruction, and no line is put
 pub record Commits (slice : Slice) (p q : Moment) : Type 0 where
   pub can : CanTake p.run slice
-  pub moved : Moved slice.count slice.hart p q
+  pub moved : Moved (IsStep slice.hart) slice.count slice.hart p q
   pub journal : q.run.journal ≡ lengthened_by slice.count p.run.journal slice.hart
   pub told : q.told ≡ p.told
 

@@ -4,7 +4,7 @@ use Rattle.dbg_traits.specs.Told.{Told}
 use Rattle.dbg_model.specs.State.{any_runs}
 use Rattle.engine_parts.specs.Steps.{next_running}
 use Rattle.session_parts.specs.Stage.{Stage, moves_at}
-use Rattle.session_parts.specs.Steps.{Turns, Does, Inputs, can_do}
+use Rattle.session_parts.specs.Steps.{IsMove, Turns, Does, Inputs, can_do}
 use Rattle.session_parts.specs.Taking.{has_line}
 use Rattle.session_parts.specs.Ties.{Taken, OverBy}
 use Rattle.session_parts.specs.Seen.{Seen}
@@ -117,27 +117,27 @@ AfterTurn turn.Unput r count s = s ≡ Some status.WriteFault
 AfterTurn turn.NoMemory r count s = s ≡ Some status.NoMemory
 AfterTurn turn.Stood r count s = ⊥
 
--- one move of a hart, with its lines
-pub record TurnsOne (h : ℕ) (p q : Moment) : Type 0 where
+-- one move of a hart, one of these, with its lines
+pub record TurnsOne (Fits : Stage → Stage → Type 0) (h : ℕ) (p q : Moment) : Type 0 where
   pub answer : Turn
   pub told : Told
   pub run : Stage
   pub status : Option Status
   pub opening : run.opening ≡ p.run.opening
-  pub turns : Turns answer h p.told told p.run run
+  pub turns : Turns Fits answer h p.told told p.run run
   pub after : AfterTurn answer run p.input.count status
   pub is : q ≡ record p { told = told; run = run; status = status }
 
--- so many moves of a hart, in a session that goes on before each
-abbrev pub Moved : ℕ → ℕ → Moment → Moment → Type 0
-Moved zero h p q = q ≡ p
-Moved (suc n) h p q = (m : Moment) × Moved n h p m × (m.status ≡ None) × TurnsOne h m q
+-- so many moves of a hart, each one of these, in a session that goes on before each
+abbrev pub Moved : (Stage → Stage → Type 0) → ℕ → ℕ → Moment → Moment → Type 0
+Moved Fits zero h p q = q ≡ p
+Moved Fits (suc n) h p q = (m : Moment) × Moved Fits n h p m × (m.status ≡ None) × TurnsOne Fits h m q
 
--- a hart that was turned while it moves, at most 64 times
+-- a hart that was turned while it moves, at most 64 times, each time by the first row that fits
 pub record MovesOne (h : ℕ) (p q : Moment) : Type 0 where
   pub count : ℕ
   pub most : count ≤ 64
-  pub moved : Moved count h p q
+  pub moved : Moved (IsMove h) count h p q
   pub rests : count < 64 → q.status ≡ None → moves_at q.run h ≡ false
 
 -- the hart that was picked is turned

@@ -11,6 +11,7 @@ use Rattle.engine_parts.specs.declared.mind.Mind.{Mind}
 use Rattle.step_over.specs.declared.phase.Phase.{Phase}
 use Rattle.step_over.specs.declared.phase.Phase.TheVariants as phase
 use Rattle.engine_parts.specs.Movers.{moves_in}
+use Rattle.engine_parts.specs.Rows.{Row, row_in}
 use Rattle.engine_parts.specs.Seen.{Engine, seen}
 
 -- how the session began, its journal, the state that the journal leaves, where its harts are in steps over breakpoints, who has which scratch slot, and the text as it is stored
@@ -25,6 +26,10 @@ pub record Stage : Type 0 where
 
 abbrev pub stage_of : Engine → Stage
 stage_of r = record { opening = r.opening; journal = r.journal; state = seen r; minds = r.minds; hold = r.hold; slots = r.machine.slots; text = r.machine.text }
+
+-- the first row of the table of moves that fits hart h
+abbrev pub first_row : Stage → ℕ → Row
+first_row r h = row_in r.opening r.state r.minds r.hold r.text h
 
 -- how many harts run
 abbrev pub running : List Hart → ℕ

@@ -8,7 +8,10 @@ use Rattle.mi_values.specs.Records.{lines_bytes, AreLines}
 use Rattle.mi_reports.specs.Said.{said_lines}
 use Rattle.mi_input.specs.Lines.{lines, IsNext}
 use Rattle.dbg_model.specs.declared.entry.Entry.{Entry}
-use Rattle.dbg_model.specs.declared.entry.Entry.TheVariants.{Ran, Counted, Stopped, Left, Did, Poked}
+use Rattle.dbg_model.specs.declared.entry.Entry.TheVariants.{Counted, Stopped, Did}
+use Rattle.dbg_model.specs.declared.entry.Why.{Why}
+use Rattle.dbg_model.specs.declared.entry.Why.TheVariants.{Interrupted, Fault}
+use Rattle.rv_exec.specs.declared.effect.Cause.{Cause}
 use Rattle.dbg_model.specs.declared.hart.Hart.{Hart}
 use Rattle.dbg_model.specs.State.{any_runs}
 use Rattle.dbg_model.specs.Reply.{done_by, is_wait}
@@ -22,7 +25,8 @@ use Rattle.dbg_model.specs.Journals.{did, lengthened}
 use Rattle.engine_parts.specs.declared.mind.Mind.{Mind}
 use Rattle.session_parts.specs.InTime.{through, until}
 use Rattle.session_parts.specs.Taking.{first_waits, has_line}
-use Rattle.session_parts.specs.Stage.{Stage, moves_at}
+use Rattle.engine_parts.specs.Rows.{Row, Over, Rests, Waits, Finishes, Stops, Counts, Interrupts, Begins, Executes}
+use Rattle.session_parts.specs.Stage.{Stage, first_row, moves_at}
 use Rattle.session_parts.specs.declared.turn.Turn.{Turn}
 use Rattle.session_parts.specs.declared.turn.Turn.TheVariants as turn
 use Rattle.session_parts.specs.declared.line.Done.{Done}
@@ -46,15 +50,6 @@ pub record Keeps (t u : Told) (r s : Stage) : Type 0 where
   pub said : lines_by s ≡ lines_by r ++ trees
   pub told : u ≡ t
 
--- the hart that a move's entry is of
-abbrev pub hart_of : Entry → Option ℕ
-hart_of (Ran h count) = Some h
-hart_of (Counted h) = Some h
-hart_of (Stopped h why) = Some h
-hart_of (Left h code) = Some h
-hart_of (Did line) = None
-hart_of (Poked p) = None
-
 -- A move of hart h without an entry, as a copy that it enters: only what is kept of h changes.
 abbrev pub IsSilent : ℕ → Stage → Stage → Type 0
 IsSilent h r s = (s.journal ≡ r.journal) × ((x : Mind) × (s.minds ≡ slice_set r.minds h x))
@@ -63,20 +58,32 @@ IsSilent h r s = (s.journal ≡ r.journal) × ((x : Mind) × (s.minds ≡ slice_
 abbrev pub IsStep : ℕ → Stage → Stage → Type 0
 IsStep h r s = (left : List Hart) × (s.journal ≡ lengthened r.journal h ++ lefts_from 0 left)
 
--- a stop or a count of hart h
-abbrev pub IsEntered : ℕ → Stage → Stage → Type 0
-IsEntered h r s = (e : Entry) × (hart_of e ≡ Some h) × (s.journal ≡ r.journal ++ e ∷ [])
+-- this was noted
+abbrev pub Adds : Entry → Stage → Stage → Type 0
+Adds e r s = s.journal ≡ r.journal ++ e ∷ []
 
--- one move of hart h
+-- what a row of the table of moves lets hart h do: an instruction, or the stop by its fault; a stop; a count; or a part of a step over a breakpoint
+abbrev pub FitsRow : Row → ℕ → Stage → Stage → Type 0
+FitsRow Executes h r s = IsStep h r s ⊎ ((cause : Cause) × Adds (Stopped h (Fault cause)) r s)
+FitsRow Stops h r s = (why : Why) × Adds (Stopped h why) r s
+FitsRow Interrupts h r s = Adds (Stopped h Interrupted) r s
+FitsRow Counts h r s = Adds (Counted h) r s
+FitsRow Begins h r s = IsSilent h r s
+FitsRow Finishes h r s = IsSilent h r s
+FitsRow Over h r s = ⊥
+FitsRow Rests h r s = ⊥
+FitsRow (Waits by) h r s = ⊥
+
+-- one move of hart h: that of the first row that fits
 abbrev pub IsMove : ℕ → Stage → Stage → Type 0
-IsMove h r s = IsSilent h r s ⊎ (IsStep h r s ⊎ IsEntered h r s)
+IsMove h r s = FitsRow (first_row r h) h r s
 
--- what a turn of hart h does, in a session that goes on
-abbrev pub Turns : Turn → ℕ → Told → Told → Stage → Stage → Type 0
-Turns turn.Stood h t u r s = (u ≡ t) × (s ≡ r) × ((may_go r.opening r.state && moves_at r h) ≡ false)
-Turns turn.Moved h t u r s = Says t u r s true × IsMove h r s
-Turns turn.Unput h t u r s = Says t u r s false × IsMove h r s
-Turns turn.NoMemory h t u r s = Keeps t u r s × ((s ≡ r) ⊎ IsMove h r s)
+-- what a turn of hart h does, in a session that goes on, where a move has to be one of these
+abbrev pub Turns : (Stage → Stage → Type 0) → Turn → ℕ → Told → Told → Stage → Stage → Type 0
+Turns Fits turn.Stood h t u r s = (u ≡ t) × (s ≡ r) × ((may_go r.opening r.state && moves_at r h) ≡ false)
+Turns Fits turn.Moved h t u r s = Says t u r s true × Fits r s
+Turns Fits turn.Unput h t u r s = Says t u r s false × Fits r s
+Turns Fits turn.NoMemory h t u r s = Keeps t u r s × ((s ≡ r) ⊎ Fits r s)
 
 -- No line came: the journal's cuts at its lines are as they were. It grew only where a hart ran.
 pub record Goes (r s : Stage) : Type 0 where

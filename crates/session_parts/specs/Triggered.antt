@@ -5,14 +5,14 @@ use Rattle.dbg_model.specs.declared.entry.Entry.{Entry}
 use Rattle.dbg_model.specs.declared.entry.Entry.TheVariants.{Ran, Stopped, Did}
 use Rattle.dbg_model.specs.declared.entry.Why.TheVariants.{Watch as ByWatch}
 use Rattle.dbg_model.specs.declared.opening.Opening.{Opening}
-use Rattle.dbg_model.specs.declared.watch.Fired.{Fired}
-use Rattle.dbg_model.specs.declared.watch.Watch.{Watch}
+use Rattle.watch_points.specs.declared.watchpoint.Fired.{Fired}
+use Rattle.watch_points.specs.declared.watchpoint.Watch.{Watch}
 use Rattle.dbg_model.specs.State.{State}
 use Rattle.dbg_model.specs.Lawful.{one, ran}
 use Rattle.dbg_model.specs.Journals.{Leaves, ran_count}
 use Rattle.dbg_model.specs.Outcome.{Change, deletes, enables}
 use Rattle.dbg_model.specs.Reply.{answer_of}
-use Rattle.dbg_model.specs.Watches.{worth, fired_by, is_one_of}
+use Rattle.watch_points.specs.Watches.{worth, fired_by, is_one_of}
 
 -- an instruction of hart h led from s to t, and left the bytes of this enabled watch with another value, of those before it in the
 -- list none

@@ -1,5 +1,5 @@
-//! The parts of `dbg_session` that need no session (words and file, input, output, the headline and how a run ends), apart so that they
-//! are proved beside `dbg_engine`.
+//! The parts of a session that need no session (words and file, input, output, the headline and how a run ends), apart so that they are
+//! proved beside `dbg_engine` and the loop.
 #![tactic(auto)]
 
 mod closing;

@@ -1,12 +1,6 @@
 use Rattle.session_check.proofs.Ends.{file_end, recorded_end, session_ends}
 use Rattle.dbg_session.proofs.run.debug_run.Goals as goal
 
-pub finish-requires : goal.finish-requires
-finish-requires g c =
-    let h = c.close.ensures in
-    let s = c.run_serial.new.self in
-    record { run = s.run; input = s.input; left = h.closed; tied = rw h.world (rw h.status h.tied) }
-
 pub returns-in-Err-clause-recorded : goal.returns-in-Err-clause-recorded
 returns-in-Err-clause-recorded g c =
     let e = c.in-Err.ended in
@@ -14,12 +8,12 @@ returns-in-Err-clause-recorded g c =
 
 pub returns-in-Ok-begin-clause-file : goal.returns-in-Ok-begin-clause-file
 returns-in-Ok-begin-clause-file g c =
-    let e = c.finish.result in
+    let e = c.run_session.result in
     let t = g.W.World.told e.world in
-    λ f r. file_end e.status t e.closed f (session_ends e.status t e.closed c.finish.ensures) r
+    λ f r. file_end e.status t e.closed f (session_ends e.status t e.closed c.run_session.ensures) r
 
 pub returns-in-Ok-begin-clause-recorded : goal.returns-in-Ok-begin-clause-recorded
 returns-in-Ok-begin-clause-recorded g c =
-    let e = c.finish.result in
+    let e = c.run_session.result in
     let t = g.W.World.told e.world in
-    recorded_end e.status t e.closed (session_ends e.status t e.closed c.finish.ensures)
+    recorded_end e.status t e.closed (session_ends e.status t e.closed c.run_session.ensures)

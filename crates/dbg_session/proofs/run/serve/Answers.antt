@@ -1,6 +1,6 @@
 use denote.Param.Send.{sendable}
 use Rattle.std.proofs.Crossing.{crosses}
-use Rattle.dbg_session.proofs.Sending.{session_send}
+use Rattle.session_loop.proofs.Sending.{session_send}
 use Rattle.session_parts.proofs.Sending.{outside_send}
 use Rattle.dbg_session.proofs.run.serve.Goals as goal
 

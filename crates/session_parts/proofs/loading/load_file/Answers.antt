@@ -60,7 +60,9 @@ returns-in-Err-Fault-clause-early g c =
     let P : ElfReadError → Type 0 = λ x. Reads c.in-Ok.bytes.items (Err x) in
     let refused = subst P c.in-Err-Fault.field-0-is c.in-Err-Fault.ensures.read in
     let puts = rw c.in-Err-Fault.field-0-is at c.in-Ok-put_bad_file.ensures in
-    rw (e.status, e.world, c.in-Err-Fault.field-0-is) (early_file _ (told c.args.world) (told c.read_all.new.world) (told c.put_bad_file.new.world) c.args.name c.args.settings c.args.has_log c.in-Ok.bytes.items c.in-Err-Fault.fault c.requires.fresh c.requires.asked c.in-Ok.ensures refused puts)
+    rw (e.status, e.world, c.in-Err-Fault.field-0-is)
+    (early_file _ (told c.args.world) (told c.read_all.new.world) (told c.put_bad_file.new.world) c.args.name c.args.settings c.args.has_log
+    c.in-Ok.bytes.items c.in-Err-Fault.fault c.requires.fresh c.requires.asked c.in-Ok.ensures refused puts)
 
 pub returns-in-Err-Memory-clause-early : goal.returns-in-Err-Memory-clause-early
 returns-in-Err-Memory-clause-early g c =

@@ -1,5 +1,0 @@
-use Rattle.std.proofs.Common.{length}
-use Rattle.dbg_session.proofs.steps.+report_entries.Given as goal
-
-abbrev pub decreases-report_entries : goal.decreases-report_entries
-decreases-report_entries l = length l.entries.now

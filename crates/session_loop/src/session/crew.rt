@@ -1,0 +1,219 @@
+// A session as a crew: its duties are rounds, its jobs the slices of harts.
+ghost use Rattle.std.specs.Prelude.{◌≡◌, ◌≢◌, ◌<◌, ◌≤◌, ◌↔◌, ◌&&◌, true, false, None, IfSome, IsTrue, is_none, is_some, nat_lt, slice_set};
+ghost use Rattle.engine_parts.specs.Steps.{NoneOut};
+ghost use Rattle.session_parts.specs.Crew.{Duties, Gives, IsIdle, IsWorkOf, Reaches, ServesAlone, ServesHart, TakesBack, TakesBy};
+ghost use Rattle.session_parts.specs.Round.{moment};
+ghost use Rattle.session_parts.specs.Seen.{work};
+
+use super::{HARTS, Session};
+use crate::ending::over;
+use dbg_engine::{Commit, SPARE};
+use dbg_traits::World;
+use hart_workers::{Crew, Duty};
+use reg_slices::{Job, Slice, run_slice};
+use session_parts::Status;
+
+// Clears the mark of a hart, if it has one.
+fn clear(marks: &mut [bool], hart: u32)
+    ensures { marks.new ≡ slice_set marks.old hart false }
+{
+    if (hart as usize) < marks.len() {
+        marks[hart as usize] = false;
+    }
+}
+
+impl<W: World> Session<W> {
+    /// The number of workers, 0 to 16.
+    pub fn workers(&self) -> u32
+        ensures value { result ≡ self.now.run.opening.settings.workers }
+        ensures most { result ≤ 16 }
+    {
+        self.engine.settings().workers
+    }
+
+    // One round, and then the hart that was picked, where the session goes on.
+    fn go(&mut self) -> Option<u32>
+        requires { self.old.status ≡ None }
+        ensures opening { self.new.run.opening ≡ self.old.run.opening }
+        ensures reaches { Reaches result (moment W.told self.old) (moment W.told self.new) }
+        ensures known { IfSome result (λ h. h < self.new.run.opening.settings.harts) }
+        ensures less { NoneOut self.old.out → work self.new < work self.old }
+    {
+        let hart = self.go_round()?;
+        if self.status.is_some() {
+            return None;
+        }
+        Some(hart)
+    }
+
+    // The job of a hart, if it gives one. It is out from then on.
+    fn hand_out(&mut self, hart: u32) -> Option<Job>
+        requires { hart < self.old.run.opening.settings.harts }
+        ensures opening { self.new.run.opening ≡ self.old.run.opening }
+        ensures gives { Gives hart result (moment W.told self.old) (moment W.told self.new) }
+        ensures work { work self.new ≡ work self.old }
+    {
+        let job = self.engine.check_out(hart)?;
+        self.out[hart as usize] = true;
+        Some(job)
+    }
+
+    // Commits a slice in a session that goes on, if it can be taken still.
+    fn commit(&mut self, slice: &Slice)
+        requires going { self.old.status ≡ None }
+        requires some { 1 ≤ slice.now.count }
+        ensures opening { self.new.run.opening ≡ self.old.run.opening }
+        ensures takes { TakesBy true slice.now (moment W.told self.old) (moment W.told self.new) }
+        ensures less { work self.new ≤ work self.old }
+    {
+        if self.engine.reserve_journal(SPARE).is_err() {
+            self.status = Some(Status::NoMemory);
+            return;
+        }
+        match self.engine.commit(slice) {
+            Commit::Took => self.status = over(&self.engine, self.count),
+            Commit::Stale => {}
+        }
+    }
+
+    // Commits a slice of at least one instruction where the session goes on.
+    fn bring(&mut self, slice: &Slice)
+        ensures opening { self.new.run.opening ≡ self.old.run.opening }
+        ensures takes { TakesBy (is_none self.old.status && nat_lt 0 slice.now.count) slice.now (moment W.told self.old) (moment W.told self.new) }
+        ensures less { work self.new ≤ work self.old }
+    {
+        if self.status.is_some() {
+            return;
+        }
+        if slice.count == 0 {
+            return;
+        }
+        self.commit(slice);
+    }
+
+    // The job of a hart, if it gives one, is worked and taken at once.
+    #[cold]
+    #[inline(never)]
+    fn serve_apart(&mut self, hart: u32)
+        requires going { self.old.status ≡ None }
+        requires known { hart < self.old.run.opening.settings.harts }
+        ensures opening { self.new.run.opening ≡ self.old.run.opening }
+        ensures serves { ServesHart hart (moment W.told self.old) (moment W.told self.new) }
+        ensures less { work self.new ≤ work self.old }
+    {
+        let Some(job) = self.hand_out(hart) else {
+            return;
+        };
+        let slice = Self::work(job);
+        self.take(slice);
+    }
+
+    // Does what the job of a hart asks for, if it gives one: where the words stand, and apart only where there is no room for
+    // an entry, since then it depends on the slice whether any is wanted.
+    fn serve(&mut self, hart: u32)
+        requires going { self.old.status ≡ None }
+        requires known { hart < self.old.run.opening.settings.harts }
+        requires none { NoneOut self.old.out }
+        ensures opening { self.new.run.opening ≡ self.old.run.opening }
+        ensures serves { ServesHart hart (moment W.told self.old) (moment W.told self.new) }
+        ensures less { work self.new ≤ work self.old }
+    {
+        if self.engine.reserve_journal(SPARE).is_err() {
+            self.serve_apart(hart);
+            return;
+        }
+        self.engine.serve(hart);
+        self.status = over(&self.engine, self.count);
+    }
+
+    /// Forgets whose jobs are out, and does duties until the status is set. What a job asks for is done at once, where the
+    /// words stand. The duties are those of `duty`, but no `Duty` is made of them: to move one through each round takes longer
+    /// than the rest of it.
+    pub fn run_serial(&mut self)
+        ensures over { self.new.status ≢ None }
+        ensures opening { self.new.run.opening ≡ self.old.run.opening }
+        ensures serves { ServesAlone (moment W.told self.old) (moment W.told self.new) }
+    {
+        self.out = [false; HARTS];
+        'duties: while self.status.is_none() {
+            let Some(hart) = self.go() else { continue };
+            self.serve(hart);
+        }
+    }
+}
+
+impl<W: World> Crew for Session<W> {
+    type Job = Job;
+
+    type Done = Slice;
+
+    ghost is_over = { λ s. is_some s.status };
+
+    /// A round, where the status isn't set, and then a job of the hart that was picked, if it gives one.
+    fn duty(&mut self, _worker: u32) -> Duty<Job>
+        ensures over { (result ≡ Duty.Over) ↔ (is_some self.old.status ≡ true) }
+        ensures stays { result ≡ Duty.Over → self.new ≡ self.old }
+        ensures opening { self.new.run.opening ≡ self.old.run.opening }
+        ensures duties { Duties result (moment W.told self.old) (moment W.told self.new) }
+        ensures less { self.old.status ≡ None → NoneOut self.old.out → work self.new < work self.old }
+    {
+        if self.status.is_some() {
+            return Duty::Over;
+        }
+        let Some(hart) = self.go() else {
+            return Duty::Again;
+        };
+        match self.hand_out(hart) {
+            Some(job) => Duty::Job(job),
+            None => Duty::Again,
+        }
+    }
+
+    fn hart_of(job: &Job) -> u32
+        ensures { result ≡ job.now.hart }
+    {
+        job.hart
+    }
+
+    /// The slice of the job that has the greatest count.
+    fn work(job: Job) -> Slice
+        ensures { IsWorkOf job result }
+    {
+        run_slice(job)
+    }
+
+    /// The slice's hart has no job out any more. Where the status isn't set the slice's instructions, if there are any, are done
+    /// in one, and no line is put. A slice that can't be taken any more is forgotten.
+    fn take(&mut self, slice: Slice)
+        ensures opening { self.new.run.opening ≡ self.old.run.opening }
+        ensures takes { TakesBack slice (moment W.told self.old) (moment W.told self.new) }
+        ensures less { work self.new ≤ work self.old }
+    {
+        clear(&mut self.out, slice.hart);
+        self.bring(&slice);
+        let Slice {
+            hart: _,
+            regs: _,
+            at: _,
+            words: _,
+            count: _,
+            after: _,
+        } = slice;
+    }
+
+    /// Whether the status is set.
+    fn over(&self) -> bool
+        ensures { result ≡ is_some self.now.status }
+    {
+        self.status.is_some()
+    }
+
+    /// Whether harts run, each of which has a job out, and no line is known that can be done meanwhile.
+    fn is_idle(&self) -> bool
+        ensures { IsTrue result → IsIdle (moment W.told self.now) }
+    {
+        self.engine.any_running()
+            && self.must_wait()
+            && self.engine.next_running(self.next, &self.out).is_none()
+    }
+}

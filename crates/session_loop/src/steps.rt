@@ -1,0 +1,185 @@
+// A turn of a hart and a line of input, over the parts of a session.
+ghost use Rattle.std.specs.Prelude.{◌≡◌, ◌<◌, ◌≤◌, ◌+◌, ◌++◌, length, OnOk, MatchResult, true};
+ghost use Rattle.dbg_model.specs.Lawful.{may_go};
+ghost use Rattle.engine_parts.specs.Seen.{seen};
+ghost use Rattle.engine_parts.specs.Facts.{Facts};
+ghost use Rattle.mi_values.specs.Records.{lines_bytes, AreLines};
+ghost use Rattle.mi_reports.specs.Replies.{reply_lines};
+ghost use Rattle.session_parts.specs.Puts.{PutsLines};
+ghost use Rattle.session_parts.specs.Reported.{AreMoved, Notes, NotesLine, is_last, move_lines, shown_lines};
+ghost use Rattle.session_parts.specs.Stage.{stage_of, work_of};
+ghost use Rattle.session_parts.specs.Steps.{IsMove, Turns, Goes, Does, Answers};
+ghost use Rattle.session_parts.specs.declared.turn.Turn.TheVariants as turn;
+
+use crate::lines::{command, must_wait};
+use dbg_answers::read_line;
+use dbg_engine::{Engine, Move, SPARE, Turned};
+use dbg_model::{Entry, Reply, Shown, ThreadView};
+use dbg_traits::{NoMemory, World};
+use mi_input::next_line;
+use mi_reports::report;
+use session_parts::{Done, Turn, put_all, put_entry};
+use std::alloc::Global;
+
+// Whether nothing is noted behind an entry.
+fn is_last(behind: &[Entry]) -> bool
+    ensures { result ≡ is_last behind.now }
+{
+    match behind {
+        [] => true,
+        [_, ..] => false,
+    }
+}
+
+// Puts the lines of entries at the end that this move noted, or lengthened by an instruction. Behind them nothing is noted.
+#[tactic(auto, using(std::proofs::lemmas::Grind::common_steps, session_parts::proofs::Noting::shows_may, mi_values::proofs::Joined::lines_joined))]
+fn report_entries(
+    engine: &Engine,
+    moved: Move,
+    entries: &[Entry],
+    into: &mut Vec<u8>,
+) -> Result<(), NoMemory>
+    requires { AreMoved (length engine.now.minds) entries.now }
+    ensures written { OnOk result (into.new.items ≡ into.old.items ++ lines_bytes (shown_lines engine.now moved entries.now)) }
+    ensures grammar { OnOk result (AreLines (shown_lines engine.now moved entries.now)) }
+{
+    match entries {
+        [] => Ok(()),
+        [entry, rest @ ..] => {
+            let shown = engine.shown(moved, entry, is_last(rest))?;
+            report(entry, &shown, into)?;
+            report_entries(engine, moved, rest, into)
+        }
+    }
+}
+
+// Puts the lines of a move of a hart at the end, before which so many entries were noted.
+fn report_move(
+    engine: &Engine,
+    moved: Move,
+    hart: u32,
+    before: u64,
+    into: &mut Vec<u8>,
+) -> Result<(), NoMemory>
+    requires { Notes engine.now before }
+    ensures written { OnOk result (into.new.items ≡ into.old.items ++ lines_bytes (move_lines engine.now moved hart before)) }
+    ensures grammar { OnOk result (AreLines (move_lines engine.now moved hart before)) }
+{
+    match moved {
+        Move::Wrote { .. } => {
+            let ran = [Entry::Ran { hart, count: 1 }];
+            report_entries(engine, moved, &ran, into)
+        }
+        Move::Left | Move::AllLeft | Move::Stopped => {
+            let count = (engine.noted() - before) as usize;
+            report_entries(engine, moved, engine.last_noted(count), into)
+        }
+        Move::Ran | Move::Counted | Move::Copied | Move::Lifted | Move::Fixed | Move::Planted => {
+            Ok(())
+        }
+    }
+}
+
+/// One turn of a hart, with its lines, which go through the memory of `lines`.
+pub fn turn_once<W: World>(
+    world: &mut W,
+    engine: &mut Engine,
+    hart: u32,
+    lines: &mut Vec<u8>,
+) -> Turn
+    requires hart { hart < length engine.old.minds }
+    requires facts { Facts engine.old }
+    ensures facts { Facts engine.new }
+    ensures opening { engine.new.opening ≡ engine.old.opening }
+    ensures goes { Goes (stage_of engine.old) (stage_of engine.new) }
+    ensures less { result ≡ turn.Moved → work_of (stage_of engine.new) < work_of (stage_of engine.old) }
+    ensures turns { Turns (IsMove hart) result hart (W.told world.old) (W.told world.new) (stage_of engine.old) (stage_of engine.new) }
+{
+    if engine.reserve_journal(SPARE).is_err() {
+        return Turn::NoMemory;
+    }
+    let before = engine.noted();
+    let Turned::Moved(moved) = engine.turn(hart) else {
+        return Turn::Stood;
+    };
+    lines.clear();
+    let Ok(()) = report_move(engine, moved, hart, before, lines) else {
+        return Turn::NoMemory;
+    };
+    if put_all(world, lines.as_slice()) {
+        Turn::Moved
+    } else {
+        Turn::Unput
+    }
+}
+
+// Does a line, and answers it; it isn't done where it waits while a hart runs, and then has no reply.
+fn carry_out(
+    alloc: Global,
+    engine: &mut Engine,
+    line: &[u8],
+    threads: &mut Vec<ThreadView>,
+) -> Result<Option<Reply>, NoMemory>
+    requires may { may_go engine.old.opening (seen engine.old) ≡ true }
+    requires facts { Facts engine.old }
+    ensures facts { Facts engine.new }
+    ensures answers { MatchResult result (λ reply. Answers line.now reply engine.old engine.new) (λ _. engine.new ≡ engine.old) }
+{
+    let read = read_line(alloc, line)?;
+    if must_wait(engine, line, &read) {
+        return Ok(None);
+    }
+    Ok(Some(command(alloc, engine, line, read, threads)?))
+}
+
+// Puts the lines of a line that was done, before which so many entries were noted, with its reply. False where a put failed.
+// Out of memory, the one error, nothing is put.
+fn put_done<W: World>(
+    world: &mut W,
+    engine: &Engine,
+    before: u64,
+    reply: Reply,
+    lines: &mut Vec<u8>,
+) -> Result<bool, NoMemory>
+    requires { NotesLine engine.now before }
+    ensures { MatchResult result (λ put. PutsLines put (reply_lines reply) (W.told world.old) (W.told world.new)) (λ _. world.new ≡ world.old) }
+{
+    let count = (engine.noted() - before) as usize;
+    match engine.last_noted(count) {
+        [done, ..] => put_entry(world, done, &Shown::Answer { reply }, lines),
+        [] => unreachable!(),
+    }
+}
+
+/// The next line of the rest of the input, with its reply, in a session that may go on. What it sees of the harts goes through
+/// the memory of `threads`, and its reply through that of `lines`.
+pub fn line_once<W: World>(
+    alloc: Global,
+    world: &mut W,
+    engine: &mut Engine,
+    rest: &[u8],
+    ended: bool,
+    threads: &mut Vec<ThreadView>,
+    lines: &mut Vec<u8>,
+) -> Done
+    requires may { may_go engine.old.opening (seen engine.old) ≡ true }
+    requires facts { Facts engine.old }
+    ensures facts { Facts engine.new }
+    ensures opening { engine.new.opening ≡ engine.old.opening }
+    ensures work { work_of (stage_of engine.new) ≤ work_of (stage_of engine.old) + 832 }
+    ensures does { Does result ended rest.now (W.told world.old) (W.told world.new) (stage_of engine.old) (stage_of engine.new) }
+{
+    let Some((text, next)) = next_line(rest, ended) else {
+        return Done::Nothing;
+    };
+    let before = engine.noted();
+    match carry_out(alloc, engine, &rest[..text], threads) {
+        Ok(Some(reply)) => match put_done(world, engine, before, reply, lines) {
+            Ok(true) => Done::Done(next),
+            Ok(false) => Done::Unput(next),
+            Err(NoMemory) => Done::Unsaid(next),
+        },
+        Ok(None) => Done::Waits,
+        Err(NoMemory) => Done::NoMemory,
+    }
+}

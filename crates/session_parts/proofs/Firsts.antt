@@ -1,0 +1,88 @@
+-- A move of an engine is that of the first row of the table of moves that fits, as its session sees it.
+use Rattle.std.proofs.Common.{◌≡◌, ℕ, true, [], sym, ◌∙◌, subst}
+use Rattle.std.specs.Prelude.{Option, Some, None}
+use mathlib.Core.Logic.{inl, inr}
+use mathlib.Core.List.{append-nil}
+use Rattle.dbg_model.specs.declared.entry.Entry.TheVariants.{Stopped}
+use Rattle.dbg_model.specs.declared.entry.Why.{Why}
+use Rattle.dbg_model.specs.declared.entry.Why.TheVariants as whys
+use Rattle.dbg_model.specs.Journals.{last_why, lengthened}
+use Rattle.step_over.specs.declared.phase.Phase.{Phase}
+use Rattle.step_over.specs.declared.phase.Phase.TheVariants as phase
+use Rattle.engine_parts.specs.declared.mind.Mind.{Mind}
+use Rattle.engine_parts.specs.declared.mind.Hold.{Hold}
+use Rattle.engine_parts.specs.declared.moving.Turned.{Turned}
+use Rattle.engine_parts.specs.declared.moving.Turned.TheVariants as turned
+use Rattle.engine_parts.specs.declared.moving.Move.{Move}
+use Rattle.engine_parts.specs.declared.moving.Move.TheVariants as move
+use Rattle.engine_parts.specs.Calls.{Moves, Rephases, Turns}
+use Rattle.engine_parts.specs.Minds.{with_phase}
+use Rattle.engine_parts.specs.Rows.{Row, Begins, Counts, Executes, Finishes, row_at, row_of, row_stopped}
+use Rattle.engine_parts.specs.Seen.{Engine}
+use Rattle.engine_parts.specs.Several.{is_quiet}
+use Rattle.engine_parts.proofs.Arrivals.{halts_row, stopped_halts}
+use Rattle.session_parts.specs.Stage.{Stage, first_row, stage_of}
+use Rattle.session_parts.specs.Steps.{Adds, IsMove, IsSilent, IsStep, FitsRow}
+
+-- the move of this row, which is the first that fits
+at_row : (row : Row) (r s : Stage) (h : ℕ) → row ≡ first_row r h → FitsRow row h r s → IsMove h r s
+at_row row r s h is m = subst (λ k. FitsRow k h r s) is m
+
+pub a_step : (r s : Engine) (h : ℕ) → s.journal ≡ lengthened r.journal h → IsStep h (stage_of r) (stage_of s)
+a_step r s h e = ([], e ∙ sym (append-nil (lengthened r.journal h)))
+
+an_instruction : (r s : Engine) (h : ℕ) → Executes ≡ row_at r h → IsStep h (stage_of r) (stage_of s) → IsMove h (stage_of r) (stage_of s)
+an_instruction r s h is m = at_row Executes (stage_of r) (stage_of s) h is (inl m)
+
+is_silent : (r s : Engine) (h : ℕ) (x : Mind) (p : Phase) (hold : Option Hold) → Rephases r s h x p hold → IsSilent h (stage_of r) (stage_of s)
+is_silent r s h x p hold m = (m.journal, (with_phase x p, m.minds))
+
+begins : (r s : Engine) (h : ℕ) (x : Mind) (p : Phase) (hold : Option Hold) → Begins ≡ row_at r h → Rephases r s h x p hold → IsMove h (stage_of r) (stage_of s)
+begins r s h x p hold is m = at_row Begins (stage_of r) (stage_of s) h is (is_silent r s h x p hold m)
+
+finishes : (r s : Engine) (h : ℕ) (x : Mind) (p : Phase) (hold : Option Hold) → Finishes ≡ row_at r h → Rephases r s h x p hold → IsMove h (stage_of r) (stage_of s)
+finishes r s h x p hold is m = at_row Finishes (stage_of r) (stage_of s) h is (is_silent r s h x p hold m)
+
+a_stop : (why : Why) (r s : Stage) (h : ℕ) → Adds (Stopped h why) r s → FitsRow (row_stopped why) h r s
+a_stop whys.Interrupted r s h e = e
+a_stop (whys.Fault cause) r s h e = inr (cause, e)
+a_stop (whys.Break number error) r s h e = (whys.Break number error, e)
+a_stop (whys.Watch fired) r s h e = (whys.Watch fired, e)
+a_stop whys.Stepped r s h e = (whys.Stepped, e)
+a_stop whys.Finished r s h e = (whys.Finished, e)
+
+moves_first : (m : Move) (r s : Engine) (h : ℕ) → row_of (turned.Moved m) (last_why s.journal) ≡ row_at r h → Moves m r s h → IsMove h (stage_of r) (stage_of s)
+moves_first move.Ran r s h is d = an_instruction r s h is (a_step r s h d.journal)
+moves_first (move.Wrote addr len) r s h is (out, some, bytes, d) = an_instruction r s h is (a_step r s h d.journal)
+moves_first move.Left r s h is (code, d) = an_instruction r s h is (d.between.harts, d.journal)
+moves_first move.AllLeft r s h is (code, count, d) = an_instruction r s h is (d.between.harts, d.journal)
+moves_first move.Counted r s h is d = at_row Counts (stage_of r) (stage_of s) h is d.journal
+moves_first move.Stopped r s h is (why, m) =
+    let d = stopped_halts why r s h m in
+    at_row (row_stopped why) (stage_of r) (stage_of s) h (sym (halts_row r s h why d) ∙ is) (a_stop why (stage_of r) (stage_of s) h d.journal)
+moves_first move.Copied r s h is d = begins r s h d.mind (phase.Copied d.slot d.home) None is d.rephases
+moves_first move.Lifted r s h is d = begins r s h d.mind (phase.Lifted d.home) (Some (record { hart = h; home = d.home })) is d.rephases
+moves_first move.Fixed r s h is d = finishes r s h d.mind phase.Idle None is d.rephases
+moves_first move.Planted r s h is d = finishes r s h d.mind phase.Idle None is d.rephases
+
+-- a move of an engine, before its room was made
+pub moved_first : (m : Move) (e r s : Engine) (h : ℕ) → r ≡ record e { spare = r.spare } → row_of (turned.Moved m) (last_why s.journal) ≡ row_at r h → Moves m r s h → IsMove h (stage_of e) (stage_of s)
+moved_first m e r s h is first d =
+    let q : Engine = record e { spare = r.spare } in
+    let P : Engine → Type 0 = λ u. row_of (turned.Moved m) (last_why s.journal) ≡ row_at u h in
+    let Q : Engine → Type 0 = λ u. Moves m u s h in
+    moves_first m q s h (subst P is first) (subst Q is d)
+
+-- a turn of which nothing is said
+pub quiet_first : (t : Turned) (r s : Engine) (h : ℕ) → is_quiet t ≡ true → row_at r h ≡ row_of t None → Turns t r s h → IsMove h (stage_of r) (stage_of s)
+quiet_first (turned.Moved move.Ran) r s h quiet is d = an_instruction r s h (sym is) (a_step r s h d.journal)
+quiet_first (turned.Moved move.Copied) r s h quiet is d = begins r s h d.mind (phase.Copied d.slot d.home) None (sym is) d.rephases
+quiet_first (turned.Moved move.Lifted) r s h quiet is d = begins r s h d.mind (phase.Lifted d.home) (Some (record { hart = h; home = d.home })) (sym is) d.rephases
+quiet_first (turned.Moved move.Fixed) r s h quiet is d = finishes r s h d.mind phase.Idle None (sym is) d.rephases
+quiet_first (turned.Moved move.Planted) r s h quiet is d = finishes r s h d.mind phase.Idle None (sym is) d.rephases
+quiet_first (turned.Moved (move.Wrote addr len)) r s h quiet is d = cc
+quiet_first (turned.Moved move.Left) r s h quiet is d = cc
+quiet_first (turned.Moved move.AllLeft) r s h quiet is d = cc
+quiet_first (turned.Moved move.Counted) r s h quiet is d = cc
+quiet_first (turned.Moved move.Stopped) r s h quiet is d = cc
+quiet_first (turned.Stood why) r s h quiet is d = cc
