@@ -1,6 +1,6 @@
 // Programs that rows of several benches ask for.
 use elf_checks::read_image;
-use elf_gen::{generate, plain};
+use elf_gen::{fits, generate, plain};
 use elf32_read::Image;
 use std::alloc::Global;
 
@@ -12,6 +12,9 @@ pub fn words_image(alloc: Global, count: u32) -> Option<Image> {
     let mut words = Vec::new(alloc);
     for _ in 0..count.min(MOST_WORDS) {
         words.push(0x13).ok()?;
+    }
+    if !fits(words.as_slice(), b"") {
+        return None;
     }
     read_image(alloc, plain(alloc, words.as_slice(), b"").ok()?).ok()
 }

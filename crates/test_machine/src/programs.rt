@@ -2,7 +2,7 @@
 use data_memory::DataMemory;
 use dbg_traits::Settings;
 use elf_checks::read_image;
-use elf_gen::plain;
+use elf_gen::{fits, plain};
 use elf32_read::Image;
 use hart_machine::Machine;
 use std::alloc::Global;
@@ -33,6 +33,9 @@ const BYTES: [u8; 8] = [1, 2, 3, 4, 5, 6, 7, 0x88];
 /// The program of these words. None where it is no program, or memory runs out.
 pub fn image_of(alloc: Global, words: &str) -> Option<Image> {
     let words = hex_words(alloc, words).ok()?;
+    if !fits(words.as_slice(), &BYTES) {
+        return None;
+    }
     read_image(alloc, plain(alloc, words.as_slice(), &BYTES).ok()?).ok()
 }
 

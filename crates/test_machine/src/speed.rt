@@ -4,7 +4,7 @@ ghost use Rattle.std.specs.Prelude.{◌≤◌};
 
 use data_memory::DataMemory;
 use elf_checks::read_image;
-use elf_gen::plain;
+use elf_gen::{fits, plain};
 use rv_decode::{Instr, decode};
 use rv_exec::{DataPort, Effect, Regs, execute};
 use std::alloc::{AllocError, Global};
@@ -25,7 +25,11 @@ const LOOP: [u32; 9] = [
 
 // The memory of a program with that loop and 64 bytes of data; none where memory runs out.
 fn memory_of_loop(alloc: Global) -> Option<DataMemory> {
-    let file = plain(alloc, &LOOP, &[0; 64]).ok()?;
+    let data = [0; 64];
+    if !fits(&LOOP, &data) {
+        return None;
+    }
+    let file = plain(alloc, &LOOP, &data).ok()?;
     let image = read_image(alloc, file).ok()?;
     DataMemory::load(alloc, &image, 1).ok()
 }

@@ -1,5 +1,5 @@
 // Files and scripts that are made.
-use elf_gen::{generate, plain, script};
+use elf_gen::{fits, generate, plain, script};
 use std::alloc::Global;
 use test_rows::{RowFault, number, read_hex, told_bytes};
 
@@ -12,6 +12,9 @@ fn push_words(words: &mut Vec<u32>, texts: &str) -> Result<(), RowFault> {
 
 fn with_data(alloc: Global, words: &[u32], digits: &str) -> Result<Vec<u8>, RowFault> {
     let data = read_hex(alloc, digits)?;
+    if !fits(words, &data) {
+        return Err(RowFault::Unknown);
+    }
     Ok(plain(alloc, words, &data)?)
 }
 
