@@ -8,6 +8,7 @@ import time
 
 from fuzz.cases import KINDS
 from fuzz.runs import Runner, limit_memory, run
+from fuzz.starter import Starter
 
 BATCH = 50
 # Files in memory, where the system has a place for them.
@@ -17,9 +18,11 @@ RUNNER = None
 
 def kinds_of(program, top):
     """The kinds that the program can have: logs where it knows --check."""
+    starter = Starter()
     with tempfile.TemporaryDirectory() as folder:
-        done = run(os.path.abspath(program), ["--check", os.path.join(top, "examples", "mine", "mine")], b"", folder)
+        done = run(starter, [os.path.abspath(program), "--check", os.path.join(top, "examples", "mine", "mine")], b"", folder)
         knows = done.output.startswith(b"check ")
+    starter.close()
     return [*KINDS, *(["log"] if knows else [])]
 
 

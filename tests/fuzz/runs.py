@@ -4,11 +4,11 @@ import functools
 import os
 import re
 import resource
-import select
 import tempfile
 
 from fuzz.cases import CHECKED, Seeds, case, log_mutant
 from fuzz.mutants import Dice
+from fuzz.starter import Starter
 
 SECONDS = 10.0
 # What a session takes over a program of 16,777,216 mapped bytes, whatever else there is; and then 20 times what it is given.
@@ -27,25 +27,12 @@ class Run:
         self.status, self.output, self.seconds, self.memory = status, output, seconds, memory
 
 
-def run(program, words, lines, folder):
-    """Runs the program in a folder over lines of input. After twice the time that it may take it is killed."""
+def run(starter, words, lines, folder):
+    """Runs a program in a folder over lines of input. After twice the time that it may take it is killed."""
     put(folder, "input", lines)
-    out = os.path.join(folder, "output")
-    actions = [
-        (os.POSIX_SPAWN_OPEN, 0, os.path.join(folder, "input"), os.O_RDONLY, 0),
-        (os.POSIX_SPAWN_OPEN, 1, out, os.O_WRONLY | os.O_CREAT | os.O_TRUNC, 0o600),
-        (os.POSIX_SPAWN_OPEN, 2, os.devnull, os.O_WRONLY, 0),
-    ]
-    child = os.posix_spawn(program, [program, *words], {}, file_actions=actions)
-    handle = os.pidfd_open(child)
-    has_ended = select.select([handle], [], [], 2 * SECONDS)[0]
-    os.close(handle)
-    if not has_ended:
-        os.kill(child, 9)
-    _, status, usage = os.wait4(child, 0)
-    taken = usage.ru_utime + usage.ru_stime if has_ended else 2 * SECONDS
-    with open(out, "rb") as file:
-        return Run(os.waitstatus_to_exitcode(status), file.read(), taken, usage.ru_maxrss << 10)
+    status, seconds, memory = starter.run(words, folder, 2 * SECONDS)
+    with open(os.path.join(folder, "output"), "rb") as file:
+        return Run(status, file.read(), 2 * SECONDS if seconds is None else seconds, memory)
 
 
 def put(folder, name, content):
@@ -112,7 +99,11 @@ class Runner:
 
     def __init__(self, program, top, seed, keep, folder):
         self.program, self.seeds, self.seed, self.keep = os.path.abspath(program), Seeds(top), seed, keep
-        self.folder = tempfile.mkdtemp(dir=folder)
+        self.folder, self.starter = tempfile.mkdtemp(dir=folder), Starter()
+
+    def run(self, words, lines):
+        """Runs the program with these words over lines of input."""
+        return run(self.starter, [self.program, *words], lines, self.folder)
 
     def one(self, kind, number):
         """Does one case, keeps it where it is odd, and gives what is odd."""
@@ -121,7 +112,7 @@ class Runner:
         folder, made = self.folder, case(self.seeds, kind, self.seed, number)
         file = os.path.join(folder, "program")
         put(folder, "program", made.file)
-        done = run(self.program, [*made.words, file], made.lines, folder)
+        done = self.run([*made.words, file], made.lines)
         return self.kept(kind, number, made, list(oddities(done, len(made.file) + len(made.lines))), done)
 
     def log(self, number):
@@ -129,13 +120,13 @@ class Runner:
         folder, made = self.folder, case(self.seeds, "input", self.seed, number)
         file = os.path.join(folder, "program")
         put(folder, "program", made.file)
-        done = run(self.program, ["--log", *made.words, file], made.lines, folder)
+        done = self.run(["--log", *made.words, file], made.lines)
         odd = [] if done.status in STATUSES else ["--log: status %d" % done.status]
         if done.status in (0, 3, 4):
-            checked = run(self.program, ["--check", file], done.output, folder)
+            checked = self.run(["--check", file], done.output)
             odd += [] if checked.output.startswith(b"check accepted") and checked.status == 0 else ["its own log: %.100r" % checked.output]
         text = log_mutant(Dice("mutant %d %d" % (self.seed, number)), done.output)
-        checked = run(self.program, ["--check", file], text, folder)
+        checked = self.run(["--check", file], text)
         if done.status in (0, 3, 4) and (checked.status not in (0, 8) or not CHECKED.fullmatch(checked.output)):
             odd.append("a mutant of its log: status %d, %.100r" % (checked.status, checked.output))
         odd += [it for it in oddities(checked, len(made.file) + len(text)) if "memory" in it or " s" in it[-2:]]
