@@ -12,7 +12,7 @@ from checks.rig import EXITED, OPENING, PATIENCE, RUNNING, Talk
 
 CONTINUE = b"-exec-continue\n"
 NOBODY = 65534
-STACK = 256 * 1024
+STACK = 128 * 1024
 
 
 def check_short_writes(rig):

@@ -1,13 +1,13 @@
 """The records that the stored sessions put: each line that differs, once, in the order of its bytes. The lines of logs are left out.
 
-They stand in `crates/test_session/data/lines`, where a row of `test_session` reads each as a tree and writes it again.
+They stand in `crates/test_texts/data/lines`, where a row of `test_texts` reads each as a tree and writes it again.
 `tests/store-lines` makes that file anew.
 """
 
 import os
 
-STORED = os.path.join("crates", "test_session", "data", "lines")
-ANSWERS = os.path.join("crates", "test_session", "stdout")
+STORED = os.path.join("crates", "test_texts", "data", "lines")
+ANSWERS = os.path.join("crates", "test_texts", "stdout")
 
 
 def is_record_session(folder):

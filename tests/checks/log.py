@@ -6,6 +6,7 @@ import os
 import random
 import re
 
+from checks.journals import check_journals
 from checks.log_faults import MOST, fault_of
 from checks.programs import EXIT, counting, plain
 from checks.rig import EXITED, OPENING, RUNNING, Talk
@@ -200,6 +201,7 @@ def check_log(rig, top):
         rig.put("locks", file.read())
     rig.guarded("log: rows", lambda: check_rows(rig))
     rig.guarded("log: long", lambda: check_long(rig))
+    rig.guarded("log: journals", lambda: check_journals(rig))
     check_all_stored(rig, top)
     rig.guarded("log: damages", lambda: check_damages(rig))
     rig.guarded("log: cuts", lambda: check_cuts(rig))
