@@ -22,6 +22,17 @@ def seconds(words, text=b"", written=subprocess.PIPE):
     return best, done.stdout, done.stderr
 
 
+def begun(file):
+    """The greatest resident set of a session that has begun, in bytes."""
+    process = subprocess.Popen([RVDBG, "--workers", "0", file], stdin=subprocess.PIPE, stdout=subprocess.PIPE)
+    while process.stdout.readline() != b"(gdb)\n":
+        pass
+    with open("/proc/%d/status" % process.pid) as status:
+        peak = [line for line in status if line.startswith("VmHWM")][0]
+    process.communicate()
+    return int(peak.split()[1]) * 1024
+
+
 def host_instructions(words, lines, folder, workers=0):
     """The host's instructions of a whole session, by callgrind."""
     out = os.path.join(folder, "callgrind")
