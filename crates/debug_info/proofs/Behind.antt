@@ -1,19 +1,9 @@
 -- Where readings of abbreviations end, and that more of them than bytes say nothing new.
-use Rattle.std.proofs.Common.{◌≡◌, ◌<◌, ◌≤◌, ◌+◌, ◌-◌, ℕ, zero, suc, Bool, true, false, List, ◌∷◌, length, drop, length-drop, take, Option, None, Some, Result, Ok, Err, refl, arith, ap, subst}
-use Rattle.std.specs.Prelude.{IfOk, IfSome, ◌==◌, ◌&&◌, nat_le, nat_lt, if◌then◌else◌}
-use Rattle.std.proofs.lemmas.Bool.Decides.{nat_tests}
+use Rattle.debug_info.proofs.Words.{◌≡◌, ◌<◌, ◌≤◌, ◌+◌, ◌-◌, ℕ, zero, suc, Bool, true, false, List, ◌∷◌, length, drop, length-drop, take, Option, None, Some, Result, Ok, Err, refl, arith, ap, subst, IfOk, IfSome, ◌==◌, ◌&&◌, nat_le}
+use Rattle.debug_info.proofs.Words.{nat_lt, if◌then◌else◌, nat_tests, read_map, IsBehind, leb_at, leb_length, number_at, uleb_at, ◌>>=◌, Read, found, read, abbreviation_of, declaration_at, end_or, specification_at}
+use Rattle.debug_info.proofs.Words.{specifications_end, where_code, value_behind, values_from, value_at, Declaration, Specification, InfoFault, Value}
 use Rattle.leb_read.specs.Leb as leb
-use Rattle.leb_read.specs.Reading.{read_map}
 use Rattle.leb_read.specs.declared.fault.Leb.TheVariants as leb_fault
-use Rattle.leb_read.specs.Leb.{IsBehind, is_wide, leb_at, leb_length, number_at, uleb_at}
-use Rattle.debug_info.specs.Reading.{◌>>=◌, Read, found, read}
-use Rattle.debug_info.specs.Abbreviations.{abbreviation_of, declaration_at, end_or, specification_at, specifications_end, where_code}
-use Rattle.debug_info.specs.Attributes.{value_behind, values_from}
-use Rattle.debug_info.specs.Forms.{value_at}
-use Rattle.debug_info.specs.declared.abbreviation.Declaration.{Declaration}
-use Rattle.debug_info.specs.declared.abbreviation.Specification.{Specification}
-use Rattle.debug_info.specs.declared.fault.InfoFault.{InfoFault}
-use Rattle.debug_info.specs.declared.form.Value.{Value}
 
 -- a reading ends behind its place
 abbrev pub Ends : {A : Type 0} → List ℕ → ℕ → Read A → Type 0

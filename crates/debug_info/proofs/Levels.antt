@@ -1,9 +1,5 @@
 -- The variables of one level more.
-use Rattle.std.proofs.Common.{◌≡◌, ◌<◌, ◌-◌, ◌++◌, ℕ, zero, suc, List, [], ◌∷◌, map, filter, refl, arith, sym, ◌∙◌, ap, append_assoc}
-use Rattle.std.specs.Prelude.{◌==◌}
-use Rattle.std.proofs.lemmas.List.{map-append}
-use Rattle.debug_info.specs.Scope.{Variable, by_depth}
-use Rattle.debug_info.specs.declared.entry.Entry.{Entry}
+use Rattle.debug_info.proofs.Words.{◌≡◌, ◌<◌, ◌-◌, ◌++◌, ℕ, zero, suc, List, map, filter, arith, sym, ◌∙◌, ap, append_assoc, ◌==◌, map-append, Variable, by_depth, Entry}
 
 pub level_step : (f : Entry → Variable) (own listed : List Entry) (level : ℕ) (whole old new : List Variable) → 0 < level → listed ≡ own → whole ≡ old ++ map f (by_depth level own)
     → new ≡ old ++ map f (filter (λ e. e.level == level) listed) → whole ≡ new ++ map f (by_depth (level - 1) own)

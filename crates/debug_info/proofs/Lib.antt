@@ -1,3 +1,4 @@
+mod Words
 -- Loops over readings: of specifications, entries, units and abbreviations, and where they end.
 pub mod Specified
 pub mod Spanned

@@ -1,9 +1,5 @@
 -- A typedef, const or volatile is followed.
-use Rattle.std.proofs.Common.{◌≡◌, ◌<◌, ◌-◌, ℕ, zero, suc, Bool, true, List, Option, Some, arith, sym, ◌∙◌, ap}
-use Rattle.std.specs.Prelude.{if◌then◌else◌}
-use Rattle.debug_info.specs.Scope.{is_modifier, kind_of, own_kind, type_entry}
-use Rattle.debug_info.specs.declared.entry.Entry.{Entry}
-use Rattle.debug_info.specs.declared.entry.Kind.{Kind}
+use Rattle.debug_info.proofs.Words.{◌≡◌, ◌<◌, ◌-◌, ℕ, zero, suc, Bool, true, List, Option, Some, arith, sym, ◌∙◌, ap, if◌then◌else◌, is_modifier, kind_of, own_kind, type_entry, Entry, Kind}
 
 pub kind_step : (entries : List Entry) (links : ℕ) (e : Entry) (o next : Option Entry) (whole : Kind) → 0 < links → is_modifier e.tag ≡ true → whole ≡ kind_of links entries o → o ≡ Some e → next ≡ type_entry entries e.type_of
     → whole ≡ kind_of (links - 1) entries next

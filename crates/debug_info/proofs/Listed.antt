@@ -1,15 +1,6 @@
 -- The functions of one entry more, and those of a unit that was read.
-use Rattle.std.proofs.Common.{◌≡◌, ℕ, ◌+◌, ◌-◌, ◌<◌, ◌≤◌, ◌^◌, List, [], ◌∷◌, ◌++◌, length, Option, None, Some, Result, Ok, Err, refl, ap, ◌∙◌, sym, arith}
-use Rattle.std.specs.Prelude.{IfSome}
-use Rattle.std.proofs.lemmas.Grind.{flat_map-append}
-use Rattle.address_tables.specs.declared.entry.AddressRange.{AddressRange}
-use Rattle.debug_info.specs.Contents.{entries_or_none, fault_at, faults_at}
-use Rattle.debug_info.specs.Entries.{entries_from, entry_at, entry_list, level_behind}
-use Rattle.debug_info.specs.Functions.{function_list, functions_in, functions_read}
-use Rattle.debug_info.specs.Reading.{found}
-use Rattle.debug_info.specs.declared.entry.Entry.{Entry}
-use Rattle.debug_info.specs.declared.fault.InfoFault.{InfoFault}
-use Rattle.debug_info.specs.declared.fault.UnitFault.{UnitFault}
+use Rattle.debug_info.proofs.Words.{◌≡◌, ℕ, ◌+◌, ◌-◌, ◌<◌, ◌≤◌, ◌^◌, List, [], ◌∷◌, ◌++◌, length, Option, None, Some, Result, Ok, Err, refl, ap, ◌∙◌, sym, arith, IfSome, flat_map-append, AddressRange, entries_or_none, fault_at}
+use Rattle.debug_info.proofs.Words.{faults_at, entries_from, entry_at, entry_list, level_behind, function_list, functions_in, functions_read, found, Entry, InfoFault, UnitFault}
 use Rattle.debug_info.proofs.Specified.{Reading, reading_end, reading_fault, reading_next, reading_start}
 
 -- the functions of the entries that were read

@@ -1,14 +1,6 @@
 -- Marks of the entries that were read: each entry is read again as it was.
-use Rattle.std.proofs.Common.{◌≡◌, ◌<◌, ◌≤◌, ◌+◌, ◌-◌, ◌++◌, ℕ, Bool, false, List, [], ◌∷◌, length, map, Option, None, Some, Result, Err, refl, arith, sym, ◌∙◌, ap}
-use Rattle.std.specs.Prelude.{IfSome, nat_lt, ◌==◌, ◌||◌, if◌then◌else◌}
-use Rattle.std.proofs.lemmas.Bool.Decides.{nat_tests}
-use Rattle.std.proofs.lemmas.List.{map-append}
-use Rattle.debug_info.specs.Entries.{IsLevel, entries_from, entry_at, entry_list, level_behind}
-use Rattle.debug_info.specs.Marks.{AreMarks, AreReread, entry_in, mark_of, reread}
-use Rattle.debug_info.specs.Reading.{found}
-use Rattle.debug_info.specs.declared.entry.Entry.{Entry}
-use Rattle.debug_info.specs.declared.fault.InfoFault.{InfoFault}
-use Rattle.debug_info.specs.declared.mark.Mark.{Mark}
+use Rattle.debug_info.proofs.Words.{◌≡◌, ◌<◌, ◌≤◌, ◌+◌, ◌-◌, ◌++◌, ℕ, Bool, false, List, [], ◌∷◌, length, map, Option, None, Some, Result, Err, refl, arith, sym, ◌∙◌, ap, IfSome, nat_lt, ◌==◌, ◌||◌, if◌then◌else◌, nat_tests, map-append}
+use Rattle.debug_info.proofs.Words.{IsLevel, entries_from, entry_at, entry_list, level_behind, AreMarks, AreReread, entry_in, mark_of, reread, found, Entry, InfoFault, Mark}
 use Rattle.debug_info.proofs.Specified.{Reading, reading_end, reading_fault, reading_next, reading_start}
 
 read_again : (abbrevs strs info : List ℕ) (table unit level at next : ℕ) (e : Entry) → unit ≤ at → at ≤ length info → entry_at abbrevs strs info table unit level at ≡ found (Some e) next

@@ -1,14 +1,6 @@
 -- The entries of a function and of its blocks that cover pc: one entry more.
-use Rattle.std.proofs.Common.{◌≡◌, ◌<◌, ◌≤◌, ◌+◌, ◌++◌, ℕ, suc, Bool, true, false, List, [], ◌∷◌, filter, take, drop, get_or, length, add-one, subst, cond, Option, None, Some, refl, arith, sym, ◌∙◌, ap, append-nil, append_assoc}
-use Rattle.std.specs.List.{prefix_len}
-use Rattle.std.proofs.Math.Bool.{and-false}
-use Rattle.std.proofs.Math.Seq.{drop-cons}
-use Rattle.std.proofs.lemmas.List.{drop_all}
-use Rattle.std.specs.Prelude.{nat_lt, not, ◌&&◌, if◌then◌else◌}
-use Rattle.std.proofs.lemmas.Bool.Decides.{nat_tests}
-use Rattle.debug_info.specs.Scope.{inner, is_entered, is_open, is_own, own_among}
-use Rattle.debug_info.specs.Shown.{is_below, shut_by}
-use Rattle.debug_info.specs.declared.entry.Entry.{Entry}
+use Rattle.debug_info.proofs.Words.{◌≡◌, ◌<◌, ◌≤◌, ◌+◌, ◌++◌, ℕ, suc, Bool, true, false, List, [], ◌∷◌, filter, take, drop, get_or, length, add-one, subst, cond, Option, None, Some, refl, arith, sym, ◌∙◌, ap, append-nil, append_assoc}
+use Rattle.debug_info.proofs.Words.{prefix_len, and-false, drop-cons, drop_all, nat_lt, not, ◌&&◌, if◌then◌else◌, nat_tests, inner, is_entered, is_open, is_own, own_among, is_below, shut_by, Entry}
 
 -- of the entries before, the nearest first, the code knows which levels are open
 abbrev pub Knows : ℕ → List Entry → Option ℕ → Type 0

@@ -1,15 +1,6 @@
 -- Marks whose offsets rise.
-use Rattle.std.proofs.Common.{◌≡◌, ◌<◌, ◌≤◌, ◌+◌, ◌++◌, ℕ, zero, suc, true, false, List, [], ◌∷◌, length, map, drop, get_or, Option, None, Some, refl, arith, sym, subst, append-nil}
-use Rattle.std.specs.Prelude.{◌==◌, nat_lt, find, slice_index_or, IfSome}
-use Rattle.std.specs.List.Sorted.{IsNonDecreasingBy}
-use Rattle.std.proofs.lemmas.Bool.Decides.{nat_tests}
-use Rattle.std.proofs.lemmas.List.{get_or_default}
-use Rattle.debug_info.specs.Entries.{entry_list}
-use Rattle.debug_info.specs.Marks.{mark_of}
-use Rattle.debug_info.specs.Rising.{IsCount, RisesFrom}
-use Rattle.debug_info.specs.Scope.{from_offset}
-use Rattle.debug_info.specs.declared.entry.Entry.{Entry}
-use Rattle.debug_info.specs.declared.mark.Mark.{Mark}
+use Rattle.debug_info.proofs.Words.{◌≡◌, ◌<◌, ◌≤◌, ◌+◌, ◌++◌, ℕ, zero, suc, true, false, List, [], ◌∷◌, length, map, drop, Option, None, Some, refl, arith, sym, subst, append-nil, ◌==◌, nat_lt, find, slice_index_or, IfSome}
+use Rattle.debug_info.proofs.Words.{IsNonDecreasingBy, nat_tests, get_or_default, entry_list, mark_of, IsCount, RisesFrom, from_offset, Entry, Mark}
 
 -- from a first offset on, and below an end
 abbrev pub RisesTo : ℕ → List Mark → ℕ → Type 0

@@ -1,26 +1,12 @@
 -- What is kept of the specifications at each place, and the loop over them.
-use Rattle.std.proofs.Common.{◌≡◌, ◌<◌, ◌≤◌, ◌+◌, ◌-◌, ◌++◌, ℕ, Bool, true, false, List, [], ◌∷◌, length, get_or, Option, None, Some, Result, Ok, Err, refl, arith, sym, ◌∙◌, ap, subst, append-nil, append_assoc, length-append, inl, inr}
-use Rattle.std.specs.Prelude.{IfOk, nat_le, ◌==◌, ◌||◌, if◌then◌else◌}
-use Rattle.std.proofs.lemmas.Bool.Decides.{nat_tests}
-use Rattle.std.proofs.lemmas.List.{get_or_append_left}
-use Rattle.std.proofs.Math.Seq.{get_or-append_seam}
-use Rattle.std.proofs.Math.Nat.{eq-or-lt_of_le}
+use Rattle.debug_info.proofs.Words.{◌≡◌, ◌<◌, ◌≤◌, ◌+◌, ◌-◌, ◌*◌, ◌++◌, ℕ, Bool, true, false, List, [], ◌∷◌, length, get_or, Option, None, Some, Ok, Err, refl, arith, sym, ◌∙◌, ap, subst, append-nil, append_assoc, length-append}
+use Rattle.debug_info.proofs.Words.{inl, inr, nat_le, ◌/◌, ◌%◌, ◌==◌, ◌||◌, if◌then◌else◌, nat_tests, get_or_append_left, get_or-append_seam, eq-or-lt_of_le, behind_run, ◌>>=◌, Read, found, read, end_or}
+use Rattle.debug_info.proofs.Words.{specification_at, specifications_end, attributes_by, attributes_of, or_named, value_behind, values_from, with_value, value_at, value_by, AreRuns, IsRun, behind_last, bit_of, extended, lone_run}
+use Rattle.debug_info.proofs.Words.{or_flag, packed, unpacked, with_flag, with_flags, with_values, Specification, Attributes, InfoFault, Value, Flags, Run}
 use Rattle.std.proofs.Math.Numerals.{add-one}
-use Rattle.leb_read.specs.Leb.{IsBehind, behind_run}
 use Rattle.leb_read.specs.declared.fault.Leb.TheVariants.{Short}
-use Rattle.debug_info.specs.Reading.{◌>>=◌, Read, found, read}
-use Rattle.debug_info.specs.Abbreviations.{end_or, specification_at, specifications_end}
-use Rattle.debug_info.specs.Attributes.{attributes_by, attributes_of, or_named, value_behind, values_from, with_value}
-use Rattle.debug_info.specs.Forms.{value_at, value_by}
-use Rattle.debug_info.specs.Index.{AreRuns, IsRun, extended, lone_run, no_flags, or_flag, with_flag, with_flags, with_values}
-use Rattle.debug_info.specs.declared.abbreviation.Specification.{Specification}
-use Rattle.debug_info.specs.declared.attribute.Attributes.{Attributes}
-use Rattle.debug_info.specs.declared.fault.InfoFault.{InfoFault}
-use Rattle.debug_info.specs.declared.form.Value.{Value}
 use Rattle.debug_info.specs.declared.form.Value.TheVariants as value
-use Rattle.debug_info.specs.declared.index.Flags.{Flags}
-use Rattle.debug_info.specs.declared.index.Run.{Run}
-use Rattle.debug_info.proofs.Behind.{all_end, ends_same, specification_behind, values_same}
+use Rattle.debug_info.proofs.Behind.{ends_same, specification_behind, values_same}
 use Rattle.debug_info.proofs.Specified.{with_more}
 
 -- the attributes of values, one after another
@@ -59,11 +45,11 @@ one_extended abbrevs strs info a at next from place s v is read =
     ∙ ap (extended (with_value a s.name v)) (values_same (length abbrevs) (length abbrevs + 1) abbrevs strs info next place behind.within (let b = behind.behind in omega arith) (omega arith))
 
 -- the loop over specifications
-pub at_run : (whole : Read Attributes) (abbrevs strs info : List ℕ) (a b : Attributes) (at from : ℕ) (run : Run)
-    → whole ≡ extended a (values_from (length abbrevs + 1) abbrevs strs info at from) → IsRun abbrevs at run → b ≡ with_flags a run.flags
+pub at_run : (whole : Read Attributes) (abbrevs strs info : List ℕ) (a b : Attributes) (at from : ℕ) (run : Run) {flags : Flags}
+    → whole ≡ extended a (values_from (length abbrevs + 1) abbrevs strs info at from) → IsRun abbrevs at run → flags ≡ unpacked run.flags → b ≡ with_flags a flags
     → whole ≡ extended b (values_from (length abbrevs + 1) abbrevs strs info run.behind from)
-at_run whole abbrevs strs info a b at from run same is flags =
-    same ∙ is.same strs info a from ∙ ap (λ (x : Attributes). extended x (values_from (length abbrevs + 1) abbrevs strs info run.behind from)) (sym flags)
+at_run whole abbrevs strs info a b at from run same is bits flags =
+    same ∙ is.same strs info a from ∙ ap (λ (x : Attributes). extended x (values_from (length abbrevs + 1) abbrevs strs info run.behind from)) (ap (with_flags a) (sym bits) ∙ sym flags)
 
 pub next_value : (whole : Read Attributes) (abbrevs strs info : List ℕ) (a b : Attributes) (at next from place : ℕ) (s : Specification) (v : Value) → whole ≡ extended a (values_from (length abbrevs + 1) abbrevs strs info at from)
     → specification_at abbrevs at ≡ found (Some s) next → value_at s.form strs info from ≡ found v place → b ≡ with_value a s.name v → whole ≡ extended b (values_from (length abbrevs + 1) abbrevs strs info next place)
@@ -105,7 +91,7 @@ or_none : (o : Option Value) → or_flag o false ≡ o
 or_none None = refl
 or_none (Some v) = refl
 
-no_more : (a : Attributes) → with_flags a no_flags ≡ a
+no_more : (a : Attributes) → with_flags a (unpacked 0) ≡ a
 no_more a = rw (or_none a.location, or_none a.name, or_none a.byte_size, or_none a.low_pc, or_none a.high_pc, or_none a.encoding, or_none a.frame_base, or_none a.type_of) refl
 
 flagged_once : (flagged : Bool) → or_flag (Some value.Opaque) flagged ≡ or_flag None (flagged || true)
@@ -136,49 +122,68 @@ one_flag a name f =
     let x8 = or_both 0x49 name a.type_of f.type_of in
     cc
 
-last_end : (abbrevs : List ℕ) (at : ℕ) (end : Result ℕ InfoFault) → end ≡ specifications_end (length abbrevs + 1) abbrevs at → IfOk end (λ next. IsBehind abbrevs at next)
-last_end abbrevs at end is = subst (λ (r : Result ℕ InfoFault). IfOk r (λ next. IsBehind abbrevs at next)) (sym is) (all_end (length abbrevs + 1) abbrevs at)
+-- flags as bits
+odd_of : (flag : Bool) (others : ℕ) → (bit_of flag others % 2 == 1) ≡ flag
+odd_of true others = (let one : (2 * others + 1) % 2 ≡ 1 = omega arith in rw one refl)
+odd_of false others = (let none : (2 * others) % 2 ≡ 0 = omega arith in rw none refl)
+
+half_of : (flag : Bool) (others : ℕ) → bit_of flag others / 2 ≡ others
+half_of true others = omega arith
+half_of false others = omega arith
+
+unpacked_same : (f : Flags) → unpacked (packed f) ≡ f
+unpacked_same f =
+    let n7 = bit_of f.frame_base (bit_of f.type_of 0) in
+    let n6 = bit_of f.encoding n7 in
+    let n5 = bit_of f.high_pc n6 in
+    let n4 = bit_of f.low_pc n5 in
+    let n3 = bit_of f.byte_size n4 in
+    let n2 = bit_of f.name n3 in
+    rw (half_of f.location n2, half_of f.name n3, half_of f.byte_size n4, half_of f.low_pc n5, half_of f.high_pc n6, half_of f.encoding n7, half_of f.frame_base (bit_of f.type_of 0)) (
+    rw (odd_of f.location n2, odd_of f.name n3, odd_of f.byte_size n4, odd_of f.low_pc n5, odd_of f.high_pc n6, odd_of f.encoding n7, odd_of f.frame_base (bit_of f.type_of 0), odd_of f.type_of 0) refl)
 
 -- a run without flags
-lone : (abbrevs : List ℕ) (at : ℕ) (end : Result ℕ InfoFault) → at ≤ length abbrevs → end ≡ specifications_end (length abbrevs + 1) abbrevs at → IsRun abbrevs at (lone_run at end)
-lone abbrevs at end h is = record {
+lone : (abbrevs : List ℕ) (at last : ℕ) → at ≤ length abbrevs → last ≤ length abbrevs → behind_last (specification_at abbrevs last) ≡ specifications_end (length abbrevs + 1) abbrevs at → IsRun abbrevs at (lone_run at last)
+lone abbrevs at last h k is = record {
   end = is;
-  last = last_end abbrevs at end is;
+  last = k;
   behind = omega arith;
   within = h;
   same = λ strs info a from. ap (λ (b : Attributes). extended b (values_from (length abbrevs + 1) abbrevs strs info at from)) (sym (no_more a));
 }
 
-pub run_fault : (abbrevs : List ℕ) (at : ℕ) (e : InfoFault) → at ≤ length abbrevs → specification_at abbrevs at ≡ Err e → IsRun abbrevs at (lone_run at (Err e))
-run_fault abbrevs at e h is = lone abbrevs at (Err e) h (sym (first_end abbrevs at ∙ ap (λ r. r >>= end_or (specifications_end (length abbrevs) abbrevs)) is))
+pub run_fault : (abbrevs : List ℕ) (at : ℕ) (e : InfoFault) → at ≤ length abbrevs → specification_at abbrevs at ≡ Err e → IsRun abbrevs at (lone_run at at)
+run_fault abbrevs at e h is = lone abbrevs at at h h (ap behind_last is ∙ sym (first_end abbrevs at ∙ ap (λ r. r >>= end_or (specifications_end (length abbrevs) abbrevs)) is))
 
-pub run_end : (abbrevs : List ℕ) (at next : ℕ) → at ≤ length abbrevs → specification_at abbrevs at ≡ found None next → IsRun abbrevs at (lone_run at (Ok next))
-run_end abbrevs at next h is = lone abbrevs at (Ok next) h (sym (first_end abbrevs at ∙ ap (λ r. r >>= end_or (specifications_end (length abbrevs) abbrevs)) is))
+pub run_end : (abbrevs : List ℕ) (at next : ℕ) → at ≤ length abbrevs → specification_at abbrevs at ≡ found None next → IsRun abbrevs at (lone_run at at)
+run_end abbrevs at next h is = lone abbrevs at at h h (ap behind_last is ∙ sym (first_end abbrevs at ∙ ap (λ r. r >>= end_or (specifications_end (length abbrevs) abbrevs)) is))
 
-end_behind : (abbrevs : List ℕ) (at next : ℕ) (s : Specification) (rest : Run) → specification_at abbrevs at ≡ found (Some s) next → IsRun abbrevs next rest → rest.end ≡ specifications_end (length abbrevs + 1) abbrevs at
+end_behind : (abbrevs : List ℕ) (at next : ℕ) (s : Specification) (rest : Run) → specification_at abbrevs at ≡ found (Some s) next → IsRun abbrevs next rest
+    → behind_last (specification_at abbrevs rest.last) ≡ specifications_end (length abbrevs + 1) abbrevs at
 end_behind abbrevs at next s rest is run =
     let b = specification_behind abbrevs at next (Some s) is in
     run.end
     ∙ ends_same (length abbrevs + 1) (length abbrevs) abbrevs next b.within (omega arith) (let behind = b.behind in omega arith)
     ∙ sym (first_end abbrevs at ∙ ap (λ r. r >>= end_or (specifications_end (length abbrevs) abbrevs)) is)
 
-pub run_other : (abbrevs : List ℕ) (at next : ℕ) (s : Specification) (rest : Run) → at ≤ length abbrevs → specification_at abbrevs at ≡ found (Some s) next → IsRun abbrevs next rest → IsRun abbrevs at (lone_run at rest.end)
-run_other abbrevs at next s rest h is run = lone abbrevs at rest.end h (end_behind abbrevs at next s rest is run)
+pub run_other : (abbrevs : List ℕ) (at next : ℕ) (s : Specification) (rest : Run) → at ≤ length abbrevs → specification_at abbrevs at ≡ found (Some s) next → IsRun abbrevs next rest → IsRun abbrevs at (lone_run at rest.last)
+run_other abbrevs at next s rest h is run = lone abbrevs at rest.last h run.last (end_behind abbrevs at next s rest is run)
 
 pub run_flag : (abbrevs : List ℕ) (at next : ℕ) (s : Specification) (rest run : Run) → specification_at abbrevs at ≡ found (Some s) next → s.form ≡ 0x19 → IsRun abbrevs next rest
-    → run.flags ≡ with_flag rest.flags s.name → run.behind ≡ rest.behind → run.end ≡ rest.end → IsRun abbrevs at run
+    → run.flags ≡ packed (with_flag (unpacked rest.flags) s.name) → run.behind ≡ rest.behind → run.last ≡ rest.last → IsRun abbrevs at run
 run_flag abbrevs at next s rest run is form r flags behind end =
     let b = specification_behind abbrevs at next (Some s) is in
+    let bits : with_flag (unpacked rest.flags) s.name ≡ unpacked run.flags = sym (ap unpacked flags ∙ unpacked_same (with_flag (unpacked rest.flags) s.name)) in
     record {
-      end = end ∙ end_behind abbrevs at next s rest is r;
-      last = last_end abbrevs at run.end (end ∙ end_behind abbrevs at next s rest is r);
+      end = ap (λ (n : ℕ). behind_last (specification_at abbrevs n)) end ∙ end_behind abbrevs at next s rest is r;
+      last = (let x = r.last in omega arith);
       behind = (let x = b.behind in let y = r.behind in omega arith);
       within = (let y = r.within in omega arith);
       same = λ strs info a from.
           one_extended abbrevs strs info a at next from from s value.Opaque is (ap (λ (n : ℕ). value_at n strs info from) form ∙ flag_value strs info from)
           ∙ r.same strs info (with_value a s.name value.Opaque) from
-          ∙ ap (λ (x : Attributes). extended x (values_from (length abbrevs + 1) abbrevs strs info rest.behind from)) (one_flag a s.name rest.flags ∙ ap (with_flags a) (sym flags))
-          ∙ ap (λ (n : ℕ). extended (with_flags a run.flags) (values_from (length abbrevs + 1) abbrevs strs info n from)) (sym behind);
+          ∙ ap (λ (x : Attributes). extended x (values_from (length abbrevs + 1) abbrevs strs info rest.behind from)) (one_flag a s.name (unpacked rest.flags) ∙ ap (with_flags a) bits)
+          ∙ ap (λ (n : ℕ). extended (with_flags a (unpacked run.flags)) (values_from (length abbrevs + 1) abbrevs strs info n from)) (sym behind);
     }
 
 -- what holds of each element of a list holds with one more

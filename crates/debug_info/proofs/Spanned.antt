@@ -1,12 +1,6 @@
 -- The loop over the units' places.
-use Rattle.std.proofs.Common.{◌≡◌, ◌<◌, ◌≤◌, ◌+◌, ◌++◌, ℕ, zero, suc, Bool, true, false, List, [], ◌∷◌, length, Option, None, Some, Result, Ok, Err, refl, arith, sym, ◌∙◌, ap, subst, append-nil, append_assoc}
-use Rattle.std.specs.Prelude.{All, find, nat_le, nat_lt, if◌then◌else◌}
-use Rattle.std.proofs.lemmas.Bool.Decides.{nat_tests}
-use Rattle.debug_info.specs.Contents.{IsSpan, and_behind, fault_at, spans_from, spans_of}
-use Rattle.debug_info.specs.Units.{unit_end}
-use Rattle.debug_info.specs.declared.fault.InfoFault.{InfoFault}
-use Rattle.debug_info.specs.declared.fault.UnitFault.{UnitFault}
-use Rattle.debug_info.specs.declared.header.Span.{Span}
+use Rattle.debug_info.proofs.Words.{◌≡◌, ◌<◌, ◌≤◌, ◌+◌, ◌++◌, ℕ, zero, suc, Bool, true, false, List, [], ◌∷◌, length, Option, None, Some, Result, Ok, Err, refl, arith, sym, ◌∙◌, ap, subst, append-nil, append_assoc, All, find, nat_le}
+use Rattle.debug_info.proofs.Words.{nat_lt, if◌then◌else◌, nat_tests, IsSpan, and_behind, fault_at, spans_from, spans_of, unit_end, InfoFault, UnitFault, Span}
 
 -- units in front of what is left
 abbrev pub in_front : List Span → List Span × Option UnitFault → List Span × Option UnitFault

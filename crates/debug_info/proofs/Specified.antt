@@ -1,13 +1,6 @@
 -- The loop over entries, and one value more of an attribute.
-use Rattle.std.proofs.Common.{◌≡◌, ◌<◌, ◌≤◌, ◌+◌, ◌++◌, ℕ, zero, suc, Bool, true, false, List, [], ◌∷◌, length, Option, Some, Result, Ok, Err, refl, arith, sym, ◌∙◌, ap, append-nil, append_assoc}
-use Rattle.std.specs.Prelude.{nat_le, ◌==◌, if◌then◌else◌}
-use Rattle.std.proofs.lemmas.Bool.Decides.{nat_tests}
-use Rattle.debug_info.specs.Reading.{◌>>=◌, found}
-use Rattle.debug_info.specs.Attributes.{attributes_of, first_of, or_named, with_value}
-use Rattle.debug_info.specs.Entries.{entries_from, entry_at, entry_list, in_front, level_behind, with_others}
-use Rattle.debug_info.specs.declared.entry.Entry.{Entry}
-use Rattle.debug_info.specs.declared.fault.InfoFault.{InfoFault}
-use Rattle.debug_info.specs.declared.form.Value.{Value}
+use Rattle.debug_info.proofs.Words.{◌≡◌, ◌<◌, ◌≤◌, ◌+◌, ◌++◌, ℕ, zero, suc, Bool, true, false, List, [], ◌∷◌, length, Option, Some, Result, Ok, Err, refl, arith, sym, ◌∙◌, ap, append-nil, append_assoc, nat_le, ◌==◌, if◌then◌else◌}
+use Rattle.debug_info.proofs.Words.{nat_tests, ◌>>=◌, found, attributes_of, first_of, or_named, with_value, entries_from, entry_at, entry_list, in_front, level_behind, with_others, Entry, InfoFault, Value}
 
 first_more : (code : ℕ) (done : List (ℕ × Value)) (name : ℕ) (v : Value) → or_named code (first_of code done) name v ≡ first_of code (done ++ (name, v) ∷ [])
 first_more code [] name v = refl

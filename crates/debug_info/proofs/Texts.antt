@@ -1,11 +1,5 @@
 -- How long texts are, one place further to the front.
-use Rattle.std.proofs.Common.{◌≡◌, ◌<◌, ◌≤◌, ◌+◌, ◌-◌, ◌++◌, ℕ, zero, suc, true, false, List, [], ◌∷◌, length, get_or, refl, arith, sym, ◌∙◌, ap}
-use Rattle.std.specs.Prelude.{◌==◌}
-use Rattle.std.proofs.lemmas.Bool.Decides.{nat_tests}
-use Rattle.std.specs.List.{take_while}
-use Rattle.std.proofs.lemmas.List.Sums.{take_while-cons}
-use Rattle.leb_read.specs.Leb.{is_text_byte, text_from}
-use Rattle.debug_info.specs.TextLengths.{AreLast}
+use Rattle.debug_info.proofs.Words.{◌≡◌, ◌<◌, ◌≤◌, ◌+◌, ◌-◌, ◌++◌, ℕ, zero, suc, true, false, List, [], ◌∷◌, length, get_or, refl, arith, sym, ◌∙◌, ap, ◌==◌, nat_tests, take_while, take_while-cons, is_text_byte, text_from, AreLast}
 use Rattle.debug_info.proofs.Runs.{one_more}
 
 zero_first : (b : ℕ) (bs : List ℕ) → (b == 0) ≡ true → length (take_while is_text_byte (b ∷ bs)) ≡ 0

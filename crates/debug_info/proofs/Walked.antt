@@ -1,19 +1,11 @@
 -- The marks of a unit in place of its entries: a list of them is walked, and what is read again is what was there.
-use Rattle.std.proofs.Common.{◌≡◌, ◌<◌, ◌≤◌, ◌+◌, ◌++◌, ℕ, zero, suc, Bool, true, false, List, [], ◌∷◌, length, map, filter, take, drop, get_or, Option, None, Some, refl, arith, sym, ◌∙◌, ap, subst, append-nil, append_assoc}
-use Rattle.std.specs.Prelude.{find, option_and_then, is_some, ◌==◌, ◌&&◌, if◌then◌else◌}
-use Rattle.std.proofs.Math.Bool.{and_assoc}
-use Rattle.std.proofs.lemmas.List.{get_or-map, length-map, map-append, take_more}
-use Rattle.std.proofs.lemmas.List.Elements.{filter-append}
-use Rattle.debug_info.specs.Entries.{entry_list}
-use Rattle.debug_info.specs.Marks.{AreReread, all_reread, is_entered_mark, is_outer, is_own_mark, mark_of, reread_in}
-use Rattle.debug_info.specs.Scope.{inner, is_block, is_entered, is_fixed, is_open, is_own, is_unit_variable, is_variable, is_within, own_among, own_entries}
-use Rattle.debug_info.specs.Shown.{is_below, shut_by}
-use Rattle.debug_info.specs.declared.entry.Entry.{Entry}
+use Rattle.debug_info.proofs.Words.{◌≡◌, ◌<◌, ◌≤◌, ◌+◌, ◌++◌, ℕ, zero, suc, Bool, true, false, List, [], ◌∷◌, length, map, filter, take, drop, get_or, Option, None, Some, refl, arith, sym, ◌∙◌, ap, subst, append-nil, append_assoc, find}
+use Rattle.debug_info.proofs.Words.{option_and_then, is_some, ◌==◌, ◌&&◌, if◌then◌else◌, and_assoc, get_or-map, length-map, map-append, take_more, filter-append, entry_list, AreReread, all_reread, is_entered_mark, is_outer, is_own_mark}
+use Rattle.debug_info.proofs.Words.{mark_of, reread_in, inner, is_block, is_entered, is_fixed, is_open, is_own, is_unit_variable, is_variable, is_within, own_among, own_entries, is_below, shut_by, Entry, Mark}
 use Rattle.debug_info.specs.declared.entry.Kind.TheVariants as kind
 use Rattle.debug_info.specs.declared.entry.Tag.TheVariants as tag
 use Rattle.debug_info.specs.declared.expression.Base.TheVariants as base
 use Rattle.debug_info.specs.declared.expression.Place.TheVariants as place
-use Rattle.debug_info.specs.declared.mark.Mark.{Mark}
 use Rattle.debug_info.specs.declared.mark.Unit.{Unit as Looked}
 use Rattle.debug_info.proofs.Opened.{Opened, ended, hidden_at, opened_start, over_at, seen_at}
 

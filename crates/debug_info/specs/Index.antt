@@ -1,9 +1,9 @@
 -- How the specifications of attributes are kept, by place: those that flags without bytes begin, and where they end. This project's own.
-use Rattle.std.specs.Prelude.{◌≡◌, ℕ, ◌+◌, ◌-◌, ◌<◌, ◌≤◌, ◌^◌, ◌==◌, ◌||◌, Bool, true, false, List, [], ◌∷◌, length, get_or, IfOk, Option, None, Some, Result, Ok, Err}
-use Rattle.leb_read.specs.Leb.{IsBehind}
-use Rattle.debug_info.specs.Abbreviations.{specifications_end}
+use Rattle.std.specs.Prelude.{◌≡◌, ℕ, ◌+◌, ◌-◌, ◌<◌, ◌≤◌, ◌^◌, ◌*◌, ◌/◌, ◌%◌, ◌==◌, ◌||◌, Bool, true, false, List, [], ◌∷◌, length, get_or, Option, None, Some, Result, Ok, Err, if◌then◌else◌}
+use Rattle.debug_info.specs.Abbreviations.{specification_at, specifications_end}
 use Rattle.debug_info.specs.Attributes.{values_from, with_value}
 use Rattle.debug_info.specs.Reading.{Read, found}
+use Rattle.debug_info.specs.declared.abbreviation.Specification.{Specification}
 use Rattle.debug_info.specs.declared.attribute.Attributes.{Attributes}
 use Rattle.debug_info.specs.declared.fault.InfoFault.{InfoFault}
 use Rattle.debug_info.specs.declared.form.Value.{Value}
@@ -39,8 +39,24 @@ with_flags a f = record {
   type_of = or_flag a.type_of f.type_of;
 }
 
-abbrev pub no_flags : Flags
-no_flags = record { location = false; name = false; byte_size = false; low_pc = false; high_pc = false; encoding = false; frame_base = false; type_of = false }
+-- flags as the bits of a number, the first one lowest
+abbrev pub bit_of : Bool → ℕ → ℕ
+bit_of flag others = if flag then 2 * others + 1 else 2 * others
+
+abbrev pub packed : Flags → ℕ
+packed f = bit_of f.location (bit_of f.name (bit_of f.byte_size (bit_of f.low_pc (bit_of f.high_pc (bit_of f.encoding (bit_of f.frame_base (bit_of f.type_of 0)))))))
+
+abbrev pub unpacked : ℕ → Flags
+unpacked bits = record {
+  location = bits % 2 == 1;
+  name = bits / 2 % 2 == 1;
+  byte_size = bits / 2 / 2 % 2 == 1;
+  low_pc = bits / 2 / 2 / 2 % 2 == 1;
+  high_pc = bits / 2 / 2 / 2 / 2 % 2 == 1;
+  encoding = bits / 2 / 2 / 2 / 2 / 2 % 2 == 1;
+  frame_base = bits / 2 / 2 / 2 / 2 / 2 / 2 % 2 == 1;
+  type_of = bits / 2 / 2 / 2 / 2 / 2 / 2 / 2 % 2 == 1;
+}
 
 abbrev pub with_flag : Flags → ℕ → Flags
 with_flag f name = record {
@@ -54,17 +70,22 @@ with_flag f name = record {
   type_of = f.type_of || (name == 0x49);
 }
 
-abbrev pub lone_run : ℕ → Result ℕ InfoFault → Run
-lone_run at end = record { flags = no_flags; behind = at; end = end }
+abbrev pub lone_run : ℕ → ℕ → Run
+lone_run at last = record { flags = 0; behind = at; last = last }
+
+-- the place behind what is read last
+abbrev pub behind_last : Read (Option Specification) → Result ℕ InfoFault
+behind_last (Ok (specification, next)) = Ok next
+behind_last (Err e) = Err e
 
 -- what is kept of a place: entries are read by the flags and the specifications behind them as by the specifications there
 pub record IsRun (abbrevs : List ℕ) (at : ℕ) (run : Run) : Type 0 where
-  pub end : run.end ≡ specifications_end (length abbrevs + 1) abbrevs at
-  pub last : IfOk run.end (λ end. IsBehind abbrevs at end)
+  pub end : behind_last (specification_at abbrevs run.last) ≡ specifications_end (length abbrevs + 1) abbrevs at
+  pub last : run.last ≤ length abbrevs
   pub behind : at ≤ run.behind
   pub within : run.behind ≤ length abbrevs
   pub same : (strs info : List ℕ) (a : Attributes) (from : ℕ) → extended a (values_from (length abbrevs + 1) abbrevs strs info at from)
-      ≡ extended (with_flags a run.flags) (values_from (length abbrevs + 1) abbrevs strs info run.behind from)
+      ≡ extended (with_flags a (unpacked run.flags)) (values_from (length abbrevs + 1) abbrevs strs info run.behind from)
 
 -- runs of the last places, the last place's first
 abbrev pub AreRuns : List ℕ → List Run → Type 0

@@ -61,7 +61,7 @@ pub fn declaration_at(
     }
     let (tag, next) = uleb(abbrevs, next)?;
     let (children, attributes) = u8_at(abbrevs, next)?;
-    let end = index.run(abbrevs, attributes).end?;
+    let end = index.end(abbrevs, attributes)?;
     let declaration = Declaration {
         tag,
         has_children: children != 0,
@@ -69,5 +69,5 @@ pub fn declaration_at(
             at: attributes as u32,
         },
     };
-    Ok((Some((code, declaration)), end as usize))
+    Ok((Some((code, declaration)), end))
 }

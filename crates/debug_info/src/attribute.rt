@@ -9,7 +9,7 @@ ghost use Rattle.debug_info.specs.Sources.{IsSource};
 use crate::abbreviation::specification_at;
 use crate::fault::InfoFault;
 use crate::form::{Value, value_at};
-use crate::index::Flags;
+use crate::index::{Flags, unpacked};
 use crate::offset::{AbbrevOffset, Source};
 
 /// The values of an entry's attributes.
@@ -112,7 +112,7 @@ pub fn attributes_at(
     let mut place = at;
     'specifications: loop {
         let run = source.index.run(source.abbrevs, specified);
-        attributes = with_flags(attributes, run.flags);
+        attributes = with_flags(attributes, unpacked(run.flags));
         let (specification, next) = specification_at(source.abbrevs, run.behind as usize)?;
         let Some(specification) = specification else {
             return Ok((attributes, place));

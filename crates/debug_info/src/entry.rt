@@ -198,7 +198,7 @@ pub fn entry_at(
     if code == 0 {
         return Ok((None, next));
     }
-    let declaration = table.find(source.abbrevs, code)?;
+    let declaration = table.find(source.abbrevs, source.index, code)?;
     if level == LEVELS {
         return Err(InfoFault::Deep);
     }

@@ -3,8 +3,10 @@
 //! Lists of specifications may share their ends, so what stands behind a place is kept for each place, and is filled from
 //! the section's end on.
 
-ghost use Rattle.std.specs.Prelude.{◌≡◌, ◌<◌, ◌≤◌, ◌+◌, ◌^◌, IfOk, length};
-ghost use Rattle.debug_info.specs.Index.{AreRuns, IsIndex, IsRun, lone_run, no_flags, with_flag};
+ghost use Rattle.std.specs.Prelude.{◌≡◌, ◌<◌, ◌≤◌, ◌+◌, ◌*◌, ◌^◌, IfOk, length};
+ghost use Rattle.leb_read.specs.Leb.{IsBehind};
+ghost use Rattle.debug_info.specs.Abbreviations.{specifications_end};
+ghost use Rattle.debug_info.specs.Index.{AreRuns, IsIndex, IsRun, bit_of, lone_run, packed, unpacked, with_flag};
 
 use crate::abbreviation::specification_at;
 use crate::fault::InfoFault;
@@ -30,12 +32,12 @@ pub struct Flags {
 /// The specifications from a place on.
 #[derive(Clone, Copy)]
 pub struct Run {
-    /// What those in front name that have no bytes in an entry.
-    pub flags: Flags,
+    /// What those in front name that have no bytes in an entry, a bit each.
+    pub flags: u8,
     /// The place of the first other one, or of their end.
     pub behind: u32,
-    /// The place behind their end.
-    pub end: Result<u32, InfoFault>,
+    /// The place of their end, or of the first that can't be read.
+    pub last: u32,
 }
 
 /// The specifications from each place on.
@@ -45,18 +47,38 @@ pub struct Index {
     runs: Vec<Run>,
 }
 
-fn no_flags() -> Flags
-    ensures { result ≡ no_flags }
+// A bit in front of others.
+fn bit_of(flag: bool, others: u8) -> u8
+    requires { others < 128 }
+    ensures value { result ≡ bit_of flag others }
+    ensures most { result ≤ 2 * others + 1 }
+{
+    if flag { 2 * others + 1 } else { 2 * others }
+}
+
+// A bit for each flag.
+fn packed(flags: Flags) -> u8
+    ensures { result ≡ packed flags }
+{
+    let bits = bit_of(flags.frame_base, bit_of(flags.type_of, 0));
+    let bits = bit_of(flags.high_pc, bit_of(flags.encoding, bits));
+    let bits = bit_of(flags.byte_size, bit_of(flags.low_pc, bits));
+    bit_of(flags.location, bit_of(flags.name, bits))
+}
+
+/// The flags whose bits are set.
+pub fn unpacked(bits: u8) -> Flags
+    ensures { result ≡ unpacked bits }
 {
     Flags {
-        location: false,
-        name: false,
-        byte_size: false,
-        low_pc: false,
-        high_pc: false,
-        encoding: false,
-        frame_base: false,
-        type_of: false,
+        location: bits % 2 == 1,
+        name: bits / 2 % 2 == 1,
+        byte_size: bits / 2 / 2 % 2 == 1,
+        low_pc: bits / 2 / 2 / 2 % 2 == 1,
+        high_pc: bits / 2 / 2 / 2 / 2 % 2 == 1,
+        encoding: bits / 2 / 2 / 2 / 2 / 2 % 2 == 1,
+        frame_base: bits / 2 / 2 / 2 / 2 / 2 / 2 % 2 == 1,
+        type_of: bits / 2 / 2 / 2 / 2 / 2 / 2 / 2 % 2 == 1,
     }
 }
 
@@ -87,26 +109,26 @@ fn run_at(abbrevs: &[u8], later: &[Run], at: usize) -> Run
         Ok((Some(specification), next)) => {
             let rest = later[abbrevs.len() - next];
             if specification.form == FLAG_PRESENT {
-                let flags = with_flag(rest.flags, specification.name);
+                let flags = packed(with_flag(unpacked(rest.flags), specification.name));
                 Run { flags, ..rest }
             } else {
-                lone_run(at, rest.end)
+                lone_run(at, rest.last)
             }
         }
-        Ok((None, next)) => lone_run(at, Ok(next as u32)),
-        Err(fault) => lone_run(at, Err(fault)),
+        Ok((None, _)) => lone_run(at, at as u32),
+        Err(_) => lone_run(at, at as u32),
     }
 }
 
 // A run without flags.
-fn lone_run(at: usize, end: Result<u32, InfoFault>) -> Run
+fn lone_run(at: usize, last: u32) -> Run
     requires { at < 2 ^ 32 }
-    ensures { result ≡ lone_run at end }
+    ensures { result ≡ lone_run at last }
 {
     Run {
-        flags: no_flags(),
+        flags: 0,
         behind: at as u32,
-        end,
+        last,
     }
 }
 
@@ -133,5 +155,17 @@ impl Index {
         ensures { IsRun abbrevs.now at result }
     {
         self.runs[abbrevs.len() - at]
+    }
+
+    /// The place behind the specifications from a place on.
+    pub fn end(&self, abbrevs: &[u8], at: usize) -> Result<usize, InfoFault>
+        requires index { IsIndex abbrevs.now self.now }
+        requires within { at ≤ length abbrevs.now }
+        ensures value { result ≡ specifications_end (length abbrevs.now + 1) abbrevs.now at }
+        ensures within { IfOk result (λ end. IsBehind abbrevs.now at end) }
+    {
+        let last = self.run(abbrevs, at).last;
+        let (_, end) = specification_at(abbrevs, last as usize)?;
+        Ok(end)
     }
 }

@@ -20,10 +20,10 @@ use std::alloc::Global;
 #[derive(Clone, Copy)]
 pub struct Var<'a> {
     pub name: &'a [u8],
-    pub kind: Kind,
     pub place: Place,
     /// What a place in the frame is relative to.
     pub base: Base,
+    pub kind: Kind,
     /// Whether it is a parameter.
     pub argument: bool,
     /// Whether it is the function's; the unit's own variables are there for names alone.
@@ -341,8 +341,8 @@ fn variables_of<'a>(
     requires behind { behind.now ≡ drop (number + 1) unit.now.marks.now }
     ensures { IfOk result (λ v. shown_variables v.items ≡ variables_in (seen_texts texts.now) pc (entries_in unit.now) (function.now ∷ drop (number + 1) (entries_in unit.now))) }
 {
-    let mut variables = Vec::new(alloc);
     let own = own_marks(alloc, unit, pc, function.level, number + 1, behind)?;
+    let mut variables = Vec::with_capacity(alloc, own.len())?;
     let mut level = LEVELS;
     'levels: while level > 0 {
         push_level(&mut variables, texts, unit, function.base, &own, level)?;

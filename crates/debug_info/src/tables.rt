@@ -9,7 +9,7 @@ ghost use Rattle.std.specs.Ordering.{nat_cmp};
 ghost use Rattle.std.specs.Vec.{vec_len};
 ghost use Rattle.debug_info.specs.Abbreviations.{abbreviation_of, declaration_at};
 ghost use Rattle.debug_info.specs.Index.{IsIndex};
-ghost use Rattle.debug_info.specs.Tables.{IsDeclared, IsTable, LeadTo, end_of};
+ghost use Rattle.debug_info.specs.Tables.{IsBefore, IsTable, LeadTo, code_in, declaration_in, end_of};
 
 use crate::abbreviation::{Declaration, declaration_at};
 use crate::fault::InfoFault;
@@ -19,16 +19,12 @@ use dbg_traits::NoMemory;
 use std::alloc::Global;
 use std::collections::BTreeMap;
 
-/// A declaration of a table.
+/// A declaration of a table, which is read again where it is needed.
 #[derive(Clone, Copy)]
 pub struct Listed {
-    pub code: u64,
-    pub declaration: Declaration,
     pub at: u32,
-    /// The place behind it.
-    pub next: u32,
-    /// The first one of its code among those behind it.
-    pub hidden: Option<Declaration>,
+    /// The place of the first one of its code among those behind it.
+    pub hidden: Option<u32>,
 }
 
 /// The table of abbreviations at a place, by their codes.
@@ -38,29 +34,49 @@ pub struct Table {
     pub at: usize,
     /// Its declarations, the last one first.
     listed: Vec<Listed>,
-    /// The first one of each code.
-    declarations: BTreeMap<u64, Declaration>,
+    /// The place of the first one of each code.
+    places: BTreeMap<u64, u32>,
     /// Why another code isn't found.
     end: InfoFault,
 }
 
 // Sets what is found of a code.
-fn set(
-    declarations: &mut BTreeMap<u64, Declaration>,
-    code: u64,
-    declaration: Option<Declaration>,
-) -> Result<(), NoMemory>
-    ensures { OnOk result ((other : ℕ) → get nat_cmp declarations.new other ≡ (if code == other then declaration else get nat_cmp declarations.old other)) }
+fn set(places: &mut BTreeMap<u64, u32>, code: u64, place: Option<u32>) -> Result<(), NoMemory>
+    ensures { OnOk result ((other : ℕ) → get nat_cmp places.new other ≡ (if code == other then place else get nat_cmp places.old other)) }
 {
-    match declaration {
-        Some(declaration) => {
-            declarations.insert(code, declaration)?;
+    match place {
+        Some(place) => {
+            places.insert(code, place)?;
             Ok(())
         }
         None => {
-            declarations.remove(&code);
+            places.remove(&code);
             Ok(())
         }
+    }
+}
+
+// The code that a place declares, and the next place.
+fn code_in(abbrevs: &[u8], index: &Index, at: u32) -> Option<(u64, usize)>
+    requires { IsIndex abbrevs.now index.now }
+    ensures { result ≡ code_in (declaration_at abbrevs.now at) }
+{
+    match declaration_at(abbrevs, index, at as usize) {
+        Ok((Some((code, _)), next)) => Some((code, next)),
+        Ok((None, _)) => None,
+        Err(_) => None,
+    }
+}
+
+// The declaration at a place.
+fn declaration_in(abbrevs: &[u8], index: &Index, at: u32) -> Result<Declaration, InfoFault>
+    requires { IsIndex abbrevs.now index.now }
+    ensures { result ≡ declaration_in (declaration_at abbrevs.now at) }
+{
+    match declaration_at(abbrevs, index, at as usize) {
+        Ok((Some((_, declaration)), _)) => Ok(declaration),
+        Ok((None, _)) => Err(InfoFault::Abbrev),
+        Err(fault) => Err(fault),
     }
 }
 
@@ -72,7 +88,7 @@ impl Table {
         Table {
             at: abbrevs.len(),
             listed: Vec::new(alloc),
-            declarations: BTreeMap::new(alloc),
+            places: BTreeMap::new(alloc),
             end: InfoFault::Short,
         }
     }
@@ -87,61 +103,71 @@ impl Table {
         let _abbrevs = abbrevs;
         self.at = at;
         self.listed = Vec::new(alloc);
-        self.declarations = BTreeMap::new(alloc);
+        self.places = BTreeMap::new(alloc);
         self.end = end;
     }
 
     // Takes its first declaration away.
-    fn drop_first(&mut self, abbrevs: &[u8]) -> Result<(), NoMemory>
+    fn drop_first(&mut self, abbrevs: &[u8], index: &Index) -> Result<(), NoMemory>
+        requires index { IsIndex abbrevs.now index.now }
         requires table { IsTable abbrevs.now self.old }
         requires some { 0 < vec_len self.old.listed }
         ensures table { OnOk result (IsTable abbrevs.now self.new) }
         ensures fewer { OnOk result (vec_len self.new.listed + 1 ≡ vec_len self.old.listed) }
     {
-        let _abbrevs = abbrevs;
         let Some(first) = self.listed.pop() else {
             return Ok(());
         };
-        set(&mut self.declarations, first.code, first.hidden)?;
-        self.at = first.next as usize;
-        Ok(())
+        match code_in(abbrevs, index, first.at) {
+            Some((code, next)) => {
+                set(&mut self.places, code, first.hidden)?;
+                self.at = next;
+                Ok(())
+            }
+            None => Ok(()),
+        }
     }
 
-    // Puts a declaration in front.
-    fn put_first(&mut self, abbrevs: &[u8], first: Listed) -> Result<(), NoMemory>
+    // Puts the declaration at a place in front.
+    fn put_first(&mut self, abbrevs: &[u8], index: &Index, at: u32) -> Result<(), NoMemory>
+        requires index { IsIndex abbrevs.now index.now }
         requires table { IsTable abbrevs.now self.old }
-        requires next { first.next ≡ self.old.at }
-        requires declared { IsDeclared abbrevs.now first }
+        requires before { IsBefore abbrevs.now at self.old.at }
         ensures table { OnOk result (IsTable abbrevs.now self.new) }
-        ensures place { OnOk result (self.new.at ≡ first.at) }
+        ensures place { OnOk result (self.new.at ≡ at) }
     {
-        let _abbrevs = abbrevs;
-        let hidden = self.declarations.insert(first.code, first.declaration)?;
-        self.listed.push(Listed { hidden, ..first })?;
-        self.at = first.at as usize;
-        Ok(())
+        match code_in(abbrevs, index, at) {
+            Some((code, _)) => {
+                let hidden = self.places.insert(code, at)?;
+                self.listed.push(Listed { at, hidden })?;
+                self.at = at as usize;
+                Ok(())
+            }
+            None => Ok(()),
+        }
     }
 
     // Takes the declarations before a place away.
-    fn drop_before(&mut self, abbrevs: &[u8], place: usize) -> Result<(), NoMemory>
-        requires { IsTable abbrevs.now self.old }
+    fn drop_before(&mut self, abbrevs: &[u8], index: &Index, place: usize) -> Result<(), NoMemory>
+        requires index { IsIndex abbrevs.now index.now }
+        requires table { IsTable abbrevs.now self.old }
         ensures table { OnOk result (IsTable abbrevs.now self.new) }
         ensures past { OnOk result (0 < vec_len self.new.listed → place ≤ self.new.at) }
     {
         'declarations: while self.at < place && !self.listed.is_empty() {
-            self.drop_first(abbrevs)?;
+            self.drop_first(abbrevs, index)?;
         }
         Ok(())
     }
 
-    // Moves to the first place behind which the table at another place is the same, and gives the declarations before it.
+    // Moves to the first place behind which the table at another place is the same, and gives the places before it.
     fn meet(
         &mut self,
         alloc: Global,
         abbrevs: &[u8],
         index: &Index,
         at: usize,
-    ) -> Result<Vec<Listed>, NoMemory>
+    ) -> Result<Vec<u32>, NoMemory>
         requires index { IsIndex abbrevs.now index.now }
         requires table { IsTable abbrevs.now self.old }
         requires within { at ≤ length abbrevs.now }
@@ -151,19 +177,13 @@ impl Table {
         let mut before = Vec::new(alloc);
         let mut place = at;
         'places: loop {
-            self.drop_before(abbrevs, place)?;
+            self.drop_before(abbrevs, index, place)?;
             if self.at == place {
                 return Ok(before);
             }
             match declaration_at(abbrevs, index, place) {
-                Ok((Some((code, declaration)), next)) => {
-                    before.push(Listed {
-                        code,
-                        declaration,
-                        at: place as u32,
-                        next: next as u32,
-                        hidden: None,
-                    })?;
+                Ok((Some(_), next)) => {
+                    before.push(place as u32)?;
                     place = next;
                 }
                 Ok((None, _)) => {
@@ -195,20 +215,20 @@ impl Table {
     {
         let mut before = self.meet(alloc, abbrevs, index, place.at as usize)?;
         'declarations: while let Some(first) = before.pop() {
-            self.put_first(abbrevs, first)?;
+            self.put_first(abbrevs, index, first)?;
         }
         Ok(())
     }
 
     /// The declaration of a code.
-    pub fn find(&self, abbrevs: &[u8], code: u64) -> Result<Declaration, InfoFault>
-        requires { IsTable abbrevs.now self.now }
+    pub fn find(&self, abbrevs: &[u8], index: &Index, code: u64) -> Result<Declaration, InfoFault>
+        requires index { IsIndex abbrevs.now index.now }
+        requires table { IsTable abbrevs.now self.now }
         ensures value { result ≡ abbreviation_of (length abbrevs.now + 1) abbrevs.now code self.now.at }
         ensures within { IfOk result (λ d. d.attributes.at ≤ length abbrevs.now) }
     {
-        let _abbrevs = abbrevs;
-        match self.declarations.get(&code) {
-            Some(declaration) => Ok(*declaration),
+        match self.places.get(&code) {
+            Some(place) => declaration_in(abbrevs, index, *place),
             None => Err(self.end),
         }
     }

@@ -1,10 +1,4 @@
-use Rattle.std.proofs.Common.{◌≡◌, ◌+◌, length, Option, Some, sym, ◌∙◌, ap, arith, rules}
-use Rattle.debug_info.specs.Abbreviations.{specification_at}
-use Rattle.debug_info.specs.Attributes.{values_from}
-use Rattle.debug_info.specs.Index.{extended}
-use Rattle.debug_info.specs.Reading.{found}
-use Rattle.debug_info.specs.declared.abbreviation.Specification.{Specification}
-use Rattle.debug_info.specs.declared.attribute.Attributes.{Attributes}
+use Rattle.debug_info.proofs.Words.{◌≡◌, ◌+◌, length, Option, Some, sym, ◌∙◌, ap, arith, rules, specification_at, values_from, extended, found, Specification, Attributes}
 use Rattle.debug_info.proofs.Runs.{all_extended, at_run, next_value, specification_fault, value_fault}
 use Rattle.debug_info.proofs.attribute.attributes_at.Goals as goal
 
@@ -21,7 +15,7 @@ specifications-init c =
 pub returns-in_err-specification-clause-value : goal.returns-in_err-specification-clause-value
 returns-in_err-specification-clause-value c =
     let s = c.args.source.now in
-    let front = at_run _ s.abbrevs.now s.strs.now s.info.now _ _ c.specifications.specified c.specifications.place c.run-run.result c.specifications.invariant.read c.run-run.ensures c.with_flags-attributes.ensures in
+    let front = at_run _ s.abbrevs.now s.strs.now s.info.now _ _ c.specifications.specified c.specifications.place c.run-run.result c.specifications.invariant.read c.run-run.ensures c.unpacked.ensures c.with_flags-attributes.ensures in
     let e = specification_fault _ s.abbrevs.now s.strs.now s.info.now _ c.run-run.result.behind c.specifications.place _ front (sym c.in_err-specification.ensures.value) in
     search (rules, e)
 
@@ -30,7 +24,7 @@ returns-in_err-value-clause-value c =
     let s = c.args.source.now in
     let w = c.in_ok-specification in
     let is : specification_at s.abbrevs.now c.run-run.result.behind ≡ found (Some c.in-Some.specification) w.next = sym w.ensures.value ∙ ap (λ (o : Option Specification). found o w.next) c.in-Some.is in
-    let front = at_run _ s.abbrevs.now s.strs.now s.info.now _ _ c.specifications.specified c.specifications.place c.run-run.result c.specifications.invariant.read c.run-run.ensures c.with_flags-attributes.ensures in
+    let front = at_run _ s.abbrevs.now s.strs.now s.info.now _ _ c.specifications.specified c.specifications.place c.run-run.result c.specifications.invariant.read c.run-run.ensures c.unpacked.ensures c.with_flags-attributes.ensures in
     let e = value_fault _ s.abbrevs.now s.strs.now s.info.now _ c.run-run.result.behind w.next c.specifications.place c.in-Some.specification _ front is (sym c.in_err-value.ensures.value) in
     search (rules, e)
 
@@ -40,7 +34,7 @@ specifications-preserved c =
     let w = c.in_ok-specification in
     let v = c.in_ok-value in
     let is : specification_at s.abbrevs.now c.run-run.result.behind ≡ found (Some c.in-Some.specification) w.next = sym w.ensures.value ∙ ap (λ (o : Option Specification). found o w.next) c.in-Some.is in
-    let front = at_run _ s.abbrevs.now s.strs.now s.info.now _ _ c.specifications.specified c.specifications.place c.run-run.result c.specifications.invariant.read c.run-run.ensures c.with_flags-attributes.ensures in
+    let front = at_run _ s.abbrevs.now s.strs.now s.info.now _ _ c.specifications.specified c.specifications.place c.run-run.result c.specifications.invariant.read c.run-run.ensures c.unpacked.ensures c.with_flags-attributes.ensures in
     let first = c.specifications.invariant.within.behind in
     let second = v.ensures.within.behind in
     record {

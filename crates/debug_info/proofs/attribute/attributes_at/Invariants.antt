@@ -1,7 +1,4 @@
-use Rattle.std.proofs.Common.{◌≡◌, ◌≤◌, ◌+◌, ◌-◌, length}
-use Rattle.debug_info.specs.Attributes.{attributes_at, values_from}
-use Rattle.leb_read.specs.Leb.{IsReadTo}
-use Rattle.debug_info.specs.Index.{extended}
+use Rattle.debug_info.proofs.Words.{◌≡◌, ◌≤◌, ◌+◌, ◌-◌, length, attributes_at, values_from, IsReadTo, extended}
 use Rattle.debug_info.proofs.attribute.attributes_at.Given as goal
 
 abbrev pub invariant-specifications : goal.invariant-specifications

@@ -1,5 +1,4 @@
-use Rattle.std.proofs.Common.{length, ◌-◌, ◌≤◌, ◌+◌}
-use Rattle.debug_info.specs.Entries.{entries_from}
+use Rattle.debug_info.proofs.Words.{length, ◌-◌, ◌≤◌, ◌+◌, entries_from}
 use Rattle.debug_info.proofs.Listed.{Listed}
 use Rattle.debug_info.proofs.functions.functions_at.Given as goal
 

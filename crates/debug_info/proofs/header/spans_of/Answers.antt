@@ -1,7 +1,4 @@
-use Rattle.std.proofs.Common.{◌<◌, arith, rules, sym}
-use Rattle.std.proofs.lemmas.List.Elements.{All-push, All-same}
-use Rattle.debug_info.specs.Contents.{IsSpan}
-use Rattle.debug_info.specs.declared.header.Span.{Span}
+use Rattle.debug_info.proofs.Words.{◌<◌, arith, rules, sym, All-push, All-same, IsSpan, Span}
 use Rattle.debug_info.proofs.Spanned.{spanned_end, spanned_fault, spanned_next, spanned_start}
 use Rattle.debug_info.proofs.header.spans_of.Goals as goal
 

@@ -1,7 +1,5 @@
 -- The units so far, and those from here on.
-use Rattle.std.proofs.Common.{◌-◌, length}
-use Rattle.std.specs.Prelude.{All}
-use Rattle.debug_info.specs.Contents.{IsSpan}
+use Rattle.debug_info.proofs.Words.{◌-◌, length, All, IsSpan}
 use Rattle.debug_info.proofs.Spanned.{Spanned}
 use Rattle.debug_info.proofs.header.spans_of.Given as goal
 

@@ -1,5 +1,4 @@
-use Rattle.std.proofs.Common.{◌≡◌, ◌+◌, length}
-use Rattle.debug_info.specs.Index.{AreRuns}
+use Rattle.debug_info.proofs.Words.{◌≡◌, ◌+◌, length, AreRuns}
 use Rattle.debug_info.proofs.index.index_of.Given as goal
 
 abbrev pub invariant-places : goal.invariant-places

@@ -1,6 +1,5 @@
-use Rattle.std.proofs.Common.{ℕ, ◌<◌, ◌^◌, List, length, rules, subst, ◌∙◌}
-use Rattle.address_tables.specs.Tables.{IsTable, value_among}
-use Rattle.address_tables.specs.declared.entry.AddressRange.{AddressRange}
+use Rattle.debug_info.proofs.Words.{ℕ, ◌<◌, ◌^◌, List, length, rules, subst, ◌∙◌, value_among, AddressRange}
+use Rattle.address_tables.specs.Tables.{IsTable}
 use Rattle.debug_info.proofs.info.read_info.Goals as goal
 
 pub invariant_of-result : goal.invariant_of-result

@@ -1,7 +1,4 @@
-use Rattle.std.proofs.Common.{rules}
-use Rattle.std.specs.Prelude.{nat_lt}
-use Rattle.std.proofs.lemmas.List.Sorted.{IsPartitionPoint-from_clause, IsPartitionedBy-ltb}
-use Rattle.debug_info.specs.declared.mark.Mark.{Mark}
+use Rattle.debug_info.proofs.Words.{rules, nat_lt, IsPartitionPoint-from_clause, IsPartitionedBy-ltb, Mark}
 use Rattle.debug_info.proofs.Rising.{rises_order}
 use Rattle.debug_info.proofs.scope.count_before.Goals as goal
 

@@ -1,5 +1,4 @@
-use Rattle.std.proofs.Common.{◌<◌, arith, sym}
-use Rattle.debug_info.specs.Marks.{entries_in}
+use Rattle.debug_info.proofs.Words.{◌<◌, arith, sym, entries_in}
 use Rattle.debug_info.proofs.Links.{kind_step}
 use Rattle.debug_info.proofs.scope.kind_of.Goals as goal
 

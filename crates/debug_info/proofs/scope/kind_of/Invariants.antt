@@ -1,6 +1,4 @@
-use Rattle.std.proofs.Common.{◌≡◌}
-use Rattle.debug_info.specs.Scope.{kind_of}
-use Rattle.debug_info.specs.Marks.{entries_in}
+use Rattle.debug_info.proofs.Words.{◌≡◌, kind_of, entries_in}
 use Rattle.debug_info.proofs.scope.kind_of.Given as goal
 
 abbrev pub invariant-links : goal.invariant-links

@@ -1,6 +1,5 @@
-use Rattle.std.proofs.Common.{false, arith}
+use Rattle.debug_info.proofs.Words.{false, arith, Mark}
 use Rattle.debug_info.specs.declared.entry.Tag.TheVariants as tag
-use Rattle.debug_info.specs.declared.mark.Mark.{Mark}
 use Rattle.debug_info.proofs.Rising.{found_nowhere, found_there}
 use Rattle.debug_info.proofs.scope.mark_with.Goals as goal
 use Rattle.debug_info.proofs.scope.mark_with.Goals.{else-count-marks-via-then-count-marks+else-marks-count, else-count-marks-via-else-count-marks}

@@ -1,7 +1,4 @@
-use Rattle.std.proofs.Common.{◌≡◌, ap, drop, map, sym, ◌∙◌, List}
-use Rattle.debug_info.specs.Marks.{entries_in, mark_of}
-use Rattle.debug_info.specs.declared.mark.Mark.{Mark}
-use Rattle.std.proofs.lemmas.List.{drop-map}
+use Rattle.debug_info.proofs.Words.{◌≡◌, ap, drop, map, sym, ◌∙◌, List, entries_in, mark_of, Mark, drop-map}
 use Rattle.debug_info.proofs.Walked.{again_drop, walked_end, walked_hidden, walked_over, walked_seen, walked_start}
 use Rattle.debug_info.proofs.scope.own_marks.Goals as goal
 use Rattle.debug_info.proofs.scope.own_marks.Goals.{then-not-is_below+in_ok-push_named, else-not-is_below}

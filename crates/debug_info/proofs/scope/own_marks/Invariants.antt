@@ -1,6 +1,4 @@
-use Rattle.std.proofs.Common.{drop}
-use Rattle.debug_info.specs.Marks.{entries_in}
-use Rattle.debug_info.specs.Scope.{own_entries}
+use Rattle.debug_info.proofs.Words.{drop, entries_in, own_entries}
 use Rattle.debug_info.proofs.Walked.{Walked}
 use Rattle.debug_info.proofs.scope.own_marks.Given as goal
 

@@ -1,13 +1,5 @@
-use Rattle.std.proofs.Common.{◌≡◌, map, get_or, refl, true, false, arith}
-use Rattle.std.specs.Prelude.{◌==◌}
-use Rattle.std.proofs.lemmas.Bool.Decides.{nat_tests}
-use Rattle.debug_info.specs.Marks.{entries_in}
-use Rattle.debug_info.specs.Scope.{Variable, variable_of}
-use Rattle.debug_info.specs.Shown.{seen_texts}
-use Rattle.debug_info.specs.declared.entry.Entry.{Entry}
+use Rattle.debug_info.proofs.Words.{◌≡◌, map, get_or, refl, true, false, arith, ◌==◌, nat_tests, entries_in, Variable, variable_of, seen_texts, Entry, Mark, map-append}
 use Rattle.debug_info.specs.declared.entry.Tag.TheVariants as tag
-use Rattle.debug_info.specs.declared.mark.Mark.{Mark}
-use Rattle.std.proofs.lemmas.List.{map-append}
 use Rattle.debug_info.proofs.Walked.{passed_step, taken_step}
 use Rattle.debug_info.proofs.scope.push_level.Goals as goal
 use Rattle.debug_info.proofs.scope.push_level.Goals.{then-mark-level+in_ok-push_variable, else-mark-level}

@@ -1,8 +1,4 @@
-use Rattle.std.proofs.Common.{◌≡◌, ◌++◌, map, filter, take, true}
-use Rattle.std.specs.Prelude.{◌==◌}
-use Rattle.debug_info.specs.Marks.{all_reread, entries_in}
-use Rattle.debug_info.specs.Scope.{variable_of}
-use Rattle.debug_info.specs.Shown.{seen_texts, shown_variables}
+use Rattle.debug_info.proofs.Words.{◌≡◌, ◌++◌, map, filter, take, true, ◌==◌, all_reread, entries_in, variable_of, seen_texts, shown_variables}
 use Rattle.debug_info.proofs.scope.push_level.Given as goal
 
 abbrev pub invariant-loop-mark : goal.invariant-loop-mark

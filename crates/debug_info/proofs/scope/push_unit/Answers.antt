@@ -1,8 +1,4 @@
-use Rattle.std.proofs.Common.{List, map, filter, refl, sym, ◌∙◌, false}
-use Rattle.debug_info.specs.Marks.{entries_in, is_outer}
-use Rattle.debug_info.specs.Scope.{Variable, is_fixed, variable_of}
-use Rattle.debug_info.specs.Shown.{seen_texts}
-use Rattle.debug_info.specs.declared.entry.Entry.{Entry}
+use Rattle.debug_info.proofs.Words.{List, map, filter, refl, sym, ◌∙◌, false, entries_in, is_outer, Variable, is_fixed, variable_of, seen_texts, Entry}
 use Rattle.debug_info.proofs.Walked.{chosen_both, passed_step, taken_step}
 use Rattle.debug_info.proofs.scope.push_unit.Goals as goal
 use Rattle.debug_info.proofs.scope.push_unit.Goals.{then-is_outer+in_ok-push_fixed, else-is_outer}

@@ -1,7 +1,4 @@
-use Rattle.std.proofs.Common.{◌≡◌, ◌++◌, filter, map, take, false}
-use Rattle.debug_info.specs.Marks.{all_reread, entries_in, is_outer}
-use Rattle.debug_info.specs.Scope.{is_fixed, variable_of}
-use Rattle.debug_info.specs.Shown.{seen_texts, shown_variables}
+use Rattle.debug_info.proofs.Words.{◌≡◌, ◌++◌, filter, map, take, false, all_reread, entries_in, is_outer, is_fixed, variable_of, seen_texts, shown_variables}
 use Rattle.debug_info.proofs.scope.push_unit.Given as goal
 
 abbrev pub invariant-loop-mark : goal.invariant-loop-mark

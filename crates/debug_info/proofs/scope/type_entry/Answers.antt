@@ -1,8 +1,4 @@
-use Rattle.std.proofs.Common.{List, ap, sym, ◌∙◌}
-use Rattle.std.specs.Prelude.{find, option_and_then, ◌==◌}
-use Rattle.debug_info.specs.Marks.{entries_in, reread_in}
-use Rattle.debug_info.specs.Scope.{type_entry}
-use Rattle.debug_info.specs.declared.mark.Mark.{Mark}
+use Rattle.debug_info.proofs.Words.{List, ap, sym, ◌∙◌, find, option_and_then, ◌==◌, entries_in, reread_in, type_entry, Mark}
 use Rattle.debug_info.proofs.Walked.{find_again}
 use Rattle.debug_info.proofs.scope.type_entry.Goals as goal
 

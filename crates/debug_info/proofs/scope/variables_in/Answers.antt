@@ -1,11 +1,5 @@
-use Rattle.std.proofs.Common.{◌≡◌, ◌≤◌, ◌+◌, ◌∷◌, [], ℕ, List, None, Some, arith, ap, drop, length, refl, suc, sym, subst, ◌∙◌}
-use Rattle.std.specs.Prelude.{IfOk}
-use Rattle.std.proofs.lemmas.List.{drop_all, length-map}
-use Rattle.debug_info.specs.Marks.{entries_in, mark_of}
-use Rattle.debug_info.specs.Scope.{from_offset, variables_in}
-use Rattle.debug_info.specs.Shown.{seen_texts, shown_variables}
-use Rattle.debug_info.specs.declared.entry.Entry.{Entry}
-use Rattle.debug_info.specs.declared.mark.Mark.{Mark}
+use Rattle.debug_info.proofs.Words.{◌≡◌, ◌≤◌, ◌+◌, ◌∷◌, [], ℕ, List, None, Some, arith, ap, drop, length, refl, suc, sym, subst, ◌∙◌, IfOk, drop_all, length-map, entries_in, mark_of, from_offset, variables_in, seen_texts}
+use Rattle.debug_info.proofs.Words.{shown_variables, Entry, Mark}
 use Rattle.debug_info.proofs.Rising.{counted_entries}
 use Rattle.debug_info.proofs.Walked.{split_at}
 use Rattle.debug_info.proofs.scope.variables_in.Goals as goal

@@ -1,10 +1,5 @@
-use Rattle.std.proofs.Common.{◌≡◌, ◌<◌, ◌+◌, ◌++◌, ℕ, List, append-nil, ap, drop, filter, map, refl, true, false, arith, sym, ◌∙◌}
-use Rattle.std.specs.Prelude.{◌==◌}
-use Rattle.debug_info.specs.Marks.{all_reread, entries_in, is_outer}
-use Rattle.debug_info.specs.Scope.{Variable, by_depth, is_fixed, is_unit_variable, own_entries, variable_of}
-use Rattle.debug_info.specs.Shown.{seen_texts, shown_variables}
-use Rattle.debug_info.specs.declared.entry.Entry.{Entry}
-use Rattle.debug_info.specs.declared.mark.Mark.{Mark}
+use Rattle.debug_info.proofs.Words.{◌≡◌, ◌<◌, ◌+◌, ◌++◌, ℕ, List, append-nil, ap, drop, filter, map, refl, true, false, arith, sym, ◌∙◌, ◌==◌, all_reread, entries_in, is_outer, Variable, by_depth, is_fixed, is_unit_variable}
+use Rattle.debug_info.proofs.Words.{own_entries, variable_of, seen_texts, shown_variables, Entry, Mark}
 use Rattle.debug_info.proofs.Levels.{level_step}
 use Rattle.debug_info.proofs.Walked.{again_drop, level_same, outer_same, own_again}
 use Rattle.debug_info.proofs.scope.variables_of.Goals as goal

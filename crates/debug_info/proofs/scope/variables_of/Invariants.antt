@@ -1,7 +1,4 @@
-use Rattle.std.proofs.Common.{◌≡◌, ◌++◌, ◌+◌, drop, map, true}
-use Rattle.debug_info.specs.Marks.{entries_in}
-use Rattle.debug_info.specs.Scope.{by_depth, own_entries, variable_of}
-use Rattle.debug_info.specs.Shown.{seen_texts, shown_variables}
+use Rattle.debug_info.proofs.Words.{◌≡◌, ◌++◌, ◌+◌, drop, map, true, entries_in, by_depth, own_entries, variable_of, seen_texts, shown_variables}
 use Rattle.debug_info.proofs.scope.variables_of.Given as goal
 
 abbrev pub invariant-levels : goal.invariant-levels

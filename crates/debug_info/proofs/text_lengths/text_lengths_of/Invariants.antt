@@ -1,6 +1,4 @@
-use Rattle.std.proofs.Common.{◌≡◌, ◌≤◌, ◌+◌, length}
-use Rattle.leb_read.specs.Leb.{text_from}
-use Rattle.debug_info.specs.TextLengths.{AreLast}
+use Rattle.debug_info.proofs.Words.{◌≡◌, ◌≤◌, ◌+◌, length, text_from, AreLast}
 use Rattle.debug_info.proofs.text_lengths.text_lengths_of.Given as goal
 
 abbrev pub invariant-places : goal.invariant-places

@@ -1,8 +1,4 @@
-use Rattle.std.proofs.Common.{◌≡◌, ◌++◌, List, map, sym, ◌∙◌, ap, subst}
-use Rattle.std.specs.List.{flat_map}
-use Rattle.std.proofs.lemmas.List.{take_all}
-use Rattle.debug_info.specs.Contents.{fault_list, faults_given, spans_of}
-use Rattle.debug_info.specs.Shown.{given, reading_shown}
+use Rattle.debug_info.proofs.Words.{◌++◌, sym, ◌∙◌, ap, flat_map, take_all, fault_list, faults_given, spans_of}
 use Rattle.debug_info.specs.declared.unit.Reading.{Reading}
 use Rattle.debug_info.proofs.Orderly.{faults_are, functions_are}
 use Rattle.debug_info.proofs.unit.contents_of.Goals as goal

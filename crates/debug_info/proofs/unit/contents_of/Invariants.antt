@@ -1,6 +1,4 @@
-use Rattle.std.proofs.Common.{◌≡◌, take}
-use Rattle.std.specs.List.{flat_map}
-use Rattle.debug_info.specs.Contents.{fault_list}
+use Rattle.debug_info.proofs.Words.{◌≡◌, take, flat_map, fault_list}
 use Rattle.debug_info.proofs.unit.contents_of.Given as goal
 
 abbrev pub invariant-loop-reading : goal.invariant-loop-reading

@@ -1,9 +1,4 @@
-use Rattle.std.proofs.Common.{◌<◌, List, length, get_or, ◌≡◌, subst, refl, sym, ◌∙◌, ap}
-use Rattle.std.proofs.lemmas.List.{get_or_default, length-set, take_all}
-use Rattle.debug_info.specs.Order.{AreTurns}
-use Rattle.debug_info.specs.Shown.{given, reading_shown}
-use Rattle.debug_info.specs.declared.header.Span.{Span}
-use Rattle.debug_info.specs.declared.order.Turn.{Turn}
+use Rattle.debug_info.proofs.Words.{◌<◌, List, length, get_or, ◌≡◌, subst, refl, sym, ◌∙◌, ap, get_or_default, length-set, take_all, AreTurns, given, reading_shown, Span, Turn}
 use Rattle.debug_info.proofs.Orderly.{AreRead, read_more, read_shown}
 use Rattle.debug_info.proofs.unit.readings_of.Goals as goal
 

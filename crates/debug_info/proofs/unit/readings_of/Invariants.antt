@@ -1,6 +1,5 @@
 -- The units that had their turn are read.
-use Rattle.std.proofs.Common.{◌≡◌, length, take}
-use Rattle.debug_info.specs.Tables.{IsTable}
+use Rattle.debug_info.proofs.Words.{◌≡◌, length, take, IsTable}
 use Rattle.debug_info.proofs.Orderly.{AreRead}
 use Rattle.debug_info.proofs.unit.readings_of.Given as goal
 

@@ -1,6 +1,5 @@
 -- None of the units so far ends behind the place.
-use Rattle.std.proofs.Common.{◌≡◌, drop}
-use Rattle.std.specs.Prelude.{find, nat_lt}
+use Rattle.debug_info.proofs.Words.{◌≡◌, drop, find, nat_lt}
 use Rattle.debug_info.proofs.unit.unit_with.Given as goal
 
 abbrev pub invariant-loop-span : goal.invariant-loop-span

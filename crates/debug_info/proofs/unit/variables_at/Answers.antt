@@ -1,5 +1,4 @@
-use Rattle.std.proofs.Common.{sym}
-use Rattle.debug_info.specs.Contents.{IsSpan}
+use Rattle.debug_info.proofs.Words.{sym}
 use Rattle.debug_info.proofs.Spanned.{span_found}
 use Rattle.debug_info.proofs.unit.variables_at.Goals as goal
 

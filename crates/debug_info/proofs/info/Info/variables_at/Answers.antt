@@ -1,13 +1,5 @@
-use Rattle.std.proofs.Common.{◌≡◌, ℕ, List, None, Some, sym, ◌∙◌, ap, subst}
-use Rattle.std.specs.Prelude.{IfOk, find, nat_lt}
-use Rattle.address_tables.specs.Tables.{value_from}
+use Rattle.debug_info.proofs.Words.{◌≡◌, ℕ, List, None, Some, sym, ◌∙◌, ap, subst, IfOk, find, nat_lt, value_from, function_at, Info, info_of, scope, variables_at, variables_by, seen, Variable, shown_variables, Span}
 use Rattle.address_tables.specs.declared.entry.Entry.{Entry}
-use Rattle.debug_info.specs.Functions.{function_at}
-use Rattle.debug_info.specs.Info.{Info, info_of, scope, variables_at, variables_by}
-use Rattle.debug_info.specs.Kept.{seen}
-use Rattle.debug_info.specs.Scope.{Variable}
-use Rattle.debug_info.specs.Shown.{shown_variables}
-use Rattle.debug_info.specs.declared.header.Span.{Span}
 use Rattle.debug_info.proofs.info.Info.variables_at.Goals as goal
 
 pub returns : goal.returns

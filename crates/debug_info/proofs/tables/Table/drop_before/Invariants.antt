@@ -1,5 +1,4 @@
-use Rattle.std.specs.Vec.{vec_len}
-use Rattle.debug_info.specs.Tables.{IsTable}
+use Rattle.debug_info.proofs.Words.{vec_len, IsTable}
 use Rattle.debug_info.proofs.tables.Table.drop_before.Given as goal
 
 abbrev pub invariant-declarations : goal.invariant-declarations

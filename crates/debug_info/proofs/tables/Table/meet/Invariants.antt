@@ -1,6 +1,5 @@
 -- The declarations from the other place up to where its table is gone over now.
-use Rattle.std.proofs.Common.{◌≤◌, ◌-◌, length, reverse}
-use Rattle.debug_info.specs.Tables.{IsTable, LeadTo}
+use Rattle.debug_info.proofs.Words.{◌≤◌, ◌-◌, length, reverse, IsTable, LeadTo}
 use Rattle.debug_info.proofs.tables.Table.meet.Given as goal
 
 abbrev pub invariant-places : goal.invariant-places

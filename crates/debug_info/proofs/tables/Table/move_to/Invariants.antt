@@ -1,7 +1,5 @@
 -- The declarations that are left lead to the table's first one.
-use Rattle.std.proofs.Common.{reverse}
-use Rattle.std.specs.Vec.{vec_len}
-use Rattle.debug_info.specs.Tables.{IsTable, LeadTo}
+use Rattle.debug_info.proofs.Words.{reverse, vec_len, IsTable, LeadTo}
 use Rattle.debug_info.proofs.tables.Table.move_to.Given as goal
 
 abbrev pub invariant-declarations : goal.invariant-declarations

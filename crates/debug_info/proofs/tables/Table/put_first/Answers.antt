@@ -1,9 +1,16 @@
-use Rattle.debug_info.proofs.Tabled.{more_kept}
-use Rattle.debug_info.specs.declared.tables.Listed.{Listed}
+use Rattle.debug_info.proofs.Words.{◌≡◌, Some, ℕ, sym, ◌∙◌, ap, declaration_at, code_in}
+use Rattle.debug_info.proofs.Tabled.{more_kept, not_none, same_code}
 use Rattle.debug_info.proofs.tables.Table.put_first.Goals as goal
 
-pub returns-clause-table : goal.returns-clause-table
-returns-clause-table c =
-    let first = c.args.first in
-    let l : Listed = record { at = first.at; code = first.code; declaration = first.declaration; next = first.next; hidden = c.in_ok-hidden.hidden } in
-    more_kept c.args.abbrevs.now _ _ l _ _ c.args.self.now.declarations c.insert.new.self c.requires.table c.requires.next c.requires.declared c.in_ok-hidden.ensures.old c.in_ok-hidden.ensures.updates c.in_ok-push.ensures.items
+pub returns-in_ok-push-in-Some-clause-table : goal.returns-in_ok-push-in-Some-clause-table
+returns-in_ok-push-in-Some-clause-table c =
+    let at = c.args.self.now.at in
+    let b = c.requires.before in
+    let code : b.code ≡ c.in-Some.code = same_code _ _ _ _ (sym b.is ∙ sym c.code_in.ensures ∙ c.in-Some.is) in
+    let read : code_in (declaration_at c.args.abbrevs.now c.args.at) ≡ Some (c.in-Some.code, at) = b.is ∙ ap (λ (n : ℕ). Some (n, at)) code in
+    more_kept c.args.abbrevs.now _ at c.args.at c.in-Some.code _ _ _ c.args.self.now.places c.insert.new.self c.requires.table read c.in_ok-hidden-in-Some.ensures.old c.in_ok-hidden-in-Some.ensures.updates c.in_ok-push-in-Some.ensures.items
+
+pub returns-in-None : goal.returns-in-None
+returns-in-None c =
+    let b = c.requires.before in
+    absurd (not_none _ _ (sym b.is ∙ sym c.code_in.ensures ∙ c.in-None.is))
