@@ -4,7 +4,7 @@ ghost use Rattle.std.specs.Option.{option_map};
 ghost use Rattle.std.specs.FinSet as set;
 ghost use Rattle.text_words.specs.Words as text;
 ghost use Rattle.data_memory.specs.Start.{start_memory};
-ghost use Rattle.data_memory.specs.Ranges.{bytes_at, first_unwritable, range_at, value_at};
+ghost use Rattle.data_memory.specs.Ranges.{bytes_at, first_unwritable, range_at};
 ghost use Rattle.dbg_traits.specs.Settings.{AreSettings, AreHarts};
 ghost use Rattle.rv_decode.specs.Decode.{decode};
 ghost use Rattle.scratch_slots.specs.Table.{slot_address, slot_number, use_at, least_free, with_use, AllOut};
@@ -95,13 +95,6 @@ impl Machine {
         ensures { result.now ≡ self.now.cores }
     {
         self.cores.as_slice()
-    }
-
-    /// The byte of data at an address, where one is mapped.
-    pub fn byte(&self, addr: u32) -> Option<u8>
-        ensures { result ≡ value_at self.now.memory addr }
-    {
-        self.memory.byte(addr)
     }
 
     /// Where a hart is.

@@ -27,7 +27,8 @@ pub struct Job {
 }
 
 /// A run of instructions: `count` of them, each of which stands in the window at its pc, touches registers alone
-/// and doesn't trap, lead from `regs` to `after`. It can't be dropped either.
+/// and doesn't trap, lead from `regs` to `after`.
+#[derive(Drop)]
 pub struct Slice {
     /// The hart's number.
     pub hart: u32,
