@@ -1,5 +1,5 @@
 -- What is picked of each hart by a function that is passed. This project's own.
-use Rattle.std.specs.Prelude.{◌≡◌, ℕ, List, ◌++◌, Option}
+use Rattle.std.specs.Prelude.{◌≡◌, ℕ, List, Option}
 use Rattle.dbg_model.specs.declared.thread_view.ThreadView.{ThreadView}
 use Rattle.dbg_model.specs.Sight.{each}
 
@@ -10,7 +10,3 @@ Returns {T} post pick = (n : ℕ) (x : ThreadView) (r : Option T) → post n x r
 -- the picked, where calls return what is picked
 abbrev pub ArePicked : {T : Type 0} → (ℕ → ThreadView → Option T → Type 0) → List ThreadView → List T → Type 0
 ArePicked {T} post xs ys = (pick : ℕ → ThreadView → Option T) → Returns post pick → ys ≡ each pick 1 xs
-
--- the picked of the harts before number n, where the rest is still to come
-abbrev pub AreComing : {T : Type 0} → (ℕ → ThreadView → Option T → Type 0) → List ThreadView → List T → ℕ → List ThreadView → Type 0
-AreComing {T} post xs ys n rest = (pick : ℕ → ThreadView → Option T) → Returns post pick → ys ++ each pick n rest ≡ each pick 1 xs

@@ -16,9 +16,8 @@ ghost use Rattle.dbg_answers.specs.Reading.{ReadsAs};
 use crate::answer::{Answer, Failure, showing};
 use crate::debuggee::Debuggee;
 use crate::variables::read_in;
-use crate::view::SeenHart;
 use cond_expr::{Expr, ParseError, Value, parse, value};
-use dbg_model::{Content, Obstacle, Refused};
+use dbg_model::{Content, Obstacle, Refused, SeenHart};
 use dbg_traits::ByteList;
 use elf_symbols::Symbols;
 use rv_exec::Regs;
@@ -79,6 +78,7 @@ fn told_value(
     let expression = read?;
     let view = SeenHart {
         regs,
+        pc: None,
         image: debuggee.image,
         memory: debuggee.memory,
     };

@@ -8,9 +8,8 @@ ghost use Rattle.dbg_answers.specs.Answer.{Gives};
 
 use crate::answer::{Answer, Failure, showing};
 use crate::debuggee::Debuggee;
-use crate::view::SeenHart;
 use arrayvec::ArrayVec;
-use dbg_model::{Content, FrameList, ShownFrame, SourceIndex, shown_frame};
+use dbg_model::{Content, FrameList, SeenHart, ShownFrame, SourceIndex, shown_frame};
 use frame_walk::{Frame, walk};
 use rv_exec::Regs;
 use std::alloc::{AllocError, Global};
@@ -21,6 +20,7 @@ fn frames_of(debuggee: &Debuggee<'_>, regs: &Regs) -> ArrayVec<Frame, 64>
 {
     let view = SeenHart {
         regs,
+        pc: None,
         image: debuggee.image,
         memory: debuggee.memory,
     };

@@ -17,7 +17,6 @@ mod settings;
 mod stepping;
 mod threads;
 mod variables;
-mod view;
 mod watchpoints;
 mod writing;
 
@@ -25,5 +24,3 @@ pub use answer::Answer;
 pub use command::answer_command;
 pub use debuggee::Debuggee;
 pub use line::{LineAnswer, answer_fault, answer_line, read_line, waits};
-pub use view::SeenHart;
-pub use writing::is_settable;

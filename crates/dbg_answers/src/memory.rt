@@ -6,8 +6,7 @@ ghost use Rattle.dbg_answers.specs.Answer.{Gives, GivesAs};
 
 use crate::answer::{Answer, Failure, showing};
 use crate::debuggee::Debuggee;
-use crate::view::shown_byte;
-use dbg_model::{Content, Obstacle, Refused};
+use dbg_model::{Content, Obstacle, Refused, shown_byte};
 use dbg_traits::ByteList;
 use std::alloc::{AllocError, Global};
 

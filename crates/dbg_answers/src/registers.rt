@@ -7,8 +7,7 @@ ghost use Rattle.dbg_answers.specs.Answer.{Gives};
 
 use crate::answer::{Answer, Failure, showing};
 use crate::debuggee::Debuggee;
-use crate::view::register;
-use dbg_model::{Content, Register, RegisterList};
+use dbg_model::{Content, Register, RegisterList, shown_register};
 use dbg_traits::NumberList;
 use mi_commands::Format;
 use rv_exec::Regs;
@@ -28,7 +27,7 @@ fn valued(alloc: Global, regs: &Regs, numbers: &[u32]) -> Result<Vec<Register>, 
     for number in numbers {
         registers.push(Register {
             number: *number,
-            value: register(regs, *number),
+            value: shown_register(regs, *number),
         })?;
     }
     Ok(registers)

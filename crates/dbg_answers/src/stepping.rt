@@ -8,8 +8,7 @@ ghost use Rattle.dbg_answers.specs.Steps.{plan_of};
 use crate::answer::{Answer, Failure};
 use crate::debuggee::Debuggee;
 use crate::resuming::going;
-use crate::view::SeenHart;
-use dbg_model::{Obstacle, Refused};
+use dbg_model::{Obstacle, Refused, SeenHart};
 use frame_walk::{Caller, caller};
 use rv_exec::Regs;
 use std::alloc::Global;
@@ -62,6 +61,7 @@ fn caller_at(debuggee: &Debuggee<'_>, regs: &Regs) -> Option<Caller>
 {
     let view = SeenHart {
         regs,
+        pc: None,
         image: debuggee.image,
         memory: debuggee.memory,
     };

@@ -13,9 +13,8 @@ ghost use Rattle.dbg_answers.specs.Answer.{Gives, GivesAs};
 use crate::answer::{Answer, Failure, showing};
 use crate::debuggee::Debuggee;
 use crate::expressions::read_text;
-use crate::view::SeenHart;
 use cond_expr::{Expr, ParseError, Value, value};
-use dbg_model::{Content, Obstacle, Refused, ShownVariable, VariableList, VariableValue};
+use dbg_model::{Content, Obstacle, Refused, SeenHart, ShownVariable, VariableList, VariableValue};
 use dbg_traits::{ByteList, NoMemory, View};
 use debug_info::Var;
 use elf_symbols::Symbols;
@@ -137,6 +136,7 @@ pub fn variable_list(
     let regs = debuggee.stopped(thread.unwrap_or(debuggee.selected))?;
     let view = SeenHart {
         regs: &regs,
+        pc: None,
         image: debuggee.image,
         memory: debuggee.memory,
     };
@@ -177,6 +177,7 @@ pub fn read_in(
 {
     let view = SeenHart {
         regs,
+        pc: None,
         image: debuggee.image,
         memory: debuggee.memory,
     };

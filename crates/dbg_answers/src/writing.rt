@@ -1,6 +1,4 @@
 // Commands that write into the program.
-ghost use Rattle.std.specs.Prelude.{◌≡◌};
-ghost use Rattle.plain_machine.specs.PlainRun.{is_settable};
 ghost use Rattle.dbg_model.specs.Writes.{set_register, write_memory};
 ghost use Rattle.dbg_answers.specs.Debuggee.{seen};
 ghost use Rattle.dbg_answers.specs.Answer.{Gives};
@@ -8,15 +6,8 @@ ghost use Rattle.dbg_answers.specs.Answer.{Gives};
 use crate::answer::{Answer, Failure, doing};
 use crate::debuggee::Debuggee;
 use dbg_effects::Effect;
-use dbg_model::{Obstacle, Poke, Refused};
+use dbg_model::{Obstacle, Poke, Refused, is_settable};
 use dbg_traits::ByteList;
-
-/// Whether a register is one that is set: not x0 and not pc, which is 32.
-pub fn is_settable(register: u32) -> bool
-    ensures { result ≡ is_settable register }
-{
-    1 <= register && register <= 31
-}
 
 /// `-gdb-set [--thread N] $NAME=VALUE`; the register is that of the name, and 32 is pc.
 pub fn set_register(

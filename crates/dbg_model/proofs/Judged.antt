@@ -1,19 +1,12 @@
--- What is judged of harts that go on without a plan.
+-- What is judged of a hart that has just arrived, and of one that has not.
 use Rattle.std.proofs.Common.{◌≡◌, ℕ, true, false, refl}
 use Rattle.std.specs.Prelude.{List, Option}
 use Rattle.elf32_read.specs.Program.{Program}
 use Rattle.break_table.specs.Arrival.{due_of}
 use Rattle.break_table.specs.Entry.{Entry}
 use Rattle.dbg_model.specs.Sources.{Sources}
-use Rattle.step_plans.specs.declared.plan.Plan.TheVariants as plans
-use Rattle.step_plans.specs.declared.plan.Verdict.TheVariants as verdicts
 use Rattle.dbg_model.specs.declared.course.Course.{Course}
 use Rattle.dbg_model.specs.Judging.{judgement_of, no_arrival, verdict_behind}
-
--- a hart without a plan goes on
-pub free_goes : (p : Program) (sources : Sources) (registers : ℕ → ℕ) (last : Option ℕ) → verdict_behind p sources plans.Free registers last ≡ verdicts.Go plans.Free
-unfolding verdict_behind
-free_goes p sources registers last = refl
 
 -- what is judged of a hart that hasn't just arrived
 pub judged_elsewhere : (p : Program) (sources : Sources) (entries : List Entry) (h : ℕ) (c : Course) (registers : ℕ → ℕ) (bytes : ℕ → Option ℕ) → c.fresh ≡ false

@@ -1,6 +1,6 @@
 -- Harts that leave are reported one by one, in rising order.
-use Rattle.std.proofs.Common.{◌≡◌, ℕ, suc, ◌+◌, Bool, true, false, List, [], ◌∷◌, ◌++◌, length, refl, ap, ◌∙◌, arith, append_assoc, subst}
-use Rattle.std.specs.Prelude.{Option, Some, ◌==◌, ◌||◌, map, slice_get, slice_set}
+use Rattle.std.proofs.Common.{◌≡◌, ℕ, suc, ◌+◌, true, false, List, [], ◌∷◌, ◌++◌, length, refl, ap, ◌∙◌, arith, append_assoc, subst}
+use Rattle.std.specs.Prelude.{Option, Some, ◌==◌, map, slice_get, slice_set}
 use mathlib.Core.List.{append-nil}
 use Rattle.std.proofs.lemmas.Bool.Decides.{nat_tests}
 use Rattle.dbg_model.specs.declared.entry.Mode.{Mode}
@@ -15,6 +15,7 @@ use Rattle.dbg_model.specs.Journals.{Leaves}
 use Rattle.dbg_model.specs.Leaving.{lefts_from, left_one, gone, gone_by}
 use Rattle.dbg_model.proofs.Adding.{added}
 use Rattle.dbg_model.proofs.Counting.{length-both}
+use Rattle.dbg_model.proofs.Options.{or_false}
 
 -- the place behind a front of a list
 pub at_end : {A : Type 0} (front : List A) (x : A) (xs : List A) → slice_get (front ++ x ∷ xs) (length front) ≡ Some x
@@ -24,10 +25,6 @@ at_end (y ∷ ys) x xs = at_end ys x xs
 pub set_end : {A : Type 0} (front : List A) (x y : A) (xs : List A) → slice_set (front ++ x ∷ xs) (length front) y ≡ front ++ y ∷ xs
 set_end [] x y xs = refl
 set_end (z ∷ zs) x y xs = ap (λ t. z ∷ t) (set_end zs x y xs)
-
-or_false : (a b : Bool) → (a || b) ≡ false → (a ≡ false) × (b ≡ false)
-or_false true b h = cc
-or_false false b h = (refl, h)
 
 pub stays_leaver : (k : ℕ) (m : Mode) (rest : Option (ℕ × ℕ)) → is_leaving m ≡ false → leaver_or k m rest ≡ rest
 stays_leaver k mode.Stopped rest h = refl

@@ -14,7 +14,9 @@ pub mod Numbering
 -- Lines: what is answered, what each may change, and the threads that are named; none ended a session that goes on.
 pub mod Replying
 pub mod Founding
+pub mod Inserting
 pub mod Ending
 pub mod Naming
--- Where a hart has arrived: what is judged without a plan.
+-- Where a hart has arrived: what is judged, and where nothing is due.
 pub mod Judged
+pub mod Undue

@@ -1,6 +1,6 @@
 -- What is judged where a hart has just arrived: what its breakpoints and a watch do with it (GDB manual, "Breakpoints,
 -- Watchpoints, and Catchpoints"), and whether its step is at its end (GDB manual, "Continuing and Stepping").
-use Rattle.std.specs.Prelude.{ℕ, Bool, true, false, not, ◌&&◌, ◌||◌, List, Option, None, option_and_then, is_some, if◌then◌else◌}
+use Rattle.std.specs.Prelude.{ℕ, Bool, true, false, not, ◌&&◌, ◌||◌, ◌==◌, List, Option, None, option_and_then, is_some, if◌then◌else◌}
 use Rattle.std.specs.Option.{option_map}
 use Rattle.rv_decode.specs.Decode.{decode}
 use Rattle.rv_decode.specs.declared.instr.Instr.{Instr}
@@ -58,6 +58,13 @@ is_end verdicts.Finished = true
 abbrev pub plan_after : Verdict → Plan
 plan_after (verdicts.Go plan) = plan
 plan_after _ = plans.Free
+
+-- a plan stays as it is where a hart arrives there, and asks for no instruction
+abbrev pub is_kept : Plan → ℕ → Bool
+is_kept plans.Free pc = true
+is_kept (plans.ToReturn ret sp after) pc = not (pc == ret)
+is_kept (plans.Finish ret sp) pc = not (pc == ret)
+is_kept _ pc = false
 
 -- a breakpoint stops or counts the hart, a watch fired, or its plan is at its end
 abbrev pub is_due : Judgement → Bool

@@ -1,6 +1,6 @@
 // What is judged where a hart has just arrived.
 ghost use Rattle.std.specs.Prelude.{◌≡◌, option_and_then};
-ghost use Rattle.dbg_model.specs.Judging.{ends_function, ends_step, fires, is_counted, is_due, is_end, is_finished, is_stepped, judgement_of, last_at, no_stop, plan_after, verdict_behind};
+ghost use Rattle.dbg_model.specs.Judging.{ends_function, ends_step, fires, is_counted, is_due, is_end, is_finished, is_kept, is_stepped, judgement_of, last_at, no_stop, plan_after, verdict_behind};
 
 use crate::{Course, SourceIndex};
 use break_table::{BreakTable, Due};
@@ -84,6 +84,18 @@ pub fn plan_after(verdict: Verdict) -> Plan
     match verdict {
         Verdict::Go(plan) => plan,
         Verdict::Stepped | Verdict::Finished => Plan::Free,
+    }
+}
+
+/// Whether a plan stays as it is where a hart arrives there, and asks for no instruction.
+#[inline(always)]
+pub fn is_kept(plan: Plan, pc: u32) -> bool
+    ensures { result ≡ is_kept plan pc }
+{
+    match plan {
+        Plan::Free => true,
+        Plan::ToReturn { ret, .. } | Plan::Finish { ret, .. } => pc != ret,
+        _ => false,
     }
 }
 

@@ -1,23 +1,21 @@
 -- What a line changes, as its answer has it.
-use Rattle.std.proofs.Common.{◌≡◌, ◌≤◌, ◌<◌, ◌+◌, ◌-◌, ◌^◌, ◌/◌, ◌%◌, ℕ, zero, suc, Bool, true, false, cond, List, [], ◌∷◌, length, refl, sym, ap, ◌∙◌, subst, arith}
-use Rattle.std.specs.Prelude.{Option, Some, None, Ok, is_some, find, not, nat_lt, option_and_then, slice_get, slice_index, ◌&&◌, ◌||◌, ◌==◌, nat_le}
-use Rattle.std.specs.List.{list_any}
+use Rattle.std.proofs.Common.{◌≡◌, ◌≤◌, ◌<◌, ◌+◌, ◌-◌, ◌^◌, ℕ, Bool, true, false, cond, List, length, refl, sym, ap, ◌∙◌, subst, arith}
+use Rattle.std.specs.Prelude.{not, nat_lt, slice_index}
 use Rattle.std.proofs.lemmas.Bool.Decides.{nat_tests}
-use Rattle.std.proofs.lemmas.Option.{slice_get_within}
 use Rattle.std.proofs.lemmas.List.{length-map}
-use Rattle.elf32_read.specs.Program.{Program, Text, text_word, in_words}
-use Rattle.break_table.specs.Table.{Table, is_thread}
-use Rattle.break_table.specs.Text.{is_instruction, is_place}
+use Rattle.break_table.specs.Entry.{asked_of}
+use Rattle.break_table.specs.Table.{Table}
+use Rattle.break_table.specs.Text.{is_place}
 use Rattle.dbg_model.specs.declared.opening.Opening.{Opening}
 use Rattle.dbg_model.specs.Limits.{history}
 use Rattle.dbg_model.specs.declared.hart.Hart.{Hart}
 use Rattle.dbg_model.specs.State.{State, any_leaves, is_off}
 use Rattle.dbg_model.specs.Lawful.{may_do, may_go}
-use Rattle.dbg_model.specs.Sight.{thread_at}
 use Rattle.dbg_model.specs.Outcome.{Change, stays, resumes, selects, interrupts, displaces, inserts, adds_watch, deletes, enables, conditions, ignores, pokes, exits}
 use Rattle.dbg_model.specs.Reply.{answer_of, asked, changed_by, done_by, forgetting, given_after, harts_after, resumed, sets_after}
 use Rattle.dbg_model.proofs.Options.{both_true}
-use Rattle.dbg_model.proofs.Founding.{IsFounded, IsThereOr, change_founded, change_watchable}
+use Rattle.dbg_model.proofs.Founding.{IsFounded, change_founded, change_watchable}
+use Rattle.dbg_model.proofs.Inserting.{can_insert}
 use Rattle.dbg_model.proofs.Naming.{length-on_threads}
 use Rattle.dbg_effects.specs.declared.effect.Effect.{Effect}
 use Rattle.dbg_effects.specs.declared.effect.Effect.TheVariants as effect
@@ -25,7 +23,7 @@ use Rattle.dbg_effects.specs.Effect.{change_of}
 use Rattle.dbg_effects.specs.Table.{CanBeMade, CanBeWatched, changed_table}
 use Rattle.replay_parts.specs.declared.state.Parts.{Parts}
 use Rattle.replay_parts.specs.Parts.{state_of}
-use Rattle.replay_parts.specs.Going.{Enters, Kept}
+use Rattle.replay_parts.specs.Going.{Kept}
 
 -- ---- a line may be done
 
@@ -52,49 +50,8 @@ history_low o s line may =
 
 -- ---- a change can be made
 
-found_by : (x : Text) (xs : List Text) (holds : Text → Bool) (f : Text → Option ℕ) (b : Bool) → holds x ≡ b → is_some (option_and_then f (cond b (Some x) (find holds xs))) ≡ true
-    → (is_some (option_and_then f (find holds xs)) ≡ true → list_any holds xs ≡ true) → (b || list_any holds xs) ≡ true
-found_by x xs holds f true is e ih = refl
-found_by x xs holds f false is e ih = ih e
-
-found_any : (xs : List Text) (holds : Text → Bool) (f : Text → Option ℕ) → is_some (option_and_then f (find holds xs)) ≡ true → list_any holds xs ≡ true
-found_any [] holds f e = cc
-found_any (x ∷ xs) holds f e = found_by x xs holds f (holds x) refl e (found_any xs holds f)
-
-word_by : (p : Program) (a : ℕ) (b : Bool) → (a % 4 == 0) ≡ b → is_some (cond b (option_and_then (λ (t : Text). slice_get t.words ((a - t.address) / 4)) (find (in_words a) p.text)) None) ≡ true → (b && list_any (in_words a) p.text) ≡ true
-word_by p a true is e = found_any p.text (in_words a) (λ (t : Text). slice_get t.words ((a - t.address) / 4)) e
-word_by p a false is e = cc
-
--- a word of text is an instruction's place
-word_place : (p : Program) (a : ℕ) → is_some (text_word p a) ≡ true → is_instruction p a ≡ true
-word_place p a e = word_by p a (a % 4 == 0) refl e
-
-there : (r : Option Hart) → is_some r ≡ true → (x : Hart) × (r ≡ Some x)
-there None e = cc
-there (Some x) e = (x, refl)
-
-thread_by : (xs : List Hart) (n t : ℕ) → length xs ≡ n → is_some (thread_at xs t) ≡ true → (nat_le 1 t && nat_le t n) ≡ true
-thread_by xs n zero len e = cc
-thread_by xs n (suc h) len e =
-    let x = there (slice_get xs h) e in
-    let low = slice_get_within xs h x.0 x.1 in
-    let first : nat_le 1 (suc h) ≡ true = grind (arith, nat_tests) in
-    let second : nat_le (suc h) n ≡ true = grind (arith, nat_tests) in
-    rw (first, second) refl
-
-thread_known : (xs : List Hart) (n : ℕ) (t : Option ℕ) → length xs ≡ n → IsThereOr xs t → is_thread n t ≡ true
-thread_known xs n None len is = refl
-thread_known xs n (Some t) len is = thread_by xs n t len is
-
-not_full : (n : ℕ) → n < 128 → nat_le 128 n ≡ false
-not_full n low = grind (arith, nat_tests)
-
 can_by : (o : Opening) (p : Parts) (x : Effect) → Kept o p → IsFounded o.image p.harts.items p.table.entries (change_of x) → CanBeMade p.table x
-can_by o p (effect.Insert spec) kept f =
-    let place : is_place p.table.text spec.address ≡ true = kept.places spec.address ∙ word_place o.image spec.address f.0 in
-    let full : nat_le 128 (length p.table.entries) ≡ false = not_full (length p.table.entries) f.1 in
-    let known : is_thread (length p.table.waits) spec.thread ≡ true = thread_known p.harts.items (length p.table.waits) spec.thread (kept.harts ∙ sym kept.waits) f.2 in
-    rw (place, full, known) refl
+can_by o p (effect.Insert spec) kept f = can_insert o.image p.harts.items p.table (asked_of spec) (kept.places spec.address) (kept.harts ∙ sym kept.waits) f
 can_by o p _ kept f = tt
 
 -- the change of a line can be made

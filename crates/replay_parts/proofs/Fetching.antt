@@ -18,8 +18,8 @@ use Rattle.plain_machine.specs.Plain.{on_instruction, on_word, plain}
 use Rattle.break_table.specs.Entry.{Entry as BreakEntry}
 use Rattle.break_table.specs.Table.{stands, stands_at}
 use Rattle.step_plans.specs.declared.plan.Plan.{Plan}
-use Rattle.dbg_model.specs.Judging.{instruction_at}
-use Rattle.replay_parts.specs.Further.{AllGo, ThenGoes, goes_alone, instruction_of, is_alone, is_kept}
+use Rattle.dbg_model.specs.Judging.{instruction_at, is_kept}
+use Rattle.replay_parts.specs.Further.{AllGo, ThenGoes, goes_alone, instruction_of, is_alone}
 
 -- ---- what is fetched
 

@@ -6,8 +6,7 @@ pub mod Running
 pub mod Changing
 -- How many entries may still come.
 pub mod Exiting
--- A hart that goes on by itself: nothing is due, and so many instructions are as many entries lengthened.
-pub mod Undue
+-- A hart that goes on by itself: so many instructions are as many entries lengthened.
 pub mod Alone
 pub mod Fetching
 pub mod Gone

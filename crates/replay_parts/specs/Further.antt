@@ -13,7 +13,6 @@ use Rattle.plain_machine.specs.Plain.{plain}
 use Rattle.break_table.specs.Entry.{Entry as BreakEntry}
 use Rattle.break_table.specs.Table.{stands}
 use Rattle.step_plans.specs.declared.plan.Plan.{Plan}
-use Rattle.step_plans.specs.declared.plan.Plan.TheVariants as plans
 use Rattle.dbg_model.specs.declared.entry.Entry.TheVariants.{Ran}
 use Rattle.dbg_model.specs.declared.hart.Hart.{Hart}
 use Rattle.dbg_model.specs.declared.opening.Opening.{Opening}
@@ -21,7 +20,7 @@ use Rattle.dbg_model.specs.declared.shown.Shown.TheVariants.{Nothing}
 use Rattle.dbg_model.specs.Breaks.{is_number}
 use Rattle.dbg_model.specs.Courses.{after_instruction}
 use Rattle.dbg_model.specs.Journals.{Place}
-use Rattle.dbg_model.specs.Judging.{instruction_at}
+use Rattle.dbg_model.specs.Judging.{instruction_at, is_kept}
 use Rattle.dbg_model.specs.Lawful.{may_move, one}
 use Rattle.dbg_model.specs.Shown.{shown_of}
 use Rattle.dbg_model.specs.State.{State}
@@ -41,13 +40,6 @@ pub record ThenLengthens (P : Place → Type 0) (o : Opening) (h : ℕ) (q : Pla
 abbrev pub LengthensBy : ℕ → Opening → ℕ → Place → Place → Type 0
 LengthensBy zero o h p q = q ≡ p
 LengthensBy (suc n) o h p q = ThenLengthens (λ r. LengthensBy n o h p r) o h q
-
--- a plan stays as it is where a hart arrives there, and asks for no instruction
-abbrev pub is_kept : Plan → ℕ → Bool
-is_kept plans.Free pc = true
-is_kept (plans.ToReturn ret sp after) pc = not (pc == ret)
-is_kept (plans.Finish ret sp) pc = not (pc == ret)
-is_kept _ pc = false
 
 -- the instruction that stands for a hart, if one does
 abbrev pub instruction_of : Fetch → Option Instr

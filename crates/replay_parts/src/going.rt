@@ -7,10 +7,11 @@ ghost use Rattle.text_words.specs.Words.{unpatched};
 ghost use Rattle.break_table.specs.Entry.{entry_of};
 ghost use Rattle.break_table.specs.Table.{stands};
 ghost use Rattle.dbg_model.specs.Judging.{instruction_at};
-ghost use Rattle.replay_parts.specs.Further.{AllGo, goes_alone, instruction_of, is_done, is_kept};
+ghost use Rattle.replay_parts.specs.Further.{AllGo, goes_alone, instruction_of, is_done};
 
 use break_table::{BreakEntry, BreakTable};
 use data_memory::DataMemory;
+use dbg_model::is_kept;
 use rv_decode::Instr;
 use rv_exec::{Effect, Regs, execute};
 use step_plans::Plan;
@@ -47,18 +48,6 @@ fn is_broken(table: &BreakTable, reach: Reach, addr: u32) -> bool
     ensures { result ≡ stands addr table.now.entries }
 {
     reach.low <= addr && addr <= reach.high && table.stands(addr)
-}
-
-// Whether a plan stays as it is where a hart arrives there, and asks for no instruction.
-#[inline(always)]
-fn is_kept(plan: Plan, pc: u32) -> bool
-    ensures { result ≡ is_kept plan pc }
-{
-    match plan {
-        Plan::Free => true,
-        Plan::ToReturn { ret, .. } | Plan::Finish { ret, .. } => pc != ret,
-        _ => false,
-    }
 }
 
 // The instruction of what stands for a hart, if that is one.

@@ -14,7 +14,6 @@ pub mod pokes;
 pub mod showing;
 mod state;
 pub mod stepping;
-mod view;
 
 pub use halt::Halt;
 pub use state::Parts;

@@ -9,8 +9,7 @@ ghost use Rattle.replay_parts.specs.Going.{Chosen, HasRoom, Judged};
 use crate::halt::Halt;
 use crate::modes::{any_leaves, find, is_running};
 use crate::state::Parts;
-use crate::view::SeenHart;
-use dbg_model::{HISTORY, Hart, Judge, Judgement, Opening};
+use dbg_model::{HISTORY, Hart, Judge, Judgement, Opening, SeenHart};
 
 /// Whether no exit is still to be reported, neither the budget nor the history is used up, no `-gdb-exit` was done, and
 /// nothing is still to be written.
@@ -53,6 +52,7 @@ pub fn due(opening: &Opening, parts: &Parts, h: u32, hart: &Hart) -> Judgement
     };
     let seen = SeenHart {
         regs: &hart.regs,
+        pc: None,
         image: &opening.image,
         memory: &parts.memory,
     };
@@ -82,6 +82,7 @@ pub fn settle(opening: &Opening, parts: &mut Parts, h: u32, hart: &Hart)
 {
     let seen = SeenHart {
         regs: &hart.regs,
+        pc: None,
         image: &opening.image,
         memory: &parts.memory,
     };

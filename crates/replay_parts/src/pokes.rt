@@ -1,7 +1,6 @@
 // What the user writes into the program, where the line before asked for it.
 ghost use Rattle.std.specs.Prelude.{◌≡◌, ◌<◌, length, slice_get};
 ghost use Rattle.data_memory.specs.Ranges.{first_unwritable};
-ghost use Rattle.plain_machine.specs.PlainRun.{is_settable};
 ghost use Rattle.dbg_model.specs.State.{is_stopped};
 ghost use Rattle.dbg_model.specs.Lawful.{poked_by};
 ghost use Rattle.dbg_model.specs.Pokes.{bytes_poked, is_pending, register_poked, same_poke, with_register, written};
@@ -11,7 +10,7 @@ ghost use Rattle.replay_parts.specs.Going.{Comes, Kept};
 use crate::halt::Halt;
 use crate::modes::find;
 use crate::state::Parts;
-use dbg_model::{Hart, Mode, Opening, Poke};
+use dbg_model::{Hart, Mode, Opening, Poke, is_settable};
 
 fn same_poke(one: &Poke, other: &Poke) -> bool
     ensures { result ≡ same_poke one.now other.now }
@@ -53,13 +52,6 @@ fn is_stopped(mode: Mode) -> bool
     ensures { result ≡ is_stopped mode }
 {
     matches!(mode, Mode::Stopped)
-}
-
-// Whether a register is one that is set: not x0 and not pc, which is 32.
-fn is_settable(number: u32) -> bool
-    ensures { result ≡ is_settable number }
-{
-    1 <= number && number <= 31
 }
 
 fn with_register(hart: Hart, number: u32, value: u32) -> Hart

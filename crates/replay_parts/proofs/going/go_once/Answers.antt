@@ -2,7 +2,7 @@ use Rattle.std.proofs.Common.{◌≡◌, true, false, refl, sym, ap, ◌∙◌}
 use Rattle.std.specs.Prelude.{None, Some}
 use Rattle.break_table.specs.Table.{stands}
 use Rattle.dbg_model.specs.Judging.{instruction_at}
-use Rattle.replay_parts.specs.Further.{is_kept}
+use Rattle.dbg_model.specs.Judging.{is_kept}
 use Rattle.replay_parts.proofs.Fetching.{ends_there, goes_once}
 use Rattle.replay_parts.proofs.going.go_once.Goals as goal
 

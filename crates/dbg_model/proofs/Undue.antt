@@ -1,9 +1,9 @@
 -- Where no breakpoint stands, no watch fired and the plan stays, nothing is due.
 use Rattle.std.proofs.Common.{◌≡◌, ℕ, Bool, true, false, cond, List, [], ◌∷◌, refl, ap, ◌∙◌, not, filter}
-use Rattle.std.specs.Prelude.{Option, None, option_and_then, ◌&&◌, ◌||◌, ◌==◌, nat_le, nat_lt}
+use Rattle.std.specs.Prelude.{Option, None, option_and_then, ◌&&◌, ◌==◌, nat_le}
 use Rattle.std.specs.List.{list_any}
 use Rattle.elf32_read.specs.Program.{Program}
-use Rattle.break_table.specs.Arrival.{counts, due_of, fits, is_for, is_met, least, stops, told}
+use Rattle.break_table.specs.Arrival.{counts, due_of, fits, is_for, least, stops, told}
 use Rattle.break_table.specs.Entry.{Entry as BreakEntry}
 use Rattle.break_table.specs.Table.{stands, stands_at}
 use Rattle.break_table.specs.declared.due.Due.{Due}
@@ -20,17 +20,13 @@ use Rattle.dbg_model.specs.declared.judgement.Judgement.{Judgement}
 use Rattle.watch_points.specs.declared.watchpoint.Fired.{Fired}
 use Rattle.dbg_model.specs.Breaks.{nothing_due}
 use Rattle.dbg_model.specs.Courses.{noted_with}
-use Rattle.dbg_model.specs.Judging.{judgement_of, last_at, no_arrival, verdict_behind}
+use Rattle.dbg_model.specs.Judging.{is_kept, judgement_of, last_at, no_arrival, verdict_behind}
 use Rattle.dbg_model.specs.Sources.{Sources, sources_of}
 use Rattle.dbg_model.specs.State.{State, due}
 use Rattle.dbg_model.specs.Views.{register, shown_byte}
-use Rattle.replay_parts.specs.Further.{is_kept}
+use Rattle.dbg_model.proofs.Options.{or_false}
 
 -- ---- breakpoints elsewhere
-
-or_false : (a b : Bool) → (a || b) ≡ false → (a ≡ false) × (b ≡ false)
-or_false true b h = cc
-or_false false b h = (refl, h)
 
 unfit_by : (a b c : Bool) → (a && b) ≡ false → (a && (b && c)) ≡ false
 unfit_by true true c h = cc
@@ -58,7 +54,7 @@ quiet_due h rs bytes bs off =
 
 -- ---- a plan that stays
 
-not_so : (b : Bool) → not b ≡ true → b ≡ false
+pub not_so : (b : Bool) → not b ≡ true → b ≡ false
 not_so true e = cc
 not_so false e = refl
 
@@ -70,7 +66,7 @@ judged_kept (plans.ToReturn ret sp after) a k kept = ap (λ b. cond (b && nat_le
 judged_kept (plans.ToBody at ret sp file line) a k kept = cc
 judged_kept (plans.Finish ret sp) a k kept = ap (λ b. cond (b && nat_le sp a.sp) verdicts.Finished (verdicts.Go (plans.Finish ret sp))) (not_so (a.pc == ret) kept)
 
-behind_kept : (p : Program) (sources : Sources) (q : Plan) (rs : ℕ → ℕ) (noted : Option ℕ) → is_kept q (rs 32) ≡ true → verdict_behind p sources q rs noted ≡ verdicts.Go q
+pub behind_kept : (p : Program) (sources : Sources) (q : Plan) (rs : ℕ → ℕ) (noted : Option ℕ) → is_kept q (rs 32) ≡ true → verdict_behind p sources q rs noted ≡ verdicts.Go q
 unfolding verdict_behind
 behind_kept p sources q rs noted kept = judged_kept q (arrival_of (option_and_then (last_at p) noted) rs) sources kept
 
