@@ -7,7 +7,7 @@ ghost use Rattle.dbg_model.specs.Journals.{come, first_place, replay};
 ghost use Rattle.dbg_model.specs.Keeping.{entry_of};
 ghost use Rattle.dbg_replay.specs.Standing.{IsOf, Passes, place_of};
 
-use crate::state::ModelState;
+use crate::state::{ModelState, let_go};
 use crate::taking::{start, take_entry, take_more, take_ran};
 use dbg_model::{Entries, Entry, EntryRef, Journal, Opening};
 use dbg_traits::NoMemory;
@@ -97,9 +97,11 @@ pub fn replay(
     ensures { IfOk result (λ r. option_map place_of r ≡ replay opening.now journal.now) }
 {
     let mut state = start(alloc, opening)?;
-    if go_through(alloc, opening, &mut state, journal.entries())? {
-        Ok(Some(state))
-    } else {
-        Ok(None)
+    let through = go_through(alloc, opening, &mut state, journal.entries());
+    if let Ok(true) = through {
+        return Ok(Some(state));
     }
+    let_go(state);
+    through?;
+    Ok(None)
 }

@@ -33,6 +33,9 @@ impl Model for ModelState {
     ghost view = { λ s. standing_of s.parts s.prev s.shown };
 }
 
+/// Lets go of a state. Where that is done in one place, what it is made of is gone through once in all proofs.
+pub fn let_go(_state: ModelState) {}
+
 impl ModelState {
     /// What the entry or the instruction shows that was taken last. It refers to what is kept: nothing is copied.
     pub fn shown(&self) -> &Shown

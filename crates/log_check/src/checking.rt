@@ -18,7 +18,7 @@ use crate::hearing::Hearing;
 use crate::speaker::Speaker;
 use crate::verdict::CheckVerdict;
 use dbg_model::{Entry, Opening, Shown};
-use dbg_replay::{ModelState, start, take_entry, take_more, take_ran};
+use dbg_replay::{ModelState, let_go, start, take_entry, take_more, take_ran};
 use dbg_traits::NoMemory;
 use std::alloc::Global;
 
@@ -236,7 +236,9 @@ fn go<S: Speaker>(
     ensures { IfOk result (λ r. Through S.voice opening.now journal.now r hearing.old hearing.new) }
 {
     let mut state = start(alloc, opening)?;
-    go_through(alloc, opening, &mut state, journal, speaker, hearing)
+    let through = go_through(alloc, opening, &mut state, journal, speaker, hearing);
+    let_go(state);
+    through
 }
 
 // The verdict on a journal that was gone through.
