@@ -11,14 +11,12 @@ ghost use Rattle.dbg_engine.specs.Changing.{Applies};
 ghost use Rattle.dbg_effects.specs.Table.{CanBeWatched, changed_table};
 ghost use Rattle.dbg_model.specs.Reply.{watches_after};
 
-use break_table::{BreakEntry, BreakTable, Due, Spec};
+use break_table::{BreakEntry, BreakTable, Spec};
 use dbg_effects::{
     Effect, change_table as change_entries, delete_entry, enable_entry, insert_entry,
 };
-use elf32_read::Image;
 use engine_parts::Hold;
 use engine_parts::patching::plant_as_wanted;
-use engine_parts::view::ShownHart;
 use hart_machine::Machine;
 use watch_points::WatchList;
 

@@ -6,6 +6,7 @@ ghost use Rattle.text_words.specs.Words.{is_planted};
 ghost use Rattle.dbg_model.specs.State.{first_state, any_runs, all_gone};
 ghost use Rattle.dbg_model.specs.Lawful.{may_go};
 ghost use Rattle.engine_parts.specs.Minds.{runs};
+ghost use Rattle.std.specs.List.{count_by};
 ghost use Rattle.engine_parts.specs.Facts.{InText, OneLifted};
 ghost use Rattle.engine_parts.specs.Seen.{seen};
 ghost use Rattle.engine_parts.specs.Steps.{next_running};
@@ -41,7 +42,7 @@ use dbg_traits::{NoMemory, Settings};
 use elf32_read::Image;
 use engine_parts::ending::{Closed, End};
 use engine_parts::homing::go_home_each;
-use engine_parts::minds::{all_gone, any_running, find_running, is_running};
+use engine_parts::minds::{all_gone, any_running, count_running, find_running, is_running};
 use engine_parts::patching::release;
 use engine_parts::views::views;
 use engine_parts::{Activity, Hold, Mind, Phase};
@@ -180,6 +181,13 @@ impl Engine {
         ensures { result ≡ any_runs (seen self.now).harts }
     {
         any_running(self.minds.as_slice())
+    }
+
+    /// How many harts run.
+    pub fn running_count(&self) -> usize
+        ensures { result ≡ count_by runs self.now.minds }
+    {
+        count_running(self.minds.as_slice())
     }
 
     /// The next running hart round the harts that has no job out: the least at or above the number, else the least of all.

@@ -9,5 +9,4 @@ pub use engine::{Commit, Engine, SPARE};
 pub use engine_parts::ending::{Closed, End};
 pub use engine_parts::laws::{moves_mark, one_instruction_or_none};
 pub use engine_parts::moving::{Move, Standing, Turned};
-pub use engine_parts::view::ShownHart;
 pub use engine_parts::{Activity, Hold, Mind, Phase};

@@ -23,7 +23,7 @@ use Rattle.step_plans.specs.declared.plan.Plan.{Plan}
 use Rattle.engine_parts.specs.declared.mind.Activity.TheVariants as activity
 use Rattle.engine_parts.specs.declared.mind.Hold.{Hold}
 use Rattle.engine_parts.specs.declared.mind.Mind.{Mind}
-use Rattle.engine_parts.specs.Minds.{after_step, entered_of, is_active, is_before, is_copied, runs, with_phase}
+use Rattle.engine_parts.specs.Minds.{after_step, entered_of, is_active, is_before, runs, with_phase}
 use Rattle.engine_parts.specs.Movers.{is_idle}
 use Rattle.engine_parts.specs.declared.mind.Activity.{Activity}
 use Rattle.dbg_model.proofs.Options.{both_true}
@@ -33,15 +33,15 @@ use Rattle.engine_parts.proofs.Keeping.{Mover, hart_at}
 use Rattle.engine_parts.proofs.Holding.{clear_stands, core_at}
 use Rattle.engine_parts.proofs.Awaiting.{wait_at}
 use Rattle.engine_parts.proofs.Bounding.{Small, below, may_go_by, small_at}
-use Rattle.engine_parts.proofs.Stepping.{fact_of}
+use Rattle.engine_parts.proofs.Stepping.{fact_of, is_copied}
 use Rattle.elf32_read.specs.Program.{Program}
-use Rattle.dbg_model.specs.Judging.{is_due}
+use Rattle.dbg_model.specs.Judging.{is_due, is_kept}
 use Rattle.dbg_model.specs.State.{due, is_off}
 use Rattle.watch_points.specs.Watches.{fired_by}
 use Rattle.watch_points.specs.declared.watchpoint.Fired.{Fired}
 use Rattle.break_table.specs.Table.{is_wait, stands}
 use Rattle.std.specs.List.{list_any}
-use Rattle.engine_parts.specs.Going.{Way, InPlace, ByCopy, Goes, GoesBy, Passes, SurroundingsView, is_kept, turns_of}
+use Rattle.engine_parts.specs.Going.{Way, InPlace, ByCopy, Goes, GoesBy, Passes, SurroundingsView, turns_of}
 use Rattle.dbg_model.specs.Journals.{lengthened_by}
 use Rattle.engine_parts.specs.Several.{AllTurned, goes_alone, is_alone, is_line}
 use Rattle.engine_parts.specs.Slicing.{is_word}

@@ -1,7 +1,6 @@
 -- What an arrival leaves of the breakpoints: where they stand elsewhere, and that each stands at a word of text.
 use Rattle.std.proofs.Common.{◌≡◌, ℕ, zero, suc, ◌-◌, Bool, true, false, cond, List, [], ◌∷◌, refl, sym, ap, ◌∙◌, subst, not, arith, map, filter}
 use Rattle.std.specs.Prelude.{Option, Some, None, slice_get, ◌&&◌, ◌||◌, ◌==◌}
-use Rattle.std.specs.List.{list_any}
 use Rattle.std.proofs.lemmas.Bool.Decides.{nat_tests}
 use Rattle.elf32_read.specs.Program.{Program}
 use Rattle.hart_machine.proofs.Places.{same_some}
@@ -10,19 +9,16 @@ use Rattle.break_table.specs.Table.{stands, stands_at}
 use Rattle.break_table.specs.declared.due.Due.{Due}
 use Rattle.dbg_model.specs.Sources.{Sources, sources_of}
 use Rattle.step_plans.specs.declared.plan.Plan.{Plan}
-use Rattle.step_plans.specs.declared.plan.Plan.TheVariants as plans
 use Rattle.step_plans.specs.declared.plan.Verdict.{Verdict}
-use Rattle.step_plans.specs.declared.plan.Verdict.TheVariants as verdicts
-use Rattle.break_table.specs.Arrival.{is_for, fits, counts, stops, is_met, stays, raised, settled_entry, settled, least, told, due_of}
+use Rattle.break_table.specs.Arrival.{is_for, fits, counts, stops, is_met, stays, raised, settled_entry, settled, due_of}
 use Rattle.dbg_model.specs.Breaks.{nothing_due}
 use Rattle.dbg_model.specs.Views.{register, shown_byte}
 use Rattle.dbg_model.specs.declared.hart.Hart.{Hart}
 use Rattle.dbg_model.specs.declared.course.Course.{Course}
 use Rattle.dbg_model.specs.declared.judgement.Judgement.{Judgement}
 use Rattle.watch_points.specs.declared.watchpoint.Fired.{Fired}
-use Rattle.dbg_model.specs.Judging.{is_due, judgement_of, no_arrival, verdict_behind}
+use Rattle.dbg_model.specs.Judging.{judgement_of, no_arrival, verdict_behind}
 use Rattle.dbg_model.specs.State.{State, due, arrived}
-use Rattle.dbg_model.proofs.Judged.{free_goes}
 use Rattle.dbg_model.proofs.Options.{both_true}
 use Rattle.engine_parts.specs.Facts.{AreInText, InText}
 
@@ -110,35 +106,6 @@ pub text-arrived : (p : Program) (s : State) (h : ℕ) (x : Hart) → AreInText 
 unfolding arrived
 text-arrived p s h x each = text-settled p h (register x.regs) (shown_byte p s.memory) s.breaks each
 
--- ---- where no breakpoint stands nothing is due
-
-or_false : (a b : Bool) → (a || b) ≡ false → (a ≡ false) × (b ≡ false)
-or_false true b h = cc
-or_false false b h = (refl, h)
-
-fits_by : (h pc : ℕ) (b : BreakEntry) (t : Bool) → fits h pc b ≡ t → stands_at pc b ≡ false → fits h pc b ≡ false
-fits_by h pc b true is off = let e = fits_stands h pc b is in absurd cc
-fits_by h pc b false is off = is
-
-unfit : (h pc : ℕ) (b : BreakEntry) → stands_at pc b ≡ false → fits h pc b ≡ false
-unfit h pc b off = fits_by h pc b (fits h pc b) refl off
-
-none_count : (h pc : ℕ) (bs : List BreakEntry) → stands pc bs ≡ false → list_any (counts h pc) bs ≡ false
-none_count h pc [] off = refl
-none_count h pc (b ∷ bs) off =
-    let o = or_false (stands_at pc b) (stands pc bs) off in
-    rw (unfit h pc b o.0) (none_count h pc bs o.1)
-
-none_stop : (h : ℕ) (rs : ℕ → ℕ) (bytes : ℕ → Option ℕ) (bs : List BreakEntry) → stands (rs 32) bs ≡ false → filter (stops h rs bytes) bs ≡ []
-none_stop h rs bytes [] off = refl
-none_stop h rs bytes (b ∷ bs) off =
-    let o = or_false (stands_at (rs 32) b) (stands (rs 32) bs) off in
-    rw (unfit h (rs 32) b o.0) (none_stop h rs bytes bs o.1)
-
-quiet_due : (h : ℕ) (rs : ℕ → ℕ) (bytes : ℕ → Option ℕ) (bs : List BreakEntry) → stands (rs 32) bs ≡ false → due_of h rs bytes bs ≡ nothing_due
-quiet_due h rs bytes bs off =
-    ap (λ es. told rs bytes (least es) (list_any (counts h (rs 32)) bs)) (none_stop h rs bytes bs off) ∙ ap (λ c. told rs bytes None c) (none_count h (rs 32) bs off)
-
 -- ---- what is judged of a hart
 
 breaks_by : (b : Bool) (d : Due) (f : Option Fired) (v : Verdict) (plan : Plan) → (let j : Judgement = record { breaks = d; fired = f; verdict = v } in (cond b j (no_arrival plan)).breaks) ≡ cond b d nothing_due
@@ -162,29 +129,3 @@ unwatched p sources es h c rs bytes none = fired_as c.fresh (due_of h rs bytes e
 pub due_fired : (p : Program) (s : State) (h : ℕ) (x : Hart) → x.course.fired ≡ None → (due p s h x).fired ≡ None
 unfolding due
 due_fired p s h x none = unwatched p (sources_of p) s.breaks h x.course (register x.regs) (shown_byte p s.memory) none
-
-free_by : (b : Bool) (d : Due) (f : Option Fired) (v : Verdict) → v ≡ verdicts.Go plans.Free → (let j : Judgement = record { breaks = d; fired = f; verdict = v } in (cond b j (no_arrival plans.Free)).verdict) ≡ verdicts.Go plans.Free
-free_by true d f v is = is
-free_by false d f v is = refl
-
-free_course : (p : Program) (sources : Sources) (es : List BreakEntry) (h : ℕ) (c : Course) (rs : ℕ → ℕ) (bytes : ℕ → Option ℕ) → c.plan ≡ plans.Free → (judgement_of p sources es h c rs bytes).verdict ≡ verdicts.Go plans.Free
-unfolding judgement_of
-free_course p sources es h c rs bytes free =
-    let P : Plan → Type 0 = λ plan. (let j : Judgement = record { breaks = due_of h rs bytes es; fired = c.fired; verdict = verdict_behind p sources plan rs c.last } in (cond c.fresh j (no_arrival plan)).verdict) ≡ verdicts.Go plans.Free in
-    subst P (sym free) (free_by c.fresh (due_of h rs bytes es) c.fired (verdict_behind p sources plans.Free rs c.last) (free_goes p sources rs c.last))
-
--- a hart without a plan goes on without one
-pub free_verdict : (p : Program) (s : State) (h : ℕ) (x : Hart) → x.course.plan ≡ plans.Free → (due p s h x).verdict ≡ verdicts.Go plans.Free
-unfolding due
-free_verdict p s h x free = free_course p (sources_of p) s.breaks h x.course (register x.regs) (shown_byte p s.memory) free
-
-quiet_by : (p : Program) (s : State) (h : ℕ) (x : Hart) (fresh : Bool) → stands x.regs.pc s.breaks ≡ false → cond fresh (due_of h (register x.regs) (shown_byte p s.memory) s.breaks) nothing_due ≡ nothing_due
-quiet_by p s h x true off = quiet_due h (register x.regs) (shown_byte p s.memory) s.breaks off
-quiet_by p s h x false off = refl
-
-undue_as : (j : Judgement) → j.breaks ≡ nothing_due → j.fired ≡ None → j.verdict ≡ verdicts.Go plans.Free → is_due j ≡ false
-undue_as j breaks none goes = rw (breaks, none, goes) refl
-
--- nothing is due for a hart without a plan where no breakpoint stands and no watch fired
-pub undue : (p : Program) (s : State) (h : ℕ) (x : Hart) → x.course.plan ≡ plans.Free → x.course.fired ≡ None → stands x.regs.pc s.breaks ≡ false → is_due (due p s h x) ≡ false
-undue p s h x free none off = undue_as (due p s h x) (due_breaks p s h x ∙ quiet_by p s h x x.course.fresh off) (due_fired p s h x none) (free_verdict p s h x free)

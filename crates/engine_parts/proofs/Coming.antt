@@ -127,8 +127,8 @@ ran_comes : (m : Move) (r n : Engine) (h k : ℕ) (s : State) → Moves m r n h 
 ran_comes move.Ran r n h k s m done hart state = ap written (out_at r.opening n.opening h k (seen r) s [] m.opening hart state m.wrote)
 ran_comes (move.Wrote addr len) r n h k s (out, some, bytes, m) done hart state =
     ap wrote bytes ∙ (some_written n.machine.memory addr len out some bytes ∙ ap written (out_at r.opening n.opening h k (seen r) s out m.opening hart state m.wrote))
-ran_comes move.Left r n h k s (code, m) done hart state = ap written (out_at r.opening n.opening h k (seen r) s [] m.opening hart state m.wrote)
-ran_comes move.AllLeft r n h k s (code, count, m) done hart state = ap written (out_at r.opening n.opening h k (seen r) s [] m.opening hart state m.wrote)
+ran_comes move.Left r n h k s (code, m) done hart state = ap written (out_at r.opening n.opening h k (seen r) s [] m.opening hart state m.leavers.wrote)
+ran_comes move.AllLeft r n h k s (code, count, m) done hart state = ap written (out_at r.opening n.opening h k (seen r) s [] m.opening hart state m.leavers.wrote)
 ran_comes move.Counted r n h k s m done hart state = absurd (omega arith)
 ran_comes move.Stopped r n h k s m done hart state = absurd (omega arith)
 ran_comes move.Copied r n h k s m done hart state = absurd (omega arith)

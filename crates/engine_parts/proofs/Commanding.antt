@@ -1,16 +1,14 @@
 -- A line keeps what the type of an engine keeps.
-use Rattle.std.proofs.Common.{◌≡◌, ℕ, zero, suc, ◌+◌, ◌^◌, ◌-◌, ◌/◌, ◌<◌, ◌≤◌, ◌%◌, Bool, true, false, cond, List, [], ◌∷◌, ◌++◌, length, refl, sym, ap, ◌∙◌, subst, arith, append_assoc}
-use Rattle.std.specs.Prelude.{Option, Some, None, is_some, find, option_and_then, map, slice_get, slice_set, ◌&&◌, ◌||◌, ◌==◌, not, nat_le}
-use Rattle.std.specs.List.{list_any}
+use Rattle.std.proofs.Common.{◌≡◌, ℕ, zero, suc, ◌+◌, ◌^◌, ◌-◌, ◌<◌, ◌≤◌, Bool, true, false, cond, List, [], ◌∷◌, ◌++◌, length, refl, sym, ap, ◌∙◌, subst, arith, append_assoc}
+use Rattle.std.specs.Prelude.{Option, Some, None, is_some, map, slice_get, slice_set, ◌&&◌, not, nat_le}
 use Rattle.std.proofs.lemmas.Bool.Decides.{nat_tests}
 use Rattle.std.proofs.lemmas.Option.{slice_get_within}
-use Rattle.elf32_read.specs.Program.{Program, Text, text_word, in_words}
+use Rattle.elf32_read.specs.Program.{Program}
 use Rattle.text_words.specs.Words.{Words}
 use Rattle.hart_machine.specs.declared.hart.Core.{Core}
 use Rattle.hart_machine.specs.Patched.{Patched}
 use Rattle.break_table.specs.Entry.{Entry as BreakEntry}
 use Rattle.break_table.specs.Table.{Table}
-use Rattle.break_table.specs.Text.{is_instruction}
 use Rattle.elf32_read.specs.declared.spans.Span.{Span}
 use Rattle.dbg_model.specs.declared.entry.Entry.{Entry}
 use Rattle.dbg_model.specs.declared.entry.Entry.TheVariants.{Did, Poked}
@@ -31,6 +29,7 @@ use Rattle.dbg_model.specs.Sight.{thread_at}
 use Rattle.dbg_model.specs.Reply.{exited_after, answer_of, changed_by, done_by, is_wait, selected_after, displaced_after, sets_after, breaks_after, given_after, pending_after, watches_after}
 use Rattle.dbg_model.specs.Lawful.{enter, may_go, may_do}
 use Rattle.dbg_model.proofs.Founding.{IsFounded, IsStoppedHart, IsWritable, change_founded, change_writable}
+use Rattle.dbg_model.proofs.Inserting.{there}
 use Rattle.dbg_model.proofs.Numbering.{given_within}
 use Rattle.dbg_model.proofs.Options.{both_true}
 use Rattle.engine_parts.specs.declared.mind.Mind.{Mind}
@@ -42,7 +41,9 @@ use Rattle.engine_parts.specs.Facts.{Facts, Sound, IsThread, wants_of, Planted, 
 use Rattle.engine_parts.proofs.Built.{lined, poked}
 use Rattle.engine_parts.specs.Tables.{ArePlanted}
 use Rattle.engine_parts.proofs.Stopping.{lines}
+use Rattle.engine_parts.specs.Moves.{SameCopies}
 use Rattle.engine_parts.proofs.Bounding.{below}
+use Rattle.engine_parts.proofs.CopyCounts.{copies_set}
 use Rattle.engine_parts.proofs.Breaking.{planted_again}
 use Rattle.engine_parts.proofs.Keeping.{Enters, Mover, hart_at}
 use Rattle.engine_parts.proofs.Holding.{core_at, get_within}
@@ -65,10 +66,6 @@ harts_length p [] [] len = refl
 harts_length p [] (x ∷ xs) len = absurd (omega arith)
 harts_length p (c ∷ cs) [] len = refl
 harts_length p (c ∷ cs) (x ∷ xs) len = let l : length cs ≡ length xs = omega arith in ap suc (harts_length p cs xs l)
-
-there : (r : Option Hart) → is_some r ≡ true → (x : Hart) × (r ≡ Some x)
-there None e = cc
-there (Some x) e = (x, refl)
 
 -- a thread that is there has a number of one of the harts
 pub thread_within : (o : Opening) (xs : List Hart) (t : ℕ) → length xs ≡ o.settings.harts → is_some (thread_at xs t) ≡ true → IsThread o t
@@ -160,6 +157,7 @@ lined_to r line c t spare f may is none p texts =
         journal = ap (λ q. r.journal ++ Did line ∷ pokes_of q) (sym asks);
         seen = ap (poked_after r.opening (done_by r.opening (seen r) line)) asks ∙ ap Some (done ∙ e.seen);
         opening = refl;
+        copies = refl;
       };
     }
 
@@ -171,8 +169,9 @@ written_run r j m spare = record r { journal = j; spare = spare; machine = m; no
 
 -- the line and its write are in the journal, and the state is that after both
 write_lines : (r new : Engine) (line : List ℕ) (p : Poke) → Facts r → Makes r line (pokes p) → Writes r new p
-    → new.journal ≡ (r.journal ++ Did line ∷ []) ++ Poked p ∷ [] → new.opening ≡ r.opening → new.waits ≡ r.waits → new.minds ≡ r.minds → Moved new (Lines r new line)
-write_lines r new line p f is w journal opening waits minds =
+    → new.journal ≡ (r.journal ++ Did line ∷ []) ++ Poked p ∷ [] → new.opening ≡ r.opening → new.waits ≡ r.waits → new.minds ≡ r.minds → SameCopies r new
+    → Moved new (Lines r new line)
+write_lines r new line p f is w journal opening waits minds copies =
     let done = done_is r.opening (seen r) line (pokes p) is in
     let asks : (done_by r.opening (seen r) line).pending ≡ Some p = ap (λ (t : State). t.pending) done in
     record {
@@ -181,6 +180,7 @@ write_lines r new line p f is w journal opening waits minds =
         journal = journal ∙ (append_assoc r.journal (Did line ∷ []) (Poked p ∷ []) ∙ ap (λ q. r.journal ++ Did line ∷ pokes_of q) (sym asks));
         seen = ap (poked_after r.opening (done_by r.opening (seen r) line)) asks ∙ (ap (λ t. enter r.opening t (Poked p)) done ∙ w.comes);
         opening = opening;
+        copies = copies;
       };
     }
 
@@ -229,13 +229,14 @@ wrote_by r spare line (poke.Register h n v) m f may is can w =
     let did : enter r.opening (seen r) (Did line) ≡ Some (asking (seen r) p) = enter_did r.opening (seen r) line may ∙ ap Some (done_is r.opening (seen r) line (pokes p) is) in
     let e = writes_register r line h n v spare s.core s.mind f.sound did s.mover s.stops can.1 in
     let P : Patched → Type 0 = λ n. (let new = written_run r ((r.journal ++ Did line ∷ []) ++ Poked p ∷ []) n spare in Moved new (Lines r new line)) in
-    subst P (sym (w s.core s.mover.core)) (write_lines r (poked r line p (slice_set r.machine.cores h (poked_core s.core n v)) r.machine.memory spare) line p f is e refl refl refl refl)
+    subst P (sym (w s.core s.mover.core)) (write_lines r (poked r line p (slice_set r.machine.cores h (poked_core s.core n v)) r.machine.memory spare) line p f is e refl refl refl refl
+    (copies_set r.machine.cores h s.core (poked_core s.core n v) s.mover.core refl))
 wrote_by r spare line (poke.Bytes a bytes) m f may is can w =
     let p : Poke = poke.Bytes a bytes in
     let did : enter r.opening (seen r) (Did line) ≡ Some (asking (seen r) p) = enter_did r.opening (seen r) line may ∙ ap Some (done_is r.opening (seen r) line (pokes p) is) in
     let e = writes_bytes r line a bytes spare f.sound did can in
     let P : Patched → Type 0 = λ n. (let new = written_run r ((r.journal ++ Did line ∷ []) ++ Poked p ∷ []) n spare in Moved new (Lines r new line)) in
-    subst P (sym w) (write_lines r (poked r line p r.machine.cores (with_bytes r.machine.memory a bytes) spare) line p f is e refl refl refl refl)
+    subst P (sym w) (write_lines r (poked r line p r.machine.cores (with_bytes r.machine.memory a bytes) spare) line p f is e refl refl refl refl refl)
 
 -- A line that asks for a write was done, and that was written.
 pub wrote_line : (r : Engine) (spare : ℕ) (line : List ℕ) (p : Poke) (j : List Entry) (m : Patched) → Facts r → may_do r.opening (seen r) line ≡ true
@@ -315,23 +316,6 @@ done_line r spare line c j m xs selected d exited watches old new f may is none 
     (subst (λ (vs : List (Option ℕ)). N ps es m' ys t v x cs g r.bounds vs) (sym ws) first))))))))))
 
 -- ---- what a new breakpoint rests on
-
-found_by : (x : Text) (xs : List Text) (holds : Text → Bool) (f : Text → Option ℕ) (b : Bool) → holds x ≡ b → is_some (option_and_then f (cond b (Some x) (find holds xs))) ≡ true
-    → (is_some (option_and_then f (find holds xs)) ≡ true → list_any holds xs ≡ true) → (b || list_any holds xs) ≡ true
-found_by x xs holds f true is e ih = refl
-found_by x xs holds f false is e ih = ih e
-
-found_any : (xs : List Text) (holds : Text → Bool) (f : Text → Option ℕ) → is_some (option_and_then f (find holds xs)) ≡ true → list_any holds xs ≡ true
-found_any [] holds f e = cc
-found_any (x ∷ xs) holds f e = found_by x xs holds f (holds x) refl e (found_any xs holds f)
-
-word_by : (p : Program) (a : ℕ) (b : Bool) → (a % 4 == 0) ≡ b → is_some (cond b (option_and_then (λ (t : Text). slice_get t.words ((a - t.address) / 4)) (find (in_words a) p.text)) None) ≡ true → (b && list_any (in_words a) p.text) ≡ true
-word_by p a true is e = found_any p.text (in_words a) (λ (t : Text). slice_get t.words ((a - t.address) / 4)) e
-word_by p a false is e = cc
-
--- a word of text is an instruction's place
-pub word_place : (p : Program) (a : ℕ) → is_some (text_word p a) ≡ true → is_instruction p a ≡ true
-word_place p a e = word_by p a (a % 4 == 0) refl e
 
 -- the numbers have room
 pub numbers_room : (r : Engine) → Sound r → r.noted < history → r.given < 2 ^ 32 - 1

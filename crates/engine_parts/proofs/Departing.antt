@@ -1,76 +1,33 @@
 -- An instruction by which harts leave, and what holds after any.
-use Rattle.std.proofs.Common.{◌≡◌, ◌<◌, ◌≤◌, ℕ, ◌+◌, ◌-◌, ◌++◌, true, false, List, [], ◌∷◌, length, refl, sym, ap, ◌∙◌, subst, arith, length-set}
+use Rattle.std.proofs.Common.{◌≡◌, ◌<◌, ◌≤◌, ℕ, ◌+◌, ◌++◌, true, false, List, [], ◌∷◌, length, refl, sym, ap, ◌∙◌, subst, arith, length-set}
 use Rattle.std.specs.Prelude.{Option, Some, None, map, slice_get, slice_set}
 use Rattle.std.proofs.lemmas.Option.{slice_get_within}
 use Rattle.rv_exec.specs.declared.effect.Stepped.{Stepped}
 use Rattle.rv_exec.specs.declared.effect.Stepped.TheVariants as stepped
-use Rattle.rv_exec.specs.Memory.{Memory}
 use Rattle.text_words.specs.Words.{Words}
 use Rattle.plain_machine.specs.Environment.{Goes, LeavesAlone}
 use Rattle.scratch_slots.specs.declared.slots.SlotUse.{SlotUse}
 use Rattle.hart_machine.specs.declared.hart.Core.{Core}
 use Rattle.hart_machine.specs.Patched.{Patched}
-use Rattle.hart_machine.specs.Stepping.{Steps, StepsTo, has_run}
-use Rattle.hart_machine.specs.Stepping as machine
+use Rattle.hart_machine.specs.Stepping.{StepsTo, has_run}
 use Rattle.hart_machine.proofs.Places.{set_twice, get-set_same}
-use Rattle.dbg_model.specs.declared.entry.Entry.{Entry}
 use Rattle.dbg_model.specs.declared.entry.Entry.TheVariants.{Left}
 use Rattle.dbg_model.specs.Journals.{lengthened}
 use Rattle.engine_parts.specs.declared.mind.Hold.{Hold}
 use Rattle.engine_parts.specs.declared.mind.Mind.{Mind}
-use Rattle.engine_parts.specs.Minds.{after_step, is_before, gone_mind, lefts_live}
-use Rattle.engine_parts.specs.Seen.{Engine, seen_hart}
+use Rattle.engine_parts.specs.Minds.{after_step, gone_mind, lefts_live}
+use Rattle.engine_parts.specs.Seen.{Engine}
 use Rattle.engine_parts.specs.Facts.{Sound, Planted, wants_of}
 use Rattle.engine_parts.specs.Moves.{HeldInText}
-use Rattle.engine_parts.proofs.Built.{departed}
 use Rattle.engine_parts.specs.Homecoming.{IsSlotted, home_core, GoesHome, AllGoHome}
-use Rattle.engine_parts.proofs.Keeping.{Mover, hart_at}
 use Rattle.engine_parts.proofs.Holding.{released, unholds, held_text}
 use Rattle.engine_parts.proofs.Homecoming.{slotted_by, home_is, home_counts, home_out, home_known, home_slots, home_rest, all_are_home, all_are_free, all_ready, all_slotted}
 use Rattle.engine_parts.proofs.Bounding.{Small}
 use Rattle.engine_parts.proofs.Stepping.{after_slot, ran_of}
-use Rattle.engine_parts.proofs.Exiting.{Departs, departs_alone, departs_all}
-use Rattle.engine_parts.specs.Steps.{Parts, applied, exits_of, leaves, left_minds}
+use Rattle.engine_parts.proofs.Exiting.{departs_alone, departs_all}
+use Rattle.engine_parts.specs.Steps.{Parts, applied, exits_of, leaves}
 use Rattle.engine_parts.specs.Homing.{ComesHome, HomedBy}
-use Rattle.engine_parts.specs.Calls.{Exits}
-use Rattle.engine_parts.proofs.Executing.{parts_of, noted_by, run_with, ran_to, Ready, plain_gives, done, counts, known, rewoven, Executed, stepped_to, stepped_as, Ran, ran_on}
-
--- what is known of the harts that left
-record Leaving (s : Stepped) (r : Engine) (h : ℕ) (c : Core) (x : Mind) (m : Patched) (xs : List Mind) : Type 0 where
-  mover : Mover r h c x
-  before : is_before x.phase ≡ true
-  machine : Patched
-  steps : Steps s r.machine h machine
-  homed : HomedBy s (wants_of r) None (record { hart = h; phase = after_step x.phase; minds = slice_set r.minds h (ran_of r h c x machine.memory) }) machine m
-  minds : xs ≡ left_minds s h (ran_of r h c x machine.memory) r.minds
-
-exits_as : (s : Stepped) (r : Engine) (h code count spare : ℕ) (c : Core) (x : Mind) (cs : List Core) (xs : List Mind) (mem : Memory) (t : Words) (slots : List (Option SlotUse)) (es : List Entry) → length es ≡ count
-    → Leaving s r h c x (record { text = t; cores = cs; memory = mem; slots = slots }) xs
-    → Departs r (departed r h cs xs mem t slots es count spare) h code es → (u : Words) (ws : List (Option ℕ)) → Exits s r (rewoven (departed r h cs xs mem t slots es count spare) u ws) h count code
-exits_as s r h code count spare c x cs xs mem t slots es len l d u ws =
-    record {
-      mind = x;
-      at = l.mover.mind;
-      before = l.before;
-      hart = seen_hart r.opening.image c x;
-      shown = hart_at r h c x l.mover;
-      machine = l.machine;
-      steps = l.steps;
-      home = record { text = t; cores = cs; memory = mem; slots = slots };
-      homed = l.homed;
-      patched = refl;
-      minds = l.minds;
-      between = d.between;
-      codes = d.codes;
-      some = d.some;
-      one = d.one;
-      wrote = d.wrote;
-      journal = ap (λ ls. lengthened r.journal h ++ ls) (sym d.reported);
-      harts = d.harts;
-      counted = ap length d.reported ∙ len;
-      retired = refl;
-      opening = refl;
-    }
+use Rattle.engine_parts.proofs.Executing.{parts_of, noted_by, run_with, ran_to, Ready, plain_gives, done, counts, known, Executed, stepped_to, stepped_as, instruction, ran_on}
 
 -- the same with the machine and the hold of an instruction by which none exits
 kept_by : (s : Stepped) (r : Engine) (h spare : ℕ) (z : Mind) (m n : Patched) (hold : Option Hold) → (hold ≡ r.hold) × (n ≡ m) → Executed s r (ran_to s r h z m r.hold spare) h z → Executed s r (ran_to s r h z n hold spare) h z
@@ -121,14 +78,10 @@ left_alone r h spare code c x new m hold k t rel =
     let parts = parts_home mid g m (slice_set r.machine.cores h d) g.slots one.rest cores rel.rest in
     let P : Patched → Option Hold → Type 0 = λ n o. ComesHome mid n (wants_of r) o (λ k. GoesHome mid k h q) in
     let homed = subst (λ (o : Option Hold). P end o) rel.none (subst (λ (n : Patched). P n hold) parts rel) in
-    let l : Leaving s r h c x end (slice_set r.minds h (gone_mind z)) = record { mover = k.mover; before = k.before; machine = mid; steps = stepped_as s r h c x new k.mover t; homed = homed; minds = refl } in
+    let by = instruction s r h c t.core x t.memory k.mover k.before (stepped_as s r h c x new k.mover t) in
     whole s r h spare z end m hold rel.none parts (record {
       facts = e.facts;
-      does = λ u ws. (
-        code,
-        exits_as s r h code 1 spare c x (slice_set r.machine.cores h d) (slice_set r.minds h (gone_mind z))
-            t.memory m.text g.slots (Left h code ∷ []) refl l e u ws,
-      );
+      does = λ u ws. (code, record { by = by; homed = record { home = end; homed = homed; patched = refl; minds = refl }; leavers = e.leavers; journal = e.journal; harts = e.harts; retired = refl; opening = refl });
     })
 
 -- all harts left
@@ -154,8 +107,11 @@ left_all r h spare code c x new m hold k t rel =
     let parts = parts_home mid g m g.cores g.slots rel.home.rest refl rel.rest in
     let P : Patched → Option Hold → Type 0 = λ n o. ComesHome mid n (wants_of r) o (λ k. AllGoHome mid k 0 xs) in
     let homed = subst (λ (o : Option Hold). P end o) rel.none (subst (λ (n : Patched). P n hold) parts rel) in
-    let l : Leaving s r h c x end (map gone_mind xs) = record { mover = k.mover; before = k.before; machine = mid; steps = stepped_as s r h c x new k.mover t; homed = homed; minds = refl } in
-    whole s r h spare z end m hold rel.none parts (record { facts = e.facts; does = λ u ws. (code, length es, exits_as s r h code (length es) spare c x g.cores (map gone_mind xs) t.memory m.text g.slots es refl l e u ws) })
+    let by = instruction s r h c t.core x t.memory k.mover k.before (stepped_as s r h c x new k.mover t) in
+    whole s r h spare z end m hold rel.none parts (record {
+      facts = e.facts;
+      does = λ u ws. (code, length es, record { by = by; homed = record { home = end; homed = homed; patched = refl; minds = refl }; leavers = e.leavers; journal = e.journal; harts = e.harts; retired = refl; opening = refl });
+    })
 
 executed_by : (s : Stepped) (r : Engine) (h spare : ℕ) (c : Core) (x : Mind) (new m : Patched) (hold : Option Hold) → has_run s ≡ true → Ready r h c x → (t : StepsTo s r.machine h c new)
     → HomedBy s (wants_of r) hold (record { hart = h; phase = after_step x.phase; minds = slice_set r.minds h (ran_of r h c x t.memory) })

@@ -31,7 +31,7 @@ use Rattle.dbg_model.specs.Lawful.{may_go, may_move, may_run}
 use Rattle.engine_parts.specs.declared.mind.Activity.TheVariants as activity
 use Rattle.engine_parts.specs.declared.mind.Hold.{Hold}
 use Rattle.engine_parts.specs.declared.mind.Mind.{Mind}
-use Rattle.engine_parts.specs.Minds.{after_step, is_before, is_copied, slot_of, entered_of, ran_mind, lefts_live}
+use Rattle.engine_parts.specs.Minds.{after_step, is_before, slot_of, entered_of, ran_mind, lefts_live}
 use Rattle.engine_parts.specs.Seen.{Engine, seen, seen_hart, seen_regs, running_regs}
 use Rattle.engine_parts.specs.Facts.{Sound, Harts, Placed, called, other_holder}
 use Rattle.engine_parts.specs.Moves.{plan_for}
@@ -41,10 +41,10 @@ use Rattle.engine_parts.proofs.Keeping.{Mover, hart_at}
 use Rattle.engine_parts.proofs.Holding.{core_at, own_seen, clear_stands}
 use Rattle.engine_parts.proofs.Bounding.{Small, small_at}
 use Rattle.engine_parts.proofs.Planting.{no_hit}
-use Rattle.engine_parts.proofs.Stepping.{after_regs, executes, fact_of, gives_seen, one_seen, ran_harts, ran_of}
+use Rattle.engine_parts.proofs.Stepping.{after_regs, executes, fact_of, gives_seen, is_copied, one_seen, ran_harts, ran_of}
 use Rattle.engine_parts.proofs.Stopping.{may_by}
 use Rattle.engine_parts.specs.Steps.{Parts, applied}
-use Rattle.engine_parts.specs.Calls.{Of, GoesWith, Undue, Executes, Runs, TrapsAt}
+use Rattle.engine_parts.specs.Calls.{Of, GoesWith, Undue, Executes, Instruction, Runs, TrapsAt}
 
 abbrev pub parts_of : Engine → Parts
 parts_of r = record { journal = r.journal; minds = r.minds }
@@ -266,6 +266,11 @@ stepped_as s r h c x new m t d at =
     let P : Core → Type 0 = λ e. StepsTo s r.machine h e (stepped_to r h t.core t.memory) in
     subst P (same_some c d (sym m.core ∙ at)) (record { core = t.core; memory = t.memory; below = t.below; steps = t.steps; machine = refl })
 
+-- what is known of it
+abbrev pub instruction : (s : Stepped) (r : Engine) (h : ℕ) (c c' : Core) (x : Mind) (mem : Memory) → Mover r h c x → is_before x.phase ≡ true → Steps s r.machine h (stepped_to r h c' mem) → Instruction s r h
+instruction s r h c c' x mem m before st =
+    record { mind = x; at = m.mind; before = before; hart = seen_hart r.opening.image c x; shown = hart_at r h c x m; machine = stepped_to r h c' mem; steps = st }
+
 -- the instruction by which none exits
 pub record Ran (s : Stepped) (r new : Engine) (h : ℕ) (out : List ℕ) : Type 0 where
   pub facts : Sound new
@@ -281,14 +286,7 @@ ran_on r h spare c c' x mem out s k n is st =
       facts = e.facts;
       runs = λ t ws.
           record {
-            mind = x;
-            at = k.mover.mind;
-            before = k.before;
-            hart = seen_hart r.opening.image c x;
-            shown = hart_at r h c x k.mover;
-            machine =
-                stepped_to r h c' mem;
-            steps = st;
+            by = instruction s r h c c' x mem k.mover k.before st;
             patched = refl;
             minds = refl;
             hold = refl;

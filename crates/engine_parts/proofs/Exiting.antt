@@ -19,7 +19,7 @@ use Rattle.dbg_model.specs.declared.entry.Mode.TheVariants as mode
 use Rattle.dbg_model.specs.declared.hart.Hart.{Hart}
 use Rattle.dbg_model.specs.State.{State, any_leaves}
 use Rattle.watch_points.specs.Watches.{fired_by}
-use Rattle.dbg_model.specs.Lawful.{one, one_out, one_more_at, may_run, leaving, passes}
+use Rattle.dbg_model.specs.Lawful.{one_more_at, may_run, leaving, passes}
 use Rattle.dbg_model.specs.Lawful as lawful
 use Rattle.dbg_model.specs.Leaving.{lefts_from, gone, LeaveWith}
 use Rattle.dbg_model.specs.Journals.{Leaves, lengthened}
@@ -28,28 +28,25 @@ use Rattle.dbg_model.proofs.Ending.{one_open}
 use Rattle.dbg_model.proofs.Leaving.{drains}
 use Rattle.engine_parts.specs.declared.mind.Activity.TheVariants as activity
 use Rattle.engine_parts.specs.declared.mind.Mind.{Mind}
-use Rattle.engine_parts.specs.Minds.{mode_of, after_step, is_before, is_copied, gone_mind, lefts_live}
+use Rattle.engine_parts.specs.Minds.{mode_of, after_step, is_before, gone_mind, lefts_live}
 use Rattle.engine_parts.specs.Seen.{Engine, seen, seen_hart, seen_harts, running_regs}
 use Rattle.engine_parts.specs.Facts.{Sound, Planted, AreCopied, Retired, called, held_by, pending, wants_of}
 use Rattle.engine_parts.specs.Moves.{AreHome}
+use Rattle.engine_parts.specs.Calls.{Leavers}
 use Rattle.engine_parts.proofs.Built.{departed}
 use Rattle.engine_parts.proofs.Showing.{seen-set, seen_quiet, alone_lefts, alone_gone, alone_with, alone_some, all_lefts, all_left, all_with, all_some}
 use Rattle.engine_parts.proofs.Counting.{retired_ran, retired_quiet, quiet_lefts_live, copied_more, Balances, adds}
 use Rattle.engine_parts.proofs.Updating.{SlotChange, AllFree, updated, all_updated, home_at, gone_by, none_some}
 use Rattle.engine_parts.proofs.Keeping.{Mover, entered, hart_at}
-use Rattle.engine_parts.proofs.Stepping.{after_one, sets_out, ran_of, one_seen, ran_seen, balances, here_none}
+use Rattle.engine_parts.proofs.Stepping.{after_one, is_copied, sets_out, ran_of, one_seen, ran_seen, balances, here_none}
 use Rattle.engine_parts.proofs.Holding.{idle_pending}
 
 -- an instruction by which harts left, and the entries by which that is reported
 pub record Departs (r n : Engine) (h code : ℕ) (lefts : List Entry) : Type 0 where
   pub facts : Sound n
-  pub between : State
-  pub codes : LeaveWith code between.harts
-  pub some : any_leaves between.harts ≡ true
-  pub one : one r.opening h (seen r) ≡ Some between
-  pub wrote : one_out r.opening h (seen r) ≡ []
-  pub reported : lefts_from 0 between.harts ≡ lefts
-  pub harts : (seen n).harts ≡ map gone between.harts
+  pub leavers : Leavers r h (length lefts) code
+  pub journal : n.journal ≡ lengthened r.journal h ++ lefts_from 0 leavers.between.harts
+  pub harts : (seen n).harts ≡ map gone leavers.between.harts
 
 -- the state after the entries of the harts that leave
 drained : (r n : Engine) (h : ℕ) (t : State) (lefts : List Entry) → Sound r → n.opening ≡ r.opening → n.journal ≡ lengthened r.journal h ++ lefts
@@ -116,12 +113,16 @@ departs_alone r h spare code c d x mem t slots f m runs before none may is more 
     }) in
     record {
       facts = e.facts;
-      between = s;
-      codes = subst (LeaveWith code) (sym harts) (alone_with (seen r).harts h code z quiet refl);
-      some = ap any_leaves harts ∙ alone_some (seen r).harts h code y z had refl;
-      one = goes.one;
-      wrote = goes.wrote;
-      reported = lefts;
+      leavers =
+          record {
+            between = s;
+            one = goes.one;
+            wrote = goes.wrote;
+            some = ap any_leaves harts ∙ alone_some (seen r).harts h code y z had refl;
+            codes = subst (LeaveWith code) (sym harts) (alone_with (seen r).harts h code z quiet refl);
+            counted = ap length lefts;
+          };
+      journal = ap (λ ls. lengthened r.journal h ++ ls) (sym lefts);
       harts = sym after;
     }
 
@@ -192,11 +193,15 @@ departs_all r h spare code c c' x ds mem t slots f m runs before none may is mor
     }) in
     record {
       facts = e.facts;
-      between = s;
-      codes = subst (LeaveWith code) (sym harts) (all_with image code cs xs);
-      some = all_some code (slice_set (seen r).harts h w) h w (get-set_same (seen r).harts h w y (hart_at r h c x m)) (ap mode_of runs);
-      one = goes.one;
-      wrote = goes.wrote;
-      reported = lefts;
+      leavers =
+          record {
+            between = s;
+            one = goes.one;
+            wrote = goes.wrote;
+            some = all_some code (slice_set (seen r).harts h w) h w (get-set_same (seen r).harts h w y (hart_at r h c x m)) (ap mode_of runs);
+            codes = subst (LeaveWith code) (sym harts) (all_with image code cs xs);
+            counted = ap length lefts;
+          };
+      journal = ap (λ ls. lengthened r.journal h ++ ls) (sym lefts);
       harts = sym after;
     }

@@ -16,7 +16,8 @@ use Rattle.dbg_model.specs.Views.{register, shown_byte}
 use Rattle.break_table.specs.declared.due.Due.{Due}
 use Rattle.hart_machine.specs.Patched.{Patched}
 use Rattle.hart_machine.specs.Running.{AllRan}
-use Rattle.engine_parts.specs.Going.{Way, InPlace, ByCopy, Goes, GoesBy, Passes, SurroundingsView, is_kept, meets, turns_of}
+use Rattle.dbg_model.specs.Judging.{is_kept}
+use Rattle.engine_parts.specs.Going.{Way, InPlace, ByCopy, Goes, GoesBy, Passes, SurroundingsView, meets, turns_of}
 
 abbrev in_place : ℕ → List Way → List Way
 in_place zero ws = ws

@@ -107,7 +107,7 @@ interrupted r h spare x f at idle runs free asked none may =
         idle = idle;
         asked = asked;
         halts = record
-            { minds = refl; hold = unheld r h x f at idle free; journal = refl; enters = e.comes; temporary = refl; opening = refl };
+            { minds = refl; hold = unheld r h x f at idle free; journal = refl; enters = e.comes; temporary = refl; opening = refl; copies = refl };
       };
     }
 
@@ -121,7 +121,7 @@ faulted r h spare x cause f at idle runs free none traps may =
     let may' = may_by r.opening (seen r) h (seen_hart r.opening.image c x) (moves_by r c x may runs) (of_hart r h c x (λ y. is_due (due r.opening.image (seen r) h y) ≡ false) k.1 none) in
     let trap = of_hart r h c x (λ y. plain r.opening.image y.regs (seen r).memory ≡ Traps cause) k.1 traps in
     let e = halts_fault r h spare c x cause f k.1 idle may' trap in
-    record { sound = sound_once _ false e.facts; does = λ t ws. record { minds = refl; hold = unheld r h x f at idle free; journal = refl; enters = e.comes; temporary = refl; opening = refl } }
+    record { sound = sound_once _ false e.facts; does = λ t ws. record { minds = refl; hold = unheld r h x f at idle free; journal = refl; enters = e.comes; temporary = refl; opening = refl; copies = refl } }
 
 stopped_by : (why : Why) (r : Engine) (h spare : ℕ) (x : Mind) → Sound r → slice_get r.minds h ≡ Some x → x.phase ≡ phase.Idle
     → x.activity ≡ activity.Running → other_holder r.hold h ≡ None → Undue r h → MayStop why r h x → may_go r.opening (seen r) ≡ true
@@ -205,7 +205,10 @@ arrived r h pc spare why x j m bs ws want once temporary f at idle runs free is 
     let m' : Patched = record r.machine { text = m.text } in
     let es = r.journal ++ Stopped h why ∷ [] in
     let vs = risen x.course.fired r.watches in
-    let base : P es m' after vs = record { sound = sound_once _ once e.facts; does = λ t ws. record { minds = refl; hold = unheld r h x f at idle free; journal = refl; enters = e.comes; temporary = temporary; opening = refl } } in
+    let base : P es m' after vs = record {
+      sound = sound_once _ once e.facts;
+      does = λ t ws. record { minds = refl; hold = unheld r h x f at idle free; journal = refl; enters = e.comes; temporary = temporary; opening = refl; copies = refl };
+    } in
     subst (λ (ls : List Entry). P ls m bs ws) (sym same) (subst (λ (n : Patched). P es n bs ws) (sym texts) (subst (λ (cs : List BreakEntry). P es m' cs ws) (sym bs_is) (subst (λ (us : List Watch). P es m' after us) (sym rises) base)))
 
 -- a hart was counted by breakpoints
@@ -247,6 +250,7 @@ counted r h pc spare d x y plan j m bs want f at before runs is due_is counting 
             refl;
         enters = e.comes;
         opening = refl;
+        copies = refl;
       };
     } in
     subst (λ (ls : List Entry). P ls m bs y) (sym same)

@@ -29,6 +29,7 @@ use Rattle.engine_parts.specs.Homecoming.{GoesHome}
 use Rattle.engine_parts.proofs.Awaiting.{waits_same}
 use Rattle.engine_parts.proofs.Holding.{core_at, planted_text}
 use Rattle.engine_parts.proofs.Copying.{copies}
+use Rattle.engine_parts.proofs.CopyCounts.{copies_home, copies_set}
 use Rattle.engine_parts.proofs.Homecoming.{unwound, home_rest}
 use Rattle.engine_parts.proofs.Planting.{shown_image}
 use Rattle.engine_parts.proofs.Stepping.{lifts}
@@ -76,7 +77,7 @@ unwound_by r h x g m f at runs free goes w same =
     subst P (sym same)
     (record {
       facts = phase_facts r (N (record g { text = m.text })) h x phase.Idle f at s.facts refl refl refl;
-      does = record { home = record { journal = refl; seen = s.seen; opening = refl; spare = refl; minds = refl; hold = refl }; freed = λ slot e. freed_by r.machine g h slot x.phase goes e };
+      does = record { home = record { journal = refl; seen = s.seen; opening = refl; spare = refl; minds = refl; hold = refl; copies = copies_home r.machine g h x.phase goes }; freed = λ slot e. freed_by r.machine g h slot x.phase goes e };
     })
 
 -- a hart steps over nothing any more
@@ -109,7 +110,7 @@ lifted_by r h pc x m f b runs only w same =
         before = b;
         only = only;
         rephases = record
-            { journal = refl; seen = s.seen; opening = refl; spare = refl; minds = refl; hold = refl };
+            { journal = refl; seen = s.seen; opening = refl; spare = refl; minds = refl; hold = refl; copies = refl };
       };
     })
 
@@ -212,7 +213,7 @@ copied_by r h pc word slot x n f b runs on low is claims =
         image = image;
         was = claims.was;
         out = takes.one.here;
-        rephases = record { journal = refl; seen = s.seen; opening = refl; spare = refl; minds = refl; hold = b.free };
+        rephases = record { journal = refl; seen = s.seen; opening = refl; spare = refl; minds = refl; hold = b.free; copies = copies_set r.machine.cores h c (entered_core c slot) k.1.core refl };
       };
     })
 

@@ -1,11 +1,9 @@
 -- A plan that stays as it is where a hart arrives.
 use Rattle.std.proofs.Common.{◌≡◌, ℕ, zero, suc, Bool, true, false, cond, List, [], ◌∷◌, refl, sym, ap, ◌∙◌, subst, not, arith}
-use Rattle.std.specs.Prelude.{Option, Some, None, is_some, option_and_then, ◌||◌, ◌&&◌, ◌==◌, nat_le, slice_get}
+use Rattle.std.specs.Prelude.{Option, Some, None, is_some, ◌||◌, ◌&&◌, ◌==◌, slice_get}
 use Rattle.std.specs.List.{list_any}
 use Rattle.std.proofs.lemmas.Bool.Decides.{nat_tests}
 use Rattle.elf32_read.specs.Program.{Program}
-use Rattle.elf_symbols.specs.Names.{Names}
-use Rattle.line_index.specs.Lines.{Lines}
 use Rattle.rv_exec.specs.Memory.{Memory}
 use Rattle.hart_machine.specs.declared.hart.Core.{Core}
 use Rattle.hart_machine.proofs.Places.{same_some}
@@ -14,9 +12,6 @@ use Rattle.break_table.specs.Entry.{Entry as BreakEntry}
 use Rattle.break_table.specs.Table.{is_wait, stands}
 use Rattle.break_table.specs.declared.due.Due.{Due}
 use Rattle.dbg_model.specs.Sources.{Sources, sources_of}
-use Rattle.step_plans.specs.Arrivals.{arrival_of}
-use Rattle.step_plans.specs.Verdicts.{judged, returned}
-use Rattle.step_plans.specs.declared.arrival.Arrival.{Arrival}
 use Rattle.step_plans.specs.declared.plan.Plan.{Plan}
 use Rattle.step_plans.specs.declared.plan.Plan.TheVariants as plans
 use Rattle.step_plans.specs.declared.plan.Verdict.{Verdict}
@@ -27,34 +22,21 @@ use Rattle.dbg_model.specs.declared.course.Course.{Course}
 use Rattle.dbg_model.specs.declared.judgement.Judgement.{Judgement}
 use Rattle.watch_points.specs.declared.watchpoint.Fired.{Fired}
 use Rattle.dbg_model.specs.Courses.{noted_with, with_plan}
-use Rattle.dbg_model.specs.Judging.{is_due, is_end, judgement_of, last_at, no_arrival, plan_after, verdict_behind}
+use Rattle.dbg_model.specs.Judging.{is_due, is_end, is_kept, judgement_of, no_arrival, plan_after, verdict_behind}
 use Rattle.dbg_model.specs.State.{State, due}
 use Rattle.watch_points.specs.Watches.{fired_by}
+use Rattle.dbg_model.specs.Breaks.{nothing_due}
+use Rattle.dbg_model.proofs.Options.{or_false}
+use Rattle.dbg_model.proofs.Undue.{behind_kept, undue, unnoted}
 use Rattle.engine_parts.specs.declared.mind.Mind.{Mind}
 use Rattle.engine_parts.specs.Minds.{awaited, in_place, ran_mind, return_of, runs}
 use Rattle.engine_parts.specs.Seen.{Engine, seen, seen_hart}
-use Rattle.engine_parts.proofs.Arriving.{due_breaks, due_fired, undue}
+use Rattle.engine_parts.proofs.Arriving.{due_breaks, due_fired}
 use Rattle.engine_parts.proofs.Stepping.{ran_of}
-use Rattle.engine_parts.specs.Going.{is_kept, meets}
+use Rattle.engine_parts.specs.Going.{meets}
 use Rattle.engine_parts.specs.Several.{goes_alone, is_line, is_unplanned}
 use Rattle.engine_parts.specs.Staying.{came_within}
 use Rattle.engine_parts.specs.Slicing.{is_word, takes_slices}
-
-pub not_so : (b : Bool) → not b ≡ true → b ≡ false
-not_so true e = cc
-not_so false e = refl
-
-judged_kept : (q : Plan) (a : Arrival) (lines : Lines) (names : Names) → is_kept q a.pc ≡ true → judged q a lines names ≡ verdicts.Go q
-judged_kept plans.Free a lines names kept = refl
-judged_kept (plans.One over) a lines names kept = cc
-judged_kept (plans.Line file line into) a lines names kept = cc
-judged_kept (plans.ToReturn ret sp after) a lines names kept = ap (λ b. cond (b && nat_le sp a.sp) (returned after a lines) (verdicts.Go (plans.ToReturn ret sp after))) (not_so (a.pc == ret) kept)
-judged_kept (plans.ToBody at ret sp file line) a lines names kept = cc
-judged_kept (plans.Finish ret sp) a lines names kept = ap (λ b. cond (b && nat_le sp a.sp) verdicts.Finished (verdicts.Go (plans.Finish ret sp))) (not_so (a.pc == ret) kept)
-
-behind_kept : (p : Program) (sources : Sources) (q : Plan) (rs : ℕ → ℕ) (noted : Option ℕ) → is_kept q (rs 32) ≡ true → verdict_behind p sources q rs noted ≡ verdicts.Go q
-unfolding verdict_behind
-behind_kept p sources q rs noted kept = judged_kept q (arrival_of (option_and_then (last_at p) noted) rs) sources.lines sources.names kept
 
 pub kept_by : (b : Bool) (d : Due) (f : Option Fired) (v : Verdict) (q : Plan) → v ≡ verdicts.Go q → (let j : Judgement = record { breaks = d; fired = f; verdict = v } in (cond b j (no_arrival q)).verdict) ≡ verdicts.Go q
 kept_by true d f v q is = is
@@ -79,35 +61,20 @@ quiet_as j q none unwatched goes =
     ap (λ v. is_some j.breaks.stop || (j.breaks.counts || (is_some j.fired || is_end v))) goes
     ∙ (ap (λ f. is_some j.breaks.stop || (j.breaks.counts || (is_some f || false))) unwatched ∙ (ap (λ b. is_some j.breaks.stop || b) (or_off j.breaks.counts) ∙ none))
 
-met_by : (a b c : Bool) → (a || (b || c)) ≡ false → (a || b) ≡ false
-met_by true b c e = cc
-met_by false true c e = cc
-met_by false false c e = refl
-
 -- nothing is due where the plan goes on, no breakpoint stands and no watch fired
 pub goes_undue : (p : Program) (s : State) (h : ℕ) (x : Hart) → (due p s h x).verdict ≡ verdicts.Go x.course.plan → x.course.fired ≡ None → stands x.regs.pc s.breaks ≡ false → is_due (due p s h x) ≡ false
 goes_undue p s h x goes unwatched off =
     let y : Hart = record x { course = with_plan plans.Free x.course } in
     let free = undue p s h y refl unwatched off in
-    let j = due p s h y in
-    let none : meets j.breaks ≡ false = met_by (is_some j.breaks.stop) j.breaks.counts (is_some j.fired || is_end j.verdict) free in
-    let same : (due p s h x).breaks ≡ j.breaks = due_breaks p s h x ∙ sym (due_breaks p s h y) in
-    quiet_as (due p s h x) x.course.plan (ap meets same ∙ none) (due_fired p s h x unwatched) goes
+    let same : (due p s h x).breaks ≡ nothing_due = due_breaks p s h x ∙ (sym (due_breaks p s h y) ∙ ap (λ (j : Judgement). j.breaks) free) in
+    quiet_as (due p s h x) x.course.plan (ap meets same) (due_fired p s h x unwatched) goes
 
 pub kept_undue : (p : Program) (s : State) (h : ℕ) (x : Hart) → is_kept x.course.plan x.regs.pc ≡ true → x.course.fired ≡ None → stands x.regs.pc s.breaks ≡ false → is_due (due p s h x) ≡ false
-kept_undue p s h x kept unwatched off = goes_undue p s h x (kept_verdict p s h x kept) unwatched off
+kept_undue p s h x kept unwatched off = ap is_due (undue p s h x kept unwatched off)
 
 -- what is kept of a hart whose plan stays after an instruction that made no watch fire
 abbrev pub kept_ran : Mind → Mind
 kept_ran x = ran_mind x.course.plan None None x
-
-unnoted : (q : Plan) (pc at : ℕ) → is_kept q pc ≡ true → noted_with q at ≡ None
-unnoted plans.Free pc at kept = refl
-unnoted (plans.One over) pc at kept = cc
-unnoted (plans.Line file line into) pc at kept = cc
-unnoted (plans.ToReturn ret sp after) pc at kept = refl
-unnoted (plans.ToBody a ret sp file line) pc at kept = cc
-unnoted (plans.Finish ret sp) pc at kept = refl
 
 pub ran_kept : (q : Engine) (h : ℕ) (c : Core) (x : Mind) (m : Memory) → is_kept x.course.plan (seen_hart q.opening.image c x).regs.pc ≡ true → fired_by q.watches q.machine.memory m ≡ None → ran_of q h c x m ≡ kept_ran x
 ran_kept q h c x m kept none =
@@ -117,10 +84,6 @@ ran_kept q h c x m kept none =
     (ap (λ o. ran_mind x.course.plan o f x) (unnoted x.course.plan y.regs.pc y.regs.pc kept) ∙ ap (λ w. ran_mind x.course.plan None w x) none)
 
 -- ---- a hart that waits isn't where it waits
-
-or_false : (a b : Bool) → (a || b) ≡ false → (a ≡ false) × (b ≡ false)
-or_false true b e = cc
-or_false false b e = (refl, e)
 
 wait_off : (ws : List (Option ℕ)) (h ret pc : ℕ) → slice_get ws h ≡ Some (Some ret) → list_any (is_wait pc) ws ≡ false → (ret == pc) ≡ false
 wait_off [] h ret pc at none = cc

@@ -10,6 +10,7 @@ pub mod Stepping
 pub mod Holding
 pub mod Copying
 pub mod Homecoming
+pub mod CopyCounts
 -- The limits of an engine that isn't over.
 pub mod Bounding
 -- Exits, arrivals and stops, and changes of the breakpoints.

@@ -96,25 +96,25 @@ moves (turned.Moved move.Planted) r s h x y m at there =
     let p = sym (phase_is x m.mind (same_mind r.minds h x m.mind at m.at)) ∙ m.ran in
     ap (λ u. after u Plant) p ∙ ap Some (sym q)
 moves (turned.Moved move.Ran) r s h x y m at there =
-    let p = phase_is x m.mind (same_mind r.minds h x m.mind at m.at) in
-    let z = ran_by r h m.hart m.machine.memory m.mind in
-    let q = phase_is z y (set_here r.minds s.minds h m.mind y z m.minds m.at there) in
-    runs_in x.phase y.phase (ap is_before (sym p) ∙ m.before) (q ∙ ap after_step p)
+    let p = phase_is x m.by.mind (same_mind r.minds h x m.by.mind at m.by.at) in
+    let z = ran_by r h m.by.hart m.by.machine.memory m.by.mind in
+    let q = phase_is z y (set_here r.minds s.minds h m.by.mind y z m.minds m.by.at there) in
+    runs_in x.phase y.phase (ap is_before (sym p) ∙ m.by.before) (q ∙ ap after_step p)
 moves (turned.Moved (move.Wrote addr len)) r s h x y (out, some, bytes, m) at there =
-    let p = phase_is x m.mind (same_mind r.minds h x m.mind at m.at) in
-    let z = ran_by r h m.hart m.machine.memory m.mind in
-    let q = phase_is z y (set_here r.minds s.minds h m.mind y z m.minds m.at there) in
-    runs_in x.phase y.phase (ap is_before (sym p) ∙ m.before) (q ∙ ap after_step p)
+    let p = phase_is x m.by.mind (same_mind r.minds h x m.by.mind at m.by.at) in
+    let z = ran_by r h m.by.hart m.by.machine.memory m.by.mind in
+    let q = phase_is z y (set_here r.minds s.minds h m.by.mind y z m.minds m.by.at there) in
+    runs_in x.phase y.phase (ap is_before (sym p) ∙ m.by.before) (q ∙ ap after_step p)
 moves (turned.Moved move.Left) r s h x y (code, m) at there =
-    let p = phase_is x m.mind (same_mind r.minds h x m.mind at m.at) in
-    let z = gone_mind (ran_by r h m.hart m.machine.memory m.mind) in
-    leaves_in x.phase y.phase (ap is_before (sym p) ∙ m.before) (phase_is z y (set_here r.minds s.minds h m.mind y z m.minds m.at there))
+    let p = phase_is x m.by.mind (same_mind r.minds h x m.by.mind at m.by.at) in
+    let z = gone_mind (ran_by r h m.by.hart m.by.machine.memory m.by.mind) in
+    leaves_in x.phase y.phase (ap is_before (sym p) ∙ m.by.before) (phase_is z y (set_here r.minds s.minds h m.by.mind y z m.homed.minds m.by.at there))
 moves (turned.Moved move.AllLeft) r s h x y (code, count, m) at there =
-    let p = phase_is x m.mind (same_mind r.minds h x m.mind at m.at) in
-    let z = ran_by r h m.hart m.machine.memory m.mind in
-    let set = get-set_same r.minds h z m.mind m.at in
-    let is = same_some y (gone_mind z) (sym there ∙ (ap (λ (us : List Mind). slice_get us h) m.minds ∙ gone_get (slice_set r.minds h z) h z set)) in
-    leaves_in x.phase y.phase (ap is_before (sym p) ∙ m.before) (phase_is (gone_mind z) y is)
+    let p = phase_is x m.by.mind (same_mind r.minds h x m.by.mind at m.by.at) in
+    let z = ran_by r h m.by.hart m.by.machine.memory m.by.mind in
+    let set = get-set_same r.minds h z m.by.mind m.by.at in
+    let is = same_some y (gone_mind z) (sym there ∙ (ap (λ (us : List Mind). slice_get us h) m.homed.minds ∙ gone_get (slice_set r.minds h z) h z set)) in
+    leaves_in x.phase y.phase (ap is_before (sym p) ∙ m.by.before) (phase_is (gone_mind z) y is)
 moves (turned.Moved move.Stopped) r s h x y (why, m) at there =
     subst (λ o. StopsFrom o x.phase y.phase) (sym (halts_why r s h why (stopped_halts why r s h m))) (stops_from why r s h x y m at there)
 

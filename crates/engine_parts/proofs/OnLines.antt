@@ -23,6 +23,7 @@ use Rattle.dbg_model.specs.Journals.{lengthened_by}
 use Rattle.dbg_model.specs.Judging.{is_due}
 use Rattle.dbg_model.specs.Lawful.{may_go}
 use Rattle.dbg_model.specs.State.{due}
+use Rattle.dbg_model.proofs.Undue.{not_so}
 use Rattle.engine_parts.specs.declared.mind.Activity.TheVariants as activity
 use Rattle.engine_parts.specs.declared.mind.Hold.{Hold}
 use Rattle.engine_parts.specs.declared.mind.Mind.{Mind}
@@ -43,7 +44,7 @@ use Rattle.engine_parts.proofs.Executing.{Executed, own_pc, parts_of, ran_to, re
 use Rattle.engine_parts.proofs.Departing.{executed_to}
 use Rattle.engine_parts.proofs.Holding.{clear_stands, core_at}
 use Rattle.engine_parts.proofs.Keeping.{hart_at}
-use Rattle.engine_parts.proofs.Kept.{alone_came, goes_undue, not_so}
+use Rattle.engine_parts.proofs.Kept.{alone_came, goes_undue}
 use Rattle.engine_parts.proofs.LineVerdicts.{came_next, line_ran, line_verdict, ran_line}
 use Rattle.engine_parts.proofs.Passing.{Ahead, Going}
 use Rattle.engine_parts.proofs.Rewaits.{same_waits}

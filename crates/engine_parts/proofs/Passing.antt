@@ -20,7 +20,7 @@ use Rattle.dbg_model.specs.Limits.{history}
 use Rattle.dbg_model.specs.Views.{register, shown_byte}
 use Rattle.dbg_model.specs.declared.hart.Hart.{Hart}
 use Rattle.dbg_model.specs.Breaks.{nothing_due}
-use Rattle.dbg_model.specs.Judging.{is_due}
+use Rattle.dbg_model.specs.Judging.{is_due, is_kept}
 use Rattle.dbg_model.specs.State.{State, due, is_off}
 use Rattle.watch_points.specs.Watches.{fired_by}
 use Rattle.engine_parts.specs.declared.mind.Activity.TheVariants as activity
@@ -39,7 +39,7 @@ use Rattle.engine_parts.proofs.Holding.{core_at}
 use Rattle.engine_parts.proofs.Homecoming.{is_slotted}
 use Rattle.engine_parts.proofs.Bounding.{may_go_by}
 use Rattle.engine_parts.specs.Calls.{Of, Undue, DueIs, AtPlanted, Turns}
-use Rattle.engine_parts.specs.Going.{Passes, SurroundingsView, is_kept, meets}
+use Rattle.engine_parts.specs.Going.{Passes, SurroundingsView, meets}
 use Rattle.engine_parts.specs.Rows.{Begins, row_at, row_idle}
 use Rattle.engine_parts.specs.Several.{AllTurned}
 use Rattle.engine_parts.specs.Slicing.{takes_slices}

@@ -1,5 +1,5 @@
 -- Turns of which nothing is said come where a session isn't over.
-use Rattle.std.proofs.Common.{◌≡◌, ℕ, zero, suc, true, ap}
+use Rattle.std.proofs.Common.{◌≡◌, ℕ, true}
 use Rattle.std.specs.Prelude.{Option, Some, None, not, slice_get}
 use Rattle.plain_machine.specs.Plain.{plain}
 use Rattle.dbg_model.specs.declared.hart.Hart.{Hart}
@@ -10,7 +10,7 @@ use Rattle.dbg_model.specs.State.{State, due, is_running}
 use Rattle.dbg_model.proofs.Options.{both_true, guard_some}
 use Rattle.engine_parts.specs.Seen.{Engine, seen}
 use Rattle.engine_parts.specs.Calls.{Turns}
-use Rattle.engine_parts.specs.Several.{AllRan, AllTurned, HasRan, IsQuiet, IsQuietRow, TurnedBy, is_quiet}
+use Rattle.engine_parts.specs.Several.{is_quiet}
 use Rattle.engine_parts.specs.declared.moving.Turned.{Turned}
 use Rattle.engine_parts.specs.declared.moving.Turned.TheVariants as turned
 use Rattle.engine_parts.specs.declared.moving.Move.TheVariants as move
@@ -42,14 +42,3 @@ quiet_may (turned.Moved move.AllLeft) q s h quiet k = cc
 quiet_may (turned.Moved move.Counted) q s h quiet k = cc
 quiet_may (turned.Moved move.Stopped) q s h quiet k = cc
 quiet_may (turned.Stood why) q s h quiet k = cc
-
--- of another kind of turn, where each of the one kind is of the other
-also : (P Q : Engine → Turned → Type 0) → ((r : Engine) (t : Turned) → P r t → Q r t) → (n : ℕ) (r s : Engine) (h : ℕ) → TurnedBy P n r s h → TurnedBy Q n r s h
-also P Q each zero r s h k = k
-also P Q each (suc n) r s h k = record { run = k.run; before = also P Q each n r k.run h k.before; facts = k.facts; answer = k.answer; fits = each k.run k.answer k.fits; turn = k.turn }
-
-pub turned_quiet : (n : ℕ) (r s : Engine) (h : ℕ) → AllTurned n r s h → TurnedBy IsQuiet n r s h
-turned_quiet n r s h k = also (IsQuietRow h) IsQuiet (λ q t fits. fits.quiet) n r s h k
-
-pub ran_quiet : (n : ℕ) (r s : Engine) (h : ℕ) → AllRan n r s h → TurnedBy IsQuiet n r s h
-ran_quiet n r s h k = also HasRan IsQuiet (λ q t fits. ap is_quiet fits) n r s h k

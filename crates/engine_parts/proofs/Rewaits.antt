@@ -14,7 +14,7 @@ use Rattle.engine_parts.specs.Seen.{Engine}
 use Rattle.engine_parts.specs.Facts.{Sound}
 use Rattle.engine_parts.proofs.Awaiting.{rewaited}
 use Rattle.engine_parts.specs.Changing.{Retabled, wants_by}
-use Rattle.engine_parts.proofs.Commanding.{word_place}
+use Rattle.dbg_model.proofs.Inserting.{word_place}
 use Rattle.engine_parts.proofs.Holds.{Moved}
 use Rattle.engine_parts.proofs.Halting.{Noted}
 

@@ -171,6 +171,7 @@ halts_behind r m n h x why u k =
       enters = sym (ap (λ o. enter o (seen m) (Stopped h why)) u.opening ∙ ap (λ s. enter r.opening s (Stopped h why)) u.seen) ∙ k.enters;
       temporary = k.temporary ∙ ap (λ (s : State). stops_once s.breaks why) u.seen;
       opening = k.opening ∙ u.opening;
+      copies = k.copies ∙ u.copies;
     }
 
 -- where an instruction is executed, the session isn't over

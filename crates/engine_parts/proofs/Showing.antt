@@ -18,6 +18,7 @@ use Rattle.dbg_model.specs.State.{State, any_leaves, any_runs, all_gone, has_exi
 use Rattle.dbg_model.specs.Lawful.{leaving}
 use Rattle.dbg_model.specs.Leaving.{lefts_from, gone, left_one, gone_by, LeaveWith, LeavesWith}
 use Rattle.dbg_model.specs.Journals.{Leaves, Place}
+use Rattle.dbg_model.proofs.Options.{or_false}
 use Rattle.engine_parts.specs.declared.mind.Activity.{Activity}
 use Rattle.engine_parts.specs.declared.mind.Activity.TheVariants as activity
 use Rattle.engine_parts.specs.declared.mind.Mind.{Mind}
@@ -49,10 +50,6 @@ pub seen_quiet : (p : Program) (cs : List Core) (xs : List Mind) → any_leaves 
 seen_quiet p [] xs = refl
 seen_quiet p (c ∷ cs) [] = refl
 seen_quiet p (c ∷ cs) (x ∷ xs) = rw (quiet_activity x.activity) (seen_quiet p cs xs)
-
-or_false : (a b : Bool) → (a || b) ≡ false → (a ≡ false) × (b ≡ false)
-or_false true b h = cc
-or_false false b h = (refl, h)
 
 quiet_left : (k : ℕ) (m : Mode) → is_leaving m ≡ false → left_one k m ≡ []
 quiet_left k mode.Stopped h = refl

@@ -33,7 +33,7 @@ use Rattle.engine_parts.specs.declared.mind.Activity.{Activity}
 use Rattle.engine_parts.specs.declared.mind.Activity.TheVariants as activity
 use Rattle.engine_parts.specs.declared.mind.Hold.{Hold}
 use Rattle.engine_parts.specs.declared.mind.Mind.{Mind}
-use Rattle.engine_parts.specs.Minds.{mode_of, is_active, is_lifted, lifted_of, slot_of, entered_of, is_copied, after_step, is_before, with_phase}
+use Rattle.engine_parts.specs.Minds.{mode_of, is_active, is_lifted, lifted_of, slot_of, entered_of, after_step, is_before, with_phase}
 use Rattle.engine_parts.specs.Seen.{Engine, seen, seen_hart, seen_harts, seen_regs, running_regs, landed_regs}
 use Rattle.engine_parts.specs.Facts.{Sound, Harts, HartFact, InText, Placed, Slotted, Wants, called, held_by, is_home, wanted, wants_of, Planted, pending}
 use Rattle.engine_parts.specs.Moves.{Repatched, ran_by}
@@ -43,6 +43,11 @@ use Rattle.engine_parts.proofs.Counting.{retired_ran, copied_more, Balances, add
 use Rattle.engine_parts.proofs.Updating.{updated, slots_same, holds_by, holds_own, equals, differs}
 use Rattle.engine_parts.proofs.Planting.{replanted, fetch_plain}
 use Rattle.engine_parts.proofs.Keeping.{Mover, StaysSeen, Enters, entered, silent, hart_at}
+
+-- a hart at a copy
+abbrev pub is_copied : Phase → Bool
+is_copied (phase.Copied slot home) = true
+is_copied _ = false
 
 pub fact_of : (r : Engine) (h : ℕ) (c : Core) (x : Mind) → Sound r → Mover r h c x → HartFact r.opening.image r.machine.slots r.hold h c x
 fact_of r h c x f m = f.harts.each h c x m.core m.mind

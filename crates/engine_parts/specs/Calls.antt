@@ -39,7 +39,7 @@ use Rattle.engine_parts.specs.declared.mind.Mind.{Mind}
 use Rattle.engine_parts.specs.Minds.{after_step, runs, is_before, with_phase, counted_mind, first_mind}
 use Rattle.engine_parts.specs.Seen.{Engine, seen}
 use Rattle.engine_parts.specs.Facts.{other_holder, wants_of, Planted, Retired, CopiedOver}
-use Rattle.engine_parts.specs.Moves.{AreHome, plan_for, ran_by, stop_of}
+use Rattle.engine_parts.specs.Moves.{AreHome, SameCopies, plan_for, ran_by, stop_of}
 use Rattle.engine_parts.specs.declared.mind.Activity.TheVariants as activity
 use Rattle.engine_parts.specs.Steps.{left_minds, moved_by}
 use Rattle.engine_parts.specs.Homing.{HomedBy}
@@ -88,6 +88,7 @@ pub record Rephases (old new : Engine) (h : ℕ) (x : Mind) (p : Phase) (held : 
   pub spare : new.spare ≡ old.spare
   pub minds : new.minds ≡ slice_set old.minds h (with_phase x p)
   pub hold : new.hold ≡ held
+  pub copies : SameCopies old new
 
 -- a running hart is at a planted word where nothing is due, no interrupt is asked of it, and no patch is lifted for another
 pub record AtPlanted (r : Engine) (h : ℕ) (x : Mind) (home : ℕ) : Type 0 where
@@ -153,8 +154,8 @@ pub record Plants (old new : Engine) (h : ℕ) : Type 0 where
   pub ran : mind.phase ≡ phase.Ran home
   pub rephases : Rephases old new h mind phase.Idle None
 
--- one instruction of a hart, which wrote these bytes: one step of the machine
-pub record Runs (s : Stepped) (old new : Engine) (h : ℕ) (out : List ℕ) : Type 0 where
+-- one instruction of a hart: one step of the machine
+pub record Instruction (s : Stepped) (old : Engine) (h : ℕ) : Type 0 where
   pub mind : Mind
   pub at : slice_get old.minds h ≡ Some mind
   pub before : is_before mind.phase ≡ true
@@ -162,37 +163,42 @@ pub record Runs (s : Stepped) (old new : Engine) (h : ℕ) (out : List ℕ) : Ty
   pub shown : slice_get (seen old).harts h ≡ Some hart
   pub machine : Patched
   pub steps : Steps s old.machine h machine
+
+-- one instruction of a hart, which wrote these bytes
+pub record Runs (s : Stepped) (old new : Engine) (h : ℕ) (out : List ℕ) : Type 0 where
+  pub by : Instruction s old h
   -- patches are planted where harts wait then
-  pub patched : new.machine ≡ record machine { text = new.machine.text }
-  pub minds : new.minds ≡ slice_set old.minds h (ran_by old h hart machine.memory mind)
+  pub patched : new.machine ≡ record by.machine { text = new.machine.text }
+  pub minds : new.minds ≡ slice_set old.minds h (ran_by old h by.hart by.machine.memory by.mind)
   pub hold : new.hold ≡ old.hold
   pub journal : new.journal ≡ lengthened old.journal h
   pub one : one old.opening h (seen old) ≡ Some (seen new)
   pub wrote : one_out old.opening h (seen old) ≡ out
   pub opening : new.opening ≡ old.opening
 
--- one instruction of a hart by which so many harts left, with this code: one step of the machine, after which those that
--- leave came home
-pub record Exits (s : Stepped) (old new : Engine) (h count code : ℕ) : Type 0 where
-  pub mind : Mind
-  pub at : slice_get old.minds h ≡ Some mind
-  pub before : is_before mind.phase ≡ true
-  pub hart : Hart
-  pub shown : slice_get (seen old).harts h ≡ Some hart
-  pub machine : Patched
-  pub steps : Steps s old.machine h machine
+-- after an instruction those that leave by it came home, and patches are planted where harts wait then
+pub record Homed (s : Stepped) (old new : Engine) (h : ℕ) (by : Instruction s old h) : Type 0 where
   pub home : Patched
-  pub homed : HomedBy s (wants_of old) new.hold (record { hart = h; phase = after_step mind.phase; minds = slice_set old.minds h (ran_by old h hart machine.memory mind) }) machine home
+  pub homed : HomedBy s (wants_of old) new.hold (record { hart = h; phase = after_step by.mind.phase; minds = slice_set old.minds h (ran_by old h by.hart by.machine.memory by.mind) }) by.machine home
   pub patched : new.machine ≡ record home { text = new.machine.text }
-  pub minds : new.minds ≡ left_minds s h (ran_by old h hart machine.memory mind) old.minds
+  pub minds : new.minds ≡ left_minds s h (ran_by old h by.hart by.machine.memory by.mind) old.minds
+
+-- between an instruction and the exits by it so many harts are leaving, with this code; it wrote nothing
+pub record Leavers (old : Engine) (h count code : ℕ) : Type 0 where
   pub between : State
-  pub codes : LeaveWith code between.harts
-  pub some : any_leaves between.harts ≡ true
   pub one : one old.opening h (seen old) ≡ Some between
   pub wrote : one_out old.opening h (seen old) ≡ []
-  pub journal : new.journal ≡ lengthened old.journal h ++ lefts_from 0 between.harts
-  pub harts : (seen new).harts ≡ map gone between.harts
+  pub some : any_leaves between.harts ≡ true
+  pub codes : LeaveWith code between.harts
   pub counted : length (lefts_from 0 between.harts) ≡ count
+
+-- one instruction of a hart by which so many harts left, with this code, and the journal notes each
+pub record Exits (s : Stepped) (old new : Engine) (h count code : ℕ) : Type 0 where
+  pub by : Instruction s old h
+  pub homed : Homed s old new h by
+  pub leavers : Leavers old h count code
+  pub journal : new.journal ≡ lengthened old.journal h ++ lefts_from 0 leavers.between.harts
+  pub harts : (seen new).harts ≡ map gone leavers.between.harts
   pub retired : new.retired ≡ old.retired + 1
   pub opening : new.opening ≡ old.opening
 
@@ -204,6 +210,7 @@ pub record Halts (old new : Engine) (h : ℕ) (why : Why) : Type 0 where
   pub enters : enter old.opening (seen old) (Stopped h why) ≡ Some (seen new)
   pub temporary : new.temporary ≡ stops_once old.breaks why
   pub opening : new.opening ≡ old.opening
+  pub copies : SameCopies old new
 
 -- a hart was counted by the breakpoints that it has come to, and goes on
 pub record Counts (old new : Engine) (h : ℕ) : Type 0 where
@@ -217,6 +224,7 @@ pub record Counts (old new : Engine) (h : ℕ) : Type 0 where
   pub journal : new.journal ≡ old.journal ++ Counted h ∷ []
   pub enters : enter old.opening (seen old) (Counted h) ≡ Some (seen new)
   pub opening : new.opening ≡ old.opening
+  pub copies : SameCopies old new
 
 -- a hart that was interrupted stopped where it steps over nothing
 pub record Interrupts (old new : Engine) (h : ℕ) : Type 0 where
@@ -296,12 +304,14 @@ pub record Does (old new : Engine) (line : List ℕ) (reply : Reply) : Type 0 wh
   pub journal : new.journal ≡ old.journal ++ Did line ∷ pokes_of (done_by old.opening (seen old) line).pending
   pub seen : settled old.opening (done_by old.opening (seen old) line) ≡ Some (seen new)
   pub opening : new.opening ≡ old.opening
+  pub copies : SameCopies old new
 
 -- a line was done, whatever is answered to it, and what it asks to be written was written
 pub record Lines (old new : Engine) (line : List ℕ) : Type 0 where
   pub journal : new.journal ≡ old.journal ++ Did line ∷ pokes_of (done_by old.opening (seen old) line).pending
   pub seen : settled old.opening (done_by old.opening (seen old) line) ≡ Some (seen new)
   pub opening : new.opening ≡ old.opening
+  pub copies : SameCopies old new
 
 -- why an engine is over: the first of these that holds
 abbrev pub OverBy : Option End → Engine → Type 0

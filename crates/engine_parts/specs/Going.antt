@@ -1,5 +1,5 @@
 -- How a hart goes on by itself: it executes instructions, and steps over planted words at which nothing is due. This project's own.
-use Rattle.std.specs.Prelude.{◌≡◌, ◌<◌, ◌^◌, ℕ, suc, Bool, true, false, List, [], ◌∷◌, length, Some, None, is_some, ◌||◌, slice_get, not, ◌==◌}
+use Rattle.std.specs.Prelude.{◌≡◌, ◌<◌, ◌^◌, ℕ, suc, Bool, true, false, List, [], ◌∷◌, length, Some, None, is_some, ◌||◌, slice_get}
 use Rattle.rv_exec.specs.Registers.{set_pc}
 use Rattle.rv_exec.specs.declared.effect.Stepped.TheVariants as stepped
 use Rattle.elf32_read.specs.Program.{Program}
@@ -10,13 +10,13 @@ use Rattle.hart_machine.specs.Stepping.{AreCounted, Steps}
 use Rattle.hart_machine.specs.Copying.{StepsByCopy}
 use Rattle.break_table.specs.Entry.{Entry as BreakEntry}
 use Rattle.break_table.specs.Arrival.{due_of}
+use Rattle.dbg_model.specs.Judging.{is_kept}
 use Rattle.dbg_model.specs.Views.{register, shown_byte}
 use Rattle.break_table.specs.declared.due.Due.{Due}
 use Rattle.watch_points.specs.declared.watchpoint.Watch.{Watch}
 use Rattle.watch_points.specs.Watches.{fired_by}
 use Rattle.engine_parts.specs.declared.going.Surroundings.{Surroundings}
 use Rattle.step_plans.specs.declared.plan.Plan.{Plan}
-use Rattle.step_plans.specs.declared.plan.Plan.TheVariants as plans
 
 -- an instruction in its place, or over a planted word by a copy
 pub data Way : Type 0 where
@@ -32,13 +32,6 @@ turns_of (ByCopy ∷ ws) = suc (suc (suc (turns_of ws)))
 -- a breakpoint stops or counts a hart
 abbrev pub meets : Due → Bool
 meets d = is_some d.stop || d.counts
-
--- the plan stays as it is where a hart arrives there
-abbrev pub is_kept : Plan → ℕ → Bool
-is_kept plans.Free pc = true
-is_kept (plans.ToReturn ret sp after) pc = not (pc == ret)
-is_kept (plans.Finish ret sp) pc = not (pc == ret)
-is_kept _ pc = false
 
 -- a hart that goes on: its plan, the program and the breakpoints and watches that it meets there, and whether it steps over planted words by copies
 pub record SurroundingsView : Type 0 where

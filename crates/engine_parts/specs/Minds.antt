@@ -52,11 +52,6 @@ abbrev pub entered_of : Phase → Option ℕ
 entered_of (phase.Copied slot home) = Some slot
 entered_of _ = None
 
--- a hart at a copy
-abbrev pub is_copied : Phase → Bool
-is_copied (phase.Copied slot home) = true
-is_copied _ = false
-
 -- whether a patch is lifted for a hart that is to execute there
 abbrev pub is_lifted : Phase → Bool
 is_lifted (phase.Lifted home) = true

@@ -1,5 +1,5 @@
 -- What the moves of an engine do to it. This project's own.
-use Rattle.std.specs.Prelude.{◌≡◌, ℕ, Bool, List, [], ◌∷◌, length, Option, Some, None, IsSome}
+use Rattle.std.specs.Prelude.{◌≡◌, ℕ, Bool, List, [], ◌∷◌, length, map, Option, Some, None, IsSome}
 use Rattle.rv_exec.specs.Memory.{Memory}
 use Rattle.elf32_read.specs.Program.{Program}
 use Rattle.text_words.specs.Words.{Words, shown, is_planted}
@@ -57,6 +57,14 @@ pub record Takes (old new : List (Option SlotUse)) (h slot word : ℕ) : Type 0 
   pub was : use_at old slot ≡ None
   pub one : OneSlot old new slot (Some (record { hart = h; word = word }))
   pub len : length new ≡ length old
+
+-- how many instructions each hart has executed by copies
+abbrev pub copies_of : List Core → List ℕ
+copies_of cores = map (λ c. c.copied) cores
+
+-- none was executed by a copy
+abbrev pub SameCopies : Engine → Engine → Type 0
+SameCopies old new = copies_of new.machine.cores ≡ copies_of old.machine.cores
 
 -- a hart is home: its registers are those that it shows
 pub record IsHome (p : Program) (c : Core) (x : Mind) (d : Core) : Type 0 where

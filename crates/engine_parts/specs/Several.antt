@@ -46,11 +46,7 @@ abbrev pub TurnedBy : (Engine → Turned → Type 0) → ℕ → Engine → Engi
 TurnedBy Fits zero old new h = new ≡ old
 TurnedBy Fits (suc n) old new h = ThenTurns (λ r. TurnedBy Fits n old r h) Fits new h
 
--- nothing is said of a turn
-abbrev pub IsQuiet : Engine → Turned → Type 0
-IsQuiet r t = is_quiet t ≡ true
-
--- nor does another move fit first
+-- nothing is said of a turn, and no other move fits first
 pub record IsQuietRow (h : ℕ) (r : Engine) (t : Turned) : Type 0 where
   pub quiet : is_quiet t ≡ true
   pub first : row_at r h ≡ row_of t None

@@ -1,12 +1,13 @@
 // A hart that goes on by itself, over the parts of an engine.
 ghost use Rattle.std.specs.Prelude.{◌≡◌, ◌<◌, ◌≤◌, ◌⊎◌, [], length, true, false};
 ghost use Rattle.hart_machine.specs.Running.{HasStopped};
-ghost use Rattle.engine_parts.specs.Going.{Goes, Passes, is_kept, surroundings_view};
+ghost use Rattle.engine_parts.specs.Going.{Goes, Passes, surroundings_view};
 ghost use Rattle.engine_parts.specs.Watching.{WritesNear};
 
 use crate::hits::due_at;
 use crate::watching::is_near;
 use break_table::BreakTable;
+use dbg_model::is_kept;
 use elf32_read::Image;
 use hart_machine::Machine;
 use step_plans::Plan;
@@ -31,17 +32,6 @@ pub struct Surroundings<'a> {
 pub struct Progress {
     pub turns: u32,
     pub instructions: u32,
-}
-
-// Whether a plan stays as it is where a hart arrives there.
-fn is_kept(plan: Plan, pc: u32) -> bool
-    ensures { result ≡ is_kept plan pc }
-{
-    match plan {
-        Plan::Free => true,
-        Plan::ToReturn { ret, .. } | Plan::Finish { ret, .. } => pc != ret,
-        _ => false,
-    }
 }
 
 // Steps over the planted word at a hart's pc, where the breakpoints there neither stop nor count it and its plan stays.

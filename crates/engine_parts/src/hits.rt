@@ -1,14 +1,12 @@
 // What the breakpoints do with a hart that arrives.
-ghost use Rattle.std.specs.Prelude.{◌≡◌, ◌<◌, ◌-◌, ◌^◌, length, Some, map, slice_get};
+ghost use Rattle.std.specs.Prelude.{◌≡◌, ◌<◌, ◌-◌, ◌^◌, length, Some, slice_get};
 ghost use Rattle.rv_exec.specs.Registers.{set_pc};
 ghost use Rattle.hart_machine.specs.declared.hart.Core.{Core};
-ghost use Rattle.break_table.specs.Entry.{entry_of};
 ghost use Rattle.break_table.specs.Arrival.{due_of, settled};
-ghost use Rattle.dbg_model.specs.Breaks.{is_temporary};
 ghost use Rattle.dbg_model.specs.Views.{register, shown_byte};
 
-use crate::view::ShownHart;
-use break_table::{BreakEntry, BreakTable, Due};
+use break_table::{BreakTable, Due};
+use dbg_model::SeenHart;
 use elf32_read::Image;
 use hart_machine::Machine;
 
@@ -20,11 +18,11 @@ pub fn due_at(table: &BreakTable, image: &Image, machine: &Machine, h: u32, pc: 
     let regs = &machine.cores()[h as usize].regs;
     table.due(
         h,
-        &ShownHart {
+        &SeenHart {
             regs,
-            pc,
+            pc: Some(pc),
             image,
-            machine,
+            memory: machine.data(),
         },
     )
 }
@@ -38,27 +36,11 @@ pub fn settle(table: &mut BreakTable, image: &Image, machine: &Machine, h: u32, 
     let regs = &machine.cores()[h as usize].regs;
     table.settle_arrival(
         h,
-        &ShownHart {
+        &SeenHart {
             regs,
-            pc,
+            pc: Some(pc),
             image,
-            machine,
+            memory: machine.data(),
         },
     );
-}
-
-/// Whether the breakpoint of that number is temporary.
-pub fn is_temporary(entries: &[BreakEntry], number: u32) -> bool
-    ensures { result ≡ is_temporary (map entry_of entries.now) number }
-{
-    match entries {
-        [] => false,
-        [first, rest @ ..] => {
-            if first.number == number {
-                first.temporary
-            } else {
-                is_temporary(rest, number)
-            }
-        }
-    }
 }

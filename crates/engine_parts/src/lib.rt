@@ -13,7 +13,6 @@ pub mod minds;
 pub mod moving;
 pub mod patching;
 pub mod staying;
-pub mod view;
 pub mod views;
 pub mod waiting;
 pub mod watching;

@@ -1,6 +1,6 @@
 // What is kept of the harts.
 ghost use Rattle.std.specs.Prelude.{◌≡◌, ◌≤◌, ◌+◌, ◌&&◌, length, replicate, IfOk, find, nat_le, not};
-ghost use Rattle.std.specs.List.{list_any, list_all};
+ghost use Rattle.std.specs.List.{list_any, list_all, count_by};
 ghost use Rattle.engine_parts.specs.Minds.{first_mind, counted_mind, runs, has_gone, with_phase};
 ghost use Rattle.engine_parts.specs.Facts.{other_holder};
 ghost use Rattle.engine_parts.specs.Steps.{is_out, running_harts};
@@ -35,6 +35,24 @@ pub fn any_running(minds: &[Mind]) -> bool
     match minds {
         [] => false,
         [first, rest @ ..] => is_running(first) || any_running(rest),
+    }
+}
+
+/// How many harts run.
+pub fn count_running(minds: &[Mind]) -> usize
+    ensures value { result ≡ count_by runs minds.now }
+    ensures most { result ≤ length minds.now }
+{
+    match minds {
+        [] => 0,
+        [first, rest @ ..] => {
+            let others = count_running(rest);
+            if is_running(first) {
+                others + 1
+            } else {
+                others
+            }
+        }
     }
 }
 

@@ -1,5 +1,5 @@
 // What hands out jobs to workers.
-ghost use Rattle.std.specs.Prelude.{◌≡◌, Bool, true, ◌↔◌};
+ghost use Rattle.std.specs.Prelude.{◌≡◌, Bool, true, false, ◌↔◌};
 
 /// What a worker is to do next.
 #[derive(Drop)]
@@ -38,6 +38,14 @@ pub trait Crew {
 
     /// Takes what was made of a job.
     fn take(&mut self, done: Self::Done);
+
+    /// Does what the next duty asks for, with its job, where no other worker could work beside. False where one could, or the
+    /// crew is over: then nothing is done, and a duty is to be asked for.
+    fn serve_alone(&mut self) -> bool
+        ensures none { result ≡ false → self.new ≡ self.old }
+    {
+        false
+    }
 
     /// Whether there is nothing left to do.
     fn over(&self) -> bool

@@ -7,6 +7,8 @@ pub mod Worths
 pub mod Watching
 pub mod Listing
 pub mod Replying
+-- Which reply is the prompt alone.
+pub mod Blanks
 pub mod Stopping
 -- What a session says: one entry more, the lines that show the output, and harts that leave.
 pub mod Saying

@@ -1,5 +1,5 @@
 // What is reported, and its lines.
-ghost use Rattle.std.specs.Prelude.{◌≡◌, ◌++◌, ◌∷◌, [], OnOk, OnErr, IsTrue, true};
+ghost use Rattle.std.specs.Prelude.{◌≡◌, ◌++◌, ◌∷◌, [], OnOk, OnErr, MatchBool, true};
 ghost use Rattle.mi_values.specs.Record.{prompt};
 ghost use Rattle.mi_values.specs.Records.{lines_bytes, AreLines};
 ghost use Rattle.mi_reports.specs.Seen.{trees};
@@ -42,7 +42,7 @@ fn push_entry(lines: &mut LineList, entry: &Entry, shown: &Shown) -> Result<(), 
 
 // Whether this is the reply to a blank line, which is the prompt alone.
 fn is_blank(reply: &Reply) -> bool
-    ensures { IsTrue result → reply_lines reply.now ≡ prompt ∷ [] }
+    ensures { MatchBool result (reply_lines reply.now ≡ prompt ∷ []) (reply_lines reply.now ≡ prompt ∷ [] → ⊥) }
 {
     matches!(reply.content, Content::Blank)
 }

@@ -1,8 +1,9 @@
 // A session, step by step.
-ghost use Rattle.std.specs.Prelude.{◌≡◌, ◌≢◌, ◌<◌, [], true, false, None, Some, if◌then◌else◌, IfSome, IsSomeAnd, IsTrue};
+ghost use Rattle.std.specs.Prelude.{◌≡◌, ◌≢◌, ◌<◌, ◌&&◌, [], true, false, None, Some, if◌then◌else◌, IfSome, IsSomeAnd};
+ghost use Rattle.std.specs.Bool.{OnFalse};
 ghost use Rattle.session_parts.specs.Ties.{IsTied};
 ghost use Rattle.session_parts.specs.Seen.{GotOn, work, no_input, no_line, is_open};
-ghost use Rattle.session_parts.specs.Taking.{has_line};
+ghost use Rattle.session_parts.specs.Taking.{has_line, has_looked};
 ghost use Rattle.session_parts.specs.Round.{Takes, Lines, Settles, Round, moment};
 ghost use Rattle.engine_parts.specs.Steps.{NoneOut};
 ghost use Rattle.session_parts.specs.Left.{IsLeft};
@@ -166,7 +167,7 @@ impl<W: World> Session<W> {
 
     // Whether it is known already that no line can be done yet.
     fn must_wait(&self) -> bool
-        ensures { IsTrue result → no_line self.now ≡ true }
+        ensures { result ≡ (has_looked self.now.known && no_line self.now) }
     {
         match self.known {
             Known::Open => false,
@@ -181,6 +182,7 @@ impl<W: World> Session<W> {
         ensures opening { self.new.run.opening ≡ self.old.run.opening }
         ensures lines { Lines (moment W.told self.old) (moment W.told self.new) }
         ensures less { GotOn result self.old self.new (no_line self.old) }
+        ensures looks { OnFalse result (has_looked self.new.known ≡ true) }
     {
         if self.must_wait() {
             return false;

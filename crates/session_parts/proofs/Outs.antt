@@ -11,7 +11,7 @@ use Rattle.session_parts.specs.Taking.{has_line}
 use Rattle.reg_slices.specs.declared.slice.Job.{Job}
 use Rattle.reg_slices.specs.declared.slice.Slice.{Slice}
 use Rattle.session_parts.specs.Round.{Moment, Takes, TakesBy, Lines, LinesBy, Moved, Moves, MovesBy, Settles, SettlesBy, Unless, Then, Round}
-use Rattle.session_parts.specs.Crew.{Gives, Goes, HandsOut, IsWorkOf, Reaches, TakesBack, gives_job, marked, ready_of, returned}
+use Rattle.session_parts.specs.Crew.{Gives, Goes, HandsOut, IsWorkOf, Reaches, TakesBack, gives_job, marked, none_out, ready_of, returned}
 use Rattle.session_parts.specs.Crew as crew
 
 -- the marks are as they were
@@ -70,6 +70,12 @@ pub none_first : (n : ℕ) → NoneOut (replicate n false)
 none_first zero h = refl
 none_first (suc n) zero = refl
 none_first (suc n) (suc h) = none_first n h
+
+pub none_marked : (xs : List Bool) → none_out xs ≡ true → NoneOut xs
+none_marked [] is h = refl
+none_marked (true ∷ xs) is h = cc
+none_marked (false ∷ xs) is zero = refl
+none_marked (false ∷ xs) is (suc h) = none_marked xs is h
 
 none_cleared : (xs : List Bool) (h : ℕ) → NoneOut xs → NoneOut (slice_set (slice_set xs h true) h false)
 none_cleared [] h none k = none k

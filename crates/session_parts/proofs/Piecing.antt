@@ -1,8 +1,11 @@
 -- A piece of input in which no line ends, behind a rest in which none does.
-use Rattle.std.proofs.Common.{◌≡◌, ℕ, Bool, true, false, List, [], ◌∷◌, ◌++◌, refl, sym, ◌∙◌}
-use Rattle.std.specs.Prelude.{Option, Some, None, ◌==◌, is_some, IfNone}
-use Rattle.mi_input.specs.Lines.{lines, rest_line, without_cr}
+use Rattle.std.proofs.Common.{◌≡◌, ℕ, Bool, true, false, List, [], ◌∷◌, ◌++◌, take, refl, sym, ap, ◌∙◌}
+use Rattle.std.specs.Prelude.{Option, Some, None, ◌==◌, is_some, IfNone, IfSome}
+use Rattle.std.proofs.lemmas.List.{append-nil}
+use Rattle.mi_input.specs.Lines.{IsNext, lines, rest_line, without_cr}
 use Rattle.mi_input.proofs.Fronts.{lines_after, lines_by_byte}
+use Rattle.session_parts.specs.declared.known.Known.TheVariants as known
+use Rattle.session_parts.specs.Taking.{known_behind}
 
 none_yet : (front : List ℕ) → rest_line false front ≡ []
 none_yet [] = refl
@@ -37,3 +40,10 @@ no_line_joined rest piece h none =
 pub no_line_in : (xs : List ℕ) (r : Option (ℕ × ℕ)) → is_some r ≡ false → IfNone r (lines xs false ≡ []) → lines xs false ≡ []
 no_line_in xs None h none = none
 no_line_in xs (Some p) h none = cc
+
+pub some_line_in : (xs : List ℕ) (r : Option (ℕ × ℕ)) → is_some r ≡ true → IfSome r (λ p. IsNext false xs (take p.0 xs) p.1) → known.Open ≡ known_behind known.NoLine (lines xs false)
+some_line_in xs None h next = cc
+some_line_in xs (Some p) h next = sym (ap (known_behind known.NoLine) (ap (λ l. lines l false) (sym (append-nil xs)) ∙ next [] false))
+
+pub none_known : (xs : List ℕ) → lines xs false ≡ [] → known.NoLine ≡ known_behind known.NoLine (lines xs false)
+none_known xs none = sym (ap (known_behind known.NoLine) none)

@@ -116,25 +116,27 @@ runs_say t v r s h out f g m text =
 
 exits_say : (t : Move) (v : Stepped) (r s : Engine) (h count code : ℕ) → Facts r → Facts s → Exits v r s h count code → shown_lines s t (noted_since s r.noted) ≡ move_lines s t h r.noted → Said t r s h
 exits_say t v r s h count code f g m text =
+    let l = m.leavers in
+    let harts = l.between.harts in
     let j = lengthened r.journal h in
-    let lefts = lefts_from 0 m.between.harts in
-    let all = all_gone (map gone m.between.harts) in
-    let l = lengthens r.opening r.journal h (seen r) m.between f.sound.leaves m.one in
+    let lefts = lefts_from 0 harts in
+    let all = all_gone (map gone harts) in
+    let more = lengthens r.opening r.journal h (seen r) l.between f.sound.leaves l.one in
     let first : said_lines r.opening j ≡ said_lines r.opening r.journal = said_lengthened r.opening r.journal h (seen r) f.sound.leaves ∙
-    (ap (λ u. said_lines r.opening r.journal ++ u) (ap stream_lines m.wrote ∙ nothing_written) ∙ append-nil (said_lines r.opening r.journal)) in
-    let exits = said_exits r.opening j m.between code l (one_open r.opening h (seen r) m.between m.one) m.codes m.some in
-    let k = since r s j lefts f g m.journal (lengthened_notes r.journal h) (lefts_noted 0 m.between.harts) in
+    (ap (λ u. said_lines r.opening r.journal ++ u) (ap stream_lines l.wrote ∙ nothing_written) ∙ append-nil (said_lines r.opening r.journal)) in
+    let exits = said_exits r.opening j l.between code more (one_open r.opening h (seen r) l.between l.one) l.codes l.some in
+    let k = since r s j lefts f g m.journal (lengthened_notes r.journal h) (lefts_noted 0 harts) in
     let shown : shown_lines s t lefts ≡ lefts_lines lefts all code =
-    shows_lefts t s code lefts (are_lefts code 0 m.between.harts m.codes)
-    ∙ (ap (λ xs. gone_trees lefts ++ last_lines (all_gone xs) lefts code) m.harts ∙ ap (λ u. gone_trees lefts ++ u) (lefts_last 0 m.between.harts all code m.some)) in
+    shows_lefts t s code lefts (are_lefts code 0 harts l.codes)
+    ∙ (ap (λ xs. gone_trees lefts ++ last_lines (all_gone xs) lefts code) m.harts ∙ ap (λ u. gone_trees lefts ++ u) (lefts_last 0 harts all code l.some)) in
     let last : lefts_lines lefts all code ≡ move_lines s t h r.noted = sym shown ∙ (ap (shown_lines s t) (sym k.are) ∙ text) in
     record {
       opening = m.opening;
-      notes = notes r s lefts k (lefts_noted 0 m.between.harts) (lefts_moved (length s.minds) 0 m.between.harts);
+      notes = notes r s lefts k (lefts_noted 0 harts) (lefts_moved (length s.minds) 0 harts);
       said = said_is r s (j ++ lefts) (move_lines s t h r.noted) m.opening m.journal (exits ∙ (ap (λ u. u ++ lefts_lines lefts all code) first ∙ ap (λ u. said_lines r.opening r.journal ++ u) last));
-      goes = goes_by r s (grown_exits r.journal s.journal h m.between.harts m.journal) (inr (one_runs r.opening h (seen r) m.between m.one));
-      work = ran_less r s h m.between m.one (m.retired ∙ sym (one_works r.opening h (seen r) m.between m.one).retired)
-          (let e = ap running m.harts ∙ running_gone m.between.harts in let z : running (seen s).harts ≤ running m.between.harts = omega arith in z) m.opening g;
+      goes = goes_by r s (grown_exits r.journal s.journal h harts m.journal) (inr (one_runs r.opening h (seen r) l.between l.one));
+      work = ran_less r s h l.between l.one (m.retired ∙ sym (one_works r.opening h (seen r) l.between l.one).retired)
+          (let e = ap running m.harts ∙ running_gone harts in let z : running (seen s).harts ≤ running harts = omega arith in z) m.opening g;
     }
 
 get_within : {A : Type 0} (xs : List A) (h : ℕ) → h < length xs → (x : A) × (slice_get xs h ≡ Some x)

@@ -25,7 +25,7 @@ use Rattle.session_parts.specs.Stage.{Stage, stage_of}
 use Rattle.session_parts.specs.Ties.{GoesOn, OverBy, session_work}
 use Rattle.session_parts.specs.Round.{Moment}
 use Rattle.session_parts.specs.Crew as crew
-use Rattle.session_parts.specs.Crew.{Commits, Gives, IsWorkOf, Reaches, ServesHart, WorksAtOnce, marked, ready_of}
+use Rattle.session_parts.specs.Crew.{Commits, Gives, IsWorkOf, Reaches, ServesHart, ServesOnce, WorksAtOnce, marked, ready_of}
 use Rattle.session_parts.proofs.Getting.{less_work}
 use Rattle.session_parts.proofs.Outs.{goes, goes_out, round_out, served_out}
 use Rattle.session_parts.proofs.Saying.{made_room}
@@ -174,7 +174,7 @@ duty_by : (job : Option Job) (h : ℕ) (p m q : Moment) → Reaches (Some h) p m
 duty_by None h p m q r w = goes h None p m q r w
 duty_by (Some job) h p m q r w = (w.0, goes h (Some job) p m w.0 r w.1, w.2)
 
-pub serves_duty : (h : ℕ) (p m q : Moment) → Reaches (Some h) p m → ServesHart h m q → (job : Option Job) × crew.Serves job p q
+pub serves_duty : (h : ℕ) (p m q : Moment) → Reaches (Some h) p m → ServesHart h m q → ServesOnce p q
 serves_duty h p m q r d = (d.0, duty_by d.0 h p m q r d.1)
 
 none_by : (job : Option Job) (p q : Moment) → crew.Serves job p q → NoneOut p.out → NoneOut q.out

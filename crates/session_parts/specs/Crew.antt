@@ -1,5 +1,7 @@
 -- What the duties of a session are, and what becomes of the jobs that they give: this project's own rules.
-use Rattle.std.specs.Prelude.{◌≡◌, ◌⊎◌, ◌≤◌, ℕ, zero, suc, ◌&&◌, nat_lt, Bool, true, false, List, slice_set, Option, None, Some, is_none, is_some, if◌then◌else◌}
+use mathlib.Core.Bool.{beq}
+use Rattle.std.specs.Prelude.{◌≡◌, ◌⊎◌, ◌≤◌, ℕ, zero, suc, ◌&&◌, ◌||◌, not, nat_le, nat_lt, Bool, true, false, List, slice_set, Option, None, Some, is_none, is_some, if◌then◌else◌}
+use Rattle.std.specs.List.{count_by, list_any}
 use Rattle.rv_exec.specs.Registers.{Registers}
 use Rattle.reg_slices.specs.declared.slice.Job.{Job}
 use Rattle.reg_slices.specs.declared.slice.Slice.{Slice}
@@ -9,6 +11,7 @@ use Rattle.hart_workers.specs.declared.crew.Duty.TheVariants as duties
 use Rattle.dbg_model.specs.State.{any_runs}
 use Rattle.dbg_model.specs.Journals.{lengthened_by}
 use Rattle.engine_parts.specs.Slicing.{gives_job_in, IsJobIn, CanTakeIn}
+use Rattle.engine_parts.specs.Minds.{runs}
 use Rattle.engine_parts.specs.Steps.{NoneOut, next_running}
 use Rattle.session_parts.specs.Stage.{Stage}
 use Rattle.session_parts.specs.Round.{Moment, Moved, Round}
@@ -120,10 +123,22 @@ WorksAtOnce (Some job) h p q = (m : Moment) × Gives h (Some job) p m × ((slice
 abbrev pub ServesHart : ℕ → Moment → Moment → Type 0
 ServesHart h p q = (job : Option Job) × WorksAtOnce job h p q
 
+-- a duty, whose job is worked and taken back at once
+abbrev pub ServesOnce : Moment → Moment → Type 0
+ServesOnce p q = (job : Option Job) × Serves job p q
+
 -- so many duties, one after the other
 abbrev pub ServesFor : ℕ → Moment → Moment → Type 0
 ServesFor zero p q = q ≡ p
-ServesFor (suc n) p q = (m : Moment) × ServesFor n p m × ((job : Option Job) × Serves job m q)
+ServesFor (suc n) p q = (m : Moment) × ServesFor n p m × ServesOnce m q
+
+-- no job is out
+abbrev pub none_out : List Bool → Bool
+none_out out = not (list_any (λ mark. beq mark true) out)
+
+-- no job is out, and none could be worked beside another: one worker serves, or at most one hart runs
+abbrev pub is_alone : Moment → Bool
+is_alone p = none_out p.out && (nat_le p.run.opening.settings.workers 1 || nat_le (count_by runs p.run.minds) 1)
 
 -- the session forgets whose jobs are out, and does so many duties
 pub record ServesAlone (p q : Moment) : Type 0 where
@@ -132,8 +147,6 @@ pub record ServesAlone (p q : Moment) : Type 0 where
   pub count : ℕ
   pub serves : ServesFor count (record p { out = out }) q
 
--- harts run, each of which has its job out, and no line can be done meanwhile
-pub record IsIdle (p : Moment) : Type 0 where
-  pub running : any_runs p.run.state.harts ≡ true
-  pub out : next_running p.run.minds p.out p.next ≡ None
-  pub waits : can_do p.run p.input.ended p.input.rest ≡ false
+-- whether harts run, each of which has its job out, and no line can be done meanwhile
+abbrev pub is_idle : Moment → Bool
+is_idle p = any_runs p.run.state.harts && (not (can_do p.run p.input.ended p.input.rest) && is_none (next_running p.run.minds p.out p.next))

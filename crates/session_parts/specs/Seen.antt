@@ -4,6 +4,7 @@ use Rattle.session_parts.specs.Stage.{Stage, moves_at}
 use Rattle.session_parts.specs.Steps.{can_do}
 use Rattle.session_parts.specs.Ties.{Taken, session_work}
 use Rattle.session_parts.specs.Taking.{has_line}
+use Rattle.session_parts.specs.declared.known.Known.{Known}
 use Rattle.dbg_model.specs.State.{any_runs}
 use Rattle.session_parts.specs.declared.status.Status.{Status}
 
@@ -19,6 +20,8 @@ pub record Seen (W : Type 0) : Type 0 where
   pub next : ℕ
   -- the harts whose job is out
   pub out : List Bool
+  -- what is known of the rest of the input
+  pub known : Known
 
 -- nothing but perhaps the world changed
 pub record Same {W : Type 0} (old new : Seen W) : Type 0 where

@@ -1,5 +1,5 @@
 -- What the steps of a session do to the world and to what is said. This project's own.
-use Rattle.std.specs.Prelude.{◌≡◌, ◌⊎◌, ◌<◌, ◌≤◌, ℕ, ◌&&◌, not, Bool, true, false, List, [], ◌∷◌, ◌++◌, length, slice_set, Option, Some, None}
+use Rattle.std.specs.Prelude.{◌≡◌, ◌⊎◌, ◌<◌, ◌≤◌, ℕ, ◌&&◌, not, Bool, true, false, List, [], ◌∷◌, ◌++◌, length, slice_get, slice_set, Option, Some, None}
 use Rattle.dbg_traits.specs.Told.{Told, more, raised, with_ask}
 use Rattle.dbg_traits.specs.Causes.{Rose}
 use Rattle.session_parts.specs.Puts.{PutsAll}
@@ -22,7 +22,11 @@ use Rattle.engine_parts.specs.Calls as calls
 use Rattle.dbg_model.specs.Leaving.{lefts_from}
 use Rattle.dbg_model.specs.Lawful.{may_go}
 use Rattle.dbg_model.specs.Journals.{did, lengthened}
+use Rattle.engine_parts.specs.declared.mind.Hold.{Hold}
 use Rattle.engine_parts.specs.declared.mind.Mind.{Mind}
+use Rattle.engine_parts.specs.Minds.{with_phase}
+use Rattle.step_over.specs.declared.phase.Phase.{Phase}
+use Rattle.step_over.specs.declared.phase.Phase.TheVariants as phase
 use Rattle.session_parts.specs.InTime.{through, until}
 use Rattle.session_parts.specs.Taking.{first_waits, has_line}
 use Rattle.engine_parts.specs.Rows.{Row, Over, Rests, Waits, Finishes, Stops, Counts, Interrupts, Begins, Executes}
@@ -50,9 +54,29 @@ pub record Keeps (t u : Told) (r s : Stage) : Type 0 where
   pub said : lines_by s ≡ lines_by r ++ trees
   pub told : u ≡ t
 
--- A move of hart h without an entry, as a copy that it enters: only what is kept of h changes.
-abbrev pub IsSilent : ℕ → Stage → Stage → Type 0
-IsSilent h r s = (s.journal ≡ r.journal) × ((x : Mind) × (s.minds ≡ slice_set r.minds h x))
+-- the patch that is lifted where hart h is in this phase, if one is
+abbrev pub hold_in : ℕ → Phase → Option Hold
+hold_in h (phase.Lifted home) = Some (record { hart = h; home = home })
+hold_in h _ = None
+
+-- A move of hart h without an entry: it comes from one phase of a step over a breakpoint to another, and nothing changes that is seen.
+pub record Rephases (h : ℕ) (from to : Phase) (r s : Stage) : Type 0 where
+  pub mind : Mind
+  pub at : slice_get r.minds h ≡ Some mind
+  pub was : mind.phase ≡ from
+  pub minds : s.minds ≡ slice_set r.minds h (with_phase mind to)
+  pub hold : s.hold ≡ hold_in h to
+  pub opening : s.opening ≡ r.opening
+  pub journal : s.journal ≡ r.journal
+  pub state : s.state ≡ r.state
+
+-- the patch at its pc was lifted, or it entered a slot with a copy
+abbrev pub BeginsStep : ℕ → Stage → Stage → Type 0
+BeginsStep h r s = (home : ℕ) × (Rephases h phase.Idle (phase.Lifted home) r s ⊎ ((slot : ℕ) × Rephases h phase.Idle (phase.Copied slot home) r s))
+
+-- the patch was planted again, or it came home from the slot
+abbrev pub FinishesStep : ℕ → Stage → Stage → Type 0
+FinishesStep h r s = (home : ℕ) × (Rephases h (phase.Ran home) phase.Idle r s ⊎ ((slot : ℕ) × Rephases h (phase.Landed slot home) phase.Idle r s))
 
 -- an instruction of hart h, with the exits that it causes
 abbrev pub IsStep : ℕ → Stage → Stage → Type 0
@@ -68,8 +92,8 @@ FitsRow Executes h r s = IsStep h r s ⊎ ((cause : Cause) × Adds (Stopped h (F
 FitsRow Stops h r s = (why : Why) × Adds (Stopped h why) r s
 FitsRow Interrupts h r s = Adds (Stopped h Interrupted) r s
 FitsRow Counts h r s = Adds (Counted h) r s
-FitsRow Begins h r s = IsSilent h r s
-FitsRow Finishes h r s = IsSilent h r s
+FitsRow Begins h r s = BeginsStep h r s
+FitsRow Finishes h r s = FinishesStep h r s
 FitsRow Over h r s = ⊥
 FitsRow Rests h r s = ⊥
 FitsRow (Waits by) h r s = ⊥

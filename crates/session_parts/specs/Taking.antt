@@ -28,3 +28,13 @@ abbrev pub IsKnown : Known → Bool → List ℕ → Type 0
 IsKnown known.Open ended rest = Unit {0}
 IsKnown known.NoLine ended rest = lines rest ended ≡ []
 IsKnown known.Waits ended rest = first_waits (lines rest ended) ≡ true
+
+-- whether anything is known
+abbrev pub has_looked : Known → Bool
+has_looked known.Open = false
+has_looked _ = true
+
+-- what is known once a piece with these lines came behind: that no line has ended, where none had before and none does in the piece
+abbrev pub known_behind : Known → List (List ℕ) → Known
+known_behind known.NoLine [] = known.NoLine
+known_behind _ ls = known.Open

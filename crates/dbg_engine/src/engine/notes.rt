@@ -1,28 +1,16 @@
 // What the journal notes of a hart that stops or is counted.
 ghost use Rattle.std.specs.Prelude.{◌≡◌, ◌≤◌, true};
 ghost use Rattle.dbg_model.specs.Judging.{is_counted};
-ghost use Rattle.dbg_model.specs.Shown.{stops_once};
 ghost use Rattle.watch_points.specs.Watches.{risen};
 
 use super::Engine;
 use crate::engine::waiting_of;
-use break_table::BreakTable;
-use dbg_model::{Entry, Judgement, Why, plan_after};
-use engine_parts::hits::{is_temporary, settle};
+use dbg_model::{Entry, Judgement, Why, plan_after, stops_once};
+use engine_parts::hits::settle;
 use engine_parts::minds::{STOPPED, counted_mind};
 use engine_parts::patching::{repatch, wants};
 use engine_parts::waiting::{Waiting, changes, rewait};
 use engine_parts::{Mind, Phase};
-
-// Whether it is a temporary breakpoint that stops a hart.
-fn stops_once(table: &BreakTable, why: Why) -> bool
-    ensures { result ≡ stops_once table.now.entries why }
-{
-    match why {
-        Why::Break { number, .. } => is_temporary(table.entries(), number),
-        _ => false,
-    }
-}
 
 impl Engine {
     ghost use Rattle.engine_parts.specs.Facts.{Facts};

@@ -1,51 +1,15 @@
 // What the entries show that a move has noted.
 ghost use Rattle.std.specs.Prelude.{◌≡◌, ◌<◌, ◌≤◌, length, IfOk};
-ghost use Rattle.std.specs.Option.{option_copied};
 ghost use Rattle.dbg_model.specs.Journals.{last_entries, noted};
-ghost use Rattle.dbg_model.specs.Shown.{frame_at, shown_of, stopping_watch, watch_of};
+ghost use Rattle.dbg_model.specs.Shown.{frame_at, shown_of, stopping_watch};
 ghost use Rattle.dbg_model.specs.declared.shown.Shown.TheVariants.{Stop};
 ghost use Rattle.engine_parts.specs.Seen.{seen};
 ghost use Rattle.engine_parts.specs.Shown.{ComesIn, IsMoved, ran_shows, shown_by};
 
 use super::Engine;
 use crate::Move;
-use dbg_model::{Entry, Shown, ShownWatch, Why, bytes_of, shown_frame};
+use dbg_model::{Entry, Shown, Why, shown_frame, stopping_watch};
 use dbg_traits::{ByteList, NoMemory};
-use std::alloc::{AllocError, Global};
-use watch_points::Watch;
-
-// The watch of that number.
-fn watch_of(watches: &[Watch], number: u32) -> Option<&Watch>
-    ensures { option_copied result ≡ watch_of watches.now number }
-{
-    let [watch, rest @ ..] = watches else {
-        return None;
-    };
-    if watch.number == number {
-        return Some(watch);
-    }
-    watch_of(rest, number)
-}
-
-// The watch of these that stops a hart, if one does.
-fn stopping_watch(
-    alloc: Global,
-    watches: &[Watch],
-    why: Why,
-) -> Result<Option<ShownWatch>, AllocError>
-    ensures { IfOk result (λ w. w ≡ stopping_watch watches.now why) }
-{
-    let Why::Watch(fired) = why else {
-        return Ok(None);
-    };
-    let Some(watch) = watch_of(watches, fired.number) else {
-        return Ok(None);
-    };
-    Ok(Some(ShownWatch {
-        text: bytes_of(alloc, watch.text.as_slice())?,
-        signed: watch.signed,
-    }))
-}
 
 impl Engine {
     /// How many entries other than `Ran` the journal has.

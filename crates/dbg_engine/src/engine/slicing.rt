@@ -172,13 +172,5 @@ impl Engine {
         if slice.count > 0 {
             self.commit(&slice);
         }
-        let Slice {
-            hart: _,
-            regs: _,
-            at: _,
-            words: _,
-            count: _,
-            after: _,
-        } = slice;
     }
 }

@@ -11,11 +11,10 @@ ghost use Rattle.dbg_model.specs.declared.entry.Why.{Why};
 use super::Engine;
 use crate::engine::waiting_of;
 use crate::{Move, Standing, Turned};
-use dbg_model::{Judge, Judgement, Why, noted_with, plan_after};
+use dbg_model::{Judge, Judgement, SeenHart, Why, noted_with, plan_after};
 use engine_parts::homing::{Leaving, go_home_at_exit, landed_pc};
 use engine_parts::minds::{other_holder, with_phase};
 use engine_parts::moving::{moved_by, note_outcome, ran_mind};
-use engine_parts::view::ShownHart;
 use engine_parts::waiting::{Waiting, changes, rewait};
 use engine_parts::watching::step_watched;
 use engine_parts::{Activity, Mind, Phase};
@@ -238,11 +237,11 @@ impl Engine {
             sources: &self.sources,
             table: &self.table,
         };
-        let view = ShownHart {
+        let view = SeenHart {
             regs: &self.machine.cores()[h as usize].regs,
-            pc,
+            pc: Some(pc),
             image: &self.opening.image,
-            machine: &self.machine,
+            memory: self.machine.data(),
         };
         judge.judge(h, mind.course, &view)
     }

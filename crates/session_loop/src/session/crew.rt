@@ -1,7 +1,8 @@
 // A session as a crew: its duties are rounds, its jobs the slices of harts.
 ghost use Rattle.std.specs.Prelude.{◌≡◌, ◌≢◌, ◌<◌, ◌≤◌, ◌↔◌, ◌&&◌, true, false, None, IfSome, IsTrue, is_none, is_some, nat_lt, slice_set};
 ghost use Rattle.engine_parts.specs.Steps.{NoneOut};
-ghost use Rattle.session_parts.specs.Crew.{Duties, Gives, IsIdle, IsWorkOf, Reaches, ServesAlone, ServesHart, TakesBack, TakesBy};
+ghost use Rattle.session_parts.specs.Crew.{Duties, Gives, IsWorkOf, Reaches, ServesAlone, ServesHart, ServesOnce, TakesBack, TakesBy, is_alone, is_idle};
+ghost use Rattle.session_parts.specs.Taking.{has_looked};
 ghost use Rattle.session_parts.specs.Round.{moment};
 ghost use Rattle.session_parts.specs.Seen.{work};
 
@@ -126,9 +127,30 @@ impl<W: World> Session<W> {
         self.status = over(&self.engine, self.count);
     }
 
+    // One duty, and what its job asks for. It is one of `duty`, but no `Duty` is made of it: to move one through each round takes
+    // longer than the rest of it.
+    #[inline(always)]
+    fn serve_next(&mut self)
+        requires going { self.old.status ≡ None }
+        requires none { NoneOut self.old.out }
+        ensures opening { self.new.run.opening ≡ self.old.run.opening }
+        ensures none { NoneOut self.new.out }
+        ensures serves { ServesOnce (moment W.told self.old) (moment W.told self.new) }
+        ensures less { work self.new < work self.old }
+    {
+        let Some(hart) = self.go() else { return };
+        self.serve(hart);
+    }
+
+    // Whether no job is out, and none could be worked beside another: one worker serves, or at most one hart runs.
+    fn is_alone(&self) -> bool
+        ensures { result ≡ is_alone (moment W.told self.now) }
+    {
+        !self.out.contains(&true) && (self.workers() <= 1 || self.engine.running_count() <= 1)
+    }
+
     /// Forgets whose jobs are out, and does duties until the status is set. What a job asks for is done at once, where the
-    /// words stand. The duties are those of `duty`, but no `Duty` is made of them: to move one through each round takes longer
-    /// than the rest of it.
+    /// words stand.
     pub fn run_serial(&mut self)
         ensures over { self.new.status ≢ None }
         ensures opening { self.new.run.opening ≡ self.old.run.opening }
@@ -136,8 +158,7 @@ impl<W: World> Session<W> {
     {
         self.out = [false; HARTS];
         'duties: while self.status.is_none() {
-            let Some(hart) = self.go() else { continue };
-            self.serve(hart);
+            self.serve_next();
         }
     }
 }
@@ -191,14 +212,21 @@ impl<W: World> Crew for Session<W> {
     {
         clear(&mut self.out, slice.hart);
         self.bring(&slice);
-        let Slice {
-            hart: _,
-            regs: _,
-            at: _,
-            words: _,
-            count: _,
-            after: _,
-        } = slice;
+    }
+
+    /// One duty, and what its job asks for where the words stand, in a session that goes on in which no job could be worked
+    /// beside another.
+    fn serve_alone(&mut self) -> bool
+        ensures exactly { result ≡ (is_none self.old.status && is_alone (moment W.told self.old)) }
+        ensures none { result ≡ false → self.new ≡ self.old }
+        ensures opening { self.new.run.opening ≡ self.old.run.opening }
+        ensures serves { IsTrue result → ServesOnce (moment W.told self.old) (moment W.told self.new) }
+    {
+        if self.status.is_some() || !self.is_alone() {
+            return false;
+        }
+        self.serve_next();
+        true
     }
 
     /// Whether the status is set.
@@ -208,9 +236,10 @@ impl<W: World> Crew for Session<W> {
         self.status.is_some()
     }
 
-    /// Whether harts run, each of which has a job out, and no line is known that can be done meanwhile.
+    /// Whether harts run, each of which has a job out, and no line can be done meanwhile. False where it isn't known whether
+    /// one can.
     fn is_idle(&self) -> bool
-        ensures { IsTrue result → IsIdle (moment W.told self.now) }
+        ensures { result ≡ (has_looked self.now.known && is_idle (moment W.told self.now)) }
     {
         self.engine.any_running()
             && self.must_wait()

@@ -17,23 +17,19 @@ lengthen-requires-clause-last c =
     let k = small_of r c.args.self.now c.self.view_is c.self.invariant.facts.sound c.requires.may in
     omega (arith, k.last, c.min-most.ensures, c.from.ensures, c.from-count.ensures, c.go-progress.ensures.most)
 
-pub returns-then-progress-eq0-clause-facts : goal.returns-then-progress-eq0-clause-facts
-returns-then-progress-eq0-clause-facts c =
+kept : (c : goal.Then-progress-eq0) → Facts (record (run_of c.self.inside) { machine = c.go-progress.new.machine })
+kept c =
     let r = run_of c.self.inside in
     let p = c.go-progress.result in
-    let new = c.go-progress.new.machine in
-    let M : Patched → Type 0 = λ m. Facts (record r { machine = m }) in
     let a = around r c.args.h c.args.mind.course.plan c.by_copies.result in
-    subst M (sym (none_gone a c.min-most.result p.turns p.instructions r.machine new c.if-progress-eq0.true c.go-progress.ensures.goes)) c.self.invariant.facts
+    let same = none_gone a c.min-most.result p.turns p.instructions r.machine c.go-progress.new.machine c.if-progress-eq0.true c.go-progress.ensures.goes in
+    subst (λ (m : Patched). Facts (record r { machine = m })) (sym same) c.self.invariant.facts
+
+pub returns-then-progress-eq0-clause-facts : goal.returns-then-progress-eq0-clause-facts
+returns-then-progress-eq0-clause-facts c = kept c
 
 pub invariant_of-self : goal.invariant_of-self
-invariant_of-self c =
-    let r = run_of c.self.inside in
-    let p = c.go-progress.result in
-    let new = c.go-progress.new.machine in
-    let M : Patched → Type 0 = λ m. Facts (record r { machine = m }) in
-    let a = around r c.args.h c.args.mind.course.plan c.by_copies.result in
-    record { facts = subst M (sym (none_gone a c.min-most.result p.turns p.instructions r.machine new c.if-progress-eq0.true c.go-progress.ensures.goes)) c.self.invariant.facts }
+invariant_of-self c = record { facts = kept c }
 
 -- the engine so many turns on
 abbrev new_run : goal.After-self-2-1 → Engine

@@ -1,4 +1,4 @@
-use Rattle.std.proofs.Common.{◌+◌, sym, ap, ◌∙◌, subst, arith}
+use Rattle.std.proofs.Common.{◌≡◌, ◌+◌, sym, ap, ◌∙◌, subst, arith}
 use Rattle.std.specs.Prelude.{slice_get, slice_set}
 use Rattle.hart_machine.specs.Patched.{Patched}
 use Rattle.hart_machine.proofs.Places.{get-set_same}
@@ -21,32 +21,25 @@ lengthen-requires-clause-last c =
     let k = small_of r c.args.self.now c.self.view_is c.self.invariant.facts.sound c.requires.may in
     omega (arith, k.last, c.min-most.ensures, c.from.ensures, c.from-count.ensures, c.stay-stayed.ensures.limit)
 
-pub returns-then-stayed-eq0-clause-facts : goal.returns-then-stayed-eq0-clause-facts
-returns-then-stayed-eq0-clause-facts c =
+still : (c : goal.Then-stayed-eq0) → c.stay-stayed.new.machine ≡ (run_of c.self.inside).machine
+still c =
     let r = run_of c.self.inside in
     let p = c.stay-stayed.result in
     let new = c.stay-stayed.new.machine in
-    let M : Patched → Type 0 = λ m. Facts (record r { machine = m }) in
     let stays = own_stays r c.args.h c.args.file c.args.line p.count p.last _ r.machine new c.lines.ensures c.stay-stayed.ensures.stays in
-    subst M (sym (none_stayed (on_line r c.args.h c.args.file c.args.line) p.count p.last r.machine new c.if-stayed-eq0.true stays)) c.self.invariant.facts
+    none_stayed (on_line r c.args.h c.args.file c.args.line) p.count p.last r.machine new c.if-stayed-eq0.true stays
+
+kept : (c : goal.Then-stayed-eq0) → Facts (record (run_of c.self.inside) { machine = c.stay-stayed.new.machine })
+kept c = let r = run_of c.self.inside in subst (λ (m : Patched). Facts (record r { machine = m })) (sym (still c)) c.self.invariant.facts
+
+pub returns-then-stayed-eq0-clause-facts : goal.returns-then-stayed-eq0-clause-facts
+returns-then-stayed-eq0-clause-facts c = kept c
 
 pub returns-then-stayed-eq0-clause-turns : goal.returns-then-stayed-eq0-clause-turns
-returns-then-stayed-eq0-clause-turns c =
-    let r = run_of c.self.inside in
-    let p = c.stay-stayed.result in
-    let new = c.stay-stayed.new.machine in
-    let stays = own_stays r c.args.h c.args.file c.args.line p.count p.last _ r.machine new c.lines.ensures c.stay-stayed.ensures.stays in
-    let same = none_stayed (on_line r c.args.h c.args.file c.args.line) p.count p.last r.machine new c.if-stayed-eq0.true stays in
-    ap (λ (m : Patched). let q : Engine = record r { machine = m } in q) same ∙ c.self.view_is
+returns-then-stayed-eq0-clause-turns c = ap (λ (m : Patched). let q : Engine = record (run_of c.self.inside) { machine = m } in q) (still c) ∙ c.self.view_is
 
 pub invariant_of-self : goal.invariant_of-self
-invariant_of-self c =
-    let r = run_of c.self.inside in
-    let p = c.stay-stayed.result in
-    let new = c.stay-stayed.new.machine in
-    let M : Patched → Type 0 = λ m. Facts (record r { machine = m }) in
-    let stays = own_stays r c.args.h c.args.file c.args.line p.count p.last _ r.machine new c.lines.ensures c.stay-stayed.ensures.stays in
-    record { facts = subst M (sym (none_stayed (on_line r c.args.h c.args.file c.args.line) p.count p.last r.machine new c.if-stayed-eq0.true stays)) c.self.invariant.facts }
+invariant_of-self c = record { facts = kept c }
 
 -- the engine so many instructions on
 abbrev new_run : goal.After-self-2-1 → Engine

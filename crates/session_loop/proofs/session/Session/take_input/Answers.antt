@@ -51,7 +51,7 @@ invariant_of-self g c =
     let piece = slice_from new xs (c.len.result - n) c.deref.ensures.value ∙ (ap (λ k. drop (k - n) new) size ∙ last) in
     let kept : IsKnown c.self.inside.known false (drop start items) = subst (λ b. IsKnown c.self.inside.known b (drop start items)) c.if-self.false c.self.invariant.3 in
     let joined : IsKnown c.behind-self-inside.result false (drop start new) = subst (λ r. IsKnown c.behind-self-inside.result false r)
-    (ap (λ p. drop start items ++ p) piece ∙ sym behind) (c.behind-self-inside.ensures (drop start items) kept) in
+    (ap (λ p. drop start items ++ p) piece ∙ sym behind) (c.behind-self-inside.ensures.known (drop start items) kept) in
     let taken : Taken = record { rest = drop start new; count = c.self.inside.count + n; ended = c.self.inside.ended } in
     let grown : taken ≡ record { rest = drop start items ++ bytes; count = c.self.inside.count + n; ended = c.self.inside.ended } = ap
     (λ r. let t : Taken = record { rest = r; count = c.self.inside.count + n; ended = c.self.inside.ended } in t) behind in (

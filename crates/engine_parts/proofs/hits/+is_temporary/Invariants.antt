@@ -1,5 +1,0 @@
-use Rattle.std.proofs.Common.{length}
-use Rattle.engine_parts.proofs.hits.+is_temporary.Given as goal
-
-abbrev pub decreases-is_temporary : goal.decreases-is_temporary
-decreases-is_temporary l = length l.entries.now
