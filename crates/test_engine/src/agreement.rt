@@ -4,7 +4,7 @@ ghost use Rattle.dbg_traits.specs.Settings.{AreSettings};
 use break_table::BreakEntry;
 use dbg_engine::Engine;
 use dbg_model::{Entry, EntryRef, Journal, JournalWriter, Mode, Opening, Poke};
-use dbg_replay::{ModelState, replay};
+use dbg_replay::{ModelState, let_go, replay};
 use dbg_traits::{ByteList, NoMemory};
 use std::alloc::{AllocError, Global};
 
@@ -102,19 +102,21 @@ fn shows(engine: &Engine, state: &ModelState) -> bool {
     engine.all_gone() == gone && same_breakpoints(engine.table().entries(), state.breakpoints())
 }
 
+// The state that a replay left goes as a whole to where it is let go of, since it is large.
 fn shows_left(
     engine: &Engine,
-    left: &Result<Option<ModelState>, NoMemory>,
+    left: Result<Option<ModelState>, NoMemory>,
 ) -> Result<bool, AllocError> {
     match left {
-        Ok(Some(state)) => Ok(shows(engine, state)),
+        Ok(Some(state)) => {
+            let shown = shows(engine, &state);
+            let_go(state);
+            Ok(shown)
+        }
         Ok(None) => Ok(false),
         Err(NoMemory) => Err(AllocError),
     }
 }
-
-// What a replay left is let go of here, with nothing beside it, since it is large.
-fn let_go(_left: Result<Option<ModelState>, NoMemory>) {}
 
 fn shows_replayed(
     alloc: Global,
@@ -124,10 +126,7 @@ fn shows_replayed(
 ) -> Result<bool, AllocError>
     requires { AreSettings opening.now.settings }
 {
-    let left = replay(alloc, opening, journal);
-    let shown = shows_left(engine, &left);
-    let_go(left);
-    shown
+    shows_left(engine, replay(alloc, opening, journal))
 }
 
 /// Whether an engine shows the state that its journal leaves; false where the journal isn't lawful.

@@ -1,8 +1,8 @@
 // The engine that rows drive.
-use crate::programs::Load;
+use crate::programs::loads;
 use crate::subject::Subject;
-use std::alloc::{AllocError, Global};
-use test_rows::{Bench, RowFault};
+use std::alloc::Global;
+use test_rows::{Bench, RowFault, said};
 
 /// The engine over the program of the last row that loads one. None where that couldn't be loaded.
 #[derive(Drop)]
@@ -17,23 +17,23 @@ impl EngineBench {
     }
 
     // The engine that was there is let go of here and nowhere else, since it is large.
-    fn load(&mut self, alloc: Global, load: Load<'_>) {
-        self.subject = Subject::load(alloc, load);
+    fn load(&mut self, alloc: Global, line: &str) {
+        self.subject = Subject::load(alloc, line);
     }
 }
 
-fn told(alloc: Global, subject: &mut Option<Subject>, row: &str) -> Result<String, AllocError> {
+fn told(alloc: Global, subject: &mut Option<Subject>, row: &str) -> Result<String, RowFault> {
     match subject {
         Some(subject) => subject.answer(alloc, row),
-        None => String::from_str(alloc, "no program is loaded"),
+        None => said(alloc, "no program is loaded"),
     }
 }
 
 impl Bench for EngineBench {
     fn answer(&mut self, alloc: Global, row: &str) -> Result<String, RowFault> {
-        if let Some(load) = Load::read(row) {
-            self.load(alloc, load);
+        if loads(row) {
+            self.load(alloc, row);
         }
-        Ok(told(alloc, &mut self.subject, row)?)
+        told(alloc, &mut self.subject, row)
     }
 }

@@ -1,5 +1,5 @@
-//! Engines over programs, which rows of input drive. The rows are those of `Load` and
-//! `Step`; each is answered by what came of it. What begins with `#` is said again as it stands.
+//! Engines over programs, which rows of input drive. The rows are those of `loads` and of `moved` and `asked`; each is answered by
+//! what came of it. What begins with `#` is said again as it stands.
 //!
 //! Behind each row that notes something the journal is gone through apart from the engine, and the state that it leaves is
 //! compared with what the engine shows.
@@ -9,7 +9,6 @@ mod agreement;
 mod bench;
 mod moves;
 mod programs;
-mod step;
 mod subject;
 mod turns;
 

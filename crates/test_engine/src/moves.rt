@@ -13,7 +13,9 @@ use dbg_traits::NoMemory;
 use mi_commands::{CommandLine, Refusal};
 use reg_slices::{Job, Slice, run_slice};
 use session_loop::{command, must_wait};
-use std::alloc::{AllocError, Global};
+use std::alloc::Global;
+use test_rows::Piece::{Hex, Number, Text};
+use test_rows::{RowFault, said, shown, told};
 
 /// The most turns of one call.
 const MOST: u32 = 1_000_000;
@@ -85,25 +87,19 @@ pub fn done(alloc: Global, engine: &mut Engine, line: &str) -> &'static str {
 }
 
 /// A turn of a hart.
-pub fn turn(alloc: Global, engine: &mut Engine, hart: u32) -> Result<String, AllocError> {
+pub fn turn(alloc: Global, engine: &mut Engine, hart: u32) -> Result<String, RowFault> {
     if !is_ready(engine, hart) {
-        return format!(in alloc; "no such hart");
+        return said(alloc, "no such hart");
     }
     told_turn(alloc, engine, hart)
 }
 
 /// Turns of a hart in one call.
-pub fn run(
-    alloc: Global,
-    engine: &mut Engine,
-    hart: u32,
-    limit: u32,
-) -> Result<String, AllocError> {
+pub fn run(alloc: Global, engine: &mut Engine, hart: u32, limit: u32) -> Result<String, RowFault> {
     if !is_ready(engine, hart) {
-        return format!(in alloc; "no such hart");
+        return said(alloc, "no such hart");
     }
-    let count = engine.run(hart, limit);
-    format!(in alloc; "{count}")
+    told(alloc, &[Number(engine.run(hart, limit))])
 }
 
 // How far a hart goes in one call. None where it doesn't run, or isn't there.
@@ -114,19 +110,31 @@ fn went(engine: &mut Engine, hart: u32) -> Option<u32> {
     Some(engine.run(hart, MOST))
 }
 
+fn told_judged(alloc: Global, judged: u32, beside: u32) -> Result<String, RowFault> {
+    told(
+        alloc,
+        &[
+            Number(judged),
+            Text(" judged, "),
+            Number(beside),
+            Text(" not"),
+        ],
+    )
+}
+
 /// Turns of a hart, each where it doesn't go on by itself, until it no longer runs or there are so many.
-pub fn go(alloc: Global, engine: &mut Engine, hart: u32, limit: u32) -> Result<String, AllocError> {
+pub fn go(alloc: Global, engine: &mut Engine, hart: u32, limit: u32) -> Result<String, RowFault> {
     let mut beside = 0u32;
     for judged in 0..limit {
         let Some(count) = went(engine, hart) else {
-            return format!(in alloc; "{judged} judged, {beside} not");
+            return told_judged(alloc, judged, beside);
         };
         beside = beside.saturating_add(count);
         if is_ready(engine, hart) {
             engine.turn(hart);
         }
     }
-    format!(in alloc; "{limit} judged, {beside} not")
+    told_judged(alloc, limit, beside)
 }
 
 // A turn of a hart, if there is such a one.
@@ -165,32 +173,19 @@ fn committed(engine: &mut Engine, slice: &Slice) -> Option<Commit> {
     Some(engine.commit(slice))
 }
 
-// A slice can't be dropped, but its words can.
-fn let_go(slice: Slice) {
-    let Slice {
-        hart: _,
-        regs: _,
-        at: _,
-        words: _words,
-        count: _,
-        after: _,
-    } = slice;
-}
-
-// Its place, how many words its window has and the sixth of them, and how many instructions were done.
-fn told_slice(alloc: Global, slice: &Slice) -> Result<String, AllocError> {
-    let sixth = slice.words.get(5).copied().unwrap_or(0);
-    let (at, words, count) = (slice.at, slice.words.len(), slice.count);
-    format!(in alloc; "{words} words at {at:#x}, the sixth {sixth:08x}, {count} done")
-}
-
-fn with_commit(
+// Its place, how many words its window has and the sixth of them, and how many instructions were done; whether the lines were
+// answered, and what became of it.
+fn told_slice(
     alloc: Global,
-    told: &str,
+    slice: &Slice,
     answered: bool,
     commit: Option<Commit>,
-) -> Result<String, AllocError> {
-    format!(in alloc; "{told}, {answered}, {commit:?}")
+) -> Result<String, RowFault> {
+    let sixth = slice.words.get(5).copied().unwrap_or(0);
+    let (at, words, count) = (slice.at, slice.words.len(), slice.count);
+    Ok(format!(in alloc;
+        "{words} words at {at:#x}, the sixth {sixth:08x}, {count} done, {answered}, {commit:?}"
+    )?)
 }
 
 // Hands in what came of a job behind the lines.
@@ -200,11 +195,10 @@ fn handed_in(
     slice: &Slice,
     hart: u32,
     lines: &str,
-) -> Result<String, AllocError> {
+) -> Result<String, RowFault> {
     let answered = all_answered(alloc, engine, hart, lines);
     let commit = committed(engine, slice);
-    let told = told_slice(alloc, slice)?;
-    with_commit(alloc, &told, answered, commit)
+    told_slice(alloc, slice, answered, commit)
 }
 
 fn worked(
@@ -213,11 +207,9 @@ fn worked(
     job: Job,
     hart: u32,
     lines: &str,
-) -> Result<String, AllocError> {
+) -> Result<String, RowFault> {
     let slice = run_slice(job);
-    let told = handed_in(alloc, engine, &slice, hart, lines);
-    let_go(slice);
-    told
+    handed_in(alloc, engine, &slice, hart, lines)
 }
 
 /// A job of a hart that is worked, and handed in behind the lines: its place, how many words its window has and the sixth
@@ -227,22 +219,24 @@ pub fn slice(
     engine: &mut Engine,
     hart: u32,
     lines: &str,
-) -> Result<String, AllocError> {
+) -> Result<String, RowFault> {
     if !is_ready(engine, hart) {
-        return String::from_str(alloc, "no such hart");
+        return said(alloc, "no such hart");
     }
     match engine.check_out(hart) {
         Some(job) => worked(alloc, engine, job, hart, lines),
-        None => String::from_str(alloc, "no job"),
+        None => said(alloc, "no job"),
     }
 }
 
 /// Where a hart is.
-pub fn at(alloc: Global, engine: &Engine, hart: u32) -> Result<String, AllocError> {
+pub fn at(alloc: Global, engine: &Engine, hart: u32) -> Result<String, RowFault> {
     if (hart as usize) >= engine.harts() {
-        return format!(in alloc; "no such hart");
+        return said(alloc, "no such hart");
     }
-    let pc = engine.pc(hart);
-    let phase = engine.phase(hart);
-    format!(in alloc; "{pc:#x} {phase:?}")
+    let phase = shown(alloc, &engine.phase(hart))?;
+    told(
+        alloc,
+        &[Hex(engine.pc(hart)), Text(" "), Text(phase.as_str())],
+    )
 }

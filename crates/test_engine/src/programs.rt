@@ -8,82 +8,35 @@ use elf_checks::read_image;
 use elf_gen::{fits, plain};
 use elf32_read::Image;
 use std::alloc::Global;
-use test_rows::{RowFault, before, hex_words};
+use test_rows::{RowFault, behind, hex_words, number_at, word_at};
 
-/// What a program is made of.
-#[derive(Clone, Copy)]
-pub enum Source<'a> {
-    /// Its words, in hexadecimal: they are text at 0x10074, and there are four bytes of data.
-    Words(&'a str),
-    /// The bytes of an ELF file, in hexadecimal.
-    File(&'a str),
+/// Whether a line loads a program: `load HARTS SLOTS BUDGET SLICE WORDS..` has settings and the program's words, in hexadecimal, which
+/// are text at 0x10074, and there are four bytes of data; `file HARTS SLOTS BUDGET SLICE BYTES` has the bytes of an ELF file.
+pub fn loads(line: &str) -> bool {
+    matches!(word_at(line, 0), "load" | "file")
 }
 
-/// A program that is loaded.
-#[derive(Clone, Copy)]
-pub struct Load<'a> {
-    settings: Settings,
-    source: Source<'a>,
-}
-
-// The settings of a line, and what is behind them.
-fn read_settings(text: &str) -> Option<(Settings, &str)> {
-    let (harts, text) = before(text)?;
-    let (slots, text) = before(text)?;
-    let (budget, text) = before(text)?;
-    let (slice, text) = before(text)?;
-    let settings = Settings {
-        harts,
+fn settings_of(line: &str) -> Settings {
+    Settings {
+        harts: number_at(line, 1),
         workers: 0,
-        slots,
-        budget: u64::from(budget),
-        slice,
-    };
-    Some((settings, text))
-}
-
-fn load_words(text: &str) -> Option<Load<'_>> {
-    let (settings, words) = read_settings(text)?;
-    Some(Load {
-        settings,
-        source: Source::Words(words),
-    })
-}
-
-fn load_file(text: &str) -> Option<Load<'_>> {
-    let (settings, bytes) = read_settings(text)?;
-    Some(Load {
-        settings,
-        source: Source::File(bytes),
-    })
-}
-
-impl<'a> Load<'a> {
-    /// The program that a line loads. None where it loads none.
-    ///
-    /// `load HARTS SLOTS BUDGET SLICE WORDS..` has settings and the program's words, `file HARTS SLOTS BUDGET SLICE BYTES` the
-    /// bytes of an ELF file.
-    pub fn read(line: &'a str) -> Option<Load<'a>> {
-        let (word, rest) = line.split_once(' ')?;
-        match word {
-            "load" => load_words(rest),
-            "file" => load_file(rest),
-            _ => None,
-        }
+        slots: number_at(line, 2),
+        budget: u64::from(number_at(line, 3)),
+        slice: number_at(line, 4),
     }
+}
 
-    /// The opening over the program. None where its settings or it are none, or memory runs out.
-    pub fn opening(self, alloc: Global) -> Option<Opening>
-        ensures { IfSome result (λ o. AreSettings o.settings) }
-    {
-        if !are_in_range(self.settings) {
-            return None;
-        }
-        let image = image_of(alloc, self.source)?;
-        Some(Opening {
-            image,
-            settings: self.settings,
-        })
+/// The opening over the program of a line. None where its settings or it are none, or memory runs out.
+pub fn opening(alloc: Global, line: &str) -> Option<Opening>
+    ensures { IfSome result (λ o. AreSettings o.settings) }
+{
+    let settings = settings_of(line);
+    if !are_in_range(settings) {
+        return None;
+    }
+    match image_of(alloc, line) {
+        Some(image) => Some(Opening { image, settings }),
+        None => None,
     }
 }
 
@@ -98,11 +51,10 @@ fn are_in_range(settings: Settings) -> bool
         budget,
         slice,
     } = settings;
-    (1..=16).contains(&harts)
-        && workers == 0
-        && slots <= 512
-        && (1..=1_000_000).contains(&budget)
-        && slice <= 1024
+    if harts < 1 || harts > 16 || workers != 0 {
+        return false;
+    }
+    slots <= 512 && budget >= 1 && budget <= 1_000_000 && slice <= 1024
 }
 
 // The file of a program of these words, in hexadecimal.
@@ -116,13 +68,15 @@ fn words_file(alloc: Global, words: &str) -> Result<Vec<u8>, RowFault> {
 }
 
 // The file of a program. None where it is none, or memory runs out.
-fn file_of(alloc: Global, source: Source<'_>) -> Option<Vec<u8>> {
-    match source {
-        Source::Words(text) => words_file(alloc, text).ok(),
-        Source::File(text) => hex::decode(alloc, text).ok(),
+fn file_of(alloc: Global, line: &str) -> Option<Vec<u8>> {
+    let text = behind(line, 5);
+    if word_at(line, 0) == "load" {
+        words_file(alloc, text).ok()
+    } else {
+        hex::decode(alloc, text).ok()
     }
 }
 
-fn image_of(alloc: Global, source: Source<'_>) -> Option<Image> {
-    read_image(alloc, file_of(alloc, source)?).ok()
+fn image_of(alloc: Global, line: &str) -> Option<Image> {
+    read_image(alloc, file_of(alloc, line)?).ok()
 }

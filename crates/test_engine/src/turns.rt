@@ -5,40 +5,46 @@ use break_table::CondError;
 use dbg_engine::{End, Engine, Move, Standing, Turned};
 use dbg_model::{Entry, EntryRef, Shown, Why};
 use rv_exec::Cause;
-use std::alloc::{AllocError, Global};
+use std::alloc::Global;
+use test_rows::Piece::{Count, Number, Text, Whether};
+use test_rows::{RowFault, said, shown, told};
 use watch_points::Fired;
-
-fn held(alloc: Global, by: u32) -> Result<String, AllocError> {
-    format!(in alloc; "Held {{ by: {by} }}")
-}
-
-fn wrote(alloc: Global, addr: u32, len: u32) -> Result<String, AllocError> {
-    format!(in alloc; "Wrote {{ addr: {addr}, len: {len} }}")
-}
-
-fn left(alloc: Global, code: u32) -> Result<String, AllocError> {
-    format!(in alloc; "Left {{ code: {code} }}")
-}
-
-fn all_left(alloc: Global, code: u32, count: usize) -> Result<String, AllocError> {
-    format!(in alloc; "AllLeft {{ code: {code}, count: {count} }}")
-}
-
-fn faulted(alloc: Global, cause: Cause) -> Result<String, AllocError> {
-    format!(in alloc; "Stopped {{ cause: {cause:?} }}")
-}
 
 fn arrived(
     alloc: Global,
     number: u32,
     temporary: bool,
     error: Option<CondError>,
-) -> Result<String, AllocError> {
-    format!(in alloc; "Arrived {{ number: {number}, temporary: {temporary}, error: {error:?} }}")
+) -> Result<String, RowFault> {
+    let error = shown(alloc, &error)?;
+    told(
+        alloc,
+        &[
+            Text("Arrived { number: "),
+            Number(number),
+            Text(", temporary: "),
+            Whether(temporary),
+            Text(", error: "),
+            Text(error.as_str()),
+            Text(" }"),
+        ],
+    )
 }
 
-fn triggered(alloc: Global, fired: Fired) -> Result<String, AllocError> {
-    format!(in alloc; "Triggered({fired:?})")
+fn triggered(alloc: Global, fired: Fired) -> Result<String, RowFault> {
+    let fired = shown(alloc, &fired)?;
+    told(
+        alloc,
+        &[Text("Triggered("), Text(fired.as_str()), Text(")")],
+    )
+}
+
+fn faulted(alloc: Global, cause: Cause) -> Result<String, RowFault> {
+    let cause = shown(alloc, &cause)?;
+    told(
+        alloc,
+        &[Text("Stopped { cause: "), Text(cause.as_str()), Text(" }")],
+    )
 }
 
 // The name of a move that tells nothing else.
@@ -57,23 +63,23 @@ fn name(moved: Move) -> &'static str {
     }
 }
 
-fn told_standing(alloc: Global, standing: Standing) -> Result<String, AllocError> {
+fn told_standing(alloc: Global, standing: Standing) -> Result<String, RowFault> {
     match standing {
-        Standing::Over => String::from_str(alloc, "Over"),
-        Standing::NotRunning => String::from_str(alloc, "NotRunning"),
-        Standing::Held(by) => held(alloc, by),
-        Standing::NoSlot => String::from_str(alloc, "NoSlot"),
+        Standing::Over => said(alloc, "Over"),
+        Standing::NotRunning => said(alloc, "NotRunning"),
+        Standing::Held(by) => told(alloc, &[Text("Held { by: "), Number(by), Text(" }")]),
+        Standing::NoSlot => said(alloc, "NoSlot"),
     }
 }
 
 // Why a hart stopped.
-fn told_why(alloc: Global, why: Why, temporary: bool) -> Result<String, AllocError> {
+fn told_why(alloc: Global, why: Why, temporary: bool) -> Result<String, RowFault> {
     match why {
         Why::Break { number, error } => arrived(alloc, number, temporary, error),
         Why::Watch(fired) => triggered(alloc, fired),
-        Why::Stepped => String::from_str(alloc, "Stepped"),
-        Why::Finished => String::from_str(alloc, "Finished"),
-        Why::Interrupted => String::from_str(alloc, "Interrupted"),
+        Why::Stepped => said(alloc, "Stepped"),
+        Why::Finished => said(alloc, "Finished"),
+        Why::Interrupted => said(alloc, "Interrupted"),
         Why::Fault(cause) => faulted(alloc, cause),
     }
 }
@@ -84,14 +90,35 @@ fn told_move(
     moved: Move,
     temporary: bool,
     last: Option<&Entry>,
-    count: usize,
-) -> Result<String, AllocError> {
+    count: u64,
+) -> Result<String, RowFault> {
     match (moved, last) {
-        (Move::Wrote { addr, len }, _) => wrote(alloc, addr, len),
+        (Move::Wrote { addr, len }, _) => told(
+            alloc,
+            &[
+                Text("Wrote { addr: "),
+                Number(addr),
+                Text(", len: "),
+                Number(len),
+                Text(" }"),
+            ],
+        ),
         (Move::Stopped, Some(Entry::Stopped { why, .. })) => told_why(alloc, *why, temporary),
-        (Move::Left, Some(Entry::Left { code, .. })) => left(alloc, *code),
-        (Move::AllLeft, Some(Entry::Left { code, .. })) => all_left(alloc, *code, count),
-        _ => String::from_str(alloc, name(moved)),
+        (Move::Left, Some(Entry::Left { code, .. })) => told(
+            alloc,
+            &[Text("Left { code: "), Number(*code), Text(" }")],
+        ),
+        (Move::AllLeft, Some(Entry::Left { code, .. })) => told(
+            alloc,
+            &[
+                Text("AllLeft { code: "),
+                Number(*code),
+                Text(", count: "),
+                Count(count),
+                Text(" }"),
+            ],
+        ),
+        _ => said(alloc, name(moved)),
     }
 }
 
@@ -118,7 +145,7 @@ fn last_noted(engine: &Engine) -> Option<&Entry> {
 }
 
 /// What a turn of a hart did: its name, and behind it what it tells of it.
-pub fn told_turn(alloc: Global, engine: &mut Engine, hart: u32) -> Result<String, AllocError>
+pub fn told_turn(alloc: Global, engine: &mut Engine, hart: u32) -> Result<String, RowFault>
     requires hart { hart < length engine.old.minds }
     requires spare { 32 ≤ engine.old.spare }
 {
@@ -126,7 +153,7 @@ pub fn told_turn(alloc: Global, engine: &mut Engine, hart: u32) -> Result<String
     match engine.turn(hart) {
         Turned::Stood(standing) => told_standing(alloc, standing),
         Turned::Moved(moved) => {
-            let count = engine.noted().saturating_sub(before) as usize;
+            let count = engine.noted().saturating_sub(before);
             let last = last_noted(engine);
             let temporary = last.is_some_and(|entry| stopped_once(engine, entry));
             told_move(alloc, moved, temporary, last, count)

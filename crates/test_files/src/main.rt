@@ -10,7 +10,6 @@ mod expressions;
 mod files;
 mod images;
 mod lines;
-mod texts;
 mod topics;
 mod variables;
 

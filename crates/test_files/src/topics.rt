@@ -6,7 +6,7 @@ use crate::variables::{VariableBench, label};
 use std::alloc::Global;
 use std::io;
 use std::io::{Input, Print};
-use test_rows::{Bench, RowFault, is_remark, tell};
+use test_rows::{Bench, RowFault, is_remark, said, tell};
 
 /// What the rows that follow are about.
 #[derive(Clone, Copy)]
@@ -65,7 +65,7 @@ impl Bench for Benches {
     fn answer(&mut self, alloc: Global, row: &str) -> Result<String, RowFault> {
         if let Some(name) = row.strip_prefix("in ") {
             self.topic = Topic::named(name).ok_or(RowFault::Unknown)?;
-            return Ok(format!(in alloc; "from here on")?);
+            return said(alloc, "from here on");
         }
         match self.topic {
             Topic::Files => self.files.answer(alloc, row),

@@ -5,56 +5,12 @@ use crate::words::told_words;
 use dbg_traits::View;
 use hart_machine::Machine;
 use reg_slices::{Slice, run_slice};
-use std::alloc::{AllocError, Global};
-use test_rows::{number, two};
+use rv_exec::Regs;
+use std::alloc::Global;
+use test_rows::Piece::{Count, Hex, Number, Text};
+use test_rows::{RowFault, number_at, said, shown, told};
 
-/// What is done with a hart, whose number is the first behind the word.
-#[derive(Clone, Copy)]
-pub enum HartStep {
-    /// `step HART`
-    Step,
-    /// `run HART LIMIT`: how many steps there were in one call.
-    Run(u32),
-    /// `slice HART LIMIT`: a job of so many instructions at most is worked apart from the machine, which takes what comes of
-    /// it. Said are the hart and the pc before, the window, how many instructions there were, and pc and x5 after them.
-    Slice(u32),
-    /// `hart HART`: its pc, ra and a0, how many instructions it has executed, and how many of them in scratch slots.
-    Show,
-    /// `register HART NUMBER`: 32 is pc.
-    Register(u32),
-    /// `set HART NUMBER VALUE`
-    Set { number: u32, value: u32 },
-}
-
-// The hart's number, and what is behind it.
-fn read_hart(text: &str) -> Option<(u32, &str)> {
-    let (hart, rest) = text.split_once(' ').unwrap_or((text, ""));
-    Some((number(hart)?, rest))
-}
-
-fn read_set(text: &str) -> Option<HartStep> {
-    let (number, value) = two(text)?;
-    Some(HartStep::Set { number, value })
-}
-
-impl HartStep {
-    /// The hart of a line, and what is done with it. None where that is nothing that is known.
-    pub fn read(word: &str, rest: &str) -> Option<(u32, HartStep)> {
-        let (hart, rest) = read_hart(rest)?;
-        let step = match word {
-            "step" => HartStep::Step,
-            "hart" => HartStep::Show,
-            "run" => HartStep::Run(number(rest)?),
-            "slice" => HartStep::Slice(number(rest)?),
-            "register" => HartStep::Register(number(rest)?),
-            "set" => read_set(rest)?,
-            _ => return None,
-        };
-        Some((hart, step))
-    }
-}
-
-fn slice(alloc: Global, machine: &mut Machine, hart: u32, limit: u32) -> Result<String, AllocError>
+fn slice(alloc: Global, machine: &mut Machine, hart: u32, limit: u32) -> Result<String, RowFault>
     requires { hart < length machine.old.cores }
 {
     let slice = run_slice(machine.job(hart, limit));
@@ -67,60 +23,105 @@ fn slice(alloc: Global, machine: &mut Machine, hart: u32, limit: u32) -> Result<
         count,
         after,
     } = slice;
-    let window = told_words(alloc, words.as_slice())?;
-    let (before, pc, x5) = (regs.pc(), after.pc(), after.get(5));
-    format!(in alloc;
-        "hart {hart} at {before:#x} in {window} from {at:#x}, {count} to {pc:#x}, x5 {x5:#x}"
+    told_slice(alloc, hart, (&regs, &after), words.as_slice(), (at, count))
+}
+
+fn told_slice(
+    alloc: Global,
+    hart: u32,
+    (regs, after): (&Regs, &Regs),
+    words: &[u32],
+    (at, count): (u32, u32),
+) -> Result<String, RowFault> {
+    let window = told_words(alloc, words)?;
+    told(
+        alloc,
+        &[
+            Text("hart "),
+            Number(hart),
+            Text(" at "),
+            Hex(regs.pc()),
+            Text(" in "),
+            Text(window.as_str()),
+            Text(" from "),
+            Hex(at),
+            Text(", "),
+            Number(count),
+            Text(" to "),
+            Hex(after.pc()),
+            Text(", x5 "),
+            Hex(after.get(5)),
+        ],
     )
 }
 
-fn show(alloc: Global, machine: &Machine, hart: u32) -> Result<String, AllocError>
+fn show(alloc: Global, machine: &Machine, hart: u32) -> Result<String, RowFault>
     requires { hart < length machine.now.cores }
 {
     let view = machine.view(hart);
-    let (ra, a0) = (view.reg(1), view.reg(10));
-    let (pc, retired, copied) = (
-        machine.pc(hart),
-        machine.retired(hart),
-        machine.copied(hart),
-    );
-    format!(in alloc; "{pc:#x} {ra:#x} {a0:#x}, {retired} executed, {copied} in slots")
+    told(
+        alloc,
+        &[
+            Hex(machine.pc(hart)),
+            Text(" "),
+            Hex(view.reg(1)),
+            Text(" "),
+            Hex(view.reg(10)),
+            Text(", "),
+            Count(machine.retired(hart)),
+            Text(" executed, "),
+            Count(machine.copied(hart)),
+            Text(" in slots"),
+        ],
+    )
 }
 
-/// What came of a step.
-pub fn answer(
+fn register(alloc: Global, machine: &Machine, hart: u32, number: u32) -> Result<String, RowFault>
+    requires { hart < length machine.now.cores }
+{
+    if number > 32 {
+        return said(alloc, "no such register");
+    }
+    told(alloc, &[Hex(machine.view(hart).reg(number))])
+}
+
+fn set(
     alloc: Global,
     machine: &mut Machine,
     hart: u32,
-    step: HartStep,
-) -> Result<String, AllocError> {
-    if (hart as usize) >= machine.harts() {
-        return format!(in alloc; "no such hart");
+    number: u32,
+    value: u32,
+) -> Result<String, RowFault>
+    requires { hart < length machine.old.cores }
+{
+    if number == 0 || number > 31 || machine.cores()[hart as usize].entered.is_some() {
+        return said(alloc, "can't be set");
     }
-    match step {
-        HartStep::Step => {
-            let stepped = machine.step(hart);
-            format!(in alloc; "{stepped:?}")
-        }
-        HartStep::Run(limit) => {
-            let count = machine.run(hart, limit);
-            format!(in alloc; "{count}")
-        }
-        HartStep::Slice(limit) => slice(alloc, machine, hart, limit),
-        HartStep::Show => show(alloc, machine, hart),
-        HartStep::Register(number) => {
-            if number > 32 {
-                return format!(in alloc; "no such register");
-            }
-            let value = machine.view(hart).reg(number);
-            format!(in alloc; "{value:#x}")
-        }
-        HartStep::Set { number, value } => {
-            if number == 0 || number > 31 || machine.cores()[hart as usize].entered.is_some() {
-                return format!(in alloc; "can't be set");
-            }
-            machine.poke_register(hart, number, value);
-            format!(in alloc; "set")
-        }
+    machine.poke_register(hart, number, value);
+    said(alloc, "set")
+}
+
+/// What came of a step of a hart: `step HART`; `run HART LIMIT`, how many steps there were in one call; `slice HART LIMIT`, where a
+/// job of so many instructions at most is worked apart from the machine, which takes what comes of it, and said are the hart and the
+/// pc before, the window, how many instructions there were, and pc and x5 after them; `hart HART`, its pc, ra and a0, how many
+/// instructions it has executed, and how many of them in scratch slots; `register HART NUMBER`, of which 32 is pc; or `set HART
+/// NUMBER VALUE`.
+pub fn answer(
+    alloc: Global,
+    machine: &mut Machine,
+    word: &str,
+    rest: &str,
+) -> Result<String, RowFault> {
+    let (hart, number, value) = (number_at(rest, 0), number_at(rest, 1), number_at(rest, 2));
+    if (hart as usize) >= machine.harts() {
+        return said(alloc, "no such hart");
+    }
+    match word {
+        "step" => shown(alloc, &machine.step(hart)),
+        "run" => told(alloc, &[Number(machine.run(hart, number))]),
+        "slice" => slice(alloc, machine, hart, number),
+        "register" => register(alloc, machine, hart, number),
+        "set" => set(alloc, machine, hart, number, value),
+        _ => show(alloc, machine, hart),
     }
 }

@@ -1,28 +1,31 @@
 // What words are, and what their instructions do.
+use crate::memory::told_value;
 use crate::names::parts;
 use crate::programs::{DATA, HOME, SLOT, image_of};
 use data_memory::DataMemory;
 use displaced_fix::fix;
 use rv_decode::{Instr, decode};
 use rv_exec::{Cause, DataPort, Effect, NoBytes, Regs, execute};
-use std::alloc::{AllocError, Global};
+use std::alloc::Global;
+use test_rows::Piece::{Hex, Number, Text};
+use test_rows::{RowFault, said, shown, told};
 
 /// The mnemonic of an instruction, and its operands.
-pub fn told_instruction(alloc: Global, instruction: Instr) -> Result<String, AllocError> {
+pub fn told_instruction(alloc: Global, instruction: Instr) -> Result<String, RowFault> {
     let (name, first, second, third) = parts(instruction);
     let (first, second, third) = (
         first.cast_signed(),
         second.cast_signed(),
         third.cast_signed(),
     );
-    format!(in alloc; "{name} {first} {second} {third}")
+    Ok(format!(in alloc; "{name} {first} {second} {third}")?)
 }
 
 /// The instruction of a word.
-pub fn decoded(alloc: Global, word: u32) -> Result<String, AllocError> {
+pub fn decoded(alloc: Global, word: u32) -> Result<String, RowFault> {
     match decode(word) {
         Some(instruction) => told_instruction(alloc, instruction),
-        None => format!(in alloc; "no instruction"),
+        None => said(alloc, "no instruction"),
     }
 }
 
@@ -35,20 +38,37 @@ fn run_at(instruction: Instr, at: u32, x5: u32, x6: u32) -> (Effect, Regs) {
     (effect, regs)
 }
 
+fn told_effect(alloc: Global, effect: Effect, regs: &Regs) -> Result<String, RowFault> {
+    let effect = shown(alloc, &effect)?;
+    told(
+        alloc,
+        &[
+            Text(effect.as_str()),
+            Text(" "),
+            Hex(regs.pc()),
+            Text(" "),
+            Hex(regs.get(0)),
+            Text(" "),
+            Hex(regs.get(1)),
+            Text(" "),
+            Hex(regs.get(5)),
+        ],
+    )
+}
+
 /// What an instruction does at home without memory: its effect, pc, x0, x1 and x5.
-pub fn executed(alloc: Global, word: u32, x5: u32, x6: u32) -> Result<String, AllocError> {
+pub fn executed(alloc: Global, word: u32, x5: u32, x6: u32) -> Result<String, RowFault> {
     let Some(instruction) = decode(word) else {
-        return format!(in alloc; "no instruction");
+        return said(alloc, "no instruction");
     };
     let (at_home, copied) = (instruction, instruction);
     let (effect, regs) = run_at(at_home, HOME, x5, x6);
     let (there, mut copy) = run_at(copied, SLOT, x5, x6);
     fix(instruction, SLOT, HOME, &mut copy, there == Effect::Done);
     if there != effect || copy != regs {
-        return format!(in alloc; "the copy does something else");
+        return said(alloc, "the copy does something else");
     }
-    let (pc, x0, x1, x5) = (regs.pc(), regs.get(0), regs.get(1), regs.get(5));
-    format!(in alloc; "{effect:?} {pc:#x} {x0:#x} {x1:#x} {x5:#x}")
+    told_effect(alloc, effect, &regs)
 }
 
 // The memory of a program, where data begins with a word.
@@ -65,16 +85,24 @@ fn told_access(
     instruction: Instr,
     [x5, x2]: [u32; 2],
     memory: &mut DataMemory,
-) -> Result<String, AllocError> {
+) -> Result<String, RowFault> {
     let mut regs = Regs::new(HOME);
     regs.set(2, x2);
     regs.set(5, x5);
     let effect = execute(instruction, &mut regs, memory);
     let x1 = regs.get(1);
-    match memory.load(DATA, 4) {
-        Ok(after) => format!(in alloc; "{effect:?} {x1:#x} {after:#x}"),
-        Err(cause) => format!(in alloc; "{effect:?} {x1:#x} {cause:?}"),
-    }
+    let after = told_value(alloc, memory.load(DATA, 4))?;
+    let effect = shown(alloc, &effect)?;
+    told(
+        alloc,
+        &[
+            Text(effect.as_str()),
+            Text(" "),
+            Hex(x1),
+            Text(" "),
+            Text(after.as_str()),
+        ],
+    )
 }
 
 /// What an instruction does where x5 and x2 are these and data begins with a word: its effect, x1, and the word then.
@@ -83,13 +111,13 @@ pub fn accessed(
     word: u32,
     given: [u32; 2],
     stored: u32,
-) -> Result<String, AllocError> {
+) -> Result<String, RowFault> {
     let Some(instruction) = decode(word) else {
-        return format!(in alloc; "no instruction");
+        return said(alloc, "no instruction");
     };
     match memory_of(alloc, stored) {
         Some(mut memory) => told_access(alloc, instruction, given, &mut memory),
-        None => format!(in alloc; "no memory"),
+        None => said(alloc, "no memory"),
     }
 }
 
@@ -108,12 +136,9 @@ fn cause_of(name: &str) -> Option<Cause> {
 }
 
 /// The number of a cause.
-pub fn numbered(alloc: Global, name: &str) -> Result<String, AllocError> {
+pub fn numbered(alloc: Global, name: &str) -> Result<String, RowFault> {
     match cause_of(name) {
-        Some(cause) => {
-            let number = cause.number();
-            format!(in alloc; "{number}")
-        }
-        None => format!(in alloc; "no cause"),
+        Some(cause) => { told(alloc, &[Number(cause.number())]) }
+        None => said(alloc, "no cause"),
     }
 }

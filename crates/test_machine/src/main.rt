@@ -1,7 +1,7 @@
 //! The decoder, what instructions do, memory, text, scratch slots and the machine of harts, which lines of input drive: each
 //! line is answered by what came of it.
 //!
-//! The lines are those of `Step`. What begins with `#` is said again as it stands.
+//! The lines are those of `Subject::answer` and of the modules' `answer`. What begins with `#` is said again as it stands.
 #![tactic(auto)]
 
 mod copies;
@@ -15,7 +15,6 @@ mod places;
 mod programs;
 mod slots;
 mod speed;
-mod step;
 mod subject;
 mod text;
 mod together;

@@ -1,7 +1,8 @@
 // Marks, and the phase to which they lead.
 use crate::programs::{HOME, SLOT};
-use std::alloc::{AllocError, Global};
+use std::alloc::Global;
 use step_over::{Mark, Phase};
+use test_rows::{RowFault, said, shown};
 
 // The mark of a name, with the first slot and the first word of a program.
 fn mark_of(name: &str) -> Option<Mark> {
@@ -29,9 +30,9 @@ fn phase_after(names: &str) -> Option<Phase> {
 }
 
 /// The phase to which marks, which spaces part, lead from `Idle`.
-pub fn led(alloc: Global, names: &str) -> Result<String, AllocError> {
+pub fn led(alloc: Global, names: &str) -> Result<String, RowFault> {
     match phase_after(names) {
-        Some(phase) => format!(in alloc; "{phase:?}"),
-        None => format!(in alloc; "none"),
+        Some(phase) => shown(alloc, &phase),
+        None => said(alloc, "none"),
     }
 }

@@ -1,89 +1,64 @@
 // Scratch slots by themselves.
 use scratch_slots::{SlotUse, Slots};
-use std::alloc::{AllocError, Global};
-use test_rows::{number, told_number, two};
-
-/// What is done with scratch slots.
-#[derive(Clone, Copy)]
-pub enum SlotStep {
-    /// `new COUNT`: so many slots, all free, in place of those before.
-    New(u32),
-    /// `claim HART WORD`
-    Claim { hart: u32, word: u32 },
-    /// `fill WORD`: hart 0, 1, and so on up to hart 511 claim a slot for the word, until none is free.
-    Fill(u32),
-    /// `at ADDRESS`
-    At(u32),
-    /// `free ADDRESS`
-    Free(u32),
-    /// `room`: how many slots there are, and whether one is free.
-    Room,
-}
-
-fn read_claim(text: &str) -> Option<SlotStep> {
-    let (hart, word) = two(text)?;
-    Some(SlotStep::Claim { hart, word })
-}
-
-impl SlotStep {
-    /// What a line asks for. None where that is nothing that is known.
-    pub fn read(line: &str) -> Option<SlotStep> {
-        let (word, rest) = line.split_once(' ').unwrap_or((line, ""));
-        match word {
-            "new" => Some(SlotStep::New(number(rest)?)),
-            "claim" => read_claim(rest),
-            "fill" => Some(SlotStep::Fill(number(rest)?)),
-            "at" => Some(SlotStep::At(number(rest)?)),
-            "free" => Some(SlotStep::Free(number(rest)?)),
-            "room" => Some(SlotStep::Room),
-            _ => None,
-        }
-    }
-}
+use std::alloc::Global;
+use test_rows::Piece::{Hex, Maybe, Number, Text, Whether};
+use test_rows::{RowFault, number_at, said, told, word_at};
 
 /// The hart and the word of a slot.
-pub fn told_use(alloc: Global, found: Option<SlotUse>) -> Result<String, AllocError> {
+pub fn told_use(alloc: Global, found: Option<SlotUse>) -> Result<String, RowFault> {
     match found {
-        Some(SlotUse { hart, word }) => format!(in alloc; "hart {hart} word {word:#x}"),
-        None => format!(in alloc; "none"),
+        Some(SlotUse { hart, word }) => told(
+            alloc,
+            &[Text("hart "), Number(hart), Text(" word "), Hex(word)],
+        ),
+        None => said(alloc, "none"),
     }
 }
 
 // How many slots are claimed, and whether each is eight bytes behind the one before.
-fn fill(alloc: Global, slots: &mut Slots, word: u32) -> Result<String, AllocError> {
-    let mut even = true;
+fn fill(alloc: Global, slots: &mut Slots, word: u32) -> Result<String, RowFault> {
+    let (mut count, mut even) = (0, true);
     for hart in 0..512u32 {
-        let Some(slot) = slots.claim(hart, word) else {
-            return format!(in alloc; "{hart} slots, {even}");
-        };
-        even = even && slot == 0xFFFF_F000 + 8 * hart;
+        match slots.claim(hart, word) {
+            Some(slot) => even = even && slot == 0xFFFF_F000 + 8 * hart,
+            None => break,
+        }
+        count = hart + 1;
     }
-    format!(in alloc; "512 slots, {even}")
+    told(alloc, &[Number(count), Text(" slots, "), Whether(even)])
 }
 
-/// What came of a step.
-pub fn answer(alloc: Global, slots: &mut Slots, step: SlotStep) -> Result<String, AllocError> {
-    match step {
-        SlotStep::New(count) => {
-            if count > 512 {
-                return format!(in alloc; "too many");
-            }
-            *slots = Slots::new(count);
-            format!(in alloc; "made")
-        }
-        SlotStep::Claim { hart, word } => told_number(alloc, slots.claim(hart, word)),
-        SlotStep::Fill(word) => fill(alloc, slots, word),
-        SlotStep::At(slot) => told_use(alloc, slots.at(slot)),
-        SlotStep::Free(slot) => {
-            if slots.at(slot).is_none() {
-                return format!(in alloc; "none");
-            }
-            slots.free(slot);
-            format!(in alloc; "free")
-        }
-        SlotStep::Room => {
-            let (count, room) = (slots.count(), slots.has_room());
-            format!(in alloc; "{count} {room}")
-        }
+fn anew(alloc: Global, slots: &mut Slots, count: u32) -> Result<String, RowFault> {
+    if count > 512 {
+        return said(alloc, "too many");
+    }
+    *slots = Slots::new(count);
+    said(alloc, "made")
+}
+
+fn free(alloc: Global, slots: &mut Slots, slot: u32) -> Result<String, RowFault> {
+    if slots.at(slot).is_none() {
+        return said(alloc, "none");
+    }
+    slots.free(slot);
+    said(alloc, "free")
+}
+
+/// How many slots there are, and whether one is free.
+pub fn told_room(alloc: Global, count: u32, has_room: bool) -> Result<String, RowFault> {
+    told(alloc, &[Number(count), Text(" "), Whether(has_room)])
+}
+
+/// What came of a step: `new COUNT`, so many slots, all free, in place of those before; `claim HART WORD`; `fill WORD`, where hart 0,
+/// 1, and so on up to hart 511 claim a slot for the word, until none is free; `at ADDRESS`; `free ADDRESS`; or `room`.
+pub fn answer(alloc: Global, slots: &mut Slots, text: &str) -> Result<String, RowFault> {
+    let (first, second) = (number_at(text, 1), number_at(text, 2));
+    match word_at(text, 0) {
+        "new" => anew(alloc, slots, first),
+        "claim" => told(alloc, &[Maybe(slots.claim(first, second))]),
+        "fill" => fill(alloc, slots, first),
+        "at" => told_use(alloc, slots.at(first)),
+        "free" => free(alloc, slots, first),
+        _ => told_room(alloc, slots.count(), slots.has_room()),
     }
 }

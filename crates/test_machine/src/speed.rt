@@ -7,7 +7,8 @@ use elf_checks::read_image;
 use elf_gen::{fits, plain};
 use rv_decode::{Instr, decode};
 use rv_exec::{DataPort, Effect, Regs, execute};
-use std::alloc::{AllocError, Global};
+use std::alloc::Global;
+use test_rows::RowFault;
 
 /// lui x2, 0xfffff; lui x6, 0x20; then in a loop: addi x1, x1, 1; xor x3, x3, x1; sw x3, 0(x6); lw x4, 0(x6);
 /// mul x5, x2, x1; add x3, x3, x5; bne x1, x2, -24.
@@ -51,7 +52,7 @@ fn run<P: DataPort>(text: &[Instr], regs: &mut Regs, port: &mut P, limit: u32) -
 }
 
 /// How many instructions of the loop were executed, at most so many, and what is in x3 and x4 then.
-pub fn looped(alloc: Global, limit: u32) -> Result<String, AllocError> {
+pub fn looped(alloc: Global, limit: u32) -> Result<String, RowFault> {
     let mut text = Vec::new(alloc);
     for word in &LOOP {
         if let Some(i) = decode(*word) {
@@ -59,9 +60,9 @@ pub fn looped(alloc: Global, limit: u32) -> Result<String, AllocError> {
         }
     }
     let Some(mut port) = memory_of_loop(alloc) else {
-        return Err(AllocError);
+        return Err(RowFault::NoMemory);
     };
     let mut regs = Regs::new(0);
     let n = run(text.as_slice(), &mut regs, &mut port, limit);
-    format!(in alloc; "{n} {:#010x} {:#010x}", regs.get(3), regs.get(4))
+    Ok(format!(in alloc; "{n} {:#010x} {:#010x}", regs.get(3), regs.get(4))?)
 }

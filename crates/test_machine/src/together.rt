@@ -6,7 +6,9 @@ use dbg_traits::View;
 use elf32_read::Image;
 use hart_machine::Machine;
 use rv_exec::Stepped;
-use std::alloc::{AllocError, Global};
+use std::alloc::Global;
+use test_rows::Piece::{Count, Hex, Text};
+use test_rows::{RowFault, said, shown, told};
 use unpatched_machine::Plain;
 
 // Whether the registers of both harts and the data are the same.
@@ -27,19 +29,29 @@ fn same(machine: &Machine, plain: &Plain<'_>) -> bool {
 }
 
 // What hart 1 answers to its last step, with its count, pc, and a0 to a3.
-fn shown(alloc: Global, machine: &Machine, answer: Stepped) -> Result<String, AllocError>
+fn told_step(alloc: Global, machine: &Machine, answer: Stepped) -> Result<String, RowFault>
     requires { 1 < length machine.now.cores }
 {
-    let retired = machine.retired(1);
     let view = machine.view(1);
-    let (pc, a0, a1, a2, a3) = (
-        view.reg(32),
-        view.reg(10),
-        view.reg(11),
-        view.reg(12),
-        view.reg(13),
-    );
-    format!(in alloc; "{answer:?}, {retired} executed, {pc:#x} {a0:#x} {a1:#x} {a2:#x} {a3:#x}")
+    let answer = shown(alloc, &answer)?;
+    told(
+        alloc,
+        &[
+            Text(answer.as_str()),
+            Text(", "),
+            Count(machine.retired(1)),
+            Text(" executed, "),
+            Hex(view.reg(32)),
+            Text(" "),
+            Hex(view.reg(10)),
+            Text(" "),
+            Hex(view.reg(11)),
+            Text(" "),
+            Hex(view.reg(12)),
+            Text(" "),
+            Hex(view.reg(13)),
+        ],
+    )
 }
 
 // What came of steps on both machines.
@@ -66,11 +78,11 @@ fn step_both(machine: &mut Machine, plain: &mut Plain<'_>, steps: u32) -> Togeth
     Together::Same(answer)
 }
 
-fn told(alloc: Global, machine: &Machine, together: Together) -> Result<String, AllocError> {
+fn told_both(alloc: Global, machine: &Machine, together: Together) -> Result<String, RowFault> {
     match together {
-        Together::Same(answer) if machine.harts() > 1 => shown(alloc, machine, answer),
-        Together::Differ => format!(in alloc; "the machines differ"),
-        _ => format!(in alloc; "no such hart"),
+        Together::Same(answer) if machine.harts() > 1 => told_step(alloc, machine, answer),
+        Together::Differ => said(alloc, "the machines differ"),
+        _ => said(alloc, "no such hart"),
     }
 }
 
@@ -80,27 +92,27 @@ fn beside_plain(
     image: &Image,
     machine: &mut Machine,
     steps: u32,
-) -> Result<String, AllocError> {
+) -> Result<String, RowFault> {
     match Plain::load(alloc, image, SETTINGS) {
         Ok(mut plain) => {
             let together = step_both(machine, &mut plain, steps);
-            told(alloc, machine, together)
+            told_both(alloc, machine, together)
         }
-        Err(_) => format!(in alloc; "no memory"),
+        Err(_) => said(alloc, "no memory"),
     }
 }
 
-fn over(alloc: Global, image: &Image, steps: u32) -> Result<String, AllocError> {
+fn over(alloc: Global, image: &Image, steps: u32) -> Result<String, RowFault> {
     match Machine::load(alloc, image, SETTINGS) {
         Ok(mut machine) => beside_plain(alloc, image, &mut machine, steps),
-        Err(_) => format!(in alloc; "no memory"),
+        Err(_) => said(alloc, "no memory"),
     }
 }
 
 /// So many steps of hart 1 on both machines, which do the same at each, unless it is said that they don't.
-pub fn stepped(alloc: Global, steps: u32, words: &str) -> Result<String, AllocError> {
+pub fn stepped(alloc: Global, steps: u32, words: &str) -> Result<String, RowFault> {
     match image_of(alloc, words) {
         Some(image) => over(alloc, &image, steps),
-        None => format!(in alloc; "no program"),
+        None => said(alloc, "no program"),
     }
 }

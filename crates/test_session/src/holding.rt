@@ -1,16 +1,16 @@
-// A gate that holds the first slice.
+// A gate that holds slices.
 use dbg_traits::Gate;
 use std::sync::atomic::{AtomicU64, Ordering};
 
 /// How often it is looked whether what is waited for has come.
 const TURNS: u64 = 50_000_000;
 
-/// What the first slice waits for.
+/// What slices wait for.
 #[derive(Clone, Copy)]
 pub enum Waiting {
-    /// A slice of another hart.
+    /// The first for a slice of another hart.
     Hart,
-    /// A worker that has nothing to do.
+    /// Each for a worker that has nothing to do.
     Idle,
 }
 
@@ -25,7 +25,7 @@ impl Waiting {
     }
 }
 
-/// Holds the first slice until what is waited for has come, or gives up after TURNS turns. Where nothing is, it holds none.
+/// Holds slices until what is waited for has come, or gives up after TURNS turns. Where nothing is, it holds none.
 #[derive(Drop)]
 pub struct Holding {
     waiting: Option<Waiting>,
@@ -51,6 +51,15 @@ impl Holding {
         self.came.load(Ordering::SeqCst) == 1 && self.gave_up.load(Ordering::SeqCst) == 0
     }
 
+    // Whether a slice of this hart's is held.
+    fn holds(&self, hart: u32) -> bool {
+        match self.waiting {
+            None => false,
+            Some(Waiting::Hart) => self.is_first(hart),
+            Some(Waiting::Idle) => true,
+        }
+    }
+
     // Whether this hart's slice is the first.
     fn is_first(&self, hart: u32) -> bool {
         let me = u64::from(hart) + 1;
@@ -71,7 +80,7 @@ impl Holding {
 
 impl Gate for Holding {
     fn slice_ready(&self, _worker: u32, hart: u32) {
-        if self.waiting.is_none() || !self.is_first(hart) {
+        if !self.holds(hart) {
             return;
         }
         for _ in 0..TURNS {

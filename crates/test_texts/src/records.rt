@@ -3,7 +3,8 @@ use mi_values::{
     Fields, Line, Name, NoticeSign, ReadFault, StreamSign, Token, is_name, read_line, write_line,
 };
 use std::alloc::{AllocError, Global};
-use test_rows::{RowFault, number, read_bytes, told_bytes};
+use test_rows::Piece::{Number, Text};
+use test_rows::{RowFault, number_at, read_bytes, said, told, told_bytes};
 
 // The line at the front. None where no line stands there.
 fn front_line(alloc: Global, text: &[u8]) -> Result<Option<Line>, RowFault> {
@@ -32,7 +33,7 @@ fn told_written(alloc: Global, line: &Line) -> Result<String, RowFault> {
 fn told_front(alloc: Global, line: Option<&Line>) -> Result<String, RowFault> {
     match line {
         Some(line) => told_written(alloc, line),
-        None => Ok(String::from_str(alloc, "no line")?),
+        None => said(alloc, "no line"),
     }
 }
 
@@ -74,23 +75,37 @@ fn told_whether_line(alloc: Global, text: &[u8]) -> Result<String, RowFault> {
     } else {
         "no line"
     };
-    Ok(String::from_str(alloc, told)?)
+    said(alloc, told)
 }
 
 fn told_brackets(alloc: Global, rest: &str) -> Result<String, RowFault> {
     let (count, inner) = rest.split_once(' ').unwrap_or((rest, ""));
-    let count = number(count).ok_or(RowFault::Unknown)?;
-    let text = in_brackets(alloc, count, inner.as_bytes())?;
+    let text = in_brackets(alloc, number_at(count, 0), inner.as_bytes())?;
     told_whether_line(alloc, &text)
 }
 
-fn told_stream(alloc: Global, line: Option<&Line>) -> Result<String, AllocError> {
+// Bytes behind a text.
+fn push_bytes(alloc: Global, bytes: &[u8], into: &mut String) -> Result<(), RowFault> {
+    let told = told_bytes(alloc, bytes)?;
+    Ok(into.push_str(told.as_str())?)
+}
+
+fn told_behind(alloc: Global, front: &str, bytes: &[u8]) -> Result<String, RowFault> {
+    let mut text = String::from_str(alloc, front)?;
+    push_bytes(alloc, bytes, &mut text)?;
+    Ok(text)
+}
+
+fn told_stream(alloc: Global, line: Option<&Line>) -> Result<String, RowFault> {
     match line {
         Some(Line::Stream { sign, bytes }) => {
-            let bytes = told_bytes(alloc, bytes)?;
-            format!(in alloc; "{sign:?} {bytes}")
+            let front = match sign {
+                StreamSign::Target => "Target ",
+                StreamSign::Log => "Log ",
+            };
+            told_behind(alloc, front, bytes)
         }
-        _ => format!(in alloc; "no stream"),
+        _ => said(alloc, "no stream"),
     }
 }
 
@@ -106,20 +121,18 @@ fn written_log(alloc: Global, text: &str) -> Result<Vec<u8>, RowFault> {
     written(alloc, &line)
 }
 
-// The stream that is read of bytes.
-fn told_read(alloc: Global, bytes: &[u8]) -> Result<String, RowFault> {
-    let line = front_line(alloc, bytes)?;
-    Ok(told_stream(alloc, line.as_ref())?)
-}
-
-fn told_as(alloc: Global, bytes: &[u8], read: &str) -> Result<String, AllocError> {
-    let text = told_bytes(alloc, bytes)?;
-    format!(in alloc; "{text} is {read}")
-}
-
+// Bytes, and the stream that is read of them.
 fn told_with_read(alloc: Global, bytes: &[u8]) -> Result<String, RowFault> {
-    let read = told_read(alloc, bytes)?;
-    Ok(told_as(alloc, bytes, &read)?)
+    let line = front_line(alloc, bytes)?;
+    let read = told_stream(alloc, line.as_ref())?;
+    told_as(alloc, bytes, &read)
+}
+
+fn told_as(alloc: Global, bytes: &[u8], read: &str) -> Result<String, RowFault> {
+    let mut text = told_bytes(alloc, bytes)?;
+    text.push_str(" is ")?;
+    text.push_str(read)?;
+    Ok(text)
 }
 
 // A message, and what is read where it was written.
@@ -186,13 +199,14 @@ fn is_kept(alloc: Global, text: &[u8]) -> Result<bool, RowFault> {
     Ok(written(alloc, &line)?.as_slice() == text)
 }
 
-fn told_unkept(alloc: Global, line: &[u8]) -> Result<String, AllocError> {
-    let line = told_bytes(alloc, line)?;
-    format!(in alloc; "not the same: {line}")
-}
-
-fn told_kept(alloc: Global, count: u32) -> Result<String, AllocError> {
-    format!(in alloc; "{count} lines, each read and written again as it is")
+fn told_kept(alloc: Global, count: u32) -> Result<String, RowFault> {
+    told(
+        alloc,
+        &[
+            Number(count),
+            Text(" lines, each read and written again as it is"),
+        ],
+    )
 }
 
 /// How many stored lines there are, where each of them is read and written again as it is; else the first that isn't.
@@ -200,11 +214,11 @@ pub fn told_stored(alloc: Global, text: &[u8]) -> Result<String, RowFault> {
     let mut count = 0u32;
     for line in text.split_inclusive(|b| *b == b'\n') {
         if !is_kept(alloc, line)? {
-            return Ok(told_unkept(alloc, line)?);
+            return told_behind(alloc, "not the same: ", line);
         }
         count = count.saturating_add(1);
     }
-    Ok(told_kept(alloc, count)?)
+    told_kept(alloc, count)
 }
 
 /// What came of a row: `record TEXT`, `brackets COUNT INNER`, `log BYTES` or `made RESULT NOTICE`.

@@ -2,18 +2,44 @@
 use dbg_traits::{ArgText, NoMemory, Settings};
 use dbg_words::{Request, read_words};
 use std::alloc::{AllocError, Global};
-use test_rows::{RowFault, arguments};
+use test_rows::Piece::{Count, Number, Text};
+use test_rows::{RowFault, arguments, push_told, said, told};
 
-// The settings in the order of their fields.
-fn told_settings(alloc: Global, settings: Settings) -> Result<String, AllocError> {
-    let Settings {
-        harts,
-        workers,
-        slots,
-        budget,
-        slice,
-    } = settings;
-    format!(in alloc; "{harts} {workers} {slots} {budget} {slice}")
+// What is asked for, with the settings in the order of their fields.
+fn told_settings(
+    alloc: Global,
+    (front, behind): (&str, &str),
+    name: &str,
+    settings: Settings,
+) -> Result<String, RowFault> {
+    let mut text = String::from_str(alloc, front)?;
+    text.push_str(name)?;
+    push_settings(alloc, settings, behind, &mut text)?;
+    Ok(text)
+}
+
+fn push_settings(
+    alloc: Global,
+    settings: Settings,
+    front: &str,
+    into: &mut String,
+) -> Result<(), RowFault> {
+    push_told(
+        alloc,
+        into,
+        &[
+            Text(front),
+            Number(settings.harts),
+            Text(" "),
+            Number(settings.workers),
+            Text(" "),
+            Number(settings.slots),
+            Text(" "),
+            Count(settings.budget),
+            Text(" "),
+            Number(settings.slice),
+        ],
+    )
 }
 
 fn told_session(
@@ -21,22 +47,20 @@ fn told_session(
     file: &str,
     settings: Settings,
     has_log: bool,
-) -> Result<String, AllocError> {
-    let settings = told_settings(alloc, settings)?;
-    let log = if has_log { " log" } else { "" };
-    format!(in alloc; "<{file}> {settings}{log}")
+) -> Result<String, RowFault> {
+    let mut text = told_settings(alloc, ("<", "> "), file, settings)?;
+    if has_log {
+        text.push_str(" log")?;
+    }
+    Ok(text)
 }
 
-fn told_generated(alloc: Global, number: u32, settings: Settings) -> Result<String, AllocError> {
-    let settings = told_settings(alloc, settings)?;
-    format!(in alloc; "gen {number}: {settings}")
+fn told_generated(alloc: Global, number: u32, settings: Settings) -> Result<String, RowFault> {
+    let name = told(alloc, &[Number(number)])?;
+    told_settings(alloc, ("gen ", ": "), name.as_str(), settings)
 }
 
-fn told_check(alloc: Global, file: &str) -> Result<String, AllocError> {
-    format!(in alloc; "check <{file}>")
-}
-
-fn told(alloc: Global, request: &Request) -> Result<String, AllocError> {
+fn told_request(alloc: Global, request: &Request) -> Result<String, RowFault> {
     match request {
         Request::Session {
             file,
@@ -44,7 +68,7 @@ fn told(alloc: Global, request: &Request) -> Result<String, AllocError> {
             has_log,
         } => told_session(alloc, file, *settings, *has_log),
         Request::Generated { number, settings } => told_generated(alloc, *number, *settings),
-        Request::Check { file } => told_check(alloc, file),
+        Request::Check { file } => told(alloc, &[Text("check <"), Text(file), Text(">")]),
     }
 }
 
@@ -57,8 +81,8 @@ fn words_of(alloc: Global, word: &str, text: &str) -> Result<Vec<ArgText>, Alloc
 
 fn told_words(alloc: Global, words: &[ArgText]) -> Result<String, RowFault> {
     match read_words(alloc, words) {
-        Ok(Some(request)) => Ok(told(alloc, &request)?),
-        Ok(None) => Ok(String::from_str(alloc, "refused")?),
+        Ok(Some(request)) => told_request(alloc, &request),
+        Ok(None) => said(alloc, "refused"),
         Err(NoMemory) => Err(RowFault::NoMemory),
     }
 }

@@ -1,5 +1,4 @@
-// Conditions, the breakpoints that they stand in, and texts of watches. The rows are those of `Step`.
-mod step;
+// Conditions, the breakpoints that they stand in, and texts of watches.
 mod table;
 mod watches;
 mod worth;
@@ -10,10 +9,10 @@ use elf_checks::read_image;
 use elf_symbols::{Symbols, symbols};
 use elf32_read::Image;
 use std::alloc::{AllocError, Global};
-use step::Step;
-use test_rows::{Bench, RowFault};
+use test_rows::{Bench, RowFault, behind, number_at, said, word_at};
 use watches::{told_want, watched};
-use worth::{behind, worth};
+pub use worth::told_fault;
+use worth::worth;
 
 /// A program, its names, and breakpoints in it.
 #[derive(Drop)]
@@ -34,6 +33,14 @@ fn image_in(alloc: Global, bytes: &str) -> Option<Image> {
     read_image(alloc, hex::decode(alloc, bytes).ok()?).ok()
 }
 
+fn image_of(alloc: Global, word: &str, rest: &str) -> Option<Image> {
+    match word {
+        "file" => image_in(alloc, rest),
+        "words" => words_image(alloc, number_at(rest, 0)),
+        _ => generated_image(alloc, number_at(rest, 0)),
+    }
+}
+
 fn load(alloc: Global, image: Option<Image>) -> Option<Loaded> {
     let image = image?;
     let names = symbols(alloc, &image).ok()?;
@@ -50,32 +57,61 @@ fn put_table(loaded: &mut Loaded, table: BreakTable) {
     loaded.table = table;
 }
 
-fn emptied(alloc: Global, loaded: &mut Loaded, harts: u32) -> Result<String, AllocError> {
+fn emptied(alloc: Global, loaded: &mut Loaded, harts: u32) -> Result<String, RowFault> {
     match BreakTable::new(alloc, &loaded.image, harts) {
-        Ok(table) => {
-            put_table(loaded, table);
-            format!(in alloc; "empty")
-        }
-        Err(_) => format!(in alloc; "no memory"),
+        Ok(table) => put_table(loaded, table),
+        Err(_) => return Err(RowFault::NoMemory),
+    }
+    said(alloc, "empty")
+}
+
+// A text behind so many equal ones.
+fn push_behind(whole: &mut String, count: u32, equal: &str, text: &str) -> Result<(), AllocError> {
+    for _ in 0..count {
+        whole.push_str(equal)?;
+    }
+    whole.push_str(text)
+}
+
+// What came of a row that asks of a text, which is another one where the row says how it is made.
+fn asked(alloc: Global, names: &Symbols, word: &str, text: &[u8]) -> Result<String, RowFault> {
+    match word {
+        "worth" | "repeat" => worth(alloc, names, text),
+        _ => watched(alloc, names, text),
     }
 }
 
-// What came of a step of a program.
-fn answered(alloc: Global, loaded: &mut Loaded, step: Step<'_>) -> Result<String, AllocError> {
-    match step {
-        Step::Worth(text) => worth(alloc, &loaded.names, text.as_bytes()),
-        Step::Repeat { count, char, text } => {
-            let text = behind(alloc, count, char, text)?;
-            worth(alloc, &loaded.names, text.as_str().as_bytes())
+fn asked_of_made(
+    alloc: Global,
+    names: &Symbols,
+    word: &str,
+    (count, equal, text): (u32, &str, &str),
+) -> Result<String, RowFault> {
+    let mut whole = String::new(alloc);
+    push_behind(&mut whole, count, equal, text)?;
+    asked(alloc, names, word, whole.as_str().as_bytes())
+}
+
+// What came of a row that asks of a program.
+fn answered(
+    alloc: Global,
+    loaded: &mut Loaded,
+    word: &str,
+    rest: &str,
+) -> Result<String, RowFault> {
+    let count = number_at(rest, 0);
+    match word {
+        "worth" | "watch" => asked(alloc, &loaded.names, word, rest.as_bytes()),
+        "blanks" => asked_of_made(alloc, &loaded.names, word, (count, " ", behind(rest, 1))),
+        "repeat" => {
+            let equal = match word_at(rest, 1) {
+                "_" => " ",
+                other => other,
+            };
+            asked_of_made(alloc, &loaded.names, word, (count, equal, behind(rest, 2)))
         }
-        Step::Watch(text) => watched(alloc, &loaded.names, text.as_bytes()),
-        Step::Blanks { count, text } => {
-            let text = behind(alloc, count, ' ', text)?;
-            watched(alloc, &loaded.names, text.as_str().as_bytes())
-        }
-        Step::Table(harts) => emptied(alloc, loaded, harts),
-        Step::Entry(step) => table::answer(alloc, &loaded.names, &mut loaded.table, step),
-        _ => format!(in alloc; "no step of a program"),
+        "table" => emptied(alloc, loaded, count),
+        _ => table::answer(alloc, &loaded.names, &mut loaded.table, word, rest),
     }
 }
 
@@ -86,32 +122,34 @@ impl ExpressionBench {
     }
 
     // Puts a program in place of the one before.
-    fn load(&mut self, alloc: Global, image: Option<Image>) -> Result<String, AllocError> {
+    fn load(&mut self, alloc: Global, image: Option<Image>) -> Result<String, RowFault> {
         self.loaded = load(alloc, image);
-        match self.loaded {
-            Some(_) => format!(in alloc; "loaded"),
-            None => format!(in alloc; "not loaded"),
-        }
-    }
-
-    // What came of a step.
-    fn done(&mut self, alloc: Global, step: Step<'_>) -> Result<String, AllocError> {
-        match step {
-            Step::File(bytes) => self.load(alloc, image_in(alloc, bytes)),
-            Step::Generated(number) => self.load(alloc, generated_image(alloc, number)),
-            Step::Want => told_want(alloc),
-            Step::Words(count) => self.load(alloc, words_image(alloc, count)),
-            _ => match &mut self.loaded {
-                Some(loaded) => answered(alloc, loaded, step),
-                None => format!(in alloc; "no program is loaded"),
-            },
-        }
+        let told = if self.loaded.is_some() {
+            "loaded"
+        } else {
+            "not loaded"
+        };
+        said(alloc, told)
     }
 }
 
 impl Bench for ExpressionBench {
+    /// What came of a row: `file BYTES`, `generated NUMBER` or `words COUNT`, whose program is the next; `worth TEXT`, the value of
+    /// an expression, or its first fault and the fault's place, where each register holds 100 and its number, and the bytes from
+    /// 4096 to 4103, and the last of all, are 128 and the low four bits of the address; `repeat COUNT CHAR TEXT`, the same of a text
+    /// behind so many equal characters, of which `_` is a space; `watch TEXT`, the address, the size and whether there is a sign, of
+    /// the bytes that a text asks to be watched, or why it asks for none; `blanks COUNT TEXT`, the same of a text behind so many
+    /// blanks; `want`, what is told where memory runs out; `table HARTS`, where the next table of breakpoints is over the program,
+    /// and empty; or a row of the table.
     fn answer(&mut self, alloc: Global, row: &str) -> Result<String, RowFault> {
-        let step = Step::read(row).ok_or(RowFault::Unknown)?;
-        Ok(self.done(alloc, step)?)
+        let (word, rest) = row.split_once(' ').unwrap_or((row, ""));
+        match word {
+            "file" | "generated" | "words" => self.load(alloc, image_of(alloc, word, rest)),
+            "want" => told_want(alloc),
+            _ => match &mut self.loaded {
+                Some(loaded) => answered(alloc, loaded, word, rest),
+                None => said(alloc, "no program is loaded"),
+            },
+        }
     }
 }

@@ -1,13 +1,13 @@
 // Breakpoints.
 ghost use Rattle.std.specs.Prelude.{◌==◌, None, if◌then◌else◌};
 
-use crate::texts::push_told;
 use break_table::{BreakFault, BreakTable, Location, Spec};
 use cond_expr::{Expr, parse};
 use dbg_traits::View;
 use elf_symbols::Symbols;
-use std::alloc::{AllocError, Global};
-use test_rows::{before, number, three, two};
+use std::alloc::Global;
+use test_rows::Piece::{Count, Number, Text, Whether};
+use test_rows::{RowFault, behind, number_at, push_told, said, shown, told, word_at};
 
 /// The most numbers that are given.
 const MOST: u32 = 1000;
@@ -30,134 +30,6 @@ impl View for At {
     }
 }
 
-/// A breakpoint that is asked for.
-#[derive(Clone, Copy)]
-pub struct Asked<'a> {
-    pub address: u32,
-    pub temporary: bool,
-    pub enabled: bool,
-    pub ignore: u32,
-    pub thread: Option<u32>,
-    /// Empty where there is none.
-    pub condition: &'a str,
-}
-
-/// What is done with a table.
-#[derive(Clone, Copy)]
-pub enum TableStep<'a> {
-    /// `insert ADDRESS KIND IGNORE THREAD CONDITION..`: the entry's number. A kind is `stays`, `temporary` or `disabled`; the
-    /// thread 0 is thread 0, and `all` is none.
-    Insert(Asked<'a>),
-    /// `fill COUNT ADDRESS STEP`: so many entries are inserted, each behind the one before by the step; how many there are
-    /// whose number is the next one.
-    Fill { count: u32, address: u32, step: u32 },
-    /// `due HART ADDRESS`
-    Due { hart: u32, pc: u32 },
-    /// `each COUNT ADDRESS STEP`: of how many addresses in turn hart 0 is stopped by the entry of the next number.
-    Each { count: u32, address: u32, step: u32 },
-    /// `stands ADDRESS`
-    Stands(u32),
-    /// `arrive HART ADDRESS`
-    Arrive { hart: u32, pc: u32 },
-    /// `entries`: the number, the times and the ignore count of each.
-    Entries,
-    /// `condition NUMBER TEXT`: the entry has this condition, or none where the text is empty.
-    Condition { number: u32, text: &'a str },
-    /// `after NUMBER COUNT`: so many of its arrivals are counted and don't stop.
-    After { number: u32, count: u32 },
-    /// `delete NUMBER`
-    Delete(u32),
-    /// `enable NUMBER`
-    Enable(u32),
-    /// `disable NUMBER`
-    Disable(u32),
-}
-
-// The thread of a word, of which `all` is none.
-fn thread_of(word: &str) -> Option<Option<u32>> {
-    match word {
-        "all" => Some(None),
-        digits => number(digits).map(Some),
-    }
-}
-
-fn read_asked(text: &str) -> Option<Asked<'_>> {
-    let (address, text) = before(text)?;
-    let (kind, text) = text.split_once(' ')?;
-    let (ignore, text) = before(text)?;
-    let (thread, condition) = text.split_once(' ').unwrap_or((text, ""));
-    Some(Asked {
-        address,
-        temporary: kind == "temporary",
-        enabled: kind != "disabled",
-        ignore,
-        thread: thread_of(thread)?,
-        condition,
-    })
-}
-
-fn read_at<'a>(word: &str, rest: &str) -> Option<TableStep<'a>> {
-    let (hart, pc) = two(rest)?;
-    match word {
-        "due" => Some(TableStep::Due { hart, pc }),
-        "arrive" => Some(TableStep::Arrive { hart, pc }),
-        _ => None,
-    }
-}
-
-fn read_many<'a>(word: &str, rest: &str) -> Option<TableStep<'a>> {
-    let (count, address, step) = three(rest)?;
-    match word {
-        "fill" => Some(TableStep::Fill {
-            count,
-            address,
-            step,
-        }),
-        "each" => Some(TableStep::Each {
-            count,
-            address,
-            step,
-        }),
-        _ => None,
-    }
-}
-
-fn read_condition(text: &str) -> Option<TableStep<'_>> {
-    let (number, text) = before(text)?;
-    Some(TableStep::Condition { number, text })
-}
-
-fn read_after<'a>(text: &str) -> Option<TableStep<'a>> {
-    let (number, count) = two(text)?;
-    Some(TableStep::After { number, count })
-}
-
-fn read_one<'a>(word: &str, rest: &str) -> Option<TableStep<'a>> {
-    let number = number(rest)?;
-    match word {
-        "stands" => Some(TableStep::Stands(number)),
-        "delete" => Some(TableStep::Delete(number)),
-        "enable" => Some(TableStep::Enable(number)),
-        "disable" => Some(TableStep::Disable(number)),
-        _ => None,
-    }
-}
-
-impl<'a> TableStep<'a> {
-    /// What a line asks for. None where that is nothing that is known.
-    pub fn read(word: &str, rest: &'a str) -> Option<TableStep<'a>> {
-        match word {
-            "insert" => Some(TableStep::Insert(read_asked(rest)?)),
-            "fill" | "each" => read_many(word, rest),
-            "due" | "arrive" => read_at(word, rest),
-            "entries" => Some(TableStep::Entries),
-            "condition" => read_condition(rest),
-            "after" => read_after(rest),
-            _ => read_one(word, rest),
-        }
-    }
-}
-
 // The condition of a text. None where it is none, or memory runs out.
 fn condition_of(alloc: Global, names: &Symbols, text: &str) -> Option<Option<Expr>> {
     if text.is_empty() {
@@ -169,31 +41,43 @@ fn condition_of(alloc: Global, names: &Symbols, text: &str) -> Option<Option<Exp
     }
 }
 
-// The number of a new entry, or why there is none.
-fn insert(
-    alloc: Global,
-    table: &mut BreakTable,
-    asked: &Asked<'_>,
-    condition: Option<Expr>,
-) -> Result<u32, BreakFault> {
-    if table.given() >= MOST {
-        return Err(BreakFault::Full);
-    }
-    table.insert(Spec {
-        address: asked.address,
+// An entry that stays, at an address.
+fn plain(alloc: Global, address: u32) -> Spec {
+    Spec {
+        address,
         location: Location::of(Vec::new(alloc)),
-        temporary: asked.temporary,
-        enabled: asked.enabled,
-        ignore: asked.ignore,
-        condition,
-        thread: asked.thread,
-    })
+        temporary: false,
+        enabled: true,
+        ignore: 0,
+        condition: None,
+        thread: None,
+    }
 }
 
-fn told(alloc: Global, done: Result<(), BreakFault>) -> Result<String, AllocError> {
-    match done {
-        Ok(()) => format!(in alloc; "done"),
-        Err(fault) => format!(in alloc; "{fault:?}"),
+// The entry of a row.
+fn spec_of(alloc: Global, text: &str, condition: Option<Expr>) -> Spec {
+    let (kind, thread) = (word_at(text, 1), word_at(text, 3));
+    Spec {
+        address: number_at(text, 0),
+        location: Location::of(Vec::new(alloc)),
+        temporary: kind == "temporary",
+        enabled: kind != "disabled",
+        ignore: number_at(text, 2),
+        condition,
+        thread: if thread == "all" {
+            None
+        } else {
+            Some(number_at(text, 3))
+        },
+    }
+}
+
+// The number of a new entry, or why there is none.
+fn insert(table: &mut BreakTable, spec: Spec) -> Result<u32, BreakFault> {
+    if table.given() < MOST {
+        table.insert(spec)
+    } else {
+        Err(BreakFault::Full)
     }
 }
 
@@ -201,106 +85,153 @@ fn fill(
     alloc: Global,
     table: &mut BreakTable,
     (count, address, step): (u32, u32, u32),
-) -> Result<String, AllocError> {
+) -> Result<String, RowFault> {
     let mut at = address;
     for k in 0..count {
-        let asked = Asked {
-            address: at,
-            temporary: false,
-            enabled: true,
-            ignore: 0,
-            thread: None,
-            condition: "",
-        };
-        if insert(alloc, table, &asked, None) != Ok(k + 1) {
-            return format!(in alloc; "{k}");
+        if insert(table, plain(alloc, at)) != Ok(k + 1) {
+            return told(alloc, &[Number(k)]);
         }
         at = at.wrapping_sub(step);
     }
-    format!(in alloc; "{count}")
+    told(alloc, &[Number(count)])
 }
 
 fn each(
     alloc: Global,
     table: &BreakTable,
     (count, address, step): (u32, u32, u32),
-) -> Result<String, AllocError> {
+) -> Result<String, RowFault> {
     let mut at = address;
     for k in 0..count {
         if table.due(0, &At(at)).stop != Some(k + 1) || !table.stands(at) {
-            return format!(in alloc; "{k}");
+            return told(alloc, &[Number(k)]);
         }
         at = at.wrapping_sub(step);
     }
-    format!(in alloc; "{count}")
+    told(alloc, &[Number(count)])
 }
 
-fn entries(alloc: Global, table: &BreakTable) -> Result<String, AllocError> {
-    let mut text = String::new(alloc);
+fn push_entries(alloc: Global, table: &BreakTable, into: &mut String) -> Result<(), RowFault> {
     for entry in table.entries() {
-        let (number, times, ignore) = (entry.number, entry.times, entry.ignore);
-        push_told(&mut text, format!(in alloc; "({number} {times} {ignore})"))?;
+        push_told(
+            alloc,
+            into,
+            &[
+                Text("("),
+                Number(entry.number),
+                Text(" "),
+                Count(entry.times),
+                Text(" "),
+                Number(entry.ignore),
+                Text(")"),
+            ],
+        )?;
     }
+    Ok(())
+}
+
+fn entries(alloc: Global, table: &BreakTable) -> Result<String, RowFault> {
+    let mut text = String::new(alloc);
+    push_entries(alloc, table, &mut text)?;
     Ok(text)
 }
 
-fn inserted(
-    alloc: Global,
-    names: &Symbols,
-    table: &mut BreakTable,
-    asked: &Asked<'_>,
-) -> Result<String, AllocError> {
-    let Some(condition) = condition_of(alloc, names, asked.condition) else {
-        return format!(in alloc; "no condition");
-    };
-    match insert(alloc, table, asked, condition) {
-        Ok(number) => format!(in alloc; "{number}"),
-        Err(fault) => format!(in alloc; "{fault:?}"),
+fn told_number(alloc: Global, made: Result<u32, BreakFault>) -> Result<String, RowFault> {
+    match made {
+        Ok(number) => told(alloc, &[Number(number)]),
+        Err(fault) => shown(alloc, &fault),
     }
 }
 
-fn due(alloc: Global, table: &BreakTable, hart: u32, pc: u32) -> Result<String, AllocError> {
-    let due = table.due(hart, &At(pc));
-    let (stop, error, counts) = (due.stop, due.error, due.counts);
-    format!(in alloc; "{stop:?} {error:?} {counts}")
+fn told_done(alloc: Global, done: Result<(), BreakFault>) -> Result<String, RowFault> {
+    match done {
+        Ok(()) => said(alloc, "done"),
+        Err(fault) => shown(alloc, &fault),
+    }
 }
 
-/// What came of a step.
+// An entry is made, or one has another condition.
+fn with_condition(
+    alloc: Global,
+    table: &mut BreakTable,
+    word: &str,
+    rest: &str,
+    condition: Option<Expr>,
+) -> Result<String, RowFault> {
+    if word == "insert" {
+        told_number(alloc, insert(table, spec_of(alloc, rest, condition)))
+    } else {
+        told_done(alloc, table.condition(number_at(rest, 0), condition))
+    }
+}
+
+fn due(alloc: Global, table: &BreakTable, hart: u32, pc: u32) -> Result<String, RowFault> {
+    let due = table.due(hart, &At(pc));
+    let (stop, error, counts) = (due.stop, due.error, due.counts);
+    Ok(format!(in alloc; "{stop:?} {error:?} {counts}")?)
+}
+
+fn changed(
+    alloc: Global,
+    table: &mut BreakTable,
+    word: &str,
+    (number, count): (u32, u32),
+) -> Result<String, RowFault> {
+    let done = match word {
+        "after" => table.after(number, count),
+        "delete" => table.delete(number),
+        "enable" => table.enable(number),
+        "disable" => table.disable(number),
+        _ => return Err(RowFault::Unknown),
+    };
+    told_done(alloc, done)
+}
+
+// What came of a row with numbers alone.
+fn numbered(
+    alloc: Global,
+    table: &mut BreakTable,
+    word: &str,
+    (first, second, third): (u32, u32, u32),
+) -> Result<String, RowFault> {
+    match word {
+        "fill" => fill(alloc, table, (first, second, third)),
+        "each" => each(alloc, table, (first, second, third)),
+        "due" => due(alloc, table, first, second),
+        "stands" => told(alloc, &[Whether(table.stands(first))]),
+        "entries" => entries(alloc, table),
+        "arrive" => {
+            table.settle_arrival(first, &At(second));
+            said(alloc, "arrived")
+        }
+        _ => changed(alloc, table, word, (first, second)),
+    }
+}
+
+/// What came of a row: `insert ADDRESS KIND IGNORE THREAD CONDITION..`, the entry's number, where a kind is `stays`, `temporary` or
+/// `disabled`, and the thread 0 is thread 0, and `all` is none; `condition NUMBER TEXT`, by which an entry has this condition, or
+/// none where the text is empty; `fill COUNT ADDRESS STEP`, by which so many entries are inserted, each behind the one before by the
+/// step, and how many there are whose number is the next one; `each COUNT ADDRESS STEP`, of how many addresses in turn hart 0 is
+/// stopped by the entry of the next number; `due HART ADDRESS`, `stands ADDRESS` and `arrive HART ADDRESS`; `entries`, the number,
+/// the times and the ignore count of each; `after NUMBER COUNT`, by which so many of its arrivals are counted and don't stop; or
+/// `delete NUMBER`, `enable NUMBER` and `disable NUMBER`.
 pub fn answer(
     alloc: Global,
     names: &Symbols,
     table: &mut BreakTable,
-    step: TableStep<'_>,
-) -> Result<String, AllocError> {
-    match step {
-        TableStep::Insert(asked) => inserted(alloc, names, table, &asked),
-        TableStep::Fill {
-            count,
-            address,
-            step,
-        } => fill(alloc, table, (count, address, step)),
-        TableStep::Each {
-            count,
-            address,
-            step,
-        } => each(alloc, table, (count, address, step)),
-        TableStep::Due { hart, pc } => due(alloc, table, hart, pc),
-        TableStep::Stands(address) => {
-            let stands = table.stands(address);
-            format!(in alloc; "{stands}")
+    word: &str,
+    rest: &str,
+) -> Result<String, RowFault> {
+    let text = match word {
+        "insert" => behind(rest, 4),
+        "condition" => behind(rest, 1),
+        _ => {
+            let numbers = (number_at(rest, 0), number_at(rest, 1), number_at(rest, 2));
+            return numbered(alloc, table, word, numbers);
         }
-        TableStep::Arrive { hart, pc } => {
-            table.settle_arrival(hart, &At(pc));
-            format!(in alloc; "arrived")
-        }
-        TableStep::Entries => entries(alloc, table),
-        TableStep::Condition { number, text } => match condition_of(alloc, names, text) {
-            Some(condition) => told(alloc, table.condition(number, condition)),
-            None => format!(in alloc; "no condition"),
-        },
-        TableStep::After { number, count } => told(alloc, table.after(number, count)),
-        TableStep::Delete(number) => told(alloc, table.delete(number)),
-        TableStep::Enable(number) => told(alloc, table.enable(number)),
-        TableStep::Disable(number) => told(alloc, table.disable(number)),
+    };
+    match condition_of(alloc, names, text) {
+        Some(condition) => with_condition(alloc, table, word, rest, condition),
+        None => said(alloc, "no condition"),
     }
 }

@@ -1,10 +1,11 @@
 // Expressions, and what they are worth.
 ghost use Rattle.std.specs.Prelude.{◌+◌, ◌%◌, ◌==◌, ◌&&◌, ◌||◌, nat_le, nat_lt, Some, None, if◌then◌else◌};
 
-use cond_expr::{ParseError, parse, value};
+use cond_expr::{Expr, ExprFault, ParseError, parse, value};
 use dbg_traits::View;
 use elf_symbols::Symbols;
-use std::alloc::{AllocError, Global};
+use std::alloc::Global;
+use test_rows::RowFault;
 
 /// Each register holds 100 and its number; the bytes from 4096 to 4103, and the last of all, are 128 and the low four bits of the address.
 struct Numbered;
@@ -28,30 +29,26 @@ impl View for Numbered {
 }
 
 /// The value of a text, or its first fault and the fault's place.
-pub fn worth(alloc: Global, names: &Symbols, text: &[u8]) -> Result<String, AllocError> {
+pub fn worth(alloc: Global, names: &Symbols, text: &[u8]) -> Result<String, RowFault> {
     match parse(alloc, text, names) {
-        Ok(e) => {
-            let value = value(&e, &Numbered);
-            if e.text() == text {
-                format!(in alloc; "{value:?}")
-            } else {
-                format!(in alloc; "{value:?} of another text")
-            }
-        }
-        Err(ParseError::Fault(fault)) => {
-            let (kind, at) = (fault.kind, fault.at);
-            format!(in alloc; "{kind:?} at {at}")
-        }
-        Err(ParseError::NoMemory) => format!(in alloc; "no memory"),
+        Ok(e) => told_value(alloc, &e, text),
+        Err(ParseError::Fault(fault)) => told_fault(alloc, fault),
+        Err(ParseError::NoMemory) => Err(RowFault::NoMemory),
     }
 }
 
-/// A text behind so many equal characters.
-pub fn behind(alloc: Global, count: u32, char: char, text: &str) -> Result<String, AllocError> {
-    let mut whole = String::new(alloc);
-    for _ in 0..count {
-        whole.push(char)?;
-    }
-    whole.push_str(text)?;
-    Ok(whole)
+fn told_value(alloc: Global, e: &Expr, text: &[u8]) -> Result<String, RowFault> {
+    let value = value(e, &Numbered);
+    let which = if e.text() == text {
+        ""
+    } else {
+        " of another text"
+    };
+    Ok(format!(in alloc; "{value:?}{which}")?)
+}
+
+/// A fault and its place.
+pub fn told_fault(alloc: Global, fault: ExprFault) -> Result<String, RowFault> {
+    let (kind, at) = (fault.kind, fault.at);
+    Ok(format!(in alloc; "{kind:?} at {at}")?)
 }

@@ -3,11 +3,11 @@ mod image;
 mod made;
 mod names;
 
-use elf_checks::{ElfReadError, read_image};
+use elf_checks::{ElfFault, ElfReadError, read_image};
 use elf_symbols::{Symbols, symbols};
 use elf32_read::Image;
 use std::alloc::Global;
-use test_rows::{Bench, RowFault};
+use test_rows::{Bench, RowFault, said};
 
 /// The file that was read last.
 #[derive(Drop)]
@@ -19,10 +19,12 @@ pub struct FileBench {
 fn told_error(alloc: Global, error: ElfReadError) -> Result<String, RowFault> {
     match error {
         ElfReadError::Memory => Err(RowFault::NoMemory),
-        ElfReadError::Fault(fault) => {
-            Ok(format!(in alloc; "{:?} at {}", fault.kind, fault.place)?)
-        }
+        ElfReadError::Fault(fault) => told_fault(alloc, fault),
     }
+}
+
+fn told_fault(alloc: Global, fault: ElfFault) -> Result<String, RowFault> {
+    Ok(format!(in alloc; "{:?} at {}", fault.kind, fault.place)?)
 }
 
 impl FileBench {
@@ -39,7 +41,7 @@ impl FileBench {
     fn put_image(&mut self, alloc: Global, image: Image) -> Result<String, RowFault> {
         let names = symbols(alloc, &image)?;
         self.put(Some((image, names)));
-        Ok(format!(in alloc; "read")?)
+        said(alloc, "read")
     }
 
     // What came of a row `file BYTES..`, or of the bytes of a made file.

@@ -1,12 +1,12 @@
 // Frames by the rules of `.debug_frame`.
 use crate::lines::hart::{Stopped, in_work};
-use crate::texts::push_told;
 use arrayvec::ArrayVec;
-use dwarf_frames::FrameIndex;
+use dwarf_frames::{FrameIndex, Rules};
 use elf32_read::Image;
 use frame_walk::{Frame, caller, cfa, walk};
-use std::alloc::{AllocError, Global};
-use test_rows::{RowFault, number, read_hex, told_number, two};
+use std::alloc::Global;
+use test_rows::Piece::{Count, Hex, Maybe, Text, Whether};
+use test_rows::{RowFault, number_at, push_told, read_hex, said, shown, told};
 
 /// The rules of a section.
 pub fn read(alloc: Global, digits: &str) -> Result<FrameIndex, RowFault> {
@@ -15,75 +15,92 @@ pub fn read(alloc: Global, digits: &str) -> Result<FrameIndex, RowFault> {
 }
 
 // The CFA's register and offset and the rule of a register, where an entry covers pc.
-fn told_rule(
-    alloc: Global,
-    rules: &FrameIndex,
-    pc: u32,
-    register: u32,
-) -> Result<String, AllocError> {
-    match rules.rules_at(pc) {
-        Ok(Some(rules)) => {
-            let (base, offset) = (rules.cfa.register, rules.cfa.offset);
-            let rule = rules.registers[register as usize % 32];
-            format!(in alloc; "{base} {offset} {rule:?}")
-        }
-        Ok(None) => format!(in alloc; "none"),
-        Err(fault) => format!(in alloc; "{fault:?}"),
-    }
+fn told_rule(alloc: Global, rules: &Rules, register: u32) -> Result<String, RowFault> {
+    let (base, offset) = (rules.cfa.register, rules.cfa.offset);
+    let rule = rules.registers[register as usize % 32];
+    Ok(format!(in alloc; "{base} {offset} {rule:?}")?)
 }
 
-fn told_covered(alloc: Global, rules: &FrameIndex, pc: u32) -> Result<String, AllocError> {
+// The same, or whether an entry covers pc.
+fn told_covered(
+    alloc: Global,
+    rules: &FrameIndex,
+    word: &str,
+    (pc, register): (u32, u32),
+) -> Result<String, RowFault> {
     match rules.rules_at(pc) {
-        Ok(found) => format!(in alloc; "{}", found.is_some()),
-        Err(fault) => format!(in alloc; "{fault:?}"),
+        Err(fault) => shown(alloc, &fault),
+        Ok(Some(rules)) if word == "rule" => told_rule(alloc, &rules, register),
+        Ok(None) if word == "rule" => said(alloc, "none"),
+        Ok(found) => told(alloc, &[Whether(found.is_some())]),
     }
 }
 
 // Its pc, the address at which it is looked up, and its CFA.
-fn told_frame(alloc: Global, frame: &Frame) -> Result<String, AllocError> {
-    let cfa = told_number(alloc, frame.cfa)?;
-    format!(in alloc; "{:#x} {:#x} {cfa}", frame.pc, frame.lookup)
+fn push_frame(alloc: Global, frame: &Frame, end: &str, into: &mut String) -> Result<(), RowFault> {
+    push_told(
+        alloc,
+        into,
+        &[
+            Hex(frame.pc),
+            Text(" "),
+            Hex(frame.lookup),
+            Text(" "),
+            Maybe(frame.cfa),
+            Text(end),
+        ],
+    )
 }
 
-fn told_frames(alloc: Global, frames: &[Frame]) -> Result<String, AllocError> {
-    let mut text = String::new(alloc);
+fn push_frames(alloc: Global, frames: &[Frame], into: &mut String) -> Result<(), RowFault> {
     for frame in frames {
-        push_told(&mut text, told_frame(alloc, frame))?;
-        text.push_str("; ")?;
+        push_frame(alloc, frame, "; ", into)?;
     }
-    Ok(text)
+    Ok(())
 }
 
-// Each frame, and whether the innermost has a caller.
+// Each frame; or how many frames there are, and the outermost.
+fn push_walked(
+    alloc: Global,
+    word: &str,
+    frames: &[Frame],
+    into: &mut String,
+) -> Result<(), RowFault> {
+    match frames {
+        [.., last] if word == "last" => {
+            push_told(alloc, into, &[Count(frames.len() as u64), Text(" ")])?;
+            push_frame(alloc, last, "", into)
+        }
+        [] if word == "last" => push_told(alloc, into, &[Text("none")]),
+        _ => push_frames(alloc, frames, into),
+    }
+}
+
 fn told_walk(
     alloc: Global,
     image: &Image,
     rules: &FrameIndex,
+    word: &str,
     hart: &Stopped,
-) -> Result<String, AllocError> {
+) -> Result<String, RowFault> {
     let mut frames = ArrayVec::new();
     walk(rules, image, hart, &mut frames);
-    let told = told_frames(alloc, frames.as_slice())?;
-    let called = caller(rules, image, hart).is_some();
-    format!(in alloc; "{told}{called}")
+    let mut text = String::new(alloc);
+    push_walked(alloc, word, frames.as_slice(), &mut text)?;
+    Ok(text)
 }
 
-// How many frames there are, and the outermost.
-fn told_last(
+// Each frame, and whether the innermost has a caller.
+fn told_whole_walk(
     alloc: Global,
     image: &Image,
     rules: &FrameIndex,
     hart: &Stopped,
-) -> Result<String, AllocError> {
-    let mut frames = ArrayVec::new();
-    walk(rules, image, hart, &mut frames);
-    match frames.as_slice() {
-        [] => format!(in alloc; "none"),
-        [.., last] => {
-            let told = told_frame(alloc, last)?;
-            format!(in alloc; "{} {told}", frames.len())
-        }
-    }
+) -> Result<String, RowFault> {
+    let mut text = told_walk(alloc, image, rules, "walk", hart)?;
+    let called = caller(rules, image, hart).is_some();
+    push_told(alloc, &mut text, &[Whether(called)])?;
+    Ok(text)
 }
 
 // The innermost frame's CFA, and its caller's CFA and return address.
@@ -92,26 +109,20 @@ fn told_innermost(
     image: &Image,
     rules: &FrameIndex,
     hart: &Stopped,
-) -> Result<String, AllocError> {
-    let own = told_number(alloc, cfa(rules, image, hart))?;
+) -> Result<String, RowFault> {
+    let own = cfa(rules, image, hart);
     match caller(rules, image, hart) {
-        Some(caller) => format!(in alloc; "{own} {:#x} {:#x}", caller.cfa, caller.return_address),
-        None => format!(in alloc; "{own} none"),
-    }
-}
-
-// What is told of a hart.
-fn told_hart(
-    alloc: Global,
-    image: &Image,
-    rules: &FrameIndex,
-    word: &str,
-    hart: &Stopped,
-) -> Result<String, AllocError> {
-    match word {
-        "walk" => told_walk(alloc, image, rules, hart),
-        "last" => told_last(alloc, image, rules, hart),
-        _ => told_innermost(alloc, image, rules, hart),
+        Some(caller) => told(
+            alloc,
+            &[
+                Maybe(own),
+                Text(" "),
+                Hex(caller.cfa),
+                Text(" "),
+                Hex(caller.return_address),
+            ],
+        ),
+        None => told(alloc, &[Maybe(own), Text(" none")]),
     }
 }
 
@@ -124,13 +135,11 @@ pub fn answer(
     word: &str,
     rest: &str,
 ) -> Result<String, RowFault> {
-    if word == "covered" {
-        let pc = number(rest).ok_or(RowFault::Unknown)?;
-        return Ok(told_covered(alloc, rules, pc)?);
+    let (first, second) = (number_at(rest, 0), number_at(rest, 1));
+    match word {
+        "walk" => told_whole_walk(alloc, image, rules, &in_work(first, second)),
+        "last" => told_walk(alloc, image, rules, word, &in_work(first, second)),
+        "innermost" => told_innermost(alloc, image, rules, &in_work(first, second)),
+        _ => told_covered(alloc, rules, word, (first, second)),
     }
-    let (first, second) = two(rest).ok_or(RowFault::Unknown)?;
-    if word == "rule" {
-        return Ok(told_rule(alloc, rules, first, second)?);
-    }
-    Ok(told_hart(alloc, image, rules, word, &in_work(first, second))?)
 }

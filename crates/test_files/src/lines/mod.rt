@@ -13,7 +13,7 @@ mod told;
 use dwarf_frames::FrameIndex;
 use std::alloc::Global;
 use table::Table;
-use test_rows::{Bench, RowFault};
+use test_rows::{Bench, RowFault, said};
 
 /// A program with its rows, and the rules of its frames.
 #[derive(Drop)]
@@ -74,7 +74,7 @@ impl LineBench {
         } else {
             self.begin_program(alloc, word, rest)?;
         }
-        Ok(format!(in alloc; "read")?)
+        said(alloc, "read")
     }
 }
 

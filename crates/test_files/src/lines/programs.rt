@@ -5,8 +5,8 @@ use crate::lines::told::{told_places, told_registers};
 use dbg_traits::NoMemory;
 use line_programs::{Parameters, program_rows};
 use line_rows::{FileNames, LineError, Rows, RowsBuilder};
-use std::alloc::{AllocError, Global};
-use test_rows::{RowFault, read_hex};
+use std::alloc::Global;
+use test_rows::{RowFault, read_hex, shown};
 
 /// The operands of the standard opcodes of DWARF 4.
 const LENGTHS: &[u8] = &[0, 1, 1, 1, 1, 0, 0, 0, 1, 0, 0, 1];
@@ -14,33 +14,27 @@ const LENGTHS: &[u8] = &[0, 1, 1, 1, 1, 0, 0, 0, 1, 0, 0, 1];
 /// The same, and two opcodes more, of which one has two operands.
 const WIDE_LENGTHS: &[u8] = &[0, 1, 1, 1, 1, 0, 0, 0, 1, 0, 0, 1, 2, 0];
 
-// What assemblers write mostly, with one file.
-fn usual() -> Parameters
+// What assemblers write mostly, with one file; or `wide`, instructions of four bytes, two opcodes more, and files from 0 on.
+fn parameters(word: &str) -> Parameters
     ensures { 0 < result.line_range }
 {
+    let wide = word == "wide";
     Parameters {
-        minimum_instruction_length: 1,
-        default_is_stmt: true,
-        line_base: -5,
-        line_range: 14,
-        opcode_base: 13,
-        first_file: 1,
+        minimum_instruction_length: if wide { 4 } else { 1 },
+        default_is_stmt: !wide,
+        line_base: if wide { -1 } else { -5 },
+        line_range: if wide { 4 } else { 14 },
+        opcode_base: if wide { 15 } else { 13 },
+        first_file: if wide { 0 } else { 1 },
         file_count: 1,
     }
 }
 
-// Instructions of four bytes, two opcodes more, and files from 0 on.
-fn wide() -> Parameters
-    ensures { 0 < result.line_range }
-{
-    Parameters {
-        minimum_instruction_length: 4,
-        default_is_stmt: false,
-        line_base: -1,
-        line_range: 4,
-        opcode_base: 15,
-        first_file: 0,
-        file_count: 1,
+fn lengths(word: &str) -> &'static [u8] {
+    if word == "wide" {
+        WIDE_LENGTHS
+    } else {
+        LENGTHS
     }
 }
 
@@ -56,15 +50,11 @@ fn finished(alloc: Global, mut rows: RowsBuilder) -> Result<Rows, NoMemory> {
 
 fn read(alloc: Global, word: &str, unit: &[u8]) -> Result<Rows, LineError> {
     let mut rows = RowsBuilder::new(alloc);
-    if word == "wide" {
-        program_rows(&wide(), WIDE_LENGTHS, unit, 0, &mut rows)?;
-    } else {
-        program_rows(&usual(), LENGTHS, unit, 0, &mut rows)?;
-    }
+    program_rows(&parameters(word), lengths(word), unit, 0, &mut rows)?;
     Ok(finished(alloc, rows)?)
 }
 
-fn told(alloc: Global, word: &str, rows: &Rows) -> Result<String, AllocError> {
+fn told(alloc: Global, word: &str, rows: &Rows) -> Result<String, RowFault> {
     if word == "registers" {
         told_registers(alloc, rows)
     } else {
@@ -75,9 +65,9 @@ fn told(alloc: Global, word: &str, rows: &Rows) -> Result<String, AllocError> {
 // What came of a row with this program.
 fn of_unit(alloc: Global, word: &str, unit: &[u8]) -> Result<String, RowFault> {
     match read(alloc, word, unit) {
-        Ok(rows) => Ok(told(alloc, word, &rows)?),
+        Ok(rows) => told(alloc, word, &rows),
         Err(LineError::NoMemory) => Err(RowFault::NoMemory),
-        Err(LineError::Fault(fault)) => Ok(format!(in alloc; "{fault:?}")?),
+        Err(LineError::Fault(fault)) => shown(alloc, &fault),
     }
 }
 

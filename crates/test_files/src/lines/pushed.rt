@@ -3,7 +3,7 @@ use crate::lines::told::told_registers;
 use dbg_traits::NoMemory;
 use line_rows::{FileNames, LineFault, Row, Rows, RowsBuilder, UnitFault};
 use std::alloc::Global;
-use test_rows::{RowFault, number};
+use test_rows::{RowFault, behind, number_at, word_at};
 
 /// Rows as they are pushed, in units whose files have the numbers of the names.
 #[derive(Drop)]
@@ -72,12 +72,10 @@ fn push_numbered(pushed: &mut Pushed, word: &str, number: u32) -> Result<(), Row
 }
 
 fn push(pushed: &mut Pushed, item: &str) -> Result<(), RowFault> {
-    let (word, rest) = item.split_once(' ').ok_or(RowFault::Unknown)?;
-    if word == "name" {
-        return Ok(pushed.push_name(rest)?);
+    match word_at(item, 0) {
+        "name" => Ok(pushed.push_name(behind(item, 1))?),
+        word => push_numbered(pushed, word, number_at(item, 1)),
     }
-    let number = number(rest).ok_or(RowFault::Unknown)?;
-    push_numbered(pushed, word, number)
 }
 
 fn push_items(pushed: &mut Pushed, items: &str) -> Result<(), RowFault> {
@@ -91,5 +89,5 @@ fn push_items(pushed: &mut Pushed, items: &str) -> Result<(), RowFault> {
 pub fn answer(alloc: Global, items: &str) -> Result<String, RowFault> {
     let mut pushed = Pushed::new(alloc);
     push_items(&mut pushed, items)?;
-    Ok(told_registers(alloc, &pushed.finish())?)
+    told_registers(alloc, &pushed.finish())
 }

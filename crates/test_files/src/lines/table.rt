@@ -7,9 +7,10 @@ use elf_symbols::{Named, Symbols, symbols};
 use elf32_read::Image;
 use line_index::LineIndex;
 use line_rows::{LineSections, Row, Rows};
-use std::alloc::{AllocError, Global};
+use std::alloc::Global;
 use std::mem;
-use test_rows::{RowFault, before, number, told_number, two};
+use test_rows::Piece::{Hex, Maybe, Number, Text, Whether};
+use test_rows::{RowFault, behind, number_at, said, told, word_at};
 
 /// A program, the rows that are pushed for it, and the index that was built last.
 #[derive(Drop)]
@@ -22,7 +23,7 @@ pub struct Table {
 
 // The program of so many words, or the generated one.
 fn image_of(alloc: Global, word: &str, count: &str) -> Option<Image> {
-    let count = number(count)?;
+    let count = number_at(count, 0);
     if word == "generated" {
         generated_image(alloc, count)
     } else {
@@ -31,53 +32,61 @@ fn image_of(alloc: Global, word: &str, count: &str) -> Option<Image> {
 }
 
 // A row of `ADDRESS:FILE:LINE:MARKS`, of which the marks are `s` for a statement and `p` for a prologue's end.
-fn row_of(text: &str) -> Option<Row> {
-    let (address, text) = text.split_once(':')?;
-    let (file, text) = text.split_once(':')?;
-    let (line, marks) = text.split_once(':')?;
-    Some(Row {
-        address: number(address)?,
-        file: number(file)?,
-        line: number(line)?,
+fn row_of(text: &str) -> Row {
+    let (address, text) = text.split_once(':').unwrap_or((text, ""));
+    let (file, text) = text.split_once(':').unwrap_or((text, ""));
+    let (line, marks) = text.split_once(':').unwrap_or((text, ""));
+    Row {
+        address: number_at(address, 0),
+        file: number_at(file, 0),
+        line: number_at(line, 0),
         is_stmt: marks.contains('s'),
         prologue_end: marks.contains('p'),
-    })
+    }
 }
 
 fn push_sequence(pushed: &mut Pushed, rest: &str) -> Result<(), RowFault> {
-    let (end, texts) = before(rest).ok_or(RowFault::Unknown)?;
-    for text in texts.split_ascii_whitespace() {
-        push_row(&mut pushed.rows, row_of(text).ok_or(RowFault::Unknown)?)?;
+    for text in behind(rest, 1).split_ascii_whitespace() {
+        push_row(&mut pushed.rows, row_of(text))?;
     }
-    Ok(pushed.rows.end_sequence(end)?)
+    Ok(pushed.rows.end_sequence(number_at(rest, 0))?)
 }
 
 // Where a function named `work` begins behind its entry.
-fn told_body(alloc: Global, lines: &LineIndex, rest: &str) -> Result<String, RowFault> {
-    let (address, size) = two(rest).ok_or(RowFault::Unknown)?;
+fn body_of(lines: &LineIndex, address: u32, size: u32) -> u32 {
     let function = Named {
         name: b"work",
         address,
         size,
         is_function: true,
     };
-    let body = lines.body_of(&function);
-    Ok(format!(in alloc; "{body:#x}")?)
+    lines.body_of(&function)
 }
 
 // The line of a row, and whether one begins there.
-fn told_row(alloc: Global, lines: &LineIndex, pc: u32) -> Result<String, AllocError> {
+fn told_row(alloc: Global, lines: &LineIndex, pc: u32) -> Result<String, RowFault> {
     let starts = lines.starts(pc).is_some();
     match lines.row_at(pc) {
-        Some(row) => format!(in alloc; "{} {starts}", row.line),
-        None => format!(in alloc; "none {starts}"),
+        Some(row) => told(alloc, &[Number(row.line), Text(" "), Whether(starts)]),
+        None => told(alloc, &[Text("none "), Whether(starts)]),
     }
 }
 
-fn told_line(alloc: Global, lines: &LineIndex, rest: &str) -> Result<String, RowFault> {
-    let (file, line) = rest.split_once(' ').ok_or(RowFault::Unknown)?;
-    let line = number(line).ok_or(RowFault::Unknown)?;
-    Ok(told_number(alloc, lines.address_of(file.as_bytes(), line))?)
+// What is asked of an index.
+fn told_of(alloc: Global, lines: &LineIndex, word: &str, rest: &str) -> Result<String, RowFault> {
+    let (first, second) = (number_at(rest, 0), number_at(rest, 1));
+    match word {
+        "at" => told_row(alloc, lines, first),
+        "body" => told(alloc, &[Hex(body_of(lines, first, second))]),
+        "name" => said(
+            alloc,
+            str::from_utf8(lines.file_name(first)).unwrap_or("no text"),
+        ),
+        _ => told(
+            alloc,
+            &[Maybe(lines.address_of(word_at(rest, 0).as_bytes(), second))],
+        ),
+    }
 }
 
 // The names of a program, and an index without rows.
@@ -135,20 +144,10 @@ impl Table {
     /// ADDRESS`, `line FILE LINE`, `body ADDRESS SIZE` or `name FILE`, which ask of it.
     pub fn answer(&mut self, alloc: Global, word: &str, rest: &str) -> Result<String, RowFault> {
         match word {
-            "at" => {
-                let pc = number(rest).ok_or(RowFault::Unknown)?;
-                Ok(told_row(alloc, &self.lines, pc)?)
-            }
-            "line" => told_line(alloc, &self.lines, rest),
-            "body" => told_body(alloc, &self.lines, rest),
-            "name" => {
-                let file = number(rest).ok_or(RowFault::Unknown)?;
-                let name = str::from_utf8(self.lines.file_name(file)).unwrap_or("no text");
-                Ok(String::from_str(alloc, name)?)
-            }
+            "at" | "line" | "body" | "name" => told_of(alloc, &self.lines, word, rest),
             _ => {
                 self.prepare(alloc, word, rest)?;
-                Ok(format!(in alloc; "done")?)
+                said(alloc, "done")
             }
         }
     }

@@ -1,8 +1,8 @@
 // Rows of line tables as they are told.
-use crate::texts::push_told;
 use line_rows::{Row, Rows, SequenceView};
-use std::alloc::{AllocError, Global};
-use test_rows::told_bytes;
+use std::alloc::Global;
+use test_rows::Piece::{Hex, Number, Text};
+use test_rows::{RowFault, push_told, shown, told_bytes};
 
 fn name_of(rows: &Rows, file: u32) -> &[u8] {
     let file = file as usize;
@@ -13,81 +13,121 @@ fn name_of(rows: &Rows, file: u32) -> &[u8] {
     }
 }
 
-// As readelf prints it with --debug-dump=decodedline, without its columns.
-fn told_row(alloc: Global, rows: &Rows, row: &Row) -> Result<String, AllocError> {
-    let name = told_bytes(alloc, name_of(rows, row.file))?;
-    let mark = if row.is_stmt { " x" } else { "" };
-    format!(in alloc; "{name} {} {:#x}{mark}, ", row.line, row.address)
+fn push_file(alloc: Global, name: &[u8], end: &str, into: &mut String) -> Result<(), RowFault> {
+    let name = told_bytes(alloc, name)?;
+    push_told(alloc, into, &[Text(name.as_str()), Text(end)])
 }
 
-fn told_end(alloc: Global, end: u32) -> Result<String, AllocError> {
-    format!(in alloc; "end {end:#x}; ")
+// As readelf prints it with --debug-dump=decodedline, without its columns; without a name its line and its address alone.
+fn push_row(
+    alloc: Global,
+    name: Option<&[u8]>,
+    row: &Row,
+    into: &mut String,
+) -> Result<(), RowFault> {
+    let mut mark = "";
+    if let Some(name) = name {
+        push_file(alloc, name, " ", into)?;
+        if row.is_stmt {
+            mark = " x";
+        }
+    }
+    push_told(
+        alloc,
+        into,
+        &[
+            Number(row.line),
+            Text(" "),
+            Hex(row.address),
+            Text(mark),
+            Text(", "),
+        ],
+    )
+}
+
+fn push_end(alloc: Global, end: u32, into: &mut String) -> Result<(), RowFault> {
+    push_told(alloc, into, &[Text("end "), Hex(end), Text("; ")])
 }
 
 fn push_sequence(
     alloc: Global,
     rows: &Rows,
     sequence: SequenceView<'_>,
+    named: bool,
     into: &mut String,
-) -> Result<(), AllocError> {
+) -> Result<(), RowFault> {
     for row in sequence.rows {
-        push_told(into, told_row(alloc, rows, row))?;
+        let name = if named {
+            Some(name_of(rows, row.file))
+        } else {
+            None
+        };
+        push_row(alloc, name, row, into)?;
     }
-    push_told(into, told_end(alloc, sequence.end))
+    push_end(alloc, sequence.end, into)
+}
+
+fn push_sequences(
+    alloc: Global,
+    rows: &Rows,
+    named: bool,
+    into: &mut String,
+) -> Result<(), RowFault> {
+    for k in 0..rows.sequence_count() {
+        push_sequence(alloc, rows, rows.sequence(k), named, into)?;
+    }
+    Ok(())
+}
+
+fn told_sequences(alloc: Global, rows: &Rows, named: bool) -> Result<String, RowFault> {
+    let mut text = String::new(alloc);
+    push_sequences(alloc, rows, named, &mut text)?;
+    Ok(text)
 }
 
 /// The rows of each sequence and its end.
-pub fn told_rows(alloc: Global, rows: &Rows) -> Result<String, AllocError> {
-    let mut text = String::new(alloc);
-    for k in 0..rows.sequence_count() {
-        push_sequence(alloc, rows, rows.sequence(k), &mut text)?;
-    }
-    Ok(text)
-}
-
-fn push_places(
-    alloc: Global,
-    sequence: SequenceView<'_>,
-    into: &mut String,
-) -> Result<(), AllocError> {
-    for row in sequence.rows {
-        push_told(into, format!(in alloc; "{} {:#x}, ", row.line, row.address))?;
-    }
-    push_told(into, told_end(alloc, sequence.end))
+pub fn told_rows(alloc: Global, rows: &Rows) -> Result<String, RowFault> {
+    told_sequences(alloc, rows, true)
 }
 
 /// The address and the line of each row, and the end of each sequence.
-pub fn told_places(alloc: Global, rows: &Rows) -> Result<String, AllocError> {
-    let mut text = String::new(alloc);
-    for k in 0..rows.sequence_count() {
-        push_places(alloc, rows.sequence(k), &mut text)?;
-    }
-    Ok(text)
+pub fn told_places(alloc: Global, rows: &Rows) -> Result<String, RowFault> {
+    told_sequences(alloc, rows, false)
 }
 
-fn push_names(alloc: Global, rows: &Rows, into: &mut String) -> Result<(), AllocError> {
+// The file names.
+fn push_names(alloc: Global, rows: &Rows, into: &mut String) -> Result<(), RowFault> {
     for k in 0..rows.name_count() {
-        push_told(into, told_bytes(alloc, rows.name(k)))?;
-        into.push_str("; ")?;
+        push_file(alloc, rows.name(k), "; ", into)?;
     }
     Ok(())
+}
+
+fn push_shown(alloc: Global, rows: &[Row], into: &mut String) -> Result<(), RowFault> {
+    let rows = shown(alloc, &rows)?;
+    push_told(alloc, into, &[Text(rows.as_str()), Text(" ")])
 }
 
 // The rows of each sequence with all that they show, and its end.
-fn push_registers(alloc: Global, rows: &Rows, into: &mut String) -> Result<(), AllocError> {
+fn push_registers(alloc: Global, rows: &Rows, into: &mut String) -> Result<(), RowFault> {
     for k in 0..rows.sequence_count() {
         let sequence = rows.sequence(k);
-        push_told(into, format!(in alloc; "{:?} ", sequence.rows))?;
-        push_told(into, told_end(alloc, sequence.end))?;
+        push_shown(alloc, sequence.rows, into)?;
+        push_end(alloc, sequence.end, into)?;
     }
     Ok(())
 }
 
+fn push_faults(alloc: Global, rows: &Rows, into: &mut String) -> Result<(), RowFault> {
+    let faults = shown(alloc, &rows.faults())?;
+    Ok(into.push_str(faults.as_str())?)
+}
+
 /// The names, the rows of each sequence with all that they show and its end, and the units with a fault.
-pub fn told_registers(alloc: Global, rows: &Rows) -> Result<String, AllocError> {
+pub fn told_registers(alloc: Global, rows: &Rows) -> Result<String, RowFault> {
     let mut text = String::new(alloc);
     push_names(alloc, rows, &mut text)?;
     push_registers(alloc, rows, &mut text)?;
-    push_told(&mut text, format!(in alloc; "{:?}", rows.faults()))?;
+    push_faults(alloc, rows, &mut text)?;
     Ok(text)
 }

@@ -1,16 +1,15 @@
-// Variables that three sections of debugging information tell of, and their names in expressions. The rows are those of `Step`.
+// Variables that three sections of debugging information tell of, and their names in expressions.
 mod hart;
 mod names;
-mod step;
 mod told;
 
 use crate::images::generated_image;
 use debug_info::{Info, Sections, Var, read_info};
 use elf_symbols::{Symbols, symbols};
-use names::{Given, becomes, places, worth};
-use std::alloc::{AllocError, Global};
-use step::{Section, Step};
-use test_rows::{Bench, RowFault};
+use names::{Given, told_given};
+use std::alloc::Global;
+use test_rows::Piece::{Count, Text};
+use test_rows::{Bench, RowFault, number, number_at, read_hex, said, told, word_at};
 use told::{faults_text, variables_text};
 
 /// The sections, what was read of them, and the place that counts.
@@ -26,36 +25,38 @@ pub struct VariableBench {
     cfa: Option<u32>,
 }
 
-// The bytes that hexadecimal digits spell, with spaces between them or without.
-fn decoded(alloc: Global, text: &str) -> Option<Vec<u8>> {
-    let mut digits = String::new(alloc);
-    for word in text.split(' ') {
-        digits.push_str(word).ok()?;
-    }
-    hex::decode(alloc, digits.as_str()).ok()
-}
-
 /// A unit of version 4 without entries.
 const UNIT: &[u8] = &[7, 0, 0, 0, 4, 0, 0, 0, 0, 0, 4];
 
 // So many units without entries.
-fn units(alloc: Global, count: u32) -> Result<Vec<u8>, AllocError> {
-    let mut info = Vec::new(alloc);
+fn push_units(info: &mut Vec<u8>, count: u32) -> Result<(), RowFault> {
     for _unit in 0..count {
         info.extend_from_slice(UNIT)?;
     }
-    Ok(info)
+    Ok(())
 }
 
 // A unit of so many entries, each of them the code 1.
-fn entries(alloc: Global, count: u32) -> Result<Vec<u8>, AllocError> {
-    let mut info = Vec::new(alloc);
+fn push_entries(info: &mut Vec<u8>, count: u32) -> Result<(), RowFault> {
     info.extend_from_slice(&count.saturating_add(7).to_le_bytes())?;
     info.extend_from_slice(&UNIT[4..])?;
     for _entry in 0..count {
         info.push(1)?;
     }
-    Ok(info)
+    Ok(())
+}
+
+// The bytes that hexadecimal digits spell, with spaces between them or without.
+fn push_decoded(alloc: Global, bytes: &mut Vec<u8>, text: &str) -> Result<(), RowFault> {
+    for word in text.split(' ') {
+        push_hex(alloc, bytes, word)?;
+    }
+    Ok(())
+}
+
+fn push_hex(alloc: Global, bytes: &mut Vec<u8>, digits: &str) -> Result<(), RowFault> {
+    let decoded = read_hex(alloc, digits)?;
+    Ok(bytes.extend_from_slice(&decoded)?)
 }
 
 fn generated_names(alloc: Global) -> Option<Symbols> {
@@ -76,42 +77,20 @@ impl VariableBench {
         }
     }
 
-    // Puts bytes in place of a section.
-    fn set(&mut self, alloc: Global, section: Section, text: &str) -> Result<String, AllocError> {
-        let Some(bytes) = decoded(alloc, text) else {
-            return format!(in alloc; "no bytes");
+    // Puts the bytes of a row in place of a section.
+    fn put(&mut self, alloc: Global, word: &str, rest: &str) -> Result<String, RowFault> {
+        let section = match word {
+            "abbrevs" => &mut self.abbrevs,
+            "strs" => &mut self.strs,
+            _ => &mut self.info,
         };
-        self.put(alloc, section, bytes)
-    }
-
-    // The bytes of before are let go of here alone.
-    fn put_bytes(&mut self, section: Section, bytes: Vec<u8>) {
-        match section {
-            Section::Info => self.info = bytes,
-            Section::Abbrevs => self.abbrevs = bytes,
-            Section::Strs => self.strs = bytes,
+        section.clear();
+        match word {
+            "units" => push_units(section, number_at(rest, 0))?,
+            "entries" => push_entries(section, number_at(rest, 0))?,
+            _ => push_decoded(alloc, section, rest)?,
         }
-    }
-
-    fn put(
-        &mut self,
-        alloc: Global,
-        section: Section,
-        bytes: Vec<u8>,
-    ) -> Result<String, AllocError> {
-        let count = bytes.len();
-        self.put_bytes(section, bytes);
-        format!(in alloc; "{count} bytes")
-    }
-
-    // What the sections tell. None where memory runs out.
-    fn told_info(&self, alloc: Global) -> Option<Info> {
-        let sections = Sections {
-            info: &self.info,
-            abbrevs: &self.abbrevs,
-            strs: &self.strs,
-        };
-        read_info(alloc, &sections).ok()
+        told(alloc, &[Count(section.len() as u64), Text(" bytes")])
     }
 
     // What was read before is let go of here alone.
@@ -119,25 +98,22 @@ impl VariableBench {
         self.read = Some(info);
     }
 
-    fn put_info(&mut self, alloc: Global, info: Info) -> Result<String, AllocError> {
-        let text = faults_text(alloc, &info)?;
-        self.put_read(info);
-        Ok(text)
-    }
-
     // Reads the sections.
-    fn read(&mut self, alloc: Global) -> Result<String, AllocError> {
-        match self.told_info(alloc) {
-            Some(info) => self.put_info(alloc, info),
-            None => format!(in alloc; "no memory"),
-        }
+    fn read(&mut self, alloc: Global) -> Result<String, RowFault> {
+        let sections = Sections {
+            info: &self.info,
+            abbrevs: &self.abbrevs,
+            strs: &self.strs,
+        };
+        let info = read_info(alloc, &sections)?;
+        self.put_read(info);
+        self.told_faults(alloc)
     }
 
-    // The variables at the place that counts. None where nothing was read, or memory runs out.
-    fn variables(&self, alloc: Global) -> Option<Vec<Var<'_>>> {
+    fn told_faults(&self, alloc: Global) -> Result<String, RowFault> {
         match &self.read {
-            Some(info) => info.variables_at(alloc, self.pc).ok(),
-            None => None,
+            Some(info) => faults_text(alloc, info),
+            None => Err(RowFault::Unknown),
         }
     }
 
@@ -146,60 +122,66 @@ impl VariableBench {
         &self,
         alloc: Global,
         variables: &[Var<'_>],
-        step: Step<'_>,
-    ) -> Result<String, AllocError> {
-        let given = |text| Given {
+        word: &str,
+        text: &str,
+    ) -> Result<String, RowFault> {
+        let given = Given {
             text,
             variables,
             cfa: self.cfa,
         };
-        match (step, &self.names) {
-            (Step::Becomes(text), _) => becomes(alloc, given(text)),
-            (Step::Places(text), _) => places(alloc, given(text)),
-            (Step::Worth(text), Some(names)) => worth(alloc, given(text), names),
+        match (word, &self.names) {
+            ("becomes" | "places" | "worth", Some(names)) => told_given(alloc, word, given, names),
             _ => variables_text(alloc, variables),
         }
     }
 
     // What is asked of the variables at the place that counts.
-    fn asked(&self, alloc: Global, step: Step<'_>) -> Result<String, AllocError> {
-        match self.variables(alloc) {
-            Some(variables) => self.asked_of(alloc, &variables, step),
-            None => format!(in alloc; "nothing was read"),
-        }
-    }
-
-    // What came of a step.
-    fn done(&mut self, alloc: Global, step: Step<'_>) -> Result<String, AllocError> {
-        match step {
-            Step::Section(section, text) => self.set(alloc, section, text),
-            Step::Units(count) => self.put(alloc, Section::Info, units(alloc, count)?),
-            Step::Entries(count) => self.put(alloc, Section::Info, entries(alloc, count)?),
-            Step::Read => self.read(alloc),
-            Step::Cfa(cfa) => {
-                self.cfa = cfa;
-                format!(in alloc; "set")
+    fn asked(&self, alloc: Global, word: &str, rest: &str) -> Result<String, RowFault> {
+        match &self.read {
+            Some(info) => {
+                let variables = info.variables_at(alloc, self.pc)?;
+                self.asked_of(alloc, &variables, word, rest)
             }
-            Step::At(pc) => {
-                self.pc = pc;
-                self.asked(alloc, step)
-            }
-            _ => self.asked(alloc, step),
+            None => said(alloc, "nothing was read"),
         }
     }
 }
 
 impl Bench for VariableBench {
+    /// What came of a row: `info BYTES`, `abbrevs BYTES` or `strs BYTES`, by which a section is these bytes, in hexadecimal with spaces
+    /// or without, and how many they are, which aren't said again; `units COUNT`, by which `.debug_info` is so many units without
+    /// entries; `entries COUNT`, by which it is one unit of so many entries of one byte each; `read`, by which the sections are read, and
+    /// the units that have a fault, each by its offset; `at ADDRESS`, the variables there, whose names count in the texts that follow;
+    /// `cfa ADDRESS` or `cfa none`, the CFA of these; `becomes TEXT`, the text with its names replaced; `places TEXT`, each name's
+    /// place and length, and those of what it is replaced by, and then the place of the text that each place of the new one counts as,
+    /// its end too; or `worth TEXT`, the value of the text with its names replaced, or its first fault and the fault's place, where each
+    /// register holds 100 and its number, and each byte 255.
     fn answer(&mut self, alloc: Global, row: &str) -> Result<String, RowFault> {
-        let step = Step::read(row).ok_or(RowFault::Unknown)?;
-        Ok(self.done(alloc, step)?)
+        let (word, rest) = row.split_once(' ').unwrap_or((row, ""));
+        match word {
+            "info" | "abbrevs" | "strs" | "units" | "entries" => self.put(alloc, word, rest),
+            "read" => self.read(alloc),
+            "cfa" => {
+                self.cfa = number(rest);
+                said(alloc, "set")
+            }
+            "at" => {
+                self.pc = number_at(rest, 0);
+                self.asked(alloc, word, rest)
+            }
+            "becomes" | "places" | "worth" => self.asked(alloc, word, rest),
+            _ => Err(RowFault::Unknown),
+        }
     }
 }
 
 /// What is said of a row before its answer: the row, or of one with a section's bytes its word alone.
 pub fn label(row: &str) -> &str {
-    match row.split_once(' ') {
-        Some((word, _)) if matches!(word, "info" | "abbrevs" | "strs") => word,
+    match word_at(row, 0) {
+        "info" => "info",
+        "abbrevs" => "abbrevs",
+        "strs" => "strs",
         _ => row,
     }
 }

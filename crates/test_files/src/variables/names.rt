@@ -1,12 +1,14 @@
 // Texts with names of variables.
-use crate::texts::push_told;
+use crate::expressions::told_fault;
 use crate::variables::hart::Hart;
 use cond_expr::{ParseError, value};
 use debug_info::Var;
 use elf_symbols::Symbols;
-use std::alloc::{AllocError, Global};
+use std::alloc::Global;
 use std::str::from_utf8;
-use var_expr::{Expanded, Replaced, expand};
+use test_rows::Piece::{Count, Text};
+use test_rows::{RowFault, push_told, said, shown};
+use var_expr::{Expanded, expand};
 
 /// A text, and what its names stand for.
 #[derive(Clone, Copy)]
@@ -27,65 +29,73 @@ fn expanded(alloc: Global, given: Given<'_>) -> Option<Expanded> {
     .ok()
 }
 
-/// The new text.
-pub fn becomes(alloc: Global, given: Given<'_>) -> Result<String, AllocError> {
-    match expanded(alloc, given) {
-        Some(expanded) => format!(in alloc; "{}", from_utf8(expanded.text()).unwrap_or("no text")),
-        None => format!(in alloc; "no memory"),
-    }
-}
-
-fn told_name(alloc: Global, name: &Replaced) -> Result<String, AllocError> {
-    let (at, length) = (name.at, name.length);
-    let (new_at, new_length) = (name.new_at, name.new_length);
-    format!(in alloc; "{at}+{length} becomes {new_at}+{new_length}; ")
-}
-
-fn push_names(alloc: Global, expanded: &Expanded, into: &mut String) -> Result<(), AllocError> {
+fn push_names(alloc: Global, expanded: &Expanded, into: &mut String) -> Result<(), RowFault> {
     for name in expanded.names() {
-        push_told(into, told_name(alloc, name))?;
+        push_told(
+            alloc,
+            into,
+            &[
+                Count(name.at as u64),
+                Text("+"),
+                Count(name.length as u64),
+                Text(" becomes "),
+                Count(name.new_at as u64),
+                Text("+"),
+                Count(name.new_length as u64),
+                Text("; "),
+            ],
+        )?;
     }
     Ok(())
 }
 
-fn push_places(alloc: Global, expanded: &Expanded, into: &mut String) -> Result<(), AllocError> {
+fn push_places(alloc: Global, expanded: &Expanded, into: &mut String) -> Result<(), RowFault> {
     for at in 0..=expanded.text().len() {
-        push_told(into, format!(in alloc; " {}", expanded.place(at)))?;
+        push_told(alloc, into, &[Text(" "), Count(expanded.place(at) as u64)])?;
     }
     Ok(())
 }
 
-fn told_places(alloc: Global, expanded: &Expanded) -> Result<String, AllocError> {
+fn told_places(alloc: Global, expanded: &Expanded) -> Result<String, RowFault> {
     let mut text = String::new(alloc);
     push_names(alloc, expanded, &mut text)?;
-    text.push_str("places")?;
+    push_told(alloc, &mut text, &[Text("places")])?;
     push_places(alloc, expanded, &mut text)?;
     Ok(text)
 }
 
-/// The places of names and of what they are replaced by, and the place of the given text for each of the new one.
-pub fn places(alloc: Global, given: Given<'_>) -> Result<String, AllocError> {
-    match expanded(alloc, given) {
-        Some(expanded) => told_places(alloc, &expanded),
-        None => format!(in alloc; "no memory"),
-    }
-}
-
-fn told_worth(alloc: Global, expanded: &Expanded, names: &Symbols) -> Result<String, AllocError> {
+fn told_worth(alloc: Global, expanded: &Expanded, names: &Symbols) -> Result<String, RowFault> {
     match expanded.parse(alloc, names) {
-        Ok(expression) => format!(in alloc; "{:?}", value(&expression, &Hart)),
-        Err(ParseError::Fault(fault)) => {
-            let (kind, at) = (fault.kind, fault.at);
-            format!(in alloc; "{kind:?} at {at}")
-        }
-        Err(ParseError::NoMemory) => format!(in alloc; "no memory"),
+        Ok(expression) => shown(alloc, &value(&expression, &Hart)),
+        Err(ParseError::Fault(fault)) => told_fault(alloc, fault),
+        Err(ParseError::NoMemory) => Err(RowFault::NoMemory),
     }
 }
 
-/// The value of the new text, or its first fault.
-pub fn worth(alloc: Global, given: Given<'_>, names: &Symbols) -> Result<String, AllocError> {
+// What is asked of a new text.
+fn told_expanded(
+    alloc: Global,
+    word: &str,
+    expanded: &Expanded,
+    names: &Symbols,
+) -> Result<String, RowFault> {
+    match word {
+        "becomes" => said(alloc, from_utf8(expanded.text()).unwrap_or("no text")),
+        "places" => told_places(alloc, expanded),
+        _ => told_worth(alloc, expanded, names),
+    }
+}
+
+/// What is asked of a text by a word: `becomes`, the new text; `places`, the places of names and of what they are replaced by, and
+/// the place of the given text for each of the new one; or `worth`, the value of the new text, or its first fault.
+pub fn told_given(
+    alloc: Global,
+    word: &str,
+    given: Given<'_>,
+    names: &Symbols,
+) -> Result<String, RowFault> {
     match expanded(alloc, given) {
-        Some(expanded) => told_worth(alloc, &expanded, names),
-        None => format!(in alloc; "no memory"),
+        Some(expanded) => told_expanded(alloc, word, &expanded, names),
+        None => Err(RowFault::NoMemory),
     }
 }
