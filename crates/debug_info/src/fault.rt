@@ -53,11 +53,9 @@ impl From<Leb> for InfoFault {
 }
 
 /// Why a unit wasn't read.
-#[derive(Clone, Copy, Debug, Error)]
+#[derive(Clone, Copy)]
 pub enum InfoError {
-    #[error(transparent)]
     Fault(InfoFault),
-    #[error("out of memory")]
     Memory,
 }
 

@@ -11,7 +11,7 @@ use crate::offset::{InfoOffset, Source, StrOffset};
 use leb_read::{Form, Width, behind_run, form_of, number_by, sleb, text_at, u32_at};
 
 /// Where a text begins.
-#[derive(Clone, Copy, Debug)]
+#[derive(Clone, Copy)]
 pub enum TextPlace {
     Inline(InfoOffset),
     Shared(StrOffset),

@@ -2,7 +2,7 @@
 //!
 //! Texts may share their ends, so what stands behind a place is kept for each place, and is filled from the section's end on.
 
-ghost use Rattle.std.specs.Prelude.{◌≡◌, ◌<◌, ◌≤◌, ◌^◌, IfOk, drop, length, nat_lt};
+ghost use Rattle.std.specs.Prelude.{◌≡◌, ◌<◌, ◌≤◌, ◌+◌, ◌^◌, IfOk, drop, length, nat_lt};
 ghost use Rattle.leb_read.specs.Leb.{text_from};
 ghost use Rattle.debug_info.specs.TextLengths.{AreLengths};
 
@@ -16,6 +16,19 @@ pub struct TextLengths {
     lengths: Vec<u32>,
 }
 
+// The length of the text at a place, by that of the text behind it.
+#[tactic(auto, using(crate::proofs::Texts::at_zero, crate::proofs::Texts::at_byte))]
+fn length_before(section: &[u8], at: usize, behind: u32) -> u32
+    requires short { length section.now < 2 ^ 32 }
+    requires within { at < length section.now }
+    requires room { behind + at < length section.now }
+    requires behind { behind ≡ length (text_from section.now (at + 1)) }
+    ensures value { result ≡ length (text_from section.now at) }
+    ensures room { result + at ≤ length section.now }
+{
+    if section[at] == 0 { 0 } else { behind + 1 }
+}
+
 /// The lengths of the texts of a section.
 pub fn text_lengths_of(alloc: Global, section: &[u8]) -> Result<TextLengths, NoMemory>
     requires { length section.now < 2 ^ 32 }
@@ -27,7 +40,7 @@ pub fn text_lengths_of(alloc: Global, section: &[u8]) -> Result<TextLengths, NoM
     let mut left = section.len();
     'places: while left > 0 {
         left -= 1;
-        length = if section[left] == 0 { 0 } else { length + 1 };
+        length = length_before(section, left, length);
         lengths.push(length)?;
     }
     Ok(TextLengths { lengths })

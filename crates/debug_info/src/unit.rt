@@ -1,11 +1,13 @@
 //! What the units of a section give (DWARF 4, section 7.5.1.1).
 
 ghost use Rattle.std.specs.Prelude.{◌≡◌, ◌≤◌, ◌+◌, ◌-◌, ◌++◌, All, IfOk, OnOk, find, length, map, nat_lt};
+ghost use Rattle.std.specs.List.{flat_map};
 ghost use Rattle.debug_info.specs.Contents.{IsSpan, all_faults, entries_given, fault_list, spans_of};
 ghost use Rattle.debug_info.specs.Entries.{Gives, IfRead};
 ghost use Rattle.debug_info.specs.Functions.{all_functions, functions_read};
 ghost use Rattle.debug_info.specs.Info.{info_of, texts_of, variables_at};
 ghost use Rattle.debug_info.specs.Marks.{GivesMarks};
+ghost use Rattle.debug_info.specs.Order.{AreTurns};
 ghost use Rattle.debug_info.specs.Rising.{RisesFrom};
 ghost use Rattle.debug_info.specs.Scope.{from_offset, variables_in};
 ghost use Rattle.debug_info.specs.Shown.{AreTexts, given, reading_shown, seen_texts, shown_variables};
@@ -18,7 +20,7 @@ use crate::functions::functions_at;
 use crate::header::{Span, Spans, fault_at, header_at, spans_of};
 use crate::mark::{Mark, Unit, marks_at};
 use crate::offset::Source;
-use crate::order::turns_of;
+use crate::order::{Turn, turns_of};
 use crate::scope::{Texts, Var, variables_in};
 use crate::tables::Table;
 use address_tables::AddressRange;
@@ -197,6 +199,27 @@ fn unread(alloc: Global, count: usize) -> Result<Vec<Reading>, NoMemory>
     Ok(readings)
 }
 
+// Reads units in the order of their turns.
+fn read_turns(
+    alloc: Global,
+    source: &Source<'_>,
+    spans: &[Span],
+    turns: &[Turn],
+) -> Result<Vec<Reading>, NoMemory>
+    requires source { IsSource source.now }
+    requires spans { All (IsSpan source.now.info.now) spans.now }
+    requires turns { AreTurns (length spans.now) turns.now }
+    ensures { IfOk result (λ readings. map reading_shown readings.items ≡ map (given source.now.abbrevs.now source.now.strs.now source.now.info.now) spans.now) }
+{
+    let mut readings = unread(alloc, spans.len())?;
+    let mut table = Table::new(alloc, source.abbrevs);
+    for turn in turns {
+        let number = turn.number;
+        readings[number] = reading_of(alloc, source, &spans[number], &mut table)?;
+    }
+    Ok(readings)
+}
+
 // What is read of each unit. They are read in another order than theirs, so that tables of abbreviations which share
 // their ends are read once.
 fn readings_of(alloc: Global, source: &Source<'_>, spans: &[Span]) -> Result<Vec<Reading>, NoMemory>
@@ -205,13 +228,7 @@ fn readings_of(alloc: Global, source: &Source<'_>, spans: &[Span]) -> Result<Vec
     ensures { IfOk result (λ readings. map reading_shown readings.items ≡ map (given source.now.abbrevs.now source.now.strs.now source.now.info.now) spans.now) }
 {
     let turns = turns_of(alloc, source, spans)?;
-    let mut readings = unread(alloc, spans.len())?;
-    let mut table = Table::new(alloc, source.abbrevs);
-    for turn in &turns {
-        let number = turn.number;
-        readings[number] = reading_of(alloc, source, &spans[number], &mut table)?;
-    }
-    Ok(readings)
+    read_turns(alloc, source, spans, &turns)
 }
 
 // Adds the fault of a unit, if it has one.
@@ -220,6 +237,22 @@ fn push_fault(faults: &mut Vec<UnitFault>, fault: Option<UnitFault>) -> Result<(
 {
     if let Some(fault) = fault {
         faults.push(fault)?;
+    }
+    Ok(())
+}
+
+// Adds what was read of units.
+fn push_readings(
+    functions: &mut Vec<AddressRange<u32>>,
+    faults: &mut Vec<UnitFault>,
+    readings: &[Reading],
+) -> Result<(), NoMemory>
+    ensures functions { OnOk result (functions.new.items ≡ functions.old.items ++ flat_map (λ r. r.functions.items) readings.now) }
+    ensures faults { OnOk result (faults.new.items ≡ faults.old.items ++ flat_map (λ r. fault_list r.fault) readings.now) }
+{
+    for reading in readings {
+        functions.extend_from_slice(&reading.functions)?;
+        push_fault(faults, reading.fault)?;
     }
     Ok(())
 }
@@ -234,16 +267,12 @@ pub fn contents_of(alloc: Global, source: &Source<'_>) -> Result<Contents, NoMem
 {
     let Spans { units, fault } = spans_of(alloc, source.info)?;
     let readings = readings_of(alloc, source, &units)?;
-    let mut functions = Vec::new(alloc);
-    let mut faults = Vec::new(alloc);
-    for reading in &readings {
-        functions.extend_from_slice(&reading.functions)?;
-        push_fault(&mut faults, reading.fault)?;
-    }
-    push_fault(&mut faults, fault)?;
-    Ok(Contents {
+    let mut contents = Contents {
         units,
-        functions,
-        faults,
-    })
+        functions: Vec::new(alloc),
+        faults: Vec::new(alloc),
+    };
+    push_readings(&mut contents.functions, &mut contents.faults, &readings)?;
+    push_fault(&mut contents.faults, fault)?;
+    Ok(contents)
 }

@@ -123,3 +123,15 @@ pub operand-returns-else-depth-ge-MAX_OPEN-3-clause-met : goal.operand-returns-e
 operand-returns-else-depth-ge-MAX_OPEN-3-clause-met t c =
     λ parens outer. meets_fault Text c.in-CutOff.place _ _ _ c.fault-in-CutOff.ensures
     (ap (wanting c.args.end parens outer c.args.depth) c.in-Some.ensures ∙ wanting-cut_off c.args.end parens outer c.args.depth c.in-Some.first c.in-Some.rest.now c.in-CutOff.place (sym c.in-CutOff.ensures) (omega arith))
+
+pub operand-operand-requires : goal.operand-operand-requires
+operand-operand-requires t c = (omega (arith, c.decreases), omega arith)
+
+pub operand-expression-requires : goal.operand-expression-requires
+operand-expression-requires t c = (omega (arith, c.decreases), (omega arith, omega arith))
+
+pub expression-operand-requires : goal.expression-operand-requires
+expression-operand-requires t c = (omega (arith, c.decreases), c.requires.room)
+
+pub expression-expression-requires : goal.expression-expression-requires
+expression-expression-requires t c = (omega (arith, c.decreases), (c.requires.room, omega (arith, c.strength-strength.ensures)))

@@ -1,4 +1,4 @@
-use Rattle.debug_info.proofs.Words.{◌≡◌, map, get_or, refl, true, false, arith, ◌==◌, nat_tests, entries_in, Variable, variable_of, seen_texts, Entry, Mark, map-append}
+use Rattle.debug_info.proofs.Words.{◌≡◌, ◌++◌, List, map, filter, get_or, refl, sym, ap, ◌∙◌, append-nil, take_all, true, false, arith, ◌==◌, nat_tests, all_reread, entries_in, shown_variables, Variable, variable_of, seen_texts, Entry, Mark, map-append}
 use Rattle.debug_info.specs.declared.entry.Tag.TheVariants as tag
 use Rattle.debug_info.proofs.Walked.{passed_step, taken_step}
 use Rattle.debug_info.proofs.scope.push_level.Goals as goal
@@ -23,3 +23,13 @@ loop-mark-preserved c =
           rw w.variables-is
           (passed_step (map f) u (λ m. m.level == c.args.level) c.args.own.now c.loop-mark.mark-index first _ _ (map-append f) refl c.loop-mark-test.true test c.loop-mark.invariant)
     ]
+
+pub loop-mark-init : goal.loop-mark-init
+loop-mark-init c = sym (append-nil (shown_variables c.args.variables.now.items))
+
+pub returns : goal.returns
+returns c =
+    let u = c.args.unit.now in
+    let f : Entry → Variable = variable_of (seen_texts c.args.texts.now) (entries_in u) c.args.base true in
+    let all = take_all c.loop-mark.mark-index c.args.own.now c.loop-mark-test.false in
+    c.loop-mark.invariant ∙ ap (λ (ms : List Mark). shown_variables c.args.variables.now.items ++ map f (all_reread u (filter (λ m. m.level == c.args.level) ms))) all

@@ -1,20 +1,19 @@
-use Rattle.debug_info.proofs.Words.{◌<◌, List, length, get_or, ◌≡◌, subst, refl, sym, ◌∙◌, ap, get_or_default, length-set, take_all, AreTurns, given, reading_shown, Span, Turn}
+use Rattle.debug_info.proofs.Words.{◌<◌, List, length, get_or, ◌≡◌, subst, refl, ◌∙◌, ap, get_or_default, length-set, take_all, given, reading_shown, Span, Turn}
 use Rattle.debug_info.proofs.Orderly.{AreRead, read_more, read_shown}
-use Rattle.debug_info.proofs.unit.readings_of.Goals as goal
+use Rattle.debug_info.proofs.unit.read_turns.Goals as goal
 
 pub loop-turn-preserved : goal.loop-turn-preserved
 loop-turn-preserved c =
     let source = c.args.source.now in
     let spans = c.args.spans.now in
-    let turns = c.deref-turn-items.result.now in
+    let turns = c.args.turns.now in
     let i = c.loop-turn.turn-index in
     let first : Turn = record { rank = 0; number = 0 } in
     let turn : Turn = get_or turns i first in
     let new = c.in_ok-readings-2.field-0 in
     let read = c.in_ok-readings-2.ensures in
     let h : i < length turns = c.loop-turn-test.true in
-    let numbers : AreTurns (length spans) turns = subst (AreTurns (length spans)) (sym c.deref-turn-items.ensures.value) c.in_ok-turns.ensures in
-    let within : turn.number < length spans = numbers.within i first h in
+    let within : turn.number < length spans = c.requires.turns.within i first h in
     let none : Span = record { at = 0; end = 0 } in
     let one : (s : Span) → reading_shown new ≡ given source.abbrevs.now source.strs.now source.info.now (get_or spans turn.number s) = λ s.
     (read.value ∙ ap (given source.abbrevs.now source.strs.now source.info.now) (get_or_default spans turn.number none s within)) in
@@ -28,9 +27,8 @@ pub returns : goal.returns
 returns c =
     let source = c.args.source.now in
     let spans = c.args.spans.now in
-    let turns = c.deref-turn-items.result.now in
+    let turns = c.args.turns.now in
     let readings = c.loop-turn.readings.items in
-    let numbers : AreTurns (length spans) turns = subst (AreTurns (length spans)) (sym c.deref-turn-items.ensures.value) c.in_ok-turns.ensures in
     let all : AreRead source.abbrevs.now source.strs.now source.info.now spans turns readings =
     subst (λ (ts : List Turn). AreRead source.abbrevs.now source.strs.now source.info.now spans ts readings) (take_all c.loop-turn.turn-index turns c.loop-turn-test.false) c.loop-turn.invariant.read in
-    read_shown source.abbrevs.now source.strs.now source.info.now spans turns readings c.loop-turn.invariant.count numbers all
+    read_shown source.abbrevs.now source.strs.now source.info.now spans turns readings c.loop-turn.invariant.count c.requires.turns all
