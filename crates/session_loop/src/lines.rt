@@ -5,13 +5,16 @@ ghost use Rattle.dbg_model.specs.Limits.{history};
 ghost use Rattle.dbg_model.specs.Lawful.{may_do};
 ghost use Rattle.dbg_model.specs.State.{any_runs};
 ghost use Rattle.dbg_model.specs.Reply.{answer_of, is_wait};
+ghost use Rattle.dbg_model.specs.Sight.{sight_of};
 ghost use Rattle.dbg_answers.specs.Answer.{line_answer_of};
+ghost use Rattle.dbg_answers.specs.Debuggee as debuggee;
 ghost use Rattle.dbg_answers.specs.Reading.{IsRead};
 ghost use Rattle.engine_parts.specs.Facts.{Facts};
 ghost use Rattle.engine_parts.specs.Seen.{seen};
 ghost use Rattle.engine_parts.specs.Calls.{Does};
+ghost use Rattle.engine_parts.specs.Viewing.{own_views};
 
-use dbg_answers::{Debuggee, LineAnswer, answer_line, waits};
+use dbg_answers::{Answer, Debuggee, LineAnswer, answer_line, waits};
 use dbg_engine::Engine;
 use dbg_model::{Reply, ThreadView};
 use dbg_traits::NoMemory;
@@ -30,30 +33,58 @@ pub fn must_wait(engine: &Engine, line: &[u8], read: &Result<CommandLine, Refusa
     waits(read)
 }
 
-// What is answered to a line, with its token, and what it changes. What it sees of the harts is put into `threads`.
+// What a command may see of an engine, with these threads.
+fn debuggee_of<'a>(engine: &'a Engine, threads: &'a [ThreadView]) -> Debuggee<'a>
+    requires facts { Facts engine.now }
+    requires views { threads.now ≡ own_views engine.now.machine.cores engine.now.minds }
+    ensures sees { debuggee.seen result ≡ sight_of engine.now.opening (seen engine.now) }
+    ensures threads { result.threads.now ≡ threads.now }
+    ensures given { result.table.now.given ≡ engine.now.given }
+{
+    Debuggee {
+        image: engine.image(),
+        sources: engine.sources(),
+        memory: engine.memory(),
+        threads,
+        table: engine.table(),
+        watches: engine.watches(),
+        selected: engine.selected(),
+        displaced: engine.displaced(),
+    }
+}
+
+// What is answered to a line, with its token, and what it changes, where these are the threads.
 fn answer_to(
     alloc: Global,
     engine: &Engine,
     line: &[u8],
     read: Result<CommandLine, Refusal>,
-    threads: &mut Vec<ThreadView>,
+    threads: &[ThreadView],
 ) -> Result<LineAnswer, NoMemory>
     requires room { engine.now.noted < history }
+    requires facts { Facts engine.now }
+    requires views { threads.now ≡ own_views engine.now.machine.cores engine.now.minds }
     requires read { Commands line.now read }
     ensures { IfOk result (λ a. line_answer_of a ≡ answer_of engine.now.opening (seen engine.now) line.now) }
 {
-    engine.threads(threads)?;
-    let debuggee = Debuggee {
-        image: engine.image(),
-        sources: engine.sources(),
-        memory: engine.memory(),
-        threads: threads.as_slice(),
-        table: engine.table(),
-        watches: engine.watches(),
-        selected: engine.selected(),
-        displaced: engine.displaced(),
-    };
-    answer_line(alloc, &debuggee, read)
+    answer_line(alloc, &debuggee_of(engine, threads), read)
+}
+
+// Does a line to which this is answered.
+fn do_answered(engine: &mut Engine, line: &[u8], answered: LineAnswer) -> Result<Reply, NoMemory>
+    requires may { may_do engine.old.opening (seen engine.old) line.now ≡ true }
+    requires answered { line_answer_of answered ≡ answer_of engine.old.opening (seen engine.old) line.now }
+    ensures does { MatchResult result (Does engine.old engine.new line.now) (λ _. engine.new ≡ engine.old) }
+    ensures facts { OnOk result (Facts engine.new) }
+{
+    let LineAnswer {
+        token,
+        answer: Answer { content, effect },
+    } = answered;
+    match engine.do_line(line, effect) {
+        Ok(()) => Ok(Reply { token, content }),
+        Err(NoMemory) => Err(NoMemory),
+    }
 }
 
 /// Does one line, writes what it asks to be written, and answers it. A line that waits is done only where no hart runs.
@@ -74,10 +105,11 @@ pub fn command(
     ensures does { MatchResult result (Does engine.old engine.new line.now) (λ _. engine.new ≡ engine.old) }
     ensures facts { OnOk result (Facts engine.new) }
 {
-    let LineAnswer { token, answer } = answer_to(alloc, engine, line, read, threads)?;
-    engine.do_line(line, answer.effect)?;
-    Ok(Reply {
-        token,
-        content: answer.content,
-    })
+    let Ok(()) = engine.threads(threads) else {
+        return Err(NoMemory);
+    };
+    match answer_to(alloc, engine, line, read, threads.as_slice()) {
+        Ok(answered) => do_answered(engine, line, answered),
+        Err(NoMemory) => Err(NoMemory),
+    }
 }

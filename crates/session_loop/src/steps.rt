@@ -1,9 +1,13 @@
 // A turn of a hart and a line of input, over the parts of a session.
 ghost use Rattle.std.specs.Prelude.{◌≡◌, ◌<◌, ◌≤◌, ◌+◌, ◌++◌, length, OnOk, MatchResult, true};
 ghost use Rattle.dbg_model.specs.Lawful.{may_go};
+ghost use Rattle.dbg_model.specs.declared.reply.Reply.{Reply};
+ghost use Rattle.dbg_model.specs.declared.shown.Shown.TheVariants.{Answer};
 ghost use Rattle.engine_parts.specs.Seen.{seen};
 ghost use Rattle.engine_parts.specs.Facts.{Facts};
+ghost use Rattle.engine_parts.specs.Shown.{IsMoved, shown_by};
 ghost use Rattle.mi_values.specs.Records.{lines_bytes, AreLines};
+ghost use Rattle.mi_reports.specs.Lines.{lines_of, may_show};
 ghost use Rattle.mi_reports.specs.Replies.{reply_lines};
 ghost use Rattle.session_parts.specs.Puts.{PutsLines};
 ghost use Rattle.session_parts.specs.Reported.{AreMoved, Notes, NotesLine, is_last, move_lines, shown_lines};
@@ -31,8 +35,27 @@ fn is_last(behind: &[Entry]) -> bool
     }
 }
 
+// Puts the lines of an entry at the end that this move noted, or lengthened by an instruction. Whether it is the last is told.
+#[tactic(auto, using(session_parts::proofs::Noting::shows_may))]
+fn report_entry(
+    engine: &Engine,
+    moved: Move,
+    entry: &Entry,
+    last: bool,
+    into: &mut Vec<u8>,
+) -> Result<(), NoMemory>
+    requires { IsMoved (length engine.now.minds) entry.now }
+    ensures written { OnOk result (into.new.items ≡ into.old.items ++ lines_bytes (lines_of entry.now (shown_by engine.now moved entry.now last))) }
+    ensures grammar { OnOk result (AreLines (lines_of entry.now (shown_by engine.now moved entry.now last))) }
+{
+    match engine.shown(moved, entry, last) {
+        Ok(shown) => report(entry, &shown, into),
+        Err(NoMemory) => Err(NoMemory),
+    }
+}
+
 // Puts the lines of entries at the end that this move noted, or lengthened by an instruction. Behind them nothing is noted.
-#[tactic(auto, using(std::proofs::lemmas::Grind::common_steps, session_parts::proofs::Noting::shows_may, mi_values::proofs::Joined::lines_joined))]
+#[tactic(auto, using(std::proofs::lemmas::Grind::common_steps, mi_values::proofs::Joined::lines_joined))]
 fn report_entries(
     engine: &Engine,
     moved: Move,
@@ -46,8 +69,7 @@ fn report_entries(
     match entries {
         [] => Ok(()),
         [entry, rest @ ..] => {
-            let shown = engine.shown(moved, entry, is_last(rest))?;
-            report(entry, &shown, into)?;
+            report_entry(engine, moved, entry, is_last(rest), into)?;
             report_entries(engine, moved, rest, into)
         }
     }
@@ -125,11 +147,29 @@ fn carry_out(
     ensures facts { Facts engine.new }
     ensures answers { MatchResult result (λ reply. Answers line.now reply engine.old engine.new) (λ _. engine.new ≡ engine.old) }
 {
-    let read = read_line(alloc, line)?;
+    let Ok(read) = read_line(alloc, line) else {
+        return Err(NoMemory);
+    };
     if must_wait(engine, line, &read) {
         return Ok(None);
     }
-    Ok(Some(command(alloc, engine, line, read, threads)?))
+    match command(alloc, engine, line, read, threads) {
+        Ok(reply) => Ok(Some(reply)),
+        Err(NoMemory) => Err(NoMemory),
+    }
+}
+
+// The entry of a line that was done, before which so many entries were noted.
+fn done_entry(engine: &Engine, before: u64) -> &Entry
+    requires { NotesLine engine.now before }
+    ensures shows { (reply : Reply) → may_show result.now (Answer reply) ≡ true }
+    ensures lines { (reply : Reply) → lines_of result.now (Answer reply) ≡ reply_lines reply }
+{
+    let count = (engine.noted() - before) as usize;
+    match engine.last_noted(count) {
+        [done, ..] => done,
+        [] => unreachable!(),
+    }
 }
 
 // Puts the lines of a line that was done, before which so many entries were noted, with its reply. False where a put failed.
@@ -144,11 +184,8 @@ fn put_done<W: World>(
     requires { NotesLine engine.now before }
     ensures { MatchResult result (λ put. PutsLines put (reply_lines reply) (W.told world.old) (W.told world.new)) (λ _. world.new ≡ world.old) }
 {
-    let count = (engine.noted() - before) as usize;
-    match engine.last_noted(count) {
-        [done, ..] => put_entry(world, done, &Shown::Answer { reply }, lines),
-        [] => unreachable!(),
-    }
+    let done = done_entry(engine, before);
+    put_entry(world, done, &Shown::Answer { reply }, lines)
 }
 
 /// The next line of the rest of the input, with its reply, in a session that may go on. What it sees of the harts goes through
