@@ -1,4 +1,5 @@
 // A line of the user: whether it can be done now, and what it is answered once it is done.
+// What is large is dropped by a call of `drop`: the proof then goes through its parts once, not at each place that drops it.
 ghost use Rattle.std.specs.Prelude.{◌≡◌, ◌&&◌, ◌<◌, true, IfOk, OnOk, MatchResult};
 ghost use Rattle.mi_commands.specs.Gives.{Commands};
 ghost use Rattle.dbg_model.specs.Limits.{history};
@@ -83,7 +84,10 @@ fn do_answered(engine: &mut Engine, line: &[u8], answered: LineAnswer) -> Result
     } = answered;
     match engine.do_line(line, effect) {
         Ok(()) => Ok(Reply { token, content }),
-        Err(NoMemory) => Err(NoMemory),
+        Err(NoMemory) => {
+            drop(content);
+            Err(NoMemory)
+        }
     }
 }
 
@@ -106,6 +110,7 @@ pub fn command(
     ensures facts { OnOk result (Facts engine.new) }
 {
     let Ok(()) = engine.threads(threads) else {
+        drop(read);
         return Err(NoMemory);
     };
     match answer_to(alloc, engine, line, read, threads.as_slice()) {

@@ -1,4 +1,5 @@
 // A turn of a hart and a line of input, over the parts of a session.
+// What is large is dropped by a call of `drop`: the proof then goes through its parts once, not at each place that drops it.
 ghost use Rattle.std.specs.Prelude.{◌≡◌, ◌<◌, ◌≤◌, ◌+◌, ◌++◌, length, OnOk, MatchResult, true};
 ghost use Rattle.dbg_model.specs.Lawful.{may_go};
 ghost use Rattle.dbg_model.specs.declared.reply.Reply.{Reply};
@@ -49,7 +50,11 @@ fn report_entry(
     ensures grammar { OnOk result (AreLines (lines_of entry.now (shown_by engine.now moved entry.now last))) }
 {
     match engine.shown(moved, entry, last) {
-        Ok(shown) => report(entry, &shown, into),
+        Ok(shown) => {
+            let reported = report(entry, &shown, into);
+            drop(shown);
+            reported
+        }
         Err(NoMemory) => Err(NoMemory),
     }
 }
@@ -151,6 +156,7 @@ fn carry_out(
         return Err(NoMemory);
     };
     if must_wait(engine, line, &read) {
+        drop(read);
         return Ok(None);
     }
     match command(alloc, engine, line, read, threads) {
@@ -185,7 +191,10 @@ fn put_done<W: World>(
     ensures { MatchResult result (λ put. PutsLines put (reply_lines reply) (W.told world.old) (W.told world.new)) (λ _. world.new ≡ world.old) }
 {
     let done = done_entry(engine, before);
-    put_entry(world, done, &Shown::Answer { reply }, lines)
+    let shown = Shown::Answer { reply };
+    let put = put_entry(world, done, &shown, lines);
+    drop(shown);
+    put
 }
 
 /// The next line of the rest of the input, with its reply, in a session that may go on. What it sees of the harts goes through
