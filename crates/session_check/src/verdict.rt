@@ -8,7 +8,6 @@ use crate::input::MOST_INPUT;
 use dbg_traits::NoMemory;
 use mi_text::write_decimal;
 use session_log::FaultKind;
-use std::alloc::AllocError;
 
 fn fault_name(kind: FaultKind) -> &'static str
     ensures { result.now ≡ fault_name kind }
@@ -21,7 +20,7 @@ fn fault_name(kind: FaultKind) -> &'static str
 }
 
 // Appends the line of a rejection of this kind at this place.
-fn push_rejected(kind: &str, place: u64, into: &mut Vec<u8>) -> Result<(), AllocError>
+fn push_rejected(kind: &str, place: u64, into: &mut Vec<u8>) -> Result<(), NoMemory>
     ensures { OnOk result (into.new.items ≡ into.old.items ++ rejected_text kind.now place) }
 {
     into.extend_from_slice(b"check rejected ")?;
@@ -33,7 +32,7 @@ fn push_rejected(kind: &str, place: u64, into: &mut Vec<u8>) -> Result<(), Alloc
 }
 
 // Appends the line of so many entries that were accepted.
-fn push_accepted(entries: u64, into: &mut Vec<u8>) -> Result<(), AllocError>
+fn push_accepted(entries: u64, into: &mut Vec<u8>) -> Result<(), NoMemory>
     ensures { OnOk result (into.new.items ≡ into.old.items ++ accepted_text entries) }
 {
     into.extend_from_slice(b"check accepted ")?;
@@ -48,11 +47,10 @@ pub fn verdict_line(found: Finding, into: &mut Vec<u8>) -> Result<(), NoMemory>
     ensures { OnOk result (into.new.items ≡ into.old.items ++ verdict_line found) }
 {
     match found {
-        Finding::Accepted { entries } => push_accepted(entries, into)?,
-        Finding::Long => push_rejected("Long", MOST_INPUT as u64, into)?,
-        Finding::Fault(fault) => push_rejected(fault_name(fault.kind), fault.line, into)?,
-        Finding::Unlawful { entry } => push_rejected("Unlawful", entry, into)?,
-        Finding::Differs { place } => push_rejected("Differs", place as u64, into)?,
+        Finding::Accepted { entries } => push_accepted(entries, into),
+        Finding::Long => push_rejected("Long", MOST_INPUT as u64, into),
+        Finding::Fault(fault) => push_rejected(fault_name(fault.kind), fault.line, into),
+        Finding::Unlawful { entry } => push_rejected("Unlawful", entry, into),
+        Finding::Differs { place } => push_rejected("Differs", place as u64, into),
     }
-    Ok(())
 }
