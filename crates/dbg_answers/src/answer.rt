@@ -8,7 +8,7 @@ ghost use Rattle.dbg_effects.specs.Effect.{change_of};
 ghost use Rattle.dbg_answers.specs.declared.answer.Failure.TheVariants as failure;
 
 use dbg_effects::Effect;
-use dbg_model::{Content, Refused};
+use dbg_model::{Content, Obstacle, Refused};
 use dbg_traits::NoMemory;
 use std::alloc::{AllocError, AllocFailed};
 
@@ -76,6 +76,13 @@ impl From<Refused> for Failure {
     fn from(refused: Refused) -> Failure {
         Failure::Refused(refused)
     }
+}
+
+/// A command that this stands against.
+pub fn hindered(obstacle: Obstacle) -> Failure
+    ensures { result ≡ Failure.Refused (Refused.Hindered obstacle) }
+{
+    Failure::Refused(Refused::Hindered(obstacle))
 }
 
 /// What comes of a command in the end; one that is refused changes nothing.

@@ -11,7 +11,7 @@ ghost use Rattle.watch_points.specs.Watches.{has_watch};
 ghost use Rattle.dbg_answers.specs.Rows.{rows_below};
 ghost use Rattle.dbg_model.specs.Breakpoints.{after, asked_at, breakpoint_row, change_condition, condition_text, delete, enable, insert, inserting, known, known_either, known_thread, list, listed, named, on_line, place, placed, room, with_row, with_watches};
 ghost use Rattle.dbg_answers.specs.Debuggee.{seen};
-ghost use Rattle.dbg_answers.specs.Answer.{Gives, GivesAs, outcome_of};
+ghost use Rattle.dbg_answers.specs.Answer.{Gives, GivesAs};
 
 use crate::answer::{Answer, Failure, doing, showing};
 use crate::debuggee::Debuggee;
@@ -217,8 +217,8 @@ fn insert_watches(alloc: Global, rows: &mut Vec<Row>, watches: &[Watch]) -> Resu
 }
 
 /// `-break-list`.
-pub fn list(alloc: Global, debuggee: &Debuggee<'_>) -> Result<Answer, AllocError>
-    ensures { IfOk result (λ a. Ok (outcome_of a) ≡ list (seen debuggee.now)) }
+pub fn list(alloc: Global, debuggee: &Debuggee<'_>) -> Result<Answer, Failure>
+    ensures { Gives result (list (seen debuggee.now)) }
 {
     let mut rows = breakpoint_rows(alloc, debuggee.sources, debuggee.table.entries())?;
     insert_watches(alloc, &mut rows, debuggee.watches)?;
@@ -322,9 +322,9 @@ fn inserting(
     address: u32,
     insertion: &Insertion,
     condition: Option<Expr>,
-) -> Result<Answer, AllocError>
+) -> Result<Answer, Failure>
     requires { debuggee.now.table.now.given < 2 ^ 32 - 1 }
-    ensures { IfOk result (λ a. outcome_of a ≡ inserting (seen debuggee.now) (asked_at address insertion.now (option_map condition_of condition))) }
+    ensures { Gives result (Ok (inserting (seen debuggee.now) (asked_at address insertion.now (option_map condition_of condition)))) }
 {
     let asked = Spec {
         address,
@@ -356,5 +356,5 @@ pub fn insert(
     placed(debuggee, address)?;
     room(debuggee)?;
     let condition = condition(alloc, debuggee.sources.symbols(), &insertion.condition)?;
-    Ok(inserting(alloc, debuggee, address, insertion, condition)?)
+    inserting(alloc, debuggee, address, insertion, condition)
 }

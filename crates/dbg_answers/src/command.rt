@@ -77,7 +77,7 @@ fn look(alloc: Global, debuggee: &Debuggee<'_>, command: Command) -> Result<Answ
     match command {
         Command::ThreadInfo { thread } => thread_info(alloc, debuggee, thread),
         Command::ThreadSelect { thread } => thread_select(debuggee, thread),
-        Command::ThreadList => Ok(thread_list(alloc, debuggee)?),
+        Command::ThreadList => thread_list(alloc, debuggee),
         Command::FrameList { thread } => frame_list(alloc, debuggee, thread),
         Command::FrameDepth { thread } => frame_depth(debuggee, thread),
         Command::FrameInfo { thread } => frame_info(alloc, debuggee, thread),
@@ -114,7 +114,7 @@ fn reply(alloc: Global, debuggee: &Debuggee<'_>, command: Command) -> Result<Ans
             alloc, debuggee, number, &condition,
         ),
         Command::BreakAfter { number, count } => after(debuggee, number, count),
-        Command::BreakList => Ok(list(alloc, debuggee)?),
+        Command::BreakList => list(alloc, debuggee),
         Command::BreakWatch { expression } => watch(alloc, debuggee, expression),
         other => look(alloc, debuggee, other),
     }

@@ -52,9 +52,9 @@ impl<'a> Debuggee<'a> {
     pub fn stopped(&self, thread: u32) -> Result<Regs, Refused>
         ensures { result ≡ stopped (seen self.now) thread }
     {
-        let hart = self
-            .thread_view(thread)
-            .ok_or(Refused::Hindered(Obstacle::UnknownThread(thread)))?;
+        let Some(hart) = self.thread_view(thread) else {
+            return Err(Refused::Hindered(Obstacle::UnknownThread(thread)));
+        };
         match hart {
             ThreadView::Stopped(regs) => Ok(regs),
             ThreadView::Running => Err(Refused::Hindered(Obstacle::IsRunning(thread))),
@@ -66,13 +66,11 @@ impl<'a> Debuggee<'a> {
     pub fn running(&self, thread: u32) -> Result<(), Refused>
         ensures { result ≡ running (seen self.now) thread }
     {
-        let hart = self
-            .thread_view(thread)
-            .ok_or(Refused::Hindered(Obstacle::UnknownThread(thread)))?;
-        match hart {
-            ThreadView::Stopped(_) => Err(Refused::Hindered(Obstacle::NotRunning(thread))),
-            ThreadView::Running => Ok(()),
-            ThreadView::Exited => Err(Refused::Hindered(Obstacle::HasExited(thread))),
+        match self.thread_view(thread) {
+            Some(ThreadView::Stopped(_)) => Err(Refused::Hindered(Obstacle::NotRunning(thread))),
+            Some(ThreadView::Running) => Ok(()),
+            Some(ThreadView::Exited) => Err(Refused::Hindered(Obstacle::HasExited(thread))),
+            None => Err(Refused::Hindered(Obstacle::UnknownThread(thread))),
         }
     }
 
@@ -80,9 +78,12 @@ impl<'a> Debuggee<'a> {
     pub fn live(&self, thread: u32) -> Result<LiveThread, Refused>
         ensures { and_then result (λ x. Ok (live_shown (seen self.now).sources x)) ≡ live (seen self.now) thread }
     {
-        let hart = self
-            .thread_view(thread)
-            .ok_or(Refused::Hindered(Obstacle::UnknownThread(thread)))?;
-        live_thread(thread, hart).ok_or(Refused::Hindered(Obstacle::HasExited(thread)))
+        let Some(hart) = self.thread_view(thread) else {
+            return Err(Refused::Hindered(Obstacle::UnknownThread(thread)));
+        };
+        match live_thread(thread, hart) {
+            Some(live) => Ok(live),
+            None => Err(Refused::Hindered(Obstacle::HasExited(thread))),
+        }
     }
 }

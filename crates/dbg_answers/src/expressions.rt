@@ -13,7 +13,7 @@ ghost use Rattle.dbg_answers.specs.Debuggee.{seen};
 ghost use Rattle.dbg_answers.specs.Answer.{Gives, GivesAs};
 ghost use Rattle.dbg_answers.specs.Reading.{ReadsAs};
 
-use crate::answer::{Answer, Failure, showing};
+use crate::answer::{Answer, Failure, hindered, showing};
 use crate::debuggee::Debuggee;
 use crate::variables::read_in;
 use cond_expr::{Expr, ParseError, Value, parse, value};
@@ -57,13 +57,13 @@ pub fn condition(
     }
 }
 
-fn worth(value: Value) -> Result<Content, Refused>
-    ensures { result ≡ worth_as value }
+fn worth(value: Value) -> Result<Answer, Failure>
+    ensures { Gives result (and_then (worth_as value) (λ v. Ok (showing v))) }
 {
     match value {
-        Value::Word(word, unsigned) => Ok(Content::Value { word, unsigned }),
-        Value::DivZero => Err(Refused::Hindered(Obstacle::DivisionByZero)),
-        Value::Unread(addr) => Err(Refused::Hindered(Obstacle::Unreadable(addr))),
+        Value::Word(word, unsigned) => Ok(showing(Content::Value { word, unsigned })),
+        Value::DivZero => Err(hindered(Obstacle::DivisionByZero)),
+        Value::Unread(addr) => Err(hindered(Obstacle::Unreadable(addr))),
     }
 }
 
@@ -82,7 +82,7 @@ fn told_value(
         image: debuggee.image,
         memory: debuggee.memory,
     };
-    Ok(showing(worth(value(&expression, &view))?))
+    worth(value(&expression, &view))
 }
 
 /// `-data-evaluate-expression [--thread N] EXPR`.

@@ -44,6 +44,16 @@ pub fn read_line(alloc: Global, line: &[u8]) -> Result<Result<CommandLine, Refus
     }
 }
 
+fn tokened(token: Token, answer: Result<Answer, NoMemory>) -> Result<LineAnswer, NoMemory>
+    ensures token { IfOk result (λ l. l.token ≡ token) }
+    ensures answer { IfOk result (λ l. answer ≡ Ok l.answer) }
+{
+    match answer {
+        Ok(answer) => Ok(LineAnswer { token, answer }),
+        Err(NoMemory) => Err(NoMemory),
+    }
+}
+
 fn refusing(token: Token, refused: Refused) -> LineAnswer
     ensures { line_answer_of result ≡ answering token (Err refused) }
 {
@@ -95,15 +105,11 @@ fn answer_read(
     ensures { IfOk result (λ a. AnswersRead (seen debuggee.now) read (line_answer_of a)) }
 {
     match read {
-        Ok(line) => Ok(LineAnswer {
-            token: line.token,
-            answer: answer_command(alloc, debuggee, line.command)?,
-        }),
+        Ok(CommandLine { token, command }) => {
+            tokened(token, answer_command(alloc, debuggee, command))
+        }
         Err(Refusal::Input(fault)) => refuse_input(fault),
-        Err(Refusal::Faulty { token, fault }) => Ok(LineAnswer {
-            token,
-            answer: answer_fault(debuggee, fault)?,
-        }),
+        Err(Refusal::Faulty { token, fault }) => tokened(token, answer_fault(debuggee, fault)),
     }
 }
 

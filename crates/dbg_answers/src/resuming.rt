@@ -1,10 +1,10 @@
 // Commands by which threads go on or are interrupted.
-ghost use Rattle.std.specs.Prelude.{◌≡◌, ◌≤◌, ◌∷◌, [], Ok, IfOk, length};
+ghost use Rattle.std.specs.Prelude.{◌≡◌, ◌≤◌, ◌∷◌, [], Ok, length};
 ghost use Rattle.dbg_model.specs.Sight.{running, running_thread, stopped_thread};
 ghost use Rattle.dbg_model.specs.Outcome.{and_then, going, interrupts};
 ghost use Rattle.dbg_model.specs.Threads.{go_on, interrupt};
 ghost use Rattle.dbg_answers.specs.Debuggee.{seen};
-ghost use Rattle.dbg_answers.specs.Answer.{Gives, GivesAs, outcome_of};
+ghost use Rattle.dbg_answers.specs.Answer.{Gives, GivesAs};
 
 use crate::answer::{Answer, Failure, doing};
 use crate::debuggee::Debuggee;
@@ -13,7 +13,7 @@ use dbg_effects::Effect;
 use dbg_model::{Content, ThreadView};
 use dbg_traits::NumberList;
 use mi_commands::Target;
-use std::alloc::{AllocError, Global};
+use std::alloc::Global;
 use step_plans::Plan;
 
 fn stopped_thread(thread: u32, hart: ThreadView) -> Option<u32>
@@ -26,8 +26,8 @@ fn stopped_thread(thread: u32, hart: ThreadView) -> Option<u32>
 }
 
 /// These threads go on with a plan.
-pub fn going(alloc: Global, threads: Vec<u32>, plan: Plan) -> Result<Answer, AllocError>
-    ensures { IfOk result (λ a. outcome_of a ≡ going threads.items plan) }
+pub fn going(alloc: Global, threads: Vec<u32>, plan: Plan) -> Result<Answer, Failure>
+    ensures { Gives result (Ok (going threads.items plan)) }
 {
     let told = Vec::from_slice(alloc, threads.as_slice())?;
     Ok(Answer {
@@ -47,13 +47,13 @@ pub fn go_on(alloc: Global, debuggee: &Debuggee<'_>, target: Target) -> Result<A
     let thread = match target {
         Target::All => {
             let threads = each(alloc, debuggee.threads, stopped_thread)?;
-            return Ok(going(alloc, threads, Plan::Free)?);
+            return going(alloc, threads, Plan::Free);
         }
         Target::Selected => debuggee.selected,
         Target::Thread(thread) => thread,
     };
     debuggee.stopped(thread)?;
-    Ok(going(alloc, vec![in alloc; thread]?, Plan::Free)?)
+    going(alloc, vec![in alloc; thread]?, Plan::Free)
 }
 
 fn running_thread(thread: u32, hart: ThreadView) -> Option<u32>

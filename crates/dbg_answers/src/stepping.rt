@@ -104,5 +104,5 @@ pub fn take_step(
     let thread = thread.unwrap_or(debuggee.selected);
     let regs = debuggee.stopped(thread)?;
     let plan = plan_of(debuggee, &regs, kind)?;
-    Ok(going(alloc, vec![in alloc; thread]?, plan)?)
+    going(alloc, vec![in alloc; thread]?, plan)
 }

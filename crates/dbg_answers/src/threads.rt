@@ -1,9 +1,9 @@
 // Commands that list threads or select one.
-ghost use Rattle.std.specs.Prelude.{◌≡◌, ◌≤◌, IfOk, Ok, length};
+ghost use Rattle.std.specs.Prelude.{◌≡◌, ◌≤◌, IfOk, length};
 ghost use Rattle.dbg_model.specs.Sight.{each, live_number, shown};
 ghost use Rattle.dbg_model.specs.Threads.{thread_info, thread_list, thread_select};
 ghost use Rattle.dbg_answers.specs.Debuggee.{seen};
-ghost use Rattle.dbg_answers.specs.Answer.{Gives, outcome_of};
+ghost use Rattle.dbg_answers.specs.Answer.{Gives};
 
 use crate::answer::{Answer, Failure, showing};
 use crate::debuggee::Debuggee;
@@ -63,9 +63,9 @@ fn live_number(thread: u32, hart: ThreadView) -> Option<u32>
 }
 
 /// `-thread-list-ids`.
-pub fn thread_list(alloc: Global, debuggee: &Debuggee<'_>) -> Result<Answer, AllocError>
+pub fn thread_list(alloc: Global, debuggee: &Debuggee<'_>) -> Result<Answer, Failure>
     requires { length debuggee.now.threads.now ≤ 16 }
-    ensures { IfOk result (λ a. Ok (outcome_of a) ≡ thread_list (seen debuggee.now)) }
+    ensures { Gives result (thread_list (seen debuggee.now)) }
 {
     let numbers = each(alloc, debuggee.threads, live_number)?;
     Ok(showing(Content::ThreadNumbers {

@@ -6,7 +6,7 @@ ghost use Rattle.dbg_model.specs.Watchpoints.{all_read, are_data, watch, watch_r
 ghost use Rattle.dbg_answers.specs.Debuggee.{seen};
 ghost use Rattle.dbg_answers.specs.Answer.{Gives, GivesAs};
 
-use crate::answer::{Answer, Failure};
+use crate::answer::{Answer, Failure, hindered};
 use crate::debuggee::Debuggee;
 use data_memory::DataMemory;
 use dbg_effects::Effect;
@@ -15,12 +15,6 @@ use dbg_traits::ByteList;
 use elf_symbols::Symbols;
 use std::alloc::Global;
 use watch_points::{MOST_WATCHES, WatchError, WatchFault, Watched, watch_of};
-
-fn hindered(obstacle: Obstacle) -> Failure
-    ensures { result ≡ Failure.Refused (Refused.Hindered obstacle) }
-{
-    Failure::Refused(Refused::Hindered(obstacle))
-}
 
 // The bytes that a text asks to be watched.
 fn watched(alloc: Global, symbols: &Symbols, text: &[u8]) -> Result<Watched, Failure>

@@ -1,7 +1,7 @@
 // The command, and what clap makes of the words.
 ghost use Rattle.std.specs.Prelude.{◌≡◌, ◌≢◌, IfOk, IfSome, IfNone, [], false};
-ghost use Rattle.clap.specs.Words.{app_of, rule_of, rows_of, found_of};
-ghost use Rattle.dbg_words.specs.Command.{rvdbg, of_machine, of_run, option_rule, flag_rule, file_rule, clap_faults, clap_rows};
+ghost use Rattle.clap.specs.Words.{App, Rule, app_of, rule_of, rows_of, found_of, with_rule};
+ghost use Rattle.dbg_words.specs.Command.{rvdbg, option_rule, flag_rule, file_rule, clap_faults, clap_rows};
 
 use clap::error::ErrorKind;
 use clap::{Arg, ArgAction, ArgMatches, Command};
@@ -29,37 +29,36 @@ fn file<'a>(alloc: Global) -> Arg<'a>
     Arg::new(alloc, "FILE").action(ArgAction::Set)
 }
 
-// With the options of the machine.
-fn of_machine<'a>(alloc: Global) -> Result<Command<'a>, AllocError>
-    ensures { IfOk result (λ c. app_of c ≡ of_machine) }
+// The command with one more argument.
+fn with<'a>(
+    command: Result<Command<'a>, AllocError>,
+    argument: Arg<'a>,
+) -> Result<Command<'a>, AllocError>
+    requires { argument.global ≡ false }
+    ensures { (app : App) (rule : Rule) → rule_of argument.entry ≡ rule → IfOk command.entry (λ c. app_of c ≡ app) → IfOk result (λ c. app_of c ≡ with_rule app rule) }
+{
+    match command {
+        Ok(command) => command.arg(argument),
+        Err(error) => Err(error),
+    }
+}
+
+// The options, the flag and FILE.
+fn command<'a>(alloc: Global) -> Result<Command<'a>, AllocError>
+    ensures { IfOk result (λ c. app_of c ≡ rvdbg) }
 {
     let bare = Command::new(alloc, "rvdbg")
         .no_binary_name(true)
         .disable_help_flag(true);
-    bare.arg(option(alloc, "harts"))?
-        .arg(option(alloc, "workers"))?
-        .arg(option(alloc, "slots"))
-}
-
-// And those of its run.
-fn of_run<'a>(alloc: Global) -> Result<Command<'a>, AllocError>
-    ensures { IfOk result (λ c. app_of c ≡ of_run) }
-{
-    let command = of_machine(alloc)?;
-    command
-        .arg(option(alloc, "budget"))?
-        .arg(option(alloc, "slice"))?
-        .arg(option(alloc, "gen"))
-}
-
-fn command<'a>(alloc: Global) -> Result<Command<'a>, AllocError>
-    ensures { IfOk result (λ c. app_of c ≡ rvdbg) }
-{
-    let command = of_run(alloc)?;
-    command
-        .arg(option(alloc, "check"))?
-        .arg(flag(alloc, "log"))?
-        .arg(file(alloc))
+    let command = with(Ok(bare), option(alloc, "harts"));
+    let command = with(command, option(alloc, "workers"));
+    let command = with(command, option(alloc, "slots"));
+    let command = with(command, option(alloc, "budget"));
+    let command = with(command, option(alloc, "slice"));
+    let command = with(command, option(alloc, "gen"));
+    let command = with(command, option(alloc, "check"));
+    let command = with(command, flag(alloc, "log"));
+    with(command, file(alloc))
 }
 
 /// What clap finds, or none where it refuses the words.
@@ -69,7 +68,9 @@ pub fn parsed<'a>(alloc: Global, words: &'a [ArgText]) -> Result<Option<ArgMatch
         × (rows_of (found_of m) ≡ clap_rows words.now))) }
     ensures refused { IfOk result (λ r. IfNone r (clap_faults words.now ≢ [])) }
 {
-    let command = command(alloc)?;
+    let Ok(command) = command(alloc) else {
+        return Err(NoMemory);
+    };
     match command.try_get_matches_from(words) {
         Ok(matches) => Ok(Some(matches)),
         Err(error) => {

@@ -57,8 +57,14 @@ fn instruction<S: Speaker>(
     if !take_ran(alloc, opening, state, hart, more)? {
         return Ok(false);
     }
-    let entry = Entry::Ran { hart, count: 1 };
-    say(speaker, &entry, state.shown(), hearing)?;
+    // The entry is gone before the two ways out part.
+    let said = say(
+        speaker,
+        &Entry::Ran { hart, count: 1 },
+        state.shown(),
+        hearing,
+    );
+    said?;
     Ok(true)
 }
 
@@ -73,9 +79,14 @@ fn say_often<S: Speaker>(
     requires within { IsWithin hearing.old }
     ensures { OnOk result (Hears (repeated (S.voice.entry (Ran hart 1) Nothing) count) hearing.old hearing.new) }
 {
-    let entry = Entry::Ran { hart, count: 1 };
     hearing.piece.clear();
-    speaker.say(&entry, &Shown::Nothing, &mut hearing.piece)?;
+    // The entry and what it shows are gone before the two ways out part.
+    let said = speaker.say(
+        &Entry::Ran { hart, count: 1 },
+        &Shown::Nothing,
+        &mut hearing.piece,
+    );
+    said?;
     hearing.hear_often(count);
     Ok(())
 }
@@ -235,7 +246,9 @@ fn go<S: Speaker>(
     requires agrees { Agrees (S.voice.opening opening.now) hearing.old }
     ensures { IfOk result (λ r. Through S.voice opening.now journal.now r hearing.old hearing.new) }
 {
-    let mut state = start(alloc, opening)?;
+    let Ok(mut state) = start(alloc, opening) else {
+        return Err(NoMemory);
+    };
     let through = go_through(alloc, opening, &mut state, journal, speaker, hearing);
     let_go(state);
     through
@@ -265,7 +278,9 @@ pub fn check<S: Speaker>(
     requires { AreSettings opening.now.settings }
     ensures { IfOk result (λ v. Checked S.voice opening.now journal.now text.now v) }
 {
-    let mut hearing = open(alloc, opening, text, speaker)?;
+    let Ok(mut hearing) = open(alloc, opening, text, speaker) else {
+        return Err(NoMemory);
+    };
     let stopped = go(alloc, opening, journal, speaker, &mut hearing)?;
     Ok(verdict(stopped, &hearing))
 }

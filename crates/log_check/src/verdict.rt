@@ -1,7 +1,7 @@
 //! What a check says.
 
 /// What is said of a journal and a text.
-#[derive(Clone, Copy, Debug)]
+#[derive(Clone, Copy)]
 pub enum CheckVerdict {
     /// The journal is lawful, and the text is what is said of it.
     Accepted,

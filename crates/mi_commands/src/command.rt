@@ -4,7 +4,7 @@ use dbg_traits::{ByteList, NumberList};
 use mi_text::Token;
 
 /// Which threads a command resumes or interrupts.
-#[derive(Clone, Copy, Debug)]
+#[derive(Clone, Copy)]
 pub enum Target {
     /// The selected thread: neither `--thread` nor `--all` was given.
     Selected,
@@ -15,7 +15,7 @@ pub enum Target {
 }
 
 /// How registers are written.
-#[derive(Clone, Copy, Debug)]
+#[derive(Clone, Copy)]
 pub enum Format {
     /// `x`.
     Hexadecimal,
@@ -35,7 +35,7 @@ pub enum Location {
 }
 
 /// The values of `displaced-stepping`.
-#[derive(Clone, Copy, Debug)]
+#[derive(Clone, Copy)]
 pub enum Displaced {
     On,
     Off,
@@ -43,7 +43,7 @@ pub enum Displaced {
 }
 
 /// The settings that can be shown.
-#[derive(Clone, Copy, Debug)]
+#[derive(Clone, Copy)]
 pub enum Setting {
     NonStop,
     MiAsync,

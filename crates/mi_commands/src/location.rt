@@ -4,6 +4,7 @@ ghost use Rattle.std.specs.Prelude.{◌≡◌, ◌<◌, length, IfSome, IfOk};
 ghost use Rattle.std.specs.Option.{option_map};
 ghost use Rattle.mi_commands.specs.Locations.{last_colon, line_of, location_of, location_at};
 
+use crate::bytes::copy;
 use crate::command::Location;
 use dbg_traits::ByteList;
 use mi_text::{digits_number, number_of};
@@ -58,12 +59,6 @@ pub fn location_of(word: &[u8]) -> Option<Place<'_>>
             None => Some(Place::Name(word)),
         },
     }
-}
-
-fn copy(alloc: Global, bytes: &[u8]) -> Result<ByteList, AllocError>
-    ensures { IfOk result (λ list. list ≡ bytes.now) }
-{
-    Ok(ByteList::of(Vec::from_slice(alloc, bytes)?))
 }
 
 impl Place<'_> {

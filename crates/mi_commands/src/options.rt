@@ -69,20 +69,13 @@ pub fn option_in_front(words: &[Word]) -> Option<Front<'_>>
         return None;
     }
     let name = first.bytes.as_slice();
-    if !takes_value(name) {
-        return Some(Front {
-            name,
-            value: None,
-            rest,
-        });
-    }
     match rest {
-        [value, behind @ ..] => Some(Front {
+        [value, behind @ ..] if takes_value(name) => Some(Front {
             name,
             value: Some(value.bytes.as_slice()),
             rest: behind,
         }),
-        [] => Some(Front {
+        _ => Some(Front {
             name,
             value: None,
             rest,

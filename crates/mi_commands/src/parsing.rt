@@ -1,7 +1,7 @@
 //! What a line asks for, or why it is refused.
 
-ghost use Rattle.std.specs.Prelude.{◌≡◌, ◌≤◌, length, IfOk};
-ghost use Rattle.std.specs.Option.{option_map};
+ghost use Rattle.std.specs.Prelude.{◌≡◌, ◌≤◌, length, IfOk, Err, Some};
+ghost use Rattle.std.specs.Option.{ok_or, option_map};
 ghost use Rattle.mi_input.specs.Parts.{PartsView, HasParts};
 ghost use Rattle.mi_input.specs.Split.{words_view};
 ghost use Rattle.mi_commands.specs.Operations.{operation_of};
@@ -13,11 +13,12 @@ ghost use Rattle.mi_commands.specs.Prints.{first_prints};
 ghost use Rattle.mi_commands.specs.Settings.{setting_of};
 ghost use Rattle.mi_commands.specs.Commands.{insertion, set_register, register_values, write_memory, command_for, answer_of};
 ghost use Rattle.mi_commands.specs.declared.operation.Operation.TheVariants as op;
+ghost use Rattle.mi_commands.specs.declared.refusal.Fault.TheVariants.{Undefined};
 ghost use Rattle.mi_commands.specs.declared.command.Command.TheVariants.{VariableList, Show};
 ghost use Rattle.mi_commands.specs.Registers.{assignment};
 ghost use Rattle.mi_commands.specs.Gives.{Answers, Commands, GivesAnswer};
 
-use crate::bytes::repeated;
+use crate::bytes::{copy, repeated};
 use crate::command::{Command, CommandLine, Insertion};
 use crate::counts::OptionName;
 use crate::location::{Place, location_of};
@@ -37,12 +38,6 @@ use mi_input::{InputFault, Word, split};
 use mi_text::bytes_of;
 use rv_decode::register_of;
 use std::alloc::{AllocError, Global};
-
-fn copy(alloc: Global, bytes: &[u8]) -> Result<ByteList, AllocError>
-    ensures { IfOk result (λ list. list ≡ bytes.now) }
-{
-    Ok(ByteList::of(Vec::from_slice(alloc, bytes)?))
-}
 
 fn copy_if_any(alloc: Global, bytes: Option<&[u8]>) -> Result<Option<ByteList>, AllocError>
     ensures { IfOk result (λ list. list ≡ text bytes.entry) }
@@ -71,16 +66,32 @@ fn words_fault(
     Ok(None)
 }
 
+fn bad_location(alloc: Global, words: &[Word]) -> Failure
+    ensures { Answers (Err result) (Err (misfit op.BreakInsert (words_view words.now))) }
+{
+    let thread = number_in(OptionName::InThread, words);
+    match copy(alloc, first_word(parameters(words))) {
+        Ok(word) => Failure::Faulty(Fault::Location { word, thread }),
+        Err(_) => Failure::NoMemory,
+    }
+}
+
 // What is wrong with words that ask for nothing.
-fn misfit(alloc: Global, operation: Operation, words: &[Word]) -> Result<Fault, AllocError>
-    ensures { IfOk result (λ fault. fault ≡ misfit operation (words_view words.now)) }
+fn misfit(alloc: Global, operation: Operation, words: &[Word]) -> Failure
+    ensures { Answers (Err result) (Err (misfit operation (words_view words.now))) }
 {
     match operation {
-        Operation::BreakInsert => Ok(Fault::Location {
-            word: copy(alloc, first_word(parameters(words)))?,
-            thread: number_in(OptionName::InThread, words),
-        }),
-        _ => Ok(Fault::Setting),
+        Operation::BreakInsert => bad_location(alloc, words),
+        _ => Failure::Faulty(Fault::Setting),
+    }
+}
+
+fn undefined(alloc: Global, name: &[u8]) -> Failure
+    ensures { Answers (Err result) (Err (Undefined name.now)) }
+{
+    match copy(alloc, name) {
+        Ok(name) => Failure::Faulty(Fault::Undefined(name)),
+        Err(_) => Failure::NoMemory,
     }
 }
 
@@ -147,18 +158,18 @@ fn register_values(
 }
 
 // ADDRESS CONTENTS [COUNT]; without COUNT as many bytes are written as are given.
-fn write_memory(alloc: Global, parameters: &[Word]) -> Result<Command, AllocError>
-    ensures { IfOk result (λ c. c ≡ write_memory (words_view parameters.now)) }
+fn write_memory(alloc: Global, parameters: &[Word]) -> Result<Option<Command>, AllocError>
+    ensures { IfOk result (λ c. c ≡ Some (write_memory (words_view parameters.now))) }
 {
     let bytes = bytes_of(alloc, second_word(parameters))?;
     let count = match number_if_any(rest_of(rest_of(parameters))) {
         Some(count) => count as usize,
         None => bytes.len(),
     };
-    Ok(Command::WriteMemory {
+    Ok(Some(Command::WriteMemory {
         address: first_number(parameters),
         bytes: repeated(alloc, &bytes, count)?,
-    })
+    }))
 }
 
 // The variables of a thread, with their values or without.
@@ -230,7 +241,7 @@ fn command(
             address: first_number(parameters),
             count: second_number(parameters),
         },
-        Operation::WriteMemory => write_memory(alloc, parameters)?,
+        Operation::WriteMemory => return write_memory(alloc, parameters),
         Operation::Evaluate => Command::Evaluate {
             thread,
             expression: joined(alloc, parameters)?,
@@ -245,6 +256,17 @@ fn command(
     Ok(Some(command))
 }
 
+// The command of words without a fault, or why they ask for nothing.
+fn read(alloc: Global, operation: Operation, words: &[Word]) -> Result<Command, Failure>
+    ensures { Answers result (ok_or (command_for operation (words_view words.now)) (misfit operation (words_view words.now))) }
+{
+    match command(alloc, operation, words) {
+        Ok(Some(command)) => Ok(command),
+        Ok(None) => Err(misfit(alloc, operation, words)),
+        Err(_) => Err(Failure::NoMemory),
+    }
+}
+
 // What the parts of a line ask for.
 #[tactic(auto, unfolding(crate::specs::Commands::answer_of))]
 fn answer(alloc: Global, operation: Option<&[u8]>, words: &mut [Word]) -> Result<Command, Failure>
@@ -254,17 +276,14 @@ fn answer(alloc: Global, operation: Option<&[u8]>, words: &mut [Word]) -> Result
         return Ok(Command::Blank);
     };
     let Some(operation) = Operation::named(name) else {
-        let name = Vec::from_slice(alloc, name)?;
-        return Err(Failure::Faulty(Fault::Undefined(ByteList::of(name))));
+        return Err(undefined(alloc, name));
     };
     words_for(operation, words);
     let operation = operation.form(parameters(words));
-    if let Some(fault) = words_fault(alloc, operation, name, words)? {
-        return Err(Failure::Faulty(fault));
-    }
-    match command(alloc, operation, words)? {
-        Some(command) => Ok(command),
-        None => Err(Failure::Faulty(misfit(alloc, operation, words)?)),
+    match words_fault(alloc, operation, name, words) {
+        Ok(None) => read(alloc, operation, words),
+        Ok(Some(fault)) => Err(Failure::Faulty(fault)),
+        Err(_) => Err(Failure::NoMemory),
     }
 }
 

@@ -21,9 +21,7 @@ fn prints_of(word: &[u8]) -> Option<bool>
 {
     if is_either(word, b"0", b"--no-values") {
         Some(false)
-    } else if is_either(word, b"1", b"--all-values") {
-        Some(true)
-    } else if is_either(word, b"2", b"--simple-values") {
+    } else if is_either(word, b"1", b"--all-values") || is_either(word, b"2", b"--simple-values") {
         Some(true)
     } else {
         None

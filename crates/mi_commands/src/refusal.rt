@@ -67,11 +67,9 @@ impl From<InputFault> for Refusal {
 }
 
 // Why parts are no command.
-#[derive(Debug, Drop, Error)]
+#[derive(Drop)]
 pub enum Failure {
-    #[error("out of memory")]
     NoMemory,
-    #[error("the command is refused")]
     Faulty(Fault),
 }
 

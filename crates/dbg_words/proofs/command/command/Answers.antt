@@ -1,12 +1,18 @@
-use Rattle.std.proofs.Common.{ap, ap₂, ◌∙◌}
-use Rattle.std.proofs.lemmas.Result.{IfOk-weaker}
-use Rattle.clap.specs.Words.{with_rule}
-use Rattle.dbg_words.specs.Command.{rvdbg}
+use Rattle.std.proofs.Common.{ap, ◌∙◌}
+use Rattle.dbg_words.specs.Command.{rvdbg, settled_app}
+use Rattle.dbg_words.proofs.Building.{settled_is}
 use Rattle.dbg_words.proofs.command.command.Goals as goal
 
 pub returns : goal.returns
 unfolding rvdbg
 returns c =
-    let one = c.in_ok-arg.ensures.shape c.option.ensures.local ∙ ap₂ with_rule c.in_ok-command.ensures c.option.ensures.rule in
-    let two = c.in_ok-arg-2.ensures.shape c.flag.ensures.local ∙ ap₂ with_rule one c.flag.ensures.rule in
-    IfOk-weaker c.arg-3.result _ _ (λ r h. h.shape c.file.ensures.local ∙ ap₂ with_rule two c.file.ensures.rule) c.arg-3.ensures
+    let bare = settled_is _ _ _ c.no_binary_name.ensures c.disable_help_flag-bare.ensures ∙ ap settled_app c.new.ensures.app in
+    let harts = c.with-command.ensures _ _ c.option.ensures.rule bare in
+    let workers = c.with-command-2.ensures _ _ c.option-2.ensures.rule harts in
+    let slots = c.with-command-3.ensures _ _ c.option-3.ensures.rule workers in
+    let budget = c.with-command-4.ensures _ _ c.option-4.ensures.rule slots in
+    let slice = c.with-command-5.ensures _ _ c.option-5.ensures.rule budget in
+    let gen = c.with-command-6.ensures _ _ c.option-6.ensures.rule slice in
+    let check = c.with-command-7.ensures _ _ c.option-7.ensures.rule gen in
+    let log = c.with-command-8.ensures _ _ c.flag.ensures.rule check in
+    c.with.ensures _ _ c.file.ensures.rule log

@@ -4,8 +4,8 @@ use Rattle.dbg_replay.specs.Standing.{come_one}
 use Rattle.log_check.proofs.Going.{can_show}
 use Rattle.log_check.proofs.checking.instruction.Goals as goal
 
-pub say-requires-clause-shows : goal.say-requires-clause-shows
-say-requires-clause-shows g c =
+pub say-said-requires-clause-shows : goal.say-said-requires-clause-shows
+say-said-requires-clause-shows g c =
     let old = c.args.state.now in
     let b = c.in_ok-take_ran.field-0 in
     let took : b ≡ true = search rules in
