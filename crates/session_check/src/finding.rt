@@ -3,7 +3,7 @@
 use session_log::LogFault;
 
 /// What a check finds of an input. Of several the first of these is told that isn't `Accepted`.
-#[derive(Clone, Copy, Debug)]
+#[derive(Clone, Copy)]
 pub enum Finding {
     /// It is the record of a lawful session, with a log of so many entries.
     Accepted { entries: u64 },
