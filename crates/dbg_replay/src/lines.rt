@@ -94,7 +94,10 @@ fn do_seen(
     if !may_do(opening, parts, &read) {
         return Err(Halt::Unlawful);
     }
-    let LineAnswer { token, answer } = answer_to(alloc, opening, parts, threads, read)?;
+    let Ok(answered) = answer_to(alloc, opening, parts, threads, read) else {
+        return Err(Halt::NoMemory);
+    };
+    let LineAnswer { token, answer } = answered;
     make(parts, answer.effect);
     Ok(Shown::Answer {
         reply: Reply {

@@ -96,7 +96,9 @@ pub fn replay(
     requires { AreSettings opening.now.settings }
     ensures { IfOk result (λ r. option_map place_of r ≡ replay opening.now journal.now) }
 {
-    let mut state = start(alloc, opening)?;
+    let Ok(mut state) = start(alloc, opening) else {
+        return Err(NoMemory);
+    };
     let through = go_through(alloc, opening, &mut state, journal.entries());
     if let Ok(true) = through {
         return Ok(Some(state));

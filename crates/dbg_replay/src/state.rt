@@ -3,9 +3,11 @@ ghost use Rattle.std.specs.Prelude.{◌≡◌, true, Some, is_some, map};
 ghost use Rattle.break_table.specs.Entry.{entry_of};
 
 use break_table::BreakEntry;
-use dbg_model::{Hart, Shown};
+use data_memory::DataMemory;
+use dbg_model::{Hart, Shown, SourceIndex};
 use replay_parts::Parts;
 use std::marker::Model;
+use text_words::TextWords;
 use watch_points::Watch;
 
 /// The model's state behind what was taken of a journal, and what the last of that shows. Contracts see a `Standing`.
@@ -33,8 +35,24 @@ impl Model for ModelState {
     ghost view = { λ s. standing_of s.parts s.prev s.shown };
 }
 
-/// Lets go of a state. Where that is done in one place, what it is made of is gone through once in all proofs.
-pub fn let_go(_state: ModelState) {}
+/// Lets go of what was shown. Where that is done in one place, what it is made of is gone through once in all proofs.
+pub(crate) fn let_shown_go(_shown: Option<Shown>) {}
+
+fn let_sources_go(_sources: SourceIndex) {}
+
+fn let_program_go(_words: TextWords, _memory: DataMemory) {}
+
+// Large parts go one by one: each proof has that much less to carry.
+fn let_parts_go(parts: Parts) {
+    let_sources_go(parts.sources);
+    let_program_go(parts.words, parts.memory);
+}
+
+/// Lets go of a state, in one place for the same reason.
+pub fn let_go(state: ModelState) {
+    let_shown_go(state.shown);
+    let_parts_go(state.parts);
+}
 
 impl ModelState {
     /// What the entry or the instruction shows that was taken last. It refers to what is kept: nothing is copied.

@@ -12,7 +12,7 @@ ghost use Rattle.dbg_replay.specs.Standing.{IsOf, Takes, come_one};
 ghost use Rattle.replay_parts.specs.Further.{GoesNoFurther, LengthensBy};
 
 use crate::entries::enter;
-use crate::state::ModelState;
+use crate::state::{ModelState, let_shown_go};
 use dbg_model::{Entry, Opening, Shown};
 use dbg_traits::NoMemory;
 use replay_parts::Halt;
@@ -21,6 +21,7 @@ use replay_parts::hart_entries::is_number;
 use replay_parts::loading::first_parts;
 use replay_parts::stepping::step;
 use std::alloc::Global;
+use std::mem;
 
 /// The state in which a session begins. Nothing was taken yet.
 ///
@@ -33,8 +34,11 @@ pub fn start(alloc: Global, opening: &Opening) -> Result<ModelState, NoMemory>
     ensures shown { IfOk result (λ s. s.shown ≡ None) }
     ensures of { IfOk result (λ s. IsOf opening.now s) }
 {
+    let Ok(parts) = first_parts(alloc, opening) else {
+        return Err(NoMemory);
+    };
     Ok(ModelState {
-        parts: first_parts(alloc, opening)?,
+        parts,
         prev: None,
         shown: None,
     })
@@ -45,7 +49,7 @@ fn note(state: &mut ModelState, prev: Option<u32>, shown: Shown)
     ensures { state.new ≡ record state.old { place = record state.old.place { prev = prev }; shown = Some shown } }
 {
     state.prev = prev;
-    state.shown = Some(shown);
+    let_shown_go(mem::replace(&mut state.shown, Some(shown)));
 }
 
 /// Takes the next entry of a journal, which is no `Ran`: true, and then `shown` is what it shows, or false where it may not come.

@@ -4,10 +4,10 @@ ghost use Rattle.mi_reports.specs.Errors.{condition_error, condition_message};
 ghost use Rattle.mi_reports.specs.Seen.{trees};
 ghost use Rattle.mi_reports.specs.Text.{condition_lines};
 
+use crate::errors::{push, push_at, push_counted};
 use crate::lines::LineList;
-use crate::words::{Phrase, wording};
+use crate::words::Phrase;
 use break_table::CondError;
-use mi_text::{address_text, write_decimal};
 use mi_values::StreamSign;
 use std::alloc::AllocError;
 
@@ -15,11 +15,8 @@ fn push_error(into: &mut Vec<u8>, error: CondError) -> Result<(), AllocError>
     ensures { OnOk result (into.new.items ≡ into.old.items ++ condition_error error) }
 {
     match error {
-        CondError::DivZero => into.extend_from_slice(wording(Phrase::DivisionByZero)),
-        CondError::Unread(address) => {
-            into.extend_from_slice(wording(Phrase::Unreadable))?;
-            into.extend_from_slice(&address_text(address))
-        }
+        CondError::DivZero => push(into, Phrase::DivisionByZero),
+        CondError::Unread(address) => push_at(into, Phrase::Unreadable, address),
     }
 }
 
@@ -28,9 +25,8 @@ fn push_error(into: &mut Vec<u8>, error: CondError) -> Result<(), AllocError>
 fn push_message(into: &mut Vec<u8>, number: u32, error: CondError) -> Result<(), AllocError>
     ensures { OnOk result (into.new.items ≡ into.old.items ++ condition_message number error) }
 {
-    into.extend_from_slice(wording(Phrase::ConditionError))?;
-    write_decimal(u64::from(number), into)?;
-    into.extend_from_slice(wording(Phrase::Colon))?;
+    push_counted(into, Phrase::ConditionError, number)?;
+    push(into, Phrase::Colon)?;
     push_error(into, error)?;
     into.push(b'\n')?;
     Ok(())

@@ -3,6 +3,7 @@ ghost use Rattle.std.specs.Prelude.{◌≡◌, ◌++◌, decimal, OnOk, true};
 ghost use Rattle.mi_values.specs.Testing.{are_bytes};
 ghost use Rattle.mi_text.specs.Numeral.{address_text};
 ghost use Rattle.mi_reports.specs.Seen.{seen};
+ghost use Rattle.mi_reports.specs.declared.words.Phrase.TheVariants as phrases;
 ghost use Rattle.mi_reports.specs.Phrases.{phrase_text};
 ghost use Rattle.mi_reports.specs.Errors.{fault_message, expression_message, obstacle_message, message, error_code, error_fields};
 
@@ -10,6 +11,7 @@ use crate::fields::FieldList;
 use crate::words::{Key, Phrase, wording};
 use cond_expr::{ExprFault, FaultKind};
 use dbg_model::{Obstacle, Refused};
+use dbg_traits::ByteList;
 use mi_commands::Fault;
 use mi_text::{address_text, write_decimal};
 use std::alloc::AllocError;
@@ -18,42 +20,47 @@ fn push_fault(into: &mut Vec<u8>, fault: &Fault) -> Result<(), AllocError>
     ensures { OnOk result (into.new.items ≡ into.old.items ++ fault_message fault.now) }
 {
     match fault {
-        Fault::Undefined(name) => {
-            push(into, Phrase::Undefined)?;
-            into.extend_from_slice(name.as_slice())
-        }
-        Fault::Parameters(name) => {
-            push(into, Phrase::Parameters)?;
-            into.extend_from_slice(name.as_slice())
-        }
-        Fault::Number(word) => {
-            push(into, Phrase::BadNumber)?;
-            into.extend_from_slice(word.as_slice())
-        }
+        Fault::Undefined(name) => push_named(into, Phrase::Undefined, name),
+        Fault::Parameters(name) => push_named(into, Phrase::Parameters, name),
+        Fault::Number(word) => push_named(into, Phrase::BadNumber, word),
         Fault::Setting => push(into, Phrase::Setting),
-        Fault::Location { word, .. } => {
-            push(into, Phrase::BadLocation)?;
-            into.extend_from_slice(word.as_slice())
-        }
+        Fault::Location { word, .. } => push_named(into, Phrase::BadLocation, word),
     }
 }
 
-fn push(into: &mut Vec<u8>, phrase: Phrase) -> Result<(), AllocError>
+/// Puts a fixed text at the end.
+pub fn push(into: &mut Vec<u8>, phrase: Phrase) -> Result<(), AllocError>
     ensures { OnOk result (into.new.items ≡ into.old.items ++ phrase_text phrase) }
 {
     into.extend_from_slice(wording(phrase))
 }
 
-// A number behind a text.
-fn push_counted(into: &mut Vec<u8>, head: Phrase, n: u32) -> Result<(), AllocError>
+// Bytes behind a text.
+fn push_named(into: &mut Vec<u8>, head: Phrase, bytes: &ByteList) -> Result<(), AllocError>
+    ensures { OnOk result (into.new.items ≡ into.old.items ++ (phrase_text head ++ bytes.now)) }
+{
+    push(into, head)?;
+    into.extend_from_slice(bytes.as_slice())
+}
+
+/// Puts a text at the end, and a number behind it.
+pub fn push_counted(into: &mut Vec<u8>, head: Phrase, n: u32) -> Result<(), AllocError>
     ensures { OnOk result (into.new.items ≡ into.old.items ++ (phrase_text head ++ decimal n)) }
 {
     push(into, head)?;
     write_decimal(u64::from(n), into)
 }
 
-// An address behind a text.
-fn push_at(into: &mut Vec<u8>, head: Phrase, address: u32) -> Result<(), AllocError>
+// What is said of a thread.
+fn push_thread(into: &mut Vec<u8>, thread: u32, told: Phrase) -> Result<(), AllocError>
+    ensures { OnOk result (into.new.items ≡ into.old.items ++ (phrase_text phrases.Thread ++ decimal thread ++ phrase_text told)) }
+{
+    push_counted(into, Phrase::Thread, thread)?;
+    push(into, told)
+}
+
+/// Puts a text at the end, and an address behind it.
+pub fn push_at(into: &mut Vec<u8>, head: Phrase, address: u32) -> Result<(), AllocError>
     ensures { OnOk result (into.new.items ≡ into.old.items ++ (phrase_text head ++ address_text address)) }
 {
     push(into, head)?;
@@ -77,21 +84,9 @@ fn push_obstacle(into: &mut Vec<u8>, obstacle: Obstacle) -> Result<(), AllocErro
 {
     match obstacle {
         Obstacle::UnknownThread(thread) => push_counted(into, Phrase::UnknownThread, thread),
-        Obstacle::HasExited(thread) => {
-            push(into, Phrase::Thread)?;
-            write_decimal(u64::from(thread), into)?;
-            push(into, Phrase::HasExited)
-        }
-        Obstacle::IsRunning(thread) => {
-            push(into, Phrase::Thread)?;
-            write_decimal(u64::from(thread), into)?;
-            push(into, Phrase::IsRunning)
-        }
-        Obstacle::NotRunning(thread) => {
-            push(into, Phrase::Thread)?;
-            write_decimal(u64::from(thread), into)?;
-            push(into, Phrase::NotRunning)
-        }
+        Obstacle::HasExited(thread) => push_thread(into, thread, Phrase::HasExited),
+        Obstacle::IsRunning(thread) => push_thread(into, thread, Phrase::IsRunning),
+        Obstacle::NotRunning(thread) => push_thread(into, thread, Phrase::NotRunning),
         Obstacle::NoBreakpoint(number) => push_counted(into, Phrase::NoBreakpoint, number),
         Obstacle::NoInstruction(address) => push_at(into, Phrase::NoInstruction, address),
         Obstacle::TooManyBreakpoints => push(into, Phrase::TooManyBreakpoints),
@@ -116,23 +111,15 @@ fn push_message(into: &mut Vec<u8>, refused: &Refused) -> Result<(), AllocError>
         Refused::Faulty(fault) => push_fault(into, fault),
         Refused::Hindered(obstacle) => push_obstacle(into, *obstacle),
         Refused::UnknownName(name) => {
-            push(into, Phrase::Function)?;
-            into.extend_from_slice(name.as_slice())?;
+            push_named(into, Phrase::Function, name)?;
             push(into, Phrase::NotDefined)
         }
         Refused::UnknownLine { file, line } => {
             push_counted(into, Phrase::NoLine, *line)?;
-            push(into, Phrase::InFile)?;
-            into.extend_from_slice(file.as_slice())
+            push_named(into, Phrase::InFile, file)
         }
-        Refused::FixedRegister(name) => {
-            push(into, Phrase::FixedRegister)?;
-            into.extend_from_slice(name.as_slice())
-        }
-        Refused::Unwatchable(expression) => {
-            push(into, Phrase::CannotWatch)?;
-            into.extend_from_slice(expression.as_slice())
-        }
+        Refused::FixedRegister(name) => push_named(into, Phrase::FixedRegister, name),
+        Refused::Unwatchable(expression) => push_named(into, Phrase::CannotWatch, expression),
     }
 }
 

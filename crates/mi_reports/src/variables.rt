@@ -6,10 +6,11 @@ ghost use Rattle.mi_reports.specs.Fits.{variables_fit};
 ghost use Rattle.mi_reports.specs.Seen.{seen};
 ghost use Rattle.mi_reports.specs.Variables.{argument_fields, shown_fields, shown_text, variable_fields, variable_tree, variables_field};
 
+use crate::errors::{push, push_at};
 use crate::fields::{FieldList, listed, tuple};
-use crate::words::{Key, Phrase, wording};
+use crate::words::{Key, Phrase};
 use dbg_model::{ShownVariable, VariableValue};
-use mi_text::{address_text, write_worth};
+use mi_text::write_worth;
 use mi_values::Value;
 use std::alloc::{AllocError, Global};
 
@@ -19,13 +20,12 @@ fn push_text(into: &mut Vec<u8>, value: VariableValue) -> Result<(), AllocError>
 {
     match value {
         VariableValue::Word { word, unsigned } => write_worth(word, unsigned, into),
-        VariableValue::OptimizedOut => into.extend_from_slice(wording(Phrase::OptimizedOut)),
-        VariableValue::NotRead => into.extend_from_slice(wording(Phrase::TypeNotRead)),
+        VariableValue::OptimizedOut => push(into, Phrase::OptimizedOut),
+        VariableValue::NotRead => push(into, Phrase::TypeNotRead),
         VariableValue::Unreadable(address) => {
-            into.extend_from_slice(wording(Phrase::ErrorBegin))?;
-            into.extend_from_slice(wording(Phrase::Unreadable))?;
-            into.extend_from_slice(&address_text(address))?;
-            into.extend_from_slice(wording(Phrase::ErrorEnd))
+            push(into, Phrase::ErrorBegin)?;
+            push_at(into, Phrase::Unreadable, address)?;
+            push(into, Phrase::ErrorEnd)
         }
     }
 }

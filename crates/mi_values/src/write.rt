@@ -26,15 +26,15 @@ fn write_value(value: &Value, into: &mut Vec<u8>) -> Result<(), AllocError>
         Value::Text(text) => write_c_string(text, into),
         Value::Short(text) => write_c_string(text.as_slice(), into),
         Value::Tuple(fields) => {
-            into.push(b'{')?;
+            write_byte(b'{', into)?;
             write_fields(fields, b'}', false, into)
         }
         Value::Items(values) => {
-            into.push(b'[')?;
+            write_byte(b'[', into)?;
             write_items(values, into)
         }
         Value::Named(fields) => {
-            into.push(b'[')?;
+            write_byte(b'[', into)?;
             write_fields(fields, b']', false, into)
         }
     }
@@ -144,7 +144,7 @@ fn write_parts(line: &Line, into: &mut Vec<u8>) -> Result<(), AllocError>
             fields,
         } => {
             into.extend_from_slice(token.as_bytes())?;
-            into.push(b'^')?;
+            write_byte(b'^', into)?;
             write_class(class, fields, into)
         }
         Line::Notice {
@@ -152,14 +152,13 @@ fn write_parts(line: &Line, into: &mut Vec<u8>) -> Result<(), AllocError>
             class,
             fields,
         } => {
-            into.push(notice_byte(*sign))?;
+            write_byte(notice_byte(*sign), into)?;
             write_class(class, fields, into)
         }
         Line::Stream { sign, bytes } => {
-            into.push(stream_byte(*sign))?;
+            write_byte(stream_byte(*sign), into)?;
             write_c_string(bytes, into)?;
-            into.push(b'\n')?;
-            Ok(())
+            write_byte(b'\n', into)
         }
         Line::Prompt => into.extend_from_slice(b"(gdb)\n"),
     }

@@ -86,10 +86,16 @@ fn first_program(alloc: Global, image: &Image, harts: u32) -> Result<FirstProgra
     ensures sources { IfOk result (λ p. p.sources ≡ sources_of image.now) }
     ensures words { IfOk result (λ p. p.words ≡ unpatched image.now) }
 {
+    let memory = DataMemory::load(alloc, image, harts)?;
+    let words = TextWords::load(alloc, image)?;
+    // The index is made last: no way out lets go of it.
+    let Ok(sources) = SourceIndex::build(alloc, image) else {
+        return Err(NoMemory);
+    };
     Ok(FirstProgram {
-        memory: DataMemory::load(alloc, image, harts)?,
-        sources: SourceIndex::build(alloc, image)?,
-        words: TextWords::load(alloc, image)?,
+        memory,
+        sources,
+        words,
     })
 }
 
@@ -101,13 +107,16 @@ pub fn first_parts(alloc: Global, opening: &Opening) -> Result<Parts, NoMemory>
 {
     let harts = opening.settings.harts;
     let kept = first_kept(alloc, &opening.image, harts)?;
-    let program = first_program(alloc, &opening.image, harts)?;
+    let Ok(program) = first_program(alloc, &opening.image, harts) else {
+        return Err(NoMemory);
+    };
+    let out = Vec::new(alloc);
     Ok(Parts {
         sources: program.sources,
         words: program.words,
         harts: kept.harts,
         memory: program.memory,
-        out: Vec::new(alloc),
+        out,
         table: kept.table,
         watches: kept.watches,
         selected: 1,

@@ -37,13 +37,22 @@ pub fn put_u32(n: u32, gap: u8, into: &mut Vec<u8>) -> Result<(), AllocError>
     put_u64(u64::from(n), gap, into)
 }
 
+/// Puts a word at the end, a number behind it in decimal, and the byte behind that.
+#[tactic(auto, using(std::proofs::lemmas::Grind::common_steps))]
+pub fn put_named(word: &[u8], n: u32, gap: u8, into: &mut Vec<u8>) -> Result<(), AllocError>
+    ensures written { OnOk result (into.new.items ≡ into.old.items ++ (word.now ++ 32 ∷ (decimal n ++ gap ∷ []))) }
+    ensures kept { Keeps into.old.items into.new.items }
+{
+    put(word, b' ', into)?;
+    put_u32(n, gap, into)
+}
+
 /// Puts a line of a word and three numbers at the end.
 pub fn put_three(key: &[u8], a: u32, b: u32, c: u32, into: &mut Vec<u8>) -> Result<(), AllocError>
     ensures written { OnOk result (into.new.items ≡ into.old.items ++ line_of (key.now ∷ decimal a ∷ decimal b ∷ decimal c ∷ [])) }
     ensures kept { Keeps into.old.items into.new.items }
 {
-    put(key, b' ', into)?;
-    put_u32(a, b' ', into)?;
+    put_named(key, a, b' ', into)?;
     put_u32(b, b' ', into)?;
     put_u32(c, b'\n', into)
 }

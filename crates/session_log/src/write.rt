@@ -7,7 +7,7 @@ ghost use Rattle.session_log.specs.Words.{line_of};
 ghost use Rattle.session_log.specs.declared.row.LogRow.TheVariants as rows;
 ghost use Rattle.session_log.specs.Rows.{FitsError, FitsWhy, FitsPoke, FitsEntry, FitsText, AddsLine, head_words, error_words, why_words, did_words, poke_words, entry_words, row_text};
 
-use crate::put::{put, put_hex, put_three, put_u32, put_u64};
+use crate::put::{put, put_hex, put_named, put_three, put_u32, put_u64};
 use crate::row::LogRow;
 use break_table::CondError;
 use dbg_model::{Entry, Poke, Why};
@@ -19,8 +19,7 @@ fn write_head(s: Settings, into: &mut Vec<u8>) -> Result<(), AllocError>
     ensures fits { FitsText (rows.Head s) }
     ensures kept { Keeps into.old.items into.new.items }
 {
-    put(b"#settings", b' ', into)?;
-    put_u32(s.harts, b' ', into)?;
+    put_named(b"#settings", s.harts, b' ', into)?;
     put_u32(s.workers, b' ', into)?;
     put_u32(s.slots, b' ', into)?;
     put_u64(s.budget, b' ', into)?;
@@ -36,10 +35,7 @@ fn write_error(error: Option<CondError>, into: &mut Vec<u8>) -> Result<(), Alloc
     match error {
         None => put(b"none", b'\n', into),
         Some(CondError::DivZero) => put(b"divzero", b'\n', into),
-        Some(CondError::Unread(address)) => {
-            put(b"unread", b' ', into)?;
-            put_u32(address, b'\n', into)
-        }
+        Some(CondError::Unread(address)) => put_named(b"unread", address, b'\n', into),
     }
 }
 
@@ -51,18 +47,14 @@ fn write_why(why: Why, into: &mut Vec<u8>) -> Result<(), AllocError>
 {
     match why {
         Why::Break { number, error } => {
-            put(b"break", b' ', into)?;
-            put_u32(number, b' ', into)?;
+            put_named(b"break", number, b' ', into)?;
             write_error(error, into)
         }
         Why::Watch(fired) => put_three(b"watch", fired.number, fired.old, fired.new, into),
         Why::Stepped => put(b"stepped", b'\n', into),
         Why::Finished => put(b"finished", b'\n', into),
         Why::Interrupted => put(b"interrupted", b'\n', into),
-        Why::Fault(cause) => {
-            put(b"fault", b' ', into)?;
-            put_u32(cause.number(), b'\n', into)
-        }
+        Why::Fault(cause) => put_named(b"fault", cause.number(), b'\n', into),
     }
 }
 
@@ -92,8 +84,7 @@ fn write_poke(poke: &Poke, into: &mut Vec<u8>) -> Result<(), AllocError>
             value,
         } => put_three(b"#set", *hart, *number, *value, into),
         Poke::Bytes { address, bytes } => {
-            put(b"#bytes", b' ', into)?;
-            put_u32(*address, b' ', into)?;
+            put_named(b"#bytes", *address, b' ', into)?;
             put_hex(bytes.as_slice(), b'\n', into)
         }
     }
@@ -107,22 +98,16 @@ fn write_entry(entry: &Entry, into: &mut Vec<u8>) -> Result<(), AllocError>
 {
     match entry {
         Entry::Ran { hart, count } => {
-            put(b"#ran", b' ', into)?;
-            put_u32(*hart, b' ', into)?;
+            put_named(b"#ran", *hart, b' ', into)?;
             put_u64(*count, b'\n', into)
         }
-        Entry::Counted { hart } => {
-            put(b"#counted", b' ', into)?;
-            put_u32(*hart, b'\n', into)
-        }
+        Entry::Counted { hart } => put_named(b"#counted", *hart, b'\n', into),
         Entry::Stopped { hart, why } => {
-            put(b"#stopped", b' ', into)?;
-            put_u32(*hart, b' ', into)?;
+            put_named(b"#stopped", *hart, b' ', into)?;
             write_why(*why, into)
         }
         Entry::Left { hart, code } => {
-            put(b"#left", b' ', into)?;
-            put_u32(*hart, b' ', into)?;
+            put_named(b"#left", *hart, b' ', into)?;
             put_u32(*code, b'\n', into)
         }
         Entry::Did { line } => write_did(line.as_slice(), into),

@@ -17,13 +17,13 @@ make-requires-clause-given c =
 
 pub make-requires-clause-may : goal.make-requires-clause-may
 make-requires-clause-may c =
-    let answers = c.in_ok-token.ensures c.args.line.now c.in_ok-read.ensures.commands in
-    can_be_made c.args.opening.now c.args.parts.now c.args.line.now c.in_ok-token.field-0.answer.effect c.requires.kept (changes_so c.args.opening.now (state_of c.args.parts.now) c.args.line.now c.in_ok-token.field-0 answers)
+    let answers = c.in-Ok.ensures c.args.line.now c.in_ok-read.ensures.commands in
+    can_be_made c.args.opening.now c.args.parts.now c.args.line.now c.in-Ok.answered.answer.effect c.requires.kept (changes_so c.args.opening.now (state_of c.args.parts.now) c.args.line.now c.in-Ok.answered answers)
 
 pub make-requires-clause-watch : goal.make-requires-clause-watch
 make-requires-clause-watch c =
-    let answers = c.in_ok-token.ensures c.args.line.now c.in_ok-read.ensures.commands in
-    can_be_watched c.args.opening.now c.args.parts.now c.args.line.now c.in_ok-token.field-0.answer.effect (changes_so c.args.opening.now (state_of c.args.parts.now) c.args.line.now c.in_ok-token.field-0 answers)
+    let answers = c.in-Ok.ensures c.args.line.now c.in_ok-read.ensures.commands in
+    can_be_watched c.args.opening.now c.args.parts.now c.args.line.now c.in-Ok.answered.answer.effect (changes_so c.args.opening.now (state_of c.args.parts.now) c.args.line.now c.in-Ok.answered answers)
 
 pub make-requires-clause-room : goal.make-requires-clause-room
 make-requires-clause-room c =
@@ -45,5 +45,5 @@ returns c =
     let line = c.args.line.now in
     let is : c.may_do.result ≡ true = search rules in
     let may : may_do o (state_of old) line ≡ true = sym (c.may_do.ensures line c.in_ok-read.ensures.commands) ∙ is in
-    let answers = c.in_ok-token.ensures line c.in_ok-read.ensures.commands in
-    line_comes o old c.make.new.parts line c.in_ok-token.field-0 (may_do o (state_of old) line) c.requires.kept may may answers c.make.ensures.state c.make.ensures.table c.make.ensures.sources c.make.ensures.words
+    let answers = c.in-Ok.ensures line c.in_ok-read.ensures.commands in
+    line_comes o old c.make.new.parts line c.in-Ok.answered (may_do o (state_of old) line) c.requires.kept may may answers c.make.ensures.state c.make.ensures.table c.make.ensures.sources c.make.ensures.words

@@ -4,7 +4,7 @@ use Rattle.mi_text.specs.CString.{c_string}
 use Rattle.mi_values.specs.Tree.{value_view}
 use Rattle.mi_values.specs.Spelling.{value_bytes}
 use Rattle.mi_values.specs.declared.value.Value.{Value}
-use Rattle.mi_text.proofs.Kept.{keeps_more, keeps_on}
+use Rattle.mi_text.proofs.Kept.{keeps_on}
 use Rattle.mi_values.proofs.Written.{item_written, field_written, items_closed, fields_closed, opened, Text-bytes, Short-bytes, Items-bytes, Tuple-bytes, Named-bytes}
 use Rattle.mi_values.proofs.write.+write.Goals as goal
 
@@ -63,29 +63,29 @@ write_value-returns-in-Short-clause-written t c =
     let same = ap c_string c.as_slice.ensures.value ∙ sym total in
     on_ok_weaker c.write_c_string-in-Short.result (λ e. e ∙ ap (λ (l : List ℕ). c.args.into.now.items ++ l) same) c.write_c_string-in-Short.ensures.written
 
-pub write_value-returns-in_ok-push-in-Tuple : goal.write_value-returns-in_ok-push-in-Tuple
-write_value-returns-in_ok-push-in-Tuple t c =
+pub write_value-returns-in_ok-write_byte-in-Tuple : goal.write_value-returns-in_ok-write_byte-in-Tuple
+write_value-returns-in_ok-write_byte-in-Tuple t c =
     let total = ap (λ (v : Value). value_bytes (value_view v)) c.in-Tuple.is ∙ Tuple-bytes c.in-Tuple.fields in
-    let pushed = c.in_ok-push-in-Tuple.ensures.items in
+    let byte = c.in_ok-write_byte-in-Tuple.ensures in
     record {
-      written = on_ok_weaker c.write_fields.result (opened 123 _ _ _ _ _ pushed total) c.write_fields.ensures.written;
-      kept = keeps_on _ _ _ (keeps_more _ _ _ pushed) c.write_fields.ensures.kept;
+      written = on_ok_weaker c.write_fields.result (opened 123 _ _ _ _ _ byte.written total) c.write_fields.ensures.written;
+      kept = keeps_on _ _ _ byte.kept c.write_fields.ensures.kept;
     }
 
-pub write_value-returns-in_ok-push-in-Items : goal.write_value-returns-in_ok-push-in-Items
-write_value-returns-in_ok-push-in-Items t c =
+pub write_value-returns-in_ok-write_byte-in-Items : goal.write_value-returns-in_ok-write_byte-in-Items
+write_value-returns-in_ok-write_byte-in-Items t c =
     let total = ap (λ (v : Value). value_bytes (value_view v)) c.in-Items.is ∙ Items-bytes c.in-Items.values in
-    let pushed = c.in_ok-push-in-Items.ensures.items in
+    let byte = c.in_ok-write_byte-in-Items.ensures in
     record {
-      written = on_ok_weaker c.write_items.result (opened 91 _ _ _ _ _ pushed total) c.write_items.ensures.written;
-      kept = keeps_on _ _ _ (keeps_more _ _ _ pushed) c.write_items.ensures.kept;
+      written = on_ok_weaker c.write_items.result (opened 91 _ _ _ _ _ byte.written total) c.write_items.ensures.written;
+      kept = keeps_on _ _ _ byte.kept c.write_items.ensures.kept;
     }
 
-pub write_value-returns-in_ok-push-in-Named : goal.write_value-returns-in_ok-push-in-Named
-write_value-returns-in_ok-push-in-Named t c =
+pub write_value-returns-in_ok-write_byte-in-Named : goal.write_value-returns-in_ok-write_byte-in-Named
+write_value-returns-in_ok-write_byte-in-Named t c =
     let total = ap (λ (v : Value). value_bytes (value_view v)) c.in-Named.is ∙ Named-bytes c.in-Named.fields in
-    let pushed = c.in_ok-push-in-Named.ensures.items in
+    let byte = c.in_ok-write_byte-in-Named.ensures in
     record {
-      written = on_ok_weaker c.write_fields-in-Named.result (opened 91 _ _ _ _ _ pushed total) c.write_fields-in-Named.ensures.written;
-      kept = keeps_on _ _ _ (keeps_more _ _ _ pushed) c.write_fields-in-Named.ensures.kept;
+      written = on_ok_weaker c.write_fields-in-Named.result (opened 91 _ _ _ _ _ byte.written total) c.write_fields-in-Named.ensures.written;
+      kept = keeps_on _ _ _ byte.kept c.write_fields-in-Named.ensures.kept;
     }

@@ -1,4 +1,4 @@
-use Rattle.std.proofs.Common.{◌≡◌, ◌≤◌, ◌<◌, ◌+◌, false, inl, inr, ap, ◌∙◌, arith}
+use Rattle.std.proofs.Common.{◌≡◌, ◌≤◌, ◌<◌, ◌+◌, false, inl, inr, refl, ap, ◌∙◌, arith}
 use Rattle.std.specs.Prelude.{Some, slice_get, slice_set}
 use Rattle.std.specs.Vec.{with_item}
 use Rattle.std.proofs.lemmas.Bool.{cases_lt}
@@ -6,7 +6,7 @@ use Rattle.dbg_model.specs.declared.hart.Hart.{Hart}
 use Rattle.replay_parts.specs.Parts.{state_of}
 use Rattle.replay_parts.specs.Further.{goes_alone}
 use Rattle.replay_parts.proofs.Alone.{Free, get_set}
-use Rattle.replay_parts.proofs.Gone.{ends_alone, ends_budget, went, went_on}
+use Rattle.replay_parts.proofs.Gone.{ends_alone, ends_budget, still_kept, went, went_on}
 use Rattle.replay_parts.proofs.further.go_on.Goals as goal
 
 pub returns-clause-lengthens : goal.returns-clause-lengthens
@@ -38,3 +38,7 @@ returns-clause-far c =
           (ap (λ (w : Hart). goes_alone o.image old.table.entries w.course.plan w.regs m) c.gone_on.ensures ∙ c.go-count.ensures.ends o.image c.requires.words lt)
       | inr le ↦ ends_budget o s h (omega (arith, le, low, c.min-limit.ensures))
     ]
+
+pub returns-clause-kept : goal.returns-clause-kept
+returns-clause-kept c =
+    still_kept c.go-count.result c.args.opening.now c.args.parts.now c.args.h c.gone_on.result (with_item c.args.parts.now.harts c.args.h c.gone_on.result) c.go-count.new.memory c.requires c.in-Some.ensures.room.1 refl

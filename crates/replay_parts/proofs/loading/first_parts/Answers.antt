@@ -1,9 +1,14 @@
-use Rattle.std.proofs.Common.{◌≤◌, length, sym, subst, ap, ◌∙◌, arith}
+use Rattle.std.proofs.Common.{◌≤◌, length, refl, sym, subst, ap, ◌∙◌, arith}
 use Rattle.std.specs.Prelude.{slice_index}
 use Rattle.break_table.specs.Table.{Table}
 use Rattle.dbg_model.proofs.Counting.{length-replicated}
 use Rattle.replay_parts.proofs.Beginning.{length_first, none_counted}
 use Rattle.replay_parts.proofs.loading.first_parts.Goals as goal
+
+pub returns-clause-state : goal.returns-clause-state
+returns-clause-state c =
+    let kept = c.in_ok-kept.ensures in
+    rw (kept.harts, kept.passed, kept.watches, kept.table, c.in-Ok.ensures.memory, c.new-out.ensures.items) refl
 
 pub returns-clause-kept : goal.returns-clause-kept
 returns-clause-kept c =
@@ -11,8 +16,8 @@ returns-clause-kept c =
     let table = c.in_ok-kept.ensures.table in
     let given = ap (λ (t : Table). t.given) table in
     record {
-      sources = c.in_ok-program.ensures.sources;
-      words = c.in_ok-program.ensures.words;
+      sources = c.in-Ok.ensures.sources;
+      words = c.in-Ok.ensures.words;
       harts = ap length c.in_ok-kept.ensures.harts ∙ length_first o.image o.settings.harts o.settings.harts;
       places = c.in_ok-kept.ensures.places;
       waits = ap (λ (t : Table). length t.waits) table ∙ length-replicated o.settings.harts _;
