@@ -3,3 +3,5 @@ pub mod Applying
 -- An instruction that doesn't trap.
 pub mod Executed
 pub mod OwnLines
+-- Numbers of an engine that have room, and a hart that is there.
+pub mod Within

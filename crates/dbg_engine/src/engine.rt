@@ -47,7 +47,7 @@ use engine_parts::patching::release;
 use engine_parts::views::views;
 use engine_parts::{Activity, Hold, Mind, Phase};
 use hart_machine::Machine;
-use loading::first_parts;
+use loading::{Kept, first_parts, let_go, let_go_sources};
 use mi_commands::Displaced;
 pub use slicing::Commit;
 use std::alloc::{AllocError, Global};
@@ -371,9 +371,9 @@ impl Engine {
             machine,
             minds,
             hold,
-            watches: _,
+            watches,
             table,
-            sources: _,
+            sources,
             selected: _,
             displaced: _,
             retired: _,
@@ -384,6 +384,12 @@ impl Engine {
         let mut machine = machine;
         go_home_each(&mut machine, minds.as_slice(), 0);
         release(&mut machine, hold, &table);
+        let_go(Kept {
+            minds,
+            watches,
+            table,
+        });
+        let_go_sources(sources);
         Closed {
             opening,
             journal: journal.close(),

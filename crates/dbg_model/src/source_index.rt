@@ -67,6 +67,9 @@ fn variables_told(alloc: Global, image: &Image) -> Result<Info, NoMemory>
     )
 }
 
+// What nothing needs any more is dropped where nothing else is at hand.
+fn let_go(_symbols: Symbols, _lines: LineIndex) {}
+
 impl SourceIndex {
     /// The index of a program. It takes n log n time in the symbols, the line rows, the frame entries and the entries of
     /// variables. A unit of `.debug_line` with a fault gives no rows and one of `.debug_info` no variables, and a fault of
@@ -78,11 +81,23 @@ impl SourceIndex {
     pub fn build(alloc: Global, image: &Image) -> Result<SourceIndex, NoMemory>
         ensures { IfOk result (λ index. index ≡ sources_of image.now) }
     {
-        let symbols = symbols(alloc, image)?;
-        let rows = rows(alloc, &line_sections(image))?;
-        let lines = LineIndex::build(alloc, rows, &symbols, image)?;
-        let frames = FrameIndex::build(alloc, section_bytes(image, b".debug_frame"))?;
-        let info = variables_told(alloc, image)?;
+        let Ok(rows) = rows(alloc, &line_sections(image)) else {
+            return Err(NoMemory);
+        };
+        let Ok(symbols) = symbols(alloc, image) else {
+            return Err(NoMemory);
+        };
+        let Ok(lines) = LineIndex::build(alloc, rows, &symbols, image) else {
+            return Err(NoMemory);
+        };
+        let Ok(info) = variables_told(alloc, image) else {
+            let_go(symbols, lines);
+            return Err(NoMemory);
+        };
+        let Ok(frames) = FrameIndex::build(alloc, section_bytes(image, b".debug_frame")) else {
+            let_go(symbols, lines);
+            return Err(NoMemory);
+        };
         Ok(SourceIndex {
             symbols,
             lines,

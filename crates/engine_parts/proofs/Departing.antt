@@ -113,6 +113,9 @@ left_all r h spare code c x new m hold k t rel =
       does = λ u ws. (code, length es, record { by = by; homed = record { home = end; homed = homed; patched = refl; minds = refl }; leavers = e.leavers; journal = e.journal; harts = e.harts; retired = refl; opening = refl });
     })
 
+not_run : {A : Type 0} → false ≡ true → A
+not_run e = cc
+
 executed_by : (s : Stepped) (r : Engine) (h spare : ℕ) (c : Core) (x : Mind) (new m : Patched) (hold : Option Hold) → has_run s ≡ true → Ready r h c x → (t : StepsTo s r.machine h c new)
     → HomedBy s (wants_of r) hold (record { hart = h; phase = after_step x.phase; minds = slice_set r.minds h (ran_of r h c x t.memory) })
     (stepped_to r h t.core t.memory) m → Executed s r (ran_to s r h (ran_of r h c x t.memory) m hold spare) h (ran_of r h c x t.memory)
@@ -126,8 +129,8 @@ executed_by (stepped.Wrote addr len) r h spare c x new m hold d k t rel =
     kept_by s r h spare (ran_of r h c x t.memory) (stepped_to r h t.core t.memory) m hold rel (record { facts = g.facts; does = λ u ws. (p.0, p.1, p.2, g.runs u ws) })
 executed_by (stepped.HartExit code) r h spare c x new m hold d k t rel = left_alone r h spare code c x new m hold k t rel
 executed_by (stepped.AllExit code) r h spare c x new m hold d k t rel = left_all r h spare code c x new m hold k t rel
-executed_by stepped.Hit r h spare c x new m hold d k t rel = cc
-executed_by (stepped.Trap cause) r h spare c x new m hold d k t rel = cc
+executed_by stepped.Hit r h spare c x new m hold d k t rel = not_run d
+executed_by (stepped.Trap cause) r h spare c x new m hold d k t rel = not_run d
 
 pub executed_to : (s : Stepped) (r : Engine) (h spare : ℕ) (c : Core) (x : Mind) (new m : Patched) (hold : Option Hold) (q : Parts) (noted : ℕ) → has_run s ≡ true → Ready r h c x → StepsTo s r.machine h c new
     → HomedBy s (wants_of r) hold (record { hart = h; phase = after_step x.phase; minds = slice_set r.minds h (ran_of r h c x new.memory) }) new m
@@ -193,6 +196,9 @@ pub record Prepared (r : Engine) (h : ℕ) (c : Core) (x : Mind) (new : Patched)
   pub slot : IsSlotted new h (after_step x.phase)
   pub slots : (j : ℕ) (y : Mind) → slice_get (slice_set r.minds h (ran_of r h c x new.memory)) j ≡ Some y → IsSlotted new j y.phase
 
+no_less : (a b : ℕ) → a ≡ b → b ≤ a
+no_less a b e = omega arith
+
 pub prepared : (s : Stepped) (r : Engine) (h : ℕ) (c : Core) (x : Mind) (new : Patched) → has_run s ≡ true → Ready r h c x → Small r → StepsTo s r.machine h c new → Prepared r h c x new
 prepared s r h c x new d k small t =
     let mid = stepped_to r h t.core t.memory in
@@ -205,9 +211,9 @@ prepared s r h c x new d k small t =
     subst (Prepared r h c x) (sym t.machine)
     (record {
       text = held_text r k.facts;
-      few = omega (arith, hs.len, len, small.harts);
-      harts = omega (arith, hs.len);
-      hart = omega (arith, hs.len, len, low);
+      few = subst (λ (n : ℕ). n ≤ 16) (sym (hs.len ∙ len)) small.harts;
+      harts = no_less (length mid.cores) (length xs) hs.len;
+      hart = subst (λ (n : ℕ). h < n) (sym (hs.len ∙ len)) low;
       slot = slots h (ran_of r h c x t.memory) x_at;
       slots = slots;
     })

@@ -75,11 +75,23 @@ impl Machine {
         requires { AreSettings settings }
         ensures { IfOk result (λ m. m ≡ loaded image.now settings.harts settings.slots) }
     {
+        let Ok(cores) = first_cores(alloc, image.entry(), settings.harts) else {
+            return Err(NoMemory);
+        };
+        let Ok(slots) = first_slots(alloc, settings.slots) else {
+            return Err(NoMemory);
+        };
+        let Ok(text) = TextWords::load(alloc, image) else {
+            return Err(NoMemory);
+        };
+        let Ok(memory) = DataMemory::load(alloc, image, settings.harts) else {
+            return Err(NoMemory);
+        };
         Ok(Machine {
-            text: TextWords::load(alloc, image)?,
-            cores: first_cores(alloc, image.entry(), settings.harts)?,
-            memory: DataMemory::load(alloc, image, settings.harts)?,
-            slots: first_slots(alloc, settings.slots)?,
+            text,
+            cores,
+            memory,
+            slots,
         })
     }
 

@@ -49,6 +49,9 @@ fn exited_after(exited: bool, effect: &Effect) -> bool
     }
 }
 
+// A change that isn't made is dropped where nothing else is at hand.
+fn let_go(_effect: Effect) {}
+
 impl Engine {
     ghost use Rattle.engine_parts.specs.Facts.{Facts};
     ghost use Rattle.engine_parts.specs.Calls.{Lines};
@@ -75,7 +78,10 @@ impl Engine {
         ensures lines { MatchResult result (λ _. Lines self.old self.new line.now) (λ _. self.new ≡ self.old) }
         ensures facts { OnOk result (Facts self.new) }
     {
-        did(self.alloc, &mut self.journal, line)?;
+        let Ok(()) = did(self.alloc, &mut self.journal, line) else {
+            let_go(effect);
+            return Err(NoMemory);
+        };
         change_threads(&mut self.minds, &effect);
         self.selected = selected_after(self.selected, &effect);
         self.displaced = displaced_after(self.displaced, &effect);

@@ -32,6 +32,11 @@ pub(crate) struct Parts {
     pub sources: SourceIndex,
 }
 
+// What nothing needs any more is dropped where nothing else is at hand.
+pub(crate) fn let_go(_kept: Kept) {}
+
+pub(crate) fn let_go_sources(_sources: SourceIndex) {}
+
 // Each hart is stopped, and there is no breakpoint and no watch.
 fn first_kept(alloc: Global, opening: &Opening) -> Result<Kept, NoMemory>
     ensures minds { IfOk result (λ k. k.minds.items ≡ replicate opening.now.settings.harts first_mind) }
@@ -39,10 +44,19 @@ fn first_kept(alloc: Global, opening: &Opening) -> Result<Kept, NoMemory>
     ensures table { IfOk result (λ k. k.table ≡ first_table opening.now.image opening.now.settings.harts) }
     ensures places { IfOk result (λ k. (addr : ℕ) → is_place k.table.text addr ≡ is_instruction opening.now.image addr) }
 {
+    let Ok(minds) = first_minds(alloc, opening.settings.harts) else {
+        return Err(NoMemory);
+    };
+    let Ok(watches) = WatchList::new(alloc) else {
+        return Err(NoMemory);
+    };
+    let Ok(table) = BreakTable::new(alloc, &opening.image, opening.settings.harts) else {
+        return Err(NoMemory);
+    };
     Ok(Kept {
-        minds: first_minds(alloc, opening.settings.harts)?,
-        watches: WatchList::new(alloc)?,
-        table: BreakTable::new(alloc, &opening.image, opening.settings.harts)?,
+        minds,
+        watches,
+        table,
     })
 }
 
@@ -56,9 +70,21 @@ pub(crate) fn first_parts(alloc: Global, opening: &Opening) -> Result<Parts, NoM
     ensures machine { IfOk result (λ p. p.machine ≡ loaded opening.now.image opening.now.settings.harts opening.now.settings.slots) }
     ensures sources { IfOk result (λ p. p.sources ≡ sources_of opening.now.image) }
 {
+    let Ok(kept) = first_kept(alloc, opening) else {
+        return Err(NoMemory);
+    };
+    let Ok(sources) = SourceIndex::build(alloc, &opening.image) else {
+        let_go(kept);
+        return Err(NoMemory);
+    };
+    let Ok(machine) = Machine::load(alloc, &opening.image, opening.settings) else {
+        let_go(kept);
+        let_go_sources(sources);
+        return Err(NoMemory);
+    };
     Ok(Parts {
-        kept: first_kept(alloc, opening)?,
-        machine: Machine::load(alloc, &opening.image, opening.settings)?,
-        sources: SourceIndex::build(alloc, &opening.image)?,
+        kept,
+        machine,
+        sources,
     })
 }

@@ -50,10 +50,16 @@ impl Engine {
         ensures { IfOk result (λ s. s ≡ Stop (frame_at self.now.sources (seen self.now).harts h) self.now.temporary (stopping_watch self.now.watches why)) }
     {
         let pc = self.pc(h);
+        let Ok(watch) = stopping_watch(self.alloc, self.watches.as_slice(), why) else {
+            return Err(NoMemory);
+        };
+        let Ok(frame) = shown_frame(self.alloc, &self.sources, pc, pc) else {
+            return Err(NoMemory);
+        };
         Ok(Shown::Stop {
-            frame: shown_frame(self.alloc, &self.sources, pc, pc)?,
+            frame,
             temporary: self.temporary,
-            watch: stopping_watch(self.alloc, self.watches.as_slice(), why)?,
+            watch,
         })
     }
 

@@ -81,7 +81,7 @@ changed c =
     c.selected_after-self-inside.result c.displaced_after-self-inside.result c.exited_after-self-inside.result c.change_table.new.watches
     c.self.inside.table c.change_table.new.table c.self.invariant.facts.sound
     (ap (λ (q : Engine). may_do q.opening (seen q) c.args.line.now) c.self.view_is ∙ c.requires.may) (subst P (sym c.self.view_is) c.requires.makes) c.requires.asks refl refl refl refl
-    c.in_ok-did.ensures.done minds c.selected_after-self-inside.ensures c.displaced_after-self-inside.ensures c.exited_after-self-inside.ensures c.change_table.ensures.table c.change_table.ensures.watches c.change_table.ensures.machine
+    c.in-Ok.ensures.done minds c.selected_after-self-inside.ensures c.displaced_after-self-inside.ensures c.exited_after-self-inside.ensures c.change_table.ensures.table c.change_table.ensures.watches c.change_table.ensures.machine
 
 -- how many minds there are, written back
 count_is : (c : After-waiting-3-1) → length c.as_slice.result.now ≡ length c.change_threads.new.minds

@@ -1,24 +1,33 @@
-use Rattle.std.proofs.Common.{◌+◌, refl, ap, ◌∙◌, subst, arith}
-use Rattle.std.specs.Prelude.{slice_get, slice_set}
-use Rattle.std.proofs.lemmas.Option.{slice_get_within}
+use Rattle.std.proofs.Common.{ℕ, ◌+◌, ◌<◌, refl, sym, ap, ◌∙◌, subst, arith}
+use Rattle.std.specs.Prelude.{slice_set}
 use Rattle.hart_machine.specs.Slices.{TakesSlice}
 use Rattle.engine_parts.specs.Seen.{Engine}
 use Rattle.dbg_model.specs.Journals.{lengthened_by}
 use Rattle.dbg_engine.specs.EngineInside.{run_of}
-use Rattle.engine_parts.proofs.Aheads.{small_of}
+use Rattle.dbg_engine.proofs.Within.{fits_left, has_core, has_mind, has_room}
 use Rattle.engine_parts.proofs.Taking.{Taken, taken_at, taken_to}
 use Rattle.dbg_engine.proofs.engine.Engine.commit.Goals as goal
 
+pub take_slice-requires : goal.take_slice-requires
+take_slice-requires c = has_core (run_of c.self.inside) c.args.self.now c.args.slice.now.hart c.mind-mind.result c.self.view_is c.self.invariant.facts.sound c.mind-mind.ensures
+
+pub lengthen-requires-clause-room : goal.lengthen-requires-clause-room
+lengthen-requires-clause-room c = has_room (run_of c.self.inside) c.args.self.now c.self.view_is c.requires.spare
+
 pub lengthen-requires-clause-last : goal.lengthen-requires-clause-last
 lengthen-requires-clause-last c =
-    let r = run_of c.self.inside in
     let can = c.if-not-can_take.ensures.0 refl in
-    let k = small_of r c.args.self.now c.self.view_is c.self.invariant.facts.sound can.may in
-    omega (arith, k.last, c.from-count.ensures, can.budget, ap (λ (q : Engine). q.opening.settings.budget) c.self.view_is, c.self.invariant.facts.sound.settings.budget.1)
+    (fits_left (run_of c.self.inside) c.args.self.now _ c.args.slice.now.count c.self.view_is c.self.invariant.facts.sound can.may c.from-count.ensures can.budget).0
 
 pub index_mut-requires : goal.index_mut-requires
-index_mut-requires c = let within = slice_get_within c.self.inside.minds.items c.args.slice.now.hart c.mind-mind.result
-    (ap (λ (q : Engine). slice_get q.minds c.args.slice.now.hart) c.self.view_is ∙ c.mind-mind.ensures) in omega (arith, within)
+index_mut-requires c =
+    let here = has_mind (run_of c.self.inside) c.args.self.now c.args.slice.now.hart c.mind-mind.result c.self.view_is c.mind-mind.ensures in
+    subst (λ (n : ℕ). c.args.slice.now.hart < n) (sym c.self.inside.minds.ok.0) here
+
+pub overflow_add-self : goal.overflow_add-self
+overflow_add-self c =
+    let can = c.if-not-can_take.ensures.0 refl in
+    (fits_left (run_of c.self.inside) c.args.self.now _ c.args.slice.now.count c.self.view_is c.self.invariant.facts.sound can.may c.from-count.ensures can.budget).1
 
 -- the engine with the slice's instructions done
 abbrev new_run : goal.After-self-2-1 → Engine

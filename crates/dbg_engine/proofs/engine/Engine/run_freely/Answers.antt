@@ -1,4 +1,4 @@
-use Rattle.std.proofs.Common.{◌+◌, sym, ap, ◌∙◌, subst, arith}
+use Rattle.std.proofs.Common.{◌≡◌, ◌<◌, ℕ, ◌+◌, sym, ap, ◌∙◌, subst, arith}
 use Rattle.hart_machine.specs.Patched.{Patched}
 use Rattle.engine_parts.specs.Seen.{Engine}
 use Rattle.engine_parts.specs.Facts.{Facts}
@@ -6,6 +6,7 @@ use Rattle.std.specs.Prelude.{slice_set}
 use Rattle.dbg_model.specs.Journals.{lengthened_by}
 use Rattle.engine_parts.specs.Several.{is_alone}
 use Rattle.dbg_engine.specs.EngineInside.{run_of}
+use Rattle.dbg_engine.proofs.Within.{has_core, has_mind, within_budget}
 use Rattle.engine_parts.proofs.Aheads.{gone_to, none_gone, small_of, turned_at}
 use Rattle.engine_parts.proofs.Passing.{Ahead, around}
 use Rattle.engine_parts.proofs.Resting.{rests_freely}
@@ -17,13 +18,29 @@ lengthen-requires-clause-last c =
     let k = small_of r c.args.self.now c.self.view_is c.self.invariant.facts.sound c.requires.may in
     omega (arith, k.last, c.min-most.ensures, c.from.ensures, c.from-count.ensures, c.go-progress.ensures.most)
 
-kept : (c : goal.Then-progress-eq0) → Facts (record (run_of c.self.inside) { machine = c.go-progress.new.machine })
-kept c =
+unmoved : (c : goal.Then-progress-eq0) → c.go-progress.new.machine ≡ (run_of c.self.inside).machine
+unmoved c =
     let r = run_of c.self.inside in
     let p = c.go-progress.result in
     let a = around r c.args.h c.args.mind.course.plan c.by_copies.result in
-    let same = none_gone a c.min-most.result p.turns p.instructions r.machine c.go-progress.new.machine c.if-progress-eq0.true c.go-progress.ensures.goes in
-    subst (λ (m : Patched). Facts (record r { machine = m })) (sym same) c.self.invariant.facts
+    none_gone a c.min-most.result p.turns p.instructions r.machine c.go-progress.new.machine c.if-progress-eq0.true c.go-progress.ensures.goes
+
+kept : (c : goal.Then-progress-eq0) → Facts (record (run_of c.self.inside) { machine = c.go-progress.new.machine })
+kept c = subst (λ (m : Patched). Facts (record (run_of c.self.inside) { machine = m })) (sym (unmoved c)) c.self.invariant.facts
+
+pub returns-then-progress-eq0-clause-turns : goal.returns-then-progress-eq0-clause-turns
+returns-then-progress-eq0-clause-turns c = ap (λ (m : Patched). let q : Engine = record (run_of c.self.inside) { machine = m } in q) (unmoved c) ∙ c.self.view_is
+
+pub overflow_sub-self-inside : goal.overflow_sub-self-inside
+overflow_sub-self-inside c = within_budget (run_of c.self.inside) c.args.self.now c.self.view_is c.requires.may
+
+pub go-progress-requires : goal.go-progress-requires
+go-progress-requires c = has_core (run_of c.self.inside) c.args.self.now c.args.h c.args.mind c.self.view_is c.self.invariant.facts.sound c.requires.mind
+
+pub index_mut-requires : goal.index_mut-requires
+index_mut-requires c =
+    let here = has_mind (run_of c.self.inside) c.args.self.now c.args.h c.args.mind c.self.view_is c.requires.mind in
+    subst (λ (n : ℕ). c.args.h < n) (sym c.self.inside.minds.ok.0) here
 
 pub returns-then-progress-eq0-clause-facts : goal.returns-then-progress-eq0-clause-facts
 returns-then-progress-eq0-clause-facts c = kept c

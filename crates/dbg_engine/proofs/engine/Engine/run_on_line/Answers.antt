@@ -1,4 +1,4 @@
-use Rattle.std.proofs.Common.{◌≡◌, ◌+◌, sym, ap, ◌∙◌, subst, arith}
+use Rattle.std.proofs.Common.{◌≡◌, ◌<◌, ℕ, ◌+◌, sym, ap, ◌∙◌, subst, arith}
 use Rattle.std.specs.Prelude.{slice_get, slice_set}
 use Rattle.hart_machine.specs.Patched.{Patched}
 use Rattle.hart_machine.proofs.Places.{get-set_same}
@@ -13,7 +13,22 @@ use Rattle.engine_parts.proofs.OnLines.{none_stayed, on_line, stayed_to}
 use Rattle.engine_parts.proofs.Passing.{Ahead}
 use Rattle.engine_parts.proofs.Resting.{rests_on}
 use Rattle.dbg_engine.proofs.OwnLines.{own_ends, own_stays}
+use Rattle.dbg_engine.proofs.Within.{has_core, has_mind, has_room, within_budget}
 use Rattle.dbg_engine.proofs.engine.Engine.run_on_line.Goals as goal
+
+pub overflow_sub-self-inside : goal.overflow_sub-self-inside
+overflow_sub-self-inside c = within_budget (run_of c.self.inside) c.args.self.now c.self.view_is c.requires.may
+
+pub stay-stayed-requires : goal.stay-stayed-requires
+stay-stayed-requires c = has_core (run_of c.self.inside) c.args.self.now c.args.h c.args.mind c.self.view_is c.self.invariant.facts.sound c.requires.mind
+
+pub lengthen-requires-clause-room : goal.lengthen-requires-clause-room
+lengthen-requires-clause-room c = has_room (run_of c.self.inside) c.args.self.now c.self.view_is c.requires.spare
+
+pub index_mut-requires : goal.index_mut-requires
+index_mut-requires c =
+    let here = has_mind (run_of c.self.inside) c.args.self.now c.args.h c.args.mind c.self.view_is c.requires.mind in
+    subst (λ (n : ℕ). c.args.h < n) (sym c.self.inside.minds.ok.0) here
 
 pub lengthen-requires-clause-last : goal.lengthen-requires-clause-last
 lengthen-requires-clause-last c =

@@ -1,4 +1,4 @@
-use Rattle.std.proofs.Common.{◌+◌, ap, arith, refl, subst, sym, ◌∙◌}
+use Rattle.std.proofs.Common.{◌<◌, ℕ, ◌+◌, ap, arith, refl, subst, sym, ◌∙◌}
 use Rattle.std.specs.Prelude.{slice_set}
 use Rattle.hart_machine.specs.Patched.{Patched}
 use Rattle.dbg_model.specs.Journals.{lengthened_by}
@@ -10,6 +10,7 @@ use Rattle.engine_parts.proofs.Serving.{nothing_here, served_here, served_nothin
 use Rattle.engine_parts.proofs.Stretching.{giver}
 use Rattle.engine_parts.proofs.Taking.{Taken}
 use Rattle.dbg_engine.specs.EngineInside.{run_of}
+use Rattle.dbg_engine.proofs.Within.{has_core, has_mind, has_room, within_budget}
 use Rattle.dbg_engine.proofs.engine.Engine.serve.Goals as goal
 
 pub returns-then-not-gives_job-clause-serves : goal.returns-then-not-gives_job-clause-serves
@@ -38,6 +39,23 @@ returns-then-instructions-eq0-clause-facts c = kept c
 
 pub invariant_of-self : goal.invariant_of-self
 invariant_of-self c = record { facts = kept c }
+
+pub overflow_sub-self-inside : goal.overflow_sub-self-inside
+overflow_sub-self-inside c =
+    let r = run_of c.self.inside in
+    within_budget r r refl (giver r c.args.h (ap (λ (q : Engine). gives_job q c.args.h) c.self.view_is ∙ sym c.if-not-gives_job.ensures)).may
+
+pub stretch-instructions-requires : goal.stretch-instructions-requires
+stretch-instructions-requires c =
+    has_core (run_of c.self.inside) c.args.self.now c.args.h c.mind-mind.result c.self.view_is c.self.invariant.facts.sound c.mind-mind.ensures
+
+pub lengthen-requires-clause-room : goal.lengthen-requires-clause-room
+lengthen-requires-clause-room c = has_room (run_of c.self.inside) c.args.self.now c.self.view_is c.requires.spare
+
+pub index_mut-requires : goal.index_mut-requires
+index_mut-requires c =
+    let here = has_mind (run_of c.self.inside) c.args.self.now c.args.h c.mind-mind.result c.self.view_is c.mind-mind.ensures in
+    subst (λ (n : ℕ). c.args.h < n) (sym c.self.inside.minds.ok.0) here
 
 pub lengthen-requires-clause-last : goal.lengthen-requires-clause-last
 lengthen-requires-clause-last c =

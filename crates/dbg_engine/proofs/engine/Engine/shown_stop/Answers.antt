@@ -11,12 +11,12 @@ pub returns : goal.returns
 returns c =
     let r = run_of c.self.inside in
     let h = c.args.h in
-    let f = c.in_ok-shown_frame.field-0 in
-    let w = c.in_ok-stopping_watch.field-0 in
+    let f = c.in-Ok-shown_frame.frame in
+    let w = c.in-Ok.watch in
     let L : Engine → Type 0 = λ q. h < length q.minds in
     let O : Engine → Type 0 = λ q. Of q h (λ y. y.regs.pc ≡ c.pc-pc.result) in
     let P : Engine → Type 0 = λ q. Stop f c.self.inside.temporary w ≡ Stop (frame_at q.sources (seen q).harts h) q.temporary (stopping_watch q.watches c.args.why) in
-    let frame = c.in_ok-shown_frame.ensures ∙ frame_known r h c.pc-pc.result c.self.invariant.facts (subst L (sym c.self.view_is) c.requires) (subst O (sym c.self.view_is) c.pc-pc.ensures) in
-    let watch = c.in_ok-stopping_watch.ensures ∙ ap (λ ws. stopping_watch ws c.args.why) c.as_slice.ensures.watches in
+    let frame = c.in-Ok-shown_frame.ensures ∙ frame_known r h c.pc-pc.result c.self.invariant.facts (subst L (sym c.self.view_is) c.requires) (subst O (sym c.self.view_is) c.pc-pc.ensures) in
+    let watch = c.in-Ok.ensures ∙ ap (λ ws. stopping_watch ws c.args.why) c.as_slice.ensures.watches in
     let is : P r = ap (λ g. Stop g r.temporary w) frame ∙ ap (λ v. Stop (frame_at r.sources (seen r).harts h) r.temporary v) watch in
     subst P c.self.view_is is
