@@ -1,5 +1,5 @@
 // A line of the user: whether it can be done now, and what it is answered once it is done.
-// What is large is dropped by a call of `drop`: the proof then goes through its parts once, not at each place that drops it.
+// Where nothing is hot, what is large is dropped by a call of `drop`: the proof then goes through its parts once, not at each such place.
 ghost use Rattle.std.specs.Prelude.{◌≡◌, ◌&&◌, ◌<◌, true, IfOk, OnOk, MatchResult};
 ghost use Rattle.mi_commands.specs.Gives.{Commands};
 ghost use Rattle.dbg_model.specs.Limits.{history};

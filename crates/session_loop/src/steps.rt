@@ -1,5 +1,5 @@
 // A turn of a hart and a line of input, over the parts of a session.
-// What is large is dropped by a call of `drop`: the proof then goes through its parts once, not at each place that drops it.
+// Where nothing is hot, what is large is dropped by a call of `drop`: the proof then goes through its parts once, not at each such place.
 ghost use Rattle.std.specs.Prelude.{◌≡◌, ◌<◌, ◌≤◌, ◌+◌, ◌++◌, length, OnOk, MatchResult, true};
 ghost use Rattle.dbg_model.specs.Lawful.{may_go};
 ghost use Rattle.dbg_model.specs.declared.reply.Reply.{Reply};
@@ -50,11 +50,7 @@ fn report_entry(
     ensures grammar { OnOk result (AreLines (lines_of entry.now (shown_by engine.now moved entry.now last))) }
 {
     match engine.shown(moved, entry, last) {
-        Ok(shown) => {
-            let reported = report(entry, &shown, into);
-            drop(shown);
-            reported
-        }
+        Ok(shown) => report(entry, &shown, into),
         Err(NoMemory) => Err(NoMemory),
     }
 }
@@ -191,10 +187,7 @@ fn put_done<W: World>(
     ensures { MatchResult result (λ put. PutsLines put (reply_lines reply) (W.told world.old) (W.told world.new)) (λ _. world.new ≡ world.old) }
 {
     let done = done_entry(engine, before);
-    let shown = Shown::Answer { reply };
-    let put = put_entry(world, done, &shown, lines);
-    drop(shown);
-    put
+    put_entry(world, done, &Shown::Answer { reply }, lines)
 }
 
 /// The next line of the rest of the input, with its reply, in a session that may go on. What it sees of the harts goes through
