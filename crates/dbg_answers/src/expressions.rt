@@ -17,7 +17,7 @@ use crate::answer::{Answer, Failure, hindered, showing};
 use crate::debuggee::Debuggee;
 use crate::variables::read_in;
 use cond_expr::{Expr, ParseError, Value, parse, value};
-use dbg_model::{Content, Obstacle, Refused, SeenHart};
+use dbg_model::{Content, Obstacle, SeenHart};
 use dbg_traits::ByteList;
 use elf_symbols::Symbols;
 use rv_exec::Regs;
@@ -36,9 +36,7 @@ pub fn read(alloc: Global, symbols: &Symbols, text: &[u8]) -> Result<Expr, Failu
 {
     match read_text(alloc, symbols, text) {
         Ok(expression) => Ok(expression),
-        Err(ParseError::Fault(fault)) => Err(Failure::Refused(Refused::Hindered(
-            Obstacle::Expression(fault),
-        ))),
+        Err(ParseError::Fault(fault)) => Err(hindered(Obstacle::Expression(fault))),
         Err(ParseError::NoMemory) => Err(Failure::NoMemory),
     }
 }

@@ -4,9 +4,9 @@ ghost use Rattle.dbg_model.specs.Data.{bytes_at, read_memory};
 ghost use Rattle.dbg_answers.specs.Debuggee.{seen};
 ghost use Rattle.dbg_answers.specs.Answer.{Gives, GivesAs};
 
-use crate::answer::{Answer, Failure, showing};
+use crate::answer::{Answer, Failure, hindered, showing};
 use crate::debuggee::Debuggee;
-use dbg_model::{Content, Obstacle, Refused, shown_byte};
+use dbg_model::{Content, Obstacle, shown_byte};
 use dbg_traits::ByteList;
 use std::alloc::{AllocError, Global};
 
@@ -30,7 +30,7 @@ fn bytes_at(
     for k in 0..count {
         let at = addr.wrapping_add(k);
         let Some(byte) = shown_byte(debuggee.image, debuggee.memory, at) else {
-            return Err(Failure::Refused(Refused::Hindered(Obstacle::Unreadable(at))));
+            return Err(hindered(Obstacle::Unreadable(at)));
         };
         push_byte(&mut bytes, byte)?;
     }

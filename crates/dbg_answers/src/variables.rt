@@ -10,11 +10,11 @@ ghost use Rattle.dbg_model.specs.Variables.{expression_in, text_value, tree_as, 
 ghost use Rattle.dbg_answers.specs.Debuggee.{seen};
 ghost use Rattle.dbg_answers.specs.Answer.{Gives, GivesAs};
 
-use crate::answer::{Answer, Failure, showing};
+use crate::answer::{Answer, Failure, hindered, showing};
 use crate::debuggee::Debuggee;
 use crate::expressions::read_text;
 use cond_expr::{Expr, ParseError, Value, value};
-use dbg_model::{Content, Obstacle, Refused, SeenHart, ShownVariable, VariableList, VariableValue};
+use dbg_model::{Content, Obstacle, SeenHart, ShownVariable, VariableList, VariableValue};
 use dbg_traits::{ByteList, NoMemory, View};
 use debug_info::Var;
 use elf_symbols::Symbols;
@@ -159,9 +159,7 @@ fn tree_as(parsed: Result<Expr, ParseError>) -> Result<Expr, Failure>
 {
     match parsed {
         Ok(expression) => Ok(expression),
-        Err(ParseError::Fault(fault)) => Err(Failure::Refused(Refused::Hindered(
-            Obstacle::Expression(fault),
-        ))),
+        Err(ParseError::Fault(fault)) => Err(hindered(Obstacle::Expression(fault))),
         Err(ParseError::NoMemory) => Err(Failure::NoMemory),
     }
 }

@@ -3,7 +3,7 @@ ghost use Rattle.dbg_model.specs.Writes.{set_register, write_memory};
 ghost use Rattle.dbg_answers.specs.Debuggee.{seen};
 ghost use Rattle.dbg_answers.specs.Answer.{Gives};
 
-use crate::answer::{Answer, Failure, doing};
+use crate::answer::{Answer, Failure, doing, hindered};
 use crate::debuggee::Debuggee;
 use dbg_effects::Effect;
 use dbg_model::{Obstacle, Poke, Refused, is_settable};
@@ -41,7 +41,7 @@ pub fn write_memory(
 {
     let len = bytes.as_slice().len();
     if let Some(addr) = debuggee.memory.first_unwritable(address, len) {
-        return Err(Failure::Refused(Refused::Hindered(Obstacle::Unwritable(addr))));
+        return Err(hindered(Obstacle::Unwritable(addr)));
     }
     Ok(doing(Effect::Poke(Poke::Bytes { address, bytes })))
 }

@@ -47,7 +47,7 @@ use engine_parts::patching::release;
 use engine_parts::views::views;
 use engine_parts::{Activity, Hold, Mind, Phase};
 use hart_machine::Machine;
-use loading::{Kept, first_parts, let_go, let_go_sources};
+use loading::{Kept, first_parts};
 use mi_commands::Displaced;
 pub use slicing::Commit;
 use std::alloc::{AllocError, Global};
@@ -384,12 +384,13 @@ impl Engine {
         let mut machine = machine;
         go_home_each(&mut machine, minds.as_slice(), 0);
         release(&mut machine, hold, &table);
-        let_go(Kept {
+        let kept = Kept {
             minds,
             watches,
             table,
-        });
-        let_go_sources(sources);
+        };
+        kept.let_go();
+        sources.let_go();
         Closed {
             opening,
             journal: journal.close(),

@@ -67,9 +67,6 @@ fn variables_told(alloc: Global, image: &Image) -> Result<Info, NoMemory>
     )
 }
 
-// What nothing needs any more is dropped where nothing else is at hand.
-fn let_go(_symbols: Symbols, _lines: LineIndex) {}
-
 impl SourceIndex {
     /// The index of a program. It takes n log n time in the symbols, the line rows, the frame entries and the entries of
     /// variables. A unit of `.debug_line` with a fault gives no rows and one of `.debug_info` no variables, and a fault of
@@ -91,11 +88,13 @@ impl SourceIndex {
             return Err(NoMemory);
         };
         let Ok(info) = variables_told(alloc, image) else {
-            let_go(symbols, lines);
+            drop(symbols);
+            drop(lines);
             return Err(NoMemory);
         };
         let Ok(frames) = FrameIndex::build(alloc, section_bytes(image, b".debug_frame")) else {
-            let_go(symbols, lines);
+            drop(symbols);
+            drop(lines);
             return Err(NoMemory);
         };
         Ok(SourceIndex {
@@ -105,6 +104,9 @@ impl SourceIndex {
             info,
         })
     }
+
+    /// Drops the index, where nothing else is at hand: what it is made of is gone through here, once in all proofs.
+    pub fn let_go(self) {}
 
     /// The symbols of the program.
     pub fn symbols(&self) -> &Symbols

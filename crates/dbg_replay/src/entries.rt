@@ -10,7 +10,6 @@ ghost use Rattle.replay_parts.specs.Parts.{state_of};
 ghost use Rattle.replay_parts.specs.Going.{Comes, Enters, Kept};
 
 use crate::lines::do_line;
-use crate::state::let_shown_go;
 use dbg_model::{Entry, Opening, Shown};
 use replay_parts::hart_entries::{count, leave, stop};
 use replay_parts::pokes::write;
@@ -23,7 +22,7 @@ fn showing(came: Result<(), Halt>, shown: Shown) -> Result<Shown, Halt>
     ensures { (o : Opening) (after : Option State) (old new : Parts) → Comes o came after old new → Enters o result after shown old new }
 {
     if let Err(halt) = came {
-        let_shown_go(Some(shown));
+        drop(shown);
         return Err(halt);
     }
     Ok(shown)

@@ -9,5 +9,5 @@ mod state;
 mod taking;
 
 pub use replaying::replay;
-pub use state::{ModelState, let_go};
+pub use state::ModelState;
 pub use taking::{start, take_entry, take_more, take_ran};

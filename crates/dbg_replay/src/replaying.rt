@@ -7,7 +7,7 @@ ghost use Rattle.dbg_model.specs.Journals.{come, first_place, replay};
 ghost use Rattle.dbg_model.specs.Keeping.{entry_of};
 ghost use Rattle.dbg_replay.specs.Standing.{IsOf, Passes, place_of};
 
-use crate::state::{ModelState, let_go};
+use crate::state::ModelState;
 use crate::taking::{start, take_entry, take_more, take_ran};
 use dbg_model::{Entries, Entry, EntryRef, Journal, Opening};
 use dbg_traits::NoMemory;
@@ -103,7 +103,7 @@ pub fn replay(
     if let Ok(true) = through {
         return Ok(Some(state));
     }
-    let_go(state);
+    state.let_go();
     through?;
     Ok(None)
 }

@@ -35,26 +35,20 @@ impl Model for ModelState {
     ghost view = { λ s. standing_of s.parts s.prev s.shown };
 }
 
-/// Lets go of what was shown. Where that is done in one place, what it is made of is gone through once in all proofs.
-pub(crate) fn let_shown_go(_shown: Option<Shown>) {}
-
-fn let_sources_go(_sources: SourceIndex) {}
-
-fn let_program_go(_words: TextWords, _memory: DataMemory) {}
-
-// Large parts go one by one: each proof has that much less to carry.
+// Large parts are dropped one by one: each proof has that much less to carry.
 fn let_parts_go(parts: Parts) {
-    let_sources_go(parts.sources);
-    let_program_go(parts.words, parts.memory);
-}
-
-/// Lets go of a state, in one place for the same reason.
-pub fn let_go(state: ModelState) {
-    let_shown_go(state.shown);
-    let_parts_go(state.parts);
+    parts.sources.let_go();
+    drop(parts.words);
+    drop(parts.memory);
 }
 
 impl ModelState {
+    /// Drops the state, where nothing else is at hand: what it is made of is gone through here, once in all proofs.
+    pub fn let_go(self) {
+        drop(self.shown);
+        let_parts_go(self.parts);
+    }
+
     /// What the entry or the instruction shows that was taken last. It refers to what is kept: nothing is copied.
     pub fn shown(&self) -> &Shown
         requires { is_some self.now.shown ≡ true }

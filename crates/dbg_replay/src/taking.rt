@@ -12,7 +12,7 @@ ghost use Rattle.dbg_replay.specs.Standing.{IsOf, Takes, come_one};
 ghost use Rattle.replay_parts.specs.Further.{GoesNoFurther, LengthensBy};
 
 use crate::entries::enter;
-use crate::state::{ModelState, let_shown_go};
+use crate::state::ModelState;
 use dbg_model::{Entry, Opening, Shown};
 use dbg_traits::NoMemory;
 use replay_parts::Halt;
@@ -49,7 +49,7 @@ fn note(state: &mut ModelState, prev: Option<u32>, shown: Shown)
     ensures { state.new ≡ record state.old { place = record state.old.place { prev = prev }; shown = Some shown } }
 {
     state.prev = prev;
-    let_shown_go(mem::replace(&mut state.shown, Some(shown)));
+    drop(mem::replace(&mut state.shown, Some(shown)));
 }
 
 /// Takes the next entry of a journal, which is no `Ran`: true, and then `shown` is what it shows, or false where it may not come.

@@ -7,17 +7,18 @@ use Rattle.clap.specs.declared.builder.command.Command.TheOpen.{Command-F}
 use Rattle.clap.specs.declared.error.kind.ErrorKind.{ErrorKind}
 use Rattle.clap.proofs.OnLiterals.{clap_on_literals}
 use Rattle.dbg_words.specs.Command.{rvdbg, settled_app}
+use Rattle.dbg_words.specs.Uses.{option_names}
 use Rattle.clap.specs.Simple.{app_of_fields}
 
 pub settled_is : (a b c : Command) → out-Command b ≡ record (out-Command a) { no_binary_name = true } → out-Command c ≡ record (out-Command b) { disable_help_flag = true } → app_of c ≡ settled_app (app_of a)
 settled_is a b c first second = ap app_of_fields second ∙ ap (λ (f : Command-F Command). app_of_fields (record f { disable_help_flag = true })) first
 
 pub rvdbg-simple : is_simple rvdbg ≡ true
-unfolding rvdbg clap_on_literals
+unfolding rvdbg option_names clap_on_literals
 rvdbg-simple = refl
 
 pub rvdbg-free : is_simple_and_free rvdbg ≡ true
-unfolding rvdbg clap_on_literals
+unfolding rvdbg option_names clap_on_literals
 rvdbg-free = refl
 
 pub is_refused : (k : ErrorKind) (a b : Kinds) → a ≡ b → IsAmong k a → b ≡ [] → ⊥

@@ -30,7 +30,7 @@ unfolding rvdbg option_names clap_on_literals
 rvdbg-built = refl
 
 rvdbg-words : (words : List Text) → argument_words rvdbg words ≡ words
-unfolding rvdbg
+unfolding rvdbg option_names
 rvdbg-words words = refl
 
 names-other : is_name option_names file ≡ false

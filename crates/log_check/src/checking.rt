@@ -18,7 +18,7 @@ use crate::hearing::Hearing;
 use crate::speaker::Speaker;
 use crate::verdict::CheckVerdict;
 use dbg_model::{Entry, Opening, Shown};
-use dbg_replay::{ModelState, let_go, start, take_entry, take_more, take_ran};
+use dbg_replay::{ModelState, start, take_entry, take_more, take_ran};
 use dbg_traits::NoMemory;
 use std::alloc::Global;
 
@@ -250,7 +250,7 @@ fn go<S: Speaker>(
         return Err(NoMemory);
     };
     let through = go_through(alloc, opening, &mut state, journal, speaker, hearing);
-    let_go(state);
+    state.let_go();
     through
 }
 

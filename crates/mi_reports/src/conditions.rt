@@ -4,8 +4,8 @@ ghost use Rattle.mi_reports.specs.Errors.{condition_error, condition_message};
 ghost use Rattle.mi_reports.specs.Seen.{trees};
 ghost use Rattle.mi_reports.specs.Text.{condition_lines};
 
-use crate::errors::{push, push_at, push_counted};
 use crate::lines::LineList;
+use crate::texts::{push, push_at, push_counted};
 use crate::words::Phrase;
 use break_table::CondError;
 use mi_values::StreamSign;

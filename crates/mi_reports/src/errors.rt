@@ -1,19 +1,17 @@
 // Why a line is refused.
 ghost use Rattle.std.specs.Prelude.{◌≡◌, ◌++◌, decimal, OnOk, true};
 ghost use Rattle.mi_values.specs.Testing.{are_bytes};
-ghost use Rattle.mi_text.specs.Numeral.{address_text};
 ghost use Rattle.mi_reports.specs.Seen.{seen};
 ghost use Rattle.mi_reports.specs.declared.words.Phrase.TheVariants as phrases;
 ghost use Rattle.mi_reports.specs.Phrases.{phrase_text};
 ghost use Rattle.mi_reports.specs.Errors.{fault_message, expression_message, obstacle_message, message, error_code, error_fields};
 
 use crate::fields::FieldList;
-use crate::words::{Key, Phrase, wording};
+use crate::texts::{push, push_at, push_counted, push_named};
+use crate::words::{Key, Phrase};
 use cond_expr::{ExprFault, FaultKind};
 use dbg_model::{Obstacle, Refused};
-use dbg_traits::ByteList;
 use mi_commands::Fault;
-use mi_text::{address_text, write_decimal};
 use std::alloc::AllocError;
 
 fn push_fault(into: &mut Vec<u8>, fault: &Fault) -> Result<(), AllocError>
@@ -28,43 +26,12 @@ fn push_fault(into: &mut Vec<u8>, fault: &Fault) -> Result<(), AllocError>
     }
 }
 
-/// Puts a fixed text at the end.
-pub fn push(into: &mut Vec<u8>, phrase: Phrase) -> Result<(), AllocError>
-    ensures { OnOk result (into.new.items ≡ into.old.items ++ phrase_text phrase) }
-{
-    into.extend_from_slice(wording(phrase))
-}
-
-// Bytes behind a text.
-fn push_named(into: &mut Vec<u8>, head: Phrase, bytes: &ByteList) -> Result<(), AllocError>
-    ensures { OnOk result (into.new.items ≡ into.old.items ++ (phrase_text head ++ bytes.now)) }
-{
-    push(into, head)?;
-    into.extend_from_slice(bytes.as_slice())
-}
-
-/// Puts a text at the end, and a number behind it.
-pub fn push_counted(into: &mut Vec<u8>, head: Phrase, n: u32) -> Result<(), AllocError>
-    ensures { OnOk result (into.new.items ≡ into.old.items ++ (phrase_text head ++ decimal n)) }
-{
-    push(into, head)?;
-    write_decimal(u64::from(n), into)
-}
-
 // What is said of a thread.
 fn push_thread(into: &mut Vec<u8>, thread: u32, told: Phrase) -> Result<(), AllocError>
     ensures { OnOk result (into.new.items ≡ into.old.items ++ (phrase_text phrases.Thread ++ decimal thread ++ phrase_text told)) }
 {
     push_counted(into, Phrase::Thread, thread)?;
     push(into, told)
-}
-
-/// Puts a text at the end, and an address behind it.
-pub fn push_at(into: &mut Vec<u8>, head: Phrase, address: u32) -> Result<(), AllocError>
-    ensures { OnOk result (into.new.items ≡ into.old.items ++ (phrase_text head ++ address_text address)) }
-{
-    push(into, head)?;
-    into.extend_from_slice(&address_text(address))
 }
 
 fn push_expression(into: &mut Vec<u8>, fault: ExprFault) -> Result<(), AllocError>

@@ -17,6 +17,7 @@ mod registers;
 mod replies;
 mod stops;
 mod table;
+mod texts;
 mod threads;
 mod triggers;
 mod variables;

@@ -6,8 +6,8 @@ ghost use Rattle.mi_reports.specs.Fits.{variables_fit};
 ghost use Rattle.mi_reports.specs.Seen.{seen};
 ghost use Rattle.mi_reports.specs.Variables.{argument_fields, shown_fields, shown_text, variable_fields, variable_tree, variables_field};
 
-use crate::errors::{push, push_at};
 use crate::fields::{FieldList, listed, tuple};
+use crate::texts::{push, push_at};
 use crate::words::{Key, Phrase};
 use dbg_model::{ShownVariable, VariableValue};
 use mi_text::write_worth;

@@ -4,7 +4,7 @@ ghost use Rattle.dbg_traits.specs.Settings.{AreSettings};
 use break_table::BreakEntry;
 use dbg_engine::Engine;
 use dbg_model::{Entry, EntryRef, Journal, JournalWriter, Mode, Opening, Poke};
-use dbg_replay::{ModelState, let_go, replay};
+use dbg_replay::{ModelState, replay};
 use dbg_traits::{ByteList, NoMemory};
 use std::alloc::{AllocError, Global};
 
@@ -110,7 +110,7 @@ fn shows_left(
     match left {
         Ok(Some(state)) => {
             let shown = shows(engine, &state);
-            let_go(state);
+            state.let_go();
             Ok(shown)
         }
         Ok(None) => Ok(false),

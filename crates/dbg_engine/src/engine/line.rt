@@ -49,9 +49,6 @@ fn exited_after(exited: bool, effect: &Effect) -> bool
     }
 }
 
-// A change that isn't made is dropped where nothing else is at hand.
-fn let_go(_effect: Effect) {}
-
 impl Engine {
     ghost use Rattle.engine_parts.specs.Facts.{Facts};
     ghost use Rattle.engine_parts.specs.Calls.{Lines};
@@ -79,7 +76,7 @@ impl Engine {
         ensures facts { OnOk result (Facts self.new) }
     {
         let Ok(()) = did(self.alloc, &mut self.journal, line) else {
-            let_go(effect);
+            drop(effect);
             return Err(NoMemory);
         };
         change_threads(&mut self.minds, &effect);

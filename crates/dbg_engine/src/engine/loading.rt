@@ -32,10 +32,10 @@ pub(crate) struct Parts {
     pub sources: SourceIndex,
 }
 
-// What nothing needs any more is dropped where nothing else is at hand.
-pub(crate) fn let_go(_kept: Kept) {}
-
-pub(crate) fn let_go_sources(_sources: SourceIndex) {}
+impl Kept {
+    /// Drops it, where nothing else is at hand.
+    pub fn let_go(self) {}
+}
 
 // Each hart is stopped, and there is no breakpoint and no watch.
 fn first_kept(alloc: Global, opening: &Opening) -> Result<Kept, NoMemory>
@@ -74,12 +74,12 @@ pub(crate) fn first_parts(alloc: Global, opening: &Opening) -> Result<Parts, NoM
         return Err(NoMemory);
     };
     let Ok(sources) = SourceIndex::build(alloc, &opening.image) else {
-        let_go(kept);
+        kept.let_go();
         return Err(NoMemory);
     };
     let Ok(machine) = Machine::load(alloc, &opening.image, opening.settings) else {
-        let_go(kept);
-        let_go_sources(sources);
+        kept.let_go();
+        sources.let_go();
         return Err(NoMemory);
     };
     Ok(Parts {

@@ -1,10 +1,11 @@
 use Rattle.std.proofs.Common.{ap, ◌∙◌}
 use Rattle.dbg_words.specs.Command.{rvdbg, settled_app}
+use Rattle.dbg_words.specs.Uses.{option_names}
 use Rattle.dbg_words.proofs.Building.{settled_is}
 use Rattle.dbg_words.proofs.command.command.Goals as goal
 
 pub returns : goal.returns
-unfolding rvdbg
+unfolding rvdbg option_names
 returns c =
     let bare = settled_is _ _ _ c.no_binary_name.ensures c.disable_help_flag-bare.ensures ∙ ap settled_app c.new.ensures.app in
     let harts = c.with-command.ensures _ _ c.option.ensures.rule bare in
