@@ -3,11 +3,9 @@ ghost use Rattle.std.specs.Prelude.{◌≡◌, true, Some, is_some, map};
 ghost use Rattle.break_table.specs.Entry.{entry_of};
 
 use break_table::BreakEntry;
-use data_memory::DataMemory;
-use dbg_model::{Hart, Shown, SourceIndex};
+use dbg_model::{Hart, Shown};
 use replay_parts::Parts;
 use std::marker::Model;
-use text_words::TextWords;
 use watch_points::Watch;
 
 /// The model's state behind what was taken of a journal, and what the last of that shows. Contracts see a `Standing`.
