@@ -29,7 +29,7 @@ use Rattle.dbg_model.specs.State.{State, due, is_stopped}
 use Rattle.watch_points.specs.Watches.{is_fired}
 use Rattle.dbg_model.proofs.Options.{bind_some, guard_some, map_some, same_some, both_true}
 use Rattle.session_log.specs.Rows.{has_bytes}
-use Rattle.session_parts.proofs.Filling.{Fills, FillsChange, change_fills}
+use Rattle.journal_laws.proofs.Filling.{Fills, FillsChange, change_fills}
 
 same_asks : (s t u : State) → u ≡ t → u.pending ≡ s.pending → t.pending ≡ s.pending
 same_asks s t u is e = ap (λ (v : State). v.pending) (sym is) ∙ e

@@ -36,9 +36,9 @@ use Rattle.dbg_model.specs.Lawful.{one, ran, enter, may_do, may_move, may_run, s
 use Rattle.dbg_model.specs.Journals.{Place, come, follows, ran_hart, ran_count, replay_from, replay, first_place, Leaves}
 use Rattle.dbg_model.proofs.Options.{bind_some, guard_some, map_some, same_some, both_true}
 use Rattle.dbg_model.proofs.Adding.{CameBy, came_by, at_last, enter_ran}
-use Rattle.session_parts.specs.Triggered.{AreOthers, LetsGo, StopsFirst, drops, lets_go}
-use Rattle.session_parts.proofs.Firing.{differ, replay_split}
-use Rattle.session_parts.proofs.Holding.{Waits, WaitsAt, waits_of, set_elsewhere, set_waits, map_waits, ran_elsewhere, changes_wait, arrived_fired, one_none, enters_none}
+use Rattle.journal_laws.specs.Triggered.{AreOthers, LetsGo, StopsFirst, drops, lets_go}
+use Rattle.journal_laws.proofs.Firing.{differ, replay_split}
+use Rattle.journal_laws.proofs.Holding.{Waits, WaitsAt, waits_of, set_elsewhere, set_waits, map_waits, ran_elsewhere, changes_wait, arrived_fired, one_none, enters_none}
 
 -- ---- the other entries
 

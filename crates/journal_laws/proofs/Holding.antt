@@ -23,7 +23,7 @@ use Rattle.dbg_model.specs.Views.{register, shown_byte}
 use Rattle.watch_points.specs.Watches.{worth, changed, fired_one, fired_by}
 use Rattle.dbg_model.specs.Lawful.{one, one_by, ran, enter, may_go, may_move, may_run, set_out, stepped, stepped_by, leaving, leaving_at, with_leavers, with_step}
 use Rattle.dbg_model.proofs.Options.{bind_some, guard_some, same_some, both_true}
-use Rattle.session_parts.specs.Triggered.{Changes}
+use Rattle.journal_laws.specs.Triggered.{Changes}
 
 -- ---- a hart for which a watch has fired, and that isn't stopped
 

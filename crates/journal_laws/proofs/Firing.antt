@@ -26,8 +26,8 @@ use Rattle.dbg_model.specs.Lawful.{one, ran, enter, may_do, may_move, with_arriv
 use Rattle.dbg_model.specs.Journals.{Place, come, follows, ran_hart, ran_count, replay_from, replay, first_place, Leaves}
 use Rattle.dbg_model.proofs.Options.{bind_some, guard_some, bind_bind, map_some, same_some, both_true}
 use Rattle.dbg_model.proofs.Adding.{CameBy, at_last}
-use Rattle.session_parts.specs.Triggered.{AreOthers, Changes, LastChanged, TellsChanges}
-use Rattle.session_parts.proofs.Triggering.{fired_of, fired_at, one_steps, ran_apart, Fewer, stop_fewer, count_fewer, left_fewer, did_fewer, poked_fewer}
+use Rattle.journal_laws.specs.Triggered.{AreOthers, Changes, LastChanged, TellsChanges}
+use Rattle.journal_laws.proofs.Triggering.{fired_of, fired_at, one_steps, ran_apart, Fewer, stop_fewer, count_fewer, left_fewer, did_fewer, poked_fewer}
 
 -- ---- the watches whose bytes an instruction changed
 
