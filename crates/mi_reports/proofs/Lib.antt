@@ -10,6 +10,8 @@ pub mod Replying
 -- Which reply is the prompt alone.
 pub mod Blanks
 pub mod Stopping
+-- What the fields of a line are, field by field.
+pub mod Led
 -- What a session says: one entry more, the lines that show the output, and harts that leave.
 pub mod Saying
 pub mod Telling

@@ -13,5 +13,6 @@ pub mod Triggers
 pub mod Lines
 pub mod Said
 pub mod Refusals
+pub mod Led
 pub mod Fits
 pub mod Seen

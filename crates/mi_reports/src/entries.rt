@@ -9,7 +9,7 @@ ghost use Rattle.mi_reports.specs.Refusals.{file_fields, refusal_lines, usage_fi
 ghost use Rattle.mi_reports.specs.Text.{opening_lines};
 
 use crate::exits::{push_left, push_opening, push_output};
-use crate::lines::{LineList, write_prompt};
+use crate::lines::{LineList, put_prompt};
 use crate::refusals::{push_bad_file, push_usage};
 use crate::replies::push_reply;
 use crate::stops::push_stop;
@@ -56,7 +56,7 @@ pub fn report(entry: &Entry, shown: &Shown, into: &mut Vec<u8>) -> Result<(), No
 {
     if let (Entry::Did { .. }, Shown::Answer { reply }) = (entry, shown) {
         if is_blank(reply) {
-            return write_prompt(into);
+            return put_prompt(into);
         }
     }
     let mut lines = LineList::new(*into.allocator());

@@ -1,20 +1,87 @@
-// Lines, built one behind the other, and written by `write_line`.
+// The lines around fields: written; and lines built one behind the other, which `write_line` writes.
 ghost use Rattle.std.specs.Prelude.{◌≡◌, ◌∷◌, [], ◌++◌, map, OnOk, OnErr, true};
 ghost use Rattle.mi_text.specs.Keeps.{Keeps};
 ghost use Rattle.mi_values.specs.Line.{line_view};
 ghost use Rattle.mi_values.specs.FieldLists.{notice_of, result_of};
-ghost use Rattle.mi_values.specs.Record.{prompt, stream};
+ghost use Rattle.mi_values.specs.Record.{line_bytes, prompt, stream, notice_byte, stream_byte};
 ghost use Rattle.mi_values.specs.Records.{lines_bytes, AreLines};
 ghost use Rattle.mi_values.specs.Tree.{fields_of, fields_view};
 ghost use Rattle.mi_reports.specs.Fits.{are_fit};
+ghost use Rattle.mi_reports.specs.Led.{begun, answered};
 ghost use Rattle.mi_reports.specs.Seen.{seen, trees};
 ghost use Rattle.mi_reports.specs.Words.{key_text};
 
-use crate::fields::FieldList;
-use crate::words::{Key, name_of};
+use crate::fields::{FieldList, write_byte};
+use crate::words::{Key, name, name_of};
 use dbg_traits::NoMemory;
+use mi_text::write_c_string;
 use mi_values::{Fields, Line, NoticeSign, StreamSign, Token, write_line};
 use std::alloc::{AllocError, Global};
+
+// For how many bytes of a notice there is room from the first on.
+const ROOM: usize = 512;
+
+// The first byte of a notice.
+fn notice_byte(sign: NoticeSign) -> u8
+    ensures { result ≡ notice_byte sign }
+{
+    match sign {
+        NoticeSign::Exec => b'*',
+        NoticeSign::Notify => b'=',
+    }
+}
+
+// The first byte of the line of a text.
+fn stream_byte(sign: StreamSign) -> u8
+    ensures { result ≡ stream_byte sign }
+{
+    match sign {
+        StreamSign::Target => b'@',
+        StreamSign::Log => b'&',
+    }
+}
+
+/// Puts the sign of a notice and its class at the end.
+#[tactic(auto, unfolding(crate::specs::Led::begun))]
+pub fn write_begun(into: &mut Vec<u8>, sign: NoticeSign, class: Key) -> Result<(), AllocError>
+    ensures written { OnOk result (into.new.items ≡ into.old.items ++ begun sign class) }
+    ensures kept { Keeps into.old.items into.new.items }
+{
+    into.reserve(ROOM)?;
+    write_byte(into, notice_byte(sign))?;
+    into.extend_from_slice(name(class).as_bytes())
+}
+
+/// Puts a token, `^` and the class of an answer at the end.
+#[tactic(auto, using(std::proofs::lemmas::Grind::common_steps), unfolding(crate::specs::Led::answered))]
+pub fn write_answered(into: &mut Vec<u8>, token: &Token, class: Key) -> Result<(), AllocError>
+    ensures written { OnOk result (into.new.items ≡ into.old.items ++ answered token.now class) }
+    ensures kept { Keeps into.old.items into.new.items }
+{
+    into.extend_from_slice(token.as_bytes())?;
+    write_byte(into, b'^')?;
+    into.extend_from_slice(name(class).as_bytes())
+}
+
+/// Puts the line of a text at the end.
+#[tactic(auto, using(std::proofs::lemmas::Grind::common_steps), unfolding(mi_values::specs::Record::line_bytes))]
+pub fn write_stream(into: &mut Vec<u8>, sign: StreamSign, bytes: &[u8]) -> Result<(), AllocError>
+    ensures written { OnOk result (into.new.items ≡ into.old.items ++ line_bytes (stream sign bytes.now)) }
+    ensures kept { Keeps into.old.items into.new.items }
+{
+    write_byte(into, stream_byte(sign))?;
+    write_c_string(bytes, into)?;
+    write_byte(into, b'\n')
+}
+
+/// Puts the line of the prompt at the end.
+#[tactic(auto, using(std::proofs::lemmas::Grind::common_steps), unfolding(mi_values::specs::Record::line_bytes))]
+pub fn write_prompt(into: &mut Vec<u8>) -> Result<(), AllocError>
+    ensures written { OnOk result (into.new.items ≡ into.old.items ++ line_bytes prompt) }
+    ensures kept { Keeps into.old.items into.new.items }
+{
+    into.extend_from_slice(b"(gdb)\n")
+}
 
 /// Lines in order.
 #[derive(Drop)]
@@ -47,7 +114,7 @@ fn write_all(lines: &[Line], into: &mut Vec<u8>) -> Result<(), NoMemory>
 
 /// Puts the prompt alone at the end. Out of memory, the buffer is as before.
 #[tactic(auto, using(std::proofs::lemmas::Grind::common_steps))]
-pub fn write_prompt(into: &mut Vec<u8>) -> Result<(), NoMemory>
+pub fn put_prompt(into: &mut Vec<u8>) -> Result<(), NoMemory>
     ensures written { OnOk result (into.new.items ≡ into.old.items ++ lines_bytes (prompt ∷ [])) }
     ensures lines { OnOk result (AreLines (prompt ∷ [])) }
     ensures unchanged { OnErr result (into.new.items ≡ into.old.items) }

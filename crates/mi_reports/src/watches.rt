@@ -1,14 +1,28 @@
 // Watches as they are told and listed.
 ghost use Rattle.std.specs.Prelude.{◌≡◌, ◌∷◌, [], ◌++◌, OnOk, true};
 ghost use Rattle.mi_values.specs.Testing.{are_bytes};
+ghost use Rattle.mi_text.specs.Keeps.{Keeps};
+ghost use Rattle.mi_reports.specs.Led.{led};
 ghost use Rattle.mi_reports.specs.Seen.{seen};
 ghost use Rattle.mi_reports.specs.Watches.{watch_field, listed_fields, listed_field};
 
 use crate::breakpoints::enabled;
-use crate::fields::{FieldList, tuple};
+use crate::fields::{FieldList, tuple, write_byte, write_head, write_text, write_word};
 use crate::words::{Key, Phrase};
 use std::alloc::AllocError;
 use watch_points::Watch;
+
+/// Puts a watch by its number at the end, with the text by which its bytes were given.
+#[tactic(auto, using(std::proofs::lemmas::Grind::common_steps, crate::proofs::Led::tuple_led), unfolding(crate::specs::Watches::told_fields, crate::specs::Watches::watch_field))]
+pub fn write_watch(into: &mut Vec<u8>, number: u32, expression: &[u8]) -> Result<(), AllocError>
+    ensures written { OnOk result (into.new.items ≡ into.old.items ++ led 44 (watch_field number expression.now)) }
+    ensures kept { Keeps into.old.items into.new.items }
+{
+    write_head(into, b',', Key::Wpt)?;
+    write_word(into, b'{', Key::Number, number)?;
+    write_text(into, b',', Key::Exp, expression)?;
+    write_byte(into, b'}')
+}
 
 /// Appends a watch by its number, with the text by which its bytes were given.
 #[tactic(auto, unfolding(crate::specs::Watches::told_fields, crate::specs::Watches::watch_field))]
