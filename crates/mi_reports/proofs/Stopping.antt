@@ -23,7 +23,7 @@ unfolding worth_fields
 worths_good unsigned f =
     says_good key.Old (worth_text f.old unsigned) _ 15 refl (worth_bytes f.old unsigned) (says_good key.New (worth_text f.new unsigned) [] 15 refl (worth_bytes f.new unsigned) (none_good 15))
 
-trigger_good : (w : Option ShownWatch) (f : Fired) (h : ℕ) (frame : ShownFrame) → are_bytes (expression w) ≡ true → frame_fits frame ≡ true → Good (trigger_fields w f h frame) 16
+pub trigger_good : (w : Option ShownWatch) (f : Fired) (h : ℕ) (frame : ShownFrame) → are_bytes (expression w) ≡ true → frame_fits frame ≡ true → Good (trigger_fields w f h frame) 16
 unfolding trigger_fields change_fields
 trigger_good w f h frame is fit =
     let worths = tuple_good (worth_fields (is_unsigned w) f) 16 refl (worths_good (is_unsigned w) f) in

@@ -1,5 +1,5 @@
 -- What is shown is made of bytes, wherever it comes from: tests of this project's own.
-use Rattle.std.specs.Prelude.{ℕ, Bool, true, ◌&&◌, List, Option, Some, None}
+use Rattle.std.specs.Prelude.{ℕ, Bool, true, ◌&&◌, List, [], Option, Some, None}
 use Rattle.std.specs.List.{list_all}
 use Rattle.dbg_model.specs.declared.frame.ShownFrame.{ShownFrame}
 use Rattle.dbg_model.specs.declared.frame.SourceLine.{SourceLine}
@@ -10,9 +10,18 @@ use Rattle.dbg_model.specs.declared.variable.ShownVariable.{ShownVariable}
 use Rattle.dbg_model.specs.declared.reply.Thread.{Thread}
 use Rattle.dbg_model.specs.declared.reply.Content.{Content}
 use Rattle.dbg_model.specs.declared.reply.Content.TheVariants as content
+use Rattle.dbg_model.specs.declared.reply.Refused.{Refused}
+use Rattle.dbg_model.specs.declared.reply.Refused.TheVariants as refused
+use Rattle.dbg_model.specs.declared.reply.Reply.{Reply}
+use Rattle.dbg_model.specs.declared.shown.Shown.{Shown}
+use Rattle.dbg_model.specs.declared.shown.Shown.TheVariants.{Nothing, Wrote, Stop, Exit, Answer}
+use Rattle.mi_commands.specs.declared.refusal.Fault.{Fault}
+use Rattle.mi_commands.specs.declared.refusal.Fault.TheVariants as fault
+use Rattle.mi_text.specs.Token.{is_token}
 use Rattle.hex.specs.Hex.{encode_lower}
 use Rattle.mi_values.specs.Tree.{Tree, fields_of}
 use Rattle.mi_values.specs.Testing.{are_bytes, are_proper_fields}
+use Rattle.mi_reports.specs.Triggers.{expression}
 
 -- fields that may stand in a line
 unfoldable pub are_fit : List (List ℕ × Tree) → Bool
@@ -74,3 +83,42 @@ done_fits (content.Value word unsigned) = true
 done_fits (content.Setting value) = true
 done_fits content.Exit = true
 done_fits (content.Refused r) = true
+
+-- the text in the message of a fault that isn't a fixed one
+abbrev pub faulty : Fault → List ℕ
+faulty (fault.Undefined name) = name
+faulty (fault.Parameters name) = name
+faulty (fault.Number word) = word
+faulty fault.Setting = []
+faulty (fault.Location word thread) = word
+
+-- and in the message of an error
+abbrev pub quoted : Refused → List ℕ
+quoted (refused.Faulty f) = faulty f
+quoted (refused.UnknownName name) = name
+quoted (refused.UnknownLine file line) = file
+quoted (refused.FixedRegister name) = name
+quoted (refused.Unwatchable expression) = expression
+quoted r = []
+
+abbrev pub content_fits : Content → Bool
+content_fits (content.Inserted b) = breakpoint_fits b
+content_fits (content.Breakpoints rs) = rows_fit rs
+content_fits (content.Watching number expression) = are_bytes expression
+content_fits (content.Threads threads selected) = threads_fit threads
+content_fits (content.Frames frames) = frames_fit frames
+content_fits (content.Frame frame) = frame_fits frame
+content_fits (content.Variables vs) = variables_fit vs
+content_fits (content.Refused r) = are_bytes (quoted r)
+content_fits c = true
+
+abbrev pub reply_fits : Reply → Bool
+reply_fits r = is_token r.token && content_fits r.content
+
+-- what an entry shows
+abbrev pub shown_fits : Shown → Bool
+shown_fits Nothing = true
+shown_fits (Wrote bytes) = are_bytes bytes
+shown_fits (Stop frame temporary watch) = frame_fits frame && are_bytes (expression watch)
+shown_fits (Exit last) = true
+shown_fits (Answer reply) = reply_fits reply

@@ -10,6 +10,7 @@ mod errors;
 mod exits;
 mod fields;
 mod frames;
+mod known;
 mod laws;
 mod lines;
 mod refusals;
@@ -25,4 +26,4 @@ mod watches;
 mod words;
 
 pub use entries::{report, report_bad_file, report_opening, report_usage};
-pub use laws::said_shows_output;
+pub use laws::{said_shows_output, shown_is_lines};

@@ -112,16 +112,6 @@ fn write_all(lines: &[Line], into: &mut Vec<u8>) -> Result<(), NoMemory>
     write_all(rest, into)
 }
 
-/// Puts the prompt alone at the end. Out of memory, the buffer is as before.
-#[tactic(auto, using(std::proofs::lemmas::Grind::common_steps))]
-pub fn put_prompt(into: &mut Vec<u8>) -> Result<(), NoMemory>
-    ensures written { OnOk result (into.new.items ≡ into.old.items ++ lines_bytes (prompt ∷ [])) }
-    ensures lines { OnOk result (AreLines (prompt ∷ [])) }
-    ensures unchanged { OnErr result (into.new.items ≡ into.old.items) }
-{
-    write_line(&Line::Prompt, into)
-}
-
 impl LineList {
     /// No lines.
     #[tactic(auto, unfolding(crate::specs::Seen::trees))]
@@ -203,6 +193,18 @@ impl LineList {
         if let Err(error) = write_all(self.items.as_slice(), into) {
             into.truncate(before);
             return Err(error);
+        }
+        Ok(())
+    }
+
+    /// Puts the text of each line at the end.
+    #[tactic(auto, unfolding(crate::specs::Seen::trees))]
+    pub fn write_each(&self, into: &mut Vec<u8>) -> Result<(), AllocError>
+        ensures written { OnOk result (into.new.items ≡ into.old.items ++ lines_bytes (trees self.now)) }
+        ensures kept { Keeps into.old.items into.new.items }
+    {
+        if write_all(self.items.as_slice(), into).is_err() {
+            return Err(AllocError);
         }
         Ok(())
     }
