@@ -13,6 +13,7 @@ use Rattle.dbg_model.specs.declared.reply.Content.{Content}
 use Rattle.dbg_model.specs.declared.reply.Content.TheVariants as content
 use Rattle.dbg_model.specs.declared.reply.Refused.{Refused}
 use Rattle.break_table.specs.declared.due.CondError.{CondError}
+use Rattle.elf_checks.specs.declared.fault.ElfFault.{ElfFault}
 use Rattle.hex.specs.Hex.{encode_with, encode_lower, lower_digits}
 use Rattle.mi_text.specs.Token.{is_token}
 use Rattle.mi_values.specs.declared.sign.NoticeSign.{NoticeSign}
@@ -28,13 +29,15 @@ use Rattle.mi_reports.specs.declared.words.Phrase.TheVariants as phrase
 use Rattle.mi_reports.specs.Words.{key_text, says}
 use Rattle.mi_reports.specs.Fits.{frame_fits, content_fits, shown_fits}
 use Rattle.mi_reports.specs.Lines.{lines_of}
+use Rattle.mi_reports.specs.Phrases.{phrase_text}
+use Rattle.mi_reports.specs.Refusals.{file_fields, refusal_lines, usage_fields}
 use Rattle.mi_reports.specs.Replies.{running_line, done_fields, done_lines, content_lines}
 use Rattle.mi_reports.specs.Text.{thread_line, thread_fields, created_lines, opening_lines, stopped_line, hit_fields, end_fields, signal_fields, signal}
 use Rattle.mi_reports.specs.Text.{condition_lines, break_lines, exit_fields, exit_lines, left_lines, stream_lines}
 use Rattle.mi_reports.specs.Triggers.{expression, trigger_fields}
-use Rattle.mi_reports.proofs.Messages.{message_bytes, condition_bytes}
-use Rattle.mi_reports.proofs.Names.{key_name}
-use Rattle.mi_reports.proofs.Proper.{Good, none_good, thread_good, hit_good, end_good, signal_good, exit_good}
+use Rattle.mi_reports.proofs.Messages.{message_bytes, condition_bytes, file_bytes}
+use Rattle.mi_reports.proofs.Names.{key_name, phrase_bytes}
+use Rattle.mi_reports.proofs.Proper.{Good, none_good, says_good, thread_good, hit_good, end_good, signal_good, exit_good}
 use Rattle.mi_reports.proofs.Replying.{done_good, error_good, running_good}
 use Rattle.mi_reports.proofs.Stopping.{trigger_good}
 
@@ -141,6 +144,19 @@ content_proper token (content.Value word unsigned) t h = done_proper token _ t (
 content_proper token (content.Setting v) t h = done_proper token _ t (done_good (content.Setting v) h)
 content_proper token content.Exit t h = (result_proper token key.Exit [] t (none_good 16), tt)
 content_proper token (content.Refused r) t h = (result_proper token key.Error _ t (error_good r (message_bytes r h)), (tt, tt))
+
+-- ---- a session that isn't begun
+
+refusal_proper : (t : List ℕ) → are_bytes t ≡ true → AreLines (refusal_lines (says key.Message t ∷ []))
+refusal_proper t h = (result_proper [] key.Error _ refl (says_good key.Message t [] 16 refl h (none_good 16)), tt)
+
+pub file_proper : (f : ElfFault) → AreLines (refusal_lines (file_fields f))
+unfolding file_fields
+file_proper f = refusal_proper _ (file_bytes f)
+
+pub usage_proper : AreLines (refusal_lines usage_fields)
+unfolding usage_fields
+usage_proper = refusal_proper (phrase_text phrase.Usage) (phrase_bytes phrase.Usage)
 
 -- ---- entries
 

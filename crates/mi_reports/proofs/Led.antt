@@ -79,3 +79,15 @@ list_led lead k vs = led_head lead k (items (items_of vs)) ∙ ap (λ (l : List 
 pub tuple_item_led : (lead : ℕ) (fs : List F) → item_led lead (tuple_of fs) ≡ lead ∷ (opened 123 fs ++ 125 ∷ [])
 unfolding value_bytes tuple_of item_led
 tuple_item_led lead fs = ap (λ (l : List ℕ). lead ∷ l) (opened_closed 123 125 fs)
+
+-- a list of one tuple
+pub one_tuple_led : (lead : ℕ) (k : Key) (fs : List F) → led lead (key_text k, items (item (tuple_of fs) no_item)) ≡ head lead k ++ (91 ∷ (opened 123 fs ++ 125 ∷ 93 ∷ []))
+unfolding value_bytes tuple_of
+one_tuple_led lead k fs =
+    led_head lead k (items (item (tuple (fields_of fs)) no_item)) ∙ ap (λ (l : List ℕ). head lead k ++ (91 ∷ (l ++ 93 ∷ []))) (opened_closed 123 125 fs)
+    ∙ ap (λ (l : List ℕ). head lead k ++ (91 ∷ l)) (append_assoc (opened 123 fs) (125 ∷ []) (93 ∷ []))
+
+-- a text that is a value of a list
+pub text_item_led : (lead : ℕ) (t : List ℕ) → item_led lead (text t) ≡ lead ∷ c_string t
+unfolding value_bytes item_led
+text_item_led lead t = refl

@@ -5,6 +5,9 @@ use Rattle.cond_expr.specs.declared.fault.FaultKind.{FaultKind}
 use Rattle.cond_expr.specs.declared.fault.FaultKind.TheVariants as kind
 use Rattle.break_table.specs.declared.due.CondError.{CondError}
 use Rattle.break_table.specs.declared.due.CondError.TheVariants.{DivZero, Unread}
+use Rattle.elf_checks.specs.declared.fault.ElfFault.{ElfFault}
+use Rattle.elf_checks.specs.declared.fault.ElfKind.{ElfKind}
+use Rattle.elf_checks.specs.declared.fault.ElfKind.TheVariants as elf
 use Rattle.mi_commands.specs.declared.refusal.Fault.{Fault}
 use Rattle.mi_commands.specs.declared.refusal.Fault.TheVariants as fault
 use Rattle.dbg_model.specs.declared.reply.Obstacle.{Obstacle}
@@ -18,6 +21,7 @@ use Rattle.mi_reports.specs.declared.words.Phrase.TheVariants as phrase
 use Rattle.mi_reports.specs.Phrases.{phrase_text}
 use Rattle.mi_reports.specs.Fits.{faulty, quoted}
 use Rattle.mi_reports.specs.Errors.{fault_message, expression_message, obstacle_message, message, condition_error, condition_message}
+use Rattle.mi_reports.specs.Refusals.{kind_name}
 use Rattle.mi_reports.proofs.Bytes.{decimal_bytes, address_bytes, joined_bytes}
 use Rattle.mi_reports.proofs.Names.{phrase_bytes}
 
@@ -90,3 +94,23 @@ condition_bytes number e =
     let front = before (phrase_text phrase.ConditionError ++ decimal number) phrase.Colon (counted phrase.ConditionError number) in
     let error = joined_bytes (phrase_text phrase.ConditionError ++ decimal number ++ phrase_text phrase.Colon) (condition_error e) front (error_bytes e) in
     joined_bytes (phrase_text phrase.ConditionError ++ decimal number ++ phrase_text phrase.Colon ++ condition_error e) (10 ∷ []) error refl
+
+kind_bytes : (k : ElfKind) → are_bytes (kind_name k) ≡ true
+kind_bytes elf.Short = refl
+kind_bytes elf.Magic = refl
+kind_bytes elf.Class = refl
+kind_bytes elf.Order = refl
+kind_bytes elf.Kind = refl
+kind_bytes elf.Machine = refl
+kind_bytes elf.Flags = refl
+kind_bytes elf.Segment = refl
+kind_bytes elf.Section = refl
+kind_bytes elf.Text = refl
+kind_bytes elf.Entry = refl
+kind_bytes elf.Large = refl
+
+pub file_bytes : (f : ElfFault) → are_bytes (phrase_text phrase.BadFile ++ kind_name f.kind ++ phrase_text phrase.AtPlace ++ decimal f.place) ≡ true
+file_bytes f =
+    let kind = phrase_text phrase.BadFile ++ kind_name f.kind in
+    let place = before kind phrase.AtPlace (behind phrase.BadFile (kind_name f.kind) (kind_bytes f.kind)) in
+    joined_bytes (kind ++ phrase_text phrase.AtPlace) (decimal f.place) place (decimal_bytes f.place)

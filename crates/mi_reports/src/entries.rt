@@ -3,30 +3,18 @@ ghost use Rattle.std.specs.Prelude.{◌≡◌, ◌++◌, OnOk, OnErr, true};
 ghost use Rattle.mi_text.specs.Keeps.{Keeps};
 ghost use Rattle.mi_values.specs.Records.{lines_bytes, AreLines};
 ghost use Rattle.mi_reports.specs.Lines.{lines_of, may_show};
-ghost use Rattle.mi_reports.specs.Replies.{reply_lines};
 ghost use Rattle.mi_reports.specs.Refusals.{file_fields, refusal_lines, usage_fields};
 ghost use Rattle.mi_reports.specs.Text.{opening_lines};
 
 use crate::exits::{write_left, write_opening, write_output};
 use crate::known::known_shown;
-use crate::lines::LineList;
-use crate::refusals::{push_bad_file, push_usage};
-use crate::replies::push_reply;
+use crate::refusals::{write_bad_file, write_usage};
+use crate::replies::write_reply;
 use crate::stops::write_stop;
-use dbg_model::{Entry, Reply, Shown};
+use dbg_model::{Entry, Shown};
 use dbg_traits::NoMemory;
 use elf_checks::ElfFault;
 use std::alloc::AllocError;
-
-// The lines of a reply.
-fn write_answer(into: &mut Vec<u8>, reply: &Reply) -> Result<(), AllocError>
-    ensures written { OnOk result (into.new.items ≡ into.old.items ++ lines_bytes (reply_lines reply.now)) }
-    ensures kept { Keeps into.old.items into.new.items }
-{
-    let mut lines = LineList::new(*into.allocator());
-    push_reply(&mut lines, reply)?;
-    lines.write_each(into)
-}
 
 fn write_entry(into: &mut Vec<u8>, entry: &Entry, shown: &Shown) -> Result<(), AllocError>
     requires { may_show entry.now shown.now ≡ true }
@@ -46,7 +34,7 @@ fn write_entry(into: &mut Vec<u8>, entry: &Entry, shown: &Shown) -> Result<(), A
         (Entry::Left { hart, code }, Shown::Exit { last }) => {
             write_left(into, *hart, *code, *last)
         }
-        (Entry::Did { .. }, Shown::Answer { reply }) => write_answer(into, reply),
+        (Entry::Did { .. }, Shown::Answer { reply }) => write_reply(into, reply),
         _ => Ok(()),
     }
 }
@@ -84,23 +72,31 @@ pub fn report_opening(harts: u32, into: &mut Vec<u8>) -> Result<(), NoMemory>
 }
 
 /// Puts the line of words of the command line that are refused at the end. Out of memory, the one error, the buffer is as before.
+#[tactic(auto, using(mi_text::proofs::Kept::keeps_front, crate::proofs::Grammar::usage_proper))]
 pub fn report_usage(into: &mut Vec<u8>) -> Result<(), NoMemory>
     ensures written { OnOk result (into.new.items ≡ into.old.items ++ lines_bytes (refusal_lines usage_fields)) }
     ensures grammar { OnOk result (AreLines (refusal_lines usage_fields)) }
     ensures unchanged { OnErr result (into.new.items ≡ into.old.items) }
 {
-    let mut lines = LineList::new(*into.allocator());
-    push_usage(&mut lines)?;
-    lines.write(into)
+    let before = into.len();
+    if write_usage(into).is_err() {
+        into.truncate(before);
+        return Err(NoMemory);
+    }
+    Ok(())
 }
 
 /// Puts the line of a file that is refused at the end. Out of memory, the one error, the buffer is as before.
+#[tactic(auto, using(mi_text::proofs::Kept::keeps_front, crate::proofs::Grammar::file_proper))]
 pub fn report_bad_file(fault: ElfFault, into: &mut Vec<u8>) -> Result<(), NoMemory>
     ensures written { OnOk result (into.new.items ≡ into.old.items ++ lines_bytes (refusal_lines (file_fields fault))) }
     ensures grammar { OnOk result (AreLines (refusal_lines (file_fields fault))) }
     ensures unchanged { OnErr result (into.new.items ≡ into.old.items) }
 {
-    let mut lines = LineList::new(*into.allocator());
-    push_bad_file(&mut lines, fault)?;
-    lines.write(into)
+    let before = into.len();
+    if write_bad_file(into, fault).is_err() {
+        into.truncate(before);
+        return Err(NoMemory);
+    }
+    Ok(())
 }
