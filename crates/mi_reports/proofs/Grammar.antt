@@ -1,6 +1,6 @@
 -- The lines of what is said are lines of the grammar, where what they show is made of bytes.
 use Rattle.std.specs.Prelude.{◌%◌, decimal, map}
-use Rattle.std.proofs.Common.{◌≡◌, ℕ, zero, suc, List, [], ◌∷◌, ◌++◌, Bool, true, ◌&&◌, cond, Option, Some, None, get_or, refl, arith}
+use Rattle.std.proofs.Common.{◌≡◌, ℕ, zero, suc, List, [], ◌∷◌, ◌++◌, Bool, true, ◌&&◌, cond, Option, Some, None, refl, arith}
 use Rattle.dbg_model.specs.declared.entry.Entry.{Entry}
 use Rattle.dbg_model.specs.declared.entry.Entry.TheVariants.{Ran, Counted, Stopped, Left, Did, Poked}
 use Rattle.dbg_model.specs.declared.entry.Why.{Why}
@@ -14,14 +14,13 @@ use Rattle.dbg_model.specs.declared.reply.Content.TheVariants as content
 use Rattle.dbg_model.specs.declared.reply.Refused.{Refused}
 use Rattle.break_table.specs.declared.due.CondError.{CondError}
 use Rattle.elf_checks.specs.declared.fault.ElfFault.{ElfFault}
-use Rattle.hex.specs.Hex.{encode_with, encode_lower, lower_digits}
 use Rattle.mi_text.specs.Token.{is_token}
 use Rattle.mi_values.specs.declared.sign.NoticeSign.{NoticeSign}
 use Rattle.mi_values.specs.Tree.{Tree, fields_of}
 use Rattle.mi_values.specs.FieldLists.{notice_of, result_of}
 use Rattle.mi_values.specs.Record.{LineTree, prompt, IsLine}
 use Rattle.mi_values.specs.Records.{AreLines}
-use Rattle.mi_values.specs.Testing.{is_byte, are_bytes}
+use Rattle.mi_values.specs.Testing.{are_bytes}
 use Rattle.mi_values.proofs.Testing.{both, bytes_by, fields_by}
 use Rattle.mi_reports.specs.declared.words.Key.{Key}
 use Rattle.mi_reports.specs.declared.words.Key.TheVariants as key
@@ -105,16 +104,6 @@ stream_proper (b ∷ bs) h = (bytes_by (b ∷ bs) h, tt)
 
 -- ---- replies
 
-index_byte : (t : List ℕ) (i : ℕ) → are_bytes t ≡ true → is_byte (get_or t i 0) ≡ true
-index_byte [] i h = refl
-index_byte (b ∷ bs) zero h = (both (is_byte b) (are_bytes bs) h).0
-index_byte (b ∷ bs) (suc i) h = index_byte bs i (both (is_byte b) (are_bytes bs) h).1
-
-hex_bytes : (bytes : List ℕ) → are_bytes (encode_lower bytes) ≡ true
-unfolding encode_with
-hex_bytes [] = refl
-hex_bytes (b ∷ bs) = rw (index_byte lower_digits _ refl, index_byte lower_digits _ refl, hex_bytes bs) refl
-
 runnings_proper : (threads : List ℕ) → AreLines (map running_line threads)
 runnings_proper [] = tt
 runnings_proper (t ∷ ts) = (running_proper t, runnings_proper ts)
@@ -139,7 +128,7 @@ content_proper token (content.Frame frame) t h = done_proper token _ t (done_goo
 content_proper token (content.Variables vs) t h = done_proper token _ t (done_good (content.Variables vs) h)
 content_proper token content.RegisterNames t h = done_proper token _ t (done_good content.RegisterNames h)
 content_proper token (content.Registers format registers) t h = done_proper token _ t (done_good (content.Registers format registers) h)
-content_proper token (content.Memory addr bytes) t h = done_proper token _ t (done_good (content.Memory addr bytes) (hex_bytes bytes))
+content_proper token (content.Memory addr bytes) t h = done_proper token _ t (done_good (content.Memory addr bytes) h)
 content_proper token (content.Value word unsigned) t h = done_proper token _ t (done_good (content.Value word unsigned) h)
 content_proper token (content.Setting v) t h = done_proper token _ t (done_good (content.Setting v) h)
 content_proper token content.Exit t h = (result_proper token key.Exit [] t (none_good 16), tt)

@@ -1,5 +1,4 @@
 -- The lines are of the grammar: names, fixed texts, numbers, and the fields of each kind of line.
-pub mod Seen
 pub mod Bytes
 pub mod Names
 pub mod Proper

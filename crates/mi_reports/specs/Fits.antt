@@ -18,14 +18,8 @@ use Rattle.dbg_model.specs.declared.shown.Shown.TheVariants.{Nothing, Wrote, Sto
 use Rattle.mi_commands.specs.declared.refusal.Fault.{Fault}
 use Rattle.mi_commands.specs.declared.refusal.Fault.TheVariants as fault
 use Rattle.mi_text.specs.Token.{is_token}
-use Rattle.hex.specs.Hex.{encode_lower}
-use Rattle.mi_values.specs.Tree.{Tree, fields_of}
-use Rattle.mi_values.specs.Testing.{are_bytes, are_proper_fields}
+use Rattle.mi_values.specs.Testing.{are_bytes}
 use Rattle.mi_reports.specs.Triggers.{expression}
-
--- fields that may stand in a line
-unfoldable pub are_fit : List (List ℕ × Tree) → Bool
-are_fit fs = are_proper_fields (fields_of fs) 16
 
 abbrev pub text_fits : Option (List ℕ) → Bool
 text_fits None = true
@@ -61,29 +55,6 @@ rows_fit = list_all row_fits
 abbrev pub variables_fit : List ShownVariable → Bool
 variables_fit = list_all (λ v. are_bytes v.name)
 
--- what is shown of what was done
-abbrev pub done_fits : Content → Bool
-done_fits content.Blank = true
-done_fits content.Done = true
-done_fits (content.Inserted b) = breakpoint_fits b
-done_fits (content.Breakpoints rs) = rows_fit rs
-done_fits (content.Watching number expression) = are_bytes expression
-done_fits (content.Running threads) = true
-done_fits (content.Selected thread) = true
-done_fits (content.Threads threads selected) = threads_fit threads
-done_fits (content.ThreadNumbers numbers selected) = true
-done_fits (content.Frames frames) = frames_fit frames
-done_fits (content.Depth depth) = true
-done_fits (content.Frame frame) = frame_fits frame
-done_fits (content.Variables vs) = variables_fit vs
-done_fits content.RegisterNames = true
-done_fits (content.Registers format registers) = true
-done_fits (content.Memory addr bytes) = are_bytes (encode_lower bytes)
-done_fits (content.Value word unsigned) = true
-done_fits (content.Setting value) = true
-done_fits content.Exit = true
-done_fits (content.Refused r) = true
-
 -- the text in the message of a fault that isn't a fixed one
 abbrev pub faulty : Fault → List ℕ
 faulty (fault.Undefined name) = name
@@ -101,6 +72,7 @@ quoted (refused.FixedRegister name) = name
 quoted (refused.Unwatchable expression) = expression
 quoted r = []
 
+-- what a reply shows
 abbrev pub content_fits : Content → Bool
 content_fits (content.Inserted b) = breakpoint_fits b
 content_fits (content.Breakpoints rs) = rows_fit rs

@@ -15,4 +15,3 @@ pub mod Said
 pub mod Refusals
 pub mod Led
 pub mod Fits
-pub mod Seen

@@ -1,6 +1,6 @@
 //! The lines that a session puts: those of each entry of its journal, which `report` writes, of its opening, and of its refusals.
 //!
-//! Each is built as trees of the grammar of `mi_values`, and written by its `write_line`.
+//! Each is written as text. The definitions are trees of the grammar of `mi_values`, whose text is what is written.
 #![tactic(auto)]
 
 mod breakpoints;
