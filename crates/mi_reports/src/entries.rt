@@ -1,5 +1,5 @@
 // What is reported, and its lines.
-ghost use Rattle.std.specs.Prelude.{◌≡◌, ◌++◌, OnOk, OnErr, true};
+ghost use Rattle.std.specs.Prelude.{◌≡◌, ◌++◌, ◌↔◌, take, IsOk, OnOk, OnErr, true};
 ghost use Rattle.mi_text.specs.Keeps.{Keeps};
 ghost use Rattle.mi_values.specs.Records.{lines_bytes, AreLines};
 ghost use Rattle.mi_reports.specs.Lines.{lines_of, may_show};
@@ -39,6 +39,23 @@ fn write_entry(into: &mut Vec<u8>, entry: &Entry, shown: &Shown) -> Result<(), A
     }
 }
 
+// Out of memory, the buffer is cut to its old length.
+fn or_cut(
+    written: Result<(), AllocError>,
+    before: usize,
+    into: &mut Vec<u8>,
+) -> Result<(), NoMemory>
+    ensures same { OnOk result (into.new.items ≡ into.old.items) }
+    ensures cut { OnErr result (into.new.items ≡ take before into.old.items) }
+    ensures variant { IsOk result ↔ IsOk written }
+{
+    if written.is_err() {
+        into.truncate(before);
+        return Err(NoMemory);
+    }
+    Ok(())
+}
+
 /// Puts the lines of an entry, which shows this, at the end. Out of memory, the one error, the buffer is as before.
 #[tactic(auto, using(mi_text::proofs::Kept::keeps_front, crate::proofs::Grammar::entry_proper))]
 pub fn report(entry: &Entry, shown: &Shown, into: &mut Vec<u8>) -> Result<(), NoMemory>
@@ -49,11 +66,8 @@ pub fn report(entry: &Entry, shown: &Shown, into: &mut Vec<u8>) -> Result<(), No
 {
     known_shown(shown);
     let before = into.len();
-    if write_entry(into, entry, shown).is_err() {
-        into.truncate(before);
-        return Err(NoMemory);
-    }
-    Ok(())
+    let written = write_entry(into, entry, shown);
+    or_cut(written, before, into)
 }
 
 /// Puts the lines that a session of so many harts opens with at the end. Out of memory, the one error, the buffer is as before.
@@ -64,11 +78,8 @@ pub fn report_opening(harts: u32, into: &mut Vec<u8>) -> Result<(), NoMemory>
     ensures unchanged { OnErr result (into.new.items ≡ into.old.items) }
 {
     let before = into.len();
-    if write_opening(into, harts).is_err() {
-        into.truncate(before);
-        return Err(NoMemory);
-    }
-    Ok(())
+    let written = write_opening(into, harts);
+    or_cut(written, before, into)
 }
 
 /// Puts the line of words of the command line that are refused at the end. Out of memory, the one error, the buffer is as before.
@@ -79,11 +90,8 @@ pub fn report_usage(into: &mut Vec<u8>) -> Result<(), NoMemory>
     ensures unchanged { OnErr result (into.new.items ≡ into.old.items) }
 {
     let before = into.len();
-    if write_usage(into).is_err() {
-        into.truncate(before);
-        return Err(NoMemory);
-    }
-    Ok(())
+    let written = write_usage(into);
+    or_cut(written, before, into)
 }
 
 /// Puts the line of a file that is refused at the end. Out of memory, the one error, the buffer is as before.
@@ -94,9 +102,6 @@ pub fn report_bad_file(fault: ElfFault, into: &mut Vec<u8>) -> Result<(), NoMemo
     ensures unchanged { OnErr result (into.new.items ≡ into.old.items) }
 {
     let before = into.len();
-    if write_bad_file(into, fault).is_err() {
-        into.truncate(before);
-        return Err(NoMemory);
-    }
-    Ok(())
+    let written = write_bad_file(into, fault);
+    or_cut(written, before, into)
 }
