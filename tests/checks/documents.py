@@ -18,7 +18,7 @@ SPAN = re.compile(r"`([^`\n]+)`")
 RECORD = re.compile(r"[\^*=][a-z]|[@&]\"")
 ERROR = re.compile(r"^\| [0-9]+ \| ([^|]+?) \|", re.MULTILINE)
 COMMAND = re.compile(r"-[a-z]+(?:-[a-z]+)+")
-PATH = re.compile(r"(?:crates|tests|bench|examples|editors|docs|\.ci)/[a-z0-9_./-]+|\.\./[A-Z]+\.md|[A-Z]+\.md")
+PATH = re.compile(r"(?:crates|tests|bench|examples|editors|docs|tools|\.ci)/[a-z0-9_./-]+|\.\./[A-Z]+\.md|[A-Z]+\.md")
 IN_A_CRATE = re.compile(r"(?:src|specs|proofs)/[A-Za-z0-9_/.]+")
 NAME = re.compile(r"[A-Za-z]\w*(?:::\w+)*|\w+\.(?:rt|antt)")
 OTHER_NAMES = {"examples", "stdin", "stdout", "objdump", "readelf", "gcc", "clang", "rt", "elf", "Is", "Are", "is_"}

@@ -16,11 +16,11 @@ USAGE = b'^error,msg="usage: rvdbg [--harts N] [--workers N] [--slots N] [--budg
 
 
 class Rig:
-    """The program, the folder that it is run in, and how many rows passed and failed."""
+    """The program, the folder that it is run in, how many rows passed and failed, and what is told beside."""
 
     def __init__(self, program, launcher, folder):
         self.program, self.launcher, self.folder = program, launcher, folder
-        self.passed, self.failed = 0, 0
+        self.passed, self.failed, self.notes = 0, 0, []
 
     def put(self, name, content):
         """Writes a file into the folder, and gives its name."""
