@@ -71,7 +71,10 @@ class Session:
             self.say("a message is no request: %.200s" % message)
             return
         try:
-            body = self.handler(command)(message.get("arguments") or {})
+            arguments = message.get("arguments") or {}
+            if not isinstance(arguments, dict):
+                raise Refused("the arguments of %.100s are no object" % command)
+            body = self.handler(command)(arguments)
             if body is not LATER:
                 self.client.answer(message, body)
         except Refused as refusal:

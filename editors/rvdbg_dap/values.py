@@ -270,7 +270,7 @@ class Values:
         content = (self.number(value, frame) % (1 << 8 * WIDTHS[kind])).to_bytes(WIDTHS[kind], "little")
         self.ask("-data-write-memory-bytes 0x%08x %s" % (address, content.hex()))
         self.engine.later("memory", memoryReference="0x%08x" % address, offset=0, count=len(content))
-        return {"value": self.ask("-data-evaluate-expression --thread %d {%s} 0x%08x" % (self.standing().identity, kind, address)).fields["value"]}
+        return {"value": self.evaluate(text, frame)["result"]}
 
     def on_data_breakpoint_info(self, arguments):
         """What can be watched: 1, 2 or 4 bytes of data at an address or at a symbol, and no variable of a frame."""

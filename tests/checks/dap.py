@@ -15,6 +15,7 @@ if __name__ == "__main__":
     sys.dont_write_bytecode = True
     sys.path.insert(0, os.path.dirname(os.path.dirname(os.path.realpath(__file__))))
 
+from checks.dap_bugs import BUG_CHECKS, check_growth  # noqa: E402
 from checks.dap_editor import SOURCE, TOP, Editor, lines, top  # noqa: E402
 from checks.dap_peers import check_deaf, check_delays, check_peers  # noqa: E402
 from checks.dap_random import check_hostile, check_random  # noqa: E402
@@ -243,7 +244,7 @@ def check_front_end(rig, name):
 def check_conversations(rig):
     """The conversations with a program, and those with peers."""
     own = [check_two_threads, check_breakpoints, check_log_points, check_watch, check_data, check_pause, check_restart, check_ends]
-    for check in [*own, check_peers, check_hostile, check_front_end, *VALUE_CHECKS]:
+    for check in [*own, check_peers, check_hostile, check_front_end, *VALUE_CHECKS, *BUG_CHECKS]:
         rig.guarded(check.__name__, lambda: check(rig, "adapter, " + check.__name__[6:].replace("_", " ")))
 
 
@@ -259,6 +260,7 @@ def check_adapter(rig, conversations=8, steps=0):
     rig.guarded("deaf", lambda: check_deaf(rig, "adapter, a deaf debugger", lambda: check_conversations(rig)))
     if steps:
         rig.guarded("delays", lambda: check_delays(rig, "adapter, delays", steps))
+        rig.guarded("growth", lambda: check_growth(rig, "adapter, growth"))
     slowest = []
     for seed in range(conversations):
         rig.guarded("random %d" % seed, lambda: slowest.append(check_random(rig, "adapter, random conversation", seed)))
