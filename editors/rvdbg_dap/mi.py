@@ -145,6 +145,7 @@ class Debugger:
             while found not in (answer, None):
                 found = self.answers.get(timeout=max(0.0, seconds))
             if found is None:
+                self.answers.put(None)
                 raise Refused("the debugger has ended")
             return record(answer.result), [int(record(line).fields["thread-id"]) for line in answer.running]
         except queue.Empty:

@@ -260,7 +260,6 @@ class Session:
             why = advice(self.said)
         if status != 0:
             self.say(why, "stderr")
-        self.engine.is_open = False
         self.close(why)
         if is_cut:
             self.client.event("terminated")

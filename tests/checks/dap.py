@@ -18,6 +18,7 @@ if __name__ == "__main__":
 from checks.dap_bugs import BUG_CHECKS, check_growth  # noqa: E402
 from checks.dap_editor import SOURCE, TOP, Editor, lines, top  # noqa: E402
 from checks.dap_peers import check_deaf, check_delays, check_peers  # noqa: E402
+from checks.dap_program import PROGRAM_CHECKS  # noqa: E402
 from checks.dap_random import check_hostile, check_random  # noqa: E402
 from checks.dap_values import VALUE_CHECKS  # noqa: E402
 from checks.programs import EXIT, LOOP, counting, plain  # noqa: E402
@@ -244,7 +245,7 @@ def check_front_end(rig, name):
 def check_conversations(rig):
     """The conversations with a program, and those with peers."""
     own = [check_two_threads, check_breakpoints, check_log_points, check_watch, check_data, check_pause, check_restart, check_ends]
-    for check in [*own, check_peers, check_hostile, check_front_end, *VALUE_CHECKS, *BUG_CHECKS]:
+    for check in [*own, check_peers, check_hostile, check_front_end, *VALUE_CHECKS, *BUG_CHECKS, *PROGRAM_CHECKS]:
         rig.guarded(check.__name__, lambda: check(rig, "adapter, " + check.__name__[6:].replace("_", " ")))
 
 

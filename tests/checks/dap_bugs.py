@@ -4,10 +4,9 @@ import base64
 import os
 import shutil
 import signal
-import sys
 import time
 
-from checks.dap_editor import ADAPTER, PROGRAMS, VALUES, Editor
+from checks.dap_editor import PROGRAMS, VALUES, Editor
 from checks.dap_random import any_lives, children
 from checks.rig import PATIENCE
 
@@ -176,7 +175,6 @@ def check_large_messages(rig, name):
 
 def check_growth(rig, name):
     """The time for a message grows with its size, and not with its square."""
-    sys.path.insert(0, os.path.dirname(ADAPTER))
     from rvdbg_dap.protocol import Framing
 
     def seconds(size):

@@ -17,6 +17,7 @@ LOCK = os.path.join(TOP, "examples", "lock")
 SOURCE = os.path.join(LOCK, "lock.c")
 PROGRAMS = os.path.join(TOP, "tests", "programs", "editors")
 VALUES = os.path.join(PROGRAMS, "values.c")
+sys.path.insert(0, os.path.dirname(ADAPTER))
 
 
 class Editor:
