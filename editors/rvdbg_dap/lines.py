@@ -3,12 +3,10 @@
 import collections
 import contextlib
 import os
-import struct
 
-# A row of a sequence: the address, the file with its folders, the line, and whether a statement begins there.
+# A row: the address, the file with its folders, the line, and whether a statement begins there.
 Row = collections.namedtuple("Row", "address path line is_stmt")
-STRING, LINE_STRP, STRP, UDATA, BLOCK, DATA = 0x08, 0x1F, 0x0E, 0x0F, 0x09, {0x0B: 1, 0x05: 2, 0x06: 4, 0x07: 8, 0x1E: 16}
-FAULTS = (struct.error, ValueError, IndexError, KeyError, ZeroDivisionError)
+STRING, LINE_STRP, STRP, BLOCK, UDATA, DATA = 0x08, 0x1F, 0x0E, 0x09, 0x0F, {0x0B: 1, 0x05: 2, 0x06: 4, 0x07: 8, 0x1E: 16}
 
 
 class Bytes:
@@ -37,35 +35,33 @@ class Bytes:
 
 
 class Unit:
-    """A unit's header with its files, and behind it the program that makes its rows."""
+    """A unit: its files, and the program that makes its rows. `counts` has how many operands each operation has."""
 
     def __init__(self, content, sections):
         self.read, self.sections = Bytes(content), sections
         version = self.read.number(2)
-        self.read.at += 2 if version >= 5 else 0
-        length = self.read.number(4)
-        begins = self.read.at + length
-        self.step, _, self.default = self.read.number(1), self.read.number(1) if version >= 4 else 1, self.read.number(1)
-        self.base, self.range, opcodes = self.read.number(1, True), self.read.number(1), self.read.number(1)
-        self.lengths = [self.read.number(1) for _ in range(opcodes - 1)]
-        self.files = self.new_files() if version >= 5 else self.old_files()
-        self.read.at, self.first = begins, 0 if version >= 5 else 1
+        self.first = int(version < 5)
+        self.read.at += 2 - 2 * self.first
+        begins = self.read.number(4) + self.read.at
+        self.step = self.read.number(1)
+        self.read.at += version >= 4
+        self.is_stmt, self.base, self.range = self.read.number(1) > 0, self.read.number(1, True), self.read.number(1)
+        self.counts = [0] + [self.read.number(1) for _ in range(self.read.number(1) - 1)]
+        self.files = [os.path.normpath(os.path.join(folder, name)) for folder, name in (self.old_files() if self.first else self.new_files())]
+        self.read.at = begins
 
     def old_files(self):
-        """The files of versions 2 to 4. Folder 0 is the compiler's, which isn't told here."""
-        folders, files = [""], []
-        for it in iter(self.read.text, ""):
-            folders.append(it)
-        for it in iter(self.read.text, ""):
-            files.append(os.path.normpath(os.path.join(folders[self.read.leb()], it)))
-            self.read.leb(), self.read.leb()
-        return files
+        """The files of versions 2 to 4 with their folders. Folder 0 is the compiler's, which isn't told here."""
+        folders, texts = [""], iter(self.read.text, "")
+        folders.extend(texts)
+        for name in iter(self.read.text, ""):
+            folder, _, _ = (self.read.leb() for _ in range(3))
+            yield folders[folder], name
 
     def new_files(self):
-        """The files of version 5, by its forms. Folder 0 is the compiler's."""
+        """The files of version 5. Folder 0 is the compiler's, in which the others stand."""
         folders = [it.get(1, "") for it in self.entries()]
-        folders = [os.path.join(folders[0], it) for it in folders]
-        return [os.path.normpath(os.path.join(folders[it.get(2, 0)], it.get(1, ""))) for it in self.entries()]
+        return [(os.path.join(folders[0], folders[it.get(2, 0)]), it.get(1, "")) for it in self.entries()]
 
     def entries(self):
         forms = [(self.read.leb(), self.read.leb()) for _ in range(self.read.number(1))]
@@ -74,62 +70,35 @@ class Unit:
     def value(self, form):
         if form in (LINE_STRP, STRP):
             return Bytes(self.sections[b".debug_line_str" if form == LINE_STRP else b".debug_str"], self.read.number(4)).text()
-        if form in (UDATA, STRING):
-            return self.read.leb() if form == UDATA else self.read.text()
+        if form in (STRING, UDATA):
+            return self.read.text() if form == STRING else self.read.leb()
         return self.read.number(self.read.leb() if form == BLOCK else DATA[form])
 
-
-class Run:
-    """A unit's program on its way: DWARF 5, section 6.2.5."""
-
-    def __init__(self, unit):
-        self.unit, self.rows = unit, []
-        self.address, self.file, self.line, self.is_stmt = 0, 1, 1, bool(unit.default)
-
-    def sequence(self):
-        """The rows up to the next end, and the address behind them; None where there is no further end."""
-        read = self.unit.read
+    def sequences(self):
+        """The rows of each sequence and the address behind them: DWARF 5, section 6.2.5."""
+        read, start = self.read, (0, 1, 1, self.is_stmt)
+        rows, (address, file, line, is_stmt) = [], start
         while read.at < len(read.content):
             code = read.number(1)
-            if code > len(self.unit.lengths):
-                self.special(code - len(self.unit.lengths) - 1)
-            elif code:
-                self.standard(code, read)
-            elif self.extended(read):
-                return self.rows, self.address
-        return None
-
-    def append(self):
-        self.rows.append(Row(self.address, self.unit.files[self.file - self.unit.first], self.line, self.is_stmt))
-
-    def special(self, code):
-        self.address += code // self.unit.range * self.unit.step
-        self.line += self.unit.base + code % self.unit.range
-        self.append()
-
-    def standard(self, code, read):
-        """The operations that aren't known have as many operands as the header says."""
-        operands = [read.number(2)] if code == 9 else [read.leb(code == 3) for _ in range(self.unit.lengths[code - 1])]
-        if code == 1:
-            self.append()
-        elif code in (2, 9):
-            self.address += operands[0] * (self.unit.step if code == 2 else 1)
-        elif code == 3:
-            self.line += operands[0]
-        elif code == 4:
-            self.file = operands[0]
-        elif code == 6:
-            self.is_stmt = not self.is_stmt
-        elif code == 8:
-            self.address += (254 - len(self.unit.lengths)) // self.unit.range * self.unit.step
-
-    def extended(self, read):
-        """Whether the sequence ends."""
-        ends, code = read.leb() + read.at, read.number(1)
-        if code == 2:
-            self.address = read.number(4)
-        read.at = ends
-        return code == 1
+            is_row = code == 1 or code >= len(self.counts)
+            if code >= len(self.counts):
+                code -= len(self.counts)
+                address, line = address + code // self.range * self.step, line + self.base + code % self.range
+            elif code == 0:
+                ends, code = read.leb() + read.at, read.number(1)
+                address = read.number(4) if code == 2 else address
+                read.at = ends
+                if code == 1:
+                    yield rows, address
+                    rows, (address, file, line, is_stmt) = [], start
+            elif code == 9:
+                address += read.number(2)
+            else:
+                operand, *_ = [read.leb(code == 3) for _ in range(self.counts[code])] + [0]
+                address += {2: operand, 8: (255 - len(self.counts)) // self.range}.get(code, 0) * self.step
+                line, file, is_stmt = line + operand * (code == 3), operand if code == 4 else file, is_stmt != (code == 6)
+            if is_row:
+                rows.append(Row(address, self.files[file - self.first], line, is_stmt))
 
 
 def tail(one, other):
@@ -141,13 +110,11 @@ class Lines:
     """The tables of a program. Headers are read at once, rows where they are asked for."""
 
     def __init__(self, sections, is_text):
-        self.sections, self.is_text, self.units, self.made = sections, is_text, [], None
-        content, at = sections.get(b".debug_line", b""), 0
-        while at + 4 <= len(content):
+        self.is_text, self.units, self.made = is_text, [], None
+        content, at, ends = sections.get(b".debug_line", b""), 0, 0
+        while at + 4 <= len(content) and ends <= len(content):
             ends = at + 4 + int.from_bytes(content[at : at + 4], "little")
-            if ends > len(content):
-                break
-            with contextlib.suppress(*FAULTS):
+            with contextlib.suppress(ValueError, IndexError, KeyError):
                 self.units.append(Unit(content[at + 4 : ends], sections))
             at = ends
         self.paths = {it for unit in self.units for it in unit.files}
@@ -157,9 +124,8 @@ class Lines:
         if self.made is None:
             self.made = []
             for unit in self.units:
-                with contextlib.suppress(*FAULTS):
-                    found = list(iter(lambda: Run(unit).sequence(), None))  # noqa: B023
-                    self.made += [it for it in found if it[0] and self.is_text(it[0][0].address)]
+                with contextlib.suppress(ValueError, IndexError, ZeroDivisionError):
+                    self.made += [it for it in list(unit.sequences()) if it[0] and self.is_text(it[0][0].address)]
         return self.made
 
     def closest(self, path):

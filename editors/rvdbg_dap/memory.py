@@ -73,21 +73,19 @@ class Memory:
 
     def text(self, address, word):
         """A word of text as an instruction; where it goes is told by the function, too."""
-        text = Instruction(word).text(address) or ".word 0x%08x" % word
+        text = Instruction(word, address).text() or ".word 0x%08x" % word
         goes = re.search(r",0x([0-9a-f]{8})$", text)
         near = self.engine.program.near(int(goes[1], 16)) if goes else ""
         return "%s <%s>" % (text, near) if near else text
 
     def trap(self, pc, registers):
-        """What the instruction at an address does that a thread with these registers stands at, or nothing."""
-        content = self.bytes(pc, 4)
-        if not self.engine.program.is_text(pc) or len(content) < 4:
+        """What the instruction does at which a thread with these registers has trapped."""
+        content = self.bytes(pc, 4) if self.engine.program.is_text(pc) else b""
+        if len(content) < 4:
             return "there is no instruction at 0x%08x" % pc
-        found = Instruction(int.from_bytes(content, "little"))
-        text, access = found.text(pc), found.access()
+        found = Instruction(int.from_bytes(content, "little"), pc)
+        text, access = found.text(), found.access()
         if text is None:
             return "at 0x%08x is %s" % (pc, found.foreign())
-        if access is None:
-            return "`%s` at 0x%08x" % (text, pc)
-        what, register, offset = access
-        return "`%s` at 0x%08x %s 0x%08x" % (text, pc, what, (registers[register] + offset) % WORD)
+        what = " %s 0x%08x" % (access[0], (registers[found.word >> 15 & 31] + access[1]) % WORD) if access else ""
+        return "`%s` at 0x%08x%s" % (text, pc, what)

@@ -185,7 +185,7 @@ def check_mnemonics(rig, name):
     differ = []
     for at, word, text in re.findall(r"^\s*([0-9a-f]+):\t([0-9a-f]{8})\s+\t?(.*)$", listed, re.M):
         theirs = re.sub(r" [#<].*", "", text.replace("\t", " ")).strip()
-        mine = Instruction(int(word, 16)).text(int(at, 16))
+        mine = Instruction(int(word, 16), int(at, 16)).text()
         is_none = mine is None and re.match(r"\.|0x|lr|sc|unimp", theirs)
         if not is_none and re.sub(r"0x0+(?=[0-9a-f]{1,8}$)", "0x", mine or "") != theirs:
             differ.append((word, mine, theirs))
