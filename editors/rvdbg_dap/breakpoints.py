@@ -4,7 +4,7 @@ import contextlib
 import re
 
 from rvdbg_dap.mi import Refused, c_string
-from rvdbg_dap.values import names, zeros
+from rvdbg_dap.values import unknown_name, zeros
 
 HITS = re.compile(r"\s*(>=|>|==|)\s*(\d{1,9})\s*")
 CONSOLE = "console"
@@ -118,10 +118,7 @@ class Breakpoints:
             found = self.ask(it.command(place, it.condition)).fields
             return found.get("wpt") or found["bkpt"]
         except Refused as refusal:
-            at = re.match(r"No symbol in expression at (\d+)", str(refusal))
-            name = dict(names(it.condition or "")).get(int(at[1])) if at else None
-            if name is None or name[0] == "$":
-                raise
+            unknown_name(it.condition or "", refusal)
         it.is_judged = True
         made = self.ask(it.command(place, zeros(it.condition), "-d ")).fields["bkpt"]
         self.ask("-break-condition " + made["number"])

@@ -49,6 +49,13 @@ class Engine:
             raise Refused("there is no thread %.20r" % (identity,))
         return self.threads[identity]
 
+    def standing(self):
+        """A thread that can be asked for what is the same for all."""
+        for it in [self.last, *self.threads.values()]:
+            if it and not it.is_running:
+                return it
+        raise Refused("no thread has stopped yet")
+
     def say(self, text, category="console"):
         """Puts a line where the editor shows output."""
         self.client.event("output", category=category, output=text + "\n")

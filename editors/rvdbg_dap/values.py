@@ -32,6 +32,15 @@ def names(text):
         is_wanted = it[0][0] == "{" or not (is_name or it[0][0].isdigit() or it[0] == ")")
 
 
+def unknown_name(text, refusal):
+    """The place of a bare name for which the debugger refused a text, and the name; another refusal stays one."""
+    found = re.match(r"No symbol in expression at (\d+)", str(refusal))
+    name = dict(names(text)).get(int(found[1])) if found and text.isascii() else None
+    if name is None or name[0] == "$":
+        raise refusal
+    return int(found[1]), name
+
+
 def put_in(text, at, name, other):
     """The text with another one in the place of a name."""
     return text[:at] + other + text[at + len(name) :]
@@ -113,15 +122,12 @@ class Values:
     def registers(self, thread, number=""):
         """The numbers and words of all registers, or of one."""
         rows = self.ask("-data-list-register-values --thread %d x %s" % (thread.identity, number)).fields["register-values"]
-        return [(int(it["number"]), int(it["value"], 16)) for it in rows]
-
-    def register_names(self):
         self.names = self.names or self.ask("-data-list-register-names").fields["register-names"]
-        return self.names
+        return [(int(it["number"]), int(it["value"], 16)) for it in rows]
 
     def register(self, at, word, number):
         """What the editor is told of a register: it stands in hexadecimal, and opens to other radixes."""
-        told = {"name": self.register_names()[at], "value": "0x%08x" % word, "memoryReference": "0x%08x" % word}
+        told = {"name": self.names[at], "value": "0x%08x" % word, "memoryReference": "0x%08x" % word}
         told.update({"evaluateName": "$" + told["name"]} if number % LEVELS == 0 else {})
         told["presentationHint"] = {"attributes": ["readOnly"] if told["name"] in ("zero", "pc") else []}
         return dict(told, variablesReference=(RADIXES + at) * KINDS + number)
@@ -130,22 +136,21 @@ class Values:
         kind, number = divmod(arguments["variablesReference"], KINDS)
         if kind != REGISTERS:
             raise Refused("only registers can be set here")
-        return self.set_register(number, arguments["name"], arguments["value"])
+        told = self.set_register(number, arguments["name"], arguments["value"])
+        self.registers(self.framed(number)[0], 0)
+        at = dict({it: at for at, it in enumerate(self.names)}, s0=8).get(arguments["name"], 0)
+        return dict(told, variablesReference=(RADIXES + at) * KINDS + number)
 
     def set_register(self, number, name, value):
-        """Sets a register by either of its names."""
-        aliases = dict({"x%d" % at: at for at in range(32)}, s0=8, **{it: at for at, it in enumerate(self.register_names())})
-        if name not in aliases:
-            raise Refused("%s is no register" % name)
+        """Sets a register of a frame's thread, by any of its names."""
+        thread, _ = self.framed(number)
         word = self.number(value, number) % WORD
-        self.ask("-gdb-set --thread %d $%s=%d" % (self.framed(number)[0].identity, name, word))
-        told = self.register(aliases[name], word, number)
-        return {it: told[it] for it in ("value", "variablesReference", "memoryReference")}
+        self.ask("-gdb-set --thread %d $%s=%d" % (thread.identity, name, word))
+        return {"value": "0x%08x" % word, "memoryReference": "0x%08x" % word}
 
     def number(self, text, frame):
         """The number that a person typed: in any radix, or as an expression."""
-        text = text.strip()
-        return int(text, 0) if NUMBER.fullmatch(text) else int(self.evaluated(text, frame, []))
+        return int(text, 0) if NUMBER.fullmatch(text.strip()) else int(self.evaluated(text, frame, []))
 
     # Expressions.
 
@@ -156,7 +161,7 @@ class Values:
         if not NUMBER.fullmatch(value):
             return {"result": value, "variablesReference": 0}
         word = "0x%08x" % (int(value) % WORD)
-        return {"result": "%s (%s)%s" % (value, word, "".join(", with " + it for it in taken)), "variablesReference": 0, "memoryReference": word}
+        return {"result": ", with ".join(["%s (%s)" % (value, word), *taken]), "variablesReference": 0, "memoryReference": word}
 
     def evaluated(self, text, frame, taken):
         """An expression's value in a frame; `taken` gets which names stand for what is at a symbol.
@@ -164,7 +169,7 @@ class Values:
         Of outer frames neither variables nor registers are known, and nothing else may be shown in their place. Without a frame names
         are those of symbols.
         """
-        thread, level = self.framed(frame) if frame else (self.standing(), 0)
+        thread, level = self.framed(frame) if frame else (self.engine.standing(), 0)
         found = list(names(text))
         unknown = next((it for _, it in found if level or it[0] == "$" and not frame), None)
         if unknown:
@@ -173,13 +178,6 @@ class Values:
             text = self.with_symbol(text, at, name, {}, taken)
         return self.value(thread, text, taken)
 
-    def standing(self):
-        """A thread that can be asked for what is the same for all."""
-        for it in [self.engine.last, *self.engine.threads.values()]:
-            if it and not it.is_running:
-                return it
-        raise Refused("no thread has stopped yet")
-
     def value(self, thread, text, taken):
         """The value of an expression in a thread's innermost frame; `taken` gets which names stand for what is at a symbol."""
         asked, listed = text, None
@@ -187,7 +185,7 @@ class Values:
             try:
                 return self.ask("-data-evaluate-expression --thread %d %s" % (thread.identity, c_string(asked))).fields["value"]
             except Refused as refusal:
-                at, name = self.unknown(asked, refusal)
+                at, name = unknown_name(asked, refusal)
             listed = self.listed(thread) if listed is None else listed
             if name == text.strip() and name in listed:
                 return listed[name]
@@ -198,15 +196,6 @@ class Values:
         other = self.stand_in(name, listed)
         taken.append("`%s` as %s" % (name, other.strip("()")))
         return put_in(text, at, name, other)
-
-    @staticmethod
-    def unknown(text, refusal):
-        """The bare name that the debugger refused, and its place; another refusal stays one."""
-        found = re.match(r"No symbol in expression at (\d+)", str(refusal))
-        name = dict(names(text)).get(int(found[1])) if found and text.isascii() else None
-        if name is None or name[0] == "$":
-            raise refusal
-        return int(found[1]), name
 
     def listed(self, thread):
         """The variables of a thread's innermost frame by their names, each with what is shown of it."""
@@ -249,23 +238,17 @@ class Values:
 
     def place(self, text, frame):
         """The type and the address of what an expression reads: `{type} e`, or the name of a global."""
-        found = PLACE.fullmatch(text.strip())
-        if found is None and NAME.fullmatch(text.strip()) is None:
-            raise Refused("only {type} and an address, or the name of a global, has a place in memory")
+        found, (thread, level) = PLACE.fullmatch(text), self.framed(frame) if frame else (None, 0)
         if found is None:
-            listed = {}
-            if frame:
-                thread, level = self.framed(frame)
-                if level:
-                    raise Refused("%s isn't known here: an outer frame may have a variable of that name" % text)
-                listed = self.listed(thread)
-            found = PLACE.fullmatch(self.stand_in(text.strip(), listed)[1:-1])
+            if level or NAME.fullmatch(text) is None:
+                raise Refused("only {type} and an address, or the name of a global outside of outer frames, has a place in memory here")
+            found = PLACE.fullmatch(self.stand_in(text, self.listed(thread) if frame else {})[1:-1])
         return found[1], int(self.evaluated(found[2], frame, [])) % WORD
 
     def on_set_expression(self, arguments):
         text, frame, value = arguments["expression"].strip(), arguments.get("frameId"), arguments["value"]
-        if text[:1] == "$" and frame and self.framed(frame)[1] == 0:
-            return {"value": self.set_register(frame, text[1:], value)["value"]}
+        if text[:1] == "$" and frame and frame % LEVELS == 0:
+            return self.set_register(frame, text[1:], value)
         kind, address = self.place(text, frame)
         content = (self.number(value, frame) % (1 << 8 * WIDTHS[kind])).to_bytes(WIDTHS[kind], "little")
         self.ask("-data-write-memory-bytes 0x%08x %s" % (address, content.hex()))
@@ -284,7 +267,7 @@ class Values:
             else:
                 kind, address = self.place(name, frame)
                 text = name if name[0] == "{" else "{%s} &%s" % (kind, name)
-            if kind is None or size not in (None, WIDTHS[kind]):
+            if size not in (None, WIDTHS.get(kind)):
                 raise Refused("1, 2 or 4 bytes can be watched, as many as there are")
             if self.engine.program.is_text(address) or next(names(text), None):
                 raise Refused("what is watched is data, and its address has neither names nor registers")
