@@ -18,6 +18,11 @@ def passed_over(text):
     return int(found[2]) - (found[1] != ">")
 
 
+def stands(rows, thread):
+    """Whether a thread has stopped by what the debugger says of all, though its record may be on the way."""
+    return any(it["id"] == str(thread) and it["state"] == "stopped" for it in rows)
+
+
 class Breakpoint:
     """One of them. `place` is a location, a file with its line, or a watch's expression; `number` is the debugger's, `told` what the editor is told.
 
@@ -36,12 +41,12 @@ class Breakpoint:
 
     def clear(self, why):
         """It isn't in the debugger."""
-        self.number, self.is_spent, self.is_judged, self.is_looked_at, self.state = None, False, False, False, ("y", None)
+        self.number, self.is_spent, self.is_judged, self.is_looked_at, self.early, self.state = None, False, False, False, [], ("y", None)
         self.told = {"id": self.identity, "verified": False, "message": why}
 
-    def spend(self):
-        """It was for one stop, which it has made."""
-        self.number, self.is_spent, self.told["message"] = None, True, "it has made its one stop"
+    def is_judging(self, thread):
+        """Whether the adapter judges the condition at a thread's stop: also at one that came before the debugger did."""
+        return self.is_judged or thread in self.early and not self.early.remove(thread)
 
     def command(self, place, condition, more=""):
         """The line that sets it, with this condition."""
@@ -154,7 +159,9 @@ class Breakpoints:
 
     def spend(self, it):
         """One that was for one stop has made it."""
-        it.spend()
+        if it.is_once:
+            self.delete(it)
+        it.number, it.is_spent, it.told["message"] = None, True, "it has made its one stop"
         others = self.groups.get(CONSOLE, [])
         self.tell("removed" if it in others else "changed", it)
         others.remove(it) if it in others else None
@@ -165,7 +172,9 @@ class Breakpoints:
         if condition is not None:
             with contextlib.suppress(Refused):
                 self.ask("-break-condition %s %s" % (it.number, c_string(condition)))
+                rows = self.ask("-thread-info").fields["threads"]
                 it.is_judged, it.state = False, (it.state[0], condition)
+                it.early = [key for key, thread in self.engine.threads.items() if thread.is_running and stands(rows, key)]
 
     def agree(self):
         """Behind a line of the console: what came, went or changed in the debugger is told to the editor."""

@@ -50,11 +50,8 @@ class Engine:
         return self.threads[identity]
 
     def standing(self):
-        """A thread that can be asked for what is the same for all."""
-        for it in [self.last, *self.threads.values()]:
-            if it and not it.is_running:
-                return it
-        raise Refused("no thread has stopped yet")
+        """The threads that the editor has seen stop, or that stand from the start."""
+        return [it for it in self.threads.values() if not it.is_running]
 
     def say(self, text, category="console"):
         """Puts a line where the editor shows output."""

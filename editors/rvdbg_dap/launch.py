@@ -27,6 +27,7 @@ class Launch:
     """A launch with its arguments looked at, before anything is started or ended. `unknown` has what is to be said of others."""
 
     def __init__(self, arguments):
+        self.arguments = arguments
         if not arguments.get("program"):
             raise Refused("the launch argument `program` is missing: the file that is to be debugged")
         self.program = full(arguments["program"])
@@ -51,27 +52,23 @@ class Launch:
         others = [it for it in arguments if it not in KNOWN | EDITORS and not it.startswith(("__", "dap-"))]
         self.unknown = ["there is no launch argument `%s`%s" % (it, near(it)) for it in others]
 
-    def copy(self):
-        """The file that gets what the debugger writes, where there is to be one."""
-        try:
-            return open(self.log, "wb") if self.log else None
-        except OSError as error:
-            raise Refused("the log %s can't be written: %s" % (self.log, error.strerror)) from error
-
     def verdict(self):
         """Has the log of a session that is over checked and drawn, and gives what is to be said of it."""
-        with open(self.log, "rb") as log:
-            # A check executes what the session executed; it isn't to run on for long, nor behind an adapter that is killed.
-            words = ["timeout", "-k", "1", LONGEST_CHECK, self.rvdbg, "--check", self.program]
-            ran = subprocess.run(words, stdin=log, stdout=subprocess.PIPE, stderr=subprocess.DEVNULL)
-        said = ran.stdout.decode("utf-8", "replace").strip() or "it wasn't checked in %s s: %s --check %s <%s" % (LONGEST_CHECK, self.rvdbg, self.program, self.log)
         picture = os.path.splitext(self.log)[0] + ".svg"
-        with open(self.log, "rb") as log, open(picture, "wb") as drawn:
-            words = ["timeout", "-k", "1", LONGEST_CHECK, sys.executable, os.path.join(CLONE, "examples", "timeline", "timeline.py")]
-            ran = subprocess.run(words, stdin=log, stdout=drawn, stderr=subprocess.DEVNULL)
-        if ran.returncode:
-            os.remove(picture)
-        return "%s: %s%s" % (self.log, said, "" if ran.returncode else "; its picture is " + picture)
+        try:
+            said = self.fed([self.rvdbg, "--check", self.program]).decode("utf-8", "replace").strip()
+            drawn = self.fed([sys.executable, os.path.join(CLONE, "examples", "timeline", "timeline.py")])
+            with open(picture, "wb") as file:
+                file.write(drawn)
+        except OSError as error:
+            return "%s: %s" % (error.filename, error.strerror)
+        return "%s: %s; its picture is %s" % (self.log, said or "the check takes more than %s s" % LONGEST_CHECK, picture)
+
+    def fed(self, words):
+        """Has a command read the log, and gives what it writes. It isn't to run on for long, nor behind an adapter that is killed."""
+        with open(self.log, "rb") as log:
+            words = ["timeout", "-k", "1", LONGEST_CHECK, *words]
+            return subprocess.run(words, stdin=log, stdout=subprocess.PIPE, stderr=subprocess.DEVNULL).stdout
 
 
 def near(name):

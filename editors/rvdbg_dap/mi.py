@@ -116,7 +116,8 @@ class Debugger:
         while piece:
             piece = os.read(pipe.fileno(), 65536)
             if self.copy and kind == "lines":
-                self.copy.write(piece) if piece else self.copy.close()
+                with contextlib.suppress(OSError):
+                    self.copy.write(piece) if piece else self.copy.close()
             *lines, rest = (rest + (piece or b"\n")).split(b"\n")
             self.inbox.put((self, kind, [line for line in lines if line and line[:1] != b"#" and not self.answered(line)]))
             while self.inbox.qsize() > 16 and self.waiting is None and not self.is_closing:

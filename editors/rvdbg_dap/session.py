@@ -39,10 +39,11 @@ class Session:
 
     def __init__(self, inbox):
         self.inbox, self.engine = inbox, Engine(inbox)
-        self.client, self.say, self.ask = self.engine.client, self.engine.say, self.engine.ask
-        self.values, self.memory, self.breakpoints = Values(self.engine), Memory(self.engine), Breakpoints(self.engine)
-        self.threads = Threads(self.engine, self.breakpoints, self.values, self.memory)
-        self.is_done, self.request, self.opening, self.arguments, self.launch = False, None, None, {}, None
+        self.client, self.say = self.engine.client, self.engine.say
+        self.values, self.breakpoints, memory = Values(self.engine), Breakpoints(self.engine), Memory(self.engine)
+        self.threads = Threads(self.engine, self.breakpoints, self.values, memory)
+        self.parts = (self, self.threads, self.values, memory, self.breakpoints)
+        self.is_done, self.request, self.opening, self.launch = False, None, None, None
         self.forget()
 
     def forget(self):
@@ -70,11 +71,12 @@ class Session:
         if message.get("type") != "request" or not isinstance(command, str) or type(message.get("seq")) is not int:
             self.say("a message is no request: %.200s" % message)
             return
+        name = "on_" + re.sub("([A-Z])", lambda it: "_" + it[1].lower(), command)
+        part = next((it for it in self.parts if hasattr(it, name)), None)
         try:
-            arguments = message.get("arguments") or {}
-            if not isinstance(arguments, dict):
-                raise Refused("the arguments of %.100s are no object" % command)
-            body = self.handler(command)(arguments)
+            if part is None:
+                raise Refused("the request %.100s isn't served" % command)
+            body = getattr(part, name)(dict(message.get("arguments") or {}))
             if body is not LATER:
                 self.client.answer(message, body)
         except Refused as refusal:
@@ -83,14 +85,6 @@ class Session:
             self.client.answer(message, error="the arguments of %s aren't understood: %.200r" % (command, error))
         for event in self.engine.after:
             event()
-
-    def handler(self, command):
-        """What does a request of that name."""
-        name = "on_" + re.sub("([A-Z])", lambda it: "_" + it[1].lower(), command)
-        for part in (self, self.threads, self.values, self.memory, self.breakpoints):
-            if hasattr(part, name):
-                return getattr(part, name)
-        raise Refused("the request %.100s isn't served" % command)
 
     def take_bad(self, text, message):
         """Says what was no message; where it can be answered it is."""
@@ -113,33 +107,31 @@ class Session:
         """Starts the debugger. It is answered once that has accepted the program."""
         if self.engine.debugger:
             raise Refused("a session is open already")
-        self.start(Launch(arguments), arguments)
-        return LATER
+        return self.start(Launch(arguments))
 
-    def start(self, launch, arguments):
+    def start(self, launch):
         """Starts the debugger of a launch."""
         for it in launch.unknown:
             self.say(it)
         self.engine.program, self.threads.alone = Program(launch.program), ALONE[launch.alone]
         self.engine.sources.look_in(self.engine.program, launch.folders)
         try:
-            self.engine.debugger = Debugger(launch.words, self.inbox, launch.copy())
+            self.engine.debugger = Debugger(launch.words, self.inbox, open(launch.log, "wb") if launch.log else None)
         except OSError as error:
-            raise Refused("%s doesn't start: %s" % (launch.rvdbg, error.strerror)) from error
-        self.arguments, self.launch, self.opening = arguments, launch, self.request
+            raise Refused("%s: %s" % (error.filename, error.strerror)) from error
+        self.launch, self.opening = launch, self.request
+        return LATER
 
     def on_restart(self, arguments):
         """A new session with the same breakpoints. One that can't begin leaves the old one as it is."""
-        arguments = arguments.get("arguments") or self.arguments
-        launch = Launch(arguments)
+        launch = Launch(arguments.get("arguments") or self.launch.arguments)
         self.close("the session begins anew")
         self.is_configured = True
         try:
-            self.start(launch, arguments)
+            return self.start(launch)
         except Refused:
             self.engine.later("terminated")
             raise
-        return LATER
 
     def opened(self):
         """The debugger has accepted the program."""
@@ -179,7 +171,7 @@ class Session:
         self.breakpoints.lose(why)
         self.end_progress()
         self.forget()
-        if debugger and is_open and self.launch.log:
+        if is_open and self.launch.log:
             self.say(self.launch.verdict())
         if self.opening:
             request, self.opening = self.opening, None

@@ -8,6 +8,7 @@ import time
 from rvdbg_dap.lines import tail
 
 MOST_FILES, LONGEST_SEARCH = 50000, 1.0
+NOWHERE = "%s isn't found in these folders, nor below them:\n\n%s\n\nThe launch argument `sourcePath` names others.\n"
 
 
 def shown(name):
@@ -33,15 +34,10 @@ class Sources:
 
     def location(self, path, line):
         """Where a breakpoint of a file's line goes: FILE:LINE, or an address where there are several files of that last name."""
-        base = os.path.basename(path)
-        like = {it for it in self.program.lines.paths if shown(os.path.basename(it)) == base}
-        near = self.program.lines.closest(path)
-        if near == like:
-            return "%s:%d" % (base, line)
-        if not near:
-            return "%s:%d" % (min(map(os.path.basename, like)), line)
-        address = self.program.lines.address(near, line)
-        return "%s:%d" % (base, line) if address is None else "*0x%08x" % address
+        base, lines = os.path.basename(path), self.program.lines
+        like, near = {it for it in lines.paths if shown(os.path.basename(it)) == base}, lines.closest(path)
+        address = lines.address(near, line) if near != like else None
+        return "*0x%08x" % address if address is not None else "%s:%d" % (min(map(os.path.basename, like), default=base), line)
 
     def path(self, name):
         """The path of a file that the program's tables name, or None. Of several below the folders the one nearest to the program is taken."""
@@ -58,8 +54,7 @@ class Sources:
 
     def is_like(self, path, name):
         """Whether no other file of the program's has more folders in common with the path than this one."""
-        near = self.program.lines.closest(path)
-        return not near or name in near or name not in self.program.lines.paths
+        return name not in self.program.lines.paths or name in (self.program.lines.closest(path) or {name})
 
     def walk(self):
         """The files below the folders by their last names, the upper ones first; so many, and for so long."""
@@ -88,11 +83,9 @@ class Sources:
 
     def text(self, reference):
         """The text of a file whose name can't be told, or one in the place of a file that isn't found."""
-        path = self.path(self.missing[reference - 1])
-        if path:
-            with open(path, encoding="utf-8", errors="replace") as file:
+        name = self.missing[reference - 1]
+        if self.path(name):
+            with open(self.path(name), encoding="utf-8", errors="replace") as file:
                 return file.read()
-        return "%s isn't found in these folders, nor below them:\n\n%s\n\nThe launch argument `sourcePath` names others.\n" % (
-            shown(self.missing[reference - 1]),
-            "\n".join("    " + it for it in self.folders),
-        )
+        folders = "\n".join("    " + it for it in self.folders)
+        return NOWHERE % (shown(name), folders)

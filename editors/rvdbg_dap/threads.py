@@ -8,6 +8,7 @@ from rvdbg_dap.mi import Refused
 REASONS = {"breakpoint-hit": "breakpoint", "watchpoint-trigger": "data breakpoint", "signal-received": "exception"}
 KINDS = {"function": "function breakpoint", "instruction": "instruction breakpoint"}
 LOGGED = re.compile(r"\{((?:[^{}]|\{[^{}]*\})+)\}")
+WRITTEN = re.compile(r"-data-write-memory-bytes\s+(?:--\s+)?(\S+)\s+\"?([0-9A-Fa-f]+)\"?\s*(\d*)|-gdb-set (?:--thread \S+ )?\$")
 ALONE = {"never": (), "step": ("step",), "always": ("step", "continue")}
 ELSEWHERE = re.compile(r"-(data-evaluate-expression|data-list-register-values|stack-list-variables|stack-info-frame|gdb-set \$)(?!.*--thread)")
 
@@ -24,15 +25,13 @@ class Threads:
         thread.is_running, thread.trap, self.engine.last = False, None, thread
         number = fields.get("bkptno") or fields.get("wpt", {}).get("number")
         hit = self.breakpoints.numbered(number)
-        is_passed = hit is not None and hit.is_judged and not self.holds(hit, thread)
+        is_passed = hit is not None and hit.is_judging(thread.identity) and not self.holds(hit, thread)
         is_quiet = is_passed or hit and hit.log or number in self.breakpoints.dropped
         reason, told = self.reason(thread, fields)
         if hit and not is_passed:
             reason, told["hitBreakpointIds"] = KINDS.get(hit.kind, reason), [hit.identity]
             if hit.log:
                 self.log(hit, thread)
-            if hit.is_once and fields.get("disp") != "del":
-                self.breakpoints.delete(hit)
             if hit.is_once or fields.get("disp") == "del":
                 self.breakpoints.spend(hit)
         if is_quiet and hit:
@@ -83,7 +82,7 @@ class Threads:
         """The editor is to show a thread as stopped; it says nothing of the others. A thread that wasn't waited for doesn't take the view."""
         thread.is_stepping = thread.is_wanted = False
         told.update({"description": told["text"]} if "text" in told else {})
-        if thread.identity in self.awaited or len(self.standing()) == 1:
+        if thread.identity in self.awaited or len(self.engine.standing()) == 1:
             self.awaited = set()
         else:
             told["preserveFocusHint"] = True
@@ -104,10 +103,6 @@ class Threads:
         name, meaning = self.engine.thread(arguments["threadId"]).trap or ("none", "this thread stands at no trap")
         return {"exceptionId": name, "description": meaning, "breakMode": "always"}
 
-    def standing(self):
-        """The threads that the editor has seen stop."""
-        return [it for it in self.engine.threads.values() if not it.is_running]
-
     def go_on(self, threads):
         """Lets threads go on, each by itself, and gives the numbers of those that do."""
         answers = [self.engine.reply("-exec-continue --thread %d" % it.identity) for it in threads]
@@ -124,19 +119,16 @@ class Threads:
 
     def on_continue(self, arguments):
         thread, is_single = self.engine.thread(arguments["threadId"]), self.is_alone("continue", arguments)
-        standing = [it for it in self.standing() if it is thread or not is_single]
+        standing = [it for it in self.engine.standing() if it is thread or not is_single]
         if not standing:
             raise Refused("Thread %d is running" % thread.identity)
         self.awaited = {it.identity for it in standing}
-        if len(standing) == len(self.engine.threads):
-            self.ask("-exec-continue --all")
-        else:
-            self.go_on(standing)
+        self.ask("-exec-continue --all") if len(standing) == len(self.engine.threads) else self.go_on(standing)
         return {"allThreadsContinued": not is_single}
 
     def step(self, line, instruction, arguments):
         """One thread takes a step, by line or by instruction. The others that stand go on, unless it is to be alone."""
-        thread, others = self.engine.thread(arguments["threadId"]), self.standing()
+        thread, others = self.engine.thread(arguments["threadId"]), self.engine.standing()
         if thread not in others:
             raise Refused("Thread %d is running" % thread.identity)
         self.ask("%s --thread %d" % (instruction if arguments.get("granularity") == "instruction" else line, thread.identity))
@@ -149,14 +141,10 @@ class Threads:
 
     def on_pause(self, arguments):
         """Stops a thread. One that has just been stopped for the adapter alone, which isn't told, will be told as stopped."""
-        if not arguments.get("threadId"):
-            self.awaited = set(self.engine.threads)
-            self.ask("-exec-interrupt --all")
-            return
-        thread = self.engine.thread(arguments["threadId"])
-        self.awaited = {thread.identity}
+        threads = [self.engine.thread(arguments["threadId"])] if arguments.get("threadId") else list(self.engine.threads.values())
+        self.awaited, thread = {it.identity for it in threads}, threads[0]
         try:
-            self.ask("-exec-interrupt --thread %d" % thread.identity)
+            self.ask("-exec-interrupt " + ("--thread %d" % thread.identity if arguments.get("threadId") else "--all"))
         except Refused:
             if not thread.is_running:
                 raise
@@ -185,12 +173,12 @@ class Threads:
             self.engine.threads[it].is_stepping = not line.startswith("-exec-continue")
         self.awaited = set(running) or self.awaited
         self.tell_running(running)
-        if line.startswith("-break-") and result.name == "done":
+        written = WRITTEN.match(line) if result.name == "done" else None
+        if result.name == "done" and line.startswith("-break-"):
             self.breakpoints.agree()
-        if line.startswith(("-gdb-set $", "-gdb-set --thread", "-data-write-memory-bytes")) and result.name == "done":
+        if written:
             self.engine.later("invalidated", areas=["variables"])
-        written = re.match(r"-data-write-memory-bytes\s+(\S+)\s+\"?([0-9A-Fa-f]+)\"?\s*(\d*)", line)
-        if written and result.name == "done":
+        if written and written[1]:
             count = int(written[3] or len(written[2]) // 2)
             self.engine.later("memory", memoryReference="0x%08x" % int(written[1], 0), offset=0, count=count)
         return result.text

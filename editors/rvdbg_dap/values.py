@@ -169,7 +169,9 @@ class Values:
         Of outer frames neither variables nor registers are known, and nothing else may be shown in their place. Without a frame names
         are those of symbols.
         """
-        thread, level = self.framed(frame) if frame else (self.engine.standing(), 0)
+        thread, level = self.framed(frame) if frame else (next(iter(self.engine.standing()), None), 0)
+        if thread is None:
+            raise Refused("no thread stands")
         found = list(names(text))
         unknown = next((it for _, it in found if level or it[0] == "$" and not frame), None)
         if unknown:

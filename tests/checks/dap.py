@@ -193,7 +193,7 @@ def check_restart(rig, name):
         editor.event("stopped")
         editor.ask("terminate")
         rig.row(name + ": terminated", editor.event("terminated"), {})
-        rig.row(name + ": over", editor.ask("evaluate", expression="1"), "no thread has stopped yet")
+        rig.row(name + ": over", editor.ask("evaluate", expression="1"), "no thread stands")
         editor.end(rig, name)
 
 

@@ -142,7 +142,7 @@ def check_logged(rig, name):
             rig.row("%s: drawn by %s" % (name, end), file.read(4), b"<svg")
         os.remove(picture)
     with Editor() as editor:
-        rig.row(name + ": no such folder", editor.open(rig, VALUES_4, log="/nowhere/x"), "the log /nowhere/x can't be written: No such file or directory")
+        rig.row(name + ": no such folder", editor.open(rig, VALUES_4, log="/nowhere/x"), "/nowhere/x: No such file or directory")
         editor.end(rig, name + " that can't be")
 
 
