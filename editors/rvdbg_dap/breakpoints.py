@@ -18,11 +18,6 @@ def passed_over(text):
     return int(found[2]) - (found[1] != ">")
 
 
-def stands(rows, thread):
-    """Whether a thread has stopped by what the debugger says of all, though its record may be on the way."""
-    return any(it["id"] == str(thread) and it["state"] == "stopped" for it in rows)
-
-
 class Breakpoint:
     """One of them. `place` is a location, a file with its line, or a watch's expression; `number` is the debugger's, `told` what the editor is told.
 
@@ -33,11 +28,8 @@ class Breakpoint:
         self.identity, self.kind, self.place, self.source = identity, kind, place, wanted.get("source")
         self.condition, self.hits, self.log = (wanted.get(it) or None for it in ("condition", "hitCondition", "logMessage"))
         self.is_write, self.is_once = wanted.get("accessType", "write") == "write", bool(self.hits) and "==" in self.hits
+        self.words = self.place, self.condition, self.hits, self.log, self.is_write
         self.clear("no program is loaded")
-
-    def words(self):
-        """What the editor says of it."""
-        return self.place, self.condition, self.hits, self.log, self.is_write
 
     def clear(self, why):
         """It isn't in the debugger."""
@@ -73,23 +65,18 @@ class Breakpoints:
         """The one that has this number in the debugger, or None."""
         return next((it for it in self.all() if number is not None and it.number == number), None)
 
-    def new(self, kind, place, words):
+    def new(self, *words):
         self.last += 1
-        return Breakpoint(self.last, kind, place, words)
+        return Breakpoint(self.last, *words)
 
     def replace(self, group, kind, wanted):
         """Makes these the ones of a group, each a place and what the editor says of it. Those that are there stay, with their counts."""
         before, now, others = list(self.groups.get(group, [])), [], self.groups.setdefault(CONSOLE, [])
         for place, words in list(wanted):
             new = Breakpoint(0, kind, place, words)
-            same = next((it for it in before + others if it.words() == new.words()), None)
-            if same is None:
-                same = self.new(kind, place, words)
-            elif same in before:
-                before.remove(same)
-            else:
-                others.remove(same)
-                same.kind, same.source = kind, new.source
+            same = next((it for it in before + others if it.words == new.words), None) or self.new(kind, place, words)
+            (before if same in before else others if same in others else [same]).remove(same)
+            same.kind, same.source = kind, new.source
             now.append(same)
         self.groups[group] = now
         for it in before:
@@ -109,16 +96,12 @@ class Breakpoints:
     def insert(self, it):
         """Sets one in the debugger, or says at it why not."""
         try:
-            self.take(it, self.make(it))
+            self.take(it, self.make(it, self.engine.sources.location(it.place) if it.kind == "source" else it.place))
         except Refused as refusal:
             it.clear(str(refusal))
 
-    def make(self, it):
+    def make(self, it, place):
         """The debugger's row of one that it has set. A condition over names, which it doesn't know at a breakpoint, is left to the adapter."""
-        place = it.place
-        if it.kind == "source":
-            path, _, line = place.rpartition(":")
-            place = self.engine.sources.location(path, int(line))
         try:
             found = self.ask(it.command(place, it.condition)).fields
             return found.get("wpt") or found["bkpt"]
@@ -126,8 +109,8 @@ class Breakpoints:
             unknown_name(it.condition or "", refusal)
         it.is_judged = True
         made = self.ask(it.command(place, zeros(it.condition), "-d ")).fields["bkpt"]
-        self.ask("-break-condition " + made["number"])
-        self.ask("-break-enable " + made["number"])
+        for line in ("-break-condition ", "-break-enable "):
+            self.ask(line + made["number"])
         return dict(made, enabled="y", cond=None)
 
     def take(self, it, row):
@@ -164,7 +147,7 @@ class Breakpoints:
         it.number, it.is_spent, it.told["message"] = None, True, "it has made its one stop"
         others = self.groups.get(CONSOLE, [])
         self.tell("removed" if it in others else "changed", it)
-        others.remove(it) if it in others else None
+        self.groups[CONSOLE] = [other for other in others if other is not it]
 
     def judged(self, it, condition):
         """The adapter has judged a condition once. One that the debugger can judge is handed to it."""
@@ -172,9 +155,9 @@ class Breakpoints:
         if condition is not None:
             with contextlib.suppress(Refused):
                 self.ask("-break-condition %s %s" % (it.number, c_string(condition)))
-                rows = self.ask("-thread-info").fields["threads"]
                 it.is_judged, it.state = False, (it.state[0], condition)
-                it.early = [key for key, thread in self.engine.threads.items() if thread.is_running and stands(rows, key)]
+                stand = [int(row["id"]) for row in self.ask("-thread-info").fields["threads"] if row["state"] == "stopped"]
+                it.early = [key for key in stand if key in self.engine.threads and self.engine.threads[key].is_running]
 
     def agree(self):
         """Behind a line of the console: what came, went or changed in the debugger is told to the editor."""
@@ -193,7 +176,7 @@ class Breakpoints:
             it.is_judged = it.is_judged and row.get("cond") is None
             self.take(it, row)
             if "path" in it.told.get("source", {}) and it.kind == CONSOLE:
-                it.place = "%s:%d" % (it.told["source"]["path"], it.told["line"])
+                it.words = ("%s:%d" % (it.told["source"]["path"], it.told["line"]), *it.words[1:])
             if it.state != ("y", None):
                 it.told.update(verified=it.state[0] == "y", message="on if %s" % it.state[1] if it.state[0] == "y" else "off by the console")
             self.tell(reason, it)

@@ -28,24 +28,17 @@ class Memory:
 
     def bytes(self, begins, count):
         """So many bytes, or those before the first that can't be read."""
-        pieces, came = [], 0
-        while came < count:
-            at, most = (begins + came) % WORD, min(READ_PIECE, count - came)
+        found, ends = b"", count
+        while len(found) < ends:
+            at, most = (begins + len(found)) % WORD, min(READ_PIECE, ends - len(found))
             try:
-                pieces.append(self.read(at, most))
+                found += bytes.fromhex(self.ask("-data-read-memory-bytes 0x%08x %d" % (at, most)).fields["memory"][0]["contents"])
             except Refused as refusal:
-                bad = re.search(r"memory at address (0x[0-9a-f]+)", str(refusal))
+                bad = re.search(r"Cannot access memory at address (0x[0-9a-f]+)", str(refusal))
                 if not bad:
                     raise
-                pieces.append(self.read(at, (int(bad[1], 16) - at) % WORD))
-                break
-            came += most
-        return b"".join(pieces)
-
-    def read(self, at, count):
-        """So many bytes."""
-        line = "-data-read-memory-bytes 0x%08x %d" % (at, count)
-        return bytes.fromhex(self.ask(line).fields["memory"][0]["contents"]) if count > 0 else b""
+                ends = len(found) + (int(bad[1], 16) - at) % WORD
+        return found
 
     def on_write_memory(self, arguments):
         begins, content = place(arguments), base64.b64decode(arguments["data"], validate=True)

@@ -1,6 +1,7 @@
 """A program's file: why it is refused, what it lacks, and its symbols, as `docs/FORMATS.md` counts them."""
 
 import bisect
+import contextlib
 import os
 import re
 import struct
@@ -29,11 +30,8 @@ class Program:
 
     def __init__(self, path):
         self.path, self.sections, self.texts, self.symbols, self.functions = path, {}, [], {}, []
-        try:
-            with open(path, "rb") as file:
-                self.read(file.read(LARGEST))
-        except (OSError, struct.error, ValueError, IndexError):
-            pass
+        with contextlib.suppress(OSError, struct.error, ValueError, IndexError), open(path, "rb") as file:
+            self.read(file.read(LARGEST))
         self.lines = Lines(self.sections, self.is_text)
 
     def read(self, whole):
@@ -68,9 +66,9 @@ class Program:
 
     def lack(self):
         """What the file lacks for a session with its source, or nothing."""
-        if not self.sections.get(b".debug_line"):
-            return "%s has no table of lines: build it with -gdwarf-4" % self.path
-        return "%s has its variables in the form of DWARF 5, which isn't read: build it with -gdwarf-4" % self.path if self.has_unread() else ""
+        what = "its variables in the form of DWARF 5, which isn't read" if self.has_unread() else None
+        what = what if self.sections.get(b".debug_line") else "no table of lines"
+        return what and "%s has %s: build it with -gdwarf-4" % (self.path, what)
 
     def has_unread(self):
         """Whether variables may be there that the debugger doesn't read: in units of DWARF 5."""

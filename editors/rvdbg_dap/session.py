@@ -93,7 +93,6 @@ class Session:
             self.client.answer(message, error=text)
 
     def take_gone(self):
-        """The editor has gone, without a word."""
         raise BrokenPipeError
 
     def on_initialize(self, arguments):
@@ -138,8 +137,8 @@ class Session:
         request, self.opening, self.engine.is_open = self.opening, None, True
         self.end_progress()
         self.client.answer(request)
-        if self.engine.program.lack():
-            self.say(self.engine.program.lack())
+        lack = self.engine.program.lack()
+        self.say(lack) if lack else None
         self.breakpoints.insert_all()
         if request["command"] == "launch":
             self.client.event("initialized")

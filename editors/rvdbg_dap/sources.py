@@ -32,9 +32,10 @@ class Sources:
         self.told = [path] + [it for it in self.told if it != path]
         self.found.clear()
 
-    def location(self, path, line):
-        """Where a breakpoint of a file's line goes: FILE:LINE, or an address where there are several files of that last name."""
-        base, lines = os.path.basename(path), self.program.lines
+    def location(self, place):
+        """Where a breakpoint at PATH:LINE goes: FILE:LINE, or an address where there are several files of that last name."""
+        path, line = place.rsplit(":", 1)
+        base, line, lines = os.path.basename(path), int(line), self.program.lines
         like, near = {it for it in lines.paths if shown(os.path.basename(it)) == base}, lines.closest(path)
         address = lines.address(near, line) if near != like else None
         return "*0x%08x" % address if address is not None else "%s:%d" % (min(map(os.path.basename, like), default=base), line)
