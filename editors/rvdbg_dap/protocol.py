@@ -25,7 +25,7 @@ class Framing:
     """Cuts the editor's bytes into messages. What is none is told and passed over, up to the next header."""
 
     def __init__(self):
-        self.bytes = b""
+        self.bytes = bytearray()
 
     def add(self, piece):
         """Gives what has come whole: `("message", object)`, or `("bad", text, object or None)`."""
@@ -34,21 +34,27 @@ class Framing:
         while True:
             header = HEADER.search(self.bytes)
             if header is None:
-                self.bytes = self.bytes if len(self.bytes) <= LONGEST_HEADERS else b""
+                self.bytes = self.bytes if len(self.bytes) <= LONGEST_HEADERS else bytearray()
                 return found
             if not IDLE.fullmatch(self.bytes, 0, header.start()):
                 found.append(("bad", "bytes that are no message were passed over", None))
-            one, used = self.message(self.bytes[header.end() :], int(header[1][:12]))
-            self.bytes = self.bytes[header.end() + used if one else header.start() :]
+                del self.bytes[: header.start()]
+                continue
+            one, used = self.message(header.end(), int(header[1][:12]))
+            del self.bytes[: header.end() + used if one else 0]
             if one is None:
                 return found
             found.append(one)
 
-    @staticmethod
-    def message(rest, length):
-        """The message that the bytes begin with and how many it has, or None while more is to come."""
-        is_whole = len(rest) >= length or length > LONGEST
-        value, used = decoded(rest) if is_whole or rest.rstrip().endswith(b"}") else (None, 0)
+    def message(self, begins, length):
+        """The message that begins there and how many bytes it has, or None while more is to come. A short one may have a wrong length."""
+        came = len(self.bytes) - begins
+        if came >= length:
+            value, used = decoded(self.bytes[begins : begins + length])
+            if value is not None:
+                return ("message", value), used
+        is_whole, is_short = came >= length or length > LONGEST, came <= LONGEST_HEADERS
+        value, used = decoded(self.bytes[begins:]) if is_whole or is_short and self.bytes.rstrip().endswith(b"}") else (None, 0)
         if value is None:
             return (("bad", "a message is no JSON object", None) if is_whole else None), 0
         return (("message", value) if used <= length else ("bad", "a message is longer than its header says", value)), used
@@ -73,7 +79,11 @@ class Client:
 
     def send(self, **message):
         self.seq += 1
-        body = json.dumps(dict(seq=self.seq, **message)).encode()
+        body = json.dumps(dict(seq=self.seq, **message))
+        if "\\ud" in body:
+            # Half a surrogate stands for a byte of a name that isn't UTF-8. It isn't JSON to every editor.
+            body = json.dumps(json.loads(json.dumps(json.loads(body), ensure_ascii=False).encode("utf-8", "replace")))
+        body = body.encode()
         whole = b"Content-Length: %d\r\n\r\n%s" % (len(body), body)
         while whole:
             whole = whole[os.write(self.writes, whole) :]

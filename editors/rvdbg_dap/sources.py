@@ -1,82 +1,61 @@
-"""Files of source by the names that frames have, and what can be told of a program's file: why it is refused, what it lacks."""
+"""Files of source: where those stand that the program's tables name, and which of those an editor's file is."""
 
 import collections
 import contextlib
 import os
-import re
-import struct
 import time
 
+from rvdbg_dap.lines import tail
+
 MOST_FILES, LONGEST_SEARCH = 50000, 1.0
-
-BUILD = "A file that is accepted is made by `riscv64-unknown-elf-gcc -march=rv32ima -mabi=ilp32 -nostdlib -static -gdwarf-4`, as examples/lock/build.sh shows."
-ADVICE = {
-    "Magic": "It is no ELF file.",
-    "Class": "It is a 64-bit file: -march=rv32ima -mabi=ilp32 make one of 32 bits.",
-    "Kind": "It is no executable with fixed addresses: link it whole, with -static and without -shared, -pie, -r or -c.",
-    "Machine": "It isn't for RISC-V.",
-    "Flags": "It has compressed instructions, or is for RV32E: leave `c` and `e` out of -march, for the libraries that are linked too.",
-}
+NOWHERE = "%s isn't found in these folders, nor below them:\n\n%s\n\nThe launch argument `sourcePath` names others.\n"
 
 
-def advice(refusal):
-    """What to do about a refused file, as `Not an accepted ELF file: Flags at 36`; other texts stay as they are."""
-    fault = re.search(r"ELF file: (\w+) at", refusal)
-    return " ".join([refusal + ".", ADVICE.get(fault[1], ""), BUILD]) if fault else refusal
-
-
-def sections(path):
-    """The sections of an ELF32 file by their names."""
-    with open(path, "rb") as file:
-        whole = file.read(1 << 25)
-    at, count, last = struct.unpack_from("<I", whole, 32)[0], *struct.unpack_from("<HH", whole, 48)
-    rows = [struct.unpack_from("<10I", whole, at + 40 * number) for number in range(count)]
-    names = rows[last][4]
-    return {whole[names + it[0] : whole.index(b"\0", names + it[0])]: whole[it[4] : it[4] + it[5]] for it in rows}
-
-
-def lack(path):
-    """What the file lacks for a session with its source, or nothing."""
-    try:
-        found = sections(path)
-    except (OSError, struct.error, ValueError, IndexError):
-        return ""
-    if not found.get(b".debug_line"):
-        return "%s has no table of lines: build it with -gdwarf-4" % path
-    is_new = found.get(b".debug_info", b"")[4:6] == b"\5\0"
-    return "%s has its variables in the form of DWARF 5, which isn't read: build it with -gdwarf-4" % path if is_new else ""
+def shown(name):
+    """A name as the editor can be told it: what isn't UTF-8 in it is replaced."""
+    return name.encode("utf-8", "surrogateescape").decode("utf-8", "replace")
 
 
 class Sources:
     """Where files are: those that the editor named, then those in the folders, then what stands below them."""
 
     def __init__(self):
-        self.program, self.folders, self.told, self.found, self.below, self.missing = "/", [], {}, {}, None, []
+        self.program, self.folders, self.told, self.found, self.below, self.missing = None, [], [], {}, None, []
 
     def look_in(self, program, folders):
         """Looks in these folders; where there are none, in the program's and the editor's."""
-        self.folders = [os.path.abspath(os.path.expanduser(it)) for it in folders] or [os.path.dirname(program), os.getcwd()]
+        self.folders = [os.path.abspath(os.path.expanduser(it)) for it in folders] or [os.path.dirname(program.path), os.getcwd()]
         self.program, self.found, self.below = program, {}, None
 
     def tell(self, path):
-        """The editor has this file; gives its last name."""
-        name = os.path.basename(path)
-        self.told[name] = path
+        """The editor has this file."""
+        self.told = [path] + [it for it in self.told if it != path]
         self.found.clear()
-        return name
+
+    def location(self, place):
+        """Where a breakpoint at PATH:LINE goes: FILE:LINE, or an address where there are several files of that last name."""
+        path, line = place.rsplit(":", 1)
+        base, line, lines = os.path.basename(path), int(line), self.program.lines
+        like, near = {it for it in lines.paths if shown(os.path.basename(it)) == base}, lines.closest(path)
+        address = lines.address(near, line) if near != like else None
+        return "*0x%08x" % address if address is not None else "%s:%d" % (min(map(os.path.basename, like), default=base), line)
 
     def path(self, name):
-        """The path of a file that a frame names, or None. Of several below the folders the one nearest to the program is taken."""
-        base, tail = os.path.basename(name), "/" + os.path.normpath(name).lstrip("./")
+        """The path of a file that the program's tables name, or None. Of several below the folders the one nearest to the program is taken."""
+        base = os.path.basename(name)
         if name not in self.found:
-            near = [self.told[base]] if base in self.told else [os.path.join(folder, name) for folder in self.folders]
-            near = [it for it in near if os.path.isfile(it)]
+            near = [it for it in self.told if os.path.basename(it) == base] + [os.path.join(it, name) for it in self.folders]
+            near = [it for it in near if os.path.isfile(it) and self.is_like(it, name)]
             if not near and self.below is None:
                 self.below = self.walk()
-            far = (self.below or {}).get(base, [])
-            far = sorted(far, key=lambda it: (not it.endswith(tail), -len(os.path.commonpath([it, self.program]))))
+            far = [it for it in (self.below or {}).get(base, []) if self.is_like(it, name)]
+            far.sort(key=lambda it: (-tail(it, name), -len(os.path.commonpath([it, self.program.path]))))
             self.found[name] = next(map(os.path.normpath, near + far), None)
         return self.found[name]
+
+    def is_like(self, path, name):
+        """Whether no other file of the program's has more folders in common with the path than this one."""
+        return name not in self.program.lines.paths or name in (self.program.lines.closest(path) or {name})
 
     def walk(self):
         """The files below the folders by their last names, the upper ones first; so many, and for so long."""
@@ -91,18 +70,23 @@ class Sources:
                         ahead.append(it.path)
         return found
 
-    def source(self, name):
-        """What the editor is told of a file. One that isn't found has a number, by which it asks for a text."""
+    def source(self, name, address):
+        """What the editor is told of a file that has an address. One that isn't found, or can't be named, has a number to ask for a text."""
+        like = self.program.lines.closest(os.path.basename(name))
+        row = self.program.lines.at(address) if len(like) > 1 else None
+        name = row.path if row and row.path in like else min(like, default=name)
         path = self.path(name)
-        if path:
+        if path and shown(path) == path:
             return {"name": os.path.basename(path), "path": path}
         if name not in self.missing:
             self.missing.append(name)
-        return {"name": name, "sourceReference": 1 + self.missing.index(name), "presentationHint": "deemphasize"}
+        return {"name": shown(os.path.basename(name)), "sourceReference": 1 + self.missing.index(name), "presentationHint": "deemphasize"}
 
     def text(self, reference):
-        """The text in the place of a file that isn't found."""
-        return "%s isn't found in these folders, nor below them:\n\n%s\n\nThe launch argument `sourcePath` names others.\n" % (
-            self.missing[reference - 1],
-            "\n".join("    " + it for it in self.folders),
-        )
+        """The text of a file whose name can't be told, or one in the place of a file that isn't found."""
+        name = self.missing[reference - 1]
+        if self.path(name):
+            with open(self.path(name), encoding="utf-8", errors="replace") as file:
+                return file.read()
+        folders = "\n".join("    " + it for it in self.folders)
+        return NOWHERE % (shown(name), folders)

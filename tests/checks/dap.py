@@ -5,194 +5,28 @@ Conversations are over `examples/lock` and small programs. In some of them a scr
 """
 
 import base64
-import json
 import os
-import random
 import re
-import select
-import signal
 import subprocess
 import sys
 import tempfile
-import time
 
 if __name__ == "__main__":
     sys.dont_write_bytecode = True
     sys.path.insert(0, os.path.dirname(os.path.dirname(os.path.realpath(__file__))))
 
+from checks.dap_bugs import BUG_CHECKS, check_growth  # noqa: E402
+from checks.dap_editor import SOURCE, TOP, Editor, lines, top  # noqa: E402
+from checks.dap_peers import check_deaf, check_delays, check_peers  # noqa: E402
+from checks.dap_program import PROGRAM_CHECKS  # noqa: E402
+from checks.dap_random import check_hostile, check_random  # noqa: E402
+from checks.dap_values import VALUE_CHECKS  # noqa: E402
 from checks.programs import EXIT, LOOP, counting, plain  # noqa: E402
 from checks.rig import PATIENCE, Rig  # noqa: E402
-
-TOP = os.path.dirname(os.path.dirname(os.path.dirname(os.path.realpath(__file__))))
-ADAPTER = os.path.join(TOP, "editors", "rvdbg-dap")
-LOCK = os.path.join(TOP, "examples", "lock")
-SOURCE = os.path.join(LOCK, "lock.c")
 
 # exit_group with code 3; a write of "hi\n" again and again, as in `pipes.py`.
 EXIT_3 = [0x05E00893, 0x00300513, 0x00000073]
 WRITER = [0x04000893, 0x00100513, 0x000205B7, 0x00300613, 0x00000073, 0xFF1FF06F]
-
-# What bodies have to have, by the specification of the protocol: a type, a list of one form, or a form of fields.
-FRAME = {"id": int, "name": str, "line": int, "column": int, "instructionPointerReference": str}
-VARIABLE = {"name": str, "value": str, "variablesReference": int}
-POINT = {"id": int, "verified": bool}
-EVENTS = {
-    "initialized": {},
-    "stopped": {"reason": str, "threadId": int},
-    "continued": {"threadId": int, "allThreadsContinued": bool},
-    "thread": {"reason": str, "threadId": int},
-    "output": {"category": str, "output": str},
-    "breakpoint": {"reason": str, "breakpoint": POINT},
-    "exited": {"exitCode": int},
-    "terminated": {},
-    "progressStart": {"progressId": str, "title": str},
-    "progressUpdate": {"progressId": str, "message": str},
-    "progressEnd": {"progressId": str},
-}
-BODIES = {
-    "initialize": {"supportsConfigurationDoneRequest": bool},
-    "threads": {"threads": [{"id": int, "name": str}]},
-    "stackTrace": {"stackFrames": [FRAME], "totalFrames": int},
-    "scopes": {"scopes": [{"name": str, "variablesReference": int, "expensive": bool}]},
-    "variables": {"variables": [VARIABLE]},
-    "evaluate": {"result": str, "variablesReference": int},
-    "setVariable": {"value": str},
-    "continue": {"allThreadsContinued": bool},
-    "readMemory": {"address": str, "data": str},
-    "writeMemory": {"bytesWritten": int},
-    "source": {"content": str},
-    "dataBreakpointInfo": {"description": str},
-    **{"set%sreakpoints" % it: {"breakpoints": [POINT]} for it in ("B", "FunctionB", "InstructionB", "DataB")},
-}
-
-
-def has_form(value, form):
-    """Whether a value has the fields of a form."""
-    if isinstance(form, list):
-        return isinstance(value, list) and all(has_form(it, form[0]) for it in value)
-    if isinstance(form, dict):
-        return isinstance(value, dict) and all(key in value and has_form(value[key], it) for key, it in form.items())
-    return type(value) is form
-
-
-class Editor:
-    """An editor: it asks, and keeps the events. `faults` has what the protocol doesn't allow."""
-
-    def __init__(self, words=(ADAPTER,)):
-        pipes = dict(stdin=subprocess.PIPE, stdout=subprocess.PIPE, stderr=subprocess.PIPE, bufsize=0)
-        self.process = subprocess.Popen([sys.executable, *words], cwd=TOP, **pipes)
-        self.heard, self.asked, self.answers, self.events, self.faults, self.seq, self.told = b"", {}, {}, [], [], 0, 0
-
-    def __enter__(self):
-        return self
-
-    def __exit__(self, *_):
-        if self.process.poll() is None:
-            self.process.kill()
-        self.process.wait()
-        for pipe in (self.process.stdin, self.process.stdout, self.process.stderr):
-            pipe.close()
-
-    def write(self, text):
-        self.process.stdin.write(text)
-
-    def send(self, command, **arguments):
-        """Sends a request, and gives its number."""
-        self.seq += 1
-        self.asked[self.seq] = command
-        body = json.dumps({"seq": self.seq, "type": "request", "command": command, "arguments": arguments}).encode()
-        self.write(b"Content-Length: %d\r\n\r\n%s" % (len(body), body))
-        return self.seq
-
-    def ask(self, command, **arguments):
-        """Sends a request, and gives the body of its answer, or the text of its error."""
-        number = self.send(command, **arguments)
-        if not self.until(lambda: number in self.answers):
-            raise OSError("no answer to " + command)
-        answer = self.answers[number]
-        return answer.get("body") if answer["success"] else answer["message"]
-
-    def until(self, is_done, patience=PATIENCE):
-        """Hears until something is so, and says whether it came to be."""
-        ends = time.monotonic() + patience
-        while not is_done():
-            left = ends - time.monotonic()
-            if left <= 0 or not select.select([self.process.stdout], [], [], left)[0]:
-                return False
-            piece = os.read(self.process.stdout.fileno(), 65536)
-            if not piece:
-                return is_done()
-            self.heard += piece
-            while self.take():
-                pass
-        return True
-
-    def take(self):
-        """Takes one message of what was heard."""
-        head = re.match(rb"Content-Length: (\d+)\r\n\r\n", self.heard)
-        if head is None or len(self.heard) < head.end() + int(head[1]):
-            return False
-        message = json.loads(self.heard[head.end() : head.end() + int(head[1])].decode("ascii"))
-        self.heard = self.heard[head.end() + int(head[1]) :]
-        self.told += 1
-        self.check(message.get("seq") == self.told, "numbers rise", message)
-        if message.get("type") == "event":
-            form = EVENTS.get(message.get("event"))
-            self.check(form is not None and has_form(message.get("body"), form), "an event's form", message)
-            self.check("allThreadsStopped" not in message["body"], "one thread stops", message)
-            self.events.append((message["event"], message["body"]))
-            return True
-        number, command = message.get("request_seq"), message.get("command")
-        self.check(message.get("type") == "response" and self.asked.get(number) == command, "an answer to a request", message)
-        self.check(number not in self.answers and type(message.get("success")) is bool, "one answer", message)
-        form = BODIES.get(command, {}) if message["success"] else {"error": {"id": int, "format": str}}
-        self.check(has_form(message.get("body") or {}, form) and ("message" in message) != message["success"], "an answer's form", message)
-        self.answers[number] = message
-        return True
-
-    def check(self, is_so, name, message):
-        if not is_so:
-            self.faults.append((name, message))
-
-    def event(self, name, patience=PATIENCE, **fields):
-        """The next event of that name with these fields, which is waited for and taken; None where it doesn't come."""
-
-        def find():
-            return next((it for it in self.events if it[0] == name and all(it[1].get(key) == value for key, value in fields.items())), None)
-
-        if not self.until(lambda: find() is not None, patience):
-            return None
-        found = find()
-        self.events.remove(found)
-        return found[1]
-
-    def printed(self, category):
-        """All output of a category so far."""
-        return "".join(body["output"] for name, body in self.events if name == "output" and body["category"] == category)
-
-    def open(self, rig, program, debugger=None, **arguments):
-        """Begins a session, up to where breakpoints are set."""
-        self.ask("initialize", adapterID="rvdbg", supportsProgressReporting=True)
-        launched = self.ask("launch", program=program, rvdbg=debugger or rig.program, **arguments)
-        return launched or self.event("initialized") is not None
-
-    def end(self, rig, name):
-        """Ends a session, and says whether all that was heard had its form."""
-        self.ask("disconnect")
-        rig.row(name + ": the end", self.process.wait(PATIENCE), 0)
-        rig.row(name + ": forms", self.faults, [])
-        rig.row(name + ": errors", self.process.stderr.read().decode(), "")
-
-
-def lines(*numbers, **more):
-    """The arguments that set breakpoints at lines of lock.c."""
-    return dict(source={"path": SOURCE}, breakpoints=[dict(line=it, **more) for it in numbers])
-
-
-def top(editor, thread):
-    """The innermost frame of a thread: its function, its line, and whether its file is found."""
-    frame = editor.ask("stackTrace", threadId=thread, levels=1)["stackFrames"][0]
-    return frame["name"], frame["line"], frame.get("source", {}).get("path") == SOURCE
 
 
 def check_two_threads(rig, name):
@@ -204,7 +38,8 @@ def check_two_threads(rig, name):
         editor.ask("configurationDone")
         for thread in (1, 2):
             stop = editor.event("stopped", threadId=thread)
-            rig.row(name + ": stop", stop, {"reason": "breakpoint", "threadId": thread, "hitBreakpointIds": [point["id"]]})
+            focus = {} if thread == 1 else {"preserveFocusHint": True}
+            rig.row(name + ": stop", stop, dict({"reason": "breakpoint", "threadId": thread, "hitBreakpointIds": [point["id"]]}, **focus))
         rig.row(name + ": threads", editor.ask("threads")["threads"], [{"id": 1, "name": "hart 0"}, {"id": 2, "name": "hart 1"}])
         paged = editor.ask("stackTrace", threadId=2, startFrame=1, levels=1)
         rig.row(name + ": frames", (top(editor, 1), paged["stackFrames"][0]["name"], paged["totalFrames"]), (("add", 18, True), "main", 3))
@@ -317,7 +152,7 @@ def check_data(rig, name):
         asked = [("$t0 + 1", "watch"), ("sum", "hover"), ("nothing", "hover"), ("-1 +", "repl"), ("-thread-list-ids", "repl"), ("-exec-wait", "repl")]
         found = [editor.ask("evaluate", expression=text, frameId=frame, context=context) for text, context in asked]
         rig.row(name + ": values", (found[0]["result"], re.sub("[0-9a-f]+", "N", found[1]["result"])), ("-1 (0xffffffff)", "N (NxN)"))
-        rig.row(name + ": no values", found[2:4], ["No symbol in expression at 0", "Syntax error in expression at 4"])
+        rig.row(name + ": no values", found[2:4], ["there is no variable and no symbol `nothing` here", "Syntax error in expression at 4"])
         rig.row(name + ": a line", found[4]["result"], '^done,thread-ids={thread-id="1",thread-id="2"},current-thread-id="2",number-of-threads="2"')
         rig.row(name + ": no line that waits", found[5].startswith("a line of MI is one line"), True)
         address = editor.ask("evaluate", expression="&sum", frameId=frame)["memoryReference"]
@@ -338,10 +173,8 @@ def check_pause(rig, name):
             editor.open(rig, os.path.join(rig.folder, program))
             editor.ask("configurationDone")
             rig.row(name + ": a running thread", editor.ask("stackTrace", threadId=1), "Thread 1 is running")
-            begun = time.monotonic()
             editor.ask("pause", threadId=1)
             rig.row(name + ": paused", editor.event("stopped", reason="pause")["threadId"], 1)
-            rig.row(name + ": soon", time.monotonic() - begun < 5.0, True)
             rig.row(name + ": twice", editor.ask("pause", threadId=1), "Thread 1 is not running")
             editor.end(rig, "%s of %s" % (name, program))
 
@@ -360,7 +193,7 @@ def check_restart(rig, name):
         editor.event("stopped")
         editor.ask("terminate")
         rig.row(name + ": terminated", editor.event("terminated"), {})
-        rig.row(name + ": over", editor.ask("evaluate", expression="1"), "no thread has stopped yet")
+        rig.row(name + ": over", editor.ask("evaluate", expression="1"), "no thread stands")
         editor.end(rig, name)
 
 
@@ -390,7 +223,8 @@ def check_ends(rig, name):
         (dict(program="examples/lock/lock", slots="1.5"), "slots is a number from 0 to 512"),
         (dict(program="examples/lock/lock", rvdbg="/nowhere"), "doesn't start"),
         (dict(program="examples/lock/lock", rvdbg="/bin/false"), "status 1"),
-        (dict(), "aren't understood"),
+        (dict(program="examples/lock/lock", singleThread="often"), "singleThread is one of never, step, always"),
+        (dict(), "the launch argument `program` is missing"),
     ]
     with Editor() as editor:
         editor.ask("initialize")
@@ -398,227 +232,6 @@ def check_ends(rig, name):
             answer = editor.ask("launch", **dict(dict(rvdbg=rig.program), **words))
             rig.row("%s: %s" % (name, text), text in answer, True)
         editor.end(rig, name + " by refusals")
-
-
-# A debugger that is a script: `build` says how far it is built, `stops` stops as often as its word says, each time with the moment in
-# the function's name; `variables` knows the command for them; `deaf` answers nothing behind its opening, and `odd` what isn't MI.
-PEER = r'''
-import os, sys, time
-kind, *count = os.environ["PEER"].split()
-def put(*lines):
-    os.write(1, "".join(it + "\n" for it in lines).encode())
-if kind == "build":
-    for it in ("rvdbg: proving and building dbg_program", "rvdbg: rv_decode, 1 of 4", "rvdbg: dbg_program, 4 of 4"):
-        print(it, file=sys.stderr, flush=True)
-    time.sleep(0.5)
-if kind == "unbuilt":
-    print("rvdbg: the program isn't built yet, and rt isn't found", file=sys.stderr, flush=True)
-    sys.exit(127)
-put('=thread-created,id="1",group-id="i1"', "(gdb)")
-for line in sys.stdin:
-    token, _, command = line.strip().partition("-")
-    if kind == "deaf":
-        continue
-    if kind == "odd":
-        put("what is this", "*stopped,thread-id=", '=thread-created,id="x"', '~"half', token + "^done,x=[}", "(gdb)")
-    elif command.startswith("gdb-exit"):
-        put(token + "^exit")
-        break
-    elif command.startswith("exec-"):
-        put(token + "^running", '*running,thread-id="1"', "(gdb)")
-        for _ in range(int(count[0]) if count else 0):
-            time.sleep(0.004)
-            put('*stopped,reason="signal-received",signal-name="S",signal-meaning="%d",thread-id="1"' % time.monotonic_ns())
-    elif command.startswith("stack-list-variables") and kind == "variables":
-        put(token + '^done,variables=[{name="n",arg="1",value="7"},{name="k",value="-1"},{name="s",value="<optimized out>"}]', "(gdb)")
-    elif command.startswith("stack-list-variables"):
-        put(token + '^error,msg="Undefined MI command: stack-list-variables",code="undefined-command"', "(gdb)")
-    else:
-        put(token + "^done", "(gdb)")
-'''
-
-
-def peer(rig, words):
-    """A debugger that behaves as the words say."""
-    path = os.path.join(rig.folder, "peer-" + words.replace(" ", "-"))
-    with open(path, "w", encoding="utf-8") as file:
-        file.write("#!%s\nimport os\nos.environ['PEER'] = %r\n%s" % (sys.executable, words, PEER))
-    os.chmod(path, 0o755)
-    return path
-
-
-def check_peers(rig, name):
-    """What other debuggers bring: one that is built first, one that isn't, one with variables, one that isn't understood."""
-    with Editor() as editor:
-        rig.row(name + ": built", editor.open(rig, "examples/lock/lock", peer(rig, "build")), True)
-        kinds = [it[0] for it in editor.events if it[0].startswith("progress")]
-        rig.row(name + ": progress", kinds, ["progressStart", "progressUpdate", "progressUpdate", "progressUpdate", "progressEnd"])
-        rig.row(name + ": percentages", [it[1].get("percentage") for it in editor.events if it[0] == "progressUpdate"], [None, 25, 100])
-        rig.row(name + ": without variables", [it["name"] for it in editor.ask("scopes", frameId=100)["scopes"]], ["Registers"])
-        editor.end(rig, name + " that is built")
-    with Editor() as editor:
-        answer = editor.open(rig, "examples/lock/lock", peer(rig, "unbuilt"))
-        rig.row(name + ": not built", answer, "rvdbg: the program isn't built yet, and rt isn't found")
-        editor.end(rig, name + " that isn't built")
-    with Editor() as editor:
-        editor.open(rig, "examples/lock/lock", peer(rig, "variables"))
-        scopes = editor.ask("scopes", frameId=100)["scopes"]
-        rig.row(name + ": scopes", [it["name"] for it in scopes], ["Arguments", "Locals", "Registers"])
-        found = [[(it["name"], it["value"]) for it in editor.ask("variables", variablesReference=scope["variablesReference"])["variables"]] for scope in scopes[:2]]
-        rig.row(name + ": variables", found, [[("n", "7")], [("k", "-1"), ("s", "<optimized out>")]])
-        rig.row(name + ": of outer frames", [it["name"] for it in editor.ask("scopes", frameId=101)["scopes"]], ["Registers (of the innermost frame)"])
-        editor.end(rig, name + " with variables")
-    with Editor() as editor:
-        editor.open(rig, "examples/lock/lock", peer(rig, "odd"))
-        rig.row(name + ": odd", "isn't understood" in editor.ask("evaluate", expression="-thread-info", context="repl"), True)
-        editor.until(lambda: editor.printed("console").count("isn't understood") == 3)
-        rig.row(name + ": odd lines", editor.printed("console").count("isn't understood"), 3)
-        editor.end(rig, name + " that is odd")
-
-
-def check_deaf(rig, name, check):
-    """While something else is checked, a request to a debugger that answers nothing is answered all the same."""
-    with Editor() as editor:
-        editor.open(rig, "examples/lock/lock", peer(rig, "deaf"))
-        number = editor.send("evaluate", expression="-thread-info", context="repl")
-        check()
-        editor.until(lambda: number in editor.answers)
-        rig.row(name, editor.answers[number]["message"], "-thread-info: the debugger doesn't answer in time")
-        editor.end(rig, name)
-
-
-def check_delays(rig, name, count):
-    """Stops reach the editor soon after their records, and steps in a row neither slow down nor take more memory."""
-    with Editor() as editor:
-        editor.open(rig, "examples/lock/lock", peer(rig, "stops %d" % count))
-        editor.ask("configurationDone")
-        delays = []
-        for _ in range(count):
-            stop = editor.event("stopped")
-            delays.append((time.monotonic_ns() - int(stop["text"].split()[1])) / 1e6)
-        delays.sort()
-        print("outside: %d stops reach the editor within %.2f ms, half of them within %.2f ms" % (count, delays[-1], delays[count // 2]))
-        rig.row(name + ": a tenth of the stops within 20 ms, whatever else the machine does", delays[count // 10] < 20.0, True)
-        editor.end(rig, name + " of stops")
-    with Editor() as editor:
-        editor.open(rig, os.path.join(rig.folder, "dap-loop"), stopOnEntry=True)
-        editor.ask("configurationDone")
-        editor.event("stopped")
-        times, sizes = [], []
-        for _ in range(count):
-            begun = time.monotonic()
-            editor.ask("stepIn", threadId=1, granularity="instruction")
-            editor.event("stopped", reason="step")
-            editor.ask("stackTrace", threadId=1)
-            editor.ask("variables", variablesReference=10100)
-            times.append(time.monotonic() - begun)
-            with open("/proc/%d/statm" % editor.process.pid, encoding="ascii") as file:
-                sizes.append(int(file.read().split()[1]) * 4)
-        tenth = count // 10
-        early, late = sorted(times[tenth : 2 * tenth])[tenth // 2], sorted(times[-tenth:])[tenth // 2]
-        print("outside: %d steps: %.2f ms each early, %.2f ms late; %d KB early, %d KB late" % (count, 1e3 * early, 1e3 * late, sizes[tenth], sizes[-1]))
-        rig.row(name + ": the quickest steps don't slow down", min(times[-tenth:]) < 3 * min(times[:tenth]) + 0.01, True)
-        rig.row(name + ": memory stays", sizes[-1] - sizes[tenth] < 1024, True)
-        editor.end(rig, name + " of steps")
-
-
-def check_hostile(rig, name):
-    """What is no message is passed over and told; what comes out of order is answered; an editor that goes leaves nothing behind."""
-    request = b'{"seq": %d, "type": "request", "command": "threads"}'
-    with Editor() as editor:
-        editor.asked = {it: "threads" for it in range(1, 9)}
-        for text in (
-            b"Content-Length: 9\r\n\r\n" + request % 1,
-            b"Content-Length: 5000\r\n\r\n" + request % 2,
-            b"Content-Length: 4\r\n\r\n{]}}",
-            b"Content-Length: 2\r\n\r\n[]Content-Length: -1\r\n\r\nGET / HTTP/1.1\r\n\r\n",
-            b"Content-Length: 99999999999999\r\n\r\n" + request % 3,
-            b"content-length:%d\r\nContent-Type: x\r\n\r\n%s" % (len(request % 4), request % 4),
-            b'Content-Length: 2\r\n\r\n{}Content-Length: 30\r\n\r\n{"type": "request", "seq": "x"}',
-            b"Content-Length: %d\n\n%s" % (len(request % 5), request % 5),
-            b"Content-Length: 20002\r\n\r\n" + 20000 * b"[" + b"{}",
-            b"Content-Length: %d\r\n\r\n%s" % (len(request % 6), request % 6),
-        ):
-            editor.write(text)
-        rig.row(name + ": the messages among it", editor.until(lambda: {2, 4, 5, 6} <= set(editor.answers)), True)
-        rig.row(name + ": one that is too long", editor.answers.get(1, {}).get("success"), False)
-        editor.seq = 8
-        for command in ("stackTrace", "continue", "pause", "configurationDone", "setBreakpoints", "nothing", "__init__", "restart", "terminate", "next"):
-            rig.row("%s: %s out of order" % (name, command), isinstance(editor.ask(command, threadId=1), (str, dict, type(None))), True)
-        editor.write(b"Content-Length: 10")
-        editor.process.stdin.close()
-        rig.row(name + ": half a header", editor.process.wait(PATIENCE), 1)
-        editor.faults.clear()
-    for end in (signal.SIGKILL, signal.SIGTERM, None):
-        with Editor() as editor:
-            editor.open(rig, os.path.join(rig.folder, "dap-loop"))
-            editor.ask("configurationDone")
-            child = children(editor.process.pid)
-            editor.process.send_signal(end) if end else editor.process.stdin.close()
-            editor.process.wait(PATIENCE)
-            rig.row("%s: nothing is left, %s" % (name, end), (len(child), any_lives(child)), (1, False))
-
-
-def children(pid):
-    """The processes that one has started."""
-    with open("/proc/%d/task/%d/children" % (pid, pid), encoding="ascii") as file:
-        return [int(it) for it in file.read().split()]
-
-
-def any_lives(pids):
-    """Whether one of these still runs, a while later."""
-    ends = time.monotonic() + 5.0
-    while time.monotonic() < ends:
-        if not any(os.path.exists("/proc/%d/cmdline" % it) and open("/proc/%d/cmdline" % it, "rb").read() for it in pids):
-            return False
-        time.sleep(0.02)
-    return True
-
-
-def requests(dice):
-    """A random request: mostly as an editor would make it, sometimes not."""
-    thread, line, at = dice.randint(1, 3), dice.randint(1, 50), "0x%x" % dice.choice([0x10150, 0x10000, 0x111A0, 0xEFFFFFF0, 0, 0xFFFFFFFF])
-    frame, single = thread * 100 + dice.choice([0, 0, 1, 63]), dice.random() < 0.5
-    text = dice.choice(["$a0", "sum", "1 / 0", "{int} &sum", "-thread-info", "-break-list", "-nothing", "\n", '"', "x" * 300, "-" + "x" * 5000, "\u00e4"])
-    points = [dict(line=dice.randint(-1, 50), **dice.choice([{}, {"condition": text}, {"hitCondition": "2"}, {"logMessage": "{%s}" % text}])) for _ in range(dice.randint(0, 3))]
-    return dice.choice([
-        ("setBreakpoints", dict(source={"path": SOURCE}, breakpoints=points)),
-        ("setFunctionBreakpoints", dict(breakpoints=[{"name": dice.choice(["add", "release", "x y", "*", ""])}])),
-        ("setInstructionBreakpoints", dict(breakpoints=[{"instructionReference": at, "offset": dice.choice([0, 4, -1])}])),
-        ("setDataBreakpoints", dict(breakpoints=[{"dataId": dice.choice(["{int} &sum", "{char} &lock", text])}])),
-        ("dataBreakpointInfo", dict(name=text)),
-        ("threads", {}),
-        ("stackTrace", dict(threadId=thread, startFrame=dice.randint(-1, 4), levels=dice.randint(0, 3))),
-        ("scopes", dict(frameId=frame)),
-        ("variables", dict(variablesReference=dice.choice([1, 10, 25, 43, 9999]) * 10000 + frame)),
-        ("setVariable", dict(variablesReference=10000 + frame, name=dice.choice(["t0", "pc", "x"]), value=dice.choice(["1", "-1", "0x", text]))),
-        ("evaluate", dict(expression=text, frameId=frame, context=dice.choice(["repl", "watch", "hover"]))),
-        ("readMemory", dict(memoryReference=at, count=dice.choice([0, 4, 5000, -1]), offset=dice.choice([0, -8]))),
-        ("writeMemory", dict(memoryReference=at, data=dice.choice(["AAAA", "", "?"]))),
-        ("continue", dict(threadId=thread, singleThread=single)),
-        (dice.choice(["next", "stepIn", "stepOut"]), dict(threadId=thread, singleThread=single, granularity=dice.choice(["line", "instruction"]))),
-        ("pause", dict(threadId=dice.randint(0, 3))),
-        (dice.choice(["configurationDone", "restart", "terminate", "launch", "nothing", "source", "initialize"]), {}),
-        (dice.choice(["setBreakpoints", "stackTrace", "variables", "evaluate", "launch", "restart"]), {dice.choice(["threadId", "source", "arguments"]): dice.choice([None, [], {}, "x", 1])}),
-    ])
-
-
-def check_random(rig, name, seed):
-    """A random conversation: each request is answered in its time, by messages that have their forms, and the end comes."""
-    dice, slowest = random.Random(seed), 0.0
-    with Editor() as editor:
-        editor.open(rig, "examples/lock/lock", harts=2, slots=dice.choice([0, 1, 16]), budget=dice.choice([500, 10**12]), stopOnEntry=dice.random() < 0.5)
-        for _ in range(40):
-            command, arguments = requests(dice)
-            begun, number = time.monotonic(), editor.send(command, **arguments)
-            if dice.random() < 0.7:
-                if not editor.until(lambda: number in editor.answers):
-                    raise OSError("no answer to %s %s" % (command, arguments))
-                slowest = max(slowest, time.monotonic() - begun)
-        editor.ask("disconnect")
-        found = (editor.process.wait(PATIENCE), sorted(set(editor.asked) - set(editor.answers)), editor.faults[:2], editor.process.stderr.read().decode())
-        rig.row("%s of %d" % (name, seed), found, (0, [], [], ""))
-    return slowest
 
 
 def check_front_end(rig, name):
@@ -631,12 +244,13 @@ def check_front_end(rig, name):
 
 def check_conversations(rig):
     """The conversations with a program, and those with peers."""
-    for check in (check_two_threads, check_breakpoints, check_log_points, check_watch, check_data, check_pause, check_restart, check_ends, check_peers, check_hostile, check_front_end):
+    own = [check_two_threads, check_breakpoints, check_log_points, check_watch, check_data, check_pause, check_restart, check_ends]
+    for check in [*own, check_peers, check_hostile, check_front_end, *VALUE_CHECKS, *BUG_CHECKS, *PROGRAM_CHECKS]:
         rig.guarded(check.__name__, lambda: check(rig, "adapter, " + check.__name__[6:].replace("_", " ")))
 
 
-def check_adapter(rig, conversations=8, steps=200):
-    """All of them."""
+def check_adapter(rig, conversations=8, steps=0):
+    """All of them. Times are looked at where steps are asked for: a gate on a busy machine doesn't fail by them."""
     rig.put("dap-loop", plain(LOOP))
     rig.put("dap-counting", counting(0xFFFFFFFF))
     rig.put("dap-exit", plain(EXIT_3))
@@ -645,7 +259,9 @@ def check_adapter(rig, conversations=8, steps=200):
     compressed[36] = 1
     rig.put("dap-compressed", bytes(compressed))
     rig.guarded("deaf", lambda: check_deaf(rig, "adapter, a deaf debugger", lambda: check_conversations(rig)))
-    rig.guarded("delays", lambda: check_delays(rig, "adapter, delays", steps))
+    if steps:
+        rig.guarded("delays", lambda: check_delays(rig, "adapter, delays", steps))
+        rig.guarded("growth", lambda: check_growth(rig, "adapter, growth"))
     slowest = []
     for seed in range(conversations):
         rig.guarded("random %d" % seed, lambda: slowest.append(check_random(rig, "adapter, random conversation", seed)))

@@ -41,7 +41,7 @@ class Rig:
         """Does a check; one that breaks off is a row that failed."""
         try:
             check()
-        except (OSError, subprocess.SubprocessError) as error:
+        except (OSError, subprocess.SubprocessError, TypeError, KeyError, IndexError, ValueError, AttributeError) as error:
             self.row(name, repr(error), "no error")
 
     def run(self, words, input=b"", **how):

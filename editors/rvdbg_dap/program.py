@@ -1,0 +1,83 @@
+"""A program's file: why it is refused, what it lacks, and its symbols, as `docs/FORMATS.md` counts them."""
+
+import bisect
+import contextlib
+import os
+import re
+import struct
+
+from rvdbg_dap.lines import Lines
+
+BUILD = "A file that is accepted is made by `riscv64-unknown-elf-gcc -march=rv32ima -mabi=ilp32 -nostdlib -static -gdwarf-4`, as examples/lock/build.sh shows."
+ADVICE = {
+    "Magic": "It is no ELF file.",
+    "Class": "It is a 64-bit file: -march=rv32ima -mabi=ilp32 make one of 32 bits.",
+    "Kind": "It is no executable with fixed addresses: link it whole, with -static and without -shared, -pie, -r or -c.",
+    "Machine": "It isn't for RISC-V.",
+    "Flags": "It has compressed instructions, or is for RV32E: leave `c` and `e` out of -march, for the libraries that are linked too.",
+}
+SYMTAB, TEXT_FLAGS, FUNCTION, LARGEST = 2, 6, 2, 1 << 25
+
+
+def advice(refusal):
+    """What to do about a refused file, as `Not an accepted ELF file: Flags at 36`; other texts stay as they are."""
+    fault = re.search(r"ELF file: (\w+) at", refusal)
+    return " ".join([refusal + ".", ADVICE.get(fault[1], ""), BUILD]) if fault else refusal
+
+
+class Program:
+    """What is read of a file. What can't be read isn't there: the debugger says what is wrong with it."""
+
+    def __init__(self, path):
+        self.path, self.sections, self.texts, self.symbols, self.functions = path, {}, [], {}, []
+        with contextlib.suppress(OSError, struct.error, ValueError, IndexError), open(path, "rb") as file:
+            self.read(file.read(LARGEST))
+        self.lines = Lines(self.sections, self.is_text)
+
+    def read(self, whole):
+        """Reads the sections, System V gABI 4.4, and the first table of symbols."""
+        at, count, last = struct.unpack_from("<I", whole, 32)[0], *struct.unpack_from("<HH", whole, 48)
+        rows = [struct.unpack_from("<10I", whole, at + 40 * number) for number in range(count)]
+        names = rows[last][4]
+        for name, kind, flags, address, place, size, *_ in rows:
+            self.sections.setdefault(whole[names + name : whole.index(b"\0", names + name)], whole[place : place + size])
+            self.texts += [range(address, address + size)] if flags & TEXT_FLAGS == TEXT_FLAGS else []
+        table = next((it for it in rows if it[1] == SYMTAB), None)
+        if table:
+            self.read_symbols(whole[table[4] : table[4] + table[5]], whole[rows[table[6]][4] :])
+
+    def read_symbols(self, table, strings):
+        """Keeps the address and the size of each symbol that counts, by its name."""
+        for name, address, size, info, _, section in struct.iter_unpack("<IIIBBH", table):
+            text = strings[name : strings.index(b"\0", name)].decode("utf-8", "surrogateescape")
+            if info & 15 <= FUNCTION and section and text and text[0] != "$":
+                self.symbols.setdefault(text, set()).add((address, size))
+                self.functions += [(address, text, size)] if info & 15 == FUNCTION else []
+        self.functions.sort()
+
+    def is_text(self, address):
+        return any(address in it for it in self.texts)
+
+    def near(self, address):
+        """A place by its function, as `main+8`, or nothing."""
+        at = bisect.bisect(self.functions, (address, "\U0010ffff")) - 1
+        begins, name, size = self.functions[at] if at >= 0 else (0, "", 1)
+        return "%s+%d" % (name, address - begins) if name and (size == 0 or address - begins < size) else ""
+
+    def lack(self):
+        """What the file lacks for a session with its source, or nothing."""
+        what = "its variables in the form of DWARF 5, which isn't read" if self.has_unread() else None
+        what = what if self.sections.get(b".debug_line") else "no table of lines"
+        return what and "%s has %s: build it with -gdwarf-4" % (self.path, what)
+
+    def has_unread(self):
+        """Whether variables may be there that the debugger doesn't read: in units of DWARF 5."""
+        units, at = self.sections.get(b".debug_info", b""), 0
+        while at + 6 <= len(units):
+            length, version = struct.unpack_from("<IH", units, at)
+            if version > 4:
+                return True
+            at += 4 + length
+        return False
+
+
