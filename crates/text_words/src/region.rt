@@ -107,7 +107,7 @@ impl<'a> OpenRegion<'a> {
     /// The place of the word at an address; more than any place where the region has none there.
     #[inline(always)]
     pub fn place(&self, addr: u32) -> usize
-        ensures here { self.now.address + 4 * length self.now.operations.now ≤ 2 ^ 32 → result < length self.now.operations.now → addr ≡ self.now.address + 4 * result }
+        ensures here { self.now.address + 4 * result < 2 ^ 32 → addr ≡ self.now.address + 4 * result }
         ensures found { self.now.address ≤ addr → (addr - self.now.address) % 4 ≡ 0 → result ≡ (addr - self.now.address) / 4 }
     {
         // Where the distance is no multiple of 4, its lowest bits become the highest.
