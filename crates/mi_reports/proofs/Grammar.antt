@@ -27,7 +27,7 @@ use Rattle.mi_reports.specs.declared.words.Key.TheVariants as key
 use Rattle.mi_reports.specs.declared.words.Phrase.TheVariants as phrase
 use Rattle.mi_reports.specs.Words.{key_text, says}
 use Rattle.mi_reports.specs.Fits.{frame_fits, content_fits, shown_fits}
-use Rattle.mi_reports.specs.Lines.{lines_of}
+use Rattle.mi_reports.specs.Lines.{lines_of, may_show}
 use Rattle.mi_reports.specs.Phrases.{phrase_text}
 use Rattle.mi_reports.specs.Refusals.{file_fields, refusal_lines, usage_fields}
 use Rattle.mi_reports.specs.Replies.{running_line, done_fields, done_lines, content_lines}
@@ -149,27 +149,28 @@ usage_proper = refusal_proper (phrase_text phrase.Usage) (phrase_bytes phrase.Us
 
 -- ---- entries
 
--- the lines of an entry, whatever it shows
-pub entry_proper : (e : Entry) (s : Shown) → shown_fits s ≡ true → AreLines (lines_of e s)
-entry_proper (Ran h n) Nothing fits = tt
-entry_proper (Ran h n) (Wrote bytes) fits = stream_proper bytes fits
-entry_proper (Ran h n) (Stop frame temporary watch) fits = tt
-entry_proper (Ran h n) (Exit last) fits = tt
-entry_proper (Ran h n) (Answer reply) fits = tt
-entry_proper (Counted h) s fits = tt
-entry_proper (Stopped h w) Nothing fits = tt
-entry_proper (Stopped h w) (Wrote bytes) fits = tt
-entry_proper (Stopped h w) (Stop frame temporary watch) fits = let p = both (frame_fits frame) (are_bytes (expression watch)) fits in stop_proper w temporary watch h frame p.0 p.1
-entry_proper (Stopped h w) (Exit last) fits = tt
-entry_proper (Stopped h w) (Answer reply) fits = tt
-entry_proper (Left h code) Nothing fits = tt
-entry_proper (Left h code) (Wrote bytes) fits = tt
-entry_proper (Left h code) (Stop frame temporary watch) fits = tt
-entry_proper (Left h code) (Exit last) fits = left_proper h code last
-entry_proper (Left h code) (Answer reply) fits = tt
-entry_proper (Did line) Nothing fits = tt
-entry_proper (Did line) (Wrote bytes) fits = tt
-entry_proper (Did line) (Stop frame temporary watch) fits = tt
-entry_proper (Did line) (Exit last) fits = tt
-entry_proper (Did line) (Answer reply) fits = let p = both (is_token reply.token) (content_fits reply.content) fits in content_proper reply.token reply.content p.0 p.1
-entry_proper (Poked p) s fits = tt
+-- the lines of an entry, whatever it shows that it may
+pub entry_proper : (e : Entry) (s : Shown) → may_show e s ≡ true → shown_fits s ≡ true → AreLines (lines_of e s)
+entry_proper (Ran h n) Nothing may fits = tt
+entry_proper (Ran h n) (Wrote bytes) may fits = stream_proper bytes fits
+entry_proper (Ran h n) (Stop frame temporary watch) may fits = tt
+entry_proper (Ran h n) (Exit last) may fits = tt
+entry_proper (Ran h n) (Answer reply) may fits = tt
+entry_proper (Counted h) s may fits = tt
+entry_proper (Stopped h w) Nothing may fits = absurd cc
+entry_proper (Stopped h w) (Wrote bytes) may fits = absurd cc
+entry_proper (Stopped h w) (Stop frame temporary watch) may fits =
+    let p = both (frame_fits frame) (are_bytes (expression watch)) fits in stop_proper w temporary watch h frame p.0 p.1
+entry_proper (Stopped h w) (Exit last) may fits = absurd cc
+entry_proper (Stopped h w) (Answer reply) may fits = absurd cc
+entry_proper (Left h code) Nothing may fits = tt
+entry_proper (Left h code) (Wrote bytes) may fits = tt
+entry_proper (Left h code) (Stop frame temporary watch) may fits = tt
+entry_proper (Left h code) (Exit last) may fits = left_proper h code last
+entry_proper (Left h code) (Answer reply) may fits = tt
+entry_proper (Did line) Nothing may fits = tt
+entry_proper (Did line) (Wrote bytes) may fits = tt
+entry_proper (Did line) (Stop frame temporary watch) may fits = tt
+entry_proper (Did line) (Exit last) may fits = tt
+entry_proper (Did line) (Answer reply) may fits = let p = both (is_token reply.token) (content_fits reply.content) fits in content_proper reply.token reply.content p.0 p.1
+entry_proper (Poked p) s may fits = tt
