@@ -45,11 +45,9 @@ fn known_watch(watch: &Option<ShownWatch>)
 fn known_frames(frames: &[ShownFrame])
     ensures { frames_fit frames.now ≡ true }
 {
-    let [frame, rest @ ..] = frames else {
-        return;
-    };
-    known_frame(frame);
-    known_frames(rest);
+    for frame in frames {
+        known_frame(frame);
+    }
 }
 
 fn known_place(stopped_at: &Option<ShownFrame>)
@@ -63,11 +61,9 @@ fn known_place(stopped_at: &Option<ShownFrame>)
 fn known_threads(threads: &[Thread])
     ensures { threads_fit threads.now ≡ true }
 {
-    let [thread, rest @ ..] = threads else {
-        return;
-    };
-    known_place(&thread.stopped_at);
-    known_threads(rest);
+    for thread in threads {
+        known_place(&thread.stopped_at);
+    }
 }
 
 #[tactic(auto, unfolding(crate::specs::Fits::breakpoint_fits))]
@@ -92,21 +88,17 @@ fn known_row(row: &Row)
 fn known_rows(rows: &[Row])
     ensures { rows_fit rows.now ≡ true }
 {
-    let [row, rest @ ..] = rows else {
-        return;
-    };
-    known_row(row);
-    known_rows(rest);
+    for row in rows {
+        known_row(row);
+    }
 }
 
 fn known_variables(variables: &[ShownVariable])
     ensures { variables_fit variables.now ≡ true }
 {
-    let [variable, rest @ ..] = variables else {
-        return;
-    };
-    known_bytes(variable.name.as_slice());
-    known_variables(rest);
+    for variable in variables {
+        known_bytes(variable.name.as_slice());
+    }
 }
 
 fn known_fault(fault: &Fault)

@@ -67,11 +67,10 @@ fn write_more(into: &mut Vec<u8>, threads: &[Thread]) -> Result<(), AllocError>
     ensures written { OnOk result (into.new.items ≡ into.old.items ++ items_behind (map thread_tree threads.now)) }
     ensures kept { Keeps into.old.items into.new.items }
 {
-    let [thread, rest @ ..] = threads else {
-        return Ok(());
-    };
-    write_thread(into, b',', thread)?;
-    write_more(into, rest)
+    for thread in threads {
+        write_thread(into, b',', thread)?;
+    }
+    Ok(())
 }
 
 // Threads behind their bracket.
@@ -109,11 +108,10 @@ fn write_more_numbers(into: &mut Vec<u8>, numbers: &[u32]) -> Result<(), AllocEr
     ensures written { OnOk result (into.new.items ≡ into.old.items ++ behind (map number_field numbers.now)) }
     ensures kept { Keeps into.old.items into.new.items }
 {
-    let [number, rest @ ..] = numbers else {
-        return Ok(());
-    };
-    write_word(into, b',', Key::ThreadId, *number)?;
-    write_more_numbers(into, rest)
+    for number in numbers {
+        write_word(into, b',', Key::ThreadId, *number)?;
+    }
+    Ok(())
 }
 
 // The numbers of threads behind their bracket.
