@@ -1,6 +1,6 @@
 -- The lines of what is said are lines of the grammar, where what they show is made of bytes.
-use Rattle.std.specs.Prelude.{◌%◌, decimal, map}
-use Rattle.std.proofs.Common.{◌≡◌, ℕ, zero, suc, List, [], ◌∷◌, ◌++◌, Bool, true, ◌&&◌, cond, Option, Some, None, refl, arith}
+use Rattle.std.specs.Prelude.{◌%◌, map}
+use Rattle.std.proofs.Common.{◌≡◌, ℕ, zero, suc, List, [], ◌∷◌, ◌++◌, Bool, true, cond, Option, Some, None, refl, arith}
 use Rattle.dbg_model.specs.declared.entry.Entry.{Entry}
 use Rattle.dbg_model.specs.declared.entry.Entry.TheVariants.{Ran, Counted, Stopped, Left, Did, Poked}
 use Rattle.dbg_model.specs.declared.entry.Why.{Why}
@@ -30,10 +30,10 @@ use Rattle.mi_reports.specs.Fits.{frame_fits, content_fits, shown_fits}
 use Rattle.mi_reports.specs.Lines.{lines_of, may_show}
 use Rattle.mi_reports.specs.Phrases.{phrase_text}
 use Rattle.mi_reports.specs.Refusals.{file_fields, refusal_lines, usage_fields}
-use Rattle.mi_reports.specs.Replies.{running_line, done_fields, done_lines, content_lines}
-use Rattle.mi_reports.specs.Text.{thread_line, thread_fields, created_lines, opening_lines, stopped_line, hit_fields, end_fields, signal_fields, signal}
-use Rattle.mi_reports.specs.Text.{condition_lines, break_lines, exit_fields, exit_lines, left_lines, stream_lines}
-use Rattle.mi_reports.specs.Triggers.{expression, trigger_fields}
+use Rattle.mi_reports.specs.Replies.{running_line, done_lines, content_lines}
+use Rattle.mi_reports.specs.Text.{thread_line, thread_fields, created_lines, opening_lines, stopped_line, hit_fields, signal}
+use Rattle.mi_reports.specs.Text.{condition_lines, break_lines, exit_lines, left_lines, stream_lines}
+use Rattle.mi_reports.specs.Triggers.{expression}
 use Rattle.mi_reports.proofs.Messages.{message_bytes, condition_bytes, file_bytes}
 use Rattle.mi_reports.proofs.Names.{key_name, phrase_bytes}
 use Rattle.mi_reports.proofs.Proper.{Good, none_good, says_good, thread_good, hit_good, end_good, signal_good, exit_good}

@@ -1,18 +1,16 @@
 -- The line of a stop by a watch.
-use Rattle.std.proofs.Common.{◌≡◌, ℕ, List, [], ◌∷◌, ◌++◌, Bool, true, false, cond, eqb, Option, Some, None, refl, ap, ◌∙◌}
+use Rattle.std.proofs.Common.{◌≡◌, ℕ, [], Bool, true, Option, refl}
 use Rattle.dbg_model.specs.declared.frame.ShownFrame.{ShownFrame}
 use Rattle.watch_points.specs.declared.watchpoint.Fired.{Fired}
 use Rattle.dbg_model.specs.declared.shown.ShownWatch.{ShownWatch}
-use Rattle.mi_values.specs.Record.{LineTree}
 use Rattle.mi_values.specs.Testing.{are_bytes}
 use Rattle.mi_reports.specs.declared.words.Key.TheVariants as key
 use Rattle.mi_reports.specs.declared.words.Phrase.TheVariants as phrase
-use Rattle.mi_reports.specs.Words.{says}
 use Rattle.mi_reports.specs.Phrases.{phrase_text}
 use Rattle.mi_reports.specs.Fits.{frame_fits}
-use Rattle.mi_reports.specs.Text.{place_fields, stopped_line}
+use Rattle.mi_reports.specs.Text.{place_fields}
 use Rattle.mi_text.specs.Numeral.{worth_text}
-use Rattle.mi_reports.specs.Triggers.{expression, is_unsigned, worth_fields, change_fields, trigger_fields, trigger_lines}
+use Rattle.mi_reports.specs.Triggers.{expression, is_unsigned, worth_fields, change_fields, trigger_fields}
 use Rattle.mi_reports.proofs.Names.{phrase_bytes}
 use Rattle.mi_reports.proofs.Proper.{Good, none_good, value, says_good, tuple_good, place_good}
 use Rattle.mi_reports.proofs.Worths.{worth_bytes}

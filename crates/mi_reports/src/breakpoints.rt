@@ -4,7 +4,10 @@ ghost use Rattle.mi_text.specs.Keeps.{Keeps};
 ghost use Rattle.mi_reports.specs.Led.{led, behind, opened};
 ghost use Rattle.mi_reports.specs.Breakpoints.{disposition, enabled, for_thread, ignored, front_fields, place_fields, term_fields, count_fields, breakpoint_fields, breakpoint_field};
 
-use crate::fields::{write_address, write_byte, write_head, write_number, write_phrase, write_some, write_text, write_word};
+use crate::fields::{
+    write_address, write_byte, write_head, write_number, write_phrase, write_some, write_text,
+    write_word,
+};
 use crate::frames::write_source;
 use crate::words::{Key, Phrase};
 use dbg_model::Breakpoint;
@@ -90,7 +93,12 @@ fn write_counts(into: &mut Vec<u8>, breakpoint: &Breakpoint) -> Result<(), Alloc
 {
     write_number(into, b',', Key::Times, breakpoint.times)?;
     write_ignored(into, breakpoint.ignore)?;
-    write_text(into, b',', Key::OriginalLocation, breakpoint.location.as_slice())
+    write_text(
+        into,
+        b',',
+        Key::OriginalLocation,
+        breakpoint.location.as_slice(),
+    )
 }
 
 // What is left out where it has nothing to say, and the counts.
@@ -117,7 +125,11 @@ fn write_fields(into: &mut Vec<u8>, breakpoint: &Breakpoint) -> Result<(), Alloc
 
 /// Puts a breakpoint with its fields at the end.
 #[tactic(auto, using(std::proofs::lemmas::Grind::common_steps, crate::proofs::Led::tuple_led), unfolding(crate::specs::Breakpoints::breakpoint_field))]
-pub fn write_breakpoint(into: &mut Vec<u8>, lead: u8, breakpoint: &Breakpoint) -> Result<(), AllocError>
+pub fn write_breakpoint(
+    into: &mut Vec<u8>,
+    lead: u8,
+    breakpoint: &Breakpoint,
+) -> Result<(), AllocError>
     ensures written { OnOk result (into.new.items ≡ into.old.items ++ led lead (breakpoint_field breakpoint.now)) }
     ensures kept { Keeps into.old.items into.new.items }
 {

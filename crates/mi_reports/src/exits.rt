@@ -1,5 +1,5 @@
 // The lines of threads that begin and end, and of what the program writes.
-ghost use Rattle.std.specs.Prelude.{◌≡◌, ◌∷◌, [], ◌++◌, OnOk};
+ghost use Rattle.std.specs.Prelude.{◌≡◌, ◌++◌, OnOk};
 ghost use Rattle.mi_text.specs.Keeps.{Keeps};
 ghost use Rattle.mi_text.specs.Numeral.{exit_code};
 ghost use Rattle.mi_values.specs.Record.{line_bytes};

@@ -1,7 +1,6 @@
 // Fields, written behind a byte: a comma, or the bracket that they stand in.
 ghost use Rattle.std.specs.Prelude.{◌≡◌, ◌++◌, ◌∷◌, [], decimal, OnOk};
 ghost use Rattle.mi_values.specs.Tree.{text, items, item, no_item};
-ghost use Rattle.mi_text.specs.CString.{c_string};
 ghost use Rattle.mi_text.specs.Keeps.{Keeps};
 ghost use Rattle.mi_text.specs.Numeral.{address_text, worth_text};
 ghost use Rattle.mi_reports.specs.Led.{head, led, behind};

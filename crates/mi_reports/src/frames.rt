@@ -1,12 +1,15 @@
 // Frames and lines of the source.
-ghost use Rattle.std.specs.Prelude.{◌≡◌, ◌+◌, ◌^◌, ◌<◌, ◌∷◌, [], ◌++◌, length, OnOk};
+ghost use Rattle.std.specs.Prelude.{◌≡◌, ◌+◌, ◌^◌, ◌<◌, ◌++◌, length, OnOk};
 ghost use Rattle.mi_text.specs.Keeps.{Keeps};
 ghost use Rattle.mi_reports.specs.Led.{led, behind, opened};
 ghost use Rattle.mi_reports.specs.declared.words.Key.TheVariants as keys;
 ghost use Rattle.mi_reports.specs.Words.{key_text};
 ghost use Rattle.mi_reports.specs.Frames.{source_fields, frame_rest, frame_fields, frame_field, stack_fields, stack_tree};
 
-use crate::fields::{write_address, write_byte, write_empty, write_head, write_number, write_some, write_text, write_word};
+use crate::fields::{
+    write_address, write_byte, write_empty, write_head, write_number, write_some, write_text,
+    write_word,
+};
 use crate::words::Key;
 use dbg_model::{ShownFrame, SourceLine};
 use std::alloc::AllocError;

@@ -4,7 +4,10 @@ ghost use Rattle.mi_values.specs.Testing.{are_bytes};
 ghost use Rattle.mi_reports.specs.Triggers.{expression};
 ghost use Rattle.mi_reports.specs.Fits.{text_fits, source_fits, frame_fits, frames_fit, place_fits, threads_fit, breakpoint_fits, row_fits, rows_fit, variables_fit, faulty, quoted, content_fits, reply_fits, shown_fits};
 
-use dbg_model::{Breakpoint, Content, Refused, Reply, Row, Shown, ShownFrame, ShownVariable, ShownWatch, SourceLine, Thread};
+use dbg_model::{
+    Breakpoint, Content, Refused, Reply, Row, Shown, ShownFrame, ShownVariable, ShownWatch,
+    SourceLine, Thread,
+};
 use dbg_traits::ByteList;
 use mi_commands::Fault;
 use mi_values::known_bytes;

@@ -1,5 +1,5 @@
 // The lines around fields.
-ghost use Rattle.std.specs.Prelude.{◌≡◌, ◌∷◌, [], ◌++◌, OnOk};
+ghost use Rattle.std.specs.Prelude.{◌≡◌, ◌++◌, OnOk};
 ghost use Rattle.mi_text.specs.Keeps.{Keeps};
 ghost use Rattle.mi_values.specs.Record.{line_bytes, prompt, stream, notice_byte, stream_byte};
 ghost use Rattle.mi_reports.specs.Led.{begun, answered};

@@ -114,11 +114,7 @@ fn write_register(
 
 // Registers behind a first one.
 #[tactic(auto, using(std::proofs::lemmas::Grind::common_steps))]
-fn write_more(
-    into: &mut Vec<u8>,
-    format: Format,
-    registers: &[Register],
-) -> Result<(), AllocError>
+fn write_more(into: &mut Vec<u8>, format: Format, registers: &[Register]) -> Result<(), AllocError>
     ensures written { OnOk result (into.new.items ≡ into.old.items ++ items_behind (map (register_tree format) registers.now)) }
     ensures kept { Keeps into.old.items into.new.items }
 {
@@ -130,11 +126,7 @@ fn write_more(
 
 // Registers behind their bracket.
 #[tactic(auto, using(std::proofs::lemmas::Grind::common_steps))]
-fn write_list(
-    into: &mut Vec<u8>,
-    format: Format,
-    registers: &[Register],
-) -> Result<(), AllocError>
+fn write_list(into: &mut Vec<u8>, format: Format, registers: &[Register]) -> Result<(), AllocError>
     ensures written { OnOk result (into.new.items ≡ into.old.items ++ items_opened 91 (map (register_tree format) registers.now)) }
     ensures kept { Keeps into.old.items into.new.items }
 {

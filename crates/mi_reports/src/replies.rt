@@ -1,8 +1,8 @@
 // The lines of replies.
-ghost use Rattle.std.specs.Prelude.{◌≡◌, ◌∷◌, [], ◌++◌, map, OnOk};
+ghost use Rattle.std.specs.Prelude.{◌≡◌, [], ◌++◌, map, OnOk};
 ghost use Rattle.mi_text.specs.Keeps.{Keeps};
 ghost use Rattle.mi_values.specs.FieldLists.{result_of};
-ghost use Rattle.mi_values.specs.Record.{line_bytes, prompt};
+ghost use Rattle.mi_values.specs.Record.{line_bytes};
 ghost use Rattle.mi_values.specs.Records.{lines_bytes};
 ghost use Rattle.mi_reports.specs.Led.{behind};
 ghost use Rattle.mi_reports.specs.Words.{key_text};

@@ -1,5 +1,5 @@
 // Threads as they are listed.
-ghost use Rattle.std.specs.Prelude.{◌≡◌, ◌-◌, ◌∷◌, [], ◌++◌, map, decimal, IfOk, OnOk};
+ghost use Rattle.std.specs.Prelude.{◌≡◌, ◌-◌, ◌++◌, map, decimal, IfOk, OnOk};
 ghost use Rattle.mi_reports.specs.declared.words.Phrase.TheVariants as phrases;
 ghost use Rattle.mi_reports.specs.declared.words.Key.TheVariants as keys;
 ghost use Rattle.mi_text.specs.Keeps.{Keeps};
@@ -140,11 +140,7 @@ fn write_ids(into: &mut Vec<u8>, numbers: &[u32]) -> Result<(), AllocError>
 
 /// Puts the numbers of threads, which of them is selected, and how many there are, at the end.
 #[tactic(auto, using(std::proofs::lemmas::Grind::common_steps), unfolding(crate::specs::Replies::numbers_fields))]
-pub fn write_numbers(
-    into: &mut Vec<u8>,
-    numbers: &[u32],
-    selected: u32,
-) -> Result<(), AllocError>
+pub fn write_numbers(into: &mut Vec<u8>, numbers: &[u32], selected: u32) -> Result<(), AllocError>
     ensures written { OnOk result (into.new.items ≡ into.old.items ++ behind (numbers_fields numbers.now selected)) }
     ensures kept { Keeps into.old.items into.new.items }
 {
