@@ -1,5 +1,5 @@
 -- The variables of the unit, by marks: one mark more.
-use Rattle.debug_info.proofs.Words.{◌≡◌, ◌+◌, ◌++◌, ℕ, suc, Bool, true, false, List, [], ◌∷◌, drop, filter, get_or, length, map, ◌<◌, Option, None, Some, refl, arith, sym, ◌∙◌, ap, add-one, append-nil, append_assoc, subst, is_some, ◌==◌, ◌&&◌, nat_lt, if◌then◌else◌, eqb-true, nat_tests}
+use Rattle.debug_info.proofs.Words.{◌≡◌, ◌+◌, ◌++◌, ℕ, suc, Bool, true, false, List, [], ◌∷◌, drop, filter, get_or, length, map, ◌<◌, Option, Some, refl, arith, sym, ◌∙◌, ap, add-one, append-nil, append_assoc, is_some, ◌==◌, ◌&&◌, nat_lt, if◌then◌else◌, eqb-true, nat_tests}
 use Rattle.debug_info.proofs.Words.{and-false, and_assoc, drop-cons, entry_list, all_reread, is_in_unit, is_outer, outer_marks, mark_of, reread_in, is_fixed, is_unit, is_unit_entry, is_unit_variable, is_variable, parent, unit_variables, Entry, Mark}
 use Rattle.debug_info.specs.declared.mark.Unit.{Unit as Looked}
 use Rattle.debug_info.proofs.Walked.{AreAgain, Both}

@@ -1,6 +1,6 @@
 -- The marks of a unit in place of its entries: a list of them is walked, and what is read again is what was there.
 use Rattle.debug_info.proofs.Words.{◌≡◌, ◌<◌, ◌≤◌, ◌+◌, ◌++◌, ℕ, zero, suc, Bool, true, false, List, [], ◌∷◌, length, map, filter, take, drop, get_or, Option, None, Some, refl, arith, sym, ◌∙◌, ap, subst, append-nil, append_assoc, find}
-use Rattle.debug_info.proofs.Words.{option_and_then, is_some, ◌==◌, ◌&&◌, if◌then◌else◌, get_or-map, length-map, map-append, take_more, filter-append, entry_list, AreReread, all_reread, is_entered_mark, is_own_mark}
+use Rattle.debug_info.proofs.Words.{option_and_then, ◌==◌, ◌&&◌, if◌then◌else◌, get_or-map, length-map, map-append, take_more, filter-append, entry_list, AreReread, all_reread, is_entered_mark, is_own_mark}
 use Rattle.debug_info.proofs.Words.{mark_of, reread_in, inner, is_block, is_entered, is_open, is_own, is_within, own_among, own_entries, is_below, shut_by, Entry, Mark}
 use Rattle.debug_info.specs.declared.entry.Kind.TheVariants as kind
 use Rattle.debug_info.specs.declared.entry.Tag.TheVariants as tag

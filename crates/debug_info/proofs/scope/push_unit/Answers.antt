@@ -1,4 +1,4 @@
-use Rattle.debug_info.proofs.Words.{◌≡◌, ◌++◌, List, map, filter, refl, sym, ap, ◌∙◌, append-nil, drop_all, false, true, all_reread, entries_in, outer_marks, shown_variables, Variable, is_fixed, variable_of, seen_texts, Entry, Mark}
+use Rattle.debug_info.proofs.Words.{◌++◌, List, map, filter, sym, ap, ◌∙◌, append-nil, drop_all, false, true, all_reread, entries_in, outer_marks, shown_variables, Variable, is_fixed, variable_of, seen_texts, Entry, Mark}
 use Rattle.debug_info.proofs.Outer.{outer_at}
 use Rattle.debug_info.proofs.Walked.{chosen_both}
 use Rattle.debug_info.proofs.scope.push_unit.Goals as goal

@@ -1,4 +1,4 @@
-use Rattle.std.proofs.Common.{◌≡◌, ◌<◌, ◌-◌, suc, List, ℕ, None, ap, arith, drop, length, sym, ◌∙◌}
+use Rattle.std.proofs.Common.{◌≡◌, ◌<◌, ◌-◌, suc, ap, arith, drop, length, sym, ◌∙◌}
 use Rattle.mi_commands.specs.Locations.{last_colon}
 use Rattle.mi_commands.proofs.Colons.{colon_nowhere, colon_none, colon_there}
 use Rattle.mi_commands.proofs.location.last_colon.Goals as goal
