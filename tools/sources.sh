@@ -101,7 +101,7 @@ remember() {
     mkdir -p "$here/$built" 2>/dev/null && {
         echo "$program"
         echo "crates.txt" "$program" "${program%/*}/SHA256SUMS" "$(source_folders "$here" | tr '\n' ' ')"
-    } >"$here/$state.$$" 2>/dev/null && touch -d "@$begun" "$here/$state.$$" && mv -f "$here/$state.$$" "$here/$state"
+    } 2>/dev/null >"$here/$state.$$" && touch -d "@$begun" "$here/$state.$$" && mv -f "$here/$state.$$" "$here/$state"
 }
 
 # Sets `program` to what was found earlier, where that still holds.

@@ -135,7 +135,7 @@ def check_turns(rig, clone):
     rig.row("two at once: the second", (began, status, error.startswith("rvdbg: another build is under way here")), (True, 0, True))
     error = first.communicate(timeout=PATIENCE)[1].decode()
     rig.row("two at once: one build", (first.returncode, clone.runs()), (0, ["ci"]))
-    shown = [line for line in error.splitlines() if line.startswith("rvdbg: proving and building, ")]
+    shown = [line for line in error.splitlines() if line.startswith("rvdbg: proving, ")]
     whole = all(" of 100: 0 minutes have passed, about " in line for line in shown)
     rig.row("a build shows that it is alive", (len(shown) >= 3, whole), (True, True))
     for number in (signal.SIGKILL, signal.SIGTERM, signal.SIGINT):
