@@ -62,11 +62,15 @@ def any_lives(pids):
     return True
 
 
+TEXTS = ["$a0", "sum", "1 / 0", "{int} &sum", "sum + number == 3", "ready", "add", "-thread-info", "-break-list", "-nothing", "\n", '"', "x" * 300]
+TEXTS += ["-" + "x" * 5000, "\u00e4", "\udce9", "-break-insert lock.c:19", "-break-delete 1 2", "-break-disable 1", "-gdb-set $t0=1", "-break-watch {int} &sum"]
+
+
 def requests(dice):
     """A random request: mostly as an editor would make it, sometimes not."""
     thread, line, at = dice.randint(1, 3), dice.randint(1, 50), "0x%x" % dice.choice([0x10150, 0x10000, 0x111A0, 0xEFFFFFF0, 0, 0xFFFFFFFF])
     frame, single = thread * 100 + dice.choice([0, 0, 1, 63]), dice.random() < 0.5
-    text = dice.choice(["$a0", "sum", "1 / 0", "{int} &sum", "-thread-info", "-break-list", "-nothing", "\n", '"', "x" * 300, "-" + "x" * 5000, "\u00e4"])
+    text = dice.choice(TEXTS)
     points = [dict(line=dice.randint(-1, 50), **dice.choice([{}, {"condition": text}, {"hitCondition": "2"}, {"logMessage": "{%s}" % text}])) for _ in range(dice.randint(0, 3))]
     return dice.choice([
         ("setBreakpoints", dict(source={"path": SOURCE}, breakpoints=points)),
@@ -81,6 +85,10 @@ def requests(dice):
         ("setVariable", dict(variablesReference=10000 + frame, name=dice.choice(["t0", "pc", "x"]), value=dice.choice(["1", "-1", "0x", text]))),
         ("evaluate", dict(expression=text, frameId=frame, context=dice.choice(["repl", "watch", "hover"]))),
         ("readMemory", dict(memoryReference=at, count=dice.choice([0, 4, 5000, -1]), offset=dice.choice([0, -8]))),
+        ("setExpression", dict(expression=text, value=dice.choice(["1", "$a0", text]), frameId=frame)),
+        ("disassemble", dict(memoryReference=at, offset=dice.choice([0, 2]), instructionOffset=dice.randint(-9, 9), instructionCount=dice.choice([0, 7, -1, 1 << 20]))),
+        ("exceptionInfo", dict(threadId=thread)),
+        ("evaluate", dict(expression=text, context="repl")),
         ("writeMemory", dict(memoryReference=at, data=dice.choice(["AAAA", "", "?"]))),
         ("continue", dict(threadId=thread, singleThread=single)),
         (dice.choice(["next", "stepIn", "stepOut"]), dict(threadId=thread, singleThread=single, granularity=dice.choice(["line", "instruction"]))),
@@ -94,7 +102,9 @@ def check_random(rig, name, seed):
     """A random conversation: each request is answered in its time, by messages that have their forms, and the end comes."""
     dice, slowest = random.Random(seed), 0.0
     with Editor() as editor:
-        editor.open(rig, "examples/lock/lock", harts=2, slots=dice.choice([0, 1, 16]), budget=dice.choice([500, 10**12]), stopOnEntry=dice.random() < 0.5)
+        more = dict(slots=dice.choice([0, 1, 16]), budget=dice.choice([500, 10**12]), stopOnEntry=dice.random() < 0.5)
+        more.update(singleThread=dice.choice(["never", "step", "always"]), harts=2, log=os.path.join(rig.folder, "random.log") if dice.random() < 0.2 else None)
+        editor.open(rig, "examples/lock/lock", **more)
         for _ in range(40):
             command, arguments = requests(dice)
             begun, number = time.monotonic(), editor.send(command, **arguments)
