@@ -91,12 +91,16 @@ LIBRARY = ctypes.CDLL(None)
 
 
 class Debugger:
-    """The process. A thread reads what it writes: answers are handed to who waits for them, all else goes to the inbox."""
+    """The process. A thread reads what it writes: answers are handed to who waits for them, all else goes to the inbox.
 
-    def __init__(self, words, inbox):
+    `copy` is called with each piece of its output as it is.
+    """
+
+    def __init__(self, words, inbox, copy=None):
         pipes = dict(stdin=subprocess.PIPE, stdout=subprocess.PIPE, stderr=subprocess.PIPE, bufsize=0)
         # A debugger whose adapter is killed isn't to run on for hours: 1 is PR_SET_PDEATHSIG.
         self.process = subprocess.Popen(words, start_new_session=True, preexec_fn=lambda: LIBRARY.prctl(1, signal.SIGKILL), **pipes)
+        self.copy = copy
         self.inbox, self.answers, self.waiting, self.token, self.is_closing = inbox, queue.Queue(), None, 0, False
         self.decode = codecs.getincrementaldecoder("utf-8")("replace").decode
         self.errors = threading.Thread(target=self.read, args=(self.process.stderr, "said"), daemon=True)
@@ -108,6 +112,8 @@ class Debugger:
         rest, piece = b"", b" "
         while piece:
             piece = os.read(pipe.fileno(), 65536)
+            if self.copy and kind == "lines":
+                self.copy(piece)
             *lines, rest = (rest + (piece or b"\n")).split(b"\n")
             self.inbox.put((self, kind, [line for line in lines if line and not self.answered(line)]))
             while self.inbox.qsize() > 16 and self.waiting is None and not self.is_closing:
