@@ -39,11 +39,14 @@ class Thread:
 
 
 class Engine:
-    """The debugger with one program. `say` takes what is to stand in GDB's console; `order` has the threads whose stops aren't told."""
+    """The debugger with one program. `say` takes what is to stand in GDB's console.
+
+    `order` has the threads whose stops aren't told, `current` is the number of the one that GDB looks at.
+    """
 
     def __init__(self, words, inbox, copy):
         self.say, self.threads, self.order, self.words = sys.stderr.write, {}, [], {}
-        self.exit_code, self.is_open, self.is_over, self.said = None, False, False, ""
+        self.exit_code, self.is_open, self.is_over, self.said, self.current = None, False, False, "", 1
         self.points = Points(self.ask)
         self.debugger = Debugger(words, inbox, copy)
 
@@ -84,7 +87,7 @@ class Engine:
     def take_ended(self):
         """It has ended: with the budget, because it refused something, or as it was told to."""
         self.is_over, status = True, self.debugger.status()
-        if self.is_open and status != 0:
+        if self.is_open and status != 0 and not self.debugger.is_closing:
             self.say("rvdbg: %s\n" % STATUSES.get(status, "the debugger ended with status %s" % status))
 
     def happened(self, told):

@@ -87,7 +87,8 @@ class AllStop(Mode):
             self.client.send(text)
 
     def first(self, thread):
-        """The stop that is told."""
+        """The stop that is told. GDB looks at its thread from then on, without asking for that."""
+        self.engine.current = thread.number
         text = self.text(thread, self.engine.forget(thread))
         for other in list(self.engine.order):
             if other.stop.kind in ("step", "interrupt"):

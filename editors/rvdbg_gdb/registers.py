@@ -10,7 +10,7 @@ FIRST = (PC, SP, FP, RA)
 
 DESCRIPTION = (
     '<?xml version="1.0"?><!DOCTYPE target SYSTEM "gdb-target.dtd"><target version="1.0">'
-    '<architecture>riscv:rv32</architecture><feature name="org.gnu.gdb.riscv.cpu">%s</feature></target>'
+    '<architecture>riscv:rv32</architecture><osabi>none</osabi><feature name="org.gnu.gdb.riscv.cpu">%s</feature></target>'
 ) % "".join('<reg name="%s" bitsize="32" type="%s"/>' % (it, TYPES.get(it, "int")) for it in NAMES)
 
 

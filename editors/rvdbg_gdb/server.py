@@ -47,7 +47,7 @@ class Server:
 
     def __init__(self, client, engine, finish, command):
         self.client, self.engine, self.finish, self.command = client, engine, finish, command
-        self.is_done, self.is_finished, self.current, self.unsaid, self.document = False, False, 1, [], ""
+        self.is_done, self.is_finished, self.unsaid, self.document = False, False, [], ""
         self.mode, self.has_swbreak = None, False
         self.on_non_stop("0")
         engine.say = self.say
@@ -113,7 +113,7 @@ class Server:
         self.client.again()
 
     def take_interrupt(self):
-        self.mode.interrupt(self.engine.threads.get(self.current))
+        self.mode.interrupt(self.engine.threads.get(self.engine.current))
 
     def take_gone(self):
         """GDB has gone."""
@@ -155,22 +155,22 @@ class Server:
 
     def thread(self, text=""):
         """A thread by its number, or the one that GDB looks at."""
-        found = self.engine.threads.get(number(text) if text else self.current)
+        found = self.engine.threads.get(number(text) if text else self.engine.current)
         if found is None:
-            raise Refused("there is no thread %s" % (text or self.current))
+            raise Refused("there is no thread %s" % (text or self.engine.current))
         return found
 
     def on_select(self, text):
         """`g` and a thread: what follows is about it. Which one goes on stands in `vCont`."""
         if text[:1] == "g" and text[1:] not in ("-1", "0"):
-            self.current = self.thread(text[1:]).number
+            self.engine.current = self.thread(text[1:]).number
         return "OK"
 
     def on_is_alive(self, text):
         return "OK" if self.thread(text) else "E01"
 
     def on_current(self, text):
-        return "" if text else "QC%x" % self.current
+        return "" if text else "QC%x" % self.engine.current
 
     def on_threads(self, _):
         return "m" + ",".join("%x" % it for it in self.engine.threads) if self.engine.threads else "l"
@@ -210,7 +210,7 @@ class Server:
         return self.on_go(";c")
 
     def on_step(self, _):
-        return self.on_go(";s:%x;c" % self.current)
+        return self.on_go(";s:%x;c" % self.engine.current)
 
     def on_control_c(self, _):
         self.take_interrupt()
