@@ -132,6 +132,7 @@ class Engine:
             name = fields["signal-name"]
             return Stop("interrupt" if name == "SIGINT" else "signal", SIGNALS[name], pc)
         if reason == "watchpoint-trigger":
+            self.points.fired(number)
             return Stop("watch", SIGNALS["SIGTRAP"], int(re.search("0x([0-9a-fA-F]+)", fields["wpt"]["exp"])[1], 16))
         if number in self.points.monitored and not self.points.is_breakpoint(pc):
             self.say("Breakpoint %s of the debugger: %s\n" % (number, self.points.monitored[number]))
@@ -179,11 +180,15 @@ class Engine:
         self.ask("%s --thread %d" % (command, thread.number))
 
     def walk_on(self, thread, start, end):
-        """A thread runs to where it leaves a range: at the debugger's speed, up to breakpoints of its own, or by one instruction."""
+        """A thread runs to where it leaves a range: at the debugger's speed, up to breakpoints of its own, or by one instruction.
+
+        By instructions it goes where a watch stands, which a breakpoint at the same arrival would hide.
+        """
         pc = self.register(thread, PC)
         exits, jumps = edges(self.word, pc, start, end)
         thread.walk = Walk(start, end, [])
-        is_planted = pc not in jumps and len(exits | jumps) <= MOST_EXITS and self.plant(thread, sorted(exits | jumps))
+        is_clear = pc not in jumps and len(exits | jumps) <= MOST_EXITS and not self.points.has_watches()
+        is_planted = is_clear and self.plant(thread, sorted(exits | jumps))
         self.go("-exec-continue" if is_planted else "-exec-step-instruction", thread)
 
     def plant(self, thread, places):

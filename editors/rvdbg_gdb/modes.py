@@ -12,7 +12,10 @@ class Mode:
         self.has_swbreak = False
 
     def text(self, thread, stop):
-        """A stop reply, with the registers that GDB asks for first."""
+        """A stop reply, with the registers that GDB asks for first. Of a watch and a breakpoint the watch is told."""
+        is_single = stop.kind == "breakpoint" and all(it.stop.kind != "breakpoint" for it in self.engine.order)
+        hidden = self.engine.points.hidden() if is_single and self.engine.is_quiet() else None
+        stop = stop if hidden is None else Stop("watch", stop.signal, hidden)
         values = zip(FIRST, self.engine.read_registers(thread, FIRST))
         why = {"breakpoint": "swbreak:;" if self.has_swbreak else "", "watch": "watch:%x;" % stop.at}.get(stop.kind, "")
         return "T%02xthread:%x;%s%s" % (stop.signal, thread.number, why, "".join("%x:%s;" % (it, told(value)) for it, value in values))
@@ -27,13 +30,11 @@ class Mode:
 
     def end(self):
         """What GDB is told where there is no thread any more: nothing yet, the exit code, or that the debugger has ended."""
-        if self.engine.is_over:
-            self.finish()
-            return "X09"
-        if self.engine.threads or self.engine.exit_code is None:
+        is_gone = not self.engine.threads and self.engine.exit_code is not None
+        if not is_gone and not self.engine.is_over:
             return None
         self.finish()
-        return "W%02x" % (self.engine.exit_code & 255)
+        return "W%02x" % (self.engine.exit_code & 255) if is_gone else "X09"
 
 
 class AllStop(Mode):

@@ -24,7 +24,7 @@ class Points:
     """
 
     def __init__(self, ask):
-        self.ask, self.numbers, self.dropped, self.monitored = ask, {}, set(), {}
+        self.ask, self.numbers, self.dropped, self.monitored, self.times = ask, {}, set(), {}, {}
 
     def insert(self, kind, address, length):
         """GDB wants this one. All of its parts stand then, or none."""
@@ -64,6 +64,22 @@ class Points:
     def wanted(self):
         """What GDB wants."""
         return [key for key in self.numbers if key not in self.dropped]
+
+    def has_watches(self):
+        """Whether GDB watches anything."""
+        return any(kind == WATCHPOINT for kind, _, _ in self.wanted())
+
+    def fired(self, number):
+        """A watch has stopped a thread."""
+        self.times[number] = self.times.get(number, 0) + 1
+
+    def hidden(self):
+        """Where a watch fired that hasn't stopped a thread, or None: of one arrival the debugger tells the breakpoint alone."""
+        places = {number: at for (kind, at, _), numbers in self.numbers.items() if kind == WATCHPOINT for number in numbers}
+        rows = self.ask("-break-list").fields["BreakpointTable"]["body"] if places else []
+        found = [it["number"] for it in rows if it["number"] in places and int(it["times"]) > self.times.get(it["number"], 0)]
+        self.times.update({it["number"]: int(it["times"]) for it in rows})
+        return places[found[0]] if found else None
 
     def is_breakpoint(self, address):
         """Whether GDB has a breakpoint there."""

@@ -167,7 +167,7 @@ class Server:
         return "OK"
 
     def on_is_alive(self, text):
-        return "OK" if self.thread(text) else "E01"
+        return "OK" if number(text) in self.engine.threads else "E01"
 
     def on_current(self, text):
         return "" if text else "QC%x" % self.engine.current

@@ -86,7 +86,10 @@ def accepted(port):
     """A connection of one GDB of this machine. Any other one is refused from then on."""
     with socket.socket() as listening:
         listening.setsockopt(socket.SOL_SOCKET, socket.SO_REUSEADDR, 1)
-        listening.bind(("127.0.0.1", port))
+        try:
+            listening.bind(("127.0.0.1", port))
+        except (OSError, OverflowError) as error:
+            raise Refused("port %d: %s" % (port, getattr(error, "strerror", None) or error)) from error
         listening.listen(1)
         print("Listening on port %d" % listening.getsockname()[1], file=sys.stderr, flush=True)
         connection, _ = listening.accept()
