@@ -20,11 +20,11 @@ from checks.rig import PATIENCE, Rig, Talk  # noqa: E402
 
 
 class Alone(Talk):
-    """The debugger alone, by lines of MI: `breakpoints` and `watches` are numbers by their places."""
+    """The debugger alone, by lines of MI: `breakpoints` and `watches` are numbers by their places, `times` how often watches stopped."""
 
     def __init__(self, rig, *words):
         super().__init__(rig, ["--budget", "1000000000", *words])
-        self.breakpoints, self.watches = {}, {}
+        self.breakpoints, self.watches, self.times = {}, {}, 0
         self.hear(b"(gdb)\n")
 
     def do(self, line, ends=b"(gdb)\n"):
@@ -62,9 +62,16 @@ class Alone(Talk):
         return stop
 
 
+    def hides(self):
+        """Whether a watch has fired that wasn't told, since a breakpoint stood at the same arrival."""
+        times = [int(it) for it in re.findall(rb'type="watchpoint",.*?times="(\d+)"', self.do("-break-list"))]
+        before, self.times = self.times, sum(times)
+        return self.times > before
+
+
 def wanted_stop(alone, stop):
-    """The stop reply for a stop of the debugger, without thread and registers."""
-    if stop[0] == "watchpoint-trigger":
+    """The stop reply for a stop of the debugger, without thread and registers. GDB is told of a watch before a breakpoint."""
+    if alone.hides() or stop[0] == "watchpoint-trigger":
         return "T05", "watch"
     if stop[0] == "signal-received":
         return "T0b", ""
@@ -88,6 +95,7 @@ def change(dice, remote, alone, text, data):
         if alone.watches:
             old = alone.watches.popitem()
             alone.do("-break-delete " + old[1])
+            alone.times = 0
             remote.ask("z2,%x,%x" % old[0])
         parts = ["{%s} 0x%x" % ({1: "char", 2: "short"}.get(size, "int"), at)] + (["{int} 0x%x" % (at + 4)] if size == 8 else [])
         numbers = [re.search(rb'number="(\d+)"', alone.do("-break-watch " + it))[1].decode() for it in parts]
@@ -104,7 +112,7 @@ def compared(remote, alone, thread, stop, text):
     found, wanted = remote.ask("g"), alone.registers(thread)
     told = dict(re.findall(r"\b([0-9a-f]{1,2}):([0-9a-f]{8});", text))
     signal, why = wanted_stop(alone, stop)
-    is_told = text.startswith("%sthread:%x;%s" % (signal, thread, why)) and why in text
+    is_told = text.startswith("%sthread:%x;%s" % (signal, thread, why))
     first = all(wanted[8 * int(number, 16) :][:8] == value for number, value in told.items()) and set(told) == {"20", "2", "8", "1"}
     return [] if is_told and first and found == wanted else [(thread, stop, text, found, wanted)]
 
