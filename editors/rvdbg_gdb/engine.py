@@ -3,7 +3,6 @@
 import collections
 import itertools
 import re
-import sys
 
 from rvdbg_dap.mi import Debugger, Refused, record, stream
 from rvdbg_gdb.points import Points
@@ -45,7 +44,7 @@ class Engine:
     """
 
     def __init__(self, words, inbox, copy):
-        self.say, self.threads, self.order, self.words = sys.stderr.write, {}, [], {}
+        self.say, self.threads, self.order, self.words = lambda text: None, {}, [], {}
         self.exit_code, self.is_open, self.is_over, self.said, self.current = None, False, False, "", 1
         self.points = Points(self.ask)
         self.debugger = Debugger(words, inbox, copy)
@@ -114,8 +113,7 @@ class Engine:
         is_inner = fields["reason"] == "end-stepping-range" or walk is not None and fields.get("bkptno") in walk.numbers
         if walk and is_inner and walk.start <= pc < walk.end and not self.points.is_breakpoint(pc):
             if asked is None:
-                self.walk_on(thread, walk.start, walk.end)
-                return
+                return self.walk_on(thread, walk.start, walk.end)
             stop = Stop("interrupt", SIGNALS["SIGINT"], pc)
         else:
             stop = self.stop_of(fields, pc, is_inner)
@@ -126,7 +124,7 @@ class Engine:
             self.order.append(thread)
 
     def stop_of(self, fields, pc, is_inner):
-        """Why a thread has stopped. Where a step ends at a breakpoint, GDB finds that by itself."""
+        """Why a thread has stopped; `is_inner` where a step or a way over a range has ended."""
         reason, number = fields["reason"], fields.get("bkptno") or fields.get("wpt", {}).get("number")
         if reason == "signal-received":
             name = fields["signal-name"]
@@ -163,7 +161,7 @@ class Engine:
         thread.action = action, start, end
         if action == "c":
             self.go("-exec-continue", thread)
-        elif action == "r" and start <= self.register(thread, PC) < end:
+        elif action == "r" and start <= self.read_registers(thread, (PC,))[0] < end:
             self.walk_on(thread, start, end)
         else:
             self.go("-exec-step-instruction", thread)
@@ -184,7 +182,7 @@ class Engine:
 
         By instructions it goes where a watch stands, which a breakpoint at the same arrival would hide.
         """
-        pc = self.register(thread, PC)
+        (pc,) = self.read_registers(thread, (PC,))
         exits, jumps = edges(self.word, pc, start, end)
         thread.walk = Walk(start, end, [])
         is_clear = pc not in jumps and len(exits | jumps) <= MOST_EXITS and not self.points.has_watches()
@@ -216,12 +214,6 @@ class Engine:
         self.reply("-exec-interrupt --thread %d" % thread.number)
 
     # What it holds.
-
-    def register(self, thread, number):
-        """The content of a register."""
-        if number not in thread.registers:
-            self.read_registers(thread, (number,))
-        return thread.registers[number]
 
     def read_registers(self, thread, numbers):
         """The contents of these registers, each of which is read once for a stop."""

@@ -13,9 +13,10 @@ class Mode:
 
     def text(self, thread, stop):
         """A stop reply, with the registers that GDB asks for first. Of a watch and a breakpoint the watch is told."""
-        is_single = stop.kind == "breakpoint" and all(it.stop.kind != "breakpoint" for it in self.engine.order)
-        hidden = self.engine.points.hidden() if is_single and self.engine.is_quiet() else None
-        stop = stop if hidden is None else Stop("watch", stop.signal, hidden)
+        if stop.kind == "breakpoint":
+            is_sure = self.engine.is_quiet() and all(it.stop.kind != "breakpoint" for it in self.engine.order)
+            hidden = self.engine.points.hidden(is_sure)
+            stop = stop if hidden is None else Stop("watch", stop.signal, hidden)
         values = zip(FIRST, self.engine.read_registers(thread, FIRST))
         why = {"breakpoint": "swbreak:;" if self.has_swbreak else "", "watch": "watch:%x;" % stop.at}.get(stop.kind, "")
         return "T%02xthread:%x;%s%s" % (stop.signal, thread.number, why, "".join("%x:%s;" % (it, told(value)) for it, value in values))
@@ -148,7 +149,7 @@ class NonStop(Mode):
 
     def next(self):
         """The next stop, or nothing. A thread that stands at a breakpoint that is gone goes on as it did."""
-        while self.engine.order:
+        while self.engine.order and not self.engine.is_over:
             thread = self.engine.order[0]
             stop = self.engine.forget(thread)
             if not self.engine.is_stale(stop):

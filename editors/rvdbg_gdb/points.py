@@ -24,7 +24,8 @@ class Points:
     """
 
     def __init__(self, ask):
-        self.ask, self.numbers, self.dropped, self.monitored, self.times = ask, {}, set(), {}, {}
+        self.ask, self.numbers, self.dropped, self.monitored = ask, {}, set(), {}
+        self.times, self.is_unsure = {}, False
 
     def insert(self, kind, address, length):
         """GDB wants this one. All of its parts stand then, or none."""
@@ -73,13 +74,17 @@ class Points:
         """A watch has stopped a thread."""
         self.times[number] = self.times.get(number, 0) + 1
 
-    def hidden(self):
-        """Where a watch fired that hasn't stopped a thread, or None: of one arrival the debugger tells the breakpoint alone."""
+    def hidden(self, is_sure):
+        """Where a watch fired that hasn't stopped a thread, or None: of one arrival the debugger tells the breakpoint alone.
+
+        It is told of a thread that has come to a breakpoint, and only where it can be of no other one.
+        """
+        is_sure, self.is_unsure = is_sure and not self.is_unsure, not is_sure
         places = {number: at for (kind, at, _), numbers in self.numbers.items() if kind == WATCHPOINT for number in numbers}
         rows = self.ask("-break-list").fields["BreakpointTable"]["body"] if places else []
         found = [it["number"] for it in rows if it["number"] in places and int(it["times"]) > self.times.get(it["number"], 0)]
         self.times.update({it["number"]: int(it["times"]) for it in rows})
-        return places[found[0]] if found else None
+        return places[found[0]] if found and is_sure else None
 
     def is_breakpoint(self, address):
         """Whether GDB has a breakpoint there."""

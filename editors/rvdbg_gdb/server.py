@@ -63,7 +63,14 @@ class Server:
                 self.mode.is_opening = False
             except Refused as refusal:
                 self.say("rvdbg: %s\n" % refusal)
+            self.settle()
+
+    def settle(self):
+        """Tells what there is to tell of threads."""
+        try:
             self.mode.settle()
+        except Refused as refusal:
+            self.say("rvdbg: %s\n" % refusal)
 
     def say(self, text):
         """Puts a text into GDB's console.
@@ -206,12 +213,6 @@ class Server:
         self.mode.halt(halted)
         return self.mode.go(actions) if actions or not halted else "OK"
 
-    def on_continue(self, _):
-        return self.on_go(";c")
-
-    def on_step(self, _):
-        return self.on_go(";s:%x;c" % self.engine.current)
-
     def on_control_c(self, _):
         self.take_interrupt()
         return "OK"
@@ -299,10 +300,6 @@ PACKETS = {
     "vCtrlC": Server.on_control_c,
     "vStopped": Server.on_stop_taken,
     "vKill": Server.on_leave,
-    "c": Server.on_continue,
-    "C": Server.on_continue,
-    "s": Server.on_step,
-    "S": Server.on_step,
     "g": Server.on_registers,
     "G": Server.on_set_registers,
     "p": Server.on_register,

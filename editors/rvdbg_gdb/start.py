@@ -4,6 +4,7 @@ import argparse
 import functools
 import os
 import queue
+import re
 import signal
 import socket
 import subprocess
@@ -57,7 +58,8 @@ def opened(asked, inbox, log, early):
             engine.debugger.stop(False)
             raise Refused("the debugger isn't built yet. %s FILE </dev/null builds it, which takes 20 to 55 minutes" % asked.rvdbg)
     if engine.is_over:
-        raise Refused(advice(engine.said or "the debugger ended with status %s" % engine.debugger.status()))
+        said = re.sub("^rvdbg: ", "", engine.said)
+        raise Refused(advice(said) if said else "the debugger ended with status %s" % engine.debugger.status())
     return engine
 
 

@@ -52,30 +52,24 @@ class Alone(Talk):
         return "".join(bytes.fromhex(it.decode())[::-1].hex() for it in values)
 
     def resumed(self, thread, action):
-        """A thread goes on as `vCont` says it, by the debugger's lines."""
+        """A thread goes on as `vCont` says it, by the debugger's lines. Gives the signal, why, and whether a watch is hidden."""
         if action == "c":
-            return self.go("-exec-continue", thread)
-        start, end = (int(it, 16) for it in action[1:].split(",")) if action[0] == "r" else (0, 0)
-        stop = self.go("-exec-step-instruction", thread)
-        while stop and stop[0] == "end-stepping-range" and start <= stop[1] < end and stop[1] not in self.breakpoints:
+            stop = self.go("-exec-continue", thread)
+        else:
+            start, end = (int(it, 16) for it in action[1:].split(",")) if action[0] == "r" else (0, 0)
             stop = self.go("-exec-step-instruction", thread)
-        return stop
-
+            while stop and stop[0] == "end-stepping-range" and start <= stop[1] < end and stop[1] not in self.breakpoints:
+                stop = self.go("-exec-step-instruction", thread)
+        if stop is None:
+            return None
+        why = "swbreak" if stop[1] in self.breakpoints else ""
+        return {"watchpoint-trigger": ("T05", "watch"), "signal-received": ("T0b", "")}.get(stop[0], ("T05", why)), self.hides()
 
     def hides(self):
         """Whether a watch has fired that wasn't told, since a breakpoint stood at the same arrival."""
         times = [int(it) for it in re.findall(rb'type="watchpoint",.*?times="(\d+)"', self.do("-break-list"))]
         before, self.times = self.times, sum(times)
         return self.times > before
-
-
-def wanted_stop(alone, stop):
-    """The stop reply for a stop of the debugger, without thread and registers. GDB is told of a watch before a breakpoint."""
-    if alone.hides() or stop[0] == "watchpoint-trigger":
-        return "T05", "watch"
-    if stop[0] == "signal-received":
-        return "T0b", ""
-    return "T05", "swbreak" if stop[1] in alone.breakpoints else ""
 
 
 def change(dice, remote, alone, text, data):
@@ -106,13 +100,16 @@ def change(dice, remote, alone, text, data):
     return [] if remote.ask("M%x,%x:%s" % (at, size, content)) == "OK" else [("M", at)]
 
 
-def compared(remote, alone, thread, stop, text):
-    """What differs between a stop that was told and one of the debugger alone: why, where, the registers, those told with it."""
+def compared(remote, alone, thread, stop, text, is_single):
+    """What differs between a stop that was told and one of the debugger alone: why, where, the registers, those told with it.
+
+    Of a watch and a breakpoint GDB is told of the watch; where several threads have run on it may be the breakpoint.
+    """
     remote.ask("Hg%x" % thread)
-    found, wanted = remote.ask("g"), alone.registers(thread)
+    found, wanted, ((signal, why), is_hidden) = remote.ask("g"), alone.registers(thread), stop
     told = dict(re.findall(r"\b([0-9a-f]{1,2}):([0-9a-f]{8});", text))
-    signal, why = wanted_stop(alone, stop)
-    is_told = text.startswith("%sthread:%x;%s" % (signal, thread, why))
+    ways = {why} if not is_hidden else {"watch"} if is_single else {"watch", why}
+    is_told = any(text.startswith("%sthread:%x;%s" % (signal, thread, it)) for it in ways)
     first = all(wanted[8 * int(number, 16) :][:8] == value for number, value in told.items()) and set(told) == {"20", "2", "8", "1"}
     return [] if is_told and first and found == wanted else [(thread, stop, text, found, wanted)]
 
@@ -137,7 +134,7 @@ def step(dice, remote, alone, live, is_non_stop):
     wrong = []
     for thread in stopping:
         text = next((it for it in found if "thread:%x;" % thread in it), "")
-        wrong += compared(remote, alone, thread, wanted[thread], text)
+        wrong += compared(remote, alone, thread, wanted[thread], text, len(chosen) == 1)
     if not live:
         return wrong + ([] if found[-1][:1] == "W" else [found])
     for thread in set(chosen) - set(stopping):
