@@ -1,0 +1,315 @@
+"""What is between GDB and the debugger: packets are answered, and what happens is told."""
+
+import queue
+import sys
+
+from rvdbg_dap.mi import Refused
+from rvdbg_gdb.engine import LONGEST_READ
+from rvdbg_gdb.modes import AllStop, NonStop
+from rvdbg_gdb.packets import unescaped
+from rvdbg_gdb.points import BREAKPOINT, WATCHPOINT
+from rvdbg_gdb.registers import DESCRIPTION, NAMES, taken, told
+
+MALFORMED = (ValueError, KeyError, IndexError, OverflowError)
+FEATURES = (
+    "PacketSize=4000;QStartNoAckMode+;QNonStop+;qXfer:features:read+;qXfer:threads:read+;vContSupported+;swbreak+;no-resumed+"
+)
+# How long GDB has to be silent until its connection stands, in seconds.
+LULL = 0.1
+LONGEST_TEXT = 4096
+DIGITS = frozenset("0123456789abcdefABCDEF")
+
+
+def number(text):
+    """A number of the protocol, which is written in hexadecimal digits alone."""
+    if not text or not DIGITS.issuperset(text):
+        raise ValueError("no number")
+    return int(text, 16)
+
+
+def numbers(text):
+    """Two numbers with a comma between them."""
+    first, second = text.split(",")
+    return number(first), number(second)
+
+
+def window(whole, text):
+    """A part of a document, as `OFFSET,LENGTH` asks for it."""
+    offset, length = numbers(text)
+    return ("m" if offset + length < len(whole) else "l") + whole[offset : offset + length]
+
+
+class Server:
+    """A session. `on_..` answer packets by a text, or by None where the answer comes later; `take_..` are what comes otherwise.
+
+    `finish` ends the debugger, and gives what is to be said of its log; `command` does a line of GDB's `monitor`.
+    """
+
+    def __init__(self, client, engine, finish, command):
+        self.client, self.engine, self.finish, self.command = client, engine, finish, command
+        self.is_done, self.is_finished, self.unsaid, self.document = False, False, [], ""
+        self.mode, self.has_swbreak = None, False
+        self.on_non_stop("0")
+        engine.say = self.say
+
+    def run(self, inbox, early):
+        """Does what came early and what comes, in its order, until GDB goes."""
+        while not self.is_done:
+            is_opening = getattr(self.mode, "is_opening", False)
+            try:
+                origin, kind, *rest = early.pop(0) if early else inbox.get(timeout=LULL if is_opening else None)
+                getattr(self if origin is self.client else self.engine, "take_" + kind)(*rest)
+            except queue.Empty:
+                self.mode.is_opening = False
+            except Refused as refusal:
+                self.say("rvdbg: %s\n" % refusal)
+            self.settle()
+
+    def settle(self):
+        """Tells what there is to tell of threads."""
+        try:
+            self.mode.settle()
+        except Refused as refusal:
+            self.say("rvdbg: %s\n" % refusal)
+
+    def say(self, text):
+        """Puts a text into GDB's console.
+
+        In all-stop mode GDB takes one while it waits for a stop, so another time it is kept till then. In non-stop mode it takes none:
+        there it goes to standard error, which GDB shows where it has started the bridge.
+        """
+        self.unsaid.append(text)
+        if self.mode.is_waiting and not self.is_done:
+            whole, self.unsaid = "".join(self.unsaid), []
+            for at in range(0, len(whole), LONGEST_TEXT):
+                self.client.send("O" + whole[at : at + LONGEST_TEXT].encode("latin-1", "replace").hex())
+        elif isinstance(self.mode, NonStop) or self.is_done:
+            self.spill()
+
+    def spill(self):
+        """Writes what isn't said to standard error."""
+        sys.stderr.buffer.write("".join(self.unsaid).encode("latin-1", "replace"))
+        sys.stderr.flush()
+        self.unsaid = []
+
+    def close(self):
+        """The session is over: ends the debugger, once."""
+        is_finished, self.is_finished = self.is_finished, True
+        if not is_finished:
+            self.say(self.finish())
+
+    # What GDB says.
+
+    def take_packet(self, body):
+        """Answers a packet. One that isn't known has the empty answer."""
+        text = body.decode("latin-1")
+        prefix = next((it for it in PREFIXES if text.startswith(it)), "")
+        try:
+            answer = PACKETS[prefix](self, text[len(prefix) :]) if prefix else ""
+        except Refused as refusal:
+            answer = "E.%s" % str(refusal).translate({ord(it): None for it in "#$}*"})
+        except MALFORMED:
+            answer = "E01"
+        if answer is not None:
+            self.client.send(answer)
+
+    def take_bad(self):
+        """What was no packet; it comes again."""
+
+    def take_again(self):
+        self.client.again()
+
+    def take_interrupt(self):
+        self.mode.interrupt(self.engine.threads.get(self.engine.current))
+
+    def take_gone(self):
+        """GDB has gone."""
+        self.is_done = True
+        self.close()
+
+    # The session.
+
+    def on_supported(self, text):
+        self.has_swbreak = self.mode.has_swbreak = "swbreak+" in text
+        return FEATURES
+
+    def on_no_acknowledgement(self, _):
+        self.client.is_acknowledging = False
+        return "OK"
+
+    def on_non_stop(self, text):
+        self.mode = {"0": AllStop, "1": NonStop}[text](self.client, self.engine, self.close)
+        self.mode.has_swbreak = self.has_swbreak
+        return "OK"
+
+    def on_features(self, text):
+        return window(DESCRIPTION, text)
+
+    def on_why(self, _):
+        return self.mode.why()
+
+    def on_kill(self, _):
+        self.take_gone()
+
+    def on_leave(self, _):
+        self.take_gone()
+        return "OK"
+
+    def on_monitor(self, text):
+        return self.command(bytes.fromhex(text).decode("utf-8", "surrogateescape")).encode("utf-8", "surrogateescape").hex() or "OK"
+
+    # Threads.
+
+    def thread(self, text=""):
+        """A thread by its number, or the one that GDB looks at."""
+        found = self.engine.threads.get(number(text) if text else self.engine.current)
+        if found is None:
+            raise Refused("there is no thread %s" % (text or self.engine.current))
+        return found
+
+    def on_select(self, text):
+        """`g` and a thread: what follows is about it. Which one goes on stands in `vCont`."""
+        if text[:1] == "g" and text[1:] not in ("-1", "0"):
+            self.engine.current = self.thread(text[1:]).number
+        return "OK"
+
+    def on_is_alive(self, text):
+        return "OK" if number(text) in self.engine.threads else "E01"
+
+    def on_current(self, text):
+        return "" if text else "QC%x" % self.engine.current
+
+    def on_threads(self, _):
+        return "m" + ",".join("%x" % it for it in self.engine.threads) if self.engine.threads else "l"
+
+    def on_thread_name(self, text):
+        return ("hart %d" % (self.thread(text).number - 1)).encode().hex()
+
+    def on_thread_document(self, text):
+        """The list of threads, as one document from its first part to its last."""
+        if numbers(text)[0] == 0:
+            rows = ('<thread id="%x" name="hart %d"/>' % (it, it - 1) for it in self.engine.threads)
+            self.document = "<threads>%s</threads>" % "".join(rows)
+        return window(self.document, text)
+
+    # Running.
+
+    def on_go(self, text):
+        """`vCont`: of several actions for a thread the first one counts."""
+        chosen, halted = {}, []
+        for part in text.split(";")[1:]:
+            action, _, who = part.partition(":")
+            for thread in [self.thread(who)] if who not in ("", "-1", "0") else list(self.engine.threads.values()):
+                chosen.setdefault(thread, action)
+        actions = []
+        for thread, action in chosen.items():
+            kind = {"C": "c", "S": "s"}.get(action[0], action[0])
+            if kind == "t":
+                halted.append(thread)
+            elif kind in "csr":
+                actions.append((thread, (kind, *numbers(action[1:])) if kind == "r" else (kind,)))
+            else:
+                raise ValueError("no action")
+        self.mode.halt(halted)
+        return self.mode.go(actions) if actions or not halted else "OK"
+
+    def on_control_c(self, _):
+        self.take_interrupt()
+        return "OK"
+
+    def on_stop_taken(self, _):
+        return self.mode.taken() if isinstance(self.mode, NonStop) else "E01"
+
+    # Registers and memory.
+
+    def on_registers(self, _):
+        return "".join(map(told, self.engine.read_registers(self.thread(), range(len(NAMES)))))
+
+    def on_set_registers(self, text):
+        """Writes those that differ: `zero` and `pc` can't be written."""
+        thread, values = self.thread(), [taken(text[at : at + 8]) for at in range(0, 8 * len(NAMES), 8)]
+        for register, (old, new) in enumerate(zip(self.engine.read_registers(thread, range(len(NAMES))), values)):
+            if old != new:
+                self.engine.write_register(thread, register, new)
+        return "OK"
+
+    def on_register(self, text):
+        return told(self.engine.read_registers(self.thread(), range(len(NAMES)))[number(text)])
+
+    def on_set_register(self, text):
+        register, value = text.split("=")
+        self.engine.write_register(self.thread(), range(len(NAMES))[number(register)], taken(value))
+        return "OK"
+
+    def on_read(self, text):
+        address, length = numbers(text)
+        return self.engine.read(address, min(length, LONGEST_READ)) or ("E14" if length else "")
+
+    def on_write(self, text):
+        """`ADDRESS,LENGTH:` and the bytes in hexadecimal digits."""
+        return self.write(text, bytes.fromhex)
+
+    def on_write_binary(self, text):
+        """The same with the bytes themselves."""
+        return self.write(text, lambda it: unescaped(it.encode("latin-1")))
+
+    def write(self, text, decoded):
+        """Writes bytes to memory."""
+        place, _, content = text.partition(":")
+        (address, length), whole = numbers(place), decoded(content)
+        if len(whole) != length:
+            raise ValueError("another length")
+        self.engine.write(address, whole)
+        return "OK"
+
+    def on_insert(self, text):
+        return self.change(text, self.engine.points.insert)
+
+    def on_remove(self, text):
+        return self.change(text, lambda *place: self.engine.points.remove(*place, self.engine.is_quiet()))
+
+    @staticmethod
+    def change(text, change):
+        """Changes a breakpoint or a watchpoint: its kind, its address and its length. Other kinds aren't known."""
+        kind, address, length = map(number, text.split(","))
+        if kind not in (BREAKPOINT, WATCHPOINT):
+            return ""
+        change(kind, address, length)
+        return "OK"
+
+
+# What packets begin with, and what answers them.
+PACKETS = {
+    "qSupported": Server.on_supported,
+    "QStartNoAckMode": Server.on_no_acknowledgement,
+    "QNonStop:": Server.on_non_stop,
+    "qXfer:features:read:target.xml:": Server.on_features,
+    "qXfer:threads:read::": Server.on_thread_document,
+    "qfThreadInfo": Server.on_threads,
+    "qsThreadInfo": lambda *_: "l",
+    "qThreadExtraInfo,": Server.on_thread_name,
+    "qAttached": lambda *_: "0",
+    "qSymbol": lambda *_: "OK",
+    "qRcmd,": Server.on_monitor,
+    "qC": Server.on_current,
+    "?": Server.on_why,
+    "H": Server.on_select,
+    "T": Server.on_is_alive,
+    "vCont?": lambda *_: "vCont;c;C;s;S;t;r",
+    "vCont": Server.on_go,
+    "vCtrlC": Server.on_control_c,
+    "vStopped": Server.on_stop_taken,
+    "vKill": Server.on_leave,
+    "g": Server.on_registers,
+    "G": Server.on_set_registers,
+    "p": Server.on_register,
+    "P": Server.on_set_register,
+    "m": Server.on_read,
+    "M": Server.on_write,
+    "X": Server.on_write_binary,
+    "Z": Server.on_insert,
+    "z": Server.on_remove,
+    "D": Server.on_leave,
+    "k": Server.on_kill,
+}
+PREFIXES = sorted(PACKETS, key=len, reverse=True)
