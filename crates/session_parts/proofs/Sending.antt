@@ -15,6 +15,7 @@ use Rattle.cond_expr.specs.declared.tree.Node.TheBlock as block
 use Rattle.cond_expr.specs.contracts.tree.Node.TheKnot as knot
 use Rattle.cond_expr.specs.contracts.tree.Node as node
 use Rattle.rv_decode.specs.contracts.instr.Instr as instr
+use Rattle.rv_exec.specs.contracts.operation.Operation as operation
 use Rattle.text_words.specs.contracts.fetch.Fetch as fetch
 use Rattle.text_words.specs.contracts.text.TextWords as textwords
 use Rattle.step_plans.specs.contracts.plan.Plan as plan
@@ -59,8 +60,11 @@ instr_send = search (sendable, crosses) depth 100 fits 100000
 fetch_send : IsSend fetch.the_field.row
 fetch_send = search (sendable, crosses, instr_send) depth 100 fits 100000
 
+operation_send : IsSend operation.the_field.row
+operation_send = search (sendable, crosses) depth 400 fits 400000
+
 textwords_send : IsSend textwords.the_field.row
-textwords_send = search (sendable, crosses, fetch_send) depth 100 fits 100000
+textwords_send = search (sendable, crosses, fetch_send, operation_send) depth 100 fits 100000
 
 plan_send : IsSend plan.the_field.row
 plan_send = search (sendable, crosses) depth 100 fits 100000
