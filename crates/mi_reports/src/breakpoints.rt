@@ -1,6 +1,9 @@
 // Breakpoints as they are listed.
-ghost use Rattle.std.specs.Prelude.{◌≡◌, ◌++◌, OnOk};
+ghost use Rattle.std.specs.Prelude.{◌≡◌, ◌∷◌, [], ◌++◌, OnOk};
 ghost use Rattle.mi_text.specs.Keeps.{Keeps};
+ghost use Rattle.mi_reports.specs.declared.words.Key.TheVariants as keys;
+ghost use Rattle.mi_reports.specs.Words.{says};
+ghost use Rattle.mi_reports.specs.Phrases.{phrase_text};
 ghost use Rattle.mi_reports.specs.Led.{led, behind, opened};
 ghost use Rattle.mi_reports.specs.Breakpoints.{disposition, enabled, for_thread, ignored, front_fields, place_fields, term_fields, count_fields, breakpoint_fields, breakpoint_field};
 
@@ -53,15 +56,35 @@ fn write_ignored(into: &mut Vec<u8>, ignore: u32) -> Result<(), AllocError>
     write_word(into, b',', Key::Ignore, ignore)
 }
 
+/// Puts at the end what stands under a number, what becomes of it once it is hit, and whether it is enabled.
+#[tactic(auto, using(std::proofs::lemmas::Grind::common_steps))]
+pub fn write_kind(
+    into: &mut Vec<u8>,
+    kind: Phrase,
+    after_hit: Phrase,
+    status: Phrase,
+) -> Result<(), AllocError>
+    ensures written { OnOk result (into.new.items ≡ into.old.items ++ behind (says keys.Type (phrase_text kind) ∷ says keys.Disp (phrase_text after_hit) ∷ says keys.Enabled (phrase_text status) ∷ [])) }
+    ensures kept { Keeps into.old.items into.new.items }
+{
+    write_phrase(into, b',', Key::Type, kind)?;
+    write_phrase(into, b',', Key::Disp, after_hit)?;
+    write_phrase(into, b',', Key::Enabled, status)
+}
+
 // Whether it stays and is enabled, and where it stands.
 #[tactic(auto, using(std::proofs::lemmas::Grind::common_steps), unfolding(crate::specs::Breakpoints::front_fields))]
 fn write_front(into: &mut Vec<u8>, breakpoint: &Breakpoint) -> Result<(), AllocError>
     ensures written { OnOk result (into.new.items ≡ into.old.items ++ behind (front_fields breakpoint.now)) }
     ensures kept { Keeps into.old.items into.new.items }
 {
-    write_phrase(into, b',', Key::Type, Phrase::BreakpointType)?;
-    write_phrase(into, b',', Key::Disp, disposition(breakpoint.temporary))?;
-    write_phrase(into, b',', Key::Enabled, enabled(breakpoint.enabled))?;
+    let after_hit = disposition(breakpoint.temporary);
+    write_kind(
+        into,
+        Phrase::BreakpointType,
+        after_hit,
+        enabled(breakpoint.enabled),
+    )?;
     write_address(into, b',', Key::Addr, breakpoint.address)
 }
 

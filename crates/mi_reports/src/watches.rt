@@ -1,16 +1,11 @@
 // Watches as they are told and listed.
-ghost use Rattle.std.specs.Prelude.{◌≡◌, ◌∷◌, [], ◌++◌, OnOk};
+ghost use Rattle.std.specs.Prelude.{◌≡◌, ◌++◌, OnOk};
 ghost use Rattle.mi_text.specs.Keeps.{Keeps};
-ghost use Rattle.mi_reports.specs.declared.words.Key.TheVariants as keys;
-ghost use Rattle.mi_reports.specs.declared.words.Phrase.TheVariants as phrases;
-ghost use Rattle.mi_reports.specs.Words.{says};
-ghost use Rattle.mi_reports.specs.Phrases.{phrase_text};
-ghost use Rattle.mi_reports.specs.Led.{led, behind, opened};
-ghost use Rattle.mi_reports.specs.Breakpoints.{enabled};
+ghost use Rattle.mi_reports.specs.Led.{led, opened};
 ghost use Rattle.mi_reports.specs.Watches.{watch_field, listed_fields, listed_field};
 
-use crate::breakpoints::enabled;
-use crate::fields::{write_byte, write_head, write_number, write_phrase, write_text, write_word};
+use crate::breakpoints::{enabled, write_kind};
+use crate::fields::{write_byte, write_head, write_number, write_text, write_word};
 use crate::words::{Key, Phrase};
 use std::alloc::AllocError;
 use watch_points::Watch;
@@ -27,17 +22,6 @@ pub fn write_watch(into: &mut Vec<u8>, number: u32, expression: &[u8]) -> Result
     write_byte(into, b'}')
 }
 
-// That it is a watch, that it stays, and whether it is enabled.
-#[tactic(auto, using(std::proofs::lemmas::Grind::common_steps))]
-fn write_kind(into: &mut Vec<u8>, on: bool) -> Result<(), AllocError>
-    ensures written { OnOk result (into.new.items ≡ into.old.items ++ behind (says keys.Type (phrase_text phrases.WatchpointType) ∷ says keys.Disp (phrase_text phrases.Kept) ∷ says keys.Enabled (phrase_text (enabled on)) ∷ [])) }
-    ensures kept { Keeps into.old.items into.new.items }
-{
-    write_phrase(into, b',', Key::Type, Phrase::WatchpointType)?;
-    write_phrase(into, b',', Key::Disp, Phrase::Kept)?;
-    write_phrase(into, b',', Key::Enabled, enabled(on))
-}
-
 // The fields of a watch of the table behind their bracket.
 #[tactic(auto, using(std::proofs::lemmas::Grind::common_steps), unfolding(crate::specs::Watches::listed_fields))]
 fn write_fields(into: &mut Vec<u8>, watch: &Watch) -> Result<(), AllocError>
@@ -45,7 +29,12 @@ fn write_fields(into: &mut Vec<u8>, watch: &Watch) -> Result<(), AllocError>
     ensures kept { Keeps into.old.items into.new.items }
 {
     write_word(into, b'{', Key::Number, watch.number)?;
-    write_kind(into, watch.enabled)?;
+    write_kind(
+        into,
+        Phrase::WatchpointType,
+        Phrase::Kept,
+        enabled(watch.enabled),
+    )?;
     write_text(into, b',', Key::What, watch.text.as_slice())?;
     write_number(into, b',', Key::Times, watch.times)
 }
