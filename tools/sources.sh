@@ -99,8 +99,8 @@ starts() {
 # Keeps what was found, for as long as nothing is changed that it was found from. The time is that before all was read, in whole seconds.
 remember() {
     mkdir -p "$here/$built" 2>/dev/null && {
-        echo "$program"
-        echo "crates.txt" "$program" "${program%/*}/SHA256SUMS" "$(source_folders "$here" | tr '\n' ' ')"
+        echo "program=$program"
+        echo "looked_at='crates.txt $program ${program%/*}/SHA256SUMS $(source_folders "$here" | tr '\n' ' ')'"
     } 2>/dev/null >"$here/$state.$$" && touch -d "@$begun" "$here/$state.$$" && mv -f "$here/$state.$$" "$here/$state"
 }
 
@@ -108,7 +108,9 @@ remember() {
 recall() {
     program=''
     [ -r "$here/$state" ] || return 0
-    { read -r program; read -r looked_at; } <"$here/$state"
+    # (a shell reads a line byte by byte, and a file of its own at once)
+    # shellcheck disable=SC1090
+    . "$here/$state"
     # shellcheck disable=SC2086
     changed=$(CDPATH='' cd -- "$here" 2>&1 && find $looked_at -cnewer $state -print -quit 2>&1)
     [ -z "$changed" ] || program=''

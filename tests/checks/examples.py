@@ -4,8 +4,8 @@
   `-`, with or without a token, are the input and the others the output.
 - The lines of a block ```sh that call a compiler are run where it is installed, beside the repository's `examples`; what they make has to
   come to a stop at the line of its source for which the document has `-break-insert FILE:LINE`. The others aren't run.
-- `examples/NAME/session.mi` is the input of a session, `session.out` its output, and `args` the words, one a line. `timeline.out` is what
-  `timeline.py` draws of it, `examples/timeline/lock.svg` the picture of its log, and `examples/front-end/table.out` what the front end prints.
+- `examples/NAME/session.mi` is the input of a session, `session.out` its output, and `args` the words, one a line. `columns.out` is what
+  `columns.py` draws of it, `examples/timeline/lock.svg` the picture of its log, and `examples/front-end/table.out` what the front end prints.
 """
 
 import os
@@ -66,14 +66,14 @@ def printed(words, top, input=b""):
 
 
 def check_folders(rig, top):
-    """The sessions of the examples, the timeline and the front end."""
+    """The sessions of the examples, the pictures and the front end."""
     for name in ("euclid", "lock", "mine"):
         folder = os.path.join(top, "examples", name)
         words = bytes_of(folder, "args").decode().split("\n")[:-1]
         found = rig.run(placed(words, top), bytes_of(folder, "session.mi"))
         rig.row("example " + name, found, (0, bytes_of(folder, "session.out")))
-    drawn = printed([sys.executable, "examples/lock/timeline.py"], top, bytes_of(top, "examples/lock/session.out"))
-    rig.row("timeline of examples/lock", drawn, bytes_of(top, "examples/lock/timeline.out"))
+    drawn = printed([sys.executable, "examples/lock/columns.py"], top, bytes_of(top, "examples/lock/session.out"))
+    rig.row("columns of examples/lock", drawn, bytes_of(top, "examples/lock/columns.out"))
     words = bytes_of(top, "examples/lock/args").decode().split("\n")[:-1]
     status, log = rig.run(["--log", *placed(words, top)], bytes_of(top, "examples/lock/session.mi"))
     drawn = printed([sys.executable, "examples/timeline/timeline.py"], top, log)

@@ -1,7 +1,7 @@
 #!/usr/bin/env python3
-"""Draws a session's records as a timeline: a line a record, a column a thread.
+"""Draws a session's records as text: a line a record, a column a thread. (examples/timeline draws the log of a session.)
 
-    ./rvdbg --workers 0 --harts 4 examples/lock/lock <examples/lock/session.mi | examples/lock/timeline.py
+    ./rvdbg --workers 0 --harts 4 examples/lock/lock <examples/lock/session.mi | examples/lock/columns.py
 """
 
 import re
