@@ -20,12 +20,7 @@ class Engine:
 
     def __init__(self, inbox):
         self.client, self.sources, self.hears = Client(inbox), Sources(), set()
-        self.debugger, self.program, self.threads, self.after, self.deadline = None, None, {}, [], 0.0
-        self.close()
-
-    def close(self):
-        """Forgets what is of one debugger alone."""
-        self.is_open, self.last, self.debugger = False, None, None
+        self.debugger, self.is_open, self.last, self.program, self.threads, self.after, self.deadline = None, False, None, None, {}, [], 0.0
 
     def reply(self, command):
         """Has the debugger do a line, and gives its result and which threads go on. What else happens meanwhile waits in the inbox."""
