@@ -56,3 +56,8 @@ class Engine:
         """Tells an event behind the answer, where the editor takes it."""
         if event not in ("memory", "invalidated") or event in self.hears:
             self.after.append(functools.partial(self.client.event, event, **body))
+
+    def written(self, address, count):
+        """Tells behind the answer that memory was written, of which views are made."""
+        self.later("memory", memoryReference="0x%08x" % address, offset=0, count=count)
+        self.later("invalidated", areas=["variables"])

@@ -13,7 +13,7 @@ from rvdbg_dap.launch import Launch
 from rvdbg_dap.memory import Memory
 from rvdbg_dap.mi import Debugger, Refused, record, stream
 from rvdbg_dap.program import Program, advice
-from rvdbg_dap.threads import ALONE, Threads
+from rvdbg_dap.threads import Threads
 from rvdbg_dap.values import Values
 
 PATIENCE, LOG_PATIENCE = 10.0, 20.0
@@ -110,7 +110,7 @@ class Session:
         """Starts the debugger of a launch, which is answered once that has accepted the program."""
         for it in launch.unknown:
             self.say(it)
-        self.engine.program, self.threads.alone = Program(launch.program), ALONE[launch.alone]
+        self.engine.program, self.threads.alone = Program(launch.program), launch.alone
         self.engine.sources.look_in(self.engine.program, launch.folders)
         try:
             self.engine.debugger = Debugger(launch.words, self.inbox, open(launch.log, "wb") if launch.log else None)

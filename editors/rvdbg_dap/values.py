@@ -237,25 +237,21 @@ class Values:
         kind, address = self.place(text, frame)
         content = (self.number(value, frame) % (1 << 8 * WIDTHS[kind])).to_bytes(WIDTHS[kind], "little")
         self.ask("-data-write-memory-bytes 0x%08x %s" % (address, content.hex()))
-        self.engine.later("memory", memoryReference="0x%08x" % address, offset=0, count=len(content))
+        self.engine.written(address, len(content))
         return {"value": self.evaluate(text, frame)["result"]}
 
     def on_data_breakpoint_info(self, arguments):
         """What can be watched: 1, 2 or 4 bytes of data at an address or at a symbol, and no variable of a frame."""
         name, size, frame = arguments["name"].strip(), arguments.get("bytes"), arguments.get("frameId")
+        if arguments.get("asAddress"):
+            name = "{%s} 0x%08x" % (SIZES.get(size or 4), int(name, 0) % WORD)
         try:
             if arguments.get("variablesReference"):
                 raise Refused("registers and variables of a frame can't be watched")
-            if arguments.get("asAddress"):
-                kind, address = SIZES.get(size or 4), int(name, 0) % WORD
-                text = "{%s} 0x%08x" % (kind, address)
-            else:
-                kind, address = self.place(name, frame)
-                text = name if name[0] == "{" else "{%s} &%s" % (kind, name)
-            if size not in (None, WIDTHS.get(kind)):
-                raise Refused("1, 2 or 4 bytes can be watched, as many as there are")
-            if self.engine.program.is_text(address) or next(names(text), None):
-                raise Refused("what is watched is data, and its address has neither names nor registers")
+            kind, address = self.place(name, frame)
+            text = name if name[0] == "{" else "{%s} &%s" % (kind, name)
+            if size not in (None, WIDTHS[kind]) or self.engine.program.is_text(address) or next(names(text), None):
+                raise Refused("1, 2 or 4 bytes of data can be watched, as many as there are, at an address without names and registers")
         except Refused as refusal:
             return {"dataId": None, "description": str(refusal)}
         return {"dataId": text, "description": "%d bytes: %s" % (WIDTHS[kind], text), "accessTypes": ["write"], "canPersist": True}
