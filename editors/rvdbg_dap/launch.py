@@ -45,6 +45,8 @@ class Launch:
             self.words.append("--%s=%s" % (name, number))
         self.log, alone = full(arguments["log"]) if arguments.get("log") else None, arguments.get("singleThread", "never")
         self.words += (["--log"] if self.log else []) + ["--", self.program]
+        if self.log == self.program:
+            raise Refused("the log can't be the program itself")
         if alone not in ALONE:
             raise Refused("singleThread is one of %s, not %.50s" % (", ".join(ALONE), alone))
         folders = arguments.get("sourcePath") or []

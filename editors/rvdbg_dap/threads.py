@@ -1,5 +1,6 @@
 """Threads: how they go on, take steps and stop, and what the editor is told of it. `on_..` are requests."""
 
+import contextlib
 import functools
 import re
 
@@ -8,8 +9,8 @@ from rvdbg_dap.mi import Refused
 REASONS = {"breakpoint-hit": "breakpoint", "watchpoint-trigger": "data breakpoint", "signal-received": "exception"}
 KINDS = {"function": "function breakpoint", "instruction": "instruction breakpoint"}
 LOGGED = re.compile(r"\{((?:[^{}]|\{[^{}]*\})+)\}")
-WRITTEN = re.compile(r"-data-write-memory-bytes\s+(?:--\s+)?(\S+)\s+\"?([0-9A-Fa-f]+)\"?\s*(\d*)|-gdb-set (?:--thread \S+ )?\$")
-ELSEWHERE = re.compile(r"-(data-evaluate-expression|data-list-register-values|stack-list-variables|stack-info-frame|gdb-set \$)(?!.*--thread)")
+WRITTEN = re.compile(r"-data-write-memory-bytes\s+(?:--\s+)?(\S+)\s+\"?([0-9A-Fa-f]+)\"?\s*(\d*)|-gdb-set\s+(?:--thread\s+\S+\s+)?\$")
+ELSEWHERE = re.compile(r"-(data-evaluate-expression|data-list-register-values|stack-list-variables|stack-info-frame|gdb-set\s+\$)(?!.*--thread)")
 
 
 class Threads:
@@ -48,9 +49,9 @@ class Threads:
         elif reason == "exception":
             name, meaning = fields["signal-name"], fields["signal-meaning"]
             reason = "pause" if name == "SIGINT" else reason
-            if reason == "exception" and "frame" in fields:
-                registers = [word for _, word in self.values.registers(thread)]
-                meaning = "%s: %s" % (meaning, self.memory.trap(int(fields["frame"]["addr"], 16), registers))
+            with contextlib.suppress(Refused, KeyError):
+                registers = [word for _, word in self.values.registers(thread)] if reason == "exception" else None
+                meaning += ": " + self.memory.trap(int(fields["frame"]["addr"], 16), registers) if registers else ""
             thread.trap, text = (name, meaning), "%s: %s" % (name, meaning)
         return reason, {"text": text, "description": text} if text else {}
 
@@ -62,8 +63,10 @@ class Threads:
             if not point.is_looked_at:
                 self.engine.say("the condition of breakpoint %s has %s" % (point.number, ", ".join(taken))) if taken else None
                 self.breakpoints.judged(point, self.values.in_core(thread, point.condition))
+            if value[0] == "<":
+                raise Refused("it has " + value)
             return int(value) != 0
-        except (Refused, ValueError) as refusal:
+        except Refused as refusal:
             self.engine.say("Error in testing condition for breakpoint %s: %s" % (point.number, refusal))
             return True
 

@@ -163,7 +163,7 @@ class Values:
         if unknown:
             raise Refused("%s isn't known here: variables and registers are known of a thread's innermost frame alone" % unknown)
         for at, name in reversed([] if frame else found):
-            text = self.with_symbol(text, at, name, {}, taken)
+            text = self.with_symbol(text, at, name, None, taken)
         return self.value(thread, text, taken)
 
     def value(self, thread, text, taken):
@@ -190,13 +190,16 @@ class Values:
         return {it["name"]: it["value"] for it in reversed(self.variables(thread))}
 
     def stand_in(self, name, listed):
-        """What is read for a bare name that the debugger doesn't know: the bytes at its symbol. Refused where another variable could be meant."""
+        """What is read for a bare name that the debugger doesn't know: the bytes at its symbol. Refused where another variable could be meant.
+
+        `listed` has the frame's variables; it is None where there is no frame, and so no variable that could hide the symbol.
+        """
         places = self.engine.program.symbols.get(name, ())
-        if name in listed:
+        if listed and name in listed:
             raise Refused("%s is %s" % (name, listed[name]))
         if not places:
             raise Refused("there is no variable and no symbol `%s` here" % name)
-        if self.engine.program.has_unread():
+        if listed is not None and self.engine.program.has_unread():
             raise Refused("`%s` may be a variable of DWARF 5, which isn't read: build with -gdwarf-4, or write {int} &%s" % (name, name))
         if len(places) > 1:
             raise Refused("there are several symbols `%s`" % name)
@@ -227,7 +230,7 @@ class Values:
         if found is None:
             if level or NAME.fullmatch(text) is None:
                 raise Refused("only {type} and an address, or the name of a global outside of outer frames, has a place in memory here")
-            found = PLACE.fullmatch(self.stand_in(text, self.listed(thread) if frame else {})[1:-1])
+            found = PLACE.fullmatch(self.stand_in(text, self.listed(thread) if frame else None)[1:-1])
         return found[1], int(self.evaluated(found[2], frame, [])) % WORD
 
     def on_set_expression(self, arguments):
