@@ -20,12 +20,7 @@ class Engine:
 
     def __init__(self, inbox):
         self.client, self.sources, self.hears = Client(inbox), Sources(), set()
-        self.debugger, self.program, self.threads, self.after, self.deadline = None, None, {}, [], 0.0
-        self.close()
-
-    def close(self):
-        """Forgets what is of one debugger alone."""
-        self.is_open, self.last, self.debugger = False, None, None
+        self.debugger, self.is_open, self.last, self.program, self.threads, self.after, self.deadline = None, False, None, None, {}, [], 0.0
 
     def reply(self, command):
         """Has the debugger do a line, and gives its result and which threads go on. What else happens meanwhile waits in the inbox."""
@@ -61,3 +56,8 @@ class Engine:
         """Tells an event behind the answer, where the editor takes it."""
         if event not in ("memory", "invalidated") or event in self.hears:
             self.after.append(functools.partial(self.client.event, event, **body))
+
+    def written(self, address, count):
+        """Tells behind the answer that memory was written, of which views are made."""
+        self.later("memory", memoryReference="0x%08x" % address, offset=0, count=count)
+        self.later("invalidated", areas=["variables"])

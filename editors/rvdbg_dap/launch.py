@@ -7,13 +7,14 @@ import subprocess
 import sys
 
 from rvdbg_dap.mi import Refused
-from rvdbg_dap.threads import ALONE
 
 CLONE = os.path.dirname(os.path.dirname(os.path.dirname(os.path.realpath(__file__))))
 
 # The least and the greatest of each number, and what it is where it isn't given.
 NUMBERS = {"harts": (1, 16, 1), "workers": (0, 16, 0), "budget": (1, 10**12, 10**12), "slots": (0, 512, 16), "slice": (0, 1024, 256)}
 KNOWN = {*NUMBERS, "program", "stopOnEntry", "sourcePath", "rvdbg", "log", "singleThread"}
+# The requests that move one thread alone.
+ALONE = {"never": (), "step": ("step",), "always": ("step", "continue")}
 # What editors put beside them for themselves.
 EDITORS = {"name", "type", "request", "cwd", "env", "noDebug", "presentation", "preLaunchTask", "postDebugTask", "internalConsoleOptions"}
 LONGEST_CHECK = "10"
@@ -42,15 +43,17 @@ class Launch:
             if not re.fullmatch("[0-9]{1,13}", number) or not least <= int(number) <= greatest:
                 raise Refused("%s is a number from %d to %d, not %.50s" % (name, least, greatest, number))
             self.words.append("--%s=%s" % (name, number))
-        self.log = full(arguments["log"]) if arguments.get("log") else None
+        self.log, alone = full(arguments["log"]) if arguments.get("log") else None, arguments.get("singleThread", "never")
         self.words += (["--log"] if self.log else []) + ["--", self.program]
-        self.alone = arguments.get("singleThread", "never")
-        if self.alone not in ALONE:
-            raise Refused("singleThread is one of %s, not %.50s" % (", ".join(ALONE), self.alone))
+        if self.log == self.program:
+            raise Refused("the log can't be the program itself")
+        if alone not in ALONE:
+            raise Refused("singleThread is one of %s, not %.50s" % (", ".join(ALONE), alone))
         folders = arguments.get("sourcePath") or []
-        self.folders, self.stops = [folders] if isinstance(folders, str) else folders, bool(arguments.get("stopOnEntry"))
+        self.alone, self.folders, self.stops = ALONE[alone], [folders] if isinstance(folders, str) else folders, bool(arguments.get("stopOnEntry"))
         others = [it for it in arguments if it not in KNOWN | EDITORS and not it.startswith(("__", "dap-"))]
-        self.unknown = ["there is no launch argument `%s`%s" % (it, near(it)) for it in others]
+        like = {it: ": is `%s` meant?" % near for it in others for near in difflib.get_close_matches(it, KNOWN, 1)}
+        self.unknown = ["there is no launch argument `%s`%s" % (it, like.get(it, "")) for it in others]
 
     def verdict(self):
         """Has the log of a session that is over checked and drawn, and gives what is to be said of it."""
@@ -69,9 +72,3 @@ class Launch:
         with open(self.log, "rb") as log:
             words = ["timeout", "-k", "1", LONGEST_CHECK, *words]
             return subprocess.run(words, stdin=log, stdout=subprocess.PIPE, stderr=subprocess.DEVNULL).stdout
-
-
-def near(name):
-    """What a name may have been meant for."""
-    found = difflib.get_close_matches(name, KNOWN, 1)
-    return ": is `%s` meant?" % found[0] if found else ""

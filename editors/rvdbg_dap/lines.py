@@ -1,5 +1,6 @@
 """Line tables with the folders of their files: DWARF 2 to 5, section 6.2, in the 32-bit format. A unit with a fault gives nothing."""
 
+import bisect
 import collections
 import contextlib
 import os
@@ -137,8 +138,8 @@ class Lines:
         """The row of an address, or None."""
         for rows, ends in self.sequences():
             if rows[0].address <= address < ends:
-                last = max(it.address for it in rows if it.address <= address)
-                there = [it for it in rows if it.address == last]
+                behind = bisect.bisect(rows, (address + 1,))
+                there = rows[bisect.bisect(rows, (rows[behind - 1].address,)) : behind]
                 return ([it for it in there if it.is_stmt] or there)[-1]
         return None
 

@@ -64,11 +64,12 @@ class Program:
         begins, name, size = self.functions[at] if at >= 0 else (0, "", 1)
         return "%s+%d" % (name, address - begins) if name and (size == 0 or address - begins < size) else ""
 
-    def lack(self):
-        """What the file lacks for a session with its source, or nothing."""
-        what = "its variables in the form of DWARF 5, which isn't read" if self.has_unread() else None
-        what = what if self.sections.get(b".debug_line") else "no table of lines"
-        return what and "%s has %s: build it with -gdwarf-4" % (self.path, what)
+    def lacks(self):
+        """What the file lacks for a session with its source."""
+        if not self.sections.get(b".debug_line"):
+            yield "%s has no table of lines: build it with -gdwarf-4" % self.path
+        elif self.has_unread():
+            yield "%s has its variables in the form of DWARF 5, which isn't read: build it with -gdwarf-4" % self.path
 
     def has_unread(self):
         """Whether variables may be there that the debugger doesn't read: in units of DWARF 5."""

@@ -13,7 +13,7 @@ from rvdbg_dap.launch import Launch
 from rvdbg_dap.memory import Memory
 from rvdbg_dap.mi import Debugger, Refused, record, stream
 from rvdbg_dap.program import Program, advice
-from rvdbg_dap.threads import ALONE, Threads
+from rvdbg_dap.threads import Threads
 from rvdbg_dap.values import Values
 
 PATIENCE, LOG_PATIENCE = 10.0, 20.0
@@ -40,17 +40,16 @@ class Session:
     def __init__(self, inbox):
         self.inbox, self.engine = inbox, Engine(inbox)
         self.client, self.say = self.engine.client, self.engine.say
-        self.values, self.breakpoints, memory = Values(self.engine), Breakpoints(self.engine), Memory(self.engine)
-        self.threads = Threads(self.engine, self.breakpoints, self.values, memory)
-        self.parts = (self, self.threads, self.values, memory, self.breakpoints)
+        self.breakpoints, values, memory = Breakpoints(self.engine), Values(self.engine), Memory(self.engine)
+        self.threads = Threads(self.engine, self.breakpoints, values, memory)
+        self.parts = (self, self.threads, values, memory, self.breakpoints)
         self.is_done, self.request, self.opening, self.launch = False, None, None, None
         self.forget()
 
     def forget(self):
         """What is of one debugger alone."""
         self.is_configured, self.is_over, self.said, self.progress = False, False, "", None
-        self.engine.close()
-        self.values.forget()
+        self.engine.debugger, self.engine.is_open, self.engine.last = None, False, None
 
     def run(self):
         """Does what comes, in its order, until the editor goes."""
@@ -103,16 +102,15 @@ class Session:
         return dict({"supports" + it: True for it in CAPABILITIES.split()}, exceptionBreakpointFilters=[])
 
     def on_launch(self, arguments):
-        """Starts the debugger. It is answered once that has accepted the program."""
         if self.engine.debugger:
             raise Refused("a session is open already")
         return self.start(Launch(arguments))
 
     def start(self, launch):
-        """Starts the debugger of a launch."""
+        """Starts the debugger of a launch, which is answered once that has accepted the program."""
         for it in launch.unknown:
             self.say(it)
-        self.engine.program, self.threads.alone = Program(launch.program), ALONE[launch.alone]
+        self.engine.program, self.threads.alone = Program(launch.program), launch.alone
         self.engine.sources.look_in(self.engine.program, launch.folders)
         try:
             self.engine.debugger = Debugger(launch.words, self.inbox, open(launch.log, "wb") if launch.log else None)
@@ -137,8 +135,8 @@ class Session:
         request, self.opening, self.engine.is_open = self.opening, None, True
         self.end_progress()
         self.client.answer(request)
-        lack = self.engine.program.lack()
-        self.say(lack) if lack else None
+        for it in self.engine.program.lacks():
+            self.say(it)
         self.breakpoints.insert_all()
         if request["command"] == "launch":
             self.client.event("initialized")
@@ -230,9 +228,8 @@ class Session:
             self.leave(int(fields["id"]))
         elif told.name == "stopped" and fields.get("reason", "").startswith("exited"):
             self.client.event("exited", exitCode=int(fields.get("exit-code", "0"), 8))
-            if not self.launch.log:
-                self.client.event("terminated")
-            self.is_over = True
+            self.client.event("terminated") if not self.launch.log else None
+            self.is_over = not self.launch.log
             self.engine.debugger.process.stdin.close()
         elif told.name == "stopped":
             self.threads.stopped(self.engine.threads[int(fields["thread-id"])], fields)
@@ -244,7 +241,7 @@ class Session:
 
     def take_ended(self):
         """The debugger has ended: with the program, with its budget, or because it refused something."""
-        is_cut = self.opening["command"] == "restart" if self.opening else self.launch.log or not self.is_over
+        is_cut = self.opening["command"] == "restart" if self.opening else not self.is_over
         status = self.engine.debugger.status()
         why = STATUSES.get(status, "the debugger ended with status %s" % status)
         if not self.engine.is_open and self.said:

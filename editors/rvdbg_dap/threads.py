@@ -1,5 +1,6 @@
 """Threads: how they go on, take steps and stop, and what the editor is told of it. `on_..` are requests."""
 
+import contextlib
 import functools
 import re
 
@@ -8,13 +9,14 @@ from rvdbg_dap.mi import Refused
 REASONS = {"breakpoint-hit": "breakpoint", "watchpoint-trigger": "data breakpoint", "signal-received": "exception"}
 KINDS = {"function": "function breakpoint", "instruction": "instruction breakpoint"}
 LOGGED = re.compile(r"\{((?:[^{}]|\{[^{}]*\})+)\}")
-WRITTEN = re.compile(r"-data-write-memory-bytes\s+(?:--\s+)?(\S+)\s+\"?([0-9A-Fa-f]+)\"?\s*(\d*)|-gdb-set (?:--thread \S+ )?\$")
-ALONE = {"never": (), "step": ("step",), "always": ("step", "continue")}
-ELSEWHERE = re.compile(r"-(data-evaluate-expression|data-list-register-values|stack-list-variables|stack-info-frame|gdb-set \$)(?!.*--thread)")
+WRITTEN = re.compile(r"-data-write-memory-bytes\s+(?:--\s+)?(\S+)\s+\"?([0-9A-Fa-f]+)\"?\s*(\d*)|-gdb-set\s+(?:--thread\s+\S+\s+)?\$")
+ELSEWHERE = re.compile(r"-(data-evaluate-expression|data-list-register-values|stack-list-variables|stack-info-frame|gdb-set\s+\$)(?!.*--thread)")
 
 
 class Threads:
-    """The part of a session that moves threads. `awaited` are those of which the first to stop is to be looked at."""
+    """The part of a session that moves threads. `awaited` are those of which the first to stop is to be looked at; `alone` are the kinds
+    of requests that move one thread where the editor doesn't say.
+    """
 
     def __init__(self, engine, breakpoints, values, memory):
         self.engine, self.ask, self.breakpoints, self.values, self.memory = engine, engine.ask, breakpoints, values, memory
@@ -41,17 +43,17 @@ class Threads:
 
     def reason(self, thread, fields):
         """Why a thread has stopped, in the protocol's words."""
-        reason, told = REASONS.get(fields["reason"], "step"), {}
+        reason, text = REASONS.get(fields["reason"], "step"), None
         if reason == "data breakpoint":
-            told["text"] = "%s was %s, is %s" % (fields["wpt"]["exp"], fields["value"]["old"], fields["value"]["new"])
+            text = "%s was %s, is %s" % (fields["wpt"]["exp"], fields["value"]["old"], fields["value"]["new"])
         elif reason == "exception":
             name, meaning = fields["signal-name"], fields["signal-meaning"]
-            thread.trap, reason = (name, meaning), "pause" if name == "SIGINT" else reason
-            if reason == "exception" and "frame" in fields:
-                registers = [word for _, word in self.values.registers(thread)]
-                thread.trap = name, "%s: %s" % (meaning, self.memory.trap(int(fields["frame"]["addr"], 16), registers))
-            told["text"] = "%s: %s" % thread.trap
-        return reason, told
+            reason = "pause" if name == "SIGINT" else reason
+            with contextlib.suppress(Refused, KeyError):
+                registers = [word for _, word in self.values.registers(thread)] if reason == "exception" else None
+                meaning += ": " + self.memory.trap(int(fields["frame"]["addr"], 16), registers) if registers else ""
+            thread.trap, text = (name, meaning), "%s: %s" % (name, meaning)
+        return reason, {"text": text, "description": text} if text else {}
 
     def holds(self, point, thread):
         """Whether a condition holds. One that has no value stops its thread, as it does where the debugger judges."""
@@ -61,8 +63,10 @@ class Threads:
             if not point.is_looked_at:
                 self.engine.say("the condition of breakpoint %s has %s" % (point.number, ", ".join(taken))) if taken else None
                 self.breakpoints.judged(point, self.values.in_core(thread, point.condition))
+            if value[0] == "<":
+                raise Refused("it has " + value)
             return int(value) != 0
-        except (Refused, ValueError) as refusal:
+        except Refused as refusal:
             self.engine.say("Error in testing condition for breakpoint %s: %s" % (point.number, refusal))
             return True
 
@@ -81,11 +85,9 @@ class Threads:
     def tell_stop(self, thread, reason, **told):
         """The editor is to show a thread as stopped; it says nothing of the others. A thread that wasn't waited for doesn't take the view."""
         thread.is_stepping = thread.is_wanted = False
-        told.update({"description": told["text"]} if "text" in told else {})
-        if thread.identity in self.awaited or len(self.engine.standing()) == 1:
-            self.awaited = set()
-        else:
-            told["preserveFocusHint"] = True
+        is_looked_at = thread.identity in self.awaited or len(self.engine.standing()) == 1
+        self.awaited = set() if is_looked_at else self.awaited
+        told.update({} if is_looked_at else {"preserveFocusHint": True})
         self.engine.client.event("stopped", reason=reason, threadId=thread.identity, **told)
 
     def begin(self, stops):
@@ -113,12 +115,8 @@ class Threads:
         for it in identities:
             self.engine.later("continued", threadId=it, allThreadsContinued=False)
 
-    def is_alone(self, kind, arguments):
-        """Whether one thread moves by itself: as the editor asks, or as the launch argument says where it can't ask."""
-        return bool(arguments.get("singleThread", kind in self.alone))
-
     def on_continue(self, arguments):
-        thread, is_single = self.engine.thread(arguments["threadId"]), self.is_alone("continue", arguments)
+        thread, is_single = self.engine.thread(arguments["threadId"]), bool(arguments.get("singleThread", "continue" in self.alone))
         standing = [it for it in self.engine.standing() if it is thread or not is_single]
         if not standing:
             raise Refused("Thread %d is running" % thread.identity)
@@ -133,7 +131,8 @@ class Threads:
             raise Refused("Thread %d is running" % thread.identity)
         self.ask("%s --thread %d" % (instruction if arguments.get("granularity") == "instruction" else line, thread.identity))
         thread.is_stepping, self.awaited = True, {thread.identity}
-        self.tell_running(self.go_on([it for it in others if it is not thread and not self.is_alone("step", arguments)]))
+        is_single = arguments.get("singleThread", "step" in self.alone)
+        self.tell_running(self.go_on([it for it in others if it is not thread and not is_single]))
 
     on_next = functools.partialmethod(step, "-exec-next", "-exec-next-instruction")
     on_step_in = functools.partialmethod(step, "-exec-step", "-exec-step-instruction")
@@ -173,12 +172,11 @@ class Threads:
             self.engine.threads[it].is_stepping = not line.startswith("-exec-continue")
         self.awaited = set(running) or self.awaited
         self.tell_running(running)
-        written = WRITTEN.match(line) if result.name == "done" else None
         if result.name == "done" and line.startswith("-break-"):
             self.breakpoints.agree()
-        if written:
-            self.engine.later("invalidated", areas=["variables"])
+        written = WRITTEN.match(line) if result.name == "done" else None
         if written and written[1]:
-            count = int(written[3] or len(written[2]) // 2)
-            self.engine.later("memory", memoryReference="0x%08x" % int(written[1], 0), offset=0, count=count)
+            self.engine.written(int(written[1], 0), int(written[3] or len(written[2]) // 2))
+        elif written:
+            self.engine.later("invalidated", areas=["variables"])
         return result.text

@@ -7,6 +7,7 @@ from rvdbg_dap.mi import Refused, c_string
 # A frame's number is made of its thread and its level, a reference to variables of what they are and of the frame.
 LEVELS, KINDS = 100, 10000
 REGISTERS, LOCALS, ARGUMENTS, RADIXES = 1, 2, 3, 10
+SCOPES = [("Arguments", ARGUMENTS), ("Locals", LOCALS), ("Registers", REGISTERS)]
 RADIX = {"decimal": "{1:d}", "unsigned": "{0:d}", "octal": "0{0:o}", "binary": "0b{0:032b}"}
 SIZES = {1: "unsigned char", 2: "unsigned short", 4: "int"}
 WIDTHS = {"int": 4, "unsigned int": 4, "short": 2, "unsigned short": 2, "char": 1, "unsigned char": 1}
@@ -57,12 +58,7 @@ class Values:
     """The part of a session that looks at threads which stand."""
 
     def __init__(self, engine):
-        self.engine, self.ask = engine, engine.ask
-        self.forget()
-
-    def forget(self):
-        """What is of one debugger alone."""
-        self.has_variables, self.names = True, None
+        self.engine, self.ask, self.names = engine, engine.ask, []
 
     def on_stack_trace(self, arguments):
         thread = self.engine.thread(arguments["threadId"])
@@ -87,30 +83,21 @@ class Values:
         return self.engine.thread(number // LEVELS), number % LEVELS
 
     def variables(self, thread):
-        """The variables of a thread's innermost frame, or None where the debugger has no command for them."""
-        if self.has_variables:
-            try:
-                return self.ask("-stack-list-variables --thread %d 1" % thread.identity).fields["variables"]
-            except Refused as refusal:
-                if refusal.code != "undefined-command":
-                    raise
-                self.has_variables = False
-        return None
+        """The variables of a thread's innermost frame, each with what is shown of it."""
+        return self.ask("-stack-list-variables --thread %d 1" % thread.identity).fields["variables"]
 
     def on_scopes(self, arguments):
         number = arguments["frameId"]
-        thread, level = self.framed(number)
-        rows = [("Registers (of the innermost frame)" if level else "Registers", "registers", REGISTERS)]
-        if level == 0 and self.variables(thread) is not None:
-            rows = [("Arguments", "arguments", ARGUMENTS), ("Locals", "locals", LOCALS)] + rows
+        _, level = self.framed(number)
+        rows = [("Registers (of the innermost frame)", REGISTERS)] if level else SCOPES
         keys = ("name", "presentationHint", "variablesReference", "expensive")
-        return {"scopes": [dict(zip(keys, (name, hint, kind * KINDS + number, False))) for name, hint, kind in rows]}
+        return {"scopes": [dict(zip(keys, (name, name.split()[0].lower(), kind * KINDS + number, False))) for name, kind in rows]}
 
     def on_variables(self, arguments):
         kind, number = divmod(arguments["variablesReference"], KINDS)
         thread, level = self.framed(number)
         if kind in (LOCALS, ARGUMENTS):
-            listed = [] if level else self.variables(thread) or []
+            listed = [] if level else self.variables(thread)
             rows = [(it["name"], it["value"]) for it in listed if ("arg" in it) == (kind == ARGUMENTS)]
         elif kind == REGISTERS:
             return {"variables": [self.register(at, word, number) for at, word in self.registers(thread)]}
@@ -127,19 +114,18 @@ class Values:
 
     def register(self, at, word, number):
         """What the editor is told of a register: it stands in hexadecimal, and opens to other radixes."""
-        told = {"name": self.names[at], "value": "0x%08x" % word, "memoryReference": "0x%08x" % word}
-        told.update({"evaluateName": "$" + told["name"]} if number % LEVELS == 0 else {})
-        told["presentationHint"] = {"attributes": ["readOnly"] if told["name"] in ("zero", "pc") else []}
-        return dict(told, variablesReference=(RADIXES + at) * KINDS + number)
+        name, told = self.names[at], {"evaluateName": "$" + self.names[at]} if number % LEVELS == 0 else {}
+        told.update(name=name, value="0x%08x" % word, memoryReference="0x%08x" % word, variablesReference=(RADIXES + at) * KINDS + number)
+        return dict(told, presentationHint={"attributes": ["readOnly"] if name in ("zero", "pc") else []})
 
     def on_set_variable(self, arguments):
         kind, number = divmod(arguments["variablesReference"], KINDS)
         if kind != REGISTERS:
             raise Refused("only registers can be set here")
-        told = self.set_register(number, arguments["name"], arguments["value"])
-        self.registers(self.framed(number)[0], 0)
-        at = dict({it: at for at, it in enumerate(self.names)}, s0=8).get(arguments["name"], 0)
-        return dict(told, variablesReference=(RADIXES + at) * KINDS + number)
+        told, name = self.set_register(number, arguments["name"], arguments["value"]), arguments["name"]
+        rows = [self.register(at, word, number) for at, word in self.registers(self.framed(number)[0])]
+        like = [it["variablesReference"] for it in rows if it["name"] == {"s0": "fp"}.get(name, name)]
+        return dict(told, variablesReference=sum(like))
 
     def set_register(self, number, name, value):
         """Sets a register of a frame's thread, by any of its names."""
@@ -177,7 +163,7 @@ class Values:
         if unknown:
             raise Refused("%s isn't known here: variables and registers are known of a thread's innermost frame alone" % unknown)
         for at, name in reversed([] if frame else found):
-            text = self.with_symbol(text, at, name, {}, taken)
+            text = self.with_symbol(text, at, name, None, taken)
         return self.value(thread, text, taken)
 
     def value(self, thread, text, taken):
@@ -201,19 +187,19 @@ class Values:
 
     def listed(self, thread):
         """The variables of a thread's innermost frame by their names, each with what is shown of it."""
-        found = {}
-        for it in self.variables(thread) or []:
-            found.setdefault(it["name"], it["value"])
-        return found
+        return {it["name"]: it["value"] for it in reversed(self.variables(thread))}
 
     def stand_in(self, name, listed):
-        """What is read for a bare name that the debugger doesn't know: the bytes at its symbol. Refused where another variable could be meant."""
+        """What is read for a bare name that the debugger doesn't know: the bytes at its symbol. Refused where another variable could be meant.
+
+        `listed` has the frame's variables; it is None where there is no frame, and so no variable that could hide the symbol.
+        """
         places = self.engine.program.symbols.get(name, ())
-        if name in listed:
+        if listed and name in listed:
             raise Refused("%s is %s" % (name, listed[name]))
         if not places:
             raise Refused("there is no variable and no symbol `%s` here" % name)
-        if self.engine.program.has_unread():
+        if listed is not None and self.engine.program.has_unread():
             raise Refused("`%s` may be a variable of DWARF 5, which isn't read: build with -gdwarf-4, or write {int} &%s" % (name, name))
         if len(places) > 1:
             raise Refused("there are several symbols `%s`" % name)
@@ -244,7 +230,7 @@ class Values:
         if found is None:
             if level or NAME.fullmatch(text) is None:
                 raise Refused("only {type} and an address, or the name of a global outside of outer frames, has a place in memory here")
-            found = PLACE.fullmatch(self.stand_in(text, self.listed(thread) if frame else {})[1:-1])
+            found = PLACE.fullmatch(self.stand_in(text, self.listed(thread) if frame else None)[1:-1])
         return found[1], int(self.evaluated(found[2], frame, [])) % WORD
 
     def on_set_expression(self, arguments):
@@ -254,25 +240,21 @@ class Values:
         kind, address = self.place(text, frame)
         content = (self.number(value, frame) % (1 << 8 * WIDTHS[kind])).to_bytes(WIDTHS[kind], "little")
         self.ask("-data-write-memory-bytes 0x%08x %s" % (address, content.hex()))
-        self.engine.later("memory", memoryReference="0x%08x" % address, offset=0, count=len(content))
+        self.engine.written(address, len(content))
         return {"value": self.evaluate(text, frame)["result"]}
 
     def on_data_breakpoint_info(self, arguments):
         """What can be watched: 1, 2 or 4 bytes of data at an address or at a symbol, and no variable of a frame."""
         name, size, frame = arguments["name"].strip(), arguments.get("bytes"), arguments.get("frameId")
+        if arguments.get("asAddress"):
+            name = "{%s} 0x%08x" % (SIZES.get(size or 4), int(name, 0) % WORD)
         try:
             if arguments.get("variablesReference"):
                 raise Refused("registers and variables of a frame can't be watched")
-            if arguments.get("asAddress"):
-                kind, address = SIZES.get(size or 4), int(name, 0) % WORD
-                text = "{%s} 0x%08x" % (kind, address)
-            else:
-                kind, address = self.place(name, frame)
-                text = name if name[0] == "{" else "{%s} &%s" % (kind, name)
-            if size not in (None, WIDTHS.get(kind)):
-                raise Refused("1, 2 or 4 bytes can be watched, as many as there are")
-            if self.engine.program.is_text(address) or next(names(text), None):
-                raise Refused("what is watched is data, and its address has neither names nor registers")
+            kind, address = self.place(name, frame)
+            text = name if name[0] == "{" else "{%s} &%s" % (kind, name)
+            if size not in (None, WIDTHS[kind]) or self.engine.program.is_text(address) or next(names(text), None):
+                raise Refused("1, 2 or 4 bytes of data can be watched, as many as there are, at an address without names and registers")
         except Refused as refusal:
             return {"dataId": None, "description": str(refusal)}
         return {"dataId": text, "description": "%d bytes: %s" % (WIDTHS[kind], text), "accessTypes": ["write"], "canPersist": True}

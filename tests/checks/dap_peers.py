@@ -35,10 +35,8 @@ for line in sys.stdin:
         for _ in range(int(count[0]) if count else 0):
             time.sleep(0.004)
             put('*stopped,reason="signal-received",signal-name="S",signal-meaning="%d",thread-id="1"' % time.monotonic_ns())
-    elif command.startswith("stack-list-variables") and kind == "variables":
-        put(token + '^done,variables=[{name="n",arg="1",value="7"},{name="k",value="-1"},{name="s",value="<optimized out>"}]', "(gdb)")
     elif command.startswith("stack-list-variables"):
-        put(token + '^error,msg="Undefined MI command: stack-list-variables",code="undefined-command"', "(gdb)")
+        put(token + '^done,variables=[{name="n",arg="1",value="7"},{name="k",value="-1"},{name="s",value="<optimized out>"}]', "(gdb)")
     else:
         put(token + "^done", "(gdb)")
 '''
@@ -60,7 +58,6 @@ def check_peers(rig, name):
         kinds = [it[0] for it in editor.events if it[0].startswith("progress")]
         rig.row(name + ": progress", kinds, ["progressStart", "progressUpdate", "progressUpdate", "progressUpdate", "progressEnd"])
         rig.row(name + ": percentages", [it[1].get("percentage") for it in editor.events if it[0] == "progressUpdate"], [None, 25, 100])
-        rig.row(name + ": without variables", [it["name"] for it in editor.ask("scopes", frameId=100)["scopes"]], ["Registers"])
         editor.end(rig, name + " that is built")
     with Editor() as editor:
         answer = editor.open(rig, "examples/lock/lock", peer(rig, "unbuilt"))

@@ -142,6 +142,7 @@ def check_logged(rig, name):
             rig.row("%s: drawn by %s" % (name, end), file.read(4), b"<svg")
         os.remove(picture)
     with Editor() as editor:
+        rig.row(name + ": the program", editor.open(rig, VALUES_4, log=VALUES_4), "the log can't be the program itself")
         rig.row(name + ": no such folder", editor.open(rig, VALUES_4, log="/nowhere/x"), "/nowhere/x: No such file or directory")
         editor.end(rig, name + " that can't be")
 
@@ -211,7 +212,25 @@ def check_traps(rig, name):
         editor.end(rig, name)
 
 
+def check_line_tables(rig, name):
+    """The adapter's reader of line tables says of each instruction what the debugger says."""
+    from rvdbg_dap.program import Program
+
+    for path in (VALUES_4, os.path.join(PROGRAMS, "folders-5"), os.path.join(TOP, "tests", "programs", "locks")):
+        program = Program(path)
+        places = [at for text in program.texts for at in range(text.start, text.stop, 4)]
+        typed = "".join("-break-insert *0x%x\n-break-delete %d\n" % (at, number) for number, at in enumerate(places, 1))
+        told = re.findall(rb'^\^done,bkpt=.*?addr="0x(\w+)"(?:,func="(\w+)")?(?:,file="([^"]+)",line="(\d+)")?', rig.run(["--workers", "0", path], typed.encode())[1], re.M)
+        found = []
+        for at in places:
+            row = program.lines.at(at)
+            place = (os.path.basename(row.path), str(row.line)) if row else ("", "")
+            found.append(("%08x" % at, program.near(at).split("+")[0], *place))
+        rig.row("%s of %s" % (name, os.path.basename(path)), found, [tuple(it.decode() for it in row) for row in told])
+
+
 PROGRAM_CHECKS = [
+    check_line_tables,
     check_conditions,
     check_counted_conditions,
     check_alone,

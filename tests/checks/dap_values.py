@@ -72,6 +72,8 @@ def check_stand_ins(rig, name):
         (main, *_) = editor.come_to(rig, os.path.join(PROGRAMS, "values-5"), {"line": 50})
         wanted = "`total` may be a variable of DWARF 5, which isn't read: build with -gdwarf-4, or write {int} &total"
         rig.row(name + ": no name of DWARF 5", editor.value("total", main), wanted)
+        rig.row(name + ": but where no frame is", editor.value("total"), "1000 (0x000003e8), with `total` as {int} &total")
+        rig.row(name + ": and to be watched", editor.ask("dataBreakpointInfo", name="total")["dataId"], "{int} &total")
         editor.end(rig, name + " of DWARF 5")
 
 
