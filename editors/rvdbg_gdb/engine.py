@@ -151,6 +151,13 @@ class Engine:
 
     # How threads go on.
 
+    def thread(self, number=None):
+        """A thread by its number, or the one that GDB looks at."""
+        found = self.threads.get(self.current if number is None else number)
+        if found is None:
+            raise Refused("there is no thread %s" % (self.current if number is None else number))
+        return found
+
     def is_quiet(self):
         """Whether no thread runs."""
         return not any(it.is_running for it in self.threads.values())
