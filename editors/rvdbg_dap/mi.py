@@ -3,7 +3,6 @@
 import codecs
 import collections
 import contextlib
-import ctypes
 import json
 import os
 import queue
@@ -87,25 +86,29 @@ class Answer:
         return self.is_whole or line.startswith(b"*running,")
 
 
-LIBRARY = ctypes.CDLL(None)
+# What is started isn't to run on for hours where its starter is killed, nor is what it started: this shell is told the group,
+# and ends it where its input ends without one more line.
+WATCHER = 'read -r group && ! read -r _ && { kill -s TERM -- "-$group"; sleep 2; kill -s KILL -- "-$group"; }'
 
 
 class Debugger:
     """The process. A thread reads what it writes: answers are handed to who waits for them, all else goes to the inbox.
 
-    `copy` is called with each piece of its output as it is.
+    Where there is a `copy`, a binary file, it gets all that was written, and is closed behind it. A session's log is in it alone.
     """
 
     def __init__(self, words, inbox, copy=None):
-        pipes = dict(stdin=subprocess.PIPE, stdout=subprocess.PIPE, stderr=subprocess.PIPE, bufsize=0)
-        # A debugger whose adapter is killed isn't to run on for hours: 1 is PR_SET_PDEATHSIG.
-        self.process = subprocess.Popen(words, start_new_session=True, preexec_fn=lambda: LIBRARY.prctl(1, signal.SIGKILL), **pipes)
-        self.copy = copy
-        self.inbox, self.answers, self.waiting, self.token, self.is_closing = inbox, queue.Queue(), None, 0, False
+        pipes = dict(stdin=subprocess.PIPE, stdout=subprocess.PIPE, stderr=subprocess.PIPE, bufsize=0, start_new_session=True)
+        self.watcher = subprocess.Popen(["/bin/sh", "-c", WATCHER], **dict(pipes, stdout=subprocess.DEVNULL, stderr=subprocess.DEVNULL))
+        self.process = subprocess.Popen(words, **pipes)
+        os.write(self.watcher.stdin.fileno(), b"%d\n" % self.process.pid)
+        self.inbox, self.answers, self.waiting, self.token, self.is_closing, self.copy = inbox, queue.Queue(), None, 0, False, copy
         self.decode = codecs.getincrementaldecoder("utf-8")("replace").decode
-        self.errors = threading.Thread(target=self.read, args=(self.process.stderr, "said"), daemon=True)
+        self.errors, self.lines = (
+            threading.Thread(target=self.read, args=it, daemon=True) for it in ((self.process.stderr, "said"), (self.process.stdout, "lines"))
+        )
         self.errors.start()
-        threading.Thread(target=self.read, args=(self.process.stdout, "lines"), daemon=True).start()
+        self.lines.start()
 
     def read(self, pipe, kind):
         """Reads lines to the end. Where the inbox is full it waits, but not while an answer is waited for."""
@@ -113,9 +116,10 @@ class Debugger:
         while piece:
             piece = os.read(pipe.fileno(), 65536)
             if self.copy and kind == "lines":
-                self.copy(piece)
+                with contextlib.suppress(OSError):
+                    self.copy.write(piece) if piece else self.copy.close()
             *lines, rest = (rest + (piece or b"\n")).split(b"\n")
-            self.inbox.put((self, kind, [line for line in lines if line and not self.answered(line)]))
+            self.inbox.put((self, kind, [line for line in lines if line and line[:1] != b"#" and not self.answered(line)]))
             while self.inbox.qsize() > 16 and self.waiting is None and not self.is_closing:
                 time.sleep(0.002)
         if kind == "lines":
@@ -142,6 +146,7 @@ class Debugger:
             while found not in (answer, None):
                 found = self.answers.get(timeout=max(0.0, seconds))
             if found is None:
+                self.answers.put(None)
                 raise Refused("the debugger has ended")
             return record(answer.result), [int(record(line).fields["thread-id"]) for line in answer.running]
         except queue.Empty:
@@ -156,14 +161,16 @@ class Debugger:
         with contextlib.suppress(subprocess.TimeoutExpired):
             return self.process.wait(seconds)
 
-    def stop(self, is_asked):
-        """Ends the process and what it started: by its own command where it listens to that, else by signals."""
+    def stop(self, is_asked, seconds=1.0):
+        """Ends the process and what it started: by its own command where it listens to that, within so many seconds, else by signals."""
         self.is_closing = True
         with contextlib.suppress(OSError, ValueError):
             os.write(self.process.stdin.fileno(), b"-gdb-exit\n" if is_asked else b"")
             self.process.stdin.close()
-        self.status(1.0 if is_asked else 0.0)
+        self.status(seconds if is_asked else 0.0)
         for number in (signal.SIGTERM, signal.SIGKILL):
             if self.process.poll() is None:
                 os.killpg(self.process.pid, number)
                 self.status()
+        self.lines.join(seconds)
+        self.watcher.communicate(b"ended\n")

@@ -49,6 +49,11 @@ class Engine:
         self.points = Points(self.ask)
         self.debugger = Debugger(words, inbox, copy)
 
+    def stop(self):
+        """Ends the debugger, where that isn't done yet."""
+        if not self.debugger.is_closing:
+            self.debugger.stop(False)
+
     def reply(self, line):
         """Has the debugger do a line, and gives its result."""
         if self.is_over:

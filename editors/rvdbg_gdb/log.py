@@ -18,11 +18,14 @@ class Log:
     def __init__(self):
         self.path, self.size, self.file = None, 0, tempfile.TemporaryFile()
 
-    def copy(self, piece):
+    def write(self, piece):
         """Keeps a piece of the output."""
         if self.size <= LONGEST:
             self.file.write(piece)
             self.size += len(piece)
+
+    def close(self):
+        """The output has ended."""
 
     def want(self, path):
         """The session is to be stored there, and to be checked."""
