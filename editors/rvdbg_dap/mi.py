@@ -3,6 +3,7 @@
 import codecs
 import collections
 import contextlib
+import ctypes
 import json
 import os
 import queue
@@ -86,9 +87,7 @@ class Answer:
         return self.is_whole or line.startswith(b"*running,")
 
 
-# What is started isn't to run on for hours where its starter is killed, nor is what it started: this shell is told the group,
-# and ends it where its input ends without one more line.
-WATCHER = 'read -r group && ! read -r _ && { kill -s TERM -- "-$group"; sleep 2; kill -s KILL -- "-$group"; }'
+LIBRARY = ctypes.CDLL(None)
 
 
 class Debugger:
@@ -98,17 +97,14 @@ class Debugger:
     """
 
     def __init__(self, words, inbox, copy=None):
-        pipes = dict(stdin=subprocess.PIPE, stdout=subprocess.PIPE, stderr=subprocess.PIPE, bufsize=0, start_new_session=True)
-        self.watcher = subprocess.Popen(["/bin/sh", "-c", WATCHER], **dict(pipes, stdout=subprocess.DEVNULL, stderr=subprocess.DEVNULL))
-        self.process = subprocess.Popen(words, **pipes)
-        os.write(self.watcher.stdin.fileno(), b"%d\n" % self.process.pid)
+        pipes = dict(stdin=subprocess.PIPE, stdout=subprocess.PIPE, stderr=subprocess.PIPE, bufsize=0)
+        # A debugger whose adapter is killed isn't to run on for hours: 1 is PR_SET_PDEATHSIG.
+        self.process = subprocess.Popen(words, start_new_session=True, preexec_fn=lambda: LIBRARY.prctl(1, signal.SIGKILL), **pipes)
         self.inbox, self.answers, self.waiting, self.token, self.is_closing, self.copy = inbox, queue.Queue(), None, 0, False, copy
         self.decode = codecs.getincrementaldecoder("utf-8")("replace").decode
-        self.errors, self.lines = (
-            threading.Thread(target=self.read, args=it, daemon=True) for it in ((self.process.stderr, "said"), (self.process.stdout, "lines"))
-        )
+        self.errors = threading.Thread(target=self.read, args=(self.process.stderr, "said"), daemon=True)
         self.errors.start()
-        self.lines.start()
+        threading.Thread(target=self.read, args=(self.process.stdout, "lines"), daemon=True).start()
 
     def read(self, pipe, kind):
         """Reads lines to the end. Where the inbox is full it waits, but not while an answer is waited for."""
@@ -146,7 +142,6 @@ class Debugger:
             while found not in (answer, None):
                 found = self.answers.get(timeout=max(0.0, seconds))
             if found is None:
-                self.answers.put(None)
                 raise Refused("the debugger has ended")
             return record(answer.result), [int(record(line).fields["thread-id"]) for line in answer.running]
         except queue.Empty:
@@ -161,16 +156,14 @@ class Debugger:
         with contextlib.suppress(subprocess.TimeoutExpired):
             return self.process.wait(seconds)
 
-    def stop(self, is_asked, seconds=1.0):
-        """Ends the process and what it started: by its own command where it listens to that, within so many seconds, else by signals."""
+    def stop(self, is_asked):
+        """Ends the process and what it started: by its own command where it listens to that, else by signals."""
         self.is_closing = True
         with contextlib.suppress(OSError, ValueError):
             os.write(self.process.stdin.fileno(), b"-gdb-exit\n" if is_asked else b"")
             self.process.stdin.close()
-        self.status(seconds if is_asked else 0.0)
+        self.status(1.0 if is_asked else 0.0)
         for number in (signal.SIGTERM, signal.SIGKILL):
             if self.process.poll() is None:
                 os.killpg(self.process.pid, number)
                 self.status()
-        self.lines.join(seconds)
-        self.watcher.communicate(b"ended\n")
