@@ -49,6 +49,11 @@ class Engine:
         self.points = Points(self.ask)
         self.debugger = Debugger(words, inbox, copy)
 
+    def stop(self):
+        """Ends the debugger, where that isn't done yet."""
+        if not self.debugger.is_closing:
+            self.debugger.stop(False)
+
     def reply(self, line):
         """Has the debugger do a line, and gives its result."""
         if self.is_over:
@@ -150,6 +155,13 @@ class Engine:
         return stop
 
     # How threads go on.
+
+    def thread(self, number=None):
+        """A thread by its number, or the one that GDB looks at."""
+        found = self.threads.get(self.current if number is None else number)
+        if found is None:
+            raise Refused("there is no thread %s" % (self.current if number is None else number))
+        return found
 
     def is_quiet(self):
         """Whether no thread runs."""

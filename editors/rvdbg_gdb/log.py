@@ -25,7 +25,7 @@ class Log:
             self.size += len(piece)
 
     def close(self):
-        """The output has ended. What was kept is read after that."""
+        """The output has ended."""
 
     def want(self, path):
         """The session is to be stored there, and to be checked."""

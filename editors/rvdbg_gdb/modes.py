@@ -5,7 +5,12 @@ from rvdbg_gdb.registers import FIRST, told
 
 
 class Mode:
-    """What both modes have. `finish` ends the debugger, which has nothing more to do."""
+    """What both modes have. `finish` ends the debugger, which has nothing more to do.
+
+    `is_waiting` says whether GDB waits for a stop, and so takes texts for its console, `is_opening` whether its connection doesn't stand yet.
+    """
+
+    is_waiting, is_opening = False, False
 
     def __init__(self, client, engine, finish):
         self.client, self.engine, self.finish = client, engine, finish
@@ -45,7 +50,7 @@ class AllStop(Mode):
     go on. A step or an interrupt that ends meanwhile is told by nothing but where its thread stands.
     """
 
-    is_waiting, resumed = False, frozenset()
+    resumed = frozenset()
 
     def why(self):
         """Answers the question why it stands."""
@@ -101,7 +106,7 @@ class AllStop(Mode):
 class NonStop(Mode):
     """Each stop is notified, one at a time: GDB takes it, and asks for the next one."""
 
-    is_waiting, is_notified, is_opening, is_over = False, False, False, False
+    is_notified, is_over = False, False
 
     def why(self):
         """Answers the question why it stands, of one thread; of the others it is told once GDB's connection stands.

@@ -9,6 +9,7 @@ PACKET = re.compile(rb"\$([^#]*)#([0-9A-Fa-f]{2})", re.DOTALL)
 ESCAPED = re.compile(rb"\}(.)", re.DOTALL)
 INTERRUPT, AGAIN = b"\x03", b"-"
 LONGEST = 1 << 16
+DIGITS = frozenset("0123456789abcdefABCDEF")
 
 
 def framed(body, mark=b"$"):
@@ -19,6 +20,25 @@ def framed(body, mark=b"$"):
 def unescaped(body):
     """Binary data as they were before `#`, `$`, `}` and `*` were written as `}` and the byte with bit 5 turned over."""
     return ESCAPED.sub(lambda it: bytes((it[1][0] ^ 0x20,)), body)
+
+
+def number(text):
+    """A number of the protocol, which is written in hexadecimal digits alone."""
+    if not text or not DIGITS.issuperset(text):
+        raise ValueError("no number")
+    return int(text, 16)
+
+
+def numbers(text):
+    """Two numbers with a comma between them."""
+    first, second = text.split(",")
+    return number(first), number(second)
+
+
+def window(whole, text):
+    """A part of a document, as `OFFSET,LENGTH` asks for it."""
+    offset, length = numbers(text)
+    return ("m" if offset + length < len(whole) else "l") + whole[offset : offset + length]
 
 
 class Framing:

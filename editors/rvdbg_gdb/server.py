@@ -4,11 +4,10 @@ import queue
 import sys
 
 from rvdbg_dap.mi import Refused
-from rvdbg_gdb.engine import LONGEST_READ
+from rvdbg_gdb import data
 from rvdbg_gdb.modes import AllStop, NonStop
-from rvdbg_gdb.packets import unescaped
-from rvdbg_gdb.points import BREAKPOINT, WATCHPOINT
-from rvdbg_gdb.registers import DESCRIPTION, NAMES, taken, told
+from rvdbg_gdb.packets import number, numbers, window
+from rvdbg_gdb.registers import DESCRIPTION
 
 MALFORMED = (ValueError, KeyError, IndexError, OverflowError)
 FEATURES = (
@@ -17,26 +16,6 @@ FEATURES = (
 # How long GDB has to be silent until its connection stands, in seconds.
 LULL = 0.1
 LONGEST_TEXT = 4096
-DIGITS = frozenset("0123456789abcdefABCDEF")
-
-
-def number(text):
-    """A number of the protocol, which is written in hexadecimal digits alone."""
-    if not text or not DIGITS.issuperset(text):
-        raise ValueError("no number")
-    return int(text, 16)
-
-
-def numbers(text):
-    """Two numbers with a comma between them."""
-    first, second = text.split(",")
-    return number(first), number(second)
-
-
-def window(whole, text):
-    """A part of a document, as `OFFSET,LENGTH` asks for it."""
-    offset, length = numbers(text)
-    return ("m" if offset + length < len(whole) else "l") + whole[offset : offset + length]
 
 
 class Server:
@@ -55,9 +34,8 @@ class Server:
     def run(self, inbox, early):
         """Does what came early and what comes, in its order, until GDB goes."""
         while not self.is_done:
-            is_opening = getattr(self.mode, "is_opening", False)
             try:
-                origin, kind, *rest = early.pop(0) if early else inbox.get(timeout=LULL if is_opening else None)
+                origin, kind, *rest = early.pop(0) if early else inbox.get(timeout=LULL if self.mode.is_opening else None)
                 getattr(self if origin is self.client else self.engine, "take_" + kind)(*rest)
             except queue.Empty:
                 self.mode.is_opening = False
@@ -105,13 +83,19 @@ class Server:
         text = body.decode("latin-1")
         prefix = next((it for it in PREFIXES if text.startswith(it)), "")
         try:
-            answer = PACKETS[prefix](self, text[len(prefix) :]) if prefix else ""
+            answer = self.answer(prefix, text[len(prefix) :])
         except Refused as refusal:
             answer = "E.%s" % str(refusal).translate({ord(it): None for it in "#$}*"})
         except MALFORMED:
             answer = "E01"
         if answer is not None:
             self.client.send(answer)
+
+    def answer(self, prefix, text):
+        """The answer to a packet that begins so; what goes on is `text`."""
+        if prefix in data.PACKETS:
+            return data.PACKETS[prefix](self.engine, text)
+        return PACKETS[prefix](self, text) if prefix else ""
 
     def take_bad(self):
         """What was no packet; it comes again."""
@@ -160,17 +144,10 @@ class Server:
 
     # Threads.
 
-    def thread(self, text=""):
-        """A thread by its number, or the one that GDB looks at."""
-        found = self.engine.threads.get(number(text) if text else self.engine.current)
-        if found is None:
-            raise Refused("there is no thread %s" % (text or self.engine.current))
-        return found
-
     def on_select(self, text):
         """`g` and a thread: what follows is about it. Which one goes on stands in `vCont`."""
         if text[:1] == "g" and text[1:] not in ("-1", "0"):
-            self.engine.current = self.thread(text[1:]).number
+            self.engine.current = self.engine.thread(number(text[1:])).number
         return "OK"
 
     def on_is_alive(self, text):
@@ -183,7 +160,7 @@ class Server:
         return "m" + ",".join("%x" % it for it in self.engine.threads) if self.engine.threads else "l"
 
     def on_thread_name(self, text):
-        return ("hart %d" % (self.thread(text).number - 1)).encode().hex()
+        return ("hart %d" % (self.engine.thread(number(text)).number - 1)).encode().hex()
 
     def on_thread_document(self, text):
         """The list of threads, as one document from its first part to its last."""
@@ -199,7 +176,7 @@ class Server:
         chosen, halted = {}, []
         for part in text.split(";")[1:]:
             action, _, who = part.partition(":")
-            for thread in [self.thread(who)] if who not in ("", "-1", "0") else list(self.engine.threads.values()):
+            for thread in [self.engine.thread(number(who))] if who not in ("", "-1", "0") else list(self.engine.threads.values()):
                 chosen.setdefault(thread, action)
         actions = []
         for thread, action in chosen.items():
@@ -219,63 +196,6 @@ class Server:
 
     def on_stop_taken(self, _):
         return self.mode.taken() if isinstance(self.mode, NonStop) else "E01"
-
-    # Registers and memory.
-
-    def on_registers(self, _):
-        return "".join(map(told, self.engine.read_registers(self.thread(), range(len(NAMES)))))
-
-    def on_set_registers(self, text):
-        """Writes those that differ: `zero` and `pc` can't be written."""
-        thread, values = self.thread(), [taken(text[at : at + 8]) for at in range(0, 8 * len(NAMES), 8)]
-        for register, (old, new) in enumerate(zip(self.engine.read_registers(thread, range(len(NAMES))), values)):
-            if old != new:
-                self.engine.write_register(thread, register, new)
-        return "OK"
-
-    def on_register(self, text):
-        return told(self.engine.read_registers(self.thread(), range(len(NAMES)))[number(text)])
-
-    def on_set_register(self, text):
-        register, value = text.split("=")
-        self.engine.write_register(self.thread(), range(len(NAMES))[number(register)], taken(value))
-        return "OK"
-
-    def on_read(self, text):
-        address, length = numbers(text)
-        return self.engine.read(address, min(length, LONGEST_READ)) or ("E14" if length else "")
-
-    def on_write(self, text):
-        """`ADDRESS,LENGTH:` and the bytes in hexadecimal digits."""
-        return self.write(text, bytes.fromhex)
-
-    def on_write_binary(self, text):
-        """The same with the bytes themselves."""
-        return self.write(text, lambda it: unescaped(it.encode("latin-1")))
-
-    def write(self, text, decoded):
-        """Writes bytes to memory."""
-        place, _, content = text.partition(":")
-        (address, length), whole = numbers(place), decoded(content)
-        if len(whole) != length:
-            raise ValueError("another length")
-        self.engine.write(address, whole)
-        return "OK"
-
-    def on_insert(self, text):
-        return self.change(text, self.engine.points.insert)
-
-    def on_remove(self, text):
-        return self.change(text, lambda *place: self.engine.points.remove(*place, self.engine.is_quiet()))
-
-    @staticmethod
-    def change(text, change):
-        """Changes a breakpoint or a watchpoint: its kind, its address and its length. Other kinds aren't known."""
-        kind, address, length = map(number, text.split(","))
-        if kind not in (BREAKPOINT, WATCHPOINT):
-            return ""
-        change(kind, address, length)
-        return "OK"
 
 
 # What packets begin with, and what answers them.
@@ -300,16 +220,7 @@ PACKETS = {
     "vCtrlC": Server.on_control_c,
     "vStopped": Server.on_stop_taken,
     "vKill": Server.on_leave,
-    "g": Server.on_registers,
-    "G": Server.on_set_registers,
-    "p": Server.on_register,
-    "P": Server.on_set_register,
-    "m": Server.on_read,
-    "M": Server.on_write,
-    "X": Server.on_write_binary,
-    "Z": Server.on_insert,
-    "z": Server.on_remove,
     "D": Server.on_leave,
     "k": Server.on_kill,
 }
-PREFIXES = sorted(PACKETS, key=len, reverse=True)
+PREFIXES = sorted([*PACKETS, *data.PACKETS], key=len, reverse=True)

@@ -11,7 +11,6 @@ import subprocess
 import sys
 
 from rvdbg_dap.mi import Refused
-from rvdbg_dap.sources import advice
 from rvdbg_gdb.engine import PATIENCE, Engine
 from rvdbg_gdb.log import Log
 from rvdbg_gdb.monitor import monitor
@@ -21,6 +20,7 @@ from rvdbg_gdb.server import Server
 CLONE = os.path.dirname(os.path.dirname(os.path.dirname(os.path.realpath(__file__))))
 DESCRIPTION = """Between GDB and rvdbg. In GDB: target remote | %(prog)s [--harts N] FILE"""
 NUMBERS = {"harts": 1, "workers": 0, "slots": 16, "budget": 10**12, "slice": 256}
+ADVICE = ". What a file has to be stands in README.md, under \"A program of your own\": above all no compressed instructions"
 # How long the end of a log may take, in seconds.
 LONG = 600.0
 
@@ -55,11 +55,11 @@ def opened(asked, inbox, log, early):
             continue
         getattr(engine, "take_" + kind)(*rest)
         if "proving and building" in engine.said:
-            engine.debugger.stop(False)
+            engine.stop()
             raise Refused("the debugger isn't built yet. %s FILE </dev/null builds it, which takes 20 to 55 minutes" % asked.rvdbg)
     if engine.is_over:
-        said = re.sub("^rvdbg: ", "", engine.said)
-        raise Refused(advice(said) if said else "the debugger ended with status %s" % engine.debugger.status())
+        said = re.sub("^rvdbg: ", "", engine.said) or "the debugger ended with status %s" % engine.debugger.status()
+        raise Refused(said + ADVICE * said.startswith("Not an accepted ELF file"))
     return engine
 
 
@@ -74,7 +74,7 @@ def finish(engine, log, asked, inbox, early):
     except (Refused, queue.Empty, subprocess.SubprocessError) as error:
         return "rvdbg: no log: %r\n" % error
     finally:
-        engine.debugger.stop(False)
+        engine.stop()
 
 
 def piped(inbox):
@@ -128,4 +128,4 @@ def main():
         return 1
     finally:
         if engine:
-            engine.debugger.stop(False)
+            engine.stop()

@@ -2,8 +2,8 @@
 
 `tests/gdb/NAME` has `commands`, `words` of the bridge behind `--rvdbg PROGRAM`, where there are some, and for each program that it
 is for what was printed, as `PROGRAM.output`. A line of `commands` that begins with `#wait` waits until what the expression behind it
-fits was printed since the last command; GDB is started anew for each program. `tests/checks/gdb.py store PROGRAM [NAME..]` stores them anew.
-Debian's gdb-multiarch 13.1 printed what is stored. Where it isn't installed the sessions are passed over.
+fits was printed since the last command; GDB is started anew for each program. `tests/checks/gdb.py store PROGRAM [NAME..]` stores them
+anew. Debian's gdb-multiarch 13.1 printed what is stored. Where it isn't installed the sessions are passed over.
 """
 
 import os

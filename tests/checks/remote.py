@@ -102,8 +102,8 @@ def check_packets(rig, name):
             at += len(whole) - 1
         rig.row(name + ": the description in parts", whole.endswith("</target>"), True)
         rig.row(name + ": to the end of a stack", (len(remote.ask("meffffff0,40")), remote.ask("mf0000000,4")), (32, "E14"))
-        rig.row(name + ": data", (remote.ask("Mefffff00,4:01020304"), remote.ask("Xefffff02,2:}\3}]"), remote.ask("mefffff00,4")), ("OK", "OK", "0102237d"))
-        rig.row(name + ": no data", (remote.ask("M10074,4:00000000"), remote.ask("X0,0:")), ("E.Cannot write memory at address 0x00010074", "OK"))
+        found = [remote.ask(it) for it in ("Mefffff00,4:01020304", "Xefffff02,2:}\3}]", "mefffff00,4", "M10074,4:00000000", "X0,0:")]
+        rig.row(name + ": writes", found, ["OK", "OK", "0102237d", "E.Cannot write memory at address 0x00010074", "OK"])
         whole = remote.ask("g")
         written = whole[:248] + "0a0b0c0d" + whole[256:]
         rig.row(name + ": registers", (remote.ask("G" + written), remote.ask("g"), remote.ask("p1f")), ("OK", written, "0a0b0c0d"))
@@ -143,7 +143,8 @@ def check_ends(rig, name):
     with Remote(rig, loop, debugger=peer(rig, "cut")).open() as remote:
         remote.ask("QNonStop:1")
         remote.ask("vCont;c:1")
-        rig.row(name + ": in non-stop mode", (remote.notified(), remote.process.stderr.readline()), (["X09"], b"rvdbg: the budget of instructions is used up: --budget sets it\n"))
+        said = b"rvdbg: the budget of instructions is used up: --budget sets it\n"
+        rig.row(name + ": in non-stop mode", (remote.notified(), remote.process.stderr.readline()), (["X09"], said))
     for words, debugger, text in (
         (["/nowhere"], None, b"there is no file"),
         ([sys.executable], None, b"Not an accepted ELF file"),
@@ -173,7 +174,8 @@ def any_lives(pids):
 
 def check_ports(rig, name):
     """Over TCP: two bridges at once, each with one client; a second client is refused, and one that goes ends its bridge."""
-    with Remote(rig, "--port", "0", "fault-gcc-O0").connect().open() as first, Remote(rig, "--port=0", "alone-gcc-O0").connect().open() as second:
+    first, second = (Remote(rig, "--port", "0", it).connect().open() for it in ("fault-gcc-O0", "alone-gcc-O0"))
+    with first, second:
         port = first.socket.getpeername()[1]
         try:
             socket.create_connection(("127.0.0.1", port)).close()
@@ -199,7 +201,8 @@ def check_logs(rig, name):
         remote.ask("vCont;c")
         remote.process.stdin.close()
         said = remote.process.stderr.read().decode()
-        rig.row(name + ": a log", (re.fullmatch("rvdbg: %s: check accepted [0-9]+\n" % log, said) is not None, remote.process.wait(PATIENCE)), (True, 0))
+        is_accepted = re.fullmatch("rvdbg: %s: check accepted [0-9]+\n" % re.escape(log), said) is not None
+        rig.row(name + ": a log", (is_accepted, remote.process.wait(PATIENCE)), (True, 0))
 
 
 def check_remote(rig):
