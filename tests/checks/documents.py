@@ -4,7 +4,7 @@
   anything. So has each text of the table of errors. Each command of a table is typed in a stored session.
 - Each file of the repository that a document names, in a command too, is there: from the top, from the document, or in the crate that is named before it.
 - Each name of the code, of a definition or of a file of them in the documents for those who change it stands in some crate,
-  and the lists of crates are whole.
+  the list of crates is whole, and the files of the reading list have as many lines as it says.
 """
 
 import os
@@ -21,6 +21,7 @@ COMMAND = re.compile(r"-[a-z]+(?:-[a-z]+)+")
 PATH = re.compile(r"(?:crates|tests|bench|examples|editors|docs|tools|\.ci)/[a-z0-9_./-]+|\.\./[A-Z]+\.md|[A-Z]+\.md")
 IN_A_CRATE = re.compile(r"(?:src|specs|proofs)/[A-Za-z0-9_/.]+")
 NAME = re.compile(r"[A-Za-z]\w*(?:::\w+)*|\w+\.(?:rt|antt)")
+READING = re.compile(r"(?m)^\| `(\w+)` ([A-Z]\w+(?:, [A-Z]\w+)*) \| (\d+) \|")
 OTHER_NAMES = {"examples", "stdin", "stdout", "objdump", "readelf", "gcc", "clang", "rt", "elf", "Is", "Are", "is_"}
 WITH_NAMES = tuple("docs/%s.md" % it for it in ("ARCHITECTURE", "CONTRIBUTING", "DECISIONS", "GUARANTEES", "PERFORMANCE"))
 
@@ -104,14 +105,20 @@ def check_names(rig, names, name, text):
 
 
 def check_crates(rig, top):
-    """The list of crates in ARCHITECTURE has each once, and GUARANTEES goes through them in its order, but for the test programs."""
+    """The list of crates in ARCHITECTURE has each once."""
     listed = bytes_of(top, "docs", "ARCHITECTURE.md").decode().split("\n## The crates\n")[1].split("\n## ")[0]
     cells = [line.split(" | ")[0] for line in listed.splitlines() if line.startswith("| `")]
     names = [name for cell in cells for name in SPAN.findall(cell)]
     crates = re.findall(r"(?m)^(\w+)[^:\n#]*:", bytes_of(top, "crates.txt").decode())
     rig.row("the crates of ARCHITECTURE", sorted(names), sorted(crates))
-    promised = re.findall(r"(?m)^- \*\*(\w+)\.\*\*", bytes_of(top, "docs", "GUARANTEES.md").decode())
-    rig.row("the crates of GUARANTEES", promised, [name for name in names if not name.startswith("test_")])
+
+
+def check_reading(rig, top):
+    """The files of definitions that GUARANTEES lists have as many lines as it says."""
+    rows = READING.findall(bytes_of(top, "docs", "GUARANTEES.md").decode())
+    places = [[os.path.join(top, "crates", crate, "specs", it + ".antt") for it in files.split(", ")] for crate, files, _ in rows]
+    counts = [sum(bytes_of(it).count(b"\n") for it in files) for files in places]
+    rig.row("the lines of the reading list", [int(it) for _, _, it in rows], counts)
 
 
 def typed_commands(sessions):
@@ -127,6 +134,7 @@ def check_named(rig, top):
     lines = session_lines(sessions).decode("ascii", "backslashreplace")
     typed, names = typed_commands(sessions), code_names(top)
     check_crates(rig, top)
+    check_reading(rig, top)
     for name, text in documents(top):
         check_records(rig, lines, name, text)
         check_commands(rig, typed, name, text)

@@ -3,7 +3,8 @@
 - A block of README.md or docs/ that begins with ```mi is a session: `$ ./rvdbg WORDS`, and then lines, of which those that begin with
   `-`, with or without a token, are the input and the others the output.
 - The lines of a block ```sh that call a compiler are run where it is installed, beside the repository's `examples`; what they make has to
-  come to a stop at the line of its source for which the document has `-break-insert FILE:LINE`. The others aren't run.
+  come to a stop at the line of its source for which the document has `-break-insert FILE:LINE`. Those of TUTORIAL.md that call `./rvdbg` or
+  Python are run one after the other, and what they print stands in its text. The others aren't run.
 - `examples/NAME/session.mi` is the input of a session, `session.out` its output, and `args` the words, one a line. `columns.out` is what
   `columns.py` draws of it, `examples/timeline/lock.svg` the picture of its log, and `examples/front-end/table.out` what the front end prints.
 """
@@ -52,12 +53,24 @@ def check_compilers(rig, top, name, text):
         os.symlink(os.path.join(top, "examples"), os.path.join(place, "examples"))
         shutil.copy(os.path.join(top, "examples", made, source), place)
         subprocess.run(words, cwd=place, check=True, timeout=60)
-        number = re.search(r"-break-insert %s:([0-9]+)" % re.escape(source), text).group(1)
+        number = re.search(r"-break-insert .*\b%s:([0-9]+)" % re.escape(source), text).group(1)
         asked = "-break-insert %s:%s\n-exec-continue\n-exec-wait\n-gdb-exit\n" % (source, number)
         status, output = rig.run(["--workers", "0", os.path.join(place, made)], asked.encode())
         stop = b'*stopped,reason="breakpoint-hit"'
         lines = [it for it in output.splitlines() if it.startswith(stop) and b'file="%s",line="%s"' % (source.encode(), number.encode()) in it]
         rig.row("%s of %s: status and stops" % (words[0], name), (status, len(lines)), (0, 1))
+
+
+def check_shell(rig, top, text):
+    """The lines of shell of the tutorial, in a folder of their own; what they print has to stand there as code."""
+    place = os.path.join(rig.folder, "shell")
+    os.makedirs(place)
+    os.symlink(os.path.join(top, "examples"), os.path.join(place, "examples"))
+    os.symlink(rig.program, os.path.join(place, "rvdbg"))
+    for line in [line for block in SHELL.findall(text) for line in block.splitlines() if line.startswith(("./rvdbg", "python3"))]:
+        done = subprocess.run(["sh", "-c", line], cwd=place, stdout=subprocess.PIPE, timeout=60)
+        told = done.stdout.decode().splitlines()
+        rig.row("`%s`" % line, (done.returncode, [it for it in told if "`%s`" % it not in text]), (0, []))
 
 
 def printed(words, top, input=b""):
@@ -67,7 +80,7 @@ def printed(words, top, input=b""):
 
 def check_folders(rig, top):
     """The sessions of the examples, the pictures and the front end."""
-    for name in ("euclid", "lock", "mine"):
+    for name in ("counter", "euclid", "lock", "mine"):
         folder = os.path.join(top, "examples", name)
         words = bytes_of(folder, "args").decode().split("\n")[:-1]
         found = rig.run(placed(words, top), bytes_of(folder, "session.mi"))
@@ -88,4 +101,5 @@ def check_examples(rig, top):
         rig.guarded("sessions of " + name, lambda: check_sessions_shown(rig, top, name, text))
         rig.guarded("compilers of " + name, lambda: check_compilers(rig, top, name, text))
     check_named(rig, top)
+    rig.guarded("shell of the tutorial", lambda: check_shell(rig, top, bytes_of(top, "docs", "TUTORIAL.md").decode()))
     rig.guarded("examples", lambda: check_folders(rig, top))
