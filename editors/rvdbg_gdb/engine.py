@@ -46,6 +46,8 @@ class Engine:
     def __init__(self, words, inbox, copy):
         self.say, self.threads, self.order, self.words = lambda text: None, {}, [], {}
         self.exit_code, self.is_open, self.is_over, self.said, self.current = None, False, False, "", 1
+        # The registers that GDB has written without a packet of another kind between, and whether it prepares a call of a function.
+        self.written, self.is_calling = [], False
         self.points = Points(self.ask)
         self.debugger = Debugger(words, inbox, copy)
 
@@ -186,7 +188,7 @@ class Engine:
         self.ask("-exec-continue --all")
 
     def go(self, command, thread):
-        thread.registers = {}
+        thread.registers, self.is_calling = {}, False
         self.ask("%s --thread %d" % (command, thread.number))
 
     def walk_on(self, thread, start, end):
@@ -237,7 +239,10 @@ class Engine:
         return [thread.registers[it] for it in numbers]
 
     def write_register(self, thread, number, value):
-        """Writes a register."""
+        """Writes a register, but not for a call: GDB would find only then that it can't write `pc`, with the others written already."""
+        is_calling, self.is_calling = self.is_calling, False
+        if is_calling:
+            raise Refused("no function of the program can be called, since pc can't be written")
         self.ask("-gdb-set --thread %d $%s=0x%x" % (thread.number, NAMES[number], value))
         thread.registers[number] = value
 

@@ -93,6 +93,8 @@ class Server:
 
     def answer(self, prefix, text):
         """The answer to a packet that begins so; what goes on is `text`."""
+        if prefix != "P":
+            self.engine.written = []
         if prefix in data.PACKETS:
             return data.PACKETS[prefix](self.engine, text)
         return PACKETS[prefix](self, text) if prefix else ""
