@@ -1,7 +1,8 @@
 """What is between GDB and the debugger: packets are answered, and what happens is told."""
 
+import os
 import queue
-import sys
+import select
 
 from rvdbg_dap.mi import Refused
 from rvdbg_gdb import data
@@ -15,7 +16,8 @@ FEATURES = (
 )
 # How long GDB has to be silent until its connection stands, in seconds.
 LULL = 0.1
-LONGEST_TEXT = 4096
+# What is put into GDB's console at once, and what is kept for it where it doesn't read.
+LONGEST_TEXT, LONGEST_UNSAID = 4096, 1 << 20
 
 
 class Server:
@@ -26,7 +28,7 @@ class Server:
 
     def __init__(self, client, engine, finish, command):
         self.client, self.engine, self.finish, self.command = client, engine, finish, command
-        self.is_done, self.is_finished, self.unsaid, self.document = False, False, [], ""
+        self.is_done, self.is_finished, self.unsaid, self.document = False, False, "", ""
         self.mode, self.has_swbreak = None, False
         self.on_non_stop("0")
         engine.say = self.say
@@ -42,6 +44,7 @@ class Server:
             except Refused as refusal:
                 self.say("rvdbg: %s\n" % refusal)
             self.settle()
+            self.say("")
 
     def settle(self):
         """Tells what there is to tell of threads."""
@@ -56,19 +59,20 @@ class Server:
         In all-stop mode GDB takes one while it waits for a stop, so another time it is kept till then. In non-stop mode it takes none:
         there it goes to standard error, which GDB shows where it has started the bridge.
         """
-        self.unsaid.append(text)
+        self.unsaid = (self.unsaid + text)[-LONGEST_UNSAID:]
         if self.mode.is_waiting and not self.is_done:
-            whole, self.unsaid = "".join(self.unsaid), []
+            whole, self.unsaid = self.unsaid.encode("latin-1", "replace"), ""
             for at in range(0, len(whole), LONGEST_TEXT):
-                self.client.send("O" + whole[at : at + LONGEST_TEXT].encode("latin-1", "replace").hex())
+                self.client.send("O" + whole[at : at + LONGEST_TEXT].hex())
         elif isinstance(self.mode, NonStop) or self.is_done:
             self.spill()
 
-    def spill(self):
-        """Writes what isn't said to standard error."""
-        sys.stderr.buffer.write("".join(self.unsaid).encode("latin-1", "replace"))
-        sys.stderr.flush()
-        self.unsaid = []
+    def spill(self, patience=0.0):
+        """Writes what isn't said to standard error, as far as it is read: GDB reads it beside the packets alone."""
+        whole = self.unsaid.encode("latin-1", "replace")
+        while whole and select.select([], [2], [], patience)[1]:
+            whole = whole[os.write(2, whole[:LONGEST_TEXT]) :]
+        self.unsaid = whole.decode("latin-1")
 
     def close(self):
         """The session is over: ends the debugger, once."""
