@@ -23,8 +23,9 @@ STATUSES = {
 
 # Who wants a thread to stop: the user by Ctrl-C, GDB by `vCont;t`, or the bridge, since another thread has stopped.
 USER, GDB, BRIDGE = "user", "gdb", "bridge"
-# Why a thread has stopped. `kind` is `breakpoint`, `watch`, `monitor`, `signal`, `interrupt` or `step`, `at` the address that it is about.
-Stop = collections.namedtuple("Stop", "kind signal at")
+# Why a thread has stopped. `kind` is `breakpoint`, `watch`, `monitor`, `signal`, `interrupt`, `step` or `exit`, `at` the address that it is about,
+# and `asked` says who wanted a stop and waits for one.
+Stop = collections.namedtuple("Stop", "kind signal at asked", defaults=[None])
 # A way over a range of addresses, with the numbers of the breakpoints that stand at its end meanwhile.
 Walk = collections.namedtuple("Walk", "start end numbers")
 
@@ -40,14 +41,15 @@ class Thread:
 class Engine:
     """The debugger with one program. `say` takes what is to stand in GDB's console.
 
-    `order` has the threads whose stops aren't told, `current` is the number of the one that GDB looks at.
+    `order` has the threads whose stops aren't told, `current` is the number of the one that GDB looks at, and `tells_exits` says whether
+    GDB wants to hear of each thread that exits.
     """
 
     def __init__(self, words, inbox, copy):
         self.say, self.threads, self.order, self.words = lambda text: None, {}, [], {}
         self.exit_code, self.is_open, self.is_over, self.said, self.current = None, False, False, "", 1
         # The registers that GDB has written without a packet of another kind between, and whether it prepares a call of a function.
-        self.written, self.is_calling = [], False
+        self.written, self.is_calling, self.tells_exits = [], False, False
         self.points = Points(self.ask)
         self.debugger = Debugger(words, inbox, copy)
 
@@ -107,6 +109,9 @@ class Engine:
             thread = self.threads.pop(int(fields["id"]))
             self.forget(thread)
             self.lift(thread)
+            if self.tells_exits:
+                thread.stop = Stop("exit", 0, 0)
+                self.order.append(thread)
         elif told.name == "stopped" and fields["reason"].startswith("exited"):
             self.exit_code = int(fields.get("exit-code", "0"), 8)
         elif told.name == "stopped":
@@ -127,7 +132,7 @@ class Engine:
         if stop.kind == "interrupt" and asked == GDB:
             stop = stop._replace(signal=0)
         if stop.kind != "interrupt" or asked != BRIDGE:
-            thread.stop = stop
+            thread.stop = stop._replace(asked=asked)
             self.order.append(thread)
 
     def stop_of(self, fields, pc, is_inner):

@@ -18,6 +18,8 @@ class Mode:
 
     def text(self, thread, stop):
         """A stop reply, with the registers that GDB asks for first. Of a watch and a breakpoint the watch is told."""
+        if stop.kind == "exit":
+            return "w00;%x" % thread.number
         if stop.kind == "breakpoint":
             is_sure = self.engine.is_quiet() and all(it.stop.kind != "breakpoint" for it in self.engine.order)
             hidden = self.engine.points.hidden(is_sure)
@@ -127,10 +129,12 @@ class NonStop(Mode):
         return "OK"
 
     def halt(self, threads):
-        """Threads are to stop."""
+        """Threads are to stop. For one that has done so, and isn't told yet, GDB waits from now on."""
         for thread in threads:
             if thread.is_running:
                 self.engine.interrupt(thread, GDB)
+            elif thread.stop:
+                thread.stop = thread.stop._replace(asked=GDB)
 
     def interrupt(self, first):
         """Ctrl-C stops the thread that GDB looks at, or another one that runs."""
@@ -153,12 +157,12 @@ class NonStop(Mode):
         return text or "OK"
 
     def next(self):
-        """The next stop, or nothing. A thread that stands at a breakpoint that is gone goes on as it did."""
+        """The next stop, or nothing. A thread that stands at a breakpoint that is gone goes on as it did, unless it was to stop."""
         while self.engine.order and not self.engine.is_over:
             thread = self.engine.order[0]
             stop = self.engine.forget(thread)
-            if not self.engine.is_stale(stop):
-                return self.text(thread, stop)
+            if not self.engine.is_stale(stop) or stop.asked:
+                return self.text(thread, Stop("interrupt", 0, stop.at) if self.engine.is_stale(stop) else stop)
             self.engine.resume(thread, *thread.action)
         text = None if self.is_over else self.end()
         self.is_over = self.is_over or text is not None

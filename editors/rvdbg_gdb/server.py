@@ -12,7 +12,8 @@ from rvdbg_gdb.registers import DESCRIPTION
 
 MALFORMED = (ValueError, KeyError, IndexError, OverflowError)
 FEATURES = (
-    "PacketSize=4000;QStartNoAckMode+;QNonStop+;qXfer:features:read+;qXfer:threads:read+;vContSupported+;swbreak+;no-resumed+"
+    "PacketSize=4000;QStartNoAckMode+;QNonStop+;qXfer:features:read+;qXfer:threads:read+;QThreadEvents+;vContSupported+;swbreak+;"
+    "no-resumed+"
 )
 # How long GDB has to be silent until its connection stands, in seconds.
 LULL = 0.1
@@ -165,6 +166,11 @@ class Server:
     def on_threads(self, _):
         return "m" + ",".join("%x" % it for it in self.engine.threads) if self.engine.threads else "l"
 
+    def on_thread_events(self, text):
+        """GDB waits for threads that it stops: where one exits meanwhile it has to hear of that."""
+        self.engine.tells_exits = {"0": False, "1": True}[text]
+        return "OK"
+
     def on_thread_name(self, text):
         return ("hart %d" % (self.engine.thread(number(text)).number - 1)).encode().hex()
 
@@ -213,6 +219,7 @@ PACKETS = {
     "qXfer:threads:read::": Server.on_thread_document,
     "qfThreadInfo": Server.on_threads,
     "qsThreadInfo": lambda *_: "l",
+    "QThreadEvents:": Server.on_thread_events,
     "qThreadExtraInfo,": Server.on_thread_name,
     "qAttached": lambda *_: "0",
     "qSymbol": lambda *_: "OK",
