@@ -9,7 +9,7 @@ from rvdbg_gdb.points import Points
 from rvdbg_gdb.ranges import edges
 from rvdbg_gdb.registers import NAMES, PC
 
-PATIENCE, MOST_EXITS, LONGEST_READ, LONGEST_WRITE, BLOCK = 10.0, 8, 4096, 1024, 256
+PATIENCE, MOST_EXITS, LONGEST_READ, LONGEST_WRITE, BLOCK = 60.0, 8, 4096, 1024, 256
 # The numbers of the signals in the protocol (GDB's include/gdb/signals.def).
 SIGNALS = {"SIGINT": 2, "SIGILL": 4, "SIGTRAP": 5, "SIGBUS": 10, "SIGSEGV": 11}
 

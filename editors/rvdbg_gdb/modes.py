@@ -1,7 +1,7 @@
 """How stops are told: in all-stop mode one after the other while nothing runs, in non-stop mode each for its thread alone."""
 
-from rvdbg_gdb.engine import BRIDGE, GDB, USER, Stop
-from rvdbg_gdb.registers import FIRST, told
+from rvdbg_gdb.engine import BRIDGE, GDB, SIGNALS, USER, Stop
+from rvdbg_gdb.registers import FIRST, PC, told
 
 
 class Mode:
@@ -57,7 +57,7 @@ class AllStop(Mode):
     def why(self):
         """Answers the question why it stands."""
         threads = list(self.engine.threads.values())
-        return self.text(threads[0], Stop("step", 5, 0)) if threads else self.end()
+        return self.text(threads[0], Stop("step", SIGNALS["SIGTRAP"], 0)) if threads else self.end()
 
     def go(self, actions):
         """Threads go on, and GDB waits. A stop that it hasn't heard of is told before its thread moves."""
@@ -157,13 +157,24 @@ class NonStop(Mode):
         return text or "OK"
 
     def next(self):
-        """The next stop, or nothing. A thread that stands at a breakpoint that is gone goes on as it did, unless it was to stop."""
+        """The next stop, or nothing."""
         while self.engine.order and not self.engine.is_over:
             thread = self.engine.order[0]
             stop = self.engine.forget(thread)
-            if not self.engine.is_stale(stop) or stop.asked:
-                return self.text(thread, Stop("interrupt", 0, stop.at) if self.engine.is_stale(stop) else stop)
-            self.engine.resume(thread, *thread.action)
+            if self.engine.is_stale(stop):
+                stop = self.without_point(thread, stop)
+            if stop:
+                return self.text(thread, stop)
         text = None if self.is_over else self.end()
         self.is_over = self.is_over or text is not None
         return text
+
+    def without_point(self, thread, stop):
+        """What a stop is told as whose breakpoint is gone: what GDB waits for, or nothing, and the thread goes on as it did."""
+        action, start, end = (*thread.action, 0, 0)[:3]
+        if stop.asked:
+            return Stop("interrupt", 0, stop.at)
+        if action == "s" or action == "r" and not start <= thread.registers[PC] < end:
+            return Stop("step", SIGNALS["SIGTRAP"], stop.at)
+        self.engine.resume(thread, action, start, end)
+        return None

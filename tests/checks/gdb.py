@@ -28,7 +28,11 @@ PROGRAMS = os.path.join(HERE, "programs")
 GDB = "gdb-multiarch"
 # GDB's prompts: that of its command line, and that for the commands of a breakpoint.
 PROMPTED = re.compile(rb"\(gdb\) |\A>\Z")
-SETTINGS = ["set pagination off", "set confirm off", "set width 0", "set style enabled off", "set print thread-events off"]
+SETTINGS = [
+    *("set pagination off", "set confirm off", "set width 0", "set style enabled off", "set print thread-events off"),
+    # (in seconds, for machines that are busy)
+    "set remotetimeout 30",
+]
 
 
 class Gdb:

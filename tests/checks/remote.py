@@ -135,9 +135,10 @@ def check_ends(rig, name):
     with Remote(rig, "alone-gcc-O0").open() as remote:
         rig.row(name + ": a code", (remote.ask("vCont;c"), remote.ask("qfThreadInfo"), remote.ask("?")), ("W69", "l", "W69"))
     with Remote(rig, "--harts", "2", "alone-gcc-O0").open() as remote:
-        for asked in ("QNonStop:1", "QThreadEvents:1", "?", "vStopped", "vCont;c"):
+        for asked in ("QNonStop:1", "QThreadEvents:1", "?", "vStopped"):
             remote.ask(asked)
-        found = []
+        found = remote.notified()[1:]
+        remote.ask("vCont;c")
         while not found or found[-1][:1] != "W":
             found += [it for it in remote.notified() if it[:1] != "T"]
         rig.row(name + ": of each thread", sorted(it.split(";")[-1] for it in found[:2]), ["1", "2"])
