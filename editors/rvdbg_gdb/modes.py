@@ -106,9 +106,12 @@ class AllStop(Mode):
 
 
 class NonStop(Mode):
-    """Each stop is notified, one at a time: GDB takes it, and asks for the next one."""
+    """Each stop is notified, one at a time: GDB takes it, and asks for the next one.
 
-    is_notified, is_over = False, False
+    `sent` is the thread whose stop is on its way. Until GDB has taken it, what lets all threads go on isn't meant for that one.
+    """
+
+    is_notified, is_over, sent = False, False, None
 
     def why(self):
         """Answers the question why it stands, of one thread; of the others it is told once GDB's connection stands.
@@ -125,7 +128,7 @@ class NonStop(Mode):
     def go(self, actions):
         """Threads go on by themselves. One whose stop GDB hasn't heard of stands: it hears of it now."""
         self.is_opening = False
-        self.resume([it for it in actions if not it[0].is_running and not it[0].stop])
+        self.resume([it for it in actions if not it[0].is_running and not it[0].stop and it[0] is not self.sent])
         return "OK"
 
     def halt(self, threads):
@@ -152,6 +155,7 @@ class NonStop(Mode):
 
     def taken(self):
         """GDB has taken a stop: gives it the next one."""
+        self.sent = None
         text = None if self.is_opening else self.next()
         self.is_notified = text is not None
         return text or "OK"
@@ -164,6 +168,7 @@ class NonStop(Mode):
             if self.engine.is_stale(stop):
                 stop = self.without_point(thread, stop)
             if stop:
+                self.sent = thread
                 return self.text(thread, stop)
         text = None if self.is_over else self.end()
         self.is_over = self.is_over or text is not None

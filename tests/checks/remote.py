@@ -126,8 +126,8 @@ def check_pending(rig, name):
         rig.row(name + ": each one", [it[:20] for it in remote.notified()], ["T05thread:1;swbreak:", "T05thread:2;swbreak:"])
         remote.ask("vCont;c")
         first = remote.packet()
-        found = [remote.ask(it)[:11] for it in ("z0,10074,4", "vCont;t:2", "vStopped", "vStopped")]
-        rig.row(name + ": one that was to stop", (first[1][:25], found), ("Stop:T05thread:1;swbreak:", ["OK", "OK", "T00thread:2", "OK"]))
+        found = [remote.ask(it)[:11] for it in ("vCont;c", "z0,10074,4", "vCont;t:2", "vStopped", "vStopped")]
+        rig.row(name + ": one that was to stop", (first[1][:25], found), ("Stop:T05thread:1;swbreak:", ["OK", "OK", "OK", "T00thread:2", "OK"]))
 
 
 def check_ends(rig, name):
