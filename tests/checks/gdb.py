@@ -19,7 +19,7 @@ if __name__ == "__main__":
     sys.dont_write_bytecode = True
     sys.path.insert(0, os.path.dirname(os.path.dirname(os.path.realpath(__file__))))
 
-from checks.rig import PATIENCE, Rig  # noqa: E402
+from checks.rig import Rig  # noqa: E402
 
 TOP = os.path.dirname(os.path.dirname(os.path.dirname(os.path.realpath(__file__))))
 BRIDGE = os.path.join(TOP, "editors", "rvdbg-gdb")
@@ -31,8 +31,9 @@ PROMPTED = re.compile(rb"\(gdb\) |\A>\Z")
 SETTINGS = [
     *("set pagination off", "set confirm off", "set width 0", "set style enabled off", "set print thread-events off"),
     # (in seconds, for machines that are busy)
-    "set remotetimeout 30",
+    "set remotetimeout 120",
 ]
+PATIENCE = 120.0
 
 
 class Gdb:
