@@ -1,11 +1,14 @@
 """Packets about registers, memory and breakpoints: each is answered from the engine alone."""
 
+from rvdbg_dap.mi import Refused
 from rvdbg_gdb.engine import LONGEST_READ
 from rvdbg_gdb.packets import number, numbers, unescaped
 from rvdbg_gdb.points import BREAKPOINT, WATCHPOINT
-from rvdbg_gdb.registers import NAMES, taken, told
+from rvdbg_gdb.registers import NAMES, SP, taken, told
 
 ALL = range(len(NAMES))
+# What GDB writes below the stack when it is about to have the program call a function (riscv_push_dummy_code of riscv-tdep.c).
+NOP, BELOW = bytes.fromhex("13000000"), 64
 
 
 def read_registers(engine, _):
@@ -28,9 +31,17 @@ def read_register(engine, text):
 
 
 def write_register(engine, text):
-    """`NUMBER=VALUE`."""
+    """`NUMBER=VALUE`. GDB writes `pc` last, for a `return` as well: where that is refused, the registers before it are put back."""
     register, value = text.split("=")
-    engine.write_register(engine.thread(), ALL[number(register)], taken(value))
+    thread, register, value = engine.thread(), ALL[number(register)], taken(value)
+    (old,) = engine.read_registers(thread, (register,))
+    try:
+        engine.write_register(thread, register, value)
+        engine.written.append((thread, register, old))
+    except Refused:
+        for change in reversed(engine.written):
+            engine.write_register(*change)
+        raise
     return "OK"
 
 
@@ -47,6 +58,8 @@ def write(engine, text, decoded=bytes.fromhex):
     if len(whole) != length:
         raise ValueError("another length")
     engine.write(address, whole)
+    if whole == NOP and 0 < engine.read_registers(engine.thread(), (SP,))[0] - address <= BELOW:
+        engine.is_calling = True
     return "OK"
 
 

@@ -9,7 +9,7 @@ from rvdbg_gdb.points import Points
 from rvdbg_gdb.ranges import edges
 from rvdbg_gdb.registers import NAMES, PC
 
-PATIENCE, MOST_EXITS, LONGEST_READ, LONGEST_WRITE, BLOCK = 10.0, 8, 4096, 1024, 256
+PATIENCE, MOST_EXITS, LONGEST_READ, LONGEST_WRITE, BLOCK = 60.0, 8, 4096, 1024, 256
 # The numbers of the signals in the protocol (GDB's include/gdb/signals.def).
 SIGNALS = {"SIGINT": 2, "SIGILL": 4, "SIGTRAP": 5, "SIGBUS": 10, "SIGSEGV": 11}
 
@@ -23,8 +23,9 @@ STATUSES = {
 
 # Who wants a thread to stop: the user by Ctrl-C, GDB by `vCont;t`, or the bridge, since another thread has stopped.
 USER, GDB, BRIDGE = "user", "gdb", "bridge"
-# Why a thread has stopped. `kind` is `breakpoint`, `watch`, `monitor`, `signal`, `interrupt` or `step`, `at` the address that it is about.
-Stop = collections.namedtuple("Stop", "kind signal at")
+# Why a thread has stopped. `kind` is `breakpoint`, `watch`, `monitor`, `signal`, `interrupt`, `step` or `exit`, `at` the address that it is about,
+# and `asked` says who wanted a stop and waits for one.
+Stop = collections.namedtuple("Stop", "kind signal at asked", defaults=[None])
 # A way over a range of addresses, with the numbers of the breakpoints that stand at its end meanwhile.
 Walk = collections.namedtuple("Walk", "start end numbers")
 
@@ -40,12 +41,15 @@ class Thread:
 class Engine:
     """The debugger with one program. `say` takes what is to stand in GDB's console.
 
-    `order` has the threads whose stops aren't told, `current` is the number of the one that GDB looks at.
+    `order` has the threads whose stops aren't told, `current` is the number of the one that GDB looks at, and `tells_exits` says whether
+    GDB wants to hear of each thread that exits.
     """
 
     def __init__(self, words, inbox, copy):
         self.say, self.threads, self.order, self.words = lambda text: None, {}, [], {}
         self.exit_code, self.is_open, self.is_over, self.said, self.current = None, False, False, "", 1
+        # The registers that GDB has written without a packet of another kind between, and whether it prepares a call of a function.
+        self.written, self.is_calling, self.tells_exits = [], False, False
         self.points = Points(self.ask)
         self.debugger = Debugger(words, inbox, copy)
 
@@ -105,6 +109,9 @@ class Engine:
             thread = self.threads.pop(int(fields["id"]))
             self.forget(thread)
             self.lift(thread)
+            if self.tells_exits:
+                thread.stop = Stop("exit", 0, 0)
+                self.order.append(thread)
         elif told.name == "stopped" and fields["reason"].startswith("exited"):
             self.exit_code = int(fields.get("exit-code", "0"), 8)
         elif told.name == "stopped":
@@ -125,7 +132,7 @@ class Engine:
         if stop.kind == "interrupt" and asked == GDB:
             stop = stop._replace(signal=0)
         if stop.kind != "interrupt" or asked != BRIDGE:
-            thread.stop = stop
+            thread.stop = stop._replace(asked=asked)
             self.order.append(thread)
 
     def stop_of(self, fields, pc, is_inner):
@@ -186,7 +193,7 @@ class Engine:
         self.ask("-exec-continue --all")
 
     def go(self, command, thread):
-        thread.registers = {}
+        thread.registers, self.is_calling = {}, False
         self.ask("%s --thread %d" % (command, thread.number))
 
     def walk_on(self, thread, start, end):
@@ -237,7 +244,10 @@ class Engine:
         return [thread.registers[it] for it in numbers]
 
     def write_register(self, thread, number, value):
-        """Writes a register."""
+        """Writes a register, but not for a call: GDB would find only then that it can't write `pc`, with the others written already."""
+        is_calling, self.is_calling = self.is_calling, False
+        if is_calling:
+            raise Refused("no function of the program can be called, since pc can't be written")
         self.ask("-gdb-set --thread %d $%s=0x%x" % (thread.number, NAMES[number], value))
         thread.registers[number] = value
 

@@ -1,7 +1,7 @@
 """How stops are told: in all-stop mode one after the other while nothing runs, in non-stop mode each for its thread alone."""
 
-from rvdbg_gdb.engine import BRIDGE, GDB, USER, Stop
-from rvdbg_gdb.registers import FIRST, told
+from rvdbg_gdb.engine import BRIDGE, GDB, SIGNALS, USER, Stop
+from rvdbg_gdb.registers import FIRST, PC, told
 
 
 class Mode:
@@ -18,6 +18,8 @@ class Mode:
 
     def text(self, thread, stop):
         """A stop reply, with the registers that GDB asks for first. Of a watch and a breakpoint the watch is told."""
+        if stop.kind == "exit":
+            return "w00;%x" % thread.number
         if stop.kind == "breakpoint":
             is_sure = self.engine.is_quiet() and all(it.stop.kind != "breakpoint" for it in self.engine.order)
             hidden = self.engine.points.hidden(is_sure)
@@ -55,7 +57,7 @@ class AllStop(Mode):
     def why(self):
         """Answers the question why it stands."""
         threads = list(self.engine.threads.values())
-        return self.text(threads[0], Stop("step", 5, 0)) if threads else self.end()
+        return self.text(threads[0], Stop("step", SIGNALS["SIGTRAP"], 0)) if threads else self.end()
 
     def go(self, actions):
         """Threads go on, and GDB waits. A stop that it hasn't heard of is told before its thread moves."""
@@ -104,9 +106,12 @@ class AllStop(Mode):
 
 
 class NonStop(Mode):
-    """Each stop is notified, one at a time: GDB takes it, and asks for the next one."""
+    """Each stop is notified, one at a time: GDB takes it, and asks for the next one.
 
-    is_notified, is_over = False, False
+    `sent` is the thread whose stop is on its way. Until GDB has taken it, what lets all threads go on isn't meant for that one.
+    """
+
+    is_notified, is_over, sent = False, False, None
 
     def why(self):
         """Answers the question why it stands, of one thread; of the others it is told once GDB's connection stands.
@@ -123,14 +128,16 @@ class NonStop(Mode):
     def go(self, actions):
         """Threads go on by themselves. One whose stop GDB hasn't heard of stands: it hears of it now."""
         self.is_opening = False
-        self.resume([it for it in actions if not it[0].is_running and not it[0].stop])
+        self.resume([it for it in actions if not it[0].is_running and not it[0].stop and it[0] is not self.sent])
         return "OK"
 
     def halt(self, threads):
-        """Threads are to stop."""
+        """Threads are to stop. For one that has done so, and isn't told yet, GDB waits from now on."""
         for thread in threads:
             if thread.is_running:
                 self.engine.interrupt(thread, GDB)
+            elif thread.stop:
+                thread.stop = thread.stop._replace(asked=GDB)
 
     def interrupt(self, first):
         """Ctrl-C stops the thread that GDB looks at, or another one that runs."""
@@ -148,18 +155,31 @@ class NonStop(Mode):
 
     def taken(self):
         """GDB has taken a stop: gives it the next one."""
+        self.sent = None
         text = None if self.is_opening else self.next()
         self.is_notified = text is not None
         return text or "OK"
 
     def next(self):
-        """The next stop, or nothing. A thread that stands at a breakpoint that is gone goes on as it did."""
+        """The next stop, or nothing."""
         while self.engine.order and not self.engine.is_over:
             thread = self.engine.order[0]
             stop = self.engine.forget(thread)
-            if not self.engine.is_stale(stop):
+            if self.engine.is_stale(stop):
+                stop = self.without_point(thread, stop)
+            if stop:
+                self.sent = thread
                 return self.text(thread, stop)
-            self.engine.resume(thread, *thread.action)
         text = None if self.is_over else self.end()
         self.is_over = self.is_over or text is not None
         return text
+
+    def without_point(self, thread, stop):
+        """What a stop is told as whose breakpoint is gone: what GDB waits for, or nothing, and the thread goes on as it did."""
+        action, start, end = (*thread.action, 0, 0)[:3]
+        if stop.asked:
+            return Stop("interrupt", 0, stop.at)
+        if action == "s" or action == "r" and not start <= thread.registers[PC] < end:
+            return Stop("step", SIGNALS["SIGTRAP"], stop.at)
+        self.engine.resume(thread, action, start, end)
+        return None

@@ -1,7 +1,8 @@
 """What is between GDB and the debugger: packets are answered, and what happens is told."""
 
+import os
 import queue
-import sys
+import select
 
 from rvdbg_dap.mi import Refused
 from rvdbg_gdb import data
@@ -11,11 +12,13 @@ from rvdbg_gdb.registers import DESCRIPTION
 
 MALFORMED = (ValueError, KeyError, IndexError, OverflowError)
 FEATURES = (
-    "PacketSize=4000;QStartNoAckMode+;QNonStop+;qXfer:features:read+;qXfer:threads:read+;vContSupported+;swbreak+;no-resumed+"
+    "PacketSize=4000;QStartNoAckMode+;QNonStop+;qXfer:features:read+;qXfer:threads:read+;QThreadEvents+;vContSupported+;swbreak+;"
+    "no-resumed+"
 )
 # How long GDB has to be silent until its connection stands, in seconds.
 LULL = 0.1
-LONGEST_TEXT = 4096
+# What is put into GDB's console at once, and what is kept for it where it doesn't read.
+LONGEST_TEXT, LONGEST_UNSAID = 4096, 1 << 20
 
 
 class Server:
@@ -26,7 +29,7 @@ class Server:
 
     def __init__(self, client, engine, finish, command):
         self.client, self.engine, self.finish, self.command = client, engine, finish, command
-        self.is_done, self.is_finished, self.unsaid, self.document = False, False, [], ""
+        self.is_done, self.is_finished, self.unsaid, self.document = False, False, "", ""
         self.mode, self.has_swbreak = None, False
         self.on_non_stop("0")
         engine.say = self.say
@@ -42,6 +45,7 @@ class Server:
             except Refused as refusal:
                 self.say("rvdbg: %s\n" % refusal)
             self.settle()
+            self.say("")
 
     def settle(self):
         """Tells what there is to tell of threads."""
@@ -56,19 +60,20 @@ class Server:
         In all-stop mode GDB takes one while it waits for a stop, so another time it is kept till then. In non-stop mode it takes none:
         there it goes to standard error, which GDB shows where it has started the bridge.
         """
-        self.unsaid.append(text)
+        self.unsaid = (self.unsaid + text)[-LONGEST_UNSAID:]
         if self.mode.is_waiting and not self.is_done:
-            whole, self.unsaid = "".join(self.unsaid), []
+            whole, self.unsaid = self.unsaid.encode("latin-1", "replace"), ""
             for at in range(0, len(whole), LONGEST_TEXT):
-                self.client.send("O" + whole[at : at + LONGEST_TEXT].encode("latin-1", "replace").hex())
+                self.client.send("O" + whole[at : at + LONGEST_TEXT].hex())
         elif isinstance(self.mode, NonStop) or self.is_done:
             self.spill()
 
-    def spill(self):
-        """Writes what isn't said to standard error."""
-        sys.stderr.buffer.write("".join(self.unsaid).encode("latin-1", "replace"))
-        sys.stderr.flush()
-        self.unsaid = []
+    def spill(self, patience=0.0):
+        """Writes what isn't said to standard error, as far as it is read: GDB reads it beside the packets alone."""
+        whole = self.unsaid.encode("latin-1", "replace")
+        while whole and select.select([], [2], [], patience)[1]:
+            whole = whole[os.write(2, whole[:LONGEST_TEXT]) :]
+        self.unsaid = whole.decode("latin-1")
 
     def close(self):
         """The session is over: ends the debugger, once."""
@@ -93,6 +98,8 @@ class Server:
 
     def answer(self, prefix, text):
         """The answer to a packet that begins so; what goes on is `text`."""
+        if prefix != "P":
+            self.engine.written = []
         if prefix in data.PACKETS:
             return data.PACKETS[prefix](self.engine, text)
         return PACKETS[prefix](self, text) if prefix else ""
@@ -159,6 +166,11 @@ class Server:
     def on_threads(self, _):
         return "m" + ",".join("%x" % it for it in self.engine.threads) if self.engine.threads else "l"
 
+    def on_thread_events(self, text):
+        """GDB waits for threads that it stops: where one exits meanwhile it has to hear of that."""
+        self.engine.tells_exits = {"0": False, "1": True}[text]
+        return "OK"
+
     def on_thread_name(self, text):
         return ("hart %d" % (self.engine.thread(number(text)).number - 1)).encode().hex()
 
@@ -207,6 +219,7 @@ PACKETS = {
     "qXfer:threads:read::": Server.on_thread_document,
     "qfThreadInfo": Server.on_threads,
     "qsThreadInfo": lambda *_: "l",
+    "QThreadEvents:": Server.on_thread_events,
     "qThreadExtraInfo,": Server.on_thread_name,
     "qAttached": lambda *_: "0",
     "qSymbol": lambda *_: "OK",

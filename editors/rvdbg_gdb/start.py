@@ -1,6 +1,7 @@
 """The command line, and the ends of a session: how it is opened over a pipe or a socket, and how the debugger is left."""
 
 import argparse
+import contextlib
 import functools
 import os
 import queue
@@ -106,7 +107,8 @@ def serve(client, engine, inbox, early, log, asked):
         server.run(inbox, early)
     except (BrokenPipeError, ConnectionResetError):
         server.take_gone()
-    server.spill()
+    with contextlib.suppress(OSError):
+        server.spill(1.0)
 
 
 def main():

@@ -19,7 +19,7 @@ if __name__ == "__main__":
     sys.dont_write_bytecode = True
     sys.path.insert(0, os.path.dirname(os.path.dirname(os.path.realpath(__file__))))
 
-from checks.rig import PATIENCE, Rig  # noqa: E402
+from checks.rig import Rig  # noqa: E402
 
 TOP = os.path.dirname(os.path.dirname(os.path.dirname(os.path.realpath(__file__))))
 BRIDGE = os.path.join(TOP, "editors", "rvdbg-gdb")
@@ -28,7 +28,12 @@ PROGRAMS = os.path.join(HERE, "programs")
 GDB = "gdb-multiarch"
 # GDB's prompts: that of its command line, and that for the commands of a breakpoint.
 PROMPTED = re.compile(rb"\(gdb\) |\A>\Z")
-SETTINGS = ["set pagination off", "set confirm off", "set width 0", "set style enabled off", "set print thread-events off"]
+SETTINGS = [
+    *("set pagination off", "set confirm off", "set width 0", "set style enabled off", "set print thread-events off"),
+    # (in seconds, for machines that are busy)
+    "set remotetimeout 120",
+]
+PATIENCE = 120.0
 
 
 class Gdb:

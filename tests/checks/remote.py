@@ -124,12 +124,24 @@ def check_pending(rig, name):
         remote.ask("Z0,10074,4")
         remote.ask("vCont;c")
         rig.row(name + ": each one", [it[:20] for it in remote.notified()], ["T05thread:1;swbreak:", "T05thread:2;swbreak:"])
+        remote.ask("vCont;c")
+        first = remote.packet()
+        found = [remote.ask(it)[:11] for it in ("vCont;c", "z0,10074,4", "vCont;t:2", "vStopped", "vStopped")]
+        rig.row(name + ": one that was to stop", (first[1][:25], found), ("Stop:T05thread:1;swbreak:", ["OK", "OK", "OK", "T00thread:2", "OK"]))
 
 
 def check_ends(rig, name):
     """The exit code, Ctrl-C, the budget, what isn't built or not accepted, a log, and a client that goes."""
     with Remote(rig, "alone-gcc-O0").open() as remote:
         rig.row(name + ": a code", (remote.ask("vCont;c"), remote.ask("qfThreadInfo"), remote.ask("?")), ("W69", "l", "W69"))
+    with Remote(rig, "--harts", "2", "alone-gcc-O0").open() as remote:
+        for asked in ("QNonStop:1", "QThreadEvents:1", "?", "vStopped"):
+            remote.ask(asked)
+        found = remote.notified()[1:]
+        remote.ask("vCont;c")
+        while not found or found[-1][:1] != "W":
+            found += [it for it in remote.notified() if it[:1] != "T"]
+        rig.row(name + ": of each thread", sorted(it.split(";")[-1] for it in found[:2]), ["1", "2"])
     rig.put("gdb-loop", plain(LOOP))
     loop = os.path.join(rig.folder, "gdb-loop")
     with Remote(rig, loop).open() as remote:
