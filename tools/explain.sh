@@ -45,10 +45,10 @@ show_usage() {
 say_which() {
     choose
     [ -z "$passed_over" ] || say "$passed_over, so it isn't used"
-    if [ -n "$program" ]; then
-        say "the program is built: $here/$program"
-        return
-    fi
+    case $program in
+    "$release") say "the release runs, which is of these sources: $here/$program" && return ;;
+    ?*) say "the program is built: $here/$program" && return ;;
+    esac
     say "the program isn't built yet. The first run on a FILE proves and builds it: $("$here/tools/build" expect)"
     command -v rt >/dev/null || say "$no_kit"
 }
