@@ -86,10 +86,13 @@ prepare() {
     [ -z "$passed_over" ] || say "$passed_over, so it isn't used"
     build once
     choose
-    if [ -z "$program" ]; then
+    [ -z "$program" ] || return 0
+    if is_whole "$built" dbg_program; then
+        say "the sources have changed since that build began: the next one takes them"
+    else
         say "dbg_program was not built"
-        exit 126
     fi
+    exit 126
 }
 
 # Sets `file` to the FILE among the words, and `budget` to what is given.

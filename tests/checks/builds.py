@@ -163,9 +163,26 @@ def check_failed(rig, clone):
     building(rig, "then it was", clone)
 
 
+def check_meanwhile(rig, clone):
+    """Sources that change during a build, or during the gate: what was built isn't taken for theirs."""
+    source = ("crates", "low", "src", "lib.rt")
+    meanwhile = written(os.path.join(clone.bin, "meanwhile"), clone.path(*source) + "\n")
+    clone.change("// more\n", *source)
+    status, _, error = clone.run("0")
+    said = "rvdbg: the sources have changed since that build began: the next one takes them\n"
+    rig.row("a source changes during a build", (status, error.endswith(said)), (126, True))
+    status, _, error = clone.run(script=".ci/run")
+    said = "record: the sources changed meanwhile, so it isn't known what the program is of\n"
+    rig.row("a source changes during the gate", (status, error), (1, said))
+    os.remove(meanwhile)
+    clone.runs()
+    rig.row("the gate", (clone.run(script=".ci/run")[0], clone.runs()), (0, ["ci"]))
+    silent(rig, "what the gate built runs", clone)
+
+
 def check_builds(rig, top):
     """All of them, one after the other in one clone."""
     with tempfile.TemporaryDirectory(prefix="rvdbg-builds-") as folder:
         clone = Clone(top, folder)
-        for check in (check_fresh, check_step, check_release_runs, check_foreign, check_turns, check_failed):
+        for check in (check_fresh, check_step, check_release_runs, check_foreign, check_turns, check_failed, check_meanwhile):
             rig.guarded(check.__name__, lambda: check(rig, clone))
