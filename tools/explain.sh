@@ -82,6 +82,10 @@ build() {
 prepare() {
     choose
     [ -z "$program" ] || return 0
+    if [ -z "$sum" ]; then
+        say "the sources in $here can't all be read, or there is no memory for that: it isn't known which program is of them"
+        exit 126
+    fi
     name_unreadable "$@"
     [ -z "$passed_over" ] || say "$passed_over, so it isn't used"
     build once
