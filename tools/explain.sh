@@ -45,10 +45,10 @@ show_usage() {
 say_which() {
     choose
     [ -z "$passed_over" ] || say "$passed_over, so it isn't used"
-    if [ -n "$program" ]; then
-        say "the program is built: $here/$program"
-        return
-    fi
+    case $program in
+    "$release") say "the release runs, which is of these sources: $here/$program" && return ;;
+    ?*) say "the program is built: $here/$program" && return ;;
+    esac
     say "the program isn't built yet. The first run on a FILE proves and builds it: $("$here/tools/build" expect)"
     command -v rt >/dev/null || say "$no_kit"
 }
@@ -82,14 +82,21 @@ build() {
 prepare() {
     choose
     [ -z "$program" ] || return 0
+    if [ -z "$sum" ]; then
+        say "the sources in $here can't all be read, or there is no memory for that: it isn't known which program is of them"
+        exit 126
+    fi
     name_unreadable "$@"
     [ -z "$passed_over" ] || say "$passed_over, so it isn't used"
     build once
     choose
-    if [ -z "$program" ]; then
+    [ -z "$program" ] || return 0
+    if is_whole "$built" dbg_program; then
+        say "the sources have changed since that build began: the next one takes them"
+    else
         say "dbg_program was not built"
-        exit 126
     fi
+    exit 126
 }
 
 # Sets `file` to the FILE among the words, and `budget` to what is given.

@@ -33,14 +33,16 @@ source_folders() {
     done
 }
 
-# The checksum of the sources: of their lines of crates.txt, and of each file's name and checksum, in the order of their names.
+# The checksum of the sources: of their lines of crates.txt, and of each file's name and checksum, in the order of their names. It fails
+# where they can't all be read.
 sources_sum() {
-    {
-        program_lines "$1"
-        # shellcheck disable=SC2046
-        (CDPATH='' cd -- "$1" && find $(source_folders .) -type f \( -name '*.rt' -o -name '*.antt' \) -print0 |
-            LC_ALL=C sort -z | xargs -0 sha256sum)
-    } | sha256sum | cut -c 1-64
+    lines=$(program_lines "$1") && folders=$(source_folders "$1") && [ -n "$folders" ] || return 1
+    sums=$(
+        # shellcheck disable=SC2086
+        CDPATH='' cd -- "$1" && find $folders -type f \( -name '*.rt' -o -name '*.antt' \) -exec sha256sum {} +
+    ) || return 1
+    sums=$(echo "$sums" | LC_ALL=C sort -k 2 && echo whole) && [ "${sums%whole}" != "$sums" ] || return 1
+    sum_of_all=$(printf '%s\n%s\n' "$lines" "$sums" | sha256sum) && [ ${#sum_of_all} -eq 67 ] && echo "${sum_of_all%% *}"
 }
 
 # What the sums in a folder say of the program that lies beside them: `sources`, the checksum of what it is of, or `kit`, what built it.
@@ -63,9 +65,10 @@ write_sums() {
 }
 
 # Sets `program` to the program of these sources, if there is one: what was built here, else the release. `passed_over` says why the
-# release isn't it, `sum` is the checksum of the sources.
+# release isn't it, `sum` is the checksum of the sources, empty where they can't be read.
 choose() {
-    program='' passed_over='' begun=$(date +%s) sum=$(sources_sum "$here")
+    program='' passed_over='' begun=$(date +%s)
+    sum=$(sources_sum "$here") || return 0
     if [ "$(said $built sources)" = "$sum" ] && is_whole $built dbg_program; then
         program=$built/dbg_program
     else

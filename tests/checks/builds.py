@@ -88,7 +88,8 @@ def check_release_runs(rig, clone):
     shutil.rmtree(clone.path(*BUILT[:-1]))
     silent(rig, "the release runs", clone)
     rig.row("the release: without a kit", clone.run("0", has_kit=False), (0, b"", ""))
-    rig.row("the release: --version", "rvdbg-x86_64-linux\n" in clone.run("--version")[2], True)
+    said = "rvdbg: the release runs, which is of these sources: %s\n" % clone.path(*RELEASE)
+    rig.row("the release: --version", clone.run("--version")[2].startswith(said), True)
     os.utime(clone.path("crates", "low", "src", "lib.rt"))
     silent(rig, "a source was touched: the release runs", clone)
     rig.row("no release of what isn't built", release(clone), 1)
@@ -162,9 +163,26 @@ def check_failed(rig, clone):
     building(rig, "then it was", clone)
 
 
+def check_meanwhile(rig, clone):
+    """Sources that change during a build, or during the gate: what was built isn't taken for theirs."""
+    source = ("crates", "low", "src", "lib.rt")
+    meanwhile = written(os.path.join(clone.bin, "meanwhile"), clone.path(*source) + "\n")
+    clone.change("// more\n", *source)
+    status, _, error = clone.run("0")
+    said = "rvdbg: the sources have changed since that build began: the next one takes them\n"
+    rig.row("a source changes during a build", (status, error.endswith(said)), (126, True))
+    status, _, error = clone.run(script=".ci/run")
+    said = "record: the sources changed meanwhile, so it isn't known what the program is of\n"
+    rig.row("a source changes during the gate", (status, error), (1, said))
+    os.remove(meanwhile)
+    clone.runs()
+    rig.row("the gate", (clone.run(script=".ci/run")[0], clone.runs()), (0, ["ci"]))
+    silent(rig, "what the gate built runs", clone)
+
+
 def check_builds(rig, top):
     """All of them, one after the other in one clone."""
     with tempfile.TemporaryDirectory(prefix="rvdbg-builds-") as folder:
         clone = Clone(top, folder)
-        for check in (check_fresh, check_step, check_release_runs, check_foreign, check_turns, check_failed):
+        for check in (check_fresh, check_step, check_release_runs, check_foreign, check_turns, check_failed, check_meanwhile):
             rig.guarded(check.__name__, lambda: check(rig, clone))

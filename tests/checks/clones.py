@@ -18,7 +18,8 @@ sleep) echo asleep && exec sleep 60 ;;
 esac
 """ % USAGE.decode().strip()
 
-# In the kit's place: it takes a while, says how far it is, and puts `program` of its folder where the kit puts what it has built.
+# In the kit's place: it takes a while, says how far it is, and puts `program` of its folder where the kit puts what it has built. The file that
+# `meanwhile` names is changed while it does.
 KIT = """#!/bin/sh
 here=$(dirname "$0")
 case $1 in
@@ -27,6 +28,7 @@ ci) place=crates/dbg_program/out ;;
 *) place=out ;;
 esac
 echo "$1" >>"$here/runs"
+[ ! -e "$here/meanwhile" ] || echo "// more" >>"$(cat "$here/meanwhile")"
 echo "rt: low is kept: an earlier run proved it" && sleep "$(cat "$here/seconds")" && echo "rt: dbg_program proved"
 mkdir -p $place && cp "$here/program" $place/dbg_program
 """
@@ -55,6 +57,8 @@ class Clone:
             written(self.path("crates", name, "src", "lib.rt"), "// %s\n" % name)
         written(os.path.join(self.bin, "rt"), KIT, 0o755)
         written(os.path.join(self.bin, "program"), PROGRAM, 0o755)
+        shutil.copytree(os.path.join(top, ".ci"), self.path(".ci"))
+        written(self.path("tests", "outside"), "#!/bin/sh\n", 0o755)
         self.wait(0)
 
     def path(self, *names):

@@ -8,6 +8,7 @@ import pty
 import resource
 import shutil
 import signal
+import struct
 import subprocess
 import tempfile
 
@@ -210,6 +211,22 @@ def check_variables(rig, clone):
     rig.row("variables of DWARF 5: no terminal", clone.session("new"), (0, OPENING, ""))
 
 
+def check_memory(rig, clone):
+    """The first bound of memory that is too small for a program of 15 MiB ends the session with status 7, and with whole lines."""
+    content = bytearray(plain(EXIT))
+    struct.pack_into("<I", content, 104, 15 << 20)
+    clone.put("large", content)
+    if "RVDBG_MEMORY" in os.environ:
+        return
+    bound, status, output, error = 4000, 0, b"", ""
+    while status == 0 and bound > 10:
+        bound = bound * 4 // 5
+        status, output, error = clone.run("--workers", "0", "large", RVDBG_MEMORY=str(bound))
+    whole = output == b"" or OPENING.startswith(output) and output.endswith(b"\n")
+    said = "rvdbg: memory ran out: RVDBG_MEMORY=MEGABYTES in the environment sets another bound, 0 none\n"
+    rig.row("launcher: a bound of %d MB" % bound, (status, whole, error), (7, True, said))
+
+
 def check_stand_in(rig, clone):
     """What only a program that is a script shows: the other statuses, the bound of memory, a signal of its own."""
     os.remove(clone.path(*BUILT))
@@ -240,6 +257,6 @@ def check_launcher(rig, top):
     """All of them, in one clone."""
     with tempfile.TemporaryDirectory(prefix="rvdbg-launcher-") as folder:
         clone = Launcher(rig, top, folder)
-        checks = (check_usage, check_words, check_unreadable, check_refused, check_ends, check_link, check_signals, check_closed, check_variables)
-        for check in (*checks, check_stand_in):
+        checks = (check_usage, check_words, check_unreadable, check_refused, check_ends, check_link, check_signals, check_closed)
+        for check in (*checks, check_variables, check_memory, check_stand_in):
             rig.guarded(check.__name__, lambda: check(rig, clone))

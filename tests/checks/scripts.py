@@ -55,7 +55,19 @@ def check_ends(rig, top):
     rig.row("a script: the limit", found, (124, typed, ["rvdbg-script: 1 seconds have passed"]))
 
 
+def check_links(rig, top):
+    """The tools work by links from another folder."""
+    links = os.path.join(rig.folder, "tool-links")
+    os.makedirs(links)
+    for name, words in (("editors/rvdbg-dap", []), ("tools/rvdbg-script", ["--rvdbg", rig.program, "-", "exit"])):
+        link = os.path.join(links, os.path.basename(name))
+        os.symlink(os.path.join(top, name), link)
+        ran = subprocess.run([link, *words], cwd=rig.folder, stdin=subprocess.DEVNULL, stdout=subprocess.PIPE, stderr=subprocess.PIPE, timeout=PATIENCE)
+        rig.row("%s by a link" % name, (ran.stdout, ran.stderr), (OPENING + b"-gdb-exit\n^exit\n" if words else b"", b""))
+
+
 def check_scripts(rig, top):
     """All of them."""
     rig.guarded("waits", lambda: check_waits(rig, top))
     rig.guarded("ends", lambda: check_ends(rig, top))
+    rig.guarded("links", lambda: check_links(rig, top))
