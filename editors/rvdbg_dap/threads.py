@@ -61,7 +61,8 @@ class Threads:
             taken = []
             value = self.values.value(thread, point.condition, taken)
             if not point.is_looked_at:
-                self.engine.say("the condition of breakpoint %s has %s" % (point.number, ", ".join(taken))) if taken else None
+                for it in taken:
+                    self.engine.say("the condition of breakpoint %s has %s" % (point.number, it))
                 self.breakpoints.judged(point, self.values.in_core(thread, point.condition))
             if value[0] == "<":
                 raise Refused("it has " + value)

@@ -11,7 +11,6 @@ from checks.dap_editor import PROGRAMS, TOP, VALUES, Editor, lines
 from checks.rig import PATIENCE
 
 VALUES_4 = os.path.join(PROGRAMS, "values-4")
-COUNT = os.path.join(PROGRAMS, "values.c")
 
 
 def stops_of(rig, editor, frame, *expressions):
