@@ -34,7 +34,7 @@ class Breakpoint:
     def clear(self, why):
         """It isn't in the debugger."""
         self.number, self.is_spent, self.is_judged, self.is_looked_at, self.early, self.state = None, False, False, False, set(), ("y", None)
-        self.told = {"id": self.identity, "verified": False, "message": why}
+        self.said, self.told = set(), {"id": self.identity, "verified": False, "message": why}
 
     def is_judging(self, thread):
         """Whether the adapter judges the condition at a thread's stop: also at one that came before the debugger did."""

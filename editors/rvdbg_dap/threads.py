@@ -55,14 +55,20 @@ class Threads:
             thread.trap, text = (name, meaning), "%s: %s" % (name, meaning)
         return reason, {"text": text, "description": text} if text else {}
 
+    def value(self, point, thread, text):
+        """The value of an expression of a breakpoint's. Which of its names stand for what is at a symbol is said once."""
+        taken = []
+        value = self.values.value(thread, text, taken)
+        for it in {*taken} - point.said:
+            self.engine.say("breakpoint %s has %s" % (point.number, it))
+        point.said.update(taken)
+        return value
+
     def holds(self, point, thread):
         """Whether a condition holds. One that has no value stops its thread, as it does where the debugger judges."""
         try:
-            taken = []
-            value = self.values.value(thread, point.condition, taken)
+            value = self.value(point, thread, point.condition)
             if not point.is_looked_at:
-                for it in taken:
-                    self.engine.say("the condition of breakpoint %s has %s" % (point.number, it))
                 self.breakpoints.judged(point, self.values.in_core(thread, point.condition))
             if value[0] == "<":
                 raise Refused("it has " + value)
@@ -76,7 +82,7 @@ class Threads:
 
         def value(found):
             try:
-                return self.values.value(thread, found[1], [])
+                return self.value(point, thread, found[1])
             except Refused as refusal:
                 return "<%s>" % refusal
 
