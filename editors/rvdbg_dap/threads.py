@@ -49,9 +49,10 @@ class Threads:
         elif reason == "exception":
             name, meaning = fields["signal-name"], fields["signal-meaning"]
             reason = "pause" if name == "SIGINT" else reason
-            with contextlib.suppress(Refused, KeyError):
-                registers = [word for _, word in self.values.registers(thread)] if reason == "exception" else None
-                meaning += ": " + self.memory.trap(int(fields["frame"]["addr"], 16), registers) if registers else ""
+            if reason == "exception" and "frame" in fields:
+                with contextlib.suppress(Refused):
+                    registers = [word for _, word in self.values.registers(thread)]
+                    meaning += ": " + self.memory.trap(int(fields["frame"]["addr"], 16), registers)
             thread.trap, text = (name, meaning), "%s: %s" % (name, meaning)
         return reason, {"text": text, "description": text} if text else {}
 
