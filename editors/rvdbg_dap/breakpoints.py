@@ -33,12 +33,14 @@ class Breakpoint:
 
     def clear(self, why):
         """It isn't in the debugger."""
-        self.number, self.is_spent, self.is_judged, self.is_looked_at, self.early, self.state = None, False, False, False, [], ("y", None)
-        self.told = {"id": self.identity, "verified": False, "message": why}
+        self.number, self.is_spent, self.is_judged, self.is_looked_at, self.early, self.state = None, False, False, False, set(), ("y", None)
+        self.said, self.told = set(), {"id": self.identity, "verified": False, "message": why}
 
     def is_judging(self, thread):
         """Whether the adapter judges the condition at a thread's stop: also at one that came before the debugger did."""
-        return self.is_judged or thread in self.early and not self.early.remove(thread)
+        is_early = thread in self.early
+        self.early.discard(thread)
+        return self.is_judged or is_early
 
     def command(self, place, condition, more=""):
         """The line that sets it, with this condition."""
@@ -75,9 +77,10 @@ class Breakpoints:
         for place, words in list(wanted):
             new = Breakpoint(0, kind, place, words)
             same = next((it for it in before + others if it.words == new.words), None) or self.new(kind, place, words)
-            (before if same in before else others if same in others else [same]).remove(same)
             same.kind, same.source = kind, new.source
             now.append(same)
+            for rows in (before, others):
+                rows[:] = [it for it in rows if it is not same]
         self.groups[group] = now
         for it in before:
             self.delete(it)
@@ -157,7 +160,7 @@ class Breakpoints:
                 self.ask("-break-condition %s %s" % (it.number, c_string(condition)))
                 it.is_judged, it.state = False, (it.state[0], condition)
                 stand = [int(row["id"]) for row in self.ask("-thread-info").fields["threads"] if row["state"] == "stopped"]
-                it.early = [key for key in stand if key in self.engine.threads and self.engine.threads[key].is_running]
+                it.early = {key for key in stand if key in self.engine.threads and self.engine.threads[key].is_running}
 
     def agree(self):
         """Behind a line of the console: what came, went or changed in the debugger is told to the editor."""

@@ -16,7 +16,8 @@ KNOWN = {*NUMBERS, "program", "stopOnEntry", "sourcePath", "rvdbg", "log", "sing
 # The requests that move one thread alone.
 ALONE = {"never": (), "step": ("step",), "always": ("step", "continue")}
 # What editors put beside them for themselves.
-EDITORS = {"name", "type", "request", "cwd", "env", "noDebug", "presentation", "preLaunchTask", "postDebugTask", "internalConsoleOptions"}
+EDITORS = set("name type request cwd env noDebug presentation preLaunchTask postDebugTask internalConsoleOptions debugServer".split())
+EDITORS |= {"serverReadyAction", "suppressMultipleSessionWarning"}
 LONGEST_CHECK = "10"
 
 

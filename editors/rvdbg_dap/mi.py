@@ -86,9 +86,15 @@ class Answer:
         return self.is_whole or line.startswith(b"*running,")
 
 
-# What is started isn't to run on for hours where its starter is killed, nor is what it started: this shell is told the group,
-# and ends it where its input ends without one more line.
-WATCHER = 'read -r group && ! read -r _ && { kill -s TERM -- "-$group"; sleep 2; kill -s KILL -- "-$group"; }'
+# What is started isn't to run on for hours where its starter is killed, nor is what it started: this shell is told the group, and
+# ends it where its input ends without one more line. A build gets a few seconds to clear up.
+WATCHER = """
+read -r group || exit
+read -r _ && exit
+kill -s TERM -- "-$group"
+for _ in 1 2 3 4; do sleep 1; kill -s 0 -- "-$group" || exit; done
+kill -s KILL -- "-$group"
+"""
 
 
 class Debugger:
@@ -171,6 +177,6 @@ class Debugger:
         for number in (signal.SIGTERM, signal.SIGKILL):
             if self.process.poll() is None:
                 os.killpg(self.process.pid, number)
-                self.status()
+                self.status(5.0)
         self.lines.join(seconds)
         self.watcher.communicate(b"ended\n")

@@ -2,7 +2,6 @@
 
 import bisect
 import contextlib
-import os
 import re
 import struct
 

@@ -228,8 +228,9 @@ class Session:
             self.leave(int(fields["id"]))
         elif told.name == "stopped" and fields.get("reason", "").startswith("exited"):
             self.client.event("exited", exitCode=int(fields.get("exit-code", "0"), 8))
-            self.client.event("terminated") if not self.launch.log else None
             self.is_over = not self.launch.log
+            if self.is_over:
+                self.client.event("terminated")
             self.engine.debugger.process.stdin.close()
         elif told.name == "stopped":
             self.threads.stopped(self.engine.threads[int(fields["thread-id"])], fields)

@@ -49,19 +49,27 @@ class Threads:
         elif reason == "exception":
             name, meaning = fields["signal-name"], fields["signal-meaning"]
             reason = "pause" if name == "SIGINT" else reason
-            with contextlib.suppress(Refused, KeyError):
-                registers = [word for _, word in self.values.registers(thread)] if reason == "exception" else None
-                meaning += ": " + self.memory.trap(int(fields["frame"]["addr"], 16), registers) if registers else ""
+            if reason == "exception" and "frame" in fields:
+                with contextlib.suppress(Refused):
+                    registers = [word for _, word in self.values.registers(thread)]
+                    meaning += ": " + self.memory.trap(int(fields["frame"]["addr"], 16), registers)
             thread.trap, text = (name, meaning), "%s: %s" % (name, meaning)
         return reason, {"text": text, "description": text} if text else {}
+
+    def value(self, point, thread, text):
+        """The value of an expression of a breakpoint's. Which of its names stand for what is at a symbol is said once."""
+        taken = []
+        value = self.values.value(thread, text, taken)
+        for it in {*taken} - point.said:
+            self.engine.say("breakpoint %s has %s" % (point.number, it))
+        point.said.update(taken)
+        return value
 
     def holds(self, point, thread):
         """Whether a condition holds. One that has no value stops its thread, as it does where the debugger judges."""
         try:
-            taken = []
-            value = self.values.value(thread, point.condition, taken)
+            value = self.value(point, thread, point.condition)
             if not point.is_looked_at:
-                self.engine.say("the condition of breakpoint %s has %s" % (point.number, ", ".join(taken))) if taken else None
                 self.breakpoints.judged(point, self.values.in_core(thread, point.condition))
             if value[0] == "<":
                 raise Refused("it has " + value)
@@ -75,7 +83,7 @@ class Threads:
 
         def value(found):
             try:
-                return self.values.value(thread, found[1], [])
+                return self.value(point, thread, found[1])
             except Refused as refusal:
                 return "<%s>" % refusal
 

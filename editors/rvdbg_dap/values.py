@@ -129,6 +129,8 @@ class Values:
 
     def set_register(self, number, name, value):
         """Sets a register of a frame's thread, by any of its names."""
+        if not NAME.fullmatch(name):
+            raise Refused("%.50s is no register" % name)
         thread, _ = self.framed(number)
         word = self.number(value, number) % WORD
         self.ask("-gdb-set --thread %d $%s=%d" % (thread.identity, name, word))

@@ -17,7 +17,7 @@ if __name__ == "__main__":
 
 from checks.dap_bugs import BUG_CHECKS, check_growth  # noqa: E402
 from checks.dap_editor import SOURCE, TOP, Editor, lines, top  # noqa: E402
-from checks.dap_peers import check_deaf, check_delays, check_peers  # noqa: E402
+from checks.dap_peers import check_deaf, check_delays, check_peers, check_rates  # noqa: E402
 from checks.dap_program import PROGRAM_CHECKS  # noqa: E402
 from checks.dap_random import check_hostile, check_random  # noqa: E402
 from checks.dap_values import VALUE_CHECKS  # noqa: E402
@@ -261,6 +261,7 @@ def check_adapter(rig, conversations=8, steps=0):
     rig.guarded("deaf", lambda: check_deaf(rig, "adapter, a deaf debugger", lambda: check_conversations(rig)))
     if steps:
         rig.guarded("delays", lambda: check_delays(rig, "adapter, delays", steps))
+        rig.guarded("rates", lambda: check_rates(rig, "adapter, rates"))
         rig.guarded("growth", lambda: check_growth(rig, "adapter, growth"))
     slowest = []
     for seed in range(conversations):

@@ -79,6 +79,8 @@ def check_register_names(rig, name):
         for text, value in (("s0", "0x10"), ("fp", "0x20"), ("x8", "0x30")):
             told = editor.ask("setVariable", variablesReference=10000 + frame, name=text, value=value)
             rig.row("%s: %s" % (name, text), (told["value"], editor.value("$fp", frame)), ("0x000000%s" % value[2:], "%d (0x000000%s)" % (int(value, 0), value[2:])))
+        told = editor.ask("setVariable", variablesReference=10000 + frame, name="t0=1\n-gdb-exit\n", value="1")
+        rig.row(name + ": no line behind it", (told, editor.value("$t0", frame)), ("t0=1\n-gdb-exit\n is no register", "0 (0x00000000)"))
         rig.row(name + ": another", editor.ask("setVariable", variablesReference=10000 + frame, name="f0", value="1"), "Unsupported setting")
         told = editor.ask("setExpression", expression="$s0", value=before.split()[0], frameId=frame)
         rig.row(name + ": as an expression", told["value"] in before, True)

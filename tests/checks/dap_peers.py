@@ -4,7 +4,7 @@ import os
 import sys
 import time
 
-from checks.dap_editor import Editor
+from checks.dap_editor import PROGRAMS, VALUES, Editor
 
 # A debugger that is a script: `build` says how far it is built, `stops` stops as often as its word says, each time with the moment in
 # the function's name; `variables` knows the command for them; `deaf` answers nothing behind its opening, and `odd` what isn't MI.
@@ -123,3 +123,16 @@ def check_delays(rig, name, count):
         rig.row(name + ": the quickest steps don't slow down", min(times[-tenth:]) < 3 * min(times[:tenth]) + 0.01, True)
         rig.row(name + ": memory stays", sizes[-1] - sizes[tenth] < 1024, True)
         editor.end(rig, name + " of steps")
+
+
+def check_rates(rig, name):
+    """How many arrivals a second the adapter judges, and the debugger where it judges a global; both see each arrival of a loop."""
+    for condition, who in (("i < 0", "the adapter"), ("turns < 0", "the debugger")):
+        with Editor() as editor:
+            editor.come_to(rig, os.path.join(PROGRAMS, "values-4"), {"line": 50})
+            editor.ask("setBreakpoints", source={"path": VALUES}, breakpoints=[{"line": 27, "condition": condition}])
+            begun = time.monotonic()
+            editor.ask("continue", threadId=1)
+            editor.event("exited")
+            print("outside: %s judges 200 arrivals in %.1f ms" % (who, 1e3 * (time.monotonic() - begun)))
+            editor.end(rig, name + " of " + who)

@@ -11,7 +11,6 @@ from checks.dap_editor import PROGRAMS, TOP, VALUES, Editor, lines
 from checks.rig import PATIENCE
 
 VALUES_4 = os.path.join(PROGRAMS, "values-4")
-COUNT = os.path.join(PROGRAMS, "values.c")
 
 
 def stops_of(rig, editor, frame, *expressions):
@@ -65,6 +64,12 @@ def check_counted_conditions(rig, name):
         editor.ask("continue", threadId=1)
         stop = editor.event("stopped")
         rig.row(name + ": logged", (editor.printed("console").split("\n")[-4:-1], stop is not None), (["at 50", "at 100", "at 150"], True))
+        editor.ask("setBreakpoints", source={"path": VALUES}, breakpoints=[{"line": 51, "logMessage": "{form} {big}"}, {"line": 52}])
+        editor.ask("continue", threadId=1)
+        editor.event("stopped")
+        said = [it for it in editor.printed("console").split("\n")[-4:] if "form" in it or it[:2] == "5 "]
+        wanted = ["breakpoint 4 has `form` as {int} &form", "5 <`big` has 8 bytes: 1, 2 or 4 can be shown; {int} &big shows four of them>"]
+        rig.row(name + ": what names stand for", said, wanted)
         editor.end(rig, name)
     with Editor() as editor:
         source = {"path": "/nowhere/count.c"}
