@@ -88,9 +88,10 @@ pub fn executed(alloc: Global, word: u32, x5: u32, x6: u32) -> Result<String, Ro
     let Some(instruction) = decode(word) else {
         return said(alloc, "no instruction");
     };
-    let (at_home, copied) = (instruction, instruction);
+    let (at_home, copied, by_operation) = (instruction, instruction, instruction);
     let (effect, regs) = run_at(at_home, HOME, x5, x6);
-    if advance_at(instruction, HOME, x5, x6) != (effect, regs) {
+    let (advanced, others) = advance_at(by_operation, HOME, x5, x6);
+    if advanced != effect || others != regs {
         return said(alloc, "the operation does something else");
     }
     let (there, mut copy) = run_at(copied, SLOT, x5, x6);
@@ -115,6 +116,20 @@ fn regs_of([x5, x2]: [u32; 2]) -> Regs {
     regs.set(2, x2);
     regs.set(5, x5);
     regs
+}
+
+// What an instruction does to these registers and a memory.
+fn execute_in(instruction: Instr, given: [u32; 2], memory: &mut DataMemory) -> (Effect, Regs) {
+    let mut regs = regs_of(given);
+    let effect = execute(instruction, &mut regs, memory);
+    (effect, regs)
+}
+
+// The same by the operation.
+fn advance_in(instruction: Instr, given: [u32; 2], memory: &mut DataMemory) -> (Effect, Regs) {
+    let mut regs = regs_of(given);
+    let effect = advanced(instruction, &mut regs, memory);
+    (effect, regs)
 }
 
 fn told_access(
@@ -154,10 +169,10 @@ pub fn accessed(
     let Some(mut other) = memory_of(alloc, stored) else {
         return said(alloc, "no memory");
     };
-    let (mut regs, mut others) = (regs_of(given), regs_of(given));
-    let effect = execute(instruction, &mut regs, &mut memory);
-    let same = advanced(instruction, &mut others, &mut other) == effect;
-    if !same || others != regs || other.load(DATA, 4) != memory.load(DATA, 4) {
+    let (by_operation, again) = (instruction, given);
+    let (effect, regs) = execute_in(instruction, given, &mut memory);
+    let (advanced, others) = advance_in(by_operation, again, &mut other);
+    if advanced != effect || others != regs || other.load(DATA, 4) != memory.load(DATA, 4) {
         return said(alloc, "the operation does something else");
     }
     told_access(alloc, effect, &regs, &memory)
