@@ -91,7 +91,7 @@ prepare() {
     build once
     choose
     [ -z "$program" ] || return 0
-    if is_whole "$built" dbg_program; then
+    if [ "$status" -eq 0 ]; then
         say "the sources have changed since that build began: the next one takes them"
     else
         say "dbg_program was not built"

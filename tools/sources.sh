@@ -24,11 +24,12 @@ program_crates() {
     program_lines "$1" | sed 's/[ :].*//'
 }
 
-# The folders that hold the program's sources.
+# The folders that hold the program's sources, or, with the word `missing`, those that would and aren't there.
 source_folders() {
     for crate in $(program_crates "$1"); do
         for part in src specs proofs; do
-            [ ! -d "$1/crates/$crate/$part" ] || echo "crates/$crate/$part"
+            if [ -d "$1/crates/$crate/$part" ]; then found=there; else found=missing; fi
+            [ $found != "${2:-there}" ] || echo "crates/$crate/$part"
         done
     done
 }
@@ -103,6 +104,7 @@ starts() {
 remember() {
     mkdir -p "$here/$built" 2>/dev/null && {
         echo "program=$program"
+        echo "missing='$(source_folders "$here" missing | tr '\n' ' ')'"
         echo "looked_at='crates.txt $program ${program%/*}/SHA256SUMS $(source_folders "$here" | tr '\n' ' ')'"
     } 2>/dev/null >"$here/$state.$$" && touch -d "@$begun" "$here/$state.$$" && mv -f "$here/$state.$$" "$here/$state"
 }
@@ -114,6 +116,9 @@ recall() {
     # (a shell reads a line byte by byte, and a file of its own at once)
     # shellcheck disable=SC1090
     . "$here/$state"
+    for folder in $missing; do
+        [ ! -e "$here/$folder" ] || program=''
+    done
     # shellcheck disable=SC2086
     changed=$(CDPATH='' cd -- "$here" 2>&1 && find $looked_at -cnewer $state -print -quit 2>&1)
     [ -z "$changed" ] || program=''

@@ -124,30 +124,42 @@ def check_foreign(rig, clone):
     shutil.rmtree(clone.path("release"))
 
 
+def hear(process, start, count):
+    """Reads standard error until so many lines with this beginning came, and gives the last of them."""
+    while count > 0:
+        line = process.stderr.readline().decode()
+        count -= line.startswith(start)
+        if not line:
+            break
+    return line
+
+
 def check_turns(rig, clone):
     """One build runs at a time. The second session waits for it; one that was killed keeps nobody from building."""
     clone.run("--build")
     clone.runs()
     clone.change("// more\n", "crates", "low", "src", "lib.rt")
-    clone.wait(1)
+    clone.hold()
     first = clone.start("0")
     began = clone.began()
-    status, _, error = clone.run("0")
-    rig.row("two at once: the second", (began, status, error.startswith("rvdbg: another build is under way here")), (True, 0, True))
-    error = first.communicate(timeout=PATIENCE)[1].decode()
-    rig.row("two at once: one build", (first.returncode, clone.runs()), (0, ["ci"]))
-    shown = [line for line in error.splitlines() if line.startswith("rvdbg: proving, ")]
-    whole = all(" of 100: 0 minutes have passed, about " in line for line in shown)
-    rig.row("a build shows that it is alive", (len(shown) >= 3, whole), (True, True))
+    shown = hear(first, "rvdbg: proving, ", 3)
+    rig.row("a build shows that it is alive", (began, " of 100: 0 minutes have passed, about " in shown), (True, True))
+    second = clone.start("0")
+    rig.row("two at once: the second waits", hear(second, "rvdbg: ", 1), "rvdbg: another build is under way here, and is waited for\n")
+    rig.row("two at once: it shows that it waits", hear(second, "rvdbg: ", 2), "rvdbg: still waiting for the other build\n")
+    clone.let_go()
+    for process in (first, second):
+        process.communicate(timeout=PATIENCE)
+    rig.row("two at once: one build", (first.returncode, second.returncode, clone.runs()), (0, 0, ["ci"]))
     for number in (signal.SIGKILL, signal.SIGTERM, signal.SIGINT):
         clone.change("// more\n", "crates", "low", "src", "lib.rt")
-        clone.wait(60)
+        clone.hold()
         killed = clone.start("0")
         began = clone.began()
         killed.send_signal(number)
         killed.communicate(timeout=PATIENCE)
         rig.row("a build is ended by signal %d" % number, (began, killed.returncode, clone.runs()), (True, -number, ["ci"]))
-        clone.wait(0)
+        clone.let_go()
         building(rig, "after a build that signal %d ended" % number, clone)
 
 

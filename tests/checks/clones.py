@@ -18,8 +18,8 @@ sleep) echo asleep && exec sleep 60 ;;
 esac
 """ % USAGE.decode().strip()
 
-# In the kit's place: it takes a while, says how far it is, and puts `program` of its folder where the kit puts what it has built. The file that
-# `meanwhile` names is changed while it does.
+# In the kit's place: it says how far it is, and puts `program` of its folder where the kit puts what it has built. The file that `meanwhile`
+# names is changed while it does; it doesn't end while there is a file `hold`.
 KIT = """#!/bin/sh
 here=$(dirname "$0")
 case $1 in
@@ -29,7 +29,9 @@ ci) place=crates/dbg_program/out ;;
 esac
 echo "$1" >>"$here/runs"
 [ ! -e "$here/meanwhile" ] || echo "// more" >>"$(cat "$here/meanwhile")"
-echo "rt: low is kept: an earlier run proved it" && sleep "$(cat "$here/seconds")" && echo "rt: dbg_program proved"
+echo "rt: low is kept: an earlier run proved it"
+while [ -e "$here/hold" ]; do sleep 0.05; done
+echo "rt: dbg_program proved"
 mkdir -p $place && cp "$here/program" $place/dbg_program
 """
 
@@ -59,15 +61,18 @@ class Clone:
         written(os.path.join(self.bin, "program"), PROGRAM, 0o755)
         shutil.copytree(os.path.join(top, ".ci"), self.path(".ci"))
         written(self.path("tests", "outside"), "#!/bin/sh\n", 0o755)
-        self.wait(0)
 
     def path(self, *names):
         """A file of the clone."""
         return os.path.join(self.folder, *names)
 
-    def wait(self, seconds):
-        """How long the kit builds."""
-        written(os.path.join(self.bin, "seconds"), "%s\n" % seconds)
+    def hold(self):
+        """From now on the kit doesn't end what it builds."""
+        written(os.path.join(self.bin, "hold"), "")
+
+    def let_go(self):
+        """Now it does."""
+        os.remove(os.path.join(self.bin, "hold"))
 
     def runs(self):
         """What the kit was asked to do since this was asked last."""
