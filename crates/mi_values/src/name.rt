@@ -5,10 +5,17 @@ ghost use Rattle.mi_values.specs.Name.{is_name, is_name_byte, are_name_bytes};
 
 use std::marker::Model;
 
+// Where the bytes of a name lie.
+#[derive(Drop)]
+enum NameBytes {
+    Literal(&'static [u8]),
+    Owned(Vec<u8>),
+}
+
 /// The name of a field, or a line's class. Contracts see its bytes.
 #[derive(Drop)]
 pub struct Name {
-    bytes: Vec<u8>,
+    bytes: NameBytes,
 }
 
 impl Model for Name {
@@ -17,9 +24,11 @@ impl Model for Name {
 
     ghost Value = { List ℕ };
 
-    ghost view = { λ n. n.bytes.items };
+    ghost use Rattle.mi_values.specs.NameInside.{bytes_of_name};
 
-    ghost invariant = { λ n. is_name n.bytes.items ≡ true };
+    ghost view = { λ n. bytes_of_name n.bytes };
+
+    ghost invariant = { λ n. is_name (bytes_of_name n.bytes) ≡ true };
 }
 
 impl Name {
@@ -28,7 +37,19 @@ impl Name {
         requires { is_name bytes.items ≡ true }
         ensures { result ≡ bytes.items }
     {
-        Name { bytes }
+        Name {
+            bytes: NameBytes::Owned(bytes),
+        }
+    }
+
+    /// The name of a literal. It needs no memory beside itself.
+    pub fn of(literal: &'static [u8]) -> Name
+        requires { is_name literal.now ≡ true }
+        ensures { result ≡ literal.now }
+    {
+        Name {
+            bytes: NameBytes::Literal(literal),
+        }
     }
 
     /// Its bytes, one or more.
@@ -36,7 +57,10 @@ impl Name {
         ensures value { result.now ≡ self.now }
         ensures name { is_name self.now ≡ true }
     {
-        self.bytes.as_slice()
+        match &self.bytes {
+            NameBytes::Literal(literal) => literal,
+            NameBytes::Owned(bytes) => bytes.as_slice(),
+        }
     }
 }
 

@@ -9,6 +9,7 @@ pub mod InTime
 pub mod Steps
 pub mod Ties
 pub mod Seen
+pub mod Triggered
 pub mod Early
 pub mod Summary
 pub mod Logged

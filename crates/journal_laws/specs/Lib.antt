@@ -1,2 +1,0 @@
--- What every lawful journal says of its stops by watchpoints.
-pub mod Triggered

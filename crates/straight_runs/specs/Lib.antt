@@ -1,2 +1,0 @@
--- The definitions of runs: this project's own.
-pub mod Runs
