@@ -14,5 +14,5 @@ returns c =
     let text = c.args.text.now in
     let none = standing (register r) None (shown_variables []) in
     c.tree_as.ensures (parsed_in s.sources.names (text_named s r) text)
-    (subst (λ want. GivesParsed c.parse_in.result want) (c.in_ok-has_names.ensures.without ? s.sources.names none (text_named s r))
+    (subst (λ want. GivesParsed c.parse_in.result want) (c.in_ok-has_names.ensures.without c.if-branch.false s.sources.names none (text_named s r))
     (subst (λ names. GivesParsed c.parse_in.result (parsed_in names none text)) c.symbols-symbols.ensures c.parse_in.ensures))
