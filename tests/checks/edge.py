@@ -12,7 +12,57 @@ from checks.rig import EXITED, OPENING, PATIENCE, RUNNING, Talk
 
 CONTINUE = b"-exec-continue\n"
 NOBODY = 65534
-STACK = 128 * 1024
+STACK = 96 * 1024
+LINE = 4096
+HISTORY = 4_194_304
+
+# What stands before a word, of each command where it takes one, and where it takes none. A blank follows but behind a sign.
+WORD_FRONTS = b"""-
+-break-insert
+-break-insert *
+-break-insert -c
+-break-insert -i
+-break-insert -p
+-break-watch
+-break-delete
+-break-enable
+-break-disable
+-break-condition
+-break-condition 1
+-break-after
+-break-after 1
+-break-list
+-exec-continue --thread
+-exec-interrupt --thread
+-exec-step --thread
+-exec-next --thread
+-exec-finish --thread
+-exec-step-instruction --thread
+-exec-next-instruction --thread
+-exec-wait
+-thread-info
+-thread-list-ids
+-thread-select
+-stack-list-frames --thread
+-stack-info-depth --thread
+-stack-info-frame --thread
+-stack-list-variables
+-stack-list-variables --thread
+-data-evaluate-expression
+-data-evaluate-expression --thread
+-data-list-register-names
+-data-list-register-values
+-data-list-register-values x
+-data-read-memory-bytes
+-data-read-memory-bytes 0
+-data-write-memory-bytes
+-data-write-memory-bytes 0
+-data-write-memory-bytes 0 00
+-gdb-set
+-gdb-set $
+-gdb-set $a0=
+-gdb-show
+-gdb-exit"""
 
 
 def check_short_writes(rig):
@@ -88,16 +138,34 @@ def check_threads(rig):
             rig.row("threads of %d workers" % workers, (heard, threads_of(talk.process)), (True, wanted))
 
 
+def little_stack():
+    """A process that has this much stack."""
+    resource.setrlimit(resource.RLIMIT_STACK, (STACK, STACK))
+
+
 def check_stack(rig):
     """A line of 2,000 words takes no stack for each of them."""
-
-    def limit():
-        resource.setrlimit(resource.RLIMIT_STACK, (STACK, STACK))
-
     many = b" ".join([b"1"] * 2_000)
     for command in (b"-data-evaluate-expression ", b"-break-delete ", b"-data-list-register-values x ", b"-thread-info "):
-        status, output = rig.run(["--workers", "0", "exit"], command + many + b"\n", preexec_fn=limit)
+        status, output = rig.run(["--workers", "0", "exit"], command + many + b"\n", preexec_fn=little_stack)
         rig.row("2,000 words of %s" % command.decode().strip(), (status, output.count(b"(gdb)\n")), (0, 2))
+
+
+def check_long_words(rig):
+    """A word that fills its line takes no stack for each of its bytes: one of letters, of zeros, of `:`, of blanks and of octal escapes."""
+    for front in WORD_FRONTS.split(b"\n"):
+        front += b"" if front[-1:] in b"-*$=" else b" "
+        room = LINE - len(front) - 2
+        words = [byte * room for byte in (b"a", b"0", b":")] + [b'"%s"' % (part * (room // len(part))) for part in (b" ", b"\\012")]
+        lines = b"".join(front + word + b"\n" for word in words)
+        status, output = rig.run(["--workers", "0", "exit"], lines, preexec_fn=little_stack)
+        rig.row("long words of %s" % front.decode().strip(), (status, output.count(b"(gdb)\n")), (0, 1 + len(words)))
+
+
+def check_full_history(rig):
+    """As many empty lines as the history has entries are done, each with its prompt, and fill it."""
+    status, output = rig.run(["--workers", "0", "exit"], b"\n" * HISTORY)
+    rig.row("%d empty lines" % HISTORY, (status, output == OPENING + b"(gdb)\n" * HISTORY), (4, True))
 
 
 def check_file_is_input(rig):
@@ -111,5 +179,6 @@ def check_edge(rig):
     """All of them."""
     rig.put("exit", plain(EXIT))
     rig.put("loop", plain(LOOP))
-    for check in (check_short_writes, check_slow_pipe, check_without_threads, check_threads, check_stack, check_file_is_input):
+    checks = (check_short_writes, check_slow_pipe, check_without_threads, check_threads, check_stack, check_long_words)
+    for check in (*checks, check_full_history, check_file_is_input):
         rig.guarded(check.__name__, lambda: check(rig))

@@ -15,5 +15,6 @@ pub mod Levels
 pub mod Rising
 pub mod Marking
 pub mod Walked
+pub mod Outer
 pub mod Tabled
 pub mod Orderly

@@ -1,7 +1,7 @@
 -- The marks of a unit in place of its entries: a list of them is walked, and what is read again is what was there.
 use Rattle.debug_info.proofs.Words.{◌≡◌, ◌<◌, ◌≤◌, ◌+◌, ◌++◌, ℕ, zero, suc, Bool, true, false, List, [], ◌∷◌, length, map, filter, take, drop, get_or, Option, None, Some, refl, arith, sym, ◌∙◌, ap, subst, append-nil, append_assoc, find}
-use Rattle.debug_info.proofs.Words.{option_and_then, is_some, ◌==◌, ◌&&◌, if◌then◌else◌, and_assoc, get_or-map, length-map, map-append, take_more, filter-append, entry_list, AreReread, all_reread, is_entered_mark, is_outer, is_own_mark}
-use Rattle.debug_info.proofs.Words.{mark_of, reread_in, inner, is_block, is_entered, is_fixed, is_open, is_own, is_unit_variable, is_variable, is_within, own_among, own_entries, is_below, shut_by, Entry, Mark}
+use Rattle.debug_info.proofs.Words.{option_and_then, ◌==◌, ◌&&◌, if◌then◌else◌, get_or-map, length-map, map-append, take_more, filter-append, entry_list, AreReread, all_reread, is_entered_mark, is_own_mark}
+use Rattle.debug_info.proofs.Words.{mark_of, reread_in, inner, is_block, is_entered, is_open, is_own, is_within, own_among, own_entries, is_below, shut_by, Entry, Mark}
 use Rattle.debug_info.specs.declared.entry.Kind.TheVariants as kind
 use Rattle.debug_info.specs.declared.entry.Tag.TheVariants as tag
 use Rattle.debug_info.specs.declared.expression.Base.TheVariants as base
@@ -161,22 +161,6 @@ level_same u level (e ∷ es) all =
       | true ↦ ap (λ (o : Option Entry). entry_list o ++ all_reread u (filter (λ m. m.level == level) (map mark_of es))) all.0 ∙ ap (λ (xs : List Entry). e ∷ xs) (level_same u level es all.1)
       | false ↦ level_same u level es all.1
     ]
-
-outer_step : (u : Looked) (b c : Bool) (e : Entry) (ms : List Mark) (es : List Entry) → reread_in u (mark_of e) ≡ Some e → is_fixed e.place ≡ c → filter (λ x. is_fixed x.place) (all_reread u ms) ≡ es
-    → filter (λ x. is_fixed x.place) (all_reread u (if b then mark_of e ∷ ms else ms)) ≡ (if b && c then e ∷ es else es)
-outer_step u true true e ms es again fixed rest =
-    ap (λ (o : Option Entry). filter (λ x. is_fixed x.place) (entry_list o ++ all_reread u ms)) again ∙ ap
-    (λ (t : Bool). if t then e ∷ filter (λ x. is_fixed x.place) (all_reread u ms) else filter (λ x. is_fixed x.place) (all_reread u ms)) fixed ∙ ap (λ (xs : List Entry). e ∷ xs) rest
-outer_step u true false e ms es again fixed rest =
-    ap (λ (o : Option Entry). filter (λ x. is_fixed x.place) (entry_list o ++ all_reread u ms)) again ∙ ap
-    (λ (t : Bool). if t then e ∷ filter (λ x. is_fixed x.place) (all_reread u ms) else filter (λ x. is_fixed x.place) (all_reread u ms)) fixed ∙ rest
-outer_step u false c e ms es again fixed rest = rest
-
-pub outer_same : (u : Looked) (es : List Entry) → AreAgain u es → filter (λ e. is_fixed e.place) (all_reread u (filter is_outer (map mark_of es))) ≡ filter is_unit_variable es
-outer_same u [] all = refl
-outer_same u (e ∷ es) all =
-    outer_step u (is_outer (mark_of e)) (is_fixed e.place) e (filter is_outer (map mark_of es)) (filter is_unit_variable es) all.0 refl (outer_same u es all.1)
-    ∙ ap (λ (b : Bool). if b then e ∷ filter is_unit_variable es else filter is_unit_variable es) (and_assoc (e.level == 2) (is_some e.name && is_variable e.tag) (is_fixed e.place))
 
 -- ---- one mark
 

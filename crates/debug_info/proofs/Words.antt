@@ -15,11 +15,11 @@ pub use Rattle.debug_info.specs.Functions.{function_list, functions_in, function
 pub use Rattle.debug_info.specs.Index.{AreRuns, IsRun, behind_last, bit_of, extended, lone_run, or_flag, packed, unpacked, with_flag, with_flags, with_values}
 pub use Rattle.debug_info.specs.Info.{Info, info_of, scope, variables_at, variables_by}
 pub use Rattle.debug_info.specs.Kept.{seen}
-pub use Rattle.debug_info.specs.Marks.{AreMarks, AreReread, entry_in, mark_of, reread, all_reread, is_entered_mark, is_outer, is_own_mark, reread_in, entries_in}
+pub use Rattle.debug_info.specs.Marks.{AreMarks, AreReread, entry_in, mark_of, reread, all_reread, is_entered_mark, is_in_unit, is_outer, is_own_mark, outer_marks, reread_in, entries_in}
 pub use Rattle.debug_info.specs.Order.{AreTurns, has_turn, is_turn}
 pub use Rattle.debug_info.specs.Reading.{◌>>=◌, Read, found, read}
 pub use Rattle.debug_info.specs.Rising.{IsCount, RisesFrom}
-pub use Rattle.debug_info.specs.Scope.{Variable, by_depth, is_modifier, kind_of, own_kind, type_entry, inner, is_entered, is_open, is_own, own_among, from_offset, is_block, is_fixed, is_unit_variable, is_variable, is_within, own_entries}
+pub use Rattle.debug_info.specs.Scope.{Variable, by_depth, is_modifier, kind_of, own_kind, type_entry, inner, is_entered, is_open, is_own, own_among, from_offset, is_block, is_fixed, is_unit, is_unit_entry, is_unit_variable, is_variable, is_within, own_entries, parent, unit_variables}
 pub use Rattle.debug_info.specs.Scope.{variable_of, variables_in}
 pub use Rattle.debug_info.specs.Shown.{is_below, shut_by, given, reading_shown, shown_variables, seen_texts}
 pub use Rattle.debug_info.specs.Tables.{AreKept, AreListed, IsBefore, LeadTo, code_in, declaration_in, declared, end_of, is_code, IsTable}

@@ -19,18 +19,20 @@ use Rattle.debug_info.specs.declared.form.TextPlace.{TextPlace}
 use Rattle.debug_info.specs.declared.form.Value.{Value}
 use Rattle.debug_info.specs.declared.form.Value.TheVariants as value
 
+-- the entries of units are those of DW_TAG_compile_unit and DW_TAG_partial_unit
 abbrev pub tag_of : ℕ → Tag
 tag_of code =
     if code == 0x05 then tag.Parameter
     else (if code == 0x0B then tag.Block
     else (if code == 0x0F then tag.Pointer
+    else (if (code == 0x11) || (code == 0x3C) then tag.Unit
     else (if code == 0x16 then tag.Typedef
     else (if code == 0x24 then tag.BaseType
     else (if code == 0x26 then tag.Const
     else (if code == 0x2E then tag.Subprogram
     else (if code == 0x34 then tag.Variable
     else (if code == 0x35 then tag.Volatile
-    else tag.Other))))))))
+    else tag.Other)))))))))
 
 -- the values of an entry's attributes, each with its name, by their specifications in order
 abbrev pub value_behind : List ℕ → List ℕ → (ℕ → ℕ → Read (List (ℕ × Value))) → ℕ → Option Specification × ℕ → Read (List (ℕ × Value))

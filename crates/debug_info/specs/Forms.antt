@@ -1,5 +1,5 @@
 -- The values of attributes, by their forms (DWARF 4, sections 7.5.4 and 7.5.5; DWARF 2 and 3 have no others).
-use Rattle.std.specs.Prelude.{ℕ, ℤ, pos, negsuc, List, slice_range, Option, None, Some, Err}
+use Rattle.std.specs.Prelude.{ℕ, ℤ, pos, negsuc, List, [], ◌∷◌, slice_range, Option, None, Some, Err}
 use Rattle.leb_read.specs.Forms.{form_of, number_by}
 use Rattle.leb_read.specs.Leb.{behind_run, number_at, sleb_at, text_at}
 use Rattle.leb_read.specs.declared.forms.Form.{Form}
@@ -11,6 +11,7 @@ use Rattle.debug_info.specs.Expressions.{only_operation}
 use Rattle.debug_info.specs.declared.fault.InfoFault.TheVariants as fault
 use Rattle.debug_info.specs.declared.form.Value.{Value}
 use Rattle.debug_info.specs.declared.form.Value.TheVariants as value
+use Rattle.debug_info.specs.declared.form.TextPlace.{TextPlace}
 use Rattle.debug_info.specs.declared.form.TextPlace.TheVariants as place
 
 -- a length, and so many bytes, whose only operation counts
@@ -20,12 +21,17 @@ block_at width bytes at = do
   past ← read (behind_run size.0 bytes size.1)
   found (value.Block (only_operation (slice_range bytes size.1 past))) past
 
+-- an empty text says nothing
+abbrev pub text_value : List ℕ → TextPlace → Value
+text_value [] at = value.Opaque
+text_value (b ∷ bs) at = value.Text at
+
 -- an offset into .debug_str, where a text stands that has its zero byte
 unfoldable pub shared_at : List ℕ → List ℕ → ℕ → Read Value
 shared_at strs bytes at = do
   offset ← read (number_at 4 bytes at)
   text ← read (text_at strs offset.0)
-  found (value.Text (place.Shared (record { at = offset.0 }))) offset.1
+  found (text_value text.0 (place.Shared (record { at = offset.0 }))) offset.1
 
 -- a negative number counts nothing
 abbrev pub signed_constant : ℤ → Value
@@ -47,7 +53,7 @@ value_by (form.Block width) strs bytes at = block_at width bytes at
 value_by form.Expression strs bytes at = block_at Variable bytes at
 value_by form.Inline strs bytes at = do
   text ← read (text_at bytes at)
-  found (value.Text (place.Inline (record { at = at }))) text.1
+  found (text_value text.0 (place.Inline (record { at = at }))) text.1
 value_by form.Shared strs bytes at = shared_at strs bytes at
 value_by (form.Reference width) strs bytes at = do
   offset ← read (number_by width bytes at)

@@ -1,12 +1,12 @@
 -- What is kept of a unit's entries while it is looked through, and how each is read again. This project's own.
-use Rattle.std.specs.Prelude.{◌≡◌, ℕ, ◌+◌, ◌-◌, ◌≤◌, ◌==◌, ◌||◌, ◌&&◌, nat_lt, not, Bool, List, [], ◌∷◌, ◌++◌, drop, length, map, is_some, Option, None, Some, Result, Ok, Err, option_and_then, if◌then◌else◌}
+use Rattle.std.specs.Prelude.{◌≡◌, ℕ, ◌+◌, ◌-◌, ◌≤◌, ◌==◌, ◌||◌, ◌&&◌, nat_lt, not, Bool, List, [], ◌∷◌, ◌++◌, drop, filter, length, map, is_some, Option, None, Some, Result, Ok, Err, option_and_then, if◌then◌else◌}
 use Rattle.std.specs.Borrow.{Bor}
 use Rattle.std.specs.Global.{Vec}
 use Rattle.debug_info.specs.Contents.{entries_or_none}
 use Rattle.debug_info.specs.Entries.{entry_at, entry_list}
 use Rattle.debug_info.specs.Reading.{Read}
 use Rattle.debug_info.specs.Rising.{RisesFrom}
-use Rattle.debug_info.specs.Scope.{is_block, is_parameter, is_variable, is_within}
+use Rattle.debug_info.specs.Scope.{is_block, is_parameter, is_unit, is_variable, is_within}
 use Rattle.debug_info.specs.Sources.{IsSource}
 use Rattle.debug_info.specs.Tables.{IsTable}
 use Rattle.debug_info.specs.Units.{unit_entries}
@@ -76,9 +76,17 @@ abbrev pub all_reread : Looked → List Mark → List Entry
 all_reread u [] = []
 all_reread u (m ∷ ms) = entry_list (reread_in u m) ++ all_reread u ms
 
+-- whether the entry of a unit is the parent of what stands at level 2 behind a mark, by whether it was before
+abbrev pub is_in_unit : Bool → Mark → Bool
+is_in_unit before m = if nat_lt m.level 2 then is_unit m.tag else before
+
 -- a variable of the unit, if its place is fixed
-abbrev pub is_outer : Mark → Bool
-is_outer m = (m.level == 2) && (m.is_named && is_variable m.tag)
+abbrev pub is_outer : Bool → Mark → Bool
+is_outer in_unit m = in_unit && ((m.level == 2) && (m.is_named && is_variable m.tag))
+
+abbrev pub outer_marks : Bool → List Mark → List Mark
+outer_marks before [] = []
+outer_marks before (m ∷ ms) = filter (λ x. is_outer (is_in_unit before x) x) (m ∷ []) ++ outer_marks (is_in_unit before m) ms
 
 -- the mark with a number and those behind it, or none where there are no more
 abbrev pub IsMarkSplit : List Mark → ℕ → Option (Mark × Bor (List Mark)) → Type 0

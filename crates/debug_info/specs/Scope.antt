@@ -69,6 +69,10 @@ abbrev pub is_variable : Tag → Bool
 is_variable tag.Variable = true
 is_variable _ = false
 
+abbrev pub is_unit : Tag → Bool
+is_unit tag.Unit = true
+is_unit _ = false
+
 abbrev pub is_block : Tag → Bool
 is_block tag.Block = true
 is_block _ = false
@@ -87,7 +91,7 @@ variable_of texts entries base listed e = record {
   listed = listed;
 }
 
--- a parameter or a variable that has a name
+-- a parameter or a variable that has a name, an empty one being none
 abbrev pub is_named : Entry → Bool
 is_named e = is_some e.name && (is_parameter e.tag || is_variable e.tag)
 
@@ -102,8 +106,12 @@ is_entered pc e = is_block e.tag && is_within pc e.range
 abbrev pub is_own : ℕ → Entry → Bool
 is_own pc e = not (is_entered pc e) && is_named e
 
--- The parent of an entry is the nearest before it that is less deep. Of an entry behind a function's, with those between them,
--- the nearest first: each that it stands in is a block that covers pc, up to the function.
+-- the parent of what stands at a level: of the entries before, the nearest first, the first that is less deep
+abbrev pub parent : List Entry → ℕ → Option Entry
+parent before level = find (λ e. nat_lt e.level level) before
+
+-- Of an entry behind a function's, with those between them, the nearest first: each that it stands in is a block that covers pc, up
+-- to the function.
 abbrev pub is_open : ℕ → List Entry → ℕ → Bool
 is_open pc [] level = true
 is_open pc (e ∷ before) level = if nat_lt e.level level then is_entered pc e && is_open pc before e.level else is_open pc before level
@@ -125,16 +133,25 @@ abbrev pub by_depth : ℕ → List Entry → List Entry
 by_depth zero es = []
 by_depth (suc level) es = filter (λ e. e.level == suc level) es ++ by_depth level es
 
--- the unit's own variables with a fixed place
-abbrev pub is_unit_variable : Entry → Bool
-is_unit_variable e = (e.level == 2) && ((is_some e.name && is_variable e.tag) && is_fixed e.place)
+abbrev pub is_unit_entry : Option Entry → Bool
+is_unit_entry None = false
+is_unit_entry (Some e) = is_unit e.tag
+
+-- the unit's own variables with a fixed place: their parent is the unit's entry
+abbrev pub is_unit_variable : List Entry → Entry → Bool
+is_unit_variable before e =
+    ((e.level == 2) && is_unit_entry (parent before e.level)) && ((is_some e.name && is_variable e.tag) && is_fixed e.place)
+
+abbrev pub unit_variables : List Entry → List Entry → List Entry
+unit_variables before [] = []
+unit_variables before (e ∷ es) = filter (is_unit_variable before) (e ∷ []) ++ unit_variables (e ∷ before) es
 
 -- the variables at pc by the unit's entries and those from the function's on
 abbrev pub variables_in : Texts → ℕ → List Entry → List Entry → List Variable
 variables_in texts pc entries [] = []
 variables_in texts pc entries (f ∷ behind) =
     map (variable_of texts entries f.base true) (by_depth 64 (own_entries pc f.level behind))
-    ++ map (variable_of texts entries f.base false) (filter is_unit_variable entries)
+    ++ map (variable_of texts entries f.base false) (unit_variables [] entries)
 
 -- the entries from an offset on
 abbrev pub from_offset : ℕ → List Entry → List Entry

@@ -27,7 +27,8 @@ pub enum Tag {
     Subprogram,
     Variable,
     Volatile,
-    /// Anything else, the unit's own entry too.
+    /// The entry of a unit, of one compilation or a part of one.
+    Unit,
     Other,
 }
 
@@ -57,6 +58,7 @@ pub struct Entry {
     pub offset: u32,
     /// The offset of its type's entry, from the unit's beginning.
     pub type_of: Option<u32>,
+    /// Where its name begins, which isn't empty.
     pub name: Option<TextPlace>,
     pub range: Option<Range>,
     pub place: Place,
@@ -79,6 +81,7 @@ fn tag_of(code: u64) -> Tag
         0x05 => Tag::Parameter,
         0x0B => Tag::Block,
         0x0F => Tag::Pointer,
+        0x11 | 0x3C => Tag::Unit,
         0x16 => Tag::Typedef,
         0x24 => Tag::BaseType,
         0x26 => Tag::Const,

@@ -2,7 +2,7 @@
 
 ghost use Rattle.std.specs.Prelude.{◌≡◌, ◌≤◌, IfOk, length};
 ghost use Rattle.leb_read.specs.Leb.{IsReadTo};
-ghost use Rattle.debug_info.specs.Forms.{block_at, shared_at, signed_constant, value_at, value_by};
+ghost use Rattle.debug_info.specs.Forms.{block_at, shared_at, signed_constant, text_value, value_at, value_by};
 ghost use Rattle.debug_info.specs.Sources.{IsSource};
 
 use crate::expression::{Operation, only_operation};
@@ -42,6 +42,17 @@ fn block_at(width: Width, bytes: &[u8], at: usize) -> Result<(Value, usize), Inf
     Ok((Value::Block(only_operation(&bytes[start..past])), past))
 }
 
+// The value of a text that begins at a place: an empty one says nothing.
+fn text_value(text: &[u8], place: TextPlace) -> Value
+    ensures { result ≡ text_value text.now place }
+{
+    if text.is_empty() {
+        Value::Opaque
+    } else {
+        Value::Text(place)
+    }
+}
+
 // A text of `.debug_str`, by its offset.
 #[tactic(auto, unfolding(crate::specs::Forms::shared_at, leb_read::specs::Leb::text_at))]
 fn shared_at(source: &Source<'_>, at: usize) -> Result<(Value, usize), InfoFault>
@@ -54,7 +65,8 @@ fn shared_at(source: &Source<'_>, at: usize) -> Result<(Value, usize), InfoFault
     if !source.lengths.is_ended(source.strs, offset as usize) {
         return Err(InfoFault::Short);
     }
-    Ok((Value::Text(TextPlace::Shared(place)), next))
+    let text = source.lengths.text(source.strs, offset as usize);
+    Ok((text_value(text, TextPlace::Shared(place)), next))
 }
 
 fn signed_constant(number: i64) -> Value
@@ -91,9 +103,9 @@ fn value_by(form: Form, source: &Source<'_>, at: usize) -> Result<(Value, usize)
         Form::Block(width) => block_at(width, bytes, at),
         Form::Expression => block_at(Width::Variable, bytes, at),
         Form::Inline => {
-            let (_, next) = text_at(bytes, at)?;
+            let (text, next) = text_at(bytes, at)?;
             let place = InfoOffset { at: at as u32 };
-            Ok((Value::Text(TextPlace::Inline(place)), next))
+            Ok((text_value(text, TextPlace::Inline(place)), next))
         }
         Form::Shared => shared_at(source, at),
         Form::Reference(width) => {

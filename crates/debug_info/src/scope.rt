@@ -2,7 +2,7 @@
 
 ghost use Rattle.std.specs.Prelude.{◌≡◌, ◌<◌, ◌+◌, ◌==◌, ◌++◌, ◌∷◌, [], IfOk, None, OnOk, Some, true, false, drop, filter, find, if◌then◌else◌, length, map};
 ghost use Rattle.debug_info.specs.Entries.{entry_list};
-ghost use Rattle.debug_info.specs.Marks.{IsMarkSplit, IsUnit, all_reread, entries_in, is_entered_mark, is_outer, is_own_mark, mark_of, reread_in};
+ghost use Rattle.debug_info.specs.Marks.{IsMarkSplit, IsUnit, all_reread, entries_in, is_entered_mark, is_in_unit, is_outer, is_own_mark, mark_of, outer_marks, reread_in};
 ghost use Rattle.debug_info.specs.Rising.{IsCount, RisesFrom};
 ghost use Rattle.debug_info.specs.Scope.{from_offset, is_fixed, is_modifier, is_within, kind_of, name_of, own_entries, own_kind, place_in, type_entry, variable_of, variables_in};
 ghost use Rattle.debug_info.specs.Shown.{AreTexts, is_below, seen_texts, shown_variable, shown_variables};
@@ -270,10 +270,21 @@ fn push_level<'a>(
 }
 
 // Whether a mark may be that of a variable of the unit.
-fn is_outer(mark: &Mark) -> bool
-    ensures { result ≡ is_outer mark.now }
+fn is_outer(in_unit: bool, mark: &Mark) -> bool
+    ensures { result ≡ is_outer in_unit mark.now }
 {
-    mark.level == 2 && mark.is_named && mark.tag == Tag::Variable
+    in_unit && mark.level == 2 && mark.is_named && mark.tag == Tag::Variable
+}
+
+// Whether the entry of a unit is the parent of what stands at level 2 behind a mark, by whether it was before.
+fn is_in_unit(before: bool, mark: &Mark) -> bool
+    ensures { result ≡ is_in_unit before mark.now }
+{
+    if mark.level < 2 {
+        mark.tag == Tag::Unit
+    } else {
+        before
+    }
 }
 
 // Adds the variable of a mark, where it has a fixed place.
@@ -305,10 +316,12 @@ fn push_unit<'a>(
 ) -> Result<(), NoMemory>
     requires texts { AreTexts texts.now }
     requires unit { IsUnit unit.now }
-    ensures { OnOk result (shown_variables variables.new.items ≡ shown_variables variables.old.items ++ map (variable_of (seen_texts texts.now) (entries_in unit.now) base false) (filter (λ e. is_fixed e.place) (all_reread unit.now (filter is_outer unit.now.marks.now)))) }
+    ensures { OnOk result (shown_variables variables.new.items ≡ shown_variables variables.old.items ++ map (variable_of (seen_texts texts.now) (entries_in unit.now) base false) (filter (λ e. is_fixed e.place) (all_reread unit.now (outer_marks false unit.now.marks.now)))) }
 {
+    let mut in_unit = false;
     for mark in unit.marks {
-        if is_outer(mark) {
+        in_unit = is_in_unit(in_unit, mark);
+        if is_outer(in_unit, mark) {
             push_fixed(variables, texts, unit, base, mark)?;
         }
     }

@@ -1,15 +1,19 @@
 -- What the tables that an image keeps say of its program.
-use Rattle.std.proofs.Common.{◌≡◌, ◌≢◌, ℕ, ◌%◌, Bool, true, false, List, [], ◌∷◌, length, map, find, None, refl, sym, ◌∙◌, ap, eq-eqb, ne_eqb}
+use Rattle.std.proofs.Common.{◌≡◌, ◌≢◌, ℕ, ◌+◌, ◌%◌, Bool, true, false, List, [], ◌∷◌, length, map, find, None, refl, sym, ◌∙◌, ap, eq-eqb, ne_eqb}
 use Rattle.std.specs.Prelude.{◌==◌, ◌&&◌, not, All, option_and_then}
 use Rattle.std.specs.List.{list_any}
 use Rattle.std.specs.Option.{option_map, option_map_or}
 use Rattle.std.proofs.lemmas.List.{length-map}
+use Rattle.std.proofs.lemmas.List.Elements.{All-cons, All-head, All-nil, All-tail, All-weaker}
+use Rattle.std.proofs.lemmas.List.Sorted.{All-permutation}
 use Rattle.elf32_read.specs.Program.{Program, Section, Segment, in_segment, in_words, is_writable, byte_of, mapped, in_text, text_word, writable, section, is_named}
 use Rattle.elf32_read.specs.Headers.{file_header, loaded, text_headers, section_headers, names, section_bytes, segment_of, text_of, section_of, program_of}
-use Rattle.elf32_read.specs.Ranges.{text_fits, IsWithin, text_range, in_loaded, in_range, is_called, is_writable_header}
+use Rattle.elf32_read.specs.Ranges.{text_fits, IsRange, IsWithin, text_range, in_loaded, in_range, is_called, is_writable_header}
 use Rattle.elf32_read.specs.Views.{unnamed, range_shown}
 use Rattle.elf32_read.specs.Inside.{seen, IsKept}
-use Rattle.elf32_read.specs.TextSpans.{text_spans}
+use Rattle.elf32_read.specs.Spans.{numbered}
+use Rattle.elf32_read.specs.TextSpans.{AreAligned, text_spans}
+use Rattle.elf32_read.specs.declared.tables.TextRange.{TextRange}
 use Rattle.elf32_read.specs.declared.image.Image.TheInside.{Inside}
 use Rattle.elf32_read.specs.declared.header.SectionHeader.{SectionHeader}
 use Rattle.elf32_read.proofs.Ordered.{are_text_spans}
@@ -147,3 +151,13 @@ kept_texts i p k v = rw k.tables.text (texts_are i.file.items k.texts (within_al
 pub kept_text_spans : (i : Inside) (p : Program) → IsKept i → seen i ≡ p → i.tables.text_spans.items ≡ text_spans p
 kept_text_spans i p k v =
     are_text_spans i.file.items i.tables.text.items i.tables.text_spans.items k.texts (within_all i k) k.tables.text k.tables.text_spans ∙ ap text_spans v
+
+aligned_numbered : (k : ℕ) (ts : List TextRange) → All (λ t. t.address % 4 ≡ 0) ts → AreAligned (numbered (λ t. t.address) (λ t. t.size) k ts)
+aligned_numbered k [] all = All-nil (λ s. s.start % 4 ≡ 0)
+aligned_numbered k (t ∷ ts) all =
+    All-cons (λ s. s.start % 4 ≡ 0) _ _ (All-head (λ r. r.address % 4 ≡ 0) t ts all) (aligned_numbered (k + 1) ts (All-tail (λ r. r.address % 4 ≡ 0) t ts all))
+
+pub kept_aligned : (i : Inside) → IsKept i → AreAligned i.tables.text_spans.items
+kept_aligned i k =
+    All-permutation (λ s. s.start % 4 ≡ 0) _ _ k.tables.text_spans.same
+    (aligned_numbered 0 i.tables.text.items (All-weaker (IsRange i.file.items) (λ t. t.address % 4 ≡ 0) (λ t r. r.aligned) i.tables.text.items k.ranges))

@@ -3,6 +3,7 @@ ghost use Rattle.std.specs.Prelude.{◌≡◌, ◌+◌, find};
 ghost use Rattle.std.specs.List.{list_any};
 ghost use Rattle.std.specs.Option.{option_map};
 ghost use Rattle.elf32_read.specs.Spans.{Rise, covers};
+ghost use Rattle.elf32_read.specs.TextSpans.{AreAligned};
 
 use crate::spans::{Span, span_at};
 use std::marker::Model;
@@ -22,18 +23,29 @@ impl Model for TextSpans {
     ghost Value = { List Span };
 
     ghost use Rattle.elf32_read.specs.Spans.{Rise};
+    ghost use Rattle.elf32_read.specs.TextSpans.{AreAligned};
 
     ghost view = { λ t. t.spans.items };
 
-    ghost invariant = { λ t. Rise t.spans.items };
+    ghost invariant = { λ t. Rise t.spans.items × AreAligned t.spans.items };
 }
 
 impl TextSpans {
     pub(crate) fn of(spans: Vec<Span>) -> TextSpans
-        requires { Rise spans.items }
+        requires rise { Rise spans.items }
+        requires aligned { AreAligned spans.items }
         ensures { result ≡ spans.items }
     {
         TextSpans { spans }
+    }
+
+    /// The spans, one after another.
+    pub fn as_slice(&self) -> &[Span]
+        ensures value { result.now ≡ self.now }
+        ensures rise { Rise result.now }
+        ensures aligned { AreAligned result.now }
+    {
+        self.spans.as_slice()
     }
 
     /// Whether an address is a byte of text.

@@ -1,24 +1,26 @@
 -- Windows of stored words.
 use Rattle.std.proofs.Common.{◌≡◌, ℕ, zero, suc, ◌+◌, ◌-◌, ◌*◌, ◌^◌, ◌<◌, ◌≤◌, length, length-append, length-take-le, take, drop, arith, List, [], ◌∷◌, ◌++◌, ap, sym, ◌∙◌, refl, subst, Bool, true, false, inl, inr}
-use Rattle.std.proofs.Common.{append_assoc, append-nil, get_or-set_other, get_or-set_same}
-use Rattle.std.specs.Prelude.{Option, Some, None, IsSome, Result, Ok, OnOk, slice_get, slice_index, slice_index_or, slice_set, unwrap_or, replicate, if◌then◌else◌}
+use Rattle.std.proofs.Common.{append_assoc, append-nil, min}
+use Rattle.std.specs.Prelude.{◌⊎◌, Option, Some, None, IsSome, Result, Ok, OnOk, slice_get, slice_index, slice_index_or, slice_set, unwrap_or, replicate, if◌then◌else◌}
 use Rattle.std.specs.Option.{option_and_then, option_map}
 use Rattle.std.proofs.lemmas.Bool.{cases_lt}
-use Rattle.std.proofs.lemmas.List.{get_or_append_left, get_or-append_right, get_or-drop, get_or-take, length-drop, length-replicate}
+use Rattle.std.proofs.lemmas.List.{get_or_append_left, get_or-append_right, get_or-drop, get_or-take, take_all}
 use Rattle.std.proofs.lemmas.Option.{slice_get_within}
 use Rattle.std.proofs.Math.Seq.{take-suc}
 use Rattle.rv_decode.specs.declared.instr.Instr.{Instr}
 use Rattle.rv_decode.specs.declared.instr.Instr.TheVariants.{Ebreak}
+use Rattle.rv_exec.specs.declared.operation.Operation.{Operation}
+use Rattle.rv_exec.specs.declared.operation.Operation.TheVariants.{Break}
+use Rattle.rv_exec.specs.Operations.{flat}
 use Rattle.rv_decode.specs.Decode.{decode}
 use Rattle.rv_decode.specs.Word as fields
 use Rattle.reg_slices.specs.Slices.{AreDecoded}
-use Rattle.text_words.specs.declared.fetch.Fetch.{Fetch}
-use Rattle.text_words.specs.Words.{Words, AreStored, decoded_as, ebreak, fetched, fetched_as, instruction_of, is_planted, shown, stored}
-use Rattle.text_words.specs.Runs.{AreInstructions, IsRun}
+use Rattle.text_words.specs.Words.{Words, AreStored, decoded_as, ebreak, fetched, fetched_as, operation_of, is_planted, shown, stored}
+use Rattle.text_words.specs.Runs.{AreOperations, IsRun}
 use Rattle.hart_machine.specs.Slices.{window, window_room, word_then, words_from}
 
 -- one more word
-pub one_more : (t : Words) (addr next n k w : ℕ) (words all : List ℕ) → words ++ words_from t addr n ≡ all → n ≡ suc k → next ≡ addr + 4 → stored t addr ≡ Some w
+one_more : (t : Words) (addr next n k w : ℕ) (words all : List ℕ) → words ++ words_from t addr n ≡ all → n ≡ suc k → next ≡ addr + 4 → stored t addr ≡ Some w
     → (words ++ w ∷ []) ++ words_from t next k ≡ all
 one_more t addr next n k w words all so_far more on is =
     append_assoc words (w ∷ []) (words_from t next k)
@@ -26,21 +28,33 @@ one_more t addr next n k w words all so_far more on is =
     ∙ (ap (λ o. words ++ word_then o (words_from t (addr + 4) k)) (sym is)
     ∙ (ap (λ j. words ++ words_from t addr j) (sym more) ∙ so_far)))
 
--- no more word
-pub ended : (t : Words) (addr n k : ℕ) (words all : List ℕ) → words ++ words_from t addr n ≡ all → n ≡ suc k → stored t addr ≡ None → words ≡ all
-ended t addr n k words all so_far more none =
-    sym (append-nil words)
-    ∙ (ap (λ o. words ++ word_then o (words_from t (addr + 4) k)) (sym none)
-    ∙ (ap (λ j. words ++ words_from t addr j) (sym more) ∙ so_far))
-
 -- the words of a run, and those that come after them
-pub near_words : (t : Words) (addr room n : ℕ) (words : List ℕ) → IsRun t addr words → n ≤ length words → n ≤ room
+near_words : (t : Words) (addr room n : ℕ) (words : List ℕ) → IsRun t addr words → n ≤ length words → n ≤ room
     → take n words ++ words_from t (addr + 4 * n) (room - n) ≡ words_from t addr room
 near_words t addr room zero words run few some = ap (words_from t (addr + 4 * 0)) (let e : room - 0 ≡ room = omega arith in e) ∙ ap (λ a. words_from t a room) (let e : addr + 4 * 0 ≡ addr = omega arith in e)
 near_words t addr room (suc n) words run few some =
     ap (λ xs. xs ++ words_from t (addr + 4 * suc n) (room - suc n)) (take-suc words n 0 few)
     ∙ one_more t (addr + 4 * n) (addr + 4 * suc n) (room - n) (room - suc n) (slice_index words n) (take n words) (words_from t addr room)
     (near_words t addr room n words run (omega arith) (omega arith)) (omega arith) (omega arith) (run.are n few)
+
+stored_none : (t : Words) (addr : ℕ) → shown t addr ≡ None → stored t addr ≡ None
+stored_none t addr e = ap (option_map (λ w. if is_planted t addr then ebreak else w)) e
+
+no_words : (t : Words) (addr n : ℕ) → n ≡ 0 ⊎ (stored t addr ≡ None) → words_from t addr n ≡ []
+no_words t addr zero h = refl
+no_words t addr (suc n) h = elim h [ inl e ↦ absurd (omega (arith, e)) | inr e ↦ ap (λ o. word_then o (words_from t (addr + 4) n)) e ]
+
+-- a run that goes on up to a gap has the words of the window
+pub window_of : (t : Words) (at n : ℕ) (words : List ℕ) → IsRun t at words → shown t (at + 4 * length words) ≡ None → n ≡ min (window_room at) (length words) → take n words ≡ window t at
+window_of t at n words run ends is =
+    let room : ℕ = window_room at in
+    let rest : words_from t (at + 4 * n) (room - n) ≡ [] =
+    no_words t (at + 4 * n) (room - n)
+    (elim (cases_lt n room) [
+      | inl less ↦ inr (ap (λ k. stored t (at + 4 * k)) (let e : n ≡ length words = omega (arith, is, less) in e) ∙ stored_none t (at + 4 * length words) ends)
+      | inr all ↦ inl (omega (arith, all))
+    ]) in
+    sym (append-nil (take n words)) ∙ (ap (λ xs. take n words ++ xs) (sym rest) ∙ near_words t at room n words run (omega (arith, is)) (omega (arith, is)))
 
 pub on_ok : {A E P : Type 0} (r : Result A E) (x : A) → r ≡ Ok x → OnOk r P → P
 on_ok {P = P} r x is h = subst (λ q. OnOk q P) is h
@@ -51,17 +65,17 @@ pub ebreak_is : Some Ebreak ≡ decode ebreak
 unfolding decode fields.bits
 ebreak_is = refl
 
-by_decoded : (o : Option Instr) → unwrap_or o Ebreak ≡ instruction_of (decoded_as o)
+by_decoded : (o : Option Instr) → flat (unwrap_or o Ebreak) ≡ operation_of (decoded_as o)
 by_decoded None = refl
 by_decoded (Some i) = refl
 
-by_fetched : (o : Option ℕ) (b : Bool) → unwrap_or (option_and_then decode (option_map (λ w. if b then ebreak else w) o)) Ebreak ≡ instruction_of (fetched_as o b)
+by_fetched : (o : Option ℕ) (b : Bool) → flat (unwrap_or (option_and_then decode (option_map (λ w. if b then ebreak else w) o)) Ebreak) ≡ operation_of (fetched_as o b)
 by_fetched None b = refl
-by_fetched (Some w) true = ap (λ o. unwrap_or o Ebreak) (sym ebreak_is)
+by_fetched (Some w) true = ap (λ o. flat (unwrap_or o Ebreak)) (sym ebreak_is)
 by_fetched (Some w) false = by_decoded (decode w)
 
-pub stored_is : (t : Words) (addr : ℕ) (f : Fetch) (i : Instr) → fetched t addr ≡ f → i ≡ instruction_of f → i ≡ unwrap_or (option_and_then decode (stored t addr)) Ebreak
-stored_is t addr f i is same = same ∙ (ap instruction_of (sym is) ∙ sym (by_fetched (shown t addr) (is_planted t addr)))
+pub stored_is : (t : Words) (addr : ℕ) (i : Operation) → i ≡ operation_of (fetched t addr) → i ≡ flat (unwrap_or (option_and_then decode (stored t addr)) Ebreak)
+stored_is t addr i same = same ∙ sym (by_fetched (shown t addr) (is_planted t addr))
 
 then_word : (t : Words) (addr : ℕ) (o : Option ℕ) (ws : List ℕ) (k : ℕ) → o ≡ stored t addr → ((j : ℕ) → j < length ws → slice_get ws j ≡ stored t (addr + 4 + 4 * j)) → k < length (word_then o ws)
     → slice_get (word_then o ws) k ≡ stored t (addr + 4 * k)
@@ -91,29 +105,17 @@ past [] k high = refl
 past (w ∷ ws) zero high = absurd (omega arith)
 past (w ∷ ws) (suc k) high = past ws k (omega arith)
 
-pub none_decoded : (n k : ℕ) → slice_index_or (replicate n Ebreak) k Ebreak ≡ Ebreak
+none_decoded : (n k : ℕ) → slice_index_or (replicate n Break) k Break ≡ Break
 none_decoded zero k = refl
 none_decoded (suc n) zero = refl
 none_decoded (suc n) (suc k) = none_decoded n k
 
--- the next instruction is put in its place
-pub one_decoded : (words : List ℕ) (instructions : List Instr) (i k : ℕ) (v : Instr) → i < length instructions → v ≡ unwrap_or (option_and_then decode (slice_get words i)) Ebreak
-    → ((j : ℕ) → j < i → slice_index_or instructions j Ebreak ≡ unwrap_or (option_and_then decode (slice_get words j)) Ebreak) → k < i + 1
-    → slice_index_or (slice_set instructions i v) k Ebreak ≡ unwrap_or (option_and_then decode (slice_get words k)) Ebreak
-one_decoded words instructions i k v low is below more =
-    elim (cases_lt k i) [
-      | inl less ↦ get_or-set_other instructions i k v Ebreak (λ e. absurd (omega arith)) ∙ below k less
-      | inr last ↦
-          let at : k ≡ i = omega arith in
-          ap (λ j. slice_index_or (slice_set instructions i v) j Ebreak) at ∙ (get_or-set_same instructions i v Ebreak low ∙ (is ∙ sym (ap (λ j. unwrap_or (option_and_then decode (slice_get words j)) Ebreak) at)))
-    ]
-
-pub all_decoded : (words : List ℕ) (instructions : List Instr) (n : ℕ) → length words ≤ n → ((k : ℕ) → k < n → slice_index_or instructions k Ebreak ≡ unwrap_or (option_and_then decode (slice_get words k)) Ebreak)
-    → ((k : ℕ) → n ≤ k → slice_index_or instructions k Ebreak ≡ Ebreak) → AreDecoded words instructions
+all_decoded : (words : List ℕ) (instructions : List Operation) (n : ℕ) → length words ≤ n → ((k : ℕ) → k < n → slice_index_or instructions k Break ≡ flat (unwrap_or (option_and_then decode (slice_get words k)) Ebreak))
+    → ((k : ℕ) → n ≤ k → slice_index_or instructions k Break ≡ Break) → AreDecoded words instructions
 all_decoded words instructions n few below above k =
     elim (cases_lt k n) [
       | inl low ↦ below k low
-      | inr high ↦ above k high ∙ sym (ap (λ o. unwrap_or (option_and_then decode o) Ebreak) (past words k (omega arith)))
+      | inr high ↦ above k high ∙ sym (ap (λ o. flat (unwrap_or (option_and_then decode o) Ebreak)) (past words k (omega arith)))
     ]
 
 -- ---- a window whose instructions stand side by side
@@ -142,32 +144,32 @@ no_more t addr (suc n) zero e = then_none (stored t addr) (words_from t (addr + 
 no_more t addr (suc n) (suc near) e =
     then_few (stored t addr) (words_from t (addr + 4) n) near (no_more t (addr + 4) n near (ap (stored t) (let z : addr + 4 + 4 * near ≡ addr + 4 * suc near = omega arith in z) ∙ e))
 
-behind : (is : List Instr) (k : ℕ) → length is ≤ k → slice_index_or is k Ebreak ≡ Ebreak
+behind : (is : List Operation) (k : ℕ) → length is ≤ k → slice_index_or is k Break ≡ Break
 behind [] k high = refl
 behind (i ∷ is) zero high = absurd (omega arith)
 behind (i ∷ is) (suc k) high = behind is k (omega arith)
 
-pub decoded_there : (t : Words) (at : ℕ) (is : List Instr) → AreInstructions t at is → length is ≤ window_room at → length (window t at) ≤ length is → AreDecoded (window t at) is
+decoded_there : (t : Words) (at : ℕ) (is : List Operation) → AreOperations t at is → length is ≤ window_room at → length (window t at) ≤ length is → AreDecoded (window t at) is
 decoded_there t at is run few whole =
     let room : ℕ = window_room at in
     let many : length is ≤ length (window t at) = many_words t at room (length is) few run.there in
     all_decoded (window t at) is (length is) whole
     (λ k l.
-    stored_is t (at + 4 * k) (fetched t (at + 4 * k)) (slice_index_or is k Ebreak) refl (run.are k l)
-    ∙ sym (ap (λ o. unwrap_or (option_and_then decode o) Ebreak) (word_is t at room k (omega (arith, l, many)))))
+    stored_is t (at + 4 * k) (slice_index_or is k Break) (run.are k l)
+    ∙ sym (ap (λ o. flat (unwrap_or (option_and_then decode o) Ebreak)) (word_is t at room k (omega (arith, l, many)))))
     (λ k l. behind is k l)
 
 -- so many of them alone
-pub fewer : (t : Words) (at n : ℕ) (is : List Instr) → n ≤ length is → AreInstructions t at is → AreInstructions t at (take n is)
+fewer : (t : Words) (at n : ℕ) (is : List Operation) → n ≤ length is → AreOperations t at is → AreOperations t at (take n is)
 fewer t at n is few run =
     let many : length (take n is) ≡ n = length-take-le n is few in
     record {
       low = λ k l. run.low k (omega (arith, l, many, few));
       there = λ k l. run.there k (omega (arith, l, many, few));
-      are = λ k l. get_or-take n is k Ebreak (omega (arith, l, many)) ∙ run.are k (omega (arith, l, many, few));
+      are = λ k l. get_or-take n is k Break (omega (arith, l, many)) ∙ run.are k (omega (arith, l, many, few));
     }
 
-pub decoded_first : (t : Words) (at : ℕ) (is : List Instr) → AreInstructions t at is → window_room at ≤ length is → AreDecoded (window t at) (take (window_room at) is)
+decoded_first : (t : Words) (at : ℕ) (is : List Operation) → AreOperations t at is → window_room at ≤ length is → AreDecoded (window t at) (take (window_room at) is)
 decoded_first t at is run enough =
     let room : ℕ = window_room at in
     let many : length (take room is) ≡ room = length-take-le room is enough in
@@ -179,26 +181,32 @@ window_stored t at low i w is =
     let here : i < length (window t at) = slice_get_within (window t at) i w is in
     ((within_room t at i low here).1, sym (word_is t at (window_room at) i here) ∙ is)
 
--- ---- instructions that are copied to the front of a list
+-- ---- operations of a run that goes on up to a gap
 
-module _ (near : ℕ) (is : List Instr) (few : near ≤ length is) where
-  first : length (take near is) ≡ near
-  first = length-take-le near is few
+pub decoded_of : (t : Words) (at n : ℕ) (is : List Operation) → AreOperations t at is → shown t (at + 4 * length is) ≡ None → n ≡ min (window_room at) (length is) → AreDecoded (window t at) (take n is)
+decoded_of t at n is run ends e =
+    let room : ℕ = window_room at in
+    elim (cases_lt n room) [
+      | inl less ↦
+          let all : n ≡ length is = omega (arith, e, less) in
+          let P : List Operation → Type 0 = λ xs. AreDecoded (window t at) xs in
+          subst P (sym (ap (λ k. take k is) all ∙ take_all (length is) is (omega arith)))
+          (decoded_there t at is run (omega (arith, all, less)) (no_more t at room (length is) (stored_none t (at + 4 * length is) ends)))
+      | inr enough ↦
+          let whole : n ≡ room = omega (arith, e, enough) in
+          let P : ℕ → Type 0 = λ k. AreDecoded (window t at) (take k is) in
+          subst P (sym whole) (decoded_first t at is run (omega (arith, e, enough)))
+    ]
 
-  pub copied_rest : (k : ℕ) → near ≤ k → slice_index_or (take near is ++ drop near (replicate 64 Ebreak)) k Ebreak ≡ Ebreak
-  copied_rest k high =
-      get_or-append_right (take near is) (drop near (replicate 64 Ebreak)) near k Ebreak first high
-      ∙ get_or-drop near (replicate 64 Ebreak) (k - near) Ebreak
-      ∙ none_decoded 64 (near + (k - near))
+-- ---- operations that are copied to the front of a list
 
-  pub copied_whole : near ≤ 64 → length (take near is ++ drop near (replicate 64 Ebreak)) ≡ 64
-  copied_whole low = omega (arith, first, low, length-append (take near is) (drop near (replicate 64 Ebreak)), length-drop near (replicate 64 Ebreak), length-replicate 64 Ebreak)
+front_by : (is : List Operation) (k : ℕ) (b : (k < length is) ⊎ (length is ≤ k)) → slice_index_or (is ++ drop (length is) (replicate 64 Break)) k Break ≡ slice_index_or is k Break
+front_by is k (inl low) = get_or_append_left is (drop (length is) (replicate 64 Break)) Break k low
+front_by is k (inr high) =
+    get_or-append_right is (drop (length is) (replicate 64 Break)) (length is) k Break refl high
+    ∙ get_or-drop (length is) (replicate 64 Break) (k - length is) Break
+    ∙ none_decoded 64 (length is + (k - length is))
+    ∙ sym (behind is k high)
 
-pub copied_first : (t : Words) (at near : ℕ) (words : List ℕ) (is : List Instr) → words ≡ window t at → AreInstructions t at is → near ≤ length is → near ≤ length words → (k : ℕ) → k < near
-    → slice_index_or (take near is ++ drop near (replicate 64 Ebreak)) k Ebreak ≡ unwrap_or (option_and_then decode (slice_get words k)) Ebreak
-copied_first t at near words is same run few some k low =
-    let here : k < length (window t at) = omega (arith, low, some, ap length same) in
-    get_or_append_left (take near is) (drop near (replicate 64 Ebreak)) Ebreak k (omega (arith, low, length-take-le near is few))
-    ∙ get_or-take near is k Ebreak low
-    ∙ stored_is t (at + 4 * k) (fetched t (at + 4 * k)) (slice_index_or is k Ebreak) refl (run.are k (omega (arith, low, few)))
-    ∙ sym (ap (λ o. unwrap_or (option_and_then decode o) Ebreak) (ap (λ ws. slice_get ws k) same ∙ word_is t at (window_room at) k here))
+pub copied_decoded : (words : List ℕ) (is : List Operation) → AreDecoded words is → AreDecoded words (is ++ drop (length is) (replicate 64 Break))
+copied_decoded words is are k = front_by is k (cases_lt k (length is)) ∙ are k

@@ -2,6 +2,8 @@
 use Rattle.std.specs.Prelude.{◌≡◌, ◌<◌, ◌⊎◌, ◌^◌, ℕ, zero, suc, Bool, true, false, ◌≢◌, None, not, ◌==◌, ◌&&◌, ◌||◌, nat_le, nat_lt, Some, slice_get}
 use Rattle.rv_decode.specs.declared.instr.Instr.{Instr}
 use Rattle.rv_decode.specs.declared.instr.Instr.TheVariants.{Jal, Jalr}
+use Rattle.rv_exec.specs.declared.operation.Operation.{Operation}
+use Rattle.rv_exec.specs.declared.operation.Operation.TheVariants as ops
 use Rattle.rv_exec.specs.Memory.{Memory}
 use Rattle.rv_exec.specs.Registers.{Registers}
 use Rattle.rv_exec.specs.declared.effect.Stepped.TheVariants as stepped
@@ -20,6 +22,13 @@ abbrev pub calls_or_returns : Instr → Bool
 calls_or_returns (Jal rd imm) = rd == 1
 calls_or_returns (Jalr rd rs1 imm) = (rd == 1) || ((rd == 0) && (rs1 == 1))
 calls_or_returns _ = false
+
+-- the same of its operation
+abbrev pub leaves : Operation → Bool
+leaves (ops.Jal rd imm) = rd == 1
+leaves (ops.Jalr rd rs1 imm) = rd == 1
+leaves (ops.JumpRegister rs1 imm) = rs1 == 1
+leaves _ = false
 
 -- an instruction stands there that does neither
 abbrev pub is_inner : Fetch → Bool

@@ -1,13 +1,12 @@
 // One hart, and one step of it.
-ghost use Rattle.std.specs.Prelude.{◌≡◌, ◌<◌, ◌≤◌, ◌^◌, List, Option, None, Some, true, false, length};
+ghost use Rattle.std.specs.Prelude.{◌≡◌, ◌<◌, ◌≤◌, ◌^◌, List, Option, None, Some, true, false};
 ghost use Rattle.hart_machine.specs.Copying.{entered_core, settled_core, CopiesCore};
 ghost use Rattle.hart_machine.specs.Running.{IsStop, StopsAt};
 ghost use Rattle.hart_machine.specs.Stepping.{CoreSteps, FetchGives, InstructionGives, IsByteCode, copy_fetched, counted, fetched_by, has_run};
 ghost use Rattle.rv_exec.specs.declared.effect.Stepped.TheVariants as stepped;
 ghost use Rattle.scratch_slots.specs.declared.slots.SlotUse as uses;
 ghost use Rattle.rv_exec.specs.Step.{step};
-ghost use Rattle.text_words.specs.Words.{Words, fetched};
-ghost use Rattle.text_words.specs.Fronts.{IsFront};
+ghost use Rattle.text_words.specs.Words.{fetched};
 ghost use Rattle.plain_machine.specs.Plain.{on_instruction};
 
 use data_memory::DataMemory;
@@ -16,7 +15,7 @@ use plain_machine::call;
 use rv_decode::{Instr, decode};
 use rv_exec::{Cause, Effect, Regs, Stepped, execute};
 use scratch_slots::{SlotUse, Slots};
-use text_words::{Fetch, Front, TextWords};
+use text_words::{Fetch, TextWords};
 
 /// One hart: its registers, how many instructions it has executed, and the scratch slot that it is in.
 #[derive(Drop)]
@@ -145,9 +144,9 @@ pub fn step_core(
     }
 }
 
-/// Executes one instruction. False where it asks the environment or traps; then nothing has changed.
+// Executes one instruction. False where it asks the environment or traps; then nothing has changed.
 #[inline(always)]
-pub fn execute_alone(instruction: Instr, regs: &mut Regs, memory: &mut DataMemory) -> bool
+fn execute_alone(instruction: Instr, regs: &mut Regs, memory: &mut DataMemory) -> bool
     ensures ran { result ≡ true → InstructionGives stepped.Ran instruction regs.old regs.new memory.old memory.new }
     ensures kept { result ≡ false → (regs.new ≡ regs.old) × (memory.new ≡ memory.old) }
     ensures stops { result ≡ false → IsStop (step instruction regs.old memory.old) }
@@ -156,57 +155,6 @@ pub fn execute_alone(instruction: Instr, regs: &mut Regs, memory: &mut DataMemor
         Effect::Done => true,
         Effect::Call | Effect::Trap(_) => false,
     }
-}
-
-/// The registers' part of a step that answers `Ran`, by an instruction of the first section. False where another step is
-/// next; then nothing has changed.
-#[inline(always)]
-fn step_front(front: &Front<'_>, regs: &mut Regs, memory: &mut DataMemory) -> bool
-    requires within { front.now.count ≤ length front.now.code.now }
-    ensures pc { regs.old.pc < 2 ^ 32 }
-    ensures ran { (t : Words) → IsFront t front.now.address front.now.count front.now.code.now → result ≡ true → FetchGives stepped.Ran (fetched t regs.old.pc) regs.old regs.new memory.old memory.new }
-    ensures kept { result ≡ false → (regs.new ≡ regs.old) × (memory.new ≡ memory.old) }
-{
-    match front.instruction(regs.pc()) {
-        Some(instruction) => execute_alone(instruction, regs, memory),
-        None => false,
-    }
-}
-
-/// The same by an instruction of any section.
-#[cold]
-#[inline(never)]
-fn step_text(text: &TextWords, regs: &mut Regs, memory: &mut DataMemory) -> bool
-    ensures pc { regs.old.pc < 2 ^ 32 }
-    ensures ran { result ≡ true → FetchGives stepped.Ran (fetched text.now regs.old.pc) regs.old regs.new memory.old memory.new }
-    ensures kept { result ≡ false → (regs.new ≡ regs.old) × (memory.new ≡ memory.old) }
-    ensures stops { result ≡ false → StopsAt (fetched text.now regs.old.pc) regs.old memory.old }
-{
-    match text.fetch(regs.pc()) {
-        Fetch::Instruction(instruction) => execute_alone(instruction, regs, memory),
-        Fetch::Absent | Fetch::Planted | Fetch::Illegal => false,
-    }
-}
-
-/// The registers' part of a step that answers `Ran`, of a hart that is in no slot. False where it stops at its pc; then
-/// nothing has changed.
-#[inline(always)]
-pub fn step_ran(
-    front: &Front<'_>,
-    text: &TextWords,
-    regs: &mut Regs,
-    memory: &mut DataMemory,
-) -> bool
-    requires front { IsFront text.now front.now.address front.now.count front.now.code.now }
-    ensures pc { regs.old.pc < 2 ^ 32 }
-    ensures ran { result ≡ true → FetchGives stepped.Ran (fetched text.now regs.old.pc) regs.old regs.new memory.old memory.new }
-    ensures kept { result ≡ false → (regs.new ≡ regs.old) × (memory.new ≡ memory.old) }
-    ensures stops { result ≡ false → StopsAt (fetched text.now regs.old.pc) regs.old memory.old }
-{
-    if step_front(front, regs, memory) {
-        return true;
-    }
-    step_text(text, regs, memory)
 }
 
 /// Steps a hart by a copy of the instruction at a slot, and takes it home from there. False where it is in a slot, and

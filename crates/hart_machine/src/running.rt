@@ -4,26 +4,35 @@ ghost use Rattle.scratch_slots.specs.declared.slots.SlotUse.{SlotUse};
 ghost use Rattle.text_words.specs.Words.{fetched};
 ghost use Rattle.hart_machine.specs.Running.{CoreAllRan, RegistersAllRan, Stops, StopsAt};
 
-use crate::hart::{Core, step_ran};
+use crate::hart::Core;
 use data_memory::DataMemory;
-use rv_exec::Regs;
+use rv_exec::{Operation, Regs};
+use straight_runs::{Guard, run_straight};
 use text_words::TextWords;
 
-// Goes on with the registers of a hart that is in no slot, by at most `limit` instructions. Those of the first section are
-// looked up at once.
+// Each instruction may be executed.
+#[derive(Clone, Copy)]
+struct Unguarded;
+
+impl Guard for Unguarded {
+    ghost use Rattle.std.specs.Prelude.{true};
+
+    ghost allows = { λ _ _ _. true };
+
+    #[inline(always)]
+    fn allows(&self, _pc: u32, _operation: &Operation) -> bool {
+        true
+    }
+}
+
+// Goes on with the registers of a hart that is in no slot, by at most `limit` instructions.
 #[inline(always)]
 fn run_registers(text: &TextWords, regs: &mut Regs, memory: &mut DataMemory, limit: u32) -> u32
     ensures limit { result ≤ limit }
     ensures far { result < limit → StopsAt (fetched text.now regs.new.pc) regs.new memory.new }
     ensures runs { RegistersAllRan result text.now regs.old memory.old regs.new memory.new }
 {
-    let front = text.front();
-    for count in 0..limit {
-        if !step_ran(&front, text, regs, memory) {
-            return count;
-        }
-    }
-    limit
+    run_straight(text, &Unguarded, regs, memory, u64::from(limit)).count as u32
 }
 
 /// Steps a hart at most `limit` times while the next step is by an instruction that neither asks the environment nor

@@ -1,10 +1,10 @@
-// Windows of stored words, and their instructions.
-ghost use Rattle.std.specs.Prelude.{◌≡◌, ◌≤◌, [], IfSome, length};
+// Windows of stored words, and their operations.
+ghost use Rattle.std.specs.Prelude.{◌≡◌, ◌≤◌, [], length};
 ghost use Rattle.reg_slices.specs.Slices.{AreDecoded};
 ghost use Rattle.hart_machine.specs.Slices as slices;
 
 use arrayvec::ArrayVec;
-use rv_decode::Instr;
+use rv_exec::Operation;
 use text_words::TextWords;
 
 /// The most words of a window.
@@ -17,51 +17,34 @@ fn window_room(at: u32) -> usize
     MOST_WORDS.min((u32::MAX - at) as usize / 4 + 1)
 }
 
-/// Appends the stored words from an address on, up to a gap, to an empty list. The words of one section are copied at once.
+/// Appends the stored words from an address on, up to a gap, to an empty list.
 pub fn push_window(text: &TextWords, at: u32, words: &mut ArrayVec<u32, 64>)
     requires { words.old.items ≡ [] }
     ensures { words.new.items ≡ slices.window text.now at }
 {
-    let room = window_room(at);
     let run = text.run_at(at);
-    let near = room.min(run.len());
+    let count = window_room(at).min(run.len());
     // The room is the list's capacity at most.
-    words.try_extend_from_slice(&run[..near]).unwrap();
-    'far: for i in near..room {
-        let addr = at + 4 * i as u32;
-        let Some(word) = text.word(addr) else { return };
-        words.push(word);
-    }
+    words.try_extend_from_slice(&run[..count]).unwrap();
 }
 
-/// The instruction of each word of the window at an address: EBREAK where a word is none, and behind the last. Those of one section
-/// are copied at once.
-pub fn window_instructions(text: &TextWords, at: u32, words: &[u32]) -> [Instr; MOST_WORDS]
-    requires { words.now ≡ slices.window text.now at }
-    ensures { AreDecoded words.now result }
-{
-    let mut instructions = [Instr::Ebreak; MOST_WORDS];
-    let run = text.instructions_at(at);
-    let near = words.len().min(run.len());
-    instructions[..near].copy_from_slice(&run[..near]);
-    'far: for i in near..words.len() {
-        instructions[i] = text.fetch(at + 4 * i as u32).instruction();
-    }
-    instructions
-}
-
-/// The instructions of the window at an address, where they stand: none where the window goes on in another section.
+/// The operations of the window at an address, where they stand.
 #[inline(always)]
-pub fn instructions_in_place(text: &TextWords, at: u32) -> Option<&[Instr]>
-    ensures { IfSome result (λ it. (length it.now ≤ 64) × AreDecoded (slices.window text.now at) it.now) }
+pub fn operations_in_place(text: &TextWords, at: u32) -> &[Operation]
+    ensures few { length result.now ≤ 64 }
+    ensures decoded { AreDecoded (slices.window text.now at) result.now }
 {
-    let room = window_room(at);
-    let run = text.instructions_at(at);
-    if run.len() >= room {
-        return Some(&run[..room]);
-    }
-    if text.word(at + 4 * run.len() as u32).is_some() {
-        return None;
-    }
-    Some(run)
+    let run = text.operations_at(at);
+    let count = window_room(at).min(run.len());
+    &run[..count]
+}
+
+/// The operations of the window at an address, and that of EBREAK behind the last.
+pub fn window_operations(text: &TextWords, at: u32) -> [Operation; MOST_WORDS]
+    ensures { AreDecoded (slices.window text.now at) result }
+{
+    let mut operations = [Operation::Break; MOST_WORDS];
+    let window = operations_in_place(text, at);
+    operations[..window.len()].copy_from_slice(window);
+    operations
 }

@@ -1,18 +1,13 @@
 // Several steps of one hart in one call, while it stays within some addresses and neither calls nor returns.
-ghost use Rattle.std.specs.Prelude.{◌≡◌, ◌≤◌, ◌<◌, ◌^◌, ◌⊎◌, true, false};
-ghost use Rattle.text_words.specs.Words.{fetched};
-ghost use Rattle.text_words.specs.Fronts.{IsFront};
-ghost use Rattle.rv_exec.specs.declared.effect.Stepped.TheVariants as stepped;
-ghost use Rattle.hart_machine.specs.Stepping.{FetchGives, InstructionGives};
-ghost use Rattle.hart_machine.specs.Running.{IsStop, StopsAt};
-ghost use Rattle.rv_exec.specs.Step.{step};
-ghost use Rattle.hart_machine.specs.Within.{CoreEnds, CoreRanAt, EndsAt, RegistersRanAt, calls_or_returns, is_among, is_inner};
+ghost use Rattle.std.specs.Prelude.{◌≡◌, ◌≤◌, ◌<◌};
+ghost use Rattle.hart_machine.specs.Within.{CoreEnds, CoreRanAt, EndsAt, RegistersRanAt, calls_or_returns, is_among, leaves};
 
-use crate::hart::{Core, execute_alone};
+use crate::hart::Core;
 use data_memory::DataMemory;
 use rv_decode::Instr;
-use rv_exec::Regs;
-use text_words::{Fetch, Front, TextWords};
+use rv_exec::{Operation, Regs};
+use straight_runs::{Guard, run_straight};
+use text_words::TextWords;
 
 /// The number of x1, where a call puts its return address.
 const RETURN_ADDRESS: u32 = 1;
@@ -54,50 +49,33 @@ fn is_among(bounds: Bounds, pc: u32) -> bool
     bounds.start <= u64::from(pc) && u64::from(pc) < bounds.end
 }
 
-// Executes one instruction that neither calls nor returns. False for another, and where it asks the environment or traps;
-// then nothing has changed.
+// Whether the instruction of an operation calls or returns.
 #[inline(always)]
-fn execute_inner(instruction: Instr, regs: &mut Regs, memory: &mut DataMemory) -> bool
-    ensures inner { result ≡ true → calls_or_returns instruction ≡ false }
-    ensures ran { result ≡ true → InstructionGives stepped.Ran instruction regs.old regs.new memory.old memory.new }
-    ensures kept { result ≡ false → (regs.new ≡ regs.old) × (memory.new ≡ memory.old) }
-    ensures ends { result ≡ false → (calls_or_returns instruction ≡ true) ⊎ IsStop (step instruction regs.old memory.old) }
+fn leaves(operation: &Operation) -> bool
+    ensures { result ≡ leaves operation.now }
 {
-    if calls_or_returns(&instruction) {
-        return false;
-    }
-    execute_alone(instruction, regs, memory)
-}
-
-// One step by an instruction of any section.
-#[cold]
-#[inline(never)]
-fn step_text(text: &TextWords, regs: &mut Regs, memory: &mut DataMemory) -> bool
-    ensures inner { result ≡ true → is_inner (fetched text.now regs.old.pc) ≡ true }
-    ensures ran { result ≡ true → FetchGives stepped.Ran (fetched text.now regs.old.pc) regs.old regs.new memory.old memory.new }
-    ensures kept { result ≡ false → (regs.new ≡ regs.old) × (memory.new ≡ memory.old) }
-    ensures ends { result ≡ false → (is_inner (fetched text.now regs.old.pc) ≡ false) ⊎ StopsAt (fetched text.now regs.old.pc) regs.old memory.old }
-{
-    match text.fetch(regs.pc()) {
-        Fetch::Instruction(instruction) => execute_inner(instruction, regs, memory),
-        Fetch::Absent | Fetch::Planted | Fetch::Illegal => false,
+    match *operation {
+        Operation::Jal { rd, .. } | Operation::Jalr { rd, .. } => rd.number() == RETURN_ADDRESS,
+        Operation::JumpRegister { rs1, .. } => rs1.number() == RETURN_ADDRESS,
+        _ => false,
     }
 }
 
-// One step of a hart that is in no slot, by an instruction that neither calls nor returns. False where it goes no further
-// by such a one; then nothing has changed. What stands in the first section is looked up at once.
-#[inline(always)]
-fn step_inner(front: &Front<'_>, text: &TextWords, regs: &mut Regs, memory: &mut DataMemory) -> bool
-    requires front { IsFront text.now front.now.address front.now.count front.now.code.now }
-    ensures pc { regs.old.pc < 2 ^ 32 }
-    ensures inner { result ≡ true → is_inner (fetched text.now regs.old.pc) ≡ true }
-    ensures ran { result ≡ true → FetchGives stepped.Ran (fetched text.now regs.old.pc) regs.old regs.new memory.old memory.new }
-    ensures kept { result ≡ false → (regs.new ≡ regs.old) × (memory.new ≡ memory.old) }
-    ensures ends { result ≡ false → (is_inner (fetched text.now regs.old.pc) ≡ false) ⊎ StopsAt (fetched text.now regs.old.pc) regs.old memory.old }
-{
-    match front.instruction(regs.pc()) {
-        Some(instruction) => execute_inner(instruction, regs, memory),
-        None => step_text(text, regs, memory),
+// An instruction within these addresses that neither calls nor returns may be executed.
+#[derive(Clone, Copy)]
+struct Within {
+    bounds: Bounds,
+}
+
+impl Guard for Within {
+    ghost use Rattle.std.specs.Prelude.{◌&&◌, not};
+    ghost use Rattle.hart_machine.specs.Within.{is_among, leaves};
+
+    ghost allows = { λ g pc op. is_among g.bounds.start g.bounds.end pc && not (leaves op) };
+
+    #[inline(always)]
+    fn allows(&self, pc: u32, operation: &Operation) -> bool {
+        is_among(self.bounds, pc) && !leaves(operation)
     }
 }
 
@@ -114,19 +92,11 @@ fn run_registers(
     ensures far { result.count < limit → EndsAt bounds.start bounds.end text.now regs.new memory.new }
     ensures runs { RegistersRanAt (is_among bounds.start bounds.end) result.count result.last text.now regs.old memory.old regs.new memory.new }
 {
-    let front = text.front();
-    let mut last = regs.pc();
-    for count in 0..limit {
-        let pc = regs.pc();
-        if !is_among(bounds, pc) {
-            return Stayed { count, last };
-        }
-        if !step_inner(&front, text, regs, memory) {
-            return Stayed { count, last };
-        }
-        last = pc;
+    let run = run_straight(text, &Within { bounds }, regs, memory, u64::from(limit));
+    Stayed {
+        count: run.count as u32,
+        last: run.last,
     }
-    Stayed { count: limit, last }
 }
 
 /// Steps a hart at most `limit` times while it stays within these addresses, by instructions that neither call nor return,

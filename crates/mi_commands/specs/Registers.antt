@@ -1,7 +1,7 @@
 -- A register that a command sets: `$NAME=VALUE` (GDB manual, "Registers"; "Assignment to Variables"). The registers' names
 -- are those of expressions.
 use Rattle.std.specs.Prelude.{ℕ, ◌+◌, List, [], ◌∷◌, take, drop, ◌==◌, Option, Some, None, is_some, unwrap_or, if◌then◌else◌}
-use Rattle.std.specs.Option.{option_map}
+use Rattle.std.specs.List.{position}
 use Rattle.mi_input.specs.Parts.{WordView}
 use Rattle.mi_commands.specs.declared.operation.Operation.{Operation}
 use Rattle.mi_commands.specs.declared.operation.Operation.TheVariants as op
@@ -11,9 +11,8 @@ pub record Assignment : Type 0 where
   pub value : List ℕ
 
 -- the place of the first `=`
-unfoldable pub first_equals : List ℕ → Option ℕ
-first_equals [] = None
-first_equals (b ∷ bytes) = if b == 61 then Some 0 else option_map (λ k. k + 1) (first_equals bytes)
+abbrev pub first_equals : List ℕ → Option ℕ
+first_equals bytes = position (λ b. b == 61) bytes
 
 abbrev pub cut : List ℕ → Option ℕ → Option Assignment
 cut bytes None = None

@@ -56,10 +56,12 @@ abbrev pub value_in : OptionName → List Given → Option (List ℕ)
 value_in name given = option_and_then (λ (g : Given). g.1) (find (λ (g : Given). is_named name g.0) given)
 
 -- Each option is one that the command takes, has its value if it takes one, and stands there once.
+abbrev pub option_fits : Allowed → Given → List Given → Bool
+option_fits allowed g behind = (allows allowed g.0 && (not (takes_value g.0) || is_some g.1)) && not (stands g.0 behind)
+
 abbrev pub options_fit : Allowed → List Given → Bool
 options_fit allowed [] = true
-options_fit allowed (g ∷ given) =
-    ((allows allowed g.0 && (not (takes_value g.0) || is_some g.1)) && not (stands g.0 given)) && options_fit allowed given
+options_fit allowed (g ∷ given) = option_fits allowed g given && options_fit allowed given
 
 -- not both `--all` and `--thread`
 abbrev pub one_target : List Given → Bool

@@ -22,19 +22,18 @@ pub enum Place<'a> {
 }
 
 // The place of the last `:`.
-#[tactic(auto, unfolding(crate::specs::Locations::last_colon))]
 fn last_colon(bytes: &[u8]) -> Option<usize>
     ensures place { result ≡ last_colon bytes.now }
     ensures within { IfSome result (λ k. k < length bytes.now) }
 {
-    let [first, rest @ ..] = bytes else {
-        return None;
-    };
-    match last_colon(rest) {
-        Some(k) => Some(k + 1),
-        None if *first == b':' => Some(0),
-        None => None,
+    let mut place = bytes.len();
+    'bytes: while place > 0 {
+        place -= 1;
+        if bytes[place] == b':' {
+            return Some(place);
+        }
     }
+    None
 }
 
 fn line_of(file: &[u8], line: Option<u32>) -> Option<Place<'_>>

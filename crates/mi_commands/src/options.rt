@@ -4,7 +4,7 @@ ghost use Rattle.std.specs.Prelude.{◌≡◌, ◌<◌, length, IfSome};
 ghost use Rattle.mi_input.specs.Parts.{begins};
 ghost use Rattle.mi_input.specs.Split.{word_view, words_view};
 ghost use Rattle.mi_commands.specs.Steps.{text, Fronts};
-ghost use Rattle.mi_commands.specs.Words.{is_end, is_option, options, parameters, behind_end, stands, value_in, options_fit, one_target, words_fit};
+ghost use Rattle.mi_commands.specs.Words.{is_end, is_option, options, parameters, behind_end, stands, value_in, option_fits, options_fit, one_target, words_fit};
 ghost use Rattle.mi_commands.specs.Operations.{spelling};
 
 use crate::counts::{Allowed, OptionName, takes_value};
@@ -87,20 +87,25 @@ pub fn option_in_front(words: &[Word]) -> Option<Front<'_>>
 pub fn parameters(words: &[Word]) -> &[Word]
     ensures { words_view result.now ≡ parameters (words_view words.now) }
 {
-    match option_in_front(words) {
-        Some(option) => parameters(option.rest),
-        None => behind_end(words),
+    let mut rest = words;
+    'options: while let Some(option) = option_in_front(rest) {
+        rest = option.rest;
     }
+    behind_end(rest)
 }
 
 /// Whether an option is so spelled.
 fn stands(name: &[u8], words: &[Word]) -> bool
     ensures { result ≡ stands name.now (options (words_view words.now)) }
 {
-    match option_in_front(words) {
-        Some(option) => option.name == name || stands(name, option.rest),
-        None => false,
+    let mut rest = words;
+    'options: while let Some(option) = option_in_front(rest) {
+        if option.name == name {
+            return true;
+        }
+        rest = option.rest;
     }
+    false
 }
 
 /// Whether this option stands there.
@@ -114,24 +119,36 @@ pub fn has(name: OptionName, words: &[Word]) -> bool
 pub fn value_in(name: OptionName, words: &[Word]) -> Option<&[u8]>
     ensures { text result ≡ value_in name (options (words_view words.now)) }
 {
-    let option = option_in_front(words)?;
-    if name.names(option.name) {
-        option.value
-    } else {
-        value_in(name, option.rest)
+    let mut rest = words;
+    'options: while let Some(option) = option_in_front(rest) {
+        if name.names(option.name) {
+            return option.value;
+        }
+        rest = option.rest;
     }
+    None
 }
 
-// Whether each option is allowed, has the value that it takes, and stands there once.
+// Whether an option is allowed, has the value that it takes, and doesn't stand behind itself.
+fn option_fits(allowed: Allowed, option: &Front<'_>) -> bool
+    ensures { result ≡ option_fits allowed (option.now.name.now, text option.now.value) (options (words_view option.now.rest.now)) }
+{
+    let is_whole = !takes_value(option.name) || option.value.is_some();
+    (allowed.allows(option.name) && is_whole) && !stands(option.name, option.rest)
+}
+
+// Whether each option fits.
 fn options_fit(allowed: Allowed, words: &[Word]) -> bool
     ensures { result ≡ options_fit allowed (options (words_view words.now)) }
 {
-    let Some(option) = option_in_front(words) else {
-        return true;
-    };
-    let is_whole = !takes_value(option.name) || option.value.is_some();
-    ((allowed.allows(option.name) && is_whole) && !stands(option.name, option.rest))
-        && options_fit(allowed, option.rest)
+    let mut rest = words;
+    'options: while let Some(option) = option_in_front(rest) {
+        if !option_fits(allowed, &option) {
+            return false;
+        }
+        rest = option.rest;
+    }
+    true
 }
 
 fn one_target(words: &[Word]) -> bool

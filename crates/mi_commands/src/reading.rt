@@ -154,11 +154,14 @@ fn value_range(name: &[u8]) -> Option<Range>
 fn bad_value(words: &[Word]) -> Option<&[u8]>
     ensures { text result ≡ bad_value (options (words_view words.now)) }
 {
-    let option = option_in_front(words)?;
-    match option.value {
-        Some(value) if is_bad(value_range(option.name), value) => Some(value),
-        _ => bad_value(option.rest),
+    let mut rest = words;
+    'options: while let Some(option) = option_in_front(rest) {
+        match option.value {
+            Some(value) if is_bad(value_range(option.name), value) => return Some(value),
+            _ => rest = option.rest,
+        }
     }
+    None
 }
 
 // Whether the word is no number or no bytes, where such are wanted.

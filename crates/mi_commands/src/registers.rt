@@ -13,21 +13,11 @@ pub struct Texts<'a> {
 }
 
 // The place of the first `=`.
-#[tactic(auto, unfolding(crate::specs::Registers::first_equals))]
 fn first_equals(bytes: &[u8]) -> Option<usize>
     ensures place { result ≡ first_equals bytes.now }
     ensures within { IfSome result (λ k. k < length bytes.now) }
 {
-    let [first, rest @ ..] = bytes else {
-        return None;
-    };
-    if *first == b'=' {
-        return Some(0);
-    }
-    match first_equals(rest) {
-        Some(k) => Some(k + 1),
-        None => None,
-    }
+    bytes.iter().position(|b| *b == b'=')
 }
 
 /// `$NAME=VALUE`, cut at the first `=`.

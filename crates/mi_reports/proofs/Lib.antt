@@ -1,5 +1,4 @@
 -- The lines are of the grammar: names, fixed texts, numbers, and the fields of each kind of line.
-pub mod Seen
 pub mod Bytes
 pub mod Names
 pub mod Proper
@@ -7,9 +6,11 @@ pub mod Worths
 pub mod Watching
 pub mod Listing
 pub mod Replying
--- Which reply is the prompt alone.
-pub mod Blanks
 pub mod Stopping
+pub mod Messages
+pub mod Grammar
+-- What the fields of a line are, field by field.
+pub mod Led
 -- What a session says: one entry more, the lines that show the output, and harts that leave.
 pub mod Saying
 pub mod Telling

@@ -15,7 +15,7 @@ use Rattle.mi_reports.specs.declared.words.Phrase.TheVariants as phrase
 use Rattle.mi_reports.specs.Words.{key_text, says, says_some}
 use Rattle.mi_reports.specs.Phrases.{phrase_text}
 use Rattle.mi_text.specs.Numeral.{address_text, exit_code}
-use Rattle.mi_reports.specs.Fits.{are_fit, text_fits, source_fits, frame_fits, frames_fit}
+use Rattle.mi_reports.specs.Fits.{text_fits, source_fits, frame_fits, frames_fit}
 use Rattle.mi_reports.specs.Frames.{source_fields, frame_rest, frame_fields, frame_field, stack_fields, stack_tree}
 use Rattle.mi_reports.specs.Breakpoints.{disposition}
 use Rattle.mi_reports.specs.Text as entries
@@ -25,11 +25,6 @@ use Rattle.mi_reports.proofs.Names.{key_name, phrase_bytes}
 -- fields that may stand at this depth
 pub record Good (fs : List (List ℕ × Tree)) (d : ℕ) : Type 0 where
   pub test : are_proper_fields (fields_of fs) d ≡ true
-
--- and so in a line
-pub fit : (fs : List (List ℕ × Tree)) → Good fs 16 → are_fit fs ≡ true
-unfolding are_fit
-fit fs g = g.test
 
 pub none_good : (d : ℕ) → Good [] d
 none_good d = record { test = refl }
@@ -143,26 +138,3 @@ unfolding entries.exit_fields
 exit_good code small =
     pick (eqb code 0) _ _ 16 (says_good key.Reason (phrase_text phrase.ExitedNormally) [] 16 refl (phrase_bytes phrase.ExitedNormally) (none_good 16))
     (says_good key.Reason (phrase_text phrase.Exited) _ 16 refl (phrase_bytes phrase.Exited) (says_good key.ExitCode (exit_code code) [] 16 refl (exit_bytes code small) (none_good 16)))
-
--- ---- in a line
-
-pub none_fit : are_fit [] ≡ true
-none_fit = fit [] (none_good 16)
-
-pub says_fit : (k : Key) (t : List ℕ) → are_bytes t ≡ true → are_fit (says k t ∷ []) ≡ true
-says_fit k t h = fit (says k t ∷ []) (says_good k t [] 16 refl h (none_good 16))
-
-pub thread_fit : (h : ℕ) → are_fit (entries.thread_fields h) ≡ true
-thread_fit h = fit (entries.thread_fields h) (thread_good h)
-
-pub signal_fit : (name meaning : Phrase) (h : ℕ) (f : ShownFrame) → frame_fits f ≡ true → are_fit (entries.signal_fields name meaning h f) ≡ true
-signal_fit name meaning h f is = fit (entries.signal_fields name meaning h f) (signal_good name meaning h f is)
-
-pub end_fit : (reason : Phrase) (h : ℕ) (f : ShownFrame) → frame_fits f ≡ true → are_fit (entries.end_fields reason h f) ≡ true
-end_fit reason h f is = fit (entries.end_fields reason h f) (end_good reason h f is)
-
-pub hit_fit : (temporary : Bool) (number h : ℕ) (f : ShownFrame) → frame_fits f ≡ true → are_fit (entries.hit_fields temporary number h f) ≡ true
-hit_fit temporary number h f is = fit (entries.hit_fields temporary number h f) (hit_good temporary number h f is)
-
-pub exit_fit : (code : ℕ) → code < 256 → are_fit (entries.exit_fields code) ≡ true
-exit_fit code small = fit (entries.exit_fields code) (exit_good code small)

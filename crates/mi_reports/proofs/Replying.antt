@@ -24,19 +24,19 @@ use Rattle.mi_reports.specs.declared.words.Phrase.TheVariants as phrase
 use Rattle.mi_reports.specs.Words.{key_text, says, says_some}
 use Rattle.mi_reports.specs.Phrases.{phrase_text}
 use Rattle.mi_text.specs.Numeral.{address_text, worth_text}
-use Rattle.mi_reports.specs.Fits.{are_fit, text_fits, source_fits, place_fits, threads_fit, breakpoint_fits, row_fits, rows_fit, done_fits}
+use Rattle.mi_reports.specs.Fits.{text_fits, source_fits, place_fits, threads_fit, breakpoint_fits, row_fits, rows_fit, content_fits}
 use Rattle.mi_reports.specs.Frames.{source_fields, frame_field}
 use Rattle.mi_reports.specs.Breakpoints.{disposition, enabled, for_thread, ignored, front_fields, place_fields, term_fields, count_fields, breakpoint_fields, breakpoint_field}
 use Rattle.mi_reports.specs.Table.{row_field, table_fields}
 use Rattle.mi_reports.specs.Errors.{message, error_code, error_fields}
 use Rattle.mi_reports.specs.Replies.{state_fields, thread_fields, thread_tree, threads_fields, number_field, numbers_fields, names_field, value_text}
 use Rattle.mi_reports.specs.Replies.{register_fields, register_tree, registers_field, block_fields, memory_field, setting, done_fields}
-use Rattle.mi_reports.proofs.Bytes.{decimal_bytes, address_bytes, joined_bytes}
+use Rattle.mi_reports.proofs.Bytes.{decimal_bytes, address_bytes, hex_bytes, joined_bytes}
 use Rattle.mi_reports.proofs.Names.{phrase_bytes}
 use Rattle.mi_reports.proofs.Listing.{variables_good}
 use Rattle.mi_reports.proofs.Watching.{watch_good, listed_good}
 use Rattle.mi_reports.proofs.Worths.{signed_bytes, worth_bytes}
-use Rattle.mi_reports.proofs.Proper.{Good, fit, none_good, join, value, says_good, some_good, tuple_good, brackets_good, source_good, frame_good, frames_good, pick}
+use Rattle.mi_reports.proofs.Proper.{Good, none_good, join, value, says_good, some_good, tuple_good, brackets_good, source_good, frame_good, frames_good, pick}
 
 -- ---- breakpoints
 
@@ -149,17 +149,17 @@ registers_good : (f : Format) (rs : List Register) → Good (registers_field f r
 unfolding registers_field
 registers_good f rs = value key.RegisterValues _ [] 16 (trees_of_good f rs) (none_good 16)
 
-block_good : (addr : ℕ) (bytes : List ℕ) → are_bytes (encode_lower bytes) ≡ true → Good (block_fields addr bytes) 14
+block_good : (addr : ℕ) (bytes : List ℕ) → Good (block_fields addr bytes) 14
 unfolding block_fields
-block_good addr bytes h =
+block_good addr bytes =
     says_good key.Begin (address_text addr) _ 14 refl (address_bytes addr)
     (says_good key.Offset (address_text 0) _ 14 refl (address_bytes 0)
     (says_good key.End (address_text ((addr + length bytes) % 2 ^ 32)) _ 14 refl (address_bytes ((addr + length bytes) % 2 ^ 32))
-    (says_good key.Contents (encode_lower bytes) [] 14 refl h (none_good 14))))
+    (says_good key.Contents (encode_lower bytes) [] 14 refl (hex_bytes bytes) (none_good 14))))
 
-memory_good : (addr : ℕ) (bytes : List ℕ) → are_bytes (encode_lower bytes) ≡ true → Good (memory_field addr bytes ∷ []) 16
+memory_good : (addr : ℕ) (bytes : List ℕ) → Good (memory_field addr bytes ∷ []) 16
 unfolding memory_field
-memory_good addr bytes h = let block : is_proper (tuple_of (block_fields addr bytes)) 15 ≡ true = tuple_good (block_fields addr bytes) 15 refl (block_good addr bytes h) in value key.Memory _ [] 16 (rw block refl) (none_good 16)
+memory_good addr bytes = let block : is_proper (tuple_of (block_fields addr bytes)) 15 ≡ true = tuple_good (block_fields addr bytes) 15 refl (block_good addr bytes) in value key.Memory _ [] 16 (rw block refl) (none_good 16)
 
 -- ---- the reply
 
@@ -185,7 +185,7 @@ error_good r h = says_good key.Message (message r) (error_code r) 16 refl h (cod
 pub running_good : (t : ℕ) → Good (says key.ThreadId (decimal t) ∷ []) 16
 running_good t = says_good key.ThreadId (decimal t) [] 16 refl (decimal_bytes t) (none_good 16)
 
-pub done_good : (c : Content) → done_fits c ≡ true → Good (done_fields c) 16
+pub done_good : (c : Content) → content_fits c ≡ true → Good (done_fields c) 16
 done_good content.Blank h = none_good 16
 done_good content.Done h = none_good 16
 done_good (content.Inserted b) h = breakpoint_good b 16 refl refl h
@@ -201,19 +201,8 @@ done_good (content.Frame frame) h = frame_good (Some 0) frame 16 refl refl h
 done_good (content.Variables vs) h = variables_good vs h
 done_good content.RegisterNames h = names_good
 done_good (content.Registers format registers) h = registers_good format registers
-done_good (content.Memory addr bytes) h = memory_good addr bytes h
+done_good (content.Memory addr bytes) h = memory_good addr bytes
 done_good (content.Value word unsigned) h = says_good key.Value (worth_text word unsigned) [] 16 refl (worth_bytes word unsigned) (none_good 16)
 done_good (content.Setting v) h = says_good key.Value (phrase_text (setting v)) [] 16 refl (phrase_bytes (setting v)) (none_good 16)
 done_good content.Exit h = none_good 16
 done_good (content.Refused r) h = none_good 16
-
--- ---- in a line
-
-pub running_fit : (t : ℕ) → are_fit (says key.ThreadId (decimal t) ∷ []) ≡ true
-running_fit t = fit (says key.ThreadId (decimal t) ∷ []) (running_good t)
-
-pub error_fit : (r : Refused) → are_bytes (message r) ≡ true → are_fit (error_fields r) ≡ true
-error_fit r h = fit (error_fields r) (error_good r h)
-
-pub done_fit : (c : Content) → done_fits c ≡ true → are_fit (done_fields c) ≡ true
-done_fit c h = fit (done_fields c) (done_good c h)

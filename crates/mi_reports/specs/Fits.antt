@@ -1,5 +1,5 @@
 -- What is shown is made of bytes, wherever it comes from: tests of this project's own.
-use Rattle.std.specs.Prelude.{ℕ, Bool, true, ◌&&◌, List, Option, Some, None}
+use Rattle.std.specs.Prelude.{ℕ, Bool, true, ◌&&◌, List, [], Option, Some, None}
 use Rattle.std.specs.List.{list_all}
 use Rattle.dbg_model.specs.declared.frame.ShownFrame.{ShownFrame}
 use Rattle.dbg_model.specs.declared.frame.SourceLine.{SourceLine}
@@ -10,13 +10,16 @@ use Rattle.dbg_model.specs.declared.variable.ShownVariable.{ShownVariable}
 use Rattle.dbg_model.specs.declared.reply.Thread.{Thread}
 use Rattle.dbg_model.specs.declared.reply.Content.{Content}
 use Rattle.dbg_model.specs.declared.reply.Content.TheVariants as content
-use Rattle.hex.specs.Hex.{encode_lower}
-use Rattle.mi_values.specs.Tree.{Tree, fields_of}
-use Rattle.mi_values.specs.Testing.{are_bytes, are_proper_fields}
-
--- fields that may stand in a line
-unfoldable pub are_fit : List (List ℕ × Tree) → Bool
-are_fit fs = are_proper_fields (fields_of fs) 16
+use Rattle.dbg_model.specs.declared.reply.Refused.{Refused}
+use Rattle.dbg_model.specs.declared.reply.Refused.TheVariants as refused
+use Rattle.dbg_model.specs.declared.reply.Reply.{Reply}
+use Rattle.dbg_model.specs.declared.shown.Shown.{Shown}
+use Rattle.dbg_model.specs.declared.shown.Shown.TheVariants.{Nothing, Wrote, Stop, Exit, Answer}
+use Rattle.mi_commands.specs.declared.refusal.Fault.{Fault}
+use Rattle.mi_commands.specs.declared.refusal.Fault.TheVariants as fault
+use Rattle.mi_text.specs.Token.{is_token}
+use Rattle.mi_values.specs.Testing.{are_bytes}
+use Rattle.mi_reports.specs.Triggers.{expression}
 
 abbrev pub text_fits : Option (List ℕ) → Bool
 text_fits None = true
@@ -52,25 +55,42 @@ rows_fit = list_all row_fits
 abbrev pub variables_fit : List ShownVariable → Bool
 variables_fit = list_all (λ v. are_bytes v.name)
 
--- what is shown of what was done
-abbrev pub done_fits : Content → Bool
-done_fits content.Blank = true
-done_fits content.Done = true
-done_fits (content.Inserted b) = breakpoint_fits b
-done_fits (content.Breakpoints rs) = rows_fit rs
-done_fits (content.Watching number expression) = are_bytes expression
-done_fits (content.Running threads) = true
-done_fits (content.Selected thread) = true
-done_fits (content.Threads threads selected) = threads_fit threads
-done_fits (content.ThreadNumbers numbers selected) = true
-done_fits (content.Frames frames) = frames_fit frames
-done_fits (content.Depth depth) = true
-done_fits (content.Frame frame) = frame_fits frame
-done_fits (content.Variables vs) = variables_fit vs
-done_fits content.RegisterNames = true
-done_fits (content.Registers format registers) = true
-done_fits (content.Memory addr bytes) = are_bytes (encode_lower bytes)
-done_fits (content.Value word unsigned) = true
-done_fits (content.Setting value) = true
-done_fits content.Exit = true
-done_fits (content.Refused r) = true
+-- the text in the message of a fault that isn't a fixed one
+abbrev pub faulty : Fault → List ℕ
+faulty (fault.Undefined name) = name
+faulty (fault.Parameters name) = name
+faulty (fault.Number word) = word
+faulty fault.Setting = []
+faulty (fault.Location word thread) = word
+
+-- and in the message of an error
+abbrev pub quoted : Refused → List ℕ
+quoted (refused.Faulty f) = faulty f
+quoted (refused.UnknownName name) = name
+quoted (refused.UnknownLine file line) = file
+quoted (refused.FixedRegister name) = name
+quoted (refused.Unwatchable expression) = expression
+quoted r = []
+
+-- what a reply shows
+abbrev pub content_fits : Content → Bool
+content_fits (content.Inserted b) = breakpoint_fits b
+content_fits (content.Breakpoints rs) = rows_fit rs
+content_fits (content.Watching number expression) = are_bytes expression
+content_fits (content.Threads threads selected) = threads_fit threads
+content_fits (content.Frames frames) = frames_fit frames
+content_fits (content.Frame frame) = frame_fits frame
+content_fits (content.Variables vs) = variables_fit vs
+content_fits (content.Refused r) = are_bytes (quoted r)
+content_fits c = true
+
+abbrev pub reply_fits : Reply → Bool
+reply_fits r = is_token r.token && content_fits r.content
+
+-- what an entry shows
+abbrev pub shown_fits : Shown → Bool
+shown_fits Nothing = true
+shown_fits (Wrote bytes) = are_bytes bytes
+shown_fits (Stop frame temporary watch) = frame_fits frame && are_bytes (expression watch)
+shown_fits (Exit last) = true
+shown_fits (Answer reply) = reply_fits reply

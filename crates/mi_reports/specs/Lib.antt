@@ -13,5 +13,5 @@ pub mod Triggers
 pub mod Lines
 pub mod Said
 pub mod Refusals
+pub mod Led
 pub mod Fits
-pub mod Seen

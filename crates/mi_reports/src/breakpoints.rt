@@ -1,12 +1,17 @@
 // Breakpoints as they are listed.
-ghost use Rattle.std.specs.Prelude.{◌≡◌, ◌∷◌, [], ◌++◌, OnOk, true, ◌&&◌};
-ghost use Rattle.mi_values.specs.Testing.{are_bytes};
-ghost use Rattle.mi_reports.specs.Fits.{text_fits, source_fits, breakpoint_fits};
-ghost use Rattle.mi_reports.specs.Seen.{seen};
+ghost use Rattle.std.specs.Prelude.{◌≡◌, ◌∷◌, [], ◌++◌, OnOk};
+ghost use Rattle.mi_text.specs.Keeps.{Keeps};
+ghost use Rattle.mi_reports.specs.declared.words.Key.TheVariants as keys;
+ghost use Rattle.mi_reports.specs.Words.{says};
+ghost use Rattle.mi_reports.specs.Phrases.{phrase_text};
+ghost use Rattle.mi_reports.specs.Led.{led, behind, opened};
 ghost use Rattle.mi_reports.specs.Breakpoints.{disposition, enabled, for_thread, ignored, front_fields, place_fields, term_fields, count_fields, breakpoint_fields, breakpoint_field};
 
-use crate::fields::{FieldList, tuple};
-use crate::frames::push_source;
+use crate::fields::{
+    write_address, write_byte, write_head, write_number, write_phrase, write_some, write_text,
+    write_word,
+};
+use crate::frames::write_source;
 use crate::words::{Key, Phrase};
 use dbg_model::Breakpoint;
 use std::alloc::AllocError;
@@ -29,81 +34,129 @@ pub fn enabled(on: bool) -> Phrase
     if on { Phrase::Yes } else { Phrase::No }
 }
 
-fn push_for_thread(fields: &mut FieldList, thread: Option<u32>) -> Result<(), AllocError>
-    ensures { OnOk result (seen fields.new ≡ seen fields.old ++ for_thread thread) }
+#[tactic(auto, using(std::proofs::lemmas::Grind::common_steps))]
+fn write_for_thread(into: &mut Vec<u8>, thread: Option<u32>) -> Result<(), AllocError>
+    ensures written { OnOk result (into.new.items ≡ into.old.items ++ behind (for_thread thread)) }
+    ensures kept { Keeps into.old.items into.new.items }
 {
     let Some(thread) = thread else {
         return Ok(());
     };
-    fields.push_word(Key::Thread, thread)
+    write_word(into, b',', Key::Thread, thread)
 }
 
-fn push_ignored(fields: &mut FieldList, ignore: u32) -> Result<(), AllocError>
-    ensures { OnOk result (seen fields.new ≡ seen fields.old ++ ignored ignore) }
+#[tactic(auto, using(std::proofs::lemmas::Grind::common_steps))]
+fn write_ignored(into: &mut Vec<u8>, ignore: u32) -> Result<(), AllocError>
+    ensures written { OnOk result (into.new.items ≡ into.old.items ++ behind (ignored ignore)) }
+    ensures kept { Keeps into.old.items into.new.items }
 {
     if ignore == 0 {
         return Ok(());
     }
-    fields.push_word(Key::Ignore, ignore)
+    write_word(into, b',', Key::Ignore, ignore)
 }
 
-#[tactic(auto, unfolding(crate::specs::Breakpoints::front_fields))]
-fn push_front(fields: &mut FieldList, breakpoint: &Breakpoint) -> Result<(), AllocError>
-    ensures { OnOk result (seen fields.new ≡ seen fields.old ++ front_fields breakpoint.now) }
+/// Puts at the end what stands under a number, what becomes of it once it is hit, and whether it is enabled.
+#[tactic(auto, using(std::proofs::lemmas::Grind::common_steps))]
+pub fn write_kind(
+    into: &mut Vec<u8>,
+    kind: Phrase,
+    after_hit: Phrase,
+    status: Phrase,
+) -> Result<(), AllocError>
+    ensures written { OnOk result (into.new.items ≡ into.old.items ++ behind (says keys.Type (phrase_text kind) ∷ says keys.Disp (phrase_text after_hit) ∷ says keys.Enabled (phrase_text status) ∷ [])) }
+    ensures kept { Keeps into.old.items into.new.items }
 {
-    fields.push_phrase(Key::Type, Phrase::BreakpointType)?;
-    fields.push_phrase(Key::Disp, disposition(breakpoint.temporary))?;
-    fields.push_phrase(Key::Enabled, enabled(breakpoint.enabled))?;
-    fields.push_address(Key::Addr, breakpoint.address)
+    write_phrase(into, b',', Key::Type, kind)?;
+    write_phrase(into, b',', Key::Disp, after_hit)?;
+    write_phrase(into, b',', Key::Enabled, status)
 }
 
+// Whether it stays and is enabled, and where it stands.
+#[tactic(auto, using(std::proofs::lemmas::Grind::common_steps), unfolding(crate::specs::Breakpoints::front_fields))]
+fn write_front(into: &mut Vec<u8>, breakpoint: &Breakpoint) -> Result<(), AllocError>
+    ensures written { OnOk result (into.new.items ≡ into.old.items ++ behind (front_fields breakpoint.now)) }
+    ensures kept { Keeps into.old.items into.new.items }
+{
+    let after_hit = disposition(breakpoint.temporary);
+    write_kind(
+        into,
+        Phrase::BreakpointType,
+        after_hit,
+        enabled(breakpoint.enabled),
+    )?;
+    write_address(into, b',', Key::Addr, breakpoint.address)
+}
+
+// The function and the line that it stands in.
 #[tactic(auto, using(std::proofs::lemmas::Grind::common_steps), unfolding(crate::specs::Breakpoints::place_fields))]
-fn push_place(fields: &mut FieldList, breakpoint: &Breakpoint) -> Result<(), AllocError>
-    ensures written { OnOk result (seen fields.new ≡ seen fields.old ++ place_fields breakpoint.now) }
-    ensures fits { OnOk result (text_fits breakpoint.now.function && source_fits breakpoint.now.source ≡ true) }
+fn write_place(into: &mut Vec<u8>, breakpoint: &Breakpoint) -> Result<(), AllocError>
+    ensures written { OnOk result (into.new.items ≡ into.old.items ++ behind (place_fields breakpoint.now)) }
+    ensures kept { Keeps into.old.items into.new.items }
 {
-    fields.push_some(Key::Func, &breakpoint.function)?;
-    push_source(fields, &breakpoint.source)
+    write_some(into, Key::Func, &breakpoint.function)?;
+    write_source(into, &breakpoint.source)
 }
 
+// When it stops, and whom.
 #[tactic(auto, using(std::proofs::lemmas::Grind::common_steps), unfolding(crate::specs::Breakpoints::term_fields))]
-fn push_terms(fields: &mut FieldList, breakpoint: &Breakpoint) -> Result<(), AllocError>
-    ensures written { OnOk result (seen fields.new ≡ seen fields.old ++ term_fields breakpoint.now) }
-    ensures fits { OnOk result (text_fits breakpoint.now.condition ≡ true) }
+fn write_terms(into: &mut Vec<u8>, breakpoint: &Breakpoint) -> Result<(), AllocError>
+    ensures written { OnOk result (into.new.items ≡ into.old.items ++ behind (term_fields breakpoint.now)) }
+    ensures kept { Keeps into.old.items into.new.items }
 {
-    fields.push_some(Key::Cond, &breakpoint.condition)?;
-    push_for_thread(fields, breakpoint.thread)
+    write_some(into, Key::Cond, &breakpoint.condition)?;
+    write_for_thread(into, breakpoint.thread)
 }
 
+// Its arrivals, how many more are only counted, and where it was asked for.
 #[tactic(auto, using(std::proofs::lemmas::Grind::common_steps), unfolding(crate::specs::Breakpoints::count_fields))]
-fn push_counts(fields: &mut FieldList, breakpoint: &Breakpoint) -> Result<(), AllocError>
-    ensures written { OnOk result (seen fields.new ≡ seen fields.old ++ count_fields breakpoint.now) }
-    ensures fits { OnOk result (are_bytes breakpoint.now.location ≡ true) }
+fn write_counts(into: &mut Vec<u8>, breakpoint: &Breakpoint) -> Result<(), AllocError>
+    ensures written { OnOk result (into.new.items ≡ into.old.items ++ behind (count_fields breakpoint.now)) }
+    ensures kept { Keeps into.old.items into.new.items }
 {
-    fields.push_number(Key::Times, breakpoint.times)?;
-    push_ignored(fields, breakpoint.ignore)?;
-    fields.push_text(Key::OriginalLocation, breakpoint.location.as_slice())
+    write_number(into, b',', Key::Times, breakpoint.times)?;
+    write_ignored(into, breakpoint.ignore)?;
+    write_text(
+        into,
+        b',',
+        Key::OriginalLocation,
+        breakpoint.location.as_slice(),
+    )
 }
 
-#[tactic(auto, using(std::proofs::lemmas::Grind::common_steps), unfolding(crate::specs::Breakpoints::breakpoint_fields, crate::specs::Fits::breakpoint_fits))]
-fn push_fields(fields: &mut FieldList, breakpoint: &Breakpoint) -> Result<(), AllocError>
-    ensures written { OnOk result (seen fields.new ≡ seen fields.old ++ breakpoint_fields breakpoint.now) }
-    ensures fits { OnOk result (breakpoint_fits breakpoint.now ≡ true) }
+// What is left out where it has nothing to say, and the counts.
+#[tactic(auto, using(std::proofs::lemmas::Grind::common_steps))]
+fn write_rest(into: &mut Vec<u8>, breakpoint: &Breakpoint) -> Result<(), AllocError>
+    ensures written { OnOk result (into.new.items ≡ into.old.items ++ behind (place_fields breakpoint.now ++ (term_fields breakpoint.now ++ count_fields breakpoint.now))) }
+    ensures kept { Keeps into.old.items into.new.items }
 {
-    fields.push_word(Key::Number, breakpoint.number)?;
-    push_front(fields, breakpoint)?;
-    push_place(fields, breakpoint)?;
-    push_terms(fields, breakpoint)?;
-    push_counts(fields, breakpoint)
+    write_place(into, breakpoint)?;
+    write_terms(into, breakpoint)?;
+    write_counts(into, breakpoint)
 }
 
-/// Appends a breakpoint with its fields.
-#[tactic(auto, unfolding(crate::specs::Breakpoints::breakpoint_field))]
-pub fn push_breakpoint(fields: &mut FieldList, breakpoint: &Breakpoint) -> Result<(), AllocError>
-    ensures written { OnOk result (seen fields.new ≡ seen fields.old ++ breakpoint_field breakpoint.now ∷ []) }
-    ensures fits { OnOk result (breakpoint_fits breakpoint.now ≡ true) }
+// The fields of a breakpoint behind their bracket.
+#[tactic(auto, using(std::proofs::lemmas::Grind::common_steps), unfolding(crate::specs::Breakpoints::breakpoint_fields))]
+fn write_fields(into: &mut Vec<u8>, breakpoint: &Breakpoint) -> Result<(), AllocError>
+    ensures written { OnOk result (into.new.items ≡ into.old.items ++ opened 123 (breakpoint_fields breakpoint.now)) }
+    ensures kept { Keeps into.old.items into.new.items }
 {
-    let mut inner = FieldList::new(fields.alloc);
-    push_fields(&mut inner, breakpoint)?;
-    fields.push(Key::Bkpt, tuple(inner))
+    write_word(into, b'{', Key::Number, breakpoint.number)?;
+    write_front(into, breakpoint)?;
+    write_rest(into, breakpoint)
+}
+
+/// Puts a breakpoint with its fields at the end.
+#[tactic(auto, using(std::proofs::lemmas::Grind::common_steps, crate::proofs::Led::tuple_led), unfolding(crate::specs::Breakpoints::breakpoint_field))]
+pub fn write_breakpoint(
+    into: &mut Vec<u8>,
+    lead: u8,
+    breakpoint: &Breakpoint,
+) -> Result<(), AllocError>
+    ensures written { OnOk result (into.new.items ≡ into.old.items ++ led lead (breakpoint_field breakpoint.now)) }
+    ensures kept { Keeps into.old.items into.new.items }
+{
+    write_head(into, lead, Key::Bkpt)?;
+    write_fields(into, breakpoint)?;
+    write_byte(into, b'}')
 }

@@ -1,10 +1,11 @@
 // The line of a condition whose value can't be had.
 ghost use Rattle.std.specs.Prelude.{◌≡◌, ◌++◌, OnOk};
+ghost use Rattle.mi_text.specs.Keeps.{Keeps};
+ghost use Rattle.mi_values.specs.Records.{lines_bytes};
 ghost use Rattle.mi_reports.specs.Errors.{condition_error, condition_message};
-ghost use Rattle.mi_reports.specs.Seen.{trees};
 ghost use Rattle.mi_reports.specs.Text.{condition_lines};
 
-use crate::lines::LineList;
+use crate::lines::write_stream;
 use crate::texts::{push, push_at, push_counted};
 use crate::words::Phrase;
 use break_table::CondError;
@@ -32,18 +33,20 @@ fn push_message(into: &mut Vec<u8>, number: u32, error: CondError) -> Result<(),
     Ok(())
 }
 
-/// Appends the line of the condition of that breakpoint; none where it had a value.
-pub fn push_condition(
-    lines: &mut LineList,
+/// Puts the line of the condition of that breakpoint at the end; none where it had a value.
+#[tactic(auto, using(std::proofs::lemmas::Grind::common_steps))]
+pub fn write_condition(
+    into: &mut Vec<u8>,
     number: u32,
     error: Option<CondError>,
 ) -> Result<(), AllocError>
-    ensures { OnOk result (trees lines.new ≡ trees lines.old ++ condition_lines number error) }
+    ensures written { OnOk result (into.new.items ≡ into.old.items ++ lines_bytes (condition_lines number error)) }
+    ensures kept { Keeps into.old.items into.new.items }
 {
     let Some(error) = error else {
         return Ok(());
     };
-    let mut message = Vec::new(lines.alloc);
+    let mut message = Vec::new(*into.allocator());
     push_message(&mut message, number, error)?;
-    lines.push_stream(StreamSign::Log, message)
+    write_stream(into, StreamSign::Log, message.as_slice())
 }

@@ -1,12 +1,12 @@
 // Why a line is refused.
-ghost use Rattle.std.specs.Prelude.{◌≡◌, ◌++◌, decimal, OnOk, true};
-ghost use Rattle.mi_values.specs.Testing.{are_bytes};
-ghost use Rattle.mi_reports.specs.Seen.{seen};
+ghost use Rattle.std.specs.Prelude.{◌≡◌, ◌++◌, decimal, OnOk};
+ghost use Rattle.mi_text.specs.Keeps.{Keeps};
 ghost use Rattle.mi_reports.specs.declared.words.Phrase.TheVariants as phrases;
+ghost use Rattle.mi_reports.specs.Led.{behind};
 ghost use Rattle.mi_reports.specs.Phrases.{phrase_text};
 ghost use Rattle.mi_reports.specs.Errors.{fault_message, expression_message, obstacle_message, message, error_code, error_fields};
 
-use crate::fields::FieldList;
+use crate::fields::{write_phrase, write_text};
 use crate::texts::{push, push_at, push_counted, push_named};
 use crate::words::{Key, Phrase};
 use cond_expr::{ExprFault, FaultKind};
@@ -91,25 +91,27 @@ fn push_message(into: &mut Vec<u8>, refused: &Refused) -> Result<(), AllocError>
 }
 
 // An operation that isn't known has a code.
-fn push_code(fields: &mut FieldList, refused: &Refused) -> Result<(), AllocError>
-    ensures { OnOk result (seen fields.new ≡ seen fields.old ++ error_code refused.now) }
+#[tactic(auto, using(std::proofs::lemmas::Grind::common_steps))]
+fn write_code(into: &mut Vec<u8>, refused: &Refused) -> Result<(), AllocError>
+    ensures written { OnOk result (into.new.items ≡ into.old.items ++ behind (error_code refused.now)) }
+    ensures kept { Keeps into.old.items into.new.items }
 {
     match refused {
         Refused::Faulty(Fault::Undefined(_)) => {
-            fields.push_phrase(Key::Code, Phrase::UndefinedCommand)
+            write_phrase(into, b',', Key::Code, Phrase::UndefinedCommand)
         }
         _ => Ok(()),
     }
 }
 
-/// Appends the fields of the error that is answered to a line that is refused.
-#[tactic(auto, unfolding(crate::specs::Errors::error_fields))]
-pub fn push_error(fields: &mut FieldList, refused: &Refused) -> Result<(), AllocError>
-    ensures written { OnOk result (seen fields.new ≡ seen fields.old ++ error_fields refused.now) }
-    ensures fits { OnOk result (are_bytes (message refused.now) ≡ true) }
+/// Puts the fields of the error that is answered to a line that is refused at the end.
+#[tactic(auto, using(std::proofs::lemmas::Grind::common_steps), unfolding(crate::specs::Errors::error_fields))]
+pub fn write_error(into: &mut Vec<u8>, refused: &Refused) -> Result<(), AllocError>
+    ensures written { OnOk result (into.new.items ≡ into.old.items ++ behind (error_fields refused.now)) }
+    ensures kept { Keeps into.old.items into.new.items }
 {
-    let mut message = Vec::new(fields.alloc);
+    let mut message = Vec::new(*into.allocator());
     push_message(&mut message, refused)?;
-    fields.push_text(Key::Message, message.as_slice())?;
-    push_code(fields, refused)
+    write_text(into, b',', Key::Message, message.as_slice())?;
+    write_code(into, refused)
 }

@@ -1,85 +1,107 @@
 // The lines of threads that begin and end, and of what the program writes.
-ghost use Rattle.std.specs.Prelude.{◌≡◌, ◌∷◌, [], ◌++◌, OnOk};
-ghost use Rattle.mi_reports.specs.Seen.{seen, trees};
-ghost use Rattle.mi_reports.specs.Text.{thread_line, created_lines, opening_lines, exit_fields, exit_lines, left_lines, stream_lines};
+ghost use Rattle.std.specs.Prelude.{◌≡◌, ◌++◌, OnOk};
+ghost use Rattle.mi_text.specs.Keeps.{Keeps};
+ghost use Rattle.mi_text.specs.Numeral.{exit_code};
+ghost use Rattle.mi_values.specs.Record.{line_bytes};
+ghost use Rattle.mi_values.specs.Records.{lines_bytes};
+ghost use Rattle.mi_reports.specs.declared.words.Key.TheVariants as keys;
+ghost use Rattle.mi_reports.specs.Led.{led, behind};
+ghost use Rattle.mi_reports.specs.Words.{says};
+ghost use Rattle.mi_reports.specs.Text.{thread_line, created_lines, opening_lines, exit_fields, stopped_line, left_lines, stream_lines};
 
-use crate::fields::FieldList;
-use crate::lines::LineList;
-use crate::stops::push_stopped;
+use crate::fields::{write_byte, write_number, write_phrase, write_text};
+use crate::lines::{write_begun, write_prompt, write_stream};
 use crate::words::{Key, Phrase};
+use mi_text::write_exit_code;
 use mi_values::{NoticeSign, StreamSign};
 use std::alloc::AllocError;
 
 // A thread was created, or has exited.
-#[tactic(auto, using(std::proofs::lemmas::Grind::common_steps, crate::proofs::Proper::thread_fit), unfolding(crate::specs::Text::thread_line, crate::specs::Text::thread_fields))]
-fn push_thread(lines: &mut LineList, class: Key, hart: u32) -> Result<(), AllocError>
-    ensures { OnOk result (trees lines.new ≡ trees lines.old ++ thread_line class hart ∷ []) }
+#[tactic(auto, using(std::proofs::lemmas::Grind::common_steps, crate::proofs::Led::notice_led), unfolding(crate::specs::Text::thread_line, crate::specs::Text::thread_fields))]
+fn write_thread(into: &mut Vec<u8>, class: Key, hart: u32) -> Result<(), AllocError>
+    ensures written { OnOk result (into.new.items ≡ into.old.items ++ line_bytes (thread_line class hart)) }
+    ensures kept { Keeps into.old.items into.new.items }
 {
-    let mut fields = FieldList::new(lines.alloc);
-    fields.push_number(Key::Id, u64::from(hart) + 1)?;
-    fields.push_phrase(Key::GroupId, Phrase::Group)?;
-    lines.push_notice(NoticeSign::Notify, class, fields)
+    write_begun(into, NoticeSign::Notify, class)?;
+    write_number(into, b',', Key::Id, u64::from(hart) + 1)?;
+    write_phrase(into, b',', Key::GroupId, Phrase::Group)?;
+    write_byte(into, b'\n')
 }
 
 #[tactic(auto, using(std::proofs::lemmas::Grind::common_steps))]
-fn push_created(lines: &mut LineList, harts: u32) -> Result<(), AllocError>
-    ensures { OnOk result (trees lines.new ≡ trees lines.old ++ created_lines harts) }
+fn write_created(into: &mut Vec<u8>, harts: u32) -> Result<(), AllocError>
+    ensures written { OnOk result (into.new.items ≡ into.old.items ++ lines_bytes (created_lines harts)) }
+    ensures kept { Keeps into.old.items into.new.items }
 {
     for hart in 0..harts {
-        push_thread(lines, Key::ThreadCreated, hart)?;
+        write_thread(into, Key::ThreadCreated, hart)?;
     }
     Ok(())
 }
 
-/// Appends the lines that a session of so many harts opens with.
+/// Puts the lines that a session of so many harts opens with at the end.
 #[tactic(auto, using(std::proofs::lemmas::Grind::common_steps))]
-pub fn push_opening(lines: &mut LineList, harts: u32) -> Result<(), AllocError>
-    ensures { OnOk result (trees lines.new ≡ trees lines.old ++ opening_lines harts) }
+pub fn write_opening(into: &mut Vec<u8>, harts: u32) -> Result<(), AllocError>
+    ensures written { OnOk result (into.new.items ≡ into.old.items ++ lines_bytes (opening_lines harts)) }
+    ensures kept { Keeps into.old.items into.new.items }
 {
-    push_created(lines, harts)?;
-    lines.push_prompt()
+    write_created(into, harts)?;
+    write_prompt(into)
 }
 
-#[tactic(auto, unfolding(crate::specs::Text::exit_fields))]
-fn push_exit_fields(fields: &mut FieldList, code: u8) -> Result<(), AllocError>
-    ensures { OnOk result (seen fields.new ≡ seen fields.old ++ exit_fields code) }
+fn write_code(into: &mut Vec<u8>, code: u8) -> Result<(), AllocError>
+    ensures written { OnOk result (into.new.items ≡ into.old.items ++ led 44 (says keys.ExitCode (exit_code code))) }
+    ensures kept { Keeps into.old.items into.new.items }
+{
+    let mut text = Vec::new(*into.allocator());
+    write_exit_code(code, &mut text)?;
+    write_text(into, b',', Key::ExitCode, text.as_slice())
+}
+
+#[tactic(auto, using(std::proofs::lemmas::Grind::common_steps), unfolding(crate::specs::Text::exit_fields))]
+fn write_exit_fields(into: &mut Vec<u8>, code: u8) -> Result<(), AllocError>
+    ensures written { OnOk result (into.new.items ≡ into.old.items ++ behind (exit_fields code)) }
+    ensures kept { Keeps into.old.items into.new.items }
 {
     if code == 0 {
-        return fields.push_phrase(Key::Reason, Phrase::ExitedNormally);
+        return write_phrase(into, b',', Key::Reason, Phrase::ExitedNormally);
     }
-    fields.push_phrase(Key::Reason, Phrase::Exited)?;
-    fields.push_exit_code(Key::ExitCode, code)
+    write_phrase(into, b',', Key::Reason, Phrase::Exited)?;
+    write_code(into, code)
 }
 
-#[tactic(auto, using(std::proofs::lemmas::Grind::common_steps, crate::proofs::Proper::exit_fit))]
-fn push_exit(lines: &mut LineList, code: u8) -> Result<(), AllocError>
-    ensures { OnOk result (trees lines.new ≡ trees lines.old ++ exit_lines code) }
+// The program has exited.
+#[tactic(auto, using(std::proofs::lemmas::Grind::common_steps, crate::proofs::Led::notice_led), unfolding(crate::specs::Text::stopped_line))]
+fn write_exit(into: &mut Vec<u8>, code: u8) -> Result<(), AllocError>
+    ensures written { OnOk result (into.new.items ≡ into.old.items ++ line_bytes (stopped_line (exit_fields code))) }
+    ensures kept { Keeps into.old.items into.new.items }
 {
-    let mut fields = FieldList::new(lines.alloc);
-    push_exit_fields(&mut fields, code)?;
-    push_stopped(lines, fields)
+    write_begun(into, NoticeSign::Exec, Key::Stopped)?;
+    write_exit_fields(into, code)?;
+    write_byte(into, b'\n')
 }
 
-/// Appends the line of a hart that has exited with a code, and that of the program where it was the last live one.
+/// Puts the line of a hart that has exited with a code, and that of the program where it was the last live one, at the end.
 #[tactic(auto, using(std::proofs::lemmas::Grind::common_steps))]
-pub fn push_left(lines: &mut LineList, hart: u32, code: u32, last: bool) -> Result<(), AllocError>
-    ensures { OnOk result (trees lines.new ≡ trees lines.old ++ left_lines hart code last) }
+pub fn write_left(into: &mut Vec<u8>, hart: u32, code: u32, last: bool) -> Result<(), AllocError>
+    ensures written { OnOk result (into.new.items ≡ into.old.items ++ lines_bytes (left_lines hart code last)) }
+    ensures kept { Keeps into.old.items into.new.items }
 {
-    push_thread(lines, Key::ThreadExited, hart)?;
+    write_thread(into, Key::ThreadExited, hart)?;
     if last {
-        push_exit(lines, (code % 256) as u8)?;
+        write_exit(into, (code % 256) as u8)?;
     }
     Ok(())
 }
 
-/// Appends the line of the bytes that an instruction wrote; none where it wrote none.
+/// Puts the line of the bytes that an instruction wrote at the end; none where it wrote none.
 #[tactic(auto, using(std::proofs::lemmas::Grind::common_steps))]
-pub fn push_output(lines: &mut LineList, bytes: &[u8]) -> Result<(), AllocError>
-    ensures { OnOk result (trees lines.new ≡ trees lines.old ++ stream_lines bytes.now) }
+pub fn write_output(into: &mut Vec<u8>, bytes: &[u8]) -> Result<(), AllocError>
+    ensures written { OnOk result (into.new.items ≡ into.old.items ++ lines_bytes (stream_lines bytes.now)) }
+    ensures kept { Keeps into.old.items into.new.items }
 {
     if bytes.is_empty() {
         return Ok(());
     }
-    let bytes = Vec::from_slice(lines.alloc, bytes)?;
-    lines.push_stream(StreamSign::Target, bytes)
+    write_stream(into, StreamSign::Target, bytes)
 }

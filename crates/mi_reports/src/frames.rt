@@ -1,96 +1,116 @@
 // Frames and lines of the source.
-ghost use Rattle.std.specs.Prelude.{◌≡◌, ◌+◌, ◌^◌, ◌<◌, ◌∷◌, [], ◌++◌, length, OnOk, true};
+ghost use Rattle.std.specs.Prelude.{◌≡◌, ◌+◌, ◌^◌, ◌<◌, ◌++◌, length, OnOk};
+ghost use Rattle.mi_text.specs.Keeps.{Keeps};
+ghost use Rattle.mi_reports.specs.Led.{led, behind, opened};
 ghost use Rattle.mi_reports.specs.declared.words.Key.TheVariants as keys;
-ghost use Rattle.mi_reports.specs.Fits.{source_fits, frame_fits, frames_fit};
-ghost use Rattle.mi_reports.specs.Seen.{seen};
 ghost use Rattle.mi_reports.specs.Words.{key_text};
 ghost use Rattle.mi_reports.specs.Frames.{source_fields, frame_rest, frame_fields, frame_field, stack_fields, stack_tree};
 
-use crate::fields::{FieldList, bracketed, tuple};
+use crate::fields::{
+    write_address, write_byte, write_empty, write_head, write_number, write_some, write_text,
+    write_word,
+};
 use crate::words::Key;
 use dbg_model::{ShownFrame, SourceLine};
 use std::alloc::AllocError;
 
-/// Appends the fields of a line of a source file; none where none is known.
-pub fn push_source(fields: &mut FieldList, source: &Option<SourceLine>) -> Result<(), AllocError>
-    ensures written { OnOk result (seen fields.new ≡ seen fields.old ++ source_fields source.now) }
-    ensures fits { OnOk result (source_fits source.now ≡ true) }
+/// Puts the fields of a line of a source file at the end; none where none is known.
+#[tactic(auto, using(std::proofs::lemmas::Grind::common_steps))]
+pub fn write_source(into: &mut Vec<u8>, source: &Option<SourceLine>) -> Result<(), AllocError>
+    ensures written { OnOk result (into.new.items ≡ into.old.items ++ behind (source_fields source.now)) }
+    ensures kept { Keeps into.old.items into.new.items }
 {
     let Some(source) = source else {
         return Ok(());
     };
-    fields.push_text(Key::File, source.file.as_slice())?;
-    fields.push_word(Key::Line, source.line)
+    write_text(into, b',', Key::File, source.file.as_slice())?;
+    write_word(into, b',', Key::Line, source.line)
 }
 
 // What stands behind the address.
-#[tactic(auto, using(std::proofs::lemmas::Grind::common_steps), unfolding(crate::specs::Frames::frame_rest, crate::specs::Fits::frame_fits))]
-fn push_rest(fields: &mut FieldList, frame: &ShownFrame) -> Result<(), AllocError>
-    ensures written { OnOk result (seen fields.new ≡ seen fields.old ++ frame_rest frame.now) }
-    ensures fits { OnOk result (frame_fits frame.now ≡ true) }
+#[tactic(auto, using(std::proofs::lemmas::Grind::common_steps), unfolding(crate::specs::Frames::frame_rest))]
+fn write_rest(into: &mut Vec<u8>, frame: &ShownFrame) -> Result<(), AllocError>
+    ensures written { OnOk result (into.new.items ≡ into.old.items ++ behind (frame_rest frame.now)) }
+    ensures kept { Keeps into.old.items into.new.items }
 {
-    fields.push_some(Key::Func, &frame.function)?;
-    fields.push_empty(Key::Args)?;
-    push_source(fields, &frame.source)
+    write_some(into, Key::Func, &frame.function)?;
+    write_empty(into, b',', Key::Args)?;
+    write_source(into, &frame.source)
 }
 
-#[tactic(auto, unfolding(crate::specs::Frames::frame_fields))]
-fn push_fields(
-    fields: &mut FieldList,
+// The fields of a frame behind their bracket.
+#[tactic(auto, using(std::proofs::lemmas::Grind::common_steps), unfolding(crate::specs::Frames::frame_fields))]
+fn write_fields(
+    into: &mut Vec<u8>,
     level: Option<u64>,
     frame: &ShownFrame,
 ) -> Result<(), AllocError>
-    ensures written { OnOk result (seen fields.new ≡ seen fields.old ++ frame_fields level frame.now) }
-    ensures fits { OnOk result (frame_fits frame.now ≡ true) }
+    ensures written { OnOk result (into.new.items ≡ into.old.items ++ opened 123 (frame_fields level frame.now)) }
+    ensures kept { Keeps into.old.items into.new.items }
 {
     match level {
         None => {
-            fields.push_address(Key::Addr, frame.address)?;
-            push_rest(fields, frame)
+            write_address(into, b'{', Key::Addr, frame.address)?;
+            write_rest(into, frame)
         }
         Some(level) => {
-            fields.push_number(Key::Level, level)?;
-            fields.push_address(Key::Addr, frame.address)?;
-            push_rest(fields, frame)
+            write_number(into, b'{', Key::Level, level)?;
+            write_address(into, b',', Key::Addr, frame.address)?;
+            write_rest(into, frame)
         }
     }
 }
 
-/// Appends a frame, with its place in the stack where that is told.
-#[tactic(auto, unfolding(crate::specs::Frames::frame_field))]
-pub fn push_frame(
-    fields: &mut FieldList,
+/// Puts a frame at the end, with its place in the stack where that is told.
+#[tactic(auto, using(std::proofs::lemmas::Grind::common_steps, crate::proofs::Led::tuple_led), unfolding(crate::specs::Frames::frame_field))]
+pub fn write_frame(
+    into: &mut Vec<u8>,
+    lead: u8,
     level: Option<u64>,
     frame: &ShownFrame,
 ) -> Result<(), AllocError>
-    ensures written { OnOk result (seen fields.new ≡ seen fields.old ++ frame_field level frame.now ∷ []) }
-    ensures fits { OnOk result (frame_fits frame.now ≡ true) }
+    ensures written { OnOk result (into.new.items ≡ into.old.items ++ led lead (frame_field level frame.now)) }
+    ensures kept { Keeps into.old.items into.new.items }
 {
-    let mut inner = FieldList::new(fields.alloc);
-    push_fields(&mut inner, level, frame)?;
-    fields.push(Key::Frame, tuple(inner))
+    write_head(into, lead, Key::Frame)?;
+    write_fields(into, level, frame)?;
+    write_byte(into, b'}')
 }
 
-// Appends frames, of which the first has this level.
+// Frames behind a first one, of which the first has this level.
 #[tactic(auto, using(std::proofs::lemmas::Grind::common_steps))]
-fn push_frames(fields: &mut FieldList, level: u64, frames: &[ShownFrame]) -> Result<(), AllocError>
+fn write_more(into: &mut Vec<u8>, level: u64, frames: &[ShownFrame]) -> Result<(), AllocError>
     requires { level + length frames.now < 2 ^ 64 }
-    ensures written { OnOk result (seen fields.new ≡ seen fields.old ++ stack_fields level frames.now) }
-    ensures fits { OnOk result (frames_fit frames.now ≡ true) }
+    ensures written { OnOk result (into.new.items ≡ into.old.items ++ behind (stack_fields level frames.now)) }
+    ensures kept { Keeps into.old.items into.new.items }
 {
     let [frame, rest @ ..] = frames else {
         return Ok(());
     };
-    push_frame(fields, Some(level), frame)?;
-    push_frames(fields, level + 1, rest)
+    write_frame(into, b',', Some(level), frame)?;
+    write_more(into, level + 1, rest)
 }
 
-/// Appends the frames of a stack, counted from 0, as a field.
-pub fn push_stack(fields: &mut FieldList, frames: &[ShownFrame]) -> Result<(), AllocError>
-    ensures written { OnOk result (seen fields.new ≡ seen fields.old ++ (key_text keys.Stack, stack_tree frames.now) ∷ []) }
-    ensures fits { OnOk result (frames_fit frames.now ≡ true) }
+// The frames of a stack behind their bracket.
+#[tactic(auto, using(std::proofs::lemmas::Grind::common_steps))]
+fn write_frames(into: &mut Vec<u8>, frames: &[ShownFrame]) -> Result<(), AllocError>
+    ensures written { OnOk result (into.new.items ≡ into.old.items ++ opened 91 (stack_fields 0 frames.now)) }
+    ensures kept { Keeps into.old.items into.new.items }
 {
-    let mut inner = FieldList::new(fields.alloc);
-    push_frames(&mut inner, 0, frames)?;
-    fields.push(Key::Stack, bracketed(inner))
+    let [frame, rest @ ..] = frames else {
+        return write_byte(into, b'[');
+    };
+    write_frame(into, b'[', Some(0), frame)?;
+    write_more(into, 1, rest)
+}
+
+/// Puts the frames of a stack, counted from 0, at the end as a field.
+#[tactic(auto, using(std::proofs::lemmas::Grind::common_steps, crate::proofs::Led::brackets_led))]
+pub fn write_stack(into: &mut Vec<u8>, lead: u8, frames: &[ShownFrame]) -> Result<(), AllocError>
+    ensures written { OnOk result (into.new.items ≡ into.old.items ++ led lead (key_text keys.Stack, stack_tree frames.now)) }
+    ensures kept { Keeps into.old.items into.new.items }
+{
+    write_head(into, lead, Key::Stack)?;
+    write_frames(into, frames)?;
+    write_byte(into, b']')
 }

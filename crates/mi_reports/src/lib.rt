@@ -1,6 +1,6 @@
 //! The lines that a session puts: those of each entry of its journal, which `report` writes, of its opening, and of its refusals.
 //!
-//! Each is built as trees of the grammar of `mi_values`, and written by its `write_line`.
+//! Each is written as text. The definitions are trees of the grammar of `mi_values`, whose text is what is written.
 #![tactic(auto)]
 
 mod breakpoints;
@@ -10,6 +10,7 @@ mod errors;
 mod exits;
 mod fields;
 mod frames;
+mod known;
 mod laws;
 mod lines;
 mod refusals;
@@ -25,4 +26,4 @@ mod watches;
 mod words;
 
 pub use entries::{report, report_bad_file, report_opening, report_usage};
-pub use laws::said_shows_output;
+pub use laws::{said_shows_output, shown_is_lines};

@@ -1,15 +1,18 @@
 // The one line of a session that isn't begun.
-ghost use Rattle.std.specs.Prelude.{◌≡◌, ◌∷◌, [], ◌++◌, OnOk};
+ghost use Rattle.std.specs.Prelude.{◌≡◌, ◌∷◌, [], ◌++◌, decimal, OnOk};
+ghost use Rattle.mi_text.specs.Keeps.{Keeps};
+ghost use Rattle.mi_values.specs.Records.{lines_bytes};
 ghost use Rattle.mi_reports.specs.declared.words.Key.TheVariants as keys;
-ghost use Rattle.mi_reports.specs.Seen.{trees};
+ghost use Rattle.mi_reports.specs.declared.words.Phrase.TheVariants as phrases;
+ghost use Rattle.mi_reports.specs.Phrases.{phrase_text};
 ghost use Rattle.mi_reports.specs.Words.{says};
 ghost use Rattle.mi_reports.specs.Refusals.{kind_name, file_fields, usage_fields, refusal_lines};
 
-use crate::fields::FieldList;
-use crate::lines::LineList;
+use crate::fields::{write_byte, write_text};
+use crate::lines::write_answered;
+use crate::texts::{push, push_counted};
 use crate::words::{Key, Phrase, wording};
 use elf_checks::{ElfFault, ElfKind};
-use mi_text::write_decimal;
 use mi_values::Token;
 use std::alloc::AllocError;
 
@@ -32,33 +35,42 @@ fn kind_name(kind: ElfKind) -> &'static str
     }
 }
 
-// Appends the line of an error with this message.
-#[tactic(auto, using(std::proofs::lemmas::Grind::common_steps, crate::proofs::Proper::says_fit))]
-fn push_refusal(lines: &mut LineList, message: &[u8]) -> Result<(), AllocError>
-    ensures { OnOk result (trees lines.new ≡ trees lines.old ++ refusal_lines (says keys.Message message.now ∷ [])) }
+// Puts the line of an error with this message at the end.
+#[tactic(auto, using(std::proofs::lemmas::Grind::common_steps, crate::proofs::Led::result_led))]
+fn write_refusal(into: &mut Vec<u8>, message: &[u8]) -> Result<(), AllocError>
+    ensures written { OnOk result (into.new.items ≡ into.old.items ++ lines_bytes (refusal_lines (says keys.Message message.now ∷ []))) }
+    ensures kept { Keeps into.old.items into.new.items }
 {
-    let mut fields = FieldList::new(lines.alloc);
-    fields.push_text(Key::Message, message)?;
-    lines.push_result(&Token::none(), Key::Error, fields)
+    write_answered(into, &Token::none(), Key::Error)?;
+    write_text(into, b',', Key::Message, message)?;
+    write_byte(into, b'\n')
 }
 
-/// Appends the line of a file that is refused.
+// Why a file is refused, and where, before its bytes are written as a C string.
+fn push_fault(into: &mut Vec<u8>, fault: ElfFault) -> Result<(), AllocError>
+    ensures { OnOk result (into.new.items ≡ into.old.items ++ (phrase_text phrases.BadFile ++ kind_name fault.kind ++ phrase_text phrases.AtPlace ++ decimal fault.place)) }
+{
+    push(into, Phrase::BadFile)?;
+    into.extend_from_slice(kind_name(fault.kind).as_bytes())?;
+    push_counted(into, Phrase::AtPlace, fault.place)
+}
+
+/// Puts the line of a file that is refused at the end.
 #[tactic(auto, unfolding(crate::specs::Refusals::file_fields))]
-pub fn push_bad_file(lines: &mut LineList, fault: ElfFault) -> Result<(), AllocError>
-    ensures { OnOk result (trees lines.new ≡ trees lines.old ++ refusal_lines (file_fields fault)) }
+pub fn write_bad_file(into: &mut Vec<u8>, fault: ElfFault) -> Result<(), AllocError>
+    ensures written { OnOk result (into.new.items ≡ into.old.items ++ lines_bytes (refusal_lines (file_fields fault))) }
+    ensures kept { Keeps into.old.items into.new.items }
 {
-    let mut message = Vec::new(lines.alloc);
-    message.extend_from_slice(wording(Phrase::BadFile))?;
-    message.extend_from_slice(kind_name(fault.kind).as_bytes())?;
-    message.extend_from_slice(wording(Phrase::AtPlace))?;
-    write_decimal(u64::from(fault.place), &mut message)?;
-    push_refusal(lines, message.as_slice())
+    let mut message = Vec::new(*into.allocator());
+    push_fault(&mut message, fault)?;
+    write_refusal(into, message.as_slice())
 }
 
-/// Appends the line of words of the command line that are refused.
+/// Puts the line of words of the command line that are refused at the end.
 #[tactic(auto, unfolding(crate::specs::Refusals::usage_fields))]
-pub fn push_usage(lines: &mut LineList) -> Result<(), AllocError>
-    ensures { OnOk result (trees lines.new ≡ trees lines.old ++ refusal_lines usage_fields) }
+pub fn write_usage(into: &mut Vec<u8>) -> Result<(), AllocError>
+    ensures written { OnOk result (into.new.items ≡ into.old.items ++ lines_bytes (refusal_lines usage_fields)) }
+    ensures kept { Keeps into.old.items into.new.items }
 {
-    push_refusal(lines, wording(Phrase::Usage))
+    write_refusal(into, wording(Phrase::Usage))
 }

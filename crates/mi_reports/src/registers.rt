@@ -1,21 +1,20 @@
-// Registers, memory and values.
-ghost use Rattle.std.specs.Prelude.{◌≡◌, ◌∷◌, [], ◌++◌, map, IfOk, OnOk, true};
-ghost use Rattle.mi_values.specs.Tree.{text, items, items_of, value_view};
+// Registers and memory.
+ghost use Rattle.std.specs.Prelude.{◌≡◌, ◌∷◌, [], ◌++◌, map, OnOk};
+ghost use Rattle.mi_text.specs.Keeps.{Keeps};
+ghost use Rattle.mi_values.specs.Tree.{text, items, items_of};
 ghost use Rattle.hex.specs.Hex.{encode_lower};
-ghost use Rattle.mi_text.specs.Numeral.{worth_text};
-ghost use Rattle.mi_values.specs.Testing.{are_bytes};
+ghost use Rattle.mi_text.specs.Numeral.{address_text};
 ghost use Rattle.mi_reports.specs.declared.words.Key.TheVariants as keys;
-ghost use Rattle.mi_reports.specs.Seen.{seen};
 ghost use Rattle.mi_reports.specs.Words.{key_text, says};
+ghost use Rattle.mi_reports.specs.Led.{led, opened, item_led, items_behind, items_opened};
 ghost use Rattle.mi_reports.specs.Replies.{value_text, names_field, register_fields, register_tree, registers_field, block_fields, memory_field};
 
-use crate::fields::{FieldList, listed, text, tuple};
+use crate::fields::{write_address, write_byte, write_head, write_text, write_word, write_worth};
 use crate::words::Key;
 use dbg_model::Register;
 use mi_commands::Format;
-use mi_text::write_worth;
-use mi_values::Value;
-use std::alloc::{AllocError, Global};
+use mi_text::write_c_string;
+use std::alloc::AllocError;
 
 // The names of x0 to x31 and of pc.
 const NAMES: [&str; 33] = [
@@ -24,113 +23,175 @@ const NAMES: [&str; 33] = [
     "t5", "t6", "pc",
 ];
 
-fn texts(alloc: Global, names: &[&'static str]) -> Result<Vec<Value>, AllocError>
-    ensures { IfOk result (λ v. map value_view v.items ≡ map (λ n. text n.now) names.now) }
+// A name in a list.
+#[tactic(auto, using(std::proofs::lemmas::Grind::common_steps, crate::proofs::Led::text_item_led))]
+fn write_name(into: &mut Vec<u8>, lead: u8, name: &'static str) -> Result<(), AllocError>
+    ensures written { OnOk result (into.new.items ≡ into.old.items ++ item_led lead (text name.now)) }
+    ensures kept { Keeps into.old.items into.new.items }
 {
-    let mut values = Vec::new(alloc);
+    write_byte(into, lead)?;
+    write_c_string(name.as_bytes(), into)
+}
+
+// Names behind a first one.
+#[tactic(auto, using(std::proofs::lemmas::Grind::common_steps))]
+fn write_more_names(into: &mut Vec<u8>, names: &[&'static str]) -> Result<(), AllocError>
+    ensures written { OnOk result (into.new.items ≡ into.old.items ++ items_behind (map (λ n. text n.now) names.now)) }
+    ensures kept { Keeps into.old.items into.new.items }
+{
     for name in names {
-        values.push(text(alloc, name.as_bytes())?)?;
+        write_name(into, b',', *name)?;
     }
-    Ok(values)
+    Ok(())
 }
 
-fn push_these(fields: &mut FieldList, names: &[&'static str]) -> Result<(), AllocError>
-    ensures { OnOk result (seen fields.new ≡ seen fields.old ++ (key_text keys.RegisterNames, items (items_of (map (λ n. text n.now) names.now))) ∷ []) }
+// Names behind their bracket.
+#[tactic(auto, using(std::proofs::lemmas::Grind::common_steps))]
+fn write_name_list(into: &mut Vec<u8>, names: &[&'static str]) -> Result<(), AllocError>
+    ensures written { OnOk result (into.new.items ≡ into.old.items ++ items_opened 91 (map (λ n. text n.now) names.now)) }
+    ensures kept { Keeps into.old.items into.new.items }
 {
-    let values = texts(fields.alloc, names)?;
-    fields.push(Key::RegisterNames, listed(values))
+    let [name, rest @ ..] = names else {
+        return write_byte(into, b'[');
+    };
+    write_name(into, b'[', *name)?;
+    write_more_names(into, rest)
 }
 
-/// Appends the names of all registers.
+#[tactic(auto, using(std::proofs::lemmas::Grind::common_steps, crate::proofs::Led::list_led))]
+fn write_these(into: &mut Vec<u8>, names: &[&'static str]) -> Result<(), AllocError>
+    ensures written { OnOk result (into.new.items ≡ into.old.items ++ led 44 (key_text keys.RegisterNames, items (items_of (map (λ n. text n.now) names.now)))) }
+    ensures kept { Keeps into.old.items into.new.items }
+{
+    write_head(into, b',', Key::RegisterNames)?;
+    write_name_list(into, names)?;
+    write_byte(into, b']')
+}
+
+/// Puts the names of all registers at the end.
 #[tactic(auto, unfolding(crate::specs::Replies::names_field))]
-pub fn push_names(fields: &mut FieldList) -> Result<(), AllocError>
-    ensures { OnOk result (seen fields.new ≡ seen fields.old ++ names_field ∷ []) }
+pub fn write_names(into: &mut Vec<u8>) -> Result<(), AllocError>
+    ensures written { OnOk result (into.new.items ≡ into.old.items ++ led 44 names_field) }
+    ensures kept { Keeps into.old.items into.new.items }
 {
-    push_these(fields, &NAMES)
+    write_these(into, &NAMES)
 }
 
-/// Appends a word as a number, by whether it is unsigned.
-pub fn push_worth(
-    fields: &mut FieldList,
-    key: Key,
-    word: u32,
-    unsigned: bool,
-) -> Result<(), AllocError>
-    ensures { OnOk result (seen fields.new ≡ seen fields.old ++ says key (worth_text word unsigned) ∷ []) }
-{
-    let mut text = Vec::new(fields.alloc);
-    write_worth(word, unsigned, &mut text)?;
-    fields.push_text(key, text.as_slice())
-}
-
-fn push_value(fields: &mut FieldList, format: Format, value: u32) -> Result<(), AllocError>
-    ensures { OnOk result (seen fields.new ≡ seen fields.old ++ says keys.Value (value_text format value) ∷ []) }
+fn write_value(into: &mut Vec<u8>, format: Format, value: u32) -> Result<(), AllocError>
+    ensures written { OnOk result (into.new.items ≡ into.old.items ++ led 44 (says keys.Value (value_text format value))) }
+    ensures kept { Keeps into.old.items into.new.items }
 {
     match format {
-        Format::Hexadecimal => fields.push_address(Key::Value, value),
-        Format::Decimal => push_worth(fields, Key::Value, value, false),
+        Format::Hexadecimal => write_address(into, b',', Key::Value, value),
+        Format::Decimal => write_worth(into, b',', Key::Value, value, false),
     }
 }
 
-#[tactic(auto, unfolding(crate::specs::Replies::register_tree, crate::specs::Replies::register_fields))]
-fn register_value(alloc: Global, format: Format, register: Register) -> Result<Value, AllocError>
-    ensures { IfOk result (λ v. value_view v ≡ register_tree format register) }
+// The fields of a register behind their bracket.
+#[tactic(auto, using(std::proofs::lemmas::Grind::common_steps), unfolding(crate::specs::Replies::register_fields))]
+fn write_fields(into: &mut Vec<u8>, format: Format, register: Register) -> Result<(), AllocError>
+    ensures written { OnOk result (into.new.items ≡ into.old.items ++ opened 123 (register_fields format register)) }
+    ensures kept { Keeps into.old.items into.new.items }
 {
-    let mut fields = FieldList::new(alloc);
-    fields.push_word(Key::Number, register.number)?;
-    push_value(&mut fields, format, register.value)?;
-    Ok(tuple(fields))
+    write_word(into, b'{', Key::Number, register.number)?;
+    write_value(into, format, register.value)
 }
 
-fn register_values(
-    alloc: Global,
+#[tactic(auto, using(std::proofs::lemmas::Grind::common_steps, crate::proofs::Led::tuple_item_led), unfolding(crate::specs::Replies::register_tree))]
+fn write_register(
+    into: &mut Vec<u8>,
+    lead: u8,
     format: Format,
-    registers: &[Register],
-) -> Result<Vec<Value>, AllocError>
-    ensures { IfOk result (λ v. map value_view v.items ≡ map (register_tree format) registers.now) }
+    register: Register,
+) -> Result<(), AllocError>
+    ensures written { OnOk result (into.new.items ≡ into.old.items ++ item_led lead (register_tree format register)) }
+    ensures kept { Keeps into.old.items into.new.items }
 {
-    let mut values = Vec::new(alloc);
-    for register in registers {
-        values.push(register_value(alloc, format, *register)?)?;
-    }
-    Ok(values)
+    write_byte(into, lead)?;
+    write_fields(into, format, register)?;
+    write_byte(into, b'}')
 }
 
-/// Appends registers with their values in a format.
-#[tactic(auto, unfolding(crate::specs::Replies::registers_field))]
-pub fn push_registers(
-    fields: &mut FieldList,
+// Registers behind a first one.
+#[tactic(auto, using(std::proofs::lemmas::Grind::common_steps))]
+fn write_more(into: &mut Vec<u8>, format: Format, registers: &[Register]) -> Result<(), AllocError>
+    ensures written { OnOk result (into.new.items ≡ into.old.items ++ items_behind (map (register_tree format) registers.now)) }
+    ensures kept { Keeps into.old.items into.new.items }
+{
+    for register in registers {
+        write_register(into, b',', format, *register)?;
+    }
+    Ok(())
+}
+
+// Registers behind their bracket.
+#[tactic(auto, using(std::proofs::lemmas::Grind::common_steps))]
+fn write_list(into: &mut Vec<u8>, format: Format, registers: &[Register]) -> Result<(), AllocError>
+    ensures written { OnOk result (into.new.items ≡ into.old.items ++ items_opened 91 (map (register_tree format) registers.now)) }
+    ensures kept { Keeps into.old.items into.new.items }
+{
+    let [register, rest @ ..] = registers else {
+        return write_byte(into, b'[');
+    };
+    write_register(into, b'[', format, *register)?;
+    write_more(into, format, rest)
+}
+
+/// Puts registers with their values in a format at the end.
+#[tactic(auto, using(std::proofs::lemmas::Grind::common_steps, crate::proofs::Led::list_led), unfolding(crate::specs::Replies::registers_field))]
+pub fn write_registers(
+    into: &mut Vec<u8>,
     format: Format,
     registers: &[Register],
 ) -> Result<(), AllocError>
-    ensures { OnOk result (seen fields.new ≡ seen fields.old ++ registers_field format registers.now ∷ []) }
+    ensures written { OnOk result (into.new.items ≡ into.old.items ++ led 44 (registers_field format registers.now)) }
+    ensures kept { Keeps into.old.items into.new.items }
 {
-    let values = register_values(fields.alloc, format, registers)?;
-    fields.push(Key::RegisterValues, listed(values))
+    write_head(into, b',', Key::RegisterValues)?;
+    write_list(into, format, registers)?;
+    write_byte(into, b']')
 }
 
+// Bytes, two hexadecimal digits each.
+#[tactic(auto, using(std::proofs::lemmas::Grind::common_steps))]
+fn write_contents(into: &mut Vec<u8>, bytes: &[u8]) -> Result<(), AllocError>
+    ensures written { OnOk result (into.new.items ≡ into.old.items ++ led 44 (says keys.Contents (encode_lower bytes.now))) }
+    ensures kept { Keeps into.old.items into.new.items }
+{
+    let contents = hex::encode(*into.allocator(), bytes)?;
+    write_text(into, b',', Key::Contents, contents.as_bytes())
+}
+
+// Where bytes begin, and where they end, behind their bracket.
+#[tactic(auto, using(std::proofs::lemmas::Grind::common_steps))]
+fn write_span(into: &mut Vec<u8>, address: u32, end: u32) -> Result<(), AllocError>
+    ensures written { OnOk result (into.new.items ≡ into.old.items ++ opened 123 (says keys.Begin (address_text address) ∷ says keys.Offset (address_text 0) ∷ says keys.End (address_text end) ∷ [])) }
+    ensures kept { Keeps into.old.items into.new.items }
+{
+    write_address(into, b'{', Key::Begin, address)?;
+    write_address(into, b',', Key::Offset, 0)?;
+    write_address(into, b',', Key::End, end)
+}
+
+// The fields of the bytes from an address on behind their bracket.
 #[tactic(auto, using(std::proofs::lemmas::Grind::common_steps), unfolding(crate::specs::Replies::block_fields))]
-fn push_block(fields: &mut FieldList, address: u32, bytes: &[u8]) -> Result<(), AllocError>
-    ensures written { OnOk result (seen fields.new ≡ seen fields.old ++ block_fields address bytes.now) }
-    ensures fits { OnOk result (are_bytes (encode_lower bytes.now) ≡ true) }
+fn write_block(into: &mut Vec<u8>, address: u32, bytes: &[u8]) -> Result<(), AllocError>
+    ensures written { OnOk result (into.new.items ≡ into.old.items ++ opened 123 (block_fields address bytes.now)) }
+    ensures kept { Keeps into.old.items into.new.items }
 {
     let end = ((u64::from(address) + bytes.len() as u64) % 0x1_0000_0000) as u32;
-    let contents = hex::encode(fields.alloc, bytes)?;
-    fields.push_address(Key::Begin, address)?;
-    fields.push_address(Key::Offset, 0)?;
-    fields.push_address(Key::End, end)?;
-    fields.push_text(Key::Contents, contents.as_bytes())
+    write_span(into, address, end)?;
+    write_contents(into, bytes)
 }
 
-/// Appends the bytes from an address on.
-#[tactic(auto, using(std::proofs::lemmas::Grind::common_steps), unfolding(crate::specs::Replies::memory_field))]
-pub fn push_memory(fields: &mut FieldList, address: u32, bytes: &[u8]) -> Result<(), AllocError>
-    ensures written { OnOk result (seen fields.new ≡ seen fields.old ++ memory_field address bytes.now ∷ []) }
-    ensures fits { OnOk result (are_bytes (encode_lower bytes.now) ≡ true) }
+/// Puts the bytes from an address on at the end.
+#[tactic(auto, using(std::proofs::lemmas::Grind::common_steps, crate::proofs::Led::one_tuple_led), unfolding(crate::specs::Replies::memory_field))]
+pub fn write_memory(into: &mut Vec<u8>, address: u32, bytes: &[u8]) -> Result<(), AllocError>
+    ensures written { OnOk result (into.new.items ≡ into.old.items ++ led 44 (memory_field address bytes.now)) }
+    ensures kept { Keeps into.old.items into.new.items }
 {
-    let mut block = FieldList::new(fields.alloc);
-    push_block(&mut block, address, bytes)?;
-    let mut values = Vec::new(fields.alloc);
-    values.push(tuple(block))?;
-    fields.push(Key::Memory, listed(values))
+    write_head(into, b',', Key::Memory)?;
+    write_byte(into, b'[')?;
+    write_block(into, address, bytes)?;
+    into.extend_from_slice(b"}]")
 }

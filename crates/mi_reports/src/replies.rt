@@ -1,20 +1,23 @@
 // The lines of replies.
-ghost use Rattle.std.specs.Prelude.{◌≡◌, ◌∷◌, [], ◌++◌, map, OnOk, true};
-ghost use Rattle.mi_values.specs.Record.{prompt};
-ghost use Rattle.mi_reports.specs.Fits.{done_fits};
-ghost use Rattle.mi_reports.specs.Seen.{seen, trees};
+ghost use Rattle.std.specs.Prelude.{◌≡◌, [], ◌++◌, map, OnOk};
+ghost use Rattle.mi_text.specs.Keeps.{Keeps};
+ghost use Rattle.mi_values.specs.FieldLists.{result_of};
+ghost use Rattle.mi_values.specs.Record.{line_bytes};
+ghost use Rattle.mi_values.specs.Records.{lines_bytes};
+ghost use Rattle.mi_reports.specs.Led.{behind};
+ghost use Rattle.mi_reports.specs.Words.{key_text};
 ghost use Rattle.mi_reports.specs.Replies.{running_line, setting, content_lines, done_fields, done_lines, reply_lines};
 
-use crate::breakpoints::push_breakpoint;
-use crate::errors::push_error;
-use crate::fields::FieldList;
-use crate::frames::{push_frame, push_stack};
-use crate::lines::LineList;
-use crate::registers::{push_memory, push_names, push_registers, push_worth};
-use crate::table::push_table;
-use crate::threads::{push_numbers, push_threads};
-use crate::variables::push_variables;
-use crate::watches::push_watch;
+use crate::breakpoints::write_breakpoint;
+use crate::errors::write_error;
+use crate::fields::{write_byte, write_phrase, write_word, write_worth};
+use crate::frames::{write_frame, write_stack};
+use crate::lines::{write_answered, write_begun, write_prompt};
+use crate::registers::{write_memory, write_names, write_registers};
+use crate::table::write_table;
+use crate::threads::{write_numbers, write_threads};
+use crate::variables::write_variables;
+use crate::watches::write_watch;
 use crate::words::{Key, Phrase};
 use dbg_model::{Content, Refused, Reply};
 use mi_commands::Displaced;
@@ -22,52 +25,57 @@ use mi_values::{NoticeSign, Token};
 use std::alloc::AllocError;
 
 // A thread goes on.
-#[tactic(auto, using(std::proofs::lemmas::Grind::common_steps, crate::proofs::Replying::running_fit), unfolding(crate::specs::Replies::running_line))]
-fn push_running_line(lines: &mut LineList, thread: u32) -> Result<(), AllocError>
-    ensures { OnOk result (trees lines.new ≡ trees lines.old ++ running_line thread ∷ []) }
+#[tactic(auto, using(std::proofs::lemmas::Grind::common_steps, crate::proofs::Led::notice_led), unfolding(crate::specs::Replies::running_line))]
+fn write_running_line(into: &mut Vec<u8>, thread: u32) -> Result<(), AllocError>
+    ensures written { OnOk result (into.new.items ≡ into.old.items ++ line_bytes (running_line thread)) }
+    ensures kept { Keeps into.old.items into.new.items }
 {
-    let mut fields = FieldList::new(lines.alloc);
-    fields.push_word(Key::ThreadId, thread)?;
-    lines.push_notice(NoticeSign::Exec, Key::Running, fields)
+    write_begun(into, NoticeSign::Exec, Key::Running)?;
+    write_word(into, b',', Key::ThreadId, thread)?;
+    write_byte(into, b'\n')
 }
 
-// The lines of threads that go on, and the prompt.
+// The lines of threads that go on.
 #[tactic(auto, using(std::proofs::lemmas::Grind::common_steps))]
-fn push_running(lines: &mut LineList, threads: &[u32]) -> Result<(), AllocError>
-    ensures { OnOk result (trees lines.new ≡ trees lines.old ++ (map running_line threads.now ++ prompt ∷ [])) }
+fn write_running(into: &mut Vec<u8>, threads: &[u32]) -> Result<(), AllocError>
+    ensures written { OnOk result (into.new.items ≡ into.old.items ++ lines_bytes (map running_line threads.now)) }
+    ensures kept { Keeps into.old.items into.new.items }
 {
-    let [thread, rest @ ..] = threads else {
-        return lines.push_prompt();
-    };
-    push_running_line(lines, *thread)?;
-    push_running(lines, rest)
+    for thread in threads {
+        write_running_line(into, *thread)?;
+    }
+    Ok(())
 }
 
-#[tactic(auto, using(std::proofs::lemmas::Grind::common_steps, crate::proofs::Proper::none_fit))]
-fn push_going_on(lines: &mut LineList, token: &Token, threads: &[u32]) -> Result<(), AllocError>
-    ensures { OnOk result (trees lines.new ≡ trees lines.old ++ content_lines token.now (Content.Running threads.now)) }
+// The line of an answer of a class alone.
+#[tactic(auto, using(std::proofs::lemmas::Grind::common_steps, crate::proofs::Led::result_led))]
+fn write_bare(into: &mut Vec<u8>, token: &Token, class: Key) -> Result<(), AllocError>
+    ensures written { OnOk result (into.new.items ≡ into.old.items ++ line_bytes (result_of token.now (key_text class) [])) }
+    ensures kept { Keeps into.old.items into.new.items }
 {
-    let none = FieldList::new(lines.alloc);
-    lines.push_result(token, Key::Running, none)?;
-    push_running(lines, threads)
+    write_answered(into, token, class)?;
+    write_byte(into, b'\n')
 }
 
-#[tactic(auto, using(std::proofs::lemmas::Grind::common_steps, crate::proofs::Proper::none_fit))]
-fn push_exit(lines: &mut LineList, token: &Token) -> Result<(), AllocError>
-    ensures { OnOk result (trees lines.new ≡ trees lines.old ++ content_lines token.now Content.Exit) }
+#[tactic(auto, using(std::proofs::lemmas::Grind::common_steps))]
+fn write_going_on(into: &mut Vec<u8>, token: &Token, threads: &[u32]) -> Result<(), AllocError>
+    ensures written { OnOk result (into.new.items ≡ into.old.items ++ lines_bytes (content_lines token.now (Content.Running threads.now))) }
+    ensures kept { Keeps into.old.items into.new.items }
 {
-    let none = FieldList::new(lines.alloc);
-    lines.push_result(token, Key::Exit, none)
+    write_bare(into, token, Key::Running)?;
+    write_running(into, threads)?;
+    write_prompt(into)
 }
 
-#[tactic(auto, using(std::proofs::lemmas::Grind::common_steps, crate::proofs::Replying::error_fit))]
-fn push_refused(lines: &mut LineList, token: &Token, refused: &Refused) -> Result<(), AllocError>
-    ensures { OnOk result (trees lines.new ≡ trees lines.old ++ content_lines token.now (Content.Refused refused.now)) }
+#[tactic(auto, using(std::proofs::lemmas::Grind::common_steps, crate::proofs::Led::result_led))]
+fn write_refused(into: &mut Vec<u8>, token: &Token, refused: &Refused) -> Result<(), AllocError>
+    ensures written { OnOk result (into.new.items ≡ into.old.items ++ lines_bytes (content_lines token.now (Content.Refused refused.now))) }
+    ensures kept { Keeps into.old.items into.new.items }
 {
-    let mut fields = FieldList::new(lines.alloc);
-    push_error(&mut fields, refused)?;
-    lines.push_result(token, Key::Error, fields)?;
-    lines.push_prompt()
+    write_answered(into, token, Key::Error)?;
+    write_error(into, refused)?;
+    write_byte(into, b'\n')?;
+    write_prompt(into)
 }
 
 fn setting(value: Displaced) -> Phrase
@@ -81,67 +89,72 @@ fn setting(value: Displaced) -> Phrase
 }
 
 // The fields of what was done.
-fn push_done(fields: &mut FieldList, content: &Content) -> Result<(), AllocError>
-    ensures written { OnOk result (seen fields.new ≡ seen fields.old ++ done_fields content.now) }
-    ensures fits { OnOk result (done_fits content.now ≡ true) }
+#[tactic(auto, using(std::proofs::lemmas::Grind::common_steps))]
+fn write_done(into: &mut Vec<u8>, content: &Content) -> Result<(), AllocError>
+    ensures written { OnOk result (into.new.items ≡ into.old.items ++ behind (done_fields content.now)) }
+    ensures kept { Keeps into.old.items into.new.items }
 {
     match content {
-        Content::Inserted(breakpoint) => push_breakpoint(fields, breakpoint),
-        Content::Breakpoints(rows) => push_table(fields, rows.as_slice()),
-        Content::Watching { number, text } => push_watch(fields, *number, text.as_slice()),
-        Content::Selected(thread) => fields.push_word(Key::NewThreadId, *thread),
-        Content::Threads { threads, selected } => push_threads(
-            fields,
+        Content::Inserted(breakpoint) => write_breakpoint(into, b',', breakpoint),
+        Content::Breakpoints(rows) => write_table(into, rows.as_slice()),
+        Content::Watching { number, text } => write_watch(into, *number, text.as_slice()),
+        Content::Selected(thread) => write_word(into, b',', Key::NewThreadId, *thread),
+        Content::Threads { threads, selected } => write_threads(
+            into,
             threads.as_slice(),
             *selected,
         ),
-        Content::ThreadNumbers { numbers, selected } => push_numbers(
-            fields,
+        Content::ThreadNumbers { numbers, selected } => write_numbers(
+            into,
             numbers.as_slice(),
             *selected,
         ),
-        Content::Frames(frames) => push_stack(fields, frames.as_slice()),
-        Content::Depth(depth) => fields.push_word(Key::Depth, *depth),
-        Content::Frame(frame) => push_frame(fields, Some(0), frame),
-        Content::Variables(variables) => push_variables(fields, variables.as_slice()),
-        Content::RegisterNames => push_names(fields),
-        Content::Registers { format, registers } => push_registers(
-            fields,
+        Content::Frames(frames) => write_stack(into, b',', frames.as_slice()),
+        Content::Depth(depth) => write_word(into, b',', Key::Depth, *depth),
+        Content::Frame(frame) => write_frame(into, b',', Some(0), frame),
+        Content::Variables(variables) => write_variables(into, variables.as_slice()),
+        Content::RegisterNames => write_names(into),
+        Content::Registers { format, registers } => write_registers(
+            into,
             *format,
             registers.as_slice(),
         ),
-        Content::Memory { address, bytes } => push_memory(fields, *address, bytes.as_slice()),
-        Content::Value { word, unsigned } => push_worth(fields, Key::Value, *word, *unsigned),
-        Content::Setting(value) => fields.push_phrase(Key::Value, setting(*value)),
+        Content::Memory { address, bytes } => write_memory(into, *address, bytes.as_slice()),
+        Content::Value { word, unsigned } => write_worth(into, b',', Key::Value, *word, *unsigned),
+        Content::Setting(value) => write_phrase(into, b',', Key::Value, setting(*value)),
         _ => Ok(()),
     }
 }
 
-#[tactic(auto, using(std::proofs::lemmas::Grind::common_steps, crate::proofs::Replying::done_fit))]
-fn push_answer(lines: &mut LineList, token: &Token, content: &Content) -> Result<(), AllocError>
-    ensures { OnOk result (trees lines.new ≡ trees lines.old ++ done_lines token.now (done_fields content.now)) }
+#[tactic(auto, using(std::proofs::lemmas::Grind::common_steps, crate::proofs::Led::result_led))]
+fn write_answer(into: &mut Vec<u8>, token: &Token, content: &Content) -> Result<(), AllocError>
+    ensures written { OnOk result (into.new.items ≡ into.old.items ++ lines_bytes (done_lines token.now (done_fields content.now))) }
+    ensures kept { Keeps into.old.items into.new.items }
 {
-    let mut fields = FieldList::new(lines.alloc);
-    push_done(&mut fields, content)?;
-    lines.push_result(token, Key::Done, fields)?;
-    lines.push_prompt()
+    write_answered(into, token, Key::Done)?;
+    write_done(into, content)?;
+    write_byte(into, b'\n')?;
+    write_prompt(into)
 }
 
-fn push_content(lines: &mut LineList, token: &Token, content: &Content) -> Result<(), AllocError>
-    ensures { OnOk result (trees lines.new ≡ trees lines.old ++ content_lines token.now content.now) }
+#[tactic(auto, using(std::proofs::lemmas::Grind::common_steps))]
+fn write_content(into: &mut Vec<u8>, token: &Token, content: &Content) -> Result<(), AllocError>
+    ensures written { OnOk result (into.new.items ≡ into.old.items ++ lines_bytes (content_lines token.now content.now)) }
+    ensures kept { Keeps into.old.items into.new.items }
 {
     match content {
-        Content::Blank => lines.push_prompt(),
-        Content::Running(threads) => push_going_on(lines, token, threads.as_slice()),
-        Content::Exit => push_exit(lines, token),
-        Content::Refused(refused) => push_refused(lines, token, refused),
-        _ => push_answer(lines, token, content),
+        Content::Blank => write_prompt(into),
+        Content::Running(threads) => write_going_on(into, token, threads.as_slice()),
+        Content::Exit => write_bare(into, token, Key::Exit),
+        Content::Refused(refused) => write_refused(into, token, refused),
+        _ => write_answer(into, token, content),
     }
 }
 
-/// Appends the lines of a reply.
-pub fn push_reply(lines: &mut LineList, reply: &Reply) -> Result<(), AllocError>
-    ensures { OnOk result (trees lines.new ≡ trees lines.old ++ reply_lines reply.now) }
+/// Puts the lines of a reply at the end.
+pub fn write_reply(into: &mut Vec<u8>, reply: &Reply) -> Result<(), AllocError>
+    ensures written { OnOk result (into.new.items ≡ into.old.items ++ lines_bytes (reply_lines reply.now)) }
+    ensures kept { Keeps into.old.items into.new.items }
 {
-    push_content(lines, &reply.token, &reply.content)
+    write_content(into, &reply.token, &reply.content)
 }

@@ -1,21 +1,20 @@
 // The lines of stops.
-ghost use Rattle.std.specs.Prelude.{◌≡◌, ◌+◌, ◌∷◌, [], ◌++◌, OnOk, true};
-ghost use Rattle.mi_values.specs.Tree.{text, items, item, no_item};
-ghost use Rattle.mi_reports.specs.declared.words.Key.TheVariants as keys;
-ghost use Rattle.mi_reports.specs.Fits.{are_fit, frame_fits};
-ghost use Rattle.mi_reports.specs.Seen.{seen, trees};
-ghost use Rattle.mi_reports.specs.Words.{key_text};
-ghost use Rattle.mi_reports.specs.Text.{place_fields, signal_fields, end_fields, hit_fields, signal, stopped_line};
+ghost use Rattle.std.specs.Prelude.{◌≡◌, ◌++◌, OnOk};
 ghost use Rattle.dbg_model.specs.declared.entry.Entry.TheVariants.{Stopped};
 ghost use Rattle.dbg_model.specs.declared.shown.Shown.TheVariants.{Stop};
+ghost use Rattle.mi_text.specs.Keeps.{Keeps};
+ghost use Rattle.mi_values.specs.Record.{line_bytes};
+ghost use Rattle.mi_values.specs.Records.{lines_bytes};
+ghost use Rattle.mi_reports.specs.Led.{behind};
 ghost use Rattle.mi_reports.specs.Lines.{lines_of};
+ghost use Rattle.mi_reports.specs.Text.{place_fields, signal_fields, end_fields, hit_fields, signal, stopped_line};
 
 use crate::breakpoints::disposition;
-use crate::conditions::push_condition;
-use crate::fields::{FieldList, listed, text};
-use crate::frames::push_frame;
-use crate::lines::LineList;
-use crate::triggers::push_trigger;
+use crate::conditions::write_condition;
+use crate::fields::{write_byte, write_one, write_phrase, write_text, write_word};
+use crate::frames::write_frame;
+use crate::lines::write_begun;
+use crate::triggers::write_trigger;
 use crate::words::{Key, Phrase};
 use dbg_model::{ShownFrame, ShownWatch, Why};
 use itoa::Buffer;
@@ -39,130 +38,130 @@ fn signal(cause: Cause) -> (Phrase, Phrase)
     }
 }
 
-// The one thread that stopped.
-fn push_stopped_thread(fields: &mut FieldList, number: &[u8]) -> Result<(), AllocError>
-    ensures { OnOk result (seen fields.new ≡ seen fields.old ++ (key_text keys.StoppedThreads, items (item (text number.now) no_item)) ∷ []) }
-{
-    let mut threads = Vec::new(fields.alloc);
-    threads.push(text(fields.alloc, number)?)?;
-    fields.push(Key::StoppedThreads, listed(threads))
-}
-
-/// Appends where a hart stopped.
+/// Puts where a hart stopped at the end.
 #[tactic(auto, using(std::proofs::lemmas::Grind::common_steps), unfolding(crate::specs::Text::place_fields))]
-pub fn push_place(fields: &mut FieldList, hart: u32, frame: &ShownFrame) -> Result<(), AllocError>
-    ensures written { OnOk result (seen fields.new ≡ seen fields.old ++ place_fields hart frame.now) }
-    ensures fits { OnOk result (frame_fits frame.now ≡ true) }
+pub fn write_place(into: &mut Vec<u8>, hart: u32, frame: &ShownFrame) -> Result<(), AllocError>
+    ensures written { OnOk result (into.new.items ≡ into.old.items ++ behind (place_fields hart frame.now)) }
+    ensures kept { Keeps into.old.items into.new.items }
 {
     let mut buffer = Buffer::new();
     let number = buffer.format(u64::from(hart) + 1).as_bytes();
-    push_frame(fields, None, frame)?;
-    fields.push_text(Key::ThreadId, number)?;
-    push_stopped_thread(fields, number)
+    write_frame(into, b',', None, frame)?;
+    write_text(into, b',', Key::ThreadId, number)?;
+    write_one(into, b',', Key::StoppedThreads, number)
 }
 
-/// Appends the line that something stopped.
-#[tactic(auto, unfolding(crate::specs::Text::stopped_line))]
-pub fn push_stopped(lines: &mut LineList, fields: FieldList) -> Result<(), AllocError>
-    requires { are_fit (seen fields) ≡ true }
-    ensures { OnOk result (trees lines.new ≡ trees lines.old ++ stopped_line (seen fields) ∷ []) }
-{
-    lines.push_notice(NoticeSign::Exec, Key::Stopped, fields)
-}
-
-// Appends the line of a stop by a signal.
-#[tactic(auto, using(std::proofs::lemmas::Grind::common_steps, crate::proofs::Proper::signal_fit), unfolding(crate::specs::Text::signal_fields))]
-fn push_signal(
-    lines: &mut LineList,
+#[tactic(auto, using(std::proofs::lemmas::Grind::common_steps), unfolding(crate::specs::Text::signal_fields))]
+fn write_signal_fields(
+    into: &mut Vec<u8>,
     name: Phrase,
     meaning: Phrase,
     hart: u32,
     frame: &ShownFrame,
 ) -> Result<(), AllocError>
-    ensures { OnOk result (trees lines.new ≡ trees lines.old ++ stopped_line (signal_fields name meaning hart frame.now) ∷ []) }
+    ensures written { OnOk result (into.new.items ≡ into.old.items ++ behind (signal_fields name meaning hart frame.now)) }
+    ensures kept { Keeps into.old.items into.new.items }
 {
-    let mut fields = FieldList::new(lines.alloc);
-    fields.push_phrase(Key::Reason, Phrase::SignalReceived)?;
-    fields.push_phrase(Key::SignalName, name)?;
-    fields.push_phrase(Key::SignalMeaning, meaning)?;
-    push_place(&mut fields, hart, frame)?;
-    push_stopped(lines, fields)
+    write_phrase(into, b',', Key::Reason, Phrase::SignalReceived)?;
+    write_phrase(into, b',', Key::SignalName, name)?;
+    write_phrase(into, b',', Key::SignalMeaning, meaning)?;
+    write_place(into, hart, frame)
 }
 
-#[tactic(auto, unfolding(crate::specs::Text::hit_fields))]
-fn push_hit_fields(
-    fields: &mut FieldList,
+// Puts the line of a stop by a signal at the end.
+#[tactic(auto, using(std::proofs::lemmas::Grind::common_steps, crate::proofs::Led::notice_led), unfolding(crate::specs::Text::stopped_line))]
+fn write_signal(
+    into: &mut Vec<u8>,
+    name: Phrase,
+    meaning: Phrase,
+    hart: u32,
+    frame: &ShownFrame,
+) -> Result<(), AllocError>
+    ensures written { OnOk result (into.new.items ≡ into.old.items ++ line_bytes (stopped_line (signal_fields name meaning hart frame.now))) }
+    ensures kept { Keeps into.old.items into.new.items }
+{
+    write_begun(into, NoticeSign::Exec, Key::Stopped)?;
+    write_signal_fields(into, name, meaning, hart, frame)?;
+    write_byte(into, b'\n')
+}
+
+#[tactic(auto, using(std::proofs::lemmas::Grind::common_steps), unfolding(crate::specs::Text::hit_fields))]
+fn write_hit_fields(
+    into: &mut Vec<u8>,
     temporary: bool,
     number: u32,
     hart: u32,
     frame: &ShownFrame,
 ) -> Result<(), AllocError>
-    ensures written { OnOk result (seen fields.new ≡ seen fields.old ++ hit_fields temporary number hart frame.now) }
-    ensures fits { OnOk result (frame_fits frame.now ≡ true) }
+    ensures written { OnOk result (into.new.items ≡ into.old.items ++ behind (hit_fields temporary number hart frame.now)) }
+    ensures kept { Keeps into.old.items into.new.items }
 {
-    fields.push_phrase(Key::Reason, Phrase::BreakpointHit)?;
-    fields.push_phrase(Key::Disp, disposition(temporary))?;
-    fields.push_word(Key::BkptNumber, number)?;
-    push_place(fields, hart, frame)
+    write_phrase(into, b',', Key::Reason, Phrase::BreakpointHit)?;
+    write_phrase(into, b',', Key::Disp, disposition(temporary))?;
+    write_word(into, b',', Key::BkptNumber, number)?;
+    write_place(into, hart, frame)
 }
 
-// Appends the line of a stop by a breakpoint.
-#[tactic(auto, using(std::proofs::lemmas::Grind::common_steps, crate::proofs::Proper::hit_fit))]
-fn push_hit(
-    lines: &mut LineList,
+// Puts the line of a stop by a breakpoint at the end.
+#[tactic(auto, using(std::proofs::lemmas::Grind::common_steps, crate::proofs::Led::notice_led), unfolding(crate::specs::Text::stopped_line))]
+fn write_hit(
+    into: &mut Vec<u8>,
     temporary: bool,
     number: u32,
     hart: u32,
     frame: &ShownFrame,
 ) -> Result<(), AllocError>
-    ensures { OnOk result (trees lines.new ≡ trees lines.old ++ stopped_line (hit_fields temporary number hart frame.now) ∷ []) }
+    ensures written { OnOk result (into.new.items ≡ into.old.items ++ line_bytes (stopped_line (hit_fields temporary number hart frame.now))) }
+    ensures kept { Keeps into.old.items into.new.items }
 {
-    let mut stop = FieldList::new(lines.alloc);
-    push_hit_fields(&mut stop, temporary, number, hart, frame)?;
-    push_stopped(lines, stop)
+    write_begun(into, NoticeSign::Exec, Key::Stopped)?;
+    write_hit_fields(into, temporary, number, hart, frame)?;
+    write_byte(into, b'\n')
 }
 
-// Appends the line of a stop for a reason that its place says all of.
-#[tactic(auto, using(std::proofs::lemmas::Grind::common_steps, crate::proofs::Proper::end_fit), unfolding(crate::specs::Text::end_fields))]
-fn push_end(
-    lines: &mut LineList,
+// Puts the line of a stop for a reason that its place says all of at the end.
+#[tactic(auto, using(std::proofs::lemmas::Grind::common_steps, crate::proofs::Led::notice_led), unfolding(crate::specs::Text::end_fields, crate::specs::Text::stopped_line))]
+fn write_end(
+    into: &mut Vec<u8>,
     reason: Phrase,
     hart: u32,
     frame: &ShownFrame,
 ) -> Result<(), AllocError>
-    ensures { OnOk result (trees lines.new ≡ trees lines.old ++ stopped_line (end_fields reason hart frame.now) ∷ []) }
+    ensures written { OnOk result (into.new.items ≡ into.old.items ++ line_bytes (stopped_line (end_fields reason hart frame.now))) }
+    ensures kept { Keeps into.old.items into.new.items }
 {
-    let mut fields = FieldList::new(lines.alloc);
-    fields.push_phrase(Key::Reason, reason)?;
-    push_place(&mut fields, hart, frame)?;
-    push_stopped(lines, fields)
+    write_begun(into, NoticeSign::Exec, Key::Stopped)?;
+    write_phrase(into, b',', Key::Reason, reason)?;
+    write_place(into, hart, frame)?;
+    write_byte(into, b'\n')
 }
 
-/// Appends the lines of a stop of a hart in this frame. Where the value of a breakpoint's condition couldn't be had, a line
-/// that says why comes first.
+/// Puts the lines of a stop of a hart in this frame at the end. Where the value of a breakpoint's condition couldn't be had, a
+/// line that says why comes first.
 #[tactic(auto, using(std::proofs::lemmas::Grind::common_steps))]
-pub fn push_stop(
-    lines: &mut LineList,
+pub fn write_stop(
+    into: &mut Vec<u8>,
     hart: u32,
     why: Why,
     frame: &ShownFrame,
     temporary: bool,
     watch: &Option<ShownWatch>,
 ) -> Result<(), AllocError>
-    ensures { OnOk result (trees lines.new ≡ trees lines.old ++ lines_of (Stopped hart why) (Stop frame.now temporary watch.now)) }
+    ensures written { OnOk result (into.new.items ≡ into.old.items ++ lines_bytes (lines_of (Stopped hart why) (Stop frame.now temporary watch.now))) }
+    ensures kept { Keeps into.old.items into.new.items }
 {
     match why {
         Why::Break { number, error } => {
-            push_condition(lines, number, error)?;
-            push_hit(lines, temporary, number, hart, frame)
+            write_condition(into, number, error)?;
+            write_hit(into, temporary, number, hart, frame)
         }
-        Why::Watch(fired) => push_trigger(lines, watch, fired, hart, frame),
-        Why::Stepped => push_end(lines, Phrase::EndSteppingRange, hart, frame),
-        Why::Finished => push_end(lines, Phrase::FunctionFinished, hart, frame),
-        Why::Interrupted => push_signal(lines, Phrase::Sigint, Phrase::Interrupt, hart, frame),
+        Why::Watch(fired) => write_trigger(into, watch, fired, hart, frame),
+        Why::Stepped => write_end(into, Phrase::EndSteppingRange, hart, frame),
+        Why::Finished => write_end(into, Phrase::FunctionFinished, hart, frame),
+        Why::Interrupted => write_signal(into, Phrase::Sigint, Phrase::Interrupt, hart, frame),
         Why::Fault(cause) => {
             let (name, meaning) = signal(cause);
-            push_signal(lines, name, meaning, hart, frame)
+            write_signal(into, name, meaning, hart, frame)
         }
     }
 }

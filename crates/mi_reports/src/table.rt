@@ -1,51 +1,72 @@
 // The table of breakpoints and watches.
-ghost use Rattle.std.specs.Prelude.{◌≡◌, ◌∷◌, [], ◌++◌, map, OnOk, true};
-ghost use Rattle.mi_values.specs.FieldLists.{tuple_of};
+ghost use Rattle.std.specs.Prelude.{◌≡◌, ◌++◌, map, OnOk};
+ghost use Rattle.mi_text.specs.Keeps.{Keeps};
+ghost use Rattle.mi_values.specs.FieldLists.{tuple_of, in_brackets};
 ghost use Rattle.mi_reports.specs.declared.words.Key.TheVariants as keys;
-ghost use Rattle.mi_reports.specs.Fits.{row_fits, rows_fit};
-ghost use Rattle.mi_reports.specs.Seen.{seen};
 ghost use Rattle.mi_reports.specs.Words.{key_text};
+ghost use Rattle.mi_reports.specs.Led.{led, behind, opened};
 ghost use Rattle.mi_reports.specs.Table.{row_field, table_fields};
 
-use crate::breakpoints::push_breakpoint;
-use crate::fields::{FieldList, bracketed, tuple};
-use crate::watches::push_listed;
+use crate::breakpoints::write_breakpoint;
+use crate::fields::{write_byte, write_head, write_number};
+use crate::watches::write_listed;
 use crate::words::Key;
 use dbg_model::Row;
 use std::alloc::AllocError;
 
-fn push_row(fields: &mut FieldList, row: &Row) -> Result<(), AllocError>
-    ensures written { OnOk result (seen fields.new ≡ seen fields.old ++ row_field row.now ∷ []) }
-    ensures fits { OnOk result (row_fits row.now ≡ true) }
+fn write_row(into: &mut Vec<u8>, lead: u8, row: &Row) -> Result<(), AllocError>
+    ensures written { OnOk result (into.new.items ≡ into.old.items ++ led lead (row_field row.now)) }
+    ensures kept { Keeps into.old.items into.new.items }
 {
     match row {
-        Row::Breakpoint(breakpoint) => push_breakpoint(fields, breakpoint),
-        Row::Watch(watch) => push_listed(fields, watch),
+        Row::Breakpoint(breakpoint) => write_breakpoint(into, lead, breakpoint),
+        Row::Watch(watch) => write_listed(into, lead, watch),
     }
 }
 
+// Rows behind a first one.
 #[tactic(auto, using(std::proofs::lemmas::Grind::common_steps))]
-fn push_rows(fields: &mut FieldList, rows: &[Row]) -> Result<(), AllocError>
-    ensures written { OnOk result (seen fields.new ≡ seen fields.old ++ map row_field rows.now) }
-    ensures fits { OnOk result (rows_fit rows.now ≡ true) }
+fn write_more(into: &mut Vec<u8>, rows: &[Row]) -> Result<(), AllocError>
+    ensures written { OnOk result (into.new.items ≡ into.old.items ++ behind (map row_field rows.now)) }
+    ensures kept { Keeps into.old.items into.new.items }
 {
-    let [row, rest @ ..] = rows else {
-        return Ok(());
-    };
-    push_row(fields, row)?;
-    push_rows(fields, rest)
+    for row in rows {
+        write_row(into, b',', row)?;
+    }
+    Ok(())
 }
 
-/// Appends the table of breakpoints and watches.
-#[tactic(auto, unfolding(crate::specs::Table::table_fields))]
-pub fn push_table(fields: &mut FieldList, rows: &[Row]) -> Result<(), AllocError>
-    ensures written { OnOk result (seen fields.new ≡ seen fields.old ++ (key_text keys.Table, tuple_of (table_fields rows.now)) ∷ []) }
-    ensures fits { OnOk result (rows_fit rows.now ≡ true) }
+// Rows behind their bracket.
+#[tactic(auto, using(std::proofs::lemmas::Grind::common_steps))]
+fn write_rows(into: &mut Vec<u8>, rows: &[Row]) -> Result<(), AllocError>
+    ensures written { OnOk result (into.new.items ≡ into.old.items ++ opened 91 (map row_field rows.now)) }
+    ensures kept { Keeps into.old.items into.new.items }
 {
-    let mut body = FieldList::new(fields.alloc);
-    push_rows(&mut body, rows)?;
-    let mut table = FieldList::new(fields.alloc);
-    table.push_number(Key::Rows, rows.len() as u64)?;
-    table.push(Key::Body, bracketed(body))?;
-    fields.push(Key::Table, tuple(table))
+    let [row, rest @ ..] = rows else {
+        return write_byte(into, b'[');
+    };
+    write_row(into, b'[', row)?;
+    write_more(into, rest)
+}
+
+#[tactic(auto, using(std::proofs::lemmas::Grind::common_steps, crate::proofs::Led::brackets_led))]
+fn write_body(into: &mut Vec<u8>, rows: &[Row]) -> Result<(), AllocError>
+    ensures written { OnOk result (into.new.items ≡ into.old.items ++ led 44 (key_text keys.Body, in_brackets (map row_field rows.now))) }
+    ensures kept { Keeps into.old.items into.new.items }
+{
+    write_head(into, b',', Key::Body)?;
+    write_rows(into, rows)?;
+    write_byte(into, b']')
+}
+
+/// Puts the table of breakpoints and watches at the end.
+#[tactic(auto, using(std::proofs::lemmas::Grind::common_steps, crate::proofs::Led::tuple_led), unfolding(crate::specs::Table::table_fields))]
+pub fn write_table(into: &mut Vec<u8>, rows: &[Row]) -> Result<(), AllocError>
+    ensures written { OnOk result (into.new.items ≡ into.old.items ++ led 44 (key_text keys.Table, tuple_of (table_fields rows.now))) }
+    ensures kept { Keeps into.old.items into.new.items }
+{
+    write_head(into, b',', Key::Table)?;
+    write_number(into, b'{', Key::Rows, rows.len() as u64)?;
+    write_body(into, rows)?;
+    write_byte(into, b'}')
 }

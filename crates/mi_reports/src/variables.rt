@@ -1,18 +1,15 @@
 // Variables as they are listed.
-ghost use Rattle.std.specs.Prelude.{◌≡◌, ◌∷◌, [], ◌++◌, map, IfOk, OnOk, true};
-ghost use Rattle.mi_values.specs.Testing.{are_bytes};
-ghost use Rattle.mi_values.specs.Tree.{value_view};
-ghost use Rattle.mi_reports.specs.Fits.{variables_fit};
-ghost use Rattle.mi_reports.specs.Seen.{seen};
+ghost use Rattle.std.specs.Prelude.{◌≡◌, ◌++◌, map, OnOk};
+ghost use Rattle.mi_text.specs.Keeps.{Keeps};
+ghost use Rattle.mi_reports.specs.Led.{led, behind, opened, item_led, items_behind, items_opened};
 ghost use Rattle.mi_reports.specs.Variables.{argument_fields, shown_fields, shown_text, variable_fields, variable_tree, variables_field};
 
-use crate::fields::{FieldList, listed, tuple};
+use crate::fields::{write_byte, write_head, write_text, write_word};
 use crate::texts::{push, push_at};
 use crate::words::{Key, Phrase};
 use dbg_model::{ShownVariable, VariableValue};
 use mi_text::write_worth;
-use mi_values::Value;
-use std::alloc::{AllocError, Global};
+use std::alloc::AllocError;
 
 // A value in decimal, or in its place why there is none.
 fn push_text(into: &mut Vec<u8>, value: VariableValue) -> Result<(), AllocError>
@@ -30,65 +27,85 @@ fn push_text(into: &mut Vec<u8>, value: VariableValue) -> Result<(), AllocError>
     }
 }
 
-fn push_value(fields: &mut FieldList, value: Option<VariableValue>) -> Result<(), AllocError>
-    ensures { OnOk result (seen fields.new ≡ seen fields.old ++ shown_fields value) }
+#[tactic(auto, using(std::proofs::lemmas::Grind::common_steps))]
+fn write_value(into: &mut Vec<u8>, value: Option<VariableValue>) -> Result<(), AllocError>
+    ensures written { OnOk result (into.new.items ≡ into.old.items ++ behind (shown_fields value)) }
+    ensures kept { Keeps into.old.items into.new.items }
 {
     let Some(value) = value else {
         return Ok(());
     };
-    let mut text = Vec::new(fields.alloc);
+    let mut text = Vec::new(*into.allocator());
     push_text(&mut text, value)?;
-    fields.push_text(Key::Value, text.as_slice())
+    write_text(into, b',', Key::Value, text.as_slice())
 }
 
 // That a variable is a parameter.
-fn push_argument(fields: &mut FieldList, argument: bool) -> Result<(), AllocError>
-    ensures { OnOk result (seen fields.new ≡ seen fields.old ++ argument_fields argument) }
+#[tactic(auto, using(std::proofs::lemmas::Grind::common_steps))]
+fn write_argument(into: &mut Vec<u8>, argument: bool) -> Result<(), AllocError>
+    ensures written { OnOk result (into.new.items ≡ into.old.items ++ behind (argument_fields argument)) }
+    ensures kept { Keeps into.old.items into.new.items }
 {
     if argument {
-        fields.push_word(Key::Arg, 1)
+        write_word(into, b',', Key::Arg, 1)
     } else {
         Ok(())
     }
 }
 
+// The fields of a variable behind their bracket.
 #[tactic(auto, using(std::proofs::lemmas::Grind::common_steps), unfolding(crate::specs::Variables::variable_fields))]
-fn push_fields(fields: &mut FieldList, variable: &ShownVariable) -> Result<(), AllocError>
-    ensures written { OnOk result (seen fields.new ≡ seen fields.old ++ variable_fields variable.now) }
-    ensures fits { OnOk result (are_bytes variable.now.name ≡ true) }
+fn write_fields(into: &mut Vec<u8>, variable: &ShownVariable) -> Result<(), AllocError>
+    ensures written { OnOk result (into.new.items ≡ into.old.items ++ opened 123 (variable_fields variable.now)) }
+    ensures kept { Keeps into.old.items into.new.items }
 {
-    fields.push_text(Key::Name, variable.name.as_slice())?;
-    push_argument(fields, variable.argument)?;
-    push_value(fields, variable.value)
+    write_text(into, b'{', Key::Name, variable.name.as_slice())?;
+    write_argument(into, variable.argument)?;
+    write_value(into, variable.value)
 }
 
-#[tactic(auto, unfolding(crate::specs::Variables::variable_tree))]
-fn variable_value(alloc: Global, variable: &ShownVariable) -> Result<Value, AllocError>
-    ensures written { IfOk result (λ v. value_view v ≡ variable_tree variable.now) }
-    ensures fits { IfOk result (λ _. are_bytes variable.now.name ≡ true) }
+#[tactic(auto, using(std::proofs::lemmas::Grind::common_steps, crate::proofs::Led::tuple_item_led), unfolding(crate::specs::Variables::variable_tree))]
+fn write_variable(into: &mut Vec<u8>, lead: u8, variable: &ShownVariable) -> Result<(), AllocError>
+    ensures written { OnOk result (into.new.items ≡ into.old.items ++ item_led lead (variable_tree variable.now)) }
+    ensures kept { Keeps into.old.items into.new.items }
 {
-    let mut fields = FieldList::new(alloc);
-    push_fields(&mut fields, variable)?;
-    Ok(tuple(fields))
+    write_byte(into, lead)?;
+    write_fields(into, variable)?;
+    write_byte(into, b'}')
 }
 
-fn variable_values(alloc: Global, variables: &[ShownVariable]) -> Result<Vec<Value>, AllocError>
-    ensures written { IfOk result (λ v. map value_view v.items ≡ map variable_tree variables.now) }
-    ensures fits { IfOk result (λ _. variables_fit variables.now ≡ true) }
+// Variables behind a first one.
+#[tactic(auto, using(std::proofs::lemmas::Grind::common_steps))]
+fn write_more(into: &mut Vec<u8>, variables: &[ShownVariable]) -> Result<(), AllocError>
+    ensures written { OnOk result (into.new.items ≡ into.old.items ++ items_behind (map variable_tree variables.now)) }
+    ensures kept { Keeps into.old.items into.new.items }
 {
-    let mut values = Vec::new(alloc);
     for variable in variables {
-        values.push(variable_value(alloc, variable)?)?;
+        write_variable(into, b',', variable)?;
     }
-    Ok(values)
+    Ok(())
 }
 
-/// Appends the variables of a frame.
-#[tactic(auto, unfolding(crate::specs::Variables::variables_field))]
-pub fn push_variables(fields: &mut FieldList, variables: &[ShownVariable]) -> Result<(), AllocError>
-    ensures written { OnOk result (seen fields.new ≡ seen fields.old ++ variables_field variables.now ∷ []) }
-    ensures fits { OnOk result (variables_fit variables.now ≡ true) }
+// Variables behind their bracket.
+#[tactic(auto, using(std::proofs::lemmas::Grind::common_steps))]
+fn write_list(into: &mut Vec<u8>, variables: &[ShownVariable]) -> Result<(), AllocError>
+    ensures written { OnOk result (into.new.items ≡ into.old.items ++ items_opened 91 (map variable_tree variables.now)) }
+    ensures kept { Keeps into.old.items into.new.items }
 {
-    let values = variable_values(fields.alloc, variables)?;
-    fields.push(Key::Variables, listed(values))
+    let [variable, rest @ ..] = variables else {
+        return write_byte(into, b'[');
+    };
+    write_variable(into, b'[', variable)?;
+    write_more(into, rest)
+}
+
+/// Puts the variables of a frame at the end.
+#[tactic(auto, using(std::proofs::lemmas::Grind::common_steps, crate::proofs::Led::list_led), unfolding(crate::specs::Variables::variables_field))]
+pub fn write_variables(into: &mut Vec<u8>, variables: &[ShownVariable]) -> Result<(), AllocError>
+    ensures written { OnOk result (into.new.items ≡ into.old.items ++ led 44 (variables_field variables.now)) }
+    ensures kept { Keeps into.old.items into.new.items }
+{
+    write_head(into, b',', Key::Variables)?;
+    write_list(into, variables)?;
+    write_byte(into, b']')
 }

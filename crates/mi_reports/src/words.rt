@@ -1,10 +1,7 @@
 // The names and the fixed texts of lines.
-ghost use Rattle.std.specs.Prelude.{◌≡◌, true};
-ghost use Rattle.mi_values.specs.Name.{is_name};
+ghost use Rattle.std.specs.Prelude.{◌≡◌};
 ghost use Rattle.mi_reports.specs.Words.{key_text};
 ghost use Rattle.mi_reports.specs.Phrases.{phrase_text};
-
-use mi_values::Name;
 
 /// A class, or the name of a field.
 #[derive(Clone, Copy)]
@@ -153,16 +150,8 @@ pub enum Phrase {
 }
 
 /// The text of a key, which is a name.
-pub fn name(key: Key) -> &'static str
-    ensures text { result.now ≡ key_text key }
-    ensures name { is_name result.now ≡ true }
-{
-    text_of(key)
-}
-
-// The text of a key. That it is a name is proved of all of them at once.
 #[tactic(auto, unfolding(crate::specs::Words::key_text))]
-fn text_of(key: Key) -> &'static str
+pub fn name(key: Key) -> &'static str
     ensures { result.now ≡ key_text key }
 {
     match key {
@@ -230,13 +219,6 @@ fn text_of(key: Key) -> &'static str
         Key::What => "what",
         Key::Wpt => "wpt",
     }
-}
-
-/// The name that a key is.
-pub fn name_of(key: Key) -> Name
-    ensures { result ≡ key_text key }
-{
-    Name::of(name(key).as_bytes())
 }
 
 /// The bytes of a fixed text.

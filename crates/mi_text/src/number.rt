@@ -10,12 +10,12 @@ fn value_from(base: u32, so_far: u32, digits: &[u8]) -> Option<u32>
     requires sixteen { base ≤ 16 }
     ensures { result ≡ value_from base so_far digits.now }
 {
-    let [first, rest @ ..] = digits else {
-        return Some(so_far);
-    };
-    let digit = char::from(*first).to_digit(base)?;
-    let value = u64::from(base) * u64::from(so_far) + u64::from(digit);
-    value_from(base, u32::try_from(value).ok()?, rest)
+    let mut value = so_far;
+    for digit in digits {
+        let digit = char::from(*digit).to_digit(base)?;
+        value = u32::try_from(u64::from(base) * u64::from(value) + u64::from(digit)).ok()?;
+    }
+    Some(value)
 }
 
 /// The number of one or more digits of a base, below 2^32.

@@ -3,9 +3,8 @@ use Rattle.std.proofs.Common.{◌≡◌, ℕ, ◌+◌, ◌<◌, ◌≤◌, List,
 use Rattle.std.proofs.lemmas.List.{drop_more}
 use Rattle.std.proofs.lemmas.Grind.{common_steps}
 use Rattle.std.specs.Global.{Vec}
-use Rattle.arrayvec.specs.ArrayVec.{ArrayVec}
 use Rattle.mi_text.specs.CString.{c_string}
-use Rattle.mi_values.specs.declared.value.Value.{Value, Text, Short, Tuple, Items, Named, the_lemmas}
+use Rattle.mi_values.specs.declared.value.Value.{Value, Text, Tuple, Items, Named, the_lemmas}
 use Rattle.mi_values.specs.Tree.{text, tuple, items, named, value_view, items_view, fields_view}
 use Rattle.mi_values.specs.Spelling.{comma, value_bytes, items_from, fields_from}
 
@@ -14,9 +13,6 @@ drop_past xs i le = grind (arith, common_steps)
 
 pub view-Text : (t : Vec ℕ) → value_view (Text t) ≡ text t.items
 view-Text t = search (rules, the_lemmas)
-
-pub view-Short : (t : ArrayVec ℕ) → value_view (Short t) ≡ text t.items
-view-Short t = search (rules, the_lemmas)
 
 pub view-Items : (v : Vec Value) → value_view (Items v) ≡ items (items_view v.items)
 view-Items v = search (rules, the_lemmas)
@@ -66,10 +62,6 @@ field_written close started xs i x old signed new total lt e one two so_far =
 pub Text-bytes : (t : Vec ℕ) → value_bytes (value_view (Text t)) ≡ c_string t.items
 unfolding value_bytes
 Text-bytes t = ap value_bytes (view-Text t)
-
-pub Short-bytes : (t : ArrayVec ℕ) → value_bytes (value_view (Short t)) ≡ c_string t.items
-unfolding value_bytes
-Short-bytes t = ap value_bytes (view-Short t)
 
 pub Items-bytes : (v : Vec Value) → value_bytes (value_view (Items v)) ≡ 91 ∷ items_from false (items_view v.items)
 unfolding value_bytes

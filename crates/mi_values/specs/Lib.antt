@@ -1,7 +1,6 @@
 -- The definitions of output lines: values, their one text, which of them are proper, whole lines, and what reading gives.
 pub mod Spelled
 pub mod Name
-pub mod NameInside
 pub mod Tree
 pub mod Spelling
 pub mod Proper

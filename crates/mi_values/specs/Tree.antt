@@ -29,7 +29,6 @@ fields_of (f ∷ fs) = field f.0 f.1 (fields_of fs)
 -- one level, with each value inside already seen as its tree
 abbrev pub view_step : Value-F Tree → Tree
 view_step (Value-F.Text t) = text t.items
-view_step (Value-F.Short t) = text t.items
 view_step (Value-F.Tuple v) = tuple (fields_of v.items)
 view_step (Value-F.Items v) = items (items_of v.items)
 view_step (Value-F.Named v) = named (fields_of v.items)

@@ -5,17 +5,10 @@ ghost use Rattle.mi_values.specs.Name.{is_name, is_name_byte, are_name_bytes};
 
 use std::marker::Model;
 
-// Where the bytes of a name lie.
-#[derive(Drop)]
-enum NameBytes {
-    Literal(&'static [u8]),
-    Owned(Vec<u8>),
-}
-
 /// The name of a field, or a line's class. Contracts see its bytes.
 #[derive(Drop)]
 pub struct Name {
-    bytes: NameBytes,
+    bytes: Vec<u8>,
 }
 
 impl Model for Name {
@@ -24,11 +17,9 @@ impl Model for Name {
 
     ghost Value = { List ℕ };
 
-    ghost use Rattle.mi_values.specs.NameInside.{bytes_of_name};
+    ghost view = { λ n. n.bytes.items };
 
-    ghost view = { λ n. bytes_of_name n.bytes };
-
-    ghost invariant = { λ n. is_name (bytes_of_name n.bytes) ≡ true };
+    ghost invariant = { λ n. is_name n.bytes.items ≡ true };
 }
 
 impl Name {
@@ -37,19 +28,7 @@ impl Name {
         requires { is_name bytes.items ≡ true }
         ensures { result ≡ bytes.items }
     {
-        Name {
-            bytes: NameBytes::Owned(bytes),
-        }
-    }
-
-    /// The name of a literal. It needs no memory beside itself.
-    pub fn of(literal: &'static [u8]) -> Name
-        requires { is_name literal.now ≡ true }
-        ensures { result ≡ literal.now }
-    {
-        Name {
-            bytes: NameBytes::Literal(literal),
-        }
+        Name { bytes }
     }
 
     /// Its bytes, one or more.
@@ -57,10 +36,7 @@ impl Name {
         ensures value { result.now ≡ self.now }
         ensures name { is_name self.now ≡ true }
     {
-        match &self.bytes {
-            NameBytes::Literal(literal) => literal,
-            NameBytes::Owned(bytes) => bytes.as_slice(),
-        }
+        self.bytes.as_slice()
     }
 }
 

@@ -24,10 +24,6 @@ fn is_proper(value: &Value, depth: u32) -> bool
             known_bytes(text);
             true
         }
-        Value::Short(text) => {
-            known_bytes(text.as_slice());
-            true
-        }
         Value::Tuple(fields) => are_proper_fields(fields, depth - 1),
         Value::Items(values) => are_proper_items(values, depth - 1),
         Value::Named(fields) => !fields.is_empty() && are_proper_fields(fields, depth - 1),

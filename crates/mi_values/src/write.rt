@@ -24,7 +24,6 @@ fn write_value(value: &Value, into: &mut Vec<u8>) -> Result<(), AllocError>
 {
     match value {
         Value::Text(text) => write_c_string(text, into),
-        Value::Short(text) => write_c_string(text.as_slice(), into),
         Value::Tuple(fields) => {
             write_byte(b'{', into)?;
             write_fields(fields, b'}', false, into)

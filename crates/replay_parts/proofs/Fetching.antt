@@ -1,25 +1,30 @@
 -- Instructions by their places in the text, and those that were executed one behind another.
-use Rattle.std.proofs.Common.{◌≡◌, ◌≤◌, ◌<◌, ◌+◌, ◌^◌, ℕ, zero, suc, Bool, true, false, cond, List, [], ◌∷◌, length, map, refl, sym, ap, ◌∙◌, subst, arith, not, nat_le}
+use Rattle.std.proofs.Common.{◌≡◌, ◌≤◌, ◌<◌, ◌+◌, ◌^◌, ℕ, zero, suc, Bool, true, false, cond, List, [], ◌∷◌, length, map, refl, sym, ap, ◌∙◌, arith, inl, inr, not, nat_le}
 use Rattle.std.specs.Prelude.{◌==◌, ◌&&◌, ◌||◌, min, max, Option, Some, None, IfSome, option_and_then, slice_get, slice_set}
 use Rattle.std.specs.FinSet as set
 use Rattle.std.specs.FinSet.{contains-empty}
+use Rattle.std.proofs.lemmas.Bool.{and_parts}
 use Rattle.std.proofs.lemmas.Bool.Decides.{nat_tests}
 use Rattle.rv_decode.specs.Decode.{decode}
 use Rattle.rv_decode.specs.declared.instr.Instr.{Instr}
 use Rattle.rv_exec.specs.Registers.{Registers}
 use Rattle.rv_exec.specs.Memory.{Memory}
-use Rattle.rv_exec.specs.Step.{Done, step}
+use Rattle.rv_exec.specs.declared.operation.Operation.{Operation}
+use Rattle.rv_exec.specs.Step.{Outcome, Done, Call, Trap, step}
 use Rattle.elf32_read.specs.Program.{Program, text_word}
 use Rattle.text_words.specs.Words.{Words, decoded_as, fetched, fetched_as, shown, unpatched}
 use Rattle.text_words.specs.declared.fetch.Fetch.{Fetch}
+use Rattle.text_words.specs.declared.fetch.Fetch.TheVariants.{Absent, Planted, Illegal, Instruction}
 use Rattle.text_words.proofs.Below.{word_below}
+use Rattle.straight_runs.specs.Runs as runs
+use Rattle.straight_runs.specs.Runs.{Ends, EndsAt, RanBy}
 use Rattle.plain_machine.specs.Environment.{Goes, Stays}
 use Rattle.plain_machine.specs.Plain.{on_instruction, on_word, plain}
 use Rattle.break_table.specs.Entry.{Entry as BreakEntry}
 use Rattle.break_table.specs.Table.{stands, stands_at}
 use Rattle.step_plans.specs.declared.plan.Plan.{Plan}
 use Rattle.dbg_model.specs.Judging.{instruction_at, is_kept}
-use Rattle.replay_parts.specs.Further.{AllGo, ThenGoes, goes_alone, instruction_of, is_alone}
+use Rattle.replay_parts.specs.Further.{AllGo, goes_alone, instruction_of, is_alone, is_done}
 
 -- ---- what is fetched
 
@@ -50,31 +55,28 @@ pub plain_goes : (p : Program) (r r' : Registers) (m m' : Memory) (i : Instr) �
 unfolding plain
 plain_goes p r r' m m' i at done = by_word r r' m m' i (text_word p r.pc) (sym at) done
 
--- one instruction after none
-pub goes_once : (p : Program) (es : List BreakEntry) (plan : Plan) (r r' : Registers) (m m' : Memory) (i : Instr) → is_kept plan r.pc ≡ true → stands r.pc es ≡ false → Some i ≡ instruction_at p r.pc → step i r m ≡ Done r' m'
-    → AllGo 1 p es plan r m r' m'
-goes_once p es plan r r' m m' i kept clear at done = record { regs = r; memory = m; before = (refl, refl); kept = kept; clear = clear; gives = plain_goes p r r' m m' i at done }
+abbrev pub freely : Plan → List BreakEntry → ℕ → Operation → Bool
+freely plan es pc op = is_kept plan pc && not (stands pc es)
 
--- one more
-pub goes_more : (n : ℕ) (p : Program) (es : List BreakEntry) (plan : Plan) (r q s : Registers) (m k l : Memory) → AllGo n p es plan r m q k → AllGo 1 p es plan q k s l → AllGo (n + 1) p es plan r m s l
-goes_more n p es plan r q s m k l all one =
-    let is : n + 1 ≡ suc n = omega arith in
-    let regs : q ≡ one.regs = sym one.before.0 in
-    let memory : k ≡ one.memory = sym one.before.1 in
-    let before : AllGo n p es plan r m one.regs one.memory = subst (λ (b : Registers). AllGo n p es plan r m b one.memory) regs (subst (λ (c : Memory). AllGo n p es plan r m q c) memory all) in
-    subst (λ j. AllGo j p es plan r m s l) (sym is) (record { regs = one.regs; memory = one.memory; before = before; kept = one.kept; clear = one.clear; gives = one.gives })
+not_true : (b : Bool) → not b ≡ true → b ≡ false
+not_true true e = sym e
+not_true false e = refl
 
--- where nothing has changed
-pub still_go : (n : ℕ) (p : Program) (es : List BreakEntry) (plan : Plan) (r q q' : Registers) (m k k' : Memory) → AllGo n p es plan r m q k → (q' ≡ q) × (k' ≡ k) → AllGo n p es plan r m q' k'
-still_go n p es plan r q q' m k k' all same =
-    subst (λ (b : Registers). AllGo n p es plan r m b k') (sym same.0) (subst (λ (c : Memory). AllGo n p es plan r m q c) (sym same.1) all)
-
-pub still_ends : (p : Program) (es : List BreakEntry) (plan : Plan) (q q' : Registers) (k k' : Memory) → goes_alone p es plan q k ≡ false → (q' ≡ q) × (k' ≡ k) → goes_alone p es plan q' k' ≡ false
-still_ends p es plan q q' k k' ends same = ap (λ b. goes_alone p es plan b k') same.0 ∙ (ap (goes_alone p es plan q) same.1 ∙ ends)
-
-pub none_go : (n : ℕ) (p : Program) (es : List BreakEntry) (plan : Plan) (r q : Registers) (m k : Memory) → n ≡ 0 → AllGo n p es plan r m q k → (q ≡ r) × (k ≡ m)
-none_go zero p es plan r q m k is all = all
-none_go (suc n) p es plan r q m k is all = absurd (omega (arith, is))
+-- instructions that were executed one behind another
+pub all_go : (n last : ℕ) (p : Program) (t : Words) (es : List BreakEntry) (plan : Plan) (r r' : Registers) (m m' : Memory) → t ≡ unpatched p → RanBy (freely plan es) n last t r m r' m' → AllGo n p es plan r m r' m'
+all_go zero last p t es plan r r' m m' same ran = ran
+all_go (suc n) last p t es plan r r' m m' same ran =
+    let q : Registers = ran.regs in
+    let parts = and_parts (is_kept plan last) (not (stands last es)) ran.allowed in
+    let at : Some ran.instruction ≡ instruction_at p last = found p t last (Instruction ran.instruction) (rw ran.pc at ran.below) same (sym ran.stands) in
+    record {
+      regs = q;
+      memory = ran.memory;
+      before = all_go n ran.earlier p t es plan r q m ran.memory same ran.before;
+      kept = ap (is_kept plan) ran.pc ∙ parts.0;
+      clear = ap (λ pc. stands pc es) ran.pc ∙ not_true (stands last es) parts.1;
+      gives = plain_goes p q r' ran.memory m' ran.instruction (at ∙ ap (instruction_at p) (sym ran.pc)) ran.done;
+    }
 
 -- ---- where it ends
 
@@ -95,3 +97,22 @@ ends_there p es plan r m i at is = by (is_kept plan r.pc) (not (stands r.pc es))
     by true true c h = h
     by true false c h = refl
     by false b c h = refl
+
+ends_by : (p : Program) (t : Words) (es : List BreakEntry) (plan : Plan) (r : Registers) (m : Memory) (f : Fetch) → f ≡ fetched t r.pc → r.pc < 2 ^ 32 → t ≡ unpatched p → EndsAt (freely plan es) f r m → goes_alone p es plan r m ≡ false
+ends_by p t es plan r m Absent e low same ends = ends_there p es plan r m None (found p t r.pc Absent low same e) refl
+ends_by p t es plan r m Planted e low same ends = ends_there p es plan r m None (found p t r.pc Planted low same e) refl
+ends_by p t es plan r m Illegal e low same ends = ends_there p es plan r m None (found p t r.pc Illegal low same e) refl
+ends_by p t es plan r m (Instruction i) e low same ends =
+    elim ends [
+      | inl refused ↦ ends_before p es plan r m refused
+      | inr stop ↦ ends_there p es plan r m (Some i) (found p t r.pc (Instruction i) low same e) (not_done (step i r m) stop)
+    ]
+  where
+    not_done : (o : Outcome) → runs.is_done o ≡ false → is_done o ≡ false
+    not_done (Done r m) e = e
+    not_done Call e = refl
+    not_done (Trap c) e = refl
+
+-- such a run ends where the hart doesn't go on by itself
+pub ends_so : (p : Program) (t : Words) (es : List BreakEntry) (plan : Plan) (r : Registers) (m : Memory) → r.pc < 2 ^ 32 → t ≡ unpatched p → Ends (freely plan es) t r m → goes_alone p es plan r m ≡ false
+ends_so p t es plan r m low same ends = ends_by p t es plan r m (fetched t r.pc) refl low same ends

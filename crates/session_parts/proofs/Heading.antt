@@ -39,8 +39,8 @@ use Rattle.session_parts.specs.Headline.{Headline, IsDone, IsBelow, Why, Prints,
 use Rattle.session_parts.specs.declared.status.Status.{Status}
 use Rattle.session_parts.specs.declared.status.Status.TheVariants as status
 use Rattle.session_parts.proofs.Tying.{told_same}
-use Rattle.session_parts.proofs.Firing.{tells_changes}
-use Rattle.session_parts.proofs.Lasting.{stops_first}
+use Rattle.journal_laws.proofs.Firing.{tells_changes}
+use Rattle.journal_laws.proofs.Lasting.{stops_first}
 
 front_lines : (ended : Bool) (bytes : List ℕ) (done : List (List ℕ)) (rest : List ℕ) → Gives ended bytes done rest → (more : List (List ℕ)) × (done ++ more ≡ lines bytes ended)
 front_lines true bytes done rest h = (lines rest true, sym h)

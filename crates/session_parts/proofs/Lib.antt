@@ -25,14 +25,8 @@ pub mod Firsts
 pub mod Several
 pub mod Going
 pub mod Passing
--- What a stop by a watch tells: its hart's last instruction changed the bytes, and it executed nothing since.
-pub mod Triggering
-pub mod Firing
-pub mod Holding
-pub mod Lasting
--- A generated run: its records, what its journal counts up to, and what its script keeps.
+-- A generated run: its records, and what its script keeps.
 pub mod Showing
-pub mod Summing
 pub mod Playing
 -- Jobs: the hart that is picked, and the marks of those whose job is out.
 pub mod Picked
@@ -47,7 +41,5 @@ pub mod Sending
 -- The end: what is left of an engine, the headline, the log behind a session's lines, and the summary of a generated run.
 pub mod Leaving
 pub mod Heading
-mod Filling
-mod Asked
 pub mod Logs
 pub mod Finishing

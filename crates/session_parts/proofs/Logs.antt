@@ -29,7 +29,7 @@ use Rattle.session_parts.specs.Stage.{Stage}
 use Rattle.session_parts.specs.declared.file.Source.TheVariants.{File}
 use Rattle.session_parts.specs.declared.status.Status.{Status}
 use Rattle.session_parts.specs.declared.status.Status.TheVariants as status
-use Rattle.session_parts.proofs.Asked.{entries_stand}
+use Rattle.journal_laws.proofs.Asked.{entries_stand}
 use Rattle.session_parts.proofs.Heading.{heading_file, named, whys, with_put}
 use Rattle.session_parts.proofs.Putting.{more_more}
 

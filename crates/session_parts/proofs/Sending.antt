@@ -6,6 +6,7 @@ use denote.Param.Send.{IsSend, sendable}
 use denote.Hole.FixSend.{Sends, fix_send}
 use denote.Hole.{as_row}
 use denote.Param.SendFields.{variants_send}
+use denote.Struct.Field.{u32-field}
 use Rattle.std.proofs.Crossing.{Box-send, crosses}
 use Rattle.cond_expr.specs.contracts.token.Leaf as leaf
 use Rattle.cond_expr.specs.contracts.token.Prefix as prefix
@@ -15,6 +16,11 @@ use Rattle.cond_expr.specs.declared.tree.Node.TheBlock as block
 use Rattle.cond_expr.specs.contracts.tree.Node.TheKnot as knot
 use Rattle.cond_expr.specs.contracts.tree.Node as node
 use Rattle.rv_decode.specs.contracts.instr.Instr as instr
+use Rattle.rv_decode.specs.contracts.instr.Reg as reg
+use Rattle.rv_decode.specs.contracts.instr.LoadOp as loadop
+use Rattle.rv_decode.specs.contracts.instr.AmoOp as amoop
+use Rattle.rv_exec.specs.contracts.target.Target as target
+use Rattle.rv_exec.specs.contracts.operation.Operation as operation
 use Rattle.text_words.specs.contracts.fetch.Fetch as fetch
 use Rattle.text_words.specs.contracts.text.TextWords as textwords
 use Rattle.step_plans.specs.contracts.plan.Plan as plan
@@ -59,8 +65,169 @@ instr_send = search (sendable, crosses) depth 100 fits 100000
 fetch_send : IsSend fetch.the_field.row
 fetch_send = search (sendable, crosses, instr_send) depth 100 fits 100000
 
+-- variant by variant, as a search over all of them takes too many steps
+operation_send : IsSend (as_row operation.the_field)
+operation_send =
+    let t : IsSend (as_row target.the_field) = search (sendable, crosses) depth 60 fits 20000 in
+    let r : IsSend (as_row reg.the_field) = search (sendable, crosses) depth 60 fits 20000 in
+    let u : IsSend (as_row u32-field) = search (sendable, crosses) depth 60 fits 20000 in
+    let l : IsSend (as_row loadop.the_field) = search (sendable, crosses) depth 60 fits 20000 in
+    let a : IsSend (as_row amoop.the_field) = search (sendable, crosses) depth 60 fits 20000 in
+    variants_send operation.enum ((
+      tt,
+      (
+        (t, (u, tt)),
+        (
+          (t, (u, tt)),
+          (
+            (u, tt),
+            (
+              (t, (u, tt)),
+              (
+                (r, (u, tt)),
+                (
+                  (t, (r, (u, tt))),
+                  (
+                    (r, (r, (u, tt))),
+                    (
+                      (r, (r, (u, tt))),
+                      (
+                        (r, (r, (u, tt))),
+                        (
+                          (r, (r, (u, tt))),
+                          (
+                            (r, (r, (u, tt))),
+                            (
+                              (r, (r, (u, tt))),
+                              (
+                                (t, (r, (u, tt))),
+                                (
+                                  (t, (r, (u, tt))),
+                                  (
+                                    (t, (r, (u, tt))),
+                                    (
+                                      (t, (r, (u, tt))),
+                                      (
+                                        (t, (r, (u, tt))),
+                                        (
+                                          (l, (r, (u, tt))),
+                                          (
+                                            (r, (r, (u, tt))),
+                                            (
+                                              (r, (r, (u, tt))),
+                                              (
+                                                (r, (r, (u, tt))),
+                                                (
+                                                  (t, (r, (u, tt))),
+                                                  (
+                                                    (t, (r, (u, tt))),
+                                                    (
+                                                      (t, (r, (u, tt))),
+                                                      (
+                                                        (t, (r, (u, tt))),
+                                                        (
+                                                          (t, (r, (u, tt))),
+                                                          (
+                                                            (t, (r, (u, tt))),
+                                                            (
+                                                              (t, (r, (u, tt))),
+                                                              (
+                                                                (t, (r, (u, tt))),
+                                                                (
+                                                                  (t, (r, (u, tt))),
+                                                                  (
+                                                                    (t, (r, (u, tt))),
+                                                                    (
+                                                                      (t, (r, (r, tt))),
+                                                                      (
+                                                                        (t, (r, (r, tt))),
+                                                                        (
+                                                                          (t, (r, (r, tt))),
+                                                                          (
+                                                                            (t, (r, (r, tt))),
+                                                                            (
+                                                                              (t, (r, (r, tt))),
+                                                                              (
+                                                                                (t, (r, (r, tt))),
+                                                                                (
+                                                                                  (t, (r, (r, tt))),
+                                                                                  (
+                                                                                    (t, (r, (r, tt))),
+                                                                                    (
+                                                                                      (t, (r, (r, tt))),
+                                                                                      (
+                                                                                        (t, (r, (r, tt))),
+                                                                                        (
+                                                                                          (t, (r, (r, tt))),
+                                                                                          (
+                                                                                            (t, (r, (r, tt))),
+                                                                                            (
+                                                                                              (t, (r, (r, tt))),
+                                                                                              (
+                                                                                                (t, (r, (r, tt))),
+                                                                                                (
+                                                                                                  (t, (r, (r, tt))),
+                                                                                                  (
+                                                                                                    (t, (r, (r, tt))),
+                                                                                                    (
+                                                                                                      (t, (r, (r, tt))),
+                                                                                                      (
+                                                                                                        (t, (r, (r, tt))),
+                                                                                                        ((a, (r, (r, (r, tt)))), (tt, (tt, tt))),
+                                                                                                      ),
+                                                                                                    ),
+                                                                                                  ),
+                                                                                                ),
+                                                                                              ),
+                                                                                            ),
+                                                                                          ),
+                                                                                        ),
+                                                                                      ),
+                                                                                    ),
+                                                                                  ),
+                                                                                ),
+                                                                              ),
+                                                                            ),
+                                                                          ),
+                                                                        ),
+                                                                      ),
+                                                                    ),
+                                                                  ),
+                                                                ),
+                                                              ),
+                                                            ),
+                                                          ),
+                                                        ),
+                                                      ),
+                                                    ),
+                                                  ),
+                                                ),
+                                              ),
+                                            ),
+                                          ),
+                                        ),
+                                      ),
+                                    ),
+                                  ),
+                                ),
+                              ),
+                            ),
+                          ),
+                        ),
+                      ),
+                    ),
+                  ),
+                ),
+              ),
+            ),
+          ),
+        ),
+      ),
+    )
+    )
+
 textwords_send : IsSend textwords.the_field.row
-textwords_send = search (sendable, crosses, fetch_send) depth 100 fits 100000
+textwords_send = search (sendable, crosses, fetch_send, operation_send) depth 100 fits 100000
 
 plan_send : IsSend plan.the_field.row
 plan_send = search (sendable, crosses) depth 100 fits 100000

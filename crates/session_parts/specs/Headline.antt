@@ -27,7 +27,7 @@ use Rattle.session_parts.specs.Left.{core_registers, plain_registers}
 use Rattle.session_parts.specs.Over.{sums_up}
 use Rattle.session_parts.specs.Early.{Early}
 use Rattle.session_parts.specs.InTime.{ToldInTime}
-use Rattle.session_parts.specs.Triggered.{TellsChanges, StopsFirst}
+use Rattle.journal_laws.specs.Triggered.{TellsChanges, StopsFirst}
 use Rattle.session_parts.specs.Ties.{Opened, IsCut, IsUnpolled, Clean}
 use Rattle.session_parts.specs.declared.status.Status.{Status}
 use Rattle.session_parts.specs.declared.status.Status.TheVariants as status

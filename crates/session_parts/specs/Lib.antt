@@ -9,7 +9,6 @@ pub mod InTime
 pub mod Steps
 pub mod Ties
 pub mod Seen
-pub mod Triggered
 pub mod Early
 pub mod Summary
 pub mod Logged

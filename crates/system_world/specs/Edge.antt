@@ -1,5 +1,6 @@
 -- What is decided at the edge of the system; all of it is this project's own.
-use Rattle.std.specs.Prelude.{ℕ, zero, suc, Bool, true, false, Result, Ok, Err}
+use Rattle.std.specs.Prelude.{◌<◌, ℕ, zero, suc, List, length, take, Option, None, Some, Result, Ok, Err}
+use Rattle.std.specs.Io.KnownBytes.{Appends, Consumes, IsAtEnd, Keeps}
 use Rattle.std.specs.declared.io.ErrorKind.{ErrorKind}
 use Rattle.std.specs.declared.io.ErrorKind.TheVariants as kind
 use Rattle.dbg_traits.specs.declared.world.FileRead.{FileRead}
@@ -13,16 +14,12 @@ use Rattle.system_world.specs.declared.feed.Source.TheVariants as source
 use Rattle.system_world.specs.declared.reader.Came.{Came}
 use Rattle.system_world.specs.declared.reader.Came.TheVariants as came
 
--- the call is made again: a signal interrupted it, or the descriptor isn't ready and doesn't wait
-abbrev pub is_passing : ErrorKind → Bool
-is_passing kind.Interrupted = true
-is_passing kind.WouldBlock = true
-is_passing _ = false
-
--- it rests before that
-abbrev pub rests : ErrorKind → Bool
-rests kind.WouldBlock = true
-rests _ = false
+-- The call is made again where a signal interrupted it, or the descriptor isn't ready and doesn't wait; then it rests for so many
+-- milliseconds before.
+abbrev pub rest_of : ErrorKind → Option ℕ
+rest_of kind.Interrupted = Some 0
+rest_of kind.WouldBlock = Some 1
+rest_of _ = None
 
 -- a read of the file, by what the system answered
 abbrev pub file_read : {E : Type 0} → Result ℕ E → FileRead
@@ -54,3 +51,14 @@ poll_of (suc n) s = poll.Took (suc n)
 poll_of zero source.Open = poll.NotYet
 poll_of zero source.Ended = poll.End
 poll_of zero source.Failed = poll.Failed
+
+-- A write appended what it took of the piece to the bytes that the writer holds, where those are known; and nothing where it failed.
+abbrev pub PutAppends : Option (List ℕ) → Option (List ℕ) → Put → List ℕ → Type 0
+PutAppends old new (put.Took n) piece = Appends old new (take n piece)
+PutAppends old new put.Failed piece = Keeps old new
+
+-- A read of the file gave its next bytes, where those are known; none at the end, and nothing where it failed.
+abbrev pub ReadsNext : Option (List ℕ) → Option (List ℕ) → FileRead → List ℕ → Type 0
+ReadsNext old new (file.Took n) into = Consumes old new (take n into)
+ReadsNext old new file.End into = Keeps old new × (0 < length into → IsAtEnd new)
+ReadsNext old new file.Failed into = Keeps old new

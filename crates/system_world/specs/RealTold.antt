@@ -6,6 +6,10 @@ use Rattle.dbg_traits.specs.Names.{name_at}
 use Rattle.dbg_traits.specs.declared.names.NamePlace.{NamePlace}
 use Rattle.dbg_traits.specs.declared.world.Polled.{Polled}
 use Rattle.dbg_traits.specs.declared.world.Polled.TheVariants as poll
+use Rattle.dbg_traits.specs.declared.world.FileRead.{FileRead}
+use Rattle.dbg_traits.specs.declared.world.FileRead.TheVariants as file
+use Rattle.dbg_traits.specs.declared.world.Put.{Put}
+use Rattle.dbg_traits.specs.declared.world.Put.TheVariants as put
 
 abbrev pub real_told : List (List ℕ) → Option NamePlace → ℕ → ℕ → ℕ → ℕ → ℕ → ℕ → Bool → Bool → Told
 real_told words name file_length input_length polls file_faults poll_faults put_faults file_ended poll_ended = record {
@@ -29,3 +33,12 @@ real_told words name file_length input_length polls file_faults poll_faults put_
 abbrev pub PollsWithin : ℕ → Polled → Type 0
 PollsWithin most (poll.Took n) = (0 < n) × (n ≤ most)
 PollsWithin most _ = Unit {0}
+
+-- some bytes were put, and no more than the piece has
+abbrev pub PutsWithin : ℕ → Put → Type 0
+PutsWithin most (put.Took n) = (0 < n) × (n ≤ most)
+PutsWithin most put.Failed = Unit {0}
+
+abbrev pub ReadsWithin : ℕ → FileRead → Type 0
+ReadsWithin most (file.Took n) = (0 < n) × (n ≤ most)
+ReadsWithin most _ = Unit {0}

@@ -1,5 +1,5 @@
 // The queue between the reader thread and `poll`.
-ghost use Rattle.std.specs.Prelude.{◌≡◌, ◌≤◌, ◌<◌, ◌↔◌, ◌+◌, ◌++◌, IsTrue, length, min, take, []};
+ghost use Rattle.std.specs.Prelude.{◌≡◌, ◌≤◌, ◌<◌, ◌↔◌, ◌+◌, ◌++◌, IfOk, IsTrue, length, min, nat_le, take, [], true, false};
 ghost use Rattle.std.specs.Vec.{vec_len, vec_capacity};
 ghost use Rattle.system_world.specs.Edge.{poll_of};
 
@@ -50,18 +50,22 @@ pub struct Feed {
     bytes: Vec<u8>,
     // How many of them were polled.
     polled: usize,
-    pub source: Source,
-    /// Whether input was asked for. Nothing is read before, since the file may be standard input under another name.
-    pub asked: bool,
+    source: Source,
+    // Whether input was asked for. Nothing is read before, since the file may be standard input under another name.
+    asked: bool,
     ghost within: { polled ≤ vec_len bytes },
     ghost reserved: { 65536 ≤ vec_capacity bytes },
 }
 
 impl Feed {
-    ghost use Rattle.system_world.specs.Waiting.{waiting};
+    ghost use Rattle.system_world.specs.Waiting.{Answers, waiting};
 
-    /// An empty queue of an input that has not ended.
-    pub fn open(alloc: Global) -> Result<Feed, AllocError> {
+    /// An empty queue of an input that has not ended, and for which nobody asked.
+    pub fn open(alloc: Global) -> Result<Feed, AllocError>
+        ensures waiting { IfOk result (λ feed. waiting feed ≡ []) }
+        ensures source { IfOk result (λ feed. feed.source ≡ Source.Open) }
+        ensures asked { IfOk result (λ feed. feed.asked ≡ false) }
+    {
         Ok(Feed {
             bytes: Vec::with_capacity(alloc, ROOM)?,
             polled: 0,
@@ -70,11 +74,42 @@ impl Feed {
         })
     }
 
-    pub fn is_full(&self) -> bool {
+    /// Whether it has no room.
+    pub fn is_full(&self) -> bool
+        ensures { result ≡ nat_le 65536 (length (waiting self.now)) }
+    {
         self.bytes.len() - self.polled >= ROOM
     }
 
-    pub fn is_empty(&self) -> bool
+    /// Whether input was asked for.
+    pub fn is_asked(&self) -> bool
+        ensures { result ≡ self.now.asked }
+    {
+        self.asked
+    }
+
+    /// Whether nothing waits, and more may come.
+    pub fn may_grow(&self) -> bool
+        ensures { IsTrue result ↔ ((waiting self.now ≡ []) × (self.now.source ≡ Source.Open)) }
+    {
+        self.is_empty() && self.source == Source::Open
+    }
+
+    /// Input is asked for.
+    pub fn ask(&mut self)
+        ensures { self.new ≡ record self.old { asked = true } }
+    {
+        self.asked = true;
+    }
+
+    /// The input came so far, and no more of it comes.
+    pub fn end(&mut self, source: Source)
+        ensures { self.new ≡ record self.old { source = source } }
+    {
+        self.source = source;
+    }
+
+    fn is_empty(&self) -> bool
         ensures { IsTrue result ↔ (waiting self.now ≡ []) }
     {
         self.bytes[self.polled..].is_empty()
@@ -101,8 +136,8 @@ impl Feed {
         n
     }
 
-    /// Moves the oldest bytes into the slice, and says how many.
-    pub fn take(&mut self, into: &mut [u8]) -> usize
+    // Moves the oldest bytes into the slice, and says how many.
+    fn take(&mut self, into: &mut [u8]) -> usize
         requires { 0 < length into.old }
         ensures within { result ≤ length into.new }
         ensures source { self.new.source ≡ self.old.source }
@@ -116,5 +151,14 @@ impl Feed {
             self.polled = 0;
         }
         n
+    }
+
+    /// Answers a poll, with the oldest bytes where there are any.
+    pub fn answer(&mut self, into: &mut [u8]) -> Polled
+        requires { 0 < length into.old }
+        ensures { Answers result into.new self.old self.new }
+    {
+        let taken = self.take(into);
+        self.source.poll_of(taken)
     }
 }

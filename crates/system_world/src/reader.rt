@@ -36,16 +36,36 @@ impl Shared {
         Ok((mine, theirs))
     }
 
-    fn end<R: Wait>(&self, rt: &R, source: Source) {
-        self.feed.lock(rt).source = source;
+    // Lets go of the queue, which has changed, and wakes whoever waits for a change of it.
+    fn let_go(&self, feed: MutexGuard<'_, Feed>) {
+        drop(feed);
         self.came.notify_all();
+        self.left.notify_all();
+    }
+
+    // No more input comes.
+    fn end<R: Wait>(&self, rt: &R, source: Source) {
+        let mut feed = self.feed.lock(rt);
+        feed.end(source);
+        self.let_go(feed);
+    }
+
+    // The queue, of which the reader knows now that input is asked for.
+    fn ask<R: Wait>(&self, rt: &R) -> MutexGuard<'_, Feed> {
+        let mut feed = self.feed.lock(rt);
+        if !feed.is_asked() {
+            feed.ask();
+            self.let_go(feed);
+            feed = self.feed.lock(rt);
+        }
+        feed
     }
 
     // Waits until input is asked for.
     fn await_poll<R: Wait>(&self, rt: &R) {
         let _feed = self
             .left
-            .wait_while(rt, self.feed.lock(rt), |feed| !feed.asked);
+            .wait_while(rt, self.feed.lock(rt), |feed| !feed.is_asked());
     }
 
     // Gives all bytes, and waits for room as often as need be. It says how many the queue took.
@@ -61,7 +81,7 @@ impl Shared {
                 .left
                 .wait_while(rt, self.feed.lock(rt), |feed| feed.is_full());
             at += feed.give(&bytes[at..]);
-            self.came.notify_all();
+            self.let_go(feed);
         }
         unreachable!()
     }
@@ -74,25 +94,13 @@ impl Shared {
     {
         let mut feed = self.ask(rt);
         if wait {
-            feed = self.came.wait_while(rt, feed, |feed| {
-                feed.is_empty() && feed.source == Source::Open
-            });
+            feed = self.came.wait_while(rt, feed, |feed| feed.may_grow());
         }
-        let taken = feed.take(into);
-        if taken > 0 {
-            self.left.notify_all();
+        let polled = feed.answer(into);
+        if matches!(polled, Polled::Took(_)) {
+            self.let_go(feed);
         }
-        feed.source.poll_of(taken)
-    }
-
-    // The queue, of which the reader knows now that input is asked for.
-    fn ask<R: Wait>(&self, rt: &R) -> MutexGuard<'_, Feed> {
-        let mut feed = self.feed.lock(rt);
-        if !feed.asked {
-            feed.asked = true;
-            self.left.notify_all();
-        }
-        feed
+        polled
     }
 }
 

@@ -1,13 +1,14 @@
 // The real world: a file, standard input and standard output. It is the trusted edge, and tells no bytes.
-ghost use Rattle.std.specs.Prelude.{◌≡◌, ◌<◌, ◌≤◌, length, true};
-ghost use Rattle.system_world.specs.Edge.{file_read, polled, written};
-ghost use Rattle.system_world.specs.RealTold.{real_told, PollsWithin};
+ghost use Rattle.std.specs.Prelude.{◌≡◌, ◌<◌, ◌≤◌, is_some, length, true};
+ghost use Rattle.system_world.specs.Edge.{PutAppends, ReadsNext, file_read, polled, written};
+ghost use Rattle.system_world.specs.RealTold.{real_told, PollsWithin, PutsWithin, ReadsWithin};
 ghost use Rattle.dbg_traits.specs.declared.world.Polled.TheVariants.{NotYet};
 
 use crate::again;
 use crate::reader::Shared;
 use dbg_traits::{ArgText, FileRead, NamePlace, Polled, Put, World, place_of};
 use std::alloc::Global;
+use std::io::{Read, Write};
 use std::rt::{Clock, Files};
 use std::sync::{Arc, Wait};
 use std::{fs, io};
@@ -40,6 +41,22 @@ fn written(put: io::Result<usize>) -> Put
         Ok(n) if n > 0 => Put::Took(n),
         _ => Put::Failed,
     }
+}
+
+// Reads the next bytes of a file.
+fn read_next<R: Wait + Clock, S: Read>(rt: &R, file: &mut S, into: &mut [u8]) -> FileRead
+    ensures within { ReadsWithin (length into.new) result }
+    ensures bytes { ReadsNext (S.remaining file.old) (S.remaining file.new) result into.new }
+{
+    file_read(again::read(rt, file, into))
+}
+
+// Writes the first bytes of a piece, as many as are taken.
+fn put_to<R: Wait + Clock, S: Write>(rt: &R, sink: &mut S, piece: &[u8]) -> Put
+    ensures within { PutsWithin (length piece.now) result }
+    ensures bytes { PutAppends (S.contents sink.old) (S.contents sink.new) result piece.now }
+{
+    written(again::write(rt, sink, piece))
 }
 
 /// A world of the operating system.
@@ -84,6 +101,16 @@ impl<R: Files + Input + Print + Clock + Wait> RealWorld<R> {
         }
     }
 
+    // Opens the file, if that wasn't done already.
+    fn open_once(&mut self, name: &ArgText)
+        ensures once { is_some self.old.file ≡ true → self.new ≡ self.old }
+        ensures rest { self.new ≡ record self.old { file = self.new.file } }
+    {
+        if self.file.is_none() {
+            self.file = fs::open(&self.rt, name.as_str()).ok();
+        }
+    }
+
     // The next bytes of the input: of the queue, or else of standard input itself, which waits.
     fn next_bytes(&self, wait: bool, into: &mut [u8]) -> Polled
         requires { 0 < length into.old }
@@ -106,18 +133,10 @@ impl<R: Files + Input + Print + Clock + Wait> World for RealWorld<R> {
 
     fn read_file(&mut self, name: &ArgText, into: &mut [u8]) -> FileRead {
         self.name = Some(place_of(self.words.as_slice(), name));
-        if self.file.is_none() {
-            match fs::open(&self.rt, name.as_str()) {
-                Ok(file) => self.file = Some(file),
-                Err(_) => {
-                    self.file_faults = self.file_faults.saturating_add(1);
-                    return FileRead::Failed;
-                }
-            }
-        }
+        self.open_once(name);
         let read = match &mut self.file {
-            Some(file) => file_read(again::read(&self.rt, file, into)),
-            None => FileRead::End,
+            Some(file) => read_next(&self.rt, file, into),
+            None => FileRead::Failed,
         };
         match read {
             FileRead::Took(n) => self.file_length = self.file_length.saturating_add(n as u64),
@@ -140,7 +159,7 @@ impl<R: Files + Input + Print + Clock + Wait> World for RealWorld<R> {
     }
 
     fn put(&mut self, piece: &[u8]) -> Put {
-        let put = written(again::write(&self.rt, piece));
+        let put = put_to(&self.rt, &mut io::writer(&self.rt), piece);
         match put {
             Put::Took(_) => {}
             Put::Failed => self.put_faults = self.put_faults.saturating_add(1),

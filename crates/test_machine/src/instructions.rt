@@ -5,7 +5,7 @@ use crate::programs::{DATA, HOME, SLOT, image_of};
 use data_memory::DataMemory;
 use displaced_fix::fix;
 use rv_decode::{Instr, decode};
-use rv_exec::{Cause, DataPort, Effect, NoBytes, Regs, execute};
+use rv_exec::{Cause, DataPort, Effect, Flow, NoBytes, Operation, Regs, advance, execute};
 use std::alloc::Global;
 use test_rows::Piece::{Hex, Number, Text};
 use test_rows::{RowFault, said, shown, told};
@@ -38,6 +38,33 @@ fn run_at(instruction: Instr, at: u32, x5: u32, x6: u32) -> (Effect, Regs) {
     (effect, regs)
 }
 
+// What the operation of an instruction does.
+fn advanced<P: DataPort>(instruction: Instr, regs: &mut Regs, port: &mut P) -> Effect {
+    let operation = Operation::of(instruction);
+    let pc = regs.pc();
+    match advance(&operation, pc, regs, port) {
+        Flow::Next => {
+            regs.set_pc(pc.wrapping_add(4));
+            Effect::Done
+        }
+        Flow::Jump(target) => {
+            regs.set_pc(target);
+            Effect::Done
+        }
+        Flow::Call => Effect::Call,
+        Flow::Trap(cause) => Effect::Trap(cause),
+    }
+}
+
+// The same as `run_at` by the operation.
+fn advance_at(instruction: Instr, at: u32, x5: u32, x6: u32) -> (Effect, Regs) {
+    let mut regs = Regs::new(at);
+    regs.set(5, x5);
+    regs.set(6, x6);
+    let effect = advanced(instruction, &mut regs, &mut NoBytes);
+    (effect, regs)
+}
+
 fn told_effect(alloc: Global, effect: Effect, regs: &Regs) -> Result<String, RowFault> {
     let effect = shown(alloc, &effect)?;
     told(
@@ -61,8 +88,12 @@ pub fn executed(alloc: Global, word: u32, x5: u32, x6: u32) -> Result<String, Ro
     let Some(instruction) = decode(word) else {
         return said(alloc, "no instruction");
     };
-    let (at_home, copied) = (instruction, instruction);
+    let (at_home, copied, by_operation) = (instruction, instruction, instruction);
     let (effect, regs) = run_at(at_home, HOME, x5, x6);
+    let (advanced, others) = advance_at(by_operation, HOME, x5, x6);
+    if advanced != effect || others != regs {
+        return said(alloc, "the operation does something else");
+    }
     let (there, mut copy) = run_at(copied, SLOT, x5, x6);
     fix(instruction, SLOT, HOME, &mut copy, there == Effect::Done);
     if there != effect || copy != regs {
@@ -79,17 +110,34 @@ fn memory_of(alloc: Global, stored: u32) -> Option<DataMemory> {
     Some(memory)
 }
 
-// What an instruction does over a memory, where x5 and x2 are these.
-fn told_access(
-    alloc: Global,
-    instruction: Instr,
-    [x5, x2]: [u32; 2],
-    memory: &mut DataMemory,
-) -> Result<String, RowFault> {
+// The registers of an access, where x5 and x2 are these.
+fn regs_of([x5, x2]: [u32; 2]) -> Regs {
     let mut regs = Regs::new(HOME);
     regs.set(2, x2);
     regs.set(5, x5);
+    regs
+}
+
+// What an instruction does to these registers and a memory.
+fn execute_in(instruction: Instr, given: [u32; 2], memory: &mut DataMemory) -> (Effect, Regs) {
+    let mut regs = regs_of(given);
     let effect = execute(instruction, &mut regs, memory);
+    (effect, regs)
+}
+
+// The same by the operation.
+fn advance_in(instruction: Instr, given: [u32; 2], memory: &mut DataMemory) -> (Effect, Regs) {
+    let mut regs = regs_of(given);
+    let effect = advanced(instruction, &mut regs, memory);
+    (effect, regs)
+}
+
+fn told_access(
+    alloc: Global,
+    effect: Effect,
+    regs: &Regs,
+    memory: &DataMemory,
+) -> Result<String, RowFault> {
     let x1 = regs.get(1);
     let after = told_value(alloc, memory.load(DATA, 4))?;
     let effect = shown(alloc, &effect)?;
@@ -115,10 +163,19 @@ pub fn accessed(
     let Some(instruction) = decode(word) else {
         return said(alloc, "no instruction");
     };
-    match memory_of(alloc, stored) {
-        Some(mut memory) => told_access(alloc, instruction, given, &mut memory),
-        None => said(alloc, "no memory"),
+    let Some(mut memory) = memory_of(alloc, stored) else {
+        return said(alloc, "no memory");
+    };
+    let Some(mut other) = memory_of(alloc, stored) else {
+        return said(alloc, "no memory");
+    };
+    let (by_operation, again) = (instruction, given);
+    let (effect, regs) = execute_in(instruction, given, &mut memory);
+    let (advanced, others) = advance_in(by_operation, again, &mut other);
+    if advanced != effect || others != regs || other.load(DATA, 4) != memory.load(DATA, 4) {
+        return said(alloc, "the operation does something else");
     }
+    told_access(alloc, effect, &regs, &memory)
 }
 
 fn cause_of(name: &str) -> Option<Cause> {

@@ -1,7 +1,7 @@
 // The words of a program by themselves.
 use crate::instructions::told_instruction;
 use std::alloc::Global;
-use test_rows::Piece::{Maybe, Text, Whether};
+use test_rows::Piece::{Count, Hex, Maybe, Text, Whether};
 use test_rows::{RowFault, number_at, said, told, word_at};
 use text_words::{Fetch, TextWords};
 
@@ -30,11 +30,16 @@ fn word(alloc: Global, text: &TextWords, addr: u32) -> Result<String, RowFault> 
     )
 }
 
-fn front(alloc: Global, text: &TextWords, addr: u32) -> Result<String, RowFault> {
-    match text.front().instruction(addr) {
-        Some(instruction) => told_instruction(alloc, instruction),
-        None => said(alloc, "none"),
-    }
+fn region(alloc: Global, text: &TextWords, addr: u32) -> Result<String, RowFault> {
+    let region = text.region_at(addr);
+    told(
+        alloc,
+        &[
+            Hex(region.address),
+            Text(" "),
+            Count(region.operations.len() as u64),
+        ],
+    )
 }
 
 fn plant(alloc: Global, text: &mut TextWords, addr: u32) -> Result<String, RowFault> {
@@ -54,12 +59,13 @@ fn lift(alloc: Global, text: &mut TextWords, addr: u32) -> Result<String, RowFau
 }
 
 /// What came of a step: `word ADDRESS`, the stored word and the program's, whether a breakpoint is planted there, and what a hart
-/// fetches; `front ADDRESS`, the instruction there, where it is found in the first section; `plant ADDRESS`; or `lift ADDRESS`.
+/// fetches; `region ADDRESS`, where the words around it begin, from gap to gap, and how many they are; `plant ADDRESS`; or
+/// `lift ADDRESS`.
 pub fn answer(alloc: Global, text: &mut TextWords, step: &str) -> Result<String, RowFault> {
     let addr = number_at(step, 1);
     match word_at(step, 0) {
         "word" => word(alloc, text, addr),
-        "front" => front(alloc, text, addr),
+        "region" => region(alloc, text, addr),
         "plant" => plant(alloc, text, addr),
         "lift" => lift(alloc, text, addr),
         _ => Err(RowFault::Unknown),

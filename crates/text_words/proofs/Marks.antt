@@ -7,17 +7,16 @@ use Rattle.std.specs.FinSet as set
 use Rattle.std.proofs.lemmas.Bool.Decides.{nat_tests}
 use Rattle.rv_decode.specs.declared.instr.Instr.{Instr}
 use Rattle.rv_decode.specs.Decode.{decode}
-use Rattle.elf32_read.specs.Fields.{spans}
 use Rattle.elf32_read.specs.Program.{Program, text_word}
-use Rattle.text_words.specs.declared.layout.Section.{Section}
+use Rattle.text_words.specs.declared.region.Region.{Region}
 use Rattle.text_words.specs.declared.text.TextWords.TheInside.{Inside}
 use Rattle.text_words.specs.declared.fetch.Fetch.{Fetch}
 use Rattle.text_words.specs.declared.fetch.Fetch.TheVariants.{Absent}
 use Rattle.text_words.specs.Tables.{words_below, set_below}
 use Rattle.text_words.specs.Words.{Words, shown, is_planted, fetched, fetched_as, decoded_as, stored_as, unpatched}
-use Rattle.text_words.specs.Layout.{Laid, IsLaid, AreEntries, AreKept, place, index, word_at, entry_at, mark_at, is_mark, seen, sections_from, all_words}
+use Rattle.text_words.specs.Layout.{Laid, IsLaid, AreEntries, AreKept, place, index, word_at, entry_at, mark_at, is_mark, seen}
 use Rattle.text_words.proofs.Below.{word_below, in_below, inserted, removed, same_words, none_in}
-use Rattle.text_words.proofs.Places.{place_range, one_place, begun_word, found_place}
+use Rattle.text_words.proofs.Places.{place_range, one_place}
 
 some_mapped : (o : Option ℕ) (words : List ℕ) → IsSome (option_map (slice_index words) o) → is_some o ≡ true
 some_mapped None words s = s
@@ -33,38 +32,20 @@ zero_test a e = grind (arith, nat_tests)
 yes_zero : (a : ℕ) → a ≡ 0 → (a == 0) ≡ true
 yes_zero a e = grind (arith, nat_tests)
 
-same_some : (a b : Section) → Some a ≡ Some b → a ≡ b
-same_some a b e = cc
-
-spanning : (start count addr : ℕ) → start ≤ addr → (addr - start) / 4 < count → spans start (4 * count) addr ≡ true
-spanning start count addr low within = grind (arith, nat_tests)
-
--- the first section's words come first
-pub first_index : (ss : List Section) (s : Section) (addr : ℕ) → slice_get ss 0 ≡ Some s → addr % 4 ≡ 0 → s.address ≤ addr → (addr - s.address) / 4 < s.count
-    → index ss addr ≡ Some (s.first + (addr - s.address) / 4)
+pub index_range : (rs : List Region) (end addr i : ℕ) → Laid 0 rs end → index rs addr ≡ Some i → i < end
 unfolding index
-first_index [] s addr e a low within = absurd (cc)
-first_index (t ∷ ss) s addr e a low within =
-    let same : t ≡ s = same_some t s e in
-    let yes : spans s.address (4 * s.count) addr ≡ true = spanning s.address s.count addr low within in
-    ap (λ b. cond b (place (t ∷ ss) addr) None) (yes_zero (addr % 4) a)
-    ∙ ap (λ (u : Section). place (u ∷ ss) addr) same
-    ∙ found_place s ss addr yes
+index_range rs end addr i h e = (place_range rs 0 end addr i h (some_of_test (addr % 4 == 0) (place rs addr) i e).1).1
 
-pub index_range : (ss : List Section) (end addr i : ℕ) → Laid 0 ss end → index ss addr ≡ Some i → i < end
+pub range_of : (rs : List Region) (end addr : ℕ) (o : Option ℕ) → Laid 0 rs end → o ≡ index rs addr → IfSome o (λ i. i < end)
+range_of rs end addr None h e = tt
+range_of rs end addr (Some i) h e = index_range rs end addr i h (sym e)
+
+pub one_index : (rs : List Region) (end a b i : ℕ) → Laid 0 rs end → index rs a ≡ Some i → index rs b ≡ Some i → a ≡ b
 unfolding index
-index_range ss end addr i h e = (place_range ss 0 end addr i h (some_of_test (addr % 4 == 0) (place ss addr) i e).1).1
-
-pub range_of : (ss : List Section) (end addr : ℕ) (o : Option ℕ) → Laid 0 ss end → o ≡ index ss addr → IfSome o (λ i. i < end)
-range_of ss end addr None h e = tt
-range_of ss end addr (Some i) h e = index_range ss end addr i h (sym e)
-
-pub one_index : (ss : List Section) (end a b i : ℕ) → Laid 0 ss end → index ss a ≡ Some i → index ss b ≡ Some i → a ≡ b
-unfolding index
-one_index ss end a b i h ea eb =
-    let ta : ((a % 4 == 0) ≡ true) × (place ss a ≡ Some i) = some_of_test (a % 4 == 0) (place ss a) i ea in
-    let tb : ((b % 4 == 0) ≡ true) × (place ss b ≡ Some i) = some_of_test (b % 4 == 0) (place ss b) i eb in
-    one_place ss 0 end a b i h (zero_test (a % 4) ta.0) (zero_test (b % 4) tb.0) ta.1 tb.1
+one_index rs end a b i h ea eb =
+    let ta : ((a % 4 == 0) ≡ true) × (place rs a ≡ Some i) = some_of_test (a % 4 == 0) (place rs a) i ea in
+    let tb : ((b % 4 == 0) ≡ true) × (place rs b ≡ Some i) = some_of_test (b % 4 == 0) (place rs b) i eb in
+    one_place rs 0 end a b i h (zero_test (a % 4) ta.0) (zero_test (b % 4) tb.0) ta.1 tb.1
 
 -- the mark of an entry that was made is the one that was wanted
 mark_of_decoded : (o : Option Instr) → is_mark (decoded_as o) ≡ false
@@ -75,23 +56,23 @@ pub mark_of : (w : ℕ) (planted : Bool) → is_mark (fetched_as (Some w) plante
 mark_of w true = refl
 mark_of w false = mark_of_decoded (decode w)
 
-entry_here : (ss : List Section) (code : List Fetch) (addr i : ℕ) (f : Fetch) → Laid 0 ss (length code) → index ss addr ≡ Some i → entry_at ss (slice_set code i f) addr ≡ f
-entry_here ss code addr i f h e =
-    ap (λ o. option_map_or (λ j. slice_index_or (slice_set code i f) j Absent) o Absent) e ∙ get_or-set_same code i f Absent (index_range ss (length code) addr i h e)
+entry_here : (rs : List Region) (code : List Fetch) (addr i : ℕ) (f : Fetch) → Laid 0 rs (length code) → index rs addr ≡ Some i → entry_at rs (slice_set code i f) addr ≡ f
+entry_here rs code addr i f h e =
+    ap (λ o. option_map_or (λ j. slice_index_or (slice_set code i f) j Absent) o Absent) e ∙ get_or-set_same code i f Absent (index_range rs (length code) addr i h e)
 
-pub marked_here : (ss : List Section) (code : List Fetch) (addr i w : ℕ) (f : Fetch) (planted : Bool) → Laid 0 ss (length code) → index ss addr ≡ Some i → f ≡ fetched_as (Some w) planted
-    → mark_at ss (slice_set code i f) addr ≡ planted
-marked_here ss code addr i w f planted h e is = ap is_mark (entry_here ss code addr i f h e ∙ is) ∙ mark_of w planted
+pub marked_here : (rs : List Region) (code : List Fetch) (addr i w : ℕ) (f : Fetch) (planted : Bool) → Laid 0 rs (length code) → index rs addr ≡ Some i → f ≡ fetched_as (Some w) planted
+    → mark_at rs (slice_set code i f) addr ≡ planted
+marked_here rs code addr i w f planted h e is = ap is_mark (entry_here rs code addr i f h e ∙ is) ∙ mark_of w planted
 
-entry_other : (ss : List Section) (code : List Fetch) (addr i q : ℕ) (f : Fetch) (o : Option ℕ) → Laid 0 ss (length code) → index ss addr ≡ Some i → q ≢ addr → index ss q ≡ o
+entry_other : (rs : List Region) (code : List Fetch) (addr i q : ℕ) (f : Fetch) (o : Option ℕ) → Laid 0 rs (length code) → index rs addr ≡ Some i → q ≢ addr → index rs q ≡ o
     → option_map_or (λ j. slice_index_or (slice_set code i f) j Absent) o Absent ≡ option_map_or (λ j. slice_index_or code j Absent) o Absent
-entry_other ss code addr i q f None h e d w = refl
-entry_other ss code addr i q f (Some j) h e d w =
-    get_or-set_other code i j f Absent (λ s. d (one_index ss (length code) q addr i h (w ∙ ap Some s) e))
+entry_other rs code addr i q f None h e d w = refl
+entry_other rs code addr i q f (Some j) h e d w =
+    get_or-set_other code i j f Absent (λ s. d (one_index rs (length code) q addr i h (w ∙ ap Some s) e))
 
-pub marked_others : (ss : List Section) (code : List Fetch) (addr i : ℕ) (f : Fetch) → Laid 0 ss (length code) → index ss addr ≡ Some i
-    → (q : ℕ) → q ≢ addr → mark_at ss (slice_set code i f) q ≡ mark_at ss code q
-marked_others ss code addr i f h e q d = ap is_mark (entry_other ss code addr i q f (index ss q) h e d refl)
+pub marked_others : (rs : List Region) (code : List Fetch) (addr i : ℕ) (f : Fetch) → Laid 0 rs (length code) → index rs addr ≡ Some i
+    → (q : ℕ) → q ≢ addr → mark_at rs (slice_set code i f) q ≡ mark_at rs code q
+marked_others rs code addr i f h e q d = ap is_mark (entry_other rs code addr i q f (index rs q) h e d refl)
 
 same_place : (h k : ℕ) → (h ≡ k) ⊎ (h ≡ k → ⊥)
 same_place zero zero = inl refl
@@ -169,14 +150,14 @@ blank : (words : List ℕ) (o : Option ℕ) → is_mark (option_map_or (λ i. sl
 blank words None = refl
 blank words (Some i) = all_unmarked words i
 
-pub shown_is : (t : Inside) (addr : ℕ) → addr < 2 ^ 32 → shown (seen t) addr ≡ word_at t.sections.items t.words.items addr
-shown_is t addr l = word_below (word_at t.sections.items t.words.items) (2 ^ 32) addr l
+pub shown_is : (t : Inside) (addr : ℕ) → addr < 2 ^ 32 → shown (seen t) addr ≡ word_at t.regions.items t.words.items addr
+shown_is t addr l = word_below (word_at t.regions.items t.words.items) (2 ^ 32) addr l
 
-pub none_shown : (t : Inside) (addr : ℕ) → addr < 2 ^ 32 → index t.sections.items addr ≡ None → IsSome (shown (seen t) addr) → ⊥
+pub none_shown : (t : Inside) (addr : ℕ) → addr < 2 ^ 32 → index t.regions.items addr ≡ None → IsSome (shown (seen t) addr) → ⊥
 none_shown t addr l e s = true≢false (sym (subst IsSome (shown_is t addr l ∙ ap (option_map (slice_index t.words.items)) e) s))
 
-pub planted_is : (t : Inside) (addr : ℕ) → addr < 2 ^ 32 → is_planted (seen t) addr ≡ mark_at t.sections.items t.code.items addr
-planted_is t addr l = in_below (mark_at t.sections.items t.code.items) (2 ^ 32) addr l
+pub planted_is : (t : Inside) (addr : ℕ) → addr < 2 ^ 32 → is_planted (seen t) addr ≡ mark_at t.regions.items t.code.items addr
+planted_is t addr l = in_below (mark_at t.regions.items t.code.items) (2 ^ 32) addr l
 
 by_entry : (words : List ℕ) (code : List Fetch) (o : Option ℕ) → AreEntries words code → IfSome o (λ i. i < length words)
     → fetched_as (option_map (slice_index words) o) (is_mark (option_map_or (λ i. slice_index_or code i Absent) o Absent)) ≡ option_map_or (λ i. slice_index_or code i Absent) o Absent
@@ -184,39 +165,38 @@ by_entry words code None all within = refl
 by_entry words code (Some i) all within = sym (all i within)
 
 -- what a hart finds is the entry
-pub fetched_is : (t : Inside) (addr : ℕ) → IsLaid t → addr < 2 ^ 32 → fetched (seen t) addr ≡ entry_at t.sections.items t.code.items addr
+pub fetched_is : (t : Inside) (addr : ℕ) → IsLaid t → addr < 2 ^ 32 → fetched (seen t) addr ≡ entry_at t.regions.items t.code.items addr
 fetched_is t addr laid l =
     ap (λ o. fetched_as o (is_planted (seen t) addr)) (shown_is t addr l)
-    ∙ ap (fetched_as (word_at t.sections.items t.words.items addr)) (planted_is t addr l)
-    ∙ by_entry t.words.items t.code.items (index t.sections.items addr) laid.entries (range_of t.sections.items (length t.words.items) addr (index t.sections.items addr) laid.laid refl)
+    ∙ ap (fetched_as (word_at t.regions.items t.words.items addr)) (planted_is t addr l)
+    ∙ by_entry t.words.items t.code.items (index t.regions.items addr) laid.entries (range_of t.regions.items (length t.words.items) addr (index t.regions.items addr) laid.layout.laid refl)
 
-pub placed_in : (ss : List Section) (words : List ℕ) (addr : ℕ) → IsSome (word_at ss words addr) → is_some (index ss addr) ≡ true
-placed_in ss words addr s = some_mapped (index ss addr) words s
+pub placed_in : (rs : List Region) (words : List ℕ) (addr : ℕ) → IsSome (word_at rs words addr) → is_some (index rs addr) ≡ true
+placed_in rs words addr s = some_mapped (index rs addr) words s
 
-pub plant_set : (ss : List Section) (code code' : List Fetch) (addr : ℕ) → addr < 2 ^ 32 → mark_at ss code' addr ≡ true → ((q : ℕ) → q ≢ addr → mark_at ss code' q ≡ mark_at ss code q)
-    → set_below (mark_at ss code') (2 ^ 32) ≡ set.insert (set_below (mark_at ss code) (2 ^ 32)) addr
-plant_set ss code code' addr l here others = inserted (mark_at ss code) (mark_at ss code') (2 ^ 32) addr l here (λ r s d. others r d)
+pub plant_set : (rs : List Region) (code code' : List Fetch) (addr : ℕ) → addr < 2 ^ 32 → mark_at rs code' addr ≡ true → ((q : ℕ) → q ≢ addr → mark_at rs code' q ≡ mark_at rs code q)
+    → set_below (mark_at rs code') (2 ^ 32) ≡ set.insert (set_below (mark_at rs code) (2 ^ 32)) addr
+plant_set rs code code' addr l here others = inserted (mark_at rs code) (mark_at rs code') (2 ^ 32) addr l here (λ r s d. others r d)
 
-pub lift_set : (ss : List Section) (code code' : List Fetch) (addr : ℕ) → addr < 2 ^ 32 → mark_at ss code' addr ≡ false → ((q : ℕ) → q ≢ addr → mark_at ss code' q ≡ mark_at ss code q)
-    → set_below (mark_at ss code') (2 ^ 32) ≡ set.remove (set_below (mark_at ss code) (2 ^ 32)) addr
-lift_set ss code code' addr l here others = removed (mark_at ss code) (mark_at ss code') (2 ^ 32) addr l here (λ r s d. others r d)
+pub lift_set : (rs : List Region) (code code' : List Fetch) (addr : ℕ) → addr < 2 ^ 32 → mark_at rs code' addr ≡ false → ((q : ℕ) → q ≢ addr → mark_at rs code' q ≡ mark_at rs code q)
+    → set_below (mark_at rs code') (2 ^ 32) ≡ set.remove (set_below (mark_at rs code) (2 ^ 32)) addr
+lift_set rs code code' addr l here others = removed (mark_at rs code) (mark_at rs code') (2 ^ 32) addr l here (λ r s d. others r d)
 
-pub marked_set : (ss : List Section) (code code' : List Fetch) (addr : ℕ) (planted : Bool) → addr < 2 ^ 32 → mark_at ss code' addr ≡ planted → ((q : ℕ) → q ≢ addr → mark_at ss code' q ≡ mark_at ss code q)
-    → set_below (mark_at ss code') (2 ^ 32) ≡ (if planted then set.insert (set_below (mark_at ss code) (2 ^ 32)) addr else set.remove (set_below (mark_at ss code) (2 ^ 32)) addr)
-marked_set ss code code' addr true l here others = plant_set ss code code' addr l here others
-marked_set ss code code' addr false l here others = lift_set ss code code' addr l here others
+pub marked_set : (rs : List Region) (code code' : List Fetch) (addr : ℕ) (planted : Bool) → addr < 2 ^ 32 → mark_at rs code' addr ≡ planted → ((q : ℕ) → q ≢ addr → mark_at rs code' q ≡ mark_at rs code q)
+    → set_below (mark_at rs code') (2 ^ 32) ≡ (if planted then set.insert (set_below (mark_at rs code) (2 ^ 32)) addr else set.remove (set_below (mark_at rs code) (2 ^ 32)) addr)
+marked_set rs code code' addr true l here others = plant_set rs code code' addr l here others
+marked_set rs code code' addr false l here others = lift_set rs code code' addr l here others
 
 -- nothing is marked where no word of text is
-pub unmarked_set : (t : Inside) (addr : ℕ) (planted : Bool) → addr < 2 ^ 32 → index t.sections.items addr ≡ None → (planted ≡ true → IsSome (shown (seen t) addr))
+pub unmarked_set : (t : Inside) (addr : ℕ) (planted : Bool) → addr < 2 ^ 32 → index t.regions.items addr ≡ None → (planted ≡ true → IsSome (shown (seen t) addr))
     → (seen t).planted ≡ (if planted then set.insert (seen t).planted addr else set.remove (seen t).planted addr)
 unmarked_set t addr true l e some = absurd (none_shown t addr l e (some refl))
 unmarked_set t addr false l e some =
-    marked_set t.sections.items t.code.items t.code.items addr false l (ap (λ o. is_mark (option_map_or (λ j. slice_index_or t.code.items j Absent) o Absent)) e) (λ q d. refl)
+    marked_set t.regions.items t.code.items t.code.items addr false l (ap (λ o. is_mark (option_map_or (λ j. slice_index_or t.code.items j Absent) o Absent)) e) (λ q d. refl)
 
-pub begun : (p : Program) (ss : List Section) (ws us : List ℕ) (code : List Fetch) → ss ≡ sections_from 0 p.text → ws ≡ all_words p.text → code ≡ unmarked us
-    → ◌≡◌ {A = Words} (record { words = words_below (word_at ss ws) (2 ^ 32); planted = set_below (mark_at ss code) (2 ^ 32) }) (unpatched p)
-begun p ss ws us code es ew ec =
-    ap (λ m. record { words = m; planted = set_below (mark_at ss code) (2 ^ 32) })
-    (same_words (word_at ss ws) (text_word p) (2 ^ 32) (λ q l. ap (λ xs. word_at xs ws q) es ∙ ap (λ xs. word_at (sections_from 0 p.text) xs q) ew ∙ begun_word p q))
+pub begun : (p : Program) (rs : List Region) (ws us : List ℕ) (code : List Fetch) → ((addr : ℕ) → word_at rs ws addr ≡ text_word p addr) → code ≡ unmarked us
+    → ◌≡◌ {A = Words} (record { words = words_below (word_at rs ws) (2 ^ 32); planted = set_below (mark_at rs code) (2 ^ 32) }) (unpatched p)
+begun p rs ws us code are ec =
+    ap (λ m. record { words = m; planted = set_below (mark_at rs code) (2 ^ 32) }) (same_words (word_at rs ws) (text_word p) (2 ^ 32) (λ q l. are q))
     ∙ ap (λ s. record { words = words_below (text_word p) (2 ^ 32); planted = s })
-    (none_in (mark_at ss code) (2 ^ 32) (λ q l. ap (λ xs. mark_at ss xs q) ec ∙ blank us (index ss q)))
+    (none_in (mark_at rs code) (2 ^ 32) (λ q l. ap (λ xs. mark_at rs xs q) ec ∙ blank us (index rs q)))

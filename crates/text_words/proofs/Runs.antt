@@ -1,80 +1,24 @@
 -- Stored words of text side by side.
 use Rattle.std.proofs.Common.{◌≡◌, ℕ, zero, suc, ◌+◌, ◌-◌, ◌*◌, ◌/◌, ◌%◌, ◌^◌, ◌<◌, ◌≤◌, List, length, drop, take, refl, ap}
-use Rattle.std.proofs.Common.{sym, ◌∙◌, subst, arith, Bool, true, false, not, nat_eq, cond, Some, None, Option, length-drop, length-take-le, drop_of_length-le, true≢false}
+use Rattle.std.proofs.Common.{sym, ◌∙◌, subst, arith, Bool, true, false, not, nat_eq, cond, Some, None, Option, length-drop, length-take-le, inl, inr, true≢false}
 use Rattle.std.specs.Prelude.{slice_get, slice_index, slice_index_or, IsSome, ◌==◌, if◌then◌else◌}
 use Rattle.std.specs.Option.{option_map, option_map_or}
 use Rattle.std.specs.Cmp.Lexicographic.{pointwise, same_text, other_text}
-use Rattle.std.proofs.lemmas.Bool.Decides.{nat_tests}
-use Rattle.std.proofs.lemmas.List.{drop_more, ext_get_or, get_or-drop, get_or-take}
+use Rattle.std.proofs.lemmas.Bool.{cases_lt}
+use Rattle.std.proofs.lemmas.List.{ext_get_or, get_or-drop, get_or-take}
 use Rattle.std.proofs.lemmas.Option.{slice_get-get_or, get_or_from_slice_get}
 use Rattle.rv_decode.specs.declared.instr.Instr.{Instr}
 use Rattle.rv_decode.specs.Decode.{decode}
-use Rattle.elf32_read.specs.Fields.{spans}
-use Rattle.text_words.specs.declared.layout.Section.{Section}
+use Rattle.text_words.specs.declared.region.Region.{Region}
+use Rattle.text_words.specs.declared.region.Span.{Span}
 use Rattle.text_words.specs.declared.text.TextWords.TheInside.{Inside}
 use Rattle.text_words.specs.declared.fetch.Fetch.{Fetch}
 use Rattle.text_words.specs.declared.fetch.Fetch.TheVariants.{Absent}
-use Rattle.text_words.specs.Words.{Words, AreStored, IsStoredAt, shown, stored, stored_as, is_planted, fetched_as, decoded_as, ebreak}
-use Rattle.text_words.specs.Layout.{IsLaid, index, place, seen}
+use Rattle.text_words.specs.Words.{Words, AreStored, IsAmong, IsStoredAt, shown, stored, stored_as, is_planted, fetched_as, decoded_as, ebreak}
+use Rattle.text_words.specs.Layout.{IsLaid, index, seen, word_at}
 use Rattle.text_words.specs.Runs.{IsRun}
-use Rattle.text_words.proofs.Places.{found_place, later_place}
-use Rattle.text_words.proofs.Marks.{shown_is, none_shown, fetched_is}
-
--- ---- the words that a span has
-
-before : (start size addr : ℕ) → addr < start → spans start size addr ≡ false
-before start size addr h = grind (arith, nat_tests)
-
-after : (start size addr : ℕ) → start + size ≤ addr → spans start size addr ≡ false
-after start size addr h = grind (arith, nat_tests)
-
-within : (start size addr : ℕ) → start ≤ addr → addr < start + size → spans start size addr ≡ true
-within start size addr h l = grind (arith, nat_tests)
-
-is_zero : (a : ℕ) → a ≡ 0 → (a == 0) ≡ true
-is_zero a e = grind (arith, nat_tests)
-
-no_zero : (a : ℕ) → (a ≡ 0 → ⊥) → (a == 0) ≡ false
-no_zero a n = grind (arith, nat_tests)
-
-aligned : (ss : List Section) (addr : ℕ) → addr % 4 ≡ 0 → index ss addr ≡ place ss addr
-unfolding index
-aligned ss addr a = ap (λ b. cond b (place ss addr) None) (is_zero (addr % 4) a)
-
-pub not_aligned : (ss : List Section) (addr : ℕ) → (addr % 4 ≡ 0 → ⊥) → index ss addr ≡ None
-unfolding index
-not_aligned ss addr n = ap (λ b. cond b (place ss addr) None) (no_zero (addr % 4) n)
-
--- a section that doesn't have the word is passed
-passed : (ss : List Section) (i a : ℕ) (d : Section) → i < length ss → spans (slice_index_or ss i d).address (4 * (slice_index_or ss i d).count) a ≡ false
-    → place ss a ≡ place (drop i ss) a → place ss a ≡ place (drop (i + 1) ss) a
-passed ss i a d l out so_far = so_far ∙ (ap (λ xs. place xs a) (drop_more ss i d l) ∙ later_place (slice_index_or ss i d) (drop (i + 1) ss) a out)
-
-pub later_section : (ss : List Section) (i addr most k : ℕ) (d : Section) → i < length ss → addr < (slice_index_or ss i d).address → most ≤ ((slice_index_or ss i d).address - addr - 1) / 4 + 1 → k < most
-    → place ss (addr + 4 * k) ≡ place (drop i ss) (addr + 4 * k) → place ss (addr + 4 * k) ≡ place (drop (i + 1) ss) (addr + 4 * k)
-later_section ss i addr most k d l low few less so_far =
-    passed ss i (addr + 4 * k) d l (before (slice_index_or ss i d).address (4 * (slice_index_or ss i d).count) (addr + 4 * k) (omega arith)) so_far
-
-pub earlier_section : (ss : List Section) (i addr k : ℕ) (d : Section) → i < length ss → (slice_index_or ss i d).address ≤ addr → (slice_index_or ss i d).count ≤ (addr - (slice_index_or ss i d).address) / 4
-    → place ss (addr + 4 * k) ≡ place (drop i ss) (addr + 4 * k) → place ss (addr + 4 * k) ≡ place (drop (i + 1) ss) (addr + 4 * k)
-earlier_section ss i addr k d l low past so_far =
-    passed ss i (addr + 4 * k) d l (after (slice_index_or ss i d).address (4 * (slice_index_or ss i d).count) (addr + 4 * k) (omega arith)) so_far
-
-pub this_section : (ss : List Section) (i addr k : ℕ) (d : Section) → i < length ss → addr % 4 ≡ 0 → (slice_index_or ss i d).address ≤ addr
-    → (addr - (slice_index_or ss i d).address) / 4 + k < (slice_index_or ss i d).count → place ss (addr + 4 * k) ≡ place (drop i ss) (addr + 4 * k)
-    → index ss (addr + 4 * k) ≡ Some ((slice_index_or ss i d).first + (addr - (slice_index_or ss i d).address) / 4 + k)
-this_section ss i addr k d l a low few so_far =
-    let s : Section = slice_index_or ss i d in
-    let at : s.first + (addr + 4 * k - s.address) / 4 ≡ s.first + (addr - s.address) / 4 + k = omega arith in
-    aligned ss (addr + 4 * k) (omega arith)
-    ∙ (so_far
-    ∙ (ap (λ xs. place xs (addr + 4 * k)) (drop_more ss i d l)
-    ∙ (found_place s (drop (i + 1) ss) (addr + 4 * k) (within s.address (4 * s.count) (addr + 4 * k) (omega arith) (omega arith)) ∙ ap Some at)))
-
-pub no_section : (ss : List Section) (i addr : ℕ) → length ss ≤ i → addr % 4 ≡ 0 → place ss (addr + 4 * 0) ≡ place (drop i ss) (addr + 4 * 0) → index ss addr ≡ None
-no_section ss i addr l a so_far =
-    let at : addr ≡ addr + 4 * 0 = omega arith in
-    aligned ss addr a ∙ (ap (place ss) at ∙ (so_far ∙ ap (λ xs. place xs (addr + 4 * 0)) (drop_of_length-le ss l)))
+use Rattle.text_words.proofs.Below.{word_above}
+use Rattle.text_words.proofs.Marks.{shown_is, fetched_is}
 
 -- ---- the run that they are
 
@@ -98,7 +42,7 @@ stored_by (Some v) true w f e g = ap (λ h. Some (stored_as w h)) g
 stored_by (Some v) false w f e g = e ∙ sym (ap Some (ap (stored_as w) (sym g) ∙ of_decoded w (decode v)))
 
 -- what is stored at the place of an address
-stored_there : (t : Inside) (addr i : ℕ) → IsLaid t → addr < 2 ^ 32 → index t.sections.items addr ≡ Some i → i < length t.words.items → stored (seen t) addr ≡ Some (slice_index t.stored.items i)
+stored_there : (t : Inside) (addr i : ℕ) → IsLaid t → addr < 2 ^ 32 → index t.regions.items addr ≡ Some i → i < length t.words.items → stored (seen t) addr ≡ Some (slice_index t.stored.items i)
 stored_there t addr i laid low found few =
     stored_by (shown (seen t) addr) (is_planted (seen t) addr) (slice_index t.words.items i) (slice_index_or t.code.items i Absent)
     (shown_is t addr low ∙ ap (option_map (slice_index t.words.items)) found)
@@ -106,7 +50,7 @@ stored_there t addr i laid low found few =
     ∙ ap Some (sym (laid.kept.each i few))
 
 pub run_of : (t : Inside) (addr first count : ℕ) → IsLaid t → first + count ≤ length t.words.items → ((k : ℕ) → k < count → addr + 4 * k < 2 ^ 32)
-    → ((k : ℕ) → k < count → index t.sections.items (addr + 4 * k) ≡ Some (first + k)) → IsRun (seen t) addr (take count (drop first t.stored.items))
+    → ((k : ℕ) → k < count → index t.regions.items (addr + 4 * k) ≡ Some (first + k)) → IsRun (seen t) addr (take count (drop first t.stored.items))
 run_of t addr first count laid few low found =
     let many : length (take count (drop first t.stored.items)) ≡ count = cut_length t.stored.items first count (omega (arith, few, laid.kept.whole)) in
     record {
@@ -117,20 +61,54 @@ run_of t addr first count laid few low found =
     }
 
 -- the same where the text and its lists are known by other names
-pub run_is : (t : Inside) (w : Words) (addr first count : ℕ) (ss : List Section) (words : List ℕ) → seen t ≡ w → IsLaid t → ss ≡ t.sections.items
-    → first + count ≤ length t.words.items → ((k : ℕ) → k < count → addr + 4 * k < 2 ^ 32) → ((k : ℕ) → k < count → index ss (addr + 4 * k) ≡ Some (first + k))
+pub run_is : (t : Inside) (w : Words) (addr first count : ℕ) (rs : List Region) (words : List ℕ) → seen t ≡ w → IsLaid t → rs ≡ t.regions.items
+    → first + count ≤ length t.words.items → ((k : ℕ) → k < count → addr + 4 * k < 2 ^ 32) → ((k : ℕ) → k < count → index rs (addr + 4 * k) ≡ Some (first + k))
     → words ≡ take count (drop first t.stored.items) → IsRun w addr words
-run_is t w addr first count ss words e laid sections few low found are =
+run_is t w addr first count rs words e laid regions few low found are =
     subst (λ v. IsRun v addr words) e
-    (subst (λ xs. IsRun (seen t) addr xs) (sym are) (run_of t addr first count laid few low (λ k l. ap (λ xs. index xs (addr + 4 * k)) (sym sections) ∙ found k l)))
+    (subst (λ xs. IsRun (seen t) addr xs) (sym are) (run_of t addr first count laid few low (λ k l. ap (λ xs. index xs (addr + 4 * k)) (sym regions) ∙ found k l)))
+
+-- no word stands behind the last one
+none_behind : (t : Inside) (addr count : ℕ) (rs : List Region) → rs ≡ t.regions.items → (addr + 4 * count < 2 ^ 32 → index rs (addr + 4 * count) ≡ None) → shown (seen t) (addr + 4 * count) ≡ None
+none_behind t addr count rs regions ends =
+    let a : ℕ = addr + 4 * count in
+    elim (cases_lt a (2 ^ 32)) [
+      | inl low ↦ shown_is t a low ∙ ap (option_map (slice_index t.words.items)) (ap (λ xs. index xs a) (sym regions) ∙ ends low)
+      | inr high ↦ word_above (word_at t.regions.items t.words.items) (2 ^ 32) a high
+    ]
+
+pub ends_there : {A : Type 0} (t : Inside) (w : Words) (addr first count : ℕ) (rs : List Region) (xs ys : List A) → seen t ≡ w → IsLaid t → rs ≡ t.regions.items → first + count ≤ length t.words.items → length ys ≡ length t.words.items
+    → (addr + 4 * count < 2 ^ 32 → index rs (addr + 4 * count) ≡ None) → xs ≡ ys → shown w (addr + 4 * length (take (first + count - first) (drop first xs))) ≡ None
+ends_there t w addr first count rs xs ys e laid regions few whole ends are =
+    let many : count ≡ length (take (first + count - first) (drop first xs)) = sym (ap length (cut xs ys first count are) ∙ cut_length ys first count (omega (arith, few, whole))) in
+    subst (λ v. shown v (addr + 4 * length (take (first + count - first) (drop first xs))) ≡ None) e (subst (λ n. shown (seen t) (addr + 4 * n) ≡ None) many (none_behind t addr count rs regions ends))
+
+some_none : {P : Type 0} (o : Option ℕ) → IsSome o → o ≡ None → P
+some_none None s e = absurd (true≢false (sym s))
+some_none (Some v) s e = absurd (cc)
 
 -- a word that is there begins a run
-pub some_there : (t : Inside) (w : Words) (addr first count : ℕ) (ss : List Section) (words : List ℕ) → seen t ≡ w → IsLaid t → ss ≡ t.sections.items → addr < 2 ^ 32 → first + count ≤ length t.words.items
-    → (count ≡ 0 → index ss addr ≡ None) → words ≡ take count (drop first t.stored.items) → IsSome (shown w addr) → 0 < length words
-some_there t w addr first zero ss words e laid sections l few none are s =
-    absurd (none_shown t addr l (ap (λ xs. index xs addr) (sym sections) ∙ none refl) (subst (λ v. IsSome (shown v addr)) (sym e) s))
-some_there t w addr first (suc count) ss words e laid sections l few none are s =
-    omega (arith, ap length are, cut_length t.stored.items first (suc count) (omega (arith, few, laid.kept.whole)))
+pub some_there : {A : Type 0} (t : Inside) (w : Words) (addr first count : ℕ) (rs : List Region) (xs ys : List A) → seen t ≡ w → IsLaid t → rs ≡ t.regions.items → addr < 2 ^ 32 → first + count ≤ length t.words.items → length ys ≡ length t.words.items
+    → (addr + 4 * count < 2 ^ 32 → index rs (addr + 4 * count) ≡ None) → xs ≡ ys → IsSome (shown w addr) → 0 < length (take (first + count - first) (drop first xs))
+some_there t w addr first zero rs xs ys e laid regions l few whole ends are s =
+    let none : shown w (addr + 0) ≡ None = subst (λ v. shown v (addr + 0) ≡ None) e (none_behind t addr 0 rs regions ends) in
+    let same : addr + 0 ≡ addr = omega arith in
+    some_none (shown w addr) s (sym (ap (shown w) same) ∙ none)
+some_there t w addr first (suc count) rs xs ys e laid regions l few whole ends are s =
+    omega (arith, ap length (cut xs ys first (suc count) are), cut_length ys first (suc count) (omega (arith, few, whole)))
+
+found_some : (o : Option ℕ) (words : List ℕ) → IsSome (option_map (slice_index words) o) → (P : Type 0) → ((i : ℕ) → o ≡ Some i → P) → P
+found_some None words s P k = absurd (true≢false (sym s))
+found_some (Some i) words s P k = k i refl
+
+-- a word that is there is one of the region's
+pub among_there : {A : Type 0} (t : Inside) (w : Words) (addr : ℕ) (s : Span) (rs : List Region) (xs ys : List A) → seen t ≡ w → IsLaid t → rs ≡ t.regions.items → addr < 2 ^ 32 → s.first + s.count ≤ length t.words.items → length ys ≡ length t.words.items
+    → ((i : ℕ) → addr < 2 ^ 32 → index rs addr ≡ Some i → IsAmong addr s.address s.count) → xs ≡ ys → IsSome (shown w addr) → IsAmong addr s.address (length (take (s.first + s.count - s.first) (drop s.first xs)))
+among_there t w addr s rs xs ys e laid regions l few whole here are some =
+    let many : s.count ≡ length (take (s.first + s.count - s.first) (drop s.first xs)) = sym (ap length (cut xs ys s.first s.count are) ∙ cut_length ys s.first s.count (omega (arith, few, whole))) in
+    let there : IsSome (word_at t.regions.items t.words.items addr) = subst IsSome (shown_is t addr l) (subst (λ v. IsSome (shown v addr)) (sym e) some) in
+    let Q : ℕ → Type 0 = λ n. IsAmong addr s.address n in
+    subst Q many (found_some (index t.regions.items addr) t.words.items there (Q s.count) (λ i f. here i l (ap (λ xs. index xs addr) regions ∙ f)))
 
 -- ---- what is stored there
 

@@ -1,35 +1,84 @@
--- Text sections side by side in one list of words.
-use Rattle.std.specs.Prelude.{◌≡◌, ◌<◌, ℕ, ◌+◌, ◌-◌, ◌*◌, ◌/◌, ◌%◌, ◌^◌, ◌==◌, Bool, true, false, List, [], ◌∷◌, ◌++◌, length, map, slice_index, slice_index_or, Option, Some, None, if◌then◌else◌}
+-- Regions of text side by side in one list of words.
+use Rattle.std.specs.Prelude.{◌≡◌, ◌<◌, ◌≤◌, ℕ, ◌+◌, ◌-◌, ◌*◌, ◌/◌, ◌%◌, ◌^◌, ◌==◌, Bool, true, false, ◌⊎◌, List, [], ◌∷◌, ◌++◌, length, map, slice_index, slice_index_or, Option, Some, None, if◌then◌else◌}
 use Rattle.std.specs.Option.{option_map, option_map_or}
 use Rattle.elf32_read.specs.Fields.{spans}
-use Rattle.elf32_read.specs.Program.{Text}
+use Rattle.elf32_read.specs.Program.{Program, text_word}
 use Rattle.text_words.specs.Tables.{words_below, set_below}
-use Rattle.text_words.specs.Words.{Words, fetched_as, instruction_of, stored_as}
+use Rattle.text_words.specs.Words.{Words, IsAmong, fetched_as, operation_of, stored_as}
 use Rattle.text_words.specs.declared.fetch.Fetch.{Fetch}
 use Rattle.text_words.specs.declared.fetch.Fetch.TheVariants.{Absent, Planted, Illegal, Instruction}
-use Rattle.text_words.specs.declared.layout.Section.{Section}
-use Rattle.text_words.specs.declared.layout.Table.{Table}
+use Rattle.text_words.specs.declared.region.Region.{Region}
+use Rattle.text_words.specs.declared.region.Span.{Span}
 use Rattle.text_words.specs.declared.text.TextWords.TheInside.{Inside}
 
--- the place of the word at an address, by the first section that has it
-abbrev pub place : List Section → ℕ → Option ℕ
+-- whether a region has an address
+abbrev pub has : ℕ → Region → Bool
+has addr r = spans r.address (4 * r.count) addr
+
+-- the place of the word at an address, by the first region that has it
+abbrev pub place : List Region → ℕ → Option ℕ
 place [] addr = None
-place (s ∷ ss) addr = if spans s.address (4 * s.count) addr then Some (s.first + (addr - s.address) / 4) else place ss addr
+place (r ∷ rs) addr = if has addr r then Some (r.first + (addr - r.address) / 4) else place rs addr
 
-unfoldable pub index : List Section → ℕ → Option ℕ
-index sections addr = if addr % 4 == 0 then place sections addr else None
+unfoldable pub index : List Region → ℕ → Option ℕ
+index regions addr = if addr % 4 == 0 then place regions addr else None
 
--- the sections' words follow each other, from one place to another
-abbrev pub Laid : ℕ → List Section → ℕ → Type 0
+-- the regions' words follow each other, from one place to another
+abbrev pub Laid : ℕ → List Region → ℕ → Type 0
 Laid from [] end = from ≡ end
-Laid from (s ∷ ss) end = (s.first ≡ from) × Laid (from + s.count) ss end
+Laid from (r ∷ rs) end = (r.first ≡ from) × Laid (from + r.count) rs end
 
-abbrev pub word_at : List Section → List ℕ → ℕ → Option ℕ
-word_at sections words addr = option_map (slice_index words) (index sections addr)
+-- there is a gap between each and the next
+abbrev pub AreApart : List Region → Type 0
+AreApart rs = (k : ℕ) (d : Region) → k + 1 < length rs → (slice_index_or rs k d).address + 4 * (slice_index_or rs k d).count < (slice_index_or rs (k + 1) d).address
+
+-- each begins at a multiple of 4
+abbrev pub AreWhole : List Region → Type 0
+AreWhole rs = (k : ℕ) (d : Region) → k < length rs → (slice_index_or rs k d).address % 4 ≡ 0
+
+-- regions in the order of their addresses, and so many words
+pub record IsLayout (rs : List Region) (len : ℕ) : Type 0 where
+  pub laid : Laid 0 rs len
+  pub apart : AreApart rs
+  pub whole : AreWhole rs
+
+abbrev pub word_at : List Region → List ℕ → ℕ → Option ℕ
+word_at regions words addr = option_map (slice_index words) (index regions addr)
+
+-- the layout of a program's text
+pub record IsLayoutOf (p : Program) (rs : List Region) (words : List ℕ) : Type 0 where
+  pub layout : IsLayout rs (length words)
+  pub words_are : (addr : ℕ) → word_at rs words addr ≡ text_word p addr
+
+-- a region of its own
+pub record Begins (old rs : List Region) (address first start len end : ℕ) : Type 0 where
+  pub same : rs ≡ old
+  pub address_is : address ≡ start
+  pub first_is : first ≡ len
+  pub gap : (start ≡ end → ⊥) ⊎ (length old ≡ 0)
+
+-- the last region goes on
+pub record GoesOn (old rs : List Region) (address first start end : ℕ) : Type 0 where
+  pub region : Region
+  pub was : old ≡ rs ++ region ∷ []
+  pub address_is : address ≡ region.address
+  pub first_is : first ≡ region.first
+  pub joins : start ≡ end
+
+-- what regions stay before the one that has the next section, and where that one begins
+abbrev pub Opens : List Region → List Region → ℕ → ℕ → ℕ → ℕ → ℕ → Type 0
+Opens old rs address first start len end = Begins old rs address first start len end ⊎ GoesOn old rs address first start end
+
+-- the words around an address: those of one region, from its beginning on
+pub record IsWholeSpan (rs : List Region) (len addr : ℕ) (s : Span) : Type 0 where
+  pub within : s.first + s.count ≤ len
+  pub low : (k : ℕ) → k < s.count → s.address + 4 * k < 2 ^ 32
+  pub found : (k : ℕ) → k < s.count → index rs (s.address + 4 * k) ≡ Some (s.first + k)
+  pub here : (i : ℕ) → addr < 2 ^ 32 → index rs addr ≡ Some i → IsAmong addr s.address s.count
 
 -- what stands at an address, by the entry at its place
-abbrev pub entry_at : List Section → List Fetch → ℕ → Fetch
-entry_at sections code addr = option_map_or (λ i. slice_index_or code i Absent) (index sections addr) Absent
+abbrev pub entry_at : List Region → List Fetch → ℕ → Fetch
+entry_at regions code addr = option_map_or (λ i. slice_index_or code i Absent) (index regions addr) Absent
 
 abbrev pub is_mark : Fetch → Bool
 is_mark Planted = true
@@ -38,11 +87,11 @@ is_mark Illegal = false
 is_mark (Instruction i) = false
 
 -- whether a breakpoint stands there
-abbrev pub mark_at : List Section → List Fetch → ℕ → Bool
-mark_at sections code addr = is_mark (entry_at sections code addr)
+abbrev pub mark_at : List Region → List Fetch → ℕ → Bool
+mark_at regions code addr = is_mark (entry_at regions code addr)
 
 abbrev pub seen : Inside → Words
-seen t = record { words = words_below (word_at t.sections.items t.words.items) (2 ^ 32); planted = set_below (mark_at t.sections.items t.code.items) (2 ^ 32) }
+seen t = record { words = words_below (word_at t.regions.items t.words.items) (2 ^ 32); planted = set_below (mark_at t.regions.items t.code.items) (2 ^ 32) }
 
 -- the entry of each word is a breakpoint, or the word decoded
 abbrev pub AreEntries : List ℕ → List Fetch → Type 0
@@ -53,24 +102,9 @@ pub record AreKept (words : List ℕ) (code : List Fetch) (kept : List ℕ) : Ty
   pub whole : length kept ≡ length words
   pub each : (k : ℕ) → k < length words → slice_index kept k ≡ stored_as (slice_index words k) (slice_index_or code k Absent)
 
--- a table has the places of the words from its base on
-pub record IsTable (sections : List Section) (t : Table) : Type 0 where
-  pub base : t.base % 4 ≡ 0
-  pub places : (k : ℕ) → k < length t.places.items → slice_index_or t.places.items k None ≡ index sections (t.base + 4 * k)
-
 pub record IsLaid (t : Inside) : Type 0 where
-  pub laid : Laid 0 t.sections.items (length t.words.items)
-  pub table : IsTable t.sections.items t.table
+  pub layout : IsLayout t.regions.items (length t.words.items)
   pub whole : length t.code.items ≡ length t.words.items
   pub entries : AreEntries t.words.items t.code.items
   pub kept : AreKept t.words.items t.code.items t.stored.items
-  pub instructions : t.instructions.items ≡ map instruction_of t.code.items
-
--- the layout of text sections, from a place on
-abbrev pub sections_from : ℕ → List Text → List Section
-sections_from from [] = []
-sections_from from (t ∷ ts) = record { address = t.address; count = length t.words; first = from } ∷ sections_from (from + length t.words) ts
-
-abbrev pub all_words : List Text → List ℕ
-all_words [] = []
-all_words (t ∷ ts) = t.words ++ all_words ts
+  pub operations : t.operations.items ≡ map operation_of t.code.items

@@ -1,12 +1,14 @@
 -- Text as it is stored, with breakpoints planted in it.
-use Rattle.std.specs.Prelude.{◌≡◌, ◌<◌, ℕ, ◌+◌, ◌*◌, ◌^◌, Bool, true, false, List, Option, Some, None, slice_get, refl, if◌then◌else◌}
+use Rattle.std.specs.Prelude.{◌≡◌, ◌<◌, ◌≤◌, ℕ, ◌+◌, ◌-◌, ◌*◌, ◌%◌, ◌^◌, Bool, true, false, List, Option, Some, None, slice_get, refl, if◌then◌else◌}
 use Rattle.std.specs.Coded.{Coded, code_by, coded×, coded_ℕ}
 use Rattle.std.specs.Option.{option_map}
 use Rattle.std.specs.FinMap as map
 use Rattle.std.specs.FinSet as set
 use Rattle.rv_decode.specs.declared.instr.Instr.{Instr}
-use Rattle.rv_decode.specs.declared.instr.Instr.TheVariants.{Ebreak}
 use Rattle.rv_decode.specs.Decode.{decode}
+use Rattle.rv_exec.specs.declared.operation.Operation.{Operation}
+use Rattle.rv_exec.specs.declared.operation.Operation.TheVariants.{Break}
+use Rattle.rv_exec.specs.Operations.{flat}
 use Rattle.elf32_read.specs.Program.{Program, text_word}
 use Rattle.text_words.specs.Tables.{WordMap, AddressSet, words_below}
 use Rattle.text_words.specs.declared.fetch.Fetch.{Fetch}
@@ -63,12 +65,16 @@ fetched_as (Some w) false = decoded_as (decode w)
 abbrev pub fetched : Words → ℕ → Fetch
 fetched t addr = fetched_as (shown t addr) (is_planted t addr)
 
--- what stands for a hart, as an instruction: EBREAK where a breakpoint is planted, and where there is no instruction
-abbrev pub instruction_of : Fetch → Instr
-instruction_of (Instruction i) = i
-instruction_of Absent = Ebreak
-instruction_of Planted = Ebreak
-instruction_of Illegal = Ebreak
+-- what stands for a hart, as an operation: that of EBREAK where a breakpoint is planted, and where there is no instruction
+abbrev pub operation_of : Fetch → Operation
+operation_of (Instruction i) = flat i
+operation_of Absent = Break
+operation_of Planted = Break
+operation_of Illegal = Break
+
+-- an address is that of one of so many words from a start on
+abbrev pub IsAmong : ℕ → ℕ → ℕ → Type 0
+IsAmong addr start count = (start ≤ addr) × ((addr - start) % 4 ≡ 0) × (addr < start + 4 * count)
 
 -- the text of a program, with no breakpoint
 abbrev pub unpatched : Program → Words

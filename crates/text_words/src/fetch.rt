@@ -1,8 +1,9 @@
 // What stands at an address of text.
 ghost use Rattle.std.specs.Prelude.{◌≡◌};
-ghost use Rattle.text_words.specs.Words.{instruction_of};
+ghost use Rattle.text_words.specs.Words.{operation_of};
 
 use rv_decode::Instr;
+use rv_exec::Operation;
 
 /// What stands at an address for a hart that executes it.
 #[derive(Clone, Copy)]
@@ -18,14 +19,13 @@ pub enum Fetch {
 }
 
 impl Fetch {
-    /// The same as an instruction: EBREAK where a breakpoint is planted, and where there is no instruction.
-    #[inline(always)]
-    pub fn instruction(self) -> Instr
-        ensures { result ≡ instruction_of self }
+    /// The operation of the instruction: that of EBREAK where a breakpoint is planted, and where there is no instruction.
+    pub fn operation(self) -> Operation
+        ensures { result ≡ operation_of self }
     {
         match self {
-            Fetch::Instruction(instruction) => instruction,
-            Fetch::Absent | Fetch::Planted | Fetch::Illegal => Instr::Ebreak,
+            Fetch::Instruction(instruction) => Operation::of(instruction),
+            Fetch::Absent | Fetch::Planted | Fetch::Illegal => Operation::Break,
         }
     }
 }

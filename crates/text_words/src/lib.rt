@@ -2,12 +2,12 @@
 #![tactic(auto)]
 
 mod fetch;
-mod front;
 mod layout;
+mod region;
 mod run;
 mod text;
 
 pub use fetch::Fetch;
-pub use front::Front;
+pub use region::OpenRegion;
 pub use run::stored_word;
 pub use text::TextWords;

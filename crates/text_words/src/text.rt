@@ -1,20 +1,16 @@
 // The text of a program, as a type.
-ghost use Rattle.std.specs.Prelude.{◌≡◌, ◌<◌, length, true, false, IfOk, IsSome, if◌then◌else◌};
+ghost use Rattle.std.specs.Prelude.{◌≡◌, ◌<◌, ◌+◌, ◌*◌, length, true, false, IfOk, IsSome, None, if◌then◌else◌};
 ghost use Rattle.std.specs.FinSet as set;
-ghost use Rattle.text_words.specs.Words.{AreStored, IsStoredAt, unpatched, shown, stored, is_planted, fetched};
-ghost use Rattle.text_words.specs.Fronts.{IsFront};
-ghost use Rattle.text_words.specs.Runs.{AreInstructions, IsRun};
+ghost use Rattle.text_words.specs.Words.{AreStored, IsAmong, IsStoredAt, unpatched, shown, stored, is_planted, fetched};
+ghost use Rattle.text_words.specs.Runs.{AreOperations, IsRun};
 
 use crate::fetch::Fetch;
-use crate::front::{Front, front_of};
-use crate::layout::{
-    Section, Table, collect, decode_all, entry_of, fetch_in, instructions_of, place_of, planted_in,
-    shown_in, table_of,
-};
-use crate::run::{EBREAK, span_at, stored_word};
+use crate::layout::{collect, decode_all, entry_of, fetch_in, operations_of, planted_in, shown_in};
+use crate::region::{OpenRegion, Region, place_of, span_around, span_from};
+use crate::run::{EBREAK, stored_word};
 use dbg_traits::NoMemory;
 use elf32_read::Image;
-use rv_decode::Instr;
+use rv_exec::Operation;
 use std::alloc::Global;
 use std::marker::Model;
 
@@ -22,15 +18,15 @@ use std::marker::Model;
 /// words by their addresses, and the set of the addresses at which a breakpoint is planted.
 #[derive(Drop)]
 pub struct TextWords {
-    sections: Vec<Section>,
-    table: Table,
+    // By their addresses.
+    regions: Vec<Region>,
     words: Vec<u32>,
     // What stands at each word, the patch in its place.
     code: Vec<Fetch>,
     // The words with the patches, so that many are copied and compared at once.
     stored: Vec<u32>,
-    // The instruction of each, EBREAK where there is none: a hart that runs looks at nothing else.
-    instructions: Vec<Instr>,
+    // The operation of each, that of EBREAK where there is no instruction: a hart that runs looks at nothing else.
+    operations: Vec<Operation>,
 }
 
 impl Model for TextWords {
@@ -54,20 +50,19 @@ impl TextWords {
     pub fn load(alloc: Global, image: &Image) -> Result<TextWords, NoMemory>
         ensures { IfOk result (λ t. t ≡ unpatched image.now) }
     {
-        let mut sections = Vec::new(alloc);
+        let spans = image.text_spans(alloc)?;
+        let mut regions = Vec::new(alloc);
         let mut words = Vec::new(alloc);
-        collect(image, &mut sections, &mut words)?;
-        let table = table_of(alloc, sections.as_slice(), words.len())?;
+        collect(image, spans.as_slice(), &mut regions, &mut words)?;
         let code = decode_all(alloc, words.as_slice())?;
         let stored = words.as_slice().to_vec(alloc)?;
-        let instructions = instructions_of(alloc, code.as_slice())?;
+        let operations = operations_of(alloc, code.as_slice())?;
         Ok(TextWords {
-            sections,
-            table,
+            regions,
             words,
             code,
             stored,
-            instructions,
+            operations,
         })
     }
 
@@ -81,24 +76,38 @@ impl TextWords {
         }
     }
 
-    /// The stored words that stand side by side from an address on: none where no word of text is. They end at the end of
-    /// their section at the latest.
+    /// The stored words that stand side by side from an address on, up to a gap: none where no word of text is.
     pub fn run_at(&self, addr: u32) -> &[u32]
         ensures run { IsRun self.now addr result.now }
         ensures found { IsSome (shown self.now addr) → 0 < length result.now }
+        ensures ends { shown self.now (addr + 4 * length result.now) ≡ None }
     {
-        let (first, count) = span_at(self.sections.as_slice(), addr, self.words.len());
-        &self.stored.as_slice()[first..first + count]
+        let span = span_from(self.regions.as_slice(), addr, self.words.len());
+        &self.stored.as_slice()[span.first..span.first + span.count]
     }
 
-    /// The instructions of the words that stand side by side from an address on, as many as `run_at` has: EBREAK where a
-    /// breakpoint is planted, and where a word is none.
+    /// The operations of the words that stand side by side from an address on, up to a gap: that of EBREAK where a breakpoint is
+    /// planted, and where a word is no instruction.
     #[inline(always)]
-    pub fn instructions_at(&self, addr: u32) -> &[Instr]
-        ensures { AreInstructions self.now addr result.now }
+    pub fn operations_at(&self, addr: u32) -> &[Operation]
+        ensures operations { AreOperations self.now addr result.now }
+        ensures ends { shown self.now (addr + 4 * length result.now) ≡ None }
     {
-        let (first, count) = span_at(self.sections.as_slice(), addr, self.words.len());
-        &self.instructions.as_slice()[first..first + count]
+        let span = span_from(self.regions.as_slice(), addr, self.words.len());
+        &self.operations.as_slice()[span.first..span.first + span.count]
+    }
+
+    /// The operations of all words that stand side by side around an address, from gap to gap; an empty region where no word of
+    /// text is there.
+    pub fn region_at(&self, addr: u32) -> OpenRegion<'_>
+        ensures operations { AreOperations self.now result.address result.operations.now }
+        ensures here { IsSome (shown self.now addr) → IsAmong addr result.address (length result.operations.now) }
+    {
+        let span = span_around(self.regions.as_slice(), addr, self.words.len());
+        OpenRegion {
+            address: span.address,
+            operations: &self.operations.as_slice()[span.first..span.first + span.count],
+        }
     }
 
     // Whether the word is stored `i` words after an address.
@@ -135,24 +144,14 @@ impl TextWords {
     pub fn shown(&self, addr: u32) -> Option<u32>
         ensures { result ≡ shown self.now addr }
     {
-        shown_in(
-            self.sections.as_slice(),
-            &self.table,
-            self.words.as_slice(),
-            addr,
-        )
+        shown_in(self.regions.as_slice(), self.words.as_slice(), addr)
     }
 
     /// Whether a breakpoint is planted at an address.
     pub fn planted(&self, addr: u32) -> bool
         ensures { result ≡ is_planted self.now addr }
     {
-        planted_in(
-            self.sections.as_slice(),
-            &self.table,
-            self.code.as_slice(),
-            addr,
-        )
+        planted_in(self.regions.as_slice(), self.code.as_slice(), addr)
     }
 
     /// What stands at an address for a hart that executes it. The words were decoded when they were loaded.
@@ -160,20 +159,7 @@ impl TextWords {
     pub fn fetch(&self, addr: u32) -> Fetch
         ensures { result ≡ fetched self.now addr }
     {
-        fetch_in(
-            self.sections.as_slice(),
-            &self.table,
-            self.code.as_slice(),
-            addr,
-        )
-    }
-
-    /// The first text section, laid open for a hart that runs in it.
-    #[inline(always)]
-    pub fn front(&self) -> Front<'_>
-        ensures { IsFront self.now result.address result.count result.code.now }
-    {
-        front_of(self.sections.as_slice(), self.instructions.as_slice())
+        fetch_in(self.regions.as_slice(), self.code.as_slice(), addr)
     }
 
     // Puts what stands at a word of text from now on: a breakpoint, or the program's word. There is nothing to lift where no
@@ -183,13 +169,13 @@ impl TextWords {
         ensures { self.new ≡ record self.old { planted = if planted then set.insert self.old.planted addr else set.remove self.old.planted addr } }
     {
         let len = self.words.len();
-        let Some(i) = place_of(self.sections.as_slice(), &self.table, addr, len) else {
+        let Some(i) = place_of(self.regions.as_slice(), addr, len) else {
             return
         };
         let word = self.words[i];
         let entry = entry_of(word, planted);
         self.stored[i] = stored_word(word, &entry);
-        self.instructions[i] = entry.instruction();
+        self.operations[i] = entry.operation();
         self.code[i] = entry;
     }
 

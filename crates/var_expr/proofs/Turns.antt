@@ -1,13 +1,18 @@
 -- The text that was made so far, and the names that are left.
-use Rattle.std.proofs.Common.{◌≡◌, ℕ, ◌+◌, ◌-◌, ◌≤◌, List, [], ◌∷◌, ◌++◌, length, take, drop, Option, None, Some, true, false, refl, sym, ap, ◌∙◌, subst, append_assoc, arith, length-append, length-drop}
+use Rattle.std.proofs.Common.{◌≡◌, ℕ, ◌+◌, ◌-◌, ◌≤◌, List, [], ◌∷◌, ◌++◌, length, take, drop, Option, None, Some, Result, true, false, refl, sym, ap, ◌∙◌, subst, append_assoc, arith, length-append, length-drop}
 use Rattle.std.proofs.lemmas.List.{length-take-le}
 use Rattle.std.specs.Global.{Vec}
+use Rattle.std.specs.Prelude.{◌||◌, not, if◌then◌else◌}
+use Rattle.std.specs.List.{cons_option, list_any}
 use Rattle.std.specs.Option.{option_map}
 use Rattle.cond_expr.specs.declared.bare.BareName.{BareName}
 use Rattle.cond_expr.specs.Bare.{IsRow}
+use Rattle.cond_expr.specs.Term.{Term}
+use Rattle.cond_expr.specs.declared.fault.ExprFault.{ExprFault}
 use Rattle.var_expr.specs.declared.expanded.Expanded.{Expanded}
 use Rattle.var_expr.specs.declared.expanded.Replaced.{Replaced}
-use Rattle.var_expr.specs.Expanded.{Replacement, is_open, places_from, replaced_from, replacement, replacements, with_text}
+use Rattle.var_expr.specs.Expanded.{Replacement, has_names, is_open, is_outside, names_in, places_from, replaced_from, replacement, replacements, with_text}
+use Rattle.var_expr.specs.Parsed.{IsWithoutNames, parsed_by}
 use Rattle.var_expr.specs.Places.{length_of, names_of, text_of}
 use Rattle.var_expr.specs.Stands.{bytes_of}
 
@@ -24,6 +29,20 @@ row_within from end (n ∷ names) h = let behind = row_within (n.at + n.length) 
 row_earlier : (from later end : ℕ) (names : List BareName) → from ≤ later → IsRow later end names → IsRow from end names
 row_earlier from later end [] le h = omega arith
 row_earlier from later end (n ∷ names) le h = (let first = h.0 in omega arith, h.1)
+
+-- where no name stands outside of braces none is replaced
+none_replaced : (standing : List ℕ → Option (List ℕ)) (given : List ℕ) (names : List BareName) → list_any (is_outside given) names ≡ false → replacements standing given names ≡ []
+none_replaced standing given [] none = refl
+none_replaced standing given (n ∷ names) none =
+    elim (is_open (take n.at given)) as (λ b. (not b || list_any (is_outside given) names) ≡ false → cons_option (if b then None else option_map (with_text n) (standing (take n.length (drop n.at given)))) (replacements standing given names) ≡ []) [
+      | true ↦ λ others. none_replaced standing given names others
+      | false ↦ λ one. absurd (cc)
+    ] none
+
+pub without_names : (text : List ℕ) → has_names text ≡ false → IsWithoutNames text
+without_names text none symbols some other =
+    let read : List Replacement → Result Term ExprFault = λ rs. parsed_by symbols (length text) (places_from 0 0 rs) (replaced_from text 0 rs) in
+    ap read (none_replaced some text (names_in text) none) ∙ sym (ap read (none_replaced other text (names_in text) none))
 
 module _ (standing : List ℕ → Option (List ℕ)) (given : List ℕ) (names : List BareName) (n : BareName) (rest others : List BareName) (from : ℕ) (e : Expanded) where
   left_out : replacement standing given n ≡ None → replacements standing given (n ∷ others) ≡ replacements standing given others

@@ -1,6 +1,6 @@
 -- A text with each name of a variable replaced by the text that stands for the variable. This project's own.
-use Rattle.std.specs.Prelude.{ℕ, ◌+◌, ◌-◌, ◌^◌, ◌==◌, nat_lt, Bool, true, false, List, [], ◌∷◌, ◌++◌, length, take, drop, find, fold, Option, None, if◌then◌else◌}
-use Rattle.std.specs.List.{filter_map}
+use Rattle.std.specs.Prelude.{ℕ, ◌+◌, ◌-◌, ◌^◌, ◌==◌, nat_lt, Bool, true, false, not, List, [], ◌∷◌, ◌++◌, length, take, drop, find, fold, Option, None, if◌then◌else◌}
+use Rattle.std.specs.List.{filter_map, list_any}
 use Rattle.std.specs.Option.{option_map, option_and_then}
 use Rattle.std.specs.Str.{bytes_eq}
 use Rattle.cond_expr.specs.declared.bare.BareName.{BareName}
@@ -55,6 +55,13 @@ places_from from new (r ∷ rs) =
 -- the places of a text's tokens are numbers of 32 bits
 abbrev pub names_in : List ℕ → List BareName
 names_in text = if nat_lt (length text) (2 ^ 32) then bare_names text else []
+
+-- whether a text has a name outside of braces
+abbrev pub is_outside : List ℕ → BareName → Bool
+is_outside text name = not (is_open (take name.at text))
+
+abbrev pub has_names : List ℕ → Bool
+has_names text = list_any (is_outside text) (names_in text)
 
 -- the text, and where its names stand, by what stands for a name
 abbrev pub expanded_text : (List ℕ → Option (List ℕ)) → List ℕ → List ℕ

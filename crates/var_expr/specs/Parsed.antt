@@ -33,6 +33,10 @@ parsed_by symbols given_length names new =
 abbrev pub parsed_in : Names → (List ℕ → Option (List ℕ)) → List ℕ → Result Term ExprFault
 parsed_in symbols standing text = parsed_by symbols (length text) (places standing text) (expanded_text standing text)
 
+-- what stands for names plays no part in what a text spells
+abbrev pub IsWithoutNames : List ℕ → Type 0
+IsWithoutNames text = (symbols : Names) (some other : List ℕ → Option (List ℕ)) → parsed_in symbols some text ≡ parsed_in symbols other text
+
 -- it is this, unless memory runs out
 abbrev pub GivesParsed : Result Expr ParseError → Result Term ExprFault → Type 0
 GivesParsed (Ok e) want = want ≡ Ok (tree_of e)

@@ -9,5 +9,5 @@ mod standing;
 
 pub use expanded::{Expanded, Replaced};
 pub use parse::parse_in;
-pub use replacing::expand;
+pub use replacing::{expand, has_names};
 pub use standing::{Standing, standing_of, stands, stands_is_parsed};

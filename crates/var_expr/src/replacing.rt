@@ -1,10 +1,12 @@
 //! The replacing of names.
 
-ghost use Rattle.std.specs.Prelude.{◌≡◌, ◌+◌, ◌-◌, ◌≤◌, ◌++◌, ◌∷◌, [], drop, find, length, map, take, IfOk, MatchOption, OnOk};
+ghost use Rattle.std.specs.Prelude.{◌≡◌, ◌+◌, ◌-◌, ◌≤◌, ◌++◌, ◌∷◌, [], drop, false, find, length, map, take, IfOk, MatchOption, OnOk};
+ghost use Rattle.std.specs.List.{list_any};
 ghost use Rattle.std.specs.Option.{option_map};
 ghost use Rattle.cond_expr.specs.Bare.{IsRow};
 ghost use Rattle.debug_info.specs.Shown.{shown_variable, shown_variables};
-ghost use Rattle.var_expr.specs.Expanded.{expanded_text, is_named, is_open, names_in, places, replacements, standing};
+ghost use Rattle.var_expr.specs.Expanded.{expanded_text, has_names, is_named, is_open, is_outside, names_in, places, replacements, standing};
+ghost use Rattle.var_expr.specs.Parsed.{IsWithoutNames};
 ghost use Rattle.var_expr.specs.Places.{length_of, names_of, text_of};
 ghost use Rattle.var_expr.specs.Stands.{bytes_of};
 
@@ -114,6 +116,28 @@ fn names_in(alloc: Global, text: &[u8]) -> Result<Vec<BareName>, NoMemory>
     } else {
         Ok(Vec::new(alloc))
     }
+}
+
+// Whether a name stands outside of braces.
+fn is_outside(text: &[u8], name: &BareName) -> bool
+    ensures { result ≡ is_outside text.now name.now }
+{
+    !is_open(&text[..name.at.min(text.len())])
+}
+
+fn is_one_outside(text: &[u8], names: &[BareName]) -> bool
+    ensures { result ≡ list_any (is_outside text.now) names.now }
+{
+    names.iter().any(|name| is_outside(text, name))
+}
+
+/// Whether a text has a bare name outside of braces. Without one, what stands for names plays no part in it.
+pub fn has_names(alloc: Global, text: &[u8]) -> Result<bool, NoMemory>
+    ensures value { IfOk result (λ some. some ≡ has_names text.now) }
+    ensures without { IfOk result (λ some. some ≡ false → IsWithoutNames text.now) }
+{
+    let names = names_in(alloc, text)?;
+    Ok(is_one_outside(text, &names))
 }
 
 /// A text with each bare name outside of braces replaced by what stands for the variable of that name, over the registers

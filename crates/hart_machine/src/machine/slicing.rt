@@ -5,13 +5,13 @@ ghost use Rattle.hart_machine.specs.Slices.{AllInPlace, Fits, TakesSlice};
 ghost use Rattle.hart_machine.specs.Slices as slices;
 
 use super::Machine;
-use crate::window::{push_window, window_instructions};
+use crate::window::{push_window, window_operations};
 use arrayvec::ArrayVec;
 use reg_slices::{Job, Slice};
 
 impl Machine {
     /// What a slice of a hart starts from: its registers, and the stored words from its pc on, at most 64 and up to a gap, with their
-    /// instructions.
+    /// operations.
     pub fn job(&self, h: u32, limit: u32) -> Job
         requires { h < length self.now.cores }
         ensures job { (result.hart ≡ h) × (result.limit ≡ limit) }
@@ -22,13 +22,13 @@ impl Machine {
         let at = regs.pc();
         let mut words = ArrayVec::new();
         push_window(&self.text, at, &mut words);
-        let instructions = window_instructions(&self.text, at, words.as_slice());
+        let operations = window_operations(&self.text, at);
         Job {
             hart: h,
             regs,
             at,
             words,
-            instructions,
+            operations,
             limit,
         }
     }

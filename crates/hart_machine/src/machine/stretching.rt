@@ -4,8 +4,8 @@ ghost use Rattle.hart_machine.specs.Poking.{IsOut};
 ghost use Rattle.hart_machine.specs.Slices.{AllInPlace, StretchesTo};
 
 use super::Machine;
-use crate::window::instructions_in_place;
-use reg_slices::{Slice, run_alone, run_slice};
+use crate::window::operations_in_place;
+use reg_slices::run_alone;
 
 impl Machine {
     /// Executes instructions of a hart that touch registers alone and stand in the window of stored words at its pc, which are
@@ -22,34 +22,9 @@ impl Machine {
     {
         let core = &mut self.cores[h as usize];
         let at = core.regs.pc();
-        let Some(instructions) = instructions_in_place(&self.text, at) else {
-            return self.stretch_apart(h, limit);
-        };
-        let count = run_alone(instructions, at, &mut core.regs, limit);
+        let operations = operations_in_place(&self.text, at);
+        let count = run_alone(operations, at, &mut core.regs, limit);
         core.retired = core.retired.saturating_add(u64::from(count));
-        count
-    }
-
-    // The same by a copy of the window.
-    #[cold]
-    #[inline(never)]
-    fn stretch_apart(&mut self, h: u32, limit: u32) -> u32
-        requires { h < length self.old.cores }
-        ensures limit { result ≤ limit }
-        ensures stretches { StretchesTo self.old h limit result self.new }
-        ensures steps { IsOut self.old h → AllInPlace result self.old h self.new }
-        ensures harts { length self.new.cores ≡ length self.old.cores }
-    {
-        let slice = run_slice(self.job(h, limit));
-        self.take_slice(&slice);
-        let Slice {
-            hart: _,
-            regs: _,
-            at: _,
-            words: _,
-            count,
-            after: _,
-        } = slice;
         count
     }
 }

@@ -1,7 +1,8 @@
-use Rattle.debug_info.proofs.Words.{◌≡◌, ◌<◌, ◌+◌, ◌++◌, ℕ, List, append-nil, ap, drop, filter, map, refl, true, false, arith, sym, ◌∙◌, ◌==◌, all_reread, entries_in, is_outer, Variable, by_depth, is_fixed, is_unit_variable}
+use Rattle.debug_info.proofs.Words.{◌≡◌, ◌<◌, ◌+◌, ◌++◌, ℕ, List, [], append-nil, ap, drop, filter, map, refl, true, false, arith, sym, ◌∙◌, ◌==◌, all_reread, entries_in, outer_marks, unit_variables, Variable, by_depth, is_fixed}
 use Rattle.debug_info.proofs.Words.{own_entries, variable_of, seen_texts, shown_variables, Entry, Mark}
 use Rattle.debug_info.proofs.Levels.{level_step}
-use Rattle.debug_info.proofs.Walked.{again_drop, level_same, outer_same, own_again}
+use Rattle.debug_info.proofs.Walked.{again_drop, level_same, own_again}
+use Rattle.debug_info.proofs.Outer.{outer_same}
 use Rattle.debug_info.proofs.scope.variables_of.Goals as goal
 
 pub levels-preserved : goal.levels-preserved
@@ -32,6 +33,6 @@ returns c =
     let none : c.levels.level ≡ 0 = (let h = c.levels-test.false in omega arith) in
     let whole : old ≡ map f (by_depth 64 own) = sym (append-nil old) ∙ ap (λ (n : ℕ). old ++ map f (by_depth n own)) (sym none) ∙ sym c.levels.invariant in
     c.in_ok-push_unit.ensures
-    ∙ ap (λ (ms : List Mark). old ++ map g (filter (λ e. is_fixed e.place) (all_reread u (filter is_outer ms)))) c.requires.unit.marks
-    ∙ ap (λ (xs : List Entry). old ++ map g xs) (outer_same u es c.requires.unit.again)
-    ∙ ap (λ (vs : List Variable). vs ++ map g (filter is_unit_variable es)) whole
+    ∙ ap (λ (ms : List Mark). old ++ map g (filter (λ e. is_fixed e.place) (all_reread u (outer_marks false ms)))) c.requires.unit.marks
+    ∙ ap (λ (xs : List Entry). old ++ map g xs) (outer_same u false [] es refl c.requires.unit.again)
+    ∙ ap (λ (vs : List Variable). vs ++ map g (unit_variables [] es)) whole

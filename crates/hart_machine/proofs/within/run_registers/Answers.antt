@@ -1,11 +1,10 @@
-use Rattle.std.proofs.Common.{refl, sym}
-use Rattle.hart_machine.specs.Within.{is_among}
-use Rattle.hart_machine.proofs.Inner.{one_more_at}
+use Rattle.std.proofs.Common.{◌≡◌, arith}
+use Rattle.hart_machine.proofs.Straight.{ends_at, ran_at}
 use Rattle.hart_machine.proofs.within.run_registers.Goals as goal
 
-pub loop-count-preserved : goal.loop-count-preserved
-loop-count-preserved c = record {
-  runs =
-      one_more_at (is_among c.args.bounds.start c.args.bounds.end) c.loop-count.count c.loop-count.last _ _ c.loop-count.regs c.step_inner.new.regs _ c.loop-count.memory _
-      c.pc-pc.result (sym c.pc-pc.ensures) c.loop-count.invariant.runs c.step_inner.ensures.pc (sym c.if-not-is_among.ensures) (c.if-not-step_inner.ensures.inner refl) (c.if-not-step_inner.ensures.ran refl);
-}
+pub returns-clause-far : goal.returns-clause-far
+returns-clause-far c less = ends_at c.args.bounds.start c.args.bounds.end c.args.text.now _ _ (c.run_straight-run.ensures.ends (omega (arith, less, c.from.ensures)))
+
+pub returns-clause-runs : goal.returns-clause-runs
+returns-clause-runs c =
+    ran_at c.args.bounds.start c.args.bounds.end c.run_straight-run.result.count c.run_straight-run.result.last c.args.text.now c.args.regs.now c.run_straight-run.new.regs c.args.memory.now c.run_straight-run.new.memory c.run_straight-run.ensures.runs

@@ -5,7 +5,7 @@ use Rattle.mi_values.specs.Tree.{value_view}
 use Rattle.mi_values.specs.Spelling.{value_bytes}
 use Rattle.mi_values.specs.declared.value.Value.{Value}
 use Rattle.mi_text.proofs.Kept.{keeps_on}
-use Rattle.mi_values.proofs.Written.{item_written, field_written, items_closed, fields_closed, opened, Text-bytes, Short-bytes, Items-bytes, Tuple-bytes, Named-bytes}
+use Rattle.mi_values.proofs.Written.{item_written, field_written, items_closed, fields_closed, opened, Text-bytes, Items-bytes, Tuple-bytes, Named-bytes}
 use Rattle.mi_values.proofs.write.+write.Goals as goal
 
 pub write_fields-loop-field-preserved : goal.write_fields-loop-field-preserved
@@ -56,12 +56,6 @@ write_value-returns-in-Text-clause-written t c =
     let total = ap (λ (v : Value). value_bytes (value_view v)) c.in-Text.is ∙ Text-bytes c.in-Text.text in
     let same = ap c_string c.deref.ensures.value ∙ sym total in
     on_ok_weaker c.write_c_string.result (λ e. e ∙ ap (λ (l : List ℕ). c.args.into.now.items ++ l) same) c.write_c_string.ensures.written
-
-pub write_value-returns-in-Short-clause-written : goal.write_value-returns-in-Short-clause-written
-write_value-returns-in-Short-clause-written t c =
-    let total = ap (λ (v : Value). value_bytes (value_view v)) c.in-Short.is ∙ Short-bytes c.in-Short.text in
-    let same = ap c_string c.as_slice.ensures.value ∙ sym total in
-    on_ok_weaker c.write_c_string-in-Short.result (λ e. e ∙ ap (λ (l : List ℕ). c.args.into.now.items ++ l) same) c.write_c_string-in-Short.ensures.written
 
 pub write_value-returns-in_ok-write_byte-in-Tuple : goal.write_value-returns-in_ok-write_byte-in-Tuple
 write_value-returns-in_ok-write_byte-in-Tuple t c =

@@ -2,7 +2,7 @@ use Rattle.std.proofs.Common.{ap, ◌∙◌, arith, cond}
 use Rattle.std.specs.Prelude.{Bool}
 use Rattle.dbg_model.specs.Keeping.{entry_of}
 use Rattle.session_parts.specs.Summary.{is_left, is_stop}
-use Rattle.session_parts.proofs.Summing.{few_pass, passes_on, steps_on}
+use Rattle.journal_laws.proofs.Summing.{few_pass, passes_on, steps_on}
 use Rattle.session_parts.proofs.summary.summed.Goals as goal
 
 pub overflow_add-retired : goal.overflow_add-retired

@@ -8,12 +8,12 @@ use Rattle.hart_machine.specs.Slices.{window}
 use Rattle.hart_machine.proofs.Slices.{stretched, stretched_steps}
 use Rattle.hart_machine.proofs.machine.Machine.stretch.Goals as goal
 
-core_in : (c : goal.After-self-2-1) → slice_get c.self.inside.cores.items c.args.h ≡ Some c.index_mut-core.result.now
+core_in : (c : goal.After-self-1) → slice_get c.self.inside.cores.items c.args.h ≡ Some c.index_mut-core.result.now
 core_in c =
     let inside : c.args.h < length c.self.inside.cores.items = subst (λ (m : Patched). c.args.h < length m.cores) (sym c.self.view_is) c.requires in
     slice_get_read c.self.inside.cores.items _ c.args.h c.index_mut-core.result.now refl inside c.index_mut-core.ensures.value
 
-counts : (c : goal.After-self-2-1) → c.saturating_add-core.result ≡ min (c.index_mut-core.result.now.retired + c.run_alone-count.result) (2 ^ 64 - 1)
+counts : (c : goal.After-self-1) → c.saturating_add-core.result ≡ min (c.index_mut-core.result.now.retired + c.run_alone-count.result) (2 ^ 64 - 1)
 counts c = c.saturating_add-core.ensures ∙ ap (λ (n : ℕ). min (c.index_mut-core.result.now.retired + n) (2 ^ 64 - 1)) c.from.ensures
 
 pub returns-clause-limit : goal.returns-clause-limit
@@ -29,7 +29,7 @@ returns-clause-stretches c =
     let at = c.pc-at.result in
     let words = window m.text at in
     let n = c.run_alone-count.result in
-    let decoded = c.in-Some.ensures.1 in
+    let decoded = c.operations_in_place-operations.ensures.decoded in
     stretched m c.args.self.now c.args.h c.args.limit n at c.saturating_add-core.result k c.run_alone-count.new.regs c.self.view_is (core_in c) c.pc-at.ensures (c.run_alone-count.ensures.slice words decoded) (counts c)
     (λ i q few leads. c.run_alone-count.ensures.greatest words i q decoded few leads)
 
@@ -41,5 +41,5 @@ returns-clause-steps c =
     let words = window m.text at in
     let n = c.run_alone-count.result in
     let low : k.retired < 2 ^ 64 = omega arith in
-    stretched_steps m c.args.self.now c.args.h c.args.limit n at c.saturating_add-core.result k c.run_alone-count.new.regs c.self.view_is (core_in c) c.pc-at.ensures (c.run_alone-count.ensures.slice words c.in-Some.ensures.1) (counts c)
+    stretched_steps m c.args.self.now c.args.h c.args.limit n at c.saturating_add-core.result k c.run_alone-count.new.regs c.self.view_is (core_in c) c.pc-at.ensures (c.run_alone-count.ensures.slice words c.operations_in_place-operations.ensures.decoded) (counts c)
     c.pc-at.type_inv low

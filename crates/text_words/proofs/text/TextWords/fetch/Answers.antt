@@ -8,6 +8,6 @@ pub returns : goal.returns
 returns c =
     subst (λ t. c.fetch_in.result ≡ fetched t c.args.addr) c.self.view_is
     (c.fetch_in.ensures
-    ∙ ap (λ ss. entry_at ss c.as_slice-2.result.now c.args.addr) c.as_slice.ensures.value
-    ∙ ap (λ code. entry_at c.self.inside.sections.items code c.args.addr) c.as_slice-2.ensures.value
+    ∙ ap (λ rs. entry_at rs c.as_slice-2.result.now c.args.addr) c.as_slice.ensures.value
+    ∙ ap (λ code. entry_at c.self.inside.regions.items code c.args.addr) c.as_slice-2.ensures.value
     ∙ sym (fetched_is c.self.inside c.args.addr c.self.invariant c.ranges.addr.fits))

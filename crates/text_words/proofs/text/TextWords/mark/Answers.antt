@@ -4,7 +4,7 @@ use Rattle.std.specs.FinSet as set
 use Rattle.std.proofs.lemmas.List.{map-set}
 use Rattle.std.proofs.lemmas.Option.{slice_get_read, get_or_from_slice_get}
 use Rattle.text_words.specs.Tables.{words_below, set_below}
-use Rattle.text_words.specs.Words.{Words, shown, fetched_as, instruction_of, stored_as}
+use Rattle.text_words.specs.Words.{Words, shown, fetched_as, operation_of, stored_as}
 use Rattle.text_words.specs.Layout.{AreKept, Laid, index, mark_at, seen, word_at}
 use Rattle.text_words.proofs.Marks.{entries_kept, kept_set, marked_here, marked_others, marked_set, unmarked_set}
 use Rattle.text_words.proofs.text.TextWords.mark.Goals as goal
@@ -12,7 +12,7 @@ use Rattle.text_words.proofs.text.TextWords.mark.Goals as goal
 pub returns-in_default : goal.returns-in_default
 returns-in_default c =
     let t = c.self.inside in
-    let none : index t.sections.items c.args.addr ≡ None = sym (ap (λ ss. index ss c.args.addr) c.as_slice.ensures.value) ∙ (sym c.place_of.ensures.value ∙ c.in_default.is) in
+    let none : index t.regions.items c.args.addr ≡ None = sym (ap (λ rs. index rs c.args.addr) c.as_slice.ensures.value) ∙ (sym c.place_of.ensures.value ∙ c.in_default.is) in
     subst (λ n. ◌≡◌ {A = Words} n (record { words = n.words; planted = if c.args.planted then set.insert n.planted c.args.addr else set.remove n.planted c.args.addr })) c.self.view_is
     (ap (λ s. let n : Words = record { words = (seen t).words; planted = s } in n)
     (unmarked_set t c.args.addr c.args.planted c.ranges.addr.fits none (λ p. subst (λ n. IsSome (shown n c.args.addr)) (sym c.self.view_is) (c.requires p))))
@@ -29,25 +29,24 @@ invariant_of-self c =
     let entry : f ≡ fetched_as (Some (slice_index t.words.items i)) c.args.planted = c.entry_of-entry.ensures ∙ ap (λ v. fetched_as (Some v) c.args.planted) same in
     let stored : c.stored_word.result ≡ stored_as (slice_index t.words.items i) f = c.stored_word.ensures ∙ ap (λ v. stored_as v f) same in
     record {
-      laid = c.self.invariant.laid;
-      table = c.self.invariant.table;
+      layout = c.self.invariant.layout;
       whole = length-set t.code.items i f ∙ c.self.invariant.whole;
       entries = entries_kept t.words.items t.code.items i f c.args.planted c.self.invariant.whole low entry c.self.invariant.entries;
       kept = subst (λ v. AreKept t.words.items (slice_set t.code.items i f) (slice_set t.stored.items i v)) (sym stored) (kept_set t.words.items t.stored.items t.code.items i f c.self.invariant.whole low c.self.invariant.kept);
-      instructions = ap (λ xs. slice_set xs i c.instruction.result) c.self.invariant.instructions ∙ (ap (slice_set (map instruction_of t.code.items) i) c.instruction.ensures ∙ sym (map-set instruction_of t.code.items i f));
+      operations = ap (λ xs. slice_set xs i c.operation.result) c.self.invariant.operations ∙ (ap (slice_set (map operation_of t.code.items) i) c.operation.ensures ∙ sym (map-set operation_of t.code.items i f));
     }
 
 pub returns : goal.returns
 returns c =
     let t = c.self.inside in
-    let ss = t.sections.items in
+    let rs = t.regions.items in
     let i = c.in-Some.i in
     let f = c.entry_of-entry.result in
     let word = c.index-word.result.now in
-    let laid : Laid 0 ss (length t.code.items) = subst (Laid 0 ss) (sym c.self.invariant.whole) c.self.invariant.laid in
-    let found : index ss c.args.addr ≡ Some i = sym (ap (λ xs. index xs c.args.addr) c.as_slice.ensures.value) ∙ sym c.in-Some.ensures.value in
-    subst (λ n. ◌≡◌ {A = Words} (record { words = words_below (word_at ss t.words.items) (2 ^ 32); planted = set_below (mark_at ss (slice_set t.code.items i f)) (2 ^ 32) })
+    let laid : Laid 0 rs (length t.code.items) = subst (Laid 0 rs) (sym c.self.invariant.whole) c.self.invariant.layout.laid in
+    let found : index rs c.args.addr ≡ Some i = sym (ap (λ xs. index xs c.args.addr) c.as_slice.ensures.value) ∙ sym c.in-Some.ensures.value in
+    subst (λ n. ◌≡◌ {A = Words} (record { words = words_below (word_at rs t.words.items) (2 ^ 32); planted = set_below (mark_at rs (slice_set t.code.items i f)) (2 ^ 32) })
     (record { words = n.words; planted = if c.args.planted then set.insert n.planted c.args.addr else set.remove n.planted c.args.addr })) c.self.view_is
-    (ap (λ s. record { words = words_below (word_at ss t.words.items) (2 ^ 32); planted = s })
-    (marked_set ss t.code.items (slice_set t.code.items i f) c.args.addr c.args.planted c.ranges.addr.fits
-    (marked_here ss t.code.items c.args.addr i word f c.args.planted laid found c.entry_of-entry.ensures) (marked_others ss t.code.items c.args.addr i f laid found)))
+    (ap (λ s. record { words = words_below (word_at rs t.words.items) (2 ^ 32); planted = s })
+    (marked_set rs t.code.items (slice_set t.code.items i f) c.args.addr c.args.planted c.ranges.addr.fits
+    (marked_here rs t.code.items c.args.addr i word f c.args.planted laid found c.entry_of-entry.ensures) (marked_others rs t.code.items c.args.addr i f laid found)))

@@ -7,5 +7,5 @@ use Rattle.text_words.proofs.text.TextWords.planted.Goals as goal
 pub returns : goal.returns
 returns c =
     subst (λ t. c.planted_in.result ≡ is_planted t c.args.addr) c.self.view_is
-    (c.planted_in.ensures ∙ ap (λ ss. mark_at ss c.as_slice-2.result.now c.args.addr) c.as_slice.ensures.value
-    ∙ ap (λ ws. mark_at c.self.inside.sections.items ws c.args.addr) c.as_slice-2.ensures.value ∙ sym (planted_is c.self.inside c.args.addr c.ranges.addr.fits))
+    (c.planted_in.ensures ∙ ap (λ rs. mark_at rs c.as_slice-2.result.now c.args.addr) c.as_slice.ensures.value
+    ∙ ap (λ ws. mark_at c.self.inside.regions.items ws c.args.addr) c.as_slice-2.ensures.value ∙ sym (planted_is c.self.inside c.args.addr c.ranges.addr.fits))

@@ -7,5 +7,5 @@ use Rattle.text_words.proofs.text.TextWords.shown.Goals as goal
 pub returns : goal.returns
 returns c =
     subst (λ t. c.shown_in.result ≡ shown t c.args.addr) c.self.view_is
-    (c.shown_in.ensures ∙ ap (λ ss. word_at ss c.as_slice-2.result.now c.args.addr) c.as_slice.ensures.value
-    ∙ ap (λ ws. word_at c.self.inside.sections.items ws c.args.addr) c.as_slice-2.ensures.value ∙ sym (shown_is c.self.inside c.args.addr c.ranges.addr.fits))
+    (c.shown_in.ensures ∙ ap (λ rs. word_at rs c.as_slice-2.result.now c.args.addr) c.as_slice.ensures.value
+    ∙ ap (λ ws. word_at c.self.inside.regions.items ws c.args.addr) c.as_slice-2.ensures.value ∙ sym (shown_is c.self.inside c.args.addr c.ranges.addr.fits))

@@ -1,0 +1,2 @@
+-- What every lawful journal says of its stops by watchpoints.
+pub mod Triggered

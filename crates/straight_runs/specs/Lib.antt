@@ -1,0 +1,2 @@
+-- The definitions of runs: this project's own.
+pub mod Runs

@@ -1,0 +1,116 @@
+// Regions of text: words side by side in memory, up to a gap on either side.
+ghost use Rattle.std.specs.Prelude.{◌≡◌, ◌<◌, ◌≤◌, ℕ, ◌+◌, ◌-◌, ◌*◌, ◌/◌, ◌%◌, ◌^◌, IfSome, Some, None, find, length};
+ghost use Rattle.text_words.specs.Layout.{AreApart, IsLayout, IsWholeSpan, has, index};
+
+use rv_exec::Operation;
+
+/// Where the words of a region are: of one text section, or of several that join.
+#[derive(Clone, Copy)]
+pub struct Region {
+    /// The address of its first word, a multiple of 4.
+    pub address: u32,
+    /// The number of its words.
+    pub count: usize,
+    /// The place of its first word.
+    pub first: usize,
+}
+
+// The region that has an address.
+fn region_at(regions: &[Region], addr: u32) -> Option<Region>
+    requires { AreApart regions.now }
+    ensures { result ≡ find (has addr) regions.now }
+{
+    let after = regions.partition_point(|region| region.address <= addr);
+    if after == 0 {
+        return None;
+    }
+    let region = regions[after - 1];
+    let i = ((addr - region.address) / 4) as usize;
+    if i < region.count { Some(region) } else { None }
+}
+
+/// The place of the word at an address.
+pub fn place_of(regions: &[Region], addr: u32, len: usize) -> Option<usize>
+    requires { IsLayout regions.now len }
+    ensures value { result ≡ index regions.now addr }
+    ensures range { IfSome result (λ i. i < len) }
+{
+    if addr % 4 != 0 {
+        return None;
+    }
+    match region_at(regions, addr) {
+        Some(region) => Some(region.first + ((addr - region.address) / 4) as usize),
+        None => None,
+    }
+}
+
+/// Words side by side.
+#[derive(Clone, Copy)]
+pub struct Span {
+    /// The address of the first one.
+    pub address: u32,
+    /// Its place.
+    pub first: usize,
+    /// How many there are. None of them is past the last address.
+    pub count: usize,
+}
+
+/// The words from an address on, up to a gap; none where no word is.
+pub fn span_from(regions: &[Region], addr: u32, len: usize) -> Span
+    requires { IsLayout regions.now len }
+    ensures address { result.address ≡ addr }
+    ensures within { result.first + result.count ≤ len }
+    ensures low { (k : ℕ) → k < result.count → addr + 4 * k < 2 ^ 32 }
+    ensures found { (k : ℕ) → k < result.count → index regions.now (addr + 4 * k) ≡ Some (result.first + k) }
+    ensures ends { addr + 4 * result.count < 2 ^ 32 → index regions.now (addr + 4 * result.count) ≡ None }
+{
+    if addr % 4 == 0 {
+        if let Some(region) = region_at(regions, addr) {
+            let i = ((addr - region.address) / 4) as usize;
+            let most = (u32::MAX - addr) / 4 + 1;
+            return Span {
+                address: addr,
+                first: region.first + i,
+                count: (region.count - i).min(most as usize),
+            };
+        }
+    }
+    Span {
+        address: addr,
+        first: 0,
+        count: 0,
+    }
+}
+
+/// The words of the region that has an address, from its beginning on; none where no word is there.
+pub fn span_around(regions: &[Region], addr: u32, len: usize) -> Span
+    requires { IsLayout regions.now len }
+    ensures { IsWholeSpan regions.now len addr result }
+{
+    let address = match region_at(regions, addr) {
+        Some(region) => region.address,
+        None => 0,
+    };
+    span_from(regions, address, len)
+}
+
+/// A region of text, laid open for a hart that runs in it.
+#[derive(Clone, Copy)]
+pub struct OpenRegion<'a> {
+    /// The address of the first word, a multiple of 4.
+    pub address: u32,
+    /// The operation of each word: that of EBREAK where a breakpoint is planted, and where the word is no instruction.
+    pub operations: &'a [Operation],
+}
+
+impl<'a> OpenRegion<'a> {
+    /// The place of the word at an address; more than any place where the region has none there.
+    #[inline(always)]
+    pub fn place(&self, addr: u32) -> usize
+        ensures here { self.now.address + 4 * result < 2 ^ 32 → addr ≡ self.now.address + 4 * result }
+        ensures found { self.now.address ≤ addr → (addr - self.now.address) % 4 ≡ 0 → result ≡ (addr - self.now.address) / 4 }
+    {
+        // Where the distance is no multiple of 4, its lowest bits become the highest.
+        addr.wrapping_sub(self.address).rotate_right(2) as usize
+    }
+}
