@@ -1,5 +1,0 @@
-use Rattle.std.proofs.Common.{length}
-use Rattle.mi_reports.proofs.frames.+push_frames.Given as goal
-
-abbrev pub decreases-push_frames : goal.decreases-push_frames
-decreases-push_frames l = length l.frames.now

@@ -1,5 +1,0 @@
-use Rattle.std.proofs.Common.{length}
-use Rattle.mi_reports.proofs.lines.+write_all.Given as goal
-
-abbrev pub decreases-write_all : goal.decreases-write_all
-decreases-write_all l = length l.lines.now
