@@ -34,19 +34,27 @@ pub enum Flow {
 
 /// Executes one operation of a hart whose pc the caller keeps: that in the registers isn't read, and stays. Unless the answer is
 /// `Next` or `Jump`, nothing has changed.
+///
+/// `Loop` is a type of the caller's choice that tells its loop from others: each loop has a copy of its own, which a compiler
+/// then puts into it.
 #[inline(always)]
 #[tactic(auto, using(crate::proofs::Flat::flow_flat))]
-pub fn advance<P: DataPort>(operation: &Operation, pc: u32, regs: &mut Regs, port: &mut P) -> Flow
+pub fn advance<P: DataPort, Loop>(
+    operation: &Operation,
+    pc: u32,
+    regs: &mut Regs,
+    port: &mut P,
+) -> Flow
     ensures step { (i : Instr) → operation.now ≡ flat i → flow_outcome result pc regs.new (P.memory port.new) ≡ step i (set_pc regs.old pc) (P.memory port.old) }
     ensures kept { IfUnexecuted result ((regs.new ≡ regs.old) × (P.memory port.new ≡ P.memory port.old)) }
 {
-    advance_as_meant(operation, pc, regs, port)
+    advance_as_meant::<P, Loop>(operation, pc, regs, port)
 }
 
 // The same, by the instruction that the operation means.
 #[inline(always)]
 #[tactic(auto, using(crate::proofs::Flat::set_apart))]
-fn advance_as_meant<P: DataPort>(
+fn advance_as_meant<P: DataPort, Loop>(
     operation: &Operation,
     pc: u32,
     regs: &mut Regs,

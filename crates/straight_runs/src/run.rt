@@ -69,7 +69,7 @@ fn run_in_region<G: Guard>(
                 ends: true,
             };
         }
-        match advance(operation, pc, regs, memory) {
+        match advance::<_, G>(operation, pc, regs, memory) {
             Flow::Next => {
                 last = pc;
                 pc = pc.wrapping_add(4);

@@ -42,7 +42,7 @@ fn run_at(instruction: Instr, at: u32, x5: u32, x6: u32) -> (Effect, Regs) {
 fn advanced<P: DataPort>(instruction: Instr, regs: &mut Regs, port: &mut P) -> Effect {
     let operation = Operation::of(instruction);
     let pc = regs.pc();
-    match advance(&operation, pc, regs, port) {
+    match advance::<_, ()>(&operation, pc, regs, port) {
         Flow::Next => {
             regs.set_pc(pc.wrapping_add(4));
             Effect::Done
