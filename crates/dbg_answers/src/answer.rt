@@ -3,7 +3,7 @@ ghost use Rattle.std.specs.Prelude.{◌≡◌};
 ghost use Rattle.std.specs.Prelude.{Result, IfOk};
 ghost use Rattle.dbg_model.specs.declared.reply.Refused.{Refused};
 ghost use Rattle.dbg_model.specs.Outcome.{Outcome, doing, showing, told};
-ghost use Rattle.dbg_answers.specs.Answer.{Gives, outcome_of};
+ghost use Rattle.dbg_answers.specs.Answer.{Gives, answered, outcome_of};
 ghost use Rattle.dbg_effects.specs.Effect.{change_of};
 ghost use Rattle.dbg_answers.specs.declared.answer.Failure.TheVariants as failure;
 
@@ -85,7 +85,27 @@ pub fn hindered(obstacle: Obstacle) -> Failure
     Failure::Refused(Refused::Hindered(obstacle))
 }
 
-/// What comes of a command in the end; one that is refused changes nothing.
+/// The answer of a call that takes no memory, where others may.
+pub fn answer_of(done: Result<Answer, Refused>) -> Result<Answer, Failure>
+    ensures { Gives result (answered done) }
+{
+    match done {
+        Ok(answer) => Ok(answer),
+        Err(refused) => Err(Failure::Refused(refused)),
+    }
+}
+
+/// What comes of a command in the end, where no memory is taken; one that is refused changes nothing.
+pub fn settled(done: Result<Answer, Refused>) -> Answer
+    ensures { outcome_of result ≡ told (answered done) }
+{
+    match done {
+        Ok(answer) => answer,
+        Err(refused) => showing(Content::Refused(refused)),
+    }
+}
+
+/// The same where memory may be taken.
 pub fn told(done: Result<Answer, Failure>) -> Result<Answer, NoMemory>
     ensures { (r : Result Outcome Refused) → Gives done r → IfOk result (λ a. outcome_of a ≡ told r) }
 {

@@ -11,7 +11,7 @@ ghost use Rattle.watch_points.specs.Watches.{has_watch};
 ghost use Rattle.dbg_answers.specs.Rows.{rows_below};
 ghost use Rattle.dbg_model.specs.Breakpoints.{after, asked_at, breakpoint_row, change_condition, condition_text, delete, enable, insert, inserting, known, known_either, known_thread, list, listed, named, on_line, place, placed, room, with_row, with_watches};
 ghost use Rattle.dbg_answers.specs.Debuggee.{seen};
-ghost use Rattle.dbg_answers.specs.Answer.{Gives, GivesAs};
+ghost use Rattle.dbg_answers.specs.Answer.{Gives, GivesAs, answered};
 
 use crate::answer::{Answer, Failure, doing, showing};
 use crate::debuggee::Debuggee;
@@ -96,8 +96,8 @@ fn known(debuggee: &Debuggee<'_>, numbers: &[u32]) -> Result<(), Refused>
 }
 
 /// `-break-delete N..`.
-pub fn delete(debuggee: &Debuggee<'_>, numbers: NumberList) -> Result<Answer, Failure>
-    ensures { Gives result (delete (seen debuggee.now) numbers) }
+pub fn delete(debuggee: &Debuggee<'_>, numbers: NumberList) -> Result<Answer, Refused>
+    ensures { answered result ≡ delete (seen debuggee.now) numbers }
 {
     known_either(debuggee, numbers.as_slice())?;
     Ok(doing(Effect::Delete(numbers)))
@@ -108,16 +108,16 @@ pub fn enable(
     debuggee: &Debuggee<'_>,
     numbers: NumberList,
     enabled: bool,
-) -> Result<Answer, Failure>
-    ensures { Gives result (enable (seen debuggee.now) enabled numbers) }
+) -> Result<Answer, Refused>
+    ensures { answered result ≡ enable (seen debuggee.now) enabled numbers }
 {
     known_either(debuggee, numbers.as_slice())?;
     Ok(doing(Effect::Enable { numbers, enabled }))
 }
 
 /// `-break-after N COUNT`.
-pub fn after(debuggee: &Debuggee<'_>, number: u32, count: u32) -> Result<Answer, Failure>
-    ensures { Gives result (after (seen debuggee.now) number count) }
+pub fn after(debuggee: &Debuggee<'_>, number: u32, count: u32) -> Result<Answer, Refused>
+    ensures { answered result ≡ after (seen debuggee.now) number count }
 {
     known(debuggee, &[number])?;
     Ok(doing(Effect::After { number, count }))

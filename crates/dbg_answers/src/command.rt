@@ -4,10 +4,10 @@ ghost use Rattle.dbg_model.specs.Outcome.{told};
 ghost use Rattle.dbg_model.specs.Command.{reply};
 ghost use Rattle.dbg_model.specs.Refusals.{Judges, against};
 ghost use Rattle.dbg_answers.specs.Debuggee.{seen};
-ghost use Rattle.dbg_answers.specs.Answer.{Gives, outcome_of};
+ghost use Rattle.dbg_answers.specs.Answer.{Gives, answered, outcome_of};
 ghost use Rattle.dbg_answers.specs.Subjects.{is_break, is_move, is_setting};
 
-use crate::answer::{Answer, Failure, doing, showing, told};
+use crate::answer::{Answer, Failure, answer_of, doing, showing, told};
 use crate::breakpoints::{after, change_condition, delete, enable, insert, list};
 use crate::debuggee::Debuggee;
 use crate::expressions::evaluate;
@@ -22,17 +22,17 @@ use crate::variables::variable_list;
 use crate::watchpoints::watch;
 use crate::writing::{set_register, write_memory};
 use dbg_effects::Effect;
-use dbg_model::Content;
+use dbg_model::{Content, Refused};
 use dbg_traits::NoMemory;
 use mi_commands::Command;
 use std::alloc::Global;
 
 // What is answered to a command of settings, of registers or of the session.
 #[tactic(auto, unfolding(dbg_model::specs::Command::reply))]
-fn set(debuggee: &Debuggee<'_>, command: Command) -> Result<Answer, Failure>
+fn set(debuggee: &Debuggee<'_>, command: Command) -> Result<Answer, Refused>
     requires setting { is_setting command ≡ true }
     requires few { length debuggee.now.threads.now ≤ 16 }
-    ensures { Gives result (reply (seen debuggee.now) command) }
+    ensures { answered result ≡ reply (seen debuggee.now) command }
 {
     match command {
         Command::SetDisplaced(value) => Ok(doing(Effect::Displace(value))),
@@ -63,7 +63,7 @@ fn go(alloc: Global, debuggee: &Debuggee<'_>, command: Command) -> Result<Answer
         Command::StepInstruction { thread } => take_step(alloc, debuggee, thread, STEP_INSTRUCTION),
         Command::NextInstruction { thread } => take_step(alloc, debuggee, thread, NEXT_INSTRUCTION),
         Command::Finish { thread } => take_step(alloc, debuggee, thread, FINISH),
-        other => set(debuggee, other),
+        other => answer_of(set(debuggee, other)),
     }
 }
 
@@ -76,10 +76,10 @@ fn look(alloc: Global, debuggee: &Debuggee<'_>, command: Command) -> Result<Answ
 {
     match command {
         Command::ThreadInfo { thread } => thread_info(alloc, debuggee, thread),
-        Command::ThreadSelect { thread } => thread_select(debuggee, thread),
+        Command::ThreadSelect { thread } => answer_of(thread_select(debuggee, thread)),
         Command::ThreadList => thread_list(alloc, debuggee),
         Command::FrameList { thread } => frame_list(alloc, debuggee, thread),
-        Command::FrameDepth { thread } => frame_depth(debuggee, thread),
+        Command::FrameDepth { thread } => answer_of(frame_depth(debuggee, thread)),
         Command::FrameInfo { thread } => frame_info(alloc, debuggee, thread),
         Command::VariableList {
             thread,
@@ -92,7 +92,9 @@ fn look(alloc: Global, debuggee: &Debuggee<'_>, command: Command) -> Result<Answ
             numbers,
         } => register_values(alloc, debuggee, thread, format, &numbers),
         Command::ReadMemory { address, count } => read_memory(alloc, debuggee, address, count),
-        Command::WriteMemory { address, bytes } => write_memory(debuggee, address, bytes),
+        Command::WriteMemory { address, bytes } => {
+            answer_of(write_memory(debuggee, address, bytes))
+        }
         Command::Evaluate { thread, expression } => evaluate(alloc, debuggee, thread, &expression),
         other => go(alloc, debuggee, other),
     }
@@ -107,13 +109,13 @@ fn reply(alloc: Global, debuggee: &Debuggee<'_>, command: Command) -> Result<Ans
     match command {
         Command::Blank => Ok(showing(Content::Blank)),
         Command::BreakInsert(insertion) => insert(alloc, debuggee, &insertion),
-        Command::BreakDelete(numbers) => delete(debuggee, numbers),
-        Command::BreakEnable(numbers) => enable(debuggee, numbers, true),
-        Command::BreakDisable(numbers) => enable(debuggee, numbers, false),
+        Command::BreakDelete(numbers) => answer_of(delete(debuggee, numbers)),
+        Command::BreakEnable(numbers) => answer_of(enable(debuggee, numbers, true)),
+        Command::BreakDisable(numbers) => answer_of(enable(debuggee, numbers, false)),
         Command::BreakCondition { number, condition } => change_condition(
             alloc, debuggee, number, &condition,
         ),
-        Command::BreakAfter { number, count } => after(debuggee, number, count),
+        Command::BreakAfter { number, count } => answer_of(after(debuggee, number, count)),
         Command::BreakList => list(alloc, debuggee),
         Command::BreakWatch { expression } => watch(alloc, debuggee, expression),
         other => look(alloc, debuggee, other),

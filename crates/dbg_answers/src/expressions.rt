@@ -10,14 +10,14 @@ ghost use Rattle.dbg_model.specs.declared.reply.Refused.{Refused};
 ghost use Rattle.dbg_model.specs.Outcome.{and_then, showing};
 ghost use Rattle.dbg_model.specs.Data.{evaluate, worth_as, worth_of};
 ghost use Rattle.dbg_answers.specs.Debuggee.{seen};
-ghost use Rattle.dbg_answers.specs.Answer.{Gives, GivesAs};
+ghost use Rattle.dbg_answers.specs.Answer.{Gives, GivesAs, answered};
 ghost use Rattle.dbg_answers.specs.Reading.{ReadsAs};
 
-use crate::answer::{Answer, Failure, hindered, showing};
+use crate::answer::{Answer, Failure, answer_of, hindered, showing};
 use crate::debuggee::Debuggee;
 use crate::variables::read_in;
 use cond_expr::{Expr, ParseError, Value, parse, value};
-use dbg_model::{Content, Obstacle, SeenHart};
+use dbg_model::{Content, Obstacle, Refused, SeenHart};
 use dbg_traits::ByteList;
 use elf_symbols::Symbols;
 use rv_exec::Regs;
@@ -55,13 +55,13 @@ pub fn condition(
     }
 }
 
-fn worth(value: Value) -> Result<Answer, Failure>
-    ensures { Gives result (and_then (worth_as value) (λ v. Ok (showing v))) }
+fn worth(value: Value) -> Result<Answer, Refused>
+    ensures { answered result ≡ and_then (worth_as value) (λ v. Ok (showing v)) }
 {
     match value {
         Value::Word(word, unsigned) => Ok(showing(Content::Value { word, unsigned })),
-        Value::DivZero => Err(hindered(Obstacle::DivisionByZero)),
-        Value::Unread(addr) => Err(hindered(Obstacle::Unreadable(addr))),
+        Value::DivZero => Err(Refused::Hindered(Obstacle::DivisionByZero)),
+        Value::Unread(addr) => Err(Refused::Hindered(Obstacle::Unreadable(addr))),
     }
 }
 
@@ -80,7 +80,7 @@ fn told_value(
         image: debuggee.image,
         memory: debuggee.memory,
     };
-    worth(value(&expression, &view))
+    answer_of(worth(value(&expression, &view)))
 }
 
 /// `-data-evaluate-expression [--thread N] EXPR`.

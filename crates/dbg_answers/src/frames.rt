@@ -4,12 +4,12 @@ ghost use Rattle.frame_walk.specs.Frames.{frames_of};
 ghost use Rattle.dbg_model.specs.Views.{register, shown_byte};
 ghost use Rattle.dbg_model.specs.Frames.{frame_depth, frame_info, frame_list, frame_shown};
 ghost use Rattle.dbg_answers.specs.Debuggee.{seen};
-ghost use Rattle.dbg_answers.specs.Answer.{Gives};
+ghost use Rattle.dbg_answers.specs.Answer.{Gives, answered};
 
 use crate::answer::{Answer, Failure, showing};
 use crate::debuggee::Debuggee;
 use arrayvec::ArrayVec;
-use dbg_model::{Content, FrameList, SeenHart, ShownFrame, SourceIndex, shown_frame};
+use dbg_model::{Content, FrameList, Refused, SeenHart, ShownFrame, SourceIndex, shown_frame};
 use frame_walk::{Frame, walk};
 use rv_exec::Regs;
 use std::alloc::{AllocError, Global};
@@ -63,8 +63,8 @@ pub fn frame_list(
 }
 
 /// `-stack-info-depth [--thread N]`.
-pub fn frame_depth(debuggee: &Debuggee<'_>, thread: Option<u32>) -> Result<Answer, Failure>
-    ensures { Gives result (frame_depth (seen debuggee.now) thread) }
+pub fn frame_depth(debuggee: &Debuggee<'_>, thread: Option<u32>) -> Result<Answer, Refused>
+    ensures { answered result ≡ frame_depth (seen debuggee.now) thread }
 {
     let regs = debuggee.stopped(thread.unwrap_or(debuggee.selected))?;
     let frames = frames_of(debuggee, &regs);

@@ -23,4 +23,4 @@ mod writing;
 pub use answer::Answer;
 pub use command::answer_command;
 pub use debuggee::Debuggee;
-pub use line::{LineAnswer, answer_fault, answer_line, read_line, waits};
+pub use line::{LineAnswer, answer_fault, answer_line, least_is_answered, read_line, waits};

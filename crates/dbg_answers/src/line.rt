@@ -5,12 +5,13 @@ ghost use Rattle.dbg_model.specs.Outcome.{told};
 ghost use Rattle.dbg_model.specs.Command.{asked_reply};
 ghost use Rattle.dbg_model.specs.Refusals.{Judges, against_asked};
 ghost use Rattle.dbg_answers.specs.LineRefusals.{IsAnswered, against_line, refused_in};
+ghost use Rattle.dbg_model.specs.Sight.{Sight};
 ghost use Rattle.dbg_model.specs.Reply.{answer_to, answering, is_wait, waits};
 ghost use Rattle.dbg_answers.specs.Debuggee.{seen};
-ghost use Rattle.dbg_answers.specs.Answer.{Gives, line_answer_of, outcome_of};
+ghost use Rattle.dbg_answers.specs.Answer.{answered, line_answer_of, outcome_of};
 ghost use Rattle.dbg_answers.specs.Reading.{AnswersRead, IsRead, RefusesInput};
 
-use crate::answer::{Answer, Failure, showing, told};
+use crate::answer::{Answer, settled, showing};
 use crate::breakpoints::known_thread;
 use crate::command::answer_command;
 use crate::debuggee::Debuggee;
@@ -65,21 +66,21 @@ fn refusing(token: Token, refused: Refused) -> LineAnswer
 
 // An unknown thread comes before a bad location.
 #[tactic(auto, unfolding(dbg_model::specs::Command::asked_reply))]
-fn refuse(debuggee: &Debuggee<'_>, fault: Fault) -> Result<Answer, Failure>
-    ensures { Gives result (asked_reply (seen debuggee.now) (Err fault)) }
+fn refuse(debuggee: &Debuggee<'_>, fault: Fault) -> Result<Answer, Refused>
+    ensures { answered result ≡ asked_reply (seen debuggee.now) (Err fault) }
 {
     if let Fault::Location { word: _, thread } = &fault {
         known_thread(debuggee, *thread)?;
     }
-    Err(Failure::Refused(Refused::Faulty(fault)))
+    Err(Refused::Faulty(fault))
 }
 
 /// What is answered to a line that has parts and a fault. Of several errors the one with the least number is answered.
-pub fn answer_fault(debuggee: &Debuggee<'_>, fault: Fault) -> Result<Answer, NoMemory>
-    ensures gives { IfOk result (λ a. outcome_of a ≡ told (asked_reply (seen debuggee.now) (Err fault))) }
+pub fn answer_fault(debuggee: &Debuggee<'_>, fault: Fault) -> Answer
+    ensures gives { outcome_of result ≡ told (asked_reply (seen debuggee.now) (Err fault)) }
     ensures least { Judges (asked_reply (seen debuggee.now) (Err fault)) (against_asked (seen debuggee.now) (Err fault)) }
 {
-    told(refuse(debuggee, fault))
+    settled(refuse(debuggee, fault))
 }
 
 // What is answered to a line that has no parts.
@@ -109,7 +110,9 @@ fn answer_read(
             tokened(token, answer_command(alloc, debuggee, command))
         }
         Err(Refusal::Input(fault)) => refuse_input(fault),
-        Err(Refusal::Faulty { token, fault }) => tokened(token, answer_fault(debuggee, fault)),
+        Err(Refusal::Faulty { token, fault }) => {
+            tokened(token, Ok(answer_fault(debuggee, fault)))
+        }
     }
 }
 
@@ -128,6 +131,12 @@ pub fn answer_line(
 {
     answer_read(alloc, debuggee, read)
 }
+
+/// Each line is refused with the least number of all that stands against it, and done where nothing does: so is one that is
+/// answered as the model answers it.
+pub fn least_is_answered()
+    ensures { (s : Sight) (line : List ℕ) → IsAnswered (refused_in (answer_to s line).outcome.content) (against_line s line) }
+{}
 
 fn is_wait(command: &Command) -> bool
     ensures { result ≡ waits (Ok command.now) }

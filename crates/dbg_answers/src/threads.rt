@@ -3,14 +3,14 @@ ghost use Rattle.std.specs.Prelude.{◌≡◌, ◌≤◌, IfOk, length};
 ghost use Rattle.dbg_model.specs.Sight.{each, live_number, shown};
 ghost use Rattle.dbg_model.specs.Threads.{thread_info, thread_list, thread_select};
 ghost use Rattle.dbg_answers.specs.Debuggee.{seen};
-ghost use Rattle.dbg_answers.specs.Answer.{Gives};
+ghost use Rattle.dbg_answers.specs.Answer.{Gives, answered};
 
 use crate::answer::{Answer, Failure, showing};
 use crate::debuggee::Debuggee;
 use crate::each::each;
 use crate::live::{live_thread, show, show_all};
 use dbg_effects::Effect;
-use dbg_model::{Content, Thread, ThreadList, ThreadView};
+use dbg_model::{Content, Refused, Thread, ThreadList, ThreadView};
 use dbg_traits::NumberList;
 use std::alloc::{AllocError, Global};
 
@@ -43,8 +43,8 @@ pub fn thread_info(
 }
 
 /// `-thread-select N`.
-pub fn thread_select(debuggee: &Debuggee<'_>, thread: u32) -> Result<Answer, Failure>
-    ensures { Gives result (thread_select (seen debuggee.now) thread) }
+pub fn thread_select(debuggee: &Debuggee<'_>, thread: u32) -> Result<Answer, Refused>
+    ensures { answered result ≡ thread_select (seen debuggee.now) thread }
 {
     debuggee.live(thread)?;
     Ok(Answer {

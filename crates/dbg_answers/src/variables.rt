@@ -21,7 +21,7 @@ use elf_symbols::Symbols;
 use frame_walk::cfa;
 use rv_exec::Regs;
 use std::alloc::Global;
-use var_expr::{Standing, parse_in, standing_of};
+use var_expr::{Standing, has_names, parse_in, standing_of};
 
 // The value of a text that stands for a variable; no such text divides.
 fn value_as(value: Value) -> VariableValue
@@ -164,8 +164,8 @@ fn tree_as(parsed: Result<Expr, ParseError>) -> Result<Expr, Failure>
     }
 }
 
-/// The expression that a text spells for a thread, with each name of a variable replaced by what stands for it.
-pub fn read_in(
+// The expression that a text spells for a thread, with each name of a variable replaced by what stands for it.
+fn read_with_variables(
     alloc: Global,
     debuggee: &Debuggee<'_>,
     regs: &Regs,
@@ -183,4 +183,27 @@ pub fn read_in(
     let variables = sources.info().variables_at(alloc, regs.pc())?;
     let cfa = cfa(sources.frames(), debuggee.image, &view);
     tree_as(parse_in(alloc, text, &variables, &view, cfa, sources.symbols()))
+}
+
+/// The expression that a text spells for a thread, with each name of a variable replaced by what stands for it. Variables are
+/// looked for only where a name stands in the text.
+pub fn read_in(
+    alloc: Global,
+    debuggee: &Debuggee<'_>,
+    regs: &Regs,
+    text: &[u8],
+) -> Result<Expr, Failure>
+    ensures { GivesAs tree_of result (expression_in (seen debuggee.now) regs.now text.now) }
+{
+    if has_names(alloc, text)? {
+        return read_with_variables(alloc, debuggee, regs, text);
+    }
+    let view = SeenHart {
+        regs,
+        pc: None,
+        image: debuggee.image,
+        memory: debuggee.memory,
+    };
+    let symbols = debuggee.sources.symbols();
+    tree_as(parse_in(alloc, text, &[], &view, None, symbols))
 }

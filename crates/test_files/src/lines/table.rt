@@ -9,7 +9,7 @@ use line_index::LineIndex;
 use line_rows::{LineSections, Row, Rows};
 use std::alloc::Global;
 use std::mem;
-use test_rows::Piece::{Hex, Maybe, Number, Text, Whether};
+use test_rows::Piece::{Count, Hex, Maybe, Number, Text, Whether};
 use test_rows::{RowFault, behind, number_at, said, told, word_at};
 
 /// A program, the rows that are pushed for it, and the index that was built last.
@@ -72,11 +72,23 @@ fn told_row(alloc: Global, lines: &LineIndex, pc: u32) -> Result<String, RowFaul
     }
 }
 
+// The addresses around one at which no other line begins than that of file 0, the first and the one behind the last.
+fn told_around(alloc: Global, lines: &LineIndex, pc: u32, line: u32) -> Result<String, RowFault> {
+    match lines.around(pc, 0, line) {
+        Some(addresses) => told(
+            alloc,
+            &[Count(addresses.start), Text(" "), Count(addresses.end)],
+        ),
+        None => said(alloc, "none"),
+    }
+}
+
 // What is asked of an index.
 fn told_of(alloc: Global, lines: &LineIndex, word: &str, rest: &str) -> Result<String, RowFault> {
     let (first, second) = (number_at(rest, 0), number_at(rest, 1));
     match word {
         "at" => told_row(alloc, lines, first),
+        "around" => told_around(alloc, lines, first, second),
         "body" => told(alloc, &[Hex(body_of(lines, first, second))]),
         "name" => said(
             alloc,
@@ -141,10 +153,10 @@ impl Table {
     }
 
     /// What came of a row: `file NAME`, `sequence END ROWS..`, `index pushed` or `index own`, which prepare an index; or `at
-    /// ADDRESS`, `line FILE LINE`, `body ADDRESS SIZE` or `name FILE`, which ask of it.
+    /// ADDRESS`, `around ADDRESS LINE`, `line FILE LINE`, `body ADDRESS SIZE` or `name FILE`, which ask of it.
     pub fn answer(&mut self, alloc: Global, word: &str, rest: &str) -> Result<String, RowFault> {
         match word {
-            "at" | "line" | "body" | "name" => told_of(alloc, &self.lines, word, rest),
+            "at" | "around" | "line" | "body" | "name" => told_of(alloc, &self.lines, word, rest),
             _ => {
                 self.prepare(alloc, word, rest)?;
                 said(alloc, "done")
