@@ -161,6 +161,13 @@ impl Engine {
         None
     }
 
+    /// How many instructions were executed.
+    pub fn retired(&self) -> u64
+        ensures { result ≡ self.now.retired }
+    {
+        self.retired
+    }
+
     /// How many harts there are.
     pub fn harts(&self) -> usize
         ensures { result ≡ length self.now.minds }

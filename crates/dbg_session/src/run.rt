@@ -1,5 +1,5 @@
 // The top call, `debug_run`: the debugger over a world, which is handed back.
-ghost use Rattle.std.specs.Prelude.{◌≡◌, ◌≢◌, None, MatchResult};
+ghost use Rattle.std.specs.Prelude.{◌≡◌, ◌≢◌, ◌==◌, None, Some, if◌then◌else◌, MatchResult};
 ghost use Rattle.dbg_traits.specs.Told.{IsFresh};
 ghost use Rattle.elf_checks.specs.declared.fault.ElfFault.{ElfFault};
 ghost use Rattle.session_parts.specs.Early.{Early};
@@ -53,6 +53,13 @@ fn begin<W: World>(alloc: Global, world: W) -> Result<Session<Outside<W>>, Unloa
     }
 }
 
+// How many workers serve a session, if any do.
+fn crew_of(workers: u32) -> Option<u32>
+    ensures { result ≡ (if workers == 0 then None else Some workers) }
+{
+    if workers == 0 { None } else { Some(workers) }
+}
+
 // The workers of a session, if it has any, serve it until it is over.
 #[inline(never)]
 fn serve<R: Threads + Wait + Sync, W: World + Send, G: Gate + Sync>(
@@ -60,10 +67,9 @@ fn serve<R: Threads + Wait + Sync, W: World + Send, G: Gate + Sync>(
     session: Session<Outside<W>>,
     gate: &G,
 ) -> Session<Outside<W>> {
-    let workers = session.workers();
-    if workers == 0 {
+    let Some(workers) = crew_of(session.workers()) else {
         return session;
-    }
+    };
     let crew = Mutex::new(session);
     run_crew(rt, &crew, workers, gate);
     crew.into_inner()

@@ -1,5 +1,5 @@
 // Where harts wait for returns, and the words that are planted for it.
-ghost use Rattle.std.specs.Prelude.{◌≡◌, ◌<◌, ◌≤◌, ℕ, length, map, slice_get, IsSome, is_some, None, Some, false, true};
+ghost use Rattle.std.specs.Prelude.{◌≡◌, ◌↔◌, ◌<◌, ◌≤◌, ℕ, length, map, slice_get, IsSome, is_some, None, Some, false, true};
 ghost use Rattle.text_words.specs.Words.{shown, unpatched};
 ghost use Rattle.break_table.specs.Table.{with_wait};
 ghost use Rattle.break_table.specs.Text.{is_place};
@@ -57,7 +57,7 @@ pub fn awaited(image: &Image, mind: Mind) -> Option<u32>
 
 /// Whether a hart goes on with another plan.
 pub fn changes(old: Plan, new: Plan) -> bool
-    ensures { result ≡ false → new ≡ old }
+    ensures { (result ≡ false) ↔ (new ≡ old) }
 {
     old != new
 }

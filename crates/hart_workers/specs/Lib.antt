@@ -1,2 +1,3 @@
--- The definition of what a worker does next.
+-- The definitions of what a worker does next, and of the workers' numbers.
 pub mod Next
+pub mod Numbers

@@ -1,5 +1,5 @@
 // What hands out jobs to workers.
-ghost use Rattle.std.specs.Prelude.{◌≡◌, Bool, true, false, ◌↔◌};
+ghost use Rattle.std.specs.Prelude.{◌≡◌, Bool, true, Option, Some, ◌↔◌};
 
 /// What a worker is to do next.
 #[derive(Drop)]
@@ -17,6 +17,8 @@ pub enum Duty<J> {
 /// Neither `Job` nor `Done` need be `Drop`, so generic code can let go of neither: each job that was
 /// handed out is worked, and what is made of it is taken.
 pub trait Crew {
+    ghost use Rattle.hart_workers.specs.declared.crew.Duty.{Duty};
+
     /// Work for one worker, which belongs to one hart.
     type Job;
 
@@ -25,6 +27,12 @@ pub trait Crew {
 
     /// Whether there is nothing left to do.
     ghost is_over: { Self → Bool };
+
+    /// Whether a worker that got `Again` finds nothing to do for a while.
+    ghost rests: { Self → Bool };
+
+    /// What becomes of the crew where a worker that asks is answered so.
+    ghost asks: { Self → Option (Duty Self.Job) → Self → Type 0 };
 
     /// The next duty of a worker; `Over` exactly where the crew was over when the call began.
     fn duty(&mut self, worker: u32) -> Duty<Self::Job>
@@ -39,20 +47,17 @@ pub trait Crew {
     /// Takes what was made of a job.
     fn take(&mut self, done: Self::Done);
 
-    /// Does what the next duty asks for, with its job, where no other worker could work beside. False where one could, or the
-    /// crew is over: then nothing is done, and a duty is to be asked for.
-    fn serve_alone(&mut self) -> bool
-        ensures none { result ≡ false → self.new ≡ self.old }
-    {
-        false
-    }
+    /// The next duty of a worker, or None where that is done with its job already: the job was worked where it stands, since to
+    /// hand it out would take longer, or no other worker could work beside.
+    fn ask(&mut self, worker: u32) -> Option<Duty<Self::Job>>
+        ensures over { (result ≡ Some Duty.Over) ↔ (is_over self.old ≡ true) }
+        ensures asks { asks self.old result self.new };
 
     /// Whether there is nothing left to do.
     fn over(&self) -> bool
         ensures { result ≡ is_over self.now };
 
     /// Whether a worker that got `Again` finds nothing to do for a while. Else it asks again at once.
-    fn is_idle(&self) -> bool {
-        true
-    }
+    fn is_idle(&self) -> bool
+        ensures { result ≡ rests self.now };
 }

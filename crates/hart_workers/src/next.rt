@@ -1,5 +1,5 @@
 // What a worker does next.
-ghost use Rattle.std.specs.Prelude.{◌≡◌, ◌↔◌, true};
+ghost use Rattle.std.specs.Prelude.{◌≡◌, ◌↔◌, Option, true};
 ghost use Rattle.hart_workers.specs.Next.{next_of};
 
 use crate::{Crew, Duty};
@@ -17,24 +17,20 @@ pub enum Next<J> {
     End,
 }
 
-// What a worker does after a duty, where its crew is idle or isn't.
+/// What a worker does behind its next ask. It ends exactly where the crew was over.
 #[inline(always)]
-fn next_of<J>(duty: Duty<J>, idle: bool) -> Next<J>
-    ensures { result ≡ next_of duty idle }
+pub fn next_of_ask<C: Crew>(crew: &mut C, worker: u32) -> Next<C::Job>
+    ensures asks { (answer : Option (Duty C.Job)) × C.asks crew.old answer crew.new × (result ≡ next_of answer (C.rests crew.new)) }
+    ensures ends { (result ≡ Next.End) ↔ (C.is_over crew.old ≡ true) }
 {
-    match duty {
-        Duty::Job(job) => Next::Work(job),
-        Duty::Again => if idle { Next::Rest } else { Next::Ask },
-        Duty::Over => Next::End,
+    match crew.ask(worker) {
+        None => Next::Ask,
+        Some(Duty::Job(job)) => Next::Work(job),
+        Some(Duty::Again) => if crew.is_idle() {
+            Next::Rest
+        } else {
+            Next::Ask
+        },
+        Some(Duty::Over) => Next::End,
     }
-}
-
-/// What a worker does after its next duty. It ends exactly where the crew was over.
-#[inline(always)]
-pub fn next_of_duty<C: Crew>(crew: &mut C, worker: u32) -> Next<C::Job>
-    ensures { (result ≡ Next.End) ↔ (C.is_over crew.old ≡ true) }
-{
-    let duty = crew.duty(worker);
-    let idle = matches!(duty, Duty::Again) && crew.is_idle();
-    next_of(duty, idle)
 }

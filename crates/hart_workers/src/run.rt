@@ -1,8 +1,10 @@
 // Workers on threads of their own.
-ghost use Rattle.std.specs.Prelude.{◌≤◌};
+ghost use Rattle.std.specs.Prelude.{◌≡◌, ◌≤◌};
+ghost use Rattle.hart_workers.specs.Numbers.{upto};
 
 use crate::Crew;
 use crate::worker::{BRIEF, Worker};
+use arrayvec::ArrayVec;
 use dbg_traits::Gate;
 use std::sync::{Mutex, Wait};
 use std::thread;
@@ -25,6 +27,18 @@ fn serve<R: Wait, C: Crew, G: Gate>(rt: &R, crew: &Mutex<C>, number: u32, gate: 
     }
 }
 
+// The numbers of so many workers.
+fn numbers(workers: u32) -> ArrayVec<u32, 16>
+    requires { workers ≤ 16 }
+    ensures { result.items ≡ upto workers }
+{
+    let mut numbers = ArrayVec::new();
+    for worker in 0..workers {
+        numbers.push(worker);
+    }
+    numbers
+}
+
 /// Runs 1 to 16 workers over a crew, and returns when each got `Over`.
 ///
 /// Each worker has a thread of its own; where the system gives none, its work is done on another worker's
@@ -38,11 +52,11 @@ pub fn run_crew<R: Threads + Wait + Sync, C: Crew + Send, G: Gate + Sync>(
     requires some { 1 ≤ workers }
     requires most { workers ≤ 16 }
 {
-    let mut table: [u32; 16] = [0, 1, 2, 3, 4, 5, 6, 7, 8, 9, 10, 11, 12, 13, 14, 15];
-    let count = workers as usize;
+    let mut numbers = numbers(workers);
+    let count = numbers.len();
     thread::for_each_mut(
         rt,
-        &mut table[..count],
+        numbers.as_mut_slice(),
         count,
         &|_, worker| { serve(rt, crew, *worker, gate) },
     );

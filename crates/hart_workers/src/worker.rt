@@ -1,7 +1,8 @@
 // One worker, and how it gets the lock of its crew.
+ghost use Rattle.std.specs.Prelude.{◌≡◌, None, true};
 
 use crate::Crew;
-use crate::next::{Next, next_of_duty};
+use crate::next::{Next, next_of_ask};
 use dbg_traits::Gate;
 use std::hint::spin_loop;
 use std::sync::{Mutex, MutexGuard, Wait};
@@ -69,17 +70,17 @@ impl<'a, R: Wait, C: Crew, G: Gate> Worker<'a, R, C, G> {
         held
     }
 
-    /// Asks for duties under the lock, while there is something to do and no job is given, and does what comes of the last. While
-    /// the crew serves alone it has no duty to ask for. The lock again; None where the worker ends. One that finds nothing to do lets others run, since they would have to wait for the
-    /// lock. A job is worked where it is given, and under no loop of this function's: so it is moved least.
+    /// Asks for duties under the lock, while there is something to do and no job is given, and does what comes of the last. The
+    /// lock again; None where the worker ends, which it does where a crew was over. One that finds nothing to do lets others run,
+    /// since they would have to wait for the lock. A job is worked where it is given, and under no loop of this function's: so it
+    /// is moved least.
     #[inline(never)]
-    pub fn serve_once(&self, held: MutexGuard<'a, C>) -> Option<MutexGuard<'a, C>> {
+    pub fn serve_once(&self, held: MutexGuard<'a, C>) -> Option<MutexGuard<'a, C>>
+        ensures { result ≡ None → (crew : C) × (C.is_over crew ≡ true) }
+    {
         let mut held = held;
         for _ in 0..DUTIES {
-            if held.serve_alone() {
-                continue;
-            }
-            match next_of_duty::<C>(&mut held, self.number) {
+            match next_of_ask::<C>(&mut held, self.number) {
                 Next::Work(job) => {
                     drop(held);
                     return Some(self.work(job));

@@ -1,5 +1,5 @@
 -- How a check ends.
-use Rattle.std.proofs.Common.{◌≡◌, ◌≤◌, ◌<◌, ℕ, Bool, true, false, List, [], ◌∷◌, ◌++◌, length, take, drop, refl, sym, ap, ◌∙◌, subst, arith}
+use Rattle.std.proofs.Common.{◌≡◌, ◌≤◌, ◌<◌, ◌+◌, ℕ, Bool, true, false, List, [], ◌∷◌, ◌++◌, length, take, drop, refl, sym, ap, ◌∙◌, subst, arith}
 use Rattle.std.proofs.lemmas.List.{take-append-drop}
 use Rattle.std.specs.Prelude.{◌⊎◌, Option, Some, None, IfSome}
 use mathlib.Core.List.{append-nil}
@@ -118,13 +118,17 @@ finds_polled p input ended (Unlawful n) h (inr w) = absurd (omega (arith, h.0, w
 finds_polled p input ended (Differs n) h (inl w) = w
 finds_polled p input ended (Differs n) h (inr w) = absurd (omega (arith, h.0, w))
 
+beyond : (input : List ℕ) (ended : Bool) → ((ended ≡ true) × (length input ≤ most_input)) ⊎ ((most_input < length input) × (length input ≤ most_input + 4096)) → ((ended ≡ true) × (length input ≤ most_input)) ⊎ (most_input < length input)
+beyond input ended (inl w) = inl w
+beyond input ended (inr w) = inr w.0
+
 pub input_found : (name : List ℕ) (t u : Told) (p : Program) (input : List ℕ) (found : Finding) → IsLoaded name t p → PollsAll input t u → Finds p input found → IsFound name u found
 input_found name t u p input found h all finds = rw all.1.told (record {
   judged = record {
     program = p;
     file = record { named = h.file.named; whole = h.file.whole; taken = h.file.taken; faults = h.file.faults; image = h.file.image };
     faults = refl;
-    polled = finds_polled p input all.0 found finds all.2;
+    polled = finds_polled p input all.0 found finds (beyond input all.0 all.2);
     length = told_all t.polled input (λ i. length i ≡ length input) h.input.polled refl;
     finds = told_all t.polled input (λ i. Finds p i found) h.input.polled finds;
   };

@@ -1,5 +1,5 @@
 -- The whole input, polled.
-use Rattle.std.specs.Prelude.{◌≡◌, ◌⊎◌, ◌<◌, ◌≤◌, ℕ, Bool, true, false, List, [], length, Option, None, Some, IfSome}
+use Rattle.std.specs.Prelude.{◌≡◌, ◌⊎◌, ◌<◌, ◌≤◌, ◌+◌, ℕ, Bool, true, false, List, [], length, Option, None, Some, IfSome}
 use Rattle.dbg_traits.specs.Told.{Told, Ask, more}
 use Rattle.dbg_traits.specs.Causes.{Rose}
 use Rattle.session_check.specs.declared.input.InputError.{InputError}
@@ -19,9 +19,9 @@ pub record Polls (input : List ℕ) (ended : Bool) (faults : ℕ) (t u : Told) :
   pub asks : Option (List Ask)
   pub told : u ≡ record t { polled = more t.polled input; input_length = length input; polls = polls; asks = asks; poll_ended = ended; poll_faults = faults }
 
--- all of the input was polled, or more than the most
+-- all of the input was polled, or more than the most, by one piece at most
 abbrev pub PollsAll : List ℕ → Told → Told → Type 0
-PollsAll input t u = (ended : Bool) × Polls input ended 0 t u × (((ended ≡ true) × (length input ≤ most_input)) ⊎ (most_input < length input))
+PollsAll input t u = (ended : Bool) × Polls input ended 0 t u × (((ended ≡ true) × (length input ≤ most_input)) ⊎ ((most_input < length input) × (length input ≤ most_input + 4096)))
 
 -- a poll failed, or memory ran out
 abbrev pub PollsSome : InputError → Told → Told → Type 0

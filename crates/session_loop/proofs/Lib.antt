@@ -2,3 +2,5 @@
 pub mod Answering
 -- A session goes to another thread, with its engine.
 pub mod Sending
+-- A hart's job is worked at once while jobs of other harts are out.
+pub mod Asking

@@ -1,2 +1,3 @@
--- The definitions of the session's type.
+-- The definitions of the session's type, and of where a slice is worked.
 pub mod SessionInside
+pub mod Asking

@@ -5,7 +5,7 @@ ghost use Rattle.session_parts.specs.Ties.{IsTied};
 ghost use Rattle.session_parts.specs.Seen.{GotOn, work, no_input, no_line, is_open};
 ghost use Rattle.session_parts.specs.Taking.{has_line, has_looked};
 ghost use Rattle.session_parts.specs.Round.{Takes, Lines, Settles, Round, moment};
-ghost use Rattle.engine_parts.specs.Steps.{NoneOut};
+ghost use Rattle.engine_parts.specs.Steps.{NoneOut, is_out};
 ghost use Rattle.session_parts.specs.Left.{IsLeft};
 ghost use Rattle.session_parts.specs.Stage.{stage_of};
 
@@ -44,6 +44,8 @@ pub struct Session<W: World> {
     next: usize,
     // The harts whose job is out.
     out: [bool; HARTS],
+    // How many more slices of each hart are worked where the words stand.
+    near: [u8; HARTS],
     status: Option<Status>,
 }
 
@@ -109,6 +111,7 @@ impl<W: World> Session<W> {
             known: Known::Open,
             next: 0,
             out: [false; HARTS],
+            near: [0; HARTS],
             status,
         }
     }
@@ -233,6 +236,7 @@ impl<W: World> Session<W> {
         requires { self.old.status ≡ None }
         ensures opening { self.new.run.opening ≡ self.old.run.opening }
         ensures settles { Settles (moment W.told self.old) (moment W.told self.new) }
+        ensures out { self.new.out ≡ self.old.out }
         ensures less { GotOn result self.old self.new (is_open self.old) }
     {
         if !self.ended {
@@ -251,6 +255,7 @@ impl<W: World> Session<W> {
         ensures opening { self.new.run.opening ≡ self.old.run.opening }
         ensures round { Round result (moment W.told self.old) (moment W.told self.new) }
         ensures known { IfSome result (λ h. h < self.old.run.opening.settings.harts) }
+        ensures home { IfSome result (λ h. is_out self.new.out h ≡ false) }
         ensures less { NoneOut self.old.out → work self.new < work self.old }
     {
         self.take_input();
@@ -290,6 +295,7 @@ impl<W: World> Session<W> {
             known: _,
             next: _,
             out: _,
+            near: _,
             status,
         } = self;
         let closed = Some(engine.close());

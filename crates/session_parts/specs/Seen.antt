@@ -22,6 +22,8 @@ pub record Seen (W : Type 0) : Type 0 where
   pub out : List Bool
   -- what is known of the rest of the input
   pub known : Known
+  -- how many more slices of each hart are worked where the words stand
+  pub near : List ℕ
 
 -- nothing but perhaps the world changed
 pub record Same {W : Type 0} (old new : Seen W) : Type 0 where

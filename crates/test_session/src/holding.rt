@@ -5,6 +5,9 @@ use std::sync::atomic::{AtomicU64, Ordering};
 /// How often it is looked whether what is waited for has come.
 const TURNS: u64 = 50_000_000;
 
+/// After so many calls of `idle` another hart's slice isn't waited for any longer.
+const IDLES: u64 = 10_000;
+
 /// What slices wait for.
 #[derive(Clone, Copy)]
 pub enum Waiting {
@@ -25,12 +28,14 @@ impl Waiting {
     }
 }
 
-/// Holds slices until what is waited for has come, or gives up after TURNS turns. Where nothing is, it holds none.
+/// Holds slices until what is waited for has come, or gives up after TURNS turns or IDLES calls of `idle`. Where nothing is, it
+/// holds none.
 #[derive(Drop)]
 pub struct Holding {
     waiting: Option<Waiting>,
     // The hart of the first slice and 1, or 0 before there is one.
     first: AtomicU64,
+    idles: AtomicU64,
     came: AtomicU64,
     gave_up: AtomicU64,
 }
@@ -41,6 +46,7 @@ impl Holding {
         Holding {
             waiting,
             first: AtomicU64::new(0),
+            idles: AtomicU64::new(0),
             came: AtomicU64::new(0),
             gave_up: AtomicU64::new(0),
         }
@@ -87,14 +93,21 @@ impl Gate for Holding {
             if self.came.load(Ordering::SeqCst) != 0 {
                 return;
             }
+            if self.idles.load(Ordering::SeqCst) >= IDLES {
+                break;
+            }
             std::hint::spin_loop();
         }
         self.gave_up.store(1, Ordering::SeqCst);
     }
 
     fn idle(&self, _worker: u32) {
-        if matches!(self.waiting, Some(Waiting::Idle)) {
-            self.came.store(1, Ordering::SeqCst);
+        match self.waiting {
+            None => {}
+            Some(Waiting::Hart) => {
+                self.idles.fetch_add(1, Ordering::SeqCst);
+            }
+            Some(Waiting::Idle) => self.came.store(1, Ordering::SeqCst),
         }
     }
 }

@@ -1,5 +1,5 @@
 // A crew that counts jobs, two of which meet.
-ghost use Rattle.std.specs.Prelude.{◌≡◌, ◌≤◌, ◌==◌};
+ghost use Rattle.std.specs.Prelude.{true, ◌≡◌, ◌≤◌, ◌==◌};
 
 use dbg_traits::OpenGate;
 use hart_workers::{Crew, Duty, run_crew};
@@ -42,6 +42,10 @@ impl<'a> Crew for Counter<'a> {
 
     ghost is_over = { λ c. c.count == c.goal };
 
+    ghost rests = { λ _. true };
+
+    ghost asks = { λ _ _ _. Unit {0} };
+
     fn duty(&mut self, _worker: u32) -> Duty<Meeting<'a>> {
         if self.count == self.goal {
             return Duty::Over;
@@ -51,6 +55,10 @@ impl<'a> Crew for Counter<'a> {
         }
         self.handed += 1;
         Duty::Job(Meeting { begun: self.begun })
+    }
+
+    fn ask(&mut self, worker: u32) -> Option<Duty<Meeting<'a>>> {
+        Some(self.duty(worker))
     }
 
     fn hart_of(_job: &Meeting<'a>) -> u32 {
@@ -84,6 +92,10 @@ impl<'a> Crew for Counter<'a> {
 
     fn over(&self) -> bool {
         self.count == self.goal
+    }
+
+    fn is_idle(&self) -> bool {
+        true
     }
 }
 

@@ -1,5 +1,5 @@
 // A crew of two harts, whose slices are ready side by side.
-ghost use Rattle.std.specs.Prelude.{◌≡◌, ◌<◌, nat_le};
+ghost use Rattle.std.specs.Prelude.{true, ◌≡◌, ◌<◌, nat_le};
 
 use dbg_traits::Gate;
 use hart_workers::{Crew, Duty, run_crew};
@@ -95,6 +95,10 @@ impl Crew for Harts {
 
     ghost is_over = { λ m. nat_le 20 m.taken };
 
+    ghost rests = { λ _. true };
+
+    ghost asks = { λ _ _ _. Unit {0} };
+
     fn duty(&mut self, _worker: u32) -> Duty<u32> {
         if self.taken >= 20 {
             return Duty::Over;
@@ -105,6 +109,10 @@ impl Crew for Harts {
             Some(job) => Duty::Job(job),
             None => Duty::Again,
         }
+    }
+
+    fn ask(&mut self, worker: u32) -> Option<Duty<u32>> {
+        Some(self.duty(worker))
     }
 
     fn hart_of(job: &u32) -> u32 {
@@ -124,6 +132,10 @@ impl Crew for Harts {
 
     fn over(&self) -> bool {
         self.taken >= 20
+    }
+
+    fn is_idle(&self) -> bool {
+        true
     }
 }
 

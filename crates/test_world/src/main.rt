@@ -5,6 +5,7 @@
 #![tactic(auto)]
 
 mod counted;
+mod gated;
 mod harts;
 mod names;
 mod rests;
@@ -23,6 +24,7 @@ fn answer<R: Threads + Wait + Sync>(rt: &R, alloc: Global, row: &str) -> Result<
     match word {
         "view" | "settings" | "place" => names::answer(alloc, word, rest),
         "count" => counted::answer(rt, alloc, rest),
+        "gated" => gated::answer(rt, alloc, rest),
         "harts" => harts::answer(rt, alloc),
         "asks" => rolled::answer(rt, alloc, rest),
         "rests" => rests::answer(rt, alloc, rest),

@@ -9,10 +9,11 @@ use std::sync::{Mutex, Wait};
 use std::thread::Threads;
 use test_rows::{RowFault, number};
 
-// Answers so many asks with Again before it is over. Meanwhile it has something to do, or hasn't.
+// Answers so many asks before it is over: by itself, where it serves here, and else with Again. Meanwhile it is idle or isn't.
 #[derive(Drop)]
 struct Asked {
     idle: bool,
+    here: bool,
     left: u32,
 }
 
@@ -23,12 +24,24 @@ impl Crew for Asked {
 
     ghost is_over = { λ c. c.left == 0 };
 
+    ghost rests = { λ c. c.idle };
+
+    ghost asks = { λ _ _ _. Unit {0} };
+
     fn duty(&mut self, _worker: u32) -> Duty<u32> {
         if self.left == 0 {
             return Duty::Over;
         }
         self.left -= 1;
         Duty::Again
+    }
+
+    fn ask(&mut self, worker: u32) -> Option<Duty<u32>> {
+        if self.here && self.left > 0 {
+            self.left -= 1;
+            return None;
+        }
+        Some(self.duty(worker))
     }
 
     fn hart_of(_job: &u32) -> u32 {
@@ -74,7 +87,8 @@ fn count<R: Threads + Wait + Sync, C: Crew + Send + Drop>(rt: &R, crew: C) -> u6
     gate.idles.load(Ordering::SeqCst)
 }
 
-/// `WHETHER ASKS`, of which the first is `idle` or `busy`: how often a worker rests that is answered Again so many times.
+/// `WHETHER ASKS`, of which the first is `idle`, `busy` or `here`: how often a worker rests that is answered so many times, with
+/// Again by an idle crew or a busy one, or by an idle one that serves by itself.
 pub fn answer<R: Threads + Wait + Sync>(
     rt: &R,
     alloc: Global,
@@ -82,7 +96,8 @@ pub fn answer<R: Threads + Wait + Sync>(
 ) -> Result<String, RowFault> {
     let (which, asks) = text.split_once(' ').ok_or(RowFault::Unknown)?;
     let left = number(asks).ok_or(RowFault::Unknown)?;
-    let idle = which == "idle";
-    let rests = count(rt, Asked { idle, left });
+    let here = which == "here";
+    let idle = here || which == "idle";
+    let rests = count(rt, Asked { idle, here, left });
     Ok(format!(in alloc; "{rests}")?)
 }

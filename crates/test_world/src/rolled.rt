@@ -1,5 +1,5 @@
 // A crew that notes who asks.
-ghost use Rattle.std.specs.Prelude.{◌≡◌};
+ghost use Rattle.std.specs.Prelude.{true, ◌≡◌};
 
 use dbg_traits::OpenGate;
 use hart_workers::{Crew, Duty, run_crew};
@@ -46,6 +46,10 @@ impl Crew for Roll {
 
     ghost is_over = { λ c. c.over };
 
+    ghost rests = { λ _. true };
+
+    ghost asks = { λ _ _ _. Unit {0} };
+
     fn duty(&mut self, worker: u32) -> Duty<u32> {
         if self.over {
             return Duty::Over;
@@ -65,6 +69,10 @@ impl Crew for Roll {
         Duty::Job(self.handed)
     }
 
+    fn ask(&mut self, worker: u32) -> Option<Duty<u32>> {
+        Some(self.duty(worker))
+    }
+
     fn hart_of(_job: &u32) -> u32 {
         0
     }
@@ -80,6 +88,10 @@ impl Crew for Roll {
 
     fn over(&self) -> bool {
         self.over
+    }
+
+    fn is_idle(&self) -> bool {
+        true
     }
 }
 

@@ -1,10 +1,11 @@
 // A session as a crew: its duties are rounds, its jobs the slices of harts.
-ghost use Rattle.std.specs.Prelude.{◌≡◌, ◌≢◌, ◌<◌, ◌≤◌, ◌↔◌, ◌&&◌, true, false, None, IfSome, IsTrue, is_none, is_some, nat_lt, slice_set};
-ghost use Rattle.engine_parts.specs.Steps.{NoneOut};
+ghost use Rattle.std.specs.Prelude.{◌≡◌, ◌≢◌, ◌<◌, ◌≤◌, ◌↔◌, ◌&&◌, ◌-◌, true, false, None, Some, IfSome, IsTrue, is_none, is_some, nat_lt, slice_set};
+ghost use Rattle.engine_parts.specs.Steps.{NoneOut, is_out};
 ghost use Rattle.session_parts.specs.Crew.{Duties, Gives, IsWorkOf, Reaches, ServesAlone, ServesHart, ServesOnce, TakesBack, TakesBy, is_alone, is_idle};
 ghost use Rattle.session_parts.specs.Taking.{has_looked};
 ghost use Rattle.session_parts.specs.Round.{moment};
 ghost use Rattle.session_parts.specs.Seen.{work};
+ghost use Rattle.session_loop.specs.Asking.{Asks, Chooses, counted, in_place, near_behind, near_of};
 
 use super::{HARTS, Session};
 use crate::ending::over;
@@ -23,6 +24,46 @@ fn clear(marks: &mut [bool], hart: u32)
     }
 }
 
+// A slice of fewer instructions is short: to copy a job, hand it out and take it back takes as long as some fifty.
+const LONG: u64 = 64;
+
+// How many slices of a hart are worked where the words stand behind a short one that was handed out. Then one is handed out
+// again, so that a hart that comes to long ones is found out.
+const NEAR: u8 = 63;
+
+// How many more slices of a hart are worked where the words stand, behind one of so many instructions.
+fn near_behind(near: u8, count: u64) -> u8
+    ensures { result ≡ near_behind near count }
+{
+    if count >= LONG {
+        return 0;
+    }
+    if near == 0 {
+        return NEAR;
+    }
+    near - 1
+}
+
+// How many more slices of this hart are.
+fn near_of(near: &[u8], hart: u32) -> u8
+    ensures { result ≡ near_of near.now hart }
+{
+    match near.get(hart as usize) {
+        Some(near) => *near,
+        None => 0,
+    }
+}
+
+// Counts a slice of a hart.
+fn count_slice(near: &mut [u8], hart: u32, count: u64)
+    ensures { near.new ≡ counted near.old hart count }
+{
+    let behind = near_behind(near_of(near, hart), count);
+    if (hart as usize) < near.len() {
+        near[hart as usize] = behind;
+    }
+}
+
 impl<W: World> Session<W> {
     /// The number of workers, 0 to 16.
     pub fn workers(&self) -> u32
@@ -38,6 +79,7 @@ impl<W: World> Session<W> {
         ensures opening { self.new.run.opening ≡ self.old.run.opening }
         ensures reaches { Reaches result (moment W.told self.old) (moment W.told self.new) }
         ensures known { IfSome result (λ h. h < self.new.run.opening.settings.harts) }
+        ensures home { IfSome result (λ h. is_out self.new.out h ≡ false) }
         ensures less { NoneOut self.old.out → work self.new < work self.old }
     {
         let hart = self.go_round()?;
@@ -52,6 +94,7 @@ impl<W: World> Session<W> {
         requires { hart < self.old.run.opening.settings.harts }
         ensures opening { self.new.run.opening ≡ self.old.run.opening }
         ensures gives { Gives hart result (moment W.told self.old) (moment W.told self.new) }
+        ensures near { self.new.near ≡ self.old.near }
         ensures work { work self.new ≡ work self.old }
     {
         let job = self.engine.check_out(hart)?;
@@ -65,6 +108,7 @@ impl<W: World> Session<W> {
         requires some { 1 ≤ slice.now.count }
         ensures opening { self.new.run.opening ≡ self.old.run.opening }
         ensures takes { TakesBy true slice.now (moment W.told self.old) (moment W.told self.new) }
+        ensures near { self.new.near ≡ self.old.near }
         ensures less { work self.new ≤ work self.old }
     {
         if self.engine.reserve_journal(SPARE).is_err() {
@@ -81,6 +125,7 @@ impl<W: World> Session<W> {
     fn bring(&mut self, slice: &Slice)
         ensures opening { self.new.run.opening ≡ self.old.run.opening }
         ensures takes { TakesBy (is_none self.old.status && nat_lt 0 slice.now.count) slice.now (moment W.told self.old) (moment W.told self.new) }
+        ensures near { self.new.near ≡ self.old.near }
         ensures less { work self.new ≤ work self.old }
     {
         if self.status.is_some() {
@@ -92,6 +137,17 @@ impl<W: World> Session<W> {
         self.commit(slice);
     }
 
+    // The slice's hart has no job out any more. The slice is done, or forgotten.
+    fn take_back(&mut self, slice: &Slice)
+        ensures opening { self.new.run.opening ≡ self.old.run.opening }
+        ensures takes { TakesBack slice.now (moment W.told self.old) (moment W.told self.new) }
+        ensures near { self.new.near ≡ self.old.near }
+        ensures less { work self.new ≤ work self.old }
+    {
+        clear(&mut self.out, slice.hart);
+        self.bring(slice);
+    }
+
     // The job of a hart, if it gives one, is worked and taken at once.
     #[cold]
     #[inline(never)]
@@ -100,23 +156,25 @@ impl<W: World> Session<W> {
         requires known { hart < self.old.run.opening.settings.harts }
         ensures opening { self.new.run.opening ≡ self.old.run.opening }
         ensures serves { ServesHart hart (moment W.told self.old) (moment W.told self.new) }
+        ensures near { self.new.near ≡ self.old.near }
         ensures less { work self.new ≤ work self.old }
     {
         let Some(job) = self.hand_out(hart) else {
             return;
         };
-        let slice = Self::work(job);
-        self.take(slice);
+        let worked = Self::work(job);
+        self.take_back(&worked);
     }
 
     // Does what the job of a hart asks for, if it gives one: where the words stand, and apart only where there is no room for
-    // an entry, since then it depends on the slice whether any is wanted.
+    // an entry, since then it depends on the slice whether any is wanted. Jobs of other harts may be out.
     fn serve(&mut self, hart: u32)
         requires going { self.old.status ≡ None }
         requires known { hart < self.old.run.opening.settings.harts }
-        requires none { NoneOut self.old.out }
+        requires home { is_out self.old.out hart ≡ false }
         ensures opening { self.new.run.opening ≡ self.old.run.opening }
         ensures serves { ServesHart hart (moment W.told self.old) (moment W.told self.new) }
+        ensures near { self.new.near ≡ self.old.near }
         ensures less { work self.new ≤ work self.old }
     {
         if self.engine.reserve_journal(SPARE).is_err() {
@@ -125,6 +183,21 @@ impl<W: World> Session<W> {
         }
         self.engine.serve(hart);
         self.status = over(&self.engine, self.count);
+    }
+
+    // The same, and counts what it executed.
+    fn serve_near(&mut self, hart: u32)
+        requires going { self.old.status ≡ None }
+        requires known { hart < self.old.run.opening.settings.harts }
+        requires home { is_out self.old.out hart ≡ false }
+        ensures opening { self.new.run.opening ≡ self.old.run.opening }
+        ensures serves { ServesHart hart (moment W.told self.old) (moment W.told self.new) }
+        ensures near { self.new.near ≡ counted self.old.near hart (self.new.run.state.retired - self.old.run.state.retired) }
+    {
+        let before = self.engine.retired();
+        self.serve(hart);
+        let count = self.engine.retired().saturating_sub(before);
+        count_slice(&mut self.near, hart, count);
     }
 
     // One duty, and what its job asks for. It is one of `duty`, but no `Duty` is made of it: to move one through each round takes
@@ -149,6 +222,13 @@ impl<W: World> Session<W> {
         !self.out.contains(&true) && (self.workers() <= 1 || self.engine.running_count() <= 1)
     }
 
+    // Whether the slice of a hart is worked where the words stand.
+    fn in_place(&self, hart: u32) -> bool
+        ensures { result ≡ in_place (moment W.told self.now) self.now.near hart }
+    {
+        near_of(&self.near, hart) > 0 || self.is_alone()
+    }
+
     /// Forgets whose jobs are out, and does duties until the status is set. What a job asks for is done at once, where the
     /// words stand.
     pub fn run_serial(&mut self)
@@ -169,6 +249,10 @@ impl<W: World> Crew for Session<W> {
     type Done = Slice;
 
     ghost is_over = { λ s. is_some s.status };
+
+    ghost rests = { λ s. has_looked s.known && is_idle (moment W.told s) };
+
+    ghost asks = { λ s answer t. Asks (moment W.told s) answer (moment W.told t) };
 
     /// A round, where the status isn't set, and then a job of the hart that was picked, if it gives one.
     fn duty(&mut self, _worker: u32) -> Duty<Job>
@@ -204,29 +288,38 @@ impl<W: World> Crew for Session<W> {
     }
 
     /// The slice's hart has no job out any more. Where the status isn't set the slice's instructions, if there are any, are done
-    /// in one, and no line is put. A slice that can't be taken any more is forgotten.
+    /// in one, and no line is put. A slice that can't be taken any more is forgotten, but for how long it was.
     fn take(&mut self, slice: Slice)
         ensures opening { self.new.run.opening ≡ self.old.run.opening }
         ensures takes { TakesBack slice (moment W.told self.old) (moment W.told self.new) }
+        ensures near { self.new.near ≡ counted self.old.near slice.hart slice.count }
         ensures less { work self.new ≤ work self.old }
     {
-        clear(&mut self.out, slice.hart);
-        self.bring(&slice);
+        count_slice(&mut self.near, slice.hart, u64::from(slice.count));
+        self.take_back(&slice);
     }
 
-    /// One duty, and what its job asks for where the words stand, in a session that goes on in which no job could be worked
-    /// beside another.
-    fn serve_alone(&mut self) -> bool
-        ensures exactly { result ≡ (is_none self.old.status && is_alone (moment W.told self.old)) }
-        ensures none { result ≡ false → self.new ≡ self.old }
+    /// One duty; or, behind a round whose hart's slice is worked where the words stand, that too, and then None.
+    fn ask(&mut self, _worker: u32) -> Option<Duty<Job>>
+        ensures over { (result ≡ Some Duty.Over) ↔ (is_some self.old.status ≡ true) }
         ensures opening { self.new.run.opening ≡ self.old.run.opening }
-        ensures serves { IsTrue result → ServesOnce (moment W.told self.old) (moment W.told self.new) }
+        ensures asks { Asks (moment W.told self.old) result (moment W.told self.new) }
+        ensures chooses { self.old.status ≡ None → Chooses W.told (is_none result) self.old self.new }
     {
-        if self.status.is_some() || !self.is_alone() {
-            return false;
+        if self.status.is_some() {
+            return Some(Duty::Over);
         }
-        self.serve_next();
-        true
+        let Some(hart) = self.go() else {
+            return Some(Duty::Again);
+        };
+        if self.in_place(hart) {
+            self.serve_near(hart);
+            return None;
+        }
+        match self.hand_out(hart) {
+            Some(job) => Some(Duty::Job(job)),
+            None => Some(Duty::Again),
+        }
     }
 
     /// Whether the status is set.

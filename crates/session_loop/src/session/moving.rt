@@ -1,7 +1,7 @@
 // How a hart is picked and moved.
 ghost use Rattle.std.specs.Prelude.{◌≡◌, ◌<◌, ◌≤◌, length, false, None, is_some, IsTrue, IfSome};
 ghost use Rattle.std.specs.Bool.{OnFalse};
-ghost use Rattle.engine_parts.specs.Steps.{NoneOut};
+ghost use Rattle.engine_parts.specs.Steps.{NoneOut, is_out};
 ghost use Rattle.session_parts.specs.Ties.{session_work};
 ghost use Rattle.session_parts.specs.Seen.{GotOn, HasTurned, no_move};
 ghost use Rattle.session_parts.specs.Round.{Moves, MovesOne, TurnsOne, Moved, moment};
@@ -96,6 +96,7 @@ impl<W: World> Session<W> {
         ensures opening { self.new.run.opening ≡ self.old.run.opening }
         ensures moves { Moves result (moment W.told self.old) (moment W.told self.new) }
         ensures known { IfSome result (λ h. h < self.old.run.opening.settings.harts) }
+        ensures home { IfSome result (λ h. is_out self.new.out h ≡ false) }
         ensures less { NoneOut self.old.out → GotOn (is_some result) self.old self.new (no_move self.old) }
     {
         let Some(hart) = self.engine.next_running(self.next, &self.out) else {

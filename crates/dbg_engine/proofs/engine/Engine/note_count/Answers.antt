@@ -97,7 +97,7 @@ rewait-requires-clause-stays c off =
     ap (λ (t : Table). t.waits) c.settle.ensures.rest ∙
     (waits_same r c.args.h c.args.mind c.counted_mind.result c.self.invariant.facts mind
     (ap (awaited r.opening.image) c.counted_mind.ensures ∙ same_waits r.opening.image c.args.mind
-    (counted_mind c.plan_after-plan.result c.args.mind) refl (c.changes-moved.ensures off)) ∙ ap (map (awaited r.opening.image)) (sym c.as_slice.ensures.value))
+    (counted_mind c.plan_after-plan.result c.args.mind) refl (c.changes-moved.ensures.0 off)) ∙ ap (map (awaited r.opening.image)) (sym c.as_slice.ensures.value))
 
 abbrev new_run : After-self-2-1 → Engine
 new_run c = let r = run_of c.self.inside in record r {

@@ -1,6 +1,6 @@
-use Rattle.std.proofs.Common.{◌∙◌, Bool, List, ap, subst, sym}
-use Rattle.std.specs.Prelude.{None, is_some}
-use Rattle.engine_parts.specs.Steps.{NoneOut}
+use Rattle.std.proofs.Common.{◌≡◌, ◌∙◌, Bool, List, ap, false, subst, sym}
+use Rattle.std.specs.Prelude.{None, IfSome, is_some}
+use Rattle.engine_parts.specs.Steps.{NoneOut, is_out}
 use Rattle.session_parts.specs.Seen.{Seen}
 use Rattle.session_parts.specs.Round.{moment}
 use Rattle.session_parts.proofs.Getting.{gets_on}
@@ -50,3 +50,7 @@ returns-clause-less g c = λ none.
     let out = subst (λ (xs : List Bool). NoneOut xs) (sym kept) none in
     gets_on c.args.self.now c.take_input.new.self c.do_line.new.self c.move_on-picked.new.self c.settle.new.self c.take_input.result c.do_line.result (is_some c.move_on-picked.result) c.settle.result
     c.take_input.ensures.less c.do_line.ensures.less (c.move_on-picked.ensures.less out) c.settle.ensures.less
+
+pub returns-clause-home : goal.returns-clause-home
+returns-clause-home g c =
+    subst (λ (xs : List Bool). IfSome c.move_on-picked.result (λ h. is_out xs h ≡ false)) (sym c.settle.ensures.out) c.move_on-picked.ensures.home

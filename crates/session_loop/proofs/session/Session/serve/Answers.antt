@@ -1,6 +1,6 @@
 use Rattle.std.proofs.Common.{◌≡◌, ◌≤◌, ◌∙◌, ap, refl, subst, sym}
-use Rattle.std.specs.Prelude.{Option, None}
-use Rattle.engine_parts.specs.Steps.{NoneOut}
+use Rattle.std.specs.Prelude.{Option, None, false, replicate}
+use Rattle.engine_parts.specs.Steps.{is_out}
 use Rattle.session_parts.specs.declared.status.Status.{Status}
 use Rattle.session_parts.specs.Ties.{IsTied}
 use Rattle.session_parts.specs.Seen.{Seen, work}
@@ -10,7 +10,9 @@ use Rattle.session_loop.specs.SessionInside.{seen_of, taken_of}
 use Rattle.session_parts.specs.Round.{moment}
 use Rattle.session_parts.proofs.Tying.{counted_same}
 use Rattle.session_parts.proofs.Several.{standing}
+use Rattle.session_parts.proofs.Outs.{none_first}
 use Rattle.session_parts.proofs.Serving.{served, work_behind}
+use Rattle.session_loop.proofs.Asking.{beside, with_out}
 use Rattle.session_loop.proofs.session.Session.serve.Goals as goal
 
 pub invariant_of-self-2 : goal.invariant_of-self-2
@@ -23,8 +25,8 @@ invariant_of-self-2 g c =
     let none : c.self.inside.status ≡ None = ap (λ (s : Seen g.row.W.Denot). s.status) c.self.view_is ∙ c.requires.going in
     let tied : IsTied None (told c.self.inside.world) (stage_of e) (taken_of c.self.inside) = rw (← none) c.self.invariant.0 in
     let few = rw none at c.self.invariant.2 in
-    let marks = subst (λ (u : Seen g.row.W.Denot). NoneOut u.out) (sym c.self.view_is) c.requires.none in
-    let k = served p e c.reserve_journal.new.self s c.args.hart o c.reserve_journal.ensures.same marks c.self.invariant.4 c.serve.ensures.facts (record { tied = tied }) c.serve.ensures.serves c.over-self-inside.ensures in (
+    let p0 = with_out (replicate 16 false) p in
+    let k = served p0 e c.reserve_journal.new.self s c.args.hart o c.reserve_journal.ensures.same (none_first 16) c.self.invariant.4 c.serve.ensures.facts (record { tied = tied }) c.serve.ensures.serves c.over-self-inside.ensures in (
       k.holds.tied,
       c.self.invariant.1,
       counted_same o (stage_of s) c.self.inside.count few c.over-self-inside.ensures,
@@ -41,8 +43,8 @@ returns-clause-opening g c =
     let p = moment told (seen_of c.self.inside) in
     let none : c.self.inside.status ≡ None = ap (λ (s : Seen g.row.W.Denot). s.status) c.self.view_is ∙ c.requires.going in
     let tied : IsTied None (told c.self.inside.world) (stage_of e) (taken_of c.self.inside) = rw (← none) c.self.invariant.0 in
-    let marks = subst (λ (u : Seen g.row.W.Denot). NoneOut u.out) (sym c.self.view_is) c.requires.none in
-    let k = served p e c.reserve_journal.new.self s c.args.hart o c.reserve_journal.ensures.same marks c.self.invariant.4 c.serve.ensures.facts (record { tied = tied }) c.serve.ensures.serves c.over-self-inside.ensures in
+    let p0 = with_out (replicate 16 false) p in
+    let k = served p0 e c.reserve_journal.new.self s c.args.hart o c.reserve_journal.ensures.same (none_first 16) c.self.invariant.4 c.serve.ensures.facts (record { tied = tied }) c.serve.ensures.serves c.over-self-inside.ensures in
     let P : Seen g.row.W.Denot → Type 0 = λ u. s.opening ≡ u.run.opening in
     subst P c.self.view_is k.opening
 
@@ -56,11 +58,13 @@ returns-clause-serves g c =
     let p = moment told (seen_of c.self.inside) in
     let none : c.self.inside.status ≡ None = ap (λ (s : Seen g.row.W.Denot). s.status) c.self.view_is ∙ c.requires.going in
     let tied : IsTied None (told c.self.inside.world) (stage_of e) (taken_of c.self.inside) = rw (← none) c.self.invariant.0 in
-    let marks = subst (λ (u : Seen g.row.W.Denot). NoneOut u.out) (sym c.self.view_is) c.requires.none in
-    let k = served p e c.reserve_journal.new.self s h o c.reserve_journal.ensures.same marks c.self.invariant.4 c.serve.ensures.facts (record { tied = tied }) c.serve.ensures.serves c.over-self-inside.ensures in
+    let p0 = with_out (replicate 16 false) p in
+    let k = served p0 e c.reserve_journal.new.self s h o c.reserve_journal.ensures.same (none_first 16) c.self.invariant.4 c.serve.ensures.facts (record { tied = tied }) c.serve.ensures.serves c.over-self-inside.ensures in
     let M : Option Status → Type 0 = λ t. ServesHart h (record p { status = t }) (standing p s o) in
+    let home = subst (λ (u : Seen g.row.W.Denot). is_out u.out h ≡ false) (sym c.self.view_is) c.requires.home in
+    let there = beside h c.self.inside.out (standing p0 e None) (standing p0 s o) home k.serves in
     let P : Seen g.row.W.Denot → Type 0 = λ u. ServesHart h (moment told u) (standing p s o) in
-    subst P c.self.view_is (subst M (sym none) k.serves)
+    subst P c.self.view_is (subst M (sym none) there)
 
 pub returns-clause-less : goal.returns-clause-less
 returns-clause-less g c =
@@ -72,8 +76,8 @@ returns-clause-less g c =
     let p = moment told (seen_of c.self.inside) in
     let none : c.self.inside.status ≡ None = ap (λ (s : Seen g.row.W.Denot). s.status) c.self.view_is ∙ c.requires.going in
     let tied : IsTied None (told c.self.inside.world) (stage_of e) (taken_of c.self.inside) = rw (← none) c.self.invariant.0 in
-    let marks = subst (λ (u : Seen g.row.W.Denot). NoneOut u.out) (sym c.self.view_is) c.requires.none in
-    let k = served p e c.reserve_journal.new.self s h o c.reserve_journal.ensures.same marks c.self.invariant.4 c.serve.ensures.facts (record { tied = tied }) c.serve.ensures.serves c.over-self-inside.ensures in
+    let p0 = with_out (replicate 16 false) p in
+    let k = served p0 e c.reserve_journal.new.self s h o c.reserve_journal.ensures.same (none_first 16) c.self.invariant.4 c.serve.ensures.facts (record { tied = tied }) c.serve.ensures.serves c.over-self-inside.ensures in
     let after : Seen g.row.W.Denot = seen_of (record c.self.inside { engine = s; status = o }) in
     let Q : Seen g.row.W.Denot → Type 0 = λ u. work after ≤ work u in
-    subst Q c.self.view_is (work_behind p (seen_of c.self.inside) after e s o refl refl none refl refl refl refl k.less)
+    subst Q c.self.view_is (work_behind p0 (seen_of c.self.inside) after e s o refl refl none refl refl refl refl k.less)

@@ -4,7 +4,7 @@ use Rattle.engine_parts.specs.Steps.{NoneOut}
 use Rattle.session_parts.specs.Round.{moment}
 use Rattle.session_parts.specs.Crew.{Reaches}
 use Rattle.session_parts.proofs.Outs.{goes_out, rests}
-use Rattle.session_parts.proofs.Serving.{none_behind, none_between, serves_duty}
+use Rattle.session_parts.proofs.Serving.{none_behind, serves_duty}
 use Rattle.session_loop.proofs.session.Session.serve_next.Goals as goal
 
 pub returns-in_default-clause-none : goal.returns-in_default-clause-none
@@ -19,10 +19,6 @@ returns-in_default-clause-serves g c =
     let p = moment g.W.World.told c.args.self.now in
     let q = moment g.W.World.told c.go.new.self in
     (None, rests p q (subst (λ (o : Option ℕ). Reaches o p q) c.in_default.is c.go.ensures.reaches))
-
-pub serve-requires-clause-none : goal.serve-requires-clause-none
-serve-requires-clause-none g c =
-    none_between c.in-Some.hart (moment g.W.World.told c.args.self.now) (moment g.W.World.told c.go.new.self) c.in-Some.ensures.reaches c.requires.none
 
 pub returns-clause-none : goal.returns-clause-none
 returns-clause-none g c =

@@ -1,18 +1,17 @@
-use Rattle.std.proofs.Common.{Bool, List, subst}
-use Rattle.std.specs.Prelude.{◌&&◌, is_none, nat_lt}
+use Rattle.std.proofs.Common.{◌≡◌, ◌∙◌, subst}
 use Rattle.session_parts.specs.Seen.{Seen}
-use Rattle.session_loop.specs.SessionInside.{seen_of}
 use Rattle.session_parts.specs.Round.{moment}
-use Rattle.session_parts.specs.Crew.{TakesBy, returned}
+use Rattle.session_parts.specs.Crew.{TakesBack}
+use Rattle.session_loop.specs.Asking.{counted}
 use Rattle.session_loop.proofs.session.crew.SessionCrew.take.Goals as goal
 
 pub returns-clause-takes : goal.returns-clause-takes
 returns-clause-takes g c =
     let told = g.W.World.told in
-    let slice = c.args.slice in
-    let old = moment told (seen_of c.self.inside) in
-    let new = moment told c.bring.new.self in
-    let wants = is_none c.self.inside.status && nat_lt 0 slice.count in
-    let X : List Bool → Type 0 = λ xs. TakesBy wants slice (record old { out = xs }) new in
-    let P : Seen g.row.W.Denot → Type 0 = λ s. TakesBy (is_none s.status && nat_lt 0 slice.count) slice (returned (moment told s) slice) new in
-    subst P c.self.view_is (subst X c.clear.ensures c.bring.ensures.takes)
+    let P : Seen g.row.W.Denot → Type 0 = λ s. TakesBack c.args.slice (moment told s) (moment told c.take_back.new.self) in
+    subst P c.self.view_is c.take_back.ensures.takes
+
+pub returns-clause-near : goal.returns-clause-near
+returns-clause-near g c =
+    let P : Seen g.row.W.Denot → Type 0 = λ s. c.take_back.new.self.near ≡ counted s.near c.args.slice.hart c.args.slice.count in
+    subst P c.self.view_is (c.take_back.ensures.near ∙ c.count_slice.ensures)

@@ -1,0 +1,46 @@
+-- What a session answers a worker that asks, and which slices are worked where the words stand: this project's own rule.
+use Rattle.std.specs.Prelude.{◌≡◌, ◌==◌, ◌-◌, ◌||◌, ℕ, Bool, true, false, List, slice_index_or, slice_set, Option, None, Some, if◌then◌else◌, nat_le, nat_lt}
+use Rattle.reg_slices.specs.declared.slice.Job.{Job}
+use Rattle.hart_workers.specs.declared.crew.Duty.{Duty}
+use Rattle.dbg_traits.specs.Told.{Told}
+use Rattle.session_parts.specs.Seen.{Seen}
+use Rattle.session_parts.specs.Round.{Moment, moment}
+use Rattle.session_parts.specs.Crew.{Duties, Reaches, ServesOnce, is_alone}
+
+-- how many more slices of a hart are worked where the words stand
+abbrev pub near_of : List ℕ → ℕ → ℕ
+near_of near h = slice_index_or near h 0
+
+-- A slice of fewer than 64 instructions is short. Behind a long one the next is handed out. Behind a short one that was handed out
+-- the next 63 aren't.
+abbrev pub near_behind : ℕ → ℕ → ℕ
+near_behind near count = if nat_le 64 count then 0 else if near == 0 then 63 else near - 1
+
+-- what is kept of the harts behind a slice of hart h of so many instructions
+abbrev pub counted : List ℕ → ℕ → ℕ → List ℕ
+counted near h count = slice_set near h (near_behind (near_of near h) count)
+
+-- whether the slice of a hart is worked where the words stand: its last ones were short, or none could be worked beside it
+abbrev pub in_place : Moment → List ℕ → ℕ → Bool
+in_place p near h = nat_lt 0 (near_of near h) || is_alone p
+
+abbrev pub place_of : Option ℕ → Moment → List ℕ → Bool
+place_of None p near = false
+place_of (Some h) p near = in_place p near h
+
+abbrev pub near_after : Bool → Option ℕ → List ℕ → ℕ → List ℕ
+near_after true (Some h) near count = counted near h count
+near_after _ _ near count = near
+
+-- A duty; or, where that is answered with nothing, a duty whose job was worked and taken back at once.
+abbrev pub Asks : Moment → Option (Duty Job) → Moment → Type 0
+Asks p None q = ServesOnce p q
+Asks p (Some d) q = Duties d p q
+
+-- Whether a slice is worked where the words stand is seen behind the round, by the hart that may give a job then.
+pub record Chooses {W : Type 0} (told : W → Told) (here : Bool) (s t : Seen W) : Type 0 where
+  pub found : Option ℕ
+  pub between : Seen W
+  pub reaches : Reaches found (moment told s) (moment told between)
+  pub is : here ≡ place_of found (moment told between) between.near
+  pub near : t.near ≡ near_after here found between.near (t.run.state.retired - between.run.state.retired)
