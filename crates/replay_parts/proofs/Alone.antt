@@ -7,25 +7,22 @@ use Rattle.std.proofs.lemmas.List.{append-nil}
 use Rattle.std.proofs.lemmas.Bool.Decides.{nat_tests}
 use Rattle.rv_exec.specs.Registers.{Registers}
 use Rattle.rv_exec.specs.Memory.{Memory}
-use Rattle.plain_machine.specs.Environment.{Answer, Goes, Stays}
+use Rattle.plain_machine.specs.Environment.{Goes, Stays}
 use Rattle.plain_machine.specs.Plain.{plain}
 use Rattle.break_table.specs.Table.{stands}
-use Rattle.dbg_model.specs.declared.entry.Entry.TheVariants.{Ran}
 use Rattle.dbg_model.specs.declared.hart.Hart.{Hart}
-use Rattle.dbg_model.specs.declared.judgement.Judgement.{Judgement}
 use Rattle.dbg_model.specs.declared.opening.Opening.{Opening}
-use Rattle.dbg_model.specs.declared.shown.Shown.TheVariants.{Nothing}
 use Rattle.watch_points.specs.declared.watchpoint.Watch.{Watch}
 use Rattle.dbg_model.specs.Courses.{after_instruction}
 use Rattle.dbg_model.specs.Judging.{is_due, is_kept, no_arrival}
 use Rattle.dbg_model.specs.Limits.{history}
 use Rattle.dbg_model.specs.Journals.{Place}
-use Rattle.dbg_model.specs.Lawful.{answer_out, hart_out, may_go, may_move, may_run, one, one_by, one_more_at, one_out, passes, set_out, stepped, stepped_by, with_step}
-use Rattle.dbg_model.specs.Shown.{shown_of, written}
-use Rattle.dbg_model.specs.State.{State, any_leaves, due, hart_leaves, is_off, is_running}
+use Rattle.dbg_model.specs.Lawful.{answer_out, hart_out, may_move, may_run, one, one_by, one_more_at, one_out, passes, set_out, stepped, stepped_by, with_step}
+use Rattle.dbg_model.specs.Shown.{written}
+use Rattle.dbg_model.specs.State.{State, any_leaves, due, is_off, is_running}
 use Rattle.watch_points.specs.Watches.{fired_by}
 use Rattle.dbg_model.proofs.Options.{both_true, same_some}
-use Rattle.replay_parts.specs.Further.{AllGo, LengthensBy, ThenGoes, ThenLengthens, gone_on, lengthen}
+use Rattle.replay_parts.specs.Further.{AllGo, LengthensBy, gone_on, lengthen}
 use Rattle.dbg_model.proofs.Undue.{undue, unnoted}
 
 abbrev pub place_at : Option ℕ → State → Place

@@ -19,9 +19,9 @@ use Rattle.text_words.proofs.Below.{word_below}
 use Rattle.straight_runs.specs.Runs as runs
 use Rattle.straight_runs.specs.Runs.{Ends, EndsAt, RanBy}
 use Rattle.plain_machine.specs.Environment.{Goes, Stays}
-use Rattle.plain_machine.specs.Plain.{on_instruction, on_word, plain}
+use Rattle.plain_machine.specs.Plain.{on_word, plain}
 use Rattle.break_table.specs.Entry.{Entry as BreakEntry}
-use Rattle.break_table.specs.Table.{stands, stands_at}
+use Rattle.break_table.specs.Table.{stands}
 use Rattle.step_plans.specs.declared.plan.Plan.{Plan}
 use Rattle.dbg_model.specs.Judging.{instruction_at, is_kept}
 use Rattle.replay_parts.specs.Further.{AllGo, goes_alone, instruction_of, is_alone, is_done}

@@ -7,11 +7,8 @@ use Rattle.rv_exec.specs.Registers.{Registers}
 use Rattle.rv_exec.specs.Memory.{Memory}
 use Rattle.dbg_model.specs.declared.hart.Hart.{Hart}
 use Rattle.dbg_model.specs.declared.opening.Opening.{Opening}
-use Rattle.dbg_model.specs.declared.shown.Shown.{Shown}
-use Rattle.dbg_model.specs.Breaks.{is_number}
 use Rattle.dbg_model.specs.Limits.{history}
-use Rattle.dbg_model.specs.Journals.{Place}
-use Rattle.dbg_model.specs.Lawful.{may_go, may_move}
+use Rattle.dbg_model.specs.Lawful.{may_go}
 use Rattle.dbg_model.specs.State.{State, any_leaves, is_running}
 use Rattle.dbg_model.proofs.Options.{both_true, same_some}
 use Rattle.replay_parts.specs.declared.state.Parts.{Parts}

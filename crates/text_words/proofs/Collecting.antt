@@ -9,14 +9,14 @@ use Rattle.std.proofs.lemmas.List.{get_or_append_left, get_or-append_right, get_
 use Rattle.std.proofs.lemmas.List.Sorted.{All-permutation, IsPermutation-cons, IsPermutation-middle, IsPermutation-refl, IsPermutation-sym, IsPermutation-trans}
 use Rattle.std.proofs.Math.Seq.{take-suc}
 use Rattle.elf32_read.specs.Fields.{spans}
-use Rattle.elf32_read.specs.Program.{Program, Text, in_words, text_word}
+use Rattle.elf32_read.specs.Program.{Program, Text, in_words}
 use Rattle.elf32_read.specs.Spans.{IsRising, Rise, covers, numbered}
 use Rattle.elf32_read.specs.TextSpans.{in_order, placed, text_spans}
 use Rattle.elf32_read.specs.declared.spans.Span.{Span}
 use Rattle.elf32_read.proofs.Found.{found, found_has, found_passes, missing}
 use Rattle.elf32_read.proofs.Numbered.{get-numbered, length-numbered, span}
 use Rattle.text_words.specs.declared.region.Region.{Region}
-use Rattle.text_words.specs.Layout.{AreApart, AreWhole, IsLayout, IsLayoutOf, Laid, has, index, place, word_at}
+use Rattle.text_words.specs.Layout.{AreApart, AreWhole, IsLayout, IsLayoutOf, Laid, has, index, place}
 use Rattle.text_words.proofs.Places.{place_range, spanned}
 
 -- ---- the spans of a program's text, and its sections

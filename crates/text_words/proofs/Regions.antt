@@ -11,7 +11,7 @@ use Rattle.elf32_read.proofs.Rising.{find_first, find_none}
 use Rattle.text_words.specs.declared.region.Region.{Region}
 use Rattle.text_words.specs.declared.region.Span.{Span}
 use Rattle.text_words.specs.Words.{IsAmong}
-use Rattle.text_words.specs.Layout.{AreApart, IsLayout, IsWholeSpan, Laid, has, index, place}
+use Rattle.text_words.specs.Layout.{AreApart, IsLayout, IsWholeSpan, has, index, place}
 use Rattle.text_words.proofs.Places.{laid_at, spanned}
 
 outside : (addr : ℕ) (r : Region) → (addr < r.address) ⊎ (r.address + 4 * r.count ≤ addr) → has addr r ≡ false

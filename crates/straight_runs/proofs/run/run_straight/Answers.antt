@@ -1,7 +1,6 @@
 use Rattle.std.proofs.Common.{◌≡◌, ◌+◌, ◌-◌, ◌≤◌, ◌∙◌, ap, arith, sym, inl, inr, ℕ}
 use Rattle.std.specs.Prelude.{IsSome}
 use Rattle.text_words.specs.Words.{shown}
-use Rattle.straight_runs.specs.Runs.{Ends}
 use Rattle.straight_runs.proofs.Legs.{ran_on, so_many}
 use Rattle.straight_runs.proofs.Steps.{nothing_here}
 use Rattle.straight_runs.proofs.run.run_straight.Goals as goal

@@ -1,5 +1,4 @@
 use Rattle.std.proofs.Common.{◌≡◌, ◌+◌, ◌-◌, ◌*◌, ◌/◌, ◌∙◌, ap, arith, sym, Some}
-use Rattle.text_words.specs.Layout.{index}
 use Rattle.text_words.proofs.Regions.{gap_behind, index_found, index_none, index_unaligned, is_there, same_region, zero_more}
 use Rattle.text_words.proofs.region.span_from.Goals as goal
 
