@@ -2,8 +2,8 @@ use Rattle.std.proofs.Common.{◌∙◌, sym}
 use Rattle.text_words.proofs.Regions.{index_none, index_unaligned, zero_more}
 use Rattle.text_words.proofs.region.span_from.Goals as goal
 
-pub requires-span_in-there : goal.requires-span_in-there
-requires-span_in-there c = sym c.in-Some.ensures
+pub span_in-requires-clause-there : goal.span_in-requires-clause-there
+span_in-requires-clause-there c = sym c.in-Some.ensures
 
 pub returns-in_default-clause-ends : goal.returns-in_default-clause-ends
 returns-in_default-clause-ends c small = rw (zero_more c.args.addr) (index_none c.args.regions.now c.args.addr (sym c.region_at.ensures ∙ c.in_default.is))
