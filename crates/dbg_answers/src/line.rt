@@ -110,9 +110,10 @@ fn answer_read(
             tokened(token, answer_command(alloc, debuggee, command))
         }
         Err(Refusal::Input(fault)) => refuse_input(fault),
-        Err(Refusal::Faulty { token, fault }) => {
-            tokened(token, Ok(answer_fault(debuggee, fault)))
-        }
+        Err(Refusal::Faulty { token, fault }) => Ok(LineAnswer {
+            token,
+            answer: answer_fault(debuggee, fault),
+        }),
     }
 }
 
