@@ -55,6 +55,27 @@ pub struct Span {
     pub count: usize,
 }
 
+// The words of a region from an address on.
+#[inline(always)]
+fn span_in(regions: &[Region], region: Region, addr: u32, len: usize) -> Span
+    requires layout { IsLayout regions.now len }
+    requires there { find (has addr) regions.now ≡ Some region }
+    requires aligned { addr % 4 ≡ 0 }
+    ensures address { result.address ≡ addr }
+    ensures within { result.first + result.count ≤ len }
+    ensures low { (k : ℕ) → k < result.count → addr + 4 * k < 2 ^ 32 }
+    ensures found { (k : ℕ) → k < result.count → index regions.now (addr + 4 * k) ≡ Some (result.first + k) }
+    ensures ends { addr + 4 * result.count < 2 ^ 32 → index regions.now (addr + 4 * result.count) ≡ None }
+{
+    let i = ((addr - region.address) / 4) as usize;
+    let most = (u32::MAX - addr) / 4 + 1;
+    Span {
+        address: addr,
+        first: region.first + i,
+        count: (region.count - i).min(most as usize),
+    }
+}
+
 /// The words from an address on, up to a gap; none where no word is.
 pub fn span_from(regions: &[Region], addr: u32, len: usize) -> Span
     requires { IsLayout regions.now len }
@@ -66,13 +87,7 @@ pub fn span_from(regions: &[Region], addr: u32, len: usize) -> Span
 {
     if addr % 4 == 0 {
         if let Some(region) = region_at(regions, addr) {
-            let i = ((addr - region.address) / 4) as usize;
-            let most = (u32::MAX - addr) / 4 + 1;
-            return Span {
-                address: addr,
-                first: region.first + i,
-                count: (region.count - i).min(most as usize),
-            };
+            return span_in(regions, region, addr, len);
         }
     }
     Span {
@@ -87,11 +102,10 @@ pub fn span_around(regions: &[Region], addr: u32, len: usize) -> Span
     requires { IsLayout regions.now len }
     ensures { IsWholeSpan regions.now len addr result }
 {
-    let address = match region_at(regions, addr) {
-        Some(region) => region.address,
-        None => 0,
-    };
-    span_from(regions, address, len)
+    match region_at(regions, addr) {
+        Some(region) => span_in(regions, region, region.address, len),
+        None => span_from(regions, 0, len),
+    }
 }
 
 /// A region of text, laid open for a hart that runs in it.
