@@ -58,7 +58,7 @@ unless (Some s) R p q each r = same p q r
 chained : (R S : Moment → Moment → Type 0) (p q : Moment) → ((a b : Moment) → R a b → IsKept a b) → ((a b : Moment) → S a b → IsKept a b) → Then R S p q → IsKept p q
 chained R S p q first second t = unless t.0.status S t.0 q (second t.0 q) t.2 ∙ first p t.0 t.1
 
-pub round_out : (k : Option ℕ) (p q : Moment) → Round k p q → q.out ≡ p.out
+round_out : (k : Option ℕ) (p q : Moment) → Round k p q → q.out ≡ p.out
 round_out k p q r =
     chained Takes (Then Lines (Then (Moves k) Settles)) p q takes_out
     (λ a b. chained Lines (Then (Moves k) Settles) a b lines_out (λ c d. chained (Moves k) Settles c d (λ e f m. moves_by k e f m.moves) settles))

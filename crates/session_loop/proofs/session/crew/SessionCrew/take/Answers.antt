@@ -1,4 +1,4 @@
-use Rattle.std.proofs.Common.{◌≡◌, ◌∙◌, subst}
+use Rattle.std.proofs.Common.{◌≡◌, ◌∙◌, ap, subst}
 use Rattle.session_parts.specs.Seen.{Seen}
 use Rattle.session_parts.specs.Round.{moment}
 use Rattle.session_parts.specs.Crew.{TakesBack}
@@ -14,4 +14,5 @@ returns-clause-takes g c =
 pub returns-clause-near : goal.returns-clause-near
 returns-clause-near g c =
     let P : Seen g.row.W.Denot → Type 0 = λ s. c.take_back.new.self.near ≡ counted s.near c.args.slice.hart c.args.slice.count in
-    subst P c.self.view_is (c.take_back.ensures.near ∙ c.count_slice.ensures)
+    let behind = c.count_slice.ensures ∙ ap (counted c.self.inside.near c.args.slice.hart) c.from.ensures in
+    subst P c.self.view_is (c.take_back.ensures.near ∙ behind)
