@@ -2,18 +2,20 @@
 
 import bisect
 import contextlib
+import functools
 import re
 import struct
 
-from rvdbg_dap.lines import Lines
+from rvdbg_dap.lines import Lines, units
 
-BUILD = "A file that is accepted is made by `riscv64-unknown-elf-gcc -march=rv32ima -mabi=ilp32 -nostdlib -static -gdwarf-4`, as examples/lock/build.sh shows."
+COMPILER = "riscv64-unknown-elf-gcc -march=rv32ima -mabi=ilp32 -nostdlib -static -gdwarf-4"
+BUILD = "A file that is accepted is made by `%s`, as examples/lock/build.sh shows." % COMPILER
 ADVICE = {
     "Magic": "It is no ELF file.",
     "Class": "It is a 64-bit file: -march=rv32ima -mabi=ilp32 make one of 32 bits.",
-    "Kind": "It is no executable with fixed addresses: link it whole, with -static and without -shared, -pie, -r or -c.",
+    "Kind": "It is no executable at fixed addresses: link it whole, with -static and without -shared, -pie, -r or -c.",
     "Machine": "It isn't for RISC-V.",
-    "Flags": "It has compressed instructions, or is for RV32E: leave `c` and `e` out of -march, for the libraries that are linked too.",
+    "Flags": "It has compressed instructions or is for RV32E: leave `c` and `e` out of -march, for its libraries too.",
 }
 SYMTAB, TEXT_FLAGS, FUNCTION, LARGEST = 2, 6, 2, 1 << 25
 
@@ -38,11 +40,11 @@ class Program:
         at, count, last = struct.unpack_from("<I", whole, 32)[0], *struct.unpack_from("<HH", whole, 48)
         rows = [struct.unpack_from("<10I", whole, at + 40 * number) for number in range(count)]
         names = rows[last][4]
-        for name, kind, flags, address, place, size, *_ in rows:
-            self.sections.setdefault(whole[names + name : whole.index(b"\0", names + name)], whole[place : place + size])
+        for name, _, flags, address, place, size, *_ in rows:
+            name = whole[names + name : whole.index(b"\0", names + name)]
+            self.sections.setdefault(name, whole[place : place + size])
             self.texts += [range(address, address + size)] if flags & TEXT_FLAGS == TEXT_FLAGS else []
-        table = next((it for it in rows if it[1] == SYMTAB), None)
-        if table:
+        for table in [it for it in rows if it[1] == SYMTAB][:1]:
             self.read_symbols(whole[table[4] : table[4] + table[5]], whole[rows[table[6]][4] :])
 
     def read_symbols(self, table, strings):
@@ -67,17 +69,10 @@ class Program:
         """What the file lacks for a session with its source."""
         if not self.sections.get(b".debug_line"):
             yield "%s has no table of lines: build it with -gdwarf-4" % self.path
-        elif self.has_unread():
+        elif self.has_unread:
             yield "%s has its variables in the form of DWARF 5, which isn't read: build it with -gdwarf-4" % self.path
 
+    @functools.cached_property
     def has_unread(self):
         """Whether variables may be there that the debugger doesn't read: in units of DWARF 5."""
-        units, at = self.sections.get(b".debug_info", b""), 0
-        while at + 6 <= len(units):
-            length, version = struct.unpack_from("<IH", units, at)
-            if version > 4:
-                return True
-            at += 4 + length
-        return False
-
-
+        return any(int.from_bytes(it[:2], "little") > 4 for it in units(self.sections.get(b".debug_info", b"")))
