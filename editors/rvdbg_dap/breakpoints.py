@@ -5,6 +5,7 @@ import itertools
 import re
 
 from rvdbg_dap.engine import Part
+from rvdbg_dap.memory import place
 from rvdbg_dap.mi import Refused, c_string, need
 from rvdbg_dap.values import unknown_name, zeros
 
@@ -25,16 +26,10 @@ class Breakpoint:
         self.clear("no program is loaded")
 
     def clear(self, why):
-        """It isn't in the debugger. Where it `is_judged` that stops at each arrival, and the adapter judges."""
+        """It isn't in the debugger. `is_judged` says that the adapter judges, and `early` for which threads alone."""
         self.number, self.state, self.early, self.said = None, ("y", None), set(), set()
         self.is_spent = self.is_judged = self.is_looked_at = False
         self.told = {"id": self.identity, "verified": False, "message": why}
-
-    def is_judging(self, thread):
-        """Whether the adapter judges at a thread's stop: also at one that came before the debugger did."""
-        is_early = thread in self.early
-        self.early.discard(thread)
-        return self.is_judged or is_early
 
     def command(self, place, condition, more=""):
         """The line that sets it, with this condition."""
@@ -122,32 +117,30 @@ class Breakpoints(Part):
             self.remove(it)
         for it in self.all:
             self.insert(it)
-            self.tell("changed", it)
+            self.event("breakpoint", reason="changed", breakpoint=it.told)
 
     def remove(self, it):
         """One is no more."""
         self.all.remove(it)
-        self.tell("removed", it)
-
-    def tell(self, reason, it):
-        self.event("breakpoint", reason=reason, breakpoint=it.told)
+        self.event("breakpoint", reason="removed", breakpoint=it.told)
 
     def spend(self, it):
         """One that was for one stop has made it."""
         if it.is_once:
             self.delete(it)
         it.number, it.is_spent, it.told["message"] = None, True, "it has made its one stop"
-        self.remove(it) if it.group == CONSOLE else self.tell("changed", it)
+        if it.group == CONSOLE:
+            self.remove(it)
+        else:
+            self.event("breakpoint", reason="changed", breakpoint=it.told)
 
-    def judged(self, it, condition):
-        """The adapter has judged a condition once. One that the debugger can judge is handed to it."""
-        it.is_looked_at = True
-        if condition is not None:
-            with contextlib.suppress(Refused):
-                self.ask("-break-condition %s %s" % (it.number, c_string(condition)))
-                it.is_judged, it.state, rows = False, (it.state[0], condition), self.ask("-thread-info")["threads"]
-                stand = {int(row["id"]) for row in rows if row["state"] == "stopped"}
-                it.early = {key for key in stand & {*self.engine.threads} if self.engine.threads[key].is_running}
+    def hand_over(self, it, condition):
+        """Has the debugger judge a condition, where it can."""
+        with contextlib.suppress(Refused):
+            self.ask("-break-condition %s %s" % (it.number, c_string(condition)))
+            it.is_judged, it.state, rows = False, (it.state[0], condition), self.ask("-thread-info")["threads"]
+            stand = {int(row["id"]) for row in rows if row["state"] == "stopped"}
+            it.early = {key for key in stand & {*self.engine.threads} if self.engine.threads[key].is_running}
 
     def agree(self):
         """Behind a line of the console: what came, went or changed in the debugger is told to the editor."""
@@ -155,21 +148,20 @@ class Breakpoints(Part):
         for it in [it for it in self.all if it.number not in (None, *rows)]:
             self.remove(it)
         for number, row in rows.items():
-            it, reason, state = self.numbered(number), "changed", (row["enabled"], row.get("cond"))
+            it, state = self.numbered(number), (row["enabled"], row.get("cond"))
             if it is None:
-                place, reason = row.get("original-location") or row["what"], "new"
-                it = Breakpoint(next(self.identities), CONSOLE, place, {})
+                it = Breakpoint(next(self.identities), CONSOLE, row.get("original-location") or row["what"], {})
                 self.all.append(it)
             elif it.state == state:
                 continue
-            it.is_judged = it.is_judged and state[1] is None
+            reason, it.is_judged = "changed" if it.number else "new", it.is_judged and state[1] is None
             self.take(it, row)
             if "path" in it.told.get("source", {}) and it.group == CONSOLE:
                 it.words = ("%s:%d" % (it.told["source"]["path"], it.told["line"]), *it.words[1:])
             if state != ("y", None):
-                is_on, text = state[0] == "y", "on if %s" % state[1]
-                it.told.update(verified=is_on, message=text if is_on else "off by the console")
-            self.tell(reason, it)
+                is_on = state[0] == "y"
+                it.told.update(verified=is_on, message="on if %s" % state[1] if is_on else "off by the console")
+            self.event("breakpoint", reason=reason, breakpoint=it.told)
 
     def on_set_breakpoints(self, arguments):
         source, rows = arguments["source"], arguments.get("breakpoints")
@@ -183,8 +175,7 @@ class Breakpoints(Part):
 
     def on_set_instruction_breakpoints(self, arguments):
         rows = arguments["breakpoints"]
-        at = [(int(it["instructionReference"], 0) + int(it.get("offset") or 0)) % (1 << 32) for it in rows]
-        return self.replace("instruction", [("*0x%08x" % it, row) for it, row in zip(at, rows)])
+        return self.replace("instruction", [("*0x%08x" % place(it, "instructionReference"), it) for it in rows])
 
     def on_set_data_breakpoints(self, arguments):
         return self.replace("data", [(it["dataId"], it) for it in arguments["breakpoints"]])

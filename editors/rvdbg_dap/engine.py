@@ -1,11 +1,13 @@
 """What the parts of a session have in common: the debugger, its threads, the program, and the editor."""
 
-import functools
 import time
 
 from rvdbg_dap.mi import Refused, need
 from rvdbg_dap.protocol import Client
 from rvdbg_dap.sources import Sources
+
+# The events that only some editors take, and by which word these say so.
+ASKED = {"memory": "supportsMemoryEvent", "invalidated": "supportsInvalidatedEvent"}
 
 
 class Thread:
@@ -17,11 +19,12 @@ class Thread:
 
 
 class Engine:
-    """The debugger in the middle. `last` is the thread that stopped last, `hears` what only some editors take."""
+    """The debugger in the middle. `last` is the thread that stopped last, `hears` what the editor says of itself."""
 
     def __init__(self, inbox):
-        self.client, self.sources, self.hears, self.threads, self.after = Client(inbox), Sources(), set(), {}, []
-        self.launch, self.program, self.debugger, self.is_open, self.last, self.deadline = None, None, None, False, None, 0.0
+        self.client, self.sources, self.hears, self.threads, self.after = Client(inbox), Sources(), {}, {}, []
+        self.launch = self.program = self.debugger = self.last = None
+        self.is_open, self.deadline = False, 0.0
 
     def reply(self, command):
         """Has the debugger do a line, and gives its result and which threads go on. What else happens waits."""
@@ -47,14 +50,18 @@ class Engine:
         """The threads that the editor has seen stop, or that stand from the start."""
         return [it for it in self.threads.values() if not it.is_running]
 
-    def say(self, text, category="console", **place):
-        """Puts a line where the editor shows output."""
-        self.client.event("output", category=category, output=text + "\n", **place)
+    def event(self, event, **body):
+        """Tells the editor what happens, where it takes that."""
+        if event not in ASKED or self.hears.get(ASKED[event]):
+            self.client.send(type="event", event=event, body=body)
 
     def later(self, event, **body):
-        """Tells an event behind the answer, where the editor takes it."""
-        if event not in ("memory", "invalidated") or event in self.hears:
-            self.after.append(functools.partial(self.client.event, event, **body))
+        """Tells an event behind the answer."""
+        self.after.append(lambda: self.event(event, **body))
+
+    def say(self, text, category="console", **place):
+        """Puts a line where the editor shows output."""
+        self.event("output", category=category, output=text + "\n", **place)
 
     def written(self, address, count):
         """Tells behind the answer that memory was written, of which views are made."""
@@ -66,4 +73,4 @@ class Part:
     """A part of a session. Its `on_..` are the requests that it serves."""
 
     def __init__(self, engine):
-        self.engine, self.ask, self.say, self.event = engine, engine.ask, engine.say, engine.client.event
+        self.engine, self.ask, self.say, self.event = engine, engine.ask, engine.say, engine.event

@@ -68,6 +68,5 @@ class Instruction:
 
     def access(self):
         """What it does to memory, and at which distance from the register rs1; None where it does nothing there."""
-        fields = self.fields
-        rows = {LOAD: ("loads from", fields["number"]), STORE: ("stores to", fields["stored"]), AMO: ("changes", 0)}
-        return rows.get(self.opcode)
+        found = {LOAD: ("loads from", "number"), STORE: ("stores to", "stored"), AMO: ("changes", "")}.get(self.opcode)
+        return found and (found[0], self.fields.get(found[1], 0))

@@ -8,7 +8,7 @@ import os
 
 # A row: the address, the file with its folders, the line, and whether a statement begins there.
 Row = collections.namedtuple("Row", "address path line is_stmt")
-STRING, BLOCK, UDATA, TEXTS = 0x08, 0x09, 0x0F, {0x1F: b".debug_line_str", 0x0E: b".debug_str"}
+STRING, BLOCK, UDATA, TEXTS = 0x08, 0x09, 0x0F, {0x1F: ".debug_line_str", 0x0E: ".debug_str"}
 DATA = {0x0B: 1, 0x05: 2, 0x06: 4, 0x07: 8, 0x1E: 16}
 
 
@@ -20,16 +20,31 @@ def units(content):
         yield content[begins:at]
 
 
+def text_at(content, at):
+    """The text at a place, which ends with a zero."""
+    return content[at : content.index(b"\0", at)].decode("utf-8", "surrogateescape")
+
+
 def tail(one, other):
     """How many names two paths have in common at their ends."""
     return len(os.path.commonprefix([one.split("/")[::-1], other.split("/")[::-1]]))
 
 
-class Bytes:
-    """Bytes that are read one after the other."""
+class Unit:
+    """A unit, read byte for byte: its files, and its rows' program with how many operands each operation has."""
 
-    def __init__(self, content, at=0):
-        self.content, self.at = content, at
+    def __init__(self, content, sections):
+        self.content, self.at, self.sections = content, 0, sections
+        version = self.number(2)
+        self.first = int(version < 5)
+        self.at += 2 - 2 * self.first
+        begins = self.number(4) + self.at
+        self.step = self.number(1)
+        self.at += version >= 4
+        self.is_stmt, self.base, self.range = self.number(1) > 0, self.number(1, True), self.number(1)
+        self.counts = [0] + [self.number(1) for _ in range(self.number(1) - 1)]
+        files = self.old_files() if self.first else self.new_files()
+        self.files, self.at = [os.path.normpath(os.path.join(*it)) for it in files], begins
 
     def number(self, width, is_signed=False):
         self.at += width
@@ -39,32 +54,15 @@ class Bytes:
 
     def leb(self, is_signed=False):
         """A number of variable length, DWARF 5, section 7.6."""
-        value, shift, byte = 0, 0, 0x80
-        while byte & 0x80:
-            byte = self.number(1)
-            value, shift = value | (byte & 0x7F) << shift, shift + 7
-        return value - (1 << shift) if is_signed and byte & 0x40 else value
+        found = [self.number(1)]
+        while found[-1] & 0x80:
+            found.append(self.number(1))
+        value = sum((byte & 0x7F) << 7 * at for at, byte in enumerate(found))
+        return value - (1 << 7 * len(found)) if is_signed and found[-1] & 0x40 else value
 
     def text(self):
         begins, self.at = self.at, self.content.index(b"\0", self.at) + 1
-        return self.content[begins : self.at - 1].decode("utf-8", "surrogateescape")
-
-
-class Unit(Bytes):
-    """A unit: its files, and the program that makes its rows. `counts` has how many operands each operation has."""
-
-    def __init__(self, content, sections):
-        super().__init__(content)
-        self.sections, version = sections, self.number(2)
-        self.first = int(version < 5)
-        self.at += 2 - 2 * self.first
-        begins = self.number(4) + self.at
-        self.step = self.number(1)
-        self.at += version >= 4
-        self.is_stmt, self.base, self.range = self.number(1) > 0, self.number(1, True), self.number(1)
-        self.counts = [0] + [self.number(1) for _ in range(self.number(1) - 1)]
-        self.files = [os.path.normpath(os.path.join(*it)) for it in (self.old_files() if self.first else self.new_files())]
-        self.at = begins
+        return text_at(self.content, begins)
 
     def old_files(self):
         """The files of versions 2 to 4 with their folders. Folder 0 is the compiler's, which isn't told here."""
@@ -84,7 +82,7 @@ class Unit(Bytes):
 
     def value(self, form):
         if form in TEXTS:
-            return Bytes(self.sections[TEXTS[form]], self.number(4)).text()
+            return text_at(self.sections[TEXTS[form]], self.number(4))
         if form in (STRING, UDATA):
             return self.text() if form == STRING else self.leb()
         return self.number(self.leb() if form == BLOCK else DATA[form])
@@ -121,7 +119,7 @@ class Lines:
 
     def __init__(self, sections, is_text):
         self.is_text, self.units = is_text, []
-        for content in units(sections.get(b".debug_line", b"")):
+        for content in units(sections.get(".debug_line", b"")):
             with contextlib.suppress(ValueError, IndexError, KeyError):
                 self.units.append(Unit(content, sections))
         self.paths = {it for unit in self.units for it in unit.files}
@@ -137,8 +135,8 @@ class Lines:
 
     def closest(self, path):
         """Of the files with the last name of a path those whose folders have most in common with its own."""
-        like = [(tail(it, path), it) for it in self.paths if tail(it, path)]
-        return {it for length, it in like if length == max(like)[0]}
+        most = max((tail(it, path) for it in self.paths), default=0)
+        return {it for it in self.paths if most and tail(it, path) == most}
 
     def at(self, address):
         """The row of an address, or None."""

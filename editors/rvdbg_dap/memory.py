@@ -10,9 +10,9 @@ from rvdbg_dap.mi import Refused, need
 READ_PIECE, WRITE_PIECE, WORD = 4096, 1024, 1 << 32
 
 
-def place(arguments):
+def place(arguments, reference="memoryReference"):
     """The address that a reference and an offset name."""
-    return (int(arguments["memoryReference"], 0) + int(arguments.get("offset") or 0)) % WORD
+    return (int(arguments[reference], 0) + int(arguments.get("offset") or 0)) % WORD
 
 
 class Memory(Part):

@@ -83,7 +83,7 @@ kill -s KILL -- "-$group"
 
 
 class Debugger:
-    """The process. Answers go to who waits for them, all else to the inbox, and all that is written to a file `copy`."""
+    """The process. Answers go to who waits for them, all else to the inbox, and all of it to the file `copy`."""
 
     def __init__(self, words, inbox, copy=None):
         pipe, null, how = subprocess.PIPE, subprocess.DEVNULL, dict(bufsize=0, start_new_session=True)
@@ -152,7 +152,7 @@ class Debugger:
             return self.process.wait(seconds)
 
     def stop(self, is_asked, seconds=1.0):
-        """Ends the process and what it started: by its own command, in so many seconds, where it listens, else by signals."""
+        """Ends the process and what it started: by its own command where it listens in time, else by signals."""
         self.is_closing = True
         with contextlib.suppress(OSError, ValueError):
             os.write(self.process.stdin.fileno(), b"-gdb-exit\n" if is_asked else b"")

@@ -76,9 +76,6 @@ class Client:
         while whole:
             whole = whole[os.write(self.writes, whole) :]
 
-    def event(self, event, **body):
-        self.send(type="event", event=event, body=body)
-
     def answer(self, request, body=None, error=None):
         """Answers a request, by a body or by what is wrong."""
         message = dict(type="response", request_seq=request["seq"], command=request["command"], success=error is None)

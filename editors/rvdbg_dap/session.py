@@ -32,7 +32,6 @@ CAPABILITIES = (
     "ExceptionInfoRequest RestartRequest TerminateRequest DelayedStackTraceLoading ReadMemoryRequest "
     "WriteMemoryRequest DisassembleRequest SteppingGranularity SingleThreadExecutionRequests"
 )
-KINDS = {"progress": "ProgressReporting", "memory": "MemoryEvent", "invalidated": "InvalidatedEvent"}
 BUILT = re.compile(r"rvdbg: (?:proving and building|\S+, (\d+) of (\d+))")
 
 
@@ -41,7 +40,8 @@ class Session(Part):
 
     def __init__(self, inbox):
         super().__init__(Engine(inbox))
-        self.inbox, self.client, self.request, self.opening, self.is_done = inbox, self.engine.client, None, None, False
+        self.inbox, self.client = inbox, self.engine.client
+        self.request = self.opening = self.progress = None
         self.breakpoints, values, memory = Breakpoints(self.engine), Values(self.engine), Memory(self.engine)
         self.threads = Threads(self.engine, self.breakpoints, values, memory)
         self.parts = (self, self.threads, values, memory, self.breakpoints)
@@ -49,8 +49,8 @@ class Session(Part):
 
     def forget(self):
         """What is of one debugger alone."""
-        self.is_configured, self.is_over, self.said, self.progress = False, False, "", None
-        self.engine.debugger, self.engine.is_open, self.engine.last = None, False, None
+        self.is_configured = self.is_over = self.is_done = self.engine.is_open = False
+        self.engine.debugger, self.engine.last, self.said = None, None, ""
 
     def run(self):
         """Does what comes, in its order, until the editor goes."""
@@ -94,7 +94,7 @@ class Session(Part):
     def on_initialize(self, arguments):
         is_fine = arguments.get("linesStartAt1") is not False and arguments.get("pathFormat", "path") == "path"
         need(is_fine, "lines are counted from 1 here, and files have paths")
-        self.engine.hears = {it for it, name in KINDS.items() if arguments.get("supports" + name)}
+        self.engine.hears = arguments
         return dict({"supports" + it: True for it in CAPABILITIES.split()}, exceptionBreakpointFilters=[])
 
     def on_launch(self, arguments):
@@ -128,13 +128,12 @@ class Session(Part):
 
     def opened(self):
         """The debugger has accepted the program."""
-        request, self.opening, self.engine.is_open = self.opening, None, True
-        self.end_progress()
-        self.client.answer(request)
+        is_first, self.engine.is_open = self.opening["command"] == "launch", True
+        self.answer_opening()
         for it in self.engine.program.lacks():
             self.say(it)
         self.breakpoints.insert_all()
-        if request["command"] == "launch":
+        if is_first:
             self.event("initialized")
         if self.is_configured:
             self.threads.begin()
@@ -159,71 +158,66 @@ class Session(Part):
         debugger, is_open, launch = self.engine.debugger, self.engine.is_open, self.engine.launch
         if debugger:
             debugger.stop(is_open, LOG_PATIENCE if launch.log else 1.0)
-        for identity in list(self.engine.threads):
-            self.leave(identity)
+        for identity in self.engine.threads:
+            self.event("thread", reason="exited", threadId=identity)
+        self.engine.threads.clear()
         for it in self.breakpoints.all:
             it.clear(why)
-        self.end_progress()
         self.forget()
         if is_open and launch.log:
             self.say(launch.verdict())
-        if self.opening:
-            request, self.opening = self.opening, None
-            self.client.answer(request, error=why)
+        self.answer_opening(error=why)
+
+    def answer_opening(self, **answer):
+        """Answers the request that has begun a session, where that isn't done yet."""
+        if self.progress:
+            self.event("progressEnd", progressId=self.progress)
+        request, self.opening, self.progress = self.opening, None, None
+        if request:
+            self.client.answer(request, **answer)
 
     def take_said(self, lines):
         """What the debugger says beside its records: how far it is built, or why it isn't."""
-        for line in lines:
-            self.said = line.decode("utf-8", "replace")
+        for self.said in [it.decode("utf-8", "replace") for it in lines]:
             self.say(self.said)
             built = BUILT.match(self.said)
-            if built and self.opening and "progress" in self.engine.hears:
+            if built and self.opening and self.engine.hears.get("supportsProgressReporting"):
                 if self.progress is None:
                     self.progress = "build-%d" % self.opening["seq"]
                     self.event("progressStart", progressId=self.progress, title="Building rvdbg", cancellable=False)
                 share = {"percentage": 100 * int(built[1]) // max(1, int(built[2]))} if built[1] else {}
                 self.event("progressUpdate", progressId=self.progress, message=self.said, **share)
 
-    def end_progress(self):
-        if self.progress:
-            self.event("progressEnd", progressId=self.progress)
-            self.progress = None
-
     def take_lines(self, lines):
-        """What happened by itself; what the program wrote is put together."""
+        """What happened by itself, and what the program wrote, which is put together."""
         for is_output, group in itertools.groupby(lines, lambda it: it.startswith(b"@")):
             if is_output:
                 output = self.engine.debugger.decode(b"".join(map(stream, group)))
                 self.event("output", category="stdout", output=output)
             for line in group:
-                self.take_line(line)
+                try:
+                    self.take_line(line)
+                except Refused as refusal:
+                    self.say(str(refusal))
+                except MALFORMED as error:
+                    text = line.decode("utf-8", "replace")
+                    self.say("a line of the debugger isn't understood: %.200s (%.200r)" % (text, error))
 
     def take_line(self, line):
         """A record, or a text of the debugger; the first prompt says that it has accepted the program."""
-        try:
-            if line.startswith((b"&", b"~")):
-                self.say(stream(line).decode("utf-8", "replace").rstrip("\n"))
-            elif line.rstrip() != b"(gdb)":
-                self.happened(record(line))
-            elif self.opening:
-                self.opened()
-        except Refused as refusal:
-            self.say(str(refusal))
-        except MALFORMED as error:
-            text = line.decode("utf-8", "replace")
-            self.say("a line of the debugger isn't understood: %.200s (%.200r)" % (text, error))
-
-    def happened(self, told):
-        """Tells the editor what a record says."""
+        if line.startswith((b"&", b"~")):
+            return self.say(stream(line).decode("utf-8", "replace").rstrip("\n"))
+        if line.rstrip() == b"(gdb)":
+            return self.opened() if self.opening else None
+        told = record(line)
         fields = told.fields
         if told.kind == "^" and told.name == "error" and self.opening:
             self.said = fields["msg"]
         elif told.name == "thread-created":
-            identity = int(fields["id"])
-            self.engine.threads[identity] = Thread(identity)
-            self.event("thread", reason="started", threadId=identity)
-        elif told.name == "thread-exited":
-            self.leave(int(fields["id"]))
+            self.engine.threads[int(fields["id"])] = Thread(int(fields["id"]))
+            self.event("thread", reason="started", threadId=int(fields["id"]))
+        elif told.name == "thread-exited" and self.engine.threads.pop(int(fields["id"]), None):
+            self.event("thread", reason="exited", threadId=int(fields["id"]))
         elif told.name == "stopped" and fields.get("reason", "").startswith("exited"):
             self.event("exited", exitCode=int(fields.get("exit-code", "0"), 8))
             self.is_over = not self.engine.launch.log
@@ -232,11 +226,7 @@ class Session(Part):
             self.engine.debugger.process.stdin.close()
         elif told.name == "stopped":
             self.threads.stopped(self.engine.threads[int(fields["thread-id"])], fields)
-
-    def leave(self, identity):
-        """A thread is gone."""
-        if self.engine.threads.pop(identity, None):
-            self.event("thread", reason="exited", threadId=identity)
+        return None
 
     def take_ended(self):
         """The debugger has ended: with the program, with its budget, or because it refused something."""

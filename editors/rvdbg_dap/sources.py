@@ -43,7 +43,7 @@ class Sources:
         return "%s:%d" % (file, int(line)) if address is None else "*0x%08x" % address
 
     def path(self, name):
-        """The path of a file that the program's tables name, or None. Of several the nearest to the program is taken."""
+        """The path of a file that the program's tables name, or None; of several the nearest to the program."""
         if name not in self.found:
             base = os.path.basename(name)
             near = [it for it in self.told if os.path.basename(it) == base]

@@ -12,7 +12,7 @@ KINDS = {"function": "function breakpoint", "instruction": "instruction breakpoi
 LOGGED = re.compile(r"\{((?:[^{}]|\{[^{}]*\})+)\}")
 WRITTEN = re.compile(r"-data-write-memory-bytes\s+(?:--\s+)?(\S+)\s+\"?([0-9A-Fa-f]+)\"?\s*(\d*)")
 SET = re.compile(r"-gdb-set\s+(?:--thread\s+\S+\s+)?\$")
-ELSEWHERE = re.compile(r"-(data-(evaluate|list-register-v)|stack-(list-variables|info-frame)|gdb-set\s+\$)(?!.*--thread)")
+ELSEWHERE = re.compile(r"-(data-(eval|list-register-val)|stack-(list-var|info-frame)|gdb-set\s+\$)(?!.*--thread)")
 OUTER = "the frame that is shown is an outer one, of which this isn't known: show the innermost, or say --thread %d"
 
 
@@ -28,7 +28,8 @@ class Threads(Part):
         thread.is_running, thread.trap, self.engine.last = False, None, thread
         number = fields.get("bkptno") or fields.get("wpt", {}).get("number")
         hit = self.breakpoints.numbered(number)
-        is_passed = hit is not None and hit.is_judging(thread.identity) and not self.holds(hit, thread)
+        is_judged = hit is not None and (hit.is_judged or thread.identity in hit.early)
+        is_passed = is_judged and not self.holds(hit, thread)
         is_quiet = is_passed or hit and hit.log or number in self.breakpoints.dropped
         reason, told = self.reason(thread, fields)
         if hit and not is_passed:
@@ -67,10 +68,13 @@ class Threads(Part):
 
     def holds(self, point, thread):
         """Whether a condition holds. One that has no value stops its thread, as it does where the debugger judges."""
+        point.early.discard(thread.identity)
         try:
             value = self.value(point, thread, point.condition)
-            if not point.is_looked_at:
-                self.breakpoints.judged(point, self.values.in_core(thread, point.condition))
+            condition = None if point.is_looked_at else self.values.in_core(thread, point.condition)
+            point.is_looked_at = True
+            if condition is not None:
+                self.breakpoints.hand_over(point, condition)
             need(value[0] != "<", "it has %s", value)
             return int(value) != 0
         except Refused as refusal:
@@ -118,11 +122,6 @@ class Threads(Part):
         answers = [self.engine.reply("-exec-continue --thread %d" % it.identity) for it in threads]
         return [it for _, running in answers for it in running]
 
-    def tell_running(self, identities):
-        """Tells behind the answer that threads go on."""
-        for it in identities:
-            self.engine.later("continued", threadId=it, allThreadsContinued=False)
-
     def on_continue(self, arguments):
         thread = self.engine.thread(arguments["threadId"])
         is_single = bool(arguments.get("singleThread", "continue" in self.engine.launch.alone))
@@ -136,11 +135,12 @@ class Threads(Part):
         """One thread takes a step, by line or by instruction. Others that stand go on, unless it is to be alone."""
         thread, others = self.engine.thread(arguments["threadId"]), self.engine.standing()
         need(thread in others, "Thread %d is running", thread.identity)
-        command = instruction if arguments.get("granularity") == "instruction" else line
-        self.ask("%s --thread %d" % (command, thread.identity))
+        line = instruction if arguments.get("granularity") == "instruction" else line
+        self.ask("%s --thread %d" % (line, thread.identity))
         thread.is_stepping, self.awaited = True, {thread.identity}
         is_single = arguments.get("singleThread", "step" in self.engine.launch.alone)
-        self.tell_running(self.go_on([it for it in others if it is not thread and not is_single]))
+        for it in self.go_on([it for it in others if it is not thread and not is_single]):
+            self.engine.later("continued", threadId=it, allThreadsContinued=False)
 
     on_next = functools.partialmethod(step, "-exec-next", "-exec-next-instruction")
     on_step_in = functools.partialmethod(step, "-exec-step", "-exec-step-instruction")
@@ -148,15 +148,15 @@ class Threads(Part):
 
     def on_pause(self, arguments):
         """Stops a thread. One that has just been stopped for the adapter alone will be told as stopped."""
-        number, threads = arguments.get("threadId"), list(self.engine.threads.values())
-        threads = [self.engine.thread(number)] if number else threads
-        self.awaited, thread = {it.identity for it in threads}, threads[0]
+        number = arguments.get("threadId")
+        threads = [self.engine.thread(number)] if number else [*self.engine.threads.values()]
+        self.awaited = {it.identity for it in threads}
         try:
             self.ask("-exec-interrupt " + ("--thread %d" % number if number else "--all"))
         except Refused:
-            if not thread.is_running:
+            if not threads[0].is_running:
                 raise
-            thread.is_wanted = True
+            threads[0].is_wanted = True
 
     def on_evaluate(self, arguments):
         """A line of MI, which a person typed, or an expression."""
@@ -176,8 +176,8 @@ class Threads(Part):
         result, running = self.engine.reply(line)
         for it in running:
             self.engine.threads[it].is_stepping = not line.startswith("-exec-continue")
+            self.engine.later("continued", threadId=it, allThreadsContinued=False)
         self.awaited = set(running) or self.awaited
-        self.tell_running(running)
         written, is_done = WRITTEN.match(line), result.name == "done"
         if is_done and line.startswith("-break-"):
             self.breakpoints.agree()

@@ -119,8 +119,8 @@ class Values(Part):
         (kind, number), name = divmod(arguments["variablesReference"], KINDS), arguments["name"]
         need(kind == REGISTERS, "only registers can be set here")
         told, like = self.set_register(number, name, arguments["value"]), {"s0": "fp"}.get(name, name)
-        rows = [RADIXES + at for at, it in enumerate(REGISTER_NAMES) if it == like]
-        return dict(told, variablesReference=sum(it * KINDS + number for it in rows))
+        at = RADIXES + REGISTER_NAMES.index(like) if like in REGISTER_NAMES else 0
+        return dict(told, variablesReference=at and at * KINDS + number)
 
     def set_register(self, number, name, value):
         """Sets a register of a frame's thread, by any of its names."""
