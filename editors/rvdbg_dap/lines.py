@@ -43,8 +43,7 @@ class Unit:
         self.at += version >= 4
         self.is_stmt, self.base, self.range = self.number(1) > 0, self.number(1, True), self.number(1)
         self.counts = [0] + [self.number(1) for _ in range(self.number(1) - 1)]
-        files = self.old_files() if self.first else self.new_files()
-        self.files, self.at = [os.path.normpath(os.path.join(*it)) for it in files], begins
+        self.files, self.at = [os.path.normpath(os.path.join(*it)) for it in self.named()], begins
 
     def number(self, width, is_signed=False):
         self.at += width
@@ -64,17 +63,17 @@ class Unit:
         begins, self.at = self.at, self.content.index(b"\0", self.at) + 1
         return text_at(self.content, begins)
 
-    def old_files(self):
-        """The files of versions 2 to 4 with their folders. Folder 0 is the compiler's, which isn't told here."""
-        folders = ["", *iter(self.text, "")]
-        for name in iter(self.text, ""):
-            folder, _, _ = self.leb(), self.leb(), self.leb()
-            yield folders[folder], name
-
-    def new_files(self):
-        """The files of version 5. Folder 0 is the compiler's, in which the others stand."""
+    def named(self):
+        """The folders and the name of each file. Folder 0 is the compiler's, of which only version 5 tells."""
+        if self.first:
+            folders = ["", *iter(self.text, "")]
+            for name in iter(self.text, ""):
+                folder, _, _ = self.leb(), self.leb(), self.leb()
+                yield folders[folder], name
+            return
         folders, files = self.entries(), self.entries()
-        return [(folders[0].get(1, ""), folders[it.get(2, 0)].get(1, ""), it.get(1, "")) for it in files]
+        for it in files:
+            yield folders[0].get(1, ""), folders[it.get(2, 0)].get(1, ""), it.get(1, "")
 
     def entries(self):
         forms = [(self.leb(), self.leb()) for _ in range(self.number(1))]

@@ -107,7 +107,7 @@ class Threads(Part):
         self.awaited = set(self.engine.threads)
         if not self.engine.launch.stops:
             self.ask("-exec-continue --all")
-        for thread in self.engine.standing():
+        for thread in self.engine.threads.values() if self.engine.launch.stops else ():
             self.tell_stop(thread, "entry")
 
     def on_threads(self, _):
@@ -159,14 +159,10 @@ class Threads(Part):
             threads[0].is_wanted = True
 
     def on_evaluate(self, arguments):
-        """A line of MI, which a person typed, or an expression."""
-        text, frame = arguments["expression"].rstrip(), arguments.get("frameId")
-        if arguments.get("context") == "repl" and re.match("-[a-z]", text):
-            return {"result": self.typed(text, frame), "variablesReference": 0}
-        return self.values.evaluate(text, frame)
-
-    def typed(self, line, frame):
-        """Does a line for the thread that is shown, gives its result, and tells what it has changed."""
+        """An expression, or a line of MI for the thread that is shown, of which is told what it has changed."""
+        line, frame = arguments["expression"].rstrip(), arguments.get("frameId")
+        if arguments.get("context") != "repl" or not re.match("-[a-z]", line):
+            return self.values.evaluate(line, frame)
         thread, level = self.values.framed(frame) if frame else (self.engine.last, 0)
         need(not level or not ELSEWHERE.match(line), OUTER, thread and thread.identity)
         is_one = "\n" not in line and not line.startswith("-exec-wait")
@@ -185,4 +181,4 @@ class Threads(Part):
             self.engine.written(int(written[1], 0), int(written[3] or len(written[2]) // 2))
         elif is_done and SET.match(line):
             self.engine.later("invalidated", areas=["variables"])
-        return result.text
+        return {"result": result.text, "variablesReference": 0}
