@@ -55,8 +55,9 @@ class Memory(Part):
 
     def found(self, address):
         """The instruction at an address, or None where there is no text."""
-        content = self.bytes(address, 4) if self.engine.program.is_text(address) else b""
-        return Instruction(int.from_bytes(content, "little"), address) if len(content) == 4 else None
+        content = self.bytes(address, 4)
+        is_whole = len(content) == 4 and self.engine.program.is_text(address)
+        return Instruction(int.from_bytes(content, "little"), address) if is_whole else None
 
     def instruction(self, address, has_symbol):
         """What the editor is told of the place of an instruction."""
